@@ -1,0 +1,194 @@
+#!/usr/bin/env python3
+"""Writes the decks that are measured: each is the largest, or nearly so, in one respect.
+
+    bench/decks.py FOLDER [NAME...]
+
+writes each NAME.deck, or all of them, to FOLDER, and verdicts.txt with a line for each: its file, a tab, and the
+verdict line that the rules give. The same decks come out each time.
+"""
+
+import sys
+from pathlib import Path
+
+DOUBLEWORD = 8
+STORAGE_LIMIT = 0x1000000  # bytes; addresses have 24 bits
+PLACES = 4096  # the most places that may be reachable
+MANY = 500_000  # lent areas, or extents
+
+CHAIN_DATA = 0x80
+CHAIN_COMMAND = 0x40
+SUPPRESS_LENGTH = 0x20
+LAST = 0x00
+
+SEEK = 0x07
+SEARCH_ID_EQUAL = 0x31
+READ_DATA = 0x06
+TRANSFER = 0x08
+NO_OPERATION = 0x03
+
+START = 0x800
+
+
+def word(command, address, flags, count):
+    """A channel command word, as sixteen digits."""
+    return f"{command:02X}{address:06X}{flags:02X}00{count:04X}"
+
+
+def put(address, digits):
+    return f"put {address:06X} {digits}\n"
+
+
+def areas(kind, pairs):
+    return (f"{kind} {start:06X} {length:06X}\n" for start, length in pairs)
+
+
+def in_a_row(words, start=START):
+    """Puts of doublewords that follow each other."""
+    return (put(start + DOUBLEWORD * i, digits) for i, digits in enumerate(words))
+
+
+def deck(puts, storage, extents=((10, 19),), fetch=(), store=()):
+    """The lines of a deck on a 2314 with the mask 00, in the order of the grammar."""
+    yield "chanv deck 1\ndevice 2314\nmask 00\n"
+    yield f"start {START:06X}\n"
+    yield from (f"extent {first:03d} {last:03d}\n" for first, last in extents)
+    yield from areas("fetch", fetch)
+    yield from areas("store", store)
+    yield f"storage {storage:07X}\n"
+    yield from puts
+    yield "end\n"
+
+
+SEARCH_LOOP = {
+    0x800: word(SEARCH_ID_EQUAL, 0x900, CHAIN_COMMAND, 5),
+    0x808: word(TRANSFER, 0x800, 0, 0),
+    0x810: word(READ_DATA, 0xA00, SUPPRESS_LENGTH, 80),
+}
+
+
+def small():
+    """The usual search loop: what a run costs at least."""
+    puts = (put(address, digits) for address, digits in SEARCH_LOOP.items())
+    return deck(puts, 0x1000, fetch=[(0x900, 16)], store=[(0xA00, 256)])
+
+
+def full_storage():
+    """The same program in the largest storage, every doubleword of it put."""
+
+    def puts():
+        for address in range(0, STORAGE_LIMIT, DOUBLEWORD):
+            scattered = (address + 1) * 0x9E3779B97F4A7C15 % 2**64 | 1
+            yield put(address, SEARCH_LOOP.get(address) or f"{scattered:016X}")
+
+    return deck(puts(), STORAGE_LIMIT, fetch=[(0x900, 16)], store=[(0xA00, 256)])
+
+
+def places():
+    """As many places as there may be, each of another CCW: by turns a seek and a read.
+
+    So half of the places have an argument of their own to guard, and the other half store.
+    """
+    arguments, data = 0x10000, 0x20000
+    words = []
+    for i in range(PLACES // 2):
+        words.append(word(SEEK, arguments + 8 * i, CHAIN_COMMAND, 6))
+        words.append(word(READ_DATA, data + 16 * i, CHAIN_COMMAND, 16))
+    words[-1] = word(READ_DATA, data + 16 * (PLACES // 2 - 1), LAST, 16)
+    cylinders = [f"0000{10 + i % 10:04X}{i % 20:04X}0000" for i in range(PLACES // 2)]
+    puts = [*in_a_row(words), *in_a_row(cylinders, arguments)]
+    return deck(puts, 0x40000, fetch=[(arguments, 0x4000)], store=[(data, 0x8000)])
+
+
+def loops():
+    """As many places as there may be, in 1,024 search loops and one more CCW.
+
+    The search of each loop but the first is two places, since it is also entered by the transfer.
+    """
+    words = []
+    for i in range(PLACES // 4):
+        search = START + DOUBLEWORD * len(words)
+        words.append(word(SEARCH_ID_EQUAL, 0x20000, CHAIN_COMMAND, 5))
+        words.append(word(TRANSFER, search, 0, 0))
+        words.append(word(READ_DATA, 0x30000 + 16 * i, CHAIN_COMMAND, 16))
+    words.append(word(NO_OPERATION, 0, LAST, 1))
+    return deck(in_a_row(words), 0x40000, fetch=[(0x20000, 5)], store=[(0x30000, 0x4000)])
+
+
+def chain():
+    """One read by the longest data chain: as many places as there may be, all of one operation."""
+    words = [word(READ_DATA, 0x20000 + 16 * i, CHAIN_DATA, 16) for i in range(PLACES - 1)]
+    words.append(word(READ_DATA, 0x20000 + 16 * (PLACES - 1), LAST, 16))
+    return deck(in_a_row(words), 0x40000, store=[(0x20000, 0x10000)])
+
+
+def one_byte_areas(order):
+    """Lent areas of one byte each that adjoin, and one read that needs all of them together."""
+    lent, parts = 0x100000, 8
+    length = MANY // parts  # 62,500, as a count is at most 65,535
+    words = [word(READ_DATA, lent + length * i, CHAIN_DATA, length) for i in range(parts - 1)]
+    words.append(word(READ_DATA, lent + length * (parts - 1), LAST, length))
+    return deck(in_a_row(words), 0x200000, store=((lent + i, 1) for i in order))
+
+
+def areas_rising():
+    """One read that needs 500,000 adjoining areas together, each of one byte."""
+    return one_byte_areas(range(MANY))
+
+
+def areas_falling():
+    """The same areas, the last first."""
+    return one_byte_areas(reversed(range(MANY)))
+
+
+def areas_mixed():
+    """The same areas, in an order that looks like none."""
+    return one_byte_areas(i * 312_347 % MANY for i in range(MANY))  # no factor in common with 500,000
+
+
+def areas_apart():
+    """500,000 areas of which no two adjoin, the last first, and as many places as there may be, each in another."""
+    lent = 0x100000
+    spread = MANY // PLACES
+    words = [word(READ_DATA, lent + 16 * spread * i, CHAIN_COMMAND, 8) for i in range(PLACES - 1)]
+    words.append(word(READ_DATA, lent + 16 * spread * (PLACES - 1), LAST, 8))
+    return deck(in_a_row(words), 0x900000, store=((lent + 16 * i, 8) for i in reversed(range(MANY))))
+
+
+def extents():
+    """500,000 extents, and as many seeks as there may be places, all to a cylinder that only the last extent has."""
+    argument = 0x20000
+    words = [word(SEEK, argument, CHAIN_COMMAND, 6)] * (PLACES - 1) + [word(SEEK, argument, LAST, 6)]
+    pairs = [(i % 100, i % 100 + 100) for i in range(MANY - 1)] + [(202, 202)]
+    puts = [*in_a_row(words), put(argument, "000000CA00130000")]
+    return deck(puts, 0x40000, extents=pairs, fetch=[(argument, 6)])
+
+
+DECKS = {
+    "small": small,
+    "full-storage": full_storage,
+    "places": places,
+    "loops": loops,
+    "chain": chain,
+    "areas-rising": areas_rising,
+    "areas-falling": areas_falling,
+    "areas-mixed": areas_mixed,
+    "areas-apart": areas_apart,
+    "extents": extents,
+}
+
+
+def main(arguments):
+    names = arguments[1:] or list(DECKS)
+    unknown = [name for name in names if name not in DECKS]
+    if not arguments or unknown:
+        sys.exit(f"usage: decks.py FOLDER [NAME...], where a NAME is one of {' '.join(DECKS)}")
+    folder = Path(arguments[0])
+    for name in names:
+        with open(folder / f"{name}.deck", "w", encoding="ascii", newline="\n") as file:
+            file.writelines(DECKS[name]())
+    verdicts = "".join(f"{name}.deck\tyes\n" for name in names)
+    (folder / "verdicts.txt").write_text(verdicts, encoding="ascii")
+
+
+if __name__ == "__main__":
+    main(sys.argv[1:])

@@ -1,0 +1,34 @@
+-- The fields and the eight bytes of a channel command word are two forms of one thing.
+use Rattle.std.proofs.Common.{◌≡◌, ◌<◌, ◌+◌, ◌*◌, ◌++◌, ℕ, List, [], ◌∷◌, length, get_or, refl, sym, ap, ◌∙◌, arith}
+use Rattle.byteorder.specs.Endian.{big_bytes}
+use Rattle.byteorder.specs.Numbers.{big_number-reads_back}
+use Rattle.ccw_core.specs.Ccw.{Fields, ccw, bytes_of}
+use Rattle.ccw_core.proofs.BigEndian.{big_bytes-two, big_bytes-three, eight}
+
+-- the bytes of a word hold the word
+pub ccw-bytes_of : (c : Fields) → c.address < 16777216 → c.count < 65536 → ccw (bytes_of c) 0 ≡ c
+unfolding ccw
+ccw-bytes_of c ha hc =
+    let address = big_number-reads_back 3 c.address (c.flags ∷ c.spare ∷ big_bytes 2 c.count) ha in
+    let count = big_number-reads_back 2 c.count [] hc in
+    let a : get_or (bytes_of c) 1 0 * 65536 + get_or (bytes_of c) 2 0 * 256 + get_or (bytes_of c) 3 0 ≡ c.address = omega (arith, address) in
+    let n : get_or (bytes_of c) 6 0 * 256 + get_or (bytes_of c) 7 0 ≡ c.count = omega (arith, count) in
+    rw (a, n) refl
+
+-- the word in eight bytes has these bytes
+pub bytes_of-ccw : (bs : List ℕ) → length bs ≡ 8 → ((i : ℕ) → get_or bs i 0 < 256) → bytes_of (ccw bs 0) ≡ bs
+unfolding ccw
+bytes_of-ccw bs len fits =
+    let at : ℕ → ℕ = λ i. get_or bs i 0 in
+    let address = big_bytes-three (at 1) (at 2) (at 3) (fits 1) (fits 2) (fits 3) in
+    let count = big_bytes-two (at 6) (at 7) (fits 6) (fits 7) in
+    ap (λ a. (at 0 ∷ a) ++ (at 4 ∷ at 5 ∷ big_bytes 2 (at 6 * 256 + at 7))) address
+    ∙ ap (λ n. at 0 ∷ at 1 ∷ at 2 ∷ at 3 ∷ at 4 ∷ at 5 ∷ n) count
+    ∙ sym (eight bs len)
+
+-- two storages that hold the same eight bytes from two addresses on hold the same word there
+pub ccw-same : (s t : List ℕ) (a b : ℕ) → ((i : ℕ) → i < 8 → get_or s (a + i) 0 ≡ get_or t (b + i) 0) → ccw s a ≡ ccw t b
+unfolding ccw
+ccw-same s t a b same =
+    let zero : get_or s a 0 ≡ get_or t b 0 = let e : a + 0 ≡ a = omega arith in let f : b + 0 ≡ b = omega arith in rw (e, f) at (same 0 (omega arith)) in
+    rw (zero, same 1 (omega arith), same 2 (omega arith), same 3 (omega arith), same 4 (omega arith), same 5 (omega arith), same 6 (omega arith), same 7 (omega arith)) refl

@@ -1,0 +1,6 @@
+pub mod BigEndian
+pub mod CcwLemmas
+pub mod GroupLemmas
+pub mod StorageLemmas
+pub mod Covering
+pub mod SameTest

@@ -1,0 +1,8 @@
+pub mod Ccw
+pub mod Group
+pub mod Flags
+pub mod Storage
+pub mod Held
+pub mod Areas
+pub mod Watch
+pub mod Written

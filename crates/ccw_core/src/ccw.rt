@@ -1,0 +1,165 @@
+//! The channel command word.
+
+ghost use Rattle.std.specs.Prelude.{◌≡◌, ◌≤◌, ◌<◌, ◌↔◌, ◌+◌, ◌-◌, bit_and, length, IsTrue, IsSome, IsNone, IfSome, IfOk, is_some, string_bytes};
+ghost use Rattle.ccw_core.specs.Ccw.{Fields, bytes_of, ccw, ccw_text, is_formed, is_transfer};
+ghost use Rattle.ccw_core.specs.Flags.{bits_of};
+ghost use Rattle.ccw_core.specs.Group.{group_of};
+ghost use Rattle.ccw_core.specs.declared.group.Group.TheVariants.{Transfer};
+
+use crate::flags::{CcwFlags, FlagColumn};
+use crate::group::Group;
+use bitflags::Flags;
+use byteorder::{BigEndian, ByteOrder};
+use std::alloc::{AllocError, Global};
+use std::marker::Model;
+
+/// A channel command word (CCW): what the channel is to do with one block of storage.
+///
+/// A value keeps every bit of its eight bytes, whether or not the channel would accept them
+/// (System/360 Principles of Operation, A22-6821).
+#[derive(Clone, Copy, PartialEq, Eq, Debug)]
+pub struct Ccw {
+    command: u8,
+    address: u32,
+    flags: u8,
+    spare: u8,
+    count: u16,
+}
+
+impl Model for Ccw {
+    ghost use Rattle.std.specs.Prelude.{◌<◌};
+    ghost use Rattle.ccw_core.specs.Ccw.{Fields};
+
+    ghost Value = { Fields };
+
+    ghost view = { λ c. record { command = c.command; address = c.address; flags = c.flags; spare = c.spare; count = c.count } };
+
+    ghost invariant = { λ c. c.address < 16777216 };
+
+    ghost inverse = { λ d. record { command = d.command; address = d.address; flags = d.flags; spare = d.spare; count = d.count } };
+}
+
+impl Ccw {
+    /// A word of these fields: `None` exactly where the address is 16,777,216 or more, since it has
+    /// 24 bits.
+    pub fn new(command: u8, address: u32, flags: u8, spare: u8, count: u16) -> Option<Ccw>
+        ensures found { IsSome result ↔ (address < 16777216) }
+        ensures refused { IsNone result ↔ (16777216 ≤ address) }
+        ensures value { let c : Fields = record { command = command; address = address; flags = flags; spare = spare; count = count } in
+            IfSome result (λ r. r ≡ c) }
+    {
+        if address < 0x100_0000 {
+            Some(Ccw {
+                command,
+                address,
+                flags,
+                spare,
+                count,
+            })
+        } else {
+            None
+        }
+    }
+
+    /// The command code, byte 0.
+    pub fn command(&self) -> u8
+        ensures { result ≡ self.now.command }
+    {
+        self.command
+    }
+
+    /// The data address, bytes 1 to 3, below 16,777,216.
+    pub fn address(&self) -> u32
+        ensures value { result ≡ self.now.address }
+        ensures below { result < 16777216 }
+    {
+        self.address
+    }
+
+    /// The flags, byte 4, with the three low bits.
+    pub fn flags(&self) -> u8
+        ensures { result ≡ self.now.flags }
+    {
+        self.flags
+    }
+
+    /// Byte 5, which the channel ignores.
+    pub fn spare(&self) -> u8
+        ensures { result ≡ self.now.spare }
+    {
+        self.spare
+    }
+
+    /// The count of data bytes, bytes 6 and 7.
+    pub fn count(&self) -> u16
+        ensures { result ≡ self.now.count }
+    {
+        self.count
+    }
+
+    /// The word that eight bytes hold, numbers with their highest byte first. No bit is lost:
+    /// `to_bytes` gives the same bytes.
+    pub fn from_bytes(bytes: &[u8; 8]) -> Ccw
+        ensures fields { result ≡ ccw bytes.now 0 }
+        ensures whole { bytes_of result ≡ bytes.now }
+    {
+        Ccw {
+            command: bytes[0],
+            address: BigEndian::read_u24(&bytes[1..]),
+            flags: bytes[4],
+            spare: bytes[5],
+            count: BigEndian::read_u16(&bytes[6..]),
+        }
+    }
+
+    /// The eight bytes of the word. `from_bytes` gives the same word.
+    pub fn to_bytes(&self) -> [u8; 8]
+        ensures bytes { result ≡ bytes_of self.now }
+        ensures whole { ccw result 0 ≡ self.now }
+    {
+        let count = self.count;
+        let mut bytes = [self.command, 0, 0, 0, self.flags, self.spare, 0, 0];
+        BigEndian::write_u24(&mut bytes[1..4], self.address);
+        BigEndian::write_u16(&mut bytes[6..], count);
+        bytes
+    }
+
+    /// The group of the command code.
+    pub fn group(&self) -> Group
+        ensures { result ≡ group_of self.now.command }
+    {
+        Group::of(self.command)
+    }
+
+    /// Whether the word is a transfer in channel: the next word stands at its address field.
+    pub fn is_transfer(&self) -> bool
+        ensures value { result ≡ is_transfer self.now }
+        ensures group { IsTrue result ↔ (group_of self.now.command ≡ Transfer) }
+    {
+        self.command % 16 == 0b1000
+    }
+
+    /// The flags by name; `None` exactly where one of the three low bits is set.
+    pub fn known_flags(&self) -> Option<CcwFlags>
+        ensures found { IsSome result ↔ (bit_and self.now.flags 7 ≡ 0) }
+        ensures formed { is_some result ≡ is_formed self.now }
+        ensures value { IfSome result (λ f. bits_of f ≡ self.now.flags) }
+    {
+        CcwFlags::from_bits(self.flags)
+    }
+
+    /// The word as text: `code address flags spare count group`, with one space between two parts
+    /// and no end of line. An error is want of memory.
+    pub fn text(&self, alloc: Global) -> Result<String, AllocError>
+        ensures { IfOk result (λ t. string_bytes t ≡ ccw_text self.now) }
+    {
+        let [code, high, middle, low, flags, spare, count_high, count_low] = self.to_bytes();
+        let command = hex::encode_upper(alloc, [code])?;
+        let address = hex::encode_upper(alloc, [high, middle, low])?;
+        let flags = FlagColumn(flags);
+        let spare = hex::encode_upper(alloc, [spare])?;
+        let count = hex::encode_upper(alloc, [count_high, count_low])?;
+        let group = Group::of(code);
+        format!(in alloc; "{command} {address} {flags} {spare} {count} {group}")
+    }
+}

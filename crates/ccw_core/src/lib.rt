@@ -1,0 +1,28 @@
+//! The lowest layer of the verifier: what a System/360 channel sees.
+//!
+//! The channel command word (CCW) with its flags and its text, main storage, the areas that a
+//! program was lent, and devices that remember a failure.
+//!
+//! ```rust
+//! let storage = Storage::new(&[0x06, 0x00, 0x0A, 0x00, 0x20, 0x00, 0x00, 0x50])?;
+//! let word = storage.ccw_at(0).ok_or("a word stands at 0")?;
+//! assert_eq!(rt; word.text(rt.alloc())?.as_str(), "06 000A00 --L--0 00 0050 read");
+//! ```
+#![tactic(auto)]
+
+mod areas;
+mod ccw;
+mod flags;
+mod group;
+mod storage;
+mod watched;
+
+pub use crate::areas::{Area, covers};
+pub use crate::ccw::Ccw;
+pub use crate::flags::CcwFlags;
+pub use crate::group::Group;
+pub use crate::storage::{Storage, TooLarge};
+pub use crate::watched::{DeviceFault, Watched, write_out};
+
+#[cfg(test)]
+mod tests;

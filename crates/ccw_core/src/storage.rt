@@ -1,0 +1,72 @@
+//! Main storage as it stands.
+
+ghost use Rattle.std.specs.Prelude.{◌≡◌, ◌≤◌, ◌<◌, ◌↔◌, ℕ, length, IsOk, IsErr, IfOk, option_copied};
+ghost use Rattle.ccw_core.specs.Ccw.{byte};
+ghost use Rattle.ccw_core.specs.Storage.{ccw_at, range_at};
+
+use crate::ccw::Ccw;
+use thiserror::Error;
+
+/// The most bytes that storage may have, 16,777,216: addresses have 24 bits.
+const STORAGE_LIMIT: usize = 16_777_216;
+
+/// More than 16,777,216 bytes of storage.
+#[derive(Clone, Copy, PartialEq, Eq, Debug, Error)]
+#[error("storage is larger than 16,777,216 bytes")]
+pub struct TooLarge;
+
+/// Main storage from address 0 on, borrowed as it stands.
+#[derive(Clone, Copy, PartialEq, Eq, Debug)]
+pub struct Storage<'a> {
+    bytes: &'a [u8],
+    pub ghost small: { length bytes.now ≤ 16777216 },
+    pub ghost fits: { (a : ℕ) → byte bytes.now a < 256 },
+}
+
+impl<'a> Storage<'a> {
+    ghost use Rattle.ccw_core.specs.Held.{bytes_held};
+
+    /// Storage of these bytes. `TooLarge` comes exactly above 16,777,216 bytes, since addresses
+    /// have 24 bits.
+    pub fn new(bytes: &'a [u8]) -> Result<Storage<'a>, TooLarge>
+        ensures whole { IfOk result (λ s. bytes_held s ≡ bytes.entry.now) }
+        ensures ok { IsOk result ↔ (length bytes.entry.now ≤ 16777216) }
+        ensures large { IsErr result ↔ (16777216 < length bytes.entry.now) }
+    {
+        if bytes.len() <= STORAGE_LIMIT {
+            Ok(Storage { bytes })
+        } else {
+            Err(TooLarge)
+        }
+    }
+
+    /// How many bytes storage has, 16,777,216 at the most.
+    pub fn len(&self) -> u32
+        ensures value { result ≡ length (bytes_held self.now) }
+        ensures below { result ≤ 16777216 }
+    {
+        self.bytes.len() as u32
+    }
+
+    /// The channel command word at an address: `None` exactly where the address isn't a multiple of
+    /// 8, or the eight bytes from there on aren't wholly in storage. Nothing wraps round.
+    pub fn ccw_at(&self, address: u32) -> Option<Ccw>
+        ensures { result ≡ ccw_at (bytes_held self.now) address }
+    {
+        let at = address as usize;
+        if address % 8 != 0 || self.bytes.len() < at + 8 {
+            return None;
+        }
+        let word = self.bytes[at..at + 8].first_chunk::<8>()?;
+        Some(Ccw::from_bytes(word))
+    }
+
+    /// The bytes of a range, borrowed and not copied: `None` exactly where start plus length is
+    /// above the length of storage. An empty range lies in storage up to its very end.
+    pub fn range(&self, start: u32, len: u32) -> Option<&'a [u8]>
+        ensures { option_copied result ≡ range_at (bytes_held self.now) start len }
+    {
+        let start = start as usize;
+        self.bytes.get(start..start + len as usize)
+    }
+}

@@ -1,0 +1,121 @@
+//! Readers and writers that remember a failure.
+
+ghost use Rattle.std.specs.Prelude.{◌≡◌, ◌≤◌, ◌<◌, ◌↔◌, true, false, take, length, IsTrue, IsErr, IfOk, OnOk, OnErr};
+ghost use Rattle.std.specs.Io.KnownBytes.{Appends, ReadConsumes, WriteAppends};
+ghost use Rattle.ccw_core.specs.Written.{AppendsPrefix};
+
+use std::io::{Read, Write};
+use std::marker::Model;
+use thiserror::Error;
+
+/// A device failed: it answered an error, or took none of the bytes that it was given.
+#[derive(Clone, Copy, PartialEq, Eq, Debug, Error)]
+#[error("the device failed")]
+pub struct DeviceFault;
+
+/// A reader or writer that remembers whether a call of it failed.
+///
+/// So a caller who handed it down several layers can still tell a device that failed from one that
+/// didn't.
+#[derive(Drop)]
+pub struct Watched<T> {
+    inner: T,
+    failed: bool,
+}
+
+impl<T> Model for Watched<T> {
+    ghost use Rattle.ccw_core.specs.Watch.{Watch};
+
+    ghost Value = { Watch T };
+
+    ghost view = { λ w. record { device = w.inner; failed = w.failed } };
+}
+
+impl<T> Watched<T> {
+    /// Watches a device, of which no call has failed so far.
+    pub fn new(inner: T) -> Watched<T>
+        ensures held { result.device ≡ inner }
+        ensures sound { result.failed ≡ false }
+    {
+        Watched {
+            inner,
+            failed: false,
+        }
+    }
+
+    /// Whether a call has failed since `new`.
+    pub fn failed(&self) -> bool
+        ensures { result ≡ self.now.failed }
+    {
+        self.failed
+    }
+
+    /// The device itself.
+    pub fn into_inner(self) -> T
+        ensures { result ≡ self.device }
+    {
+        let Watched { inner, failed: _ } = self;
+        inner
+    }
+
+    // Remembers that a call failed.
+    fn fault(&mut self) -> DeviceFault
+        ensures kept { self.new.device ≡ self.old.device }
+        ensures noted { self.new.failed ≡ true }
+    {
+        self.failed = true;
+        DeviceFault
+    }
+}
+
+impl<R: Read> Watched<R> {
+    /// Reads once, into the front of the buffer, and says how many bytes came; none come at the
+    /// end of the input.
+    ///
+    /// An error of any kind is a fault, an interruption too: it isn't tried again.
+    pub fn read(&mut self, buffer: &mut [u8]) -> Result<usize, DeviceFault>
+        ensures bound { IfOk result (λ n. n ≤ length buffer.new) }
+        ensures bytes { ReadConsumes (R.remaining self.old.device) (R.remaining self.new.device) result buffer.new }
+        ensures ok { OnOk result (self.new.failed ≡ self.old.failed) }
+        ensures fault { OnErr result (self.new.failed ≡ true) }
+    {
+        match self.inner.read(buffer) {
+            Ok(n) => Ok(n),
+            Err(_) => Err(self.fault()),
+        }
+    }
+}
+
+impl<W: Write> Watched<W> {
+    /// Writes once, and says how many bytes, from the front, were taken.
+    ///
+    /// An error of any kind is a fault, an interruption too, and so is a call that takes none of
+    /// some bytes. A fault has written nothing.
+    pub fn write(&mut self, bytes: &[u8]) -> Result<usize, DeviceFault>
+        ensures bound { IfOk result (λ n. n ≤ length bytes.now) }
+        ensures moves { IfOk result (λ n. 0 < length bytes.now → 0 < n) }
+        ensures bytes { WriteAppends (W.contents self.old.device) (W.contents self.new.device) result bytes.now }
+        ensures ok { OnOk result (self.new.failed ≡ self.old.failed) }
+        ensures fault { OnErr result (self.new.failed ≡ true) }
+    {
+        match self.inner.write(bytes) {
+            Ok(n) if n > 0 || bytes.is_empty() => Ok(n),
+            _ => Err(self.fault()),
+        }
+    }
+}
+
+/// Writes all the bytes, in as many calls as the writer needs. After a fault some number of them,
+/// from the front, were written.
+pub fn write_out<W: Write>(bytes: &[u8], to: &mut Watched<W>) -> Result<(), DeviceFault>
+    requires { to.old.failed ≡ false }
+    ensures ok { OnOk result (Appends (W.contents to.old.device) (W.contents to.new.device) bytes.now) }
+    ensures prefix { AppendsPrefix (W.contents to.old.device) (W.contents to.new.device) bytes.now }
+    ensures fault { IsErr result ↔ (to.new.failed ≡ true) }
+{
+    let mut at = 0;
+    while at < bytes.len() {
+        at += to.write(&bytes[at..])?;
+    }
+    Ok(())
+}

@@ -1,0 +1,164 @@
+-- A deck's lines are read as that deck, and whatever has been read can go on to be a deck.
+use Rattle.std.proofs.Common.{◌≡◌, ℕ, zero, suc, ◌+◌, ◌-◌, ◌*◌, ◌/◌, ◌%◌, ◌^◌, ◌<◌, ◌≤◌, ◌⊎◌, Bool, true, false, cond, List, [], ◌∷◌, ◌++◌, length, take, drop, map, Result, Ok, Err, refl, sym, ap, subst, ◌∙◌, append_assoc, arith, inl, inr, replicate, length-append, length-drop, lit<}
+use Rattle.std.specs.Prelude.{◌==◌}
+use Rattle.std.specs.List.{AllByRecursion}
+use Rattle.std.proofs.lemmas.Bool.{le-leb, le-ltb, eqb-true}
+use Rattle.std.proofs.lemmas.List.{append-nil, take-append-drop, replicate-append-replicate, length-take}
+use Rattle.ccw_core.specs.declared.areas.Area.{Area}
+use Rattle.ckd_core.specs.declared.device.Device.TheVariants.{D2311}
+use Rattle.ckd_core.specs.Cylinders.{IsExtent, AreExtents}
+use Rattle.chan_deck.specs.Item.{Item, header, device, mask, start, extent, fetch, store, storage, put, end, HasForm}
+use Rattle.chan_deck.specs.Image.{Image, IsDeck, items, puts, is_zero, extent_of}
+use Rattle.chan_deck.specs.Reading.{Heading, State, Opening, Named, OnDevice, Masked, Listing, Filling, Whole, step, go_on, run, pad, image_of}
+use Rattle.chan_deck.proofs.PutLemmas.{length_pad}
+use Rattle.chan_deck.proofs.StepLemmas.{and_both, said, IsState, step-says}
+use Rattle.chan_deck.specs.declared.cause.Cause.{Cause}
+use Rattle.chan_deck.specs.declared.cause.Cause.TheVariants as causes
+
+-- ---- runs
+
+after : (r : Result State Cause) (f g : State → Result State Cause) (k : State → Result State Cause) → ((t : State) → g t ≡ go_on (f t) k) → go_on r g ≡ go_on (go_on r f) k
+after (Ok s) f g k h = h s
+after (Err c) f g k h = refl
+
+-- a run of two parts
+pub run-append : (s : State) (is js : List Item) → run s (is ++ js) ≡ go_on (run s is) (λ t. run t js)
+run-append s [] js = refl
+run-append s (i ∷ is) js = after (step s i) (λ t. run t is) (λ t. run t (is ++ js)) (λ t. run t js) (λ t. run-append t is js)
+
+abbrev ok_state : State → Result State Cause
+ok_state x = Ok x
+
+ok_is : (x y : State) → ok_state x ≡ ok_state y → x ≡ y
+ok_is x y e = cc
+
+pub go_on_ok : (r : Result State Cause) (f : State → Result State Cause) (t : State) → go_on r f ≡ Ok t → (s : State) × (r ≡ Ok s) × (f s ≡ Ok t)
+go_on_ok (Ok s) f t e = (s, refl, e)
+go_on_ok (Err c) f t e = absurd cc
+
+-- a run leads to a state, and says its lines more
+pub run-says : (s t : State) (js : List Item) → IsState s → AllByRecursion HasForm js → run s js ≡ Ok t → IsState t × (said t ≡ said s ++ js)
+run-says s t [] is forms e = subst (λ x. IsState x × (said x ≡ said s ++ [])) (ok_is s t e) (is, sym (append-nil (said s)))
+run-says s t (i ∷ js) is forms e =
+    let r = go_on_ok (step s i) (λ q. run q js) t e in
+    let one = step-says s r.0 i is forms.0 r.1 in
+    let more = run-says r.0 t js one.0 forms.1 r.2 in
+    (more.0, more.1 ∙ ap (λ x. x ++ js) one.1 ∙ append_assoc (said s) (i ∷ []) js)
+
+-- ---- lists
+
+snoc : {X : Type 0} (xs : List X) (x : X) (ys : List X) → (xs ++ x ∷ []) ++ ys ≡ xs ++ x ∷ ys
+snoc xs x ys = append_assoc xs (x ∷ []) ys
+
+over_extents : (h : Heading) (es xs : List (ℕ × ℕ)) → AllByRecursion IsExtent xs → run (Listing h es [] []) (map extent_of xs) ≡ Ok (Listing h (es ++ xs) [] [])
+over_extents h es [] all = rw append-nil refl
+over_extents h es (x ∷ xs) all =
+    rw (le-ltb x.1 x.0 all.0.0, le-ltb 202 x.1 all.0.1) (over_extents h (es ++ x ∷ []) xs all.1 ∙ ap (λ t. Ok (Listing h t [] [])) (snoc es x xs))
+
+over_fetches : (h : Heading) (e : ℕ × ℕ) (es : List (ℕ × ℕ)) (fs xs : List Area) → run (Listing h (e ∷ es) fs []) (map fetch xs) ≡ Ok (Listing h (e ∷ es) (fs ++ xs) [])
+over_fetches h e es fs [] = rw append-nil refl
+over_fetches h e es fs (x ∷ xs) = over_fetches h e es (fs ++ x ∷ []) xs ∙ ap (λ t. Ok (Listing h (e ∷ es) t [])) (snoc fs x xs)
+
+over_stores : (h : Heading) (e : ℕ × ℕ) (es : List (ℕ × ℕ)) (fs ss xs : List Area) → run (Listing h (e ∷ es) fs ss) (map store xs) ≡ Ok (Listing h (e ∷ es) fs (ss ++ xs))
+over_stores h e es fs ss [] = rw append-nil refl
+over_stores h e es fs ss (x ∷ xs) = over_stores h e es fs (ss ++ x ∷ []) xs ∙ ap (λ t. Ok (Listing h (e ∷ es) fs t)) (snoc ss x xs)
+
+over_lists : (h : Heading) (es : List (ℕ × ℕ)) (fs ss : List Area) → AreExtents es → run (Listing h [] [] []) (map extent_of es ++ map fetch fs ++ map store ss) ≡ Ok (Listing h es fs ss)
+over_lists h [] fs ss are = absurd (omega (arith, are.0))
+over_lists h (e ∷ es) fs ss are =
+    let xs = map extent_of (e ∷ es) in
+    run-append (Listing h [] [] []) (xs ++ map fetch fs) (map store ss)
+    ∙ ap (λ r. go_on r (λ t. run t (map store ss)))
+    (run-append (Listing h [] [] []) xs (map fetch fs) ∙ ap (λ r. go_on r (λ t. run t (map fetch fs))) (over_extents h [] (e ∷ es) are.1) ∙ over_fetches h e es [] fs)
+    ∙ over_stores h e es fs [] ss
+
+on_size : (h : Heading) (es : List (ℕ × ℕ)) (fs ss : List Area) (n : ℕ) → 0 < length es → n % 8 ≡ 0 → n ≤ 2 ^ 24 → step (Listing h es fs ss) (storage n) ≡ Ok (Filling h es fs ss n [])
+on_size h [] fs ss n some al le = absurd (omega arith)
+on_size h (e ∷ es) fs ss n some al le = rw (al, le-leb n (2 ^ 24) le) refl
+
+-- ---- puts
+
+either_way : (b : Bool) → (b ≡ true) ⊎ (b ≡ false)
+either_way true = inl refl
+either_way false = inr refl
+
+pub zeros_is : (bytes : List ℕ) → is_zero bytes ≡ true → bytes ≡ replicate (length bytes) 0
+zeros_is [] h = refl
+zeros_is (b ∷ bytes) h =
+    let t = and_both (b == 0) (is_zero bytes) h in
+    let z : b ≡ 0 = eqb-true b 0 t.0 in
+    ap (λ (x : ℕ). x ∷ bytes) z ∙ ap (λ (t : List ℕ). 0 ∷ t) (zeros_is bytes t.1)
+
+pad_more : (front : List ℕ) (at k : ℕ) → length front ≤ at → pad front (at + k) ≡ pad front at ++ replicate k 0
+pad_more front at k h =
+    let m : at + k - length front ≡ at - length front + k = omega arith in
+    rw (m, ← replicate-append-replicate {A = ℕ} (at - length front) k 0) (sym (append_assoc front (replicate (at - length front) 0) (replicate k 0)))
+
+pad_same : (front : List ℕ) (n : ℕ) → length front ≡ n → pad front n ≡ front
+pad_same front n h =
+    let z : n - length front ≡ 0 = omega arith in
+    rw z (append-nil front)
+
+pub put_step : (h : Heading) (es : List (ℕ × ℕ)) (fs ss : List Area) (size at : ℕ) (front word : List ℕ) → length front ≤ at → at % 8 ≡ 0 → at + 8 ≤ size → is_zero word ≡ false
+    → step (Filling h es fs ss size front) (put at word) ≡ Ok (Filling h es fs ss size (pad front at ++ word))
+put_step h es fs ss size at front word low al fits z = rw (al, le-leb (length front) at low, le-leb (at + 8) size fits, z) refl
+
+over_puts : (h : Heading) (es : List (ℕ × ℕ)) (fs ss : List Area) (size n at : ℕ) (front bytes : List ℕ) → length front ≤ at → at % 8 ≡ 0 → length bytes ≡ 8 * n → at + 8 * n ≡ size
+    → (full : List ℕ) × (run (Filling h es fs ss size front) (puts n at bytes) ≡ Ok (Filling h es fs ss size full)) × (pad full size ≡ pad front at ++ bytes)
+unfolding puts
+over_puts h es fs ss size zero at front [] low al len is = (front, refl, ap (λ k. pad front k) (omega (arith, is)) ∙ sym (append-nil (pad front at)))
+over_puts h es fs ss size zero at front (b ∷ bytes) low al len is = absurd (omega arith)
+over_puts h es fs ss size (suc n) at front bytes low al len is =
+    let eight : length (take 8 bytes) ≡ 8 = omega (arith, length-take 8 bytes) in
+    let rest : length (drop 8 bytes) ≡ 8 * n = omega (arith, length-drop 8 bytes) in
+    let whole = take-append-drop 8 bytes in
+    elim (either_way (is_zero (take 8 bytes))) [
+      | inl z ↦
+          let r = over_puts h es fs ss size n (at + 8) front (drop 8 bytes) (omega arith) (omega arith) rest (omega arith) in
+          let w : take 8 bytes ≡ replicate 8 0 = zeros_is (take 8 bytes) z ∙ ap (λ (k : ℕ). replicate k 0) eight in (
+            r.0,
+            ap (λ b. run (Filling h es fs ss size front) (cond b (puts n (at + 8) (drop 8 bytes)) (put at (take 8 bytes) ∷ puts n (at + 8) (drop 8 bytes)))) z ∙ r.1,
+            r.2 ∙ ap (λ t. t ++ drop 8 bytes) (pad_more front at 8 low) ∙ append_assoc (pad front at) (replicate 8 0) (drop 8 bytes)
+                ∙ ap (λ t. pad front at ++ (t ++ drop 8 bytes)) (sym w) ∙ ap (λ t. pad front at ++ t) whole,
+          )
+      | inr z ↦
+          let len1 : length (pad front at ++ take 8 bytes) ≡ at + 8 = length-append (pad front at) (take 8 bytes) ∙ ap (λ k. k + length (take 8 bytes)) (length_pad front at low) ∙ ap (λ k. at + k) eight in
+          let r = over_puts h es fs ss size n (at + 8) (pad front at ++ take 8 bytes) (drop 8 bytes) (omega arith) (omega arith) rest (omega arith) in
+          let one = put_step h es fs ss size at front (take 8 bytes) low al (omega arith) z in
+          let rest_puts = puts n (at + 8) (drop 8 bytes) in
+          (r.0, ap (λ b. run (Filling h es fs ss size front) (cond b rest_puts (put at (take 8 bytes) ∷ rest_puts))) z ∙ ap (λ q. go_on q (λ t. run t rest_puts)) one ∙ r.1, r.2 ∙ ap (λ t. t ++ drop 8 bytes) (pad_same (pad front at ++ take 8 bytes) (at + 8) len1) ∙ append_assoc (pad front at) (take 8 bytes) (drop 8 bytes) ∙ ap (λ t. pad front at ++ t) whole)
+    ]
+
+-- a deck's lines are read as that deck
+pub reads_deck : (d : Image) → IsDeck d → run Opening (items d) ≡ Ok (Whole d)
+reads_deck d is =
+    let h : Heading = record { device = d.device; mask = d.mask; start = d.start } in
+    let size = length d.storage in
+    let P = puts (size / 8) 0 d.storage in
+    let lines_of = map extent_of d.extents ++ map fetch d.fetch ++ map store d.store in
+    let L = Listing h d.extents d.fetch d.store in
+    let filled = over_puts h d.extents d.fetch d.store size (size / 8) 0 [] d.storage (omega arith) refl (omega (arith, is.whole)) (omega (arith, is.whole)) in
+    let full : pad filled.0 size ≡ d.storage = filled.2 in
+    let opened : run Opening (items d) ≡ run (Listing h [] [] []) ((lines_of ++ storage size ∷ P) ++ end ∷ []) =
+    ap (λ b. go_on (cond b (Ok (Masked d.device d.mask)) (Err causes.Mask)) (λ t. run t (start d.start ∷ (lines_of ++ storage size ∷ P) ++ end ∷ []))) is.mask.1 in
+    opened ∙ run-append (Listing h [] [] []) (lines_of ++ storage size ∷ P) (end ∷ [])
+    ∙ ap (λ r. go_on r (λ t. run t (end ∷ []))) (run-append (Listing h [] [] []) lines_of (storage size ∷ P)
+    ∙ ap (λ r. go_on r (λ t. run t (storage size ∷ P))) (over_lists h d.extents d.fetch d.store is.extents)
+    ∙ ap (λ r. go_on r (λ t. run t P)) (on_size h d.extents d.fetch d.store size is.extents.0 is.whole is.size)
+    ∙ filled.1)
+    ∙ ap (λ b. Ok (Whole (image_of h d.extents d.fetch d.store b))) full
+
+-- ---- what has been read can go on
+
+-- some more lines make a deck of it
+pub completes : (s : State) → IsState s → (js : List Item) × (d : Image) × AllByRecursion HasForm js × (run s js ≡ Ok (Whole d))
+completes Opening is = (header ∷ device D2311 ∷ mask 0 ∷ start 0 ∷ extent 0 0 ∷ storage 0 ∷ end ∷ [], _, (tt, (tt, (lit< tt, (lit< tt, ((lit< tt, lit< tt), (lit< tt, (tt, tt))))))), refl)
+completes Named is = (device D2311 ∷ mask 0 ∷ start 0 ∷ extent 0 0 ∷ storage 0 ∷ end ∷ [], _, (tt, (lit< tt, (lit< tt, ((lit< tt, lit< tt), (lit< tt, (tt, tt)))))), refl)
+completes (OnDevice v) is = (mask 0 ∷ start 0 ∷ extent 0 0 ∷ storage 0 ∷ end ∷ [], _, (lit< tt, (lit< tt, ((lit< tt, lit< tt), (lit< tt, (tt, tt))))), refl)
+completes (Masked v m) is = (start 0 ∷ extent 0 0 ∷ storage 0 ∷ end ∷ [], _, (lit< tt, ((lit< tt, lit< tt), (lit< tt, (tt, tt)))), refl)
+completes (Listing h [] [] []) is = (extent 0 0 ∷ storage 0 ∷ end ∷ [], _, ((lit< tt, lit< tt), (lit< tt, (tt, tt))), refl)
+completes (Listing h [] (f ∷ fs) ss) is = absurd (cc (is.after.0))
+completes (Listing h [] [] (s ∷ ss)) is = absurd (cc (is.after.1))
+completes (Listing h (e ∷ es) fs ss) is = (storage 0 ∷ end ∷ [], _, (lit< tt, (tt, tt)), refl)
+completes (Filling h es fs ss n bytes) is = (end ∷ [], _, (tt, tt), refl)
+completes (Whole d) is = ([], d, tt, refl)

@@ -1,0 +1,115 @@
+-- Filling storage: the bytes behind the last put are zeros until a put writes there.
+use Rattle.std.proofs.Common.{◌≡◌, ℕ, ◌+◌, ◌-◌, ◌^◌, ◌<◌, ◌≤◌, Bool, true, false, cond, List, [], ◌∷◌, ◌++◌, length, take, drop, Result, Ok, Err, refl, sym, ap, ◌∙◌, arith, replicate, length-append, length-drop, ◌&&◌, inl}
+use Rattle.std.specs.Prelude.{◌==◌, nat_le, ◌%◌}
+use Rattle.std.specs.Int.{w64, to_be_bytes, from_be_bytes}
+use Rattle.std.proofs.lemmas.Bool.{le-leb, leb-true, eqb-true}
+use Rattle.std.proofs.lemmas.Nat.{from_be_bytes-to_be_bytes_8}
+use Rattle.std.proofs.lemmas.List.{take-append-drop, length-take, take_at, drop_at, drop-replicate, take-replicate, drop-drop}
+use Rattle.std.proofs.Math.Seq.{take-append-add}
+use Rattle.ccw_core.specs.declared.areas.Area.{Area}
+use Rattle.chan_deck.specs.Item.{put, end, Says}
+use Rattle.chan_deck.specs.Image.{Image, is_zero, Spells}
+use Rattle.chan_deck.specs.Refused.{split, IsRefused}
+use Rattle.chan_deck.specs.Reading.{Heading, Filling, Whole, Stands, Refuses, step, pad, image_of}
+use Rattle.chan_deck.proofs.StepLemmas.{and_both}
+use Rattle.chan_deck.proofs.DeckRuns.{put_step, zeros_is}
+use Rattle.chan_deck.proofs.RefusalLemmas.{takes, spells_deck, refuses_more}
+use Rattle.chan_deck.specs.declared.cause.Cause.{Cause}
+use Rattle.chan_deck.specs.declared.cause.Cause.TheVariants as causes
+
+-- ---- eight bytes as a number
+
+all_zero : (bytes : List ℕ) → length bytes ≡ 8 → is_zero bytes ≡ true → from_be_bytes w64 bytes ≡ 0
+all_zero bytes len z =
+    let same : bytes ≡ replicate 8 0 = zeros_is bytes z ∙ ap (λ (k : ℕ). replicate k 0) len in
+    ap (λ t. from_be_bytes w64 t) same
+
+pub zero_word : (n : ℕ) → n ≡ 0 → is_zero (to_be_bytes w64 n) ≡ true
+zero_word n e = ap (λ k. is_zero (to_be_bytes w64 k)) e
+
+some_word_by : (b : Bool) (n : ℕ) → n < 2 ^ 64 → (n ≡ 0 → ⊥) → is_zero (to_be_bytes w64 n) ≡ b → b ≡ false
+some_word_by true n small some e = absurd (some (sym (from_be_bytes-to_be_bytes_8 n small) ∙ all_zero (to_be_bytes w64 n) refl e))
+some_word_by false n small some e = refl
+
+-- eight bytes are zero only where their number is
+pub some_word : (n : ℕ) → n < 2 ^ 64 → (n ≡ 0 → ⊥) → is_zero (to_be_bytes w64 n) ≡ false
+some_word n small some = some_word_by (is_zero (to_be_bytes w64 n)) n small some refl
+
+-- ---- refusals
+
+refused_unless : {A : Type 0} (b : Bool) (r : Result A Cause) (c : Cause) → (b ≡ true → ⊥) → cond b r (Err c) ≡ Err c
+refused_unless true r c h = absurd (h refl)
+refused_unless false r c h = refl
+
+pub bad_place : (h : Heading) (es : List (ℕ × ℕ)) (fs ss : List Area) (size a : ℕ) (front w l : List ℕ) → Says l (put a w) → ((a % 8 ≡ 0) × (length front ≤ a) × (a + 8 ≤ size) → ⊥)
+    → Refuses (Filling h es fs ss size front) l causes.PutAddress
+bad_place h es fs ss size a front w l says bad =
+    inl (
+      put a w,
+      says,
+      refused_unless (a % 8 == 0 && nat_le (length front) a && nat_le (a + 8) size) _ causes.PutAddress (λ t.
+          let x = and_both (a % 8 == 0 && nat_le (length front) a) (nat_le (a + 8) size) t in
+          let y = and_both (a % 8 == 0) (nat_le (length front) a) x.0 in
+          bad (eqb-true _ _ y.0, leb-true _ _ y.1, leb-true _ _ x.1)),
+    )
+
+pub zero_put : (h : Heading) (es : List (ℕ × ℕ)) (fs ss : List Area) (size a : ℕ) (front w l : List ℕ) → Says l (put a w) → a % 8 ≡ 0 → length front ≤ a → a + 8 ≤ size → is_zero w ≡ true
+    → Refuses (Filling h es fs ss size front) l causes.PutZero
+zero_put h es fs ss size a front w l says al low fits z = inl (put a w, says, rw (al, le-leb (length front) a low, le-leb (a + 8) size fits, z) refl)
+
+-- ---- what a write leaves
+
+pub record IsWritten (S new word : List ℕ) (next a : ℕ) : Type 0 where
+  pub len : length new ≡ length S
+  pub front : take (a + 8) new ≡ pad (take next S) a ++ word
+  pub behind : drop (a + 8) new ≡ replicate (length new - (a + 8)) 0
+
+pub written : (S new word : List ℕ) (next a : ℕ) → drop next S ≡ replicate (length S - next) 0 → next ≤ a → a + 8 ≤ length S → length word ≡ 8 → new ≡ (take a S ++ word) ++ drop (a + length word) S → IsWritten S new word next a
+written S new word next a z low fits eight is =
+    let T = take next S in
+    let lenT : length T ≡ next = omega (arith, length-take next S) in
+    let whole : S ≡ T ++ replicate (length S - next) 0 = sym (take-append-drop next S) ∙ ap (λ t. T ++ t) z in
+    let at-is : a ≡ length T + (a - next) = omega arith in
+    let m : a - next ≡ a - length T = omega arith in
+    let front : take a S ≡ pad T a = ap (λ k. take k S) at-is ∙ ap (λ t. take (length T + (a - next)) t) whole ∙ take-append-add T (replicate (length S - next) 0) (a - next) ∙ ap (λ t. T ++ t) (take-replicate {X = ℕ} (a - next) (length S - next) 0 (omega arith)) ∙ ap (λ k. T ++ replicate k 0) m in
+    let lenF : length (take a S ++ word) ≡ a + 8 = omega (arith, length-append (take a S) word, length-take a S) in
+    let past : next + (a + 8 - next) ≡ a + 8 = omega arith in
+    let w8 : a + length word ≡ a + 8 = omega arith in
+    let rest : drop (a + length word) S ≡ replicate (length S - next - (a + 8 - next)) 0 = ap (λ k. drop k S) (w8 ∙ sym past) ∙ sym (drop-drop (a + 8 - next) next S) ∙ ap (λ t. drop (a + 8 - next) t) z ∙ drop-replicate (a + 8 - next) (length S - next) 0 in
+    let len : length new ≡ length S = ap length is ∙ omega (arith, length-append (take a S ++ word) (drop (a + length word) S), length-drop (a + length word) S) in
+    record {
+      len = len;
+      front = ap (λ t. take (a + 8) t) is ∙ take_at (take a S ++ word) (drop (a + length word) S) (a + 8) lenF ∙ ap (λ t. t ++ word) front;
+      behind = ap (λ t. drop (a + 8) t) is ∙ drop_at (take a S ++ word) (drop (a + length word) S) (a + 8) lenF ∙ rest ∙ ap (λ (k : ℕ). replicate k 0) (omega (arith, len));
+    }
+
+-- a put that is taken
+pub takes_put : (t : List ℕ) (h : Heading) (es : List (ℕ × ℕ)) (fs ss : List Area) (n a next : ℕ) (S new word rest l after : List ℕ) → Stands t (Filling h es fs ss (length S) (take next S)) n rest
+    → split rest ≡ (l ∷ (split after).0, (split after).1) → Says l (put a word) → next ≤ a → a % 8 ≡ 0 → a + 8 ≤ length S → is_zero word ≡ false → IsWritten S new word next a
+    → Stands t (Filling h es fs ss (length new) (take (a + 8) new)) (n + 1) after
+takes_put t h es fs ss n a next S new word rest l after st parts says low al fits z w =
+    let lenT : length (take next S) ≤ a = omega (arith, length-take next S) in
+    let goes : step (Filling h es fs ss (length S) (take next S)) (put a word) ≡ Ok (Filling h es fs ss (length new) (take (a + 8) new)) =
+    put_step h es fs ss (length S) a (take next S) word lenT al fits z
+    ∙ ap (λ k. Ok (Filling h es fs ss k (pad (take next S) a ++ word))) (sym w.len) ∙ ap (λ k. Ok (Filling h es fs ss (length new) k)) (sym w.front) in
+    takes t (Filling h es fs ss (length S) (take next S)) (Filling h es fs ss (length new) (take (a + 8) new)) n rest l after (put a word) st parts says goes
+
+pub take_all : (S : List ℕ) (next : ℕ) → next ≤ length S → drop next S ≡ replicate (length S - next) 0 → pad (take next S) (length S) ≡ S
+take_all S next h z =
+    let lenT : length (take next S) ≡ next = omega (arith, length-take next S) in
+    ap (λ k. take next S ++ replicate (length S - k) 0) lenT ∙ ap (λ t. take next S ++ t) (sym z) ∙ take-append-drop next S
+
+-- the deck whose last line this is
+pub ends : (t : List ℕ) (h : Heading) (es : List (ℕ × ℕ)) (fs ss : List Area) (n next : ℕ) (S rest l after : List ℕ) → Stands t (Filling h es fs ss (length S) (take next S)) n rest
+    → split rest ≡ (l ∷ (split after).0, (split after).1) → Says l end → next ≤ length S → drop next S ≡ replicate (length S - next) 0
+    → Stands t (Whole (image_of h es fs ss S)) (n + 1) after
+ends t h es fs ss n next S rest l after st parts says within zeros =
+    takes t (Filling h es fs ss (length S) (take next S)) (Whole (image_of h es fs ss S)) n rest l after end st parts says (ap (λ b. Ok (Whole (image_of h es fs ss b))) (take_all S next within zeros))
+
+pub spells_whole : (t : List ℕ) (d : Image) (n : ℕ) (after : List ℕ) → Stands t (Whole d) n after → length after ≡ 0 → Spells t d
+spells_whole t d n [] st len = spells_deck t d n st
+spells_whole t d n (b ∷ after) st len = absurd (omega arith)
+
+pub more_whole : (t : List ℕ) (d : Image) (n : ℕ) (after : List ℕ) → Stands t (Whole d) n after → 0 < length after → IsRefused t n causes.After
+more_whole t d n [] st len = absurd (omega arith)
+more_whole t d n (b ∷ after) st len = refuses_more t d n b after st

@@ -1,0 +1,16 @@
+pub mod LineFeeds
+pub mod PutLemmas
+pub mod StepLemmas
+pub mod DeckRuns
+pub mod UpperDigits
+pub mod ByteNumbers
+pub mod FieldLemmas
+pub mod ItemLemmas
+pub mod FrontLemmas
+pub mod CauseLemmas
+pub mod RefusalLemmas
+pub mod LineRefusals
+pub mod FillLemmas
+pub mod WriteLemmas
+pub mod SevenDigits
+pub mod SameLemmas

@@ -1,0 +1,205 @@
+-- What one line more does to where reading stands: it goes on, or the text is refused there, or it has spelled a deck.
+use Rattle.std.proofs.Common.{◌≡◌, ℕ, suc, ◌+◌, ◌-◌, ◌<◌, ◌≤◌, ◌⊎◌, Bool, true, false, cond, List, [], ◌∷◌, ◌++◌, length, take, drop, map, Result, Ok, refl, sym, ap, subst, ◌∙◌, append_assoc, arith, inl, inr, length-append}
+use Rattle.std.specs.Prelude.{◌==◌}
+use Rattle.std.proofs.lemmas.List.{append-nil, map-append}
+use Rattle.std.proofs.lemmas.Bool.{cases_lt}
+use Rattle.chan_deck.specs.Item.{Item, line, text, HasForm, Says}
+use Rattle.chan_deck.specs.Image.{Image, items, Spells}
+use Rattle.chan_deck.specs.Refused.{split, lines, onto_first, IsRefusedAt, Found, whole_line, part, found_in, found_behind, AreSaid, IsCause, IsRefused, rank}
+use Rattle.chan_deck.specs.Reading.{State, Opening, Whole, Stands, step, go_on, run, Refuses, IsRefusal}
+use Rattle.chan_deck.specs.declared.error.DeckError.{DeckError}
+use Rattle.chan_deck.specs.declared.error.DeckError.TheVariants as errors
+use Rattle.chan_deck.proofs.StepLemmas.{said, all-append}
+use Rattle.chan_deck.proofs.DeckRuns.{run-append, reads_deck}
+use Rattle.chan_deck.proofs.FrontLemmas.{one_deck, is_state, says_said, lines_left, refused_at_line, refused_at_end, whole_front, take_front, drop_front, length-said, split_deck, items_form, said_once, join}
+use Rattle.chan_deck.proofs.CauseLemmas.{is_whole, line_cause, all_refused, end_cause, after_cause}
+use Rattle.chan_deck.specs.declared.cause.Cause.{Cause}
+use Rattle.chan_deck.specs.declared.cause.Cause.TheVariants as causes
+
+-- nothing is read yet
+pub starts : (t : List ℕ) → Stands t Opening 1 t
+starts t = record { said = []; forms = tt; runs = refl; parts = refl; number = refl }
+
+-- a line that is taken
+pub takes : (t : List ℕ) (s next : State) (n : ℕ) (rest l after : List ℕ) (i : Item) → Stands t s n rest → split rest ≡ (l ∷ (split after).0, (split after).1) → Says l i → step s i ≡ Ok next
+    → Stands t next (n + 1) after
+takes t s next n rest l after i st e says goes = record {
+  said = st.said ++ i ∷ [];
+  forms = all-append HasForm st.said (i ∷ []) st.forms (says.0, tt);
+  runs = run-append Opening st.said (i ∷ []) ∙ ap (λ r. go_on r (λ q. run q (i ∷ []))) st.runs ∙ ap (λ r. go_on r (λ q. Ok q)) goes;
+  parts =
+      let more : map line st.said ++ l ∷ (split after).0 ≡ map line (st.said ++ i ∷ []) ++ (split after).0 =
+      ap (λ x. map line st.said ++ x ∷ (split after).0) says.1 ∙ sym (append_assoc (map line st.said) (line i ∷ []) (split after).0) ∙ ap (λ x. x ++ (split after).0) (sym (map-append line st.said (i ∷ []))) in
+      st.parts ∙ ap (λ (p : List (List ℕ) × List ℕ). (map line st.said ++ p.0, p.1)) e ∙ ap (λ x. (x, (split after).1)) more;
+  number = omega (arith, st.number, length-append st.said (i ∷ []));
+}
+
+-- ---- refusals
+
+behind_said : (t : List ℕ) (s : State) (n : ℕ) (rest : List ℕ) (st : Stands t s n rest) → found_behind (n - 1) t ≡ found_in (split rest).0 (split rest).1
+behind_said t s n rest st =
+    let ls = map line st.said in
+    let k : n - 1 ≡ length ls = omega (arith, length-said st.said, st.number) in
+    ap (λ j. found_in (drop j (lines t)) (split t).1) k ∙ ap (λ (p : List (List ℕ) × List ℕ). found_in (drop (length ls) p.0) p.1) st.parts ∙ ap (λ x. found_in x (split rest).1) (drop_front ls (split rest).0)
+
+are_said : (t : List ℕ) (s : State) (n : ℕ) (rest : List ℕ) (st : Stands t s n rest) → AreSaid (n - 1) t st.said
+are_said t s n rest st =
+    let ls = map line st.said in
+    let k : n - 1 ≡ length ls = omega (arith, length-said st.said, st.number) in
+    (st.forms, sym (ap (λ j. take j (lines t)) k ∙ ap (λ (p : List (List ℕ) × List ℕ). take (length ls) p.0) st.parts ∙ take_front ls (split rest).0))
+
+with_cause : (t : List ℕ) (s : State) (n : ℕ) (rest : List ℕ) (found : Found) (c : Cause) (st : Stands t s n rest) → found_in (split rest).0 (split rest).1 ≡ found → IsCause (said s) found c
+    → (before : List Item) × AreSaid (n - 1) t before × IsCause before (found_behind (n - 1) t) c
+with_cause t s n rest found c st e h = (
+  st.said,
+  are_said t s n rest st,
+  subst (λ f. IsCause st.said f c) (sym (behind_said t s n rest st ∙ e)) (subst (λ b. IsCause b found c) (says_said t s n rest st) h),
+)
+
+-- a line that is refused
+pub refuses_line : (t : List ℕ) (s : State) (n : ℕ) (rest l after : List ℕ) (c : Cause) → Stands t s n rest → split rest ≡ (l ∷ (split after).0, (split after).1) → Refuses s l c → IsRefused t n c
+refuses_line t s n rest l after c st e refuses =
+    let at_line = refused_at_line t s n rest l after c st e (all_refused s l c refuses) in
+    let many : n ≤ length (lines t) =
+    let len : length (lines t) ≡ length (map line st.said) + suc (length (split after).0) = ap length (lines_left t s n rest l after st e) ∙ length-append (map line st.said) (l ∷ (split after).0) in
+    omega (arith, len, length-said st.said, st.number) in
+    record {
+      none = λ d spells. at_line.here many (whole_front t n d spells);
+      at_line = at_line;
+      for_cause = with_cause t s n rest (whole_line l) c st (ap (λ (p : List (List ℕ) × List ℕ). found_in p.0 p.1) e) (line_cause s l c (is_state t s n rest st) refuses);
+    }
+
+not_whole : {A : Type 0} (s : State) (d : Image) (r : Result State Cause) → is_whole s ≡ false → r ≡ Ok s → r ≡ Ok (Whole d) → A
+not_whole s d r e f g =
+    let same : s ≡ Whole d = cc in
+    absurd (cc (ap is_whole same, e))
+
+-- a deck whose lines these are has been read
+deck_read : (t : List ℕ) (s : State) (n : ℕ) (rest : List ℕ) (d : Image) (st : Stands t s n rest) → Spells t d → (split rest).0 ≡ [] → (run Opening st.said ≡ Ok (Whole d)) × ((split rest).1 ≡ [])
+deck_read t s n rest d st spells none =
+    let same : (map line st.said ++ (split rest).0, (split rest).1) ≡ (map line (items d), []) = sym st.parts ∙ ap (λ x. split x) spells.1 ∙ split_deck d in
+    let lines_same : map line st.said ≡ map line (items d) = sym (append-nil (map line st.said)) ∙ ap (λ x. map line st.said ++ x) (sym none) ∙ ap (λ (p : List (List ℕ) × List ℕ). p.0) same in
+    (ap (λ x. run Opening x) (said_once st.said (items d) st.forms (items_form d spells.0) lines_same) ∙ reads_deck d spells.0, ap (λ (p : List (List ℕ) × List ℕ). p.1) same)
+
+-- the text ends before `end`
+pub refuses_end : (t : List ℕ) (s : State) (n : ℕ) (rest : List ℕ) → Stands t s n rest → split rest ≡ ([], rest) → is_whole s ≡ false → IsRefused t n causes.Ended
+refuses_end t s n rest st e open_yet = record {
+  none = λ d spells. not_whole s d (run Opening st.said) open_yet st.runs (deck_read t s n rest d st spells (ap (λ (p : List (List ℕ) × List ℕ). p.0) e)).0;
+  at_line = refused_at_end t s n rest st e;
+  for_cause = with_cause t s n rest (part rest) causes.Ended st (ap (λ (p : List (List ℕ) × List ℕ). found_in p.0 p.1) e) (end_cause s rest (is_state t s n rest st) open_yet);
+}
+
+-- what stands first in a text: a whole line, or all of it without a line feed
+abbrev StandsFirst : List ℕ → Type 0
+StandsFirst t = ((l : List ℕ) × (after : List ℕ) × (split t ≡ (l ∷ (split after).0, (split after).1))) ⊎ (split t ≡ ([], t))
+
+onto_first_line : (b : ℕ) (t l after : List ℕ) → split t ≡ (l ∷ (split after).0, (split after).1) → onto_first b (split t) ≡ ((b ∷ l) ∷ (split after).0, (split after).1)
+onto_first_line b t l after e = ap (λ p. onto_first b p) e
+
+first_at : (q : Bool) (b : ℕ) (t : List ℕ) → (b == 10) ≡ q → split (b ∷ t) ≡ cond q ([] ∷ (split t).0, (split t).1) (onto_first b (split t)) → StandsFirst t → StandsFirst (b ∷ t)
+first_at true b t h e rest = inl ([], t, e)
+first_at false b t h e (inl x) = inl (b ∷ x.0, x.1, e ∙ onto_first_line b t x.0 x.1 x.2)
+first_at false b t h e (inr x) = inr (e ∙ ap (λ p. onto_first b p) x)
+
+stands_first : (t : List ℕ) → StandsFirst t
+unfolding split
+stands_first [] = inr refl
+stands_first (b ∷ t) = first_at (b == 10) b t refl refl (stands_first t)
+
+-- a byte follows `end`
+pub refuses_more : (t : List ℕ) (d : Image) (n b : ℕ) (rest : List ℕ) → Stands t (Whole d) n (b ∷ rest) → IsRefused t n causes.After
+refuses_more t d n b rest st =
+    elim (stands_first (b ∷ rest)) [
+      | inl x ↦ refuses_line t (Whole d) n (b ∷ rest) x.0 x.1 causes.After st x.2 (inr (λ i says. refl, refl))
+      | inr e ↦
+          record {
+            none = λ f spells. absurd (omega (arith, ap length (sym (ap (λ (p : List (List ℕ) × List ℕ). p.1) e) ∙ (deck_read t (Whole d) n (b ∷ rest) f st spells (ap (λ (p : List (List ℕ) × List ℕ). p.0) e)).1)));
+            at_line = refused_at_end t (Whole d) n (b ∷ rest) st e;
+            for_cause = with_cause t (Whole d) n (b ∷ rest) (part (b ∷ rest)) causes.After st (ap (λ (p : List (List ℕ) × List ℕ). found_in p.0 p.1) e) (after_cause d (part (b ∷ rest)) (is_state t (Whole d) n (b ∷ rest) st) tt);
+          }
+    ]
+
+-- ---- decks
+
+-- the text has been read to its end
+pub spells_deck : (t : List ℕ) (d : Image) (n : ℕ) → Stands t (Whole d) n [] → Spells t d
+unfolding split
+spells_deck t d n st =
+    let parts : split t ≡ (map line st.said, []) = st.parts ∙ ap (λ x. (x, [])) (append-nil (map line st.said)) in
+    let said_all : items d ≡ st.said = says_said t (Whole d) n [] st in (
+      is_state t (Whole d) n [] st,
+      sym (join t) ∙ ap (λ (p : List (List ℕ) × List ℕ). text p.0 ++ p.1) parts ∙ append-nil (text (map line st.said)) ∙ ap (λ x. text (map line x)) (sym said_all),
+    )
+
+-- ---- one refusal
+
+abbrev ranked : ℕ → Cause
+ranked n =
+    cond (n == 1) causes.Ended (cond (n == 2) causes.Header (cond (n == 3) causes.Form (cond (n == 4) causes.Mask (cond (n == 5) causes.ExtentBackwards (cond (n == 6) causes.ExtentPastDevice (cond (n == 7) causes.Size (cond (n == 8) causes.PutAddress (cond (n == 9) causes.PutZero (causes.After)))))))))
+
+ranked-rank : (c : Cause) → ranked (rank c) ≡ c
+ranked-rank causes.Ended = refl
+ranked-rank causes.Header = refl
+ranked-rank causes.Form = refl
+ranked-rank causes.Mask = refl
+ranked-rank causes.ExtentBackwards = refl
+ranked-rank causes.ExtentPastDevice = refl
+ranked-rank causes.Size = refl
+ranked-rank causes.PutAddress = refl
+ranked-rank causes.PutZero = refl
+ranked-rank causes.After = refl
+
+one_rank : (b c : Cause) → rank b ≡ rank c → b ≡ c
+one_rank b c e = sym (ranked-rank b) ∙ ap ranked e ∙ ranked-rank c
+
+one_cause : (before : List Item) (found : Found) (b c : Cause) → IsCause before found b → IsCause before found c → b ≡ c
+one_cause before found b c hb hc =
+    elim (cases_lt (rank b) (rank c)) [
+      | inl lower ↦ absurd (hc.first b lower hb.applies)
+      | inr other ↦
+          elim (cases_lt (rank c) (rank b)) [
+            | inl lower ↦ absurd (hb.first c lower hc.applies)
+            | inr equal ↦ one_rank b c (omega arith)
+          ]
+    ]
+
+not_later : (t : List ℕ) (n m : ℕ) → IsRefusedAt t n → IsRefusedAt t m → n < m → ⊥
+not_later t n m hn hm lt = hn.here (omega (arith, hm.within)) (hm.least n lt)
+
+one_line : (t : List ℕ) (n m : ℕ) → IsRefusedAt t n → IsRefusedAt t m → n ≡ m
+one_line t n m hn hm =
+    elim (cases_lt n m) [
+      | inl before ↦ absurd (not_later t n m hn hm before)
+      | inr other ↦
+          elim (cases_lt m n) [
+            | inl before ↦ absurd (not_later t m n hm hn before)
+            | inr equal ↦ omega arith
+          ]
+    ]
+
+for_cause_at : (t : List ℕ) (n : ℕ) (b c : Cause) → (before : List Item) × AreSaid (n - 1) t before × IsCause before (found_behind (n - 1) t) b
+    → (before : List Item) × AreSaid (n - 1) t before × IsCause before (found_behind (n - 1) t) c → b ≡ c
+for_cause_at t n b c hb hc =
+    let same = said_once hb.0 hc.0 hb.1.0 hc.1.0 (hb.1.1 ∙ sym hc.1.1) in
+    one_cause hc.0 (found_behind (n - 1) t) b c (subst (λ is. IsCause is (found_behind (n - 1) t) b) same hb.2) hc.2
+
+-- a text is refused at one line, and for one cause
+pub one_refusal : (t : List ℕ) (n m : ℕ) (b c : Cause) → IsRefused t n b → IsRefused t m c → (n ≡ m) × (b ≡ c)
+one_refusal t n m b c hn hm =
+    let lines_same = one_line t n m hn.at_line hm.at_line in
+    (lines_same, for_cause_at t m b c (subst (λ k. (before : List Item) × AreSaid (k - 1) t before × IsCause before (found_behind (k - 1) t) b) lines_same hn.for_cause) hm.for_cause)
+
+-- ---- what an answer of reading tells
+
+pub memory_only : (t : List ℕ) (e : DeckError) (d : Image) → IsRefusal t e → Spells t d → e ≡ errors.Memory
+memory_only t (errors.At n c) d h spells = absurd (h.none d spells)
+memory_only t errors.Memory d h spells = refl
+
+pub refusal_only : (t : List ℕ) (e : DeckError) (n : ℕ) (c : Cause) → IsRefusal t e → IsRefused t n c → (e ≡ errors.Memory) ⊎ (e ≡ errors.At n c)
+refusal_only t (errors.At m b) n c h refused =
+    let one = one_refusal t m n b c h refused in
+    inr (ap (λ x. errors.At x b) one.0 ∙ ap (λ x. errors.At n x) one.1)
+refusal_only t errors.Memory n c h refused = inl refl
+
+pub same_deck : (t : List ℕ) (d e : Image) → Spells t d → Spells t e → d ≡ e
+same_deck t d e hd he = one_deck d e hd.0 he.0 (sym hd.1 ∙ he.1)

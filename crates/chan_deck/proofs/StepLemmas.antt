@@ -1,0 +1,318 @@
+-- What has been said where reading stands, and that a step says one line more.
+use Rattle.std.proofs.Common.{◌≡◌, ℕ, zero, suc, ◌+◌, ◌-◌, ◌/◌, ◌%◌, ◌^◌, ◌<◌, ◌≤◌, Bool, true, false, cond, ltb, List, [], ◌∷◌, ◌++◌, length, map, Result, Ok, Err, Option, Some, refl, sym, ap, subst, ◌∙◌, append_assoc, arith, replicate, length-append, lit<, ◌&&◌}
+use Rattle.std.specs.Prelude.{◌==◌, nat_le, not}
+use Rattle.std.proofs.lemmas.Bool.{ltb-false, leb-true, eqb-true}
+use Rattle.chan_deck.proofs.PutLemmas.{length_pad, puts-padded, puts-put}
+use Rattle.std.proofs.lemmas.List.{map-append, append-nil}
+use Rattle.std.specs.List.{AllByRecursion}
+use Rattle.ccw_core.specs.declared.areas.Area.{Area}
+use Rattle.ckd_core.specs.declared.device.Device.{Device}
+use Rattle.ckd_core.specs.Cylinders.{IsExtent}
+use Rattle.ckd_core.specs.Mask.{is_mask}
+use Rattle.chan_deck.specs.Item.{Item, header, device, mask, start, extent, fetch, store, storage, put, end, HasForm, IsByte, IsAddress, IsArea}
+use Rattle.chan_deck.specs.Image.{IsDeck, items, puts, is_zero, extent_of}
+use Rattle.chan_deck.specs.Refused.{last_of, is_size}
+use Rattle.chan_deck.specs.Reading.{Heading, State, Opening, Named, OnDevice, Masked, Listing, Filling, Whole, step, pad, image_of, on_extent, on_storage, is_empty}
+use Rattle.chan_deck.specs.declared.cause.Cause.{Cause}
+use Rattle.chan_deck.specs.declared.cause.Cause.TheVariants as causes
+
+-- ---- what has been said
+
+abbrev pub heading : Heading → List Item
+heading h = header ∷ device h.device ∷ mask h.mask ∷ start h.start ∷ []
+
+abbrev pub lists : Heading → List (ℕ × ℕ) → List Area → List Area → List Item
+lists h es fs ss = heading h ++ map extent_of es ++ map fetch fs ++ map store ss
+
+-- the lines that lead to a state
+abbrev pub said : State → List Item
+said Opening = []
+said Named = header ∷ []
+said (OnDevice v) = header ∷ device v ∷ []
+said (Masked v m) = header ∷ device v ∷ mask m ∷ []
+said (Listing h es fs ss) = lists h es fs ss
+said (Filling h es fs ss n bytes) = lists h es fs ss ++ storage n ∷ puts (length bytes / 8) 0 bytes
+said (Whole d) = items d
+
+pub record IsHeading (h : Heading) : Type 0 where
+  pub mask : IsByte h.mask × (is_mask h.mask ≡ true)
+  pub start : IsAddress h.start
+
+-- areas come only behind an extent
+abbrev pub ComeAfter : List (ℕ × ℕ) → List Area → List Area → Type 0
+ComeAfter [] fs ss = (fs ≡ []) × (ss ≡ [])
+ComeAfter (e ∷ es) fs ss = Unit {0}
+
+pub record AreLists (h : Heading) (es : List (ℕ × ℕ)) (fs ss : List Area) : Type 0 where
+  pub heading : IsHeading h
+  pub after : ComeAfter es fs ss
+  pub extents : AllByRecursion IsExtent es
+  pub fetch : AllByRecursion IsArea fs
+  pub store : AllByRecursion IsArea ss
+
+-- what came last: the line of storage, or the put that reaches furthest
+abbrev pub EndsAt : Option Item → ℕ → ℕ → Type 0
+EndsAt (Some (storage m)) n reach = (m ≡ n) × (reach ≡ 0)
+EndsAt (Some (put a w)) n reach = a + 8 ≡ reach
+EndsAt _ n reach = ⊥
+
+pub record IsFilled (h : Heading) (es : List (ℕ × ℕ)) (fs ss : List Area) (n : ℕ) (front : List ℕ) : Type 0 where
+  pub some : 0 < length es
+  pub size : is_size n ≡ true
+  pub within : length front ≤ n
+  pub words : length front % 8 ≡ 0
+  pub bytes : AllByRecursion IsByte front
+  pub last : EndsAt (last_of (said (Filling h es fs ss n front))) n (length front)
+
+-- what holds where reading stands
+abbrev pub IsState : State → Type 0
+IsState Opening = Unit {0}
+IsState Named = Unit {0}
+IsState (OnDevice v) = Unit {0}
+IsState (Masked v m) = IsByte m × (is_mask m ≡ true)
+IsState (Listing h es fs ss) = AreLists h es fs ss
+IsState (Filling h es fs ss n bytes) = AreLists h es fs ss × IsFilled h es fs ss n bytes
+IsState (Whole d) = IsDeck d
+
+-- ---- tools
+
+abbrev done : {A : Type 0} → A → Result A Cause
+done x = Ok x
+
+pub all-append : {X : Type 0} (P : X → Type 0) (xs ys : List X) → AllByRecursion P xs → AllByRecursion P ys → AllByRecursion P (xs ++ ys)
+all-append P [] ys h k = k
+all-append P (x ∷ xs) ys h k = (h.0, all-append P xs ys h.1 k)
+
+unless : {A : Type 0} (b : Bool) (c : Cause) (r : Result A Cause) (y : A) → cond b (Err c) r ≡ Ok y → (b ≡ false) × (r ≡ Ok y)
+unless true c r y e = absurd cc
+unless false c r y e = (refl, e)
+
+chosen : {A : Type 0} (b : Bool) (r : Result A Cause) (c : Cause) (y : A) → cond b r (Err c) ≡ Ok y → (b ≡ true) × (r ≡ Ok y)
+chosen true r c y e = (refl, e)
+chosen false r c y e = absurd cc
+
+no_puts : puts (length {A = ℕ} [] / 8) 0 [] ≡ []
+unfolding puts
+no_puts = refl
+
+pub and_both : (a b : Bool) → (a && b) ≡ true → (a ≡ true) × (b ≡ true)
+and_both true b e = (refl, e)
+and_both false b e = absurd cc
+
+ok_is : {A : Type 0} (x y : A) → done x ≡ done y → x ≡ y
+ok_is x y e = cc
+
+pub is_nil : {X : Type 0} (xs : List X) → is_empty xs ≡ true → xs ≡ []
+is_nil [] e = refl
+is_nil (x ∷ xs) e = absurd cc
+
+pub some_length : {X : Type 0} (xs : List X) → not (is_empty xs) ≡ true → 0 < length xs
+some_length [] e = absurd cc
+some_length (x ∷ xs) e = omega arith
+
+pub last_of-push : (is : List Item) (i : Item) → last_of (is ++ i ∷ []) ≡ Some i
+last_of-push [] i = refl
+last_of-push (j ∷ []) i = refl
+last_of-push (j ∷ k ∷ is) i = last_of-push (k ∷ is) i
+
+pub size_parts : (n : ℕ) → is_size n ≡ true → (n % 8 ≡ 0) × (n ≤ 2 ^ 24)
+size_parts n e =
+    let t = and_both (n % 8 == 0) (nat_le n 0x1000000) e in
+    (eqb-true _ _ t.0, leb-true _ _ t.1)
+
+come_after : (es : List (ℕ × ℕ)) (fs ss : List Area) → not (is_empty es) ≡ true → ComeAfter es fs ss
+come_after [] fs ss e = absurd cc
+come_after (x ∷ es) fs ss e = tt
+
+come_more : (es : List (ℕ × ℕ)) (e : ℕ × ℕ) (fs ss : List Area) → ComeAfter (es ++ e ∷ []) fs ss
+come_more [] e fs ss = tt
+come_more (x ∷ es) e fs ss = tt
+
+-- ---- steps
+
+-- what a step gives is a state, and says one line more
+abbrev Says_more : State → State → Item → Type 0
+Says_more s next i = IsState next × (said next ≡ said s ++ i ∷ [])
+
+to : (s x next : State) (i : Item) → x ≡ next → Says_more s x i → Says_more s next i
+to s x next i e h = subst (λ (t : State). Says_more s t i) e h
+
+lists_extent : (h : Heading) (es : List (ℕ × ℕ)) (e : ℕ × ℕ) → lists h (es ++ e ∷ []) [] [] ≡ lists h es [] [] ++ extent_of e ∷ []
+lists_extent h es e = simp (map-append, append-nil, append_assoc)
+
+lists_fetch : (h : Heading) (es : List (ℕ × ℕ)) (fs : List Area) (a : Area) → lists h es (fs ++ a ∷ []) [] ≡ lists h es fs [] ++ fetch a ∷ []
+lists_fetch h es fs a =
+    let front = heading h ++ map extent_of es in
+    append-nil (front ++ map fetch (fs ++ a ∷ [])) ∙ ap (λ t. front ++ t) (map-append fetch fs (a ∷ []))
+    ∙ sym (append_assoc front (map fetch fs) (fetch a ∷ [])) ∙ ap (λ t. t ++ fetch a ∷ []) (sym (append-nil (front ++ map fetch fs)))
+
+lists_store : (h : Heading) (es : List (ℕ × ℕ)) (fs ss : List Area) (a : Area) → lists h es fs (ss ++ a ∷ []) ≡ lists h es fs ss ++ store a ∷ []
+lists_store h es fs ss a =
+    let front = heading h ++ map extent_of es ++ map fetch fs in
+    ap (λ t. front ++ t) (map-append store ss (a ∷ [])) ∙ sym (append_assoc front (map store ss) (store a ∷ []))
+
+of_extent : (h : Heading) (es : List (ℕ × ℕ)) (fs ss : List Area) (first last : ℕ) (next : State) → AreLists h es fs ss → step (Listing h es fs ss) (extent first last) ≡ Ok next
+    → Says_more (Listing h es fs ss) next (extent first last)
+of_extent h es fs ss first last next are e =
+    let x = Listing h (es ++ (first, last) ∷ []) [] [] in
+    let g = chosen (is_empty fs && is_empty ss) (on_extent h es first last) causes.Form next e in
+    let none = and_both (is_empty fs) (is_empty ss) g.0 in
+    let o = unless (ltb last first) causes.ExtentBackwards (cond (ltb 202 last) (Err causes.ExtentPastDevice) (Ok x)) next g.1 in
+    let k = unless (ltb 202 last) causes.ExtentPastDevice (Ok x) next o.1 in
+    to (Listing h es fs ss) x next (extent first last) (ok_is _ _ k.1) (
+      record {
+        heading = are.heading;
+        after = come_more es (first, last) [] [];
+        extents = all-append IsExtent es ((first, last) ∷ []) are.extents ((ltb-false _ _ o.0, ltb-false _ _ k.0), tt);
+        fetch = tt;
+        store = tt;
+      },
+      lists_extent h es (first, last) ∙ ap (λ fs. lists h es fs [] ++ extent first last ∷ []) (sym (is_nil fs none.0))
+          ∙ ap (λ ss. lists h es fs ss ++ extent first last ∷ []) (sym (is_nil ss none.1)),
+    )
+
+of_fetch : (h : Heading) (es : List (ℕ × ℕ)) (fs ss : List Area) (a : Area) (next : State) → AreLists h es fs ss → IsArea a → step (Listing h es fs ss) (fetch a) ≡ Ok next
+    → Says_more (Listing h es fs ss) next (fetch a)
+of_fetch h es fs ss a next are form e =
+    let x = Listing h es (fs ++ a ∷ []) ss in
+    let g = chosen (not (is_empty es) && is_empty ss) (Ok x) causes.Form next e in
+    let both = and_both (not (is_empty es)) (is_empty ss) g.0 in
+    let nil : ss ≡ [] = is_nil ss both.1 in
+    to (Listing h es fs ss) x next (fetch a) (ok_is _ _ g.1) (
+      record {
+        heading = are.heading;
+        after = come_after es (fs ++ a ∷ []) ss both.0;
+        extents = are.extents;
+        fetch = all-append IsArea fs (a ∷ []) are.fetch (form, tt);
+        store = are.store;
+      },
+      ap (λ ss. lists h es (fs ++ a ∷ []) ss) nil ∙ lists_fetch h es fs a ∙ ap (λ ss. lists h es fs ss ++ fetch a ∷ []) (sym nil),
+    )
+
+of_store : (h : Heading) (es : List (ℕ × ℕ)) (fs ss : List Area) (a : Area) (next : State) → AreLists h es fs ss → IsArea a → step (Listing h es fs ss) (store a) ≡ Ok next
+    → Says_more (Listing h es fs ss) next (store a)
+of_store h es fs ss a next are form e =
+    let x = Listing h es fs (ss ++ a ∷ []) in
+    let g = chosen (not (is_empty es)) (Ok x) causes.Form next e in
+    to (Listing h es fs ss) x next (store a) (ok_is _ _ g.1) (
+      record {
+        heading = are.heading;
+        after = come_after es fs (ss ++ a ∷ []) g.0;
+        extents = are.extents;
+        fetch = are.fetch;
+        store = all-append IsArea ss (a ∷ []) are.store (form, tt);
+      },
+      lists_store h es fs ss a,
+    )
+
+of_storage : (h : Heading) (es : List (ℕ × ℕ)) (fs ss : List Area) (n : ℕ) (next : State) → AreLists h es fs ss → step (Listing h es fs ss) (storage n) ≡ Ok next
+    → Says_more (Listing h es fs ss) next (storage n)
+of_storage h es fs ss n next are e =
+    let x = Filling h es fs ss n [] in
+    let g = chosen (not (is_empty es)) (on_storage h es fs ss n) causes.Form next e in
+    let k = chosen (is_size n) (Ok x) causes.Size next g.1 in
+    let says : said x ≡ lists h es fs ss ++ storage n ∷ [] = rw no_puts refl in
+    to (Listing h es fs ss) x next (storage n) (ok_is _ _ k.1) (
+      (
+        are,
+        record {
+          some = some_length es g.0;
+          size = k.0;
+          within = omega arith;
+          words = refl;
+          bytes = tt;
+          last = subst (λ o. EndsAt o n 0) (sym (ap last_of says ∙ last_of-push (lists h es fs ss) (storage n))) (refl, refl);
+        },
+      ),
+      says,
+    )
+
+bytes_zeros : (n : ℕ) → AllByRecursion IsByte (replicate n 0)
+bytes_zeros zero = tt
+bytes_zeros (suc n) = (lit< tt, bytes_zeros n)
+
+bytes_pad : (bytes : List ℕ) (n : ℕ) → AllByRecursion IsByte bytes → AllByRecursion IsByte (pad bytes n)
+bytes_pad bytes n h = all-append IsByte bytes (replicate (n - length bytes) 0) h (bytes_zeros (n - length bytes))
+
+of_put : (h : Heading) (es : List (ℕ × ℕ)) (fs ss : List Area) (n : ℕ) (bytes : List ℕ) (a : ℕ) (word : List ℕ) (next : State) → IsState (Filling h es fs ss n bytes) → HasForm (put a word)
+    → step (Filling h es fs ss n bytes) (put a word) ≡ Ok next → Says_more (Filling h es fs ss n bytes) next (put a word)
+of_put h es fs ss n bytes a word next is form e =
+    let x = Filling h es fs ss n (pad bytes a ++ word) in
+    let g = chosen (a % 8 == 0 && nat_le (length bytes) a && nat_le (a + 8) n) (cond (is_zero word) (Err causes.PutZero) (Ok x)) causes.PutAddress next e in
+    let t = and_both (a % 8 == 0 && nat_le (length bytes) a) (nat_le (a + 8) n) g.0 in
+    let u = and_both (a % 8 == 0) (nat_le (length bytes) a) t.0 in
+    let z = unless (is_zero word) causes.PutZero (Ok x) next g.1 in
+    let above : length bytes ≤ a = leb-true _ _ u.1 in
+    let inside : a + 8 ≤ n = leb-true _ _ t.1 in
+    let aligned : a % 8 ≡ 0 = eqb-true _ _ u.0 in
+    let eight : length word ≡ 8 = form.1.0 in
+    let len : length (pad bytes a ++ word) ≡ a + 8 = length-append (pad bytes a) word ∙ ap (λ k. k + length word) (length_pad bytes a above) ∙ ap (λ k. a + k) eight in
+    let says : said x ≡ said (Filling h es fs ss n bytes) ++ put a word ∷ [] =
+    ap (λ js. lists h es fs ss ++ storage n ∷ js) (puts-put a bytes word above aligned is.1.words eight z.0)
+    ∙ sym (append_assoc (lists h es fs ss) (storage n ∷ puts (length bytes / 8) 0 bytes) (put a word ∷ [])) in
+    to (Filling h es fs ss n bytes) x next (put a word) (ok_is _ _ z.1) (
+      (
+        is.0,
+        record {
+          some = is.1.some;
+          size = is.1.size;
+          within = rw len inside;
+          words = rw len (omega arith);
+          bytes = all-append IsByte (pad bytes a) word (bytes_pad bytes a is.1.bytes) form.1.1;
+          last = subst (λ o. EndsAt o n (length (pad bytes a ++ word))) (sym (ap last_of says ∙ last_of-push (said (Filling h es fs ss n bytes)) (put a word))) (sym len);
+        },
+      ),
+      says,
+    )
+
+-- the deck that a filled state would be
+pub filled_is_deck : (h : Heading) (es : List (ℕ × ℕ)) (fs ss : List Area) (n : ℕ) (bytes : List ℕ) → IsState (Filling h es fs ss n bytes)
+    → IsDeck (image_of h es fs ss (pad bytes n)) × (items (image_of h es fs ss (pad bytes n)) ≡ said (Filling h es fs ss n bytes) ++ end ∷ [])
+filled_is_deck h es fs ss n bytes is =
+    let parts = size_parts n is.1.size in
+    let len = length_pad bytes n is.1.within in
+    let p = puts-padded n bytes is.1.within parts.0 is.1.words in (
+      record {
+        mask = is.0.heading.mask;
+        start = is.0.heading.start;
+        extents = (is.1.some, is.0.extents);
+        fetch = is.0.fetch;
+        store = is.0.store;
+        size = rw len parts.1;
+        whole = rw len parts.0;
+        bytes = bytes_pad bytes n is.1.bytes;
+      },
+      rw (len, p) refl,
+    )
+
+of_end : (h : Heading) (es : List (ℕ × ℕ)) (fs ss : List Area) (n : ℕ) (bytes : List ℕ) (next : State) → IsState (Filling h es fs ss n bytes) → step (Filling h es fs ss n bytes) end ≡ Ok next
+    → Says_more (Filling h es fs ss n bytes) next end
+of_end h es fs ss n bytes next is e =
+    to (Filling h es fs ss n bytes) (Whole (image_of h es fs ss (pad bytes n))) next end (ok_is _ _ e) (filled_is_deck h es fs ss n bytes is)
+
+of_mask : (v : Device) (m : ℕ) (next : State) → IsByte m → step (OnDevice v) (mask m) ≡ Ok next → Says_more (OnDevice v) next (mask m)
+of_mask v m next form e =
+    let g = chosen (is_mask m) (Ok (Masked v m)) causes.Mask next e in
+    to (OnDevice v) (Masked v m) next (mask m) (ok_is _ _ g.1) ((form, g.0), refl)
+
+-- a step that goes on leads to a state, and says one line more
+pub step-says : (s next : State) (i : Item) → IsState s → HasForm i → step s i ≡ Ok next → IsState next × (said next ≡ said s ++ i ∷ [])
+step-says Opening next header is form e = to Opening Named next header (ok_is _ _ e) (tt, refl)
+step-says Opening next _ is form e = absurd cc
+step-says Named next (device v) is form e = to Named (OnDevice v) next (device v) (ok_is _ _ e) (tt, refl)
+step-says Named next _ is form e = absurd cc
+step-says (OnDevice v) next (mask m) is form e = of_mask v m next form e
+step-says (OnDevice v) next _ is form e = absurd cc
+step-says (Masked v m) next (start a) is form e =
+    to (Masked v m) (Listing (record { device = v; mask = m; start = a }) [] [] []) next (start a) (ok_is _ _ e)
+    (record { heading = record { mask = is; start = form }; after = (refl, refl); extents = tt; fetch = tt; store = tt }, refl)
+step-says (Masked v m) next _ is form e = absurd cc
+step-says (Listing h es fs ss) next (extent first last) is form e = of_extent h es fs ss first last next is e
+step-says (Listing h es fs ss) next (fetch a) is form e = of_fetch h es fs ss a next is form e
+step-says (Listing h es fs ss) next (store a) is form e = of_store h es fs ss a next is form e
+step-says (Listing h es fs ss) next (storage n) is form e = of_storage h es fs ss n next is e
+step-says (Listing h es fs ss) next _ is form e = absurd cc
+step-says (Filling h es fs ss n bytes) next (put a word) is form e = of_put h es fs ss n bytes a word next is form e
+step-says (Filling h es fs ss n bytes) next end is form e = of_end h es fs ss n bytes next is e
+step-says (Filling h es fs ss n bytes) next _ is form e = absurd cc
+step-says (Whole d) next _ is form e = absurd cc

@@ -1,0 +1,57 @@
+-- What a deck holds, and its one text.
+use Rattle.std.specs.Prelude.{ℕ, zero, suc, ◌+◌, ◌/◌, ◌%◌, ◌≤◌, ◌^◌, ◌≡◌, ◌==◌, ◌&&◌, Bool, true, List, [], ◌∷◌, ◌++◌, length, take, drop, map, if◌then◌else◌}
+use Rattle.std.specs.List.{AllByRecursion}
+use Rattle.ccw_core.specs.declared.areas.Area.{Area}
+use Rattle.ckd_core.specs.declared.device.Device.{Device}
+use Rattle.ckd_core.specs.Cylinders.{AreExtents}
+use Rattle.ckd_core.specs.Mask.{is_mask}
+use Rattle.chan_deck.specs.Item.{Item, header, device, mask, start, extent, fetch, store, storage, put, end, line, text, IsByte, IsAddress, IsArea}
+
+-- a storage image with its job; the extents are pairs of first and last cylinder
+pub record Image : Type 0 where
+  pub device : Device
+  pub mask : ℕ
+  pub start : ℕ
+  pub extents : List (ℕ × ℕ)
+  pub fetch : List Area
+  pub store : List Area
+  pub storage : List ℕ
+
+-- which images have a text: each number has digits enough, the mask is a file mask, there are extents and they lie on the
+-- device, and storage is at most 16,777,216 bytes in whole doublewords
+pub record IsDeck (d : Image) : Type 0 where
+  pub mask : IsByte d.mask × (is_mask d.mask ≡ true)
+  pub start : IsAddress d.start
+  pub extents : AreExtents d.extents
+  pub fetch : AllByRecursion IsArea d.fetch
+  pub store : AllByRecursion IsArea d.store
+  pub size : length d.storage ≤ 2 ^ 24
+  pub whole : length d.storage % 8 ≡ 0
+  pub bytes : AllByRecursion IsByte d.storage
+
+abbrev pub is_zero : List ℕ → Bool
+is_zero [] = true
+is_zero (b ∷ bytes) = b == 0 && is_zero bytes
+
+-- a put for each of so many doublewords that isn't zero, the first of them at an address
+unfoldable pub puts : ℕ → ℕ → List ℕ → List Item
+puts zero at bytes = []
+puts (suc n) at bytes =
+    if is_zero (take 8 bytes) then puts n (at + 8) (drop 8 bytes) else put at (take 8 bytes) ∷ puts n (at + 8) (drop 8 bytes)
+
+abbrev pub extent_of : ℕ × ℕ → Item
+extent_of e = extent e.0 e.1
+
+-- what the lines of a deck say, in order
+abbrev pub items : Image → List Item
+items d =
+    header ∷ device d.device ∷ mask d.mask ∷ start d.start ∷ map extent_of d.extents ++ map fetch d.fetch ++ map store d.store
+    ++ storage (length d.storage) ∷ puts (length d.storage / 8) 0 d.storage ++ end ∷ []
+
+-- the one text of a deck
+abbrev pub spelling : Image → List ℕ
+spelling d = text (map line (items d))
+
+-- the text spells the deck
+abbrev pub Spells : List ℕ → Image → Type 0
+Spells t d = IsDeck d × (t ≡ spelling d)

@@ -1,0 +1,93 @@
+-- What a line of a deck says, and the one way to spell it.
+use Rattle.std.specs.Prelude.{ℕ, ◌+◌, ◌/◌, ◌%◌, ◌<◌, ◌^◌, ◌≡◌, List, [], ◌∷◌, ◌++◌, length, drop, codes}
+use Rattle.std.specs.Int.{bytes_high_first}
+use Rattle.std.specs.List.{flat_map, AllByRecursion}
+use Rattle.hex.specs.Hex.{encode_upper}
+use Rattle.ccw_core.specs.declared.areas.Area.{Area}
+use Rattle.ckd_core.specs.declared.device.Device.{Device}
+use Rattle.ckd_core.specs.declared.device.Device.TheVariants.{D2311, D2314}
+
+-- what a line says
+pub data Item : Type 0 where
+  header : Item
+  device : Device → Item
+  mask : ℕ → Item
+  start : ℕ → Item
+  extent : ℕ → ℕ → Item
+  fetch : Area → Item
+  store : Area → Item
+  storage : ℕ → Item
+  put : ℕ → List ℕ → Item
+  end : Item
+
+-- two hexadecimal digits
+abbrev pub byte_digits : ℕ → List ℕ
+byte_digits n = encode_upper (n ∷ [])
+
+-- six hexadecimal digits
+abbrev pub address_digits : ℕ → List ℕ
+address_digits n = encode_upper (bytes_high_first 3 n)
+
+-- seven hexadecimal digits: eight without the first, which is zero
+abbrev pub size_digits : ℕ → List ℕ
+size_digits n = drop 1 (encode_upper (bytes_high_first 4 n))
+
+-- three decimal digits
+abbrev pub cylinder_digits : ℕ → List ℕ
+cylinder_digits n = (48 + n / 100) ∷ (48 + n / 10 % 10) ∷ (48 + n % 10) ∷ []
+
+abbrev pub device_digits : Device → List ℕ
+device_digits D2311 = codes "2311"
+device_digits D2314 = codes "2314"
+
+-- start and length of an area
+abbrev pub area_digits : Area → List ℕ
+area_digits a = address_digits a.start ++ (codes " " ++ address_digits a.len)
+
+-- the line, without its line feed
+abbrev pub line : Item → List ℕ
+line header = codes "chanv deck 1"
+line (device d) = codes "device " ++ device_digits d
+line (mask m) = codes "mask " ++ byte_digits m
+line (start a) = codes "start " ++ address_digits a
+line (extent first last) = codes "extent " ++ (cylinder_digits first ++ (codes " " ++ cylinder_digits last))
+line (fetch a) = codes "fetch " ++ area_digits a
+line (store a) = codes "store " ++ area_digits a
+line (storage n) = codes "storage " ++ size_digits n
+line (put a word) = codes "put " ++ (address_digits a ++ (codes " " ++ encode_upper word))
+line end = codes "end"
+
+abbrev pub IsByte : ℕ → Type 0
+IsByte b = b < 256
+
+-- what an address has digits for
+abbrev pub IsAddress : ℕ → Type 0
+IsAddress a = a < 2 ^ 24
+
+abbrev pub IsArea : Area → Type 0
+IsArea a = IsAddress a.start × IsAddress a.len
+
+-- eight bytes
+abbrev pub IsWord : List ℕ → Type 0
+IsWord word = (length word ≡ 8) × AllByRecursion IsByte word
+
+-- there are digits enough for what is said
+abbrev pub HasForm : Item → Type 0
+HasForm header = Unit {0}
+HasForm (device d) = Unit {0}
+HasForm (mask m) = IsByte m
+HasForm (start a) = IsAddress a
+HasForm (extent first last) = (first < 1000) × (last < 1000)
+HasForm (fetch a) = IsArea a
+HasForm (store a) = IsArea a
+HasForm (storage n) = n < 2 ^ 28
+HasForm (put a word) = IsAddress a × IsWord word
+HasForm end = Unit {0}
+
+-- the line says this
+abbrev pub Says : List ℕ → Item → Type 0
+Says l i = HasForm i × (l ≡ line i)
+
+-- lines as a text: each has a line feed at its end
+abbrev pub text : List (List ℕ) → List ℕ
+text lines = flat_map (λ l. l ++ 10 ∷ []) lines

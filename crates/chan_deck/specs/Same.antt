@@ -1,0 +1,48 @@
+-- When two decks are equal: field by field.
+use Rattle.std.specs.Prelude.{ℕ, Bool, List, nat_eq}
+use Rattle.std.specs.Cmp.{IsEquivalence, on_equiv, and_equiv, nat_eq_equiv}
+use Rattle.std.specs.Cmp.Lexicographic.{pointwise, lists_equiv}
+use Rattle.std.specs.Ordering.{on, eq_of_both}
+use Rattle.ccw_core.specs.declared.areas.Area.{Area}
+use Rattle.ckd_core.specs.Cylinders.{same_extents, same_extents-IsEquivalence}
+use Rattle.ckd_core.specs.declared.device.Device.{Device}
+use Rattle.ckd_core.specs.declared.device.Device.TheVariants.{D2311, D2314}
+use Rattle.chan_deck.specs.Image.{Image}
+
+-- the number of the device's model
+abbrev pub model_of : Device → ℕ
+model_of D2311 = 2311
+model_of D2314 = 2314
+
+abbrev pub same_areas : List Area → List Area → Bool
+same_areas = pointwise (eq_of_both (on (λ a. a.start) nat_eq) (on (λ a. a.len) nat_eq))
+
+-- the same device, mask, start, extents, areas and storage
+abbrev pub same_decks : Image → Image → Bool
+same_decks =
+    eq_of_both (on (λ d. model_of d.device) nat_eq)
+    (eq_of_both (on (λ d. d.mask) nat_eq)
+    (eq_of_both (on (λ d. d.start) nat_eq)
+    (eq_of_both (on (λ d. d.extents) same_extents)
+    (eq_of_both (on (λ d. d.fetch) same_areas) (eq_of_both (on (λ d. d.store) same_areas) (on (λ d. d.storage) (pointwise nat_eq)))))))
+
+pub same_areas-IsEquivalence : IsEquivalence same_areas
+same_areas-IsEquivalence =
+    let start : Area → ℕ = λ a. a.start in
+    let len : Area → ℕ = λ a. a.len in
+    lists_equiv (and_equiv (on_equiv start nat_eq_equiv) (on_equiv len nat_eq_equiv))
+
+pub same_decks-IsEquivalence : IsEquivalence same_decks
+same_decks-IsEquivalence =
+    let device : Image → ℕ = λ d. model_of d.device in
+    let mask : Image → ℕ = λ d. d.mask in
+    let start : Image → ℕ = λ d. d.start in
+    let extents : Image → List (ℕ × ℕ) = λ d. d.extents in
+    let fetch : Image → List Area = λ d. d.fetch in
+    let store : Image → List Area = λ d. d.store in
+    let storage : Image → List ℕ = λ d. d.storage in
+    and_equiv (on_equiv device nat_eq_equiv)
+    (and_equiv (on_equiv mask nat_eq_equiv)
+    (and_equiv (on_equiv start nat_eq_equiv)
+    (and_equiv (on_equiv extents same_extents-IsEquivalence)
+    (and_equiv (on_equiv fetch same_areas-IsEquivalence) (and_equiv (on_equiv store same_areas-IsEquivalence) (on_equiv storage (lists_equiv nat_eq_equiv)))))))

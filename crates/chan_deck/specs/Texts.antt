@@ -1,0 +1,17 @@
+-- The line of a verdict.
+use Rattle.std.specs.Prelude.{ℕ, ◌^◌, nat_lt, List, [], ◌∷◌, ◌++◌, codes, if◌then◌else◌}
+use Rattle.std.specs.Int.{w32, to_be_bytes}
+use Rattle.hex.specs.Hex.{encode_upper}
+use Rattle.chan_walk.specs.Reason.{word_of}
+use Rattle.chan_walk.specs.declared.verdict.Verdict.{Verdict}
+use Rattle.chan_walk.specs.declared.verdict.Verdict.TheVariants.{Yes, No}
+use Rattle.chan_deck.specs.Item.{address_digits, size_digits}
+
+-- an address in six hexadecimal digits, or as many as it needs
+abbrev pub address_text : ℕ → List ℕ
+address_text a = if nat_lt a (2 ^ 24) then address_digits a else if nat_lt a (2 ^ 28) then size_digits a else encode_upper (to_be_bytes w32 a)
+
+-- `yes`, or `no`, the address and the reason's word, with its line feed
+abbrev pub verdict_line : Verdict → List ℕ
+verdict_line Yes = codes "yes" ++ 10 ∷ []
+verdict_line (No address reason) = codes "no " ++ address_text address ++ codes " " ++ word_of reason ++ 10 ∷ []

@@ -1,0 +1,83 @@
+//! Decks.
+
+ghost use Rattle.std.specs.Prelude.{◌≡◌};
+ghost use Rattle.chan_walk.specs.Job.{extents_of, fetch_of, storage_of, store_of};
+
+use ccw_core::{Area, Storage};
+use chan_walk::Job;
+use ckd_core::{Device, Extents, FileMask};
+use std::marker::Model;
+
+/// A storage image with its job, as a deck spells them. `read_deck` makes one.
+#[derive(Debug, Drop)]
+pub struct Deck {
+    pub(crate) device: Device,
+    pub(crate) mask: FileMask,
+    pub(crate) start: u32,
+    pub(crate) extents: Extents,
+    pub(crate) fetch: Vec<Area>,
+    pub(crate) store: Vec<Area>,
+    pub(crate) storage: Vec<u8>,
+}
+
+impl Model for Deck {
+    ghost use Rattle.chan_deck.specs.Image.{Image, IsDeck};
+
+    ghost Value = { Image };
+
+    ghost use Rattle.chan_deck.specs.Held.{image_held};
+
+    ghost view = { image_held };
+
+    ghost invariant = { λ d. IsDeck (image_held d) };
+}
+
+impl Deck {
+    /// The job, as a view of the deck: nothing is copied.
+    pub fn job(&self) -> Job<'_>
+        ensures storage { storage_of result ≡ self.now.storage }
+        ensures start { result.start ≡ self.now.start }
+        ensures device { result.device ≡ self.now.device }
+        ensures mask { result.mask ≡ self.now.mask }
+        ensures extents { extents_of result ≡ self.now.extents }
+        ensures fetch { fetch_of result ≡ self.now.fetch }
+        ensures store { store_of result ≡ self.now.store }
+    {
+        let storage = Storage::new(&self.storage).unwrap();
+        Job {
+            storage,
+            start: self.start,
+            device: self.device,
+            mask: self.mask,
+            extents: &self.extents,
+            fetch: &self.fetch,
+            store: &self.store,
+        }
+    }
+}
+
+impl PartialEq for Deck {
+    ghost use Rattle.std.specs.Cmp.{partial_equiv_from_equiv};
+    ghost use Rattle.chan_deck.specs.Same.{same_decks, same_decks-IsEquivalence};
+
+    ghost eq = { same_decks };
+
+    ghost laws = { partial_equiv_from_equiv same_decks-IsEquivalence };
+
+    /// The same device, mask, start, extents, areas and storage; so the texts are the same.
+    fn eq(&self, other: &Deck) -> bool {
+        self.device == other.device
+            && self.mask == other.mask
+            && self.start == other.start
+            && self.extents == other.extents
+            && self.fetch == other.fetch
+            && self.store == other.store
+            && self.storage == other.storage
+    }
+}
+
+impl Eq for Deck {
+    ghost use Rattle.chan_deck.specs.Same.{same_decks-IsEquivalence};
+
+    ghost laws = { same_decks-IsEquivalence };
+}

@@ -1,0 +1,108 @@
+//! The numbers in a line.
+
+ghost use Rattle.std.specs.Prelude.{◌≡◌, ◌<◌, ◌^◌, ℕ, List, length, nat_le, MatchOption};
+ghost use Rattle.std.specs.Bool.{OnTrue, OnFalse};
+ghost use Rattle.std.specs.Int.{w64, to_be_bytes};
+ghost use Rattle.std.specs.List.{AllByRecursion, list_any};
+ghost use Rattle.hex.specs.Hex.{IsBytes, encode_upper};
+ghost use Rattle.chan_deck.specs.Item.{IsAddress, IsByte, IsWord, address_digits, byte_digits, cylinder_digits, size_digits};
+
+/// Whether there is a letter that is no capital.
+fn has_small_letter(digits: &[u8]) -> bool
+    ensures { result ≡ list_any (λ digit. nat_le 97 digit) digits.now }
+{
+    digits.iter().any(|digit| *digit >= b'a')
+}
+
+/// Whether these are the upper-case digits of so many bytes, which are then written.
+fn decode_upper(digits: &[u8], bytes: &mut [u8]) -> bool
+    ensures spelled { OnTrue result (digits.now ≡ encode_upper bytes.new) }
+    ensures fits { IsBytes bytes.new }
+    ensures len { length bytes.new ≡ length bytes.old }
+    ensures refused { OnFalse result ((other : List ℕ) → length other ≡ length bytes.old → AllByRecursion IsByte other → digits.now ≡ encode_upper other → ⊥) }
+{
+    if has_small_letter(digits) {
+        return false;
+    }
+    hex::decode_to_slice(digits, bytes).is_ok()
+}
+
+/// A byte of two digits.
+pub(crate) fn byte_of(digits: &[u8]) -> Option<u8>
+    ensures { MatchOption result
+        ((n : ℕ) → IsByte n → digits.now ≡ byte_digits n → ⊥)
+        (λ n. digits.now ≡ byte_digits n) }
+{
+    let mut bytes = [0u8; 1];
+    if decode_upper(digits, &mut bytes) {
+        Some(bytes[0])
+    } else {
+        None
+    }
+}
+
+/// An address of six digits.
+pub(crate) fn address_of(digits: &[u8]) -> Option<u32>
+    ensures { MatchOption result
+        ((n : ℕ) → IsAddress n → digits.now ≡ address_digits n → ⊥)
+        (λ n. IsAddress n × (digits.now ≡ address_digits n)) }
+{
+    let mut bytes = [0u8; 3];
+    if decode_upper(digits, &mut bytes) {
+        let [high, middle, low] = bytes;
+        Some(u32::from_be_bytes([0, high, middle, low]))
+    } else {
+        None
+    }
+}
+
+/// A number of bytes of storage in seven digits.
+pub(crate) fn size_of(digits: &[u8]) -> Option<u32>
+    ensures { MatchOption result
+        ((n : ℕ) → n < 2 ^ 28 → digits.now ≡ size_digits n → ⊥)
+        (λ n. (n < 2 ^ 28) × (digits.now ≡ size_digits n)) }
+{
+    if digits.len() != 7 {
+        return None;
+    }
+    let mut eight = *b"00000000";
+    eight[1..].copy_from_slice(digits);
+    let mut bytes = [0u8; 4];
+    if decode_upper(&eight, &mut bytes) {
+        Some(u32::from_be_bytes(bytes))
+    } else {
+        None
+    }
+}
+
+/// Eight bytes of sixteen digits, as the number that has them.
+pub(crate) fn word_of(digits: &[u8]) -> Option<u64>
+    ensures { MatchOption result
+        ((word : List ℕ) → IsWord word → digits.now ≡ encode_upper word → ⊥)
+        (λ n. digits.now ≡ encode_upper (to_be_bytes w64 n)) }
+{
+    let mut bytes = [0u8; 8];
+    if decode_upper(digits, &mut bytes) {
+        Some(u64::from_be_bytes(bytes))
+    } else {
+        None
+    }
+}
+
+/// A cylinder of three decimal digits.
+pub(crate) fn cylinder_of(digits: &[u8]) -> Option<u16>
+    ensures { MatchOption result
+        ((n : ℕ) → n < 1000 → digits.now ≡ cylinder_digits n → ⊥)
+        (λ n. (n < 1000) × (digits.now ≡ cylinder_digits n)) }
+{
+    match digits {
+        [
+            hundreds @ b'0'..=b'9',
+            tens @ b'0'..=b'9',
+            ones @ b'0'..=b'9',
+        ] => Some(
+            u16::from(hundreds - b'0') * 100 + u16::from(tens - b'0') * 10 + u16::from(ones - b'0'),
+        ),
+        _ => None,
+    }
+}

@@ -1,0 +1,134 @@
+//! The forms of lines.
+
+ghost use Rattle.std.specs.Prelude.{◌≡◌, ◌<◌, ◌^◌, ℕ, List, length, ◌∷◌, ◌++◌, IfSome, MatchBool, MatchOption};
+ghost use Rattle.std.specs.Int.{w64, to_be_bytes};
+ghost use Rattle.chan_deck.specs.Item.{IsArea, Says, area_digits, device, end, header, mask, put, start};
+ghost use Rattle.chan_deck.specs.Item as item;
+
+use crate::digits::{address_of, byte_of, cylinder_of, size_of, word_of};
+use ccw_core::Area;
+use ckd_core::Device;
+
+/// What follows a word at the front of a line.
+fn behind<'a>(line: &'a [u8], word: &[u8]) -> Option<&'a [u8]>
+    ensures { MatchOption result
+        ((rest : List ℕ) → line.now ≡ word.now ++ rest → ⊥)
+        (λ rest. line.now ≡ word.now ++ rest.now) }
+{
+    line.strip_prefix(word)
+}
+
+/// Whether the line is this word.
+fn is_word(line: &[u8], word: &[u8]) -> bool
+    ensures { MatchBool result (line.now ≡ word.now) (line.now ≡ word.now → ⊥) }
+{
+    line == word
+}
+
+/// Two fields with a space between them, the first of a given width.
+fn two_fields(fields: &[u8], width: usize) -> Option<(&[u8], &[u8])>
+    ensures { MatchOption result
+        ((first second : List ℕ) → length first ≡ width → fields.now ≡ first ++ 32 ∷ second → ⊥)
+        (λ found. (length found.0.now ≡ width) × (fields.now ≡ found.0.now ++ 32 ∷ found.1.now)) }
+{
+    if fields.len() < width {
+        return None;
+    }
+    let (first, rest) = fields.split_at(width);
+    let second = behind(rest, b" ")?;
+    Some((first, second))
+}
+
+pub(crate) fn is_header(line: &[u8]) -> bool
+    ensures { MatchBool result (Says line.now header) (Says line.now header → ⊥) }
+{
+    is_word(line, b"chanv deck 1")
+}
+
+pub(crate) fn device_of(line: &[u8]) -> Option<Device>
+    ensures { MatchOption result
+        ((d : Device) → Says line.now (device d) → ⊥)
+        (λ d. Says line.now (device d)) }
+{
+    if is_word(line, b"device 2311") {
+        Some(Device::D2311)
+    } else if is_word(line, b"device 2314") {
+        Some(Device::D2314)
+    } else {
+        None
+    }
+}
+
+pub(crate) fn mask_of(line: &[u8]) -> Option<u8>
+    ensures { MatchOption result
+        ((n : ℕ) → Says line.now (mask n) → ⊥)
+        (λ n. Says line.now (mask n)) }
+{
+    let digits = behind(line, b"mask ")?;
+    byte_of(digits)
+}
+
+pub(crate) fn start_of(line: &[u8]) -> Option<u32>
+    ensures { MatchOption result
+        ((n : ℕ) → Says line.now (start n) → ⊥)
+        (λ n. Says line.now (start n)) }
+{
+    let digits = behind(line, b"start ")?;
+    address_of(digits)
+}
+
+/// First and last cylinder.
+pub(crate) fn extent_of(line: &[u8]) -> Option<(u16, u16)>
+    ensures { MatchOption result
+        ((first last : ℕ) → Says line.now (item.extent first last) → ⊥)
+        (λ pair. Says line.now (item.extent pair.0 pair.1)) }
+{
+    let fields = behind(line, b"extent ")?;
+    let (first, last) = two_fields(fields, 3)?;
+    let first = cylinder_of(first)?;
+    let last = cylinder_of(last)?;
+    Some((first, last))
+}
+
+/// The area behind a word.
+pub(crate) fn area_of(line: &[u8], word: &[u8]) -> Option<Area>
+    ensures { MatchOption result
+        ((a : Area) → IsArea a → line.now ≡ word.now ++ area_digits a → ⊥)
+        (λ a. IsArea a × (line.now ≡ word.now ++ area_digits a)) }
+{
+    let fields = behind(line, word)?;
+    let (start, len) = two_fields(fields, 6)?;
+    let start = address_of(start)?;
+    let len = address_of(len)?;
+    Some(Area { start, len })
+}
+
+/// The number of bytes of storage.
+pub(crate) fn storage_of(line: &[u8]) -> Option<u32>
+    ensures { MatchOption result
+        ((n : ℕ) → Says line.now (item.storage n) → ⊥)
+        (λ n. Says line.now (item.storage n)) }
+{
+    let digits = behind(line, b"storage ")?;
+    size_of(digits)
+}
+
+/// The address of a put, and its eight bytes as a number.
+pub(crate) fn put_of(line: &[u8]) -> Option<(u32, u64)>
+    ensures line { MatchOption result
+        ((a : ℕ) (word : List ℕ) → Says line.now (put a word) → ⊥)
+        (λ found. Says line.now (put found.0 (to_be_bytes w64 found.1))) }
+    ensures fits { IfSome result (λ found. found.1 < 2 ^ 64) }
+{
+    let fields = behind(line, b"put ")?;
+    let (address, word) = two_fields(fields, 6)?;
+    let address = address_of(address)?;
+    let word = word_of(word)?;
+    Some((address, word))
+}
+
+pub(crate) fn is_end(line: &[u8]) -> bool
+    ensures { MatchBool result (Says line.now end) (Says line.now end → ⊥) }
+{
+    is_word(line, b"end")
+}

@@ -1,0 +1,36 @@
+//! Decks: main storage and the job of a channel program, as one text.
+//!
+//! Each deck has exactly one text. A text that spells none is refused at its first wrong line, with the cause:
+//!
+//! ```
+//! fn same_text(alloc: Global, text: &[u8]) -> Result<Vec<u8>, DeckError> {
+//!     let deck = read_deck(alloc, text)?;
+//!     Ok(write_deck(alloc, &deck)?)
+//! }
+//! ```
+#![tactic(auto)]
+
+mod cause;
+mod deck;
+mod digits;
+mod error;
+mod forms;
+mod heading;
+mod laws;
+mod lines;
+mod lists;
+mod reading;
+mod rows;
+mod storage;
+mod texts;
+mod writing;
+
+pub use crate::cause::Cause;
+pub use crate::deck::Deck;
+pub use crate::error::DeckError;
+pub use crate::reading::read_deck;
+pub use crate::texts::verdict_text;
+pub use crate::writing::write_deck;
+
+#[cfg(test)]
+mod tests;

@@ -1,0 +1,70 @@
+//! The lines of the lists, up to the line of storage.
+
+ghost use Rattle.std.specs.Prelude.{◌≡◌, ◌+◌, ◌<◌, ◌≤◌, ◌^◌, ℕ, List, [], length, IfErr, IfOk};
+ghost use Rattle.chan_deck.specs.Refused.{is_size as size_test};
+ghost use Rattle.chan_deck.specs.Reading.{Filling, Heading, IsRefusal, Listing, Stands};
+
+use crate::cause::Cause;
+use crate::error::DeckError::{self, At};
+use crate::forms::storage_of;
+use crate::lines::next_line;
+use crate::rows::{Lists, row_of};
+
+/// The most bytes that storage may have: addresses have 24 bits.
+const STORAGE_LIMIT: u32 = 16_777_216;
+
+/// Whether storage may have so many bytes.
+fn is_size(n: u32) -> bool
+    ensures { result ≡ size_test n }
+{
+    n % 8 == 0 && n <= STORAGE_LIMIT
+}
+
+/// Reads the lists from line 5 on: the number of bytes of storage, what follows that line, and the number of the next line.
+pub(crate) fn read_lists<'a>(
+    lists: &mut Lists,
+    text: &'a [u8],
+) -> Result<(usize, &'a [u8], u64), DeckError>
+    requires extents { lists.old.extents.items ≡ [] }
+    requires fetch { lists.old.fetch.items ≡ [] }
+    requires store { lists.old.store.items ≡ [] }
+    requires few { 5 + length text.now < 2 ^ 64 }
+    ensures ok { IfOk result (λ x. (t : List ℕ) (h : Heading) → Stands t (Listing h [] [] []) 5 text.now
+        → Stands t (Filling h lists.new.extents.items lists.new.fetch.items lists.new.store.items x.0 []) x.2 x.1.now) }
+    ensures err { IfErr result (λ e. (t : List ℕ) (h : Heading) → Stands t (Listing h [] [] []) 5 text.now → IsRefusal t e) }
+    ensures few { IfOk result (λ x. x.2 + length x.1.now < 2 ^ 64) }
+    ensures size { IfOk result (λ x. x.0 ≤ 2 ^ 24) }
+{
+    let mut rest = text;
+    let mut line = 5u64;
+    while let Some((found, after)) = next_line(rest) {
+        if let Some(row) = row_of(found) {
+            lists.add(row, line)?;
+        } else if let Some(n) = storage_of(found) {
+            if lists.extents.is_empty() {
+                return Err(At {
+                    line,
+                    cause: Cause::Form,
+                });
+            }
+            if !is_size(n) {
+                return Err(At {
+                    line,
+                    cause: Cause::Size,
+                });
+            }
+            return Ok((n as usize, after, line + 1));
+        } else {
+            return Err(At {
+                line,
+                cause: Cause::Form,
+            });
+        }
+        line += 1;
+        rest = after;
+    }
+    Err(At {
+        line,
+        cause: Cause::Ended,
+    })
+}

@@ -1,0 +1,110 @@
+//! The rows of a deck's lists.
+
+ghost use Rattle.std.specs.Prelude.{◌≡◌, ◌⊎◌, [], Ok, Err, MatchOption, IfErr, OnOk};
+ghost use Rattle.chan_deck.specs.Item.{Says};
+ghost use Rattle.chan_deck.specs.Reading.{Heading, listing, row_item, step};
+ghost use Rattle.chan_deck.specs.declared.cause.Cause.{Cause};
+ghost use Rattle.chan_deck.specs.declared.rows.Row.{Row};
+
+use crate::cause::Cause;
+use crate::error::DeckError::{self, At};
+use crate::forms::{area_of, extent_of};
+use ccw_core::Area;
+use std::alloc::Global;
+
+/// The last cylinder of either device.
+const LAST_CYLINDER: u16 = 202;
+
+/// The lists of a deck, as far as they have been read.
+#[derive(Drop)]
+pub(crate) struct Lists {
+    pub(crate) extents: Vec<(u16, u16)>,
+    pub(crate) fetch: Vec<Area>,
+    pub(crate) store: Vec<Area>,
+}
+
+/// A row of the lists.
+#[derive(Clone, Copy)]
+pub(crate) enum Row {
+    /// First and last cylinder of an extent.
+    Extent(u16, u16),
+    /// An area lent for fetching.
+    Fetch(Area),
+    /// An area lent for storing.
+    Store(Area),
+}
+
+/// The row that a line spells, if it spells one.
+pub(crate) fn row_of(line: &[u8]) -> Option<Row>
+    ensures { MatchOption result
+        ((r : Row) → Says line.now (row_item r) → ⊥)
+        (λ r. Says line.now (row_item r)) }
+{
+    if let Some((first, last)) = extent_of(line) {
+        return Some(Row::Extent(first, last));
+    }
+    if let Some(area) = area_of(line, b"fetch ") {
+        return Some(Row::Fetch(area));
+    }
+    let area = area_of(line, b"store ")?;
+    Some(Row::Store(area))
+}
+
+impl Lists {
+    pub(crate) fn new(alloc: Global) -> Lists
+        ensures extents { result.extents.items ≡ [] }
+        ensures fetch { result.fetch.items ≡ [] }
+        ensures store { result.store.items ≡ [] }
+    {
+        Lists {
+            extents: Vec::new(alloc),
+            fetch: Vec::new(alloc),
+            store: Vec::new(alloc),
+        }
+    }
+
+    /// Adds a row, which stands in this line. Extents come first, and areas for fetching before those for storing.
+    pub(crate) fn add(&mut self, row: Row, line: u64) -> Result<(), DeckError>
+        ensures ok { OnOk result ((h : Heading) → step (listing h self.old) (row_item row) ≡ Ok (listing h self.new)) }
+        ensures err { IfErr result (λ e. (e ≡ DeckError.Memory)
+            ⊎ ((cause : Cause) × (e ≡ DeckError.At line cause) × ((h : Heading) → step (listing h self.old) (row_item row) ≡ Err cause))) }
+    {
+        let form = At {
+            line,
+            cause: Cause::Form,
+        };
+        match row {
+            Row::Extent(first, last) => {
+                if !self.fetch.is_empty() || !self.store.is_empty() {
+                    return Err(form);
+                }
+                if last < first {
+                    return Err(At {
+                        line,
+                        cause: Cause::ExtentBackwards,
+                    });
+                }
+                if last > LAST_CYLINDER {
+                    return Err(At {
+                        line,
+                        cause: Cause::ExtentPastDevice,
+                    });
+                }
+                self.extents.push((first, last))?;
+            }
+            Row::Fetch(area) => {
+                if self.extents.is_empty() || !self.store.is_empty() {
+                    return Err(form);
+                }
+                self.fetch.push(area)?;
+            }
+            Row::Store(area) => {
+                if self.extents.is_empty() {
+                    return Err(form);
+                }
+                self.store.push(area)?;
+            }
+        }
+        Ok(())
+    }
+}

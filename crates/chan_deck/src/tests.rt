@@ -1,0 +1,316 @@
+//! Worked decks, and each cause for which a deck is refused.
+
+use crate::{Cause, DeckError, read_deck, verdict_text, write_deck};
+use ccw_core::Area;
+use chan_walk::{Reason, Verdict};
+use ckd_core::Device;
+use std::alloc::Global;
+use std::process::Abort;
+use std::test::Fail;
+
+/// The search loop: search for a record by its identifier, try the next one, read what was found.
+const LINES: [&str; 12] = [
+    "chanv deck 1",
+    "device 2314",
+    "mask 00",
+    "start 000800",
+    "extent 010 019",
+    "fetch 000900 000010",
+    "store 000A00 000100",
+    "storage 0001000",
+    "put 000800 3100090040000005",
+    "put 000808 0800080000000000",
+    "put 000810 06000A0020000050",
+    "end",
+];
+
+/// The search loop's deck with one line, counted from 1, in other words.
+fn with_line(alloc: Global, number: usize, words: &str) -> Result<String, Fail> {
+    let mut text = String::new(alloc);
+    let mut at = 1usize;
+    for line in LINES {
+        text.push_str(if at == number { words } else { line })?;
+        text.push('\n')?;
+        at = at.saturating_add(1);
+    }
+    Ok(text)
+}
+
+/// The search loop's deck.
+fn search_loop(alloc: Global) -> Result<String, Fail> {
+    with_line(alloc, 0, "")
+}
+
+/// Whether reading the text refuses this line for this cause.
+fn expect_refused(
+    rt: &impl Abort,
+    alloc: Global,
+    name: &str,
+    text: &[u8],
+    line: u64,
+    cause: Cause,
+) {
+    match read_deck(alloc, text) {
+        Ok(_) => assert!(rt; false, "{name} is refused"),
+        Err(error) => assert_eq!(rt; error, DeckError::At { line, cause }, "{name}"),
+    }
+}
+
+/// Whether the text is read, and written back byte for byte.
+fn expect_deck(rt: &impl Abort, alloc: Global, name: &str, text: &[u8]) -> Result<(), Fail> {
+    let deck = read_deck(alloc, text)?;
+    let again = write_deck(alloc, &deck)?;
+    assert_eq!(rt; again.as_slice(), text, "{name}");
+    assert!(rt; read_deck(alloc, again.as_slice())? == deck, "{name}");
+    Ok(())
+}
+
+#[test]
+fn deck_text(rt: HostRuntime) -> Result<(), Fail> {
+    let alloc = rt.alloc();
+    let text = search_loop(alloc)?;
+    assert_eq!(rt; text.len(), 205);
+    expect_deck(&rt, alloc, "the search loop", text.as_bytes())?;
+    expect_deck(
+        &rt,
+        alloc,
+        "no area and no put",
+        b"chanv deck 1\ndevice 2314\nmask 00\nstart 000800\nextent 010 019\nstorage 0001000\nend\n",
+    )?;
+    expect_deck(
+        &rt,
+        alloc,
+        "no storage",
+        b"chanv deck 1\ndevice 2311\nmask D8\nstart FFFFFF\nextent 000 202\nextent 202 202\nfetch FFFFFF FFFFFF\nfetch 000000 000000\nstore ABCDEF 012345\nstorage 0000000\nend\n",
+    )
+}
+
+#[test]
+fn deck_causes(rt: HostRuntime) -> Result<(), Fail> {
+    let alloc = rt.alloc();
+    for (name, number, words, cause) in [
+        ("deck-header", 1, "chanv deck 9", Cause::Header),
+        ("deck-form, device", 2, "device 3330", Cause::Form),
+        ("deck-mask", 3, "mask 20", Cause::Mask),
+        ("deck-form, mask", 3, "mask c0", Cause::Form),
+        (
+            "deck-extent-backwards",
+            5,
+            "extent 019 010",
+            Cause::ExtentBackwards,
+        ),
+        (
+            "deck-extent-past-device",
+            5,
+            "extent 010 203",
+            Cause::ExtentPastDevice,
+        ),
+        (
+            "deck-extent-backwards, past the device",
+            5,
+            "extent 300 203",
+            Cause::ExtentBackwards,
+        ),
+        (
+            "deck-size, no multiple of 8",
+            8,
+            "storage 0001004",
+            Cause::Size,
+        ),
+        ("deck-size, too large", 8, "storage 1000008", Cause::Size),
+        (
+            "deck-put-address, again",
+            10,
+            "put 000800 0800080000000000",
+            Cause::PutAddress,
+        ),
+        (
+            "deck-put-address, no multiple of 8",
+            10,
+            "put 00080C 0800080000000000",
+            Cause::PutAddress,
+        ),
+        (
+            "deck-put-address, past storage",
+            11,
+            "put 001000 06000A0020000050",
+            Cause::PutAddress,
+        ),
+        (
+            "deck-put-zero",
+            11,
+            "put 000810 0000000000000000",
+            Cause::PutZero,
+        ),
+    ] {
+        let text = with_line(alloc, number, words)?;
+        expect_refused(&rt, alloc, name, text.as_bytes(), number as u64, cause);
+    }
+    Ok(())
+}
+
+#[test]
+fn deck_ended(rt: HostRuntime) -> Result<(), Fail> {
+    let alloc = rt.alloc();
+    let text = search_loop(alloc)?;
+    expect_refused(&rt, alloc, "the empty text", b"", 1, Cause::Ended);
+    let mut short = text.clone()?;
+    assert_eq!(rt; short.pop(), Some('\n'));
+    assert_eq!(rt; short.len(), 204);
+    expect_refused(
+        &rt,
+        alloc,
+        "no line feed at the end",
+        short.as_bytes(),
+        12,
+        Cause::Ended,
+    );
+    let mut more = text.clone()?;
+    more.push('\n')?;
+    expect_refused(&rt, alloc, "deck-after", more.as_bytes(), 13, Cause::After);
+    more.push_str("chanv deck 1")?;
+    expect_refused(
+        &rt,
+        alloc,
+        "deck-after, more",
+        more.as_bytes(),
+        13,
+        Cause::After,
+    );
+    Ok(())
+}
+
+#[test]
+fn deck_order(rt: HostRuntime) {
+    let alloc = rt.alloc();
+    expect_refused(
+        &rt,
+        alloc,
+        "no extent",
+        b"chanv deck 1\ndevice 2314\nmask 00\nstart 000800\nfetch 000900 000010\nstore 000A00 000100\nstorage 0001000\nend\n",
+        5,
+        Cause::Form,
+    );
+    expect_refused(
+        &rt,
+        alloc,
+        "storing before fetching",
+        b"chanv deck 1\ndevice 2314\nmask 00\nstart 000800\nextent 010 019\nstore 000A00 000100\nfetch 000900 000010\nstorage 0001000\nend\n",
+        7,
+        Cause::Form,
+    );
+}
+
+#[test]
+fn lower_case(rt: HostRuntime) -> Result<(), Fail> {
+    let alloc = rt.alloc();
+    for (number, words) in [
+        (3, "mask 0a"),
+        (4, "start 000a00"),
+        (6, "fetch 00090a 000010"),
+        (6, "fetch 000900 00001a"),
+        (7, "store 000a00 000100"),
+        (7, "store 000A00 00010f"),
+        (8, "storage 000100a"),
+        (9, "put 00080a 3100090040000005"),
+        (9, "put 000800 310009004000000b"),
+    ] {
+        let text = with_line(alloc, number, words)?;
+        expect_refused(
+            &rt,
+            alloc,
+            words,
+            text.as_bytes(),
+            number as u64,
+            Cause::Form,
+        );
+    }
+    Ok(())
+}
+
+#[test]
+fn widths(rt: HostRuntime) -> Result<(), Fail> {
+    let alloc = rt.alloc();
+    for (number, words) in [
+        (2, "device 2314 "),
+        (3, "mask 000"),
+        (4, "start 00800"),
+        (5, "extent 10 19"),
+        (5, "extent 010  019"),
+        (6, "fetch 000900"),
+        (8, "storage 00001000"),
+        (9, "put 000800 31000900400000"),
+        (9, "put 000800 310009004000000500"),
+        (12, "END"),
+    ] {
+        let text = with_line(alloc, number, words)?;
+        expect_refused(
+            &rt,
+            alloc,
+            words,
+            text.as_bytes(),
+            number as u64,
+            Cause::Form,
+        );
+    }
+    Ok(())
+}
+
+#[test]
+fn deck_job(rt: HostRuntime) -> Result<(), Fail> {
+    let alloc = rt.alloc();
+    let text = search_loop(alloc)?;
+    let deck = read_deck(alloc, text.as_bytes())?;
+    let job = deck.job();
+    assert_eq!(rt; job.start, 0x800);
+    assert_eq!(rt; job.device, Device::D2314);
+    assert_eq!(rt; job.mask.byte(), 0x00);
+    assert_eq!(rt; job.extents.pairs(), [(10, 19)].as_slice());
+    let fetch = Area {
+        start: 0x900,
+        len: 16,
+    };
+    let store = Area {
+        start: 0xA00,
+        len: 256,
+    };
+    assert_eq!(rt; job.fetch, [fetch].as_slice());
+    assert_eq!(rt; job.store, [store].as_slice());
+    assert_eq!(rt; job.storage.len(), 4096);
+    let put = [0x31, 0x00, 0x09, 0x00, 0x40, 0x00, 0x00, 0x05];
+    assert_eq!(rt; job.storage.range(0x800, 8), Some(put.as_slice()));
+    assert_eq!(rt; job.storage.range(0x818, 8), Some([0; 8].as_slice()));
+    let other = with_line(alloc, 9, "put 000800 3100090040000006")?;
+    assert!(rt; read_deck(alloc, other.as_bytes())? != deck);
+    Ok(())
+}
+
+#[test]
+fn verdict_lines(rt: HostRuntime) -> Result<(), Fail> {
+    let alloc = rt.alloc();
+    let yes = verdict_text(alloc, Verdict::Yes)?;
+    assert_eq!(rt; yes.as_str(), "yes\n");
+    for (address, reason, line) in [
+        (0x810, Reason::Inhibited, "no 000810 inhibited\n"),
+        (0xFFFFF8, Reason::ShortSeek, "no FFFFF8 short-seek\n"),
+        (
+            0x100_0000,
+            Reason::OutsideStorage,
+            "no 1000000 outside-storage\n",
+        ),
+        (
+            0xABC_DEF0,
+            Reason::OutsideStorage,
+            "no ABCDEF0 outside-storage\n",
+        ),
+        (
+            0xFFFF_FFF8,
+            Reason::OutsideStorage,
+            "no FFFFFFF8 outside-storage\n",
+        ),
+    ] {
+        let text = verdict_text(alloc, Verdict::No { address, reason })?;
+        assert_eq!(rt; text.as_str(), line);
+    }
+    Ok(())
+}

@@ -1,0 +1,194 @@
+//! Writing a deck.
+
+ghost use Rattle.std.specs.Prelude.{◌≡◌, ◌+◌, ◌/◌, ◌%◌, ◌<◌, ◌≤◌, ◌^◌, ℕ, [], ◌∷◌, ◌++◌, length, map, IfOk, OnOk};
+ghost use Rattle.std.specs.List.{flat_map, AllByRecursion};
+ghost use Rattle.hex.specs.Hex.{encode_upper};
+ghost use Rattle.ckd_core.specs.Cylinders.{IsExtent};
+ghost use Rattle.chan_deck.specs.Item.{IsAddress, address_digits, area_digits, cylinder_digits, device, extent, header, line, mask, put, size_digits, start, text};
+ghost use Rattle.chan_deck.specs.Item as item;
+ghost use Rattle.chan_deck.specs.Image.{Image, Spells, extent_of, is_zero as zeros, puts};
+
+use crate::deck::Deck;
+use ccw_core::Area;
+use ckd_core::{Device, FileMask};
+use std::alloc::{AllocError, Global};
+
+/// The digits of some bytes.
+fn push_digits(alloc: Global, out: &mut Vec<u8>, bytes: &[u8]) -> Result<(), AllocError>
+    ensures { OnOk result (out.new.items ≡ out.old.items ++ encode_upper bytes.now) }
+{
+    let digits = hex::encode_upper(alloc, bytes)?;
+    out.extend_from_slice(digits.as_bytes())
+}
+
+/// The six digits of an address.
+fn push_address(alloc: Global, out: &mut Vec<u8>, address: u32) -> Result<(), AllocError>
+    ensures { OnOk result (out.new.items ≡ out.old.items ++ address_digits address) }
+{
+    let [_, high, middle, low] = address.to_be_bytes();
+    push_digits(alloc, out, &[high, middle, low])
+}
+
+/// The seven digits of a number of bytes.
+fn push_size(alloc: Global, out: &mut Vec<u8>, size: u32) -> Result<(), AllocError>
+    ensures { OnOk result (out.new.items ≡ out.old.items ++ size_digits size) }
+{
+    let digits = hex::encode_upper(alloc, size.to_be_bytes())?;
+    let (_, seven) = digits.as_bytes().split_at(1);
+    out.extend_from_slice(seven)
+}
+
+/// The three digits of a cylinder.
+fn push_cylinder(out: &mut Vec<u8>, cylinder: u16) -> Result<(), AllocError>
+    requires { cylinder < 1000 }
+    ensures { OnOk result (out.new.items ≡ out.old.items ++ cylinder_digits cylinder) }
+{
+    let hundreds = b'0' + (cylinder / 100) as u8;
+    let tens = b'0' + (cylinder / 10 % 10) as u8;
+    let ones = b'0' + (cylinder % 10) as u8;
+    out.extend_from_slice(&[hundreds, tens, ones])
+}
+
+fn write_device(out: &mut Vec<u8>, device: Device) -> Result<(), AllocError>
+    ensures { OnOk result (out.new.items ≡ out.old.items ++ (line (item.device device) ++ 10 ∷ [])) }
+{
+    match device {
+        Device::D2311 => out.extend_from_slice(b"device 2311\n"),
+        Device::D2314 => out.extend_from_slice(b"device 2314\n"),
+    }
+}
+
+fn write_extent(out: &mut Vec<u8>, first: u16, last: u16) -> Result<(), AllocError>
+    requires first { first < 1000 }
+    requires last { last < 1000 }
+    ensures { OnOk result (out.new.items ≡ out.old.items ++ (line (extent first last) ++ 10 ∷ [])) }
+{
+    out.extend_from_slice(b"extent ")?;
+    push_cylinder(out, first)?;
+    out.extend_from_slice(b" ")?;
+    push_cylinder(out, last)?;
+    out.extend_from_slice(b"\n")
+}
+
+fn write_extents(out: &mut Vec<u8>, extents: &[(u16, u16)]) -> Result<(), AllocError>
+    requires { AllByRecursion IsExtent extents.now }
+    ensures { OnOk result (out.new.items ≡ out.old.items ++ text (map line (map extent_of extents.now))) }
+{
+    for pair in extents {
+        let (first, last) = *pair;
+        write_extent(out, first, last)?;
+    }
+    Ok(())
+}
+
+fn write_area(alloc: Global, out: &mut Vec<u8>, word: &[u8], area: Area) -> Result<(), AllocError>
+    ensures { OnOk result (out.new.items ≡ out.old.items ++ ((word.now ++ area_digits area) ++ 10 ∷ [])) }
+{
+    out.extend_from_slice(word)?;
+    push_address(alloc, out, area.start)?;
+    out.extend_from_slice(b" ")?;
+    push_address(alloc, out, area.len)?;
+    out.extend_from_slice(b"\n")
+}
+
+/// A line for each area, which begins with a word.
+fn write_areas(
+    alloc: Global,
+    out: &mut Vec<u8>,
+    word: &[u8],
+    areas: &[Area],
+) -> Result<(), AllocError>
+    ensures { OnOk result (out.new.items ≡ out.old.items ++ flat_map (λ a. (word.now ++ area_digits a) ++ 10 ∷ []) areas.now) }
+{
+    for area in areas {
+        write_area(alloc, out, word, *area)?;
+    }
+    Ok(())
+}
+
+fn write_put(alloc: Global, out: &mut Vec<u8>, address: u32, word: &[u8]) -> Result<(), AllocError>
+    ensures { OnOk result (out.new.items ≡ out.old.items ++ (line (put address word.now) ++ 10 ∷ [])) }
+{
+    out.extend_from_slice(b"put ")?;
+    push_address(alloc, out, address)?;
+    out.extend_from_slice(b" ")?;
+    push_digits(alloc, out, word)?;
+    out.extend_from_slice(b"\n")
+}
+
+/// Whether all bytes are zero.
+fn is_zero(bytes: &[u8]) -> bool
+    ensures { result ≡ zeros bytes.now }
+{
+    for byte in bytes {
+        if *byte != 0 {
+            return false;
+        }
+    }
+    true
+}
+
+/// A put for each doubleword that isn't zero.
+fn write_puts(alloc: Global, out: &mut Vec<u8>, storage: &[u8]) -> Result<(), AllocError>
+    requires { length storage.now ≤ 2 ^ 24 }
+    ensures { OnOk result (out.new.items ≡ out.old.items ++ text (map line (puts (length storage.now / 8) 0 storage.now))) }
+{
+    for i in 0..storage.len() / 8 {
+        let word = &storage[8 * i..8 * i + 8];
+        if !is_zero(word) {
+            write_put(alloc, out, (8 * i) as u32, word)?;
+        }
+    }
+    Ok(())
+}
+
+fn write_mask(alloc: Global, out: &mut Vec<u8>, byte: u8) -> Result<(), AllocError>
+    ensures { OnOk result (out.new.items ≡ out.old.items ++ (line (mask byte) ++ 10 ∷ [])) }
+{
+    out.extend_from_slice(b"mask ")?;
+    push_digits(alloc, out, &[byte])?;
+    out.extend_from_slice(b"\n")
+}
+
+fn write_start(alloc: Global, out: &mut Vec<u8>, address: u32) -> Result<(), AllocError>
+    ensures { OnOk result (out.new.items ≡ out.old.items ++ (line (start address) ++ 10 ∷ [])) }
+{
+    out.extend_from_slice(b"start ")?;
+    push_address(alloc, out, address)?;
+    out.extend_from_slice(b"\n")
+}
+
+/// The lines before the lists.
+fn write_heading(alloc: Global, out: &mut Vec<u8>, deck: &Deck) -> Result<(), AllocError>
+    ensures { OnOk result (out.new.items ≡ out.old.items ++ text (map line (header ∷ device deck.now.device ∷ mask deck.now.mask ∷ start deck.now.start ∷ []))) }
+{
+    out.extend_from_slice(b"chanv deck 1\n")?;
+    write_device(out, deck.device)?;
+    write_mask(alloc, out, deck.mask.byte())?;
+    write_start(alloc, out, deck.start)
+}
+
+/// The line of storage, and the puts.
+fn write_storage(alloc: Global, out: &mut Vec<u8>, storage: &[u8]) -> Result<(), AllocError>
+    requires { length storage.now ≤ 2 ^ 24 }
+    ensures { OnOk result (out.new.items ≡ out.old.items ++ text (map line (item.storage (length storage.now) ∷ puts (length storage.now / 8) 0 storage.now))) }
+{
+    out.extend_from_slice(b"storage ")?;
+    push_size(alloc, out, storage.len() as u32)?;
+    out.extend_from_slice(b"\n")?;
+    write_puts(alloc, out, storage)
+}
+
+/// The text that spells the deck, which `read_deck` reads back as an equal deck. An error is want of memory.
+pub fn write_deck(alloc: Global, deck: &Deck) -> Result<Vec<u8>, AllocError>
+    ensures { IfOk result (λ text. Spells text.items deck.now) }
+{
+    let mut out = Vec::new(alloc);
+    write_heading(alloc, &mut out, deck)?;
+    write_extents(&mut out, deck.extents.pairs())?;
+    write_areas(alloc, &mut out, b"fetch ", &deck.fetch)?;
+    write_areas(alloc, &mut out, b"store ", &deck.store)?;
+    write_storage(alloc, &mut out, &deck.storage)?;
+    out.extend_from_slice(b"end\n")?;
+    Ok(out)
+}

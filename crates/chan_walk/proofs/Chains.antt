@@ -1,0 +1,135 @@
+-- Chains of CCWs that give the bytes of an argument: there is one or there is none, and there is at most one.
+use Rattle.std.proofs.Common.{◌≡◌, ℕ, zero, suc, ◌+◌, ◌-◌, ◌<◌, ◌≤◌, Bool, true, false, cond, ◌&&◌, List, [], ◌∷◌, length, Option, Some, None, refl, sym, ap, ◌∙◌, subst, ◌⊎◌, inl, inr, arith}
+use Rattle.std.proofs.lemmas.Bool.{cases_lt, cases_Bool, and_parts, and_from, both_ways, not-true, false_from_ne_true}
+use Rattle.ccw_core.specs.Ccw.{ccw, is_transfer, is_counted, chains_data}
+use Rattle.ccw_core.specs.Storage.{is_aligned, is_inside}
+use Rattle.chan_walk.specs.Onward.{onward}
+use Rattle.chan_walk.specs.Argument.{is_part, Leads, total, AreLinked, BeginsAt, IsChain, HasArgument, argument}
+
+pub part_is_no_transfer : (s : List ℕ) (a : ℕ) → is_part s a ≡ true → is_transfer (ccw s a) ≡ false
+unfolding is_part
+part_is_no_transfer s a h =
+    let h5 = (and_parts _ _ h).0 in
+    let h4 = (and_parts _ _ h5).0 in
+    let h3 = (and_parts _ _ h4).0 in
+    not-true _ (and_parts _ _ h3).1
+
+pub part_counts : (s : List ℕ) (a : ℕ) → is_part s a ≡ true → 0 < (ccw s a).count
+unfolding is_part is_counted
+part_counts s a h =
+    let h5 = (and_parts _ _ h).0 in
+    let h4 = (and_parts _ _ h5).1 in
+    Rattle.std.proofs.lemmas.Bool.ltb-true 0 _ h4
+
+first_is_part : (s : List ℕ) (a : ℕ) (l : List ℕ) → BeginsAt a l → AreLinked s l → is_part s a ≡ true
+first_is_part s a [] b h = elim b [ ]
+first_is_part s a (x ∷ []) b h = subst (λ n. is_part s n ≡ true) b h
+first_is_part s a (x ∷ y ∷ l) b h = subst (λ n. is_part s n ≡ true) b h.0
+
+pub chain_begins_with_part : (s : List ℕ) (n a : ℕ) (l : List ℕ) → IsChain s n a l → is_part s a ≡ true
+chain_begins_with_part s n a l k = first_is_part s a l k.begins k.linked
+
+pub chain_tail : (s : List ℕ) (n a b d : ℕ) (l : List ℕ) → IsChain s n a (b ∷ d ∷ l) → IsChain s (n - (ccw s b).count) d (d ∷ l)
+chain_tail s n a b d l k =
+    let e = k.short in
+    let f = k.enough in
+    record { begins = refl; linked = k.linked.3; short = omega arith; enough = omega arith }
+
+pub chain_cons : (s : List ℕ) (n a b : ℕ) (l : List ℕ) → is_part s a ≡ true → chains_data (ccw s a) ≡ true → Leads s a b → (ccw s a).count < n → IsChain s (n - (ccw s a).count) b l → IsChain s n a (a ∷ l)
+chain_cons s n a b [] h cd to lt k = elim k.begins [ ]
+chain_cons s n a b (x ∷ l) h cd to lt k =
+    let e = k.short in
+    let f = k.enough in
+    let lead = subst (λ m. Leads s a m) (sym k.begins) to in
+    record { begins = refl; linked = (h, cd, lead, k.linked); short = omega arith; enough = omega arith }
+
+pub onward_leads : (s : List ℕ) (a : ℕ) → Leads s a (onward s a)
+onward_leads s a = go (is_aligned (a + 8)) (is_inside (length s) (a + 8)) (is_transfer (ccw s (a + 8))) refl refl refl
+  where
+    go : (x y z : Bool) → is_aligned (a + 8) ≡ x → is_inside (length s) (a + 8) ≡ y → is_transfer (ccw s (a + 8)) ≡ z → Leads s a (cond (x && y && z) (ccw s (a + 8)).address (a + 8))
+    go true true true e f g = inr ((e, f), g, refl)
+    go true true false e f g = inl refl
+    go true false z e f g = inl refl
+    go false y z e f g = inl refl
+
+pub onward_only : (s : List ℕ) (a b : ℕ) → Leads s a b → is_part s b ≡ true → b ≡ onward s a
+onward_only s a b (inl e) h =
+    let t : is_transfer (ccw s (a + 8)) ≡ false = subst (λ m. is_transfer (ccw s m) ≡ false) e (part_is_no_transfer s b h) in
+    e ∙ sym (Rattle.std.proofs.lemmas.Bool.cond-false _ _ _ (Rattle.std.proofs.lemmas.Bool.and_right (is_aligned (a + 8) && is_inside (length s) (a + 8)) _ t))
+onward_only s a b (inr e) h = e.2 ∙ sym (Rattle.std.proofs.lemmas.Bool.cond-true _ _ _ (and_from _ _ (and_from _ _ e.0.0 e.0.1) e.1))
+
+-- there is a chain, or there is none
+pub chain_decides : (fuel : ℕ) (s : List ℕ) (n a : ℕ) → n ≤ fuel → 0 < n → ((l : List ℕ) × IsChain s n a l) ⊎ ((l : List ℕ) → IsChain s n a l → ⊥)
+chain_decides zero s n a h p = absurd (omega arith)
+chain_decides (suc fuel) s n a h p = go (cases_Bool (is_part s a)) (cases_lt (ccw s a).count n) (cases_Bool (chains_data (ccw s a))) (λ c lt. chain_decides fuel s (n - (ccw s a).count) (onward s a) (omega arith) (omega arith))
+  where
+    more : chains_data (ccw s a) ≡ true → is_part s a ≡ true → (ccw s a).count < n → ((l : List ℕ) × IsChain s (n - (ccw s a).count) (onward s a) l) ⊎ ((l : List ℕ) → IsChain s (n - (ccw s a).count) (onward s a) l → ⊥) → ((l : List ℕ) × IsChain s n a l) ⊎ ((l : List ℕ) → IsChain s n a l → ⊥)
+    more cd part lt (inl r) = inl (a ∷ r.0, chain_cons s n a (onward s a) r.0 part cd (onward_leads s a) lt r.1)
+    more cd part lt (inr r) = inr (λ l k. none l k)
+      where
+        none : (l : List ℕ) → IsChain s n a l → ⊥
+        none [] k = k.begins
+        none (x ∷ []) k =
+            let e : total s (x ∷ []) ≡ (ccw s a).count = subst (λ m. (ccw s m).count + 0 ≡ (ccw s a).count) (sym k.begins) (omega arith) in
+            let f = k.enough in
+            omega arith
+        none (x ∷ y ∷ l) k =
+            let b : x ≡ a = k.begins in
+            let tail = chain_tail s n a x y l k in
+            let lead = subst (λ m. Leads s m y) b k.linked.2 in
+            let e = onward_only s a y lead (chain_begins_with_part s _ y (y ∷ l) tail) in
+            let tail' = subst (λ m. IsChain s (n - (ccw s m).count) y (y ∷ l)) b tail in
+            r (y ∷ l) (subst (λ m. IsChain s (n - (ccw s a).count) m (y ∷ l)) e tail')
+
+    short : is_part s a ≡ true → (ccw s a).count < n → chains_data (ccw s a) ≡ false → (l : List ℕ) → IsChain s n a l → ⊥
+    short part lt cd [] k = k.begins
+    short part lt cd (x ∷ []) k =
+        let e : total s (x ∷ []) ≡ (ccw s a).count = subst (λ m. (ccw s m).count + 0 ≡ (ccw s a).count) (sym k.begins) (omega arith) in
+        let f = k.enough in
+        omega arith
+    short part lt cd (x ∷ y ∷ l) k = both_ways _ cd (subst (λ m. chains_data (ccw s m) ≡ true) k.begins k.linked.1)
+
+    go : (is_part s a ≡ true) ⊎ (is_part s a ≡ false) → ((ccw s a).count < n) ⊎ (n ≤ (ccw s a).count) → (chains_data (ccw s a) ≡ true) ⊎ (chains_data (ccw s a) ≡ false) → (0 < (ccw s a).count → (ccw s a).count < n → ((l : List ℕ) × IsChain s (n - (ccw s a).count) (onward s a) l) ⊎ ((l : List ℕ) → IsChain s (n - (ccw s a).count) (onward s a) l → ⊥)) → ((l : List ℕ) × IsChain s n a l) ⊎ ((l : List ℕ) → IsChain s n a l → ⊥)
+    go (inr is) lt cd rec = inr (λ l k. both_ways _ is (chain_begins_with_part s n a l k))
+    go (inl is) (inr le) cd rec = inl (a ∷ [], record { begins = refl; linked = is; short = p; enough = omega arith })
+    go (inl is) (inl lt) (inl cd) rec = more cd is lt (rec (part_counts s a is) lt)
+    go (inl is) (inl lt) (inr cd) rec = inr (short is lt cd)
+
+pub argument_exists : (s : List ℕ) (a : ℕ) → (x : Option (List ℕ)) × HasArgument s a x
+argument_exists s a = go (chain_decides 6 s 6 a (omega arith) (omega arith))
+  where
+    go : ((l : List ℕ) × IsChain s 6 a l) ⊎ ((l : List ℕ) → IsChain s 6 a l → ⊥) → (x : Option (List ℕ)) × HasArgument s a x
+    go (inl r) = (Some (argument s r.0), (r.0, r.1, refl))
+    go (inr r) = (None, r)
+
+-- ---- there is at most one
+
+pub chain_unique : (s : List ℕ) (n a : ℕ) (l m : List ℕ) → IsChain s n a l → IsChain s n a m → l ≡ m
+chain_unique s n a [] m k h = elim k.begins [ ]
+chain_unique s n a (x ∷ l) [] k h = elim h.begins [ ]
+chain_unique s n a (x ∷ []) (y ∷ []) k h = let e : x ≡ y = k.begins ∙ sym h.begins in ap (λ z. z ∷ []) e
+chain_unique s n a (x ∷ []) (y ∷ z ∷ m) k h =
+    let e : (ccw s y).count ≡ (ccw s x).count = ap (λ b. (ccw s b).count) (h.begins ∙ sym k.begins) in
+    let f = k.enough in
+    let g = h.short in
+    absurd (omega (arith, e))
+chain_unique s n a (x ∷ d ∷ l) (y ∷ []) k h =
+    let e : (ccw s y).count ≡ (ccw s x).count = ap (λ b. (ccw s b).count) (h.begins ∙ sym k.begins) in
+    let f = h.enough in
+    let g = k.short in
+    absurd (omega (arith, e))
+chain_unique s n a (x ∷ d ∷ l) (y ∷ z ∷ m) k h =
+    let e : y ≡ x = h.begins ∙ sym k.begins in
+    let left = chain_tail s n a x d l k in
+    let right = chain_tail s n a y z m h in
+    let f = onward_only s x d k.linked.2 (chain_begins_with_part s _ d (d ∷ l) left) in
+    let g = onward_only s x z (subst (λ b. Leads s b z) e h.linked.2) (chain_begins_with_part s _ z (z ∷ m) right) in
+    let right' = subst (λ b. IsChain s (n - (ccw s b).count) z (z ∷ m)) e right in
+    let same = chain_unique s (n - (ccw s x).count) d (d ∷ l) (z ∷ m) left (subst (λ b. IsChain s (n - (ccw s x).count) b (z ∷ m)) (g ∙ sym f) right') in
+    ap (λ b. b ∷ d ∷ l) (sym e) ∙ ap (λ b. y ∷ b) same
+
+pub argument_unique : (s : List ℕ) (a : ℕ) (x y : Option (List ℕ)) → HasArgument s a x → HasArgument s a y → x ≡ y
+argument_unique s a None None h k = refl
+argument_unique s a None (Some y) h k = absurd (h k.0 k.1)
+argument_unique s a (Some x) None h k = absurd (k h.0 h.1)
+argument_unique s a (Some x) (Some y) h k = let e = chain_unique s 6 a h.0 k.0 h.1 k.1 in ap Some (h.2 ∙ ap (argument s) e ∙ sym k.2)

@@ -1,0 +1,252 @@
+-- Bytes of areas, how they stay the same while areas are merged, and that there is one merged list for them.
+use Rattle.std.proofs.Common.{◌≡◌, ℕ, zero, suc, ◌+◌, ◌++◌, ◌<◌, ◌≤◌, Bool, true, false, ◌||◌, ◌&&◌, nat_le, nat_lt, List, [], ◌∷◌, length, get_or, take, refl, sym, ap, ◌∙◌, subst, ◌⊎◌, inl, inr, arith, append_assoc, IsPermutation}
+use Rattle.std.specs.List.{All}
+use Rattle.std.specs.List.Sorted.{IsNonDecreasingBy}
+use Rattle.std.proofs.lemmas.Bool.{cases_lt, or_cases, or_left, or_right, and_parts, and_from, le-leb, lt-ltb, leb-true, ltb-true, both_ways}
+use Rattle.std.proofs.lemmas.List.{take_more}
+use Rattle.std.proofs.lemmas.List.Elements.{All-append}
+use Rattle.std.proofs.lemmas.List.Folds.{list_any-append}
+use Rattle.std.proofs.lemmas.List.Sorted.{list_any-IsPermutation}
+use Rattle.ccw_core.specs.declared.areas.Area.{Area}
+use Rattle.ccw_core.specs.Areas.{lies_in}
+use Rattle.ccw_core.proofs.Covering.{lies_in-nil}
+use Rattle.chan_walk.specs.Ranges.{start_of, end_of, EndsBelow, BeginAbove, IsMerged, HaveSameBytes, AreRuns, MergedIsUnique}
+
+-- the byte at b lies in the area
+abbrev pub InArea : Area → ℕ → Type 0
+InArea a b = (a.start ≤ b) × (b < end_of a)
+
+-- two tests that are true of the same
+pub same_tests : (x y : Bool) → (x ≡ true → y ≡ true) → (y ≡ true → x ≡ true) → x ≡ y
+same_tests true y f g = sym (f refl)
+same_tests false true f g = g refl
+same_tests false false f g = refl
+
+-- ---- bytes of areas
+
+pub lies_in-cases : (a : Area) (xs : List Area) (b : ℕ) → lies_in (a ∷ xs) b ≡ true → InArea a b ⊎ (lies_in xs b ≡ true)
+unfolding lies_in
+lies_in-cases a xs b h = go (or_cases (nat_le a.start b && nat_lt b (a.start + a.len)) (lies_in xs b) h)
+  where
+    go : ((nat_le a.start b && nat_lt b (a.start + a.len)) ≡ true) ⊎ (lies_in xs b ≡ true) → InArea a b ⊎ (lies_in xs b ≡ true)
+    go (inl e) = let p = and_parts (nat_le a.start b) (nat_lt b (a.start + a.len)) e in inl (leb-true a.start b p.0, ltb-true b (a.start + a.len) p.1)
+    go (inr e) = inr e
+
+pub lies_in-first : (a : Area) (xs : List Area) (b : ℕ) → InArea a b → lies_in (a ∷ xs) b ≡ true
+unfolding lies_in
+lies_in-first a xs b h = or_left _ _ (and_from _ _ (le-leb _ _ h.0) (lt-ltb _ _ h.1))
+
+pub lies_in-rest : (a : Area) (xs : List Area) (b : ℕ) → lies_in xs b ≡ true → lies_in (a ∷ xs) b ≡ true
+unfolding lies_in
+lies_in-rest a xs b h = or_right _ _ h
+
+pub lies_in-append : (xs ys : List Area) (b : ℕ) → lies_in (xs ++ ys) b ≡ (lies_in xs b || lies_in ys b)
+unfolding lies_in
+lies_in-append xs ys b = list_any-append (λ x. nat_le x.start b && nat_lt b (x.start + x.len)) xs ys
+
+-- what stands in front doesn't matter
+pub same_after : (zs xs ys : List Area) (b : ℕ) → lies_in xs b ≡ lies_in ys b → lies_in (zs ++ xs) b ≡ lies_in (zs ++ ys) b
+same_after zs xs ys b e = lies_in-append zs xs b ∙ ap (λ t. lies_in zs b || t) e ∙ sym (lies_in-append zs ys b)
+
+-- nor what comes after
+pub same_before : (xs ys zs : List Area) (b : ℕ) → lies_in xs b ≡ lies_in ys b → lies_in (xs ++ zs) b ≡ lies_in (ys ++ zs) b
+same_before xs ys zs b e = lies_in-append xs zs b ∙ ap (λ t. t || lies_in zs b) e ∙ sym (lies_in-append ys zs b)
+
+-- one area for two
+pub one_for_two : (x y r : Area) (b : ℕ) → (InArea r b → InArea x b ⊎ InArea y b) → (InArea x b → InArea r b) → (InArea y b → InArea r b) → lies_in (r ∷ []) b ≡ lies_in (x ∷ y ∷ []) b
+one_for_two x y r b f g h = same_tests (lies_in (r ∷ []) b) (lies_in (x ∷ y ∷ []) b) (λ k. to (lies_in-cases r [] b k)) (λ k. lies_in-first r [] b (from (lies_in-cases x (y ∷ []) b k)))
+  where
+    both : InArea x b ⊎ InArea y b → lies_in (x ∷ y ∷ []) b ≡ true
+    both (inl k) = lies_in-first x (y ∷ []) b k
+    both (inr k) = lies_in-rest x (y ∷ []) b (lies_in-first y [] b k)
+
+    to : InArea r b ⊎ (lies_in [] b ≡ true) → lies_in (x ∷ y ∷ []) b ≡ true
+    to (inl k) = both (f k)
+    to (inr k) = absurd (both_ways (lies_in [] b) (lies_in-nil b) k)
+
+    second : InArea y b ⊎ (lies_in [] b ≡ true) → InArea r b
+    second (inl k) = h k
+    second (inr k) = absurd (both_ways (lies_in [] b) (lies_in-nil b) k)
+
+    from : InArea x b ⊎ (lies_in (y ∷ []) b ≡ true) → InArea r b
+    from (inl k) = g k
+    from (inr k) = second (lies_in-cases y [] b k)
+
+-- in another order
+pub bytes_moved : (xs ys : List Area) (b : ℕ) → IsPermutation xs ys → lies_in xs b ≡ lies_in ys b
+unfolding lies_in
+bytes_moved xs ys b p = list_any-IsPermutation (λ x. nat_le x.start b && nat_lt b (x.start + x.len)) xs ys p
+
+-- ---- the run that grows
+
+-- the run has the area's bytes already
+pub run_stays : (xs : List Area) (run area : Area) → run.start ≤ area.start → (area.len ≡ 0) ⊎ (end_of area ≤ end_of run) → HaveSameBytes (xs ++ run ∷ []) (xs ++ run ∷ area ∷ [])
+run_stays xs run area order w b = same_after xs (run ∷ []) (run ∷ area ∷ []) b (one_for_two run area run b (λ k. inl k) (λ k. k) (λ k. within k w))
+  where
+    within : InArea area b → (area.len ≡ 0) ⊎ (end_of area ≤ end_of run) → InArea run b
+    within k (inl e) = let l = k.0 in let m = k.1 in absurd (omega arith)
+    within k (inr e) = (omega (arith, k.0), omega (arith, k.1))
+
+-- the run is empty
+pub run_begins : (xs : List Area) (run area : Area) → run.len ≡ 0 → HaveSameBytes (xs ++ area ∷ []) (xs ++ run ∷ area ∷ [])
+run_begins xs run area e b = same_after xs (area ∷ []) (run ∷ area ∷ []) b (one_for_two run area area b (λ k. inr k) (λ k. none k) (λ k. k))
+  where
+    none : InArea run b → InArea area b
+    none k = let l = k.0 in let m = k.1 in absurd (omega arith)
+
+-- the run is done
+pub run_ends : (xs ys : List Area) (run area : Area) → ys ≡ xs ++ run ∷ [] → HaveSameBytes (ys ++ area ∷ []) (xs ++ run ∷ area ∷ [])
+run_ends xs ys run area e b = ap (λ z. lies_in (z ++ area ∷ []) b) e ∙ ap (λ z. lies_in z b) (append_assoc xs (run ∷ []) (area ∷ []))
+
+-- the run grows
+pub run_grows : (xs : List Area) (run area r : Area) → r.start ≡ run.start → end_of r ≡ end_of area → run.start ≤ area.start → area.start ≤ end_of run → end_of run ≤ end_of area → HaveSameBytes (xs ++ r ∷ []) (xs ++ run ∷ area ∷ [])
+run_grows xs run area r s e order near far b = same_after xs (r ∷ []) (run ∷ area ∷ []) b (one_for_two run area r b (λ k. split k (cases_lt b (end_of run))) (λ k. (omega (arith, k.0), omega (arith, k.1))) (λ k. (omega (arith, k.0), omega (arith, k.1))))
+  where
+    split : InArea r b → (b < end_of run) ⊎ (end_of run ≤ b) → InArea run b ⊎ InArea area b
+    split k (inl l) = inl (omega (arith, k.0), l)
+    split k (inr l) = inr (omega (arith, k.0), omega (arith, k.1))
+
+-- ---- what is merged so far
+
+above_push : (n : ℕ) (xs : List Area) (a : Area) → BeginAbove n xs → n < a.start → BeginAbove n (xs ++ a ∷ [])
+above_push n [] a h l = (l, tt)
+above_push n (x ∷ xs) a h l = (h.0, above_push n xs a h.1 l)
+
+-- what holds of each of a list holds of the rest
+all_rest : (P : Area → Type 0) (x : Area) (xs : List Area) → All P (x ∷ xs) → All P xs
+all_rest P x xs h i d l = h (suc i) d (omega arith)
+
+pub all_one : (P : Area → Type 0) (x : Area) → P x → All P (x ∷ [])
+all_one P x h zero d l = h
+all_one P x h (suc i) d l = absurd (omega arith)
+
+pub merged_push : (xs : List Area) (a : Area) → IsMerged xs → All (EndsBelow a.start) xs → 0 < a.len → IsMerged (xs ++ a ∷ [])
+merged_push [] a m e p = (p, tt, tt)
+merged_push (x ∷ xs) a m e p = (m.0, above_push (end_of x) xs a m.1 (e 0 x (omega arith)), merged_push xs a m.2 (all_rest (EndsBelow a.start) x xs e) p)
+
+pub runs_first : (xs : List Area) (run : Area) → xs ≡ [] → AreRuns xs run
+runs_first xs run e = subst (λ z. AreRuns z run) (sym e) (record { merged = tt; before = λ i d l. absurd (omega arith) })
+
+-- the run at a later start
+pub runs_later : (xs : List Area) (run area : Area) → run.start ≤ area.start → AreRuns xs run → AreRuns xs area
+runs_later xs run area l r = record { merged = r.merged; before = λ i d k. let e = r.before i d k in omega arith }
+
+pub runs_push : (xs ys : List Area) (run area : Area) → ys ≡ xs ++ run ∷ [] → 0 < run.len → end_of run < area.start → AreRuns xs run → AreRuns ys area
+runs_push xs ys run area e p l r =
+    let order : run.start ≤ area.start = omega arith in
+    let before : All (EndsBelow area.start) (xs ++ run ∷ []) = All-append (EndsBelow area.start) xs (run ∷ []) (runs_later xs run area order r).before (all_one (EndsBelow area.start) run l) in
+    subst (λ z. AreRuns z area) (sym e) (record { merged = merged_push xs run r.merged r.before p; before = before })
+
+-- ---- over areas in order of start
+
+pub get_any : {X : Type 0} (xs : List X) (i : ℕ) (d e : X) → i < length xs → get_or xs i d ≡ get_or xs i e
+get_any [] i d e l = absurd (omega arith)
+get_any (x ∷ xs) zero d e l = refl
+get_any (x ∷ xs) (suc i) d e l = get_any xs i d e (omega arith)
+
+-- the areas to come begin no earlier than the run
+pub order_next : (xs : List Area) (i k r : ℕ) (z d : Area) → IsNonDecreasingBy start_of xs → r ≤ (get_or xs i z).start → i + 1 ≤ k → k < length xs → r ≤ (get_or xs k d).start
+order_next xs i k r z d s l h b = let e = s i k z (omega arith) b in let f = ap start_of (get_any xs k z d b) in omega arith
+
+-- the bytes so far, with those of the next area
+pub bytes_next : (merged now xs : List Area) (run r area : Area) (i b : ℕ) → i < length xs → get_or xs i area ≡ area → lies_in (merged ++ run ∷ []) b ≡ lies_in (take i xs) b → lies_in (now ++ r ∷ []) b ≡ lies_in (merged ++ run ∷ area ∷ []) b → lies_in (now ++ r ∷ []) b ≡ lies_in (take (i + 1) xs) b
+bytes_next merged now xs run r area i b l e f g =
+    g
+    ∙ ap (λ z. lies_in z b) (sym (append_assoc merged (run ∷ []) (area ∷ [])))
+    ∙ same_before (merged ++ run ∷ []) (take i xs) (area ∷ []) b f
+    ∙ ap (λ z. lies_in (take i xs ++ z ∷ []) b) (sym e)
+    ∙ ap (λ z. lies_in z b) (sym (take_more xs i area l))
+
+take_whole : (xs : List Area) → take (length xs) xs ≡ xs
+take_whole [] = refl
+take_whole (x ∷ xs) = ap (λ z. x ∷ z) (take_whole xs)
+
+-- at the end, with a run
+pub bytes_end : (now all xs : List Area) (i b : ℕ) → i ≡ length xs → now ≡ all → lies_in all b ≡ lies_in (take i xs) b → lies_in now b ≡ lies_in xs b
+bytes_end now all xs i b e f g = ap (λ z. lies_in z b) f ∙ g ∙ ap (λ n. lies_in (take n xs) b) e ∙ ap (λ z. lies_in z b) (take_whole xs)
+
+-- an empty run has no bytes
+pub bytes_empty : (xs : List Area) (run : Area) (b : ℕ) → run.len ≡ 0 → lies_in xs b ≡ lies_in (xs ++ run ∷ []) b
+bytes_empty xs run b e = same_tests (lies_in xs b) (lies_in (xs ++ run ∷ []) b) (λ k. lies_in-append xs (run ∷ []) b ∙ or_left (lies_in xs b) (lies_in (run ∷ []) b) k) (λ k. from (or_cases (lies_in xs b) (lies_in (run ∷ []) b) (sym (lies_in-append xs (run ∷ []) b) ∙ k)))
+  where
+    none : InArea run b ⊎ (lies_in [] b ≡ true) → lies_in xs b ≡ true
+    none (inl k) = let l = k.0 in let m = k.1 in absurd (omega arith)
+    none (inr k) = absurd (both_ways (lies_in [] b) (lies_in-nil b) k)
+
+    from : (lies_in xs b ≡ true) ⊎ (lies_in (run ∷ []) b ≡ true) → lies_in xs b ≡ true
+    from (inl k) = k
+    from (inr k) = none (lies_in-cases run [] b k)
+
+-- none so far
+pub bytes_first : (now : List Area) (run : Area) (xs : List Area) (b : ℕ) → now ≡ [] → run.len ≡ 0 → lies_in (take 0 xs) b ≡ lies_in (now ++ run ∷ []) b
+bytes_first now run xs b e f = ap (λ z. lies_in z b) (sym e) ∙ bytes_empty now run b f
+
+-- ---- there is one
+
+-- each byte of areas that begin above n lies above n
+pub bytes_above : (n : ℕ) (xs : List Area) (b : ℕ) → BeginAbove n xs → lies_in xs b ≡ true → n < b
+bytes_above n [] b h k = absurd (both_ways (lies_in [] b) (lies_in-nil b) k)
+bytes_above n (x ∷ xs) b h k = go (lies_in-cases x xs b k) (λ m. bytes_above n xs b h.1 m)
+  where
+    go : InArea x b ⊎ (lies_in xs b ≡ true) → (lies_in xs b ≡ true → n < b) → n < b
+    go (inl m) f = omega (arith, m.0, h.0)
+    go (inr m) f = f m
+
+-- no byte of a merged list lies before its first area
+bytes_from : (x : Area) (xs : List Area) (b : ℕ) → IsMerged (x ∷ xs) → lies_in (x ∷ xs) b ≡ true → x.start ≤ b
+bytes_from x xs b m h = go (lies_in-cases x xs b h)
+  where
+    go : InArea x b ⊎ (lies_in xs b ≡ true) → x.start ≤ b
+    go (inl k) = k.0
+    go (inr k) = let l = bytes_above (end_of x) xs b m.1 k in omega arith
+
+first_byte : (x : Area) (xs : List Area) → IsMerged (x ∷ xs) → lies_in (x ∷ xs) x.start ≡ true
+first_byte x xs m = let p = m.0 in lies_in-first x xs x.start (omega arith, omega arith)
+
+-- the byte after the first area lies in none
+after_first : (x : Area) (xs : List Area) → IsMerged (x ∷ xs) → lies_in (x ∷ xs) (end_of x) ≡ true → ⊥
+after_first x xs m h = go (lies_in-cases x xs (end_of x) h)
+  where
+    go : InArea x (end_of x) ⊎ (lies_in xs (end_of x) ≡ true) → ⊥
+    go (inl k) = let l = k.1 in omega arith
+    go (inr k) = let l = bytes_above (end_of x) xs (end_of x) m.1 k in omega arith
+
+same_starts : (x y : Area) (xs ys : List Area) → IsMerged (x ∷ xs) → IsMerged (y ∷ ys) → HaveSameBytes (x ∷ xs) (y ∷ ys) → x.start ≤ y.start
+same_starts x y xs ys m n s = bytes_from x xs y.start m (s y.start ∙ first_byte y ys n)
+
+-- the first area of one list doesn't end after that of the other
+same_ends : (x y : Area) (xs ys : List Area) → IsMerged (x ∷ xs) → IsMerged (y ∷ ys) → HaveSameBytes (x ∷ xs) (y ∷ ys) → x.start ≡ y.start → end_of x ≤ end_of y
+same_ends x y xs ys m n s e = go (cases_lt (end_of y) (end_of x))
+  where
+    go : (end_of y < end_of x) ⊎ (end_of x ≤ end_of y) → end_of x ≤ end_of y
+    go (inl l) = let p = n.0 in absurd (after_first y ys n (sym (s (end_of y)) ∙ lies_in-first x xs (end_of y) (omega arith, l)))
+    go (inr l) = l
+
+same_area : (x y : Area) → x.start ≡ y.start → x.len ≡ y.len → x ≡ y
+same_area x y e f =
+    let of : ℕ → ℕ → Area = λ s n. record { start = s; len = n } in
+    ap (λ s. of s x.len) e ∙ ap (λ n. of y.start n) f
+
+-- the rests have the same bytes
+rest_within : (x y : Area) (xs ys : List Area) (b : ℕ) → x ≡ y → IsMerged (x ∷ xs) → HaveSameBytes (x ∷ xs) (y ∷ ys) → lies_in xs b ≡ true → lies_in ys b ≡ true
+rest_within x y xs ys b e m s k = go (lies_in-cases y ys b (sym (s b) ∙ lies_in-rest x xs b k))
+  where
+    go : InArea y b ⊎ (lies_in ys b ≡ true) → lies_in ys b ≡ true
+    go (inl h) = let l = bytes_above (end_of x) xs b m.1 k in let f = ap end_of e in absurd (omega (arith, h.1))
+    go (inr h) = h
+
+pub merged_is_unique : MergedIsUnique
+merged_is_unique [] [] m n s = refl
+merged_is_unique [] (y ∷ ys) m n s = absurd (both_ways (lies_in [] y.start) (lies_in-nil y.start) (s y.start ∙ first_byte y ys n))
+merged_is_unique (x ∷ xs) [] m n s = absurd (both_ways (lies_in [] x.start) (lies_in-nil x.start) (sym (s x.start) ∙ first_byte x xs m))
+merged_is_unique (x ∷ xs) (y ∷ ys) m n s =
+    let back : HaveSameBytes (y ∷ ys) (x ∷ xs) = λ b. sym (s b) in
+    let a = same_starts x y xs ys m n s in
+    let b = same_starts y x ys xs n m back in
+    let start : x.start ≡ y.start = omega arith in
+    let c = same_ends x y xs ys m n s start in
+    let d = same_ends y x ys xs n m back (sym start) in
+    let len : x.len ≡ y.len = omega arith in
+    let e = same_area x y start len in
+    let rests = merged_is_unique xs ys m.2 n.2 (λ b. same_tests (lies_in xs b) (lies_in ys b) (λ k. rest_within x y xs ys b e m s k) (λ k. rest_within y x ys xs b (sym e) n back k)) in
+    ap (λ z. z ∷ xs) e ∙ ap (λ z. y ∷ z) rests

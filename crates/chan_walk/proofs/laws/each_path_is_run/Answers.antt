@@ -1,0 +1,5 @@
+use Rattle.chan_walk.proofs.Paths.{each_path_is_run}
+use Rattle.chan_walk.proofs.laws.each_path_is_run.Goals as goal
+
+pub returns : goal.returns
+returns c = each_path_is_run

@@ -1,0 +1,5 @@
+use Rattle.chan_walk.proofs.Yes.{gathers_arguments}
+use Rattle.chan_walk.proofs.laws.gathers_arguments.Goals as goal
+
+pub returns : goal.returns
+returns c = gathers_arguments

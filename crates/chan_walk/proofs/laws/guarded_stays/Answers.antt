@@ -1,0 +1,5 @@
+use Rattle.chan_walk.proofs.Yes.{guarded_stays}
+use Rattle.chan_walk.proofs.laws.guarded_stays.Goals as goal
+
+pub returns : goal.returns
+returns c = guarded_stays

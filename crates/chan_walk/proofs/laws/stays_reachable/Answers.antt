@@ -1,0 +1,5 @@
+use Rattle.chan_walk.proofs.Yes.{stays_reachable}
+use Rattle.chan_walk.proofs.laws.stays_reachable.Goals as goal
+
+pub returns : goal.returns
+returns c = stays_reachable

@@ -1,0 +1,138 @@
+-- No false alarm: where the verdict is no, a run shows why; and yes is said of every job that is safe and steady.
+use Rattle.std.specs.Prelude.{◌≡◌, ℕ, ◌+◌, ◌<◌, ◌≤◌, true, false, List, [], ◌∷◌, ◌++◌, map, length, Some, None, ◌⊎◌}
+use Rattle.std.specs.List.{AllByRecursion, range_with_len}
+use Rattle.ccw_core.specs.Areas.{lies_in}
+use Rattle.ccw_core.specs.Ccw.{byte, ccw}
+use Rattle.ckd_core.specs.Cylinders.{AreExtents}
+use Rattle.ckd_core.specs.Mask.{inhibits}
+use Rattle.chan_walk.specs.declared.job.Job.{Job}
+use Rattle.chan_walk.specs.declared.place.Place.{Place}
+use Rattle.chan_walk.specs.declared.reason.Reason.{Reason}
+use Rattle.chan_walk.specs.declared.reason.Reason.TheVariants.{Misaligned, OutsideStorage, TransferNotAllowed, InvalidCode, BadFormat, ZeroCount, DataOutside, NotInTable, Inhibited, StoreNotLent, FetchNotLent, ShortSeek, SeekOutside, ChangesCcw, ChangesArgument}
+use Rattle.chan_walk.specs.declared.verdict.Verdict.{Verdict}
+use Rattle.chan_walk.specs.declared.verdict.Verdict.TheVariants.{Yes, No}
+use Rattle.chan_walk.specs.Argument.{Has}
+use Rattle.chan_walk.specs.Fault.{is_known, begins_seek, allows}
+use Rattle.chan_walk.specs.Headline.{IsSafe, IsSteady}
+use Rattle.chan_walk.specs.Job.{storage_of, extents_of, fetch_of, store_of}
+use Rattle.chan_walk.specs.Machine.{Gathered, Stage, At, Checked, Event, Command, Store, Fetch, Gather, Seek}
+use Rattle.chan_walk.specs.Place.{is_fresh}
+use Rattle.chan_walk.specs.Reachable.{IsPath}
+use Rattle.chan_walk.specs.Runs.{Moment, IsRun, UsesInCcw, UsesInArgument}
+use Rattle.chan_walk.specs.Verdict.{IsVerdict}
+
+-- storage holds bytes
+abbrev pub AreBytes : List ℕ → Type 0
+AreBytes s = (b : ℕ) → byte s b < 256
+
+-- what an answer to a job rests on, as the job's own types have it: extents in order, one at least, and bytes in storage
+abbrev pub IsProper : Job → Type 0
+IsProper j = AreExtents (extents_of j) × AreBytes (storage_of j)
+
+-- ---- each path is a run
+
+-- the first cylinder of the first extent
+abbrev pub first_cylinder : List (ℕ × ℕ) → ℕ
+first_cylinder [] = 0
+first_cylinder (e ∷ es) = e.0
+
+-- what an event stores was there before
+abbrev pub IsQuiet : Job → Event → Type 0
+IsQuiet j (Store a bytes) = bytes ≡ map (byte (storage_of j)) (range_with_len a (length bytes))
+IsQuiet j (Command code) = Unit {0}
+IsQuiet j (Fetch a n) = Unit {0}
+IsQuiet j (Gather addresses) = Unit {0}
+IsQuiet j (Seek x) = Unit {0}
+
+-- nothing has changed, and the arm stands where it stood
+pub record IsQuietMoment (j : Job) (m : Moment) : Type 0 where
+  pub storage : m.storage ≡ storage_of j
+  pub arm : m.arm ≡ first_cylinder (extents_of j)
+  pub events : AllByRecursion (IsQuiet j) m.events
+
+-- the moments are at these places, in order
+abbrev pub ArePlaces : List Moment → List Place → Type 0
+ArePlaces [] [] = Unit {0}
+ArePlaces [] (p ∷ ps) = ⊥
+ArePlaces (m ∷ ms) [] = ⊥
+ArePlaces (m ∷ ms) (p ∷ ps) = ((g : Gathered) × (m.stage ≡ At p g)) × ArePlaces ms ps
+
+-- each path is the places of a run that begins at the first cylinder of the first extent and stores only what was there
+abbrev pub EachPathIsRun : Type 0
+EachPathIsRun = (j : Job) → IsProper j → (ps : List Place) → IsPath j ps → (run : List Moment) × IsRun j run × ArePlaces run ps × AllByRecursion (IsQuietMoment j) run
+
+-- ---- what a run shows
+
+-- a run comes to p, and there its next step shows P
+pub record ShowsNext (j : Job) (p : Place) (P : List Event → Stage → Type 0) : Type 0 where
+  pub run : List Moment
+  pub at : Moment
+  pub next : Moment
+  pub is_run : IsRun j (next ∷ at ∷ run)
+  pub comes : (g : Gathered) × (at.stage ≡ At p g)
+  pub shows : P next.events next.stage
+
+-- no argument of a seek is complete
+abbrev pub NoSeek : List Event → Type 0
+NoSeek es = (x : List ℕ) → Has es (Seek (Some x)) → ⊥
+
+-- moments at which the same operation goes on, by data chaining, and no argument is complete
+abbrev pub GoesOn : List Moment → Type 0
+GoesOn [] = Unit {0}
+GoesOn (m ∷ ms) = ((q : Place) × (g : Gathered) × (m.stage ≡ At q g) × (is_fresh q.entered ≡ false)) × NoSeek m.events × GoesOn ms
+
+-- a run comes to p, and a step of the operation that begins there shows P; P is also told of the moment at p
+pub record ShowsLater (j : Job) (p : Place) (P : Moment → List Event → Stage → Type 0) : Type 0 where
+  pub run : List Moment
+  pub at : Moment
+  pub more : List Moment
+  pub next : Moment
+  pub is_run : IsRun j (next ∷ (more ++ at ∷ run))
+  pub comes : (g : Gathered) × (at.stage ≡ At p g)
+  pub goes_on : GoesOn more
+  pub shows : P at next.events next.stage
+
+-- a byte is stored for whose address P holds
+abbrev pub StoresOn : (ℕ → Type 0) → List Event → Type 0
+StoresOn P es = (a : ℕ) × (bytes : List ℕ) × (b : ℕ) × Has es (Store a bytes) × (a ≤ b) × (b < a + length bytes) × P b
+
+-- a byte is fetched for whose address P holds
+abbrev pub FetchesFrom : (ℕ → Type 0) → List Event → Type 0
+FetchesFrom P es = (a : ℕ) × (n : ℕ) × (b : ℕ) × Has es (Fetch a n) × (a ≤ b) × (b < a + n) × P b
+
+-- a run comes to p, and there the channel stops it by this program check
+abbrev pub ShowsCheck : Job → Place → Reason → Type 0
+ShowsCheck j p r = ShowsNext j p (λ es stage. stage ≡ Checked r)
+
+-- what a run shows for a reason at p: the program check itself; a command that may not begin; a store or a fetch outside lent areas;
+-- a seek that ends, or is checked, before its sixth byte; a seek that isn't allowed; a store over what some run uses
+abbrev pub Shows : Job → Place → Reason → Type 0
+Shows j p Misaligned = ShowsCheck j p Misaligned
+Shows j p OutsideStorage = ShowsCheck j p OutsideStorage
+Shows j p TransferNotAllowed = ShowsCheck j p TransferNotAllowed
+Shows j p InvalidCode = ShowsCheck j p InvalidCode
+Shows j p BadFormat = ShowsCheck j p BadFormat
+Shows j p ZeroCount = ShowsCheck j p ZeroCount
+Shows j p DataOutside = ShowsCheck j p DataOutside
+Shows j p NotInTable = ShowsNext j p (λ es stage. (code : ℕ) × Has es (Command code) × (is_known code ≡ false))
+Shows j p Inhibited = ShowsNext j p (λ es stage. (code : ℕ) × Has es (Command code) × (inhibits j.mask code ≡ true))
+Shows j p StoreNotLent = ShowsNext j p (λ es stage. StoresOn (λ b. lies_in (store_of j) b ≡ false) es)
+Shows j p FetchNotLent = ShowsNext j p (λ es stage. FetchesFrom (λ b. lies_in (fetch_of j) b ≡ false) es)
+Shows j p ShortSeek = ShowsLater j p (λ at es stage. (begins_seek p (ccw at.storage p.address) ≡ true) × NoSeek es × (Has es (Seek None) ⊎ ((r : Reason) × (stage ≡ Checked r))))
+Shows j p SeekOutside = ShowsLater j p (λ at es stage. (x : List ℕ) × Has es (Seek (Some x)) × (allows j x ≡ false))
+Shows j p ChangesCcw = ShowsNext j p (λ es stage. StoresOn (λ b. (used : List Moment) × IsRun j used × UsesInCcw used b) es)
+Shows j p ChangesArgument = ShowsNext j p (λ es stage. StoresOn (λ b. (used : List Moment) × IsRun j used × UsesInArgument used b) es)
+
+-- no false alarm: where the verdict is no, a run comes to a place with its address and shows its reason there
+abbrev pub NoFalseAlarm : Type 0
+NoFalseAlarm = (j : Job) (a : ℕ) (r : Reason) → IsProper j → IsVerdict j (No a r) → (p : Place) × (p.address ≡ a) × Shows j p r
+
+-- ---- exactness
+
+-- a job that is safe in every run and steady has the verdict yes
+abbrev pub SafeIsYes : Type 0
+SafeIsYes = (j : Job) → IsProper j → IsSafe j → IsSteady j → IsVerdict j Yes
+
+-- whatever answers yes only for safe and steady jobs answers yes only where the verdict is yes
+abbrev pub HeadlineAloneIsEnough : Type 0
+HeadlineAloneIsEnough = (answer : Job → Verdict) → ((j : Job) → IsProper j → answer j ≡ Yes → IsSafe j × IsSteady j) → (j : Job) → IsProper j → answer j ≡ Yes → IsVerdict j Yes

@@ -1,0 +1,49 @@
+-- The guard: the bytes of storage that a program may not change, as two merged lists of areas.
+use Rattle.std.specs.Prelude.{◌≡◌, ℕ, ◌+◌, ◌<◌, ◌≤◌, true, List, ◌⊎◌, ◌↔◌}
+use Rattle.ccw_core.specs.declared.areas.Area.{Area}
+use Rattle.ccw_core.specs.Areas.{lies_in}
+use Rattle.ccw_core.specs.Storage.{Stands}
+use Rattle.chan_walk.specs.declared.job.Job.{Job}
+use Rattle.chan_walk.specs.declared.place.Place.{Place}
+use Rattle.chan_walk.specs.Argument.{Has, IsChain, argument_addresses}
+use Rattle.chan_walk.specs.Fault.{begins_seek, IsClear}
+use Rattle.chan_walk.specs.Guarded.{IsCcwByte, IsArgumentByte}
+use Rattle.chan_walk.specs.Job.{storage_of}
+use Rattle.chan_walk.specs.Place.{word_at}
+use Rattle.chan_walk.specs.Ranges.{IsMerged}
+
+-- two lists of areas: those of CCWs, and those of arguments of seeks
+pub record GuardAreas : Type 0 where
+  pub ccws : List Area
+  pub arguments : List Area
+
+-- each is the one merged list for its bytes: the guarded bytes of the job's CCWs, and those of its arguments
+pub record Guards (j : Job) (g : GuardAreas) : Type 0 where
+  pub ccws_merged : IsMerged g.ccws
+  pub ccws : (b : ℕ) → (lies_in g.ccws b ≡ true) ↔ IsCcwByte j b
+  pub arguments_merged : IsMerged g.arguments
+  pub arguments : (b : ℕ) → (lies_in g.arguments b ≡ true) ↔ IsArgumentByte j b
+
+-- ---- place by place
+
+-- the byte at b belongs to the CCW that stands at a place
+pub record IsCcwByteOf (j : Job) (p : Place) (b : ℕ) : Type 0 where
+  pub stands : Stands (storage_of j) p.address
+  pub from : p.address ≤ b
+  pub below : b < p.address + 8
+
+-- the byte at b belongs to the argument of a seek that begins at a place and has no own fault
+pub record IsArgumentByteOf (j : Job) (p : Place) (b : ℕ) : Type 0 where
+  pub seeks : begins_seek p (word_at j p) ≡ true
+  pub clear : IsClear j p
+  pub chain : List ℕ
+  pub is_chain : IsChain (storage_of j) 6 p.address chain
+  pub has : Has (argument_addresses (storage_of j) chain) b
+
+-- the new areas have the bytes of the old ones, those for which P holds, and no others
+abbrev pub AddsBytes : List Area → List Area → (ℕ → Type 0) → Type 0
+AddsBytes old new P = (b : ℕ) → (lies_in new b ≡ true) ↔ ((lies_in old b ≡ true) ⊎ P b)
+
+-- the area of one byte
+abbrev pub byte_area : ℕ → Area
+byte_area a = record { start = a; len = 1 }

@@ -1,0 +1,100 @@
+-- What a yes means: every run is safe, and the job is steady; and the laws that carry it.
+use Rattle.std.specs.Prelude.{◌≡◌, ℕ, ◌+◌, ◌<◌, ◌≤◌, true, false, List, ◌++◌, map, length, Some, None}
+use Rattle.std.specs.List.{AllByRecursion}
+use Rattle.ccw_core.specs.Areas.{lies_in}
+use Rattle.ccw_core.specs.Ccw.{byte}
+use Rattle.ckd_core.specs.Cylinders.{has_cylinder}
+use Rattle.ckd_core.specs.Mask.{inhibits}
+use Rattle.chan_walk.specs.declared.job.Job.{Job}
+use Rattle.chan_walk.specs.declared.place.Place.{Place}
+use Rattle.chan_walk.specs.declared.verdict.Verdict.TheVariants.{Yes}
+use Rattle.chan_walk.specs.Argument.{IsChain, joined, argument}
+use Rattle.chan_walk.specs.Fault.{is_known, begins_seek, allows}
+use Rattle.chan_walk.specs.Guarded.{IsGuarded}
+use Rattle.chan_walk.specs.Job.{storage_of, extents_of, fetch_of, store_of}
+use Rattle.chan_walk.specs.Machine.{Stage, At, Ended, Checked, Event, Command, Store, Fetch, Gather, Seek}
+use Rattle.chan_walk.specs.Place.{word_at}
+use Rattle.chan_walk.specs.Reachable.{IsReachable}
+use Rattle.chan_walk.specs.Runs.{Moment, IsRun, Uses}
+use Rattle.chan_walk.specs.Verdict.{IsVerdict}
+
+-- an event that does no harm: a command of the table that isn't inhibited, a store and a fetch inside lent areas, a seek that is allowed
+abbrev pub IsSafeEvent : Job → Event → Type 0
+IsSafeEvent j (Command code) = (is_known code ≡ true) × (inhibits j.mask code ≡ false)
+IsSafeEvent j (Store a bytes) = (b : ℕ) → a ≤ b → b < a + length bytes → lies_in (store_of j) b ≡ true
+IsSafeEvent j (Fetch a n) = (b : ℕ) → a ≤ b → b < a + n → lies_in (fetch_of j) b ≡ true
+IsSafeEvent j (Gather addresses) = Unit {0}
+IsSafeEvent j (Seek (Some x)) = allows j x ≡ true
+IsSafeEvent j (Seek None) = ⊥
+
+-- no program check stopped the program
+abbrev pub IsUnchecked : Stage → Type 0
+IsUnchecked (At p g) = Unit {0}
+IsUnchecked Ended = Unit {0}
+IsUnchecked (Checked r) = ⊥
+
+-- a moment of a safe run
+pub record IsSafeMoment (j : Job) (m : Moment) : Type 0 where
+  pub unchecked : IsUnchecked m.stage
+  pub inside : has_cylinder (extents_of j) m.arm ≡ true
+  pub events : AllByRecursion (IsSafeEvent j) m.events
+
+-- every run is safe
+abbrev pub IsSafe : Job → Type 0
+IsSafe j = (run : List Moment) → IsRun j run → AllByRecursion (IsSafeMoment j) run
+
+-- the byte at b is what it was before the program's start
+abbrev pub Holds : Job → ℕ → Moment → Type 0
+Holds j b m = byte m.storage b ≡ byte (storage_of j) b
+
+-- the job is steady: what some run uses never changes, in any run
+abbrev pub IsSteady : Job → Type 0
+IsSteady j = (used run : List Moment) (b : ℕ) → IsRun j used → Uses used b → IsRun j run → AllByRecursion (Holds j b) run
+
+-- the headline: where the verdict is yes, every run is safe and the job is steady
+abbrev pub YesIsSafe : Type 0
+YesIsSafe = (j : Job) → IsVerdict j Yes → IsSafe j × IsSteady j
+
+-- ---- the laws that carry it
+
+-- where the verdict is yes, P holds at each moment of each run
+abbrev pub EachMomentOfYes : (Job → Moment → Type 0) → Type 0
+EachMomentOfYes P = (j : Job) → IsVerdict j Yes → (run : List Moment) → IsRun j run → AllByRecursion (P j) run
+
+-- guarded bytes never change
+abbrev pub GuardedStays : Type 0
+GuardedStays = EachMomentOfYes (λ j m. (b : ℕ) → IsGuarded j b → Holds j b m)
+
+-- a stage's place is reachable
+abbrev pub IsAtReachable : Job → Stage → Type 0
+IsAtReachable j (At p g) = IsReachable j p
+IsAtReachable j Ended = Unit {0}
+IsAtReachable j (Checked r) = Unit {0}
+
+-- every place of every run is reachable
+abbrev pub StaysReachable : Type 0
+StaysReachable = EachMomentOfYes (λ j m. IsAtReachable j m.stage)
+
+-- x, followed by the rest of its chain, is the allowed argument of a reachable seek
+pub record IsPartOfSeek (j : Job) (x : List ℕ) : Type 0 where
+  pub seek : Place
+  pub reached : IsReachable j seek
+  pub seeks : begins_seek seek (word_at j seek) ≡ true
+  pub chain : List ℕ
+  pub is_chain : IsChain (storage_of j) 6 seek.address chain
+  pub before : List ℕ
+  pub rest : List ℕ
+  pub gathered : x ≡ map (byte (storage_of j)) before
+  pub followed : before ++ rest ≡ joined (storage_of j) chain
+  pub allowed : allows j (argument (storage_of j) chain) ≡ true
+
+-- so is what a stage has gathered
+abbrev pub GathersPart : Job → Stage → Type 0
+GathersPart j (At p None) = Unit {0}
+GathersPart j (At p (Some x)) = IsPartOfSeek j x
+GathersPart j Ended = Unit {0}
+GathersPart j (Checked r) = Unit {0}
+
+-- what is gathered, followed by the rest of its chain, is the allowed argument of a reachable seek
+abbrev pub GathersArguments : Type 0
+GathersArguments = EachMomentOfYes (λ j m. GathersPart j m.stage)

@@ -1,0 +1,60 @@
+-- Areas of storage merged into one list, and ranges that meet such a list.
+use Rattle.std.specs.Prelude.{◌≡◌, ℕ, ◌+◌, ◌<◌, ◌≤◌, true, false, List, [], ◌∷◌, Option, None, Some}
+use Rattle.std.specs.List.{All}
+use Rattle.ccw_core.specs.declared.areas.Area.{Area}
+use Rattle.ccw_core.specs.Areas.{lies_in}
+
+-- the address of an area's first byte
+abbrev pub start_of : Area → ℕ
+start_of a = a.start
+
+-- the address after that of an area's last byte
+abbrev pub end_of : Area → ℕ
+end_of a = a.start + a.len
+
+-- the area ends below n
+abbrev pub EndsBelow : ℕ → Area → Type 0
+EndsBelow n a = end_of a < n
+
+-- each area begins above n
+abbrev pub BeginAbove : ℕ → List Area → Type 0
+BeginAbove n [] = Unit {0}
+BeginAbove n (a ∷ rest) = (n < a.start) × BeginAbove n rest
+
+-- no area is empty, they are in order of start, and at least one byte lies between two
+abbrev pub IsMerged : List Area → Type 0
+IsMerged [] = Unit {0}
+IsMerged (a ∷ rest) = (0 < a.len) × BeginAbove (end_of a) rest × IsMerged rest
+
+-- the same bytes lie in some area of either list
+abbrev pub HaveSameBytes : List Area → List Area → Type 0
+HaveSameBytes xs ys = (b : ℕ) → lies_in xs b ≡ lies_in ys b
+
+-- a byte of the range lies in some area
+pub record Meets (areas : List Area) (start len : ℕ) : Type 0 where
+  pub at : ℕ
+  pub from : start ≤ at
+  pub below : at < start + len
+  pub lies : lies_in areas at ≡ true
+
+-- a merged list, and a run after it that may still grow
+pub record AreRuns (areas : List Area) (run : Area) : Type 0 where
+  pub merged : IsMerged areas
+  pub before : All (EndsBelow run.start) areas
+
+-- the first area of a merged list that ends above n: all that it says of the bytes from n on, up to the one after the area
+pub record IsNext (areas : List Area) (n : ℕ) (a : Area) : Type 0 where
+  pub ends : n < end_of a
+  pub filled : 0 < a.len
+  pub before : (b : ℕ) → n ≤ b → b < a.start → lies_in areas b ≡ false
+  pub inside : (b : ℕ) → a.start ≤ b → b < end_of a → lies_in areas b ≡ true
+  pub after : lies_in areas (end_of a) ≡ false
+
+-- the same, or that no byte from n on lies in an area
+abbrev pub IsNextArea : List Area → ℕ → Option Area → Type 0
+IsNextArea areas n None = (b : ℕ) → n ≤ b → lies_in areas b ≡ false
+IsNextArea areas n (Some a) = IsNext areas n a
+
+-- there is one merged list for some bytes
+abbrev pub MergedIsUnique : Type 0
+MergedIsUnique = (xs ys : List Area) → IsMerged xs → IsMerged ys → HaveSameBytes xs ys → xs ≡ ys

@@ -1,0 +1,40 @@
+-- The reasons why a program may not run, by number and by word.
+use Rattle.std.specs.Prelude.{ℕ, List, codes}
+use Rattle.chan_walk.specs.declared.reason.Reason.{Reason}
+use Rattle.chan_walk.specs.declared.reason.Reason.TheVariants.{Misaligned, OutsideStorage, TransferNotAllowed, InvalidCode, BadFormat, ZeroCount, DataOutside, NotInTable, Inhibited, StoreNotLent, FetchNotLent, ShortSeek, SeekOutside, ChangesCcw, ChangesArgument}
+
+-- the order in which reasons are tried for a place, and by which the least counts
+abbrev pub number_of : Reason → ℕ
+number_of Misaligned = 1
+number_of OutsideStorage = 2
+number_of TransferNotAllowed = 3
+number_of InvalidCode = 4
+number_of BadFormat = 5
+number_of ZeroCount = 6
+number_of DataOutside = 7
+number_of NotInTable = 8
+number_of Inhibited = 9
+number_of StoreNotLent = 10
+number_of FetchNotLent = 11
+number_of ShortSeek = 12
+number_of SeekOutside = 13
+number_of ChangesCcw = 14
+number_of ChangesArgument = 15
+
+-- the word for a reason in a verdict, as ASCII text
+abbrev pub word_of : Reason → List ℕ
+word_of Misaligned = codes "misaligned"
+word_of OutsideStorage = codes "outside-storage"
+word_of TransferNotAllowed = codes "transfer-not-allowed"
+word_of InvalidCode = codes "invalid-code"
+word_of BadFormat = codes "bad-format"
+word_of ZeroCount = codes "zero-count"
+word_of DataOutside = codes "data-outside"
+word_of NotInTable = codes "not-in-table"
+word_of Inhibited = codes "inhibited"
+word_of StoreNotLent = codes "store-not-lent"
+word_of FetchNotLent = codes "fetch-not-lent"
+word_of ShortSeek = codes "short-seek"
+word_of SeekOutside = codes "seek-outside"
+word_of ChangesCcw = codes "changes-ccw"
+word_of ChangesArgument = codes "changes-argument"

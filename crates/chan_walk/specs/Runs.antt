@@ -1,0 +1,58 @@
+-- Runs of a program, of any length, and the bytes of storage that they use.
+use Rattle.std.specs.Prelude.{◌≡◌, ℕ, ◌+◌, ◌<◌, ◌≤◌, true, List, [], ◌∷◌, None, ◌⊎◌}
+use Rattle.ccw_core.specs.Storage.{Stands}
+use Rattle.ckd_core.specs.Cylinders.{has_cylinder}
+use Rattle.chan_walk.specs.declared.job.Job.{Job}
+use Rattle.chan_walk.specs.Argument.{Has}
+use Rattle.chan_walk.specs.Job.{storage_of, extents_of}
+use Rattle.chan_walk.specs.Machine.{Stage, At, Ended, Checked, Event, Command, Store, Fetch, Gather, Seek, StepFrom}
+use Rattle.chan_walk.specs.Place.{first_place}
+
+-- a state of the machine, with the events of the step that led to it
+pub record Moment : Type 0 where
+  pub storage : List ℕ
+  pub arm : ℕ
+  pub stage : Stage
+  pub events : List Event
+
+-- a run begins with the job's storage, the arm at any cylinder inside the extents, and at the first place
+pub record IsStart (j : Job) (m : Moment) : Type 0 where
+  pub storage : m.storage ≡ storage_of j
+  pub arm : has_cylinder (extents_of j) m.arm ≡ true
+  pub stage : m.stage ≡ At (first_place j) None
+  pub events : m.events ≡ []
+
+-- the moments of a run, the newest first
+abbrev pub IsRun : Job → List Moment → Type 0
+IsRun j [] = ⊥
+IsRun j (m ∷ []) = IsStart j m
+IsRun j (n ∷ m ∷ ms) = IsRun j (m ∷ ms) × StepFrom m.storage m.arm m.stage n.events n.storage n.arm n.stage
+
+-- the byte at b belongs to the CCW of this stage's place, where one stands there
+abbrev pub UsesAt : List ℕ → Stage → ℕ → Type 0
+UsesAt s (At p g) b = Stands s p.address × (p.address ≤ b) × (b < p.address + 8)
+UsesAt s Ended b = ⊥
+UsesAt s (Checked r) b = ⊥
+
+-- the byte at b is added to an argument
+abbrev pub UsesIn : List Event → ℕ → Type 0
+UsesIn [] b = ⊥
+UsesIn (Gather addresses ∷ es) b = Has addresses b ⊎ UsesIn es b
+UsesIn (Command code ∷ es) b = UsesIn es b
+UsesIn (Store a bytes ∷ es) b = UsesIn es b
+UsesIn (Fetch a n ∷ es) b = UsesIn es b
+UsesIn (Seek x ∷ es) b = UsesIn es b
+
+-- a run uses the byte at b as a byte of a CCW, that of its last place among them
+abbrev pub UsesInCcw : List Moment → ℕ → Type 0
+UsesInCcw [] b = ⊥
+UsesInCcw (m ∷ ms) b = UsesAt m.storage m.stage b ⊎ UsesInCcw ms b
+
+-- a run uses the byte at b as a byte of an argument
+abbrev pub UsesInArgument : List Moment → ℕ → Type 0
+UsesInArgument [] b = ⊥
+UsesInArgument (m ∷ ms) b = UsesIn m.events b ⊎ UsesInArgument ms b
+
+-- a run uses the byte at b
+abbrev pub Uses : List Moment → ℕ → Type 0
+Uses ms b = UsesInCcw ms b ⊎ UsesInArgument ms b

@@ -1,0 +1,23 @@
+//! What a supervisor asks about: a channel program and all that it may use.
+
+use ccw_core::{Area, Storage};
+use ckd_core::{Device, Extents, FileMask};
+
+/// A channel program before its start, and what it was lent.
+#[derive(Clone, Copy, Debug)]
+pub struct Job<'a> {
+    /// Main storage from address 0 on, as it stands.
+    pub storage: Storage<'a>,
+    /// The address of the first CCW.
+    pub start: u32,
+    /// The device that the program runs against.
+    pub device: Device,
+    /// The file mask that the supervisor set.
+    pub mask: FileMask,
+    /// The cylinders of the file.
+    pub extents: &'a Extents,
+    /// The areas lent for fetching, from storage to the device.
+    pub fetch: &'a [Area],
+    /// The areas lent for storing, from the device into storage.
+    pub store: &'a [Area],
+}

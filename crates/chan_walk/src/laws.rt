@@ -1,0 +1,46 @@
+//! The laws of the machine: each is the contract of a function that does nothing, so that it is proved.
+
+ghost use Rattle.chan_walk.specs.Alarm.{EachPathIsRun, HeadlineAloneIsEnough, NoFalseAlarm, SafeIsYes};
+ghost use Rattle.chan_walk.specs.Headline.{GathersArguments, GuardedStays, StaysReachable, YesIsSafe};
+
+/// Where the verdict is yes, guarded bytes never change.
+pub(crate) fn guarded_stays()
+    ensures { GuardedStays }
+{}
+
+/// Where the verdict is yes, every place of every run is reachable.
+pub(crate) fn stays_reachable()
+    ensures { StaysReachable }
+{}
+
+/// Where the verdict is yes, what a seek under way has gathered, followed by the rest of its chain,
+/// is the allowed argument of a reachable seek.
+pub(crate) fn gathers_arguments()
+    ensures { GathersArguments }
+{}
+
+/// Where the verdict is yes, every run is safe and the job is steady.
+pub(crate) fn yes_is_safe()
+    ensures { YesIsSafe }
+{}
+
+/// Each path is the places of a run that begins at the first cylinder of the first extent and
+/// stores only what storage already held.
+pub(crate) fn each_path_is_run()
+    ensures { EachPathIsRun }
+{}
+
+/// Where the verdict is no, a run comes to a place with its address and shows its reason there.
+pub(crate) fn no_false_alarm()
+    ensures { NoFalseAlarm }
+{}
+
+/// A job that is safe in every run and steady has the verdict yes.
+pub(crate) fn safe_is_yes()
+    ensures { SafeIsYes }
+{}
+
+/// Whatever answers yes only for safe and steady jobs answers yes only where the verdict is yes.
+pub(crate) fn headline_alone_is_enough()
+    ensures { HeadlineAloneIsEnough }
+{}

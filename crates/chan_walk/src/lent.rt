@@ -1,0 +1,72 @@
+//! The areas lent to a program, kept so that a range is looked up by binary search.
+
+ghost use Rattle.std.specs.Prelude.{◌≡◌, map, IfOk};
+ghost use Rattle.ccw_core.specs.Areas.{covered};
+ghost use Rattle.chan_walk.specs.Lent as lent;
+ghost use Rattle.chan_walk.specs.Lent.{AreLent, LentAreas};
+ghost use Rattle.chan_walk.specs.Ranges.{IsMerged};
+
+use crate::job::Job;
+use crate::ranges::{holds, merge};
+use ccw_core::Area;
+use std::alloc::{AllocError, Global};
+use std::marker::Model;
+
+/// The parts of the areas lent that lie in storage, merged. Bytes past storage never matter, since
+/// no data range that passes the channel's checks has any.
+#[derive(Debug, Drop)]
+pub(crate) struct Lent {
+    fetch: Vec<Area>,
+    store: Vec<Area>,
+}
+
+impl Model for Lent {
+    ghost Value = { LentAreas };
+
+    ghost view = { λ l. record { fetch = l.fetch.items; store = l.store.items } };
+
+    ghost invariant = { λ l. IsMerged l.fetch.items × IsMerged l.store.items };
+}
+
+impl Lent {
+    /// The areas lent to a job. The cost is that of sorting them.
+    pub(crate) fn new(alloc: Global, job: &Job) -> Result<Lent, AllocError>
+        ensures { IfOk result (AreLent job.now) }
+    {
+        let length = job.storage.len();
+        let fetch = merge(alloc, clipped(alloc, job.fetch, length)?)?;
+        let store = merge(alloc, clipped(alloc, job.store, length)?)?;
+        Ok(Lent { fetch, store })
+    }
+
+    /// Whether each byte of a range was lent for fetching. The cost is that of a binary search.
+    pub(crate) fn fetches_in(&self, start: u32, len: u32) -> bool
+        ensures { result ≡ covered self.now.fetch start len }
+    {
+        holds(self.fetch.as_slice(), start, len)
+    }
+
+    /// Whether each byte of a range was lent for storing. The cost is that of a binary search.
+    pub(crate) fn stores_in(&self, start: u32, len: u32) -> bool
+        ensures { result ≡ covered self.now.store start len }
+    {
+        holds(self.store.as_slice(), start, len)
+    }
+}
+
+/// The part of an area that lies in storage of a length.
+fn clip(area: Area, length: u32) -> Area
+    ensures { result ≡ lent.clip length area }
+{
+    Area {
+        start: area.start.min(length),
+        len: area.len.min(length.saturating_sub(area.start)),
+    }
+}
+
+/// The parts of some areas that lie in storage of a length.
+fn clipped(alloc: Global, areas: &[Area], length: u32) -> Result<Vec<Area>, AllocError>
+    ensures { IfOk result (λ v. v.items ≡ map (lent.clip length) areas.now) }
+{
+    areas.iter().map(|area| clip(*area, length)).collect(alloc)
+}

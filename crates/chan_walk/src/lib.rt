@@ -1,0 +1,37 @@
+//! Whether a channel program may run: the places that a run can reach, their faults, and the verdict.
+//!
+//! A supervisor starts only what no run can turn against it:
+//!
+//! ```
+//! fn may_run(alloc: Global, job: &Job) -> Result<bool, WalkError> {
+//!     let verdict = verify(alloc, job)?;
+//!     Ok(verdict == Verdict::Yes)
+//! }
+//! ```
+#![tactic(auto)]
+
+mod exploring;
+mod fault;
+mod guard;
+mod job;
+mod judging;
+mod laws;
+mod lent;
+mod place;
+mod ranges;
+mod reason;
+mod seek;
+mod successor;
+mod verdict;
+mod word;
+
+pub use crate::exploring::{Explored, PLACE_LIMIT, Places, WalkError, explore};
+pub use crate::fault::fault_at;
+pub use crate::guard::Guard;
+pub use crate::job::Job;
+pub use crate::judging::verify;
+pub use crate::place::{Entry, Place, first_place};
+pub use crate::reason::Reason;
+pub use crate::seek::seek_argument;
+pub use crate::successor::{Next, successors};
+pub use crate::verdict::Verdict;

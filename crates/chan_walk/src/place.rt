@@ -1,0 +1,74 @@
+//! Places: a CCW together with the way in which it is entered.
+
+ghost use Rattle.std.specs.Prelude.{◌≡◌};
+ghost use Rattle.chan_walk.specs.Place as place;
+
+use crate::job::Job;
+
+/// How a CCW is entered.
+#[derive(Clone, Copy, PartialEq, Eq, PartialOrd, Ord, Debug)]
+pub enum Entry {
+    /// A new operation begins.
+    Fresh,
+    /// A data chain goes on with an operation that stores.
+    ChainIn,
+    /// A data chain goes on with an operation that fetches.
+    ChainOut,
+    /// A data chain goes on with a search.
+    ChainSearch,
+}
+
+impl Entry {
+    /// A new operation begins, so that the command code counts.
+    pub(crate) fn is_fresh(self) -> bool
+        ensures { result ≡ place.is_fresh self }
+    {
+        matches!(self, Entry::Fresh)
+    }
+}
+
+/// A CCW's address together with the way in which it is entered.
+///
+/// Places are ordered by address, then by entry in the order above, then by whether they were
+/// reached by a transfer in channel.
+#[derive(Clone, Copy, PartialEq, Eq, PartialOrd, Ord, Debug)]
+pub struct Place {
+    /// The address of the CCW.
+    pub address: u32,
+    /// How the CCW is entered.
+    pub entered: Entry,
+    /// Whether the place counts as reached by a transfer in channel.
+    pub after_transfer: bool,
+}
+
+impl Place {
+    /// A place entered without a transfer in channel.
+    pub(crate) fn straight_to(address: u32, entered: Entry) -> Place
+        ensures { result ≡ place.straight_to address entered }
+    {
+        Place {
+            address,
+            entered,
+            after_transfer: false,
+        }
+    }
+
+    /// A place entered by a transfer in channel.
+    pub(crate) fn transferred_to(address: u32, entered: Entry) -> Place
+        ensures { result ≡ place.transferred_to address entered }
+    {
+        Place {
+            address,
+            entered,
+            after_transfer: true,
+        }
+    }
+}
+
+/// The place where a program begins: its start, entered fresh. It counts as reached by a transfer in
+/// channel, so that a supervisor may put commands of its own and a transfer before it.
+pub fn first_place(job: &Job) -> Place
+    ensures { result ≡ place.first_place job.now }
+{
+    Place::transferred_to(job.start, Entry::Fresh)
+}

@@ -1,0 +1,71 @@
+//! Verifies channel programs of System/360 for count-key-data disks.
+#![tactic(auto)]
+
+mod command_line;
+mod input;
+mod report;
+mod run;
+mod show;
+
+use crate::command_line::{Request, read_request};
+use crate::report::{Outcome, report};
+use crate::run::{Action, run};
+use crate::show::show;
+use ccw_core::Watched;
+use std::io;
+use std::io::Write;
+use std::process::ExitCode;
+
+fn main(rt: HostRuntime) -> ExitCode {
+    let outcome = outcome_of(&rt);
+    ExitCode::from(report(outcome, &mut Watched::new(rt.stderr())))
+}
+
+fn outcome_of(rt: &HostRuntime) -> Outcome {
+    let words: Vec<String> = match read_words(rt) {
+        Ok(words) => words,
+        Err(error) if error.kind() == io::ErrorKind::OutOfMemory => {
+            return Outcome::NoMemoryForCommandLine;
+        }
+        Err(_) => return Outcome::UsageFault,
+    };
+    match read_request(rt.alloc(), words.as_slice()) {
+        Request::Show(text) => shown(rt, text),
+        Request::Run(action) => ran(rt, action),
+        Request::Help(text) => match rt.print(text) {
+            Ok(()) => Outcome::HelpAsked,
+            Err(_) => Outcome::FlushFailed,
+        },
+        Request::Fault(text) => {
+            let _ = rt.eprint(text);
+            Outcome::UsageFault
+        }
+        Request::NoMemory => Outcome::NoMemoryForCommandLine,
+    }
+}
+
+fn read_words(rt: &HostRuntime) -> io::Result<Vec<String>> {
+    Ok(std::env::args(rt)?.collect(rt.alloc())?)
+}
+
+fn shown(rt: &HostRuntime, text: &str) -> Outcome {
+    let mut output = Watched::new(rt.stdout());
+    let answer = show(rt.alloc(), text, &mut output);
+    if answer.is_ok() && output.into_inner().flush().is_err() {
+        return Outcome::FlushFailed;
+    }
+    Outcome::Shown(answer)
+}
+
+fn ran(rt: &HostRuntime, action: Action) -> Outcome {
+    let mut input = Watched::new(rt.stdin());
+    let mut output = Watched::new(rt.stdout());
+    let answer = run(rt.alloc(), action, &mut input, &mut output);
+    if answer.is_ok() && output.into_inner().flush().is_err() {
+        return Outcome::FlushFailed;
+    }
+    Outcome::Ran(answer)
+}
+
+#[cfg(test)]
+mod tests;

@@ -1,0 +1,12 @@
+-- The end so far is that of the extents that begin below, and the table is right for the cylinders below.
+use Rattle.std.proofs.Common.{◌≡◌, ℕ, ◌<◌, nat_lt, get_or, length, false}
+use Rattle.ckd_core.specs.Cylinders.{has_cylinder}
+use Rattle.ckd_core.proofs.CylinderLemmas.{reached_below}
+use Rattle.ckd_core.proofs.extents.held_cylinders.Given as goal
+
+abbrev pub invariant-loop-cylinder : goal.invariant-loop-cylinder
+invariant-loop-cylinder l = record {
+  whole : length l.held ≡ 203;
+  end_right : (x : ℕ) → nat_lt x l.end ≡ reached_below l.pairs l.cylinder x;
+  held_right : (c : ℕ) → c < l.cylinder → get_or l.held c false ≡ has_cylinder l.pairs c;
+}

@@ -1,0 +1,6 @@
+-- A command of the code as an entry of the table.
+use Rattle.ckd_core.specs.Table.{Entry}
+use Rattle.ckd_core.specs.declared.command.Command.{Command}
+
+abbrev pub entry_of : Command → Entry
+entry_of c = record { code = c.code; name = c.name.now; kind = c.kind; class = c.class }

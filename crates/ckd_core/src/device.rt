@@ -1,0 +1,34 @@
+//! The two devices and their geometry.
+
+ghost use Rattle.std.specs.Prelude.{◌≡◌};
+ghost use Rattle.ckd_core.specs.Geometry.{cylinders_of, heads_of};
+
+/// A disk of count-key-data records.
+#[derive(Clone, Copy, PartialEq, Eq, Debug)]
+pub enum Device {
+    /// IBM 2311: cylinders 0 to 202, heads 0 to 9.
+    D2311,
+    /// IBM 2314: cylinders 0 to 202, heads 0 to 19.
+    D2314,
+}
+
+impl Device {
+    /// How many heads the device has, which is how many tracks each cylinder has.
+    pub fn heads(self) -> u16
+        ensures { result ≡ heads_of self }
+    {
+        match self {
+            Device::D2311 => 10,
+            Device::D2314 => 20,
+        }
+    }
+
+    /// How many cylinders the device has.
+    pub fn cylinders(self) -> u16
+        ensures { result ≡ cylinders_of self }
+    {
+        match self {
+            Device::D2311 | Device::D2314 => 203,
+        }
+    }
+}

@@ -1,0 +1,158 @@
+//! The extents of a file, in whole cylinders.
+
+ghost use Rattle.std.specs.Prelude.{◌≡◌, ◌≢◌, ℕ, ◌<◌, ◌&&◌, ◌==◌, nat_lt, nat_le, IfOk, IfErr, OnOk, IsOkUnless, MatchOption, MatchResult, slice_index};
+ghost use Rattle.std.specs.List.{AllByRecursion, list_any};
+ghost use Rattle.ckd_core.specs.Cylinders.{AreExtents, IsExtent, has_cylinder};
+ghost use Rattle.ckd_core.specs.Faults.{IsFault};
+ghost use Rattle.ckd_core.specs.HeldCylinders.{IsHeldTable};
+
+use std::alloc::Global;
+use std::marker::Model;
+use thiserror::Error;
+
+/// How many cylinders either device has.
+const CYLINDERS: usize = 203;
+
+/// The last cylinder of either device.
+const LAST_CYLINDER: u16 = 202;
+
+/// Why pairs of cylinders are no extents.
+#[derive(Clone, Copy, PartialEq, Eq, Debug, Error)]
+pub enum ExtentError {
+    /// There is no pair.
+    #[error("no extent")]
+    Empty,
+    /// The pair of this index, counted from 0, is the first that is wrong, and its first cylinder is above its last.
+    #[error("extent {0}: first cylinder above last")]
+    Backwards(usize),
+    /// The pair of this index, counted from 0, is the first that is wrong: it is in order, and its last cylinder is above 202.
+    #[error("extent {0}: past the last cylinder of the device")]
+    PastDevice(usize),
+    /// Each pair is right, and there was no memory for them.
+    #[error("out of memory")]
+    Memory,
+}
+
+/// Extents of whole cylinders, one or more, in the order in which they were given. They may overlap.
+#[derive(Debug, Drop)]
+pub struct Extents {
+    pairs: Vec<(u16, u16)>,
+    /// Which cylinders lie in some extent.
+    held: [bool; 203],
+}
+
+impl Model for Extents {
+    ghost use Rattle.std.specs.Prelude.{ℕ, List};
+    ghost use Rattle.ckd_core.specs.HeldCylinders.{IsSound};
+
+    ghost Value = { List (ℕ × ℕ) };
+
+    ghost view = { λ e. e.pairs.items };
+
+    ghost invariant = { λ e. IsSound e.pairs.items e.held };
+}
+
+impl PartialEq for Extents {
+    ghost use Rattle.std.specs.Cmp.{partial_equiv_from_equiv};
+    ghost use Rattle.ckd_core.specs.Cylinders.{same_extents, same_extents-IsEquivalence};
+
+    ghost eq = { same_extents };
+
+    ghost laws = { partial_equiv_from_equiv same_extents-IsEquivalence };
+
+    /// The same pairs in the same order.
+    fn eq(&self, other: &Extents) -> bool {
+        self.pairs == other.pairs
+    }
+}
+
+impl Eq for Extents {
+    ghost use Rattle.ckd_core.specs.Cylinders.{same_extents-IsEquivalence};
+
+    ghost laws = { same_extents-IsEquivalence };
+}
+
+impl Extents {
+    /// Extents of these pairs of first and last cylinder.
+    ///
+    /// The first pair from the left that is wrong is named, whether or not there is memory; of one pair it is asked first
+    /// whether it is backwards. The time is that of one pass over the pairs, the memory that of a copy of them.
+    pub fn new(alloc: Global, pairs: &[(u16, u16)]) -> Result<Extents, ExtentError>
+        ensures ok { IfOk result (λ extents. extents ≡ pairs.now) }
+        ensures right { OnOk result (AreExtents pairs.now) }
+        ensures fault { IfErr result (IsFault pairs.now) }
+
+        // Memory aside, a fault is named where it is there.
+        ensures named { (fault : ExtentError) → fault ≢ ExtentError.Memory → IsFault pairs.now fault → result ≡ Err fault }
+        ensures accepted { AreExtents pairs.now → IsOkUnless result ExtentError.Memory }
+    {
+        judge(pairs)?;
+        let held = held_cylinders(pairs);
+        let pairs = Vec::from_slice(alloc, pairs).map_err(|_| ExtentError::Memory)?;
+        Ok(Extents { pairs, held })
+    }
+
+    /// The pairs of first and last cylinder, in the order in which they were given.
+    pub fn pairs(&self) -> &[(u16, u16)]
+        ensures value { result.now ≡ self.now }
+        ensures right { AreExtents result.now }
+    {
+        &self.pairs
+    }
+
+    /// Whether the cylinder lies in some extent. The cost is the same however many extents there are.
+    pub fn has(&self, cylinder: u16) -> bool
+        ensures { result ≡ has_cylinder self.now cylinder }
+    {
+        let index = usize::from(cylinder);
+        index < CYLINDERS && self.held[index]
+    }
+}
+
+/// Whether the pairs are extents, and else the first fault from the left.
+fn judge(pairs: &[(u16, u16)]) -> Result<(), ExtentError>
+    ensures { MatchResult result (λ _. AreExtents pairs.now) (λ fault. IsFault pairs.now fault × (fault ≢ ExtentError.Memory)) }
+{
+    if pairs.is_empty() {
+        return Err(ExtentError::Empty);
+    }
+    for (i, pair) in pairs.iter().enumerate() {
+        let (first, last) = *pair;
+        if first > last {
+            return Err(ExtentError::Backwards(i));
+        }
+        if last > LAST_CYLINDER {
+            return Err(ExtentError::PastDevice(i));
+        }
+    }
+    Ok(())
+}
+
+/// For each cylinder, one more than the furthest last cylinder of the extents that begin there, or 0 where none does.
+fn ends(pairs: &[(u16, u16)]) -> [u16; 203]
+    requires { AllByRecursion IsExtent pairs.now }
+    ensures { (c x : ℕ) → c < 203 → nat_lt x (slice_index result c) ≡ list_any (λ e. e.0 == c && nat_le x e.1) pairs.now }
+{
+    let mut ends = [0; 203];
+    for pair in pairs {
+        let (first, last) = *pair;
+        let first = usize::from(first);
+        ends[first] = ends[first].max(last + 1);
+    }
+    ends
+}
+
+/// Which cylinders lie in some extent.
+fn held_cylinders(pairs: &[(u16, u16)]) -> [bool; 203]
+    requires { AllByRecursion IsExtent pairs.now }
+    ensures { IsHeldTable pairs.now result }
+{
+    let ends = ends(pairs);
+    let mut held = [false; 203];
+    let mut end = 0;
+    for cylinder in 0..CYLINDERS {
+        end = end.max(usize::from(ends[cylinder]));
+        held[cylinder] = cylinder < end;
+    }
+    held
+}

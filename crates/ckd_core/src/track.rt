@@ -1,0 +1,52 @@
+//! Tracks, by cylinder and head, and whether a seek may go there.
+
+ghost use Rattle.std.specs.Prelude.{◌≡◌, ◌↔◌, ◌&&◌, true, IsSome, nat_lt};
+ghost use Rattle.ckd_core.specs.Argument.{has_no_bin, track_of};
+ghost use Rattle.ckd_core.specs.Cylinders.{has_cylinder};
+ghost use Rattle.ckd_core.specs.Geometry.{heads_of};
+
+use crate::device::Device;
+use crate::extents::Extents;
+
+/// A track of a device.
+#[derive(Clone, Copy, PartialEq, Eq, Debug)]
+pub struct Track {
+    /// The cylinder, from 0 on.
+    pub cylinder: u16,
+    /// The head, from 0 on.
+    pub head: u16,
+}
+
+impl Track {
+    /// The track that the argument of a seek names: two bytes of bin, two of cylinder, two of head, each number with its high byte first.
+    /// It is `None` exactly where a byte of bin isn't zero, since the devices have no bins
+    /// (component descriptions of the 2841 with the 2311, and of the 2314). Whether a device has the track is not asked here.
+    pub fn from_argument(argument: [u8; 6]) -> Option<Track>
+        ensures value { result ≡ track_of argument }
+        ensures no_bin { IsSome result ↔ (has_no_bin argument ≡ true) }
+    {
+        let [
+            bin_high,
+            bin_low,
+            cylinder_high,
+            cylinder_low,
+            head_high,
+            head_low,
+        ] = argument;
+        if bin_high != 0 || bin_low != 0 {
+            return None;
+        }
+        Some(Track {
+            cylinder: u16::from_be_bytes([cylinder_high, cylinder_low]),
+            head: u16::from_be_bytes([head_high, head_low]),
+        })
+    }
+}
+
+/// Whether a seek may go to the track: its cylinder lies in an extent, and its head is below the device's number of heads.
+/// The cost is the same however many extents there are.
+pub fn allowed(extents: &Extents, device: Device, track: Track) -> bool
+    ensures { result ≡ (has_cylinder extents.now track.cylinder && nat_lt track.head (heads_of device)) }
+{
+    extents.has(track.cylinder) && track.head < device.heads()
+}
