@@ -3,7 +3,7 @@
 .PHONY: run test
 
 run:
-	cd crates/chanv && rt run
+	cd crates/chanv && rt run < stdin
 
 test:
 	rt ci
