@@ -4,3 +4,4 @@ pub mod GroupLemmas
 pub mod StorageLemmas
 pub mod Covering
 pub mod SameTest
+pub mod Prefixes

@@ -14,3 +14,4 @@ pub mod FillLemmas
 pub mod WriteLemmas
 pub mod SevenDigits
 pub mod SameLemmas
+pub mod ListingLemmas

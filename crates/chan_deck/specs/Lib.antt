@@ -5,3 +5,4 @@ pub mod Reading
 pub mod Held
 pub mod Same
 pub mod Texts
+pub mod Listing

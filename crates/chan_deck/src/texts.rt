@@ -12,7 +12,7 @@ const DIGITS: [char; 16] = [
 ];
 
 /// An address in six digits, or as many as it needs.
-fn address_text(alloc: Global, address: u32) -> Result<String, AllocError>
+pub(crate) fn address_text(alloc: Global, address: u32) -> Result<String, AllocError>
     ensures { IfOk result (λ t. string_bytes t ≡ text.address_text address) }
 {
     let [first, high, middle, low] = address.to_be_bytes();

@@ -1,0 +1,66 @@
+-- The listing: a row for each place that a program can come to, and the line of the verdict.
+use Rattle.std.specs.Prelude.{ℕ, ◌==◌, Bool, true, false, List, ◌∷◌, [], ◌++◌, codes, Option, Some, None, if◌then◌else◌}
+use Rattle.std.specs.List.{flat_map}
+use Rattle.ccw_core.specs.Ccw.{Fields, ccw_text, is_transfer}
+use Rattle.ccw_core.specs.Storage.{ccw_at}
+use Rattle.ckd_core.specs.Table.{lookup}
+use Rattle.ckd_core.specs.Table as table
+use Rattle.chan_walk.specs.declared.place.Entry.{Entry}
+use Rattle.chan_walk.specs.declared.place.Entry.TheVariants.{Fresh, ChainIn, ChainOut, ChainSearch}
+use Rattle.chan_walk.specs.declared.place.Place.{Place}
+use Rattle.chan_walk.specs.declared.verdict.Verdict.{Verdict}
+use Rattle.chan_walk.specs.declared.verdict.Verdict.TheVariants.{Yes, No}
+use Rattle.chan_walk.specs.Place.{is_fresh}
+use Rattle.chan_deck.specs.Texts.{address_text, verdict_line}
+
+-- how a CCW is entered: by a new operation, or by the data chain of one that stores, fetches or searches
+abbrev pub way_word : Entry → List ℕ
+way_word Fresh = codes "fresh"
+way_word ChainIn = codes "in"
+way_word ChainOut = codes "out"
+way_word ChainSearch = codes "search"
+
+-- `t` where the place counts as reached by a transfer in channel
+abbrev pub transfer_word : Bool → List ℕ
+transfer_word true = codes "t"
+transfer_word false = codes "-"
+
+-- `*` where the row is marked
+abbrev pub mark_word : Bool → List ℕ
+mark_word true = codes "*"
+mark_word false = codes "."
+
+abbrev pub command_name : Option table.Entry → List ℕ
+command_name None = codes "unknown"
+command_name (Some e) = e.name
+
+-- what a CCW is to the operation: a transfer, a part of a data chain, where its code is ignored, or a command
+abbrev pub name_of : Entry → Fields → List ℕ
+name_of entered c = if is_transfer c then codes "transfer-in-channel" else if is_fresh entered then command_name (lookup c.command) else codes "chained"
+
+-- the CCW and its name, where one stands
+abbrev pub word_text : Entry → Option Fields → List ℕ
+word_text entered None = codes "no-ccw"
+word_text entered (Some c) = ccw_text c ++ codes " " ++ name_of entered c
+
+-- `address way transfer mark ccw name`, for a place in this storage, with its line feed
+abbrev pub row : List ℕ → Place → Bool → List ℕ
+row s p marked = address_text p.address ++ codes " " ++ way_word p.entered ++ codes " " ++ transfer_word p.after_transfer
+    ++ codes " " ++ mark_word marked ++ codes " " ++ word_text p.entered (ccw_at s p.address) ++ 10 ∷ []
+
+-- the verdict names this address
+abbrev pub is_named : Verdict → ℕ → Bool
+is_named Yes a = false
+is_named (No address reason) a = address == a
+
+-- the row of a place, which is marked where the verdict names its address
+abbrev pub row_of : List ℕ → Verdict → Place → List ℕ
+row_of s v p = row s p (is_named v p.address)
+
+-- a row for each of these places
+abbrev pub rows : List ℕ → Verdict → List Place → List ℕ
+rows s v ps = flat_map (row_of s v) ps
+
+-- the whole listing
+abbrev pub listing : List ℕ → List Place → Verdict → List ℕ
+listing s ps v = rows s v ps ++ verdict_line v
