@@ -1,16 +1,17 @@
 #!/usr/bin/env bash
-# Runs chanv over each example and compares what it prints with what the rules say.
+# Runs chanv over each deck here and in cases/, and compares what it prints with what the rules say.
 #
 #     examples/check.sh [PROGRAM]
 #
 # PROGRAM is the built chanv; without it, crates/chanv/out/chanv from the top of the repository.
-# A deck passes if `chanv verify` prints its line of verdicts.txt, and nothing else, with status 0 for yes
-# and 1 for no. A deck without a line, and a line without a deck, fail. The status is 0 if all passed,
-# 1 if one failed, 2 if there is no such program.
+# A deck passes if `chanv verify` prints its line of the folder's verdicts.txt, and nothing else, with
+# status 0 for yes and 1 for no. Where a listing stands beside a deck, NAME.list beside NAME.deck, `chanv
+# list` has to print it, with the same status. A deck without a line, and a line without a deck, fail.
+# The status is 0 if all passed, 1 if one failed, 2 if there is no such program.
 set -u
 
-folder=$(cd "$(dirname "${BASH_SOURCE[0]}")" && pwd)
-program=${1:-$folder/../crates/chanv/out/chanv}
+here=$(cd "$(dirname "${BASH_SOURCE[0]}")" && pwd)
+program=${1:-$here/../crates/chanv/out/chanv}
 if [ ! -f "$program" ] || [ ! -x "$program" ]; then
     printf 'no program %s\n' "$program" >&2
     exit 2
@@ -31,32 +32,42 @@ status_of() {
     if [ "$1" = yes ]; then echo 0; else echo 1; fi
 }
 
-# compare DECK STATUS: verifies the deck; what chanv should print is in $work/want.
+# compare ACTION DECK WANT STATUS: runs the action over the deck; WANT holds what chanv should print.
 compare() {
-    "$program" verify < "$folder/$1" > "$work/got"
+    "$program" "$1" < "$2" > "$work/got"
     local status=$?
-    if ! cmp -s "$work/want" "$work/got"; then
-        fail "$1" 'expected (<) and got (>)'
-        diff "$work/want" "$work/got" | grep '^[<>\\]'
-    elif [ "$status" -ne "$2" ]; then
-        fail "$1" "expected status $2, got $status"
+    if ! cmp -s "$3" "$work/got"; then
+        fail "$1 $2" 'expected (<) and got (>)'
+        diff "$3" "$work/got" | grep '^[<>\\]'
+    elif [ "$status" -ne "$4" ]; then
+        fail "$1 $2" "expected status $4, got $status"
     else
         passed=$((passed + 1))
     fi
 }
 
-while IFS=$'\t' read -r deck verdict; do
-    if [ -f "$folder/$deck" ]; then
-        printf '%s\n' "$verdict" > "$work/want"
-        compare "$deck" "$(status_of "$verdict")"
-    else
+# check_deck FOLDER NAME VERDICT
+check_deck() {
+    local deck=$1/$2 listing=$1/${2%.deck}.list
+    if [ ! -f "$deck" ]; then
         fail "$deck" 'a line of verdicts.txt, but no deck'
+        return
     fi
-done < "$folder/verdicts.txt"
+    printf '%s\n' "$3" > "$work/want"
+    compare verify "$deck" "$work/want" "$(status_of "$3")"
+    if [ -f "$listing" ]; then
+        compare list "$deck" "$listing" "$(status_of "$3")"
+    fi
+}
 
-for path in "$folder"/*.deck; do
-    deck=${path##*/}
-    cut -f 1 "$folder/verdicts.txt" | grep -qxF "$deck" || fail "$deck" 'no line of verdicts.txt'
+for folder in "$here" "$here/cases"; do
+    while IFS=$'\t' read -r deck verdict; do
+        check_deck "$folder" "$deck" "$verdict"
+    done < "$folder/verdicts.txt"
+    for path in "$folder"/*.deck; do
+        deck=${path##*/}
+        cut -f 1 "$folder/verdicts.txt" | grep -qxF "$deck" || fail "$path" 'no line of verdicts.txt'
+    done
 done
 
 printf '%d passed, %d failed\n' "$passed" "$failed"

@@ -24,11 +24,15 @@ fn command<'a>(alloc: Global) -> Result<Command<'a>, Error> {
     let verify = Command::new(alloc, "verify").about(
         "reads a deck from standard input and writes its verdict; so does chanv without words",
     );
+    let list = Command::new(alloc, "list").about(
+        "reads a deck from standard input and lists the CCWs that a run can reach, with the verdict",
+    );
     Ok(
         Command::new(alloc, "chanv")
             .about("verifies channel programs")
             .subcommand(show)?
-            .subcommand(verify)?,
+            .subcommand(verify)?
+            .subcommand(list)?,
     )
 }
 
@@ -39,6 +43,7 @@ fn asked<'a>(alloc: Global, words: &'a [String]) -> Result<Request<'a>, Error> {
             Some(text) => Ok(Request::Show(text)),
             None => Ok(Request::NoMemory),
         },
+        Some(("list", _)) => Ok(Request::Run(Action::List)),
         _ => Ok(Request::Run(Action::Verify)),
     }
 }

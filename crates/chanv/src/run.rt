@@ -1,21 +1,31 @@
 //! Running over a deck: from the reader's bytes to the writer's.
 
-ghost use Rattle.std.specs.Prelude.{◌≡◌, ◌↔◌, false, true, IfErr, IfOk, IsErrOf};
-ghost use Rattle.chanv.specs.Run.{IsEarly, IsJudged, IsRunAnswer, IsUnjudged, status_of_verdict};
+ghost use Rattle.std.specs.Prelude.{◌≡◌, ◌↔◌, ◌⊎◌, false, true, IsErrOf, OnOk};
+ghost use Rattle.std.specs.Io.KnownBytes.{Appends};
+ghost use Rattle.ccw_core.specs.Written.{AppendsPrefix};
+ghost use Rattle.chan_deck.specs.Texts.{verdict_line};
+ghost use Rattle.chan_walk.specs.Answers.{HasAtMost};
+ghost use Rattle.chanv.specs.Run.{BeginsToWrite, IsEarly, IsRunAnswer, IsTextAnswer, IsUnwritten, Writes, status_of_verdict};
+ghost use Rattle.chanv.specs.declared.run.Action.TheVariants as actions;
 
 use crate::input::{InputError, read_input};
 use ccw_core::{Storage, Watched, write_out};
-use chan_deck::{Cause, DeckError, read_deck, verdict_text};
-use chan_walk::{Verdict, WalkError, verify};
+use chan_deck::{Cause, DeckError, ListError, read_deck, verdict_text, write_listing};
+use chan_walk::{Job, Verdict, WalkError, explore, verify};
 use std::alloc::Global;
 use std::io::{Read, Write};
 use thiserror::Error;
+
+#[cfg(test)]
+mod tests;
 
 /// What a run does with the deck.
 #[derive(Clone, Copy, PartialEq, Eq, Debug)]
 pub enum Action {
     /// Writes the line of the verdict.
     Verify,
+    /// Writes a row for each place that a run can reach, and then the line of the verdict.
+    List,
 }
 
 /// What a verdict was.
@@ -52,9 +62,10 @@ pub enum RunError {
 
 /// Reads a deck to the end of the input, verifies its job, and writes what the action asks for.
 ///
-/// Nothing is written before the whole deck was judged: after `Read`, `TooLong`, `Deck`,
-/// `TooManyPlaces` and `Memory` nothing was written, after `Write` a prefix of the line. `Read` and
-/// `Write` come exactly where the device failed. Over an endless reader it returns, with `TooLong`.
+/// Nothing is written before the whole deck was judged: after `Read`, `TooLong`, `Deck` and
+/// `TooManyPlaces` nothing was written, and after `Write` a prefix of the text. After `Memory`
+/// nothing was written or, for `List` alone, a prefix. `Read` and `Write` come exactly where the
+/// device failed. Over an endless reader it returns, with `TooLong`.
 pub fn run<R: Read, W: Write>(
     alloc: Global,
     action: Action,
@@ -63,8 +74,8 @@ pub fn run<R: Read, W: Write>(
 ) -> Result<Status, RunError>
     requires reader { from.old.failed ≡ false }
     requires writer { to.old.failed ≡ false }
-    ensures answer { IsRunAnswer (R.remaining from.old.device) (R.remaining from.new.device) (W.contents to.old.device) (W.contents to.new.device) result }
-    ensures early { IsEarly result → to.new ≡ to.old }
+    ensures answer { IsRunAnswer action (R.remaining from.old.device) (R.remaining from.new.device) (W.contents to.old.device) (W.contents to.new.device) result }
+    ensures early { IsEarly action result → to.new ≡ to.old }
     ensures read { IsErrOf result RunError.Read ↔ (from.new.failed ≡ true) }
     ensures write { IsErrOf result RunError.Write ↔ (to.new.failed ≡ true) }
 {
@@ -74,23 +85,21 @@ pub fn run<R: Read, W: Write>(
         Err(InputError::TooLong) => return Err(RunError::TooLong),
         Err(InputError::Memory) => return Err(RunError::Memory),
     };
-    let verdict = judge(alloc, text.as_slice())?;
-    let line = match action {
-        Action::Verify => match verdict_text(alloc, verdict) {
-            Ok(line) => line,
-            Err(_) => return Err(RunError::Memory),
-        },
-    };
-    match write_out(line.as_bytes(), to) {
-        Ok(()) => Ok(status_of(verdict)),
-        Err(_) => Err(RunError::Write),
-    }
+    answer(alloc, action, text.as_slice(), to)
 }
 
-/// The verdict on the job of the deck that a text spells.
-fn judge(alloc: Global, text: &[u8]) -> Result<Verdict, RunError>
-    ensures judged { IfOk result (IsJudged text.now) }
-    ensures unjudged { IfErr result (IsUnjudged text.now) }
+/// Verifies the job of the deck that a text spells, and writes what the action asks for.
+fn answer<W: Write>(
+    alloc: Global,
+    action: Action,
+    text: &[u8],
+    to: &mut Watched<W>,
+) -> Result<Status, RunError>
+    requires { to.old.failed ≡ false }
+    ensures answer { IsTextAnswer action text.now (W.contents to.old.device) (W.contents to.new.device) result }
+    ensures early { IsEarly action result → to.new ≡ to.old }
+    ensures read { IsErrOf result RunError.Read → ⊥ }
+    ensures write { IsErrOf result RunError.Write ↔ (to.new.failed ≡ true) }
 {
     let deck = match read_deck(alloc, text) {
         Ok(deck) => deck,
@@ -99,11 +108,62 @@ fn judge(alloc: Global, text: &[u8]) -> Result<Verdict, RunError>
     };
     let job = deck.job();
     let _storage: Storage<'_> = job.storage;
-    match verify(alloc, &job) {
-        Ok(verdict) => Ok(verdict),
-        Err(WalkError::TooManyPlaces) => Err(RunError::TooManyPlaces),
-        Err(WalkError::Memory) => Err(RunError::Memory),
+    let verdict = match verify(alloc, &job) {
+        Ok(verdict) => verdict,
+        Err(WalkError::TooManyPlaces) => return Err(RunError::TooManyPlaces),
+        Err(WalkError::Memory) => return Err(RunError::Memory),
+    };
+    match write_output(alloc, action, &job, verdict, to) {
+        Ok(()) => Ok(status_of(verdict)),
+        Err(ListError::Write) => Err(RunError::Write),
+        Err(ListError::Memory) => Err(RunError::Memory),
     }
+}
+
+/// Writes what the action asks for of a job and its verdict.
+fn write_output<W: Write>(
+    alloc: Global,
+    action: Action,
+    job: &Job,
+    verdict: Verdict,
+    to: &mut Watched<W>,
+) -> Result<(), ListError>
+    requires writer { to.old.failed ≡ false }
+    requires few { HasAtMost job.now 4096 }
+    ensures ok { OnOk result (Writes action job.now verdict (W.contents to.old.device) (W.contents to.new.device)) }
+    ensures write { IsErrOf result ListError.Write ↔ (to.new.failed ≡ true) }
+    ensures cut_off { IsErrOf result ListError.Write → BeginsToWrite action job.now verdict (W.contents to.old.device) (W.contents to.new.device) }
+    ensures memory { IsErrOf result ListError.Memory → IsUnwritten (W.contents to.old.device) (W.contents to.new.device) ⊎ BeginsToWrite action job.now verdict (W.contents to.old.device) (W.contents to.new.device) }
+    ensures early { IsErrOf result ListError.Memory → action ≡ actions.Verify → to.new ≡ to.old }
+{
+    match action {
+        Action::Verify => write_verdict(alloc, verdict, to),
+        Action::List => {
+            let places = match explore(alloc, job) {
+                Ok(places) => places,
+                // the job was verified
+                Err(WalkError::TooManyPlaces) => unreachable!(),
+                Err(WalkError::Memory) => return Err(ListError::Memory),
+            };
+            write_listing(alloc, job, &places, verdict, to)
+        }
+    }
+}
+
+/// Writes the line of a verdict.
+fn write_verdict<W: Write>(
+    alloc: Global,
+    verdict: Verdict,
+    to: &mut Watched<W>,
+) -> Result<(), ListError>
+    requires { to.old.failed ≡ false }
+    ensures ok { OnOk result (Appends (W.contents to.old.device) (W.contents to.new.device) (verdict_line verdict)) }
+    ensures prefix { AppendsPrefix (W.contents to.old.device) (W.contents to.new.device) (verdict_line verdict) }
+    ensures write { IsErrOf result ListError.Write ↔ (to.new.failed ≡ true) }
+    ensures memory { IsErrOf result ListError.Memory → to.new ≡ to.old }
+{
+    let line = verdict_text(alloc, verdict)?;
+    Ok(write_out(line.as_bytes(), to)?)
 }
 
 fn status_of(verdict: Verdict) -> Status

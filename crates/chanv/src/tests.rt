@@ -1,12 +1,12 @@
 use crate::command_line::{Request, read_request};
 use crate::report::{Outcome, report};
-use crate::run::{Action, RunError, Status, run};
+use crate::run::{Action, RunError, Status};
 use crate::show::{ShowError, show};
 use ccw_core::Watched;
 use chan_deck::Cause;
 use std::alloc::Global;
 use std::io;
-use std::io::{ErrorKind, Read, Write};
+use std::io::{ErrorKind, Write};
 use std::test::Fail;
 
 // Takes one byte, and then fails.
@@ -167,6 +167,7 @@ fn text_of(alloc: Global, words: &[&str]) -> Result<String, Fail> {
     match read_request(alloc, owned.as_slice()) {
         Request::Show(word) => Ok(format!(in alloc; "show {word}")?),
         Request::Run(Action::Verify) => Ok(String::from_str(alloc, "verify")?),
+        Request::Run(Action::List) => Ok(String::from_str(alloc, "list")?),
         Request::Help(text) => Ok(format!(in alloc; "help: {text}")?),
         Request::Fault(text) => Ok(format!(in alloc; "fault: {text}")?),
         Request::NoMemory => Ok(String::from_str(alloc, "no memory")?),
@@ -184,7 +185,8 @@ fn reads_command_lines(rt: HostRuntime) -> Result<(), Fail> {
         (["chanv", "show"].as_slice(), MISSING_WORD),
         (["chanv"].as_slice(), "verify"),
         (["chanv", "verify"].as_slice(), "verify"),
-        (["chanv", "list"].as_slice(), UNKNOWN_COMMAND),
+        (["chanv", "list"].as_slice(), "list"),
+        (["chanv", "print"].as_slice(), UNKNOWN_COMMAND),
         (["chanv", "--help"].as_slice(), HELP),
     ] {
         assert_eq!(rt; text_of(alloc, words)?.as_str(), text);
@@ -200,7 +202,7 @@ Usage: chanv show <CCW>
 For more information, try '--help'.
 ";
 
-const UNKNOWN_COMMAND: &str = "fault: error: unrecognized subcommand 'list'
+const UNKNOWN_COMMAND: &str = "fault: error: unrecognized subcommand 'print'
 
 Usage: chanv [COMMAND]
 
@@ -214,135 +216,9 @@ Usage: chanv [COMMAND]
 Commands:
   show    shows one channel command word
   verify  reads a deck from standard input and writes its verdict; so does chanv without words
+  list    reads a deck from standard input and lists the CCWs that a run can reach, with the verdict
   help    Print this message or the help of the given subcommand(s)
 
 Options:
   -h, --help  Print help
 ";
-
-/// The search loop: search for a record by its identifier, try the next one, read what was found.
-const SEARCH_LOOP: &str = "chanv deck 1
-device 2314
-mask 00
-start 000800
-extent 010 019
-fetch 000900 000010
-store 000A00 000100
-storage 0001000
-put 000800 3100090040000005
-put 000808 0800080000000000
-put 000810 06000A0020000050
-end
-";
-
-/// The same with a read that leaves the area lent for storing.
-const READ_NOT_LENT: &str = "chanv deck 1
-device 2314
-mask 00
-start 000800
-extent 010 019
-fetch 000900 000010
-store 000A00 000100
-storage 0001000
-put 000800 3100090040000005
-put 000808 0800080000000000
-put 000810 06000AC020000050
-end
-";
-
-fn verified(alloc: Global, text: &[u8]) -> (Result<Status, RunError>, Vec<u8>) {
-    let mut from = Watched::new(text);
-    let mut to = Watched::new(Vec::new(alloc));
-    let answer = run(alloc, Action::Verify, &mut from, &mut to);
-    (answer, to.into_inner())
-}
-
-#[test]
-fn verifies_decks(rt: HostRuntime) {
-    for (text, answer, line) in [
-        (SEARCH_LOOP, Ok(Status::Yes), "yes\n"),
-        (READ_NOT_LENT, Ok(Status::No), "no 000810 store-not-lent\n"),
-        (
-            "",
-            Err(RunError::Deck {
-                line: 1,
-                cause: Cause::Ended,
-            }),
-            "",
-        ),
-        (
-            "chanv deck 2\n",
-            Err(RunError::Deck {
-                line: 1,
-                cause: Cause::Header,
-            }),
-            "",
-        ),
-    ] {
-        let (got, written) = verified(rt.alloc(), text.as_bytes());
-        assert_eq!(rt; got, answer);
-        assert_eq!(rt; written.as_slice(), line.as_bytes());
-    }
-}
-
-// Gives line feeds without end.
-#[derive(Drop)]
-struct Endless;
-
-impl Read for Endless {
-    fn read(&mut self, buf: &mut [u8]) -> io::Result<usize> {
-        for byte in buf.iter_mut() {
-            *byte = 10;
-        }
-        Ok(buf.len())
-    }
-}
-
-#[test]
-fn an_endless_reader_is_too_long(rt: HostRuntime) {
-    let mut from = Watched::new(Endless);
-    let mut to = Watched::new(Vec::new(rt.alloc()));
-    assert_eq!(rt;
-        run(rt.alloc(), Action::Verify, &mut from, &mut to),
-        Err(RunError::TooLong)
-    );
-    assert!(rt; to.into_inner().is_empty());
-}
-
-// Gives one byte, and then fails.
-#[derive(Drop)]
-struct Broken {
-    given: bool,
-}
-
-impl Read for Broken {
-    fn read(&mut self, buf: &mut [u8]) -> io::Result<usize> {
-        match buf {
-            [first, ..] if !self.given => {
-                *first = b'c';
-                self.given = true;
-                Ok(1)
-            }
-            _ => Err(io::Error::from(ErrorKind::Other)),
-        }
-    }
-}
-
-#[test]
-fn device_faults_of_a_run(rt: HostRuntime) {
-    let alloc = rt.alloc();
-    let mut from = Watched::new(Broken { given: false });
-    let mut to = Watched::new(Vec::new(alloc));
-    assert_eq!(rt;
-        run(alloc, Action::Verify, &mut from, &mut to),
-        Err(RunError::Read)
-    );
-    assert!(rt; to.into_inner().is_empty());
-    let mut deck = Watched::new(SEARCH_LOOP.as_bytes());
-    let mut full = Watched::new(OneByte { taken: None });
-    assert_eq!(rt;
-        run(alloc, Action::Verify, &mut deck, &mut full),
-        Err(RunError::Write)
-    );
-    assert_eq!(rt; full.into_inner().taken, Some(b'y'));
-}
