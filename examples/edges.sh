@@ -1,0 +1,116 @@
+#!/usr/bin/env bash
+# Runs chanv where its input or its output is at an edge, and compares what it does with what the README says.
+#
+#     examples/edges.sh [PROGRAM]
+#
+# PROGRAM is the built chanv; without it, crates/chanv/out/chanv from the top of the repository.
+# A run passes if its exit status, its standard output and its standard error are those expected.
+# The status is 0 if all passed, 1 if one failed, 2 if there is no such program.
+set -u
+
+here=$(cd "$(dirname "${BASH_SOURCE[0]}")" && pwd)
+program=${1:-$here/../crates/chanv/out/chanv}
+if [ ! -f "$program" ] || [ ! -x "$program" ]; then
+    printf 'no program %s\n' "$program" >&2
+    exit 2
+fi
+
+work=$(mktemp -d) || exit 2
+trap 'rm -r "$work"' EXIT
+passed=0
+failed=0
+
+# expect NAME STATUS GOT: what was written is in $work/output and $work/error, what should be in $work/want
+# and $work/complaint.
+expect() {
+    if [ "$3" -eq "$2" ] && cmp -s "$work/want" "$work/output" && cmp -s "$work/complaint" "$work/error"; then
+        passed=$((passed + 1))
+    else
+        failed=$((failed + 1))
+        printf 'FAILED %s: status %s, expected %s\n' "$1" "$3" "$2"
+        head -n 3 "$work/output" "$work/error"
+    fi
+}
+
+# says OUTPUT ERROR: what the next run should write
+says() {
+    printf '%s' "$1" > "$work/want"
+    printf '%s' "$2" > "$work/complaint"
+    : > "$work/output"
+    : > "$work/error"
+}
+
+# A deck of 67,108,864 bytes, the most that a text may have: two extents, 3,355,437 areas, and one CCW.
+longest() {
+    printf 'chanv deck 1\ndevice 2314\nmask 00\nstart 000800\nextent 010 019\nextent 010 019\n'
+    yes 'fetch 000900 000010' | head -n 3355437
+    printf 'storage 0001000\nput 000800 0300000000000001\nend\n'
+}
+
+# A deck of 4,096 CCWs, whose listing is longer than what a pipe holds.
+many_places() {
+    printf 'chanv deck 1\ndevice 2314\nmask 00\nstart 000800\nextent 010 019\nstorage 0010000\n'
+    local address
+    for ((address = 0x800; address < 0x87F8; address += 8)); do
+        printf 'put %06X 0300000040000001\n' "$address"
+    done
+    printf 'put 0087F8 0300000000000001\nend\n'
+}
+
+loop=$here/search-loop.deck
+longest > "$work/longest"
+many_places > "$work/many"
+
+says $'yes\n' ''
+"$program" < "$work/longest" > "$work/output" 2> "$work/error"
+expect 'the longest deck' 0 $?
+
+printf '\n' >> "$work/longest"
+says '' $'chanv: deck too long\n'
+"$program" < "$work/longest" > "$work/output" 2> "$work/error"
+expect 'one byte more' 2 $?
+
+for action in verify list; do
+    says '' $'chanv: write failed\n'
+    "$program" $action < "$loop" > /dev/full 2> "$work/error"
+    expect "$action, a full standard output" 3 $?
+
+    says '' $'chanv: write failed\n'
+    "$program" $action < "$loop" >&- 2> "$work/error"
+    expect "$action, a closed standard output" 3 $?
+
+    says '' $'chanv: read failed\n'
+    "$program" $action <&- > "$work/output" 2> "$work/error"
+    expect "$action, a closed standard input" 3 $?
+
+    says '' $'chanv: read failed\n'
+    "$program" $action < "$work" > "$work/output" 2> "$work/error"
+    expect "$action, a folder in place of a deck" 3 $?
+
+    says '' $'chanv: deck line 1: ended\n'
+    "$program" $action < /dev/null > "$work/output" 2> "$work/error"
+    expect "$action, no input" 2 $?
+done
+
+says $'000800 fresh t . 31 000900 -C---0 00 0005 write search-id-equal\n' ''
+"$program" list < "$loop" 2> "$work/error" | head -n 1 > "$work/output"
+expect 'a reader of one row' 0 "${PIPESTATUS[0]}"
+
+says $'000800 fresh t . 03 000000 -C---0 00 0001 control no-operation\n' $'chanv: write failed\n'
+"$program" list < "$work/many" 2> "$work/error" | head -n 1 > "$work/output"
+expect 'a reader that goes away' 3 "${PIPESTATUS[0]}"
+
+says '' $'chanv: not a CCW\n'
+"$program" show 0800 > "$work/output" 2> "$work/error"
+expect 'not a CCW' 4 $?
+
+says '' $'chanv: write failed\n'
+"$program" show 06000A0020000050 > /dev/full 2> "$work/error"
+expect 'show, a full standard output' 3 $?
+
+says '' $'chanv: write failed\n'
+"$program" --help > /dev/full 2> "$work/error"
+expect 'help, a full standard output' 3 $?
+
+printf '%d passed, %d failed\n' "$passed" "$failed"
+[ "$failed" -eq 0 ]
