@@ -1,5 +1,5 @@
 -- What a writer got, part by part.
-use Rattle.std.proofs.Common.{ℕ, ◌≡◌, ◌≤◌, ◌+◌, List, ◌++◌, Option, length, take, sym, subst, arith}
+use Rattle.std.proofs.Common.{ℕ, ◌+◌, List, ◌++◌, Option, length, take, arith}
 use Rattle.std.proofs.lemmas.List.{length-append, take-append-le, take_all}
 use Rattle.std.proofs.Math.Seq.{take-append-add}
 use Rattle.std.proofs.KnownBytes.{Appends-trans}
@@ -8,20 +8,24 @@ use Rattle.ccw_core.specs.Written.{AppendsPrefix}
 
 -- all of the bytes
 pub appends_all : (a b : Option (List ℕ)) (xs : List ℕ) → Appends a b xs → AppendsPrefix a b xs
-appends_all a b xs h = record { count = length xs; within = omega arith; grown = subst (λ t. Appends a b t) (sym (take_all (length xs) xs (omega arith))) h }
+appends_all a b xs h = record {
+  count = length xs;
+  within = omega arith;
+  grown = rw (take_all (length xs) xs (omega arith)) h;
+}
 
 -- a prefix of some bytes is one of more bytes
 pub prefix_of_more : (a b : Option (List ℕ)) (xs ys : List ℕ) → AppendsPrefix a b xs → AppendsPrefix a b (xs ++ ys)
 prefix_of_more a b xs ys h = record {
-    count = h.count;
-    within = omega (arith, h.within, length-append xs ys);
-    grown = subst (λ t. Appends a b t) (sym (take-append-le h.count xs ys h.within)) h.grown;
-  }
+  count = h.count;
+  within = omega (arith, length-append xs ys, h.within);
+  grown = rw (take-append-le h.count xs ys h.within) h.grown;
+}
 
 -- all of some bytes, and then a prefix of more
 pub prefix_after : (a b c : Option (List ℕ)) (xs ys : List ℕ) → Appends a b xs → AppendsPrefix b c ys → AppendsPrefix a c (xs ++ ys)
 prefix_after a b c xs ys h k = record {
-    count = length xs + k.count;
-    within = omega (arith, k.within, length-append xs ys);
-    grown = subst (λ t. Appends a c t) (sym (take-append-add xs ys k.count)) (Appends-trans a b c xs (take k.count ys) h k.grown);
-  }
+  count = length xs + k.count;
+  within = omega (arith, length-append xs ys, k.within);
+  grown = rw (take-append-add xs ys k.count) (Appends-trans a b c xs (take k.count ys) h k.grown);
+}

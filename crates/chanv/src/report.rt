@@ -3,6 +3,7 @@
 ghost use Rattle.std.specs.Prelude.{◌≡◌, ◌↔◌, false, true, IsErr, OnOk};
 ghost use Rattle.std.specs.Io.KnownBytes.{Appends};
 ghost use Rattle.std.specs.Fmt.{decimal};
+ghost use Rattle.ccw_core.specs.Written.{AppendsPrefix};
 ghost use Rattle.chanv.specs.Report.{line_of, status_of, text_of, word_of};
 
 use crate::run::{RunError, Status};
@@ -28,12 +29,13 @@ pub enum Outcome {
     FlushFailed,
 }
 
-/// Writes the outcome's line, where it has one, and gives the exit status. It takes no memory, and
-/// a writer that fails doesn't change the status.
+/// Writes the outcome's line, where it has one, and gives the exit status. It takes no memory.
+/// A writer that fails doesn't change the status, and a prefix of the line was written.
 pub fn report<W: Write>(outcome: Outcome, to: &mut Watched<W>) -> u8
     requires { to.old.failed ≡ false }
     ensures status { result ≡ status_of outcome }
     ensures line { to.new.failed ≡ false → Appends (W.contents to.old.device) (W.contents to.new.device) (line_of outcome) }
+    ensures prefix { AppendsPrefix (W.contents to.old.device) (W.contents to.new.device) (line_of outcome) }
 {
     let _ = write_line(outcome, to);
     status(outcome)
@@ -51,9 +53,11 @@ fn status(outcome: Outcome) -> u8
     }
 }
 
+#[tactic(auto, using(ccw_core::proofs::Prefixes::prefix_after, ccw_core::proofs::Prefixes::prefix_of_more))]
 fn write_line<W: Write>(outcome: Outcome, to: &mut Watched<W>) -> Result<(), DeviceFault>
     requires { to.old.failed ≡ false }
     ensures ok { OnOk result (Appends (W.contents to.old.device) (W.contents to.new.device) (line_of outcome)) }
+    ensures prefix { AppendsPrefix (W.contents to.old.device) (W.contents to.new.device) (line_of outcome) }
     ensures fault { IsErr result ↔ (to.new.failed ≡ true) }
 {
     write_out(text(outcome).as_bytes(), to)?;
@@ -65,9 +69,11 @@ fn write_line<W: Write>(outcome: Outcome, to: &mut Watched<W>) -> Result<(), Dev
 }
 
 /// Writes a number in decimal, the first digit not zero unless it is the only one.
+#[tactic(auto, using(std::proofs::lemmas::Fmt::decimal_step, std::proofs::lemmas::Fmt::decimal_digit, ccw_core::proofs::Prefixes::prefix_after, ccw_core::proofs::Prefixes::prefix_of_more))]
 fn write_decimal<W: Write>(number: u64, to: &mut Watched<W>) -> Result<(), DeviceFault>
     requires { to.old.failed ≡ false }
     ensures ok { OnOk result (Appends (W.contents to.old.device) (W.contents to.new.device) (decimal number)) }
+    ensures prefix { AppendsPrefix (W.contents to.old.device) (W.contents to.new.device) (decimal number) }
     ensures fault { IsErr result ↔ (to.new.failed ≡ true) }
 {
     if number >= 10 {
