@@ -1,7 +1,12 @@
+//! The command line: which words ask for what.
+
 use crate::run::Action;
 use clap::error::ErrorKind;
 use clap::{Arg, Command, Error};
 use std::alloc::Global;
+
+#[cfg(test)]
+mod tests;
 
 /// What the words of the command line ask for.
 #[derive(Debug, Drop)]

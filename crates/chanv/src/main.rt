@@ -2,6 +2,8 @@
 #![tactic(auto)]
 
 mod command_line;
+#[cfg(test)]
+mod devices;
 mod input;
 mod report;
 mod run;
@@ -66,6 +68,3 @@ fn ran(rt: &HostRuntime, action: Action) -> Outcome {
     }
     Outcome::Ran(answer)
 }
-
-#[cfg(test)]
-mod tests;

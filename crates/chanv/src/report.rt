@@ -12,6 +12,9 @@ use ccw_core::{DeviceFault, Watched, write_out};
 use chan_deck::Cause;
 use std::io::Write;
 
+#[cfg(test)]
+mod tests;
+
 /// How a run of the program ended. The texts of help and of a usage fault are written before.
 #[derive(Clone, Copy, PartialEq, Eq, Debug)]
 pub enum Outcome {

@@ -12,6 +12,9 @@ use std::alloc::{AllocError, Global};
 use std::io::Write;
 use thiserror::Error;
 
+#[cfg(test)]
+mod tests;
+
 /// Why a word was not shown.
 #[derive(Clone, Copy, PartialEq, Eq, Debug, Error)]
 pub enum ShowError {

@@ -1,11 +1,11 @@
 //! Runs over decks, and over devices that fail.
 
 use super::{Action, RunError, Status, run};
+use crate::devices::{Broken, Endless, Narrow};
 use ccw_core::Watched;
 use chan_deck::Cause;
 use std::alloc::Global;
-use std::io;
-use std::io::{ErrorKind, Read, Write};
+use std::fmt::Write;
 use std::test::Fail;
 
 /// The search loop: search for a record by its identifier, try the next one, read what was found.
@@ -133,19 +133,6 @@ fn place_limit(rt: HostRuntime) -> Result<(), Fail> {
     Ok(())
 }
 
-// Gives line feeds without end.
-#[derive(Drop)]
-struct Endless;
-
-impl Read for Endless {
-    fn read(&mut self, buf: &mut [u8]) -> io::Result<usize> {
-        for byte in buf.iter_mut() {
-            *byte = b'\n';
-        }
-        Ok(buf.len())
-    }
-}
-
 #[test]
 fn an_endless_reader_is_too_long(rt: HostRuntime) {
     for action in [Action::Verify, Action::List] {
@@ -156,31 +143,6 @@ fn an_endless_reader_is_too_long(rt: HostRuntime) {
             Err(RunError::TooLong)
         );
         assert!(rt; to.into_inner().is_empty());
-    }
-}
-
-// Gives the bytes of a text one by one, and fails in the place of the read of this number, counted from 0.
-#[derive(Drop)]
-struct Broken<'a> {
-    rest: &'a [u8],
-    reads: usize,
-    failing: usize,
-}
-
-impl<'a> Read for Broken<'a> {
-    fn read(&mut self, buf: &mut [u8]) -> io::Result<usize> {
-        if self.reads == self.failing {
-            return Err(io::Error::from(ErrorKind::Other));
-        }
-        self.reads = self.reads.saturating_add(1);
-        match (self.rest, buf) {
-            ([byte, rest @ ..], [first, ..]) => {
-                *first = *byte;
-                self.rest = rest;
-                Ok(1)
-            }
-            _ => Ok(0),
-        }
     }
 }
 
@@ -204,29 +166,6 @@ fn each_read_failing_in_turn(rt: HostRuntime) {
         };
         assert_eq!(rt; answer, expected);
         assert_eq!(rt; to.into_inner().as_slice(), written);
-    }
-}
-
-// Takes so many bytes, one in each call, and then fails.
-#[derive(Drop)]
-struct Narrow {
-    room: usize,
-    taken: Vec<u8>,
-}
-
-impl Write for Narrow {
-    fn write(&mut self, buf: &[u8]) -> io::Result<usize> {
-        match buf {
-            [first, ..] if self.taken.len() < self.room => {
-                self.taken.push(*first)?;
-                Ok(1)
-            }
-            _ => Err(io::Error::from(ErrorKind::Other)),
-        }
-    }
-
-    fn flush(&mut self) -> io::Result<()> {
-        Ok(())
     }
 }
 
