@@ -238,3 +238,12 @@ fn a_writer_in_memory(rt: HostRuntime) {
     assert_eq!(rt; to.write(b""), Ok(0));
     assert_eq!(rt; to.into_inner().as_slice(), b"whole".as_slice());
 }
+
+#[test]
+fn texts_of_errors(rt: HostRuntime) -> Result<(), Fail> {
+    let large = format!(in rt.alloc(); "{TooLarge}")?;
+    assert_eq!(rt; large.as_str(), "storage is larger than 16,777,216 bytes");
+    let fault = format!(in rt.alloc(); "{DeviceFault}")?;
+    assert_eq!(rt; fault.as_str(), "the device failed");
+    Ok(())
+}

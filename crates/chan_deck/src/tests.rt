@@ -1,6 +1,6 @@
 //! Worked decks, and each cause for which a deck is refused.
 
-use crate::{Cause, DeckError, read_deck, verdict_text, write_deck};
+use crate::{Cause, DeckError, ListError, read_deck, verdict_text, write_deck};
 use ccw_core::Area;
 use chan_walk::{Reason, Verdict};
 use ckd_core::Device;
@@ -311,6 +311,25 @@ fn verdict_lines(rt: HostRuntime) -> Result<(), Fail> {
     ] {
         let text = verdict_text(alloc, Verdict::No { address, reason })?;
         assert_eq!(rt; text.as_str(), line);
+    }
+    Ok(())
+}
+
+#[test]
+fn texts_of_errors(rt: HostRuntime) -> Result<(), Fail> {
+    let refused = DeckError::At {
+        line: 9,
+        cause: Cause::PutAddress,
+    };
+    assert_eq!(rt;
+        format!(in rt.alloc(); "{refused}")?.as_str(),
+        "line 9 is refused: PutAddress"
+    );
+    for (error, text) in [
+        (ListError::Write, "write failed"),
+        (ListError::Memory, "out of memory"),
+    ] {
+        assert_eq!(rt; format!(in rt.alloc(); "{error}")?.as_str(), text);
     }
     Ok(())
 }

@@ -304,3 +304,22 @@ fn commands_compare(rt: HostRuntime) {
     assert_eq!(rt; lookup(0x07) == lookup(0x07), true);
     assert_eq!(rt; lookup(0x07) == lookup(0x0B), false);
 }
+
+#[test]
+fn texts_of_errors(rt: HostRuntime) -> Result<(), Fail> {
+    for (error, text) in [
+        (ExtentError::Empty, "no extent"),
+        (
+            ExtentError::Backwards(1),
+            "extent 1: first cylinder above last",
+        ),
+        (
+            ExtentError::PastDevice(12),
+            "extent 12: past the last cylinder of the device",
+        ),
+        (ExtentError::Memory, "out of memory"),
+    ] {
+        assert_eq!(rt; format!(in rt.alloc(); "{error}")?.as_str(), text);
+    }
+    Ok(())
+}

@@ -190,3 +190,22 @@ fn each_write_failing_in_turn(rt: HostRuntime) {
         }
     }
 }
+
+#[test]
+fn texts_of_errors(rt: HostRuntime) -> Result<(), Fail> {
+    let refused = RunError::Deck {
+        line: 9,
+        cause: Cause::PutAddress,
+    };
+    for (error, text) in [
+        (RunError::Read, "read failed"),
+        (RunError::TooLong, "deck too long"),
+        (refused, "deck line 9"),
+        (RunError::TooManyPlaces, "too many places"),
+        (RunError::Write, "write failed"),
+        (RunError::Memory, "out of memory"),
+    ] {
+        assert_eq!(rt; format!(in rt.alloc(); "{error}")?.as_str(), text);
+    }
+    Ok(())
+}

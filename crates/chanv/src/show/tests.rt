@@ -50,3 +50,15 @@ fn show_write_fault(rt: HostRuntime) {
     );
     assert_eq!(rt; to.into_inner().taken.as_slice(), b"0".as_slice());
 }
+
+#[test]
+fn texts_of_errors(rt: HostRuntime) -> Result<(), Fail> {
+    for (error, text) in [
+        (ShowError::NotCcw, "not a CCW"),
+        (ShowError::Memory, "out of memory"),
+        (ShowError::Write, "write failed"),
+    ] {
+        assert_eq!(rt; format!(in rt.alloc(); "{error}")?.as_str(), text);
+    }
+    Ok(())
+}
