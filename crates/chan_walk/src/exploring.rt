@@ -285,8 +285,8 @@ impl Walk {
 /// Each place is looked at once. With n places and a lent areas, the cost is (n + a) log (n + a).
 pub fn explore(alloc: Global, job: &Job) -> Result<Explored, WalkError>
     ensures ok { IfOk result (AreReachable job.now) }
-    ensures few { IfOk result (λ places. length places ≤ PLACE_LIMIT) }
-    ensures many { result ≡ Err WalkError.TooManyPlaces → HasMoreThan job.now PLACE_LIMIT }
+    ensures few { IfOk result (λ places. length places ≤ 4096) }
+    ensures many { result ≡ Err WalkError.TooManyPlaces → HasMoreThan job.now 4096 }
 {
     let lent = match Lent::new(alloc, job) {
         Ok(lent) => lent,
@@ -299,8 +299,8 @@ pub fn explore(alloc: Global, job: &Job) -> Result<Explored, WalkError>
 pub(crate) fn explore_within(alloc: Global, job: &Job, lent: &Lent) -> Result<Explored, WalkError>
     requires { AreLent job.now lent.now }
     ensures ok { IfOk result (AreReachable job.now) }
-    ensures few { IfOk result (λ places. length places ≤ PLACE_LIMIT) }
-    ensures many { result ≡ Err WalkError.TooManyPlaces → HasMoreThan job.now PLACE_LIMIT }
+    ensures few { IfOk result (λ places. length places ≤ 4096) }
+    ensures many { result ≡ Err WalkError.TooManyPlaces → HasMoreThan job.now 4096 }
 {
     let mut walk = Walk {
         found: Vec::new(alloc),

@@ -10,7 +10,7 @@ ghost use Rattle.chan_walk.specs.Lent.{AreLent};
 ghost use Rattle.chan_walk.specs.Reachable.{IsReachable};
 ghost use Rattle.chan_walk.specs.Verdict.{AreClear, ComesFirst, IsVerdict};
 
-use crate::exploring::{PLACE_LIMIT, WalkError, explore_within};
+use crate::exploring::{WalkError, explore_within};
 use crate::fault::fault_within;
 use crate::guard::Guard;
 use crate::job::Job;
@@ -26,7 +26,7 @@ use std::alloc::Global;
 mod tests;
 
 /// An offending CCW, and why it offends.
-#[derive(Clone, Copy, PartialEq, Eq, Debug)]
+#[derive(Clone, Copy)]
 pub(crate) struct Finding {
     pub(crate) address: u32,
     pub(crate) reason: Reason,
@@ -121,8 +121,8 @@ fn least_change(job: &Job, guard: &Guard, places: &[Place]) -> Option<Finding>
 /// The verdict, by its definition alone.
 fn judge(alloc: Global, job: &Job) -> Result<Verdict, WalkError>
     ensures verdict { IfOk result (IsVerdict job.now) }
-    ensures few { OnOk result (HasAtMost job.now PLACE_LIMIT) }
-    ensures many { result ≡ Err WalkError.TooManyPlaces → HasMoreThan job.now PLACE_LIMIT }
+    ensures few { OnOk result (HasAtMost job.now 4096) }
+    ensures many { result ≡ Err WalkError.TooManyPlaces → HasMoreThan job.now 4096 }
 {
     let lent = match Lent::new(alloc, job) {
         Ok(lent) => lent,
@@ -164,8 +164,8 @@ pub fn verify(alloc: Global, job: &Job) -> Result<Verdict, WalkError>
     ensures exact { IfOk result (MissesNoYes job.now) }
 
     // There is an answer only up to the limit, and too many places only above it.
-    ensures few { OnOk result (HasAtMost job.now PLACE_LIMIT) }
-    ensures many { result ≡ Err WalkError.TooManyPlaces → HasMoreThan job.now PLACE_LIMIT }
+    ensures few { OnOk result (HasAtMost job.now 4096) }
+    ensures many { result ≡ Err WalkError.TooManyPlaces → HasMoreThan job.now 4096 }
 {
     yes_is_safe();
     no_false_alarm();

@@ -14,7 +14,7 @@ use std::marker::Model;
 
 /// The parts of the areas lent that lie in storage, merged. Bytes past storage never matter, since
 /// no data range that passes the channel's checks has any.
-#[derive(Debug, Drop)]
+#[derive(Drop)]
 pub(crate) struct Lent {
     fetch: Vec<Area>,
     store: Vec<Area>,

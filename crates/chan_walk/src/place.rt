@@ -1,6 +1,8 @@
 //! Places: a CCW together with the way in which it is entered.
 
 ghost use Rattle.std.specs.Prelude.{◌≡◌};
+ghost use Rattle.std.specs.Ordering.{nat_cmp};
+ghost use Rattle.chan_walk.specs.Explored.{place_number};
 ghost use Rattle.chan_walk.specs.Place as place;
 
 use crate::job::Job;
@@ -72,3 +74,9 @@ pub fn first_place(job: &Job) -> Place
 {
     Place::transferred_to(job.start, Entry::Fresh)
 }
+
+/// The derived order of places is that of their numbers: by address, then by entry, then by whether
+/// they were reached by a transfer in channel.
+fn order_is_by_number()
+    ensures { (p q : Place) → ⟦<Place as Ord>⟧.cmp p q ≡ nat_cmp (place_number p) (place_number q) }
+{}

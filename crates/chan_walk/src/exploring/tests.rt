@@ -130,3 +130,12 @@ fn place_limit(rt: HostRuntime) -> Result<(), Fail> {
     );
     Ok(())
 }
+
+#[test]
+fn texts_of_errors(rt: HostRuntime) -> Result<(), Fail> {
+    let many = format!(in rt.alloc(); "{}", WalkError::TooManyPlaces)?;
+    assert_eq!(rt; many.as_str(), "too many places");
+    let memory = format!(in rt.alloc(); "{}", WalkError::Memory)?;
+    assert_eq!(rt; memory.as_str(), "out of memory");
+    Ok(())
+}
