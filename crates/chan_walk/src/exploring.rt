@@ -3,7 +3,7 @@
 ghost use Rattle.std.specs.Prelude.{◌≡◌, ℕ, ◌<◌, ◌≤◌, ◌+◌, ◌++◌, ◌∷◌, ◌↔◌, [], length, slice_get, IsTrue, IfOk, OnOk, OnErr};
 ghost use Rattle.std.specs.Int.{bit_at};
 ghost use Rattle.std.specs.Iterator.{YieldsFirst, item_count};
-ghost use Rattle.chan_walk.specs.Explored.{AreReachable, HasMoreThan, way_of as way};
+ghost use Rattle.chan_walk.specs.Explored.{AreReachable, HasMoreThan, place_limit, way_of as way};
 ghost use Rattle.chan_walk.specs.Lent.{AreLent};
 ghost use Rattle.chan_walk.specs.Marks as marked;
 ghost use Rattle.chan_walk.specs.Marks.{HasMark, HasWay, ListsMarks, ways};
@@ -285,8 +285,8 @@ impl Walk {
 /// Each place is looked at once. With n places and a lent areas, the cost is (n + a) log (n + a).
 pub fn explore(alloc: Global, job: &Job) -> Result<Explored, WalkError>
     ensures ok { IfOk result (AreReachable job.now) }
-    ensures few { IfOk result (λ places. length places ≤ 4096) }
-    ensures many { result ≡ Err WalkError.TooManyPlaces → HasMoreThan job.now 4096 }
+    ensures few { IfOk result (λ places. length places ≤ place_limit) }
+    ensures many { result ≡ Err WalkError.TooManyPlaces → HasMoreThan job.now place_limit }
 {
     let lent = match Lent::new(alloc, job) {
         Ok(lent) => lent,
@@ -299,8 +299,8 @@ pub fn explore(alloc: Global, job: &Job) -> Result<Explored, WalkError>
 pub(crate) fn explore_within(alloc: Global, job: &Job, lent: &Lent) -> Result<Explored, WalkError>
     requires { AreLent job.now lent.now }
     ensures ok { IfOk result (AreReachable job.now) }
-    ensures few { IfOk result (λ places. length places ≤ 4096) }
-    ensures many { result ≡ Err WalkError.TooManyPlaces → HasMoreThan job.now 4096 }
+    ensures few { IfOk result (λ places. length places ≤ place_limit) }
+    ensures many { result ≡ Err WalkError.TooManyPlaces → HasMoreThan job.now place_limit }
 {
     let mut walk = Walk {
         found: Vec::new(alloc),

@@ -2,7 +2,7 @@
 
 ghost use Rattle.std.specs.Prelude.{◌≡◌, false, true, IfOk, OnOk};
 ghost use Rattle.chan_walk.specs.Answers.{CoversEveryRun, HasAtMost, IsShown, MissesNoYes};
-ghost use Rattle.chan_walk.specs.Explored.{HasMoreThan};
+ghost use Rattle.chan_walk.specs.Explored.{HasMoreThan, place_limit};
 ghost use Rattle.chan_walk.specs.Fault.{IsClear};
 ghost use Rattle.chan_walk.specs.Guard.{Guards};
 ghost use Rattle.chan_walk.specs.Least.{AreReached, Changes, IsFirst, IsLeast, IsLesser, IsOwn};
@@ -121,8 +121,8 @@ fn least_change(job: &Job, guard: &Guard, places: &[Place]) -> Option<Finding>
 /// The verdict, by its definition alone.
 fn judge(alloc: Global, job: &Job) -> Result<Verdict, WalkError>
     ensures verdict { IfOk result (IsVerdict job.now) }
-    ensures few { OnOk result (HasAtMost job.now 4096) }
-    ensures many { result ≡ Err WalkError.TooManyPlaces → HasMoreThan job.now 4096 }
+    ensures few { OnOk result (HasAtMost job.now place_limit) }
+    ensures many { result ≡ Err WalkError.TooManyPlaces → HasMoreThan job.now place_limit }
 {
     let lent = match Lent::new(alloc, job) {
         Ok(lent) => lent,
@@ -164,8 +164,8 @@ pub fn verify(alloc: Global, job: &Job) -> Result<Verdict, WalkError>
     ensures exact { IfOk result (MissesNoYes job.now) }
 
     // There is an answer only up to the limit, and too many places only above it.
-    ensures few { OnOk result (HasAtMost job.now 4096) }
-    ensures many { result ≡ Err WalkError.TooManyPlaces → HasMoreThan job.now 4096 }
+    ensures few { OnOk result (HasAtMost job.now place_limit) }
+    ensures many { result ≡ Err WalkError.TooManyPlaces → HasMoreThan job.now place_limit }
 {
     yes_is_safe();
     no_false_alarm();

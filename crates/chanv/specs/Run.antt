@@ -11,7 +11,7 @@ use Rattle.chan_walk.specs.declared.place.Place.{Place}
 use Rattle.chan_walk.specs.declared.verdict.Verdict.{Verdict}
 use Rattle.chan_walk.specs.declared.verdict.Verdict.TheVariants.{Yes, No}
 use Rattle.chan_walk.specs.Answers.{CoversEveryRun, HasAtMost, IsShown}
-use Rattle.chan_walk.specs.Explored.{AreReachable, HasMoreThan}
+use Rattle.chan_walk.specs.Explored.{AreReachable, HasMoreThan, place_limit}
 use Rattle.chan_walk.specs.Job.{extents_of, fetch_of, storage_of, store_of}
 use Rattle.chan_walk.specs.Verdict.{IsVerdict}
 use Rattle.chanv.specs.declared.run.Action.{Action}
@@ -39,7 +39,7 @@ pub record IsJudged (t : List ℕ) (v : Verdict) : Type 0 where
   pub spelled : Spells t deck
   pub job : Job
   pub of_deck : IsJobOf deck job
-  pub few : HasAtMost job 4096
+  pub few : HasAtMost job place_limit
   pub verdict : IsVerdict job v
   pub covers : CoversEveryRun job v
   pub shown : IsShown job v
@@ -50,7 +50,7 @@ pub record HasTooMany (t : List ℕ) : Type 0 where
   pub spelled : Spells t deck
   pub job : Job
   pub of_deck : IsJobOf deck job
-  pub many : HasMoreThan job 4096
+  pub many : HasMoreThan job place_limit
 
 -- what an action asks to write of a job and its verdict: the verdict's line, or the listing of the reachable places
 abbrev pub IsOutput : Action → Job → Verdict → List ℕ → Type 0

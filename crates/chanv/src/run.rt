@@ -5,6 +5,7 @@ ghost use Rattle.std.specs.Io.KnownBytes.{Appends};
 ghost use Rattle.ccw_core.specs.Written.{AppendsPrefix};
 ghost use Rattle.chan_deck.specs.Texts.{verdict_line};
 ghost use Rattle.chan_walk.specs.Answers.{HasAtMost};
+ghost use Rattle.chan_walk.specs.Explored.{place_limit};
 ghost use Rattle.chanv.specs.Run.{BeginsToWrite, IsEarly, IsRunAnswer, IsTextAnswer, IsUnwritten, Writes, status_of_verdict};
 ghost use Rattle.chanv.specs.declared.run.Action.TheVariants as actions;
 
@@ -129,7 +130,7 @@ fn write_output<W: Write>(
     to: &mut Watched<W>,
 ) -> Result<(), ListError>
     requires writer { to.old.failed ≡ false }
-    requires few { HasAtMost job.now 4096 }
+    requires few { HasAtMost job.now place_limit }
     ensures ok { OnOk result (Writes action job.now verdict (W.contents to.old.device) (W.contents to.new.device)) }
     ensures write { IsErrOf result ListError.Write ↔ (to.new.failed ≡ true) }
     ensures cut_off { IsErrOf result ListError.Write → BeginsToWrite action job.now verdict (W.contents to.old.device) (W.contents to.new.device) }
