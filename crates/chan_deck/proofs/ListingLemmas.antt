@@ -2,7 +2,6 @@
 use Rattle.std.proofs.Common.{◌≡◌, ◌∷◌, [], ◌++◌, ◌∙◌, ap, sym, subst, List, ℕ, Option, append_assoc, append-nil}
 use Rattle.std.proofs.lemmas.Grind.{flat_map-append}
 use Rattle.std.specs.Io.KnownBytes.{Appends}
-use Rattle.std.proofs.KnownBytes.{Appends-trans}
 use Rattle.ccw_core.specs.Written.{AppendsPrefix}
 use Rattle.ccw_core.proofs.Prefixes.{appends_all, prefix_of_more, prefix_after}
 use Rattle.chan_walk.specs.declared.place.Place.{Place}
