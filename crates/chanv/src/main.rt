@@ -1,4 +1,9 @@
 //! Verifies channel programs of System/360 for count-key-data disks.
+//!
+//! ```text
+//! $ chanv verify < examples/changes-itself.deck
+//! no 000810 changes-ccw
+//! ```
 #![tactic(auto)]
 
 mod command_line;
