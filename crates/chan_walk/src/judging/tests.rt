@@ -350,6 +350,11 @@ fn split_argument(rt: HostRuntime) -> Result<(), Fail> {
         ..USUAL
     };
     assert_eq!(rt; answer(rt.alloc(), case)?, Ok(Verdict::Yes), "beside_it");
+    Ok(())
+}
+
+#[test]
+fn gap_in_an_argument(rt: HostRuntime) -> Result<(), Fail> {
     let case = Case {
         store: &[Area {
             start: 0x902,
@@ -711,6 +716,11 @@ fn seek_verdicts(rt: HostRuntime) -> Result<(), Fail> {
         Ok(no(0x800, Reason::SeekOutside)),
         "bin"
     );
+    Ok(())
+}
+
+#[test]
+fn seek_of_five_bytes(rt: HostRuntime) -> Result<(), Fail> {
     let case = Case {
         puts: &[
             (0x800, 0x0700_0900_0000_0005),
@@ -723,6 +733,11 @@ fn seek_verdicts(rt: HostRuntime) -> Result<(), Fail> {
         Ok(no(0x800, Reason::ShortSeek)),
         "five_bytes"
     );
+    Ok(())
+}
+
+#[test]
+fn recalibrate(rt: HostRuntime) -> Result<(), Fail> {
     let case = Case {
         puts: &[(0x800, 0x1300_0000_0000_0001)],
         ..USUAL
