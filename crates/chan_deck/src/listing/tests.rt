@@ -1,7 +1,9 @@
 //! Listings, byte for byte.
 
+ghost use Rattle.std.specs.Prelude.{◌≡◌, false};
+
 use crate::{Deck, ListError, read_deck, row_text, write_listing};
-use ccw_core::Watched;
+use ccw_core::{Storage, Watched};
 use chan_walk::{Entry, Explored, Place, Reason, Verdict, explore, verify};
 use std::alloc::Global;
 use std::io;
@@ -68,11 +70,43 @@ fn deck(alloc: Global, start: &str, puts: &str) -> Result<Deck, Fail> {
     Ok(read_deck(alloc, text.as_bytes())?)
 }
 
+fn places_of(alloc: Global, deck: &Deck) -> Result<Explored, Fail> {
+    let job = deck.job();
+    let _storage: Storage<'_> = job.storage;
+    Ok(explore(alloc, &job)?)
+}
+
+fn verdict_of(alloc: Global, deck: &Deck) -> Result<Verdict, Fail> {
+    let job = deck.job();
+    let _storage: Storage<'_> = job.storage;
+    Ok(verify(alloc, &job)?)
+}
+
+/// Writes a listing of these places in a deck's storage.
+fn write_of<W: Write>(
+    alloc: Global,
+    deck: &Deck,
+    places: &Explored,
+    verdict: Verdict,
+    to: &mut Watched<W>,
+) -> Result<(), ListError>
+    requires { to.old.failed ≡ false }
+{
+    let job = deck.job();
+    let _storage: Storage<'_> = job.storage;
+    write_listing(alloc, &job, places, verdict, to)
+}
+
+fn row_of(alloc: Global, deck: &Deck, place: Place, marked: bool) -> Result<String, Fail> {
+    let job = deck.job();
+    let _storage: Storage<'_> = job.storage;
+    Ok(row_text(alloc, &job, place, marked)?)
+}
+
 fn listing_of(alloc: Global, deck: &Deck) -> Result<Vec<u8>, Fail> {
     let mut to = Watched::new(Vec::new(alloc));
-    let places = explore(alloc, &deck.job())?;
-    let verdict = verify(alloc, &deck.job())?;
-    write_listing(alloc, &deck.job(), &places, verdict, &mut to)?;
+    let places = places_of(alloc, deck)?;
+    write_of(alloc, deck, &places, verdict_of(alloc, deck)?, &mut to)?;
     Ok(to.into_inner())
 }
 
@@ -148,7 +182,7 @@ fn rows_of_places_that_no_run_reaches(rt: HostRuntime) -> Result<(), Fail> {
             entered,
             after_transfer,
         };
-        let text = row_text(alloc, &deck.job(), place, marked)?;
+        let text = row_of(alloc, &deck, place, marked)?;
         assert_eq!(rt; text.as_str(), row);
     }
     Ok(())
@@ -160,13 +194,13 @@ fn listing_of_another_program(rt: HostRuntime) -> Result<(), Fail> {
     let alloc = rt.alloc();
     let program = deck(alloc, "000800", SEARCH_LOOP)?;
     let other = deck(alloc, "000FF8", END_OF_STORAGE)?;
-    let places = explore(alloc, &program.job())?;
+    let places = places_of(alloc, &program)?;
     let verdict = Verdict::No {
         address: 0x808,
         reason: Reason::BadFormat,
     };
     let mut to = Watched::new(Vec::new(alloc));
-    write_listing(alloc, &other.job(), &places, verdict, &mut to)?;
+    write_of(alloc, &other, &places, verdict, &mut to)?;
     let listing = "000800 fresh t . 00 000000 -----0 00 0000 invalid unknown
 000808 fresh - * 00 000000 -----0 00 0000 invalid unknown
 000810 fresh - . 00 000000 -----0 00 0000 invalid unknown
@@ -209,7 +243,7 @@ fn cut_off(
         room,
         taken: Vec::new(alloc),
     });
-    let answer = write_listing(alloc, &deck.job(), places, Verdict::Yes, &mut to);
+    let answer = write_of(alloc, deck, places, Verdict::Yes, &mut to);
     (answer, to.into_inner().taken)
 }
 
@@ -217,7 +251,7 @@ fn cut_off(
 fn listing_cut_off_at_each_byte(rt: HostRuntime) -> Result<(), Fail> {
     let alloc = rt.alloc();
     let deck = deck(alloc, "000800", SEARCH_LOOP)?;
-    let places = explore(alloc, &deck.job())?;
+    let places = places_of(alloc, &deck)?;
     let whole = SEARCH_LOOP_LISTING.as_bytes();
     for room in 0..whole.len() {
         let (answer, taken) = cut_off(alloc, &deck, &places, room);
