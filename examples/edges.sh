@@ -8,17 +8,7 @@
 # The status is 0 if all passed, 1 if one failed, 2 if there is no such program.
 set -u
 
-here=$(cd "$(dirname "${BASH_SOURCE[0]}")" && pwd)
-program=${1:-$here/../crates/chanv/out/chanv}
-if [ ! -f "$program" ] || [ ! -x "$program" ]; then
-    printf 'no program %s\n' "$program" >&2
-    exit 2
-fi
-
-work=$(mktemp -d) || exit 2
-trap 'rm -r "$work"' EXIT
-passed=0
-failed=0
+source "$(dirname "${BASH_SOURCE[0]}")/common.sh"
 
 # expect NAME STATUS GOT: what was written is in $work/output and $work/error, what should be in $work/want
 # and $work/complaint.
@@ -112,5 +102,4 @@ says '' $'chanv: write failed\n'
 "$program" --help > /dev/full 2> "$work/error"
 expect 'help, a full standard output' 3 $?
 
-printf '%d passed, %d failed\n' "$passed" "$failed"
-[ "$failed" -eq 0 ]
+finish
