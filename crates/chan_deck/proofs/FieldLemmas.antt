@@ -1,10 +1,10 @@
 -- The parts of a line: what follows a word, and two fields with a space between them.
-use Rattle.std.proofs.Common.{◌≡◌, ℕ, List, [], ◌∷◌, ◌++◌, length, Option, Some, None, MatchOption, refl, sym, ap, ◌∙◌, arith}
+use Rattle.std.proofs.Common.{◌≡◌, ℕ, List, [], ◌∷◌, ◌++◌, length, length-append, Option, Some, None, MatchOption, refl, sym, ap, ◌∙◌, arith}
 use Rattle.std.specs.Prelude.{codes}
 use Rattle.std.specs.Int.{bytes_high_first}
 use Rattle.hex.specs.Hex.{encode_upper}
 use Rattle.ccw_core.specs.declared.areas.Area.{Area}
-use Rattle.chan_deck.specs.Item.{Says, extent, put, address_digits, area_digits, cylinder_digits}
+use Rattle.chan_deck.specs.Item.{IsWord, Says, extent, line, put, address_digits, area_digits, cylinder_digits}
 use Rattle.chan_deck.proofs.UpperDigits.{length-encode_upper}
 
 pub on_none : {A : Type 0} (r : Option A) (P : Type 0) (Q : A → Type 0) → r ≡ None → P → MatchOption r P Q
@@ -37,3 +37,7 @@ put_fields l fields a word e says = cancel (codes "put ") fields _ (sym e ∙ sa
 
 pub area_fields : (w l fields : List ℕ) (a : Area) → l ≡ w ++ fields → l ≡ w ++ area_digits a → fields ≡ address_digits a.start ++ 32 ∷ address_digits a.len
 area_fields w l fields a e says = cancel w fields _ (sym e ∙ says)
+
+-- each line of a put has the same length
+pub put_length : (a : ℕ) (word : List ℕ) → IsWord word → length (line (put a word)) ≡ 27
+put_length a word is = omega (arith, length-append (address_digits a) (32 ∷ encode_upper word), length-address_digits a, length-encode_upper word, is.0)

@@ -3,6 +3,7 @@ pub mod PutLemmas
 pub mod StepLemmas
 pub mod DeckRuns
 pub mod UpperDigits
+pub mod DigitValues
 pub mod ByteNumbers
 pub mod FieldLemmas
 pub mod ItemLemmas

@@ -1,7 +1,7 @@
 -- The first line feed of a text ends its first line.
-use Rattle.std.proofs.Common.{◌≡◌, ℕ, suc, ◌+◌, Bool, true, false, cond, List, [], ◌∷◌, take, drop, Option, Some, None, refl, sym, ap, subst, ◌∙◌, arith, add-zero}
-use Rattle.std.specs.Prelude.{◌==◌, position}
-use Rattle.std.specs.List.{position_from}
+use Rattle.std.proofs.Common.{◌≡◌, ℕ, suc, ◌+◌, Bool, true, false, cond, List, [], ◌∷◌, ◌++◌, length, take, drop, slice_index, Option, Some, None, refl, sym, ap, subst, ◌∙◌, arith, add-zero}
+use Rattle.std.specs.Prelude.{◌==◌, ◌||◌, position}
+use Rattle.std.specs.List.{list_any, position_from}
 use Rattle.std.proofs.lemmas.Iterator.Adapters.{position_from-zero}
 use Rattle.chan_deck.specs.Refused.{split, onto_first}
 
@@ -45,3 +45,17 @@ some_line t i e =
 
 pub no_line : (t : List ℕ) → position (λ b. b == 10) t ≡ None → split t ≡ ([], t)
 no_line t e = subst (λ o. Splits 0 t o) e (split_at t)
+
+after : (q : Bool) (k : ℕ) (front rest : List ℕ) → (q || list_any feed front) ≡ false → (list_any feed front ≡ false → position_from feed (k + 1) (front ++ rest) ≡ Some (k + 1 + length front))
+    → cond q (just k) (position_from feed (k + 1) (front ++ rest)) ≡ Some (k + suc (length front))
+after true k front rest none e = absurd cc
+after false k front rest none e = e none ∙ ap just (omega arith)
+
+behind : (k : ℕ) (front rest : List ℕ) → list_any feed front ≡ false → slice_index rest 0 ≡ 10 → position_from feed k (front ++ rest) ≡ Some (k + length front)
+behind k [] [] none e = absurd (omega (arith, e))
+behind k [] (b ∷ rest) none e = ap (λ c. cond (c == 10) (just k) (position_from feed (k + 1) rest)) e ∙ ap just (sym (add-zero k))
+behind k (b ∷ front) rest none e = after (b == 10) k front rest none (λ n. behind (k + 1) front rest n e)
+
+-- a line feed behind bytes without one is the first
+pub first_feed : (front rest : List ℕ) (n : ℕ) → length front ≡ n → list_any feed front ≡ false → slice_index rest 0 ≡ 10 → position feed (front ++ rest) ≡ Some n
+first_feed front rest n len none e = position_from-zero feed (front ++ rest) ∙ behind 0 front rest none e ∙ ap just (omega (arith, len))

@@ -125,7 +125,8 @@ decoded_upper s bytes n none e =
 
 -- ---- encoding
 
-bytes_at : (bytes : List ℕ) → AllByRecursion IsByte bytes → IsBytes bytes
+-- a list of bytes has a byte at each place
+pub bytes_at : (bytes : List ℕ) → AllByRecursion IsByte bytes → IsBytes bytes
 bytes_at [] h i = omega arith
 bytes_at (b ∷ bytes) h zero = h.0
 bytes_at (b ∷ bytes) h (suc i) = bytes_at bytes h.1 i

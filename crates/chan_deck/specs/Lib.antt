@@ -1,3 +1,4 @@
+pub mod Digits
 pub mod Item
 pub mod Image
 pub mod Refused

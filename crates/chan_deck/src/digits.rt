@@ -4,14 +4,19 @@ ghost use Rattle.std.specs.Prelude.{◌≡◌, ◌<◌, ◌^◌, ℕ, List, leng
 ghost use Rattle.std.specs.Bool.{OnTrue, OnFalse};
 ghost use Rattle.std.specs.Int.{w64, to_be_bytes};
 ghost use Rattle.std.specs.List.{AllByRecursion, list_any};
+ghost use Rattle.chan_deck.specs.Digits.{AreValues, IsValue};
 ghost use Rattle.hex.specs.Hex.{IsBytes, encode_upper};
 ghost use Rattle.chan_deck.specs.Item.{IsAddress, IsByte, IsWord, address_digits, byte_digits, cylinder_digits, size_digits};
 
-/// Whether there is a letter that is no capital.
+/// Whether there is a letter that is no capital. It doesn't stop at the first, so that the few digits are compared at once.
 fn has_small_letter(digits: &[u8]) -> bool
     ensures { result ≡ list_any (λ digit. nat_le 97 digit) digits.now }
 {
-    digits.iter().any(|digit| *digit >= b'a')
+    let mut found = false;
+    for digit in digits {
+        found |= *digit >= b'a';
+    }
+    found
 }
 
 /// Whether these are the upper-case digits of so many bytes, which are then written.
@@ -31,7 +36,7 @@ fn decode_upper(digits: &[u8], bytes: &mut [u8]) -> bool
 pub(crate) fn byte_of(digits: &[u8]) -> Option<u8>
     ensures { MatchOption result
         ((n : ℕ) → IsByte n → digits.now ≡ byte_digits n → ⊥)
-        (λ n. digits.now ≡ byte_digits n) }
+        (λ n. IsByte n × (digits.now ≡ byte_digits n)) }
 {
     let mut bytes = [0u8; 1];
     if decode_upper(digits, &mut bytes) {
@@ -75,18 +80,43 @@ pub(crate) fn size_of(digits: &[u8]) -> Option<u32>
     }
 }
 
+/// The value of a digit, as `hex` decodes it behind a zero.
+fn value_of(digit: u8) -> Option<u8>
+    ensures { IsValue digit result }
+{
+    byte_of(&[b'0', digit])
+}
+
+/// The value of each character that is a digit.
+///
+/// `hex` finds out by comparing, which takes longest where digits and letters come at random, as in the words of storage. They are looked up here.
+pub(crate) fn digit_values() -> [Option<u8>; 256]
+    ensures { AreValues result }
+{
+    let mut values = [None; 256];
+    for digit in 0..=u8::MAX {
+        values[usize::from(digit)] = value_of(digit);
+    }
+    values
+}
+
 /// Eight bytes of sixteen digits, as the number that has them.
-pub(crate) fn word_of(digits: &[u8]) -> Option<u64>
+pub(crate) fn word_of(digits: &[u8], values: &[Option<u8>; 256]) -> Option<u64>
+    requires { AreValues values.now }
     ensures { MatchOption result
         ((word : List ℕ) → IsWord word → digits.now ≡ encode_upper word → ⊥)
         (λ n. digits.now ≡ encode_upper (to_be_bytes w64 n)) }
 {
-    let mut bytes = [0u8; 8];
-    if decode_upper(digits, &mut bytes) {
-        Some(u64::from_be_bytes(bytes))
-    } else {
-        None
+    if digits.len() != 16 {
+        return None;
     }
+    let mut bytes = [0u8; 8];
+    for i in 0..8 {
+        let high = values[usize::from(digits[2 * i])]?;
+        let low = values[usize::from(digits[2 * i + 1])]?;
+        bytes[i] = high * 16 + low;
+    }
+    Some(u64::from_be_bytes(bytes))
 }
 
 /// A cylinder of three decimal digits.

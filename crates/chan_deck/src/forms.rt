@@ -4,8 +4,10 @@ ghost use Rattle.std.specs.Prelude.{◌≡◌, ◌<◌, ◌^◌, ℕ, List, leng
 ghost use Rattle.std.specs.Int.{w64, to_be_bytes};
 ghost use Rattle.chan_deck.specs.Item.{IsArea, Says, area_digits, device, end, header, mask, put, start};
 ghost use Rattle.chan_deck.specs.Item as item;
+ghost use Rattle.chan_deck.specs.Digits.{AreValues};
 
 use crate::digits::{address_of, byte_of, cylinder_of, size_of, word_of};
+use crate::lines::PUT_LINE;
 use ccw_core::Area;
 use ckd_core::Device;
 
@@ -114,16 +116,20 @@ pub(crate) fn storage_of(line: &[u8]) -> Option<u32>
 }
 
 /// The address of a put, and its eight bytes as a number.
-pub(crate) fn put_of(line: &[u8]) -> Option<(u32, u64)>
+pub(crate) fn put_of(line: &[u8], values: &[Option<u8>; 256]) -> Option<(u32, u64)>
+    requires { AreValues values.now }
     ensures line { MatchOption result
         ((a : ℕ) (word : List ℕ) → Says line.now (put a word) → ⊥)
         (λ found. Says line.now (put found.0 (to_be_bytes w64 found.1))) }
     ensures fits { IfSome result (λ found. found.1 < 2 ^ 64) }
 {
+    if line.len() != PUT_LINE {
+        return None;
+    }
     let fields = behind(line, b"put ")?;
     let (address, word) = two_fields(fields, 6)?;
     let address = address_of(address)?;
-    let word = word_of(word)?;
+    let word = word_of(word, values)?;
     Some((address, word))
 }
 

@@ -6,6 +6,7 @@ ghost use Rattle.chan_deck.specs.Image.{Spells};
 ghost use Rattle.chan_deck.specs.Reading.{Filling, Heading, IsRefusal, Stands, image_of};
 
 use crate::cause::Cause;
+use crate::digits::digit_values;
 use crate::error::DeckError::{self, At};
 use crate::forms::{is_end, put_of};
 use crate::lines::next_line;
@@ -29,11 +30,12 @@ pub(crate) fn fill(storage: &mut [u8], text: &[u8], first: u64) -> Result<(), De
         → IsRefusal t e) }
     ensures len { length storage.new ≡ length storage.old }
 {
+    let values = digit_values();
     let mut rest = text;
     let mut line = first;
     let mut next = 0usize;
     while let Some((found, after)) = next_line(rest) {
-        if let Some((address, word)) = put_of(found) {
+        if let Some((address, word)) = put_of(found, &values) {
             let address = address as usize;
             if address % 8 != 0 || address < next || storage.len() < address + 8 {
                 return Err(At {

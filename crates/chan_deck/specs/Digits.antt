@@ -1,0 +1,13 @@
+-- Upper-case hexadecimal digits, one by one.
+use Rattle.std.specs.Prelude.{◌≡◌, ◌<◌, ℕ, List, Option, Some, None, get_or}
+use Rattle.std.specs.List.{slice_index}
+use Rattle.hex.specs.Hex.{upper_digits}
+
+-- the value that a character has as a digit, if it is one
+abbrev pub IsValue : ℕ → Option ℕ → Type 0
+IsValue c None = (v : ℕ) → v < 16 → c ≡ slice_index upper_digits v → ⊥
+IsValue c (Some v) = (v < 16) × (c ≡ slice_index upper_digits v)
+
+-- a list that has, for each character, its value
+abbrev pub AreValues : List (Option ℕ) → Type 0
+AreValues values = (c : ℕ) → c < 256 → IsValue c (get_or values c None)
