@@ -13,6 +13,8 @@
 mod exploring;
 mod fault;
 mod guard;
+#[cfg(test)]
+mod image;
 mod job;
 mod judging;
 mod laws;
