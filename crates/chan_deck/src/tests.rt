@@ -1,8 +1,8 @@
 //! Worked decks, and each cause for which a deck is refused.
 
 use crate::{Cause, DeckError, ListError, read_deck, verdict_text, write_deck};
-use ccw_core::Area;
-use chan_walk::{Reason, Verdict};
+use ccw_core::{Area, Storage};
+use chan_walk::{Job, Reason, Verdict};
 use ckd_core::Device;
 use std::alloc::Global;
 use std::process::Abort;
@@ -256,32 +256,55 @@ fn widths(rt: HostRuntime) -> Result<(), Fail> {
     Ok(())
 }
 
-#[test]
-fn deck_job(rt: HostRuntime) -> Result<(), Fail> {
-    let alloc = rt.alloc();
-    let text = search_loop(alloc)?;
-    let deck = read_deck(alloc, text.as_bytes())?;
-    let job = deck.job();
+static FETCH: [Area; 1] = [Area {
+    start: 0x900,
+    len: 16,
+}];
+
+static STORE: [Area; 1] = [Area {
+    start: 0xA00,
+    len: 256,
+}];
+
+static FIRST_WORD: [u8; 8] = [0x31, 0x00, 0x09, 0x00, 0x40, 0x00, 0x00, 0x05];
+
+static ZEROS: [u8; 8] = [0; 8];
+
+static CYLINDERS: [(u16, u16); 1] = [(10, 19)];
+
+/// The lines of the search loop before its storage.
+fn expect_heading(rt: &impl Abort, job: &Job) {
     assert_eq!(rt; job.start, 0x800);
     assert_eq!(rt; job.device, Device::D2314);
     assert_eq!(rt; job.mask.byte(), 0x00);
-    assert_eq!(rt; job.extents.pairs(), [(10, 19)].as_slice());
-    let fetch = Area {
-        start: 0x900,
-        len: 16,
-    };
-    let store = Area {
-        start: 0xA00,
-        len: 256,
-    };
-    assert_eq!(rt; job.fetch, [fetch].as_slice());
-    assert_eq!(rt; job.store, [store].as_slice());
-    assert_eq!(rt; job.storage.len(), 4096);
-    let put = [0x31, 0x00, 0x09, 0x00, 0x40, 0x00, 0x00, 0x05];
-    assert_eq!(rt; job.storage.range(0x800, 8), Some(put.as_slice()));
-    assert_eq!(rt; job.storage.range(0x818, 8), Some([0; 8].as_slice()));
-    let other = with_line(alloc, 9, "put 000800 3100090040000006")?;
-    assert!(rt; read_deck(alloc, other.as_bytes())? != deck);
+    assert_eq!(rt; job.extents.pairs(), CYLINDERS.as_slice());
+    assert_eq!(rt; job.fetch, FETCH.as_slice());
+    assert_eq!(rt; job.store, STORE.as_slice());
+}
+
+/// Its storage: the word of the first put, and zeros behind the last.
+fn expect_storage(rt: &impl Abort, storage: &Storage) {
+    assert_eq!(rt; storage.len(), 4096);
+    assert_eq!(rt; storage.range(0x800, 8), Some(FIRST_WORD.as_slice()));
+    assert_eq!(rt; storage.range(0x818, 8), Some(ZEROS.as_slice()));
+}
+
+#[test]
+fn deck_job(rt: HostRuntime) -> Result<(), Fail> {
+    let text = search_loop(rt.alloc())?;
+    let deck = read_deck(rt.alloc(), text.as_bytes())?;
+    let job = deck.job();
+    expect_heading(&rt, &job);
+    expect_storage(&rt, &job.storage);
+    Ok(())
+}
+
+#[test]
+fn other_words_make_another_deck(rt: HostRuntime) -> Result<(), Fail> {
+    let text = search_loop(rt.alloc())?;
+    let other = with_line(rt.alloc(), 9, "put 000800 3100090040000006")?;
+    let deck = read_deck(rt.alloc(), text.as_bytes())?;
+    assert!(rt; read_deck(rt.alloc(), other.as_bytes())? != deck);
     Ok(())
 }
 
