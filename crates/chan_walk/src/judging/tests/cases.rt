@@ -518,7 +518,7 @@ pub(super) static MASKS: [Case<'static>; 19] = [
         ..USUAL
     },
     Case {
-        name: "seek-mask: multi track",
+        name: "seek-mask: multi-track read",
         mask: 0x18,
         puts: &[(0x800, 0x8600_0A00_0000_0010)],
         verdict: Verdict::Yes,
@@ -551,7 +551,7 @@ pub(super) static MASKS: [Case<'static>; 19] = [
 
 pub(super) static SEEKS: [Case<'static>; 9] = [
     Case {
-        name: "seek-verdicts: head 19 2314",
+        name: "seek-verdicts: head 19 of a 2314",
         puts: &[
             (0x800, 0x0700_0900_0000_0006),
             (0x900, 0x0000_000A_0013_0000),
@@ -560,7 +560,7 @@ pub(super) static SEEKS: [Case<'static>; 9] = [
         ..USUAL
     },
     Case {
-        name: "seek-verdicts: head 19 2311",
+        name: "seek-verdicts: head 19 of a 2311",
         device: Device::D2311,
         puts: &[
             (0x800, 0x0700_0900_0000_0006),
@@ -597,7 +597,7 @@ pub(super) static SEEKS: [Case<'static>; 9] = [
         ..USUAL
     },
     Case {
-        name: "seek-of-five-bytes: five bytes",
+        name: "seek-of-five-bytes",
         puts: &[
             (0x800, 0x0700_0900_0000_0005),
             (0x900, 0x0000_000A_0013_0000),
@@ -609,7 +609,7 @@ pub(super) static SEEKS: [Case<'static>; 9] = [
         ..USUAL
     },
     Case {
-        name: "recalibrate",
+        name: "recalibrate: outside",
         puts: &[(0x800, 0x1300_0000_0000_0001)],
         verdict: Verdict::No {
             address: 0x800,
@@ -618,7 +618,7 @@ pub(super) static SEEKS: [Case<'static>; 9] = [
         ..USUAL
     },
     Case {
-        name: "recalibrate: recalibrate inside",
+        name: "recalibrate: inside",
         extents: &[(0, 0)],
         puts: &[(0x800, 0x1300_0000_0000_0001)],
         verdict: Verdict::Yes,
@@ -690,7 +690,7 @@ pub(super) static GUARDED: [Case<'static>; 12] = [
         ..USUAL
     },
     Case {
-        name: "gap-in-an-argument: gap",
+        name: "gap-in-an-argument: two bytes",
         store: &[Area {
             start: 0x902,
             len: 2,
@@ -706,7 +706,7 @@ pub(super) static GUARDED: [Case<'static>; 12] = [
         ..USUAL
     },
     Case {
-        name: "gap-in-an-argument: one byte gap",
+        name: "gap-in-an-argument: one byte",
         store: &[Area {
             start: 0x902,
             len: 1,
@@ -744,7 +744,7 @@ pub(super) static GUARDED: [Case<'static>; 12] = [
         ..USUAL
     },
     Case {
-        name: "store-over-ccw: search argument",
+        name: "store-over-ccw: a search argument",
         fetch: &[Area {
             start: 0,
             len: 4096,
