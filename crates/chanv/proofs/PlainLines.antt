@@ -1,14 +1,17 @@
 -- What the plain command lines ask for.
-use Rattle.std.proofs.Common.{◌≡◌, ◌∙◌, ◌⊎◌, ℕ, Bool, List, [], ◌∷◌, Option, Some, None, false, ap, codes, inl, inr, refl, subst, sym, unwrap_or, ◌==◌}
+use Rattle.std.proofs.Common.{◌≡◌, ◌∙◌, ◌⊎◌, ◌||◌, Bool, List, [], ◌∷◌, Option, Some, None, true, false, ap, codes, inl, inr, refl, subst, sym, unwrap_or}
+use Rattle.std.specs.Prelude.{◌≢◌}
 use Rattle.std.specs.Option.{option_map_or}
 use Rattle.std.specs.Str.{bytes_eq}
 use Rattle.std.specs.Str.Parse.{starts_with_minus}
 use Rattle.std.proofs.lemmas.Bool.{true≢false}
+use Rattle.std.proofs.lemmas.Slice.Eq.{bytes_eq-Decides}
 use Rattle.clap.specs.Words.{IsAmong, Kinds, Row, Text, fault_of, kind_of, subcommand_of}
+use Rattle.clap.specs.Lexer.{strip_byte}
 use Rattle.clap.proofs.OnLiterals.{clap_on_literals}
 use Rattle.clap.specs.declared.error.kind.ErrorKind.{ErrorKind}
-use Rattle.clap.specs.declared.error.kind.ErrorKind.TheVariants.{DisplayHelp}
-use Rattle.chanv.specs.CommandLine.{AsksFor, HelpsOrNoMemory, IsAnswerTo, IsPlainAnswerTo, IsTaken, RunsOrNoMemory, ShowsOrNoMemory, chanv, name_met, ccw_met}
+use Rattle.clap.specs.declared.error.kind.ErrorKind.TheVariants.{DisplayHelp, InvalidSubcommand, MissingRequiredArgument, UnknownArgument}
+use Rattle.chanv.specs.CommandLine.{AsksFor, FaultsOrNoMemory, HelpsOrNoMemory, IsAnswerTo, IsNoCommand, IsPlainAnswerTo, IsTaken, RunsOrNoMemory, ShowsOrNoMemory, chanv, name_met, ccw_met}
 use Rattle.chanv.specs.declared.command_line.Request.{Request}
 use Rattle.chanv.specs.declared.command_line.Request.TheVariants.{Show, Run, Help, Fault, NoMemory}
 use Rattle.chanv.specs.declared.run.Action.TheVariants as actions
@@ -43,33 +46,42 @@ show_named : (p w : Text) → name_met (subcommand_of chanv (p ∷ codes "show" 
 unfolding clap_on_literals
 show_named p w = refl
 
-help_is_asked : (p : Text) → fault_of chanv (p ∷ codes "--help" ∷ []) ≡ DisplayHelp ∷ []
+help_is_asked : (p : Text) (rest : List Text) → fault_of chanv (p ∷ codes "--help" ∷ rest) ≡ DisplayHelp ∷ []
 unfolding clap_on_literals
-help_is_asked p = refl
+help_is_asked p rest = refl
 
-empty_is_taken : (p : Text) → fault_of chanv (p ∷ codes "show" ∷ [] ∷ []) ≡ []
+-- a text that begins with no hyphen is no flag
+no_strip : (text : Text) → starts_with_minus text ≡ false → strip_byte 45 text ≡ None
+no_strip [] plain = refl
+no_strip (x ∷ xs) plain = rw plain refl
+
+no_dashes : (text : Text) → starts_with_minus text ≡ false → bytes_eq text (45 ∷ 45 ∷ []) ≡ false
+no_dashes [] plain = refl
+no_dashes (x ∷ xs) plain = rw plain refl
+
+word_is_taken : (p text : Text) → strip_byte 45 text ≡ None → bytes_eq text (45 ∷ 45 ∷ []) ≡ false → fault_of chanv (p ∷ codes "show" ∷ text ∷ []) ≡ []
 unfolding clap_on_literals
-empty_is_taken p = refl
+word_is_taken p text e d = simp (e, d) refl
 
-empty_shown : (p : Text) → ccw_met (subcommand_of chanv (p ∷ codes "show" ∷ [] ∷ [])) ≡ Some []
+word_shown : (p text : Text) → strip_byte 45 text ≡ None → bytes_eq text (45 ∷ 45 ∷ []) ≡ false → ccw_met (subcommand_of chanv (p ∷ codes "show" ∷ text ∷ [])) ≡ Some text
 unfolding clap_on_literals
-empty_shown p = refl
+word_shown p text e d = simp (e, d) refl
 
-word_is_taken : (p xs : Text) (x : ℕ) → (x == 45) ≡ false → fault_of chanv (p ∷ codes "show" ∷ (x ∷ xs) ∷ []) ≡ []
+word_is_missing : (p : Text) → fault_of chanv (p ∷ codes "show" ∷ []) ≡ MissingRequiredArgument ∷ []
 unfolding clap_on_literals
-word_is_taken p xs x e = simp e refl
+word_is_missing p = refl
 
-word_shown : (p xs : Text) (x : ℕ) → (x == 45) ≡ false → ccw_met (subcommand_of chanv (p ∷ codes "show" ∷ (x ∷ xs) ∷ [])) ≡ Some (x ∷ xs)
+text_is_unknown : (p text : Text) (rest : List Text) → strip_byte 45 text ≡ None → bytes_eq text (45 ∷ 45 ∷ []) ≡ false
+    → bytes_eq (codes "show") text ≡ false → bytes_eq (codes "verify") text ≡ false → bytes_eq (codes "list") text ≡ false → bytes_eq (codes "help") text ≡ false
+    → fault_of chanv (p ∷ text ∷ rest) ≡ UnknownArgument ∷ InvalidSubcommand ∷ []
 unfolding clap_on_literals
-word_shown p xs x e = simp e refl
+text_is_unknown p text rest e d show verify list help = simp (e, d, show, verify, list, help) refl
 
-show_is_taken : (p word : Text) → starts_with_minus word ≡ false → fault_of chanv (p ∷ codes "show" ∷ word ∷ []) ≡ []
-show_is_taken p [] plain = empty_is_taken p
-show_is_taken p (x ∷ xs) plain = word_is_taken p xs x plain
+show_is_taken : (p text : Text) → starts_with_minus text ≡ false → fault_of chanv (p ∷ codes "show" ∷ text ∷ []) ≡ []
+show_is_taken p text plain = word_is_taken p text (no_strip text plain) (no_dashes text plain)
 
-show_word : (p word : Text) → starts_with_minus word ≡ false → ccw_met (subcommand_of chanv (p ∷ codes "show" ∷ word ∷ [])) ≡ Some word
-show_word p [] plain = empty_shown p
-show_word p (x ∷ xs) plain = word_shown p xs x plain
+show_word : (p text : Text) → starts_with_minus text ≡ false → ccw_met (subcommand_of chanv (p ∷ codes "show" ∷ text ∷ [])) ≡ Some text
+show_word p text plain = word_shown p text (no_strip text plain) (no_dashes text plain)
 
 -- ---- the answers
 
@@ -137,21 +149,55 @@ show_shows p word r plain answer = elim (asked (p ∷ codes "show" ∷ word ∷ 
   | inr none ↦ rw none tt
 ]
 
-one_kind : (k : ErrorKind) (kinds : Kinds) → kinds ≡ DisplayHelp ∷ [] → IsAmong k kinds → k ≡ DisplayHelp
-one_kind k kinds is among = elim (subst (λ ks. IsAmong k ks) is among) [
-  | inl e ↦ e
+not_taken : (words : List Text) (k : ErrorKind) (ks : Kinds) → fault_of chanv words ≡ k ∷ ks → IsTaken words → ⊥
+not_taken words k ks fault taken = cons≢nil (sym fault ∙ taken)
+
+helps : (words : List Text) (r : Request) → fault_of chanv words ≡ DisplayHelp ∷ [] → IsAnswerTo words r → HelpsOrNoMemory r
+helps words (Show text) fault answer = absurd (not_taken words DisplayHelp [] fault answer.0)
+helps words (Run action) fault answer = absurd (not_taken words DisplayHelp [] fault answer.0)
+helps words (Help e) fault answer = tt
+helps words (Fault e) fault answer = elim (subst (λ ks. IsAmong (kind_of e) ks) fault answer.2) [
+  | inl is ↦ absurd (answer.0 is)
   | inr bad ↦ absurd bad
 ]
+helps words NoMemory fault answer = tt
 
-not_taken : (words : List Text) → fault_of chanv words ≡ DisplayHelp ∷ [] → IsTaken words → ⊥
-not_taken words help taken = cons≢nil (sym help ∙ taken)
+abbrev is_help : ErrorKind → Bool
+is_help DisplayHelp = true
+is_help _ = false
 
-help_helps : (p : Text) (r : Request) → IsAnswerTo (p ∷ codes "--help" ∷ []) r → HelpsOrNoMemory r
-help_helps p (Show text) answer = absurd (not_taken (p ∷ codes "--help" ∷ []) (help_is_asked p) answer.0)
-help_helps p (Run action) answer = absurd (not_taken (p ∷ codes "--help" ∷ []) (help_is_asked p) answer.0)
-help_helps p (Help e) answer = tt
-help_helps p (Fault e) answer = absurd (answer.0 (one_kind (kind_of e) (fault_of chanv (p ∷ codes "--help" ∷ [])) (help_is_asked p) answer.2))
-help_helps p NoMemory answer = tt
+abbrev has_help : Kinds → Bool
+has_help [] = false
+has_help (k ∷ ks) = is_help k || has_help ks
+
+help_among : (ks : Kinds) → IsAmong DisplayHelp ks → has_help ks ≡ true
+help_among [] among = absurd among
+help_among (k ∷ ks) (inl is) = rw (← is) refl
+help_among (k ∷ ks) (inr among) = rw (help_among ks among) (or_true (is_help k))
+  where
+    or_true : (b : Bool) → (b || true) ≡ true
+    or_true true = refl
+    or_true false = refl
+
+faults : (words : List Text) (r : Request) (k : ErrorKind) (ks : Kinds) → fault_of chanv words ≡ k ∷ ks → has_help (k ∷ ks) ≡ false → IsAnswerTo words r → FaultsOrNoMemory r
+faults words (Show text) k ks fault no_help answer = absurd (not_taken words k ks fault answer.0)
+faults words (Run action) k ks fault no_help answer = absurd (not_taken words k ks fault answer.0)
+faults words (Help e) k ks fault no_help answer = absurd (true≢false (sym (help_among (k ∷ ks) (subst (λ x. IsAmong DisplayHelp x) fault answer.1)) ∙ no_help))
+faults words (Fault e) k ks fault no_help answer = tt
+faults words NoMemory k ks fault no_help answer = tt
+
+other_name : (text name : Text) → text ≢ name → bytes_eq name text ≡ false
+other_name text name other = go (bytes_eq name text) refl
+  where
+    go : (b : Bool) → bytes_eq name text ≡ b → b ≡ false
+    go true same = absurd (other (sym ((bytes_eq-Decides name text).0 same)))
+    go false same = refl
+
+unknown_faults : (p text : Text) (rest : List Text) (r : Request) → starts_with_minus text ≡ false → IsNoCommand text → IsAnswerTo (p ∷ text ∷ rest) r → FaultsOrNoMemory r
+unknown_faults p text rest r plain no_command =
+    faults (p ∷ text ∷ rest) r UnknownArgument (InvalidSubcommand ∷ []) (text_is_unknown p text rest (no_strip text plain) (no_dashes text plain)
+    (other_name text (codes "show") no_command.0) (other_name text (codes "verify") no_command.1)
+    (other_name text (codes "list") no_command.2) (other_name text (codes "help") no_command.3)) refl
 
 -- an answer to words is what the plain lines say
 pub plain : (words : List Text) (answer : Request) → IsAnswerTo words answer → IsPlainAnswerTo words answer
@@ -159,6 +205,8 @@ plain words answer is = record {
   alone = λ p e. alone_verifies p answer (subst (λ w. IsAnswerTo w answer) e is);
   verify = λ p e. verify_verifies p answer (subst (λ w. IsAnswerTo w answer) e is);
   list = λ p e. list_lists p answer (subst (λ w. IsAnswerTo w answer) e is);
-  show = λ p word no_hyphen e. show_shows p word answer no_hyphen (subst (λ w. IsAnswerTo w answer) e is);
-  help = λ p e. help_helps p answer (subst (λ w. IsAnswerTo w answer) e is);
+  show = λ p text no_hyphen e. show_shows p text answer no_hyphen (subst (λ w. IsAnswerTo w answer) e is);
+  help = λ p rest e. helps (p ∷ codes "--help" ∷ rest) answer (help_is_asked p rest) (subst (λ w. IsAnswerTo w answer) e is);
+  show_alone = λ p e. faults (p ∷ codes "show" ∷ []) answer MissingRequiredArgument [] (word_is_missing p) refl (subst (λ w. IsAnswerTo w answer) e is);
+  unknown = λ p text rest no_hyphen no_command e. unknown_faults p text rest answer no_hyphen no_command (subst (λ w. IsAnswerTo w answer) e is);
 }

@@ -70,10 +70,23 @@ HelpsOrNoMemory (Help e) = Unit {0}
 HelpsOrNoMemory NoMemory = Unit {0}
 HelpsOrNoMemory _ = ⊥
 
--- the same in plain words: nothing after the program's name, `verify`, `list`, `show` and a word, `--help`
+-- the answer is a usage fault, or memory was wanting
+abbrev pub FaultsOrNoMemory : Request → Type 0
+FaultsOrNoMemory (Fault e) = Unit {0}
+FaultsOrNoMemory NoMemory = Unit {0}
+FaultsOrNoMemory _ = ⊥
+
+-- the text is none of the three commands, nor `help`, which clap adds to them
+abbrev pub IsNoCommand : Text → Type 0
+IsNoCommand text = (text ≢ codes "show") × (text ≢ codes "verify") × (text ≢ codes "list") × (text ≢ codes "help")
+
+-- the same in plain words, after the program's name: nothing, `verify`, `list`, `show` and a text, a call for help first,
+-- `show` alone, and a text first that is neither a command nor an option
 pub record IsPlainAnswerTo (words : List Text) (answer : Request) : Type 0 where
   pub alone : (program : Text) → words ≡ program ∷ [] → RunsOrNoMemory actions.Verify answer
   pub verify : (program : Text) → words ≡ program ∷ codes "verify" ∷ [] → RunsOrNoMemory actions.Verify answer
   pub list : (program : Text) → words ≡ program ∷ codes "list" ∷ [] → RunsOrNoMemory actions.List answer
   pub show : (program text : Text) → starts_with_minus text ≡ false → words ≡ program ∷ codes "show" ∷ text ∷ [] → ShowsOrNoMemory text answer
-  pub help : (program : Text) → words ≡ program ∷ codes "--help" ∷ [] → HelpsOrNoMemory answer
+  pub help : (program : Text) (rest : List Text) → words ≡ program ∷ codes "--help" ∷ rest → HelpsOrNoMemory answer
+  pub show_alone : (program : Text) → words ≡ program ∷ codes "show" ∷ [] → FaultsOrNoMemory answer
+  pub unknown : (program text : Text) (rest : List Text) → starts_with_minus text ≡ false → IsNoCommand text → words ≡ program ∷ text ∷ rest → FaultsOrNoMemory answer
