@@ -1,13 +1,19 @@
--- What the plain command lines ask for.
+-- What lines in plain words ask for.
 use Rattle.std.proofs.Common.{◌≡◌, ◌∙◌, ◌⊎◌, ◌||◌, Bool, List, [], ◌∷◌, Option, Some, None, true, false, ap, codes, inl, inr, refl, subst, sym, unwrap_or}
-use Rattle.std.specs.Prelude.{◌≢◌}
+use Rattle.std.specs.Prelude.{◌≢◌, ◌++◌, fold}
+use Rattle.std.proofs.lemmas.List.{append-nil, append_assoc}
 use Rattle.std.specs.Option.{option_map_or}
 use Rattle.std.specs.Str.{bytes_eq}
 use Rattle.std.specs.Str.Parse.{starts_with_minus}
 use Rattle.std.proofs.lemmas.Bool.{true≢false}
 use Rattle.std.proofs.lemmas.Slice.Eq.{bytes_eq-Decides}
 use Rattle.clap.specs.Words.{IsAmong, Kinds, Row, Text, fault_of, kind_of, subcommand_of}
+use Rattle.clap.specs.Faults.{built_fault, entered_fault, walk_fault}
+use Rattle.clap.specs.Kinds.{or_else}
 use Rattle.clap.specs.Lexer.{strip_byte}
+use Rattle.clap.specs.Simple.{built, names_of}
+use Rattle.clap.specs.Walk.{Names, Rule, Walk, idle, nothing_held, subcommand_met, walk, walk_from, walked}
+use Rattle.clap.proofs.FaultLemmas.{stopped_fault}
 use Rattle.clap.proofs.OnLiterals.{clap_on_literals}
 use Rattle.clap.specs.declared.error.kind.ErrorKind.{ErrorKind}
 use Rattle.clap.specs.declared.error.kind.ErrorKind.TheVariants.{DisplayHelp, InvalidSubcommand, MissingRequiredArgument, UnknownArgument}
@@ -17,6 +23,8 @@ use Rattle.chanv.specs.declared.command_line.Request.TheVariants.{Show, Run, Hel
 use Rattle.chanv.specs.declared.run.Action.TheVariants as actions
 use Rattle.chanv.specs.declared.run.Action.TheVariants.{Verify}
 use Rattle.chanv.proofs.NamedCommands.{cons≢nil}
+
+-- ---- the lines that are taken
 
 alone_is_taken : (p : Text) → fault_of chanv (p ∷ []) ≡ []
 unfolding clap_on_literals
@@ -76,6 +84,56 @@ text_is_unknown : (p text : Text) (rest : List Text) → strip_byte 45 text ≡ 
     → fault_of chanv (p ∷ text ∷ rest) ≡ UnknownArgument ∷ InvalidSubcommand ∷ []
 unfolding clap_on_literals
 text_is_unknown p text rest e d show verify list help = simp (e, d, show, verify, list, help) refl
+
+-- ---- a text too many
+
+-- the walk passes what follows a command on to it
+passed_on : (rules : List Rule) (names : Names) (w : Walk) (p : Text × List Text) (words : List Text)
+    → (fold (walked rules names) (record w { stopped = Some p }) words).stopped ≡ Some (p.0, p.1 ++ words)
+unfolding walked
+passed_on rules names w p [] = ap (λ ws. Some (p.0, ws)) (sym (append-nil p.1))
+passed_on rules names w p (word ∷ rest) =
+    passed_on rules names w (p.0, p.1 ++ word ∷ []) rest ∙ ap (λ ws. Some (p.0, ws)) (append_assoc p.1 (word ∷ []) rest)
+
+below_first : (a b c : Kinds) (k : ErrorKind) (ks : Kinds) → a ≡ [] → b ≡ k ∷ ks → or_else a (or_else b c) ≡ k ∷ ks
+below_first a b c k ks none here = rw (none, here) refl
+
+-- a fault of what follows a command is the line's
+below : (words : List Text) (p : Text × List Text) (k : ErrorKind) (ks : Kinds) → walk_fault (built chanv).top (names_of (built chanv)) (walk_from nothing_held) words ≡ []
+    → (walk (built chanv).top.rules (names_of (built chanv)) nothing_held words).stopped ≡ Some p → entered_fault (built chanv) (Some p) ≡ k ∷ ks
+    → built_fault (built chanv) nothing_held words ≡ k ∷ ks
+below words p k ks none stops fault = below_first _ _ _ k ks none (ap (entered_fault (built chanv)) stops ∙ fault)
+
+module _ (name : Text) (rest : List Text) (is_met : subcommand_met (names_of (built chanv)) idle name ≡ Some name) (no_help : bytes_eq name (codes "help") ≡ false) where
+  met_soundly : walk_fault (built chanv).top (names_of (built chanv)) (walk_from nothing_held) (name ∷ rest) ≡ []
+  unfolding walk_fault walked
+  met_soundly = rw (is_met, no_help) (stopped_fault (built chanv).top (names_of (built chanv)) (walk_from nothing_held) (name, []) rest)
+
+  stops_there : walked (built chanv).top.rules (names_of (built chanv)) (walk_from nothing_held) name ≡ record (walk_from nothing_held) { stopped = Some (name, []) }
+  unfolding walked
+  stops_there = rw is_met refl
+
+  met_first : (walk (built chanv).top.rules (names_of (built chanv)) nothing_held (name ∷ rest)).stopped ≡ Some (name, rest)
+  met_first = ap (λ (w : Walk). (fold (walked (built chanv).top.rules (names_of (built chanv))) w rest).stopped) stops_there
+      ∙ passed_on (built chanv).top.rules (names_of (built chanv)) (walk_from nothing_held) (name, []) rest
+
+  line_fault : (p : Text) (k : ErrorKind) (ks : Kinds) → entered_fault (built chanv) (Some (name, rest)) ≡ k ∷ ks → fault_of chanv (p ∷ name ∷ rest) ≡ k ∷ ks
+  line_fault p k ks fault = below (name ∷ rest) (name, rest) k ks met_soundly met_first fault
+
+verify_stray : (text : Text) (rest : List Text) → strip_byte 45 text ≡ None → bytes_eq text (45 ∷ 45 ∷ []) ≡ false
+    → entered_fault (built chanv) (Some (codes "verify", text ∷ rest)) ≡ UnknownArgument ∷ []
+unfolding clap_on_literals
+verify_stray text rest e d = simp (e, d) refl
+
+list_stray : (text : Text) (rest : List Text) → strip_byte 45 text ≡ None → bytes_eq text (45 ∷ 45 ∷ []) ≡ false
+    → entered_fault (built chanv) (Some (codes "list", text ∷ rest)) ≡ UnknownArgument ∷ []
+unfolding clap_on_literals
+list_stray text rest e d = simp (e, d) refl
+
+show_stray : (text more : Text) (rest : List Text) → strip_byte 45 text ≡ None → bytes_eq text (45 ∷ 45 ∷ []) ≡ false → strip_byte 45 more ≡ None → bytes_eq more (45 ∷ 45 ∷ []) ≡ false
+    → entered_fault (built chanv) (Some (codes "show", text ∷ more ∷ rest)) ≡ UnknownArgument ∷ []
+unfolding clap_on_literals
+show_stray text more rest e d e-2 d-2 = simp (e, d, e-2, d-2) refl
 
 show_is_taken : (p text : Text) → starts_with_minus text ≡ false → fault_of chanv (p ∷ codes "show" ∷ text ∷ []) ≡ []
 show_is_taken p text plain = word_is_taken p text (no_strip text plain) (no_dashes text plain)
@@ -209,4 +267,14 @@ plain words answer is = record {
   help = λ p rest e. helps (p ∷ codes "--help" ∷ rest) answer (help_is_asked p rest) (subst (λ w. IsAnswerTo w answer) e is);
   show_alone = λ p e. faults (p ∷ codes "show" ∷ []) answer MissingRequiredArgument [] (word_is_missing p) refl (subst (λ w. IsAnswerTo w answer) e is);
   unknown = λ p text rest no_hyphen no_command e. unknown_faults p text rest answer no_hyphen no_command (subst (λ w. IsAnswerTo w answer) e is);
+  verify_more = λ p text rest no_hyphen e. faults (p ∷ codes "verify" ∷ text ∷ rest) answer UnknownArgument []
+      (line_fault (codes "verify") (text ∷ rest) refl refl p UnknownArgument [] (verify_stray text rest (no_strip text no_hyphen) (no_dashes text no_hyphen)))
+      refl (subst (λ w. IsAnswerTo w answer) e is);
+  list_more = λ p text rest no_hyphen e. faults (p ∷ codes "list" ∷ text ∷ rest) answer UnknownArgument []
+      (line_fault (codes "list") (text ∷ rest) refl refl p UnknownArgument [] (list_stray text rest (no_strip text no_hyphen) (no_dashes text no_hyphen)))
+      refl (subst (λ w. IsAnswerTo w answer) e is);
+  show_more = λ p text more rest no_hyphen no_second e. faults (p ∷ codes "show" ∷ text ∷ more ∷ rest) answer UnknownArgument []
+      (line_fault (codes "show") (text ∷ more ∷ rest) refl refl p UnknownArgument []
+      (show_stray text more rest (no_strip text no_hyphen) (no_dashes text no_hyphen) (no_strip more no_second) (no_dashes more no_second)))
+      refl (subst (λ w. IsAnswerTo w answer) e is);
 }

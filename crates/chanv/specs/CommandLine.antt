@@ -80,8 +80,7 @@ FaultsOrNoMemory _ = ⊥
 abbrev pub IsNoCommand : Text → Type 0
 IsNoCommand text = (text ≢ codes "show") × (text ≢ codes "verify") × (text ≢ codes "list") × (text ≢ codes "help")
 
--- the same in plain words, after the program's name: nothing, `verify`, `list`, `show` and a text, a call for help first,
--- `show` alone, and a text first that is neither a command nor an option
+-- the answer in plain words, by what follows the program's name; a text that begins with no hyphen is no option
 pub record IsPlainAnswerTo (words : List Text) (answer : Request) : Type 0 where
   pub alone : (program : Text) → words ≡ program ∷ [] → RunsOrNoMemory actions.Verify answer
   pub verify : (program : Text) → words ≡ program ∷ codes "verify" ∷ [] → RunsOrNoMemory actions.Verify answer
@@ -90,3 +89,7 @@ pub record IsPlainAnswerTo (words : List Text) (answer : Request) : Type 0 where
   pub help : (program : Text) (rest : List Text) → words ≡ program ∷ codes "--help" ∷ rest → HelpsOrNoMemory answer
   pub show_alone : (program : Text) → words ≡ program ∷ codes "show" ∷ [] → FaultsOrNoMemory answer
   pub unknown : (program text : Text) (rest : List Text) → starts_with_minus text ≡ false → IsNoCommand text → words ≡ program ∷ text ∷ rest → FaultsOrNoMemory answer
+  pub verify_more : (program text : Text) (rest : List Text) → starts_with_minus text ≡ false → words ≡ program ∷ codes "verify" ∷ text ∷ rest → FaultsOrNoMemory answer
+  pub list_more : (program text : Text) (rest : List Text) → starts_with_minus text ≡ false → words ≡ program ∷ codes "list" ∷ text ∷ rest → FaultsOrNoMemory answer
+  pub show_more : (program text more : Text) (rest : List Text) → starts_with_minus text ≡ false → starts_with_minus more ≡ false
+      → words ≡ program ∷ codes "show" ∷ text ∷ more ∷ rest → FaultsOrNoMemory answer

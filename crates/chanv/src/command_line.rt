@@ -75,8 +75,8 @@ fn request_of<'a>(matches: &ArgMatches<'a>) -> Request<'a>
 /// Reads the words, of which the first is the program's name.
 ///
 /// Without a command the request is to verify. Where clap takes the words, the answer is what they
-/// ask for; where it doesn't, `Help` or `Fault`, by the kind of fault that it finds. `NoMemory`
-/// comes in place of each.
+/// ask for; where it doesn't, `Help` or `Fault`, by the kind of fault that it finds. `NoMemory` may
+/// come in place of each.
 #[tactic(auto, using(crate::proofs::PlainLines::plain))]
 pub fn read_request<'a>(alloc: Global, words: &'a [String]) -> Request<'a>
     ensures answer { IsAnswerTo (map string_bytes words.entry.now) result }
