@@ -1,1 +1,5 @@
 pub mod Places
+pub mod NamedCommands
+pub mod ShownWord
+pub mod TakenLines
+pub mod PlainLines

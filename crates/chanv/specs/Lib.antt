@@ -2,3 +2,4 @@ pub mod Show
 pub mod Input
 pub mod Run
 pub mod Report
+pub mod CommandLine

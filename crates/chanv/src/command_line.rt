@@ -1,9 +1,13 @@
 //! The command line: which words ask for what.
 
+ghost use Rattle.std.specs.Prelude.{◌≡◌, IfErr, IfOk, OnOk, map, string_bytes};
+ghost use Rattle.clap.specs.Words.{HasKind, app_of, fault_of, subcommand_of, subcommand_rows_of};
+ghost use Rattle.chanv.specs.CommandLine.{AsksFor, IsAnswerTo, IsKnown, IsPlainAnswerTo, IsTaken, chanv};
+
 use crate::run::Action;
 use clap::error::ErrorKind;
-use clap::{Arg, Command, Error};
-use std::alloc::Global;
+use clap::{Arg, ArgMatches, Command, Error};
+use std::alloc::{AllocError, Global};
 
 #[cfg(test)]
 mod tests;
@@ -19,7 +23,10 @@ pub enum Request<'a> {
     NoMemory,
 }
 
-fn command<'a>(alloc: Global) -> Result<Command<'a>, Error> {
+/// The command line that the program takes.
+fn command<'a>(alloc: Global) -> Result<Command<'a>, AllocError>
+    ensures { IfOk result (λ c. app_of c ≡ chanv) }
+{
     let word = Arg::new(alloc, "CCW")
         .required(true)
         .help("sixteen hexadecimal digits");
@@ -32,29 +39,49 @@ fn command<'a>(alloc: Global) -> Result<Command<'a>, Error> {
     let list = Command::new(alloc, "list").about(
         "reads a deck from standard input and lists the CCWs that a run can reach, with the verdict",
     );
-    Ok(
-        Command::new(alloc, "chanv")
-            .about("verifies channel programs")
-            .subcommand(show)?
-            .subcommand(verify)?
-            .subcommand(list)?,
-    )
+    Command::new(alloc, "chanv")
+        .about("verifies channel programs")
+        .subcommand(show)?
+        .subcommand(verify)?
+        .subcommand(list)
 }
 
-fn asked<'a>(alloc: Global, words: &'a [String]) -> Result<Request<'a>, Error> {
+/// What the words ask for, or why clap doesn't take them.
+fn asked<'a>(alloc: Global, words: &'a [String]) -> Result<Request<'a>, Error>
+    ensures taken { OnOk result (IsTaken (map string_bytes words.entry.now)) }
+    ensures asked { IfOk result (AsksFor (subcommand_of chanv (map string_bytes words.entry.now))) }
+    ensures err { IfErr result (HasKind (fault_of chanv (map string_bytes words.entry.now))) }
+{
     let matches = command(alloc)?.try_get_matches_from(words)?;
+    Ok(request_of(&matches))
+}
+
+/// The request for the command that clap met.
+fn request_of<'a>(matches: &ArgMatches<'a>) -> Request<'a>
+    requires { IsKnown (subcommand_rows_of matches.now) }
+    ensures { AsksFor (subcommand_rows_of matches.now) result }
+{
     match matches.subcommand() {
         Some(("show", inner)) => match inner.get_str("CCW") {
-            Some(text) => Ok(Request::Show(text)),
-            None => Ok(Request::NoMemory),
+            Some(word) => Request::Show(word),
+            // the word is required
+            None => unreachable!(),
         },
-        Some(("list", _)) => Ok(Request::Run(Action::List)),
-        _ => Ok(Request::Run(Action::Verify)),
+        Some(("list", _)) => Request::Run(Action::List),
+        _ => Request::Run(Action::Verify),
     }
 }
 
 /// Reads the words, of which the first is the program's name.
-pub fn read_request<'a>(alloc: Global, words: &'a [String]) -> Request<'a> {
+///
+/// Without a command the request is to verify. Where clap takes the words, the answer is what they
+/// ask for; where it doesn't, `Help` or `Fault`, by the kind of fault that it finds. `NoMemory` may
+/// come in place of each.
+#[tactic(auto, using(crate::proofs::PlainLines::plain))]
+pub fn read_request<'a>(alloc: Global, words: &'a [String]) -> Request<'a>
+    ensures answer { IsAnswerTo (map string_bytes words.entry.now) result }
+    ensures plain { IsPlainAnswerTo (map string_bytes words.entry.now) result }
+{
     match asked(alloc, words) {
         Ok(request) => request,
         Err(error) => match error.kind() {
