@@ -89,7 +89,8 @@ fn value_of(digit: u8) -> Option<u8>
 
 /// The value of each character that is a digit.
 ///
-/// `hex` finds out by comparing, which takes longest where digits and letters come at random, as in the words of storage. They are looked up here.
+/// `hex` compares each digit to find out its sort, which is slow where letters and figures come at random, as in the
+/// words of storage. So it is asked once for each character, and words are looked up.
 pub(crate) fn digit_values() -> [Option<u8>; 256]
     ensures { AreValues result }
 {
