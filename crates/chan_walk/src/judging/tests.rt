@@ -34,6 +34,7 @@ struct Case<'a> {
     verdict: Verdict,
 }
 
+/// What `verify` answers, once the guards were seen to agree.
 fn answer(alloc: Global, case: &Case) -> Result<Result<Verdict, WalkError>, Fail> {
     let bytes = image(alloc, case.size, case.puts)?;
     let extents = Extents::new(alloc, case.extents)?;
