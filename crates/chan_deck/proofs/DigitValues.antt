@@ -1,25 +1,32 @@
 -- The values of digits, and words that are read by them.
 use Rattle.std.proofs.Common.{◌≡◌, ℕ, zero, suc, ◌+◌, ◌*◌, ◌/◌, ◌%◌, ◌<◌, List, [], ◌∷◌, ◌++◌, length, take, set, slice_index, get_or, Option, Some, None, refl, sym, ap, ap₂, subst, ◌∙◌, arith, inl, inr}
-use Rattle.std.specs.Prelude.{◌≢◌, MatchOption}
+use Rattle.std.specs.Prelude.{◌≢◌, ◌≤◌}
+use Rattle.std.specs.List.{AllByRecursion}
 use Rattle.std.proofs.lemmas.Bool.{cases_lt}
 use Rattle.std.proofs.lemmas.Grind.{get_or-set_at}
 use Rattle.std.proofs.lemmas.List.{append_assoc, get_or-set_other, take_all, take_more, take_more_set}
 use Rattle.hex.specs.Hex.{IsBytes, encode_upper, encode_with, upper_digits}
-use Rattle.chan_deck.specs.Digits.{AreValues, IsValue}
-use Rattle.chan_deck.specs.Item.{IsByte, IsWord, byte_digits}
-use Rattle.chan_deck.proofs.UpperDigits.{bytes_at, digit_ascii, leading_zero}
+use Rattle.chan_deck.specs.Digits.{IsPair, IsValue}
+use Rattle.chan_deck.specs.Item.{IsByte}
+use Rattle.chan_deck.proofs.UpperDigits.{bytes_at, leading_zero}
 
 -- behind a zero, a digit spells its value
-pub behind_zero : (digit : ℕ) (r : Option ℕ) → MatchOption r ((n : ℕ) → IsByte n → 48 ∷ digit ∷ [] ≡ byte_digits n → ⊥) (λ n. IsByte n × (48 ∷ digit ∷ [] ≡ byte_digits n)) → IsValue digit r
+pub behind_zero : (digit : ℕ) (bytes : List ℕ) → length bytes ≡ 1 → IsBytes bytes → 48 ∷ digit ∷ [] ≡ encode_upper bytes → IsValue digit (Some (get_or bytes 0 0))
 unfolding encode_with
-behind_zero digit None h = λ v lt e.
+behind_zero digit [] len fits e = absurd (omega (arith, len))
+behind_zero digit (v ∷ w ∷ bytes) len fits e = absurd (omega (arith, len))
+behind_zero digit (v ∷ []) len fits e =
+    let small = leading_zero v [] (digit ∷ []) (fits 0) e in
+    let low : v % 16 ≡ v = omega (arith, small) in
+    (small, ap (λ t. slice_index t 1) e ∙ ap (λ k. slice_index upper_digits k) low)
+
+-- and what isn't one spells nothing
+pub no_digit : (digit : ℕ) → ((other : List ℕ) → length other ≡ 1 → AllByRecursion IsByte other → 48 ∷ digit ∷ [] ≡ encode_upper other → ⊥) → IsValue digit None
+unfolding encode_with
+no_digit digit none = λ v lt e.
     let high : v / 16 ≡ 0 = omega arith in
     let low : v % 16 ≡ v = omega arith in
-    h v (omega arith) (rw (high, low, e) refl)
-behind_zero digit (Some v) h =
-    let small = leading_zero v [] (digit ∷ []) h.0 h.1 in
-    let low : v % 16 ≡ v = omega (arith, small) in
-    (small, ap (λ t. slice_index t 1) h.1 ∙ ap (λ k. slice_index upper_digits k) low)
+    none (v ∷ []) refl (omega arith, tt) (rw (high, low, e) refl)
 
 abbrev digit : ℕ → ℕ
 digit v = slice_index upper_digits v
@@ -48,52 +55,32 @@ joined [] y = refl
 joined (b ∷ x) y = ap (λ t. digit (b / 16) ∷ digit (b % 16) ∷ t) (joined x y)
 
 -- one more byte is read from two more digits
-pub one_more : (digits bytes : List ℕ) (i high low : ℕ) → i < length bytes → 2 * i + 1 < length digits → high < 16 → low < 16 → take (2 * i) digits ≡ encode_upper (take i bytes)
-    → get_or digits (2 * i) 0 ≡ digit high → get_or digits (2 * i + 1) 0 ≡ digit low → take (2 * (i + 1)) digits ≡ encode_upper (take (i + 1) (set bytes i (high * 16 + low)))
+pub one_more : (digits bytes : List ℕ) (i b : ℕ) → i < length bytes → 2 * i + 1 < length digits → take (2 * i) digits ≡ encode_upper (take i bytes)
+    → IsPair (get_or digits (2 * i) 0) (get_or digits (2 * i + 1) 0) (Some b) → take (2 * (i + 1)) digits ≡ encode_upper (take (i + 1) (set bytes i b))
 unfolding encode_with
-one_more digits bytes i high low within width fh fl so_far eh el =
-    let byte = high * 16 + low in
+one_more digits bytes i b within width so_far pair =
     let twice : 2 * (i + 1) ≡ 2 * i + 1 + 1 = omega arith in
-    let first : byte / 16 ≡ high = omega (arith, fh, fl) in
-    let second : byte % 16 ≡ low = omega (arith, fh, fl) in
-    let front : take (2 * i + 1) digits ≡ encode_upper (take i bytes) ++ digit high ∷ [] = take_more digits (2 * i) 0 (omega (arith, width)) ∙ ap₂ (λ (t : List ℕ) (d : ℕ). t ++ d ∷ []) so_far eh in
-    let whole : take (2 * i + 1 + 1) digits ≡ (encode_upper (take i bytes) ++ digit high ∷ []) ++ digit low ∷ [] = take_more digits (2 * i + 1) 0 width ∙ ap₂ (λ (t : List ℕ) (d : ℕ). t ++ d ∷ []) front el in
-    let pair : encode_upper (byte ∷ []) ≡ digit high ∷ digit low ∷ [] = rw (first, second) refl in
-    ap (λ k. take k digits) twice ∙ whole ∙ append_assoc (encode_upper (take i bytes)) (digit high ∷ []) (digit low ∷ [])
-    ∙ ap (λ t. encode_upper (take i bytes) ++ t) (sym pair) ∙ sym (joined (take i bytes) (byte ∷ [])) ∙ ap encode_upper (sym (take_more_set bytes i byte within))
+    let high = digit (b / 16) in
+    let low = digit (b % 16) in
+    let front : take (2 * i + 1) digits ≡ encode_upper (take i bytes) ++ high ∷ [] = take_more digits (2 * i) 0 (omega (arith, width)) ∙ ap₂ (λ (t : List ℕ) (d : ℕ). t ++ d ∷ []) so_far pair.1 in
+    let whole : take (2 * i + 1 + 1) digits ≡ (encode_upper (take i bytes) ++ high ∷ []) ++ low ∷ [] = take_more digits (2 * i + 1) 0 width ∙ ap₂ (λ (t : List ℕ) (d : ℕ). t ++ d ∷ []) front pair.2 in
+    ap (λ k. take k digits) twice ∙ whole ∙ append_assoc (encode_upper (take i bytes)) (high ∷ []) (low ∷ [])
+    ∙ sym (joined (take i bytes) (b ∷ [])) ∙ ap encode_upper (sym (take_more_set bytes i b within))
 
 pub none_yet : [] ≡ encode_upper []
 unfolding encode_with
 none_yet = refl
 
--- ---- what a lookup tells
-
-lookup : (values : List (Option ℕ)) → AreValues values → (c : ℕ) → c < 256 → (o : Option ℕ) → get_or values c None ≡ o → IsValue c o
-lookup values are c lt o e = subst (λ x. IsValue c x) e (are c lt)
-
-digit_small : (c v : ℕ) → c ≡ digit v → c < 256
-digit_small c v e = omega (arith, e, digit_ascii v)
-
--- a character without a value is in no word's digits
-pub no_high_digit : (values : List (Option ℕ)) → AreValues values → (word : List ℕ) → IsWord word → (i c : ℕ) → i < 8 → c ≡ get_or (encode_upper word) (2 * i) 0 → get_or values c None ≡ None → ⊥
-no_high_digit values are word is i c lt e none =
-    let half = get_or word i 0 / 16 in
-    let same : c ≡ digit half = e ∙ high_digit word i (omega (arith, is.0)) in
-    lookup values are c (digit_small c half same) None none half (omega (arith, bytes_at word is.1 i)) same
-
-pub no_low_digit : (values : List (Option ℕ)) → AreValues values → (word : List ℕ) → IsWord word → (i c : ℕ) → i < 8 → c ≡ get_or (encode_upper word) (2 * i + 1) 0 → get_or values c None ≡ None → ⊥
-no_low_digit values are word is i c lt e none =
-    let half = get_or word i 0 % 16 in
-    let same : c ≡ digit half = e ∙ low_digit word i (omega (arith, is.0)) in
-    lookup values are c (digit_small c half same) None none half (omega arith) same
-
-pub has_value : (values : List (Option ℕ)) → AreValues values → (c v : ℕ) → c < 256 → get_or values c None ≡ Some v → (v < 16) × (c ≡ digit v)
-has_value values are c v lt e = lookup values are c lt (Some v) e
+-- two characters that spell no byte are in no bytes' digits
+pub no_pair : (digits other : List ℕ) (i : ℕ) → i < length other → AllByRecursion IsByte other → digits ≡ encode_upper other
+    → IsPair (get_or digits (2 * i) 0) (get_or digits (2 * i + 1) 0) None → ⊥
+no_pair digits other i lt are same none =
+    none (get_or other i 0) (bytes_at other are i) (ap (λ t. get_or t (2 * i) 0) same ∙ high_digit other i lt) (ap (λ t. get_or t (2 * i + 1) 0) same ∙ low_digit other i lt)
 
 -- when all digits were looked at, they are those of the bytes
-pub all_read : (digits bytes : List ℕ) (i : ℕ) → i ≡ 8 → length digits ≡ 16 → length bytes ≡ 8 → take (2 * i) digits ≡ encode_upper (take i bytes) → digits ≡ encode_upper bytes
-all_read digits bytes i eight width len e =
-    sym (take_all (2 * i) digits (omega (arith, eight, width))) ∙ e ∙ ap encode_upper (take_all i bytes (omega (arith, eight, len)))
+pub all_read : (digits bytes : List ℕ) (i : ℕ) → length bytes ≤ i → length digits ≡ 2 * length bytes → take (2 * i) digits ≡ encode_upper (take i bytes) → digits ≡ encode_upper bytes
+all_read digits bytes i end width e =
+    sym (take_all (2 * i) digits (omega (arith, end, width))) ∙ e ∙ ap encode_upper (take_all i bytes end)
 
 -- ---- how they are looked up
 

@@ -4,19 +4,15 @@ ghost use Rattle.std.specs.Prelude.{◌≡◌, ◌<◌, ◌^◌, ℕ, List, leng
 ghost use Rattle.std.specs.Bool.{OnTrue, OnFalse};
 ghost use Rattle.std.specs.Int.{w64, to_be_bytes};
 ghost use Rattle.std.specs.List.{AllByRecursion, list_any};
-ghost use Rattle.chan_deck.specs.Digits.{AreValues, IsValue};
+ghost use Rattle.chan_deck.specs.Digits.{AreValues, IsPair, IsValue};
 ghost use Rattle.hex.specs.Hex.{IsBytes, encode_upper};
 ghost use Rattle.chan_deck.specs.Item.{IsAddress, IsByte, IsWord, address_digits, byte_digits, cylinder_digits, size_digits};
 
-/// Whether there is a letter that is no capital. It doesn't stop at the first, so that the few digits are compared at once.
+/// Whether there is a letter that is no capital.
 fn has_small_letter(digits: &[u8]) -> bool
     ensures { result ≡ list_any (λ digit. nat_le 97 digit) digits.now }
 {
-    let mut found = false;
-    for digit in digits {
-        found |= *digit >= b'a';
-    }
-    found
+    digits.iter().any(|digit| *digit >= b'a')
 }
 
 /// Whether these are the upper-case digits of so many bytes, which are then written.
@@ -32,14 +28,74 @@ fn decode_upper(digits: &[u8], bytes: &mut [u8]) -> bool
     hex::decode_to_slice(digits, bytes).is_ok()
 }
 
+/// The value of a digit, as `hex` decodes it behind a zero.
+fn value_of(digit: u8) -> Option<u8>
+    ensures { IsValue digit result }
+{
+    let mut byte = [0u8; 1];
+    if decode_upper(&[b'0', digit], &mut byte) {
+        Some(byte[0])
+    } else {
+        None
+    }
+}
+
+/// The value of each character, where it is a digit.
+pub(crate) type DigitValues = [Option<u8>; 256];
+
+/// Asks `hex` for the value of each character.
+///
+/// `hex` compares a digit to find out its sort, which is slow where letters and figures come at random, as in the words
+/// of storage. So it is asked once for each character, and a deck's digits are looked up.
+pub(crate) fn digit_values() -> DigitValues
+    ensures { AreValues result }
+{
+    let mut values = [None; 256];
+    for digit in 0..=u8::MAX {
+        values[usize::from(digit)] = value_of(digit);
+    }
+    values
+}
+
+/// The byte of two digits.
+fn byte_by(high: u8, low: u8, values: &DigitValues) -> Option<u8>
+    requires { AreValues values.now }
+    ensures { IsPair high low result }
+{
+    let high = values[usize::from(high)]?;
+    let low = values[usize::from(low)]?;
+    Some(high * 16 + low)
+}
+
+/// Whether these are the upper-case digits of so many bytes, which are then written.
+fn look_up(digits: &[u8], values: &DigitValues, bytes: &mut [u8]) -> bool
+    requires { AreValues values.now }
+    ensures spelled { OnTrue result (digits.now ≡ encode_upper bytes.new) }
+    ensures fits { IsBytes bytes.new }
+    ensures len { length bytes.new ≡ length bytes.old }
+    ensures refused { OnFalse result ((other : List ℕ) → length other ≡ length bytes.old → AllByRecursion IsByte other → digits.now ≡ encode_upper other → ⊥) }
+{
+    if digits.len() != 2 * bytes.len() {
+        return false;
+    }
+    for i in 0..bytes.len() {
+        let Some(byte) = byte_by(digits[2 * i], digits[2 * i + 1], values) else {
+            return false;
+        };
+        bytes[i] = byte;
+    }
+    true
+}
+
 /// A byte of two digits.
-pub(crate) fn byte_of(digits: &[u8]) -> Option<u8>
+pub(crate) fn byte_of(digits: &[u8], values: &DigitValues) -> Option<u8>
+    requires { AreValues values.now }
     ensures { MatchOption result
         ((n : ℕ) → IsByte n → digits.now ≡ byte_digits n → ⊥)
         (λ n. IsByte n × (digits.now ≡ byte_digits n)) }
 {
     let mut bytes = [0u8; 1];
-    if decode_upper(digits, &mut bytes) {
+    if look_up(digits, values, &mut bytes) {
         Some(bytes[0])
     } else {
         None
@@ -47,13 +103,14 @@ pub(crate) fn byte_of(digits: &[u8]) -> Option<u8>
 }
 
 /// An address of six digits.
-pub(crate) fn address_of(digits: &[u8]) -> Option<u32>
+pub(crate) fn address_of(digits: &[u8], values: &DigitValues) -> Option<u32>
+    requires { AreValues values.now }
     ensures { MatchOption result
         ((n : ℕ) → IsAddress n → digits.now ≡ address_digits n → ⊥)
         (λ n. IsAddress n × (digits.now ≡ address_digits n)) }
 {
     let mut bytes = [0u8; 3];
-    if decode_upper(digits, &mut bytes) {
+    if look_up(digits, values, &mut bytes) {
         let [high, middle, low] = bytes;
         Some(u32::from_be_bytes([0, high, middle, low]))
     } else {
@@ -62,7 +119,8 @@ pub(crate) fn address_of(digits: &[u8]) -> Option<u32>
 }
 
 /// A number of bytes of storage in seven digits.
-pub(crate) fn size_of(digits: &[u8]) -> Option<u32>
+pub(crate) fn size_of(digits: &[u8], values: &DigitValues) -> Option<u32>
+    requires { AreValues values.now }
     ensures { MatchOption result
         ((n : ℕ) → n < 2 ^ 28 → digits.now ≡ size_digits n → ⊥)
         (λ n. (n < 2 ^ 28) × (digits.now ≡ size_digits n)) }
@@ -73,51 +131,26 @@ pub(crate) fn size_of(digits: &[u8]) -> Option<u32>
     let mut eight = *b"00000000";
     eight[1..].copy_from_slice(digits);
     let mut bytes = [0u8; 4];
-    if decode_upper(&eight, &mut bytes) {
+    if look_up(&eight, values, &mut bytes) {
         Some(u32::from_be_bytes(bytes))
     } else {
         None
     }
 }
 
-/// The value of a digit, as `hex` decodes it behind a zero.
-fn value_of(digit: u8) -> Option<u8>
-    ensures { IsValue digit result }
-{
-    byte_of(&[b'0', digit])
-}
-
-/// The value of each character that is a digit.
-///
-/// `hex` compares each digit to find out its sort, which is slow where letters and figures come at random, as in the
-/// words of storage. So it is asked once for each character, and words are looked up.
-pub(crate) fn digit_values() -> [Option<u8>; 256]
-    ensures { AreValues result }
-{
-    let mut values = [None; 256];
-    for digit in 0..=u8::MAX {
-        values[usize::from(digit)] = value_of(digit);
-    }
-    values
-}
-
 /// Eight bytes of sixteen digits, as the number that has them.
-pub(crate) fn word_of(digits: &[u8], values: &[Option<u8>; 256]) -> Option<u64>
+pub(crate) fn word_of(digits: &[u8], values: &DigitValues) -> Option<u64>
     requires { AreValues values.now }
     ensures { MatchOption result
         ((word : List ℕ) → IsWord word → digits.now ≡ encode_upper word → ⊥)
         (λ n. digits.now ≡ encode_upper (to_be_bytes w64 n)) }
 {
-    if digits.len() != 16 {
-        return None;
-    }
     let mut bytes = [0u8; 8];
-    for i in 0..8 {
-        let high = values[usize::from(digits[2 * i])]?;
-        let low = values[usize::from(digits[2 * i + 1])]?;
-        bytes[i] = high * 16 + low;
+    if look_up(digits, values, &mut bytes) {
+        Some(u64::from_be_bytes(bytes))
+    } else {
+        None
     }
-    Some(u64::from_be_bytes(bytes))
 }
 
 /// A cylinder of three decimal digits.

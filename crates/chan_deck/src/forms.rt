@@ -6,7 +6,7 @@ ghost use Rattle.chan_deck.specs.Item.{IsArea, Says, area_digits, device, end, h
 ghost use Rattle.chan_deck.specs.Item as item;
 ghost use Rattle.chan_deck.specs.Digits.{AreValues};
 
-use crate::digits::{address_of, byte_of, cylinder_of, size_of, word_of};
+use crate::digits::{DigitValues, address_of, byte_of, cylinder_of, size_of, word_of};
 use crate::lines::PUT_LINE;
 use ccw_core::Area;
 use ckd_core::Device;
@@ -61,22 +61,24 @@ pub(crate) fn device_of(line: &[u8]) -> Option<Device>
     }
 }
 
-pub(crate) fn mask_of(line: &[u8]) -> Option<u8>
+pub(crate) fn mask_of(line: &[u8], values: &DigitValues) -> Option<u8>
+    requires { AreValues values.now }
     ensures { MatchOption result
         ((n : ℕ) → Says line.now (mask n) → ⊥)
         (λ n. Says line.now (mask n)) }
 {
     let digits = behind(line, b"mask ")?;
-    byte_of(digits)
+    byte_of(digits, values)
 }
 
-pub(crate) fn start_of(line: &[u8]) -> Option<u32>
+pub(crate) fn start_of(line: &[u8], values: &DigitValues) -> Option<u32>
+    requires { AreValues values.now }
     ensures { MatchOption result
         ((n : ℕ) → Says line.now (start n) → ⊥)
         (λ n. Says line.now (start n)) }
 {
     let digits = behind(line, b"start ")?;
-    address_of(digits)
+    address_of(digits, values)
 }
 
 /// First and last cylinder.
@@ -93,30 +95,32 @@ pub(crate) fn extent_of(line: &[u8]) -> Option<(u16, u16)>
 }
 
 /// The area behind a word.
-pub(crate) fn area_of(line: &[u8], word: &[u8]) -> Option<Area>
+pub(crate) fn area_of(line: &[u8], word: &[u8], values: &DigitValues) -> Option<Area>
+    requires { AreValues values.now }
     ensures { MatchOption result
         ((a : Area) → IsArea a → line.now ≡ word.now ++ area_digits a → ⊥)
         (λ a. IsArea a × (line.now ≡ word.now ++ area_digits a)) }
 {
     let fields = behind(line, word)?;
     let (start, len) = two_fields(fields, 6)?;
-    let start = address_of(start)?;
-    let len = address_of(len)?;
+    let start = address_of(start, values)?;
+    let len = address_of(len, values)?;
     Some(Area { start, len })
 }
 
 /// The number of bytes of storage.
-pub(crate) fn storage_of(line: &[u8]) -> Option<u32>
+pub(crate) fn storage_of(line: &[u8], values: &DigitValues) -> Option<u32>
+    requires { AreValues values.now }
     ensures { MatchOption result
         ((n : ℕ) → Says line.now (item.storage n) → ⊥)
         (λ n. Says line.now (item.storage n)) }
 {
     let digits = behind(line, b"storage ")?;
-    size_of(digits)
+    size_of(digits, values)
 }
 
 /// The address of a put, and its eight bytes as a number.
-pub(crate) fn put_of(line: &[u8], values: &[Option<u8>; 256]) -> Option<(u32, u64)>
+pub(crate) fn put_of(line: &[u8], values: &DigitValues) -> Option<(u32, u64)>
     requires { AreValues values.now }
     ensures line { MatchOption result
         ((a : ℕ) (word : List ℕ) → Says line.now (put a word) → ⊥)
@@ -128,7 +132,7 @@ pub(crate) fn put_of(line: &[u8], values: &[Option<u8>; 256]) -> Option<(u32, u6
     }
     let fields = behind(line, b"put ")?;
     let (address, word) = two_fields(fields, 6)?;
-    let address = address_of(address)?;
+    let address = address_of(address, values)?;
     let word = word_of(word, values)?;
     Some((address, word))
 }

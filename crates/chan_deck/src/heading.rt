@@ -2,9 +2,11 @@
 
 ghost use Rattle.std.specs.Prelude.{◌≡◌, ◌+◌, ◌<◌, ℕ, [], List, length, IfOk, IfErr};
 ghost use Rattle.ckd_core.specs.declared.device.Device.{Device};
+ghost use Rattle.chan_deck.specs.Digits.{AreValues};
 ghost use Rattle.chan_deck.specs.Reading.{IsRefusal, Listing, Masked, Named, OnDevice, Opening, Stands};
 
 use crate::cause::Cause;
+use crate::digits::DigitValues;
 use crate::error::DeckError::{self, At};
 use crate::forms::{device_of, is_header, mask_of, start_of};
 use crate::lines::next_line;
@@ -54,7 +56,11 @@ pub(crate) fn read_device(text: &[u8]) -> Result<(Device, &[u8]), DeckError>
 }
 
 /// The file mask, and what follows its line.
-pub(crate) fn read_mask(text: &[u8]) -> Result<(FileMask, &[u8]), DeckError>
+pub(crate) fn read_mask<'a>(
+    text: &'a [u8],
+    values: &DigitValues,
+) -> Result<(FileMask, &'a [u8]), DeckError>
+    requires { AreValues values.now }
     ensures ok { IfOk result (λ x. (t : List ℕ) (v : Device) → Stands t (OnDevice v) 3 text.now → Stands t (Masked v x.0) 4 x.1.now) }
     ensures err { IfErr result (λ e. (t : List ℕ) (v : Device) → Stands t (OnDevice v) 3 text.now → IsRefusal t e) }
     ensures shorter { IfOk result (λ x. length x.1.now < length text.now) }
@@ -65,7 +71,7 @@ pub(crate) fn read_mask(text: &[u8]) -> Result<(FileMask, &[u8]), DeckError>
             cause: Cause::Ended,
         });
     };
-    let Some(byte) = mask_of(line) else {
+    let Some(byte) = mask_of(line, values) else {
         return Err(At {
             line: 3,
             cause: Cause::Form,
@@ -81,7 +87,11 @@ pub(crate) fn read_mask(text: &[u8]) -> Result<(FileMask, &[u8]), DeckError>
 }
 
 /// The address of the first CCW, and what follows its line.
-pub(crate) fn read_start(text: &[u8]) -> Result<(u32, &[u8]), DeckError>
+pub(crate) fn read_start<'a>(
+    text: &'a [u8],
+    values: &DigitValues,
+) -> Result<(u32, &'a [u8]), DeckError>
+    requires { AreValues values.now }
     ensures ok { IfOk result (λ x. (t : List ℕ) (v : Device) (m : ℕ) → Stands t (Masked v m) 4 text.now
         → Stands t (Listing (record { device = v; mask = m; start = x.0 }) [] [] []) 5 x.1.now) }
     ensures err { IfErr result (λ e. (t : List ℕ) (v : Device) (m : ℕ) → Stands t (Masked v m) 4 text.now → IsRefusal t e) }
@@ -93,7 +103,7 @@ pub(crate) fn read_start(text: &[u8]) -> Result<(u32, &[u8]), DeckError>
             cause: Cause::Ended,
         });
     };
-    match start_of(line) {
+    match start_of(line, values) {
         Some(start) => Ok((start, rest)),
         None => Err(At {
             line: 4,

@@ -1,10 +1,12 @@
 //! The lines of the lists, up to the line of storage.
 
 ghost use Rattle.std.specs.Prelude.{◌≡◌, ◌+◌, ◌<◌, ◌≤◌, ◌^◌, ℕ, List, [], length, IfErr, IfOk};
+ghost use Rattle.chan_deck.specs.Digits.{AreValues};
 ghost use Rattle.chan_deck.specs.Refused.{is_size as size_test};
 ghost use Rattle.chan_deck.specs.Reading.{Filling, Heading, IsRefusal, Listing, Stands};
 
 use crate::cause::Cause;
+use crate::digits::DigitValues;
 use crate::error::DeckError::{self, At};
 use crate::forms::storage_of;
 use crate::lines::next_line;
@@ -24,11 +26,13 @@ fn is_size(n: u32) -> bool
 pub(crate) fn read_lists<'a>(
     lists: &mut Lists,
     text: &'a [u8],
+    values: &DigitValues,
 ) -> Result<(usize, &'a [u8], u64), DeckError>
     requires extents { lists.old.extents.items ≡ [] }
     requires fetch { lists.old.fetch.items ≡ [] }
     requires store { lists.old.store.items ≡ [] }
     requires few { 5 + length text.now < 2 ^ 64 }
+    requires values { AreValues values.now }
     ensures ok { IfOk result (λ x. (t : List ℕ) (h : Heading) → Stands t (Listing h [] [] []) 5 text.now
         → Stands t (Filling h lists.new.extents.items lists.new.fetch.items lists.new.store.items x.0 []) x.2 x.1.now) }
     ensures err { IfErr result (λ e. (t : List ℕ) (h : Heading) → Stands t (Listing h [] [] []) 5 text.now → IsRefusal t e) }
@@ -38,9 +42,9 @@ pub(crate) fn read_lists<'a>(
     let mut rest = text;
     let mut line = 5u64;
     while let Some((found, after)) = next_line(rest) {
-        if let Some(row) = row_of(found) {
+        if let Some(row) = row_of(found, values) {
             lists.add(row, line)?;
-        } else if let Some(n) = storage_of(found) {
+        } else if let Some(n) = storage_of(found, values) {
             if lists.extents.is_empty() {
                 return Err(At {
                     line,

@@ -7,6 +7,7 @@ ghost use Rattle.chan_deck.specs.Refused.{IsRefused};
 ghost use Rattle.chan_deck.specs.declared.cause.Cause.{Cause};
 
 use crate::deck::Deck;
+use crate::digits::digit_values;
 use crate::error::DeckError;
 use crate::heading::{after_header, read_device, read_mask, read_start};
 use crate::lists::read_lists;
@@ -30,17 +31,18 @@ fn read_parts(alloc: Global, text: &[u8]) -> Result<Parts, DeckError>
         (image_of (record { device = p.device; mask = p.mask; start = p.start }) p.lists.extents.items p.lists.fetch.items p.lists.store.items p.storage.items)) }
     ensures refused { IfErr result (IsRefusal text.now) }
 {
+    let values = digit_values();
     let rest = after_header(text)?;
     let (device, rest) = read_device(rest)?;
-    let (mask, rest) = match read_mask(rest) {
+    let (mask, rest) = match read_mask(rest, &values) {
         Ok(found) => found,
         Err(error) => return Err(error),
     };
-    let (start, rest) = read_start(rest)?;
+    let (start, rest) = read_start(rest, &values)?;
     let mut lists = Lists::new(alloc);
-    let (size, rest, line) = read_lists(&mut lists, rest)?;
+    let (size, rest, line) = read_lists(&mut lists, rest, &values)?;
     let mut storage = vec![in alloc; 0u8; size]?;
-    fill(storage.as_mut_slice(), rest, line)?;
+    fill(storage.as_mut_slice(), rest, line, &values)?;
     Ok(Parts {
         device,
         mask,

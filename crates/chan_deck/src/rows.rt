@@ -1,12 +1,14 @@
 //! The rows of a deck's lists.
 
 ghost use Rattle.std.specs.Prelude.{◌≡◌, ◌⊎◌, [], Ok, Err, MatchOption, IfErr, OnOk};
+ghost use Rattle.chan_deck.specs.Digits.{AreValues};
 ghost use Rattle.chan_deck.specs.Item.{Says};
 ghost use Rattle.chan_deck.specs.Reading.{Heading, listing, row_item, step};
 ghost use Rattle.chan_deck.specs.declared.cause.Cause.{Cause};
 ghost use Rattle.chan_deck.specs.declared.rows.Row.{Row};
 
 use crate::cause::Cause;
+use crate::digits::DigitValues;
 use crate::error::DeckError::{self, At};
 use crate::forms::{area_of, extent_of};
 use ccw_core::Area;
@@ -35,7 +37,8 @@ pub(crate) enum Row {
 }
 
 /// The row that a line spells, if it spells one.
-pub(crate) fn row_of(line: &[u8]) -> Option<Row>
+pub(crate) fn row_of(line: &[u8], values: &DigitValues) -> Option<Row>
+    requires { AreValues values.now }
     ensures { MatchOption result
         ((r : Row) → Says line.now (row_item r) → ⊥)
         (λ r. Says line.now (row_item r)) }
@@ -43,10 +46,10 @@ pub(crate) fn row_of(line: &[u8]) -> Option<Row>
     if let Some((first, last)) = extent_of(line) {
         return Some(Row::Extent(first, last));
     }
-    if let Some(area) = area_of(line, b"fetch ") {
+    if let Some(area) = area_of(line, b"fetch ", values) {
         return Some(Row::Fetch(area));
     }
-    let area = area_of(line, b"store ")?;
+    let area = area_of(line, b"store ", values)?;
     Some(Row::Store(area))
 }
 

@@ -2,11 +2,12 @@
 
 ghost use Rattle.std.specs.Prelude.{◌≡◌, ◌+◌, ◌<◌, ◌≤◌, ◌^◌, ℕ, List, [], ◌++◌, length, replicate, take, drop, IfErr, OnOk};
 ghost use Rattle.ccw_core.specs.declared.areas.Area.{Area};
+ghost use Rattle.chan_deck.specs.Digits.{AreValues};
 ghost use Rattle.chan_deck.specs.Image.{Spells};
 ghost use Rattle.chan_deck.specs.Reading.{Filling, Heading, IsRefusal, Stands, image_of};
 
 use crate::cause::Cause;
-use crate::digits::digit_values;
+use crate::digits::DigitValues;
 use crate::error::DeckError::{self, At};
 use crate::forms::{is_end, put_of};
 use crate::lines::next_line;
@@ -20,22 +21,27 @@ fn write_at(storage: &mut [u8], at: usize, bytes: &[u8])
 }
 
 /// Puts what follows the line of storage, up to the end of the deck, into storage, which is zero before.
-pub(crate) fn fill(storage: &mut [u8], text: &[u8], first: u64) -> Result<(), DeckError>
+pub(crate) fn fill(
+    storage: &mut [u8],
+    text: &[u8],
+    first: u64,
+    values: &DigitValues,
+) -> Result<(), DeckError>
     requires zero { storage.old ≡ replicate (length storage.old) 0 }
     requires few { first + length text.now < 2 ^ 64 }
     requires size { length storage.old ≤ 2 ^ 24 }
+    requires values { AreValues values.now }
     ensures ok { OnOk result ((t : List ℕ) (h : Heading) (es : List (ℕ × ℕ)) (fs ss : List Area) → Stands t (Filling h es fs ss (length storage.old) []) first text.now
         → Spells t (image_of h es fs ss storage.new)) }
     ensures err { IfErr result (λ e. (t : List ℕ) (h : Heading) (es : List (ℕ × ℕ)) (fs ss : List Area) → Stands t (Filling h es fs ss (length storage.old) []) first text.now
         → IsRefusal t e) }
     ensures len { length storage.new ≡ length storage.old }
 {
-    let values = digit_values();
     let mut rest = text;
     let mut line = first;
     let mut next = 0usize;
     while let Some((found, after)) = next_line(rest) {
-        if let Some((address, word)) = put_of(found, &values) {
+        if let Some((address, word)) = put_of(found, values) {
             let address = address as usize;
             if address % 8 != 0 || address < next || storage.len() < address + 8 {
                 return Err(At {
