@@ -1,7 +1,7 @@
 -- Numbers of three, four and eight bytes.
 use Rattle.std.proofs.Common.{◌≡◌, ℕ, ◌/◌, ◌%◌, ◌^◌, ◌<◌, List, [], ◌∷◌, length, drop, get_or, refl, sym, ap, ◌∙◌, arith}
 use Rattle.std.specs.List.{AllByRecursion}
-use Rattle.std.specs.Int.{w32, w64, bytes_high_first, from_be_bytes, to_be_bytes}
+use Rattle.std.specs.Int.{w32, bytes_high_first, from_be_bytes}
 use Rattle.std.proofs.lemmas.Nat.{be_bytes_4}
 use Rattle.hex.specs.Hex.{encode_upper}
 use Rattle.chan_deck.specs.Item.{IsByte, size_digits}
@@ -26,17 +26,14 @@ bytes_three n = (omega arith, (omega arith, (omega arith, tt)))
 pub bytes_four : (n : ℕ) → AllByRecursion IsByte (bytes_high_first 4 n)
 bytes_four n = (omega arith, bytes_three n)
 
-pub bytes_eight : (n : ℕ) → AllByRecursion IsByte (to_be_bytes w64 n)
-bytes_eight n = (omega arith, (omega arith, (omega arith, (omega arith, bytes_four n))))
-
-first_small : (b s : List ℕ) → length b ≡ 4 → ((i : ℕ) → get_or b i 0 < 256) → 48 ∷ s ≡ encode_upper b → get_or b 0 0 < 16
-first_small [] s len fits e = absurd (omega arith)
-first_small (x ∷ rest) s len fits e = leading_zero x rest s (fits 0) e
+first_small : (b s : List ℕ) → length b ≡ 4 → 48 ∷ s ≡ encode_upper b → get_or b 0 0 < 16
+first_small [] s len e = absurd (omega arith)
+first_small (x ∷ rest) s len e = leading_zero x rest s e
 
 -- a number of seven digits has the four bytes that it was made of
 pub size_bytes : (b s : List ℕ) (n : ℕ) → length b ≡ 4 → ((i : ℕ) → get_or b i 0 < 256) → n ≡ from_be_bytes w32 b → 48 ∷ s ≡ encode_upper b
     → (n < 2 ^ 28) × (s ≡ size_digits n)
 size_bytes b s n len fits e digits =
-    let first = first_small b s len fits digits in
+    let first = first_small b s len digits in
     let bytes = be_bytes_4 b n len fits e in
     (omega (arith, e, first, fits 1, fits 2, fits 3), ap (λ (t : List ℕ). drop 1 t) digits ∙ ap (λ t. drop 1 (encode_upper t)) (sym bytes))

@@ -1,8 +1,10 @@
 -- The values of digits, and words that are read by them.
-use Rattle.std.proofs.Common.{◌≡◌, ℕ, zero, suc, ◌+◌, ◌*◌, ◌/◌, ◌%◌, ◌<◌, List, [], ◌∷◌, ◌++◌, length, take, set, slice_index, get_or, Option, Some, None, refl, sym, ap, ap₂, subst, ◌∙◌, arith, inl, inr}
-use Rattle.std.specs.Prelude.{◌≢◌, ◌≤◌}
-use Rattle.std.specs.List.{AllByRecursion}
+use Rattle.std.proofs.Common.{◌≡◌, ℕ, zero, suc, ◌+◌, ◌*◌, ◌/◌, ◌%◌, ◌<◌, List, [], ◌∷◌, ◌++◌, length, take, set, slice_index, get_or, Option, Some, None, Result, Ok, Err, true, false, refl, sym, ap, ap₂, subst, ◌∙◌, arith, inl, inr}
+use Rattle.std.specs.Bool.{OnTrue, OnFalse}
+use Rattle.std.specs.Prelude.{◌≢◌, ◌≤◌, is_err, is_ok, nat_le}
+use Rattle.std.specs.List.{AllByRecursion, list_any}
 use Rattle.std.proofs.lemmas.Bool.{cases_lt}
+use Rattle.std.proofs.lemmas.Bool.Decides.{nat_tests}
 use Rattle.std.proofs.lemmas.Grind.{get_or-set_at}
 use Rattle.std.proofs.lemmas.List.{append_assoc, get_or-set_other, take_all, take_more, take_more_set}
 use Rattle.hex.specs.Hex.{IsBytes, encode_upper, encode_with, upper_digits}
@@ -11,14 +13,19 @@ use Rattle.chan_deck.specs.Item.{IsByte}
 use Rattle.chan_deck.proofs.UpperDigits.{bytes_at, leading_zero}
 
 -- behind a zero, a digit spells its value
-pub behind_zero : (digit : ℕ) (bytes : List ℕ) → length bytes ≡ 1 → IsBytes bytes → 48 ∷ digit ∷ [] ≡ encode_upper bytes → IsValue digit (Some (get_or bytes 0 0))
+pub behind_zero : (digit : ℕ) (bytes : List ℕ) → length bytes ≡ 1 → 48 ∷ digit ∷ [] ≡ encode_upper bytes → IsValue digit (Some (get_or bytes 0 0))
 unfolding encode_with
-behind_zero digit [] len fits e = absurd (omega (arith, len))
-behind_zero digit (v ∷ w ∷ bytes) len fits e = absurd (omega (arith, len))
-behind_zero digit (v ∷ []) len fits e =
-    let small = leading_zero v [] (digit ∷ []) (fits 0) e in
+behind_zero digit [] len e = absurd (omega (arith, len))
+behind_zero digit (v ∷ w ∷ bytes) len e = absurd (omega (arith, len))
+behind_zero digit (v ∷ []) len e =
+    let small = leading_zero v [] (digit ∷ []) e in
     let low : v % 16 ≡ v = omega (arith, small) in
     (small, ap (λ t. slice_index t 1) e ∙ ap (λ k. slice_index upper_digits k) low)
+
+pub capital_behind_zero : (digit : ℕ) → digit < 97 → list_any (λ c. nat_le 97 c) (48 ∷ digit ∷ []) ≡ false
+capital_behind_zero digit lt =
+    let capital : nat_le 97 digit ≡ false = grind (arith, nat_tests) in
+    rw capital refl
 
 -- and what isn't one spells nothing
 pub no_digit : (digit : ℕ) → ((other : List ℕ) → length other ≡ 1 → AllByRecursion IsByte other → 48 ∷ digit ∷ [] ≡ encode_upper other → ⊥) → IsValue digit None
@@ -27,6 +34,15 @@ no_digit digit none = λ v lt e.
     let high : v / 16 ≡ 0 = omega arith in
     let low : v % 16 ≡ v = omega arith in
     none (v ∷ []) refl (omega arith, tt) (rw (high, low, e) refl)
+
+-- what is said of a decoding that failed, and of one that succeeded
+pub on_err : {A B : Type 0} (r : Result A B) (P : Type 0) → is_err r ≡ true → OnFalse (is_ok r) P → P
+on_err (Ok x) P e h = absurd cc
+on_err (Err x) P e h = h
+
+pub on_ok : {A B : Type 0} (r : Result A B) (P : Type 0) → is_err r ≡ false → OnTrue (is_ok r) P → P
+on_ok (Ok x) P e h = h
+on_ok (Err x) P e h = absurd cc
 
 abbrev digit : ℕ → ℕ
 digit v = slice_index upper_digits v

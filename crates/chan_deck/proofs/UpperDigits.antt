@@ -5,6 +5,7 @@ use Rattle.std.specs.Bool.{OnTrue, OnFalse}
 use Rattle.std.specs.List.{AllByRecursion, list_any}
 use Rattle.std.proofs.lemmas.Bool.{eqb-true, ltb-true, cases_lt}
 use Rattle.std.proofs.lemmas.Bool.Decides.{nat_tests}
+use Rattle.std.proofs.lemmas.List.{get_or_past}
 use Rattle.hex.specs.Hex.{IsBytes, decode_of, decode_pairs, decode_sized, digit_or_error, hex_digit_value, encode_upper, encode_with, pair_value, upper_digits, value_at, ◌>>=◌}
 use Rattle.hex.specs.declared.error.FromHexError.{FromHexError}
 use Rattle.hex.proofs.HexLemmas.{length-encode_with, decode_of-encode_upper, decode_of-even, decode_sized-ok, decode_sized-twice}
@@ -28,6 +29,10 @@ passes p (x ∷ t) h z (suc k) = passes p t (both (p x) (all_pass p t) h).1 z k
 -- each digit is a character of ASCII
 pub digit_ascii : (k : ℕ) → slice_index upper_digits k < 128
 digit_ascii k = ltb-true (slice_index upper_digits k) 128 (passes (λ c. nat_lt c 128) upper_digits refl refl k)
+
+-- and none is a small letter
+pub digit_capital : (k : ℕ) → slice_index upper_digits k < 97
+digit_capital k = ltb-true (slice_index upper_digits k) 97 (passes (λ c. nat_lt c 97) upper_digits refl refl k)
 
 -- each digit of an encoding passes a test that the table passes
 pub encoded_pass : (p : ℕ → Bool) → all_pass p upper_digits ≡ true → p 0 ≡ true → (bytes : List ℕ) → AllByRecursion (λ c. p c ≡ true) (encode_upper bytes)
@@ -147,17 +152,6 @@ pub encoded_one : (x y : List ℕ) → AllByRecursion IsByte x → AllByRecursio
 encoded_one x y hx hy e =
     ok_bytes x y (sym (decode_of-encode_upper x (bytes_at x hx)) ∙ ap decode_of e ∙ decode_of-encode_upper y (bytes_at y hy))
 
-none_of : (s : List ℕ) → AllByRecursion (λ c. nat_lt c 97 ≡ true) s → list_any (λ c. nat_le 97 c) s ≡ false
-none_of [] h = refl
-none_of (c ∷ s) h =
-    let lt : c < 97 = ltb-true _ _ h.0 in
-    let large : nat_le 97 c ≡ false = grind (arith, nat_tests) in
-    rw large (none_of s h.1)
-
--- no digit is a small letter
-pub no_small_letter : (bytes : List ℕ) → list_any (λ c. nat_le 97 c) (encode_upper bytes) ≡ false
-no_small_letter bytes = none_of (encode_upper bytes) (encoded_pass (λ c. nat_lt c 97) refl refl bytes)
-
 -- ---- what decoding into room for n bytes tells
 
 spelled_by : (s out : List ℕ) (n : ℕ) (r : Result Unit FromHexError) (d : Result (List ℕ) FromHexError) → list_any (λ c. nat_le 97 c) s ≡ false → decode_sized s n ≡ d
@@ -188,13 +182,18 @@ refused s out n r h = refused_by s out n r (decode_sized s n) refl h
 first_zero : (k : ℕ) → k < 16 → digit k ≡ 48 → k ≡ 0
 first_zero k lt e = grind (arith, nat_tests)
 
+zero_digit : (k : ℕ) → slice_index upper_digits k ≡ 48 → k ≡ 0
+zero_digit k e = elim (cases_lt k 16) [
+  | inl lt ↦ first_zero k lt (sym (table_digit k lt) ∙ e)
+  | inr past ↦ absurd (omega (arith, e, get_or_past upper_digits k 0 past))
+]
+
 -- a first digit of zero tells of a first byte below sixteen
-pub leading_zero : (b : ℕ) (rest s : List ℕ) → b < 256 → 48 ∷ s ≡ encode_upper (b ∷ rest) → b < 16
+pub leading_zero : (b : ℕ) (rest s : List ℕ) → 48 ∷ s ≡ encode_upper (b ∷ rest) → b < 16
 unfolding encode_with
-leading_zero b rest s lt e =
-    let first : 48 ≡ slice_index upper_digits (b / 16) = ap (λ t. slice_index t 0) e in
-    let zeroed : b / 16 ≡ 0 = first_zero (b / 16) (omega arith) (sym (table_digit (b / 16) (omega arith)) ∙ sym first) in
-    omega arith
+leading_zero b rest s e =
+    let zeroed = zero_digit (b / 16) (sym (ap (λ t. slice_index t 0) e)) in
+    omega (arith, zeroed)
 
 -- and the other way round
 pub with_zero : (b : ℕ) (rest : List ℕ) → b < 16 → 48 ∷ drop 1 (encode_upper (b ∷ rest)) ≡ encode_upper (b ∷ rest)

@@ -8,36 +8,15 @@ ghost use Rattle.chan_deck.specs.Digits.{AreValues, IsPair, IsValue};
 ghost use Rattle.hex.specs.Hex.{IsBytes, encode_upper};
 ghost use Rattle.chan_deck.specs.Item.{IsAddress, IsByte, IsWord, address_digits, byte_digits, cylinder_digits, size_digits};
 
-/// Whether there is a letter that is no capital.
-fn has_small_letter(digits: &[u8]) -> bool
-    ensures { result ≡ list_any (λ digit. nat_le 97 digit) digits.now }
-{
-    digits.iter().any(|digit| *digit >= b'a')
-}
-
-/// Whether these are the upper-case digits of so many bytes, which are then written.
-fn decode_upper(digits: &[u8], bytes: &mut [u8]) -> bool
-    ensures spelled { OnTrue result (digits.now ≡ encode_upper bytes.new) }
-    ensures fits { IsBytes bytes.new }
-    ensures len { length bytes.new ≡ length bytes.old }
-    ensures refused { OnFalse result ((other : List ℕ) → length other ≡ length bytes.old → AllByRecursion IsByte other → digits.now ≡ encode_upper other → ⊥) }
-{
-    if has_small_letter(digits) {
-        return false;
-    }
-    hex::decode_to_slice(digits, bytes).is_ok()
-}
-
-/// The value of a digit, as `hex` decodes it behind a zero.
+/// The value of a digit, as `hex` decodes it behind a zero. It would take small letters too.
 fn value_of(digit: u8) -> Option<u8>
     ensures { IsValue digit result }
 {
     let mut byte = [0u8; 1];
-    if decode_upper(&[b'0', digit], &mut byte) {
-        Some(byte[0])
-    } else {
-        None
+    if digit >= b'a' || hex::decode_to_slice([b'0', digit].as_slice(), &mut byte).is_err() {
+        return None;
     }
+    Some(byte[0])
 }
 
 /// The value of each character, where it is a digit.
