@@ -8,12 +8,17 @@ ghost use Rattle.chan_deck.specs.Digits.{AreValues, IsPair, IsValue};
 ghost use Rattle.hex.specs.Hex.{IsBytes, encode_upper};
 ghost use Rattle.chan_deck.specs.Item.{IsAddress, IsByte, IsWord, address_digits, byte_digits, cylinder_digits, size_digits};
 
-/// The value of a digit, as `hex` decodes it behind a zero. It would take small letters too.
+/// The first of the small letters, which `hex` takes for digits too.
+const SMALL_LETTERS: u8 = b'a';
+
+/// The value of a digit, as `hex` decodes it behind a zero.
 fn value_of(digit: u8) -> Option<u8>
     ensures { IsValue digit result }
 {
     let mut byte = [0u8; 1];
-    if digit >= b'a' || hex::decode_to_slice([b'0', digit].as_slice(), &mut byte).is_err() {
+    if digit >= SMALL_LETTERS
+        || hex::decode_to_slice([b'0', digit].as_slice(), &mut byte).is_err()
+    {
         return None;
     }
     Some(byte[0])
