@@ -4,7 +4,7 @@ use super::{Explored, PLACE_LIMIT, WalkError, explore};
 use crate::image::image;
 use crate::job::Job;
 use crate::place::{Entry, Place};
-use ccw_core::Storage;
+use ccw_core::{Area, Storage};
 use ckd_core::{Device, Extents, FileMask};
 use std::alloc::Global;
 use std::process::Abort;
@@ -16,6 +16,17 @@ struct Case<'a> {
     places: &'a [Place],
     marks: &'a [(u32, u8)],
 }
+
+/// Where the areas lie that each case is lent: one for fetching, one for storing.
+static FETCH: [Area; 1] = [Area {
+    start: 0x900,
+    len: 16,
+}];
+
+static STORE: [Area; 1] = [Area {
+    start: 0xA00,
+    len: 256,
+}];
 
 static SEARCH_LOOP: Case<'static> = Case {
     puts: &[
@@ -95,8 +106,8 @@ fn explored(alloc: Global, storage: &[u8]) -> Result<Result<Explored, WalkError>
         device: Device::D2314,
         mask: FileMask::new(0x00).ok_or("a mask")?,
         extents: &extents,
-        fetch: &[],
-        store: &[],
+        fetch: &FETCH,
+        store: &STORE,
     };
     Ok(explore(alloc, &job))
 }

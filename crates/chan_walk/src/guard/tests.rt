@@ -11,14 +11,25 @@ use std::test::Fail;
 /// A program in 4,096 bytes of storage, and the ranges of its guard.
 struct Case<'a> {
     start: u32,
+    store: &'a [Area],
     puts: &'a [(usize, u64)],
     ccws: &'a [Area],
     arguments: &'a [Area],
 }
 
+/// Where the area lies that each case is lent for fetching.
+static FETCH: [Area; 1] = [Area {
+    start: 0x900,
+    len: 16,
+}];
+
 /// A seek whose argument comes from three places with gaps between them, and a read over the third.
 static SPLIT: Case<'static> = Case {
     start: 0x800,
+    store: &[Area {
+        start: 0x908,
+        len: 2,
+    }],
     puts: &[
         (0x800, 0x0700_0900_8000_0002),
         (0x808, 0x0000_0904_8000_0002),
@@ -49,6 +60,10 @@ static SPLIT: Case<'static> = Case {
 /// One search, in the last doubleword of storage.
 static AT_THE_END: Case<'static> = Case {
     start: 0xFF8,
+    store: &[Area {
+        start: 0xA00,
+        len: 256,
+    }],
     puts: &[(0xFF8, 0x3100_0900_4000_0005)],
     ccws: &[Area {
         start: 0xFF8,
@@ -75,8 +90,8 @@ fn guard_of(alloc: Global, case: &Case) -> Result<Guard, Fail> {
         device: Device::D2314,
         mask: FileMask::new(0).ok_or("a mask")?,
         extents: &extents,
-        fetch: &[],
-        store: &[],
+        fetch: &FETCH,
+        store: case.store,
     };
     let explored = explore(alloc, &job)?;
     Ok(Guard::new(alloc, &job, &explored)?)
