@@ -1,12 +1,12 @@
 -- The values of digits, and words that are read by them.
 use Rattle.std.proofs.Common.{◌≡◌, ℕ, zero, suc, ◌+◌, ◌*◌, ◌/◌, ◌%◌, ◌<◌, List, [], ◌∷◌, ◌++◌, length, take, set, slice_index, get_or, Option, Some, None, Result, Ok, Err, true, false, refl, sym, ap, ap₂, subst, ◌∙◌, arith, inl, inr}
 use Rattle.std.specs.Bool.{OnTrue, OnFalse}
-use Rattle.std.specs.Prelude.{◌≢◌, ◌≤◌, is_err, is_ok, nat_le}
+use Rattle.std.specs.Prelude.{◌≢◌, is_err, is_ok, nat_le}
 use Rattle.std.specs.List.{AllByRecursion, list_any}
 use Rattle.std.proofs.lemmas.Bool.{cases_lt}
 use Rattle.std.proofs.lemmas.Bool.Decides.{nat_tests}
 use Rattle.std.proofs.lemmas.Grind.{get_or-set_at}
-use Rattle.std.proofs.lemmas.List.{append_assoc, get_or-set_other, take_all, take_more, take_more_set}
+use Rattle.std.proofs.lemmas.List.{append_assoc, get_or-set_other, take_more, take_more_set}
 use Rattle.hex.specs.Hex.{IsBytes, encode_upper, encode_with, upper_digits}
 use Rattle.chan_deck.specs.Digits.{IsPair, IsValue}
 use Rattle.chan_deck.specs.Item.{IsByte}
@@ -92,11 +92,6 @@ pub no_pair : (digits other : List ℕ) (i : ℕ) → i < length other → AllBy
     → IsPair (get_or digits (2 * i) 0) (get_or digits (2 * i + 1) 0) None → ⊥
 no_pair digits other i lt are same none =
     none (get_or other i 0) (bytes_at other are i) (ap (λ t. get_or t (2 * i) 0) same ∙ high_digit other i lt) (ap (λ t. get_or t (2 * i + 1) 0) same ∙ low_digit other i lt)
-
--- when all digits were looked at, they are those of the bytes
-pub all_read : (digits bytes : List ℕ) (i : ℕ) → length bytes ≤ i → length digits ≡ 2 * length bytes → take (2 * i) digits ≡ encode_upper (take i bytes) → digits ≡ encode_upper bytes
-all_read digits bytes i end width e =
-    sym (take_all (2 * i) digits (omega (arith, end, width))) ∙ e ∙ ap encode_upper (take_all i bytes end)
 
 -- ---- how they are looked up
 
