@@ -130,7 +130,7 @@ module _ (j : Job) (proper : IsProper j) where
           let a = and_parts (begins_seek p c) (is_refused j f.0) b in
           let k = refused j p.address f.0 f.1 a.1 in
           let z = (to_the_end p m k.0 a.0 e t known k.1).later in
-          record { run = z.run; at = z.at; more = z.more; next = z.next; is_run = z.is_run; comes = z.comes; goes_on = z.goes_on; shows = (argument (storage_of j) k.0, z.shows, k.2) }
+          record { run = z.run; at = z.at; more = z.more; next = z.next; is_run = z.is_run; comes = z.comes; goes_on = z.goes_on; shows = ((and_parts (is_fresh p.entered) _ a.0).0, argument (storage_of j) k.0, z.shows, k.2) }
       outside_at e t known en (inr b) =
           let a = and_parts (begins_recalibrate p c) (not (has_cylinder (extents_of j) 0)) b in
           record {
@@ -141,7 +141,7 @@ module _ (j : Job) (proper : IsProper j) where
             is_run = (R.is_run, en.step);
             comes = (R.gathered, refl);
             goes_on = tt;
-            shows = (home, en.home a.0, home_refused j (not-true _ a.1));
+            shows = ((and_parts (is_fresh p.entered) _ a.0).0, home, en.home a.0, home_refused j (not-true _ a.1));
           }
 
       own : check (storage_of j) p ≡ None → is_transfer c ≡ false → Cases (Shows j p) (table_of_own j p c f.0)

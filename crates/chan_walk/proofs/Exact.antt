@@ -66,7 +66,7 @@ module _ (j : Job) (safe : IsSafe j) (p : Place) where
       go (inr h) = subst IsUnchecked h.1 (later_safe s).unchecked
 
   no_outside : Unshown SeekOutside
-  no_outside s = let w = s.shows in both_ways _ w.2 (event_safe j s.next.events (Seek (Some w.0)) (later_safe s).events w.1)
+  no_outside s = let w = s.shows in both_ways _ w.3 (event_safe j s.next.events (Seek (Some w.1)) (later_safe s).events w.2)
 
   fault_unshown : (r : Reason) → HasFault j p (Some r) → Unshown r
   fault_unshown r f = table_case Unshown _ _ (table_of_own j p (word_at j p) f.0) r

@@ -9,32 +9,18 @@ use Rattle.ccw_core.specs.Storage.{Stands}
 use Rattle.chan_walk.specs.declared.place.Entry.TheVariants.{ChainOut}
 use Rattle.chan_walk.specs.declared.place.Place.{Place}
 use Rattle.chan_walk.specs.Argument.{Has, is_part, Leads, data_of, joined, total, IsChain, argument_addresses, argument}
+use Rattle.chan_walk.specs.Headline.{ComesTo, IsGathered}
 use Rattle.chan_walk.specs.Machine.{taken, with_taken}
 use Rattle.chan_walk.specs.Place.{straight_to, transferred_to}
 use Rattle.chan_walk.proofs.Chains.{part_is_no_transfer, chain_begins_with_part, chain_tail}
 use Rattle.chan_walk.proofs.Lists.{has_left, has_right, range_split, take_front}
-
--- p is at the CCW at b, or at a transfer that leads there
-abbrev pub ComesTo : List ℕ → Place → ℕ → Type 0
-ComesTo s p b = (p.address ≡ b) ⊎ ((p.after_transfer ≡ false) × Stands s p.address × (is_transfer (ccw s p.address) ≡ true) × ((ccw s p.address).address ≡ b))
-
--- a seek whose chain is l came to p with the bytes x
-pub record Gathering (s l : List ℕ) (p : Place) (x : List ℕ) : Type 0 where
-  pub before : List ℕ
-  pub rest : List ℕ
-  pub at : ℕ
-  pub leads : ComesTo s p at
-  pub chain : IsChain s (6 - length before) at rest
-  pub all : before ++ joined s rest ≡ joined s l
-  pub few : length before < 6
-  pub read : x ≡ map (byte s) before
 
 -- what m more bytes at p make of it
 pub record Advance (s l : List ℕ) (p : Place) (c : Fields) (x : List ℕ) (m : ℕ) (before : List ℕ) : Type 0 where
   pub covers : length (with_taken s c m x) ≡ 6 → argument_addresses s l ≡ before ++ taken c m x
   pub within : (b : ℕ) → Has (taken c m x) b → Has (argument_addresses s l) b
   pub full : length (with_taken s c m x) ≡ 6 → with_taken s c m x ≡ argument s l
-  pub on : length (with_taken s c m x) < 6 → m ≡ c.count → (w : Gathering s l (straight_to (p.address + 8) ChainOut) (with_taken s c m x)) × (w.before ≡ before ++ taken c m x)
+  pub on : length (with_taken s c m x) < 6 → m ≡ c.count → (w : IsGathered s l (straight_to (p.address + 8) ChainOut) (with_taken s c m x)) × (w.before ≡ before ++ taken c m x)
   pub chains : length (with_taken s c m x) < 6 → m ≡ c.count → chains_data c ≡ true
 
 module _ (s l : List ℕ) where
@@ -108,7 +94,7 @@ module _ (s l : List ℕ) where
       lead y (inr e) =
           inr (refl, subst (λ n. Stands s (n + 8)) (sym at) e.0, subst (λ n. is_transfer (ccw s (n + 8)) ≡ true) (sym at) e.1, subst (λ n. (ccw s (n + 8)).address ≡ y) (sym at) (sym e.2))
 
-      further : (rest : List ℕ) → IsChain s (6 - length before) a (d ∷ rest) → before ++ joined s (d ∷ rest) ≡ joined s l → length (with_taken s c m x) < 6 → m ≡ c.count → (w : Gathering s l (straight_to (p.address + 8) ChainOut) (with_taken s c m x)) × (w.before ≡ after)
+      further : (rest : List ℕ) → IsChain s (6 - length before) a (d ∷ rest) → before ++ joined s (d ∷ rest) ≡ joined s l → length (with_taken s c m x) < 6 → m ≡ c.count → (w : IsGathered s l (straight_to (p.address + 8) ChainOut) (with_taken s c m x)) × (w.before ≡ after)
       further [] k all h e = absurd (not_last k h e)
       further (y ∷ z) k all h e =
           let w = less h in
@@ -128,20 +114,20 @@ module _ (s l : List ℕ) where
             refl,
           )
 
-  pub at_next : (p : Place) (x : List ℕ) (g : Gathering s l p x) → is_transfer (ccw s p.address) ≡ false → p.address ≡ g.at
+  pub at_next : (p : Place) (x : List ℕ) (g : IsGathered s l p x) → is_transfer (ccw s p.address) ≡ false → p.address ≡ g.at
   at_next p x g t = go g.leads
     where
       go : ComesTo s p g.at → p.address ≡ g.at
       go (inl e) = e
       go (inr e) = absurd (both_ways _ t e.2)
 
-  pub advance : (p : Place) (x : List ℕ) (m : ℕ) (g : Gathering s l p x) → is_transfer (ccw s p.address) ≡ false → m ≤ (ccw s p.address).count → Advance s l p (ccw s p.address) x m g.before
+  pub advance : (p : Place) (x : List ℕ) (m : ℕ) (g : IsGathered s l p x) → is_transfer (ccw s p.address) ≡ false → m ≤ (ccw s p.address).count → Advance s l p (ccw s p.address) x m g.before
   advance p x m g t le =
       let e = at_next p x g t in
       subst (λ a. Advance s l p (ccw s a) x m g.before) (sym e) (go_on p x g.before g.at g.rest m e g.chain g.all g.few g.read (subst (λ a. m ≤ (ccw s a).count) e le))
 
   -- a transfer leads to the chain's next CCW
-  abbrev pub transfer_on : (p : Place) (x : List ℕ) → Gathering s l p x → is_transfer (ccw s p.address) ≡ true → Gathering s l (transferred_to (ccw s p.address).address p.entered) x
+  abbrev pub transfer_on : (p : Place) (x : List ℕ) → IsGathered s l p x → is_transfer (ccw s p.address) ≡ true → IsGathered s l (transferred_to (ccw s p.address).address p.entered) x
   transfer_on p x g t = record { before = g.before; rest = g.rest; at = g.at; leads = inl (go g.leads); chain = g.chain; all = g.all; few = g.few; read = g.read }
     where
       go : ComesTo s p g.at → (ccw s p.address).address ≡ g.at
@@ -149,5 +135,5 @@ module _ (s l : List ℕ) where
       go (inr e) = e.3
 
   -- where a seek begins
-  abbrev pub begin : (p : Place) → IsChain s 6 p.address l → Gathering s l p []
+  abbrev pub begin : (p : Place) → IsChain s 6 p.address l → IsGathered s l p []
   begin p k = record { before = []; rest = l; at = p.address; leads = inl refl; chain = k; all = refl; few = omega arith; read = refl }

@@ -14,7 +14,7 @@ use Rattle.chan_walk.specs.declared.place.Place.{Place}
 use Rattle.chan_walk.specs.Argument.{Has, IsChain, argument_addresses, argument}
 use Rattle.chan_walk.specs.Fault.{kind_of, goes_in, goes_out, is_known, begins_seek, begins_recalibrate, allows}
 use Rattle.chan_walk.specs.Guarded.{IsArgumentByte, IsGuarded}
-use Rattle.chan_walk.specs.Headline.{IsSafeEvent}
+use Rattle.chan_walk.specs.Headline.{IsGathered, IsSafeEvent}
 use Rattle.chan_walk.specs.Job.{storage_of, extents_of, fetch_of, store_of}
 use Rattle.chan_walk.specs.Machine.{Gathered, Stage, At, Ended, Checked, Event, Command, Moves, idle, skipped, stored, written, searched, taken, with_taken, Seeks, none, part, stays, goes, under_way, Homes, no_home, home_stays, home_goes, Goes, ends, on_data, on_command, on_skip, on_short, begun}
 use Rattle.chan_walk.specs.Place.{is_fresh, straight_to, word_at}
@@ -25,7 +25,7 @@ use Rattle.chan_walk.proofs.Areas.{covered_at, allows_cylinder, allows_home}
 use Rattle.chan_walk.proofs.Events.{uses_cases}
 use Rattle.chan_walk.proofs.Faults.{IsGood}
 use Rattle.chan_walk.proofs.Follows.{Follows, by_data, by_command, by_skip}
-use Rattle.chan_walk.proofs.Gathering.{Gathering, Advance}
+use Rattle.chan_walk.proofs.Gathering.{Advance}
 use Rattle.chan_walk.proofs.Lists.{all_append, same_reads}
 
 -- a seek is under way only at a chain of its own kind
@@ -45,7 +45,7 @@ module _ (j : Job) where
   -- what is known at a place of a seek under way
   abbrev pub Under : Place → Gathered → Type 0
   Under p None = Unit {0}
-  Under p (Some x) = (p.entered ≡ ChainOut) × (l : List ℕ) × IsSought l × Gathering (storage_of j) l p x
+  Under p (Some x) = (p.entered ≡ ChainOut) × (l : List ℕ) × IsSought l × IsGathered (storage_of j) l p x
 
   abbrev pub IsKept : Stage → Type 0
   IsKept (At p g) = IsReachable j p × Under p g

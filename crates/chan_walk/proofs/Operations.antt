@@ -13,6 +13,7 @@ use Rattle.chan_walk.specs.Alarm.{AreBytes, IsQuiet, NoSeek, GoesOn, ShowsLater}
 use Rattle.chan_walk.specs.Argument.{Has, is_part, Leads, IsChain, argument_addresses, argument}
 use Rattle.chan_walk.specs.Check.{check}
 use Rattle.chan_walk.specs.Fault.{kind_of, begins_seek, begins_recalibrate}
+use Rattle.chan_walk.specs.Headline.{ComesTo, IsGathered}
 use Rattle.chan_walk.specs.Job.{storage_of}
 use Rattle.chan_walk.specs.Machine.{Gathered, Stage, At, Ended, Checked, Event, Seek, taken, with_taken, under_way, Goes, ends, on_data, on_short, Step, checked, transferred}
 use Rattle.chan_walk.specs.Place.{is_fresh, straight_to, transferred_to, word_at}
@@ -21,7 +22,7 @@ use Rattle.chan_walk.specs.Successors.{chained}
 use Rattle.chan_walk.proofs.Chains.{part_is_no_transfer, part_counts, chain_begins_with_part, chain_cons}
 use Rattle.chan_walk.proofs.Checks.{check_stands, part_passes, passed_is_part, no_second_transfer, transfer_passes}
 use Rattle.chan_walk.proofs.Commands.{seek_no_recalibrate}
-use Rattle.chan_walk.proofs.Gathering.{ComesTo, Gathering, Advance, advance, at_next, transfer_on}
+use Rattle.chan_walk.proofs.Gathering.{Advance, advance, at_next, transfer_on}
 use Rattle.chan_walk.proofs.Lists.{has_cases}
 use Rattle.chan_walk.proofs.Quiet.{full_count, IsFew, length-with_taken, kind_at, bytes_at, Known, Left, UsesTaken, CanSeek, seek_at, Carried, carry_out}
 use Rattle.chan_walk.proofs.Yes.{fresh_out}
@@ -171,7 +172,7 @@ module _ (j : Job) (bytes : AreBytes (storage_of j)) where
       pub is_used : IsRun j used
       pub gathers : (b : ℕ) → Has (argument_addresses (storage_of j) l) b → UsesInArgument used b
 
-    pub finish : (fuel : ℕ) (l : List ℕ) (q : Place) (g : Gathered) (x : List ℕ) (go : Going q g) → Ready q g x → (w : Gathering (storage_of j) l q x) → 6 - length x ≤ fuel → ((b : ℕ) → Has w.before b → Gathers go b) → Finished l
+    pub finish : (fuel : ℕ) (l : List ℕ) (q : Place) (g : Gathered) (x : List ℕ) (go : Going q g) → Ready q g x → (w : IsGathered (storage_of j) l q x) → 6 - length x ≤ fuel → ((b : ℕ) → Has w.before b → Gathers go b) → Finished l
     finish zero l q g x go r w le old = let few = r.few in absurd (omega arith)
     finish (suc fuel) l q g x go r w le old = cases (cases_lt (length all) 6) (λ q' go' w' r' old'. finish fuel l q' (Some all) all go' r' w' (omega (arith, len, positive, whole, r.few)) old')
       where
@@ -217,14 +218,14 @@ module _ (j : Job) (bytes : AreBytes (storage_of j)) where
               gathers = λ b h. pick s.0 b s.3 (has_cases w.before (taken c m x) b (subst (λ z. Has z b) (adv.covers six) h));
             }
 
-        further : length all < 6 → ((q' : Place) (go' : Going q' (Some all)) (w' : Gathering (storage_of j) l q' all) → Ready q' (Some all) all → ((b : ℕ) → Has w'.before b → Gathers go' b) → Finished l) → Finished l
+        further : length all < 6 → ((q' : Place) (go' : Going q' (Some all)) (w' : IsGathered (storage_of j) l q' all) → Ready q' (Some all) all → ((b : ℕ) → Has w'.before b → Gathers go' b) → Finished l) → Finished l
         further lt rec =
             let a = adv.on lt whole in
             let s = st.on lt (adv.chains lt whole) in
             let go' = push next (Some all) go s.1 s.2 refl in
             lead a.0 go' (λ b h. pick s.0 b s.3 (has_cases w.before (taken c m x) b (subst (λ z. Has z b) a.1 h))) a.0.leads
           where
-            lead : (w' : Gathering (storage_of j) l next all) (go' : Going next (Some all)) → ((b : ℕ) → Has w'.before b → Gathers go' b) → ComesTo (storage_of j) next w'.at → Finished l
+            lead : (w' : IsGathered (storage_of j) l next all) (go' : Going next (Some all)) → ((b : ℕ) → Has w'.before b → Gathers go' b) → ComesTo (storage_of j) next w'.at → Finished l
             lead w' go' old' (inl e) =
                 let part = subst (λ a. is_part (storage_of j) a ≡ true) (sym e) (chain_begins_with_part (storage_of j) _ _ _ w'.chain) in
                 rec next go' w' (ready_out next all lt refl (part_passes (storage_of j) next part refl) (part_is_no_transfer (storage_of j) next.address part)) old'
@@ -234,7 +235,7 @@ module _ (j : Job) (bytes : AreBytes (storage_of j)) where
                 let part = subst (λ a. is_part (storage_of j) a ≡ true) (sym e.3) (chain_begins_with_part (storage_of j) _ _ _ w'.chain) in
                 rec q'' go'' (transfer_on (storage_of j) l next all w' e.2) (ready_out q'' all lt refl (part_passes (storage_of j) q'' part refl) (part_is_no_transfer (storage_of j) q''.address part)) (λ b h. inr (old' b h))
 
-        cases : (length all < 6) ⊎ (6 ≤ length all) → ((q' : Place) (go' : Going q' (Some all)) (w' : Gathering (storage_of j) l q' all) → Ready q' (Some all) all → ((b : ℕ) → Has w'.before b → Gathers go' b) → Finished l) → Finished l
+        cases : (length all < 6) ⊎ (6 ≤ length all) → ((q' : Place) (go' : Going q' (Some all)) (w' : IsGathered (storage_of j) l q' all) → Ready q' (Some all) all → ((b : ℕ) → Has w'.before b → Gathers go' b) → Finished l) → Finished l
         cases (inl lt) rec = further lt rec
         cases (inr ge) rec = done (omega (arith, len, r.few))
 

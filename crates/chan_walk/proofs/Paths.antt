@@ -13,6 +13,7 @@ use Rattle.chan_walk.specs.declared.place.Place.{Place}
 use Rattle.chan_walk.specs.Alarm.{AreBytes, first_cylinder, IsQuiet, IsQuietMoment, ArePlaces, EachPathIsRun}
 use Rattle.chan_walk.specs.Argument.{HasArgument}
 use Rattle.chan_walk.specs.Fault.{kind_of, begins_seek, IsClear}
+use Rattle.chan_walk.specs.Headline.{IsGathered}
 use Rattle.chan_walk.specs.Job.{storage_of, extents_of}
 use Rattle.chan_walk.specs.Machine.{Gathered, At, Event, under_way, Goes, on_data, on_command, on_skip, Step, transferred}
 use Rattle.chan_walk.specs.Place.{straight_to, transferred_to, word_at}
@@ -21,7 +22,7 @@ use Rattle.chan_walk.specs.Runs.{Moment, IsRun}
 use Rattle.chan_walk.specs.Successors.{chained}
 use Rattle.chan_walk.proofs.Faults.{IsGood, clear_check, clear_good}
 use Rattle.chan_walk.proofs.Follows.{Follows, by_transfer, by_data, by_command, by_skip, follows}
-use Rattle.chan_walk.proofs.Gathering.{Gathering, Advance, advance, transfer_on, begin}
+use Rattle.chan_walk.proofs.Gathering.{Advance, advance, transfer_on, begin}
 use Rattle.chan_walk.proofs.Kept.{chained_out}
 use Rattle.chan_walk.proofs.Quiet.{full_count, IsFew, kind_at, bytes_at, Left, seek_at, carry_out}
 use Rattle.chan_walk.proofs.Yes.{fresh_out}
@@ -35,7 +36,7 @@ module _ (j : Job) where
   -- a seek came to p with these bytes, or none is under way
   abbrev pub Taking : Place → Gathered → Type 0
   Taking p None = Unit {0}
-  Taking p (Some x) = (p.entered ≡ ChainOut) × (l : List ℕ) × Gathering (storage_of j) l p x
+  Taking p (Some x) = (p.entered ≡ ChainOut) × (l : List ℕ) × IsGathered (storage_of j) l p x
 
   -- a seek under way at p, whose chain is known
   abbrev Comes : Place → Gathered → Type 0
@@ -46,7 +47,7 @@ module _ (j : Job) where
   few_of p None h = tt
   few_of p (Some x) h = h.1
 
-  few_read : (p : Place) (x : List ℕ) (l : List ℕ) → Gathering (storage_of j) l p x → length x < 6
+  few_read : (p : Place) (x : List ℕ) (l : List ℕ) → IsGathered (storage_of j) l p x → length x < 6
   few_read p x l w = let few = w.few in let len = ap length w.read ∙ length-map w.before (byte (storage_of j)) in subst (λ n. n < 6) (sym len) few
 
   pub few_at : (p : Place) (g : Gathered) → Taking p g → IsFew (under_way p (word_at j p) g)
@@ -81,7 +82,7 @@ module _ (j : Job) where
   -- what a seek goes on with after p, if it does
   abbrev Onward : Place → Gathered → Type 0
   Onward p None = Unit {0}
-  Onward p (Some x) = (kind_at j p ≡ Outward) × (chains_data (word_at j p) ≡ true) × (l : List ℕ) × Gathering (storage_of j) l (straight_to (p.address + 8) ChainOut) x
+  Onward p (Some x) = (kind_at j p ≡ Outward) × (chains_data (word_at j p) ≡ true) × (l : List ℕ) × IsGathered (storage_of j) l (straight_to (p.address + 8) ChainOut) x
 
   onward_of : (p : Place) (g : Gathered) (es : List Event) (after : Gathered) → Comes p g → Left j (word_at j p) (bytes_at j p) g es after → Onward p after
   onward_of p None es after h left = subst (λ z. Onward p z) (sym left.0) tt
@@ -131,7 +132,7 @@ module _ (j : Job) where
 
       carry : (g : Gathered) → Onward p g → Taking (straight_to (p.address + 8) e) g
       carry None u = tt
-      carry (Some x) u = let same = chained_out (kind_at j p) u.0 ch in (same, u.2, subst (λ z. Gathering (storage_of j) u.2 (straight_to (p.address + 8) z) x) (sym same) u.3)
+      carry (Some x) u = let same = chained_out (kind_at j p) u.0 ch in (same, u.2, subst (λ z. IsGathered (storage_of j) u.2 (straight_to (p.address + 8) z) x) (sym same) u.3)
   can_step bytes y p g tk f (by_command t cd cc') =
       let few = few_of p (under_way p (word_at j p) g) (comes_at p g tk f t) in
       let n = none_left y p g tk f t cd in

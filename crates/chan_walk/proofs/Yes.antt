@@ -11,7 +11,7 @@ use Rattle.chan_walk.specs.declared.place.Entry.TheVariants.{Fresh, ChainIn, Cha
 use Rattle.chan_walk.specs.declared.place.Place.{Place}
 use Rattle.chan_walk.specs.declared.reason.Reason.TheVariants.{ChangesCcw, ChangesArgument}
 use Rattle.chan_walk.specs.declared.verdict.Verdict.TheVariants.{Yes}
-use Rattle.chan_walk.specs.Argument.{HasArgument, joined}
+use Rattle.chan_walk.specs.Argument.{HasArgument}
 use Rattle.chan_walk.specs.Check.{check, check_of}
 use Rattle.chan_walk.specs.Fault.{kind_of, stores, is_known, begins_seek, allows, is_refused, IsClear}
 use Rattle.chan_walk.specs.Guarded.{IsGuarded}
@@ -195,7 +195,7 @@ module _ (j : Job) (v : IsVerdict j Yes) where
 
   part_of : (p : Place) (g : Gathered) → Under j p g → GathersPart j (At p g)
   part_of p None u = tt
-  part_of p (Some x) u = record { seek = u.2.seek; reached = u.2.reached; seeks = u.2.seeks; chain = u.1; is_chain = u.2.is_chain; before = u.3.before; rest = joined (storage_of j) u.3.rest; gathered = u.3.read; followed = u.3.all; allowed = u.2.allowed }
+  part_of p (Some x) u = record { seek = u.2.seek; reached = u.2.reached; seeks = u.2.seeks; chain = u.1; is_chain = u.2.is_chain; gathered = u.3; allowed = u.2.allowed }
 
   gathers : (st : Stage) → IsKept j st → GathersPart j st
   gathers (At p g) k = part_of p g k.1

@@ -105,7 +105,8 @@ abbrev pub ShowsCheck : Job → Place → Reason → Type 0
 ShowsCheck j p r = ShowsNext j p (λ es stage. stage ≡ Checked r)
 
 -- what a run shows for a reason at p: the program check itself; a command that may not begin; a store or a fetch outside lent areas;
--- a seek that ends, or is checked, before its sixth byte; a seek that isn't allowed; a store over what some run uses
+-- a seek that begins at p and ends, or is checked, before its sixth byte; an operation that begins at p and seeks where it isn't allowed;
+-- a store over what some run uses
 abbrev pub Shows : Job → Place → Reason → Type 0
 Shows j p Misaligned = ShowsCheck j p Misaligned
 Shows j p OutsideStorage = ShowsCheck j p OutsideStorage
@@ -119,7 +120,7 @@ Shows j p Inhibited = ShowsNext j p (λ es stage. (code : ℕ) × Has es (Comman
 Shows j p StoreNotLent = ShowsNext j p (λ es stage. StoresOn (λ b. lies_in (store_of j) b ≡ false) es)
 Shows j p FetchNotLent = ShowsNext j p (λ es stage. FetchesFrom (λ b. lies_in (fetch_of j) b ≡ false) es)
 Shows j p ShortSeek = ShowsLater j p (λ at es stage. (begins_seek p (ccw at.storage p.address) ≡ true) × NoSeek es × (Has es (Seek None) ⊎ ((r : Reason) × (stage ≡ Checked r))))
-Shows j p SeekOutside = ShowsLater j p (λ at es stage. (x : List ℕ) × Has es (Seek (Some x)) × (allows j x ≡ false))
+Shows j p SeekOutside = ShowsLater j p (λ at es stage. (is_fresh p.entered ≡ true) × (x : List ℕ) × Has es (Seek (Some x)) × (allows j x ≡ false))
 Shows j p ChangesCcw = ShowsNext j p (λ es stage. StoresOn (λ b. (used : List Moment) × IsRun j used × UsesInCcw used b) es)
 Shows j p ChangesArgument = ShowsNext j p (λ es stage. StoresOn (λ b. (used : List Moment) × IsRun j used × UsesInArgument used b) es)
 

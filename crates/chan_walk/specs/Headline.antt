@@ -1,8 +1,9 @@
 -- What a yes means: every run is safe, and the job is steady; and the laws that carry it.
-use Rattle.std.specs.Prelude.{◌≡◌, ℕ, ◌+◌, ◌<◌, ◌≤◌, true, false, List, ◌++◌, map, length, Some, None}
+use Rattle.std.specs.Prelude.{◌≡◌, ℕ, ◌+◌, ◌-◌, ◌<◌, ◌≤◌, true, false, List, ◌++◌, map, length, Some, None, ◌⊎◌}
 use Rattle.std.specs.List.{AllByRecursion}
 use Rattle.ccw_core.specs.Areas.{lies_in}
-use Rattle.ccw_core.specs.Ccw.{byte}
+use Rattle.ccw_core.specs.Ccw.{byte, ccw, is_transfer}
+use Rattle.ccw_core.specs.Storage.{Stands}
 use Rattle.ckd_core.specs.Cylinders.{has_cylinder}
 use Rattle.ckd_core.specs.Mask.{inhibits}
 use Rattle.chan_walk.specs.declared.job.Job.{Job}
@@ -75,23 +76,35 @@ IsAtReachable j (Checked r) = Unit {0}
 abbrev pub StaysReachable : Type 0
 StaysReachable = EachMomentOfYes (λ j m. IsAtReachable j m.stage)
 
--- x, followed by the rest of its chain, is the allowed argument of a reachable seek
-pub record IsPartOfSeek (j : Job) (x : List ℕ) : Type 0 where
+-- at p the data chain goes on with the CCW at a: p is there, or at a transfer in channel that leads there
+abbrev pub ComesTo : List ℕ → Place → ℕ → Type 0
+ComesTo s p a = (p.address ≡ a) ⊎ ((p.after_transfer ≡ false) × Stands s p.address × (is_transfer (ccw s p.address) ≡ true) × ((ccw s p.address).address ≡ a))
+
+-- a seek whose chain is l has come to p with the bytes x: they are the first of the chain, fewer than six, and the rest of the chain lies ahead of p
+pub record IsGathered (s l : List ℕ) (p : Place) (x : List ℕ) : Type 0 where
+  pub before : List ℕ
+  pub rest : List ℕ
+  pub at : ℕ
+  pub leads : ComesTo s p at
+  pub chain : IsChain s (6 - length before) at rest
+  pub all : before ++ joined s rest ≡ joined s l
+  pub few : length before < 6
+  pub read : x ≡ map (byte s) before
+
+-- x, followed by the rest of its chain from p on, is the allowed argument of a reachable seek
+pub record IsPartOfSeek (j : Job) (p : Place) (x : List ℕ) : Type 0 where
   pub seek : Place
   pub reached : IsReachable j seek
   pub seeks : begins_seek seek (word_at j seek) ≡ true
   pub chain : List ℕ
   pub is_chain : IsChain (storage_of j) 6 seek.address chain
-  pub before : List ℕ
-  pub rest : List ℕ
-  pub gathered : x ≡ map (byte (storage_of j)) before
-  pub followed : before ++ rest ≡ joined (storage_of j) chain
+  pub gathered : IsGathered (storage_of j) chain p x
   pub allowed : allows j (argument (storage_of j) chain) ≡ true
 
 -- so is what a stage has gathered
 abbrev pub GathersPart : Job → Stage → Type 0
 GathersPart j (At p None) = Unit {0}
-GathersPart j (At p (Some x)) = IsPartOfSeek j x
+GathersPart j (At p (Some x)) = IsPartOfSeek j p x
 GathersPart j Ended = Unit {0}
 GathersPart j (Checked r) = Unit {0}
 

@@ -22,7 +22,7 @@ use thiserror::Error;
 mod tests;
 
 /// How many places a program may come to, at most.
-pub const PLACE_LIMIT: usize = 4096;
+const PLACE_LIMIT: usize = 4096;
 
 /// In how many ways a CCW can be entered.
 const WAYS: u32 = 8;

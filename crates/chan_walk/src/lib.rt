@@ -27,7 +27,7 @@ mod successor;
 mod verdict;
 mod word;
 
-pub use crate::exploring::{Explored, PLACE_LIMIT, Places, WalkError, explore};
+pub use crate::exploring::{Explored, Places, WalkError, explore};
 pub use crate::fault::fault_at;
 pub use crate::guard::Guard;
 pub use crate::job::Job;
