@@ -186,8 +186,8 @@ module _ (j : Job) (proper : IsProper j) where
 
   shows : (p : Place) (r : Reason) → IsReachable j p → Offends j p r → Shows j p r
   shows p r m (inl f) = shows_fault p m r f
-  shows p r m (inr (inl o)) = subst (Shows j p) (sym o.0) (shows_store p m (o.1 p m) _ _ ccw_used o.2)
-  shows p r m (inr (inr o)) = subst (Shows j p) (sym o.0) (shows_store p m (o.1 p m) _ _ argument_used o.2)
+  shows p r m (inr (clear, inl o)) = subst (Shows j p) (sym o.0) (shows_store p m (clear p m) _ _ ccw_used o.1)
+  shows p r m (inr (clear, inr o)) = subst (Shows j p) (sym o.0) (shows_store p m (clear p m) _ _ argument_used o.1)
 
 pub no_false_alarm : NoFalseAlarm
 no_false_alarm j a r proper v = (v.0.place, v.0.address, shows j proper v.0.place r v.0.reached v.0.offends)

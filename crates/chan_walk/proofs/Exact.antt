@@ -161,8 +161,8 @@ changes_not j proper steady p m f P to o =
 
 pub safe_is_yes : SafeIsYes
 safe_is_yes j proper safe steady p r m (inl f) = fault_unshown j safe p r f (shows_fault j proper p m r f)
-safe_is_yes j proper safe steady p r m (inr (inl o)) = changes_not j proper steady p m (o.1 p m) _ (λ b h. let u = ccw_used j proper b h in (u.0, u.1, inl u.2)) o.2
-safe_is_yes j proper safe steady p r m (inr (inr o)) = changes_not j proper steady p m (o.1 p m) _ (λ b h. let u = argument_used j proper b h in (u.0, u.1, inr u.2)) o.2
+safe_is_yes j proper safe steady p r m (inr (clear, inl o)) = changes_not j proper steady p m (clear p m) _ (λ b h. let u = ccw_used j proper b h in (u.0, u.1, inl u.2)) o.1
+safe_is_yes j proper safe steady p r m (inr (clear, inr o)) = changes_not j proper steady p m (clear p m) _ (λ b h. let u = argument_used j proper b h in (u.0, u.1, inr u.2)) o.1
 
 pub headline_alone_is_enough : HeadlineAloneIsEnough
 headline_alone_is_enough answer h j proper e = let s = h j proper e in safe_is_yes j proper s.0 s.1

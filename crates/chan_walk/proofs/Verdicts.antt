@@ -12,11 +12,11 @@ use Rattle.chan_walk.specs.declared.reason.Reason.TheVariants.{ChangesCcw, Chang
 use Rattle.chan_walk.specs.declared.verdict.Verdict.TheVariants.{Yes, No}
 use Rattle.chan_walk.specs.Fault.{stores, HasFault, IsClear}
 use Rattle.chan_walk.specs.Guarded.{IsCcwByte, IsArgumentByte}
-use Rattle.chan_walk.specs.Least.{IsOwn, Changes, IsFirst, IsLeast}
+use Rattle.chan_walk.specs.Least.{IsOwn, IsFirst, IsLeast}
 use Rattle.chan_walk.specs.Place.{word_at}
 use Rattle.chan_walk.specs.Reachable.{IsReachable}
 use Rattle.chan_walk.specs.Reason.{number_of}
-use Rattle.chan_walk.specs.Verdict.{AreClear, StoresOver, Offends, ComesFirst, IsVerdict}
+use Rattle.chan_walk.specs.Verdict.{AreClear, StoresOver, Changes, Offends, ComesFirst, IsVerdict}
 use Rattle.chan_walk.proofs.Faults.{fault_exists, fault_unique}
 
 -- where no reachable place has an own fault, each is clear
@@ -35,22 +35,16 @@ verdict_of_fault j f h = (record { place = h.0.0; reached = h.0.1; address = h.0
   where
     go : (p : Place) (t : Reason) → IsReachable j p → Offends j p t → ComesFirst f.address f.reason p.address t
     go p t r (inl o) = h.1 p t r o
-    go p t r (inr (inl o)) = absurd (not_clear j h.0.0 f.reason h.0.3 h.0.1 o.1)
-    go p t r (inr (inr o)) = absurd (not_clear j h.0.0 f.reason h.0.3 h.0.1 o.1)
+    go p t r (inr o) = absurd (not_clear j h.0.0 f.reason h.0.3 h.0.1 o.0)
 
 -- without own faults, only changes offend
 change_of : (j : Job) → IsLeast (IsOwn j) (IsReachable j) None → (p : Place) (t : Reason) → IsReachable j p → Offends j p t → Changes j p t
 change_of j none p t r (inl o) = absurd (none p t r o)
-change_of j none p t r (inr (inl o)) = inl (o.0, o.2)
-change_of j none p t r (inr (inr o)) = inr (o.0, o.2)
+change_of j none p t r (inr o) = o.1
 
 pub verdict_of_change : (j : Job) (f : Finding) → IsLeast (IsOwn j) (IsReachable j) None → IsLeast (Changes j) (IsReachable j) (Some f) → IsVerdict j (No f.address f.reason)
 verdict_of_change j f none h =
-    (record { place = h.0.0; reached = h.0.1; address = h.0.2; offends = off h.0.0 f.reason h.0.3 }, λ p t r o. h.1 p t r (change_of j none p t r o))
-  where
-    off : (p : Place) (t : Reason) → Changes j p t → Offends j p t
-    off p t (inl o) = inr (inl (o.0, clear_all j none, o.1))
-    off p t (inr o) = inr (inr (o.0, clear_all j none, o.1))
+    (record { place = h.0.0; reached = h.0.1; address = h.0.2; offends = inr (clear_all j none, h.0.3) }, λ p t r o. h.1 p t r (change_of j none p t r o))
 
 pub verdict_yes : (j : Job) → IsLeast (IsOwn j) (IsReachable j) None → IsLeast (Changes j) (IsReachable j) None → IsVerdict j Yes
 verdict_yes j none h p t r o = h p t r (change_of j none p t r o)

@@ -48,8 +48,8 @@ module _ (j : Job) (v : IsVerdict j Yes) where
   onward p q r f = (p ∷ r.0, (r.1, clear_at p r, succeeds _ _ _ _ f))
 
   apart_at : (p : Place) → IsReachable j p → stores p (word_at j p) ≡ true → (b : ℕ) → IsGuarded j b → (word_at j p).address ≤ b → b < (word_at j p).address + (word_at j p).count → ⊥
-  apart_at p r st b (inl u) le lt = v p ChangesCcw r (inr (inl (refl, clear_at, record { stores = st; at = b; from = le; below = lt; holds = u })))
-  apart_at p r st b (inr u) le lt = v p ChangesArgument r (inr (inr (refl, clear_at, record { stores = st; at = b; from = le; below = lt; holds = u })))
+  apart_at p r st b (inl u) le lt = v p ChangesCcw r (inr (clear_at, inl (refl, record { stores = st; at = b; from = le; below = lt; holds = u })))
+  apart_at p r st b (inr u) le lt = v p ChangesArgument r (inr (clear_at, inr (refl, record { stores = st; at = b; from = le; below = lt; holds = u })))
 
   ccw_kept : (s : List ℕ) (p : Place) → Same j s → IsReachable j p → ccw s p.address ≡ word_at j p
   ccw_kept s p same r =

@@ -4,21 +4,15 @@ use Rattle.chan_walk.specs.declared.job.Job.{Job}
 use Rattle.chan_walk.specs.declared.judging.Finding.{Finding}
 use Rattle.chan_walk.specs.declared.place.Place.{Place}
 use Rattle.chan_walk.specs.declared.reason.Reason.{Reason}
-use Rattle.chan_walk.specs.declared.reason.Reason.TheVariants.{ChangesCcw, ChangesArgument}
 use Rattle.chan_walk.specs.Argument.{Has}
 use Rattle.chan_walk.specs.Fault.{HasFault}
-use Rattle.chan_walk.specs.Guarded.{IsCcwByte, IsArgumentByte}
 use Rattle.chan_walk.specs.Reachable.{IsReachable}
 use Rattle.chan_walk.specs.Reason.{number_of}
-use Rattle.chan_walk.specs.Verdict.{StoresOver, ComesFirst}
+use Rattle.chan_walk.specs.Verdict.{ComesFirst}
 
 -- p has this own fault
 abbrev pub IsOwn : Job → Place → Reason → Type 0
 IsOwn j p r = HasFault j p (Some r)
-
--- p stores over a guarded byte, by this reason
-abbrev pub Changes : Job → Place → Reason → Type 0
-Changes j p r = ((r ≡ ChangesCcw) × StoresOver j p (IsCcwByte j)) ⊎ ((r ≡ ChangesArgument) × StoresOver j p (IsArgumentByte j))
 
 -- the least reason by which p offends, or that there is none
 abbrev pub IsFirst : (Place → Reason → Type 0) → Place → Option Reason → Type 0

@@ -24,12 +24,13 @@ pub record StoresOver (j : Job) (p : Place) (P : ℕ → Type 0) : Type 0 where
   pub below : at < (word_at j p).address + (word_at j p).count
   pub holds : P at
 
+-- p stores over a guarded byte, by this reason
+abbrev pub Changes : Job → Place → Reason → Type 0
+Changes j p r = ((r ≡ ChangesCcw) × StoresOver j p (IsCcwByte j)) ⊎ ((r ≡ ChangesArgument) × StoresOver j p (IsArgumentByte j))
+
 -- p offends by its own fault; and where no reachable place has one, by a store over a guarded byte
 abbrev pub Offends : Job → Place → Reason → Type 0
-Offends j p r =
-    HasFault j p (Some r)
-    ⊎ (((r ≡ ChangesCcw) × AreClear j × StoresOver j p (IsCcwByte j))
-    ⊎ ((r ≡ ChangesArgument) × AreClear j × StoresOver j p (IsArgumentByte j)))
+Offends j p r = HasFault j p (Some r) ⊎ (AreClear j × Changes j p r)
 
 -- some reachable place with this address offends by this reason
 pub record IsOffence (j : Job) (a : ℕ) (r : Reason) : Type 0 where

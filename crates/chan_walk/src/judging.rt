@@ -5,10 +5,10 @@ ghost use Rattle.chan_walk.specs.Answers.{CoversEveryRun, HasAtMost, IsShown, Mi
 ghost use Rattle.chan_walk.specs.Explored.{HasMoreThan, place_limit};
 ghost use Rattle.chan_walk.specs.Fault.{IsClear};
 ghost use Rattle.chan_walk.specs.Guard.{Guards};
-ghost use Rattle.chan_walk.specs.Least.{AreReached, Changes, IsFirst, IsLeast, IsLesser, IsOwn};
+ghost use Rattle.chan_walk.specs.Least.{AreReached, IsFirst, IsLeast, IsLesser, IsOwn};
 ghost use Rattle.chan_walk.specs.Lent.{AreLent};
 ghost use Rattle.chan_walk.specs.Reachable.{IsReachable};
-ghost use Rattle.chan_walk.specs.Verdict.{AreClear, ComesFirst, IsVerdict};
+ghost use Rattle.chan_walk.specs.Verdict.{AreClear, Changes, ComesFirst, IsVerdict};
 
 use crate::exploring::{WalkError, explore_within};
 use crate::fault::fault_within;

@@ -10,6 +10,9 @@ ghost use Rattle.chan_walk.specs.Onward as onward;
 use crate::word::{chains_data, has_data_in, is_counted, is_formed};
 use ccw_core::{Ccw, Storage};
 
+#[cfg(test)]
+mod tests;
+
 /// A CCW can give bytes of an argument.
 fn gives_bytes(storage: &Storage, word: &Ccw) -> bool
     ensures { result ≡ (not (is_transfer word.now) && formed word.now && counted word.now && data_in (length (bytes_held storage.now)) word.now) }

@@ -12,6 +12,7 @@ use std::test::Fail;
 
 /// A program that starts at `800`, its places, and the marks at some addresses.
 struct Case<'a> {
+    name: &'a str,
     puts: &'a [(usize, u64)],
     places: &'a [Place],
     marks: &'a [(u32, u8)],
@@ -28,74 +29,135 @@ static STORE: [Area; 1] = [Area {
     len: 256,
 }];
 
-static SEARCH_LOOP: Case<'static> = Case {
-    puts: &[
-        (0x800, 0x3100_0900_4000_0005),
-        (0x808, 0x0800_0800_0000_0000),
-        (0x810, 0x0600_0A00_2000_0050),
-    ],
-    places: &[
-        Place {
-            address: 0x800,
-            entered: Entry::Fresh,
-            after_transfer: true,
-        },
-        Place {
-            address: 0x808,
-            entered: Entry::Fresh,
-            after_transfer: false,
-        },
-        Place {
-            address: 0x810,
-            entered: Entry::Fresh,
-            after_transfer: false,
-        },
-    ],
-    marks: &[(0x7F8, 0x00), (0x800, 0x02), (0x808, 0x01), (0x810, 0x01)],
-};
-
-static CHAINED_AND_FRESH: Case<'static> = Case {
-    puts: &[
-        (0x800, 0x3100_0900_8000_0002),
-        (0x808, 0x0000_0902_4000_0003),
-        (0x810, 0x0800_0808_0000_0000),
-        (0x818, 0x0600_0A00_0000_0010),
-    ],
-    places: &[
-        Place {
-            address: 0x800,
-            entered: Entry::Fresh,
-            after_transfer: true,
-        },
-        Place {
-            address: 0x808,
-            entered: Entry::Fresh,
-            after_transfer: true,
-        },
-        Place {
-            address: 0x808,
-            entered: Entry::ChainSearch,
-            after_transfer: false,
-        },
-        Place {
-            address: 0x810,
-            entered: Entry::Fresh,
-            after_transfer: false,
-        },
-        Place {
-            address: 0x818,
-            entered: Entry::Fresh,
-            after_transfer: false,
-        },
-    ],
-    marks: &[
-        (0x800, 0x02),
-        (0x808, 0x42),
-        (0x810, 0x01),
-        (0x818, 0x01),
-        (0x820, 0x00),
-    ],
-};
+static CASES: [Case<'static>; 4] = [
+    Case {
+        name: "search-loop",
+        puts: &[
+            (0x800, 0x3100_0900_4000_0005),
+            (0x808, 0x0800_0800_0000_0000),
+            (0x810, 0x0600_0A00_2000_0050),
+        ],
+        places: &[
+            Place {
+                address: 0x800,
+                entered: Entry::Fresh,
+                after_transfer: true,
+            },
+            Place {
+                address: 0x808,
+                entered: Entry::Fresh,
+                after_transfer: false,
+            },
+            Place {
+                address: 0x810,
+                entered: Entry::Fresh,
+                after_transfer: false,
+            },
+        ],
+        marks: &[(0x7F8, 0x00), (0x800, 0x02), (0x808, 0x01), (0x810, 0x01)],
+    },
+    Case {
+        name: "marks",
+        puts: &[
+            (0x800, 0x3100_0900_8000_0002),
+            (0x808, 0x0000_0902_4000_0003),
+            (0x810, 0x0800_0808_0000_0000),
+            (0x818, 0x0600_0A00_0000_0010),
+        ],
+        places: &[
+            Place {
+                address: 0x800,
+                entered: Entry::Fresh,
+                after_transfer: true,
+            },
+            Place {
+                address: 0x808,
+                entered: Entry::Fresh,
+                after_transfer: true,
+            },
+            Place {
+                address: 0x808,
+                entered: Entry::ChainSearch,
+                after_transfer: false,
+            },
+            Place {
+                address: 0x810,
+                entered: Entry::Fresh,
+                after_transfer: false,
+            },
+            Place {
+                address: 0x818,
+                entered: Entry::Fresh,
+                after_transfer: false,
+            },
+        ],
+        marks: &[
+            (0x800, 0x02),
+            (0x808, 0x42),
+            (0x810, 0x01),
+            (0x818, 0x01),
+            (0x820, 0x00),
+        ],
+    },
+    Case {
+        name: "seek-through-transfer",
+        puts: &[
+            (0x800, 0x0700_0900_8000_0002),
+            (0x808, 0x0800_0820_0000_0000),
+            (0x820, 0x0000_0904_4000_0004),
+            (0x828, 0x0300_0000_0000_0001),
+            (0x900, 0x0000_0000_000A_0000),
+        ],
+        places: &[
+            Place {
+                address: 0x800,
+                entered: Entry::Fresh,
+                after_transfer: true,
+            },
+            Place {
+                address: 0x808,
+                entered: Entry::ChainOut,
+                after_transfer: false,
+            },
+            Place {
+                address: 0x820,
+                entered: Entry::ChainOut,
+                after_transfer: true,
+            },
+            Place {
+                address: 0x828,
+                entered: Entry::Fresh,
+                after_transfer: false,
+            },
+        ],
+        marks: &[(0x800, 0x02), (0x808, 0x10), (0x820, 0x20), (0x828, 0x01)],
+    },
+    Case {
+        name: "search-enters-itself",
+        puts: &[
+            (0x800, 0x3100_0900_8000_0001),
+            (0x808, 0x0800_0800_0000_0000),
+        ],
+        places: &[
+            Place {
+                address: 0x800,
+                entered: Entry::Fresh,
+                after_transfer: true,
+            },
+            Place {
+                address: 0x800,
+                entered: Entry::ChainSearch,
+                after_transfer: true,
+            },
+            Place {
+                address: 0x808,
+                entered: Entry::ChainSearch,
+                after_transfer: false,
+            },
+        ],
+        marks: &[(0x800, 0x82), (0x808, 0x40)],
+    },
+];
 
 /// The places of a program that starts at `800`.
 fn explored(alloc: Global, storage: &[u8]) -> Result<Result<Explored, WalkError>, Fail> {
@@ -113,34 +175,41 @@ fn explored(alloc: Global, storage: &[u8]) -> Result<Result<Explored, WalkError>
 }
 
 /// The places are these, by `len`, by `place` and one after another.
-fn expect_places(rt: &impl Abort, explored: &Explored, places: &[Place]) {
-    assert_eq!(rt; explored.len(), places.len());
-    assert_eq!(rt; explored.places().count(), places.len());
-    assert_eq!(rt; explored.place(places.len()), None);
+fn expect_places(rt: &impl Abort, explored: &Explored, case: &Case) {
+    let (name, places) = (case.name, case.places);
+    assert_eq!(rt; explored.len(), places.len(), "{name}");
+    assert_eq!(rt; explored.places().count(), places.len(), "{name}");
+    assert_eq!(rt; explored.place(places.len()), None, "{name}");
     for (index, place) in explored.places().enumerate() {
-        assert_eq!(rt; places.get(index).copied(), Some(place), "place {index}");
-        assert_eq!(rt; explored.place(index), Some(place), "place {index}");
+        assert_eq!(rt;
+            places.get(index).copied(),
+            Some(place),
+            "{name}, place {index}"
+        );
+        assert_eq!(rt; explored.place(index), Some(place), "{name}, place {index}");
     }
 }
 
-fn expect(rt: &impl Abort, alloc: Global, case: &Case) -> Result<(), Fail> {
-    let storage = image(alloc, 4096, case.puts)?;
-    let explored = explored(alloc, &storage)??;
-    expect_places(rt, &explored, case.places);
+fn expect_marks(rt: &impl Abort, explored: &Explored, case: &Case) {
+    let name = case.name;
     for (address, marks) in case.marks {
-        assert_eq!(rt; explored.marks_at(*address), *marks, "at {address:X}");
+        assert_eq!(rt;
+            explored.marks_at(*address),
+            *marks,
+            "{name}, at {address:X}"
+        );
+    }
+}
+
+#[test]
+fn places_and_marks(rt: HostRuntime) -> Result<(), Fail> {
+    for case in &CASES {
+        let storage = image(rt.alloc(), 4096, case.puts)?;
+        let explored = explored(rt.alloc(), &storage)??;
+        expect_places(&rt, &explored, case);
+        expect_marks(&rt, &explored, case);
     }
     Ok(())
-}
-
-#[test]
-fn search_loop(rt: HostRuntime) -> Result<(), Fail> {
-    expect(&rt, rt.alloc(), &SEARCH_LOOP)
-}
-
-#[test]
-fn chained_and_fresh(rt: HostRuntime) -> Result<(), Fail> {
-    expect(&rt, rt.alloc(), &CHAINED_AND_FRESH)
 }
 
 /// No-operations from `800` on, as many as are given, each of which chains to the next, but the last.

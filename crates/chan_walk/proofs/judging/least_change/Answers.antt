@@ -1,7 +1,7 @@
 use Rattle.std.proofs.Common.{arith, false, get_or}
 use Rattle.chan_walk.specs.declared.place.Entry.TheVariants.{Fresh}
 use Rattle.chan_walk.specs.declared.place.Place.{Place}
-use Rattle.chan_walk.specs.Least.{Changes}
+use Rattle.chan_walk.specs.Verdict.{Changes}
 use Rattle.chan_walk.proofs.Least.{get_or-slice_get, has_at, least_all, least_next}
 use Rattle.chan_walk.proofs.judging.least_change.Goals as goal
 

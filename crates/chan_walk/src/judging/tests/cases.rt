@@ -66,7 +66,7 @@ pub(super) static SEARCHES: [Case<'static>; 9] = [
         ..USUAL
     },
     Case {
-        name: "chained-search: code 00",
+        name: "chained-search",
         puts: &[
             (0x800, 0x3100_0900_8000_0002),
             (0x808, 0x0000_0902_4000_0003),
@@ -77,7 +77,7 @@ pub(super) static SEARCHES: [Case<'static>; 9] = [
         ..USUAL
     },
     Case {
-        name: "chained-search: code 02",
+        name: "chained-search/code-02",
         puts: &[
             (0x800, 0x3100_0900_8000_0002),
             (0x808, 0x0200_0902_4000_0003),
@@ -88,7 +88,7 @@ pub(super) static SEARCHES: [Case<'static>; 9] = [
         ..USUAL
     },
     Case {
-        name: "chained-search: code 19",
+        name: "chained-search/code-19",
         puts: &[
             (0x800, 0x3100_0900_8000_0002),
             (0x808, 0x1900_0902_4000_0003),
@@ -206,7 +206,7 @@ pub(super) static FORMATS: [Case<'static>; 8] = [
         ..USUAL
     },
     Case {
-        name: "misaligned: start",
+        name: "misaligned/start",
         start: 0x804,
         puts: &[],
         verdict: Verdict::No {
@@ -216,7 +216,7 @@ pub(super) static FORMATS: [Case<'static>; 8] = [
         ..USUAL
     },
     Case {
-        name: "misaligned: transfer",
+        name: "misaligned/after-transfer",
         puts: &[
             (0x800, 0x0300_0000_4000_0001),
             (0x808, 0x0800_0814_0000_0000),
@@ -234,7 +234,7 @@ pub(super) static FORMATS: [Case<'static>; 8] = [
         ..USUAL
     },
     Case {
-        name: "outside-the-table: set file mask",
+        name: "outside-the-table/set-file-mask",
         puts: &[(0x800, 0x1F00_0900_0000_0001)],
         verdict: Verdict::No {
             address: 0x800,
@@ -243,7 +243,7 @@ pub(super) static FORMATS: [Case<'static>; 8] = [
         ..USUAL
     },
     Case {
-        name: "outside-the-table: read ipl",
+        name: "outside-the-table/read-ipl",
         puts: &[(0x800, 0x0200_0000_0000_0001)],
         verdict: Verdict::No {
             address: 0x800,
@@ -252,7 +252,7 @@ pub(super) static FORMATS: [Case<'static>; 8] = [
         ..USUAL
     },
     Case {
-        name: "outside-the-table: read backward",
+        name: "outside-the-table/read-backward",
         puts: &[(0x800, 0x0C00_0A00_0000_0010)],
         verdict: Verdict::No {
             address: 0x800,
@@ -274,7 +274,7 @@ pub(super) static STORAGE: [Case<'static>; 10] = [
         ..USUAL
     },
     Case {
-        name: "top-of-storage: a CCW",
+        name: "top-of-storage",
         size: 16_777_216,
         start: 0xFF_FFF8,
         puts: &[(0xFF_FFF8, 0x0300_0000_4000_0001)],
@@ -285,7 +285,7 @@ pub(super) static STORAGE: [Case<'static>; 10] = [
         ..USUAL
     },
     Case {
-        name: "top-of-storage: data",
+        name: "top-of-storage/data-range",
         size: 16_777_216,
         fetch: &[
             Area {
@@ -305,13 +305,13 @@ pub(super) static STORAGE: [Case<'static>; 10] = [
         ..USUAL
     },
     Case {
-        name: "skip-and-range: skipped",
+        name: "skip-and-range/skipped",
         puts: &[(0x800, 0x0600_0F00_1000_0010)],
         verdict: Verdict::Yes,
         ..USUAL
     },
     Case {
-        name: "skip-and-range: past the end",
+        name: "skip-and-range/past-the-end",
         puts: &[(0x800, 0x0600_0FF8_1000_0010)],
         verdict: Verdict::No {
             address: 0x800,
@@ -320,7 +320,7 @@ pub(super) static STORAGE: [Case<'static>; 10] = [
         ..USUAL
     },
     Case {
-        name: "skip-and-range: stored",
+        name: "skip-and-range/stored",
         puts: &[(0x800, 0x0600_0F00_0000_0010)],
         verdict: Verdict::No {
             address: 0x800,
@@ -329,7 +329,7 @@ pub(super) static STORAGE: [Case<'static>; 10] = [
         ..USUAL
     },
     Case {
-        name: "adjoining-areas: whole",
+        name: "adjoining-areas/whole",
         store: &[
             Area {
                 start: 0xA00,
@@ -345,7 +345,7 @@ pub(super) static STORAGE: [Case<'static>; 10] = [
         ..USUAL
     },
     Case {
-        name: "adjoining-areas: one more",
+        name: "adjoining-areas/one-more",
         store: &[
             Area {
                 start: 0xA00,
@@ -364,7 +364,7 @@ pub(super) static STORAGE: [Case<'static>; 10] = [
         ..USUAL
     },
     Case {
-        name: "fetch-and-sense: fetch",
+        name: "fetch-and-sense/fetch",
         puts: &[(0x800, 0x3100_0910_0000_0005)],
         verdict: Verdict::No {
             address: 0x800,
@@ -373,7 +373,7 @@ pub(super) static STORAGE: [Case<'static>; 10] = [
         ..USUAL
     },
     Case {
-        name: "fetch-and-sense: sense",
+        name: "fetch-and-sense/sense",
         puts: &[(0x800, 0x0400_0A00_0000_0006)],
         verdict: Verdict::Yes,
         ..USUAL
@@ -382,14 +382,14 @@ pub(super) static STORAGE: [Case<'static>; 10] = [
 
 pub(super) static MASKS: [Case<'static>; 19] = [
     Case {
-        name: "mask-table: write-ckd under 00",
+        name: "mask-table/write-ckd-00",
         mask: 0x00,
         puts: &[(0x800, 0x1D00_0900_0000_0008)],
         verdict: Verdict::Yes,
         ..USUAL
     },
     Case {
-        name: "mask-table: write-ckd under 40",
+        name: "mask-table/write-ckd-40",
         mask: 0x40,
         puts: &[(0x800, 0x1D00_0900_0000_0008)],
         verdict: Verdict::No {
@@ -399,7 +399,7 @@ pub(super) static MASKS: [Case<'static>; 19] = [
         ..USUAL
     },
     Case {
-        name: "mask-table: write-ckd under 80",
+        name: "mask-table/write-ckd-80",
         mask: 0x80,
         puts: &[(0x800, 0x1D00_0900_0000_0008)],
         verdict: Verdict::No {
@@ -409,21 +409,21 @@ pub(super) static MASKS: [Case<'static>; 19] = [
         ..USUAL
     },
     Case {
-        name: "mask-table: write-ckd under C0",
+        name: "mask-table/write-ckd-C0",
         mask: 0xC0,
         puts: &[(0x800, 0x1D00_0900_0000_0008)],
         verdict: Verdict::Yes,
         ..USUAL
     },
     Case {
-        name: "mask-table: erase under 00",
+        name: "mask-table/erase-00",
         mask: 0x00,
         puts: &[(0x800, 0x1100_0900_0000_0008)],
         verdict: Verdict::Yes,
         ..USUAL
     },
     Case {
-        name: "mask-table: erase under 40",
+        name: "mask-table/erase-40",
         mask: 0x40,
         puts: &[(0x800, 0x1100_0900_0000_0008)],
         verdict: Verdict::No {
@@ -433,7 +433,7 @@ pub(super) static MASKS: [Case<'static>; 19] = [
         ..USUAL
     },
     Case {
-        name: "mask-table: erase under 80",
+        name: "mask-table/erase-80",
         mask: 0x80,
         puts: &[(0x800, 0x1100_0900_0000_0008)],
         verdict: Verdict::No {
@@ -443,21 +443,21 @@ pub(super) static MASKS: [Case<'static>; 19] = [
         ..USUAL
     },
     Case {
-        name: "mask-table: erase under C0",
+        name: "mask-table/erase-C0",
         mask: 0xC0,
         puts: &[(0x800, 0x1100_0900_0000_0008)],
         verdict: Verdict::Yes,
         ..USUAL
     },
     Case {
-        name: "mask-table: write-data under 00",
+        name: "mask-table/write-data-00",
         mask: 0x00,
         puts: &[(0x800, 0x0500_0900_0000_0008)],
         verdict: Verdict::Yes,
         ..USUAL
     },
     Case {
-        name: "mask-table: write-data under 40",
+        name: "mask-table/write-data-40",
         mask: 0x40,
         puts: &[(0x800, 0x0500_0900_0000_0008)],
         verdict: Verdict::No {
@@ -467,21 +467,21 @@ pub(super) static MASKS: [Case<'static>; 19] = [
         ..USUAL
     },
     Case {
-        name: "mask-table: write-data under 80",
+        name: "mask-table/write-data-80",
         mask: 0x80,
         puts: &[(0x800, 0x0500_0900_0000_0008)],
         verdict: Verdict::Yes,
         ..USUAL
     },
     Case {
-        name: "mask-table: write-data under C0",
+        name: "mask-table/write-data-C0",
         mask: 0xC0,
         puts: &[(0x800, 0x0500_0900_0000_0008)],
         verdict: Verdict::Yes,
         ..USUAL
     },
     Case {
-        name: "mask-table: write-home-address under 00",
+        name: "mask-table/write-home-address-00",
         mask: 0x00,
         puts: &[(0x800, 0x1900_0900_0000_0005)],
         verdict: Verdict::No {
@@ -491,7 +491,7 @@ pub(super) static MASKS: [Case<'static>; 19] = [
         ..USUAL
     },
     Case {
-        name: "mask-table: write-home-address under 40",
+        name: "mask-table/write-home-address-40",
         mask: 0x40,
         puts: &[(0x800, 0x1900_0900_0000_0005)],
         verdict: Verdict::No {
@@ -501,7 +501,7 @@ pub(super) static MASKS: [Case<'static>; 19] = [
         ..USUAL
     },
     Case {
-        name: "mask-table: write-home-address under 80",
+        name: "mask-table/write-home-address-80",
         mask: 0x80,
         puts: &[(0x800, 0x1900_0900_0000_0005)],
         verdict: Verdict::No {
@@ -511,21 +511,21 @@ pub(super) static MASKS: [Case<'static>; 19] = [
         ..USUAL
     },
     Case {
-        name: "mask-table: write-home-address under C0",
+        name: "mask-table/write-home-address-C0",
         mask: 0xC0,
         puts: &[(0x800, 0x1900_0900_0000_0005)],
         verdict: Verdict::Yes,
         ..USUAL
     },
     Case {
-        name: "seek-mask: multi-track read",
+        name: "seek-mask/multi-track",
         mask: 0x18,
         puts: &[(0x800, 0x8600_0A00_0000_0010)],
         verdict: Verdict::Yes,
         ..USUAL
     },
     Case {
-        name: "seek-mask: seek-head under 18",
+        name: "seek-mask/seek-head-18",
         mask: 0x18,
         puts: &[
             (0x800, 0x1B00_0900_0000_0006),
@@ -538,7 +538,7 @@ pub(super) static MASKS: [Case<'static>; 19] = [
         ..USUAL
     },
     Case {
-        name: "seek-mask: seek-head under 10",
+        name: "seek-mask/seek-head-10",
         mask: 0x10,
         puts: &[
             (0x800, 0x1B00_0900_0000_0006),
@@ -551,7 +551,7 @@ pub(super) static MASKS: [Case<'static>; 19] = [
 
 pub(super) static SEEKS: [Case<'static>; 9] = [
     Case {
-        name: "seek-verdicts: head 19 of a 2314",
+        name: "seek-verdicts/head-19-on-2314",
         puts: &[
             (0x800, 0x0700_0900_0000_0006),
             (0x900, 0x0000_000A_0013_0000),
@@ -560,7 +560,7 @@ pub(super) static SEEKS: [Case<'static>; 9] = [
         ..USUAL
     },
     Case {
-        name: "seek-verdicts: head 19 of a 2311",
+        name: "seek-verdicts/head-19-on-2311",
         device: Device::D2311,
         puts: &[
             (0x800, 0x0700_0900_0000_0006),
@@ -573,7 +573,7 @@ pub(super) static SEEKS: [Case<'static>; 9] = [
         ..USUAL
     },
     Case {
-        name: "seek-verdicts: cylinder 20",
+        name: "seek-verdicts/cylinder-20",
         puts: &[
             (0x800, 0x0700_0900_0000_0006),
             (0x900, 0x0000_0014_0000_0000),
@@ -585,7 +585,7 @@ pub(super) static SEEKS: [Case<'static>; 9] = [
         ..USUAL
     },
     Case {
-        name: "seek-verdicts: bin",
+        name: "seek-verdicts/bin",
         puts: &[
             (0x800, 0x0700_0900_0000_0006),
             (0x900, 0x0001_000A_0000_0000),
@@ -597,7 +597,7 @@ pub(super) static SEEKS: [Case<'static>; 9] = [
         ..USUAL
     },
     Case {
-        name: "seek-of-five-bytes",
+        name: "seek-verdicts/five-bytes",
         puts: &[
             (0x800, 0x0700_0900_0000_0005),
             (0x900, 0x0000_000A_0013_0000),
@@ -609,7 +609,7 @@ pub(super) static SEEKS: [Case<'static>; 9] = [
         ..USUAL
     },
     Case {
-        name: "recalibrate: outside",
+        name: "seek-verdicts/recalibrate",
         puts: &[(0x800, 0x1300_0000_0000_0001)],
         verdict: Verdict::No {
             address: 0x800,
@@ -618,7 +618,7 @@ pub(super) static SEEKS: [Case<'static>; 9] = [
         ..USUAL
     },
     Case {
-        name: "recalibrate: inside",
+        name: "seek-verdicts/recalibrate-inside",
         extents: &[(0, 0)],
         puts: &[(0x800, 0x1300_0000_0000_0001)],
         verdict: Verdict::Yes,
@@ -655,7 +655,7 @@ pub(super) static SEEKS: [Case<'static>; 9] = [
 
 pub(super) static GUARDED: [Case<'static>; 12] = [
     Case {
-        name: "split-argument: third range",
+        name: "split-argument/third-part",
         store: &[Area {
             start: 0x908,
             len: 2,
@@ -674,7 +674,7 @@ pub(super) static GUARDED: [Case<'static>; 12] = [
         ..USUAL
     },
     Case {
-        name: "split-argument: beside it",
+        name: "split-argument/beside-it",
         store: &[Area {
             start: 0x90A,
             len: 2,
@@ -690,7 +690,7 @@ pub(super) static GUARDED: [Case<'static>; 12] = [
         ..USUAL
     },
     Case {
-        name: "gap-in-an-argument: two bytes",
+        name: "split-argument/gap",
         store: &[Area {
             start: 0x902,
             len: 2,
@@ -706,7 +706,7 @@ pub(super) static GUARDED: [Case<'static>; 12] = [
         ..USUAL
     },
     Case {
-        name: "gap-in-an-argument: one byte",
+        name: "split-argument/gap-of-one-byte",
         store: &[Area {
             start: 0x902,
             len: 1,
@@ -722,7 +722,7 @@ pub(super) static GUARDED: [Case<'static>; 12] = [
         ..USUAL
     },
     Case {
-        name: "store-over-ccw: a CCW",
+        name: "store-over-ccw",
         fetch: &[Area {
             start: 0,
             len: 4096,
@@ -744,7 +744,7 @@ pub(super) static GUARDED: [Case<'static>; 12] = [
         ..USUAL
     },
     Case {
-        name: "store-over-ccw: a search argument",
+        name: "store-over-ccw/search-argument",
         fetch: &[Area {
             start: 0,
             len: 4096,
