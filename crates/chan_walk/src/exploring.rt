@@ -13,7 +13,7 @@ use crate::job::Job;
 use crate::lent::Lent;
 use crate::place::{Entry, Place, first_place};
 use crate::successor::{Next, successors_within};
-use std::alloc::{AllocFailed, Global};
+use std::alloc::{AllocError, AllocFailed, Global};
 use std::collections::BTreeMap;
 use std::marker::Model;
 use thiserror::Error;
@@ -36,6 +36,16 @@ pub enum WalkError {
     /// There was no memory for them.
     #[error("out of memory")]
     Memory,
+}
+
+impl From<AllocError> for WalkError {
+    ghost use Rattle.chan_walk.specs.declared.exploring.WalkError.TheVariants.{Memory};
+
+    ghost from_gives = { λ _ e. e ≡ Memory };
+
+    fn from(_error: AllocError) -> WalkError {
+        WalkError::Memory
+    }
 }
 
 impl<T: Drop> From<AllocFailed<T>> for WalkError {
@@ -288,10 +298,7 @@ pub fn explore(alloc: Global, job: &Job) -> Result<Explored, WalkError>
     ensures few { IfOk result (λ places. length places ≤ place_limit) }
     ensures many { result ≡ Err WalkError.TooManyPlaces → HasMoreThan job.now place_limit }
 {
-    let lent = match Lent::new(alloc, job) {
-        Ok(lent) => lent,
-        Err(_) => return Err(WalkError::Memory),
-    };
+    let lent = Lent::new(alloc, job)?;
     explore_within(alloc, job, &lent)
 }
 

@@ -33,9 +33,8 @@ pub(crate) fn checked_word(storage: &Storage, place: Place) -> Result<Ccw, Reaso
     if place.address % 8 != 0 {
         return Err(Reason::Misaligned);
     }
-    let word = match storage.ccw_at(place.address) {
-        Some(word) => word,
-        None => return Err(Reason::OutsideStorage),
+    let Some(word) = storage.ccw_at(place.address) else {
+        return Err(Reason::OutsideStorage);
     };
     if word.is_transfer() {
         if place.after_transfer {
@@ -96,9 +95,8 @@ fn seek_fault(job: &Job, place: Place, word: &Ccw) -> Option<Reason>
 fn argument_fault(job: &Job, argument: Option<[u8; 6]>) -> Option<Reason>
     ensures { result ≡ checks.first_reason (argument_faults job.now argument) }
 {
-    let argument = match argument {
-        Some(argument) => argument,
-        None => return Some(Reason::ShortSeek),
+    let Some(argument) = argument else {
+        return Some(Reason::ShortSeek);
     };
     match Track::from_argument(argument) {
         Some(track) if allowed(job.extents, job.device, track) => None,

@@ -48,9 +48,8 @@ impl Finding {
 fn lesser(best: Option<Finding>, place: Place, reason: Option<Reason>) -> Option<Finding>
     ensures { IsLesser best place reason result }
 {
-    let reason = match reason {
-        Some(reason) => reason,
-        None => return best,
+    let Some(reason) = reason else {
+        return best;
     };
     let found = Finding {
         address: place.address,
@@ -124,18 +123,12 @@ fn judge(alloc: Global, job: &Job) -> Result<Verdict, WalkError>
     ensures few { OnOk result (HasAtMost job.now place_limit) }
     ensures many { result ≡ Err WalkError.TooManyPlaces → HasMoreThan job.now place_limit }
 {
-    let lent = match Lent::new(alloc, job) {
-        Ok(lent) => lent,
-        Err(_) => return Err(WalkError::Memory),
-    };
+    let lent = Lent::new(alloc, job)?;
     let explored = explore_within(alloc, job, &lent)?;
     if let Some(found) = least_fault(job, &lent, explored.as_slice()) {
         return Ok(found.verdict());
     }
-    let guard = match Guard::within(alloc, job, &lent, &explored) {
-        Ok(guard) => guard,
-        Err(_) => return Err(WalkError::Memory),
-    };
+    let guard = Guard::within(alloc, job, &lent, &explored)?;
     match least_change(job, &guard, explored.as_slice()) {
         Some(change) => Ok(change.verdict()),
         None => Ok(Verdict::Yes),

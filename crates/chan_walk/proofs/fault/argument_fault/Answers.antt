@@ -18,13 +18,13 @@ returns-in-Some-from_argument c =
     let allowed = named ∙ sym c.allowed.ensures ∙ c.if-allowed.true in
     rw (c.in-Some.is, allowed) refl
 
-pub returns-in_default : goal.returns-in_default
-returns-in_default c =
+pub returns-in_default-from_argument : goal.returns-in_default-from_argument
+returns-in_default-from_argument c =
     let named = by_track c.args.job.now c.in-Some.argument _ (sym c.from_argument.ensures.value ∙ c.in-Some-from_argument.is) in
     let refused = named ∙ sym c.allowed.ensures ∙ c.if-allowed.false in
     rw (c.in-Some.is, refused) refl
 
-pub returns-in_default-2 : goal.returns-in_default-2
-returns-in_default-2 c =
-    let refused = by_track c.args.job.now c.in-Some.argument _ (sym c.from_argument.ensures.value ∙ c.in_default.is) in
+pub returns-in_default-from_argument-2 : goal.returns-in_default-from_argument-2
+returns-in_default-from_argument-2 c =
+    let refused = by_track c.args.job.now c.in-Some.argument _ (sym c.from_argument.ensures.value ∙ c.in_default-from_argument.is) in
     rw (c.in-Some.is, refused) refl

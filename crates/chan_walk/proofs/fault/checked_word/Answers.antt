@@ -9,8 +9,8 @@ use Rattle.chan_walk.proofs.fault.checked_word.Goals as goal
 pub returns-then-place-ne0-clause-checked : goal.returns-then-place-ne0-clause-checked
 returns-then-place-ne0-clause-checked c = check-misaligned _ _ c.if-place-ne0.true
 
-pub returns-in-None-clause-checked : goal.returns-in-None-clause-checked
-returns-in-None-clause-checked c = check-outside _ _ c.if-place-ne0.false (sym c.ccw_at.ensures ∙ c.in-None.is)
+pub returns-in_default-clause-checked : goal.returns-in_default-clause-checked
+returns-in_default-clause-checked c = check-outside _ _ c.if-place-ne0.false (sym c.ccw_at.ensures ∙ c.in_default.is)
 
 pub returns-then-place-clause-checked : goal.returns-then-place-clause-checked
 returns-then-place-clause-checked c =
