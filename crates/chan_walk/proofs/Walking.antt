@@ -11,7 +11,7 @@ use Rattle.chan_walk.specs.Explored.{AreApart, HasMoreThan}
 use Rattle.chan_walk.specs.Fault.{kind_of, HasFault, IsClear}
 use Rattle.chan_walk.specs.Place.{first_place, word_at}
 use Rattle.chan_walk.specs.Reachable.{IsPath, IsReachable}
-use Rattle.chan_walk.specs.Successors.{Successor, next_of, skip_of}
+use Rattle.chan_walk.specs.Successors.{AreSuccessors, Successor, next_of, skip_of}
 use Rattle.chan_walk.specs.Walk.{Follows, IsAmong, Adds, Overflows, IsWalked}
 use Rattle.chan_walk.proofs.Faults.{fault_exists, fault_unique}
 use Rattle.chan_walk.proofs.Lists.{has_left}
@@ -101,24 +101,24 @@ walked_overflows j n (Some q) ps i r a w = record {
 -- ---- the successors of one place
 
 -- a place leads where its successors stand, if it has no own fault, and else nowhere
-pub follows_exactly : (j : Job) (p : Place) (n : Next) → (IsClear j p → n.next ≡ next_of p (word_at j p) (kind_of p.entered (word_at j p))) → (IsClear j p → n.skip ≡ skip_of p (word_at j p) (kind_of p.entered (word_at j p))) → ((r : Reason) → HasFault j p (Some r) → (n.next ≡ None) × (n.skip ≡ None)) → (q : Place) → IsAmong n q ↔ Follows j p q
-follows_exactly j p n a b d q = let f = fault_exists j p in go f.0 f.1
+pub follows_exactly : (j : Job) (p : Place) (n : Next) → AreSuccessors j p n → (q : Place) → IsAmong n q ↔ Follows j p q
+follows_exactly j p n are q = let f = fault_exists j p in go f.0 f.1
   where
     go : (r : Option Reason) → HasFault j p r → IsAmong n q ↔ Follows j p q
     go None f = (to, λ g. from g.1)
       where
         to : IsAmong n q → Follows j p q
-        to (inl e) = (f, inl (sym (a f) ∙ e))
-        to (inr e) = (f, inr (sym (b f) ∙ e))
+        to (inl e) = (f, inl (sym (are.next f) ∙ e))
+        to (inr e) = (f, inr (sym (are.skip f) ∙ e))
 
         from : Successor j p q → IsAmong n q
-        from (inl e) = inl (a f ∙ e)
-        from (inr e) = inr (b f ∙ e)
+        from (inl e) = inl (are.next f ∙ e)
+        from (inr e) = inr (are.skip f ∙ e)
     go (Some r) f = (to, λ g. let e = fault_unique j p None (Some r) g.0 f in absurd (cc))
       where
         to : IsAmong n q → Follows j p q
-        to (inl e) = let g = (d r f).0 in absurd (cc)
-        to (inr e) = let g = (d r f).1 in absurd (cc)
+        to (inl e) = let g = (are.faulty r f).0 in absurd (cc)
+        to (inr e) = let g = (are.faulty r f).1 in absurd (cc)
 
 reaches : (j : Job) (p q : Place) → IsReachable j p → Follows j p q → IsReachable j q
 reaches j p q r f = (p ∷ r.0, (r.1, f.0, f.1))

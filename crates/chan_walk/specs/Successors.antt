@@ -8,7 +8,9 @@ use Rattle.chan_walk.specs.declared.job.Job.{Job}
 use Rattle.chan_walk.specs.declared.place.Entry.{Entry}
 use Rattle.chan_walk.specs.declared.place.Entry.TheVariants.{Fresh, ChainIn, ChainOut, ChainSearch}
 use Rattle.chan_walk.specs.declared.place.Place.{Place}
-use Rattle.chan_walk.specs.Fault.{kind_of}
+use Rattle.chan_walk.specs.declared.reason.Reason.{Reason}
+use Rattle.chan_walk.specs.declared.successor.Next.{Next}
+use Rattle.chan_walk.specs.Fault.{HasFault, IsClear, kind_of}
 use Rattle.chan_walk.specs.Place.{straight_to, transferred_to, word_at}
 
 -- how data chaining enters the next CCW; an operation that moves no data never goes on by it
@@ -45,3 +47,9 @@ abbrev pub Successor : Job → Place → Place → Type 0
 Successor j p q =
     (next_of p (word_at j p) (kind_of p.entered (word_at j p)) ≡ Some q)
     ⊎ (skip_of p (word_at j p) (kind_of p.entered (word_at j p)) ≡ Some q)
+
+-- the successors of p as an answer: the two of its CCW where p has no own fault, and none where it has one
+pub record AreSuccessors (j : Job) (p : Place) (n : Next) : Type 0 where
+  pub next : IsClear j p → n.next ≡ next_of p (word_at j p) (kind_of p.entered (word_at j p))
+  pub skip : IsClear j p → n.skip ≡ skip_of p (word_at j p) (kind_of p.entered (word_at j p))
+  pub faulty : (r : Reason) → HasFault j p (Some r) → (n.next ≡ None) × (n.skip ≡ None)

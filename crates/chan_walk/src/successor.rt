@@ -1,11 +1,10 @@
 //! Where a program goes on after a place.
 
-ghost use Rattle.std.specs.Prelude.{◌≡◌, ◌<◌, ◌^◌, None, Some};
-ghost use Rattle.chan_walk.specs.Fault.{HasFault, IsClear, kind_of as kind};
+ghost use Rattle.std.specs.Prelude.{◌≡◌, ◌<◌, ◌^◌};
+ghost use Rattle.chan_walk.specs.Fault.{HasFault, kind_of as kind};
 ghost use Rattle.chan_walk.specs.Lent.{AreLent};
-ghost use Rattle.chan_walk.specs.Place.{word_at};
 ghost use Rattle.chan_walk.specs.Successors as chain;
-ghost use Rattle.chan_walk.specs.Successors.{next_of, skip_of};
+ghost use Rattle.chan_walk.specs.Successors.{AreSuccessors, next_of, skip_of};
 
 use crate::fault::{fault_at, fault_within};
 use crate::job::Job;
@@ -29,9 +28,7 @@ pub struct Next {
 ///
 /// It takes no memory. The cost is that of `fault_at`.
 pub fn successors(job: &Job, place: Place) -> Next
-    ensures clear_next { IsClear job.now place → result.next ≡ next_of place (word_at job.now place) (kind place.entered (word_at job.now place)) }
-    ensures clear_skip { IsClear job.now place → result.skip ≡ skip_of place (word_at job.now place) (kind place.entered (word_at job.now place)) }
-    ensures faulty { (r : Reason) → HasFault job.now place (Some r) → (result.next ≡ None) × (result.skip ≡ None) }
+    ensures { AreSuccessors job.now place result }
 {
     successors_of(job, place, fault_at(job, place))
 }
@@ -39,9 +36,7 @@ pub fn successors(job: &Job, place: Place) -> Next
 /// The same successors, by the areas lent as they are kept for searching.
 pub(crate) fn successors_within(job: &Job, lent: &Lent, place: Place) -> Next
     requires { AreLent job.now lent.now }
-    ensures clear_next { IsClear job.now place → result.next ≡ next_of place (word_at job.now place) (kind place.entered (word_at job.now place)) }
-    ensures clear_skip { IsClear job.now place → result.skip ≡ skip_of place (word_at job.now place) (kind place.entered (word_at job.now place)) }
-    ensures faulty { (r : Reason) → HasFault job.now place (Some r) → (result.next ≡ None) × (result.skip ≡ None) }
+    ensures { AreSuccessors job.now place result }
 {
     successors_of(job, place, fault_within(job, lent, place))
 }
@@ -49,9 +44,7 @@ pub(crate) fn successors_within(job: &Job, lent: &Lent, place: Place) -> Next
 /// The successors of a place with this own fault.
 fn successors_of(job: &Job, place: Place, fault: Option<Reason>) -> Next
     requires { HasFault job.now place fault }
-    ensures clear_next { IsClear job.now place → result.next ≡ next_of place (word_at job.now place) (kind place.entered (word_at job.now place)) }
-    ensures clear_skip { IsClear job.now place → result.skip ≡ skip_of place (word_at job.now place) (kind place.entered (word_at job.now place)) }
-    ensures faulty { (r : Reason) → HasFault job.now place (Some r) → (result.next ≡ None) × (result.skip ≡ None) }
+    ensures { AreSuccessors job.now place result }
 {
     match (fault, job.storage.ccw_at(place.address)) {
         (None, Some(word)) => go_on(place, &word),
