@@ -8,10 +8,10 @@ use Rattle.chan_walk.specs.declared.successor.Next.{Next}
 use Rattle.chan_walk.specs.declared.reason.Reason.{Reason}
 use Rattle.chan_walk.specs.Argument.{Has}
 use Rattle.chan_walk.specs.Explored.{AreApart, HasMoreThan}
-use Rattle.chan_walk.specs.Fault.{kind_of, HasFault, IsClear}
-use Rattle.chan_walk.specs.Place.{first_place, word_at}
+use Rattle.chan_walk.specs.Fault.{HasFault}
+use Rattle.chan_walk.specs.Place.{first_place}
 use Rattle.chan_walk.specs.Reachable.{IsPath, IsReachable}
-use Rattle.chan_walk.specs.Successors.{AreSuccessors, Successor, next_of, skip_of}
+use Rattle.chan_walk.specs.Successors.{AreSuccessors, Successor}
 use Rattle.chan_walk.specs.Walk.{Follows, IsAmong, Adds, Overflows, IsWalked}
 use Rattle.chan_walk.proofs.Faults.{fault_exists, fault_unique}
 use Rattle.chan_walk.proofs.Lists.{has_left}

@@ -25,7 +25,7 @@ use Rattle.chan_walk.specs.Verdict.{IsVerdict}
 abbrev pub AreBytes : List ℕ → Type 0
 AreBytes s = (b : ℕ) → byte s b < 256
 
--- what an answer to a job rests on, as the job's own types have it: extents in order, one at least, and bytes in storage
+-- what the types of the code keep of every job: one extent or more, each of them in order and on the device, and bytes in storage
 abbrev pub IsProper : Job → Type 0
 IsProper j = AreExtents (extents_of j) × AreBytes (storage_of j)
 

@@ -34,7 +34,7 @@ pub record AreReachable (j : Job) (ps : List Place) : Type 0 where
   pub each : (p : Place) → IsReachable j p → Has ps p
   pub only : (p : Place) → Has ps p → IsReachable j p
 
--- how many places a program may come to, at the most
+-- how many places may be reachable, at the most
 abbrev pub place_limit : ℕ
 place_limit = 4096
 

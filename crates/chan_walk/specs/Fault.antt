@@ -66,7 +66,7 @@ begins_seek p c = is_fresh p.entered && is_seek c.command
 abbrev pub begins_recalibrate : Place → Fields → Bool
 begins_recalibrate p c = is_fresh p.entered && recalibrates c.command
 
--- the argument of a seek that the job allows
+-- the job allows a seek with this argument
 abbrev pub allows : Job → List ℕ → Bool
 allows j x = is_allowed (extents_of j) (heads j) x
 

@@ -55,6 +55,6 @@ abbrev pub IsNextArea : List Area → ℕ → Option Area → Type 0
 IsNextArea areas n None = (b : ℕ) → n ≤ b → lies_in areas b ≡ false
 IsNextArea areas n (Some a) = IsNext areas n a
 
--- there is one merged list for some bytes
+-- there is at most one merged list for some bytes
 abbrev pub MergedIsUnique : Type 0
 MergedIsUnique = (xs ys : List Area) → IsMerged xs → IsMerged ys → HaveSameBytes xs ys → xs ≡ ys

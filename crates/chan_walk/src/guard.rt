@@ -10,7 +10,7 @@ ghost use Rattle.chan_walk.specs.Guard.{AddsBytes, GuardAreas, Guards, IsArgumen
 ghost use Rattle.chan_walk.specs.Lent.{AreLent};
 ghost use Rattle.chan_walk.specs.Ranges.{EndsBelow, IsMerged, Meets};
 
-use crate::exploring::Explored;
+use crate::explored::Explored;
 use crate::fault::fault_within;
 use crate::job::Job;
 use crate::lent::Lent;
@@ -22,8 +22,8 @@ use ccw_core::{Area, Ccw};
 use std::alloc::{AllocError, Global};
 use std::marker::Model;
 
-/// The guarded bytes of a job: those of the CCWs that a run can reach, and those of the arguments of
-/// the seeks among them that have no own fault.
+/// The guarded bytes of a job: those of the reachable CCWs, and those of the arguments of the
+/// reachable seeks that have no own fault.
 #[derive(Debug, Drop)]
 pub struct Guard {
     ccws: Vec<Area>,
@@ -39,7 +39,7 @@ impl Model for Guard {
 }
 
 impl Guard {
-    /// The guard of a job that can come to these places. The cost is that of sorting an area for each
+    /// The guard of a job whose reachable places are these. The cost is that of sorting an area for each
     /// place, six for each seek, and the areas lent.
     pub fn new(alloc: Global, job: &Job, explored: &Explored) -> Result<Guard, AllocError>
         requires { AreReachable job.now explored.now }

@@ -10,7 +10,8 @@ ghost use Rattle.chan_walk.specs.Lent.{AreLent};
 ghost use Rattle.chan_walk.specs.Reachable.{IsReachable};
 ghost use Rattle.chan_walk.specs.Verdict.{AreClear, Changes, ComesFirst, IsVerdict};
 
-use crate::exploring::{WalkError, explore_within};
+use crate::error::WalkError;
+use crate::exploring::explore_within;
 use crate::fault::fault_within;
 use crate::guard::Guard;
 use crate::job::Job;
@@ -137,14 +138,14 @@ fn judge(alloc: Global, job: &Job) -> Result<Verdict, WalkError>
 
 /// Whether the program may run.
 ///
-/// `Yes` means that no place that a run can reach offends; then whatever the disk holds, however
+/// `Yes` means that no reachable place offends; then whatever the disk holds, however
 /// searches and errors fall and after any number of steps, the channel meets no program check, moves
 /// data only through areas lent for it, changes no CCW or seek argument that any run uses, seeks
 /// only inside the extents and issues no inhibited command. `No` names the first offending CCW, by
 /// address, and the first reason there, by number; some run shows it. A job whose every run is safe,
-/// and which is steady, is never refused.
+/// and which is steady, is never answered `No`.
 ///
-/// `TooManyPlaces` comes exactly where a run can reach more than 4,096 places and no growth was
+/// `TooManyPlaces` comes exactly where more than 4,096 places are reachable and no growth was
 /// refused, also where one of them offends. `Memory` comes where a growth was refused.
 ///
 /// With n places and a lent areas, the cost is (n + a) log (n + a).
@@ -163,6 +164,7 @@ pub fn verify(alloc: Global, job: &Job) -> Result<Verdict, WalkError>
     yes_is_safe();
     no_false_alarm();
     safe_is_yes();
+    // `pairs` tells that the extents are in order and on the device, which the last two laws ask for.
     let _extents = job.extents.pairs();
     judge(alloc, job)
 }

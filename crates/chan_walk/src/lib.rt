@@ -1,4 +1,4 @@
-//! Whether a channel program may run: the places that a run can reach, their faults, and the verdict.
+//! Whether a channel program may run: the reachable places, their faults, and the verdict.
 //!
 //! A supervisor starts only what no run can turn against it:
 //!
@@ -10,6 +10,8 @@
 //! ```
 #![tactic(auto)]
 
+mod error;
+mod explored;
 mod exploring;
 mod fault;
 mod guard;
@@ -25,9 +27,12 @@ mod reason;
 mod seek;
 mod successor;
 mod verdict;
+mod ways;
 mod word;
 
-pub use crate::exploring::{Explored, Places, WalkError, explore};
+pub use crate::error::WalkError;
+pub use crate::explored::{Explored, Places};
+pub use crate::exploring::explore;
 pub use crate::fault::fault_at;
 pub use crate::guard::Guard;
 pub use crate::job::Job;

@@ -75,8 +75,8 @@ pub fn first_place(job: &Job) -> Place
     Place::transferred_to(job.start, Entry::Fresh)
 }
 
-/// The derived order of places is that of their numbers: by address, then by entry, then by whether
-/// they were reached by a transfer in channel.
+/// A law, like those of `laws`: the derived order of places is that of their numbers, which is by
+/// address, then by entry, then by whether they were reached by a transfer in channel.
 fn order_is_by_number()
     ensures { (p q : Place) → ⟦<Place as Ord>⟧.cmp p q ≡ nat_cmp (place_number p) (place_number q) }
 {}

@@ -123,7 +123,7 @@ pub(crate) fn holds(areas: &[Area], start: u32, len: u32) -> bool
     }
 }
 
-/// Two merged lists that have the same bytes are the same list.
+/// A law, like those of `laws`: two merged lists that have the same bytes are the same list.
 fn merged_is_unique()
     ensures { MergedIsUnique }
 {}

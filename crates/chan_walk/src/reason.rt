@@ -32,9 +32,9 @@ pub enum Reason {
     ShortSeek,
     /// A seek leaves the extents, or names a head that the device lacks.
     SeekOutside,
-    /// Something is stored over a CCW that a run can reach.
+    /// Something is stored over a reachable CCW.
     ChangesCcw,
-    /// Something is stored over the argument of a seek that a run can reach.
+    /// Something is stored over the argument of a reachable seek.
     ChangesArgument,
 }
 

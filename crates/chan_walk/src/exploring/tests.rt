@@ -1,6 +1,8 @@
 //! Worked cases, with the places that follow from the rules of the channel.
 
-use super::{Explored, PLACE_LIMIT, WalkError, explore};
+use super::{PLACE_LIMIT, explore};
+use crate::error::WalkError;
+use crate::explored::Explored;
 use crate::image::image;
 use crate::job::Job;
 use crate::place::{Entry, Place};

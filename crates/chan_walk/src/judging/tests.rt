@@ -1,7 +1,9 @@
 //! The worked cases, each with the verdict that follows from the rules.
 
 use super::verify;
-use crate::exploring::{Explored, WalkError, explore};
+use crate::error::WalkError;
+use crate::explored::Explored;
+use crate::exploring::explore;
 use crate::fault::fault_at;
 use crate::guard::Guard;
 use crate::image::image;

@@ -1,7 +1,7 @@
 use Rattle.std.proofs.Common.{◌≡◌, Result, Ok, Err, refl, subst}
 use Rattle.std.specs.Prelude.{IfOk}
 use Rattle.ckd_core.specs.Cylinders.{AreExtents}
-use Rattle.chan_walk.specs.declared.exploring.WalkError.{WalkError}
+use Rattle.chan_walk.specs.declared.error.WalkError.{WalkError}
 use Rattle.chan_walk.specs.declared.job.Job.{Job}
 use Rattle.chan_walk.specs.declared.verdict.Verdict.{Verdict}
 use Rattle.chan_walk.specs.declared.verdict.Verdict.TheVariants.{Yes, No}

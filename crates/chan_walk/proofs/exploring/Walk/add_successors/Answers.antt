@@ -1,8 +1,8 @@
 use Rattle.std.proofs.Common.{◌≡◌, Err, Result, refl}
 use Rattle.std.proofs.lemmas.Option.{slice_get_read}
 use Rattle.std.proofs.lemmas.Result.{err_from_is_err_and}
-use Rattle.chan_walk.specs.declared.exploring.WalkError.{WalkError}
-use Rattle.chan_walk.specs.declared.exploring.WalkError.TheVariants.{TooManyPlaces}
+use Rattle.chan_walk.specs.declared.error.WalkError.{WalkError}
+use Rattle.chan_walk.specs.declared.error.WalkError.TheVariants.{TooManyPlaces}
 use Rattle.chan_walk.specs.declared.exploring.TheConstants.{PLACE_LIMIT}
 use Rattle.chan_walk.proofs.Walking.{Leads, next_overflows, skip_overflows, walked_on}
 use Rattle.chan_walk.proofs.exploring.Walk.add_successors.Goals as goal

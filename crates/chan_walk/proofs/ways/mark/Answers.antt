@@ -1,6 +1,6 @@
 use Rattle.std.proofs.Common.{rules}
 use Rattle.chan_walk.proofs.Marks.{mark_put}
-use Rattle.chan_walk.proofs.exploring.mark.Goals as goal
+use Rattle.chan_walk.proofs.ways.mark.Goals as goal
 
 pub returns-clause-ok : goal.returns-clause-ok
 returns-clause-ok c = mark_put c.args.marks.now c.insert.new.self c.args.place c.way_of.result _ c.way_of.ensures.value (search rules) c.in_ok-insert.ensures.updates

@@ -1,0 +1,86 @@
+//! The ways in which a CCW is entered, kept as a bit for each.
+
+ghost use Rattle.std.specs.Prelude.{◌≡◌, ◌<◌, ◌++◌, ◌↔◌, IsTrue, OnOk, OnErr};
+ghost use Rattle.chan_walk.specs.Explored.{way_of as way};
+ghost use Rattle.chan_walk.specs.Marks as marked;
+ghost use Rattle.chan_walk.specs.Marks.{HasMark, ways};
+ghost use Rattle.chan_walk.specs.Walk.{Marks};
+
+use crate::error::WalkError;
+use crate::place::{Entry, Place};
+use std::collections::BTreeMap;
+
+/// In how many ways a CCW can be entered.
+const WAYS: u32 = 8;
+
+/// The way in which a place is entered, 0 to 7.
+fn way_of(place: Place) -> u32
+    ensures value { result ≡ way place }
+    ensures small { result < 8 }
+{
+    let entry = match place.entered {
+        Entry::Fresh => 0,
+        Entry::ChainIn => 1,
+        Entry::ChainOut => 2,
+        Entry::ChainSearch => 3,
+    };
+    2 * entry + u32::from(place.after_transfer)
+}
+
+/// The place at an address that is entered in a way.
+fn place_at(address: u32, way: u32) -> Place
+    ensures { result ≡ marked.place_at address way }
+{
+    let entered = match way / 2 {
+        0 => Entry::Fresh,
+        1 => Entry::ChainIn,
+        2 => Entry::ChainOut,
+        _ => Entry::ChainSearch,
+    };
+    Place {
+        address,
+        entered,
+        after_transfer: way % 2 == 1,
+    }
+}
+
+/// Writes out the places at one address, in order.
+pub(crate) fn push_ways(places: &mut Vec<Place>, address: u32, bits: u8) -> Result<(), WalkError>
+    ensures ok { OnOk result (places.new.items ≡ places.old.items ++ ways address bits 0 8) }
+    ensures memory { OnErr result (result ≡ Err WalkError.Memory) }
+{
+    for way in 0..WAYS {
+        if (bits >> way) & 1 == 1 {
+            places.push(place_at(address, way))?;
+        }
+    }
+    Ok(())
+}
+
+/// The marks of an address.
+pub(crate) fn bits_at(marks: &BTreeMap<u32, u8>, address: u32) -> u8
+    ensures { result ≡ marked.marks_of marks.now address }
+{
+    match marks.get(&address) {
+        Some(bits) => *bits,
+        None => 0,
+    }
+}
+
+/// The place is marked.
+pub(crate) fn is_marked(marks: &BTreeMap<u32, u8>, place: Place) -> bool
+    ensures { IsTrue result ↔ HasMark marks.now place }
+{
+    let bits = bits_at(marks, place.address);
+    (bits >> way_of(place)) & 1 == 1
+}
+
+/// Marks a place.
+pub(crate) fn mark(marks: &mut BTreeMap<u32, u8>, place: Place) -> Result<(), WalkError>
+    ensures ok { OnOk result (Marks marks.old marks.new place) }
+    ensures memory { OnErr result (result ≡ Err WalkError.Memory) }
+{
+    let bits = bits_at(marks, place.address);
+    marks.insert(place.address, bits | (1 << way_of(place)))?;
+    Ok(())
+}
