@@ -228,31 +228,27 @@ fn deck_after(rt: HostRuntime) -> Result<(), Fail> {
     Ok(())
 }
 
-static WITHOUT_EXTENT: [usize; 11] = [1, 2, 3, 4, 6, 7, 8, 9, 10, 11, 12];
-
-static STORE_BEFORE_FETCH: [usize; 12] = [1, 2, 3, 4, 5, 7, 6, 8, 9, 10, 11, 12];
+/// Lines of the search loop's deck, and which of them is refused.
+static ORDERS: [(&str, &[usize], u64); 2] = [
+    (
+        "deck-form/no-extent",
+        &[1, 2, 3, 4, 6, 7, 8, 9, 10, 11, 12],
+        5,
+    ),
+    (
+        "deck-form/storing-before-fetching",
+        &[1, 2, 3, 4, 5, 7, 6, 8, 9, 10, 11, 12],
+        7,
+    ),
+];
 
 #[test]
 fn deck_order(rt: HostRuntime) -> Result<(), Fail> {
     let alloc = rt.alloc();
-    let text = of_lines(alloc, &WITHOUT_EXTENT)?;
-    expect_refused(
-        &rt,
-        alloc,
-        "deck-form/no-extent",
-        text.as_bytes(),
-        5,
-        Cause::Form,
-    );
-    let text = of_lines(alloc, &STORE_BEFORE_FETCH)?;
-    expect_refused(
-        &rt,
-        alloc,
-        "deck-form/storing-before-fetching",
-        text.as_bytes(),
-        7,
-        Cause::Form,
-    );
+    for (name, numbers, line) in &ORDERS {
+        let text = of_lines(alloc, numbers)?;
+        expect_refused(&rt, alloc, name, text.as_bytes(), *line, Cause::Form);
+    }
     Ok(())
 }
 
