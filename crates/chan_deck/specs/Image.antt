@@ -29,6 +29,7 @@ pub record IsDeck (d : Image) : Type 0 where
   pub whole : length d.storage % 8 ≡ 0
   pub bytes : AllByRecursion IsByte d.storage
 
+-- each byte is zero
 abbrev pub is_zero : List ℕ → Bool
 is_zero [] = true
 is_zero (b ∷ bytes) = b == 0 && is_zero bytes
@@ -39,6 +40,7 @@ puts zero at bytes = []
 puts (suc n) at bytes =
     if is_zero (take 8 bytes) then puts n (at + 8) (drop 8 bytes) else put at (take 8 bytes) ∷ puts n (at + 8) (drop 8 bytes)
 
+-- what the line of an extent says
 abbrev pub extent_of : ℕ × ℕ → Item
 extent_of e = extent e.0 e.1
 

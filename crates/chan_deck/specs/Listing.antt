@@ -30,6 +30,7 @@ abbrev pub mark_word : Bool → List ℕ
 mark_word true = codes "*"
 mark_word false = codes "."
 
+-- a command's name, or `unknown` for a code that isn't in the table
 abbrev pub command_name : Option table.Entry → List ℕ
 command_name None = codes "unknown"
 command_name (Some e) = e.name

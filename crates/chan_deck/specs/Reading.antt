@@ -35,20 +35,24 @@ pub data State : Type 0 where
 abbrev pub pad : List ℕ → ℕ → List ℕ
 pad bytes n = bytes ++ replicate (n - length bytes) 0
 
+-- the image that the lines before the lists, the lists and the bytes of storage make
 abbrev pub image_of : Heading → List (ℕ × ℕ) → List Area → List Area → List ℕ → Image
 image_of h es fs ss bytes =
     record { device = h.device; mask = h.mask; start = h.start; extents = es; fetch = fs; store = ss; storage = bytes }
 
+-- the list has nothing
 abbrev pub is_empty : {X : Type 0} → List X → Bool
 is_empty [] = true
 is_empty (x ∷ xs) = false
 
+-- an extent goes behind those before it, if its cylinders are in order and on the device
 abbrev pub on_extent : Heading → List (ℕ × ℕ) → ℕ → ℕ → Result State Cause
 on_extent h es first last =
     if nat_lt last first then Err causes.ExtentBackwards
     else if nat_lt 202 last then Err causes.ExtentPastDevice
     else Ok (Listing h (es ++ (first, last) ∷ []) [] [])
 
+-- the line of storage ends the lists, if storage may have so many bytes
 abbrev pub on_storage : Heading → List (ℕ × ℕ) → List Area → List Area → ℕ → Result State Cause
 on_storage h es fs ss n = if is_size n then Ok (Filling h es fs ss n []) else Err causes.Size
 
@@ -70,6 +74,7 @@ step (Filling h es fs ss n bytes) end = Ok (Whole (image_of h es fs ss (pad byte
 step (Whole d) _ = Err causes.After
 step _ _ = Err causes.Form
 
+-- goes on behind a line that was taken, and not behind one that was refused
 abbrev pub go_on : Result State Cause → (State → Result State Cause) → Result State Cause
 go_on (Ok s) more = more s
 go_on (Err c) more = Err c

@@ -43,6 +43,7 @@ impl Deck {
         ensures fetch { fetch_of result ≡ self.now.fetch }
         ensures store { store_of result ≡ self.now.store }
     {
+        // A deck's storage is never too large: the type's invariant says so.
         let storage = Storage::new(&self.storage).unwrap();
         Job {
             storage,

@@ -4,6 +4,7 @@ ghost use Rattle.std.specs.Prelude.{◌≡◌, ◌+◌, ◌<◌, ℕ, [], List, 
 ghost use Rattle.ckd_core.specs.declared.device.Device.{Device};
 ghost use Rattle.chan_deck.specs.Digits.{AreValues};
 ghost use Rattle.chan_deck.specs.Reading.{IsRefusal, Listing, Masked, Named, OnDevice, Opening, Stands};
+ghost use Rattle.chan_deck.specs.declared.error.DeckError.TheVariants as errors;
 
 use crate::cause::Cause;
 use crate::digits::DigitValues;
@@ -12,6 +13,13 @@ use crate::forms::{device_of, is_header, mask_of, start_of};
 use crate::lines::next_line;
 use ckd_core::{Device, FileMask};
 
+/// The refusal of this line.
+fn refused(line: u64, cause: Cause) -> DeckError
+    ensures { result ≡ errors.At line cause }
+{
+    At { line, cause }
+}
+
 /// What follows the header.
 pub(crate) fn after_header(text: &[u8]) -> Result<&[u8], DeckError>
     ensures ok { IfOk result (λ rest. (t : List ℕ) → Stands t Opening 1 text.now → Stands t Named 2 rest.now) }
@@ -19,18 +27,12 @@ pub(crate) fn after_header(text: &[u8]) -> Result<&[u8], DeckError>
     ensures shorter { IfOk result (λ rest. length rest.now + 12 < length text.now) }
 {
     let Some((line, rest)) = next_line(text) else {
-        return Err(At {
-            line: 1,
-            cause: Cause::Ended,
-        });
+        return Err(refused(1, Cause::Ended));
     };
     if is_header(line) {
         Ok(rest)
     } else {
-        Err(At {
-            line: 1,
-            cause: Cause::Header,
-        })
+        Err(refused(1, Cause::Header))
     }
 }
 
@@ -41,17 +43,11 @@ pub(crate) fn read_device(text: &[u8]) -> Result<(Device, &[u8]), DeckError>
     ensures shorter { IfOk result (λ x. length x.1.now < length text.now) }
 {
     let Some((line, rest)) = next_line(text) else {
-        return Err(At {
-            line: 2,
-            cause: Cause::Ended,
-        });
+        return Err(refused(2, Cause::Ended));
     };
     match device_of(line) {
         Some(device) => Ok((device, rest)),
-        None => Err(At {
-            line: 2,
-            cause: Cause::Form,
-        }),
+        None => Err(refused(2, Cause::Form)),
     }
 }
 
@@ -66,23 +62,14 @@ pub(crate) fn read_mask<'a>(
     ensures shorter { IfOk result (λ x. length x.1.now < length text.now) }
 {
     let Some((line, rest)) = next_line(text) else {
-        return Err(At {
-            line: 3,
-            cause: Cause::Ended,
-        });
+        return Err(refused(3, Cause::Ended));
     };
     let Some(byte) = mask_of(line, values) else {
-        return Err(At {
-            line: 3,
-            cause: Cause::Form,
-        });
+        return Err(refused(3, Cause::Form));
     };
     match FileMask::new(byte) {
         Some(mask) => Ok((mask, rest)),
-        None => Err(At {
-            line: 3,
-            cause: Cause::Mask,
-        }),
+        None => Err(refused(3, Cause::Mask)),
     }
 }
 
@@ -98,16 +85,10 @@ pub(crate) fn read_start<'a>(
     ensures shorter { IfOk result (λ x. length x.1.now < length text.now) }
 {
     let Some((line, rest)) = next_line(text) else {
-        return Err(At {
-            line: 4,
-            cause: Cause::Ended,
-        });
+        return Err(refused(4, Cause::Ended));
     };
     match start_of(line, values) {
         Some(start) => Ok((start, rest)),
-        None => Err(At {
-            line: 4,
-            cause: Cause::Form,
-        }),
+        None => Err(refused(4, Cause::Form)),
     }
 }

@@ -34,6 +34,8 @@ fn read_parts(alloc: Global, text: &[u8]) -> Result<Parts, DeckError>
     let values = digit_values();
     let rest = after_header(text)?;
     let (device, rest) = read_device(rest)?;
+
+    // A match, since the borrow checker has no rule for `?` on what holds both a file mask and a borrowed text.
     let (mask, rest) = match read_mask(rest, &values) {
         Ok(found) => found,
         Err(error) => return Err(error),

@@ -2,7 +2,7 @@
 
 use crate::{Cause, DeckError, ListError, read_deck, verdict_text, write_deck};
 use ccw_core::{Area, Storage};
-use chan_walk::{Job, Reason, Verdict};
+use chan_walk::{Job, Reason, Verdict, verify};
 use ckd_core::Device;
 use std::alloc::Global;
 use std::process::Abort;
@@ -36,12 +36,23 @@ fn with_line(alloc: Global, number: usize, words: &str) -> Result<String, Fail> 
     Ok(text)
 }
 
+/// The lines of the search loop's deck with these numbers, counted from 1, in this order.
+fn of_lines(alloc: Global, numbers: &[usize]) -> Result<String, Fail> {
+    let mut text = String::new(alloc);
+    for number in numbers {
+        let line = LINES.get(number.wrapping_sub(1)).ok_or("no such line")?;
+        text.push_str(line)?;
+        text.push('\n')?;
+    }
+    Ok(text)
+}
+
 /// The search loop's deck.
 fn search_loop(alloc: Global) -> Result<String, Fail> {
     with_line(alloc, 0, "")
 }
 
-/// Whether reading the text refuses this line for this cause.
+/// Asserts that reading the text refuses this line for this cause.
 fn expect_refused(
     rt: &impl Abort,
     alloc: Global,
@@ -56,7 +67,7 @@ fn expect_refused(
     }
 }
 
-/// Whether the text is read, and written back byte for byte.
+/// Asserts that the text is read, and written back byte for byte.
 fn expect_deck(rt: &impl Abort, alloc: Global, name: &str, text: &[u8]) -> Result<(), Fail> {
     let deck = read_deck(alloc, text)?;
     let again = write_deck(alloc, &deck)?;
@@ -65,18 +76,33 @@ fn expect_deck(rt: &impl Abort, alloc: Global, name: &str, text: &[u8]) -> Resul
     Ok(())
 }
 
+/// Asserts that each of these lines, in other words, has none of the forms that may stand there.
+fn expect_no_form(rt: &impl Abort, alloc: Global, changes: &[(usize, &str)]) -> Result<(), Fail> {
+    for (number, words) in changes {
+        let text = with_line(alloc, *number, words)?;
+        expect_refused(
+            rt,
+            alloc,
+            words,
+            text.as_bytes(),
+            *number as u64,
+            Cause::Form,
+        );
+    }
+    Ok(())
+}
+
+/// All lines but those of areas and puts.
+static NO_AREAS_AND_NO_WORDS: [usize; 7] = [1, 2, 3, 4, 5, 8, 12];
+
 #[test]
 fn deck_text(rt: HostRuntime) -> Result<(), Fail> {
     let alloc = rt.alloc();
     let text = search_loop(alloc)?;
     assert_eq!(rt; text.len(), 205);
     expect_deck(&rt, alloc, "the search loop", text.as_bytes())?;
-    expect_deck(
-        &rt,
-        alloc,
-        "no area and no put",
-        b"chanv deck 1\ndevice 2314\nmask 00\nstart 000800\nextent 010 019\nstorage 0001000\nend\n",
-    )?;
+    let bare = of_lines(alloc, &NO_AREAS_AND_NO_WORDS)?;
+    expect_deck(&rt, alloc, "no-areas-and-no-words", bare.as_bytes())?;
     expect_deck(
         &rt,
         alloc,
@@ -86,174 +112,179 @@ fn deck_text(rt: HostRuntime) -> Result<(), Fail> {
 }
 
 #[test]
+fn no_areas_and_no_words(rt: HostRuntime) -> Result<(), Fail> {
+    let alloc = rt.alloc();
+    let text = of_lines(alloc, &NO_AREAS_AND_NO_WORDS)?;
+    let deck = read_deck(alloc, text.as_bytes())?;
+    let job = deck.job();
+
+    // The borrow checker asks for the type of what a job borrows.
+    let _storage: Storage<'_> = job.storage;
+    let verdict = verify(alloc, &job)?;
+    let line = verdict_text(alloc, verdict)?;
+    assert_eq!(rt; line.as_str(), "no 000800 invalid-code\n");
+    Ok(())
+}
+
+/// A line of the search loop's deck in other words, and the cause for which it is refused.
+static CAUSES: [(&str, usize, &str, Cause); 13] = [
+    ("deck-header", 1, "chanv deck 9", Cause::Header),
+    ("deck-form/device", 2, "device 3330", Cause::Form),
+    ("deck-mask", 3, "mask 20", Cause::Mask),
+    ("deck-form/lower-case", 3, "mask c0", Cause::Form),
+    (
+        "deck-extent-backwards/on-device",
+        5,
+        "extent 019 010",
+        Cause::ExtentBackwards,
+    ),
+    (
+        "deck-extent-past-device",
+        5,
+        "extent 010 203",
+        Cause::ExtentPastDevice,
+    ),
+    (
+        "deck-extent-backwards/past-device",
+        5,
+        "extent 300 203",
+        Cause::ExtentBackwards,
+    ),
+    (
+        "deck-size/no-multiple-of-8",
+        8,
+        "storage 0001004",
+        Cause::Size,
+    ),
+    ("deck-size/too-large", 8, "storage 1000008", Cause::Size),
+    (
+        "deck-put-address/again",
+        10,
+        "put 000800 0800080000000000",
+        Cause::PutAddress,
+    ),
+    (
+        "deck-put-address/no-multiple-of-8",
+        10,
+        "put 00080C 0800080000000000",
+        Cause::PutAddress,
+    ),
+    (
+        "deck-put-address/past-storage",
+        11,
+        "put 001000 06000A0020000050",
+        Cause::PutAddress,
+    ),
+    (
+        "deck-put-zero",
+        11,
+        "put 000810 0000000000000000",
+        Cause::PutZero,
+    ),
+];
+
+#[test]
 fn deck_causes(rt: HostRuntime) -> Result<(), Fail> {
     let alloc = rt.alloc();
-    for (name, number, words, cause) in [
-        ("deck-header", 1, "chanv deck 9", Cause::Header),
-        ("deck-form, device", 2, "device 3330", Cause::Form),
-        ("deck-mask", 3, "mask 20", Cause::Mask),
-        ("deck-form, mask", 3, "mask c0", Cause::Form),
-        (
-            "deck-extent-backwards",
-            5,
-            "extent 019 010",
-            Cause::ExtentBackwards,
-        ),
-        (
-            "deck-extent-past-device",
-            5,
-            "extent 010 203",
-            Cause::ExtentPastDevice,
-        ),
-        (
-            "deck-extent-backwards, past the device",
-            5,
-            "extent 300 203",
-            Cause::ExtentBackwards,
-        ),
-        (
-            "deck-size, no multiple of 8",
-            8,
-            "storage 0001004",
-            Cause::Size,
-        ),
-        ("deck-size, too large", 8, "storage 1000008", Cause::Size),
-        (
-            "deck-put-address, again",
-            10,
-            "put 000800 0800080000000000",
-            Cause::PutAddress,
-        ),
-        (
-            "deck-put-address, no multiple of 8",
-            10,
-            "put 00080C 0800080000000000",
-            Cause::PutAddress,
-        ),
-        (
-            "deck-put-address, past storage",
-            11,
-            "put 001000 06000A0020000050",
-            Cause::PutAddress,
-        ),
-        (
-            "deck-put-zero",
-            11,
-            "put 000810 0000000000000000",
-            Cause::PutZero,
-        ),
-    ] {
-        let text = with_line(alloc, number, words)?;
-        expect_refused(&rt, alloc, name, text.as_bytes(), number as u64, cause);
+    for (name, number, words, cause) in &CAUSES {
+        let text = with_line(alloc, *number, words)?;
+        expect_refused(&rt, alloc, name, text.as_bytes(), *number as u64, *cause);
     }
     Ok(())
 }
+
+/// So many bytes of the search loop's deck from the front, and the line at which they have ended too early.
+static ENDED: [(&str, usize, u64); 2] = [
+    ("deck-ended/empty-text", 0, 1),
+    ("deck-ended/no-line-feed-at-the-end", 204, 12),
+];
 
 #[test]
 fn deck_ended(rt: HostRuntime) -> Result<(), Fail> {
     let alloc = rt.alloc();
     let text = search_loop(alloc)?;
-    expect_refused(&rt, alloc, "the empty text", b"", 1, Cause::Ended);
-    let mut short = text.clone()?;
-    assert_eq!(rt; short.pop(), Some('\n'));
-    assert_eq!(rt; short.len(), 204);
-    expect_refused(
-        &rt,
-        alloc,
-        "no line feed at the end",
-        short.as_bytes(),
-        12,
-        Cause::Ended,
-    );
-    let mut more = text.clone()?;
-    more.push('\n')?;
-    expect_refused(&rt, alloc, "deck-after", more.as_bytes(), 13, Cause::After);
-    more.push_str("chanv deck 1")?;
-    expect_refused(
-        &rt,
-        alloc,
-        "deck-after, more",
-        more.as_bytes(),
-        13,
-        Cause::After,
-    );
+    for (name, len, line) in &ENDED {
+        let front = text.as_bytes().get(..*len).ok_or("so many bytes")?;
+        expect_refused(&rt, alloc, name, front, *line, Cause::Ended);
+    }
     Ok(())
 }
 
+/// What stands behind the line `end`, which is line 12.
+static AFTER: [(&str, &str); 3] = [
+    ("deck-after", "\n"),
+    ("deck-after/two-lines", "\nchanv deck 1"),
+    ("deck-after/no-line-feed", "chanv deck 1"),
+];
+
 #[test]
-fn deck_order(rt: HostRuntime) {
+fn deck_after(rt: HostRuntime) -> Result<(), Fail> {
     let alloc = rt.alloc();
-    expect_refused(
-        &rt,
-        alloc,
-        "no extent",
-        b"chanv deck 1\ndevice 2314\nmask 00\nstart 000800\nfetch 000900 000010\nstore 000A00 000100\nstorage 0001000\nend\n",
-        5,
-        Cause::Form,
-    );
-    expect_refused(
-        &rt,
-        alloc,
-        "storing before fetching",
-        b"chanv deck 1\ndevice 2314\nmask 00\nstart 000800\nextent 010 019\nstore 000A00 000100\nfetch 000900 000010\nstorage 0001000\nend\n",
-        7,
-        Cause::Form,
-    );
+    for (name, more) in &AFTER {
+        let mut text = search_loop(alloc)?;
+        text.push_str(more)?;
+        expect_refused(&rt, alloc, name, text.as_bytes(), 13, Cause::After);
+    }
+    Ok(())
 }
+
+/// Lines of the search loop's deck, and which of them is refused.
+static ORDERS: [(&str, &[usize], u64); 2] = [
+    (
+        "deck-form/no-extent",
+        &[1, 2, 3, 4, 6, 7, 8, 9, 10, 11, 12],
+        5,
+    ),
+    (
+        "deck-form/storing-before-fetching",
+        &[1, 2, 3, 4, 5, 7, 6, 8, 9, 10, 11, 12],
+        7,
+    ),
+];
+
+#[test]
+fn deck_order(rt: HostRuntime) -> Result<(), Fail> {
+    let alloc = rt.alloc();
+    for (name, numbers, line) in &ORDERS {
+        let text = of_lines(alloc, numbers)?;
+        expect_refused(&rt, alloc, name, text.as_bytes(), *line, Cause::Form);
+    }
+    Ok(())
+}
+
+static LOWER_CASE: [(usize, &str); 9] = [
+    (3, "mask 0a"),
+    (4, "start 000a00"),
+    (6, "fetch 00090a 000010"),
+    (6, "fetch 000900 00001a"),
+    (7, "store 000a00 000100"),
+    (7, "store 000A00 00010f"),
+    (8, "storage 000100a"),
+    (9, "put 00080a 3100090040000005"),
+    (9, "put 000800 310009004000000b"),
+];
 
 #[test]
 fn lower_case(rt: HostRuntime) -> Result<(), Fail> {
-    let alloc = rt.alloc();
-    for (number, words) in [
-        (3, "mask 0a"),
-        (4, "start 000a00"),
-        (6, "fetch 00090a 000010"),
-        (6, "fetch 000900 00001a"),
-        (7, "store 000a00 000100"),
-        (7, "store 000A00 00010f"),
-        (8, "storage 000100a"),
-        (9, "put 00080a 3100090040000005"),
-        (9, "put 000800 310009004000000b"),
-    ] {
-        let text = with_line(alloc, number, words)?;
-        expect_refused(
-            &rt,
-            alloc,
-            words,
-            text.as_bytes(),
-            number as u64,
-            Cause::Form,
-        );
-    }
-    Ok(())
+    expect_no_form(&rt, rt.alloc(), &LOWER_CASE)
 }
+
+static WIDTHS: [(usize, &str); 10] = [
+    (2, "device 2314 "),
+    (3, "mask 000"),
+    (4, "start 00800"),
+    (5, "extent 10 19"),
+    (5, "extent 010  019"),
+    (6, "fetch 000900"),
+    (8, "storage 00001000"),
+    (9, "put 000800 31000900400000"),
+    (9, "put 000800 310009004000000500"),
+    (12, "END"),
+];
 
 #[test]
 fn widths(rt: HostRuntime) -> Result<(), Fail> {
-    let alloc = rt.alloc();
-    for (number, words) in [
-        (2, "device 2314 "),
-        (3, "mask 000"),
-        (4, "start 00800"),
-        (5, "extent 10 19"),
-        (5, "extent 010  019"),
-        (6, "fetch 000900"),
-        (8, "storage 00001000"),
-        (9, "put 000800 31000900400000"),
-        (9, "put 000800 310009004000000500"),
-        (12, "END"),
-    ] {
-        let text = with_line(alloc, number, words)?;
-        expect_refused(
-            &rt,
-            alloc,
-            words,
-            text.as_bytes(),
-            number as u64,
-            Cause::Form,
-        );
-    }
-    Ok(())
+    expect_no_form(&rt, rt.alloc(), &WIDTHS)
 }
 
 static FETCH: [Area; 1] = [Area {

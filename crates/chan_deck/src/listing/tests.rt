@@ -70,6 +70,8 @@ fn deck(alloc: Global, start: &str, puts: &str) -> Result<Deck, Fail> {
     Ok(read_deck(alloc, text.as_bytes())?)
 }
 
+// Each function below that holds a job names the type of its storage, since the borrow checker asks for the type of what a job borrows.
+
 fn places_of(alloc: Global, deck: &Deck) -> Result<Explored, Fail> {
     let job = deck.job();
     let _storage: Storage<'_> = job.storage;

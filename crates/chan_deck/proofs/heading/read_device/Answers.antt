@@ -7,7 +7,7 @@ use Rattle.chan_deck.specs.declared.cause.Cause.TheVariants as causes
 use Rattle.chan_deck.proofs.heading.read_device.Goals as goal
 
 pub returns-in_default-clause-err : goal.returns-in_default-clause-err
-returns-in_default-clause-err c = λ t st. refuses_end t Named 2 c.args.text.now st c.in_default.ensures.none refl
+returns-in_default-clause-err c = rw c.refused.ensures (λ t st. refuses_end t Named 2 c.args.text.now st c.in_default.ensures.none refl)
 
 pub returns-in-Some-device_of-clause-ok : goal.returns-in-Some-device_of-clause-ok
 returns-in-Some-device_of-clause-ok c = λ t st.
@@ -17,4 +17,4 @@ returns-in-Some-device_of-clause-ok c = λ t st.
 pub returns-in-None-clause-err : goal.returns-in-None-clause-err
 returns-in-None-clause-err c = λ t st.
     let parts = rw (c.in-Some.line-is, c.in-Some.rest-is) at c.in-Some.ensures.some in
-    refuses_line t Named 2 c.args.text.now c.in-Some.line.now c.in-Some.rest.now causes.Form st parts (not_device c.in-Some.line.now c.in-None.ensures)
+    rw c.refused-in-None.ensures (refuses_line t Named 2 c.args.text.now c.in-Some.line.now c.in-Some.rest.now causes.Form st parts (not_device c.in-Some.line.now c.in-None.ensures))
