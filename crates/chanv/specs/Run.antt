@@ -10,7 +10,7 @@ use Rattle.chan_walk.specs.declared.job.Job.{Job}
 use Rattle.chan_walk.specs.declared.place.Place.{Place}
 use Rattle.chan_walk.specs.declared.verdict.Verdict.{Verdict}
 use Rattle.chan_walk.specs.declared.verdict.Verdict.TheVariants.{Yes, No}
-use Rattle.chan_walk.specs.Answers.{CoversEveryRun, HasAtMost, IsShown}
+use Rattle.chan_walk.specs.Answers.{CoversEveryRun, HasAtMost, IsShown, MissesNoYes}
 use Rattle.chan_walk.specs.Explored.{AreReachable, HasMoreThan, place_limit}
 use Rattle.chan_walk.specs.Job.{extents_of, fetch_of, storage_of, store_of}
 use Rattle.chan_walk.specs.Verdict.{IsVerdict}
@@ -33,7 +33,7 @@ pub record IsJobOf (d : Image) (j : Job) : Type 0 where
   pub store : store_of j ≡ d.store
 
 -- the text spells a deck, and this is the verdict on its job: where it is yes, every run is safe and the job is steady, and
--- where it is no, some run shows why
+-- where it is no, some run shows why, and the answer is yes wherever every run is safe and the job is steady
 pub record IsJudged (t : List ℕ) (v : Verdict) : Type 0 where
   pub deck : Image
   pub spelled : Spells t deck
@@ -43,6 +43,7 @@ pub record IsJudged (t : List ℕ) (v : Verdict) : Type 0 where
   pub verdict : IsVerdict job v
   pub covers : CoversEveryRun job v
   pub shown : IsShown job v
+  pub exact : MissesNoYes job v
 
 -- the text spells a deck whose job has more than 4,096 reachable places
 pub record HasTooMany (t : List ℕ) : Type 0 where

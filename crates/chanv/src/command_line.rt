@@ -15,11 +15,15 @@ mod tests;
 /// What the words of the command line ask for.
 #[derive(Debug, Drop)]
 pub enum Request<'a> {
+    /// To show a CCW. The text is the word that was given for it.
     Show(&'a str),
+    /// To read a deck and do this with it.
     Run(Action),
-    /// The text of the help, or of the fault, is the error's.
+    /// Help. Its text is the error's.
     Help(Error),
+    /// Nothing: clap doesn't take the words. The text that says why is the error's.
     Fault(Error),
+    /// It isn't known: memory was wanting.
     NoMemory,
 }
 

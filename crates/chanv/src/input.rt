@@ -41,7 +41,7 @@ pub(crate) fn read_input<R: Read>(
 {
     let mut text = Vec::new(alloc);
     let mut chunk = [0u8; CHUNK];
-    'chunks: loop {
+    loop {
         let count = match from.read(&mut chunk) {
             Ok(count) => count,
             Err(DeviceFault) => return Err(InputError::Read),

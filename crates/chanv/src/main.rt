@@ -23,6 +23,13 @@ use std::io;
 use std::io::Write;
 use std::process::ExitCode;
 
+/// The text of the usage fault where a word isn't UTF-8, in clap's wording. Here clap takes text
+/// alone, so it has no such error.
+const NOT_TEXT: &str = "error: invalid UTF-8 was detected in one or more arguments
+
+For more information, try '--help'.
+";
+
 fn main(rt: HostRuntime) -> ExitCode {
     let outcome = outcome_of(&rt);
     ExitCode::from(report(outcome, &mut Watched::new(rt.stderr())))
@@ -34,7 +41,10 @@ fn outcome_of(rt: &HostRuntime) -> Outcome {
         Err(error) if error.kind() == io::ErrorKind::OutOfMemory => {
             return Outcome::NoMemoryForCommandLine;
         }
-        Err(_) => return Outcome::UsageFault,
+        Err(_) => {
+            let _ = rt.eprint(NOT_TEXT);
+            return Outcome::UsageFault;
+        }
     };
     match read_request(rt.alloc(), words.as_slice()) {
         Request::Show(text) => shown(rt, text),

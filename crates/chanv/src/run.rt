@@ -10,7 +10,7 @@ ghost use Rattle.chanv.specs.Run.{BeginsToWrite, IsEarly, IsRunAnswer, IsTextAns
 ghost use Rattle.chanv.specs.declared.run.Action.TheVariants as actions;
 
 use crate::input::{InputError, read_input};
-use ccw_core::{Storage, Watched, write_out};
+use ccw_core::{Watched, write_out};
 use chan_deck::{Cause, DeckError, ListError, read_deck, verdict_text, write_listing};
 use chan_walk::{Job, Verdict, WalkError, explore, verify};
 use std::alloc::Global;
@@ -108,7 +108,6 @@ fn answer<W: Write>(
         Err(DeckError::Memory) => return Err(RunError::Memory),
     };
     let job = deck.job();
-    let _storage: Storage<'_> = job.storage;
     let verdict = match verify(alloc, &job) {
         Ok(verdict) => verdict,
         Err(WalkError::TooManyPlaces) => return Err(RunError::TooManyPlaces),

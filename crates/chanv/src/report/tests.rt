@@ -13,7 +13,8 @@ fn refused(line: u64, cause: Cause) -> Outcome {
     Outcome::Ran(Err(RunError::Deck { line, cause }))
 }
 
-/// Whether these outcomes have these statuses and lines, over a writer that takes all and one that fails.
+/// Whether these outcomes have these statuses and lines, over a writer that takes all and one that
+/// fails after a byte.
 fn expect(rt: &impl Abort, alloc: Global, outcomes: &[(Outcome, u8, &str)]) {
     for (outcome, status, line) in outcomes {
         let mut to = Watched::new(Vec::new(alloc));
@@ -24,6 +25,8 @@ fn expect(rt: &impl Abort, alloc: Global, outcomes: &[(Outcome, u8, &str)]) {
             taken: Vec::new(alloc),
         });
         assert_eq!(rt; report(*outcome, &mut failing), *status);
+        let first = &line.as_bytes()[..line.len().min(1)];
+        assert_eq!(rt; failing.into_inner().taken.as_slice(), first);
     }
 }
 

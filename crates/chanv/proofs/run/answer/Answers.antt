@@ -24,6 +24,7 @@ returns-in-Ok-write_output-clause-answer g c =
       verdict = found.verdict;
       covers = found.safe;
       shown = found.shown;
+      exact = found.exact;
     } in
     record { verdict = c.in-Ok-verify.verdict; judged = judged; status = c.status_of.ensures; written = c.in-Ok-write_output.ensures.ok }
 
@@ -39,6 +40,7 @@ returns-in-Err-Write-clause-answer g c =
       verdict = found.verdict;
       covers = found.safe;
       shown = found.shown;
+      exact = found.exact;
     } in
     record { verdict = c.in-Ok-verify.verdict; judged = judged; written = c.in-Err-Write.ensures.cut_off (ap Err c.in-Err-Write.field-0-is) }
 
@@ -54,5 +56,6 @@ returns-clause-answer g c =
       verdict = found.verdict;
       covers = found.safe;
       shown = found.shown;
+      exact = found.exact;
     } in
     ⊎_map (λ nothing. nothing) (λ begun. record { verdict = c.in-Ok-verify.verdict; judged = judged; written = begun }) (c.in-Err-Memory-write_output.ensures.memory (ap Err c.in-Err-Memory-write_output.field-0-is))
