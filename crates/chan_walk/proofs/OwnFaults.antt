@@ -9,10 +9,10 @@ use Rattle.chan_walk.specs.declared.job.Job.{Job}
 use Rattle.chan_walk.specs.declared.place.Place.{Place}
 use Rattle.chan_walk.specs.declared.reason.Reason.{Reason}
 use Rattle.chan_walk.specs.Check.{first_reason, check}
-use Rattle.chan_walk.specs.Fault.{stores, fetches, begins_seek, begins_recalibrate, is_refused, table_of_own, HasFault}
+use Rattle.chan_walk.specs.Fault.{stores, fetches, begins_seek, begins_recalibrate, is_refused, command_faults, lent_faults, seek_faults, table_of_own, HasFault}
 use Rattle.chan_walk.specs.Job.{storage_of, extents_of, fetch_of, store_of}
 use Rattle.chan_walk.specs.Place.{word_at}
-use Rattle.chan_walk.specs.Tables.{argument_faults, command_faults, lent_faults, lent_reason, seek_faults, HasSeekFault}
+use Rattle.chan_walk.specs.Tables.{argument_faults, lent_reason, HasSeekFault}
 use Rattle.chan_walk.specs.declared.reason.Reason.TheVariants.{StoreNotLent, FetchNotLent, ShortSeek, SeekOutside}
 use Rattle.chan_walk.proofs.Chains.{argument_exists}
 use Rattle.chan_walk.proofs.Checks.{passed}

@@ -1,5 +1,5 @@
 -- The own fault of a place: what is wrong with its CCW as it stands before the program's start.
-use Rattle.std.specs.Prelude.{◌≡◌, ℕ, Bool, true, false, not, ◌&&◌, ◌||◌, List, [], ◌∷◌, Option, None, Some, is_some, is_none, if◌then◌else◌}
+use Rattle.std.specs.Prelude.{◌≡◌, ℕ, Bool, true, false, not, ◌&&◌, ◌||◌, List, [], ◌∷◌, ◌++◌, Option, None, Some, is_some, is_none, if◌then◌else◌}
 use Rattle.std.specs.Option.{option_or}
 use Rattle.ccw_core.specs.Areas.{covered}
 use Rattle.ccw_core.specs.Ccw.{Fields, is_transfer, skips}
@@ -75,15 +75,26 @@ abbrev pub is_refused : Job → Option (List ℕ) → Bool
 is_refused j None = false
 is_refused j (Some x) = not (allows j x)
 
--- what is looked at in a CCW c that is no transfer and meets no program check, where x is the argument of a seek there
-abbrev pub table_of_own : Job → Place → Fields → Option (List ℕ) → List (Bool × Reason)
-table_of_own j p c x =
+-- what is looked at in a CCW c that is no transfer and meets no program check: the command that begins there
+abbrev pub command_faults : Job → Place → Fields → List (Bool × Reason)
+command_faults j p c =
     (is_fresh p.entered && not (is_known c.command), NotInTable) ∷
-    (is_fresh p.entered && inhibits j.mask c.command, Inhibited) ∷
+    (is_fresh p.entered && inhibits j.mask c.command, Inhibited) ∷ []
+
+-- the areas lent
+abbrev pub lent_faults : Job → Place → Fields → List (Bool × Reason)
+lent_faults j p c =
     (stores p c && not (covered (store_of j) c.address c.count), StoreNotLent) ∷
-    (fetches p c && not (covered (fetch_of j) c.address c.count), FetchNotLent) ∷
+    (fetches p c && not (covered (fetch_of j) c.address c.count), FetchNotLent) ∷ []
+
+-- and the seek that begins there, where x is its argument
+abbrev pub seek_faults : Job → Place → Fields → Option (List ℕ) → List (Bool × Reason)
+seek_faults j p c x =
     (begins_seek p c && is_none x, ShortSeek) ∷
     ((begins_seek p c && is_refused j x) || (begins_recalibrate p c && not (has_cylinder (extents_of j) 0)), SeekOutside) ∷ []
+
+abbrev pub table_of_own : Job → Place → Fields → Option (List ℕ) → List (Bool × Reason)
+table_of_own j p c x = command_faults j p c ++ lent_faults j p c ++ seek_faults j p c x
 
 -- the own fault, where x is the argument of a seek at the place
 abbrev pub fault_with : Job → Place → Option (List ℕ) → Option Reason

@@ -5,12 +5,12 @@ ghost use Rattle.ccw_core.specs.Ccw.{ccw, is_transfer, is_invalid as invalid};
 ghost use Rattle.ccw_core.specs.Held.{bytes_held};
 ghost use Rattle.chan_walk.specs.Check as checks;
 ghost use Rattle.chan_walk.specs.Fault as fault;
-ghost use Rattle.chan_walk.specs.Fault.{HasFault};
+ghost use Rattle.chan_walk.specs.Fault.{HasFault, command_faults};
 ghost use Rattle.chan_walk.specs.Job.{fetch_of, store_of};
 ghost use Rattle.chan_walk.specs.Lent.{AreLent};
 ghost use Rattle.ccw_core.specs.Areas.{covered};
 ghost use Rattle.chan_walk.specs.Place.{is_fresh};
-ghost use Rattle.chan_walk.specs.Tables.{HasSeekFault, argument_faults, command_faults, lent_reason};
+ghost use Rattle.chan_walk.specs.Tables.{HasSeekFault, argument_faults, lent_reason};
 
 use crate::job::Job;
 use crate::lent::Lent;

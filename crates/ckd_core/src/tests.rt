@@ -5,7 +5,7 @@ use std::alloc::Global;
 use std::process::Abort;
 use std::test::Fail;
 
-/// Whether the table has the command, with this name, kind and class.
+/// Asserts that the table has the command, with this name, kind and class.
 fn expect_command(rt: &impl Abort, code: u8, name: &str, kind: Kind, class: MaskClass) {
     match lookup(code) {
         Some(command) => {
@@ -19,7 +19,7 @@ fn expect_command(rt: &impl Abort, code: u8, name: &str, kind: Kind, class: Mask
 }
 
 #[test]
-fn commands_without_multi_track(rt: HostRuntime) {
+fn controls_and_writes(rt: HostRuntime) {
     for (code, name, kind, class) in [
         (0x03, "no-operation", Kind::Idle, MaskClass::Plain),
         (0x13, "recalibrate", Kind::Idle, MaskClass::Recalibrate),
@@ -44,7 +44,7 @@ fn commands_without_multi_track(rt: HostRuntime) {
 }
 
 #[test]
-fn commands_with_multi_track(rt: HostRuntime) {
+fn searches_and_reads(rt: HostRuntime) {
     for (code, name, kind) in [
         (0x39, "search-home-address-equal", Kind::Search),
         (0xB9, "search-home-address-equal-mt", Kind::Search),
@@ -180,7 +180,6 @@ fn extents_new(rt: HostRuntime) -> Result<(), Fail> {
     Ok(())
 }
 
-/// The faults come whether or not there is memory: run it with the first allocation failing, too.
 #[test]
 fn extents_new_refused(rt: HostRuntime) {
     let alloc = rt.alloc();
@@ -231,7 +230,7 @@ fn extents_that_overlap(rt: HostRuntime) -> Result<(), Fail> {
 }
 
 #[test]
-fn seek_to_head_19(rt: HostRuntime) -> Result<(), Fail> {
+fn arguments_and_tracks(rt: HostRuntime) -> Result<(), Fail> {
     let extents = Extents::new(rt.alloc(), &[(10, 19)])?;
     for (argument, on_2311, on_2314) in [
         ([0, 0, 0, 10, 0, 19], false, true),
