@@ -102,4 +102,8 @@ says '' $'chanv: write failed\n'
 "$program" --help > /dev/full 2> "$work/error"
 expect 'help, a full standard output' 3 $?
 
+says '' $'error: invalid UTF-8 was detected in one or more arguments\n\nFor more information, try \'--help\'.\n'
+"$program" $'show\xff' > "$work/output" 2> "$work/error"
+expect 'a word that is not UTF-8' 4 $?
+
 finish

@@ -41,7 +41,7 @@ fn command<'a>(alloc: Global) -> Result<Command<'a>, AllocError>
         "reads a deck from standard input and writes its verdict; so does chanv without words",
     );
     let list = Command::new(alloc, "list").about(
-        "reads a deck from standard input and lists the CCWs that a run can reach, with the verdict",
+        "reads a deck from standard input and lists its reachable CCWs, with the verdict",
     );
     Command::new(alloc, "chanv")
         .about("verifies channel programs")

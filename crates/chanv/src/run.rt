@@ -25,7 +25,7 @@ mod tests;
 pub enum Action {
     /// Writes the line of the verdict.
     Verify,
-    /// Writes a row for each place that a run can reach, and then the line of the verdict.
+    /// Writes a row for each reachable place, and then the line of the verdict.
     List,
 }
 
@@ -50,7 +50,7 @@ pub enum RunError {
     /// The text is no deck.
     #[error("deck line {line}")]
     Deck { line: u64, cause: Cause },
-    /// A run of the deck's program can reach more than 4,096 places.
+    /// More than 4,096 places of the deck's program are reachable.
     #[error("too many places")]
     TooManyPlaces,
     /// A write failed.

@@ -62,7 +62,7 @@ Usage: chanv [COMMAND]
 Commands:
   show    shows one channel command word
   verify  reads a deck from standard input and writes its verdict; so does chanv without words
-  list    reads a deck from standard input and lists the CCWs that a run can reach, with the verdict
+  list    reads a deck from standard input and lists its reachable CCWs, with the verdict
   help    Print this message or the help of the given subcommand(s)
 
 Options:
