@@ -1,4 +1,4 @@
-//! Why there is no answer.
+//! The error of walking through a program's places.
 
 use std::alloc::{AllocError, AllocFailed};
 use thiserror::Error;
