@@ -1,5 +1,5 @@
 -- What a reader gave, where it tells what it has left.
-use Rattle.std.specs.Prelude.{ℕ, ◌<◌, List, Option, length}
+use Rattle.std.specs.Prelude.{ℕ, ◌<◌, ◌≤◌, List, Option, length}
 use Rattle.std.specs.Io.KnownBytes.{Consumes, IsAtEnd}
 
 -- these bytes and nothing more
@@ -12,3 +12,9 @@ pub record GaveTooMuch (old new : Option (List ℕ)) : Type 0 where
   pub text : List ℕ
   pub taken : Consumes old new text
   pub many : 67108864 < length text
+
+-- no more bytes than a deck's text may have, and then it failed
+pub record GaveOut (old new : Option (List ℕ)) : Type 0 where
+  pub text : List ℕ
+  pub taken : Consumes old new text
+  pub short : length text ≤ 67108864

@@ -20,7 +20,7 @@ use Rattle.chan_run.specs.declared.running.Status.{Status}
 use Rattle.chan_run.specs.declared.running.Status.TheVariants as statuses
 use Rattle.chan_run.specs.declared.running.RunError.{RunError}
 use Rattle.chan_run.specs.declared.running.RunError.TheVariants.{Read, TooLong, Deck, TooManyPlaces, Write, Memory}
-use Rattle.chan_run.specs.Input.{GaveAll, GaveTooMuch}
+use Rattle.chan_run.specs.Input.{GaveAll, GaveOut, GaveTooMuch}
 
 -- the job is that of the deck
 pub record IsJobOf (d : Image) (j : Job) : Type 0 where
@@ -120,7 +120,7 @@ IsRunAnswer a old_in new_in old_out new_out (Err TooManyPlaces) = IsReadAnswer a
 IsRunAnswer a old_in new_in old_out new_out (Err Write) = IsReadAnswer a old_in new_in old_out new_out (Err Write)
 IsRunAnswer a old_in new_in old_out new_out (Err Memory) = IsUnwritten old_out new_out ⊎ IsReadAnswer a old_in new_in old_out new_out (Err Memory)
 IsRunAnswer a old_in new_in old_out new_out (Err TooLong) = GaveTooMuch old_in new_in
-IsRunAnswer a old_in new_in old_out new_out (Err Read) = Unit {0}
+IsRunAnswer a old_in new_in old_out new_out (Err Read) = GaveOut old_in new_in
 
 -- the answer comes before anything is written; want of memory does where only the verdict's line is asked for
 abbrev pub IsEarly : Action → Result Status RunError → Type 0

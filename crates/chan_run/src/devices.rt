@@ -1,4 +1,4 @@
-//! Devices for the tests: readers and writers that fail, or never end.
+//! Devices for the tests: readers and writers that fail, or seem never to end.
 
 use std::io;
 use std::io::{ErrorKind, Read, Write};
@@ -51,15 +51,23 @@ impl<'a> Read for Broken<'a> {
     }
 }
 
-/// Gives line feeds without end.
+/// Gives line feeds, so many at a time and so many in all, and then fails.
 #[derive(Drop)]
-pub(crate) struct Endless;
+pub(crate) struct LineFeeds {
+    pub(crate) at_a_time: usize,
+    pub(crate) left: usize,
+}
 
-impl Read for Endless {
+impl Read for LineFeeds {
     fn read(&mut self, buf: &mut [u8]) -> io::Result<usize> {
-        for byte in buf.iter_mut() {
+        if self.left == 0 {
+            return Err(io::Error::from(ErrorKind::Other));
+        }
+        let count = self.left.min(self.at_a_time).min(buf.len());
+        for byte in buf[..count].iter_mut() {
             *byte = b'\n';
         }
-        Ok(buf.len())
+        self.left = self.left.saturating_sub(count);
+        Ok(count)
     }
 }

@@ -2,7 +2,7 @@
 
 ghost use Rattle.std.specs.Prelude.{◌≡◌, ◌≤◌, ◌↔◌, ◌<◌, ◌⊎◌, ℕ, false, true, length, Err, IfOk, IfErr, IsErrOf};
 ghost use Rattle.std.specs.Io.KnownBytes.{Consumes, IsAtEnd};
-ghost use Rattle.chan_run.specs.Input.{GaveAll, GaveTooMuch};
+ghost use Rattle.chan_run.specs.Input.{GaveAll, GaveOut, GaveTooMuch};
 
 use ccw_core::{DeviceFault, Watched};
 use std::alloc::Global;
@@ -17,7 +17,7 @@ const CHUNK: usize = 8_192;
 /// Why the input was not read to its end.
 #[derive(Clone, Copy, PartialEq, Eq, Debug)]
 pub(crate) enum InputError {
-    /// The reader failed.
+    /// The reader failed, before more than 67,108,864 bytes came.
     Read,
     /// There are more than 67,108,864 bytes.
     TooLong,
@@ -38,6 +38,7 @@ pub(crate) fn read_input<R: Read>(
     ensures few { IfOk result (λ text. length text.items ≤ 67108864) }
     ensures too_long { IsErrOf result InputError.TooLong → GaveTooMuch (R.remaining from.old.device) (R.remaining from.new.device) }
     ensures read { IsErrOf result InputError.Read ↔ (from.new.failed ≡ true) }
+    ensures early { IsErrOf result InputError.Read → GaveOut (R.remaining from.old.device) (R.remaining from.new.device) }
 {
     let mut text = Vec::new(alloc);
     let mut chunk = [0u8; CHUNK];

@@ -66,7 +66,8 @@ pub enum RunError {
 /// Nothing is written before the whole deck was judged: after `Read`, `TooLong`, `Deck` and
 /// `TooManyPlaces` nothing was written, and after `Write` a prefix of the text. After `Memory`
 /// nothing was written or, for `List` alone, a prefix. `Read` and `Write` come exactly where the
-/// device failed. Over an endless reader it returns, with `TooLong`.
+/// device failed, and `Read` only before more than 67,108,864 bytes came. Over an endless reader it
+/// returns, with `TooLong`.
 pub fn run<R: Read, W: Write>(
     alloc: Global,
     action: Action,

@@ -1,7 +1,7 @@
 //! Runs over decks, and over devices that fail.
 
 use super::{Action, RunError, Status, run};
-use crate::devices::{Broken, Endless, Narrow};
+use crate::devices::{Broken, LineFeeds, Narrow};
 use ccw_core::Watched;
 use chan_deck::Cause;
 use std::alloc::Global;
@@ -133,16 +133,38 @@ fn place_limit(rt: HostRuntime) -> Result<(), Fail> {
     Ok(())
 }
 
+/// Readers of line feeds: how many they give at a time and in all, and what the run answers.
+static LONG_INPUTS: &[(&str, usize, usize, RunError)] = &[
+    ("endless, byte by byte", 1, usize::MAX, RunError::TooLong),
+    (
+        "endless, many at a time",
+        65_536,
+        usize::MAX,
+        RunError::TooLong,
+    ),
+    ("one byte too many", 65_536, 67_108_865, RunError::TooLong),
+    (
+        "as many as a deck may have",
+        65_536,
+        67_108_864,
+        RunError::Read,
+    ),
+    ("a read that fails at once", 65_536, 0, RunError::Read),
+];
+
 #[test]
-fn an_endless_reader_is_too_long(rt: HostRuntime) {
-    for action in [Action::Verify, Action::List] {
-        let mut from = Watched::new(Endless);
-        let mut to = Watched::new(Vec::new(rt.alloc()));
-        assert_eq!(rt;
-            run(rt.alloc(), action, &mut from, &mut to),
-            Err(RunError::TooLong)
-        );
-        assert!(rt; to.into_inner().is_empty());
+fn long_inputs(rt: HostRuntime) {
+    for (name, at_a_time, left, error) in LONG_INPUTS {
+        for action in [Action::Verify, Action::List] {
+            let mut from = Watched::new(LineFeeds {
+                at_a_time: *at_a_time,
+                left: *left,
+            });
+            let mut to = Watched::new(Vec::new(rt.alloc()));
+            let answer = run(rt.alloc(), action, &mut from, &mut to);
+            assert_eq!(rt; answer, Err(*error), "{name}");
+            assert!(rt; to.into_inner().is_empty(), "{name}");
+        }
     }
 }
 
@@ -150,22 +172,26 @@ fn an_endless_reader_is_too_long(rt: HostRuntime) {
 #[test]
 fn each_read_failing_in_turn(rt: HostRuntime) {
     let alloc = rt.alloc();
-    for failing in 0..207 {
-        let mut from = Watched::new(Broken {
-            rest: SEARCH_LOOP.as_bytes(),
-            reads: 0,
-            failing,
-        });
-        let mut to = Watched::new(Vec::new(alloc));
-        let answer = run(alloc, Action::Verify, &mut from, &mut to);
-        let written: &[u8] = if failing < 206 { b"" } else { b"yes\n" };
-        let expected = if failing < 206 {
-            Err(RunError::Read)
-        } else {
-            Ok(Status::Yes)
-        };
-        assert_eq!(rt; answer, expected);
-        assert_eq!(rt; to.into_inner().as_slice(), written);
+    for (action, whole) in [
+        (Action::Verify, "yes\n"),
+        (Action::List, SEARCH_LOOP_LISTING),
+    ] {
+        for failing in 0..207 {
+            let mut from = Watched::new(Broken {
+                rest: SEARCH_LOOP.as_bytes(),
+                reads: 0,
+                failing,
+            });
+            let mut to = Watched::new(Vec::new(alloc));
+            let answer = run(alloc, action, &mut from, &mut to);
+            let (expected, written) = if failing < 206 {
+                (Err(RunError::Read), "")
+            } else {
+                (Ok(Status::Yes), whole)
+            };
+            assert_eq!(rt; answer, expected);
+            assert_eq!(rt; to.into_inner().as_slice(), written.as_bytes());
+        }
     }
 }
 
