@@ -90,7 +90,7 @@ refuses_end t s n rest st e open_yet = record {
 }
 
 -- what stands first in a text: a whole line, or all of it without a line feed
-abbrev StandsFirst : List ℕ → Type 0
+abbrev pub StandsFirst : List ℕ → Type 0
 StandsFirst t = ((l : List ℕ) × (after : List ℕ) × (split t ≡ (l ∷ (split after).0, (split after).1))) ⊎ (split t ≡ ([], t))
 
 onto_first_line : (b : ℕ) (t l after : List ℕ) → split t ≡ (l ∷ (split after).0, (split after).1) → onto_first b (split t) ≡ ((b ∷ l) ∷ (split after).0, (split after).1)
@@ -101,7 +101,7 @@ first_at true b t h e rest = inl ([], t, e)
 first_at false b t h e (inl x) = inl (b ∷ x.0, x.1, e ∙ onto_first_line b t x.0 x.1 x.2)
 first_at false b t h e (inr x) = inr (e ∙ ap (λ p. onto_first b p) x)
 
-stands_first : (t : List ℕ) → StandsFirst t
+pub stands_first : (t : List ℕ) → StandsFirst t
 unfolding split
 stands_first [] = inr refl
 stands_first (b ∷ t) = first_at (b == 10) b t refl refl (stands_first t)

@@ -1,5 +1,5 @@
 -- Where a text that spells no deck is refused, and why.
-use Rattle.std.specs.Prelude.{ℕ, ◌+◌, ◌-◌, ◌%◌, ◌<◌, ◌≤◌, ◌≡◌, ◌≢◌, ◌==◌, ◌&&◌, nat_lt, nat_le, Bool, true, false, MatchBool, List, [], ◌∷◌, ◌++◌, length, take, drop, map, if◌then◌else◌, Option, Some, None}
+use Rattle.std.specs.Prelude.{ℕ, ◌+◌, ◌-◌, ◌%◌, ◌<◌, ◌≤◌, ◌≡◌, ◌≢◌, ◌==◌, ◌&&◌, ◌⊎◌, nat_lt, nat_le, Bool, true, false, MatchBool, List, [], ◌∷◌, ◌++◌, length, take, drop, map, if◌then◌else◌, Option, Some, None}
 use Rattle.std.specs.List.{AllByRecursion}
 use Rattle.ckd_core.specs.Mask.{is_mask}
 use Rattle.chan_deck.specs.Item.{Item, header, device, mask, start, extent, fetch, store, storage, put, end, line, text, HasForm, Says}
@@ -152,3 +152,7 @@ pub record IsRefused (t : List ℕ) (n : ℕ) (cause : Cause) : Type 0 where
   pub none : (d : Image) → Spells t d → ⊥
   pub at_line : IsRefusedAt t n
   pub for_cause : (before : List Item) × AreSaid (n - 1) t before × IsCause before (found_behind (n - 1) t) cause
+
+-- the text spells a deck, or it is refused at some line for some cause
+abbrev pub IsJudged : List ℕ → Type 0
+IsJudged t = ((d : Image) × Spells t d) ⊎ ((n : ℕ) × (cause : Cause) × IsRefused t n cause)
