@@ -5,11 +5,10 @@ use Rattle.std.proofs.lemmas.Bool.{cases_lt}
 use Rattle.std.proofs.lemmas.List.{nil_from_length}
 use Rattle.std.proofs.lemmas.Slice.Eq.{bytes_eq-Decides}
 use Rattle.std.specs.Bool.{Decides}
-use Rattle.ccw_core.specs.declared.areas.Area.{Area}
 use Rattle.ckd_core.specs.declared.device.Device.TheVariants.{D2311, D2314}
 use Rattle.chan_deck.specs.Item.{Item, header, device, mask, start, extent, fetch, store, storage, put, end, line, IsByte, Says}
 use Rattle.chan_deck.specs.Refused.{split, lines, IsJudged}
-use Rattle.chan_deck.specs.Reading.{State, Opening, Named, OnDevice, Masked, Listing, Filling, Whole, Stands, step, no_form, Refuses}
+use Rattle.chan_deck.specs.Reading.{State, Opening, Whole, Stands, step, no_form, Refuses}
 use Rattle.chan_deck.proofs.RefusalLemmas.{starts, takes, refuses_line, refuses_end, refuses_more, stands_first, spells_deck}
 use Rattle.chan_deck.specs.declared.cause.Cause.{Cause}
 use Rattle.chan_deck.specs.declared.cause.Cause.TheVariants as causes
