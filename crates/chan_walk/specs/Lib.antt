@@ -14,6 +14,7 @@ pub mod Runs
 pub mod Headline
 pub mod Alarm
 pub mod Tables
+pub mod Limit
 pub mod Explored
 pub mod Marks
 pub mod Walk
