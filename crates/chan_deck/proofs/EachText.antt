@@ -6,10 +6,11 @@ use Rattle.std.proofs.lemmas.List.{nil_from_length}
 use Rattle.std.proofs.lemmas.Slice.Eq.{bytes_eq-Decides}
 use Rattle.std.specs.Bool.{Decides}
 use Rattle.ckd_core.specs.declared.device.Device.TheVariants.{D2311, D2314}
-use Rattle.chan_deck.specs.Item.{Item, header, device, mask, start, extent, fetch, store, storage, put, end, line, IsByte, Says}
+use Rattle.chan_deck.specs.Item.{Item, header, device, mask, start, limit, extent, fetch, store, storage, put, end, line, IsByte, Says}
 use Rattle.chan_deck.specs.Refused.{split, lines, IsJudged}
 use Rattle.chan_deck.specs.Reading.{State, Opening, Whole, Stands, step, no_form, Refuses}
 use Rattle.chan_deck.proofs.RefusalLemmas.{starts, takes, refuses_line, refuses_end, refuses_more, stands_first, spells_deck}
+use Rattle.chan_deck.specs.declared.version.VersionNumber.TheVariants as numbers
 use Rattle.chan_deck.specs.declared.cause.Cause.{Cause}
 use Rattle.chan_deck.specs.declared.cause.Cause.TheVariants as causes
 use Rattle.std.proofs.Common.{Bool, true, false}
@@ -65,11 +66,13 @@ SaysSome l = (i : Item) × Says l i
 
 -- the line is of no form
 record SaysNone (l : List ℕ) : Type 0 where
-  headers : l ≡ line header → ⊥
+  first : l ≡ line (header numbers.One) → ⊥
+  second : l ≡ line (header numbers.Two) → ⊥
   small : l ≡ line (device D2311) → ⊥
   large : l ≡ line (device D2314) → ⊥
   masks : (m : ℕ) × (m < 256) × (l ≡ line (mask m)) → ⊥
   starts : (a : ℕ) × (a < 2 ^ 24) × (l ≡ line (start a)) → ⊥
+  limits : (n : ℕ) × (n < 100000) × (l ≡ line (limit n)) → ⊥
   extents : (a : ℕ) × (a < 1000) × ((b : ℕ) × (b < 1000) × (l ≡ line (extent a b))) → ⊥
   fetches : (a : ℕ) × (a < 2 ^ 24) × ((n : ℕ) × (n < 2 ^ 24) × (l ≡ line (fetch (record { start = a; len = n })))) → ⊥
   stores : (a : ℕ) × (a < 2 ^ 24) × ((n : ℕ) × (n < 2 ^ 24) × (l ≡ line (store (record { start = a; len = n })))) → ⊥
@@ -78,11 +81,13 @@ record SaysNone (l : List ℕ) : Type 0 where
   ends : l ≡ line end → ⊥
 
 says_none : (l : List ℕ) → SaysNone l → (i : Item) → Says l i → ⊥
-says_none l none header says = none.headers says.1
+says_none l none (header numbers.One) says = none.first says.1
+says_none l none (header numbers.Two) says = none.second says.1
 says_none l none (device D2311) says = none.small says.1
 says_none l none (device D2314) says = none.large says.1
 says_none l none (mask m) says = none.masks (m, says.0, says.1)
 says_none l none (start a) says = none.starts (a, says.0, says.1)
+says_none l none (limit n) says = none.limits (n, says.0, says.1)
 says_none l none (extent a b) says = none.extents (a, says.0.0, (b, says.0.1, says.1))
 says_none l none (fetch a) says = none.fetches (a.start, says.0.0, (a.len, says.0.1, says.1))
 says_none l none (store a) says = none.stores (a.start, says.0.0, (a.len, says.0.1, says.1))
@@ -93,11 +98,13 @@ says_none l none end says = none.ends says.1
 -- a line says something or nothing
 says_settled : (l : List ℕ) → Settled (SaysSome l)
 says_settled l =
-    or_else _ (SaysSome l) (is_line l header) (λ e. (header, (tt, e))) (λ headers.
+    or_else _ (SaysSome l) (is_line l (header numbers.One)) (λ e. (header numbers.One, (tt, e))) (λ first.
+    or_else _ (SaysSome l) (is_line l (header numbers.Two)) (λ e. (header numbers.Two, (tt, e))) (λ second.
     or_else _ (SaysSome l) (is_line l (device D2311)) (λ e. (device D2311, (tt, e))) (λ small.
     or_else _ (SaysSome l) (is_line l (device D2314)) (λ e. (device D2314, (tt, e))) (λ large.
     or_else _ (SaysSome l) (below (λ m. l ≡ line (mask m)) (λ m. is_line l (mask m)) 256) (λ x. (mask x.0, (x.1, x.2))) (λ masks.
     or_else _ (SaysSome l) (below (λ a. l ≡ line (start a)) (λ a. is_line l (start a)) (2 ^ 24)) (λ x. (start x.0, (x.1, x.2))) (λ starts.
+    or_else _ (SaysSome l) (below (λ n. l ≡ line (limit n)) (λ n. is_line l (limit n)) 100000) (λ x. (limit x.0, (x.1, x.2))) (λ limits.
     or_else _ (SaysSome l) (below (λ a. (b : ℕ) × (b < 1000) × (l ≡ line (extent a b))) (λ a. below (λ b. l ≡ line (extent a b)) (λ b. is_line l (extent a b)) 1000) 1000)
     (λ x. (extent x.0 x.2.0, ((x.1, x.2.1), x.2.2))) (λ extents.
     or_else _ (SaysSome l) (below (λ a. (n : ℕ) × (n < 2 ^ 24) × (l ≡ line (fetch (record { start = a; len = n })))) (λ a. below (λ n. l ≡ line (fetch (record { start = a; len = n }))) (λ n. is_line l (fetch (record { start = a; len = n }))) (2 ^ 24)) (2 ^ 24))
@@ -108,7 +115,7 @@ says_settled l =
     or_else _ (SaysSome l) (below (λ a. Bytes (λ word. l ≡ line (put a word)) 8) (λ a. some_bytes (λ word. l ≡ line (put a word)) (λ word. is_line l (put a word)) 8) (2 ^ 24))
     (λ x. (put x.0 x.2.0, ((x.1, (x.2.1, x.2.2)), x.2.3))) (λ puts.
     or_else _ (SaysSome l) (is_line l end) (λ e. (end, (tt, e))) (λ ends.
-    inr (λ x. says_none l (record { headers = headers; small = small; large = large; masks = masks; starts = starts; extents = extents; fetches = fetches; stores = stores; sizes = sizes; puts = puts; ends = ends }) x.0 x.1))))))))))))
+    inr (λ x. says_none l (record { first = first; second = second; small = small; large = large; masks = masks; starts = starts; limits = limits; extents = extents; fetches = fetches; stores = stores; sizes = sizes; puts = puts; ends = ends }) x.0 x.1))))))))))))))
 
 -- ---- line after line
 
