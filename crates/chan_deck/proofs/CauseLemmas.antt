@@ -282,7 +282,7 @@ told_cause (Filling h es fs ss n bytes) l (put a w) c is told f e = put_cause h 
 told_cause Opening l (header h) c is told f e = absurd cc
 told_cause (Named h) l (device v) c is told f e = absurd cc
 told_cause (Masked h v m) l (start a) c is told f e = absurd cc
-told_cause s l i c is told f e = absurd (cc (e, f))
+told_cause s l i c is told f e = absurd cc
 
 -- ---- the cause of a line that may not stand
 
