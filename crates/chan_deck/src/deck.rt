@@ -5,8 +5,8 @@ ghost use Rattle.chan_deck.specs.Image.{limit_of, number_of};
 ghost use Rattle.chan_deck.specs.declared.version.Version.TheVariants.{Two};
 ghost use Rattle.chan_walk.specs.Job.{extents_of, fetch_of, storage_of, store_of};
 
-use ccw_core::{Area, Storage};
 use crate::version::Version;
+use ccw_core::{Area, Storage};
 use chan_walk::{Job, Limit};
 use ckd_core::{Device, Extents, FileMask};
 use std::marker::Model;

@@ -187,12 +187,6 @@ fn upgrade(rt: HostRuntime) -> Result<(), Fail> {
     let usual = deck_of_two(alloc)?;
     let largest = with_limit(alloc, "chanv deck 2", "limit 65536")?;
     let limit = Limit::new(65536).ok_or("a limit")?;
-    expect_upgraded(
-        &rt,
-        alloc,
-        first.as_str(),
-        Limit::usual(),
-        usual.as_str(),
-    )?;
+    expect_upgraded(&rt, alloc, first.as_str(), Limit::usual(), usual.as_str())?;
     expect_upgraded(&rt, alloc, usual.as_str(), limit, largest.as_str())
 }
