@@ -13,11 +13,11 @@ use Rattle.chan_walk.specs.declared.job.Job.{Job}
 use Rattle.chan_walk.specs.declared.place.Place.{Place}
 use Rattle.chan_walk.specs.declared.reason.Reason.{Reason}
 use Rattle.chan_walk.specs.Argument.{Has, IsChain, is_part, argument_addresses}
-use Rattle.chan_walk.specs.Explored.{AreReachable}
 use Rattle.chan_walk.specs.Fault.{begins_seek, HasFault, IsClear}
 use Rattle.chan_walk.specs.Guard.{AddsBytes, IsCcwByteOf, IsArgumentByteOf, byte_area}
 use Rattle.chan_walk.specs.Guarded.{IsCcwByte, IsArgumentByte}
 use Rattle.chan_walk.specs.Job.{storage_of}
+use Rattle.chan_walk.specs.Least.{AreReached}
 use Rattle.chan_walk.specs.Place.{word_at}
 use Rattle.chan_walk.specs.Ranges.{EndsBelow, HaveSameBytes, Meets}
 use Rattle.chan_walk.proofs.CheckCases.{is_part-none}
@@ -56,23 +56,23 @@ hold_same P some ps areas merged e f g b =
     ((λ k. (h b).0 (sym (g b) ∙ k)), λ k. g b ∙ (h b).1 k)
 
 -- over the reachable places
-pub ccw_bytes : (j : Job) (ps : List Place) (areas : List Area) → AreReachable j ps → HoldBytes (IsCcwByteOf j) ps areas → (b : ℕ) → (lies_in areas b ≡ true) ↔ IsCcwByte j b
+pub ccw_bytes : (j : Job) (ps : List Place) (areas : List Area) → AreReached j ps → HoldBytes (IsCcwByteOf j) ps areas → (b : ℕ) → (lies_in areas b ≡ true) ↔ IsCcwByte j b
 ccw_bytes j ps areas r f b = (to, from)
   where
     to : lies_in areas b ≡ true → IsCcwByte j b
-    to h = let k = (f b).0 h in record { place = k.0; reached = r.only k.0 k.1; stands = k.2.stands; from = k.2.from; below = k.2.below }
+    to h = let k = (f b).0 h in record { place = k.0; reached = r.1 k.0 k.1; stands = k.2.stands; from = k.2.from; below = k.2.below }
 
     from : IsCcwByte j b → lies_in areas b ≡ true
-    from h = (f b).1 (h.place, r.each h.place h.reached, record { stands = h.stands; from = h.from; below = h.below })
+    from h = (f b).1 (h.place, r.0 h.place h.reached, record { stands = h.stands; from = h.from; below = h.below })
 
-pub argument_bytes : (j : Job) (ps : List Place) (areas : List Area) → AreReachable j ps → HoldBytes (IsArgumentByteOf j) ps areas → (b : ℕ) → (lies_in areas b ≡ true) ↔ IsArgumentByte j b
+pub argument_bytes : (j : Job) (ps : List Place) (areas : List Area) → AreReached j ps → HoldBytes (IsArgumentByteOf j) ps areas → (b : ℕ) → (lies_in areas b ≡ true) ↔ IsArgumentByte j b
 argument_bytes j ps areas r f b = (to, from)
   where
     to : lies_in areas b ≡ true → IsArgumentByte j b
-    to h = let k = (f b).0 h in record { place = k.0; reached = r.only k.0 k.1; seeks = k.2.seeks; clear = k.2.clear; chain = k.2.chain; is_chain = k.2.is_chain; has = k.2.has }
+    to h = let k = (f b).0 h in record { place = k.0; reached = r.1 k.0 k.1; seeks = k.2.seeks; clear = k.2.clear; chain = k.2.chain; is_chain = k.2.is_chain; has = k.2.has }
 
     from : IsArgumentByte j b → lies_in areas b ≡ true
-    from h = (f b).1 (h.place, r.each h.place h.reached, record { seeks = h.seeks; clear = h.clear; chain = h.chain; is_chain = h.is_chain; has = h.has })
+    from h = (f b).1 (h.place, r.0 h.place h.reached, record { seeks = h.seeks; clear = h.clear; chain = h.chain; is_chain = h.is_chain; has = h.has })
 
 -- a range meets the areas where it has a byte that is guarded
 pub meets_bytes : (P : ℕ → Type 0) (areas : List Area) (start len : ℕ) → ((b : ℕ) → (lies_in areas b ≡ true) ↔ P b) → Meets areas start len ↔ ((b : ℕ) × (start ≤ b) × (b < start + len) × P b)

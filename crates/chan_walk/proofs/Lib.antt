@@ -9,6 +9,7 @@ pub mod Faults
 pub mod Follows
 pub mod Following
 pub mod OwnFaults
+pub mod Visiting
 pub mod Words
 pub mod Gathering
 pub mod Kept
@@ -27,3 +28,5 @@ pub mod Merging
 pub mod Searching
 pub mod Lending
 pub mod Guarding
+pub mod Looking
+pub mod Sorting

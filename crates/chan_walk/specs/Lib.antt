@@ -13,6 +13,7 @@ pub mod Machine
 pub mod Runs
 pub mod Headline
 pub mod Alarm
+pub mod Visit
 pub mod Tables
 pub mod Limit
 pub mod Explored
@@ -21,5 +22,8 @@ pub mod Walk
 pub mod Ranges
 pub mod Least
 pub mod Lent
+pub mod Lending
 pub mod Guard
+pub mod Look
+pub mod Judged
 pub mod Answers

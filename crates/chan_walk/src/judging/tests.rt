@@ -12,7 +12,7 @@ use crate::limit::Limit;
 use crate::reason::Reason;
 use crate::seek::argument_addresses;
 use crate::verdict::Verdict;
-use crate::word::{begins_seek, stores};
+use crate::visit::Visit;
 use cases::{FORMATS, GUARDED, MASKS, SEARCHES, SEEKS, STORAGE, TRANSFERS, USUAL};
 use ccw_core::{Area, Storage};
 use ckd_core::{Device, Extents, FileMask};
@@ -82,7 +82,7 @@ fn guarded_bytes(
         for offset in 0..8u32 {
             ccws.push(place.address.saturating_add(offset))?;
         }
-        if begins_seek(place, &word) && fault_at(job, place).is_none() {
+        if Visit::new(place, word).begins_seek() && fault_at(job, place).is_none() {
             if let Some(addresses) = argument_addresses(&job.storage, place.address) {
                 arguments.extend_from_slice(&addresses)?;
             }
@@ -102,7 +102,7 @@ fn guards_agree(alloc: Global, job: &Job) -> Result<(), Fail> {
     let (ccws, arguments) = guarded_bytes(alloc, job, &explored)?;
     for place in explored.places() {
         let word = match job.storage.ccw_at(place.address) {
-            Some(word) if stores(place, &word) => word,
+            Some(word) if Visit::new(place, word).stores() => word,
             _ => continue,
         };
         let (start, len) = (word.address(), u32::from(word.count()));
