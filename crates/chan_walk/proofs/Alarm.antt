@@ -121,7 +121,7 @@ module _ (j : Job) (proper : IsProper j) where
       short_at : check (storage_of j) p ≡ None → is_transfer c ≡ false → Known j p → (begins_seek p c && is_none f.0) ≡ true → Shows j p ShortSeek
       short_at e t known b =
           let a = and_parts (begins_seek p c) (is_none f.0) b in
-          stop j proper.1 start p R.gathered R.events R.run a.0 6 p R.gathered []
+          stop j proper.1 start p R.gathered R.events R.run e a.0 6 p R.gathered []
           (record { past = R.run; upto = []; events = R.events; is_run = R.is_run; split = refl; goes_on = tt })
           (ready_fresh j proper.1 p R.gathered a.0 e t known) (omega arith) (missing (storage_of j) p.address f.0 f.1 a.1)
 

@@ -59,7 +59,7 @@ module _ (j : Job) (safe : IsSafe j) (p : Place) where
   no_fetch s = let w = s.shows in both_ways _ w.6 (event_safe j s.next.events (Fetch w.0 w.1) (next_safe s).events w.3 w.2 w.4 w.5)
 
   no_short : Unshown ShortSeek
-  no_short s = go s.shows.2
+  no_short s = go s.shows.3
     where
       go : Has s.next.events (Seek None) ⊎ ((r : Reason) × (s.next.stage ≡ Checked r)) → ⊥
       go (inl h) = event_safe j s.next.events (Seek None) (later_safe s).events h

@@ -12,6 +12,7 @@ use Rattle.chan_walk.specs.declared.reason.Reason.TheVariants.{Misaligned, Outsi
 use Rattle.chan_walk.specs.declared.verdict.Verdict.{Verdict}
 use Rattle.chan_walk.specs.declared.verdict.Verdict.TheVariants.{Yes, No}
 use Rattle.chan_walk.specs.Argument.{Has}
+use Rattle.chan_walk.specs.Check.{check}
 use Rattle.chan_walk.specs.Fault.{is_known, begins_seek, allows}
 use Rattle.chan_walk.specs.Headline.{IsSafe, IsSteady}
 use Rattle.chan_walk.specs.Job.{storage_of, extents_of, fetch_of, store_of}
@@ -105,7 +106,7 @@ abbrev pub ShowsCheck : Job → Place → Reason → Type 0
 ShowsCheck j p r = ShowsNext j p (λ es stage. stage ≡ Checked r)
 
 -- what a run shows for a reason at p: the program check itself; a command that may not begin; a store or a fetch outside lent areas;
--- a seek that begins at p and ends, or is checked, before its sixth byte; an operation that begins at p and seeks where it isn't allowed;
+-- a seek that begins at p, where the channel's check passes, and ends or is checked before its sixth byte; an operation that begins at p and seeks where it isn't allowed;
 -- a store over what some run uses
 abbrev pub Shows : Job → Place → Reason → Type 0
 Shows j p Misaligned = ShowsCheck j p Misaligned
@@ -119,7 +120,7 @@ Shows j p NotInTable = ShowsNext j p (λ es stage. (code : ℕ) × Has es (Comma
 Shows j p Inhibited = ShowsNext j p (λ es stage. (code : ℕ) × Has es (Command code) × (inhibits j.mask code ≡ true))
 Shows j p StoreNotLent = ShowsNext j p (λ es stage. StoresOn (λ b. lies_in (store_of j) b ≡ false) es)
 Shows j p FetchNotLent = ShowsNext j p (λ es stage. FetchesFrom (λ b. lies_in (fetch_of j) b ≡ false) es)
-Shows j p ShortSeek = ShowsLater j p (λ at es stage. (begins_seek p (ccw at.storage p.address) ≡ true) × NoSeek es × (Has es (Seek None) ⊎ ((r : Reason) × (stage ≡ Checked r))))
+Shows j p ShortSeek = ShowsLater j p (λ at es stage. (check at.storage p ≡ None) × (begins_seek p (ccw at.storage p.address) ≡ true) × NoSeek es × (Has es (Seek None) ⊎ ((r : Reason) × (stage ≡ Checked r))))
 Shows j p SeekOutside = ShowsLater j p (λ at es stage. (is_fresh p.entered ≡ true) × (x : List ℕ) × Has es (Seek (Some x)) × (allows j x ≡ false))
 Shows j p ChangesCcw = ShowsNext j p (λ es stage. StoresOn (λ b. (used : List Moment) × IsRun j used × UsesInCcw used b) es)
 Shows j p ChangesArgument = ShowsNext j p (λ es stage. StoresOn (λ b. (used : List Moment) × IsRun j used × UsesInArgument used b) es)
