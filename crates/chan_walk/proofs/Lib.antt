@@ -9,6 +9,7 @@ pub mod Faults
 pub mod Follows
 pub mod Following
 pub mod OwnFaults
+pub mod Order
 pub mod Words
 pub mod Gathering
 pub mod Kept

@@ -18,7 +18,7 @@ use Rattle.chan_walk.proofs.Chains.{argument_exists}
 use Rattle.chan_walk.proofs.Checks.{passed}
 use Rattle.chan_walk.proofs.Commands.{seek_no_recalibrate}
 
-first_reason-append : (xs ys : List (Bool × Reason)) → first_reason (xs ++ ys) ≡ option_or (first_reason xs) (first_reason ys)
+pub first_reason-append : (xs ys : List (Bool × Reason)) → first_reason (xs ++ ys) ≡ option_or (first_reason xs) (first_reason ys)
 first_reason-append [] ys = refl
 first_reason-append (x ∷ xs) ys =
     elim x.0 as (λ b. (if b then Some x.1 else first_reason (xs ++ ys)) ≡ option_or (if b then Some x.1 else first_reason xs) (first_reason ys)) [

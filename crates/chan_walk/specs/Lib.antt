@@ -5,6 +5,7 @@ pub mod Check
 pub mod Argument
 pub mod Onward
 pub mod Fault
+pub mod Order
 pub mod Successors
 pub mod Reachable
 pub mod Guarded

@@ -2,6 +2,7 @@
 
 ghost use Rattle.chan_walk.specs.Alarm.{EachPathIsRun, HeadlineAloneIsEnough, NoFalseAlarm, SafeIsYes};
 ghost use Rattle.chan_walk.specs.Headline.{GathersArguments, GuardedStays, StaysReachable, YesIsSafe};
+ghost use Rattle.chan_walk.specs.Order.{NumbersIncrease};
 
 /// Where the verdict is yes, guarded bytes never change.
 pub(crate) fn guarded_stays()
@@ -43,4 +44,10 @@ pub(crate) fn safe_is_yes()
 /// Whatever answers yes only for safe and steady jobs answers yes only where the verdict is yes.
 pub(crate) fn headline_alone_is_enough()
     ensures { HeadlineAloneIsEnough }
+{}
+
+/// The own fault of a place is the first that applies of a table along which the reasons' numbers
+/// increase.
+pub(crate) fn numbers_increase()
+    ensures { NumbersIncrease }
 {}
