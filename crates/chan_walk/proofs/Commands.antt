@@ -1,10 +1,11 @@
 -- Rules that the whole command table keeps.
-use Rattle.std.proofs.Common.{◌≡◌, ℕ, Bool, true, false, not, ◌&&◌, ◌||◌, ◌==◌, List, [], ◌∷◌, Option, Some, None, refl, ◌⊎◌, inl, inr}
+use Rattle.std.proofs.Common.{◌≡◌, ℕ, Bool, true, false, not, ◌&&◌, ◌||◌, ◌==◌, ◌%◌, List, [], ◌∷◌, Option, Some, None, refl, subst, ◌⊎◌, inl, inr}
 use Rattle.std.specs.List.{list_all}
-use Rattle.std.proofs.lemmas.Bool.{and_parts, cond_both, not-true, or_cases, both_ways}
+use Rattle.std.proofs.lemmas.Bool.{and_parts, cond_both, not-true, or_cases, both_ways, eqb-true}
+use Rattle.ccw_core.specs.Ccw.{Fields, is_transfer}
 use Rattle.ckd_core.specs.declared.command.Kind.{Kind}
 use Rattle.ckd_core.specs.declared.command.Kind.TheVariants.{Idle, Inward, Outward, Search}
-use Rattle.ckd_core.specs.Table.{Entry as Command, table, find_code, lookup, class_is_seek, class_recalibrates, class_passes, is_seek, recalibrates}
+use Rattle.ckd_core.specs.Table.{Entry as Command, table, find_code, lookup, class_is_seek, class_recalibrates, class_sets_mask, class_passes, is_seek, recalibrates, sets_mask}
 use Rattle.chan_walk.specs.Fault.{kind_of_command}
 
 -- a command that was looked up passes a test; so does none
@@ -46,6 +47,49 @@ rule_at (Some e) h k = go (or_cases (not (class_is_seek e.class)) (is_outward e.
     go (inr b) =
         let a = and_parts (is_outward e.kind) (not (class_recalibrates e.class)) b in
         (outward_from e.kind a.0, not-true (class_recalibrates e.class) a.1)
+
+abbrev masks_go_out : Command → Bool
+masks_go_out e = not (class_sets_mask e.class) || is_outward e.kind
+
+masks_keep : list_all masks_go_out table ≡ true
+unfolding table
+masks_keep = refl
+
+mask_at : (o : Option Command) → Passes masks_go_out o → class_passes class_sets_mask o ≡ true → kind_of_command o ≡ Outward
+mask_at None h k = absurd (cc)
+mask_at (Some e) h k = go (or_cases (not (class_sets_mask e.class)) (is_outward e.kind) h)
+  where
+    go : (not (class_sets_mask e.class) ≡ true) ⊎ (is_outward e.kind ≡ true) → e.kind ≡ Outward
+    go (inl n) = absurd (both_ways (class_sets_mask e.class) (not-true (class_sets_mask e.class) n) k)
+    go (inr b) = outward_from e.kind b
+
+pub mask_is_outward : (code : ℕ) → sets_mask code ≡ true → kind_of_command (lookup code) ≡ Outward
+unfolding sets_mask lookup
+mask_is_outward code h = mask_at (lookup code) (found_passes masks_go_out code table masks_keep) h
+
+-- what was looked up has the code
+found_code : (code : ℕ) (es : List Command) → Passes (λ e. e.code == code) (find_code code es)
+found_code code [] = tt
+found_code code (e ∷ es) = cond_both (e.code == code) (Some e) (find_code code es) (Passes (λ x. x.code == code)) (λ h. h) (λ _. found_code code es)
+
+abbrev masks_are_no_transfers : Command → Bool
+masks_are_no_transfers e = not (class_sets_mask e.class) || not (e.code % 16 == 8)
+
+masks_apart : list_all masks_are_no_transfers table ≡ true
+unfolding table
+masks_apart = refl
+
+apart_at : (code : ℕ) (o : Option Command) → Passes masks_are_no_transfers o → Passes (λ e. e.code == code) o → class_passes class_sets_mask o ≡ true → (code % 16 == 8) ≡ false
+apart_at code None h same k = absurd (cc)
+apart_at code (Some e) h same k = go (or_cases (not (class_sets_mask e.class)) (not (e.code % 16 == 8)) h)
+  where
+    go : (not (class_sets_mask e.class) ≡ true) ⊎ (not (e.code % 16 == 8) ≡ true) → (code % 16 == 8) ≡ false
+    go (inl n) = absurd (both_ways (class_sets_mask e.class) (not-true (class_sets_mask e.class) n) k)
+    go (inr b) = subst (λ n. (n % 16 == 8) ≡ false) (eqb-true e.code code same) (not-true (e.code % 16 == 8) b)
+
+pub mask_is_no_transfer : (c : Fields) → sets_mask c.command ≡ true → is_transfer c ≡ false
+unfolding sets_mask lookup is_transfer
+mask_is_no_transfer c h = apart_at c.command (lookup c.command) (found_passes masks_are_no_transfers c.command table masks_apart) (found_code c.command table) h
 
 pub seek_is_outward : (code : ℕ) → is_seek code ≡ true → kind_of_command (lookup code) ≡ Outward
 unfolding is_seek lookup

@@ -1,6 +1,7 @@
 pub mod Lists
 pub mod Events
 pub mod Commands
+pub mod Masks
 pub mod Areas
 pub mod Chains
 pub mod Checks

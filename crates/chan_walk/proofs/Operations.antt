@@ -30,7 +30,7 @@ use Rattle.chan_walk.proofs.Yes.{fresh_out}
 module _ (j : Job) (bytes : AreBytes (storage_of j)) where
   -- a moment at which storage is what it was
   abbrev pub moment : ℕ → Stage → List Event → Moment
-  moment y st es = record { storage = storage_of j; arm = y; stage = st; events = es }
+  moment y st es = record { storage = storage_of j; arm = y; mask = j.mask; stage = st; events = es }
 
   -- at q a seek is under way with the bytes x, and the CCW there is carried out
   pub record Ready (q : Place) (g : Gathered) (x : List ℕ) : Type 0 where
@@ -50,9 +50,9 @@ module _ (j : Job) (bytes : AreBytes (storage_of j)) where
   UsesAll q x es = (b : ℕ) → Has (taken (word_at j q) (bytes_at j q) x) b → UsesIn es b
 
   record SeekStep (y : ℕ) (q : Place) (g : Gathered) (x : List ℕ) : Type 0 where
-    full : length (all_at q x) ≡ 6 → (es : List Event) × Step (storage_of j) y q g es (storage_of j) y Ended × Has es (Seek (Some (all_at q x))) × UsesAll q x es
-    on : length (all_at q x) < 6 → chains_data (word_at j q) ≡ true → (es : List Event) × Step (storage_of j) y q g es (storage_of j) y (At (straight_to (q.address + 8) ChainOut) (Some (all_at q x))) × NoSeek es × UsesAll q x es
-    short : length (all_at q x) < 6 → chains_data (word_at j q) ≡ false → (es : List Event) × Step (storage_of j) y q g es (storage_of j) y Ended × Has es (Seek None) × NoSeek es
+    full : length (all_at q x) ≡ 6 → (es : List Event) × Step (storage_of j) y j.mask q g es (storage_of j) y j.mask Ended × Has es (Seek (Some (all_at q x))) × UsesAll q x es
+    on : length (all_at q x) < 6 → chains_data (word_at j q) ≡ true → (es : List Event) × Step (storage_of j) y j.mask q g es (storage_of j) y j.mask (At (straight_to (q.address + 8) ChainOut) (Some (all_at q x))) × NoSeek es × UsesAll q x es
+    short : length (all_at q x) < 6 → chains_data (word_at j q) ≡ false → (es : List Event) × Step (storage_of j) y j.mask q g es (storage_of j) y j.mask Ended × Has es (Seek None) × NoSeek es
 
   seek_step : (y : ℕ) (q : Place) (g : Gathered) (x : List ℕ) → Ready q g x → SeekStep y q g x
   seek_step y q g x r = go (subst (λ z. Left j c m z sk.es sk.after) r.under sk.left)
@@ -139,7 +139,7 @@ module _ (j : Job) (bytes : AreBytes (storage_of j)) where
       pub split : moment y (At q g) events ∷ past ≡ upto ++ moment y (At p g₀) ev ∷ run
       pub goes_on : GoesOn upto
 
-    close : {q : Place} {g : Gathered} {es : List Event} {st : Stage} {P : Moment → List Event → Stage → Type 0} → Going q g → Step (storage_of j) y q g es (storage_of j) y st → P (moment y (At p g₀) ev) es st → ShowsLater j p P
+    close : {q : Place} {g : Gathered} {es : List Event} {st : Stage} {P : Moment → List Event → Stage → Type 0} → Going q g → Step (storage_of j) y j.mask q g es (storage_of j) y j.mask st → P (moment y (At p g₀) ev) es st → ShowsLater j p P
     close {es = es} {st = st} go step shows = record {
       run = run;
       at = moment y (At p g₀) ev;
@@ -151,7 +151,7 @@ module _ (j : Job) (bytes : AreBytes (storage_of j)) where
       shows = shows;
     }
 
-    abbrev push : {q : Place} {g : Gathered} {es : List Event} (q' : Place) (g' : Gathered) → Going q g → Step (storage_of j) y q g es (storage_of j) y (At q' g') → NoSeek es → is_fresh q'.entered ≡ false → Going q' g'
+    abbrev push : {q : Place} {g : Gathered} {es : List Event} (q' : Place) (g' : Gathered) → Going q g → Step (storage_of j) y j.mask q g es (storage_of j) y j.mask (At q' g') → NoSeek es → is_fresh q'.entered ≡ false → Going q' g'
     push {q = q} {g = g} {es = es} q' g' go step quiet f = record {
       past = moment y (At q g) go.events ∷ go.past;
       upto = moment y (At q' g') es ∷ go.upto;

@@ -55,4 +55,4 @@ numbers_increase j p x = (same (is_transfer c), rises (is_transfer c))
 
     rises : (b : Bool) → IsStrictlyIncreasing (numbers_of (any ++ (if b then [] else word ++ own)))
     rises true = increasing (numbers_of (any ++ [])) (omega arith, (omega arith, tt))
-    rises false = increasing (numbers_of (any ++ word ++ own)) (omega arith, (omega arith, (omega arith, (omega arith, (omega arith, (omega arith, (omega arith, (omega arith, (omega arith, (omega arith, (omega arith, (omega arith, tt))))))))))))
+    rises false = increasing (numbers_of (any ++ word ++ own)) (omega arith, (omega arith, (omega arith, (omega arith, (omega arith, (omega arith, (omega arith, (omega arith, (omega arith, (omega arith, (omega arith, (omega arith, (omega arith, tt)))))))))))))

@@ -9,7 +9,7 @@ use Rattle.chan_walk.specs.declared.job.Job.{Job}
 use Rattle.chan_walk.specs.declared.place.Place.{Place}
 use Rattle.chan_walk.specs.declared.reason.Reason.{Reason}
 use Rattle.chan_walk.specs.Check.{first_reason, check}
-use Rattle.chan_walk.specs.Fault.{stores, fetches, begins_seek, begins_recalibrate, is_refused, command_faults, lent_faults, seek_faults, table_of_own, HasFault}
+use Rattle.chan_walk.specs.Fault.{stores, fetches, begins_seek, begins_recalibrate, is_refused, command_faults, lent_faults, seek_faults, mask_faults, table_of_own, HasFault}
 use Rattle.chan_walk.specs.Job.{storage_of, extents_of, fetch_of, store_of}
 use Rattle.chan_walk.specs.Place.{word_at}
 use Rattle.chan_walk.specs.Tables.{argument_faults, lent_reason, HasSeekFault}
@@ -85,22 +85,29 @@ no_fault_of_transfer j p h t =
     let a = argument_exists (storage_of j) p.address in
     (a.0, a.1, ap (λ o. option_or o (if is_transfer (word_at j p) then None else first_reason (table_of_own j p (word_at j p) a.0))) h ∙ rw t refl)
 
--- the three parts of the table, one after another
-pub fault_of_parts : (j : Job) (p : Place) (c : Fields) (command lent seek : Option Reason) → c ≡ word_at j p → check (storage_of j) p ≡ None → is_transfer c ≡ false
+-- the four parts of the table, one after another
+pub fault_of_parts : (j : Job) (p : Place) (c : Fields) (command lent seek mask : Option Reason) → c ≡ word_at j p → check (storage_of j) p ≡ None → is_transfer c ≡ false
     → command ≡ first_reason (command_faults j p c) → lent ≡ first_reason (lent_faults j p c) → HasSeekFault j p c seek
-    → HasFault j p (option_or (option_or command lent) seek)
-fault_of_parts j p c command lent seek e h t f g k =
-    let parts : first_reason (table_of_own j p c k.0) ≡ option_or (option_or command lent) seek =
-    first_reason-append (command_faults j p c ++ lent_faults j p c) (seek_faults j p c k.0)
-    ∙ ap (λ o. option_or o (first_reason (seek_faults j p c k.0))) (first_reason-append (command_faults j p c) (lent_faults j p c))
-    ∙ ap (λ o. option_or (option_or o (first_reason (lent_faults j p c))) (first_reason (seek_faults j p c k.0))) (sym f)
-    ∙ ap (λ o. option_or (option_or command o) (first_reason (seek_faults j p c k.0))) (sym g)
-    ∙ ap (λ o. option_or (option_or command lent) o) k.2
+    → mask ≡ first_reason (mask_faults j p c)
+    → HasFault j p (option_or (option_or (option_or command lent) seek) mask)
+fault_of_parts j p c command lent seek mask e h t f g k n =
+    let parts : first_reason (table_of_own j p c k.0) ≡ option_or (option_or (option_or command lent) seek) mask =
+    first_reason-append (command_faults j p c ++ lent_faults j p c ++ seek_faults j p c k.0) (mask_faults j p c)
+    ∙ ap (λ o. option_or (first_reason (command_faults j p c ++ lent_faults j p c ++ seek_faults j p c k.0)) o) (sym n)
+    ∙ ap (λ o. option_or o mask) three
     in
-    let whole : option_or (check (storage_of j) p) (if is_transfer c then None else first_reason (table_of_own j p c k.0)) ≡ option_or (option_or command lent) seek =
+    let whole : option_or (check (storage_of j) p) (if is_transfer c then None else first_reason (table_of_own j p c k.0)) ≡ option_or (option_or (option_or command lent) seek) mask =
     ap (λ o. option_or o (if is_transfer c then None else first_reason (table_of_own j p c k.0))) h ∙ cond-false _ _ _ t ∙ parts
     in
-    (k.0, k.1, subst (λ w. option_or (check (storage_of j) p) (if is_transfer w then None else first_reason (table_of_own j p w k.0)) ≡ option_or (option_or command lent) seek) e whole)
+    (k.0, k.1, subst (λ w. option_or (check (storage_of j) p) (if is_transfer w then None else first_reason (table_of_own j p w k.0)) ≡ option_or (option_or (option_or command lent) seek) mask) e whole)
+  where
+    three : first_reason (command_faults j p c ++ lent_faults j p c ++ seek_faults j p c k.0) ≡ option_or (option_or command lent) seek
+    three =
+        first_reason-append (command_faults j p c ++ lent_faults j p c) (seek_faults j p c k.0)
+        ∙ ap (λ o. option_or o (first_reason (seek_faults j p c k.0))) (first_reason-append (command_faults j p c) (lent_faults j p c))
+        ∙ ap (λ o. option_or (option_or o (first_reason (lent_faults j p c))) (first_reason (seek_faults j p c k.0))) (sym f)
+        ∙ ap (λ o. option_or (option_or command o) (first_reason (seek_faults j p c k.0))) (sym g)
+        ∙ ap (λ o. option_or (option_or command lent) o) k.2
 
 -- the data range of a word that passed the channel's checks lies in storage
 pub data_in_storage : (s : List ℕ) (p : Place) (c : Fields) → check s p ≡ None → c ≡ ccw s p.address → is_transfer c ≡ false → c.address + c.count ≤ length s
