@@ -26,7 +26,8 @@ use Rattle.chan_walk.specs.Verdict.{IsVerdict}
 abbrev pub AreBytes : List ℕ → Type 0
 AreBytes s = (b : ℕ) → byte s b < 256
 
--- what the types of the code keep of every job: one extent or more, each of them in order and on the device, bytes in storage, and a mask
+-- what the types of the code keep of every job: one extent or more, each of them in order and on the
+-- device, bytes in storage, and a mask
 abbrev pub IsProper : Job → Type 0
 IsProper j = AreExtents (extents_of j) × AreBytes (storage_of j) × HasMask j
 
@@ -107,9 +108,11 @@ FetchesFrom P es = (a : ℕ) × (n : ℕ) × (b : ℕ) × Has es (Fetch a n) × 
 abbrev pub ShowsCheck : Job → Place → Reason → Type 0
 ShowsCheck j p r = ShowsNext j p (λ es stage. stage ≡ Checked r)
 
--- what a run shows for a reason at p: the program check itself; a command that may not begin; a store or a fetch outside lent areas;
--- a seek that begins at p, where the channel's check passes, and ends or is checked before its sixth byte; an operation that begins at p and seeks where it isn't allowed;
--- a store over what some run uses; a Set File Mask that begins at p and takes a byte that is less strict than the job's mask
+-- what a run shows for a reason at p: the program check itself; a command that may not begin; a store
+-- or a fetch outside lent areas; a seek that begins at p, where the channel's check passes, and ends or
+-- is checked before its sixth byte; an operation that begins at p and seeks where it isn't allowed; a
+-- store over what some run uses; a Set File Mask that begins at p and takes a byte less strict than the
+-- job's mask
 abbrev pub Shows : Job → Place → Reason → Type 0
 Shows j p Misaligned = ShowsCheck j p Misaligned
 Shows j p OutsideStorage = ShowsCheck j p OutsideStorage
@@ -122,11 +125,18 @@ Shows j p NotInTable = ShowsNext j p (λ es stage. (code : ℕ) × Has es (Comma
 Shows j p Inhibited = ShowsNext j p (λ es stage. (code : ℕ) × Has es (Command code) × (inhibits j.mask code ≡ true))
 Shows j p StoreNotLent = ShowsNext j p (λ es stage. StoresOn (λ b. lies_in (store_of j) b ≡ false) es)
 Shows j p FetchNotLent = ShowsNext j p (λ es stage. FetchesFrom (λ b. lies_in (fetch_of j) b ≡ false) es)
-Shows j p ShortSeek = ShowsLater j p (λ at es stage. (check at.storage p ≡ None) × (begins_seek p (ccw at.storage p.address) ≡ true) × NoSeek es × (Has es (Seek None) ⊎ ((r : Reason) × (stage ≡ Checked r))))
+Shows j p ShortSeek =
+    ShowsLater j p (λ at es stage. (check at.storage p ≡ None)
+    × (begins_seek p (ccw at.storage p.address) ≡ true)
+    × NoSeek es
+    × (Has es (Seek None) ⊎ ((r : Reason) × (stage ≡ Checked r))))
 Shows j p SeekOutside = ShowsLater j p (λ at es stage. (is_fresh p.entered ≡ true) × (x : List ℕ) × Has es (Seek (Some x)) × (allows j x ≡ false))
 Shows j p ChangesCcw = ShowsNext j p (λ es stage. StoresOn (λ b. (used : List Moment) × IsRun j used × UsesInCcw used b) es)
 Shows j p ChangesArgument = ShowsNext j p (λ es stage. StoresOn (λ b. (used : List Moment) × IsRun j used × UsesInArgument used b) es)
-Shows j p WeakensMask = ShowsNext j p (λ es stage. (is_fresh p.entered ≡ true) × (a : ℕ) × (x : ℕ) × Has es (SetMask a x) × (is_at_least x j.mask ≡ false))
+Shows j p WeakensMask =
+    ShowsNext j p (λ es stage. (is_fresh p.entered ≡ true)
+    × (a : ℕ) × (x : ℕ) × Has es (SetMask a x)
+    × (is_at_least x j.mask ≡ false))
 
 -- no false alarm: where the verdict is no, a run comes to a place with its address and shows its reason there
 abbrev pub NoFalseAlarm : Type 0

@@ -99,10 +99,12 @@ seek_faults j p c x =
 
 -- and the mask that is set there; commands are judged by the job's mask before it and after it
 abbrev pub mask_faults : Job → Place → Fields → List (Bool × Reason)
-mask_faults j p c = (begins_set_mask p c && not (is_at_least (byte (storage_of j) c.address) j.mask), WeakensMask) ∷ []
+mask_faults j p c =
+    (begins_set_mask p c && not (is_at_least (byte (storage_of j) c.address) j.mask), WeakensMask) ∷ []
 
 abbrev pub table_of_own : Job → Place → Fields → Option (List ℕ) → List (Bool × Reason)
-table_of_own j p c x = command_faults j p c ++ lent_faults j p c ++ seek_faults j p c x ++ mask_faults j p c
+table_of_own j p c x =
+    command_faults j p c ++ lent_faults j p c ++ seek_faults j p c x ++ mask_faults j p c
 
 -- the own fault, where x is the argument of a seek at the place
 abbrev pub fault_with : Job → Place → Option (List ℕ) → Option Reason

@@ -29,7 +29,8 @@ pub record IsMaskByte (j : Job) (p : Place) (b : ℕ) : Type 0 where
   pub sets : begins_set_mask p (word_at j p) ≡ true
   pub at : (word_at j p).address ≡ b
 
--- the byte at b is an argument of a reachable place that has no own fault: a seek's, or that of Set File Mask
+-- the byte at b is an argument of a reachable place that has no own fault: a seek's, or the one of
+-- Set File Mask
 pub record IsArgumentByte (j : Job) (b : ℕ) : Type 0 where
   pub place : Place
   pub reached : IsReachable j place

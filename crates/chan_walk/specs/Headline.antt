@@ -19,8 +19,8 @@ use Rattle.chan_walk.specs.Reachable.{IsReachable}
 use Rattle.chan_walk.specs.Runs.{Moment, IsRun, Uses}
 use Rattle.chan_walk.specs.Verdict.{IsVerdict}
 
--- an event that does no harm: a command of the table that isn't inhibited, a store and a fetch inside lent areas,
--- a seek that is allowed, a mask byte at least as strict as the job's mask
+-- an event that does no harm: a command of the table that isn't inhibited, a store and a fetch inside
+-- lent areas, a seek that is allowed, a mask byte at least as strict as the job's mask
 abbrev pub IsSafeEvent : Job → Event → Type 0
 IsSafeEvent j (Command code) = (is_known code ≡ true) × (inhibits j.mask code ≡ false)
 IsSafeEvent j (Store a bytes) = (b : ℕ) → a ≤ b → b < a + length bytes → lies_in (store_of j) b ≡ true
@@ -55,7 +55,8 @@ Holds j b m = byte m.storage b ≡ byte (storage_of j) b
 abbrev pub IsSteady : Job → Type 0
 IsSteady j = (used run : List Moment) (b : ℕ) → IsRun j used → Uses used b → IsRun j run → AllByRecursion (Holds j b) run
 
--- the headline: where the job's mask is a mask and the verdict is yes, every run is safe and the job is steady
+-- the headline: where the job's mask is a mask and the verdict is yes, every run is safe and the job
+-- is steady
 abbrev pub YesIsSafe : Type 0
 YesIsSafe = (j : Job) → HasMask j → IsVerdict j Yes → IsSafe j × IsSteady j
 

@@ -27,8 +27,8 @@ pub data Stage : Type 0 where
   Checked : Reason → Stage
 
 -- what is seen of a step: a command begins; bytes are stored from an address on; a range is fetched;
--- bytes at these addresses are added to an argument; the device seeks with an argument, or with none whole;
--- Set File Mask takes the byte at an address
+-- bytes at these addresses are added to an argument; the device seeks with an argument, or with none
+-- whole; Set File Mask takes the byte at an address
 pub data Event : Type 0 where
   Command : (code : ℕ) → Event
   Store : (address : ℕ) (bytes : List ℕ) → Event
@@ -80,12 +80,14 @@ pub data Homes (y : ℕ) : Bool → List Event → ℕ → Type 0 where
   home_stays : Homes y true (Seek (Some home) ∷ []) y
   home_goes : Homes y true (Seek (Some home) ∷ []) 0
 
--- what the first of m bytes does to the mask f in force, where Set File Mask takes it: the mask stays, or becomes the byte if that is a mask
+-- what the first of m bytes does to the mask f in force, where Set File Mask takes it: the mask stays,
+-- or becomes the byte if that is a mask
 pub data SetsMask (c : Fields) (m : ℕ) (s : List ℕ) (f : ℕ) : Bool → List Event → ℕ → Type 0 where
   no_mask : SetsMask c m s f false [] f
   no_byte : m ≡ 0 → SetsMask c m s f true [] f
   mask_stays : 0 < m → SetsMask c m s f true (SetMask c.address (byte s c.address) ∷ []) f
-  mask_set : 0 < m → is_mask (byte s c.address) ≡ true → SetsMask c m s f true (SetMask c.address (byte s c.address) ∷ []) (byte s c.address)
+  mask_set : 0 < m → is_mask (byte s c.address) ≡ true →
+      SetsMask c m s f true (SetMask c.address (byte s c.address) ∷ []) (byte s c.address)
 
 -- how the program goes on from p after m bytes, with g of a seek: the device may end it at any time, and else chaining decides
 pub data Goes (p : Place) (c : Fields) (k : Kind) (m : ℕ) : Gathered → List Event → Stage → Type 0 where
@@ -99,14 +101,23 @@ pub data Goes (p : Place) (c : Fields) (k : Kind) (m : ℕ) : Gathered → List 
 abbrev pub begun : Place → Fields → List Event
 begun p c = if is_fresh p.entered then Command c.command ∷ [] else []
 
--- one step at the place p, with storage s, the arm at cylinder y and the mask f in force: a program check stops the program; a transfer is taken;
--- a command that isn't in the table ends the program; or the CCW is carried out, and then m bytes, at most its count, are moved,
--- a seek under way takes what it wants of them, Recalibrate seeks, Set File Mask sets the mask, and the program goes on
-pub data Step (s : List ℕ) (y f : ℕ) (p : Place) (g : Gathered) : List Event → List ℕ → ℕ → ℕ → Stage → Type 0 where
+-- one step at the place p, with storage s, the arm at cylinder y and the mask f in force: a program
+-- check stops the program; a transfer is taken; a command that isn't in the table ends the program; or
+-- the CCW is carried out, and then m bytes, at most its count, are moved, a seek under way takes what it
+-- wants of them, Recalibrate seeks, Set File Mask takes the first, and the program goes on
+pub data Step (s : List ℕ) (y f : ℕ) (p : Place) (g : Gathered)
+    : List Event → List ℕ → ℕ → ℕ → Stage → Type 0 where
   checked : {r : Reason} → check s p ≡ Some r → Step s y f p g [] s y f (Checked r)
-  transferred : check s p ≡ None → is_transfer (ccw s p.address) ≡ true → Step s y f p g [] s y f (At (transferred_to (ccw s p.address).address p.entered) g)
-  unknown : check s p ≡ None → is_transfer (ccw s p.address) ≡ false → is_fresh p.entered ≡ true → is_known (ccw s p.address).command ≡ false → Step s y f p g (Command (ccw s p.address).command ∷ []) s y f Ended
-  carried : {t : List ℕ} {y' y'' f' : ℕ} {g' : Gathered} {moved sought homed set went : List Event} {stage : Stage} {m : ℕ} →
+  transferred :
+      check s p ≡ None → is_transfer (ccw s p.address) ≡ true →
+      Step s y f p g [] s y f (At (transferred_to (ccw s p.address).address p.entered) g)
+  unknown :
+      check s p ≡ None → is_transfer (ccw s p.address) ≡ false →
+      is_fresh p.entered ≡ true → is_known (ccw s p.address).command ≡ false →
+      Step s y f p g (Command (ccw s p.address).command ∷ []) s y f Ended
+  carried :
+      {t : List ℕ} {y' y'' f' : ℕ} {g' : Gathered} {moved sought homed set went : List Event}
+      {stage : Stage} {m : ℕ} →
       check s p ≡ None → is_transfer (ccw s p.address) ≡ false →
       (is_fresh p.entered ≡ true → is_known (ccw s p.address).command ≡ true) →
       m ≤ (ccw s p.address).count →
@@ -115,7 +126,8 @@ pub data Step (s : List ℕ) (y f : ℕ) (p : Place) (g : Gathered) : List Event
       Homes y' (begins_recalibrate p (ccw s p.address)) homed y'' →
       SetsMask (ccw s p.address) m s f (begins_set_mask p (ccw s p.address)) set f' →
       Goes p (ccw s p.address) (kind_of p.entered (ccw s p.address)) m g' went stage →
-      Step s y f p g (begun p (ccw s p.address) ++ moved ++ sought ++ homed ++ set ++ went) t y'' f' stage
+      Step s y f p g
+      (begun p (ccw s p.address) ++ moved ++ sought ++ homed ++ set ++ went) t y'' f' stage
 
 -- one step from a stage; a program that has ended or was checked makes none
 abbrev pub StepFrom : List ℕ → ℕ → ℕ → Stage → List Event → List ℕ → ℕ → ℕ → Stage → Type 0

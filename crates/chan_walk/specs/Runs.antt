@@ -16,7 +16,8 @@ pub record Moment : Type 0 where
   pub stage : Stage
   pub events : List Event
 
--- a run begins with the job's storage, the arm at any cylinder inside the extents, the job's mask in force, and at the first place
+-- a run begins with the job's storage, the arm at any cylinder inside the extents, the job's mask in
+-- force, and at the first place
 pub record IsStart (j : Job) (m : Moment) : Type 0 where
   pub storage : m.storage ≡ storage_of j
   pub arm : has_cylinder (extents_of j) m.arm ≡ true
@@ -28,7 +29,9 @@ pub record IsStart (j : Job) (m : Moment) : Type 0 where
 abbrev pub IsRun : Job → List Moment → Type 0
 IsRun j [] = ⊥
 IsRun j (m ∷ []) = IsStart j m
-IsRun j (n ∷ m ∷ ms) = IsRun j (m ∷ ms) × StepFrom m.storage m.arm m.mask m.stage n.events n.storage n.arm n.mask n.stage
+IsRun j (n ∷ m ∷ ms) =
+    IsRun j (m ∷ ms)
+    × StepFrom m.storage m.arm m.mask m.stage n.events n.storage n.arm n.mask n.stage
 
 -- the byte at b belongs to the CCW of this stage's place, where one stands there
 abbrev pub UsesAt : List ℕ → Stage → ℕ → Type 0
