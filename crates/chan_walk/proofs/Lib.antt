@@ -25,6 +25,7 @@ pub mod Walking
 pub mod InOrder
 pub mod Least
 pub mod Verdicts
+pub mod Counted
 pub mod Merging
 pub mod Searching
 pub mod Lending

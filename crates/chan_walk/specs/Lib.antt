@@ -10,6 +10,7 @@ pub mod Successors
 pub mod Reachable
 pub mod Guarded
 pub mod Verdict
+pub mod Counted
 pub mod Machine
 pub mod Runs
 pub mod Headline

@@ -1,6 +1,7 @@
 //! The laws of the machine: each is the contract of a function that does nothing, so that it is proved.
 
 ghost use Rattle.chan_walk.specs.Alarm.{EachPathIsRun, HeadlineAloneIsEnough, NoFalseAlarm, SafeIsYes};
+ghost use Rattle.chan_walk.specs.Counted.{SameVerdict};
 ghost use Rattle.chan_walk.specs.Headline.{GathersArguments, GuardedStays, StaysReachable, YesIsSafe};
 ghost use Rattle.chan_walk.specs.Order.{NumbersIncrease};
 
@@ -50,4 +51,9 @@ pub(crate) fn headline_alone_is_enough()
 /// increase.
 pub(crate) fn numbers_increase()
     ensures { NumbersIncrease }
+{}
+
+/// The verdict depends on nothing in storage but its length and the bytes that count.
+pub(crate) fn same_verdict()
+    ensures { SameVerdict }
 {}
