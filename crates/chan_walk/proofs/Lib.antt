@@ -26,6 +26,7 @@ pub mod InOrder
 pub mod Least
 pub mod Verdicts
 pub mod Counted
+pub mod Again
 pub mod Merging
 pub mod Searching
 pub mod Lending

@@ -146,7 +146,7 @@ module _ (j : Job) (v : IsVerdict j Yes) where
   run_kept n (m ∷ ms) r = (from_ok m.stage r.1 (run_kept m ms r.0)).kept
 
   -- what holds of a moment because it is kept holds of each
-  all_kept : (P : Moment → Type 0) → ((m : Moment) → Kept j m.storage m.arm m.mask m.stage → P m) → (ms : List Moment) → IsRun j ms → AllByRecursion P ms
+  pub all_kept : (P : Moment → Type 0) → ((m : Moment) → Kept j m.storage m.arm m.mask m.stage → P m) → (ms : List Moment) → IsRun j ms → AllByRecursion P ms
   all_kept P f [] r = absurd r
   all_kept P f (m ∷ []) r = (f m (run_kept m [] r), tt)
   all_kept P f (n ∷ m ∷ ms) r = (f n (run_kept n (m ∷ ms) r), all_kept P f (m ∷ ms) r.0)

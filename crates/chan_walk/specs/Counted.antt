@@ -3,13 +3,16 @@
 use Rattle.std.specs.Prelude.{◌≡◌, ℕ, ◌+◌, ◌<◌, ◌≤◌, true, List, length, ◌⊎◌, ◌↔◌}
 use Rattle.ccw_core.specs.declared.storage.Storage.{Storage}
 use Rattle.ccw_core.specs.Ccw.{byte, ccw, chains_data}
+use Rattle.ccw_core.specs.Held.{bytes_held}
 use Rattle.ccw_core.specs.Storage.{Stands}
 use Rattle.chan_walk.specs.declared.job.Job.{Job}
 use Rattle.chan_walk.specs.declared.place.Place.{Place}
 use Rattle.chan_walk.specs.declared.verdict.Verdict.{Verdict}
+use Rattle.chan_walk.specs.declared.verdict.Verdict.TheVariants.{Yes}
 use Rattle.chan_walk.specs.Argument.{is_part, Leads}
 use Rattle.chan_walk.specs.Fault.{begins_seek}
-use Rattle.chan_walk.specs.Guarded.{IsCcwByte, IsSeekByte, IsMaskByte}
+use Rattle.chan_walk.specs.Guarded.{IsCcwByte, IsSeekByte, IsMaskByte, IsGuarded}
+use Rattle.chan_walk.specs.Headline.{EachMomentOfYes}
 use Rattle.chan_walk.specs.Job.{storage_of}
 use Rattle.chan_walk.specs.Place.{word_at}
 use Rattle.chan_walk.specs.Reachable.{IsReachable}
@@ -58,3 +61,13 @@ abbrev pub SameVerdict : Type 0
 SameVerdict = (j : Job) (t : Storage) → IsSameIn (IsCounted j) j (with_storage j t) →
     ((p : Place) → IsReachable j p ↔ IsReachable (with_storage j t) p)
     × ((v : Verdict) → IsVerdict j v ↔ IsVerdict (with_storage j t) v)
+
+-- a yes depends on the guarded bytes alone
+abbrev pub YesByGuarded : Type 0
+YesByGuarded = (j : Job) (t : Storage) → IsVerdict j Yes → IsSameIn (IsGuarded j) j (with_storage j t) →
+    IsVerdict (with_storage j t) Yes
+
+-- so it stays yes over what storage holds at any moment of any run: the program may start again
+abbrev pub YesStays : Type 0
+YesStays = EachMomentOfYes (λ j m.
+    (t : Storage) → bytes_held t ≡ m.storage → IsVerdict (with_storage j t) Yes)

@@ -10,10 +10,10 @@ pub mod Successors
 pub mod Reachable
 pub mod Guarded
 pub mod Verdict
-pub mod Counted
 pub mod Machine
 pub mod Runs
 pub mod Headline
+pub mod Counted
 pub mod Alarm
 pub mod Tables
 pub mod Explored

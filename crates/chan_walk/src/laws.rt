@@ -1,7 +1,7 @@
 //! The laws of the machine: each is the contract of a function that does nothing, so that it is proved.
 
 ghost use Rattle.chan_walk.specs.Alarm.{EachPathIsRun, HeadlineAloneIsEnough, NoFalseAlarm, SafeIsYes};
-ghost use Rattle.chan_walk.specs.Counted.{SameVerdict};
+ghost use Rattle.chan_walk.specs.Counted.{SameVerdict, YesByGuarded, YesStays};
 ghost use Rattle.chan_walk.specs.Headline.{GathersArguments, GuardedStays, StaysReachable, YesIsSafe};
 ghost use Rattle.chan_walk.specs.Order.{NumbersIncrease};
 
@@ -56,4 +56,15 @@ pub(crate) fn numbers_increase()
 /// The verdict depends on nothing in storage but its length and the bytes that count.
 pub(crate) fn same_verdict()
     ensures { SameVerdict }
+{}
+
+/// A yes depends on nothing in storage but its length and the guarded bytes.
+pub(crate) fn yes_by_guarded()
+    ensures { YesByGuarded }
+{}
+
+/// Where the verdict is yes, it is yes over what storage holds at any moment of any run, so that the
+/// program may start again.
+pub(crate) fn yes_stays()
+    ensures { YesStays }
 {}
