@@ -4,7 +4,7 @@ ghost use Rattle.std.specs.Prelude.{◌≡◌};
 ghost use Rattle.chan_walk.specs.Job.{extents_of, fetch_of, storage_of, store_of};
 
 use ccw_core::{Area, Storage};
-use chan_walk::Job;
+use chan_walk::{Job, Limit};
 use ckd_core::{Device, Extents, FileMask};
 use std::marker::Model;
 
@@ -53,6 +53,7 @@ impl Deck {
             extents: &self.extents,
             fetch: &self.fetch,
             store: &self.store,
+            limit: Limit::usual(),
         }
     }
 }

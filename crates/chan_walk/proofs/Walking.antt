@@ -176,6 +176,19 @@ walked_on j l n ps qs rs i w h s a b = record {
 
 -- ---- the whole walk
 
+-- the first place alone
+only_first : (j : Job) (p : Place) → Has (first_place j ∷ []) p → IsReachable j p
+only_first j p (inl e) = ([], sym e)
+only_first j p (inr h) = absurd h
+
+pub first_overflows : (j : Job) (n : ℕ) (p : Place) (ps : List Place) → ps ≡ [] → Overflows n (Some p) ps → HasMoreThan j n
+first_overflows j n p ps e a = record {
+  places = first_place j ∷ [];
+  apart = ((λ h. h), tt);
+  many = omega (arith, a.1, ap length e);
+  only = only_first j;
+}
+
 pub walked_first : (j : Job) (n : ℕ) (ps : List Place) → Adds n (Some (first_place j)) [] ps → IsWalked j n ps 0
 walked_first j n ps (inl a) = absurd a.0
 walked_first j n ps (inr a) = subst (λ z. IsWalked j n z 0) (sym a.1) (record {
@@ -183,13 +196,9 @@ walked_first j n ps (inr a) = subst (λ z. IsWalked j n z 0) (sym a.1) (record {
   within = omega arith;
   apart = ((λ h. h), tt);
   begins = inl refl;
-  only = λ p h. one p h;
+  only = only_first j;
   closed = λ k p q h e f. absurd (omega arith);
 })
-  where
-    one : (p : Place) → Has (first_place j ∷ []) p → IsReachable j p
-    one p (inl e) = ([], sym e)
-    one p (inr h) = absurd h
 
 -- where the successors of all are found, each reachable place is
 pub all_found : (j : Job) (n : ℕ) (ps : List Place) (i : ℕ) → IsWalked j n ps i → length ps ≤ i → (p : Place) → IsReachable j p → Has ps p

@@ -1,4 +1,4 @@
--- The reachable places as one list, and how many are too many.
+-- The reachable places as one list, and that there are too many of them.
 use Rattle.std.specs.Prelude.{ℕ, ◌+◌, ◌*◌, ◌<◌, Bool, true, false, List, [], ◌∷◌, map, length}
 use Rattle.std.specs.List.Sorted.{IsStrictlyIncreasing}
 use Rattle.chan_walk.specs.declared.job.Job.{Job}
@@ -33,10 +33,6 @@ pub record AreReachable (j : Job) (ps : List Place) : Type 0 where
   pub ordered : IsStrictlyIncreasing (map place_number ps)
   pub each : (p : Place) → IsReachable j p → Has ps p
   pub only : (p : Place) → Has ps p → IsReachable j p
-
--- how many places may be reachable, at the most
-abbrev pub place_limit : ℕ
-place_limit = 4096
 
 -- no place stands twice
 abbrev pub AreApart : List Place → Type 0

@@ -16,6 +16,7 @@ pub mod Headline
 pub mod Counted
 pub mod Alarm
 pub mod Tables
+pub mod Limit
 pub mod Explored
 pub mod Marks
 pub mod Walk

@@ -6,7 +6,7 @@ use thiserror::Error;
 /// Why there is no answer.
 #[derive(Clone, Copy, PartialEq, Eq, Debug, Error)]
 pub enum WalkError {
-    /// More than 4,096 places are reachable.
+    /// More places are reachable than the job's limit.
     #[error("too many places")]
     TooManyPlaces,
     /// Memory was wanting.

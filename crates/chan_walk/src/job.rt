@@ -1,5 +1,6 @@
 //! What a supervisor asks about: a channel program and all that it may use.
 
+use crate::limit::Limit;
 use ccw_core::{Area, Storage};
 use ckd_core::{Device, Extents, FileMask};
 
@@ -20,4 +21,6 @@ pub struct Job<'a> {
     pub fetch: &'a [Area],
     /// The areas lent for storing, from the device into storage.
     pub store: &'a [Area],
+    /// How many places may be reachable, at most.
+    pub limit: Limit,
 }

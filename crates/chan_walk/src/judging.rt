@@ -2,7 +2,7 @@
 
 ghost use Rattle.std.specs.Prelude.{◌≡◌, false, true, IfOk, OnOk};
 ghost use Rattle.chan_walk.specs.Answers.{CoversEveryRun, HasAtMost, IsShown, MissesNoYes};
-ghost use Rattle.chan_walk.specs.Explored.{HasMoreThan, place_limit};
+ghost use Rattle.chan_walk.specs.Explored.{HasMoreThan};
 ghost use Rattle.chan_walk.specs.Fault.{IsClear};
 ghost use Rattle.chan_walk.specs.Guard.{Guards};
 ghost use Rattle.chan_walk.specs.Least.{AreReached, IsFirst, IsLeast, IsLesser, IsOwn};
@@ -121,8 +121,8 @@ fn least_change(job: &Job, guard: &Guard, places: &[Place]) -> Option<Finding>
 /// The verdict, by its definition alone.
 fn judge(alloc: Global, job: &Job) -> Result<Verdict, WalkError>
     ensures verdict { IfOk result (IsVerdict job.now) }
-    ensures few { OnOk result (HasAtMost job.now place_limit) }
-    ensures many { result ≡ Err WalkError.TooManyPlaces → HasMoreThan job.now place_limit }
+    ensures few { OnOk result (HasAtMost job.now job.now.limit) }
+    ensures many { result ≡ Err WalkError.TooManyPlaces → HasMoreThan job.now job.now.limit }
 {
     let lent = Lent::new(alloc, job)?;
     let explored = explore_within(alloc, job, &lent)?;
@@ -145,8 +145,8 @@ fn judge(alloc: Global, job: &Job) -> Result<Verdict, WalkError>
 /// address, and the first reason there, by number; some run shows it. A job whose every run is safe,
 /// and which is steady, is never answered `No`.
 ///
-/// `TooManyPlaces` comes exactly where more than 4,096 places are reachable and no growth was
-/// refused, also where one of them offends. `Memory` comes where a growth was refused.
+/// `TooManyPlaces` comes exactly where more places are reachable than the job's limit and no growth
+/// was refused, also where one of them offends. `Memory` comes where a growth was refused.
 ///
 /// With n places and a lent areas, the cost is (n + a) log (n + a).
 pub fn verify(alloc: Global, job: &Job) -> Result<Verdict, WalkError>
@@ -158,8 +158,8 @@ pub fn verify(alloc: Global, job: &Job) -> Result<Verdict, WalkError>
     ensures exact { IfOk result (MissesNoYes job.now) }
 
     // There is an answer only up to the limit, and too many places only above it.
-    ensures few { OnOk result (HasAtMost job.now place_limit) }
-    ensures many { result ≡ Err WalkError.TooManyPlaces → HasMoreThan job.now place_limit }
+    ensures few { OnOk result (HasAtMost job.now job.now.limit) }
+    ensures many { result ≡ Err WalkError.TooManyPlaces → HasMoreThan job.now job.now.limit }
 {
     yes_is_safe();
     no_false_alarm();

@@ -68,5 +68,9 @@ fn clip(area: Area, length: u32) -> Area
 fn clipped(alloc: Global, areas: &[Area], length: u32) -> Result<Vec<Area>, AllocError>
     ensures { IfOk result (λ v. v.items ≡ map (lent.clip length) areas.now) }
 {
-    areas.iter().map(|area| clip(*area, length)).collect(alloc)
+    let mut parts = Vec::new(alloc);
+    for area in areas {
+        parts.push(clip(*area, length))?;
+    }
+    Ok(parts)
 }

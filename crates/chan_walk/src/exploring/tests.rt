@@ -1,10 +1,11 @@
 //! Worked cases, with the places that follow from the rules of the channel.
 
-use super::{PLACE_LIMIT, explore};
+use super::explore;
 use crate::error::WalkError;
 use crate::explored::Explored;
 use crate::image::image;
 use crate::job::Job;
+use crate::limit::Limit;
 use crate::place::{Entry, Place};
 use ccw_core::{Area, Storage};
 use ckd_core::{Device, Extents, FileMask};
@@ -161,8 +162,12 @@ static CASES: [Case<'static>; 4] = [
     },
 ];
 
-/// The places of a program that starts at `800`.
-fn explored(alloc: Global, storage: &[u8]) -> Result<Result<Explored, WalkError>, Fail> {
+/// The places of a program that starts at `800`, where there may be as many as are given.
+fn explored(
+    alloc: Global,
+    storage: &[u8],
+    limit: Limit,
+) -> Result<Result<Explored, WalkError>, Fail> {
     let extents = Extents::new(alloc, &[(10, 19)])?;
     let job = Job {
         storage: Storage::new(storage)?,
@@ -172,6 +177,7 @@ fn explored(alloc: Global, storage: &[u8]) -> Result<Result<Explored, WalkError>
         extents: &extents,
         fetch: &FETCH,
         store: &STORE,
+        limit,
     };
     Ok(explore(alloc, &job))
 }
@@ -207,7 +213,7 @@ fn expect_marks(rt: &impl Abort, explored: &Explored, case: &Case) {
 fn places_and_marks(rt: HostRuntime) -> Result<(), Fail> {
     for case in &CASES {
         let storage = image(rt.alloc(), 4096, case.puts)?;
-        let explored = explored(rt.alloc(), &storage)??;
+        let explored = explored(rt.alloc(), &storage, Limit::usual())??;
         expect_places(&rt, &explored, case);
         expect_marks(&rt, &explored, case);
     }
@@ -226,17 +232,45 @@ fn no_operations(alloc: Global, count: usize) -> Result<Vec<u8>, Fail> {
     image(alloc, 65_536, &puts)
 }
 
-/// As many no-operations as there may be places, and one more.
+/// How many places that many no-operations have, where there may be as many as the limit.
+fn count_within(alloc: Global, count: usize, limit: u32) -> Result<Result<usize, WalkError>, Fail> {
+    let storage = no_operations(alloc, count)?;
+    let limit = Limit::new(limit).ok_or("a limit")?;
+    Ok(explored(alloc, &storage, limit)?.map(|places| places.len()))
+}
+
+/// Numbers of no-operations and limits, and whether there are too many.
+static COUNTS: [(usize, u32, bool); 5] = [
+    (3, 2, true),
+    (3, 3, false),
+    (4096, 4096, false),
+    (4097, 4096, true),
+    (4097, 4097, false),
+];
+
 #[test]
 fn place_limit(rt: HostRuntime) -> Result<(), Fail> {
-    let most = explored(rt.alloc(), &no_operations(rt.alloc(), PLACE_LIMIT)?)??;
-    assert_eq!(rt; most.len(), PLACE_LIMIT);
-    let last = most.places().last().map(|place| place.address);
-    assert_eq!(rt; last, Some(0x87F8));
-    let more = explored(rt.alloc(), &no_operations(rt.alloc(), PLACE_LIMIT + 1)?)?;
-    let found = more.map(|places| places.len());
-    assert_eq!(rt; found, Err(WalkError::TooManyPlaces));
+    for (count, limit, many) in &COUNTS {
+        let places = if *many {
+            Err(WalkError::TooManyPlaces)
+        } else {
+            Ok(*count)
+        };
+        let found = count_within(rt.alloc(), *count, *limit)?;
+        assert_eq!(rt; found, places, "{count} within {limit}");
+    }
     Ok(())
+}
+
+#[test]
+fn limits(rt: HostRuntime) {
+    for places in [0, 65_537] {
+        assert_eq!(rt; Limit::new(places), None);
+    }
+    for places in [1, 4096, 65_536] {
+        assert_eq!(rt; Limit::new(places).map(|limit| limit.get()), Some(places));
+    }
+    assert_eq!(rt; Limit::new(4096), Some(Limit::usual()));
 }
 
 #[test]

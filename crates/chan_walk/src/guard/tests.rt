@@ -1,7 +1,7 @@
 //! Worked cases of the guard.
 
 use crate::image::image;
-use crate::{Guard, Job, explore};
+use crate::{Guard, Job, Limit, explore};
 use ccw_core::{Area, Storage};
 use ckd_core::{Device, Extents, FileMask};
 use std::alloc::Global;
@@ -92,6 +92,7 @@ fn guard_of(alloc: Global, case: &Case) -> Result<Guard, Fail> {
         extents: &extents,
         fetch: &FETCH,
         store: case.store,
+        limit: Limit::usual(),
     };
     let explored = explore(alloc, &job)?;
     Ok(Guard::new(alloc, &job, &explored)?)

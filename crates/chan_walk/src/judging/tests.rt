@@ -8,6 +8,7 @@ use crate::fault::fault_at;
 use crate::guard::Guard;
 use crate::image::image;
 use crate::job::Job;
+use crate::limit::Limit;
 use crate::reason::Reason;
 use crate::seek::argument_addresses;
 use crate::verdict::Verdict;
@@ -32,6 +33,7 @@ struct Case<'a> {
     extents: &'a [(u16, u16)],
     fetch: &'a [Area],
     store: &'a [Area],
+    limit: u32,
     puts: &'a [(usize, u64)],
     verdict: Verdict,
 }
@@ -48,6 +50,7 @@ fn answer(alloc: Global, case: &Case) -> Result<Result<Verdict, WalkError>, Fail
         extents: &extents,
         fetch: case.fetch,
         store: case.store,
+        limit: Limit::new(case.limit).ok_or("a limit")?,
     };
     guards_agree(alloc, &job)?;
     Ok(verify(alloc, &job))
@@ -155,7 +158,12 @@ fn guarded(rt: HostRuntime) -> Result<(), Fail> {
 }
 
 /// As many CCWs from `800` on, each of which chains to the next, but the last, which is given.
-fn chain(alloc: Global, count: usize, last: u64) -> Result<Result<Verdict, WalkError>, Fail> {
+fn chain(
+    alloc: Global,
+    count: usize,
+    last: u64,
+    limit: u32,
+) -> Result<Result<Verdict, WalkError>, Fail> {
     let mut puts = Vec::new(alloc);
     let mut address = 0x800usize;
     for _ in 1..count {
@@ -166,16 +174,28 @@ fn chain(alloc: Global, count: usize, last: u64) -> Result<Result<Verdict, WalkE
     let case = Case {
         size: 65_536,
         puts: &puts,
+        limit,
         ..USUAL
     };
     answer(alloc, &case)
 }
 
+/// Numbers of CCWs and limits, and the answers where the last CCW is a no-operation.
+static LIMITS: [(usize, u32, Result<Verdict, WalkError>); 5] = [
+    (3, 2, Err(WalkError::TooManyPlaces)),
+    (3, 3, Ok(Verdict::Yes)),
+    (4096, 4096, Ok(Verdict::Yes)),
+    (4097, 4096, Err(WalkError::TooManyPlaces)),
+    (4097, 4097, Ok(Verdict::Yes)),
+];
+
 #[test]
 fn place_limit(rt: HostRuntime) -> Result<(), Fail> {
-    let whole = 0x0300_0000_0000_0001;
-    assert_eq!(rt; chain(rt.alloc(), 4096, whole)?, Ok(Verdict::Yes));
-    let unknown = chain(rt.alloc(), 4096, 0x0200_0000_0000_0001)?;
+    for (count, limit, wanted) in &LIMITS {
+        let answer = chain(rt.alloc(), *count, 0x0300_0000_0000_0001, *limit)?;
+        assert_eq!(rt; answer, *wanted, "{count} within {limit}");
+    }
+    let unknown = chain(rt.alloc(), 4096, 0x0200_0000_0000_0001, 4096)?;
     assert_eq!(rt;
         unknown,
         Ok(Verdict::No {
@@ -183,7 +203,5 @@ fn place_limit(rt: HostRuntime) -> Result<(), Fail> {
             reason: Reason::NotInTable
         })
     );
-    let many = chain(rt.alloc(), 4097, whole)?;
-    assert_eq!(rt; many, Err(WalkError::TooManyPlaces));
     Ok(())
 }

@@ -22,6 +22,7 @@ pub(super) const USUAL: Case<'static> = Case {
         start: 0xA00,
         len: 256,
     }],
+    limit: 4096,
     puts: &[],
     verdict: Verdict::Yes,
 };
