@@ -1,8 +1,8 @@
 -- The own fault of a place, put together from its parts.
-use Rattle.std.proofs.Common.{◌≡◌, Bool, true, false, not, ◌&&◌, ◌||◌, if◌then◌else◌, List, [], ◌∷◌, ◌++◌, Option, Some, None, is_none, ℕ, ◌+◌, ◌≤◌, length, refl, sym, ap, ◌∙◌, subst}
+use Rattle.std.proofs.Common.{◌≡◌, Bool, true, false, not, ◌&&◌, ◌||◌, if◌then◌else◌, List, [], ◌∷◌, ◌++◌, Option, Some, None, is_none, ℕ, ◌+◌, ◌<◌, ◌≤◌, length, refl, sym, ap, ◌∙◌, subst, arith}
 use Rattle.std.specs.Option.{option_or}
-use Rattle.ccw_core.specs.Ccw.{Fields, ccw, has_data_in, is_transfer}
-use Rattle.std.proofs.lemmas.Bool.{and_parts, and_right, cond-false, leb-true}
+use Rattle.ccw_core.specs.Ccw.{Fields, ccw, has_data_in, is_counted, is_transfer}
+use Rattle.std.proofs.lemmas.Bool.{and_parts, and_right, cond-false, leb-true, ltb-true}
 use Rattle.ccw_core.specs.Areas.{covered}
 use Rattle.ckd_core.specs.Cylinders.{has_cylinder}
 use Rattle.chan_walk.specs.declared.job.Job.{Job}
@@ -115,3 +115,12 @@ unfolding has_data_in
 data_in_storage s p c h e t =
     let f = passed s p h (subst (λ (w : Fields). is_transfer w ≡ false) e t) in
     subst (λ (w : Fields). w.address + w.count ≤ length s) (sym e) (leb-true _ _ f.data_in)
+
+-- and begins there, as the count isn't zero
+pub data_begins_in_storage : (s : List ℕ) (p : Place) (c : Fields) → check s p ≡ None → c ≡ ccw s p.address → is_transfer c ≡ false → c.address < length s
+unfolding is_counted
+data_begins_in_storage s p c h e t =
+    let f = passed s p h (subst (λ (w : Fields). is_transfer w ≡ false) e t) in
+    let some : 0 < c.count = subst (λ (w : Fields). 0 < w.count) (sym e) (ltb-true 0 _ f.counted) in
+    let fits = data_in_storage s p c h e t in
+    omega (arith, some, fits)

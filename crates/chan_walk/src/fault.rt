@@ -17,6 +17,7 @@ use crate::lent::Lent;
 use crate::place::Place;
 use crate::reason::Reason;
 use crate::seek::seek_argument;
+use crate::set_mask::mask_fault;
 use crate::word::{
     begins_recalibrate, begins_seek, fetches, has_data_in, is_counted, is_formed, is_invalid,
     stores,
@@ -136,10 +137,11 @@ fn own_fault(
     command_fault(job, place, word)
         .or(lent_fault(stores_lent, fetches_lent))
         .or(seek_fault(job, place, word))
+        .or(mask_fault(job, place, word))
 }
 
-/// The own fault of a place, one of the reasons 1 to 13: the first that applies; `None` where there
-/// is none. The place may be any, reached or not.
+/// The own fault of a place, one of the reasons 1 to 13 and 16: the first that applies; `None` where
+/// there is none. The place may be any, reached or not.
 ///
 /// It takes no memory. The cost is that of `covers` over the areas lent, at most the square of their
 /// number.

@@ -6,7 +6,7 @@ ghost use Rattle.chan_walk.specs.Argument.{Has};
 ghost use Rattle.chan_walk.specs.Explored.{AreReachable};
 ghost use Rattle.chan_walk.specs.Fault as fault;
 ghost use Rattle.chan_walk.specs.Fault.{IsClear};
-ghost use Rattle.chan_walk.specs.Guard.{AddsBytes, GuardAreas, Guards, IsArgumentByteOf, IsCcwByteOf, byte_area};
+ghost use Rattle.chan_walk.specs.Guard.{AddsBytes, GuardAreas, Guards, IsCcwByteOf, IsMaskByteOf, IsSeekByteOf, byte_area};
 ghost use Rattle.chan_walk.specs.Lent.{AreLent};
 ghost use Rattle.chan_walk.specs.Ranges.{EndsBelow, IsMerged, Meets};
 
@@ -17,13 +17,14 @@ use crate::lent::Lent;
 use crate::place::Place;
 use crate::ranges::{meets, merge};
 use crate::seek::argument_addresses;
+use crate::set_mask::begins_set_mask;
 use crate::word::begins_seek;
 use ccw_core::{Area, Ccw};
 use std::alloc::{AllocError, Global};
 use std::marker::Model;
 
 /// The guarded bytes of a job: those of the reachable CCWs, and those of the arguments of the
-/// reachable seeks that have no own fault.
+/// reachable seeks, and of each reachable Set File Mask, that have no own fault.
 #[derive(Debug, Drop)]
 pub struct Guard {
     ccws: Vec<Area>,
@@ -65,6 +66,7 @@ impl Guard {
         for place in explored.places() {
             add_ccw(&mut ccws, job, place)?;
             add_argument(&mut arguments, job, lent, place)?;
+            add_mask(&mut arguments, job, lent, place)?;
         }
         let ccws = merge(alloc, ccws)?;
         let arguments = merge(alloc, arguments)?;
@@ -130,12 +132,45 @@ fn add_argument(
     requires low { All (EndsBelow (2 ^ 32)) areas.old.items }
     requires lent { AreLent job.now lent.now }
     ensures low { OnOk result (All (EndsBelow (2 ^ 32)) areas.new.items) }
-    ensures bytes { OnOk result (AddsBytes areas.old.items areas.new.items (IsArgumentByteOf job.now place)) }
+    ensures bytes { OnOk result (AddsBytes areas.old.items areas.new.items (IsSeekByteOf job.now place)) }
 {
     if let Some(addresses) = guarded_argument(job, lent, place) {
         add_bytes(areas, &addresses)?;
     }
     Ok(())
+}
+
+/// Adds the byte that is set at a place, where Set File Mask begins there and has no own fault.
+fn add_mask(
+    areas: &mut Vec<Area>,
+    job: &Job,
+    lent: &Lent,
+    place: Place,
+) -> Result<(), AllocError>
+    requires low { All (EndsBelow (2 ^ 32)) areas.old.items }
+    requires lent { AreLent job.now lent.now }
+    ensures low { OnOk result (All (EndsBelow (2 ^ 32)) areas.new.items) }
+    ensures bytes { OnOk result (AddsBytes areas.old.items areas.new.items (IsMaskByteOf job.now place)) }
+{
+    if let Some(address) = guarded_mask(job, lent, place) {
+        add_bytes(areas, &[address])?;
+    }
+    Ok(())
+}
+
+/// The address of the byte that is set at a place, where Set File Mask begins there and has no own
+/// fault.
+fn guarded_mask(job: &Job, lent: &Lent, place: Place) -> Option<u32>
+    requires { AreLent job.now lent.now }
+    ensures found { IfSome result (λ x. (b : ℕ) → (x ≡ b) ↔ IsMaskByteOf job.now place b) }
+    ensures inside { IfSome result (λ x. x < 2 ^ 24) }
+    ensures none { IfNone result ((b : ℕ) → IsMaskByteOf job.now place b → ⊥) }
+{
+    let word = job.storage.ccw_at(place.address)?;
+    if !begins_set_mask(place, &word) || fault_within(job, lent, place).is_some() {
+        return None;
+    }
+    Some(word.address())
 }
 
 /// Adds an area of one byte for each address.
@@ -154,9 +189,9 @@ fn add_bytes(areas: &mut Vec<Area>, addresses: &[u32]) -> Result<(), AllocError>
 /// The addresses of the argument of the seek at a place, where one begins there and has no own fault.
 fn guarded_argument(job: &Job, lent: &Lent, place: Place) -> Option<[u32; 6]>
     requires { AreLent job.now lent.now }
-    ensures found { IfSome result (λ x. (b : ℕ) → Has x b ↔ IsArgumentByteOf job.now place b) }
+    ensures found { IfSome result (λ x. (b : ℕ) → Has x b ↔ IsSeekByteOf job.now place b) }
     ensures inside { IfSome result (λ x. (i : ℕ) → slice_index x i < 2 ^ 24) }
-    ensures none { IfNone result ((b : ℕ) → IsArgumentByteOf job.now place b → ⊥) }
+    ensures none { IfNone result ((b : ℕ) → IsSeekByteOf job.now place b → ⊥) }
 {
     let word = job.storage.ccw_at(place.address)?;
     if !begins_clear_seek(job, lent, place, &word) {

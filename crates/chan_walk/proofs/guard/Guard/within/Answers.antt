@@ -1,7 +1,7 @@
 use Rattle.std.proofs.Common.{◌≡◌, ◌++◌, [], ◌∷◌, ◌^◌, List, ap, sym, ◌∙◌, append_assoc, append-nil}
 use Rattle.chan_walk.specs.declared.place.Place.{Place}
-use Rattle.chan_walk.specs.Guard.{IsCcwByteOf, IsArgumentByteOf}
-use Rattle.chan_walk.proofs.Guarding.{hold_none, low_none, hold_more, hold_same, ccw_bytes, argument_bytes}
+use Rattle.chan_walk.specs.Guard.{IsCcwByteOf, IsSeekByteOf, IsMaskByteOf, IsArgumentByteOf}
+use Rattle.chan_walk.proofs.Guarding.{hold_none, low_none, hold_more, hold_same, ccw_bytes, argument_bytes, adds_both}
 use Rattle.chan_walk.proofs.guard.Guard.within.Goals as goal
 
 pub loop-place-init : goal.loop-place-init
@@ -22,8 +22,8 @@ loop-place-preserved c =
       places = append_assoc before (p ∷ []) c.next.new.self ∙ ap (λ z. before ++ z) (sym c.in-Some.ensures.steps) ∙ c.loop-place.invariant.places;
       ccws = hold_more (IsCcwByteOf j) before p c.loop-place.ccws.items c.add_ccw.new.areas.items c.loop-place.invariant.ccws c.in_ok-add_ccw.ensures.bytes;
       ccws_low = c.in_ok-add_ccw.ensures.low;
-      arguments = hold_more (IsArgumentByteOf j) before p c.loop-place.arguments.items c.add_argument.new.areas.items c.loop-place.invariant.arguments c.in_ok-add_argument.ensures.bytes;
-      arguments_low = c.in_ok-add_argument.ensures.low;
+      arguments = hold_more (IsArgumentByteOf j) before p c.loop-place.arguments.items c.add_mask.new.areas.items c.loop-place.invariant.arguments (adds_both c.loop-place.arguments.items c.add_argument.new.areas.items c.add_mask.new.areas.items (IsSeekByteOf j p) (IsMaskByteOf j p) c.in_ok-add_argument.ensures.bytes c.in_ok-add_mask.ensures.bytes);
+      arguments_low = c.in_ok-add_mask.ensures.low;
     }
 
 pub returns : goal.returns
