@@ -141,12 +141,7 @@ fn add_argument(
 }
 
 /// Adds the byte that is set at a place, where Set File Mask begins there and has no own fault.
-fn add_mask(
-    areas: &mut Vec<Area>,
-    job: &Job,
-    lent: &Lent,
-    place: Place,
-) -> Result<(), AllocError>
+fn add_mask(areas: &mut Vec<Area>, job: &Job, lent: &Lent, place: Place) -> Result<(), AllocError>
     requires low { All (EndsBelow (2 ^ 32)) areas.old.items }
     requires lent { AreLent job.now lent.now }
     ensures low { OnOk result (All (EndsBelow (2 ^ 32)) areas.new.items) }
