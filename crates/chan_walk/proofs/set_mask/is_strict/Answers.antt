@@ -1,4 +1,4 @@
-use Rattle.std.proofs.Common.{◌≡◌, false, refl, sym}
+use Rattle.std.proofs.Common.{◌≡◌, false, refl}
 use Rattle.std.proofs.lemmas.Bool.{false_from_ne_true}
 use Rattle.ckd_core.specs.Mask.{is_mask, is_at_least}
 use Rattle.chan_walk.proofs.set_mask.is_strict.Goals as goal
