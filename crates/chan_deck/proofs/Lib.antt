@@ -11,6 +11,7 @@ pub mod FrontLemmas
 pub mod CauseLemmas
 pub mod RefusalLemmas
 pub mod LineRefusals
+pub mod EachText
 pub mod FillLemmas
 pub mod WriteLemmas
 pub mod SevenDigits

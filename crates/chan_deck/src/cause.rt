@@ -6,7 +6,7 @@
 pub enum Cause {
     /// The text ends here: no byte is left, or the rest has no line feed, and `end` hasn't come.
     Ended,
-    /// Line 1 isn't the header.
+    /// Line 1 is no header.
     Header,
     /// The line has none of the forms that may stand at this point.
     Form,
@@ -24,4 +24,6 @@ pub enum Cause {
     PutZero,
     /// A byte follows the line `end`.
     After,
+    /// The limit on places is 0 or above 65,536.
+    Limit,
 }

@@ -6,7 +6,7 @@ ghost use Rattle.std.specs.Int.{w64, to_be_bytes};
 ghost use Rattle.std.specs.List.{AllByRecursion, list_any};
 ghost use Rattle.chan_deck.specs.Digits.{AreValues, IsPair, IsValue};
 ghost use Rattle.hex.specs.Hex.{IsBytes, encode_upper};
-ghost use Rattle.chan_deck.specs.Item.{IsAddress, IsByte, IsWord, address_digits, byte_digits, cylinder_digits, size_digits};
+ghost use Rattle.chan_deck.specs.Item.{IsAddress, IsByte, IsWord, address_digits, byte_digits, cylinder_digits, limit_digits, size_digits};
 
 /// The first of the small letters, which `hex` takes for digits too.
 const SMALL_LETTERS: u8 = b'a';
@@ -150,6 +150,30 @@ pub(crate) fn cylinder_of(digits: &[u8]) -> Option<u16>
             ones @ b'0'..=b'9',
         ] => Some(
             u16::from(hundreds - b'0') * 100 + u16::from(tens - b'0') * 10 + u16::from(ones - b'0'),
+        ),
+        _ => None,
+    }
+}
+
+/// A number of places of five decimal digits.
+pub(crate) fn places_of(digits: &[u8]) -> Option<u32>
+    ensures { MatchOption result
+        ((n : ℕ) → n < 100000 → digits.now ≡ limit_digits n → ⊥)
+        (λ n. (n < 100000) × (digits.now ≡ limit_digits n)) }
+{
+    match digits {
+        [
+            ten_thousands @ b'0'..=b'9',
+            thousands @ b'0'..=b'9',
+            hundreds @ b'0'..=b'9',
+            tens @ b'0'..=b'9',
+            ones @ b'0'..=b'9',
+        ] => Some(
+            u32::from(ten_thousands - b'0') * 10_000
+                + u32::from(thousands - b'0') * 1_000
+                + u32::from(hundreds - b'0') * 100
+                + u32::from(tens - b'0') * 10
+                + u32::from(ones - b'0'),
         ),
         _ => None,
     }

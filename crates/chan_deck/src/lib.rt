@@ -24,6 +24,7 @@ mod reading;
 mod rows;
 mod storage;
 mod texts;
+mod version;
 mod writing;
 
 pub use crate::cause::Cause;

@@ -8,6 +8,8 @@ use std::alloc::Global;
 use std::process::Abort;
 use std::test::Fail;
 
+mod versions;
+
 /// The search loop: search for a record by its identifier, try the next one, read what was found.
 const LINES: [&str; 12] = [
     "chanv deck 1",

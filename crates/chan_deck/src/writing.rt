@@ -4,11 +4,12 @@ ghost use Rattle.std.specs.Prelude.{◌≡◌, ◌+◌, ◌/◌, ◌%◌, ◌<�
 ghost use Rattle.std.specs.List.{flat_map, AllByRecursion};
 ghost use Rattle.hex.specs.Hex.{encode_upper};
 ghost use Rattle.ckd_core.specs.Cylinders.{IsExtent};
-ghost use Rattle.chan_deck.specs.Item.{IsAddress, address_digits, area_digits, cylinder_digits, device, extent, header, line, mask, put, size_digits, start, text};
+ghost use Rattle.chan_deck.specs.Item.{IsAddress, address_digits, area_digits, cylinder_digits, device, extent, header, limit_digits, line, mask, put, size_digits, start, text};
 ghost use Rattle.chan_deck.specs.Item as item;
-ghost use Rattle.chan_deck.specs.Image.{Image, Spells, extent_of, is_zero as zeros, puts};
+ghost use Rattle.chan_deck.specs.Image.{Image, Spells, extent_of, header_of, is_zero as zeros, limit_line, puts};
 
 use crate::deck::Deck;
+use crate::version::Version;
 use ccw_core::Area;
 use ckd_core::{Device, FileMask};
 use std::alloc::{AllocError, Global};
@@ -158,14 +159,49 @@ fn write_start(alloc: Global, out: &mut Vec<u8>, address: u32) -> Result<(), All
     out.extend_from_slice(b"\n")
 }
 
+fn write_header(out: &mut Vec<u8>, version: Version) -> Result<(), AllocError>
+    ensures { OnOk result (out.new.items ≡ out.old.items ++ (line (header (header_of version)) ++ 10 ∷ [])) }
+{
+    match version {
+        Version::One => out.extend_from_slice(b"chanv deck 1\n"),
+        Version::Two(_) => out.extend_from_slice(b"chanv deck 2\n"),
+    }
+}
+
+/// The five digits of a number of places.
+fn push_places(out: &mut Vec<u8>, places: u32) -> Result<(), AllocError>
+    requires { places < 100000 }
+    ensures { OnOk result (out.new.items ≡ out.old.items ++ limit_digits places) }
+{
+    let ten_thousands = b'0' + (places / 10_000) as u8;
+    let thousands = b'0' + (places / 1_000 % 10) as u8;
+    let hundreds = b'0' + (places / 100 % 10) as u8;
+    let tens = b'0' + (places / 10 % 10) as u8;
+    let ones = b'0' + (places % 10) as u8;
+    out.extend_from_slice(&[ten_thousands, thousands, hundreds, tens, ones])
+}
+
+/// The line of the limit, in a version that has one.
+fn write_limit(out: &mut Vec<u8>, version: Version) -> Result<(), AllocError>
+    ensures { OnOk result (out.new.items ≡ out.old.items ++ text (map line (limit_line version))) }
+{
+    let Version::Two(limit) = version else {
+        return Ok(());
+    };
+    out.extend_from_slice(b"limit ")?;
+    push_places(out, limit.get())?;
+    out.extend_from_slice(b"\n")
+}
+
 /// The lines before the lists.
 fn write_heading(alloc: Global, out: &mut Vec<u8>, deck: &Deck) -> Result<(), AllocError>
-    ensures { OnOk result (out.new.items ≡ out.old.items ++ text (map line (header ∷ device deck.now.device ∷ mask deck.now.mask ∷ start deck.now.start ∷ []))) }
+    ensures { OnOk result (out.new.items ≡ out.old.items ++ text (map line (header (header_of deck.now.version) ∷ device deck.now.device ∷ mask deck.now.mask ∷ start deck.now.start ∷ limit_line deck.now.version))) }
 {
-    out.extend_from_slice(b"chanv deck 1\n")?;
+    write_header(out, deck.version)?;
     write_device(out, deck.device)?;
     write_mask(alloc, out, deck.mask.byte())?;
-    write_start(alloc, out, deck.start)
+    write_start(alloc, out, deck.start)?;
+    write_limit(out, deck.version)
 }
 
 /// The line of storage, and the puts.

@@ -5,7 +5,7 @@ use Rattle.chan_deck.proofs.lists.read_lists.Given as goal
 -- reading stands at what is left, with the lists so far
 abbrev pub invariant-loop-found : goal.invariant-loop-found
 invariant-loop-found l = record {
-  told : (t : List ℕ) (h : Heading) → Stands t (Listing h [] [] []) 5 l.fn.text → Stands t (listing h l.lists) l.line l.rest;
+  told : (t : List ℕ) (h : Heading) → Stands t (Listing h [] [] []) l.fn.first l.fn.text → Stands t (listing h l.lists) l.line l.rest;
   few : l.line + length l.rest < 2 ^ 64;
 }
 
