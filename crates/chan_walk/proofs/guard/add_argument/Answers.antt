@@ -16,5 +16,5 @@ returns-clause-bytes c =
     let a = c.args.look.now.argument in
     on_ok_weaker c.add_bytes.result
     (λ e j h. adds_areas c.args.areas.now.items (map byte_area a) c.add_bytes.new.areas.items (IsArgumentByteOf j c.args.look.now.place) (e ∙ ap (λ z. c.args.areas.now.items ++ map byte_area z) c.argument.ensures)
-        (λ b. let d = lies_in-bytes a b in let f = h.argument b in ((λ k. f.0 (d.0 k)), λ k. d.1 (f.1 k))))
+    (λ b. let d = lies_in-bytes a b in let f = h.argument b in ((λ k. f.0 (d.0 k)), λ k. d.1 (f.1 k))))
     c.add_bytes.ensures
