@@ -4,14 +4,15 @@ ghost use Rattle.std.specs.Prelude.{◌≡◌, length};
 ghost use Rattle.ccw_core.specs.Ccw as word;
 ghost use Rattle.ccw_core.specs.Held.{bytes_held};
 
-use ccw_core::{Ccw, Storage};
+use bitflags::Flags;
+use ccw_core::{Ccw, CcwFlags, Group, Storage};
 
 /// Chain data: the operation goes on with the next CCW.
 #[tactic(auto, unfolding(ccw_core::specs::Ccw::chains_data))]
 pub(crate) fn chains_data(ccw: &Ccw) -> bool
     ensures { result ≡ word.chains_data ccw.now }
 {
-    ccw.flags() & 0x80 != 0
+    ccw.flags() & CcwFlags::CD.bits() != 0
 }
 
 /// Chain command: the next CCW begins an operation of its own.
@@ -19,7 +20,7 @@ pub(crate) fn chains_data(ccw: &Ccw) -> bool
 pub(crate) fn chains_command(ccw: &Ccw) -> bool
     ensures { result ≡ word.chains_command ccw.now }
 {
-    ccw.flags() & 0x40 != 0
+    ccw.flags() & CcwFlags::CC.bits() != 0
 }
 
 /// Skip: nothing is stored.
@@ -27,7 +28,7 @@ pub(crate) fn chains_command(ccw: &Ccw) -> bool
 pub(crate) fn skips(ccw: &Ccw) -> bool
     ensures { result ≡ word.skips ccw.now }
 {
-    ccw.flags() & 0x10 != 0
+    ccw.flags() & CcwFlags::SKIP.bits() != 0
 }
 
 /// The three low flag bits, which have to be zero, are zero.
@@ -42,7 +43,7 @@ pub(crate) fn is_formed(ccw: &Ccw) -> bool
 pub(crate) fn is_invalid(ccw: &Ccw) -> bool
     ensures { result ≡ word.is_invalid ccw.now }
 {
-    ccw.command() % 16 == 0b0000
+    ccw.group() == Group::Invalid
 }
 
 /// The count, which may not be zero, is not zero.

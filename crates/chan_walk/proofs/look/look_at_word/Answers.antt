@@ -40,7 +40,8 @@ returns-clause-look c =
     let is : v.word ≡ c.args.word = c.new-visit.ensures.word in
     let small : length (storage_of j) ≤ 2 ^ 24 = j.storage.small in
     let word : c.args.word ≡ word_at j p = (ccw_at-some (storage_of j) p.address c.args.word c.requires.stands).2 in
-    let sought : IsSought j v.place v.word c.sought-addresses.result = record {
+    let addresses = c.sought-addresses.result in
+    let sought : IsSought j v.place v.word addresses = record {
       word = is ∙ word ∙ ap (word_at j) (sym at);
       seek = c.sought-addresses.ensures.seek;
       other = c.sought-addresses.ensures.other;
@@ -52,13 +53,13 @@ returns-clause-look c =
       | in-None-Some w ↦
           let f = clear w.in-None-Some.is-0 in
           subst P (sym w.argument-is) (
-            taken_whole j v.place v.word c.sought-addresses.result w.in-None-Some.addresses small f sought w.in-None-Some.is-1,
+            taken_whole j v.place v.word addresses w.in-None-Some.addresses small f sought w.in-None-Some.is-1,
             next_clear j v.place v.word w.go_on.result sought.word f w.go_on.ensures.next w.go_on.ensures.skip,
           )
       | in-None-None w ↦
           let f = clear w.in-None-None.is-0 in
           subst P (sym w.argument-is) (
-            subst (IsTaken j v.place) (sym w.mask_argument.ensures.addresses) (taken_none j v.place v.word c.sought-addresses.result w.mask_argument.ensures.low f sought w.in-None-None.is-1),
+            subst (IsTaken j v.place) (sym w.mask_argument.ensures.addresses) (taken_none j v.place v.word addresses w.mask_argument.ensures.low f sought w.in-None-None.is-1),
             next_clear j v.place v.word w.go_on-in-None-None.result sought.word f w.go_on-in-None-None.ensures.next w.go_on-in-None-None.ensures.skip,
           )
       | in-Some-default w ↦
