@@ -14,6 +14,6 @@ pub mod LineRefusals
 pub mod EachText
 pub mod FillLemmas
 pub mod WriteLemmas
-pub mod SevenDigits
+pub mod AddressLemmas
 pub mod SameLemmas
 pub mod ListingLemmas

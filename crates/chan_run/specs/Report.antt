@@ -2,7 +2,7 @@
 use Rattle.std.specs.Prelude.{ℕ, List, [], codes, ◌++◌, ◌∷◌, Ok, Err}
 use Rattle.std.specs.Fmt.{decimal}
 use Rattle.chan_deck.specs.declared.cause.Cause.{Cause}
-use Rattle.chan_deck.specs.declared.cause.Cause.TheVariants.{Ended, Header, Form, Mask, ExtentBackwards, ExtentPastDevice, Size, PutAddress, PutZero, After}
+use Rattle.chan_deck.specs.declared.cause.Cause.TheVariants.{Ended, Header, Form, Mask, ExtentBackwards, ExtentPastDevice, Size, PutAddress, PutZero, After, Limit}
 use Rattle.chan_run.specs.declared.running.RunError.TheVariants as runs
 use Rattle.chan_run.specs.declared.running.Status.TheVariants as statuses
 use Rattle.chan_run.specs.declared.showing.ShowError.TheVariants.{NotCcw, Memory, Write}
@@ -57,6 +57,7 @@ word_of Size = codes ": size" ++ 10 ∷ []
 word_of PutAddress = codes ": put-address" ++ 10 ∷ []
 word_of PutZero = codes ": put-zero" ++ 10 ∷ []
 word_of After = codes ": after" ++ 10 ∷ []
+word_of Limit = codes ": limit" ++ 10 ∷ []
 
 -- the number and the cause of a deck's refusal
 abbrev pub refusal_of : Outcome → List ℕ

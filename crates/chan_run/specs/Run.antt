@@ -2,7 +2,7 @@
 use Rattle.std.specs.Prelude.{◌≡◌, ◌≤◌, ℕ, List, [], Option, length, Result, Ok, Err, ◌⊎◌}
 use Rattle.std.specs.Io.KnownBytes.{Appends}
 use Rattle.ccw_core.specs.Written.{AppendsPrefix}
-use Rattle.chan_deck.specs.Image.{Image, Spells}
+use Rattle.chan_deck.specs.Image.{Image, Spells, limit_of}
 use Rattle.chan_deck.specs.Listing.{listing}
 use Rattle.chan_deck.specs.Refused.{IsRefused}
 use Rattle.chan_deck.specs.Texts.{verdict_line}
@@ -11,7 +11,7 @@ use Rattle.chan_walk.specs.declared.place.Place.{Place}
 use Rattle.chan_walk.specs.declared.verdict.Verdict.{Verdict}
 use Rattle.chan_walk.specs.declared.verdict.Verdict.TheVariants.{Yes, No}
 use Rattle.chan_walk.specs.Answers.{CoversEveryRun, HasAtMost, IsShown, MissesNoYes}
-use Rattle.chan_walk.specs.Explored.{AreReachable, HasMoreThan, place_limit}
+use Rattle.chan_walk.specs.Explored.{AreReachable, HasMoreThan}
 use Rattle.chan_walk.specs.Job.{extents_of, fetch_of, storage_of, store_of}
 use Rattle.chan_walk.specs.Verdict.{IsVerdict}
 use Rattle.chan_run.specs.declared.running.Action.{Action}
@@ -22,12 +22,13 @@ use Rattle.chan_run.specs.declared.running.RunError.{RunError}
 use Rattle.chan_run.specs.declared.running.RunError.TheVariants.{Read, TooLong, Deck, TooManyPlaces, Write, Memory}
 use Rattle.chan_run.specs.Input.{GaveAll, GaveOut, GaveTooMuch}
 
--- the job is that of the deck
+-- the job is that of the deck, its limit on places with it
 pub record IsJobOf (d : Image) (j : Job) : Type 0 where
   pub storage : storage_of j ≡ d.storage
   pub start : j.start ≡ d.start
   pub device : j.device ≡ d.device
   pub mask : j.mask ≡ d.mask
+  pub limit : j.limit ≡ limit_of d.version
   pub extents : extents_of j ≡ d.extents
   pub fetch : fetch_of j ≡ d.fetch
   pub store : store_of j ≡ d.store
@@ -39,19 +40,19 @@ pub record IsJudged (t : List ℕ) (v : Verdict) : Type 0 where
   pub spelled : Spells t deck
   pub job : Job
   pub of_deck : IsJobOf deck job
-  pub few : HasAtMost job place_limit
+  pub few : HasAtMost job job.limit
   pub verdict : IsVerdict job v
   pub covers : CoversEveryRun job v
   pub shown : IsShown job v
   pub exact : MissesNoYes job v
 
--- the text spells a deck whose job has more than 4,096 reachable places
+-- the text spells a deck whose job has more reachable places than its limit
 pub record HasTooMany (t : List ℕ) : Type 0 where
   pub deck : Image
   pub spelled : Spells t deck
   pub job : Job
   pub of_deck : IsJobOf deck job
-  pub many : HasMoreThan job place_limit
+  pub many : HasMoreThan job job.limit
 
 -- what an action asks to write of a job and its verdict: the verdict's line, or the listing of the reachable places
 abbrev pub IsOutput : Action → Job → Verdict → List ℕ → Type 0

@@ -122,5 +122,6 @@ fn word(cause: Cause) -> &'static str
         Cause::PutAddress => ": put-address\n",
         Cause::PutZero => ": put-zero\n",
         Cause::After => ": after\n",
+        Cause::Limit => ": limit\n",
     }
 }

@@ -5,7 +5,6 @@ ghost use Rattle.std.specs.Io.KnownBytes.{Appends};
 ghost use Rattle.ccw_core.specs.Written.{AppendsPrefix};
 ghost use Rattle.chan_deck.specs.Texts.{verdict_line};
 ghost use Rattle.chan_walk.specs.Answers.{HasAtMost};
-ghost use Rattle.chan_walk.specs.Explored.{place_limit};
 ghost use Rattle.chan_run.specs.Run.{BeginsToWrite, IsEarly, IsRunAnswer, IsTextAnswer, IsUnwritten, Writes, status_of_verdict};
 ghost use Rattle.chan_run.specs.declared.running.Action.TheVariants as actions;
 
@@ -50,7 +49,7 @@ pub enum RunError {
     /// The text is no deck.
     #[error("deck line {line}")]
     Deck { line: u64, cause: Cause },
-    /// More than 4,096 places of the deck's program are reachable.
+    /// More places of the deck's program are reachable than its limit.
     #[error("too many places")]
     TooManyPlaces,
     /// A write failed.
@@ -130,7 +129,7 @@ fn write_output<W: Write>(
     to: &mut Watched<W>,
 ) -> Result<(), ListError>
     requires writer { to.old.failed ≡ false }
-    requires few { HasAtMost job.now place_limit }
+    requires few { HasAtMost job.now job.now.limit }
     ensures ok { OnOk result (Writes action job.now verdict (W.contents to.old.device) (W.contents to.new.device)) }
     ensures write { IsErrOf result ListError.Write ↔ (to.new.failed ≡ true) }
     ensures cut_off { IsErrOf result ListError.Write → BeginsToWrite action job.now verdict (W.contents to.old.device) (W.contents to.new.device) }

@@ -13,11 +13,11 @@ use Rattle.chan_walk.specs.declared.job.Job.{Job}
 use Rattle.chan_walk.specs.declared.place.Place.{Place}
 use Rattle.chan_walk.specs.declared.reason.Reason.{Reason}
 use Rattle.chan_walk.specs.Argument.{Has, IsChain, is_part, argument_addresses}
-use Rattle.chan_walk.specs.Explored.{AreReachable}
 use Rattle.chan_walk.specs.Fault.{begins_seek, HasFault, IsClear}
 use Rattle.chan_walk.specs.Guard.{AddsBytes, IsCcwByteOf, IsSeekByteOf, IsMaskByteOf, IsArgumentByteOf, byte_area}
 use Rattle.chan_walk.specs.Guarded.{IsCcwByte, IsSeekByte, IsMaskByte, IsArgumentByte}
 use Rattle.chan_walk.specs.Job.{storage_of}
+use Rattle.chan_walk.specs.Least.{AreReached}
 use Rattle.chan_walk.specs.Place.{word_at}
 use Rattle.chan_walk.specs.Reachable.{IsReachable}
 use Rattle.chan_walk.specs.Ranges.{EndsBelow, HaveSameBytes, Meets}
@@ -58,27 +58,27 @@ hold_same P some ps areas merged e f g b =
     ((λ k. (h b).0 (sym (g b) ∙ k)), λ k. g b ∙ (h b).1 k)
 
 -- over the reachable places
-pub ccw_bytes : (j : Job) (ps : List Place) (areas : List Area) → AreReachable j ps → HoldBytes (IsCcwByteOf j) ps areas → (b : ℕ) → (lies_in areas b ≡ true) ↔ IsCcwByte j b
+pub ccw_bytes : (j : Job) (ps : List Place) (areas : List Area) → AreReached j ps → HoldBytes (IsCcwByteOf j) ps areas → (b : ℕ) → (lies_in areas b ≡ true) ↔ IsCcwByte j b
 ccw_bytes j ps areas r f b = (to, from)
   where
     to : lies_in areas b ≡ true → IsCcwByte j b
-    to h = let k = (f b).0 h in record { place = k.0; reached = r.only k.0 k.1; stands = k.2.stands; from = k.2.from; below = k.2.below }
+    to h = let k = (f b).0 h in record { place = k.0; reached = r.1 k.0 k.1; stands = k.2.stands; from = k.2.from; below = k.2.below }
 
     from : IsCcwByte j b → lies_in areas b ≡ true
-    from h = (f b).1 (h.place, r.each h.place h.reached, record { stands = h.stands; from = h.from; below = h.below })
+    from h = (f b).1 (h.place, r.0 h.place h.reached, record { stands = h.stands; from = h.from; below = h.below })
 
-pub argument_bytes : (j : Job) (ps : List Place) (areas : List Area) → AreReachable j ps → HoldBytes (IsArgumentByteOf j) ps areas → (b : ℕ) → (lies_in areas b ≡ true) ↔ IsArgumentByte j b
+pub argument_bytes : (j : Job) (ps : List Place) (areas : List Area) → AreReached j ps → HoldBytes (IsArgumentByteOf j) ps areas → (b : ℕ) → (lies_in areas b ≡ true) ↔ IsArgumentByte j b
 argument_bytes j ps areas r f b = (to, from)
   where
     to : lies_in areas b ≡ true → IsArgumentByte j b
-    to h = let k = (f b).0 h in go k.0 (r.only k.0 k.1) k.2
+    to h = let k = (f b).0 h in go k.0 (r.1 k.0 k.1) k.2
       where
         go : (p : Place) → IsReachable j p → IsArgumentByteOf j p b → IsArgumentByte j b
         go p m (inl k) = record { place = p; reached = m; clear = k.0; takes = inl k.1 }
         go p m (inr k) = record { place = p; reached = m; clear = k.0; takes = inr k.1 }
 
     from : IsArgumentByte j b → lies_in areas b ≡ true
-    from h = (f b).1 (h.place, r.each h.place h.reached, go h.takes)
+    from h = (f b).1 (h.place, r.0 h.place h.reached, go h.takes)
       where
         go : IsSeekByte j h.place b ⊎ IsMaskByte j h.place b → IsArgumentByteOf j h.place b
         go (inl k) = inl (h.clear, k)
@@ -149,34 +149,6 @@ bytes_of_argument j p l x s f k e b = (
   (λ h. (f, record { seeks = s; chain = l; is_chain = k; has = subst (λ z. Has z b) e h })),
   λ h. subst (λ z. Has z b) (ap (argument_addresses (storage_of j)) (chain_unique (storage_of j) 6 p.address h.1.chain l h.1.is_chain k) ∙ sym e) h.1.has,
 )
-
--- there is none where no CCW stands
-pub no_argument_of_none : (j : Job) (p : Place) → ccw_at (storage_of j) p.address ≡ None → (b : ℕ) → IsSeekByteOf j p b → ⊥
-no_argument_of_none j p e b h = both_ways (is_part (storage_of j) p.address) (is_part-none (storage_of j) p.address e) (chain_begins_with_part (storage_of j) 6 p.address h.1.chain h.1.is_chain)
-
--- nor is a mask set there, as the place has a fault
-pub no_mask_of_none : (j : Job) (p : Place) → ccw_at (storage_of j) p.address ≡ None → (b : ℕ) → IsMaskByteOf j p b → ⊥
-no_mask_of_none j p e b h =
-    let found = ccw_at-where (storage_of j) p.address (check_stands (storage_of j) p (clear_check j p h.0)) in
-    let none = sym e ∙ found in
-    absurd (cc)
-
--- the bytes of a seek, and then the byte of a mask
-pub adds_both : (old mid new : List Area) (P Q : ℕ → Type 0) → AddsBytes old mid P → AddsBytes mid new Q → AddsBytes old new (λ b. P b ⊎ Q b)
-adds_both old mid new P Q f g b = ((λ h. to ((g b).0 h)), from)
-  where
-    first : (lies_in old b ≡ true) ⊎ P b → (lies_in old b ≡ true) ⊎ (P b ⊎ Q b)
-    first (inl h) = inl h
-    first (inr h) = inr (inl h)
-
-    to : (lies_in mid b ≡ true) ⊎ Q b → (lies_in old b ≡ true) ⊎ (P b ⊎ Q b)
-    to (inl h) = first ((f b).0 h)
-    to (inr h) = inr (inr h)
-
-    from : (lies_in old b ≡ true) ⊎ (P b ⊎ Q b) → lies_in new b ≡ true
-    from (inl h) = (g b).1 (inl ((f b).1 (inl h)))
-    from (inr (inl h)) = (g b).1 (inl ((f b).1 (inr h)))
-    from (inr (inr h)) = (g b).1 (inr h)
 
 -- a place with a fault isn't clear
 pub not_clear : (j : Job) (p : Place) (o : Option Reason) → is_some o ≡ true → HasFault j p o → IsClear j p → ⊥

@@ -10,6 +10,7 @@ pub mod Faults
 pub mod Follows
 pub mod Following
 pub mod OwnFaults
+pub mod Visiting
 pub mod Order
 pub mod Words
 pub mod Gathering
@@ -31,3 +32,5 @@ pub mod Merging
 pub mod Searching
 pub mod Lending
 pub mod Guarding
+pub mod Looking
+pub mod Sorting

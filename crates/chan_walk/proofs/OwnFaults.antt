@@ -1,19 +1,18 @@
 -- The own fault of a place, put together from its parts.
-use Rattle.std.proofs.Common.{◌≡◌, Bool, true, false, not, ◌&&◌, ◌||◌, if◌then◌else◌, List, [], ◌∷◌, ◌++◌, Option, Some, None, is_none, ℕ, ◌+◌, ◌<◌, ◌≤◌, length, refl, sym, ap, ◌∙◌, subst, arith}
+use Rattle.std.proofs.Common.{◌≡◌, Bool, true, false, ◌&&◌, ◌||◌, if◌then◌else◌, List, [], ◌∷◌, ◌++◌, Option, Some, None, is_none, ℕ, ◌+◌, ◌<◌, ◌≤◌, length, refl, sym, ap, ◌∙◌, subst, arith}
 use Rattle.std.specs.Option.{option_or}
 use Rattle.ccw_core.specs.Ccw.{Fields, ccw, has_data_in, is_counted, is_transfer}
 use Rattle.std.proofs.lemmas.Bool.{and_parts, and_right, cond-false, leb-true, ltb-true}
-use Rattle.ccw_core.specs.Areas.{covered}
 use Rattle.ckd_core.specs.Cylinders.{has_cylinder}
 use Rattle.chan_walk.specs.declared.job.Job.{Job}
 use Rattle.chan_walk.specs.declared.place.Place.{Place}
 use Rattle.chan_walk.specs.declared.reason.Reason.{Reason}
 use Rattle.chan_walk.specs.Check.{first_reason, check}
-use Rattle.chan_walk.specs.Fault.{stores, fetches, begins_seek, begins_recalibrate, is_refused, command_faults, lent_faults, seek_faults, mask_faults, table_of_own, HasFault}
-use Rattle.chan_walk.specs.Job.{storage_of, extents_of, fetch_of, store_of}
+use Rattle.chan_walk.specs.Fault.{begins_seek, begins_recalibrate, is_refused, command_faults, lent_faults, seek_faults, mask_faults, table_of_own, HasFault}
+use Rattle.chan_walk.specs.Job.{storage_of, extents_of}
 use Rattle.chan_walk.specs.Place.{word_at}
-use Rattle.chan_walk.specs.Tables.{argument_faults, lent_reason, HasSeekFault}
-use Rattle.chan_walk.specs.declared.reason.Reason.TheVariants.{StoreNotLent, FetchNotLent, ShortSeek, SeekOutside}
+use Rattle.chan_walk.specs.Tables.{argument_faults, HasSeekFault}
+use Rattle.chan_walk.specs.declared.reason.Reason.TheVariants.{ShortSeek, SeekOutside}
 use Rattle.chan_walk.proofs.Chains.{argument_exists}
 use Rattle.chan_walk.proofs.Checks.{passed}
 use Rattle.chan_walk.proofs.Commands.{seek_no_recalibrate}
@@ -52,26 +51,6 @@ no_fault_of_recalibrate j p c x s h =
 pub no_fault_of_other : (j : Job) (p : Place) (c : Fields) (x : Option (List ℕ)) → begins_seek p c ≡ false → begins_recalibrate p c ≡ false
     → first_reason (seek_faults j p c x) ≡ None
 no_fault_of_other j p c x s home = rw (s, home) refl
-
-not_or : (a b : Bool) → (a && not b) ≡ not (not a || b)
-not_or true true = refl
-not_or true false = refl
-not_or false b = refl
-
-two_reasons : (a b : Bool) (r t : Reason) → first_reason ((not a, r) ∷ (not b, t) ∷ []) ≡ (if a then (if b then None else Some t) else Some r)
-two_reasons true true r t = refl
-two_reasons true false r t = refl
-two_reasons false b r t = refl
-
--- the reason of the areas lent is the first of their table
-pub fault_of_lent : (j : Job) (p : Place) (c : Fields) (stored fetched : Bool) → stored ≡ (not (stores p c) || covered (store_of j) c.address c.count)
-    → fetched ≡ (not (fetches p c) || covered (fetch_of j) c.address c.count) → lent_reason stored fetched ≡ first_reason (lent_faults j p c)
-fault_of_lent j p c stored fetched s f =
-    let store = not_or (stores p c) (covered (store_of j) c.address c.count) ∙ ap not (sym s) in
-    let fetch = not_or (fetches p c) (covered (fetch_of j) c.address c.count) ∙ ap not (sym f) in
-    sym (ap (λ b. first_reason ((b, StoreNotLent) ∷ (fetches p c && not (covered (fetch_of j) c.address c.count), FetchNotLent) ∷ [])) store
-    ∙ ap (λ b. first_reason ((not stored, StoreNotLent) ∷ (b, FetchNotLent) ∷ [])) fetch
-    ∙ two_reasons stored fetched StoreNotLent FetchNotLent)
 
 -- what the channel's check finds is the own fault
 pub fault_of_check : (j : Job) (p : Place) (r : Reason) → check (storage_of j) p ≡ Some r → HasFault j p (Some r)

@@ -15,6 +15,7 @@ pub mod Runs
 pub mod Headline
 pub mod Counted
 pub mod Alarm
+pub mod Visit
 pub mod Tables
 pub mod Limit
 pub mod Explored
@@ -23,5 +24,8 @@ pub mod Walk
 pub mod Ranges
 pub mod Least
 pub mod Lent
+pub mod Lending
 pub mod Guard
+pub mod Look
+pub mod Judged
 pub mod Answers

@@ -123,6 +123,7 @@ fn reports_of_refused_decks(rt: HostRuntime) {
             "chanv: deck line 18446744073709551615: put-zero\n",
         ),
         (refused(13, Cause::After), 2, "chanv: deck line 13: after\n"),
+        (refused(5, Cause::Limit), 2, "chanv: deck line 5: limit\n"),
     ];
     expect(&rt, rt.alloc(), &outcomes);
 }

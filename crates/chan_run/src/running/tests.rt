@@ -84,7 +84,12 @@ fn runs_over_decks(rt: HostRuntime) {
 fn refused_decks_write_nothing(rt: HostRuntime) {
     for (text, line, cause) in [
         ("", 1, Cause::Ended),
-        ("chanv deck 2\n", 1, Cause::Header),
+        ("chanv deck 3\n", 1, Cause::Header),
+        (
+            "chanv deck 2\ndevice 2311\nmask 00\nstart 000800\nlimit 00000\n",
+            5,
+            Cause::Limit,
+        ),
         ("chanv deck 1\ndevice 2311\nmask 20\n", 3, Cause::Mask),
     ] {
         for action in [Action::Verify, Action::List] {
@@ -95,12 +100,11 @@ fn refused_decks_write_nothing(rt: HostRuntime) {
     }
 }
 
-/// A deck of so many CCWs from 000800 on, each chained to the next; the last one is given.
-fn chain_of(alloc: Global, count: u32, last: &str) -> Result<String, Fail> {
-    let mut text = String::from_str(
-        alloc,
-        "chanv deck 1\ndevice 2314\nmask 00\nstart 000800\nextent 010 019\nstorage 0010000\n",
-    )?;
+/// A deck of so many CCWs from 000800 on, each chained to the next; the heading up to the start, with
+/// what follows it, and the last CCW are given.
+fn chain_of(alloc: Global, heading: &str, count: u32, last: &str) -> Result<String, Fail> {
+    let mut text = String::from_str(alloc, heading)?;
+    text.push_str("extent 010 019\nstorage 0010000\n")?;
     for index in 0..count.saturating_sub(1) {
         let address = index.saturating_mul(8).saturating_add(0x800);
         write!(text, "put {address:06X} 0300000040000001\n")?;
@@ -113,22 +117,73 @@ fn chain_of(alloc: Global, count: u32, last: &str) -> Result<String, Fail> {
     Ok(text)
 }
 
+const FIRST: &str = "chanv deck 1\ndevice 2314\nmask 00\nstart 000800\n";
+
+const USUAL: &str = "chanv deck 2\ndevice 2314\nmask 00\nstart 000800\nlimit 04096\n";
+
+const ONE_MORE: &str = "chanv deck 2\ndevice 2314\nmask 00\nstart 000800\nlimit 04097\n";
+
+/// Chains of CCWs under a limit of the deck: the name, the heading, how many CCWs, the last one, the
+/// answer, and what is written.
+static LIMITS: &[(&str, &str, u32, &str, Result<Status, RunError>, &str)] = &[
+    (
+        "4,096 places",
+        FIRST,
+        4096,
+        "0300000000000001",
+        Ok(Status::Yes),
+        "yes\n",
+    ),
+    (
+        "the last offends",
+        FIRST,
+        4096,
+        "0200000000000001",
+        Ok(Status::No),
+        "no 0087F8 not-in-table\n",
+    ),
+    (
+        "4,097 places",
+        FIRST,
+        4097,
+        "0300000000000001",
+        Err(RunError::TooManyPlaces),
+        "",
+    ),
+    (
+        "4,097 by version 2",
+        USUAL,
+        4097,
+        "0300000000000001",
+        Err(RunError::TooManyPlaces),
+        "",
+    ),
+    (
+        "a limit of 4,097",
+        ONE_MORE,
+        4097,
+        "0300000000000001",
+        Ok(Status::Yes),
+        "yes\n",
+    ),
+    (
+        "one above it",
+        ONE_MORE,
+        4098,
+        "0300000000000001",
+        Err(RunError::TooManyPlaces),
+        "",
+    ),
+];
+
 #[test]
-fn place_limit(rt: HostRuntime) -> Result<(), Fail> {
+fn place_limit_by_deck(rt: HostRuntime) -> Result<(), Fail> {
     let alloc = rt.alloc();
-    let whole = chain_of(alloc, 4096, "0300000000000001")?;
-    let (answer, output) = ran(alloc, Action::Verify, whole.as_bytes());
-    assert_eq!(rt; answer, Ok(Status::Yes));
-    assert_eq!(rt; output.as_slice(), b"yes\n".as_slice());
-    let ipl = chain_of(alloc, 4096, "0200000000000001")?;
-    let (answer, output) = ran(alloc, Action::Verify, ipl.as_bytes());
-    assert_eq!(rt; answer, Ok(Status::No));
-    assert_eq!(rt; output.as_slice(), b"no 0087F8 not-in-table\n".as_slice());
-    let longer = chain_of(alloc, 4097, "0300000000000001")?;
-    for action in [Action::Verify, Action::List] {
-        let (answer, output) = ran(alloc, action, longer.as_bytes());
-        assert_eq!(rt; answer, Err(RunError::TooManyPlaces));
-        assert!(rt; output.is_empty());
+    for (name, heading, count, last, expected, written) in LIMITS {
+        let text = chain_of(alloc, heading, *count, last)?;
+        let (answer, output) = ran(alloc, Action::Verify, text.as_bytes());
+        assert_eq!(rt; answer, *expected, "{name}");
+        assert_eq!(rt; output.as_slice(), written.as_bytes(), "{name}");
     }
     Ok(())
 }

@@ -11,9 +11,8 @@ use crate::job::Job;
 use crate::limit::Limit;
 use crate::reason::Reason;
 use crate::seek::argument_addresses;
-use crate::set_mask::begins_set_mask;
 use crate::verdict::Verdict;
-use crate::word::{begins_seek, stores};
+use crate::visit::Visit;
 use cases::{FORMATS, GUARDED, MASKS, SEARCHES, SEEKS, SET_MASKS, STORAGE, TRANSFERS, USUAL};
 use ccw_core::{Area, Storage};
 use ckd_core::{Device, Extents, FileMask};
@@ -87,12 +86,13 @@ fn guarded_bytes(
         if fault_at(job, place).is_some() {
             continue;
         }
-        if begins_seek(place, &word) {
+        let visit = Visit::new(place, word);
+        if visit.begins_seek() {
             if let Some(addresses) = argument_addresses(&job.storage, place.address) {
                 arguments.extend_from_slice(&addresses)?;
             }
         }
-        if begins_set_mask(place, &word) {
+        if visit.begins_set_mask() {
             arguments.push(word.address())?;
         }
     }
@@ -110,7 +110,7 @@ fn guards_agree(alloc: Global, job: &Job) -> Result<(), Fail> {
     let (ccws, arguments) = guarded_bytes(alloc, job, &explored)?;
     for place in explored.places() {
         let word = match job.storage.ccw_at(place.address) {
-            Some(word) if stores(place, &word) => word,
+            Some(word) if Visit::new(place, word).stores() => word,
             _ => continue,
         };
         let (start, len) = (word.address(), u32::from(word.count()));
