@@ -38,8 +38,9 @@ pub record Image : Type 0 where
   pub store : List Area
   pub storage : List ℕ
 
--- which images have a text: each number has digits enough, the mask is a file mask, a limit is from 1 to 65,536, there are
--- extents and they lie on the device, and storage is at most 16,777,216 bytes in whole doublewords
+-- which images have a text: each number has digits enough, the mask is a file mask, a limit is from
+-- 1 to 65,536, there are extents and they lie on the device, and storage is at most 16,777,216
+-- bytes in whole doublewords
 pub record IsDeck (d : Image) : Type 0 where
   pub limit : HasLimit d.version
   pub mask : IsByte d.mask × (is_mask d.mask ≡ true)
@@ -60,7 +61,8 @@ is_zero (b ∷ bytes) = b == 0 && is_zero bytes
 unfoldable pub puts : ℕ → ℕ → List ℕ → List Item
 puts zero at bytes = []
 puts (suc n) at bytes =
-    if is_zero (take 8 bytes) then puts n (at + 8) (drop 8 bytes) else put at (take 8 bytes) ∷ puts n (at + 8) (drop 8 bytes)
+    if is_zero (take 8 bytes) then puts n (at + 8) (drop 8 bytes)
+    else put at (take 8 bytes) ∷ puts n (at + 8) (drop 8 bytes)
 
 -- what the line of an extent says
 abbrev pub extent_of : ℕ × ℕ → Item
@@ -79,8 +81,9 @@ limit_line (Two n) = limit n ∷ []
 -- what the lines of a deck say, in order
 abbrev pub items : Image → List Item
 items d =
-    header (header_of d.version) ∷ device d.device ∷ mask d.mask ∷ start d.start ∷ limit_line d.version ++ map extent_of d.extents
-    ++ map fetch d.fetch ++ map store d.store ++ storage (length d.storage) ∷ puts (length d.storage / 8) 0 d.storage ++ end ∷ []
+    header (header_of d.version) ∷ device d.device ∷ mask d.mask ∷ start d.start
+    ∷ limit_line d.version ++ map extent_of d.extents ++ map fetch d.fetch ++ map store d.store
+    ++ storage (length d.storage) ∷ puts (length d.storage / 8) 0 d.storage ++ end ∷ []
 
 -- the one text of a deck
 abbrev pub spelling : Image → List ℕ

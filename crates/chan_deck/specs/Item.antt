@@ -41,7 +41,9 @@ cylinder_digits n = (48 + n / 100) ∷ (48 + n / 10 % 10) ∷ (48 + n % 10) ∷ 
 
 -- five decimal digits
 abbrev pub limit_digits : ℕ → List ℕ
-limit_digits n = (48 + n / 10000) ∷ (48 + n / 1000 % 10) ∷ (48 + n / 100 % 10) ∷ (48 + n / 10 % 10) ∷ (48 + n % 10) ∷ []
+limit_digits n =
+    (48 + n / 10000) ∷ (48 + n / 1000 % 10) ∷ (48 + n / 100 % 10) ∷ (48 + n / 10 % 10)
+    ∷ (48 + n % 10) ∷ []
 
 -- the version that a header names
 abbrev pub header_digit : VersionNumber → List ℕ
@@ -63,7 +65,8 @@ line (device d) = codes "device " ++ device_digits d
 line (mask m) = codes "mask " ++ byte_digits m
 line (start a) = codes "start " ++ address_digits a
 line (limit n) = codes "limit " ++ limit_digits n
-line (extent first last) = codes "extent " ++ (cylinder_digits first ++ (codes " " ++ cylinder_digits last))
+line (extent first last) =
+    codes "extent " ++ (cylinder_digits first ++ (codes " " ++ cylinder_digits last))
 line (fetch a) = codes "fetch " ++ area_digits a
 line (store a) = codes "store " ++ area_digits a
 line (storage n) = codes "storage " ++ size_digits n

@@ -13,7 +13,8 @@ use Rattle.chan_walk.specs.declared.verdict.Verdict.TheVariants.{Yes, No}
 use Rattle.chan_walk.specs.Place.{is_fresh}
 use Rattle.chan_deck.specs.Texts.{address_text, verdict_line}
 
--- how a CCW is entered: by a new operation, or by the data chain of one that stores, fetches or searches
+-- how a CCW is entered: by a new operation, or by the data chain of one that stores, fetches or
+-- searches
 abbrev pub way_word : Entry → List ℕ
 way_word Fresh = codes "fresh"
 way_word ChainIn = codes "in"

@@ -26,7 +26,8 @@ pub record Heading : Type 0 where
   pub mask : ℕ
   pub start : ℕ
 
--- what the lines so far said; in Started a limit has to come, and in Filling storage is known as far as the last put reaches
+-- what the lines so far said; in Started a limit has to come, and in Filling storage is known as
+-- far as the last put reaches
 pub data State : Type 0 where
   Opening : State
   Named : VersionNumber → State
@@ -44,7 +45,16 @@ pad bytes n = bytes ++ replicate (n - length bytes) 0
 -- the image that the lines before the lists, the lists and the bytes of storage make
 abbrev pub image_of : Heading → List (ℕ × ℕ) → List Area → List Area → List ℕ → Image
 image_of h es fs ss bytes =
-    record { version = h.version; device = h.device; mask = h.mask; start = h.start; extents = es; fetch = fs; store = ss; storage = bytes }
+    record {
+      version = h.version;
+      device = h.device;
+      mask = h.mask;
+      start = h.start;
+      extents = es;
+      fetch = fs;
+      store = ss;
+      storage = bytes;
+    }
 
 -- the list has nothing
 abbrev pub is_empty : {X : Type 0} → List X → Bool
@@ -53,12 +63,16 @@ is_empty (x ∷ xs) = false
 
 -- where the line of the start leads: the limit comes next in version 2
 abbrev pub on_start : VersionNumber → Device → ℕ → ℕ → State
-on_start numbers.One v m a = Listing (record { version = One; device = v; mask = m; start = a }) [] [] []
+on_start numbers.One v m a =
+    Listing (record { version = One; device = v; mask = m; start = a }) [] [] []
 on_start numbers.Two v m a = Started v m a
 
 -- the line of the limit ends the heading, if a job may have it
 abbrev pub on_limit : Device → ℕ → ℕ → ℕ → Result State Cause
-on_limit v m a n = if is_limit n then Ok (Listing (record { version = Two n; device = v; mask = m; start = a }) [] [] []) else Err causes.Limit
+on_limit v m a n =
+    if is_limit n
+    then Ok (Listing (record { version = Two n; device = v; mask = m; start = a }) [] [] [])
+    else Err causes.Limit
 
 -- an extent goes behind those before it, if its cylinders are in order and on the device
 abbrev pub on_extent : Heading → List (ℕ × ℕ) → ℕ → ℕ → Result State Cause
@@ -72,9 +86,13 @@ abbrev pub on_storage : Heading → List (ℕ × ℕ) → List Area → List Are
 on_storage h es fs ss n = if is_size n then Ok (Filling h es fs ss n []) else Err causes.Size
 
 -- a put goes behind those before it, if it lies in storage and isn't zero
-abbrev pub on_put : Heading → List (ℕ × ℕ) → List Area → List Area → ℕ → List ℕ → ℕ → List ℕ → Result State Cause
+abbrev pub on_put : Heading → List (ℕ × ℕ) → List Area → List Area → ℕ → List ℕ → ℕ → List ℕ
+    → Result State Cause
 on_put h es fs ss n bytes a word =
-    if a % 8 == 0 && nat_le (length bytes) a && nat_le (a + 8) n then (if is_zero word then Err causes.PutZero else Ok (Filling h es fs ss n (pad bytes a ++ word)))
+    if a % 8 == 0 && nat_le (length bytes) a && nat_le (a + 8) n
+    then (
+    if is_zero word then Err causes.PutZero else Ok (Filling h es fs ss n (pad bytes a ++ word))
+    )
     else Err causes.PutAddress
 
 -- which forms may stand where reading stands
@@ -135,14 +153,25 @@ pub record Stands (t : List ℕ) (s : State) (n : ℕ) (rest : List ℕ) : Type 
   pub parts : split t ≡ (map line said ++ (split rest).0, (split rest).1)
   pub number : n ≡ length said + 1
 
--- the line is refused in the state: by what it says, or since it has none of the forms that may stand
+-- the line is refused in the state: by what it says, or since it has none of the forms that may
+-- stand
 abbrev pub Refuses : State → List ℕ → Cause → Type 0
-Refuses s l c = ((i : Item) × Says l i × (step s i ≡ Err c)) ⊎ (((i : Item) → Says l i → stands s i ≡ false) × (c ≡ no_form s))
+Refuses s l c =
+    ((i : Item) × Says l i × (step s i ≡ Err c))
+    ⊎ (((i : Item) → Says l i → stands s i ≡ false) × (c ≡ no_form s))
+
+-- wherever a reading stands so, it goes on to stand otherwise
+abbrev pub Leads : State → ℕ → List ℕ → State → ℕ → List ℕ → Type 0
+Leads s n rest next m after = (t : List ℕ) → Stands t s n rest → Stands t next m after
 
 -- the error is that of the text, or want of memory
 abbrev pub IsRefusal : List ℕ → DeckError → Type 0
 IsRefusal t (errors.At n c) = IsRefused t n c
 IsRefusal t errors.Memory = Unit {0}
+
+-- wherever a reading stands so, the error is that of the text, or want of memory
+abbrev pub Fails : State → ℕ → List ℕ → DeckError → Type 0
+Fails s n rest e = (t : List ℕ) → Stands t s n rest → IsRefusal t e
 
 -- what the lists of a deck have so far, and the lines before them
 abbrev pub listing : Heading → Lists → State

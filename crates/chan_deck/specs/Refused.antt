@@ -16,7 +16,8 @@ onto_first b (l ∷ ls, rest) = ((b ∷ l) ∷ ls, rest)
 -- a text as its whole lines, and what stands behind the last line feed
 unfoldable pub split : List ℕ → List (List ℕ) × List ℕ
 split [] = ([], [])
-split (b ∷ bytes) = if b == 10 then ([] ∷ (split bytes).0, (split bytes).1) else onto_first b (split bytes)
+split (b ∷ bytes) =
+    if b == 10 then ([] ∷ (split bytes).0, (split bytes).1) else onto_first b (split bytes)
 
 -- the whole lines of a text
 abbrev pub lines : List ℕ → List (List ℕ)
@@ -30,7 +31,8 @@ first_lines n t = text (take n (lines t))
 abbrev pub IsFront : List ℕ → Type 0
 IsFront front = (d : Image) × (rest : List ℕ) × Spells (front ++ rest) d
 
--- n is the least number of whole lines with which no deck's text begins; if there is none, one more than there are lines
+-- n is the least number of whole lines with which no deck's text begins; if there is none, one more
+-- than there are lines
 pub record IsRefusedAt (t : List ℕ) (n : ℕ) : Type 0 where
   pub least : (m : ℕ) → m < n → IsFront (first_lines m t)
   pub here : n ≤ length (lines t) → IsFront (first_lines n t) → ⊥
@@ -110,17 +112,22 @@ pub data Found : Type 0 where
   whole_line : List ℕ → Found
   part : List ℕ → Found
 
--- the table of causes: when each applies to what is found behind these lines, among which `end` is not
+-- the table of causes: when each applies to what is found behind these lines, among which `end` is
+-- not
 abbrev pub Applies : List Item → Found → Cause → Type 0
 Applies before (part rest) Ended = Unit {0}
 Applies before (whole_line l) Header = (before ≡ []) × ((h : VersionNumber) → l ≢ line (header h))
 Applies before (whole_line l) Form = (i : Item) → Says l i → may_follow before i ≡ false
 Applies before (whole_line l) Mask = (m : ℕ) × Says l (mask m) × (is_mask m ≡ false)
-Applies before (whole_line l) ExtentBackwards = (first : ℕ) × (last : ℕ) × Says l (extent first last) × (last < first)
-Applies before (whole_line l) ExtentPastDevice = (first : ℕ) × (last : ℕ) × Says l (extent first last) × (202 < last)
+Applies before (whole_line l) ExtentBackwards =
+    (first : ℕ) × (last : ℕ) × Says l (extent first last) × (last < first)
+Applies before (whole_line l) ExtentPastDevice =
+    (first : ℕ) × (last : ℕ) × Says l (extent first last) × (202 < last)
 Applies before (whole_line l) Size = (n : ℕ) × Says l (storage n) × (is_size n ≡ false)
-Applies before (whole_line l) PutAddress = (a : ℕ) × (word : List ℕ) × Says l (put a word) × (is_place before a ≡ false)
-Applies before (whole_line l) PutZero = (a : ℕ) × (word : List ℕ) × Says l (put a word) × (is_zero word ≡ true)
+Applies before (whole_line l) PutAddress =
+    (a : ℕ) × (word : List ℕ) × Says l (put a word) × (is_place before a ≡ false)
+Applies before (whole_line l) PutZero =
+    (a : ℕ) × (word : List ℕ) × Says l (put a word) × (is_zero word ≡ true)
 Applies before (whole_line l) Limit = (n : ℕ) × Says l (limit n) × (is_limit n ≡ false)
 Applies before found cause = ⊥
 
@@ -132,7 +139,8 @@ Follows found cause = ⊥
 
 -- the cause applies to what is found behind these lines
 abbrev pub CountsAgainst : List Item → Found → Cause → Type 0
-CountsAgainst before found cause = MatchBool (has_ended before) (Follows found cause) (Applies before found cause)
+CountsAgainst before found cause =
+    MatchBool (has_ended before) (Follows found cause) (Applies before found cause)
 
 -- the place of a cause in the table
 abbrev pub rank : Cause → ℕ
@@ -170,7 +178,9 @@ AreSaid n t before = AllByRecursion HasForm before × (map line before ≡ take 
 pub record IsRefused (t : List ℕ) (n : ℕ) (cause : Cause) : Type 0 where
   pub none : (d : Image) → Spells t d → ⊥
   pub at_line : IsRefusedAt t n
-  pub for_cause : (before : List Item) × AreSaid (n - 1) t before × IsCause before (found_behind (n - 1) t) cause
+  pub for_cause :
+      (before : List Item) × AreSaid (n - 1) t before
+      × IsCause before (found_behind (n - 1) t) cause
 
 -- the text spells a deck, or it is refused at some line for some cause
 abbrev pub IsJudged : List ℕ → Type 0

@@ -30,7 +30,8 @@ same_decks =
     (eq_of_both (on (λ d. d.mask) nat_eq)
     (eq_of_both (on (λ d. d.start) nat_eq)
     (eq_of_both (on (λ d. d.extents) same_extents)
-    (eq_of_both (on (λ d. d.fetch) same_areas) (eq_of_both (on (λ d. d.store) same_areas) (on (λ d. d.storage) (pointwise nat_eq))))))))
+    (eq_of_both (on (λ d. d.fetch) same_areas)
+    (eq_of_both (on (λ d. d.store) same_areas) (on (λ d. d.storage) (pointwise nat_eq))))))))
 
 pub same_versions-IsEquivalence : IsEquivalence same_versions
 same_versions-IsEquivalence =
@@ -59,4 +60,6 @@ same_decks-IsEquivalence =
     (and_equiv (on_equiv mask nat_eq_equiv)
     (and_equiv (on_equiv start nat_eq_equiv)
     (and_equiv (on_equiv extents same_extents-IsEquivalence)
-    (and_equiv (on_equiv fetch same_areas-IsEquivalence) (and_equiv (on_equiv store same_areas-IsEquivalence) (on_equiv storage (lists_equiv nat_eq_equiv))))))))
+    (and_equiv (on_equiv fetch same_areas-IsEquivalence)
+    (and_equiv (on_equiv store same_areas-IsEquivalence)
+    (on_equiv storage (lists_equiv nat_eq_equiv))))))))

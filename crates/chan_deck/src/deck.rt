@@ -88,7 +88,8 @@ impl PartialEq for Deck {
 
     ghost laws = { partial_equiv_from_equiv same_decks-IsEquivalence };
 
-    /// The same version with its limit, device, mask, start, extents, areas and storage; so the texts are the same.
+    /// The same version with its limit, device, mask, start, extents, areas and storage; so the
+    /// texts are the same.
     fn eq(&self, other: &Deck) -> bool {
         self.version == other.version
             && self.device == other.device

@@ -29,8 +29,9 @@ pub(crate) type DigitValues = [Option<u8>; 256];
 
 /// Asks `hex` for the value of each character.
 ///
-/// `hex` compares a digit to find out its sort, which is slow where letters and figures come at random, as in the words
-/// of storage. So it is asked once for each character, and a deck's digits are looked up.
+/// `hex` compares a digit to find out its sort, which is slow where letters and figures come at
+/// random, as in the words of storage. So it is asked once for each character, and a deck's digits
+/// are looked up.
 pub(crate) fn digit_values() -> DigitValues
     ensures { AreValues result }
 {
@@ -57,7 +58,8 @@ fn look_up(digits: &[u8], values: &DigitValues, bytes: &mut [u8]) -> bool
     ensures spelled { OnTrue result (digits.now ≡ encode_upper bytes.new) }
     ensures fits { IsBytes bytes.new }
     ensures len { length bytes.new ≡ length bytes.old }
-    ensures refused { OnFalse result ((other : List ℕ) → length other ≡ length bytes.old → AllByRecursion IsByte other → digits.now ≡ encode_upper other → ⊥) }
+    ensures refused { OnFalse result ((other : List ℕ) → length other ≡ length bytes.old
+        → AllByRecursion IsByte other → digits.now ≡ encode_upper other → ⊥) }
 {
     if digits.len() != 2 * bytes.len() {
         return false;

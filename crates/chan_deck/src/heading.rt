@@ -3,7 +3,7 @@
 ghost use Rattle.std.specs.Prelude.{◌≡◌, ◌+◌, ◌<◌, ◌≤◌, ℕ, [], List, length, IfOk, IfErr};
 ghost use Rattle.ckd_core.specs.declared.device.Device.{Device};
 ghost use Rattle.chan_deck.specs.Digits.{AreValues};
-ghost use Rattle.chan_deck.specs.Reading.{IsRefusal, Listing, Masked, Named, OnDevice, Opening, Stands, Started, on_start};
+ghost use Rattle.chan_deck.specs.Reading.{Fails, Leads, Listing, Masked, Named, OnDevice, Opening, Started, on_start};
 ghost use Rattle.chan_deck.specs.declared.error.DeckError.TheVariants as errors;
 ghost use Rattle.chan_deck.specs.declared.version.Version.TheVariants.{Two};
 ghost use Rattle.chan_deck.specs.declared.version.VersionNumber.{VersionNumber};
@@ -26,8 +26,8 @@ fn refused(line: u64, cause: Cause) -> DeckError
 
 /// The version that the header names, and what follows its line.
 pub(crate) fn read_header(text: &[u8]) -> Result<(VersionNumber, &[u8]), DeckError>
-    ensures ok { IfOk result (λ x. (t : List ℕ) → Stands t Opening 1 text.now → Stands t (Named x.0) 2 x.1.now) }
-    ensures err { IfErr result (λ e. (t : List ℕ) → Stands t Opening 1 text.now → IsRefusal t e) }
+    ensures ok { IfOk result (λ x. Leads Opening 1 text.now (Named x.0) 2 x.1.now) }
+    ensures err { IfErr result (Fails Opening 1 text.now) }
     ensures shorter { IfOk result (λ x. length x.1.now + 12 < length text.now) }
 {
     let Some((line, rest)) = next_line(text) else {
@@ -41,8 +41,9 @@ pub(crate) fn read_header(text: &[u8]) -> Result<(VersionNumber, &[u8]), DeckErr
 
 /// The device, and what follows its line.
 pub(crate) fn read_device(text: &[u8]) -> Result<(Device, &[u8]), DeckError>
-    ensures ok { IfOk result (λ x. (t : List ℕ) (h : VersionNumber) → Stands t (Named h) 2 text.now → Stands t (OnDevice h x.0) 3 x.1.now) }
-    ensures err { IfErr result (λ e. (t : List ℕ) (h : VersionNumber) → Stands t (Named h) 2 text.now → IsRefusal t e) }
+    ensures ok { IfOk result (λ x. (h : VersionNumber)
+        → Leads (Named h) 2 text.now (OnDevice h x.0) 3 x.1.now) }
+    ensures err { IfErr result (λ e. (h : VersionNumber) → Fails (Named h) 2 text.now e) }
     ensures shorter { IfOk result (λ x. length x.1.now < length text.now) }
 {
     let Some((line, rest)) = next_line(text) else {
@@ -60,8 +61,10 @@ pub(crate) fn read_mask<'a>(
     values: &DigitValues,
 ) -> Result<(FileMask, &'a [u8]), DeckError>
     requires { AreValues values.now }
-    ensures ok { IfOk result (λ x. (t : List ℕ) (h : VersionNumber) (v : Device) → Stands t (OnDevice h v) 3 text.now → Stands t (Masked h v x.0) 4 x.1.now) }
-    ensures err { IfErr result (λ e. (t : List ℕ) (h : VersionNumber) (v : Device) → Stands t (OnDevice h v) 3 text.now → IsRefusal t e) }
+    ensures ok { IfOk result (λ x. (h : VersionNumber) (v : Device)
+        → Leads (OnDevice h v) 3 text.now (Masked h v x.0) 4 x.1.now) }
+    ensures err { IfErr result (λ e. (h : VersionNumber) (v : Device)
+        → Fails (OnDevice h v) 3 text.now e) }
     ensures shorter { IfOk result (λ x. length x.1.now < length text.now) }
 {
     let Some((line, rest)) = next_line(text) else {
@@ -82,9 +85,10 @@ pub(crate) fn read_start<'a>(
     values: &DigitValues,
 ) -> Result<(u32, &'a [u8]), DeckError>
     requires { AreValues values.now }
-    ensures ok { IfOk result (λ x. (t : List ℕ) (h : VersionNumber) (v : Device) (m : ℕ) → Stands t (Masked h v m) 4 text.now
-        → Stands t (on_start h v m x.0) 5 x.1.now) }
-    ensures err { IfErr result (λ e. (t : List ℕ) (h : VersionNumber) (v : Device) (m : ℕ) → Stands t (Masked h v m) 4 text.now → IsRefusal t e) }
+    ensures ok { IfOk result (λ x. (h : VersionNumber) (v : Device) (m : ℕ)
+        → Leads (Masked h v m) 4 text.now (on_start h v m x.0) 5 x.1.now) }
+    ensures err { IfErr result (λ e. (h : VersionNumber) (v : Device) (m : ℕ)
+        → Fails (Masked h v m) 4 text.now e) }
     ensures shorter { IfOk result (λ x. length x.1.now < length text.now) }
 {
     let Some((line, rest)) = next_line(text) else {
@@ -98,9 +102,10 @@ pub(crate) fn read_start<'a>(
 
 /// The limit on places, which version 2 has, and what follows its line.
 fn read_limit(text: &[u8]) -> Result<(Limit, &[u8]), DeckError>
-    ensures ok { IfOk result (λ x. (t : List ℕ) (v : Device) (m a : ℕ) → Stands t (Started v m a) 5 text.now
-        → Stands t (Listing (record { version = Two x.0; device = v; mask = m; start = a }) [] [] []) 6 x.1.now) }
-    ensures err { IfErr result (λ e. (t : List ℕ) (v : Device) (m a : ℕ) → Stands t (Started v m a) 5 text.now → IsRefusal t e) }
+    ensures ok { IfOk result (λ x. (v : Device) (m a : ℕ) → Leads (Started v m a) 5 text.now
+        (Listing (record { version = Two x.0; device = v; mask = m; start = a }) [] [] [])
+        6 x.1.now) }
+    ensures err { IfErr result (λ e. (v : Device) (m a : ℕ) → Fails (Started v m a) 5 text.now e) }
     ensures shorter { IfOk result (λ x. length x.1.now < length text.now) }
 {
     let Some((line, rest)) = next_line(text) else {
@@ -115,19 +120,23 @@ fn read_limit(text: &[u8]) -> Result<(Limit, &[u8]), DeckError>
     }
 }
 
-/// The version with its limit, what follows the line of the limit, if the version has one, and the number of the next line.
+/// The version with its limit, what follows the line of the limit, if the version has one, and the
+/// number of the next line.
 pub(crate) fn read_version(
     number: VersionNumber,
     text: &[u8],
 ) -> Result<(Version, &[u8], u64), DeckError>
-    ensures ok { IfOk result (λ x. (t : List ℕ) (v : Device) (m a : ℕ) → Stands t (on_start number v m a) 5 text.now
-        → Stands t (Listing (record { version = x.0; device = v; mask = m; start = a }) [] [] []) x.2 x.1.now) }
-    ensures err { IfErr result (λ e. (t : List ℕ) (v : Device) (m a : ℕ) → Stands t (on_start number v m a) 5 text.now → IsRefusal t e) }
+    ensures ok { IfOk result (λ x. (v : Device) (m a : ℕ) → Leads (on_start number v m a) 5 text.now
+        (Listing (record { version = x.0; device = v; mask = m; start = a }) [] [] [])
+        x.2 x.1.now) }
+    ensures err { IfErr result (λ e. (v : Device) (m a : ℕ)
+        → Fails (on_start number v m a) 5 text.now e) }
     ensures few { IfOk result (λ x. x.2 + length x.1.now ≤ 5 + length text.now) }
 {
     match number {
         VersionNumber::One => Ok((Version::One, text, 5)),
-        // A match, since the borrow checker has no rule for `?` on what holds both a limit and a borrowed text.
+        // A match, since the borrow checker has no rule for `?` on what holds both a limit and a
+        // borrowed text.
         VersionNumber::Two => match read_limit(text) {
             Ok((limit, rest)) => Ok((Version::Two(limit), rest, 6)),
             Err(error) => Err(error),

@@ -20,8 +20,10 @@ fn equal_decks()
 
 /// No text is refused in two ways, and none that is refused spells a deck.
 fn one_refusal()
-    ensures line { (t : List ℕ) (m n : ℕ) (b c : Cause) → IsRefused t m b → IsRefused t n c → m ≡ n }
-    ensures cause { (t : List ℕ) (m n : ℕ) (b c : Cause) → IsRefused t m b → IsRefused t n c → b ≡ c }
+    ensures line { (t : List ℕ) (m n : ℕ) (b c : Cause)
+        → IsRefused t m b → IsRefused t n c → m ≡ n }
+    ensures cause { (t : List ℕ) (m n : ℕ) (b c : Cause)
+        → IsRefused t m b → IsRefused t n c → b ≡ c }
     ensures none { (t : List ℕ) (n : ℕ) (c : Cause) (d : Image) → IsRefused t n c → Spells t d → ⊥ }
 {}
 

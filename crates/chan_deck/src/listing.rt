@@ -207,8 +207,10 @@ pub fn write_listing<W: Write>(
     to: &mut Watched<W>,
 ) -> Result<(), ListError>
     requires { to.old.failed ≡ false }
-    ensures ok { OnOk result (Appends (W.contents to.old.device) (W.contents to.new.device) (list.listing (storage_of job.now) explored.now verdict)) }
-    ensures prefix { AppendsPrefix (W.contents to.old.device) (W.contents to.new.device) (list.listing (storage_of job.now) explored.now verdict) }
+    ensures ok { OnOk result (Appends (W.contents to.old.device) (W.contents to.new.device)
+        (list.listing (storage_of job.now) explored.now verdict)) }
+    ensures prefix { AppendsPrefix (W.contents to.old.device) (W.contents to.new.device)
+        (list.listing (storage_of job.now) explored.now verdict) }
     ensures write { IsErrOf result ListError.Write ↔ (to.new.failed ≡ true) }
 {
     let mut piece = String::new(alloc);

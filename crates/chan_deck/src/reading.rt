@@ -30,14 +30,17 @@ struct Parts {
 
 fn read_parts(alloc: Global, text: &[u8]) -> Result<Parts, DeckError>
     ensures spelled { IfOk result (λ p. Spells text.now
-        (image_of (record { version = p.version; device = p.device; mask = p.mask; start = p.start }) p.lists.extents.items p.lists.fetch.items p.lists.store.items p.storage.items)) }
+        (image_of
+        (record { version = p.version; device = p.device; mask = p.mask; start = p.start })
+        p.lists.extents.items p.lists.fetch.items p.lists.store.items p.storage.items)) }
     ensures refused { IfErr result (IsRefusal text.now) }
 {
     let values = digit_values();
     let (number, rest) = read_header(text)?;
     let (device, rest) = read_device(rest)?;
 
-    // A match, since the borrow checker has no rule for `?` on what holds both a file mask, or a limit, and a borrowed text.
+    // A match, since the borrow checker has no rule for `?` on what holds both a file mask, or a
+    // limit, and a borrowed text.
     let (mask, rest) = match read_mask(rest, &values) {
         Ok(found) => found,
         Err(error) => return Err(error),
@@ -63,16 +66,20 @@ fn read_parts(alloc: Global, text: &[u8]) -> Result<Parts, DeckError>
 
 /// The deck that a text spells.
 ///
-/// A text that spells none is refused: the line is the first, counted from 1, with which no deck's text goes on, and the cause
-/// is the first of the table that applies to it. `Memory` comes only where a growth was refused. The text is gone over once.
+/// A text that spells none is refused: the line is the first, counted from 1, with which no deck's
+/// text goes on, and the cause is the first of the table that applies to it. `Memory` comes only
+/// where a growth was refused. The text is gone over once.
 pub fn read_deck(alloc: Global, text: &[u8]) -> Result<Deck, DeckError>
     ensures spelled { IfOk result (Spells text.now) }
     ensures refused { IfErr result (IsRefusal text.now) }
 
-    // A text that spells a deck gives that deck, memory aside; one that spells none gives its refusal.
-    ensures accepted { (d : Image) → Spells text.now d → MatchResult result (λ deck. deck ≡ d) (λ e. e ≡ DeckError.Memory) }
+    // A text that spells a deck gives that deck, memory aside; one that spells none gives its
+    // refusal.
+    ensures accepted { (d : Image) → Spells text.now d
+        → MatchResult result (λ deck. deck ≡ d) (λ e. e ≡ DeckError.Memory) }
     ensures named { (line : ℕ) (cause : Cause) → IsRefused text.now line cause
-        → MatchResult result (λ deck. ⊥) (λ e. (e ≡ DeckError.Memory) ⊎ (e ≡ DeckError.At line cause)) }
+        → MatchResult result (λ deck. ⊥)
+        (λ e. (e ≡ DeckError.Memory) ⊎ (e ≡ DeckError.At line cause)) }
 {
     let Parts {
         version,

@@ -51,7 +51,8 @@ fn push_cylinder(out: &mut Vec<u8>, cylinder: u16) -> Result<(), AllocError>
 }
 
 fn write_device(out: &mut Vec<u8>, device: Device) -> Result<(), AllocError>
-    ensures { OnOk result (out.new.items ≡ out.old.items ++ (line (item.device device) ++ 10 ∷ [])) }
+    ensures { OnOk result (out.new.items
+        ≡ out.old.items ++ (line (item.device device) ++ 10 ∷ [])) }
 {
     match device {
         Device::D2311 => out.extend_from_slice(b"device 2311\n"),
@@ -73,7 +74,8 @@ fn write_extent(out: &mut Vec<u8>, first: u16, last: u16) -> Result<(), AllocErr
 
 fn write_extents(out: &mut Vec<u8>, extents: &[(u16, u16)]) -> Result<(), AllocError>
     requires { AllByRecursion IsExtent extents.now }
-    ensures { OnOk result (out.new.items ≡ out.old.items ++ text (map line (map extent_of extents.now))) }
+    ensures { OnOk result (out.new.items
+        ≡ out.old.items ++ text (map line (map extent_of extents.now))) }
 {
     for pair in extents {
         let (first, last) = *pair;
@@ -83,7 +85,8 @@ fn write_extents(out: &mut Vec<u8>, extents: &[(u16, u16)]) -> Result<(), AllocE
 }
 
 fn write_area(alloc: Global, out: &mut Vec<u8>, word: &[u8], area: Area) -> Result<(), AllocError>
-    ensures { OnOk result (out.new.items ≡ out.old.items ++ ((word.now ++ area_digits area) ++ 10 ∷ [])) }
+    ensures { OnOk result (out.new.items
+        ≡ out.old.items ++ ((word.now ++ area_digits area) ++ 10 ∷ [])) }
 {
     out.extend_from_slice(word)?;
     push_address(alloc, out, area.start)?;
@@ -99,7 +102,8 @@ fn write_areas(
     word: &[u8],
     areas: &[Area],
 ) -> Result<(), AllocError>
-    ensures { OnOk result (out.new.items ≡ out.old.items ++ flat_map (λ a. (word.now ++ area_digits a) ++ 10 ∷ []) areas.now) }
+    ensures { OnOk result (out.new.items
+        ≡ out.old.items ++ flat_map (λ a. (word.now ++ area_digits a) ++ 10 ∷ []) areas.now) }
 {
     for area in areas {
         write_area(alloc, out, word, *area)?;
@@ -108,7 +112,8 @@ fn write_areas(
 }
 
 fn write_put(alloc: Global, out: &mut Vec<u8>, address: u32, word: &[u8]) -> Result<(), AllocError>
-    ensures { OnOk result (out.new.items ≡ out.old.items ++ (line (put address word.now) ++ 10 ∷ [])) }
+    ensures { OnOk result (out.new.items
+        ≡ out.old.items ++ (line (put address word.now) ++ 10 ∷ [])) }
 {
     out.extend_from_slice(b"put ")?;
     push_address(alloc, out, address)?;
@@ -132,7 +137,8 @@ fn is_zero(bytes: &[u8]) -> bool
 /// A put for each doubleword that isn't zero.
 fn write_puts(alloc: Global, out: &mut Vec<u8>, storage: &[u8]) -> Result<(), AllocError>
     requires { length storage.now ≤ 2 ^ 24 }
-    ensures { OnOk result (out.new.items ≡ out.old.items ++ text (map line (puts (length storage.now / 8) 0 storage.now))) }
+    ensures { OnOk result (out.new.items
+        ≡ out.old.items ++ text (map line (puts (length storage.now / 8) 0 storage.now))) }
 {
     for i in 0..storage.len() / 8 {
         let word = &storage[8 * i..8 * i + 8];
@@ -160,7 +166,8 @@ fn write_start(alloc: Global, out: &mut Vec<u8>, address: u32) -> Result<(), All
 }
 
 fn write_header(out: &mut Vec<u8>, version: Version) -> Result<(), AllocError>
-    ensures { OnOk result (out.new.items ≡ out.old.items ++ (line (header (header_of version)) ++ 10 ∷ [])) }
+    ensures { OnOk result (out.new.items
+        ≡ out.old.items ++ (line (header (header_of version)) ++ 10 ∷ [])) }
 {
     match version {
         Version::One => out.extend_from_slice(b"chanv deck 1\n"),
@@ -195,7 +202,9 @@ fn write_limit(out: &mut Vec<u8>, version: Version) -> Result<(), AllocError>
 
 /// The lines before the lists.
 fn write_heading(alloc: Global, out: &mut Vec<u8>, deck: &Deck) -> Result<(), AllocError>
-    ensures { OnOk result (out.new.items ≡ out.old.items ++ text (map line (header (header_of deck.now.version) ∷ device deck.now.device ∷ mask deck.now.mask ∷ start deck.now.start ∷ limit_line deck.now.version))) }
+    ensures { OnOk result (out.new.items
+        ≡ out.old.items ++ text (map line (header (header_of deck.now.version)
+        ∷ device deck.now.device ∷ mask deck.now.mask ∷ start deck.now.start ∷ limit_line deck.now.version))) }
 {
     write_header(out, deck.version)?;
     write_device(out, deck.device)?;
@@ -207,7 +216,9 @@ fn write_heading(alloc: Global, out: &mut Vec<u8>, deck: &Deck) -> Result<(), Al
 /// The line of storage, and the puts.
 fn write_storage(alloc: Global, out: &mut Vec<u8>, storage: &[u8]) -> Result<(), AllocError>
     requires { length storage.now ≤ 2 ^ 24 }
-    ensures { OnOk result (out.new.items ≡ out.old.items ++ text (map line (item.storage (length storage.now) ∷ puts (length storage.now / 8) 0 storage.now))) }
+    ensures { OnOk result (out.new.items
+        ≡ out.old.items ++ text (map line (item.storage (length storage.now)
+        ∷ puts (length storage.now / 8) 0 storage.now))) }
 {
     out.extend_from_slice(b"storage ")?;
     push_size(alloc, out, storage.len() as u32)?;
@@ -215,7 +226,8 @@ fn write_storage(alloc: Global, out: &mut Vec<u8>, storage: &[u8]) -> Result<(),
     write_puts(alloc, out, storage)
 }
 
-/// The text that spells the deck, which `read_deck` reads back as an equal deck. An error is want of memory.
+/// The text that spells the deck, which `read_deck` reads back as an equal deck. An error is want
+/// of memory.
 pub fn write_deck(alloc: Global, deck: &Deck) -> Result<Vec<u8>, AllocError>
     ensures { IfOk result (λ text. Spells text.items deck.now) }
 {

@@ -8,7 +8,8 @@ use std::alloc::Global;
 use std::process::Abort;
 use std::test::Fail;
 
-/// The search loop's deck with this header, and these words as a line of its own behind the start, where there are any.
+/// The search loop's deck with this header, and these words as a line of its own behind the start,
+/// where there are any.
 fn with_limit(alloc: Global, header: &str, words: &str) -> Result<String, Fail> {
     let mut text = String::new(alloc);
     text.push_str(header)?;
