@@ -1,5 +1,5 @@
 -- The listing, part by part.
-use Rattle.std.proofs.Common.{◌≡◌, ◌∷◌, [], ◌++◌, ◌∙◌, ◌+◌, ◌<◌, ◌≤◌, ap, sym, subst, List, ℕ, suc, Bool, Option, append_assoc, append-nil, arith, drop, get_or, length, take}
+use Rattle.std.proofs.Common.{◌≡◌, ◌∷◌, [], ◌++◌, ◌∙◌, ◌+◌, ◌<◌, ◌≤◌, ap, sym, subst, List, ℕ, suc, Bool, Option, Some, None, refl, inl, inr, codes, if◌then◌else◌, append_assoc, append-nil, arith, drop, get_or, length, take}
 use Rattle.std.specs.List.{flat_map}
 use Rattle.std.proofs.Math.Seq.{drop-cons, take-suc}
 use Rattle.std.proofs.lemmas.Grind.{flat_map-append}
@@ -9,12 +9,19 @@ use Rattle.std.proofs.KnownBytes.{Appends-nil, Appends-trans}
 use Rattle.ccw_core.specs.Ccw.{Fields}
 use Rattle.ccw_core.specs.Storage.{ccw_at}
 use Rattle.ccw_core.specs.Written.{AppendsPrefix}
-use Rattle.ckd_core.specs.Table.{Entry}
+use Rattle.ckd_core.specs.Table.{Entry as TableEntry, lookup}
 use Rattle.ccw_core.proofs.Prefixes.{appends_all, prefix_of_more, prefix_after}
+use Rattle.chan_walk.specs.declared.job.Job.{Job}
+use Rattle.chan_walk.specs.declared.place.Entry.{Entry}
+use Rattle.chan_walk.specs.declared.place.Entry.TheVariants.{Fresh, ChainIn, ChainOut, ChainSearch}
 use Rattle.chan_walk.specs.declared.place.Place.{Place}
 use Rattle.chan_walk.specs.declared.verdict.Verdict.{Verdict}
-use Rattle.chan_walk.specs.Look.{Seen}
-use Rattle.chan_deck.specs.Listing.{row, row_of, row_with, command_of, is_named, seen_row}
+use Rattle.chan_walk.specs.Job.{storage_of}
+use Rattle.chan_walk.specs.Look.{Seen, IsLook, AreLooks, places_of_looks}
+use Rattle.chan_walk.specs.Place.{is_fresh}
+use Rattle.chan_walk.specs.Visit.{begun_at}
+use Rattle.chan_deck.specs.Listing.{listing, row, row_of, row_with, command_of, is_named, seen_row, seen_listing, word_text, way_word, transfer_word, mark_word}
+use Rattle.chan_deck.specs.Texts.{address_text, verdict_line}
 
 -- the rows of some things, and a tail
 abbrev pub with_tail : {X : Type 0} → (X → List ℕ) → List ℕ → List X → List ℕ
@@ -29,7 +36,7 @@ pub with_tail-parts : {X : Type 0} (f : X → List ℕ) (tail : List ℕ) (xs ys
 with_tail-parts f tail xs ys = ap (λ t. t ++ tail) (flat_map-append f xs ys) ∙ append_assoc (flat_map f xs) (flat_map f ys) tail
 
 -- a row of what stands at its place, marked where the verdict names its address
-pub row_told : (s : List ℕ) (v : Verdict) (p : Place) (held : List ℕ) (c : Option Fields) (command : Option Entry) (marked : Bool)
+pub row_told : (s : List ℕ) (v : Verdict) (p : Place) (held : List ℕ) (c : Option Fields) (command : Option TableEntry) (marked : Bool)
     → c ≡ ccw_at s p.address → command ≡ command_of (ccw_at s p.address) → marked ≡ is_named v p.address → held ++ row_with p c command marked ≡ held ++ row_of s v p
 row_told s v p held c command marked stands is named =
     ap (λ x. held ++ row_with p x command marked) stands ∙ ap (λ x. held ++ row_with p (ccw_at s p.address) x marked) is
@@ -100,8 +107,38 @@ pub seen_all : {X : Type 0} (xs : List X) (i : ℕ) → length xs ≤ i → take
 seen_all xs i h = append-nil (take i xs) ∙ take_all i xs h
 
 -- the row of what a look shows, by what its parts say
-pub seen_row-told : (v : Verdict) (l : Seen) (held : List ℕ) (p : Place) (c : Option Fields) (command : Option Entry) (marked : Bool)
+pub seen_row-told : (v : Verdict) (l : Seen) (held : List ℕ) (p : Place) (c : Option Fields) (command : Option TableEntry) (marked : Bool)
     → p ≡ l.place → c ≡ l.ccw → command ≡ l.command → marked ≡ is_named v p.address → held ++ row_with p c command marked ≡ held ++ seen_row v l
 seen_row-told v l held p c command marked at stands is named =
     ap (λ m. held ++ row_with p c command m) (named ∙ ap (λ (q : Place). is_named v q.address) at) ∙ ap (λ q. held ++ row_with q c command (is_named v l.place.address)) at
     ∙ ap (λ x. held ++ row_with l.place x command (is_named v l.place.address)) stands ∙ ap (λ x. held ++ row_with l.place l.ccw x (is_named v l.place.address)) is
+
+-- ---- what was seen of a job is listed as the job's places are
+
+named_by : (e : Entry) (c : Fields) → word_text e (Some c) (if is_fresh e then lookup c.command else None) ≡ word_text e (Some c) (lookup c.command)
+named_by Fresh c = refl
+named_by ChainIn c = refl
+named_by ChainOut c = refl
+named_by ChainSearch c = refl
+
+word_seen : (p : Place) (o : Option Fields) → word_text p.entered o (begun_at p o) ≡ word_text p.entered o (command_of o)
+word_seen p None = refl
+word_seen p (Some c) = named_by p.entered c
+
+row_seen : (j : Job) (v : Verdict) (l : Seen) → IsLook j l → seen_row v l ≡ row_of (storage_of j) v l.place
+row_seen j v l h =
+    let p = l.place in
+    let marked = is_named v p.address in
+    ap (λ x. row_with p l.ccw x marked) h.command
+    ∙ ap (λ x. row_with p x (begun_at p x) marked) h.ccw
+    ∙ ap (λ w. address_text p.address ++ codes " " ++ way_word p.entered ++ codes " " ++ transfer_word p.after_transfer ++ codes " " ++ mark_word marked ++ codes " " ++ w ++ 10 ∷ [])
+    (word_seen p (ccw_at (storage_of j) p.address))
+
+rows_seen : (j : Job) (v : Verdict) (ls : List Seen) → AreLooks j ls → flat_map (seen_row v) ls ≡ flat_map (row_of (storage_of j) v) (places_of_looks ls)
+rows_seen j v [] h = refl
+rows_seen j v (l ∷ ls) h =
+    ap (λ t. t ++ flat_map (seen_row v) ls) (row_seen j v l (h l (inl refl)))
+    ∙ ap (λ t. row_of (storage_of j) v l.place ++ t) (rows_seen j v ls (λ m k. h m (inr k)))
+
+pub listing_seen : (j : Job) (v : Verdict) (ls : List Seen) → AreLooks j ls → seen_listing ls v ≡ listing (storage_of j) (places_of_looks ls) v
+listing_seen j v ls h = ap (λ t. t ++ verdict_line v) (rows_seen j v ls h)

@@ -280,12 +280,19 @@ pub fn write_judged<W: Write>(
     ensures prefix { AppendsPrefix (W.contents to.old.device) (W.contents to.new.device) (list.seen_listing judged.now.looks judged.now.verdict) }
     ensures write { IsErrOf result ListError.Write ↔ (to.new.failed ≡ true) }
 {
-    let verdict = judged.verdict();
     let mut piece = String::new(alloc);
     for look in judged.looks() {
         let place = look.place();
-        let marked = is_named(verdict, place.address);
-        write_row(alloc, &mut piece, place, look.ccw(), look.command(), marked, to)?;
+        let marked = is_named(judged.verdict(), place.address);
+        write_row(
+            alloc,
+            &mut piece,
+            place,
+            look.ccw(),
+            look.command(),
+            marked,
+            to,
+        )?;
     }
-    write_end(alloc, piece, verdict, to)
+    write_end(alloc, piece, judged.verdict(), to)
 }
