@@ -1,5 +1,6 @@
 -- The program check of a place, case by case.
-use Rattle.std.proofs.Common.{◌≡◌, ℕ, ◌%◌, true, false, not, ◌&&◌, if◌then◌else◌, List, [], ◌∷◌, length, Some, None, refl, sym, subst}
+use Rattle.std.proofs.Common.{◌≡◌, ℕ, ◌%◌, true, false, not, ◌&&◌, if◌then◌else◌, List, [], ◌∷◌, length, Some, None, refl, sym, ◌∙◌, subst}
+use Rattle.std.specs.Bool.{then_some}
 use Rattle.std.specs.Option.{option_or}
 use Rattle.ccw_core.specs.Ccw.{Fields, is_transfer, is_formed, is_counted, has_data_in}
 use Rattle.ccw_core.specs.Storage.{ccw_at, is_aligned, is_inside}
@@ -44,3 +45,7 @@ is_part-found s a c h =
 pub is_part-none : (s : List ℕ) (a : ℕ) → ccw_at s a ≡ None → is_part s a ≡ false
 unfolding is_part
 is_part-none s a h = let x : (is_aligned a && is_inside (length s) a) ≡ false = ccw_at-none s a h in rw x refl
+
+-- a transfer in channel meets no check but that it may not follow another
+pub check-transfer : (s : List ℕ) (p : Place) (c : Fields) → ccw_at s p.address ≡ Some c → is_transfer c ≡ true → check s p ≡ then_some p.after_transfer TransferNotAllowed
+check-transfer s p c h t = check-found s p c h ∙ rw t (elim p.after_transfer as (λ b. option_or (first_reason ((true && b, TransferNotAllowed) ∷ [])) None ≡ then_some b TransferNotAllowed) [ true ↦ refl | false ↦ refl ])

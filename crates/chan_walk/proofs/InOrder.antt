@@ -1,5 +1,5 @@
 -- The marked places, written out in order.
-use Rattle.std.proofs.Common.{◌≡◌, ℕ, zero, suc, ◌+◌, ◌-◌, ◌*◌, ◌<◌, ◌≤◌, ◌==◌, true, false, Bool, List, [], ◌∷◌, ◌++◌, append_assoc, append-nil, map, length, get_or, Option, Some, None, Contains, refl, sym, ap, ◌∙◌, subst, ◌⊎◌, inl, inr, ◌↔◌, arith, eqb, Less}
+use Rattle.std.proofs.Common.{◌≡◌, ℕ, zero, suc, ◌+◌, ◌-◌, ◌*◌, ◌<◌, ◌≤◌, ◌==◌, true, false, Bool, List, [], ◌∷◌, ◌++◌, append_assoc, append-nil, map, length, Option, Some, None, refl, sym, ap, ◌∙◌, subst, ◌⊎◌, inl, inr, ◌↔◌, arith, eqb, Less}
 use Rattle.std.specs.List.{AllByRecursion, IsDistinct, list_any}
 use Rattle.std.specs.List.Sorted.{IsStrictlySortedBy}
 use Rattle.std.specs.Int.{bit_at}
@@ -22,7 +22,7 @@ use Rattle.chan_walk.specs.Argument.{Has}
 use Rattle.chan_walk.specs.Explored.{AreApart, AreReachable, way_of, place_number}
 use Rattle.chan_walk.specs.Marks.{put, ways, place_at, places_at, places_of, HasMark, HasWay, ListsMarks, or_none, marks_of}
 use Rattle.chan_walk.specs.Walk.{Agrees, IsWalked}
-use Rattle.chan_walk.proofs.Lists.{has_left, has_right, has_cases}
+use Rattle.chan_walk.proofs.Lists.{contains_has, has_cases, has_contains, has_left, has_right}
 use Rattle.chan_walk.proofs.Marks.{way_small, way_of-place_at, place_at-way_of, same_number}
 use Rattle.chan_walk.proofs.Walking.{all_found}
 
@@ -177,19 +177,6 @@ sorted_places (e ∷ es) s = sorted_append (places_at e.0 e.1) (places_of es) (s
         let a = way_small p in
         omega arith
 
-entry_contains : (es : List (ℕ × ℕ)) (e : ℕ × ℕ) → Has es e → Contains es e
-entry_contains [] e h = absurd h
-entry_contains (x ∷ es) e (inl d) = (0, omega arith, d)
-entry_contains (x ∷ es) e (inr h) = let r = entry_contains es e h in (suc r.0, omega (arith, r.1), r.2)
-
-contains_entry : (es : List (ℕ × ℕ)) (e : ℕ × ℕ) → Contains es e → Has es e
-contains_entry es e c = go es c.0 c.1 c.2
-  where
-    go : (es : List (ℕ × ℕ)) (k : ℕ) → k < length es → get_or es k e ≡ e → Has es e
-    go [] k l d = absurd (omega arith)
-    go (x ∷ es) zero l d = inl d
-    go (x ∷ es) (suc k) l d = inr (go es k (omega arith) d)
-
 -- the marked places are those written out
 pub mark_is_place : (m : BTreeMap ℕ ℕ) (p : Place) → tree.IsOrdered nat_cmp m → HasMark m p ↔ Has (places_of m.entries) p
 mark_is_place m p o = (to (tree.get nat_cmp m p.address) refl, from)
@@ -199,10 +186,10 @@ mark_is_place m p o = (to (tree.get nat_cmp m p.address) refl, from)
 
     to : (g : Option ℕ) → tree.get nat_cmp m p.address ≡ g → bit_at (or_none (tree.get nat_cmp m p.address)) (way_of p) ≡ 1 → Has (places_of m.entries) p
     to None e h = absurd (no_bit (subst (λ z. bit_at (or_none z) (way_of p) ≡ 1) e h))
-    to (Some v) e h = tells m.entries p v (contains_entry m.entries (p.address, v) ((btree_map_get_iff nat_cmp_total exact_unsigned m o p.address v).0 e)) (subst (λ z. bit_at (or_none z) (way_of p) ≡ 1) e h)
+    to (Some v) e h = tells m.entries p v (contains_has m.entries (p.address, v) ((btree_map_get_iff nat_cmp_total exact_unsigned m o p.address v).0 e)) (subst (λ z. bit_at (or_none z) (way_of p) ≡ 1) e h)
 
     from : Has (places_of m.entries) p → HasMark m p
-    from h = let r = told m.entries p h in subst (λ z. bit_at (or_none z) (way_of p) ≡ 1) (sym ((btree_map_get_iff nat_cmp_total exact_unsigned m o p.address r.marks).1 (entry_contains m.entries (p.address, r.marks) r.entry))) r.set
+    from h = let r = told m.entries p h in subst (λ z. bit_at (or_none z) (way_of p) ≡ 1) (sym ((btree_map_get_iff nat_cmp_total exact_unsigned m o p.address r.marks).1 (has_contains m.entries (p.address, r.marks) r.entry))) r.set
 
 -- ---- what is written out
 
@@ -233,7 +220,7 @@ bit_is_way m qs a w l h = (to, from)
 
 -- ---- how many
 
-distinct : (ps : List Place) → AreApart ps → IsDistinct eqb (map place_number ps)
+pub distinct : (ps : List Place) → AreApart ps → IsDistinct eqb (map place_number ps)
 unfolding IsDistinct
 distinct [] a = tt
 distinct (p ∷ ps) a = (all ps a.0, distinct ps a.1)

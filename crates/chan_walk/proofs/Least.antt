@@ -12,6 +12,7 @@ use Rattle.chan_walk.specs.Reachable.{IsReachable}
 use Rattle.chan_walk.specs.Reason.{number_of}
 use Rattle.chan_walk.specs.Verdict.{ComesFirst}
 use Rattle.chan_walk.proofs.Faults.{fault_unique}
+use Rattle.chan_walk.proofs.Lists.{has_at}
 
 pub comes_first-trans : (a b d : ℕ) (r t u : Reason) → ComesFirst a r b t → ComesFirst b t d u → ComesFirst a r d u
 comes_first-trans a b d r t u (inl x) (inl y) = inl (omega arith)
@@ -87,11 +88,6 @@ module _ (Off : Place → Reason → Type 0) where
       from : (q : Place) → Below ps i q ⊎ (p ≡ q) → Below ps (i + 1) q
       from q (inl b) = let l = b.below in record { at = b.at; below = omega arith; is = b.is }
       from q (inr d) = record { at = i; below = omega arith; is = e ∙ ap Some d }
-
-pub has_at : (ps : List Place) (i : ℕ) (p : Place) → slice_get ps i ≡ Some p → Has ps p
-has_at [] i p h = absurd (cc)
-has_at (q ∷ ps) zero p h = inl (cc)
-has_at (q ∷ ps) (suc i) p h = inr (has_at ps i p h)
 
 pub at_has : (ps : List Place) (p : Place) → Has ps p → Below ps (length ps) p
 at_has [] p h = absurd h

@@ -1,5 +1,5 @@
 -- Lists of addresses, and what is an element of a list.
-use Rattle.std.proofs.Common.{◌≡◌, ℕ, zero, suc, ◌+◌, ◌-◌, ◌<◌, ◌≤◌, List, [], ◌∷◌, ◌++◌, map, take, length, refl, ap, ◌∙◌, ◌⊎◌, inl, inr, arith}
+use Rattle.std.proofs.Common.{◌≡◌, ℕ, zero, suc, ◌+◌, ◌-◌, ◌<◌, ◌≤◌, List, [], ◌∷◌, ◌++◌, map, take, length, get_or, Contains, Some, slice_get, refl, ap, ◌∙◌, ◌⊎◌, inl, inr, ◌↔◌, arith}
 use Rattle.std.specs.List.{AllByRecursion, range_with_len}
 use Rattle.std.proofs.Math.Seq.{take-append-add}
 use Rattle.std.proofs.lemmas.List.FromFn.{get_or-map-range_with_len}
@@ -27,6 +27,39 @@ has_cases (x ∷ xs) ys b (inr h) = go (has_cases xs ys b h)
     go : Has xs b ⊎ Has ys b → Has (x ∷ xs) b ⊎ Has ys b
     go (inl k) = inl (inr k)
     go (inr k) = inr k
+
+-- one element more
+pub has_push : {X : Type 0} (ps : List X) (q p : X) → Has (ps ++ q ∷ []) p ↔ (Has ps p ⊎ (q ≡ p))
+has_push ps q p = ((λ h. to (has_cases ps (q ∷ []) p h)), from)
+  where
+    to : Has ps p ⊎ Has (q ∷ []) p → Has ps p ⊎ (q ≡ p)
+    to (inl h) = inl h
+    to (inr (inl e)) = inr e
+    to (inr (inr h)) = absurd h
+
+    from : Has ps p ⊎ (q ≡ p) → Has (ps ++ q ∷ []) p
+    from (inl h) = has_left ps (q ∷ []) p h
+    from (inr e) = has_right ps (q ∷ []) p (inl e)
+
+-- elements by their index
+pub has_at : {X : Type 0} (xs : List X) (k : ℕ) (x : X) → slice_get xs k ≡ Some x → Has xs x
+has_at [] k x e = absurd (cc)
+has_at (y ∷ xs) zero x e = let same : y ≡ x = cc in inl same
+has_at (y ∷ xs) (suc k) x e = inr (has_at xs k x e)
+
+-- what is an element, in the library's word
+pub has_contains : {X : Type 0} (es : List X) (e : X) → Has es e → Contains es e
+has_contains [] e h = absurd h
+has_contains (x ∷ es) e (inl d) = (0, omega arith, d)
+has_contains (x ∷ es) e (inr h) = let r = has_contains es e h in (suc r.0, omega (arith, r.1), r.2)
+
+pub contains_has : {X : Type 0} (es : List X) (e : X) → Contains es e → Has es e
+contains_has {X = X} es e c = go es c.0 c.1 c.2
+  where
+    go : (es : List X) (k : ℕ) → k < length es → get_or es k e ≡ e → Has es e
+    go [] k l d = absurd (omega arith)
+    go (x ∷ es) zero l d = inl d
+    go (x ∷ es) (suc k) l d = inr (go es k (omega arith) d)
 
 pub range_split : (a n k : ℕ) → range_with_len a (n + k) ≡ range_with_len a n ++ range_with_len (a + n) k
 range_split a zero k =

@@ -1,5 +1,5 @@
 -- Marks, and the places that they tell of.
-use Rattle.std.proofs.Common.{◌≡◌, ℕ, zero, suc, ◌+◌, ◌*◌, ◌/◌, ◌%◌, ◌^◌, ◌<◌, ◌==◌, Bool, true, false, List, [], ◌∷◌, ◌++◌, Some, refl, sym, ap, ◌∙◌, subst, ◌⊎◌, inl, inr, ◌↔◌, arith, w8}
+use Rattle.std.proofs.Common.{◌≡◌, ℕ, zero, suc, ◌+◌, ◌*◌, ◌/◌, ◌%◌, ◌^◌, ◌<◌, ◌==◌, Bool, true, false, List, [], ◌∷◌, ◌++◌, Some, refl, sym, ap, ◌∙◌, subst, ◌⊎◌, inl, inr, arith, w8}
 use Rattle.std.specs.Int.{bit_at}
 use Rattle.std.specs.Int.RustNames.{bit_or}
 use Rattle.std.specs.Ordering.{nat_cmp}
@@ -15,7 +15,7 @@ use Rattle.chan_walk.specs.Argument.{Has}
 use Rattle.chan_walk.specs.Explored.{entry_number, transfer_number, way_of, place_number}
 use Rattle.chan_walk.specs.Marks.{entry_of, place_at, or_none, marks_of, HasMark}
 use Rattle.chan_walk.specs.Walk.{Agrees, Marks}
-use Rattle.chan_walk.proofs.Lists.{has_left, has_right, has_cases}
+use Rattle.chan_walk.proofs.Lists.{has_push}
 
 -- ---- places and the ways in which they are entered
 
@@ -116,18 +116,6 @@ mark_put m n q w v f e u = marks_by m n q (λ a d. ap or_none (u.2 a (apart_keys
   where
     now : marks_of n q.address ≡ bit_or (marks_of m q.address) (1 * 2 ^ way_of q % 2 ^ 8)
     now = ap or_none u.1 ∙ e ∙ ap (λ z. bit_or (marks_of m q.address) (1 * 2 ^ z % 2 ^ 8)) f
-
-pub has_push : (ps : List Place) (q p : Place) → Has (ps ++ q ∷ []) p ↔ (Has ps p ⊎ (q ≡ p))
-has_push ps q p = ((λ h. to (has_cases ps (q ∷ []) p h)), from)
-  where
-    to : Has ps p ⊎ Has (q ∷ []) p → Has ps p ⊎ (q ≡ p)
-    to (inl h) = inl h
-    to (inr (inl e)) = inr e
-    to (inr (inr h)) = absurd h
-
-    from : Has ps p ⊎ (q ≡ p) → Has (ps ++ q ∷ []) p
-    from (inl h) = has_left ps (q ∷ []) p h
-    from (inr e) = has_right ps (q ∷ []) p (inl e)
 
 pub agrees_push : (m n : BTreeMap ℕ ℕ) (q : Place) (ps qs : List Place) → qs ≡ ps ++ q ∷ [] → Agrees m ps → Marks m n q → Agrees n qs
 agrees_push m n q ps qs e a k p = ((λ h. subst (λ z. Has z p) (sym e) ((has_push ps q p).1 (to ((k p).0 h)))), λ h. (k p).1 (from ((has_push ps q p).0 (subst (λ z. Has z p) e h))))

@@ -1,7 +1,9 @@
 -- A walk finds what is reachable, and nothing else.
-use Rattle.std.proofs.Common.{◌≡◌, ℕ, zero, suc, ◌+◌, ◌<◌, ◌≤◌, List, [], ◌∷◌, ◌++◌, length, Option, Some, None, refl, sym, ap, ◌∙◌, subst, ◌⊎◌, inl, inr, ◌↔◌, arith, length-append}
+use Rattle.std.proofs.Common.{◌≡◌, ℕ, zero, suc, ◌+◌, ◌<◌, ◌≤◌, List, [], ◌∷◌, ◌++◌, length, Option, Some, None, option_map, refl, sym, ap, ◌∙◌, subst, ◌⊎◌, inl, inr, ◌↔◌, arith, length-append}
 use Rattle.std.specs.List.{slice_get}
 use Rattle.std.proofs.lemmas.Bool.{cases_lt}
+use Rattle.std.proofs.lemmas.Option.{slice_get-map}
+use Rattle.chan_walk.specs.declared.exploring.Walk.{Walk}
 use Rattle.chan_walk.specs.declared.job.Job.{Job}
 use Rattle.chan_walk.specs.declared.place.Place.{Place}
 use Rattle.chan_walk.specs.declared.successor.Next.{Next}
@@ -9,13 +11,14 @@ use Rattle.chan_walk.specs.declared.reason.Reason.{Reason}
 use Rattle.chan_walk.specs.Argument.{Has}
 use Rattle.chan_walk.specs.Explored.{AreApart, HasMoreThan}
 use Rattle.chan_walk.specs.Fault.{HasFault}
+use Rattle.chan_walk.specs.Least.{AreReached}
+use Rattle.chan_walk.specs.Look.{AreLooks, Seen, place_of, places_of_looks}
 use Rattle.chan_walk.specs.Place.{first_place}
 use Rattle.chan_walk.specs.Reachable.{IsPath, IsReachable}
 use Rattle.chan_walk.specs.Successors.{AreSuccessors, Successor}
-use Rattle.chan_walk.specs.Walk.{Follows, IsAmong, Adds, Overflows, IsWalked}
+use Rattle.chan_walk.specs.Walk.{Follows, IsAmong, Adds, HasFound, Overflows, IsWalked}
 use Rattle.chan_walk.proofs.Faults.{fault_exists, fault_unique}
-use Rattle.chan_walk.proofs.Lists.{has_left}
-use Rattle.chan_walk.proofs.Marks.{has_push}
+use Rattle.chan_walk.proofs.Lists.{has_at, has_left, has_push}
 
 -- ---- places by their index
 
@@ -23,11 +26,6 @@ slice_get-append : (ps qs : List Place) (k : ℕ) → k < length ps → slice_ge
 slice_get-append [] qs k h = absurd (omega arith)
 slice_get-append (p ∷ ps) qs zero h = refl
 slice_get-append (p ∷ ps) qs (suc k) h = slice_get-append ps qs k (omega arith)
-
-has_at : (ps : List Place) (k : ℕ) (p : Place) → slice_get ps k ≡ Some p → Has ps p
-has_at [] k p e = absurd (cc)
-has_at (q ∷ ps) zero p e = let same : q ≡ p = cc in inl same
-has_at (q ∷ ps) (suc k) p e = inr (has_at ps k p e)
 
 at_has : (ps : List Place) (p : Place) → Has ps p → (k : ℕ) × (k < length ps) × (slice_get ps k ≡ Some p)
 at_has [] p h = absurd h
@@ -129,6 +127,14 @@ pub record Leads (j : Job) (ps : List Place) (i : ℕ) (n : Next) : Type 0 where
   pub there : slice_get ps i ≡ Some from
   pub each : (q : Place) → IsAmong n q ↔ Follows j from q
 
+-- what follows the place of a look is what the look shows
+pub leads_from_look : (j : Job) (ls : List Seen) (i : ℕ) (l : Seen) (n : Next) → AreLooks j ls → slice_get ls i ≡ Some l → n ≡ l.next → Leads j (places_of_looks ls) i n
+leads_from_look j ls i l n are e same = record {
+  from = l.place;
+  there = slice_get-map place_of ls i ∙ ap (option_map place_of) e;
+  each = follows_exactly j l.place n (subst (AreSuccessors j l.place) (sym same) (are l (has_at ls i l e)).next);
+}
+
 from_next : (j : Job) (l : ℕ) (n : Next) (ps : List Place) (i : ℕ) → IsWalked j l ps i → Leads j ps i n → (q : Place) → n.next ≡ Some q → IsReachable j q
 from_next j l n ps i w s q e = reaches j s.from q (w.only s.from (has_at ps i s.from s.there)) ((s.each q).0 (inl e))
 
@@ -210,3 +216,7 @@ all_found j n ps i w h p r = go p r.0 r.1
     go : (p : Place) (qs : List Place) → IsPath j (p ∷ qs) → Has ps p
     go p [] e = subst (Has ps) (sym e) w.begins
     go q (p ∷ qs) e = step p q (go p qs e.0) (e.1, e.2)
+
+-- a walk's places are the reachable ones
+pub reached_all : (j : Job) (w : Walk) → HasFound j w → AreReached j (places_of_looks w.looks.items)
+reached_all j w f = (all_found j j.limit (places_of_looks w.looks.items) f.at f.walked f.all, f.walked.only)

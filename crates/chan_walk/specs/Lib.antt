@@ -5,6 +5,7 @@ pub mod Check
 pub mod Argument
 pub mod Onward
 pub mod Fault
+pub mod Order
 pub mod Successors
 pub mod Reachable
 pub mod Guarded
@@ -12,7 +13,9 @@ pub mod Verdict
 pub mod Machine
 pub mod Runs
 pub mod Headline
+pub mod Counted
 pub mod Alarm
+pub mod Visit
 pub mod Tables
 pub mod Limit
 pub mod Explored
@@ -21,5 +24,8 @@ pub mod Walk
 pub mod Ranges
 pub mod Least
 pub mod Lent
+pub mod Lending
 pub mod Guard
+pub mod Look
+pub mod Judged
 pub mod Answers

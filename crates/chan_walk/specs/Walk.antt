@@ -1,12 +1,14 @@
 -- A walk from place to place: which places are found, and of how many the successors are found too.
 use Rattle.std.specs.Prelude.{◌≡◌, ℕ, ◌<◌, ◌≤◌, List, [], ◌∷◌, ◌++◌, length, slice_get, ◌⊎◌, ◌↔◌, Option, Some, None}
 use Rattle.std.specs.BTreeMap.{BTreeMap}
+use Rattle.chan_walk.specs.declared.exploring.Walk.{Walk}
 use Rattle.chan_walk.specs.declared.job.Job.{Job}
 use Rattle.chan_walk.specs.declared.place.Place.{Place}
 use Rattle.chan_walk.specs.declared.successor.Next.{Next}
 use Rattle.chan_walk.specs.Argument.{Has}
 use Rattle.chan_walk.specs.Explored.{AreApart}
 use Rattle.chan_walk.specs.Fault.{IsClear}
+use Rattle.chan_walk.specs.Look.{AreLooks, places_of_looks}
 use Rattle.chan_walk.specs.Marks.{HasMark}
 use Rattle.chan_walk.specs.Place.{first_place}
 use Rattle.chan_walk.specs.Reachable.{IsReachable}
@@ -46,3 +48,11 @@ pub record IsWalked (j : Job) (n : ℕ) (ps : List Place) (i : ℕ) : Type 0 whe
   pub begins : Has ps (first_place j)
   pub only : (p : Place) → Has ps p → IsReachable j p
   pub closed : (k : ℕ) (p q : Place) → k < i → slice_get ps k ≡ Some p → Follows j p q → Has ps q
+
+-- the walk has found all reachable places, with a true look at each, and no more than the job's limit
+pub record HasFound (j : Job) (w : Walk) : Type 0 where
+  pub looks : AreLooks j w.looks.items
+  pub agrees : Agrees w.marks (places_of_looks w.looks.items)
+  pub at : ℕ
+  pub walked : IsWalked j j.limit (places_of_looks w.looks.items) at
+  pub all : length (places_of_looks w.looks.items) ≤ at

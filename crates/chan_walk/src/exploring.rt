@@ -1,17 +1,17 @@
 //! Exploring: from the first place on to the successors of each place found.
 
-ghost use Rattle.std.specs.Prelude.{◌≡◌, ℕ, ◌<◌, ◌≤◌, ◌+◌, ◌↔◌, length, IfOk, OnOk};
+ghost use Rattle.std.specs.Prelude.{◌≡◌, ◌<◌, ◌≤◌, ◌+◌, length, IfOk, OnOk};
 ghost use Rattle.chan_walk.specs.Explored.{AreReachable, HasMoreThan};
 ghost use Rattle.chan_walk.specs.Lent.{AreLent};
-ghost use Rattle.chan_walk.specs.Walk.{Adds, Agrees, Follows, IsAmong, IsWalked, Overflows};
+ghost use Rattle.chan_walk.specs.Look.{AreLooks, places_of_looks};
+ghost use Rattle.chan_walk.specs.Walk.{Adds, Agrees, HasFound, IsWalked, Overflows};
 
 use crate::error::WalkError;
 use crate::explored::Explored;
 use crate::job::Job;
-use crate::lent::Lent;
-use crate::limit::Limit;
+use crate::lent::{Lending, Lent};
+use crate::look::{Look, look_at};
 use crate::place::{Place, first_place};
-use crate::successor::{Next, successors_within};
 use crate::ways::{is_marked, mark};
 use std::alloc::Global;
 use std::collections::BTreeMap;
@@ -19,35 +19,30 @@ use std::collections::BTreeMap;
 #[cfg(test)]
 mod tests;
 
-/// The successors of a place, as the walk asks for them.
-fn onward_from(job: &Job, lent: &Lent, place: Place) -> Next
-    requires { AreLent job.now lent.now }
-    ensures { (q : Place) → IsAmong result q ↔ Follows job.now place q }
-{
-    successors_within(job, lent, place)
-}
-
-/// The places found, and the same places as marks.
+/// What is seen of the places found, in the order in which they were, and the same places as marks.
 #[derive(Drop)]
-struct Walk {
-    found: Vec<Place>,
-    marks: BTreeMap<u32, u8>,
+pub(crate) struct Walk {
+    pub(crate) looks: Vec<Look>,
+    pub(crate) marks: BTreeMap<u32, u8>,
 }
 
 impl Walk {
-    /// Adds a place, unless it is found already; `limit` is how many there may be.
-    fn add(&mut self, limit: Limit, place: Option<Place>) -> Result<(), WalkError>
-        requires { Agrees self.old.marks self.old.found.items }
-        ensures ok { OnOk result (Adds limit place self.old.found.items self.new.found.items) }
-        ensures agrees { OnOk result (Agrees self.new.marks self.new.found.items) }
-        ensures many { result ≡ Err WalkError.TooManyPlaces → Overflows limit place self.old.found.items }
+    /// Looks at a place and adds it, unless it is found already.
+    fn add(&mut self, job: &Job, lent: &Lent, place: Option<Place>) -> Result<(), WalkError>
+        requires lent { AreLent job.now lent.now }
+        requires looks { AreLooks job.now self.old.looks.items }
+        requires agrees { Agrees self.old.marks (places_of_looks self.old.looks.items) }
+        ensures ok { OnOk result (Adds job.now.limit place (places_of_looks self.old.looks.items) (places_of_looks self.new.looks.items)) }
+        ensures looks { OnOk result (AreLooks job.now self.new.looks.items) }
+        ensures agrees { OnOk result (Agrees self.new.marks (places_of_looks self.new.looks.items)) }
+        ensures many { result ≡ Err WalkError.TooManyPlaces → Overflows job.now.limit place (places_of_looks self.old.looks.items) }
     {
         if let Some(place) = place {
             if !is_marked(&self.marks, place) {
-                if self.found.len() >= limit.get() as usize {
+                if self.looks.len() >= job.limit.get() as usize {
                     return Err(WalkError::TooManyPlaces);
                 }
-                self.found.push(place)?;
+                self.looks.push(look_at(job, Lending::Merged(lent), place))?;
                 mark(&mut self.marks, place)?;
             }
         }
@@ -57,16 +52,18 @@ impl Walk {
     /// Adds the successors of the place of this index.
     fn add_successors(&mut self, job: &Job, lent: &Lent, at: usize) -> Result<(), WalkError>
         requires lent { AreLent job.now lent.now }
-        requires agrees { Agrees self.old.marks self.old.found.items }
-        requires walked { IsWalked job.now job.now.limit self.old.found.items at }
-        requires within { at < length self.old.found.items }
-        ensures ok { OnOk result (IsWalked job.now job.now.limit self.new.found.items (at + 1)) }
-        ensures agrees { OnOk result (Agrees self.new.marks self.new.found.items) }
+        requires looks { AreLooks job.now self.old.looks.items }
+        requires agrees { Agrees self.old.marks (places_of_looks self.old.looks.items) }
+        requires walked { IsWalked job.now job.now.limit (places_of_looks self.old.looks.items) at }
+        requires within { at < length self.old.looks.items }
+        ensures ok { OnOk result (IsWalked job.now job.now.limit (places_of_looks self.new.looks.items) (at + 1)) }
+        ensures looks { OnOk result (AreLooks job.now self.new.looks.items) }
+        ensures agrees { OnOk result (Agrees self.new.marks (places_of_looks self.new.looks.items)) }
         ensures many { result ≡ Err WalkError.TooManyPlaces → HasMoreThan job.now job.now.limit }
     {
-        let next = onward_from(job, lent, self.found[at]);
-        self.add(job.limit, next.next)?;
-        self.add(job.limit, next.skip)?;
+        let next = self.looks[at].next();
+        self.add(job, lent, next.next)?;
+        self.add(job, lent, next.skip)?;
         Ok(())
     }
 }
@@ -83,26 +80,25 @@ pub fn explore(alloc: Global, job: &Job) -> Result<Explored, WalkError>
     ensures few { IfOk result (λ places. length places ≤ job.now.limit) }
     ensures many { result ≡ Err WalkError.TooManyPlaces → HasMoreThan job.now job.now.limit }
 {
-    let lent = Lent::new(alloc, job)?;
-    explore_within(alloc, job, &lent)
+    let walk = walk_all(alloc, job)?;
+    Explored::from_marks(alloc, walk.marks)
 }
 
-/// The same places, by the areas lent as they are kept for searching.
-pub(crate) fn explore_within(alloc: Global, job: &Job, lent: &Lent) -> Result<Explored, WalkError>
-    requires { AreLent job.now lent.now }
-    ensures ok { IfOk result (AreReachable job.now) }
-    ensures few { IfOk result (λ places. length places ≤ job.now.limit) }
+/// The walk over all reachable places, each of which is looked at once.
+pub(crate) fn walk_all(alloc: Global, job: &Job) -> Result<Walk, WalkError>
+    ensures found { IfOk result (HasFound job.now) }
     ensures many { result ≡ Err WalkError.TooManyPlaces → HasMoreThan job.now job.now.limit }
 {
+    let lent = Lent::new(alloc, job)?;
     let mut walk = Walk {
-        found: Vec::new(alloc),
+        looks: Vec::new(alloc),
         marks: BTreeMap::new(alloc),
     };
-    walk.add(job.limit, Some(first_place(job)))?;
+    walk.add(job, &lent, Some(first_place(job)))?;
     let mut at = 0;
-    while at < walk.found.len() {
-        walk.add_successors(job, lent, at)?;
+    while at < walk.looks.len() {
+        walk.add_successors(job, &lent, at)?;
         at += 1;
     }
-    Explored::from_marks(alloc, walk.marks)
+    Ok(walk)
 }

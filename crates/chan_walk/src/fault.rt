@@ -1,91 +1,128 @@
 //! The own fault of a place: what is wrong with its CCW as it stands before the program's start.
 
-ghost use Rattle.std.specs.Prelude.{◌≡◌, ◌&&◌, ◌||◌, not, false, None, Some, IfOk, IfErr};
-ghost use Rattle.ccw_core.specs.Ccw.{ccw, is_transfer, is_invalid as invalid};
+ghost use Rattle.std.specs.Prelude.{◌≡◌, ◌+◌, ◌≤◌, ◌&&◌, ℕ, List, not, true, length};
+ghost use Rattle.ccw_core.specs.Areas.{covered};
+ghost use Rattle.ccw_core.specs.Ccw.{is_invalid as invalid};
 ghost use Rattle.ccw_core.specs.Held.{bytes_held};
+ghost use Rattle.ccw_core.specs.Storage.{ccw_at};
+ghost use Rattle.chan_walk.specs.Argument.{HasArgument};
 ghost use Rattle.chan_walk.specs.Check as checks;
 ghost use Rattle.chan_walk.specs.Fault as fault;
-ghost use Rattle.chan_walk.specs.Fault.{HasFault, command_faults};
-ghost use Rattle.chan_walk.specs.Job.{fetch_of, store_of};
-ghost use Rattle.chan_walk.specs.Lent.{AreLent};
-ghost use Rattle.ccw_core.specs.Areas.{covered};
+ghost use Rattle.chan_walk.specs.Fault.{HasFault, command_faults, lent_faults};
+ghost use Rattle.chan_walk.specs.Job.{fetch_of, storage_of, store_of};
+ghost use Rattle.chan_walk.specs.Lending.{Lends};
 ghost use Rattle.chan_walk.specs.Place.{is_fresh};
-ghost use Rattle.chan_walk.specs.Tables.{HasSeekFault, argument_faults, lent_reason};
+ghost use Rattle.chan_walk.specs.Tables.{HasSeekFault, argument_faults};
+ghost use Rattle.chan_walk.specs.Visit.{IsBegun, IsVisit};
 
 use crate::job::Job;
-use crate::lent::Lent;
+use crate::lent::Lending;
+use crate::look::look_at;
 use crate::place::Place;
 use crate::reason::Reason;
-use crate::seek::seek_argument;
-use crate::word::{
-    begins_recalibrate, begins_seek, fetches, has_data_in, is_counted, is_formed, is_invalid,
-    stores,
-};
-use ccw_core::{Ccw, Storage, covers};
-use ckd_core::{Track, allowed, lookup};
+use crate::set_mask::mask_fault;
+use crate::visit::Visit;
+use crate::word::{has_data_in, is_counted, is_formed, is_invalid};
+use ccw_core::Storage;
+use ckd_core::{Track, allowed};
 
-/// The CCW at a place, or the program check that the channel meets there.
-pub(crate) fn checked_word(storage: &Storage, place: Place) -> Result<Ccw, Reason>
-    ensures passed { IfOk result (λ c. checks.check (bytes_held storage.now) place ≡ None) }
-    ensures word { IfOk result (λ c. c ≡ ccw (bytes_held storage.now) place.address) }
-    ensures checked { IfErr result (λ r. checks.check (bytes_held storage.now) place ≡ Some r) }
+/// The program check that the channel meets at a place where a CCW stands.
+fn checked(storage: &Storage, visit: &Visit) -> Option<Reason>
+    requires { IsVisit (bytes_held storage.now) visit.now }
+    ensures { result ≡ checks.check (bytes_held storage.now) visit.now.place }
 {
-    if place.address % 8 != 0 {
-        return Err(Reason::Misaligned);
-    }
-    let Some(word) = storage.ccw_at(place.address) else {
-        return Err(Reason::OutsideStorage);
-    };
+    let word = &visit.word;
     if word.is_transfer() {
-        if place.after_transfer {
-            return Err(Reason::TransferNotAllowed);
-        }
-        return Ok(word);
+        return visit
+            .place
+            .after_transfer
+            .then_some(Reason::TransferNotAllowed);
     }
-    if begins_invalid(place, &word) {
-        return Err(Reason::InvalidCode);
+    if begins_invalid(visit) {
+        return Some(Reason::InvalidCode);
     }
-    if !is_formed(&word) {
-        return Err(Reason::BadFormat);
+    if !is_formed(word) {
+        return Some(Reason::BadFormat);
     }
-    if !is_counted(&word) {
-        return Err(Reason::ZeroCount);
+    if !is_counted(word) {
+        return Some(Reason::ZeroCount);
     }
-    if !has_data_in(storage, &word) {
-        return Err(Reason::DataOutside);
+    if !has_data_in(storage, word) {
+        return Some(Reason::DataOutside);
     }
-    Ok(word)
+    None
 }
 
 /// An operation begins, and its command code is no command's.
-fn begins_invalid(place: Place, word: &Ccw) -> bool
-    ensures { result ≡ (is_fresh place.entered && invalid word.now) }
+fn begins_invalid(visit: &Visit) -> bool
+    ensures { result ≡ (is_fresh visit.now.place.entered && invalid visit.now.word) }
 {
-    place.entered.is_fresh() && is_invalid(word)
+    visit.place.entered.is_fresh() && is_invalid(&visit.word)
 }
 
 /// What is wrong with the command that begins at a place: not in the table, or inhibited.
-fn command_fault(job: &Job, place: Place, word: &Ccw) -> Option<Reason>
-    ensures { result ≡ checks.first_reason (command_faults job.now place word.now) }
+fn command_fault(job: &Job, visit: &Visit) -> Option<Reason>
+    requires { IsBegun visit.now }
+    ensures { result ≡ checks.first_reason (command_faults job.now visit.now.place visit.now.word) }
 {
-    if !place.entered.is_fresh() {
+    if !visit.place.entered.is_fresh() {
         return None;
     }
-    match lookup(word.command()) {
+    match visit.command {
         None => Some(Reason::NotInTable),
         Some(command) if job.mask.inhibits(command) => Some(Reason::Inhibited),
         Some(_) => None,
     }
 }
 
-/// What is wrong with the seek that begins at a place: no whole argument, or one that isn't allowed.
-fn seek_fault(job: &Job, place: Place, word: &Ccw) -> Option<Reason>
-    ensures { HasSeekFault job.now place word.now result }
+/// The CCW stores outside the areas lent for storing.
+fn stores_unlent(job: &Job, lending: Lending, visit: &Visit) -> bool
+    requires begun { IsBegun visit.now }
+    requires lends { Lends job.now lending }
+    requires inside { visit.now.word.address + visit.now.word.count ≤ length (storage_of job.now) }
+    ensures { result ≡ (fault.stores visit.now.place visit.now.word && not (covered (store_of job.now) visit.now.word.address visit.now.word.count)) }
 {
-    if begins_seek(place, word) {
-        return argument_fault(job, seek_argument(&job.storage, place.address));
+    let (start, len) = (visit.word.address(), u32::from(visit.word.count()));
+    visit.stores() && !lending.stores_in(job, start, len)
+}
+
+/// The CCW fetches outside the areas lent for fetching.
+fn fetches_unlent(job: &Job, lending: Lending, visit: &Visit) -> bool
+    requires begun { IsBegun visit.now }
+    requires lends { Lends job.now lending }
+    requires inside { visit.now.word.address + visit.now.word.count ≤ length (storage_of job.now) }
+    ensures { result ≡ (fault.fetches visit.now.place visit.now.word && not (covered (fetch_of job.now) visit.now.word.address visit.now.word.count)) }
+{
+    let (start, len) = (visit.word.address(), u32::from(visit.word.count()));
+    visit.fetches() && !lending.fetches_in(job, start, len)
+}
+
+/// What is wrong with the areas lent to a place whose data range lies in storage.
+fn lent_fault(job: &Job, lending: Lending, visit: &Visit) -> Option<Reason>
+    requires begun { IsBegun visit.now }
+    requires lends { Lends job.now lending }
+    requires inside { visit.now.word.address + visit.now.word.count ≤ length (storage_of job.now) }
+    ensures { result ≡ checks.first_reason (lent_faults job.now visit.now.place visit.now.word) }
+{
+    if stores_unlent(job, lending, visit) {
+        Some(Reason::StoreNotLent)
+    } else if fetches_unlent(job, lending, visit) {
+        Some(Reason::FetchNotLent)
+    } else {
+        None
     }
-    if begins_recalibrate(place, word) && !job.extents.has(0) {
+}
+
+/// What is wrong with the seek that begins at a place: no whole argument, or one that isn't allowed.
+fn seek_fault(job: &Job, visit: &Visit, argument: Option<[u8; 6]>) -> Option<Reason>
+    requires begun { IsBegun visit.now }
+    requires argument { fault.begins_seek visit.now.place visit.now.word ≡ true → HasArgument (storage_of job.now) visit.now.place.address argument }
+    ensures { HasSeekFault job.now visit.now.place visit.now.word result }
+{
+    if visit.begins_seek() {
+        return argument_fault(job, argument);
+    }
+    if visit.begins_recalibrate() && !job.extents.has(0) {
         return Some(Reason::SeekOutside);
     }
     None
@@ -104,76 +141,48 @@ fn argument_fault(job: &Job, argument: Option<[u8; 6]>) -> Option<Reason>
     }
 }
 
-/// What is wrong with the areas lent to a place.
-fn lent_fault(stores_lent: bool, fetches_lent: bool) -> Option<Reason>
-    ensures { result ≡ lent_reason stores_lent fetches_lent }
+/// The own fault of a place where a CCW stands; where a seek begins there, `argument` is the seek's.
+pub(crate) fn own_fault(
+    job: &Job,
+    lending: Lending,
+    visit: &Visit,
+    argument: Option<[u8; 6]>,
+) -> Option<Reason>
+    requires visit { IsVisit (bytes_held job.now.storage) visit.now }
+    requires lends { Lends job.now lending }
+    requires argument { fault.begins_seek visit.now.place visit.now.word ≡ true → HasArgument (storage_of job.now) visit.now.place.address argument }
+    ensures { HasFault job.now visit.now.place result }
 {
-    if !stores_lent {
-        Some(Reason::StoreNotLent)
-    } else if !fetches_lent {
-        Some(Reason::FetchNotLent)
+    if let Some(reason) = checked(&job.storage, visit) {
+        return Some(reason);
+    }
+    if visit.word.is_transfer() {
+        return None;
+    }
+    command_fault(job, visit)
+        .or(lent_fault(job, lending, visit))
+        .or(seek_fault(job, visit, argument))
+        .or(mask_fault(job, visit))
+}
+
+/// The own fault of a place where no CCW stands.
+pub(crate) fn fault_without_ccw(place: Place) -> Reason
+    ensures { (s : List ℕ) → ccw_at s place.address ≡ None → checks.check s place ≡ Some result }
+{
+    if place.address % 8 == 0 {
+        Reason::OutsideStorage
     } else {
-        None
+        Reason::Misaligned
     }
 }
 
-/// The own fault of a place whose CCW passed the channel's checks and is no transfer, by whether it
-/// stores, and fetches, only what was lent.
-fn own_fault(
-    job: &Job,
-    place: Place,
-    word: &Ccw,
-    stores_lent: bool,
-    fetches_lent: bool,
-) -> Option<Reason>
-    requires passed { checks.check (bytes_held job.now.storage) place ≡ None }
-    requires word { word.now ≡ ccw (bytes_held job.now.storage) place.address }
-    requires other { is_transfer word.now ≡ false }
-    requires stores_lent { stores_lent ≡ (not (fault.stores place word.now) || covered (store_of job.now) word.now.address word.now.count) }
-    requires fetches_lent { fetches_lent ≡ (not (fault.fetches place word.now) || covered (fetch_of job.now) word.now.address word.now.count) }
-    ensures { HasFault job.now place result }
-{
-    command_fault(job, place, word)
-        .or(lent_fault(stores_lent, fetches_lent))
-        .or(seek_fault(job, place, word))
-}
-
-/// The own fault of a place, one of the reasons 1 to 13: the first that applies; `None` where there
-/// is none. The place may be any, reached or not.
+/// The own fault of a place, one of the reasons 1 to 13 and 16: the first that applies; `None` where
+/// there is none. The place may be any, reached or not.
 ///
 /// It takes no memory. The cost is that of `covers` over the areas lent, at most the square of their
 /// number.
 pub fn fault_at(job: &Job, place: Place) -> Option<Reason>
     ensures { HasFault job.now place result }
 {
-    let word = match checked_word(&job.storage, place) {
-        Ok(word) => word,
-        Err(reason) => return Some(reason),
-    };
-    if word.is_transfer() {
-        return None;
-    }
-    let (start, len) = (word.address(), u32::from(word.count()));
-    let stores_lent = !stores(place, &word) || covers(job.store, start, len);
-    let fetches_lent = !fetches(place, &word) || covers(job.fetch, start, len);
-    own_fault(job, place, &word, stores_lent, fetches_lent)
-}
-
-/// The same fault, by the areas lent as they are kept for searching: the cost is that of a binary
-/// search.
-pub(crate) fn fault_within(job: &Job, lent: &Lent, place: Place) -> Option<Reason>
-    requires { AreLent job.now lent.now }
-    ensures { HasFault job.now place result }
-{
-    let word = match checked_word(&job.storage, place) {
-        Ok(word) => word,
-        Err(reason) => return Some(reason),
-    };
-    if word.is_transfer() {
-        return None;
-    }
-    let (start, len) = (word.address(), u32::from(word.count()));
-    let stores_lent = !stores(place, &word) || lent.stores_in(start, len);
-    let fetches_lent = !fetches(place, &word) || lent.fetches_in(start, len);
-    own_fault(job, place, &word, stores_lent, fetches_lent)
+    look_at(job, Lending::Given, place).fault()
 }

@@ -1,24 +1,20 @@
 //! The guard: which bytes of storage a program may not change while it runs.
 
-ghost use Rattle.std.specs.Prelude.{◌≡◌, ◌<◌, ◌↔◌, ◌^◌, ◌++◌, ℕ, map, IfOk, OnOk, IfSome, IfNone, IsTrue, slice_index, true, false};
+ghost use Rattle.std.specs.Prelude.{◌≡◌, ◌<◌, ◌↔◌, ◌^◌, ◌++◌, ℕ, map, IfOk, OnOk, IsTrue};
 ghost use Rattle.std.specs.List.{All};
-ghost use Rattle.chan_walk.specs.Argument.{Has};
 ghost use Rattle.chan_walk.specs.Explored.{AreReachable};
-ghost use Rattle.chan_walk.specs.Fault as fault;
-ghost use Rattle.chan_walk.specs.Fault.{IsClear};
 ghost use Rattle.chan_walk.specs.Guard.{AddsBytes, GuardAreas, Guards, IsArgumentByteOf, IsCcwByteOf, byte_area};
-ghost use Rattle.chan_walk.specs.Lent.{AreLent};
+ghost use Rattle.chan_walk.specs.Least.{AreReached};
+ghost use Rattle.chan_walk.specs.Look.{AreLooks, IsLook, places_of_looks};
 ghost use Rattle.chan_walk.specs.Ranges.{EndsBelow, IsMerged, Meets};
+ghost use Rattle.chan_walk.specs.declared.job.Job.{Job};
 
 use crate::explored::Explored;
-use crate::fault::fault_within;
 use crate::job::Job;
-use crate::lent::Lent;
-use crate::place::Place;
+use crate::lent::{Lending, Lent};
+use crate::look::{Look, look_at};
 use crate::ranges::{meets, merge};
-use crate::seek::argument_addresses;
-use crate::word::begins_seek;
-use ccw_core::{Area, Ccw};
+use ccw_core::Area;
 use std::alloc::{AllocError, Global};
 use std::marker::Model;
 
@@ -39,32 +35,30 @@ impl Model for Guard {
 }
 
 impl Guard {
-    /// The guard of a job whose reachable places are these. The cost is that of sorting an area for each
-    /// place, six for each seek, and the areas lent.
+    /// The guard of a job whose reachable places are these. Each of them is looked at once. The cost is
+    /// that of sorting an area for each place, six for each seek, and the areas lent.
     pub fn new(alloc: Global, job: &Job, explored: &Explored) -> Result<Guard, AllocError>
         requires { AreReachable job.now explored.now }
         ensures { IfOk result (Guards job.now) }
     {
         let lent = Lent::new(alloc, job)?;
-        Guard::within(alloc, job, &lent, explored)
+        let mut looks = Vec::new(alloc);
+        for place in explored.places() {
+            looks.push(look_at(job, Lending::Merged(&lent), place))?;
+        }
+        Guard::of(alloc, looks.as_slice())
     }
 
-    /// The same guard, by the areas lent as they are kept for searching.
-    pub(crate) fn within(
-        alloc: Global,
-        job: &Job,
-        lent: &Lent,
-        explored: &Explored,
-    ) -> Result<Guard, AllocError>
-        requires lent { AreLent job.now lent.now }
-        requires reachable { AreReachable job.now explored.now }
-        ensures { IfOk result (Guards job.now) }
+    /// The guard of a job whose reachable places are those that were looked at.
+    pub(crate) fn of(alloc: Global, looks: &[Look]) -> Result<Guard, AllocError>
+        requires { (j : Job) × AreLooks j looks.now }
+        ensures { IfOk result (λ g. (j : Job) → AreLooks j looks.now → AreReached j (places_of_looks looks.now) → Guards j g) }
     {
         let mut ccws = Vec::new(alloc);
         let mut arguments = Vec::new(alloc);
-        for place in explored.places() {
-            add_ccw(&mut ccws, job, place)?;
-            add_argument(&mut arguments, job, lent, place)?;
+        for look in looks {
+            add_ccw(&mut ccws, look)?;
+            add_argument(&mut arguments, look)?;
         }
         let ccws = merge(alloc, ccws)?;
         let arguments = merge(alloc, arguments)?;
@@ -106,36 +100,29 @@ impl Guard {
 }
 
 /// Adds the bytes of the CCW at a place, where one stands there.
-fn add_ccw(areas: &mut Vec<Area>, job: &Job, place: Place) -> Result<(), AllocError>
-    requires { All (EndsBelow (2 ^ 32)) areas.old.items }
+fn add_ccw(areas: &mut Vec<Area>, look: &Look) -> Result<(), AllocError>
+    requires low { All (EndsBelow (2 ^ 32)) areas.old.items }
+    requires look { (j : Job) × IsLook j look.now }
     ensures low { OnOk result (All (EndsBelow (2 ^ 32)) areas.new.items) }
-    ensures bytes { OnOk result (AddsBytes areas.old.items areas.new.items (IsCcwByteOf job.now place)) }
+    ensures bytes { OnOk result ((j : Job) → IsLook j look.now → AddsBytes areas.old.items areas.new.items (IsCcwByteOf j look.now.place)) }
 {
-    if job.storage.ccw_at(place.address).is_some() {
+    if look.ccw().is_some() {
         areas.push(Area {
-            start: place.address,
+            start: look.place().address,
             len: 8,
         })?;
     }
     Ok(())
 }
 
-/// Adds the bytes of the argument of the seek at a place, where one begins there and has no own fault.
-fn add_argument(
-    areas: &mut Vec<Area>,
-    job: &Job,
-    lent: &Lent,
-    place: Place,
-) -> Result<(), AllocError>
+/// Adds the guarded bytes of the argument that is taken at a place.
+fn add_argument(areas: &mut Vec<Area>, look: &Look) -> Result<(), AllocError>
     requires low { All (EndsBelow (2 ^ 32)) areas.old.items }
-    requires lent { AreLent job.now lent.now }
+    requires look { (j : Job) × IsLook j look.now }
     ensures low { OnOk result (All (EndsBelow (2 ^ 32)) areas.new.items) }
-    ensures bytes { OnOk result (AddsBytes areas.old.items areas.new.items (IsArgumentByteOf job.now place)) }
+    ensures bytes { OnOk result ((j : Job) → IsLook j look.now → AddsBytes areas.old.items areas.new.items (IsArgumentByteOf j look.now.place)) }
 {
-    if let Some(addresses) = guarded_argument(job, lent, place) {
-        add_bytes(areas, &addresses)?;
-    }
-    Ok(())
+    add_bytes(areas, look.argument())
 }
 
 /// Adds an area of one byte for each address.
@@ -149,30 +136,6 @@ fn add_bytes(areas: &mut Vec<Area>, addresses: &[u32]) -> Result<(), AllocError>
         })?;
     }
     Ok(())
-}
-
-/// The addresses of the argument of the seek at a place, where one begins there and has no own fault.
-fn guarded_argument(job: &Job, lent: &Lent, place: Place) -> Option<[u32; 6]>
-    requires { AreLent job.now lent.now }
-    ensures found { IfSome result (λ x. (b : ℕ) → Has x b ↔ IsArgumentByteOf job.now place b) }
-    ensures inside { IfSome result (λ x. (i : ℕ) → slice_index x i < 2 ^ 24) }
-    ensures none { IfNone result ((b : ℕ) → IsArgumentByteOf job.now place b → ⊥) }
-{
-    let word = job.storage.ccw_at(place.address)?;
-    if !begins_clear_seek(job, lent, place, &word) {
-        return None;
-    }
-    argument_addresses(&job.storage, place.address)
-}
-
-/// One of the three seeks begins at the place, and the place has no own fault.
-fn begins_clear_seek(job: &Job, lent: &Lent, place: Place, word: &Ccw) -> bool
-    requires { AreLent job.now lent.now }
-    ensures seek { result ≡ true → fault.begins_seek place word.now ≡ true }
-    ensures clear { result ≡ true → IsClear job.now place }
-    ensures other { result ≡ false → fault.begins_seek place word.now ≡ true → IsClear job.now place → ⊥ }
-{
-    begins_seek(place, word) && fault_within(job, lent, place).is_none()
 }
 
 #[cfg(test)]

@@ -1,27 +1,30 @@
 //! The verdict: the first offending CCW, or yes.
 
-ghost use Rattle.std.specs.Prelude.{◌≡◌, false, true, IfOk, OnOk};
+ghost use Rattle.std.specs.Prelude.{◌≡◌, ◌≤◌, ◌↔◌, false, true, length, map, IfOk, OnOk};
+ghost use Rattle.std.specs.List.Sorted.{IsStrictlyIncreasing};
 ghost use Rattle.chan_walk.specs.Answers.{CoversEveryRun, HasAtMost, IsShown, MissesNoYes};
-ghost use Rattle.chan_walk.specs.Explored.{HasMoreThan};
-ghost use Rattle.chan_walk.specs.Fault.{IsClear};
+ghost use Rattle.chan_walk.specs.Argument.{Has};
+ghost use Rattle.chan_walk.specs.Explored.{AreApart, AreReachable, HasMoreThan, place_number};
 ghost use Rattle.chan_walk.specs.Guard.{Guards};
+ghost use Rattle.chan_walk.specs.Judged.{JudgedJob};
 ghost use Rattle.chan_walk.specs.Least.{AreReached, IsFirst, IsLeast, IsLesser, IsOwn};
-ghost use Rattle.chan_walk.specs.Lent.{AreLent};
+ghost use Rattle.chan_walk.specs.Look.{AreLooks, IsLook, Seen, places_of_looks};
 ghost use Rattle.chan_walk.specs.Reachable.{IsReachable};
+ghost use Rattle.chan_walk.specs.Fault.{IsClear};
 ghost use Rattle.chan_walk.specs.Verdict.{AreClear, Changes, ComesFirst, IsVerdict};
+ghost use Rattle.chan_walk.specs.declared.job.Job.{Job};
 
 use crate::error::WalkError;
-use crate::exploring::explore_within;
-use crate::fault::fault_within;
+use crate::exploring::walk_all;
 use crate::guard::Guard;
 use crate::job::Job;
 use crate::laws::{no_false_alarm, safe_is_yes, yes_is_safe};
-use crate::lent::Lent;
-use crate::place::Place;
+use crate::look::Look;
+use crate::place::{Place, order_is_by_number};
 use crate::reason::Reason;
 use crate::verdict::Verdict;
-use crate::word::stores;
-use std::alloc::Global;
+use std::alloc::{AllocError, Global};
+use std::marker::Model;
 
 #[cfg(test)]
 mod tests;
@@ -71,30 +74,26 @@ fn comes_first(one: Finding, other: Finding) -> bool
         || (one.address == other.address && one.reason.number() <= other.reason.number())
 }
 
-/// The least pair of address and own fault among the reachable places.
-fn least_fault(job: &Job, lent: &Lent, places: &[Place]) -> Option<Finding>
-    requires lent { AreLent job.now lent.now }
-    requires reached { AreReached job.now places.now }
-    ensures { IsLeast (IsOwn job.now) (IsReachable job.now) result }
+/// The least pair of address and own fault among the places looked at.
+fn least_fault(looks: &[Look]) -> Option<Finding>
+    ensures { (j : Job) → AreLooks j looks.now → AreReached j (places_of_looks looks.now) → IsLeast (IsOwn j) (IsReachable j) result }
 {
     let mut best = None;
-    for place in places {
-        best = lesser(best, *place, fault_within(job, lent, *place));
+    for look in looks {
+        best = lesser(best, look.place(), look.fault());
     }
     best
 }
 
 /// What a place without an own fault changes that is guarded.
-fn change_at(job: &Job, guard: &Guard, place: Place) -> Option<Reason>
-    requires guards { Guards job.now guard.now }
-    requires clear { IsClear job.now place }
-    ensures { IsFirst (Changes job.now) place result }
+fn change_at(guard: &Guard, look: &Look) -> Option<Reason>
+    ensures { (j : Job) → IsLook j look.now → Guards j guard.now → IsClear j look.now.place → IsFirst (Changes j) look.now.place result }
 {
-    let word = job.storage.ccw_at(place.address)?;
-    if !stores(place, &word) {
+    let ccw = look.ccw()?;
+    if !look.stores() {
         return None;
     }
-    let (start, len) = (word.address(), u32::from(word.count()));
+    let (start, len) = (ccw.address(), u32::from(ccw.count()));
     if guard.meets_ccw(start, len) {
         return Some(Reason::ChangesCcw);
     }
@@ -104,46 +103,119 @@ fn change_at(job: &Job, guard: &Guard, place: Place) -> Option<Reason>
     None
 }
 
-/// The least pair of address and change among the reachable places, none of which has an own fault.
-fn least_change(job: &Job, guard: &Guard, places: &[Place]) -> Option<Finding>
-    requires guards { Guards job.now guard.now }
-    requires reached { AreReached job.now places.now }
-    requires clear { AreClear job.now }
-    ensures { IsLeast (Changes job.now) (IsReachable job.now) result }
+/// The least pair of address and change among the places looked at, none of which has an own fault.
+fn least_change(guard: &Guard, looks: &[Look]) -> Option<Finding>
+    ensures { (j : Job) → AreLooks j looks.now → AreReached j (places_of_looks looks.now) → Guards j guard.now → AreClear j → IsLeast (Changes j) (IsReachable j) result }
 {
     let mut best = None;
-    for place in places {
-        best = lesser(best, *place, change_at(job, guard, *place));
+    for look in looks {
+        best = lesser(best, look.place(), change_at(guard, look));
     }
     best
 }
 
-/// The verdict, by its definition alone.
-fn judge(alloc: Global, job: &Job) -> Result<Verdict, WalkError>
-    ensures verdict { IfOk result (IsVerdict job.now) }
-    ensures few { OnOk result (HasAtMost job.now job.now.limit) }
-    ensures many { result ≡ Err WalkError.TooManyPlaces → HasMoreThan job.now job.now.limit }
+/// The verdict on a job whose reachable places are those that were looked at.
+fn verdict_of(alloc: Global, looks: &[Look]) -> Result<Verdict, AllocError>
+    requires { (j : Job) × AreLooks j looks.now }
+    ensures { IfOk result (λ v. (j : Job) → AreLooks j looks.now → AreReached j (places_of_looks looks.now) → IsVerdict j v) }
 {
-    let lent = Lent::new(alloc, job)?;
-    let explored = explore_within(alloc, job, &lent)?;
-    if let Some(found) = least_fault(job, &lent, explored.as_slice()) {
+    if let Some(found) = least_fault(looks) {
         return Ok(found.verdict());
     }
-    let guard = Guard::within(alloc, job, &lent, &explored)?;
-    match least_change(job, &guard, explored.as_slice()) {
+    let guard = Guard::of(alloc, looks)?;
+    match least_change(&guard, looks) {
         Some(change) => Ok(change.verdict()),
         None => Ok(Verdict::Yes),
     }
+}
+
+/// The same looks, in order of place.
+fn in_order(looks: Vec<Look>) -> Vec<Look>
+    requires { AreApart (places_of_looks looks.items) }
+    ensures ordered { IsStrictlyIncreasing (map place_number (places_of_looks result.items)) }
+    ensures same { (l : Seen) → Has result.items l ↔ Has looks.items l }
+    ensures number { length result.items ≡ length looks.items }
+{
+    order_is_by_number();
+    let mut looks = looks;
+    looks.sort_unstable_by_key(|look| look.place());
+    looks
+}
+
+/// A job's verdict, with what was seen of the places that its program can come to.
+#[derive(Debug, Drop)]
+pub struct Judged {
+    verdict: Verdict,
+    looks: Vec<Look>,
+}
+
+impl Model for Judged {
+    ghost use Rattle.chan_walk.specs.Judged.{JudgedJob};
+
+    ghost Value = { JudgedJob };
+
+    ghost view = { λ d. record { verdict = d.verdict; looks = d.looks.items } };
+}
+
+impl Judged {
+    /// Whether the program may run.
+    pub fn verdict(&self) -> Verdict
+        ensures { result ≡ self.now.verdict }
+    {
+        self.verdict
+    }
+
+    /// What was seen of the places, in order of place.
+    pub fn looks(&self) -> &[Look]
+        ensures { result.now ≡ self.now.looks }
+    {
+        self.looks.as_slice()
+    }
+}
+
+/// Judges a job: whether its program may run, and what is seen of the places that it can come to.
+///
+/// The verdict, the errors and the cost are those of `verify`. Each reachable place is looked at
+/// once; `looks` has one look at each, in order of place.
+pub fn judge(alloc: Global, job: &Job) -> Result<Judged, WalkError>
+    ensures verdict { IfOk result (λ d. IsVerdict job.now d.verdict) }
+
+    // A yes covers every run, a no is no false alarm, and no safe and steady job is refused.
+    ensures safe { IfOk result (λ d. CoversEveryRun job.now d.verdict) }
+    ensures shown { IfOk result (λ d. IsShown job.now d.verdict) }
+    ensures exact { IfOk result (λ d. MissesNoYes job.now d.verdict) }
+
+    // The places are the reachable ones, and what each look says is so.
+    ensures places { IfOk result (λ d. AreReachable job.now (places_of_looks d.looks)) }
+    ensures looks { IfOk result (λ d. AreLooks job.now d.looks) }
+
+    // There is an answer only up to the limit, and too many places only above it.
+    ensures few { IfOk result (λ d. length d.looks ≤ job.now.limit) }
+    ensures many { result ≡ Err WalkError.TooManyPlaces → HasMoreThan job.now job.now.limit }
+{
+    yes_is_safe();
+    no_false_alarm();
+    safe_is_yes();
+    // `pairs` tells that the extents are in order and on the device, and `byte` that the mask is a
+    // file mask, which the laws ask for.
+    let _extents = job.extents.pairs();
+    let _mask = job.mask.byte();
+    let looks = walk_all(alloc, job)?.looks;
+    let verdict = verdict_of(alloc, looks.as_slice())?;
+    Ok(Judged {
+        verdict,
+        looks: in_order(looks),
+    })
 }
 
 /// Whether the program may run.
 ///
 /// `Yes` means that no reachable place offends; then whatever the disk holds, however
 /// searches and errors fall and after any number of steps, the channel meets no program check, moves
-/// data only through areas lent for it, changes no CCW or seek argument that any run uses, seeks
-/// only inside the extents and issues no inhibited command. `No` names the first offending CCW, by
-/// address, and the first reason there, by number; some run shows it. A job whose every run is safe,
-/// and which is steady, is never answered `No`.
+/// data only through areas lent for it, changes no CCW, seek argument or mask byte that any run uses,
+/// seeks only inside the extents, sets no weaker mask and issues no inhibited command. `No` names the
+/// first offending CCW, by address, and the first reason there, by number; some run shows it. A job
+/// whose every run is safe, and which is steady, is never answered `No`.
 ///
 /// `TooManyPlaces` comes exactly where more places are reachable than the job's limit and no growth
 /// was refused, also where one of them offends. `Memory` comes where a growth was refused.
@@ -161,10 +233,6 @@ pub fn verify(alloc: Global, job: &Job) -> Result<Verdict, WalkError>
     ensures few { OnOk result (HasAtMost job.now job.now.limit) }
     ensures many { result ≡ Err WalkError.TooManyPlaces → HasMoreThan job.now job.now.limit }
 {
-    yes_is_safe();
-    no_false_alarm();
-    safe_is_yes();
-    // `pairs` tells that the extents are in order and on the device, which the last two laws ask for.
-    let _extents = job.extents.pairs();
-    judge(alloc, job)
+    let judged = judge(alloc, job)?;
+    Ok(judged.verdict())
 }

@@ -1,14 +1,15 @@
 //! The areas lent to a program, kept so that a range is looked up by binary search.
 
-ghost use Rattle.std.specs.Prelude.{◌≡◌, map, IfOk};
+ghost use Rattle.std.specs.Prelude.{◌≡◌, ◌+◌, ◌≤◌, map, length, IfOk};
 ghost use Rattle.ccw_core.specs.Areas.{covered};
+ghost use Rattle.chan_walk.specs.Job.{fetch_of, storage_of, store_of};
 ghost use Rattle.chan_walk.specs.Lent as lent;
-ghost use Rattle.chan_walk.specs.Lent.{AreLent, LentAreas};
-ghost use Rattle.chan_walk.specs.Ranges.{IsMerged};
+ghost use Rattle.chan_walk.specs.Lent.{AreLent};
+ghost use Rattle.chan_walk.specs.Lending.{Lends};
 
 use crate::job::Job;
 use crate::ranges::{holds, merge};
-use ccw_core::Area;
+use ccw_core::{Area, covers};
 use std::alloc::{AllocError, Global};
 use std::marker::Model;
 
@@ -21,6 +22,9 @@ pub(crate) struct Lent {
 }
 
 impl Model for Lent {
+    ghost use Rattle.chan_walk.specs.Lent.{LentAreas};
+    ghost use Rattle.chan_walk.specs.Ranges.{IsMerged};
+
     ghost Value = { LentAreas };
 
     ghost view = { λ l. record { fetch = l.fetch.items; store = l.store.items } };
@@ -51,6 +55,41 @@ impl Lent {
         ensures { result ≡ covered self.now.store start len }
     {
         holds(self.store.as_slice(), start, len)
+    }
+}
+
+/// How the areas lent to a job are asked.
+#[derive(Clone, Copy)]
+pub(crate) enum Lending<'a> {
+    /// As they were given: each range goes through them.
+    Given,
+    /// Merged: a range is looked up by binary search.
+    Merged(&'a Lent),
+}
+
+impl Lending<'_> {
+    /// Whether each byte of a range of storage was lent for fetching.
+    pub(crate) fn fetches_in(self, job: &Job, start: u32, len: u32) -> bool
+        requires lends { Lends job.now self }
+        requires inside { start + len ≤ length (storage_of job.now) }
+        ensures { result ≡ covered (fetch_of job.now) start len }
+    {
+        match self {
+            Lending::Given => covers(job.fetch, start, len),
+            Lending::Merged(lent) => lent.fetches_in(start, len),
+        }
+    }
+
+    /// Whether each byte of a range of storage was lent for storing.
+    pub(crate) fn stores_in(self, job: &Job, start: u32, len: u32) -> bool
+        requires lends { Lends job.now self }
+        requires inside { start + len ≤ length (storage_of job.now) }
+        ensures { result ≡ covered (store_of job.now) start len }
+    {
+        match self {
+            Lending::Given => covers(job.store, start, len),
+            Lending::Merged(lent) => lent.stores_in(start, len),
+        }
     }
 }
 

@@ -77,6 +77,6 @@ pub fn first_place(job: &Job) -> Place
 
 /// A law, like those of `laws`: the derived order of places is that of their numbers, which is by
 /// address, then by entry, then by whether they were reached by a transfer in channel.
-fn order_is_by_number()
+pub(crate) fn order_is_by_number()
     ensures { (p q : Place) → ⟦<Place as Ord>⟧.cmp p q ≡ nat_cmp (place_number p) (place_number q) }
 {}

@@ -3,9 +3,9 @@
 ghost use Rattle.std.specs.Prelude.{◌≡◌, ◌&&◌, not, ◌+◌, ◌<◌, ◌≤◌, ◌^◌, ℕ, List, true, false, length, slice_index, IfSome, IfNone};
 ghost use Rattle.ccw_core.specs.Ccw.{byte, ccw, is_transfer, is_formed as formed, is_counted as counted, has_data_in as data_in};
 ghost use Rattle.ccw_core.specs.Held.{bytes_held};
-ghost use Rattle.chan_walk.specs.Argument as argument;
-ghost use Rattle.chan_walk.specs.Argument.{HasArgument, IsChain, is_part};
+ghost use Rattle.chan_walk.specs.Argument.{HasArgument, is_part};
 ghost use Rattle.chan_walk.specs.Onward as onward;
+ghost use Rattle.chan_walk.specs.Tables.{HasAddresses};
 
 use crate::word::{chains_data, has_data_in, is_counted, is_formed};
 use ccw_core::{Ccw, Storage};
@@ -62,9 +62,7 @@ fn note(addresses: &mut [u32; 6], have: usize, from: u32, count: usize)
 /// The addresses of the six bytes of a seek's argument. At most six CCWs and five transfers are
 /// looked at.
 pub(crate) fn argument_addresses(storage: &Storage, address: u32) -> Option<[u32; 6]>
-    ensures found { IfSome result (λ x. (l : List ℕ) × IsChain (bytes_held storage.now) 6 address l × (x ≡ argument.argument_addresses (bytes_held storage.now) l)) }
-    ensures inside { IfSome result (λ x. (i : ℕ) → slice_index x i < length (bytes_held storage.now)) }
-    ensures none { IfNone result ((l : List ℕ) → IsChain (bytes_held storage.now) 6 address l → ⊥) }
+    ensures { HasAddresses (bytes_held storage.now) address result }
 {
     let mut addresses = [0u32; 6];
     let mut have: usize = 0;
@@ -88,7 +86,7 @@ pub(crate) fn argument_addresses(storage: &Storage, address: u32) -> Option<[u32
 }
 
 /// The byte at an address of storage.
-fn byte_at(storage: &Storage, address: u32) -> u8
+pub(crate) fn byte_at(storage: &Storage, address: u32) -> u8
     requires { address < length (bytes_held storage.now) }
     ensures { result ≡ byte (bytes_held storage.now) address }
 {
@@ -96,6 +94,19 @@ fn byte_at(storage: &Storage, address: u32) -> u8
         Some([byte]) => *byte,
         _ => 0,
     }
+}
+
+/// The bytes of an argument at these addresses, if there is one.
+pub(crate) fn bytes_at(storage: &Storage, addresses: Option<[u32; 6]>) -> Option<[u8; 6]>
+    requires { IfSome addresses (λ x. (i : ℕ) → slice_index x i < length (bytes_held storage.now)) }
+    ensures { (address : ℕ) → HasAddresses (bytes_held storage.now) address addresses → HasArgument (bytes_held storage.now) address result }
+{
+    let addresses = addresses?;
+    let mut bytes = [0u8; 6];
+    for k in 0..6usize {
+        bytes[k] = byte_at(storage, addresses[k]);
+    }
+    Some(bytes)
 }
 
 /// The argument of a seek at an address: the first six bytes of the joined data ranges of the data
@@ -109,10 +120,5 @@ fn byte_at(storage: &Storage, address: u32) -> u8
 pub fn seek_argument(storage: &Storage, address: u32) -> Option<[u8; 6]>
     ensures { HasArgument (bytes_held storage.now) address result }
 {
-    let addresses = argument_addresses(storage, address)?;
-    let mut bytes = [0u8; 6];
-    for k in 0..6usize {
-        bytes[k] = byte_at(storage, addresses[k]);
-    }
-    Some(bytes)
+    bytes_at(storage, argument_addresses(storage, address))
 }

@@ -6,36 +6,48 @@ use Rattle.chan_walk.specs.Guarded.{IsCcwByte, IsArgumentByte}
 use Rattle.chan_walk.specs.Job.{storage_of}
 use Rattle.chan_walk.proofs.Checks.{check_stands}
 use Rattle.chan_walk.proofs.Faults.{clear_check}
-use Rattle.chan_walk.proofs.Verdicts.{first_argument, first_none, meets_from_over, over_from_meets}
+use Rattle.chan_walk.proofs.Verdicts.{first_argument, first_ccw, first_none, meets_from_over, over_from_meets}
 use Rattle.chan_walk.proofs.judging.change_at.Goals as goal
 
-pub returns-in_err-word : goal.returns-in_err-word
-returns-in_err-word c =
-    let found = ccw_at-where (storage_of c.args.job.now) c.args.place.address (check_stands (storage_of c.args.job.now) c.args.place (clear_check c.args.job.now c.args.place c.requires.clear)) in
-    let none = sym c.ccw_at.ensures ∙ c.in_err-word.was in
+pub returns-in_err-ccw : goal.returns-in_err-ccw
+returns-in_err-ccw c j h guards clear =
+    let p = c.args.look.now.place in
+    let found = ccw_at-where (storage_of j) p.address (check_stands (storage_of j) p (clear_check j p clear)) in
+    let none = sym h.ccw ∙ sym c.ccw.ensures ∙ c.in_err-ccw.was in
     absurd (cc)
 
-pub returns-then-meets_argument : goal.returns-then-meets_argument
-returns-then-meets_argument c =
-    let j = c.args.job.now in
-    let p = c.args.place in
-    let word = c.in_ok-word.word in
-    let found : word ≡ ccw (storage_of j) p.address = (ccw_at-some (storage_of j) p.address word (sym c.ccw_at.ensures ∙ c.in_ok-word.was)).2 in
+pub returns-then-meets_ccw : goal.returns-then-meets_ccw
+returns-then-meets_ccw c j h guards clear =
+    let p = c.args.look.now.place in
+    let word = c.in_ok-ccw.ccw in
+    let seen = sym c.ccw.ensures ∙ c.in_ok-ccw.was in
+    let found : word ≡ ccw (storage_of j) p.address = (ccw_at-some (storage_of j) p.address word (sym h.ccw ∙ seen)).2 in
     let start : c.address-start.result ≡ word.address = c.address-start.ensures.value in
     let len : c.from-len.result ≡ word.count = c.from-len.ensures ∙ c.count.ensures in
-    let moves : stores p word ≡ true = sym c.stores.ensures ∙ c.if-not-stores.false in
+    let moves : stores p word ≡ true = sym (h.stores word seen) ∙ sym c.stores.ensures ∙ c.if-not-stores.false in
+    first_ccw j p (over_from_meets j p word c.args.guard.now.ccws (IsCcwByte j) _ _ guards.ccws found moves start len (c.if-meets_ccw.ensures.0 refl))
+
+pub returns-then-meets_argument : goal.returns-then-meets_argument
+returns-then-meets_argument c j h guards clear =
+    let p = c.args.look.now.place in
+    let word = c.in_ok-ccw.ccw in
+    let seen = sym c.ccw.ensures ∙ c.in_ok-ccw.was in
+    let found : word ≡ ccw (storage_of j) p.address = (ccw_at-some (storage_of j) p.address word (sym h.ccw ∙ seen)).2 in
+    let start : c.address-start.result ≡ word.address = c.address-start.ensures.value in
+    let len : c.from-len.result ≡ word.count = c.from-len.ensures ∙ c.count.ensures in
+    let moves : stores p word ≡ true = sym (h.stores word seen) ∙ sym c.stores.ensures ∙ c.if-not-stores.false in
     first_argument j p
-    (λ over. let no = c.if-meets_ccw.ensures.1 (meets_from_over j p word c.args.guard.now.ccws (IsCcwByte j) _ _ c.requires.guards.ccws found start len over) in cc)
-    (over_from_meets j p word c.args.guard.now.arguments (IsArgumentByte j) _ _ c.requires.guards.arguments found moves start len (c.if-meets_argument.ensures.0 refl))
+    (λ over. let no = c.if-meets_ccw.ensures.1 (meets_from_over j p word c.args.guard.now.ccws (IsCcwByte j) _ _ guards.ccws found start len over) in cc)
+    (over_from_meets j p word c.args.guard.now.arguments (IsArgumentByte j) _ _ guards.arguments found moves start len (c.if-meets_argument.ensures.0 refl))
 
 pub returns : goal.returns
-returns c =
-    let j = c.args.job.now in
-    let p = c.args.place in
-    let word = c.in_ok-word.word in
-    let found : word ≡ ccw (storage_of j) p.address = (ccw_at-some (storage_of j) p.address word (sym c.ccw_at.ensures ∙ c.in_ok-word.was)).2 in
+returns c j h guards clear =
+    let p = c.args.look.now.place in
+    let word = c.in_ok-ccw.ccw in
+    let seen = sym c.ccw.ensures ∙ c.in_ok-ccw.was in
+    let found : word ≡ ccw (storage_of j) p.address = (ccw_at-some (storage_of j) p.address word (sym h.ccw ∙ seen)).2 in
     let start : c.address-start.result ≡ word.address = c.address-start.ensures.value in
     let len : c.from-len.result ≡ word.count = c.from-len.ensures ∙ c.count.ensures in
     first_none j p
-    (λ over. let no = c.if-meets_ccw.ensures.1 (meets_from_over j p word c.args.guard.now.ccws (IsCcwByte j) _ _ c.requires.guards.ccws found start len over) in cc)
-    (λ over. let no = c.if-meets_argument.ensures.1 (meets_from_over j p word c.args.guard.now.arguments (IsArgumentByte j) _ _ c.requires.guards.arguments found start len over) in cc)
+    (λ over. let no = c.if-meets_ccw.ensures.1 (meets_from_over j p word c.args.guard.now.ccws (IsCcwByte j) _ _ guards.ccws found start len over) in cc)
+    (λ over. let no = c.if-meets_argument.ensures.1 (meets_from_over j p word c.args.guard.now.arguments (IsArgumentByte j) _ _ guards.arguments found start len over) in cc)

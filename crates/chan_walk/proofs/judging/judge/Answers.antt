@@ -1,20 +1,66 @@
-use Rattle.std.proofs.Common.{sym, subst}
+use Rattle.std.proofs.Common.{◌≡◌, true, refl, sym, ap, subst}
+use Rattle.ckd_core.specs.Cylinders.{AreExtents}
+use Rattle.ckd_core.specs.Mask.{is_mask}
+use Rattle.chan_walk.specs.declared.job.Job.{Job}
 use Rattle.chan_walk.specs.declared.verdict.Verdict.{Verdict}
+use Rattle.chan_walk.specs.declared.verdict.Verdict.TheVariants.{Yes, No}
+use Rattle.chan_walk.specs.Alarm.{IsProper, NoFalseAlarm}
+use Rattle.chan_walk.specs.Answers.{CoversEveryRun, IsShown}
+use Rattle.chan_walk.specs.Headline.{YesIsSafe}
+use Rattle.chan_walk.specs.Job.{HasMask}
+use Rattle.chan_walk.specs.Least.{AreReached}
+use Rattle.chan_walk.specs.Look.{AreLooks, places_of_looks}
 use Rattle.chan_walk.specs.Verdict.{IsVerdict}
-use Rattle.chan_walk.proofs.Verdicts.{clear_all, verdict_of_change, verdict_of_fault, verdict_yes}
+use Rattle.chan_walk.proofs.Looking.{moved_places}
+use Rattle.chan_walk.proofs.Walking.{reached_all}
 use Rattle.chan_walk.proofs.judging.judge.Goals as goal
 
-pub returns-in-Some-clause-verdict : goal.returns-in-Some-clause-verdict
-returns-in-Some-clause-verdict c =
-    subst (λ (v : Verdict). IsVerdict c.args.job.now v) (sym c.verdict.ensures) (verdict_of_fault c.args.job.now c.in-Some.found c.in-Some.ensures)
-
-pub least_change-requires-clause-clear : goal.least_change-requires-clause-clear
-least_change-requires-clause-clear c = clear_all c.args.job.now c.in_default.ensures
-
-pub returns-in-Some-least_change-clause-verdict : goal.returns-in-Some-least_change-clause-verdict
-returns-in-Some-least_change-clause-verdict c =
-    subst (λ (v : Verdict). IsVerdict c.args.job.now v) (sym c.verdict-in-Some-least_change.ensures)
-    (verdict_of_change c.args.job.now c.in-Some-least_change.change c.in_default.ensures c.in-Some-least_change.ensures)
+pub verdict_of-requires : goal.verdict_of-requires
+verdict_of-requires c = (c.args.job.now, subst (AreLooks c.args.job.now) (sym c.as_slice.ensures.value) c.in_ok-looks.ensures.found.looks)
 
 pub returns-clause-verdict : goal.returns-clause-verdict
-returns-clause-verdict c = verdict_yes c.args.job.now c.in_default.ensures c.in-None.ensures
+returns-clause-verdict c =
+    let j = c.args.job.now in
+    let found = c.in_ok-looks.ensures.found in
+    let same = sym c.as_slice.ensures.value in
+    c.in_ok-verdict.ensures j (subst (AreLooks j) same found.looks) (subst (AreReached j) (ap places_of_looks same) (reached_all j c.in_ok-looks.field-0 found))
+
+covers : (j : Job) (v : Verdict) → HasMask j → YesIsSafe → IsVerdict j v → CoversEveryRun j v
+covers j v mask law h e = law j mask (subst (λ (w : Verdict). IsVerdict j w) e h)
+
+pub returns-clause-safe : goal.returns-clause-safe
+returns-clause-safe c =
+    let mask = subst (λ n. is_mask n ≡ true) c.byte-mask.ensures.value c.byte-mask.ensures.mask in
+    covers c.args.job.now c.in_ok-verdict.verdict mask c.yes_is_safe.ensures (returns-clause-verdict c)
+
+shown : (j : Job) (v : Verdict) → IsProper j → NoFalseAlarm → IsVerdict j v → IsShown j v
+shown j Yes proper law h = tt
+shown j (No a r) proper law h = law j a r proper h
+
+pub returns-clause-shown : goal.returns-clause-shown
+returns-clause-shown c =
+    let extents = subst AreExtents c.pairs-extents.ensures.value c.pairs-extents.ensures.right in
+    let mask = subst (λ n. is_mask n ≡ true) c.byte-mask.ensures.value c.byte-mask.ensures.mask in
+    shown c.args.job.now c.in_ok-verdict.verdict (extents, c.args.job.now.storage.fits, mask) c.no_false_alarm.ensures (returns-clause-verdict c)
+
+-- where one verdict is yes, so is every other
+only_yes : (j : Job) (v : Verdict) → IsVerdict j v → IsVerdict j Yes → v ≡ Yes
+only_yes j Yes h y = refl
+only_yes j (No a r) h y = absurd (y h.0.place r h.0.reached h.0.offends)
+
+pub returns-clause-exact : goal.returns-clause-exact
+returns-clause-exact c safe steady =
+    let extents = subst AreExtents c.pairs-extents.ensures.value c.pairs-extents.ensures.right in
+    let mask = subst (λ n. is_mask n ≡ true) c.byte-mask.ensures.value c.byte-mask.ensures.mask in
+    only_yes c.args.job.now c.in_ok-verdict.verdict (returns-clause-verdict c) (c.safe_is_yes.ensures c.args.job.now (extents, c.args.job.now.storage.fits, mask) safe steady)
+
+pub returns-clause-places : goal.returns-clause-places
+returns-clause-places c =
+    let ls = c.in_ok-looks.field-0.looks.items in
+    let ms = c.in_order.result.items in
+    let reached = reached_all c.args.job.now c.in_ok-looks.field-0 c.in_ok-looks.ensures.found in
+    record {
+      ordered = c.in_order.ensures.ordered;
+      each = λ p r. moved_places ls ms p (λ l h. (c.in_order.ensures.same l).1 h) (reached.0 p r);
+      only = λ p h. reached.1 p (moved_places ms ls p (λ l k. (c.in_order.ensures.same l).0 k) h);
+    }

@@ -13,19 +13,22 @@ note-requires-clause-range c =
     let small : length s ≤ 2 ^ 24 = c.args.storage.now.small in
     omega (arith, fits.data_in, c.address-from.ensures.value, c.from-count.ensures, c.count.ensures)
 
-pub returns-then-count-room-clause-found : goal.returns-then-count-room-clause-found
-returns-then-count-room-clause-found c =
+pub returns-then-count-room : goal.returns-then-count-room
+returns-then-count-room c =
     let s = bytes_held c.args.storage.now in
     let here = c.loop-part.here in
     let address : c.address-from.result ≡ (ccw s here).address = c.address-from.ensures.value ∙ ap (λ (w : Fields). w.address) c.in_ok-part.ensures.word in
     let count = ap (λ (w : Fields). w.count) c.in_ok-part.ensures.word in
     let enough : 6 - c.loop-part.have ≤ (ccw s here).count = omega (arith, c.from-count.ensures, c.count.ensures, c.if-count-room.true) in
+    let found =
     followed_whole s c.args.address c.loop-part.addresses c.note.new.addresses c.loop-part.have here c.loop-part.invariant c.in_ok-part.ensures.part enough
     c.note.ensures.size c.note.ensures.before
     (subst (λ z. (i : ℕ) → i < 6 - c.loop-part.have → get_or c.note.new.addresses (c.loop-part.have + i) 0 ≡ z + i) address c.note.ensures.added)
+    in
+    (found.0, found.1, found.2, argument_below s 6 c.args.address found.0 c.note.new.addresses found.1 found.2)
 
-pub returns-then-not-chains_data-clause-none : goal.returns-then-not-chains_data-clause-none
-returns-then-not-chains_data-clause-none c =
+pub returns-then-not-chains_data : goal.returns-then-not-chains_data
+returns-then-not-chains_data c =
     let s = bytes_held c.args.storage.now in
     let here = c.loop-part.here in
     let count = ap (λ (w : Fields). w.count) c.in_ok-part.ensures.word in
@@ -74,8 +77,3 @@ loop-part-preserved c =
     in
     subst (λ n. IsFollowed s c.args.address taken (have + n) c.onward-here.result) (sym count)
     (subst (λ z. IsFollowed s c.args.address taken (have + (ccw s here).count) z) (sym c.onward-here.ensures.value) more)
-
-pub returns-then-count-room-clause-inside : goal.returns-then-count-room-clause-inside
-returns-then-count-room-clause-inside c =
-    let found = returns-then-count-room-clause-found c in
-    argument_below (bytes_held c.args.storage.now) 6 c.args.address found.0 c.note.new.addresses found.1 found.2

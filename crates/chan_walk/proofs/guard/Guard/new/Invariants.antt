@@ -1,0 +1,9 @@
+use Rattle.std.proofs.Common.{◌≡◌, ◌++◌}
+use Rattle.chan_walk.specs.Look.{AreLooks, places_of_looks}
+use Rattle.chan_walk.proofs.guard.Guard.new.Given as goal
+
+abbrev pub invariant-loop-place : goal.invariant-loop-place
+invariant-loop-place l = record {
+  looks : AreLooks l.job l.looks.items;
+  places : places_of_looks l.looks.items ++ l.place-iterator ≡ l.explored;
+}
