@@ -6,11 +6,14 @@ ghost use Rattle.std.specs.Io.KnownBytes.{Appends};
 ghost use Rattle.ccw_core.specs.Written.{AppendsPrefix};
 ghost use Rattle.ccw_core.specs.Storage.{ccw_at};
 ghost use Rattle.chan_deck.specs.Listing as list;
+ghost use Rattle.chan_deck.specs.Texts.{verdict_line};
 ghost use Rattle.chan_walk.specs.Job.{storage_of};
+ghost use Rattle.chan_walk.specs.Look.{AreLooks, places_of_looks};
+ghost use Rattle.chan_walk.specs.declared.job.Job.{Job};
 
 use crate::texts::{Address, verdict_text};
 use ccw_core::{Ccw, DeviceFault, Watched, write_out};
-use chan_walk::{Entry, Explored, Job, Place, Verdict};
+use chan_walk::{Entry, Explored, Job, Judged, Place, Verdict};
 use ckd_core::{Command, lookup};
 use std::alloc::{AllocError, Global};
 use std::fmt::Write as _;
@@ -193,6 +196,27 @@ fn hand_over<W: Write>(piece: &mut String, to: &mut Watched<W>) -> Result<(), De
     Ok(())
 }
 
+/// Writes what is held back of a listing, and the line of the verdict.
+fn write_end<W: Write>(
+    alloc: Global,
+    held: String,
+    verdict: Verdict,
+    to: &mut Watched<W>,
+) -> Result<(), ListError>
+    requires { to.old.failed ≡ false }
+    ensures ok { OnOk result (Appends (W.contents to.old.device) (W.contents to.new.device)
+        (string_bytes held ++ verdict_line verdict)) }
+    ensures prefix { AppendsPrefix (W.contents to.old.device) (W.contents to.new.device)
+        (string_bytes held ++ verdict_line verdict) }
+    ensures write { IsErrOf result ListError.Write ↔ (to.new.failed ≡ true) }
+{
+    let mut held = held;
+    let line = verdict_text(alloc, verdict)?;
+    held.push_str(line.as_str())?;
+    write_out(held.as_bytes(), to)?;
+    Ok(())
+}
+
 /// Writes a row for each of the places, in order, and then the line of the verdict. The rows whose
 /// address the verdict names are marked.
 ///
@@ -220,8 +244,35 @@ pub fn write_listing<W: Write>(
         push_row(alloc, &mut piece, place, ccw, command, marked)?;
         hand_over(&mut piece, to)?;
     }
-    let line = verdict_text(alloc, verdict)?;
-    piece.push_str(line.as_str())?;
-    write_out(piece.as_bytes(), to)?;
-    Ok(())
+    write_end(alloc, piece, verdict, to)
+}
+
+/// Writes the listing of a judged job: what `write_listing` writes for its places and its verdict,
+/// from what was seen of them. Nothing is decoded or looked up again.
+pub fn write_judged<W: Write>(
+    alloc: Global,
+    judged: &Judged,
+    to: &mut Watched<W>,
+) -> Result<(), ListError>
+    requires { to.old.failed ≡ false }
+    ensures ok { OnOk result (Appends (W.contents to.old.device) (W.contents to.new.device)
+        (list.judged_listing judged.now)) }
+    ensures prefix { AppendsPrefix (W.contents to.old.device) (W.contents to.new.device)
+        (list.judged_listing judged.now) }
+    ensures write { IsErrOf result ListError.Write ↔ (to.new.failed ≡ true) }
+
+    // It is the listing of the job that was judged.
+    ensures listing { (j : Job) → AreLooks j judged.now.looks → list.judged_listing judged.now
+        ≡ list.listing (storage_of j) (places_of_looks judged.now.looks) judged.now.verdict }
+{
+    let verdict = judged.verdict();
+    let mut piece = String::new(alloc);
+    for look in judged.looks() {
+        let place = look.place();
+        let address = place.address;
+        let marked = is_named(verdict, address);
+        push_row(alloc, &mut piece, place, look.ccw(), look.command(), marked)?;
+        hand_over(&mut piece, to)?;
+    }
+    write_end(alloc, piece, verdict, to)
 }
