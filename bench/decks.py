@@ -8,11 +8,13 @@ verdict line that the rules give. The same decks come out each time.
 """
 
 import sys
+from functools import partial
 from pathlib import Path
 
 DOUBLEWORD = 8
 STORAGE_LIMIT = 0x1000000  # bytes; addresses have 24 bits
-PLACES = 4096  # the most places that may be reachable
+PLACES = 4096  # the most places that may be reachable where a deck doesn't say it
+MOST_PLACES = 65536  # the most that a deck may say
 MANY = 500_000  # lent areas, or extents
 
 CHAIN_DATA = 0x80
@@ -47,10 +49,15 @@ def in_a_row(words, start=START):
     return (put(start + DOUBLEWORD * i, digits) for i, digits in enumerate(words))
 
 
-def deck(puts, storage, extents=((10, 19),), fetch=(), store=()):
-    """The lines of a deck on a 2314 with the mask 00, in the order of the grammar."""
-    yield "chanv deck 1\ndevice 2314\nmask 00\n"
+def deck(puts, storage, extents=((10, 19),), fetch=(), store=(), places=PLACES):
+    """The lines of a deck on a 2314 with the mask 00, in the order of the grammar.
+
+    Where the program has another number of places, the deck is of version 2 and says it as its limit.
+    """
+    yield f"chanv deck {1 if places == PLACES else 2}\ndevice 2314\nmask 00\n"
     yield f"start {START:06X}\n"
+    if places != PLACES:
+        yield f"limit {places:05d}\n"
     yield from (f"extent {first:03d} {last:03d}\n" for first, last in extents)
     yield from areas("fetch", fetch)
     yield from areas("store", store)
@@ -83,42 +90,53 @@ def full_storage():
     return deck(puts(), STORAGE_LIMIT, fetch=[(0x900, 16)], store=[(0xA00, 256)])
 
 
-def places():
+def room_for(places):
+    """Where data may lie behind the CCWs of so many places, and how much storage there is then."""
+    return (0x10000, 0x80000) if places == PLACES else (0x100000, 0x400000)
+
+
+def places(count=PLACES):
     """As many places as there may be, each of another CCW: by turns a seek and a read.
 
     So half of the places have an argument of their own to guard, and the other half store.
     """
-    arguments, data = 0x10000, 0x20000
+    arguments, storage = room_for(count)
+    data = arguments + 8 * count
     words = []
-    for i in range(PLACES // 2):
+    for i in range(count // 2):
         words.append(word(SEEK, arguments + 8 * i, CHAIN_COMMAND, 6))
         words.append(word(READ_DATA, data + 16 * i, CHAIN_COMMAND, 16))
-    words[-1] = word(READ_DATA, data + 16 * (PLACES // 2 - 1), LAST, 16)
-    cylinders = [f"0000{10 + i % 10:04X}{i % 20:04X}0000" for i in range(PLACES // 2)]
+    words[-1] = word(READ_DATA, data + 16 * (count // 2 - 1), LAST, 16)
+    cylinders = [f"0000{10 + i % 10:04X}{i % 20:04X}0000" for i in range(count // 2)]
     puts = [*in_a_row(words), *in_a_row(cylinders, arguments)]
-    return deck(puts, 0x40000, fetch=[(arguments, 0x4000)], store=[(data, 0x8000)])
+    fetch, store = [(arguments, 4 * count)], [(data, 8 * count)]
+    return deck(puts, storage, fetch=fetch, store=store, places=count)
 
 
-def loops():
-    """As many places as there may be, in 1,024 search loops and one more CCW.
+def loops(count=PLACES):
+    """As many places as there may be, in search loops and one more CCW.
 
     The search of each loop but the first is two places, since it is also entered by the transfer.
     """
+    base, storage = room_for(count)
+    data = base + 0x1000
     words = []
-    for i in range(PLACES // 4):
+    for i in range(count // 4):
         search = START + DOUBLEWORD * len(words)
-        words.append(word(SEARCH_ID_EQUAL, 0x20000, CHAIN_COMMAND, 5))
+        words.append(word(SEARCH_ID_EQUAL, base, CHAIN_COMMAND, 5))
         words.append(word(TRANSFER, search, 0, 0))
-        words.append(word(READ_DATA, 0x30000 + 16 * i, CHAIN_COMMAND, 16))
+        words.append(word(READ_DATA, data + 16 * i, CHAIN_COMMAND, 16))
     words.append(word(NO_OPERATION, 0, LAST, 1))
-    return deck(in_a_row(words), 0x40000, fetch=[(0x20000, 5)], store=[(0x30000, 0x4000)])
+    fetch, store = [(base, 5)], [(data, 4 * count)]
+    return deck(in_a_row(words), storage, fetch=fetch, store=store, places=count)
 
 
-def chain():
+def chain(count=PLACES):
     """One read by the longest data chain: as many places as there may be, all of one operation."""
-    words = [word(READ_DATA, 0x20000 + 16 * i, CHAIN_DATA, 16) for i in range(PLACES - 1)]
-    words.append(word(READ_DATA, 0x20000 + 16 * (PLACES - 1), LAST, 16))
-    return deck(in_a_row(words), 0x40000, store=[(0x20000, 0x10000)])
+    data, storage = room_for(count)
+    words = [word(READ_DATA, data + 16 * i, CHAIN_DATA, 16) for i in range(count - 1)]
+    words.append(word(READ_DATA, data + 16 * (count - 1), LAST, 16))
+    return deck(in_a_row(words), storage, store=[(data, 16 * count)], places=count)
 
 
 def one_byte_areas(order):
@@ -145,13 +163,14 @@ def areas_mixed():
     return one_byte_areas(i * 312_347 % MANY for i in range(MANY))  # no factor in common with 500,000
 
 
-def areas_apart():
+def areas_apart(count=PLACES):
     """500,000 areas of which no two adjoin, the last first, and as many places as there may be, each in another."""
     lent = 0x100000
-    spread = MANY // PLACES
-    words = [word(READ_DATA, lent + 16 * spread * i, CHAIN_COMMAND, 8) for i in range(PLACES - 1)]
-    words.append(word(READ_DATA, lent + 16 * spread * (PLACES - 1), LAST, 8))
-    return deck(in_a_row(words), 0x900000, store=((lent + 16 * i, 8) for i in reversed(range(MANY))))
+    spread = MANY // count
+    words = [word(READ_DATA, lent + 16 * spread * i, CHAIN_COMMAND, 8) for i in range(count - 1)]
+    words.append(word(READ_DATA, lent + 16 * spread * (count - 1), LAST, 8))
+    store = ((lent + 16 * i, 8) for i in reversed(range(MANY)))
+    return deck(in_a_row(words), 0x900000, store=store, places=count)
 
 
 def extents():
@@ -175,6 +194,11 @@ DECKS = {
     "areas-apart": areas_apart,
     "extents": extents,
 }
+
+# The same with more places, to see how time grows with their number.
+for name, write in [("places", places), ("loops", loops), ("chain", chain), ("areas-apart", areas_apart)]:
+    for count in (MOST_PLACES // 4, MOST_PLACES):
+        DECKS[f"{name}-{count}"] = partial(write, count)
 
 
 def main(arguments):

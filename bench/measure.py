@@ -1,5 +1,5 @@
 #!/usr/bin/env python3
-"""Runs `chanv verify` over the decks of a folder and prints a table. Called by measure.sh.
+"""Runs `chanv verify` and `chanv list` over the decks of a folder and prints a table. Called by measure.sh.
 
     measure.py PROGRAM FOLDER RUNS LIMIT
 
@@ -29,11 +29,11 @@ def run_limits(limit):
     return set_limits
 
 
-def run(program, deck, report, limit):
+def run(program, action, deck, report, limit):
     """Seconds, peak in bytes, status, and the last line that was printed, of one run."""
     by_time = os.access(GNU_TIME, os.X_OK)
     command = [GNU_TIME, "-v", "-o", report] if by_time else []
-    command += [program, "verify"]
+    command += [program, action]
     with open(deck, "rb") as text:
         begin = time.perf_counter()
         child = subprocess.Popen(
@@ -49,11 +49,11 @@ def run(program, deck, report, limit):
     return seconds, kibibytes * 1024, status, (printed.splitlines() or [""])[-1]
 
 
-def measure(program, deck, report, runs, limit):
+def measure(program, action, deck, report, runs, limit):
     """Seconds, peak and what was printed; the last says more where it isn't a verdict with its status."""
     fastest, highest = float("inf"), 0
     for _ in range(runs):
-        seconds, peak, status, line = run(program, deck, report, limit)
+        seconds, peak, status, line = run(program, action, deck, report, limit)
         fastest, highest = min(fastest, seconds), max(highest, peak)
         if status != (0 if line == "yes" else 1):
             return seconds, highest, f"status {status}: {line}" if seconds < limit else f"none in {limit} s"
@@ -62,17 +62,18 @@ def measure(program, deck, report, runs, limit):
 
 def main(program, folder, runs, limit):
     folder = Path(folder)
-    print(f"{'deck':<16}{'text MB':>9}{'seconds':>10}{'MB/s':>8}{'peak MB':>9}  verdict")
+    print(f"{'deck':<20}{'action':<8}{'text MB':>9}{'seconds':>10}{'MB/s':>8}{'peak MB':>9}  verdict")
     wrong = 0
     for row in (folder / "verdicts.txt").read_text().splitlines():
         name, expected = row.split("\t")
         deck = folder / name
         size = deck.stat().st_size
-        seconds, peak, verdict = measure(program, deck, folder / "report", int(runs), int(limit))
-        wrong += verdict != expected
-        shown = verdict if verdict == expected else f"{verdict} (expected {expected})"
-        numbers = f"{size / MEGA:>9.3f}{seconds:>10.3f}{size / MEGA / seconds:>8.1f}{peak / MEGA:>9.1f}"
-        print(f"{deck.stem:<16}{numbers}  {shown}", flush=True)
+        for action in ("verify", "list"):
+            seconds, peak, verdict = measure(program, action, deck, folder / "report", int(runs), int(limit))
+            wrong += verdict != expected
+            shown = verdict if verdict == expected else f"{verdict} (expected {expected})"
+            numbers = f"{size / MEGA:>9.3f}{seconds:>10.3f}{size / MEGA / seconds:>8.1f}{peak / MEGA:>9.1f}"
+            print(f"{deck.stem:<20}{action:<8}{numbers}  {shown}", flush=True)
     sys.exit(1 if wrong else 0)
 
 

@@ -102,8 +102,54 @@ says '' $'chanv: write failed\n'
 "$program" --help > /dev/full 2> "$work/error"
 expect 'help, a full standard output' 3 $?
 
+# The words of the command line: which stream gets a text, and the status.
+usage_fault() {
+    says '' "error: $1"$'\n\nUsage: '"$2"$'\n\nFor more information, try \'--help\'.\n'
+    shift 2
+    "$program" "$@" < "$loop" > "$work/output" 2> "$work/error"
+    expect "usage fault: $*" 4 $?
+}
+
+usage_fault "unrecognized subcommand 'judge'" 'chanv [COMMAND]' judge
+usage_fault "unexpected argument '--fast' found" 'chanv [COMMAND]' --fast
+usage_fault $'the following required arguments were not provided:\n  <CCW>' 'chanv show <CCW>' show
+usage_fault "unexpected argument 'extra' found" 'chanv show <CCW>' show 06000A0020000050 extra
+usage_fault "unexpected argument 'extra' found" 'chanv verify' verify extra
+
+help_of_show=$'shows one channel command word\n\nUsage: chanv show <CCW>\n\nArguments:\n'
+help_of_show+=$'  <CCW>  sixteen hexadecimal digits\n\nOptions:\n  -h, --help  Print help\n'
+for words in 'help show' 'show --help' 'show -h'; do
+    says "$help_of_show" ''
+    "$program" $words < "$loop" > "$work/output" 2> "$work/error"
+    expect "$words" 0 $?
+done
+
+help_of_chanv=$'verifies channel programs\n\nUsage: chanv [COMMAND]\n\nCommands:\n'
+help_of_chanv+=$'  show    shows one channel command word\n'
+help_of_chanv+=$'  verify  reads a deck from standard input and writes its verdict; so does chanv without words\n'
+help_of_chanv+=$'  list    reads a deck from standard input and lists its reachable CCWs, with the verdict\n'
+help_of_chanv+=$'  help    Print this message or the help of the given subcommand(s)\n\n'
+help_of_chanv+=$'Options:\n  -h, --help  Print help\n'
+for words in '--help' 'help'; do
+    says "$help_of_chanv" ''
+    "$program" $words < "$loop" > "$work/output" 2> "$work/error"
+    expect "$words" 0 $?
+done
+
 says '' $'error: invalid UTF-8 was detected in one or more arguments\n\nFor more information, try \'--help\'.\n'
 "$program" $'show\xff' > "$work/output" 2> "$work/error"
 expect 'a word that is not UTF-8' 4 $?
+
+# Each command runs with 48 KiB of stack.
+small_stack() {
+    says "$2" ''
+    (ulimit -s 48 && exec "$program" $1) < "$loop" > "$work/output" 2> "$work/error"
+    expect "$1, a stack of 48 KiB" 0 $?
+}
+
+small_stack verify $'yes\n'
+small_stack list "$(cat "$here/search-loop.list")"$'\n'
+small_stack 'show 06000A0020000050' $'06 000A00 --L--0 00 0050 read\n'
+small_stack --help "$help_of_chanv"
 
 finish

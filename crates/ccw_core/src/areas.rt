@@ -4,6 +4,9 @@ ghost use Rattle.std.specs.Prelude.{◌≡◌, ◌<◌, ◌≤◌, ℕ, true, fa
 ghost use Rattle.ccw_core.specs.Areas.{covered, lies_in};
 
 /// An area of storage. It may be empty, and it may reach past storage.
+///
+/// It is laid out as in C, so that a caller in C can hand in its own.
+#[repr(C)]
 #[derive(Clone, Copy, PartialEq, Eq, Debug)]
 pub struct Area {
     /// The address of its first byte.

@@ -5,11 +5,12 @@ use std::io;
 use std::io::{ErrorKind, Read, Write};
 use std::test::Fail;
 
-// Takes one byte, and then fails as it is told.
+// Takes one byte at a time, answers its second write as it is told, and goes on after that.
 #[derive(Drop)]
-struct OneByte {
-    taken: Option<u8>,
-    then: Answer,
+struct Faltering {
+    taken: [u8; 3],
+    writes: usize,
+    second: Answer,
 }
 
 #[derive(Clone, Copy)]
@@ -19,18 +20,17 @@ enum Answer {
     Nothing,
 }
 
-impl Write for OneByte {
+impl Write for Faltering {
     fn write(&mut self, buf: &[u8]) -> io::Result<usize> {
-        match (self.taken, buf) {
-            (None, [first, ..]) => {
-                self.taken = Some(*first);
+        self.writes = self.writes.saturating_add(1);
+        match (self.writes, self.second, buf) {
+            (2, Answer::Interrupted, _) => Err(io::Error::from(ErrorKind::Interrupted)),
+            (2, Answer::BrokenPipe, _) => Err(io::Error::from(ErrorKind::BrokenPipe)),
+            (1 | 3, _, [first, ..]) => {
+                self.taken[self.writes - 1] = *first;
                 Ok(1)
             }
-            _ => match self.then {
-                Answer::Interrupted => Err(io::Error::from(ErrorKind::Interrupted)),
-                Answer::BrokenPipe => Err(io::Error::from(ErrorKind::BrokenPipe)),
-                Answer::Nothing => Ok(0),
-            },
+            _ => Ok(0),
         }
     }
 
@@ -181,14 +181,21 @@ fn covers_ranges(rt: HostRuntime) {
     assert!(rt; !covers(&adjoining, 0x9FF, 2));
 }
 
+// A write that failed isn't tried once more, although the writer would take it.
 #[test]
 fn a_writer_that_fails(rt: HostRuntime) {
-    for then in [Answer::Interrupted, Answer::BrokenPipe, Answer::Nothing] {
-        let mut to = Watched::new(OneByte { taken: None, then });
+    for second in [Answer::Interrupted, Answer::BrokenPipe, Answer::Nothing] {
+        let mut to = Watched::new(Faltering {
+            taken: [0; 3],
+            writes: 0,
+            second,
+        });
         assert!(rt; !to.failed());
-        assert_eq!(rt; write_out(b"ab", &mut to), Err(DeviceFault));
+        assert_eq!(rt; write_out(b"abc", &mut to), Err(DeviceFault));
         assert!(rt; to.failed());
-        assert_eq!(rt; to.into_inner().taken, Some(b'a'));
+        let writer = to.into_inner();
+        assert_eq!(rt; writer.taken, [b'a', 0, 0]);
+        assert_eq!(rt; writer.writes, 2);
     }
 }
 

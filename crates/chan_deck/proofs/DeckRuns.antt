@@ -7,11 +7,17 @@ use Rattle.std.proofs.lemmas.List.{append-nil, take-append-drop, replicate-appen
 use Rattle.ccw_core.specs.declared.areas.Area.{Area}
 use Rattle.ckd_core.specs.declared.device.Device.TheVariants.{D2311}
 use Rattle.ckd_core.specs.Cylinders.{IsExtent, AreExtents}
-use Rattle.chan_deck.specs.Item.{Item, header, device, mask, start, extent, fetch, store, storage, put, end, HasForm}
-use Rattle.chan_deck.specs.Image.{Image, IsDeck, items, puts, is_zero, extent_of}
-use Rattle.chan_deck.specs.Reading.{Heading, State, Opening, Named, OnDevice, Masked, Listing, Filling, Whole, step, go_on, run, pad, image_of}
+use Rattle.chan_deck.specs.Item.{Item, header, device, mask, start, limit, extent, fetch, store, storage, put, end, HasForm}
+use Rattle.chan_deck.specs.Image.{Image, IsDeck, HasLimit, header_of, limit_line, items, puts, is_zero, extent_of}
+use Rattle.chan_deck.specs.Reading.{Heading, State, Opening, Named, OnDevice, Masked, Started, Listing, Filling, Whole, step, go_on, run, pad, image_of, on_limit}
 use Rattle.chan_deck.proofs.PutLemmas.{length_pad}
 use Rattle.chan_deck.proofs.StepLemmas.{and_both, said, IsState, step-says}
+use Rattle.ckd_core.specs.declared.device.Device.{Device}
+use Rattle.chan_walk.specs.Limit.{IsLimit}
+use Rattle.chan_deck.specs.declared.version.Version.{Version}
+use Rattle.chan_deck.specs.declared.version.Version.TheVariants.{One, Two}
+use Rattle.chan_deck.specs.declared.version.VersionNumber.TheVariants as numbers
+use Rattle.ckd_core.specs.Mask.{is_mask}
 use Rattle.chan_deck.specs.declared.cause.Cause.{Cause}
 use Rattle.chan_deck.specs.declared.cause.Cause.TheVariants as causes
 
@@ -129,20 +135,36 @@ over_puts h es fs ss size (suc n) at front bytes low al len is =
           (r.0, ap (λ b. run (Filling h es fs ss size front) (cond b rest_puts (put at (take 8 bytes) ∷ rest_puts))) z ∙ ap (λ q. go_on q (λ t. run t rest_puts)) one ∙ r.1, r.2 ∙ ap (λ t. t ++ drop 8 bytes) (pad_same (pad front at ++ take 8 bytes) (at + 8) len1) ∙ append_assoc (pad front at) (take 8 bytes) (drop 8 bytes) ∙ ap (λ t. pad front at ++ t) whole)
     ]
 
+-- ---- the whole deck
+
+by_version : (x : Version) (v : Device) (m a : ℕ) (more : List Item) → HasLimit x → is_mask m ≡ true
+    → run Opening (header (header_of x) ∷ device v ∷ mask m ∷ start a ∷ limit_line x ++ more) ≡ run (Listing (record { version = x; device = v; mask = m; start = a }) [] [] []) more
+by_version One v m a more limited is = rw is refl
+by_version (Two n) v m a more limited is = rw (is, le-leb 1 n limited.0, le-leb n 65536 limited.1) refl
+
+-- the lines of the heading lead to the lists
+over_heading : (h : Heading) (more : List Item) → HasLimit h.version → is_mask h.mask ≡ true
+    → run Opening (header (header_of h.version) ∷ device h.device ∷ mask h.mask ∷ start h.start ∷ limit_line h.version ++ more) ≡ run (Listing h [] [] []) more
+over_heading h more limited is = by_version h.version h.device h.mask h.start more limited is
+
 -- a deck's lines are read as that deck
 pub reads_deck : (d : Image) → IsDeck d → run Opening (items d) ≡ Ok (Whole d)
 reads_deck d is =
-    let h : Heading = record { device = d.device; mask = d.mask; start = d.start } in
+    let h : Heading = record { version = d.version; device = d.device; mask = d.mask; start = d.start } in
     let size = length d.storage in
     let P = puts (size / 8) 0 d.storage in
-    let lines_of = map extent_of d.extents ++ map fetch d.fetch ++ map store d.store in
-    let L = Listing h d.extents d.fetch d.store in
+    let E = map extent_of d.extents in
+    let F = map fetch d.fetch in
+    let S = map store d.store in
     let filled = over_puts h d.extents d.fetch d.store size (size / 8) 0 [] d.storage (omega arith) refl (omega (arith, is.whole)) (omega (arith, is.whole)) in
     let full : pad filled.0 size ≡ d.storage = filled.2 in
-    let opened : run Opening (items d) ≡ run (Listing h [] [] []) ((lines_of ++ storage size ∷ P) ++ end ∷ []) =
-    ap (λ b. go_on (cond b (Ok (Masked d.device d.mask)) (Err causes.Mask)) (λ t. run t (start d.start ∷ (lines_of ++ storage size ∷ P) ++ end ∷ []))) is.mask.1 in
-    opened ∙ run-append (Listing h [] [] []) (lines_of ++ storage size ∷ P) (end ∷ [])
-    ∙ ap (λ r. go_on r (λ t. run t (end ∷ []))) (run-append (Listing h [] [] []) lines_of (storage size ∷ P)
+    let H = header (header_of d.version) ∷ device d.device ∷ mask d.mask ∷ start d.start ∷ limit_line d.version in
+    let parts : items d ≡ H ++ ((E ++ F ++ S) ++ storage size ∷ P ++ end ∷ []) =
+    ap (λ t. t ++ end ∷ []) (ap (λ t. t ++ storage size ∷ P) (ap (λ t. t ++ S) (append_assoc H E F) ∙ append_assoc H (E ++ F) S) ∙ append_assoc H (E ++ F ++ S) (storage size ∷ P))
+    ∙ append_assoc H ((E ++ F ++ S) ++ storage size ∷ P) (end ∷ []) in
+    ap (λ t. run Opening t) parts ∙ over_heading h ((E ++ F ++ S) ++ storage size ∷ P ++ end ∷ []) is.limit is.mask.1
+    ∙ run-append (Listing h [] [] []) ((E ++ F ++ S) ++ storage size ∷ P) (end ∷ [])
+    ∙ ap (λ r. go_on r (λ t. run t (end ∷ []))) (run-append (Listing h [] [] []) (E ++ F ++ S) (storage size ∷ P)
     ∙ ap (λ r. go_on r (λ t. run t (storage size ∷ P))) (over_lists h d.extents d.fetch d.store is.extents)
     ∙ ap (λ r. go_on r (λ t. run t P)) (on_size h d.extents d.fetch d.store size is.extents.0 is.whole is.size)
     ∙ filled.1)
@@ -152,13 +174,19 @@ reads_deck d is =
 
 -- some more lines make a deck of it
 pub completes : (s : State) → IsState s → (js : List Item) × (d : Image) × AllByRecursion HasForm js × (run s js ≡ Ok (Whole d))
-completes Opening is = (header ∷ device D2311 ∷ mask 0 ∷ start 0 ∷ extent 0 0 ∷ storage 0 ∷ end ∷ [], _, (tt, (tt, (lit< tt, (lit< tt, ((lit< tt, lit< tt), (lit< tt, (tt, tt))))))), refl)
-completes Named is = (device D2311 ∷ mask 0 ∷ start 0 ∷ extent 0 0 ∷ storage 0 ∷ end ∷ [], _, (tt, (lit< tt, (lit< tt, ((lit< tt, lit< tt), (lit< tt, (tt, tt)))))), refl)
-completes (OnDevice v) is = (mask 0 ∷ start 0 ∷ extent 0 0 ∷ storage 0 ∷ end ∷ [], _, (lit< tt, (lit< tt, ((lit< tt, lit< tt), (lit< tt, (tt, tt))))), refl)
-completes (Masked v m) is = (start 0 ∷ extent 0 0 ∷ storage 0 ∷ end ∷ [], _, (lit< tt, ((lit< tt, lit< tt), (lit< tt, (tt, tt)))), refl)
+completes Opening is =
+    (header numbers.One ∷ device D2311 ∷ mask 0 ∷ start 0 ∷ extent 0 0 ∷ storage 0 ∷ end ∷ [], _, (tt, (tt, (lit< tt, (lit< tt, ((lit< tt, lit< tt), (lit< tt, (tt, tt))))))), refl)
+completes (Named numbers.One) is = (device D2311 ∷ mask 0 ∷ start 0 ∷ extent 0 0 ∷ storage 0 ∷ end ∷ [], _, (tt, (lit< tt, (lit< tt, ((lit< tt, lit< tt), (lit< tt, (tt, tt)))))), refl)
+completes (Named numbers.Two) is =
+    (device D2311 ∷ mask 0 ∷ start 0 ∷ limit 1 ∷ extent 0 0 ∷ storage 0 ∷ end ∷ [], _, (tt, (lit< tt, (lit< tt, (lit< tt, ((lit< tt, lit< tt), (lit< tt, (tt, tt))))))), refl)
+completes (OnDevice numbers.One v) is = (mask 0 ∷ start 0 ∷ extent 0 0 ∷ storage 0 ∷ end ∷ [], _, (lit< tt, (lit< tt, ((lit< tt, lit< tt), (lit< tt, (tt, tt))))), refl)
+completes (OnDevice numbers.Two v) is = (mask 0 ∷ start 0 ∷ limit 1 ∷ extent 0 0 ∷ storage 0 ∷ end ∷ [], _, (lit< tt, (lit< tt, (lit< tt, ((lit< tt, lit< tt), (lit< tt, (tt, tt)))))), refl)
+completes (Masked numbers.One v m) is = (start 0 ∷ extent 0 0 ∷ storage 0 ∷ end ∷ [], _, (lit< tt, ((lit< tt, lit< tt), (lit< tt, (tt, tt)))), refl)
+completes (Masked numbers.Two v m) is = (start 0 ∷ limit 1 ∷ extent 0 0 ∷ storage 0 ∷ end ∷ [], _, (lit< tt, (lit< tt, ((lit< tt, lit< tt), (lit< tt, (tt, tt))))), refl)
+completes (Started v m a) is = (limit 1 ∷ extent 0 0 ∷ storage 0 ∷ end ∷ [], _, (lit< tt, ((lit< tt, lit< tt), (lit< tt, (tt, tt)))), refl)
 completes (Listing h [] [] []) is = (extent 0 0 ∷ storage 0 ∷ end ∷ [], _, ((lit< tt, lit< tt), (lit< tt, (tt, tt))), refl)
-completes (Listing h [] (f ∷ fs) ss) is = absurd (cc (is.after.0))
-completes (Listing h [] [] (s ∷ ss)) is = absurd (cc (is.after.1))
+completes (Listing h [] (f ∷ fs) ss) is = absurd (cc (is.right.after.0))
+completes (Listing h [] [] (s ∷ ss)) is = absurd (cc (is.right.after.1))
 completes (Listing h (e ∷ es) fs ss) is = (storage 0 ∷ end ∷ [], _, (lit< tt, (tt, tt)), refl)
 completes (Filling h es fs ss n bytes) is = (end ∷ [], _, (tt, tt), refl)
 completes (Whole d) is = ([], d, tt, refl)

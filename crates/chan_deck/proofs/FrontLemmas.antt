@@ -7,12 +7,14 @@ use Rattle.std.proofs.lemmas.Grind.{flat_map-append}
 use Rattle.std.proofs.lemmas.Bool.{eqb-true}
 use Rattle.ccw_core.specs.declared.areas.Area.{Area}
 use Rattle.ckd_core.specs.Cylinders.{IsExtent}
-use Rattle.chan_deck.specs.Item.{Item, header, device, mask, start, fetch, store, storage, put, end, line, text, HasForm, Says, IsByte, IsArea}
-use Rattle.chan_deck.specs.Image.{Image, IsDeck, items, puts, is_zero, extent_of, spelling, Spells}
+use Rattle.chan_deck.specs.Item.{Item, header, device, mask, start, limit, fetch, store, storage, put, end, line, text, HasForm, Says, IsByte, IsArea}
+use Rattle.chan_deck.specs.Image.{Image, IsDeck, HasLimit, header_of, limit_line, items, puts, is_zero, extent_of, spelling, Spells}
 use Rattle.chan_deck.specs.Refused.{split, lines, first_lines, onto_first, IsFront, IsRefusedAt}
 use Rattle.chan_deck.specs.Reading.{State, Opening, Whole, Stands, step, go_on, run}
 use Rattle.chan_deck.proofs.ItemLemmas.{HasNoFeed, line_no_feed, one_item}
-use Rattle.chan_deck.proofs.StepLemmas.{said, IsState, all-append}
+use Rattle.chan_deck.proofs.StepLemmas.{said, IsState, at_front, all-append}
+use Rattle.chan_deck.specs.declared.version.Version.{Version}
+use Rattle.chan_deck.specs.declared.version.Version.TheVariants.{One, Two}
 use Rattle.chan_deck.proofs.DeckRuns.{run-append, run-says, reads_deck, completes}
 use Rattle.chan_deck.specs.declared.cause.Cause.{Cause}
 
@@ -135,21 +137,27 @@ stores_form : (ss : List Area) → AllByRecursion IsArea ss → AllByRecursion H
 stores_form [] h = tt
 stores_form (s ∷ ss) h = (h.0, stores_form ss h.1)
 
+limit_form : (x : Version) → HasLimit x → AllByRecursion HasForm (limit_line x)
+limit_form One h = tt
+limit_form (Two n) h = (omega (arith, h.1), tt)
+
 -- each line of a deck has its form
 pub items_form : (d : Image) → IsDeck d → AllByRecursion HasForm (items d)
 items_form d is =
-    let es = map extent_of d.extents in
-    let fs = map fetch d.fetch in
-    let ss = map store d.store in
     let n = length d.storage in
     let P = puts (n / 8) 0 d.storage in
-    let opened : AllByRecursion HasForm (header ∷ device d.device ∷ mask d.mask ∷ start d.start ∷ es) = (tt, (tt, (is.mask.0, (is.start, extents_form d.extents is.extents.1)))) in
+    let H = header (header_of d.version) ∷ device d.device ∷ mask d.mask ∷ start d.start ∷ limit_line d.version in
+    let E = map extent_of d.extents in
+    let F = map fetch d.fetch in
+    let S = map store d.store in
+    let opened : AllByRecursion HasForm H = (tt, (tt, (is.mask.0, (is.start, limit_form d.version is.limit)))) in
     let size : n < 2 ^ 28 = omega (arith, is.size) in
     let filled : AllByRecursion HasForm (storage n ∷ P) = (size, puts_form (n / 8) 0 d.storage (omega (arith, is.whole)) (omega (arith, is.size, is.whole)) is.bytes) in
-    let with_fetch = all-append HasForm (header ∷ device d.device ∷ mask d.mask ∷ start d.start ∷ es) fs opened (fetches_form d.fetch is.fetch) in
-    let with_store = all-append HasForm (header ∷ device d.device ∷ mask d.mask ∷ start d.start ∷ es ++ fs) ss with_fetch (stores_form d.store is.store) in
-    let with_puts = all-append HasForm (header ∷ device d.device ∷ mask d.mask ∷ start d.start ∷ es ++ fs ++ ss) (storage n ∷ P) with_store filled in
-    all-append HasForm (header ∷ device d.device ∷ mask d.mask ∷ start d.start ∷ es ++ fs ++ ss ++ storage n ∷ P) (end ∷ []) with_puts (tt, tt)
+    let with_extents = all-append HasForm H E opened (extents_form d.extents is.extents.1) in
+    let with_fetch = all-append HasForm (H ++ E) F with_extents (fetches_form d.fetch is.fetch) in
+    let with_store = all-append HasForm (H ++ E ++ F) S with_fetch (stores_form d.store is.store) in
+    let with_puts = all-append HasForm (H ++ E ++ F ++ S) (storage n ∷ P) with_store filled in
+    all-append HasForm (H ++ E ++ F ++ S ++ storage n ∷ P) (end ∷ []) with_puts (tt, tt)
 
 pub split_deck : (d : Image) → split (spelling d) ≡ (map line (items d), [])
 unfolding split
@@ -199,7 +207,7 @@ one_deck d e is js same =
 -- ---- where reading stands
 
 state_of : (t : List ℕ) (s : State) (n : ℕ) (rest : List ℕ) (st : Stands t s n rest) → IsState s × (said s ≡ st.said)
-state_of t s n rest st = run-says Opening s st.said tt st.forms st.runs
+state_of t s n rest st = run-says Opening s st.said (record { right = tt; ends = at_front }) st.forms st.runs
 
 pub is_state : (t : List ℕ) (s : State) (n : ℕ) (rest : List ℕ) (st : Stands t s n rest) → IsState s
 is_state t s n rest st = (state_of t s n rest st).0
@@ -221,7 +229,7 @@ fronts t s n rest st m h =
       c.1,
       text (drop m ls) ++ text (map line c.0),
       (
-        full.0,
+        full.0.right,
         ap (λ x. text x ++ (text (drop m ls) ++ text (map line c.0))) front ∙ sym (append_assoc (text (take m ls)) (text (drop m ls)) (text (map line c.0)))
             ∙ ap (λ x. x ++ text (map line c.0)) (sym whole) ∙ sym spelled,
       ),

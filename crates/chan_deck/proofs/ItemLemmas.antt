@@ -9,7 +9,9 @@ use Rattle.hex.specs.Hex.{encode_upper}
 use Rattle.ccw_core.specs.declared.areas.Area.{Area}
 use Rattle.ckd_core.specs.declared.device.Device.{Device}
 use Rattle.ckd_core.specs.declared.device.Device.TheVariants.{D2311, D2314}
-use Rattle.chan_deck.specs.Item.{Item, header, device, mask, start, extent, fetch, store, storage, put, end, line, HasForm, Says, IsByte, IsAddress, IsArea, device_digits, byte_digits, address_digits, size_digits, cylinder_digits, area_digits}
+use Rattle.chan_deck.specs.Item.{Item, header, device, mask, start, limit, extent, fetch, store, storage, put, end, line, HasForm, Says, IsByte, IsAddress, IsArea, device_digits, byte_digits, address_digits, size_digits, limit_digits, cylinder_digits, header_digit, area_digits}
+use Rattle.chan_deck.specs.declared.version.VersionNumber.{VersionNumber}
+use Rattle.chan_deck.specs.declared.version.VersionNumber.TheVariants as numbers
 use Rattle.chan_deck.proofs.ByteNumbers.{bytes_three, bytes_four}
 use Rattle.chan_deck.proofs.UpperDigits.{encoded_pass, encoded_one, with_zero}
 use Rattle.chan_deck.proofs.FieldLemmas.{cancel, same_fields, length-address_digits}
@@ -58,15 +60,20 @@ above_feed c h = grind (arith, nat_tests)
 cylinder_no_feed : (n : ℕ) → HasNoFeed (cylinder_digits n)
 cylinder_no_feed n = (above_feed _ (omega arith), (above_feed _ (omega arith), (above_feed _ (omega arith), tt)))
 
+limit_no_feed : (n : ℕ) → HasNoFeed (limit_digits n)
+limit_no_feed n = (above_feed _ (omega arith), (above_feed _ (omega arith), (above_feed _ (omega arith), (above_feed _ (omega arith), (above_feed _ (omega arith), tt)))))
+
 area_no_feed : (a : Area) → HasNoFeed (area_digits a)
 area_no_feed a = no_feed-append (address_digits a.start) (32 ∷ address_digits a.len) (upper_no_feed (bytes_high_first 3 a.start)) (refl, upper_no_feed (bytes_high_first 3 a.len))
 
 pub line_no_feed : (i : Item) → HasNoFeed (line i)
-line_no_feed header = from_test (line header) refl
+line_no_feed (header numbers.One) = from_test (line (header numbers.One)) refl
+line_no_feed (header numbers.Two) = from_test (line (header numbers.Two)) refl
 line_no_feed (device D2311) = from_test (line (device D2311)) refl
 line_no_feed (device D2314) = from_test (line (device D2314)) refl
 line_no_feed (mask m) = no_feed-append (codes "mask ") (byte_digits m) (from_test (codes "mask ") refl) (upper_no_feed (m ∷ []))
 line_no_feed (start a) = no_feed-append (codes "start ") (address_digits a) (from_test (codes "start ") refl) (upper_no_feed (bytes_high_first 3 a))
+line_no_feed (limit n) = no_feed-append (codes "limit ") (limit_digits n) (from_test (codes "limit ") refl) (limit_no_feed n)
 line_no_feed (extent first last) =
     no_feed-append (codes "extent ") (cylinder_digits first ++ (codes " " ++ cylinder_digits last)) (from_test (codes "extent ") refl)
     (no_feed-append (cylinder_digits first) (32 ∷ cylinder_digits last) (cylinder_no_feed first) (refl, cylinder_no_feed last))
@@ -119,6 +126,17 @@ one_cylinder m n e =
     let ones : 48 + m % 10 ≡ 48 + n % 10 = at 2 a b e in
     omega arith
 
+one_limit : (m n : ℕ) → limit_digits m ≡ limit_digits n → m ≡ n
+one_limit m n e =
+    let a = limit_digits m in
+    let b = limit_digits n in
+    let ten_thousands : 48 + m / 10000 ≡ 48 + n / 10000 = at 0 a b e in
+    let thousands : 48 + m / 1000 % 10 ≡ 48 + n / 1000 % 10 = at 1 a b e in
+    let hundreds : 48 + m / 100 % 10 ≡ 48 + n / 100 % 10 = at 2 a b e in
+    let tens : 48 + m / 10 % 10 ≡ 48 + n / 10 % 10 = at 3 a b e in
+    let ones : 48 + m % 10 ≡ 48 + n % 10 = at 4 a b e in
+    omega arith
+
 one_area : (a b : Area) → IsArea a → IsArea b → area_digits a ≡ area_digits b → a ≡ b
 one_area a b ha hb e =
     let parts = same_fields (address_digits a.start) (address_digits a.len) (address_digits b.start) (address_digits b.len) (length-address_digits a.start ∙ sym (length-address_digits b.start)) e in
@@ -147,6 +165,12 @@ one_device D2314 D2314 e = refl
 one_device D2311 D2314 e = apart 49 52 refl (at 3 (codes "2311") (codes "2314") e)
 one_device D2314 D2311 e = apart 52 49 refl (at 3 (codes "2314") (codes "2311") e)
 
+one_header : (g h : VersionNumber) → header_digit g ≡ header_digit h → g ≡ h
+one_header numbers.One numbers.One e = refl
+one_header numbers.Two numbers.Two e = refl
+one_header numbers.One numbers.Two e = apart 49 50 refl (at 0 (codes "1") (codes "2") e)
+one_header numbers.Two numbers.One e = apart 50 49 refl (at 0 (codes "2") (codes "1") e)
+
 -- ---- a line says one thing
 
 -- a number that tells the forms apart, of the first letters of a line
@@ -154,14 +178,16 @@ abbrev tag_of : List ℕ → ℕ
 tag_of l = cond (get_or l 0 0 == 115) (get_or l 2 0 * 1000 + get_or l 4 0) (get_or l 0 0 * 1000 + get_or l 1 0)
 
 pub one_item : (i j : Item) → HasForm i → HasForm j → line i ≡ line j → i ≡ j
-one_item header header hi hj e = refl
-one_item header j hi hj e = apart (tag_of (line header)) (tag_of (line j)) refl (ap tag_of e)
+one_item (header g) (header h) hi hj e = ap header (one_header g h (cancel (codes "chanv deck ") _ _ e))
+one_item (header h) j hi hj e = apart (tag_of (line (header h))) (tag_of (line j)) refl (ap tag_of e)
 one_item (device c) (device d) hi hj e = ap device (one_device c d (cancel (codes "device ") _ _ e))
 one_item (device c) j hi hj e = apart (tag_of (line (device c))) (tag_of (line j)) refl (ap tag_of e)
 one_item (mask m) (mask n) hi hj e = ap mask (one_byte m n hi hj (cancel (codes "mask ") _ _ e))
 one_item (mask m) j hi hj e = apart (tag_of (line (mask m))) (tag_of (line j)) refl (ap tag_of e)
 one_item (start a) (start b) hi hj e = ap start (one_address a b hi hj (cancel (codes "start ") _ _ e))
 one_item (start a) j hi hj e = apart (tag_of (line (start a))) (tag_of (line j)) refl (ap tag_of e)
+one_item (limit m) (limit n) hi hj e = ap limit (one_limit m n (cancel (codes "limit ") _ _ e))
+one_item (limit m) j hi hj e = apart (tag_of (line (limit m))) (tag_of (line j)) refl (ap tag_of e)
 one_item (extent a b) (extent c d) hi hj e = one_extent a b c d e
 one_item (extent a b) j hi hj e = apart (tag_of (line (extent a b))) (tag_of (line j)) refl (ap tag_of e)
 one_item (fetch a) (fetch b) hi hj e = ap fetch (one_area a b hi hj (cancel (codes "fetch ") _ _ e))

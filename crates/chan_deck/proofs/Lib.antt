@@ -11,8 +11,9 @@ pub mod FrontLemmas
 pub mod CauseLemmas
 pub mod RefusalLemmas
 pub mod LineRefusals
+pub mod EachText
 pub mod FillLemmas
 pub mod WriteLemmas
-pub mod SevenDigits
+pub mod AddressLemmas
 pub mod SameLemmas
 pub mod ListingLemmas

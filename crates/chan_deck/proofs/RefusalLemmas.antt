@@ -12,7 +12,7 @@ use Rattle.chan_deck.specs.declared.error.DeckError.TheVariants as errors
 use Rattle.chan_deck.proofs.StepLemmas.{said, all-append}
 use Rattle.chan_deck.proofs.DeckRuns.{run-append, reads_deck}
 use Rattle.chan_deck.proofs.FrontLemmas.{one_deck, is_state, says_said, lines_left, refused_at_line, refused_at_end, whole_front, take_front, drop_front, length-said, split_deck, items_form, said_once, join}
-use Rattle.chan_deck.proofs.CauseLemmas.{is_whole, line_cause, all_refused, end_cause, after_cause}
+use Rattle.chan_deck.proofs.CauseLemmas.{is_whole, one_rank, line_cause, all_refused, end_cause, after_cause}
 use Rattle.chan_deck.specs.declared.cause.Cause.{Cause}
 use Rattle.chan_deck.specs.declared.cause.Cause.TheVariants as causes
 
@@ -90,7 +90,7 @@ refuses_end t s n rest st e open_yet = record {
 }
 
 -- what stands first in a text: a whole line, or all of it without a line feed
-abbrev StandsFirst : List ℕ → Type 0
+abbrev pub StandsFirst : List ℕ → Type 0
 StandsFirst t = ((l : List ℕ) × (after : List ℕ) × (split t ≡ (l ∷ (split after).0, (split after).1))) ⊎ (split t ≡ ([], t))
 
 onto_first_line : (b : ℕ) (t l after : List ℕ) → split t ≡ (l ∷ (split after).0, (split after).1) → onto_first b (split t) ≡ ((b ∷ l) ∷ (split after).0, (split after).1)
@@ -101,7 +101,7 @@ first_at true b t h e rest = inl ([], t, e)
 first_at false b t h e (inl x) = inl (b ∷ x.0, x.1, e ∙ onto_first_line b t x.0 x.1 x.2)
 first_at false b t h e (inr x) = inr (e ∙ ap (λ p. onto_first b p) x)
 
-stands_first : (t : List ℕ) → StandsFirst t
+pub stands_first : (t : List ℕ) → StandsFirst t
 unfolding split
 stands_first [] = inr refl
 stands_first (b ∷ t) = first_at (b == 10) b t refl refl (stands_first t)
@@ -115,7 +115,7 @@ refuses_more t d n b rest st =
           record {
             none = λ f spells. absurd (omega (arith, ap length (sym (ap (λ (p : List (List ℕ) × List ℕ). p.1) e) ∙ (deck_read t (Whole d) n (b ∷ rest) f st spells (ap (λ (p : List (List ℕ) × List ℕ). p.0) e)).1)));
             at_line = refused_at_end t (Whole d) n (b ∷ rest) st e;
-            for_cause = with_cause t (Whole d) n (b ∷ rest) (part (b ∷ rest)) causes.After st (ap (λ (p : List (List ℕ) × List ℕ). found_in p.0 p.1) e) (after_cause d (part (b ∷ rest)) (is_state t (Whole d) n (b ∷ rest) st) tt);
+            for_cause = with_cause t (Whole d) n (b ∷ rest) (part (b ∷ rest)) causes.After st (ap (λ (p : List (List ℕ) × List ℕ). found_in p.0 p.1) e) (after_cause d (part (b ∷ rest)) tt);
           }
     ]
 
@@ -127,30 +127,11 @@ unfolding split
 spells_deck t d n st =
     let parts : split t ≡ (map line st.said, []) = st.parts ∙ ap (λ x. (x, [])) (append-nil (map line st.said)) in
     let said_all : items d ≡ st.said = says_said t (Whole d) n [] st in (
-      is_state t (Whole d) n [] st,
+      (is_state t (Whole d) n [] st).right,
       sym (join t) ∙ ap (λ (p : List (List ℕ) × List ℕ). text p.0 ++ p.1) parts ∙ append-nil (text (map line st.said)) ∙ ap (λ x. text (map line x)) (sym said_all),
     )
 
 -- ---- one refusal
-
-abbrev ranked : ℕ → Cause
-ranked n =
-    cond (n == 1) causes.Ended (cond (n == 2) causes.Header (cond (n == 3) causes.Form (cond (n == 4) causes.Mask (cond (n == 5) causes.ExtentBackwards (cond (n == 6) causes.ExtentPastDevice (cond (n == 7) causes.Size (cond (n == 8) causes.PutAddress (cond (n == 9) causes.PutZero (causes.After)))))))))
-
-ranked-rank : (c : Cause) → ranked (rank c) ≡ c
-ranked-rank causes.Ended = refl
-ranked-rank causes.Header = refl
-ranked-rank causes.Form = refl
-ranked-rank causes.Mask = refl
-ranked-rank causes.ExtentBackwards = refl
-ranked-rank causes.ExtentPastDevice = refl
-ranked-rank causes.Size = refl
-ranked-rank causes.PutAddress = refl
-ranked-rank causes.PutZero = refl
-ranked-rank causes.After = refl
-
-one_rank : (b c : Cause) → rank b ≡ rank c → b ≡ c
-one_rank b c e = sym (ranked-rank b) ∙ ap ranked e ∙ ranked-rank c
 
 one_cause : (before : List Item) (found : Found) (b c : Cause) → IsCause before found b → IsCause before found c → b ≡ c
 one_cause before found b c hb hc =

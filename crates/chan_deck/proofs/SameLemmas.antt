@@ -8,8 +8,10 @@ use Rattle.ccw_core.specs.declared.areas.Area.{Area}
 use Rattle.ckd_core.specs.Cylinders.{same_extents}
 use Rattle.ckd_core.specs.declared.device.Device.{Device}
 use Rattle.ckd_core.specs.declared.device.Device.TheVariants.{D2311, D2314}
-use Rattle.chan_deck.specs.Image.{Image}
-use Rattle.chan_deck.specs.Same.{model_of, same_areas, same_decks, same_decks-IsEquivalence}
+use Rattle.chan_deck.specs.Image.{Image, number_of, limit_of}
+use Rattle.chan_deck.specs.declared.version.Version.{Version}
+use Rattle.chan_deck.specs.declared.version.Version.TheVariants.{One, Two}
+use Rattle.chan_deck.specs.Same.{model_of, same_areas, same_versions, same_decks, same_decks-IsEquivalence}
 
 both : (a b : Bool) → (a && b) ≡ true → (a ≡ true) × (b ≡ true)
 both true b e = (refl, e)
@@ -46,9 +48,18 @@ one_model D2314 D2314 e = refl
 one_model D2311 D2314 e = absurd (omega arith)
 one_model D2314 D2311 e = absurd (omega arith)
 
+one_version : (a b : Version) → number_of a ≡ number_of b → limit_of a ≡ limit_of b → a ≡ b
+one_version One One n l = refl
+one_version (Two a) (Two b) n l = ap Two l
+one_version One (Two b) n l = absurd (omega arith)
+one_version (Two a) One n l = absurd (omega arith)
+
 pub same_is : (d e : Image) → same_decks d e ≡ true → d ≡ e
 same_is d e h =
-    let a = both (nat_eq (model_of d.device) (model_of e.device)) _ h in
+    let v = both (same_versions d.version e.version) _ h in
+    let n = both (nat_eq (number_of d.version) (number_of e.version)) _ v.0 in
+    let a = both (nat_eq (model_of d.device) (model_of e.device)) _ v.1 in
+    let version : d.version ≡ e.version = one_version d.version e.version (eqb-true _ _ n.0) (eqb-true _ _ n.1) in
     let b = both (nat_eq d.mask e.mask) _ a.1 in
     let c = both (nat_eq d.start e.start) _ b.1 in
     let x = both (same_extents d.extents e.extents) _ c.1 in
@@ -61,7 +72,9 @@ same_is d e h =
     let fetch : d.fetch ≡ e.fetch = (slice_eq-Decides area_decides d.fetch e.fetch (same_areas d.fetch e.fetch) refl).0 f.0 in
     let store : d.store ≡ e.store = (slice_eq-Decides area_decides d.store e.store (same_areas d.store e.store) refl).0 s.0 in
     let storage : d.storage ≡ e.storage = (bytes_eq-Decides d.storage e.storage).0 s.1 in
-    ap (λ v. record d { device = v }) device ∙ ap (λ v. record d { device = e.device; mask = v }) mask ∙ ap (λ v. record d { device = e.device; mask = e.mask; start = v }) start
+    ap (λ v. record d { version = v }) version ∙ ap (λ v. record d { version = e.version; device = v }) device
+    ∙ ap (λ v. record d { version = e.version; device = e.device; mask = v }) mask
+    ∙ ap (λ v. record d { version = e.version; device = e.device; mask = e.mask; start = v }) start
     ∙ ap (λ v. record e { extents = v; fetch = d.fetch; store = d.store; storage = d.storage }) extents ∙ ap (λ v. record e { fetch = v; store = d.store; storage = d.storage }) fetch
     ∙ ap (λ v. record e { store = v; storage = d.storage }) store ∙ ap (λ v. record e { storage = v }) storage
 

@@ -1,5 +1,5 @@
 -- What has been said where reading stands, and that a step says one line more.
-use Rattle.std.proofs.Common.{◌≡◌, ℕ, zero, suc, ◌+◌, ◌-◌, ◌/◌, ◌%◌, ◌^◌, ◌<◌, ◌≤◌, Bool, true, false, cond, ltb, List, [], ◌∷◌, ◌++◌, length, map, Result, Ok, Err, Option, Some, refl, sym, ap, subst, ◌∙◌, append_assoc, arith, replicate, length-append, lit<, ◌&&◌}
+use Rattle.std.proofs.Common.{◌≡◌, ℕ, zero, suc, ◌+◌, ◌-◌, ◌/◌, ◌%◌, ◌^◌, ◌<◌, ◌≤◌, Bool, true, false, cond, ltb, List, [], ◌∷◌, ◌++◌, length, map, Result, Ok, Err, Option, Some, None, refl, sym, ap, subst, ◌∙◌, append_assoc, arith, replicate, length-append, lit<, ◌&&◌}
 use Rattle.std.specs.Prelude.{◌==◌, nat_le, not}
 use Rattle.std.proofs.lemmas.Bool.{ltb-false, leb-true, eqb-true}
 use Rattle.chan_deck.proofs.PutLemmas.{length_pad, puts-padded, puts-put}
@@ -9,17 +9,21 @@ use Rattle.ccw_core.specs.declared.areas.Area.{Area}
 use Rattle.ckd_core.specs.declared.device.Device.{Device}
 use Rattle.ckd_core.specs.Cylinders.{IsExtent}
 use Rattle.ckd_core.specs.Mask.{is_mask}
-use Rattle.chan_deck.specs.Item.{Item, header, device, mask, start, extent, fetch, store, storage, put, end, HasForm, IsByte, IsAddress, IsArea}
-use Rattle.chan_deck.specs.Image.{IsDeck, items, puts, is_zero, extent_of}
-use Rattle.chan_deck.specs.Refused.{last_of, is_size}
-use Rattle.chan_deck.specs.Reading.{Heading, State, Opening, Named, OnDevice, Masked, Listing, Filling, Whole, step, pad, image_of, on_extent, on_storage, is_empty}
+use Rattle.chan_deck.specs.Item.{Item, header, device, mask, start, limit, extent, fetch, store, storage, put, end, HasForm, IsByte, IsAddress, IsArea}
+use Rattle.chan_deck.specs.Image.{Image, IsDeck, HasLimit, header_of, limit_line, items, puts, is_zero, extent_of}
+use Rattle.chan_deck.specs.Refused.{last_of, is_second, is_size, is_limit}
+use Rattle.chan_deck.specs.Reading.{Heading, State, Opening, Named, OnDevice, Masked, Started, Listing, Filling, Whole, step, no_form, pad, image_of, on_start, on_limit, on_extent, on_storage, on_put, is_empty}
+use Rattle.chan_walk.specs.Limit.{IsLimit}
+use Rattle.chan_deck.specs.declared.version.Version.TheVariants.{One, Two}
+use Rattle.chan_deck.specs.declared.version.VersionNumber.{VersionNumber}
+use Rattle.chan_deck.specs.declared.version.VersionNumber.TheVariants as numbers
 use Rattle.chan_deck.specs.declared.cause.Cause.{Cause}
 use Rattle.chan_deck.specs.declared.cause.Cause.TheVariants as causes
 
 -- ---- what has been said
 
 abbrev pub heading : Heading → List Item
-heading h = header ∷ device h.device ∷ mask h.mask ∷ start h.start ∷ []
+heading h = header (header_of h.version) ∷ device h.device ∷ mask h.mask ∷ start h.start ∷ limit_line h.version
 
 abbrev pub lists : Heading → List (ℕ × ℕ) → List Area → List Area → List Item
 lists h es fs ss = heading h ++ map extent_of es ++ map fetch fs ++ map store ss
@@ -27,14 +31,16 @@ lists h es fs ss = heading h ++ map extent_of es ++ map fetch fs ++ map store ss
 -- the lines that lead to a state
 abbrev pub said : State → List Item
 said Opening = []
-said Named = header ∷ []
-said (OnDevice v) = header ∷ device v ∷ []
-said (Masked v m) = header ∷ device v ∷ mask m ∷ []
+said (Named h) = header h ∷ []
+said (OnDevice h v) = header h ∷ device v ∷ []
+said (Masked h v m) = header h ∷ device v ∷ mask m ∷ []
+said (Started v m a) = header numbers.Two ∷ device v ∷ mask m ∷ start a ∷ []
 said (Listing h es fs ss) = lists h es fs ss
 said (Filling h es fs ss n bytes) = lists h es fs ss ++ storage n ∷ puts (length bytes / 8) 0 bytes
 said (Whole d) = items d
 
 pub record IsHeading (h : Heading) : Type 0 where
+  pub limit : HasLimit h.version
   pub mask : IsByte h.mask × (is_mask h.mask ≡ true)
   pub start : IsAddress h.start
 
@@ -50,29 +56,45 @@ pub record AreLists (h : Heading) (es : List (ℕ × ℕ)) (fs ss : List Area) :
   pub fetch : AllByRecursion IsArea fs
   pub store : AllByRecursion IsArea ss
 
--- what came last: the line of storage, or the put that reaches furthest
-abbrev pub EndsAt : Option Item → ℕ → ℕ → Type 0
-EndsAt (Some (storage m)) n reach = (m ≡ n) × (reach ≡ 0)
-EndsAt (Some (put a w)) n reach = a + 8 ≡ reach
-EndsAt _ n reach = ⊥
-
 pub record IsFilled (h : Heading) (es : List (ℕ × ℕ)) (fs ss : List Area) (n : ℕ) (front : List ℕ) : Type 0 where
   pub some : 0 < length es
   pub size : is_size n ≡ true
   pub within : length front ≤ n
   pub words : length front % 8 ≡ 0
   pub bytes : AllByRecursion IsByte front
-  pub last : EndsAt (last_of (said (Filling h es fs ss n front))) n (length front)
+
+-- what holds of what was read
+abbrev pub IsRight : State → Type 0
+IsRight Opening = Unit {0}
+IsRight (Named h) = Unit {0}
+IsRight (OnDevice h v) = Unit {0}
+IsRight (Masked h v m) = IsByte m × (is_mask m ≡ true)
+IsRight (Started v m a) = (IsByte m × (is_mask m ≡ true)) × IsAddress a
+IsRight (Listing h es fs ss) = AreLists h es fs ss
+IsRight (Filling h es fs ss n bytes) = AreLists h es fs ss × IsFilled h es fs ss n bytes
+IsRight (Whole d) = IsDeck d
+
+-- where a reading ends: what came last there
+pub data Ends : State → Option Item → Type 0 where
+  at_front : Ends Opening None
+  at_header : (h : VersionNumber) → Ends (Named h) (Some (header h))
+  at_device : (h : VersionNumber) (v : Device) → Ends (OnDevice h v) (Some (device v))
+  at_mask : (h : VersionNumber) (v : Device) (m : ℕ) → Ends (Masked h v m) (Some (mask m))
+  at_start : (v : Device) (m a : ℕ) → Ends (Listing (record { version = One; device = v; mask = m; start = a }) [] [] []) (Some (start a))
+  at_second_start : (v : Device) (m a : ℕ) → Ends (Started v m a) (Some (start a))
+  at_limit : (n : ℕ) (v : Device) (m a : ℕ) → Ends (Listing (record { version = Two n; device = v; mask = m; start = a }) [] [] []) (Some (limit n))
+  at_extent : (h : Heading) (e : ℕ × ℕ) (es : List (ℕ × ℕ)) (first last : ℕ) → Ends (Listing h (e ∷ es) [] []) (Some (extent first last))
+  at_fetch : (h : Heading) (e : ℕ × ℕ) (es : List (ℕ × ℕ)) (f : Area) (fs : List Area) (a : Area) → Ends (Listing h (e ∷ es) (f ∷ fs) []) (Some (fetch a))
+  at_store : (h : Heading) (e : ℕ × ℕ) (es : List (ℕ × ℕ)) (fs : List Area) (s : Area) (ss : List Area) (a : Area) → Ends (Listing h (e ∷ es) fs (s ∷ ss)) (Some (store a))
+  at_storage : (h : Heading) (es : List (ℕ × ℕ)) (fs ss : List Area) (n : ℕ) → Ends (Filling h es fs ss n []) (Some (storage n))
+  at_put : (h : Heading) (es : List (ℕ × ℕ)) (fs ss : List Area) (n : ℕ) (bytes : List ℕ) (a : ℕ) (word : List ℕ) → a + 8 ≡ length bytes
+      → Ends (Filling h es fs ss n bytes) (Some (put a word))
+  at_end : (d : Image) → Ends (Whole d) (Some end)
 
 -- what holds where reading stands
-abbrev pub IsState : State → Type 0
-IsState Opening = Unit {0}
-IsState Named = Unit {0}
-IsState (OnDevice v) = Unit {0}
-IsState (Masked v m) = IsByte m × (is_mask m ≡ true)
-IsState (Listing h es fs ss) = AreLists h es fs ss
-IsState (Filling h es fs ss n bytes) = AreLists h es fs ss × IsFilled h es fs ss n bytes
-IsState (Whole d) = IsDeck d
+pub record IsState (s : State) : Type 0 where
+  pub right : IsRight s
+  pub ends : Ends s (last_of (said s))
 
 -- ---- tools
 
@@ -130,15 +152,33 @@ come_more (x ∷ es) e fs ss = tt
 
 -- ---- steps
 
--- what a step gives is a state, and says one line more
-abbrev Says_more : State → State → Item → Type 0
-Says_more s next i = IsState next × (said next ≡ said s ++ i ∷ [])
+-- what a step gives is right, ends with its line, and says one line more
+abbrev pub Says_more : State → State → Item → Type 0
+Says_more s next i = IsRight next × Ends next (Some i) × (said next ≡ said s ++ i ∷ [])
+
+extent_ends : (h : Heading) (es : List (ℕ × ℕ)) (first last : ℕ) → Ends (Listing h (es ++ (first, last) ∷ []) [] []) (Some (extent first last))
+extent_ends h [] first last = at_extent h (first, last) [] first last
+extent_ends h (e ∷ es) first last = at_extent h e (es ++ (first, last) ∷ []) first last
+
+fetch_ends : (h : Heading) (es : List (ℕ × ℕ)) (fs : List Area) (a : Area) → not (is_empty es) ≡ true → Ends (Listing h es (fs ++ a ∷ []) []) (Some (fetch a))
+fetch_ends h [] fs a some = absurd cc
+fetch_ends h (e ∷ es) [] a some = at_fetch h e es a [] a
+fetch_ends h (e ∷ es) (f ∷ fs) a some = at_fetch h e es f (fs ++ a ∷ []) a
+
+store_ends : (h : Heading) (es : List (ℕ × ℕ)) (fs ss : List Area) (a : Area) → not (is_empty es) ≡ true → Ends (Listing h es fs (ss ++ a ∷ [])) (Some (store a))
+store_ends h [] fs ss a some = absurd cc
+store_ends h (e ∷ es) fs [] a some = at_store h e es fs a [] a
+store_ends h (e ∷ es) fs (s ∷ ss) a some = at_store h e es fs s (ss ++ a ∷ []) a
 
 to : (s x next : State) (i : Item) → x ≡ next → Says_more s x i → Says_more s next i
 to s x next i e h = subst (λ (t : State). Says_more s t i) e h
 
 lists_extent : (h : Heading) (es : List (ℕ × ℕ)) (e : ℕ × ℕ) → lists h (es ++ e ∷ []) [] [] ≡ lists h es [] [] ++ extent_of e ∷ []
-lists_extent h es e = simp (map-append, append-nil, append_assoc)
+lists_extent h es e =
+    let front = heading h ++ map extent_of es in
+    let none = λ (t : List Item). append-nil (t ++ []) ∙ append-nil t in
+    none (heading h ++ map extent_of (es ++ e ∷ [])) ∙ ap (λ t. heading h ++ t) (map-append extent_of es (e ∷ []))
+    ∙ sym (append_assoc (heading h) (map extent_of es) (extent_of e ∷ [])) ∙ ap (λ t. t ++ extent_of e ∷ []) (sym (none front))
 
 lists_fetch : (h : Heading) (es : List (ℕ × ℕ)) (fs : List Area) (a : Area) → lists h es (fs ++ a ∷ []) [] ≡ lists h es fs [] ++ fetch a ∷ []
 lists_fetch h es fs a =
@@ -167,6 +207,7 @@ of_extent h es fs ss first last next are e =
         fetch = tt;
         store = tt;
       },
+      extent_ends h es first last,
       lists_extent h es (first, last) ∙ ap (λ fs. lists h es fs [] ++ extent first last ∷ []) (sym (is_nil fs none.0))
           ∙ ap (λ ss. lists h es fs ss ++ extent first last ∷ []) (sym (is_nil ss none.1)),
     )
@@ -186,6 +227,7 @@ of_fetch h es fs ss a next are form e =
         fetch = all-append IsArea fs (a ∷ []) are.fetch (form, tt);
         store = are.store;
       },
+      subst (λ x. Ends (Listing h es (fs ++ a ∷ []) x) (Some (fetch a))) (sym nil) (fetch_ends h es fs a both.0),
       ap (λ ss. lists h es (fs ++ a ∷ []) ss) nil ∙ lists_fetch h es fs a ∙ ap (λ ss. lists h es fs ss ++ fetch a ∷ []) (sym nil),
     )
 
@@ -202,6 +244,7 @@ of_store h es fs ss a next are form e =
         fetch = are.fetch;
         store = all-append IsArea ss (a ∷ []) are.store (form, tt);
       },
+      store_ends h es fs ss a g.0,
       lists_store h es fs ss a,
     )
 
@@ -221,9 +264,9 @@ of_storage h es fs ss n next are e =
           within = omega arith;
           words = refl;
           bytes = tt;
-          last = subst (λ o. EndsAt o n 0) (sym (ap last_of says ∙ last_of-push (lists h es fs ss) (storage n))) (refl, refl);
         },
       ),
+      at_storage h es fs ss n,
       says,
     )
 
@@ -234,7 +277,7 @@ bytes_zeros (suc n) = (lit< tt, bytes_zeros n)
 bytes_pad : (bytes : List ℕ) (n : ℕ) → AllByRecursion IsByte bytes → AllByRecursion IsByte (pad bytes n)
 bytes_pad bytes n h = all-append IsByte bytes (replicate (n - length bytes) 0) h (bytes_zeros (n - length bytes))
 
-of_put : (h : Heading) (es : List (ℕ × ℕ)) (fs ss : List Area) (n : ℕ) (bytes : List ℕ) (a : ℕ) (word : List ℕ) (next : State) → IsState (Filling h es fs ss n bytes) → HasForm (put a word)
+of_put : (h : Heading) (es : List (ℕ × ℕ)) (fs ss : List Area) (n : ℕ) (bytes : List ℕ) (a : ℕ) (word : List ℕ) (next : State) → IsRight (Filling h es fs ss n bytes) → HasForm (put a word)
     → step (Filling h es fs ss n bytes) (put a word) ≡ Ok next → Says_more (Filling h es fs ss n bytes) next (put a word)
 of_put h es fs ss n bytes a word next is form e =
     let x = Filling h es fs ss n (pad bytes a ++ word) in
@@ -259,20 +302,21 @@ of_put h es fs ss n bytes a word next is form e =
           within = rw len inside;
           words = rw len (omega arith);
           bytes = all-append IsByte (pad bytes a) word (bytes_pad bytes a is.1.bytes) form.1.1;
-          last = subst (λ o. EndsAt o n (length (pad bytes a ++ word))) (sym (ap last_of says ∙ last_of-push (said (Filling h es fs ss n bytes)) (put a word))) (sym len);
         },
       ),
+      at_put h es fs ss n (pad bytes a ++ word) a word (sym len),
       says,
     )
 
 -- the deck that a filled state would be
-pub filled_is_deck : (h : Heading) (es : List (ℕ × ℕ)) (fs ss : List Area) (n : ℕ) (bytes : List ℕ) → IsState (Filling h es fs ss n bytes)
+pub filled_is_deck : (h : Heading) (es : List (ℕ × ℕ)) (fs ss : List Area) (n : ℕ) (bytes : List ℕ) → IsRight (Filling h es fs ss n bytes)
     → IsDeck (image_of h es fs ss (pad bytes n)) × (items (image_of h es fs ss (pad bytes n)) ≡ said (Filling h es fs ss n bytes) ++ end ∷ [])
 filled_is_deck h es fs ss n bytes is =
     let parts = size_parts n is.1.size in
     let len = length_pad bytes n is.1.within in
     let p = puts-padded n bytes is.1.within parts.0 is.1.words in (
       record {
+        limit = is.0.heading.limit;
         mask = is.0.heading.mask;
         start = is.0.heading.start;
         extents = (is.1.some, is.0.extents);
@@ -285,34 +329,57 @@ filled_is_deck h es fs ss n bytes is =
       rw (len, p) refl,
     )
 
-of_end : (h : Heading) (es : List (ℕ × ℕ)) (fs ss : List Area) (n : ℕ) (bytes : List ℕ) (next : State) → IsState (Filling h es fs ss n bytes) → step (Filling h es fs ss n bytes) end ≡ Ok next
+of_end : (h : Heading) (es : List (ℕ × ℕ)) (fs ss : List Area) (n : ℕ) (bytes : List ℕ) (next : State) → IsRight (Filling h es fs ss n bytes) → step (Filling h es fs ss n bytes) end ≡ Ok next
     → Says_more (Filling h es fs ss n bytes) next end
 of_end h es fs ss n bytes next is e =
-    to (Filling h es fs ss n bytes) (Whole (image_of h es fs ss (pad bytes n))) next end (ok_is _ _ e) (filled_is_deck h es fs ss n bytes is)
+    let d = image_of h es fs ss (pad bytes n) in
+    let whole = filled_is_deck h es fs ss n bytes is in
+    to (Filling h es fs ss n bytes) (Whole d) next end (ok_is _ _ e) (whole.0, at_end d, whole.1)
 
-of_mask : (v : Device) (m : ℕ) (next : State) → IsByte m → step (OnDevice v) (mask m) ≡ Ok next → Says_more (OnDevice v) next (mask m)
-of_mask v m next form e =
-    let g = chosen (is_mask m) (Ok (Masked v m)) causes.Mask next e in
-    to (OnDevice v) (Masked v m) next (mask m) (ok_is _ _ g.1) ((form, g.0), refl)
+of_mask : (h : VersionNumber) (v : Device) (m : ℕ) (next : State) → IsByte m → step (OnDevice h v) (mask m) ≡ Ok next → Says_more (OnDevice h v) next (mask m)
+of_mask h v m next form e =
+    let g = chosen (is_mask m) (Ok (Masked h v m)) causes.Mask next e in
+    to (OnDevice h v) (Masked h v m) next (mask m) (ok_is _ _ g.1) ((form, g.0), at_mask h v m, refl)
+
+pub limit_parts : (n : ℕ) → is_limit n ≡ true → IsLimit n
+limit_parts n e =
+    let t = and_both (nat_le 1 n) (nat_le n 65536) e in
+    (leb-true _ _ t.0, leb-true _ _ t.1)
+
+of_limit : (v : Device) (m a n : ℕ) (next : State) → IsRight (Started v m a) → step (Started v m a) (limit n) ≡ Ok next → Says_more (Started v m a) next (limit n)
+of_limit v m a n next is e =
+    let x = Listing (record { version = Two n; device = v; mask = m; start = a }) [] [] [] in
+    let g = chosen (is_limit n) (Ok x) causes.Limit next e in
+    to (Started v m a) x next (limit n) (ok_is _ _ g.1)
+    (record { heading = record { limit = limit_parts n g.0; mask = is.0; start = is.1 }; after = (refl, refl); extents = tt; fetch = tt; store = tt }, at_limit n v m a, refl)
+
+-- a step that goes on leads to what is right, and says one line more
+says_more : (s next : State) (i : Item) → IsRight s → HasForm i → step s i ≡ Ok next → Says_more s next i
+says_more Opening next (header h) is form e = to Opening (Named h) next (header h) (ok_is _ _ e) (tt, at_header h, refl)
+says_more Opening next _ is form e = absurd cc
+says_more (Named h) next (device v) is form e = to (Named h) (OnDevice h v) next (device v) (ok_is _ _ e) (tt, at_device h v, refl)
+says_more (Named h) next _ is form e = absurd cc
+says_more (OnDevice h v) next (mask m) is form e = of_mask h v m next form e
+says_more (OnDevice h v) next _ is form e = absurd cc
+says_more (Masked numbers.One v m) next (start a) is form e =
+    to (Masked numbers.One v m) (on_start numbers.One v m a) next (start a) (ok_is _ _ e)
+    (record { heading = record { limit = tt; mask = is; start = form }; after = (refl, refl); extents = tt; fetch = tt; store = tt }, at_start v m a, refl)
+says_more (Masked numbers.Two v m) next (start a) is form e = to (Masked numbers.Two v m) (Started v m a) next (start a) (ok_is _ _ e) ((is, form), at_second_start v m a, refl)
+says_more (Masked h v m) next _ is form e = absurd cc
+says_more (Started v m a) next (limit n) is form e = of_limit v m a n next is e
+says_more (Started v m a) next _ is form e = absurd cc
+says_more (Listing h es fs ss) next (extent first last) is form e = of_extent h es fs ss first last next is e
+says_more (Listing h es fs ss) next (fetch a) is form e = of_fetch h es fs ss a next is form e
+says_more (Listing h es fs ss) next (store a) is form e = of_store h es fs ss a next is form e
+says_more (Listing h es fs ss) next (storage n) is form e = of_storage h es fs ss n next is e
+says_more (Listing h es fs ss) next _ is form e = absurd cc
+says_more (Filling h es fs ss n bytes) next (put a word) is form e = of_put h es fs ss n bytes a word next is form e
+says_more (Filling h es fs ss n bytes) next end is form e = of_end h es fs ss n bytes next is e
+says_more (Filling h es fs ss n bytes) next _ is form e = absurd cc
+says_more (Whole d) next _ is form e = absurd cc
 
 -- a step that goes on leads to a state, and says one line more
 pub step-says : (s next : State) (i : Item) → IsState s → HasForm i → step s i ≡ Ok next → IsState next × (said next ≡ said s ++ i ∷ [])
-step-says Opening next header is form e = to Opening Named next header (ok_is _ _ e) (tt, refl)
-step-says Opening next _ is form e = absurd cc
-step-says Named next (device v) is form e = to Named (OnDevice v) next (device v) (ok_is _ _ e) (tt, refl)
-step-says Named next _ is form e = absurd cc
-step-says (OnDevice v) next (mask m) is form e = of_mask v m next form e
-step-says (OnDevice v) next _ is form e = absurd cc
-step-says (Masked v m) next (start a) is form e =
-    to (Masked v m) (Listing (record { device = v; mask = m; start = a }) [] [] []) next (start a) (ok_is _ _ e)
-    (record { heading = record { mask = is; start = form }; after = (refl, refl); extents = tt; fetch = tt; store = tt }, refl)
-step-says (Masked v m) next _ is form e = absurd cc
-step-says (Listing h es fs ss) next (extent first last) is form e = of_extent h es fs ss first last next is e
-step-says (Listing h es fs ss) next (fetch a) is form e = of_fetch h es fs ss a next is form e
-step-says (Listing h es fs ss) next (store a) is form e = of_store h es fs ss a next is form e
-step-says (Listing h es fs ss) next (storage n) is form e = of_storage h es fs ss n next is e
-step-says (Listing h es fs ss) next _ is form e = absurd cc
-step-says (Filling h es fs ss n bytes) next (put a word) is form e = of_put h es fs ss n bytes a word next is form e
-step-says (Filling h es fs ss n bytes) next end is form e = of_end h es fs ss n bytes next is e
-step-says (Filling h es fs ss n bytes) next _ is form e = absurd cc
-step-says (Whole d) next _ is form e = absurd cc
+step-says s next i is form e =
+    let more = says_more s next i is.right form e in
+    (record { right = more.0; ends = subst (λ o. Ends next o) (sym (ap last_of more.2 ∙ last_of-push (said s) i)) more.1 }, more.2)

@@ -6,7 +6,7 @@ use Rattle.std.specs.Prelude.{codes}
 use Rattle.ccw_core.specs.declared.areas.Area.{Area}
 use Rattle.ckd_core.specs.Cylinders.{IsExtent}
 use Rattle.chan_deck.specs.Item.{Item, header, device, mask, start, fetch, store, storage, put, end, line, text, area_digits}
-use Rattle.chan_deck.specs.Image.{Image, extent_of, is_zero, puts, spelling}
+use Rattle.chan_deck.specs.Image.{Image, extent_of, is_zero, puts, spelling, header_of, limit_line}
 use Rattle.chan_deck.proofs.FrontLemmas.{text-append}
 
 pub extent_at : (es : List (ℕ × ℕ)) (i : ℕ) → AllByRecursion IsExtent es → i < length es → IsExtent (get_or es i (0, 0))
@@ -74,10 +74,10 @@ text_parts : (a b : List Item) → text (map line (a ++ b)) ≡ text (map line a
 text_parts a b = ap text (map-append line a b) ∙ text-append (map line a) (map line b)
 
 -- the text of a deck, part by part
-pub spelling_parts : (d : Image) → ((((text (map line (header ∷ device d.device ∷ mask d.mask ∷ start d.start ∷ [])) ++ text (map line (map extent_of d.extents))) ++ text (map line (map fetch d.fetch)))
+pub spelling_parts : (d : Image) → ((((text (map line (header (header_of d.version) ∷ device d.device ∷ mask d.mask ∷ start d.start ∷ limit_line d.version)) ++ text (map line (map extent_of d.extents))) ++ text (map line (map fetch d.fetch)))
     ++ text (map line (map store d.store))) ++ text (map line (storage (length d.storage) ∷ puts (length d.storage / 8) 0 d.storage))) ++ text (map line (end ∷ [])) ≡ spelling d
 spelling_parts d =
-    let H = header ∷ device d.device ∷ mask d.mask ∷ start d.start ∷ [] in
+    let H = header (header_of d.version) ∷ device d.device ∷ mask d.mask ∷ start d.start ∷ limit_line d.version in
     let E = map extent_of d.extents in
     let F = map fetch d.fetch in
     let S = map store d.store in
@@ -88,5 +88,5 @@ spelling_parts d =
     ∙ ap (λ t. t ++ text (map line S)) (text_parts (H ++ E) F
     ∙ ap (λ t. t ++ text (map line F)) (text_parts H E)))))
 
-pub four_parts : (o a b c d : List ℕ) → (((o ++ a) ++ b) ++ c) ++ d ≡ o ++ (a ++ (b ++ (c ++ (d ++ []))))
-four_parts o a b c d = simp (append_assoc, append-nil)
+pub five_parts : (o a b c d e : List ℕ) → ((((o ++ a) ++ b) ++ c) ++ d) ++ e ≡ o ++ (a ++ (b ++ (c ++ (d ++ e))))
+five_parts o a b c d e = simp append_assoc

@@ -10,8 +10,12 @@ IsValue c (Some v) = (v < 16) × (c ≡ slice_index upper_digits v)
 
 -- the byte that two characters spell, if they are digits
 abbrev pub IsPair : ℕ → ℕ → Option ℕ → Type 0
-IsPair h l None = (b : ℕ) → b < 256 → h ≡ slice_index upper_digits (b / 16) → l ≡ slice_index upper_digits (b % 16) → ⊥
-IsPair h l (Some b) = (b < 256) × (h ≡ slice_index upper_digits (b / 16)) × (l ≡ slice_index upper_digits (b % 16))
+IsPair h l None =
+    (b : ℕ) → b < 256 → h ≡ slice_index upper_digits (b / 16)
+    → l ≡ slice_index upper_digits (b % 16) → ⊥
+IsPair h l (Some b) =
+    (b < 256) × (h ≡ slice_index upper_digits (b / 16))
+    × (l ≡ slice_index upper_digits (b % 16))
 
 -- a list that has, for each character, its value
 abbrev pub AreValues : List (Option ℕ) → Type 0

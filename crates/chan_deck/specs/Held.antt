@@ -5,4 +5,13 @@ use Rattle.chan_deck.specs.declared.deck.Deck.TheInside.{Inside}
 -- the image in a deck's fields
 abbrev pub image_held : Inside → Image
 image_held d =
-    record { device = d.device; mask = d.mask; start = d.start; extents = d.extents; fetch = d.fetch.items; store = d.store.items; storage = d.storage.items }
+    record {
+      version = d.version;
+      device = d.device;
+      mask = d.mask;
+      start = d.start;
+      extents = d.extents;
+      fetch = d.fetch.items;
+      store = d.store.items;
+      storage = d.storage.items;
+    }

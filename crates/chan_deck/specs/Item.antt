@@ -6,13 +6,16 @@ use Rattle.hex.specs.Hex.{encode_upper}
 use Rattle.ccw_core.specs.declared.areas.Area.{Area}
 use Rattle.ckd_core.specs.declared.device.Device.{Device}
 use Rattle.ckd_core.specs.declared.device.Device.TheVariants.{D2311, D2314}
+use Rattle.chan_deck.specs.declared.version.VersionNumber.{VersionNumber}
+use Rattle.chan_deck.specs.declared.version.VersionNumber.TheVariants as numbers
 
 -- what a line says
 pub data Item : Type 0 where
-  header : Item
+  header : VersionNumber → Item
   device : Device → Item
   mask : ℕ → Item
   start : ℕ → Item
+  limit : ℕ → Item
   extent : ℕ → ℕ → Item
   fetch : Area → Item
   store : Area → Item
@@ -36,6 +39,17 @@ size_digits n = drop 1 (encode_upper (bytes_high_first 4 n))
 abbrev pub cylinder_digits : ℕ → List ℕ
 cylinder_digits n = (48 + n / 100) ∷ (48 + n / 10 % 10) ∷ (48 + n % 10) ∷ []
 
+-- five decimal digits
+abbrev pub limit_digits : ℕ → List ℕ
+limit_digits n =
+    (48 + n / 10000) ∷ (48 + n / 1000 % 10) ∷ (48 + n / 100 % 10) ∷ (48 + n / 10 % 10)
+    ∷ (48 + n % 10) ∷ []
+
+-- the version that a header names
+abbrev pub header_digit : VersionNumber → List ℕ
+header_digit numbers.One = codes "1"
+header_digit numbers.Two = codes "2"
+
 abbrev pub device_digits : Device → List ℕ
 device_digits D2311 = codes "2311"
 device_digits D2314 = codes "2314"
@@ -46,11 +60,13 @@ area_digits a = address_digits a.start ++ (codes " " ++ address_digits a.len)
 
 -- the line, without its line feed
 abbrev pub line : Item → List ℕ
-line header = codes "chanv deck 1"
+line (header h) = codes "chanv deck " ++ header_digit h
 line (device d) = codes "device " ++ device_digits d
 line (mask m) = codes "mask " ++ byte_digits m
 line (start a) = codes "start " ++ address_digits a
-line (extent first last) = codes "extent " ++ (cylinder_digits first ++ (codes " " ++ cylinder_digits last))
+line (limit n) = codes "limit " ++ limit_digits n
+line (extent first last) =
+    codes "extent " ++ (cylinder_digits first ++ (codes " " ++ cylinder_digits last))
 line (fetch a) = codes "fetch " ++ area_digits a
 line (store a) = codes "store " ++ area_digits a
 line (storage n) = codes "storage " ++ size_digits n
@@ -73,10 +89,11 @@ IsWord word = (length word ≡ 8) × AllByRecursion IsByte word
 
 -- there are digits enough for what is said
 abbrev pub HasForm : Item → Type 0
-HasForm header = Unit {0}
+HasForm (header h) = Unit {0}
 HasForm (device d) = Unit {0}
 HasForm (mask m) = IsByte m
 HasForm (start a) = IsAddress a
+HasForm (limit n) = n < 100000
 HasForm (extent first last) = (first < 1000) × (last < 1000)
 HasForm (fetch a) = IsArea a
 HasForm (store a) = IsArea a

@@ -13,7 +13,8 @@ use Rattle.chan_walk.specs.declared.verdict.Verdict.TheVariants.{Yes, No}
 use Rattle.chan_walk.specs.Place.{is_fresh}
 use Rattle.chan_deck.specs.Texts.{address_text, verdict_line}
 
--- how a CCW is entered: by a new operation, or by the data chain of one that stores, fetches or searches
+-- how a CCW is entered: by a new operation, or by the data chain of one that stores, fetches or
+-- searches
 abbrev pub way_word : Entry → List ℕ
 way_word Fresh = codes "fresh"
 way_word ChainIn = codes "in"
@@ -35,19 +36,35 @@ abbrev pub command_name : Option table.Entry → List ℕ
 command_name None = codes "unknown"
 command_name (Some e) = e.name
 
--- what a CCW is to the operation: a transfer, a part of a data chain, where its code is ignored, or a command
-abbrev pub name_of : Entry → Fields → List ℕ
-name_of entered c = if is_transfer c then codes "transfer-in-channel" else if is_fresh entered then command_name (lookup c.command) else codes "chained"
+-- the command of a CCW's code
+abbrev pub command_of : Option Fields → Option table.Entry
+command_of None = None
+command_of (Some c) = lookup c.command
+
+-- what a CCW is to the operation: a transfer, a part of a data chain, where its code is ignored, or
+-- this command
+abbrev pub name_of : Entry → Fields → Option table.Entry → List ℕ
+name_of entered c command =
+    if is_transfer c then codes "transfer-in-channel"
+    else if is_fresh entered then command_name command
+    else codes "chained"
 
 -- the CCW and its name, where one stands
-abbrev pub word_text : Entry → Option Fields → List ℕ
-word_text entered None = codes "no-ccw"
-word_text entered (Some c) = ccw_text c ++ codes " " ++ name_of entered c
+abbrev pub word_text : Entry → Option Fields → Option table.Entry → List ℕ
+word_text entered None command = codes "no-ccw"
+word_text entered (Some c) command = ccw_text c ++ codes " " ++ name_of entered c command
 
--- `address way transfer mark ccw name`, for a place in this storage, with its line feed
+-- `address way transfer mark ccw name`, for a place at which this CCW stands with this command,
+-- with its line feed
+abbrev pub row_with : Place → Option Fields → Option table.Entry → Bool → List ℕ
+row_with p c command marked =
+    address_text p.address ++ codes " " ++ way_word p.entered ++ codes " "
+    ++ transfer_word p.after_transfer ++ codes " " ++ mark_word marked ++ codes " "
+    ++ word_text p.entered c command ++ 10 ∷ []
+
+-- the row of a place in this storage
 abbrev pub row : List ℕ → Place → Bool → List ℕ
-row s p marked = address_text p.address ++ codes " " ++ way_word p.entered ++ codes " " ++ transfer_word p.after_transfer
-    ++ codes " " ++ mark_word marked ++ codes " " ++ word_text p.entered (ccw_at s p.address) ++ 10 ∷ []
+row s p marked = row_with p (ccw_at s p.address) (command_of (ccw_at s p.address)) marked
 
 -- the verdict names this address
 abbrev pub is_named : Verdict → ℕ → Bool

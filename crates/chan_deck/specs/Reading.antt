@@ -4,9 +4,13 @@ use Rattle.std.specs.List.{AllByRecursion}
 use Rattle.ccw_core.specs.declared.areas.Area.{Area}
 use Rattle.ckd_core.specs.declared.device.Device.{Device}
 use Rattle.ckd_core.specs.Mask.{is_mask}
-use Rattle.chan_deck.specs.Item.{Item, header, device, mask, start, extent, fetch, store, storage, put, end, line, HasForm, Says}
+use Rattle.chan_deck.specs.Item.{Item, header, device, mask, start, limit, extent, fetch, store, storage, put, end, line, HasForm, Says}
 use Rattle.chan_deck.specs.Image.{Image, is_zero}
-use Rattle.chan_deck.specs.Refused.{split, is_size, IsRefused}
+use Rattle.chan_deck.specs.Refused.{split, is_size, is_limit, IsRefused}
+use Rattle.chan_deck.specs.declared.version.VersionNumber.{VersionNumber}
+use Rattle.chan_deck.specs.declared.version.VersionNumber.TheVariants as numbers
+use Rattle.chan_deck.specs.declared.version.Version.{Version}
+use Rattle.chan_deck.specs.declared.version.Version.TheVariants.{One, Two}
 use Rattle.chan_deck.specs.declared.cause.Cause.{Cause}
 use Rattle.chan_deck.specs.declared.cause.Cause.TheVariants as causes
 use Rattle.chan_deck.specs.declared.rows.Lists.{Lists}
@@ -17,16 +21,19 @@ use Rattle.chan_deck.specs.declared.error.DeckError.TheVariants as errors
 
 -- the lines before the lists of a deck
 pub record Heading : Type 0 where
+  pub version : Version
   pub device : Device
   pub mask : ℕ
   pub start : ℕ
 
--- what the lines so far said; in Filling storage is known as far as the last put reaches
+-- what the lines so far said; in Started a limit has to come, and in Filling storage is known as
+-- far as the last put reaches
 pub data State : Type 0 where
   Opening : State
-  Named : State
-  OnDevice : Device → State
-  Masked : Device → ℕ → State
+  Named : VersionNumber → State
+  OnDevice : VersionNumber → Device → State
+  Masked : VersionNumber → Device → ℕ → State
+  Started : Device → ℕ → ℕ → State
   Listing : Heading → List (ℕ × ℕ) → List Area → List Area → State
   Filling : Heading → List (ℕ × ℕ) → List Area → List Area → ℕ → List ℕ → State
   Whole : Image → State
@@ -38,12 +45,34 @@ pad bytes n = bytes ++ replicate (n - length bytes) 0
 -- the image that the lines before the lists, the lists and the bytes of storage make
 abbrev pub image_of : Heading → List (ℕ × ℕ) → List Area → List Area → List ℕ → Image
 image_of h es fs ss bytes =
-    record { device = h.device; mask = h.mask; start = h.start; extents = es; fetch = fs; store = ss; storage = bytes }
+    record {
+      version = h.version;
+      device = h.device;
+      mask = h.mask;
+      start = h.start;
+      extents = es;
+      fetch = fs;
+      store = ss;
+      storage = bytes;
+    }
 
 -- the list has nothing
 abbrev pub is_empty : {X : Type 0} → List X → Bool
 is_empty [] = true
 is_empty (x ∷ xs) = false
+
+-- where the line of the start leads: the limit comes next in version 2
+abbrev pub on_start : VersionNumber → Device → ℕ → ℕ → State
+on_start numbers.One v m a =
+    Listing (record { version = One; device = v; mask = m; start = a }) [] [] []
+on_start numbers.Two v m a = Started v m a
+
+-- the line of the limit ends the heading, if a job may have it
+abbrev pub on_limit : Device → ℕ → ℕ → ℕ → Result State Cause
+on_limit v m a n =
+    if is_limit n
+    then Ok (Listing (record { version = Two n; device = v; mask = m; start = a }) [] [] [])
+    else Err causes.Limit
 
 -- an extent goes behind those before it, if its cylinders are in order and on the device
 abbrev pub on_extent : Heading → List (ℕ × ℕ) → ℕ → ℕ → Result State Cause
@@ -56,23 +85,55 @@ on_extent h es first last =
 abbrev pub on_storage : Heading → List (ℕ × ℕ) → List Area → List Area → ℕ → Result State Cause
 on_storage h es fs ss n = if is_size n then Ok (Filling h es fs ss n []) else Err causes.Size
 
+-- a put goes behind those before it, if it lies in storage and isn't zero
+abbrev pub on_put : Heading → List (ℕ × ℕ) → List Area → List Area → ℕ → List ℕ → ℕ → List ℕ
+    → Result State Cause
+on_put h es fs ss n bytes a word =
+    if a % 8 == 0 && nat_le (length bytes) a && nat_le (a + 8) n
+    then (
+    if is_zero word then Err causes.PutZero else Ok (Filling h es fs ss n (pad bytes a ++ word))
+    )
+    else Err causes.PutAddress
+
+-- which forms may stand where reading stands
+abbrev pub stands : State → Item → Bool
+stands Opening (header h) = true
+stands (Named h) (device v) = true
+stands (OnDevice h v) (mask m) = true
+stands (Masked h v m) (start a) = true
+stands (Started v m a) (limit n) = true
+stands (Listing h es fs ss) (extent first last) = is_empty fs && is_empty ss
+stands (Listing h es fs ss) (fetch a) = not (is_empty es) && is_empty ss
+stands (Listing h es fs ss) (store a) = not (is_empty es)
+stands (Listing h es fs ss) (storage n) = not (is_empty es)
+stands (Filling h es fs ss n bytes) (put a word) = true
+stands (Filling h es fs ss n bytes) end = true
+stands _ _ = false
+
+-- the cause for a line of no form that may stand
+abbrev pub no_form : State → Cause
+no_form Opening = causes.Header
+no_form (Whole d) = causes.After
+no_form _ = causes.Form
+
+-- what a line that may stand does to what the lines before it said
+abbrev pub judged : State → Item → Result State Cause
+judged Opening (header h) = Ok (Named h)
+judged (Named h) (device v) = Ok (OnDevice h v)
+judged (OnDevice h v) (mask m) = if is_mask m then Ok (Masked h v m) else Err causes.Mask
+judged (Masked h v m) (start a) = Ok (on_start h v m a)
+judged (Started v m a) (limit n) = on_limit v m a n
+judged (Listing h es fs ss) (extent first last) = on_extent h es first last
+judged (Listing h es fs ss) (fetch a) = Ok (Listing h es (fs ++ a ∷ []) ss)
+judged (Listing h es fs ss) (store a) = Ok (Listing h es fs (ss ++ a ∷ []))
+judged (Listing h es fs ss) (storage n) = on_storage h es fs ss n
+judged (Filling h es fs ss n bytes) (put a word) = on_put h es fs ss n bytes a word
+judged (Filling h es fs ss n bytes) end = Ok (Whole (image_of h es fs ss (pad bytes n)))
+judged s _ = Err (no_form s)
+
 -- what a line does to what the lines before it said
 abbrev pub step : State → Item → Result State Cause
-step Opening header = Ok Named
-step Opening _ = Err causes.Header
-step Named (device v) = Ok (OnDevice v)
-step (OnDevice v) (mask m) = if is_mask m then Ok (Masked v m) else Err causes.Mask
-step (Masked v m) (start a) = Ok (Listing (record { device = v; mask = m; start = a }) [] [] [])
-step (Listing h es fs ss) (extent first last) = if is_empty fs && is_empty ss then on_extent h es first last else Err causes.Form
-step (Listing h es fs ss) (fetch a) = if not (is_empty es) && is_empty ss then Ok (Listing h es (fs ++ a ∷ []) ss) else Err causes.Form
-step (Listing h es fs ss) (store a) = if not (is_empty es) then Ok (Listing h es fs (ss ++ a ∷ [])) else Err causes.Form
-step (Listing h es fs ss) (storage n) = if not (is_empty es) then on_storage h es fs ss n else Err causes.Form
-step (Filling h es fs ss n bytes) (put a word) =
-    if a % 8 == 0 && nat_le (length bytes) a && nat_le (a + 8) n then (if is_zero word then Err causes.PutZero else Ok (Filling h es fs ss n (pad bytes a ++ word)))
-    else Err causes.PutAddress
-step (Filling h es fs ss n bytes) end = Ok (Whole (image_of h es fs ss (pad bytes n)))
-step (Whole d) _ = Err causes.After
-step _ _ = Err causes.Form
+step s i = if stands s i then judged s i else Err (no_form s)
 
 -- goes on behind a line that was taken, and not behind one that was refused
 abbrev pub go_on : Result State Cause → (State → Result State Cause) → Result State Cause
@@ -92,20 +153,25 @@ pub record Stands (t : List ℕ) (s : State) (n : ℕ) (rest : List ℕ) : Type 
   pub parts : split t ≡ (map line said ++ (split rest).0, (split rest).1)
   pub number : n ≡ length said + 1
 
--- the cause for a line of no form
-abbrev pub no_form : State → Cause
-no_form Opening = causes.Header
-no_form (Whole d) = causes.After
-no_form _ = causes.Form
-
--- the line is refused in the state: by what it says, or since it has none of the forms that may stand
+-- the line is refused in the state: by what it says, or since it has none of the forms that may
+-- stand
 abbrev pub Refuses : State → List ℕ → Cause → Type 0
-Refuses s l c = ((i : Item) × Says l i × (step s i ≡ Err c)) ⊎ (((i : Item) → Says l i → step s i ≡ Err c) × (c ≡ no_form s))
+Refuses s l c =
+    ((i : Item) × Says l i × (step s i ≡ Err c))
+    ⊎ (((i : Item) → Says l i → stands s i ≡ false) × (c ≡ no_form s))
+
+-- wherever a reading stands so, it goes on to stand otherwise
+abbrev pub Leads : State → ℕ → List ℕ → State → ℕ → List ℕ → Type 0
+Leads s n rest next m after = (t : List ℕ) → Stands t s n rest → Stands t next m after
 
 -- the error is that of the text, or want of memory
 abbrev pub IsRefusal : List ℕ → DeckError → Type 0
 IsRefusal t (errors.At n c) = IsRefused t n c
 IsRefusal t errors.Memory = Unit {0}
+
+-- wherever a reading stands so, the error is that of the text, or want of memory
+abbrev pub Fails : State → ℕ → List ℕ → DeckError → Type 0
+Fails s n rest e = (t : List ℕ) → Stands t s n rest → IsRefusal t e
 
 -- what the lists of a deck have so far, and the lines before them
 abbrev pub listing : Heading → Lists → State

@@ -1,11 +1,13 @@
 -- Where a text that spells no deck is refused, and why.
-use Rattle.std.specs.Prelude.{ℕ, ◌+◌, ◌-◌, ◌%◌, ◌<◌, ◌≤◌, ◌≡◌, ◌≢◌, ◌==◌, ◌&&◌, nat_lt, nat_le, Bool, true, false, MatchBool, List, [], ◌∷◌, ◌++◌, length, take, drop, map, if◌then◌else◌, Option, Some, None}
+use Rattle.std.specs.Prelude.{ℕ, ◌+◌, ◌-◌, ◌%◌, ◌<◌, ◌≤◌, ◌≡◌, ◌≢◌, ◌==◌, ◌&&◌, ◌⊎◌, nat_lt, nat_le, not, Bool, true, false, MatchBool, List, [], ◌∷◌, ◌++◌, length, take, drop, map, if◌then◌else◌, Option, Some, None}
 use Rattle.std.specs.List.{AllByRecursion}
 use Rattle.ckd_core.specs.Mask.{is_mask}
-use Rattle.chan_deck.specs.Item.{Item, header, device, mask, start, extent, fetch, store, storage, put, end, line, text, HasForm, Says}
+use Rattle.chan_deck.specs.Item.{Item, header, device, mask, start, limit, extent, fetch, store, storage, put, end, line, text, HasForm, Says}
 use Rattle.chan_deck.specs.Image.{Image, Spells, is_zero}
+use Rattle.chan_deck.specs.declared.version.VersionNumber.{VersionNumber}
+use Rattle.chan_deck.specs.declared.version.VersionNumber.TheVariants as numbers
 use Rattle.chan_deck.specs.declared.cause.Cause.{Cause}
-use Rattle.chan_deck.specs.declared.cause.Cause.TheVariants.{Ended, Header, Form, Mask, ExtentBackwards, ExtentPastDevice, Size, PutAddress, PutZero, After}
+use Rattle.chan_deck.specs.declared.cause.Cause.TheVariants.{Ended, Header, Form, Mask, ExtentBackwards, ExtentPastDevice, Size, PutAddress, PutZero, After, Limit}
 
 abbrev pub onto_first : ℕ → List (List ℕ) × List ℕ → List (List ℕ) × List ℕ
 onto_first b ([], rest) = ([], b ∷ rest)
@@ -14,7 +16,8 @@ onto_first b (l ∷ ls, rest) = ((b ∷ l) ∷ ls, rest)
 -- a text as its whole lines, and what stands behind the last line feed
 unfoldable pub split : List ℕ → List (List ℕ) × List ℕ
 split [] = ([], [])
-split (b ∷ bytes) = if b == 10 then ([] ∷ (split bytes).0, (split bytes).1) else onto_first b (split bytes)
+split (b ∷ bytes) =
+    if b == 10 then ([] ∷ (split bytes).0, (split bytes).1) else onto_first b (split bytes)
 
 -- the whole lines of a text
 abbrev pub lines : List ℕ → List (List ℕ)
@@ -28,7 +31,8 @@ first_lines n t = text (take n (lines t))
 abbrev pub IsFront : List ℕ → Type 0
 IsFront front = (d : Image) × (rest : List ℕ) × Spells (front ++ rest) d
 
--- n is the least number of whole lines with which no deck's text begins; if there is none, one more than there are lines
+-- n is the least number of whole lines with which no deck's text begins; if there is none, one more
+-- than there are lines
 pub record IsRefusedAt (t : List ℕ) (n : ℕ) : Type 0 where
   pub least : (m : ℕ) → m < n → IsFront (first_lines m t)
   pub here : n ≤ length (lines t) → IsFront (first_lines n t) → ⊥
@@ -39,27 +43,38 @@ last_of [] = None
 last_of (i ∷ []) = Some i
 last_of (i ∷ j ∷ is) = last_of (j ∷ is)
 
--- which forms may stand behind a line, and which at the start
-abbrev pub may_stand : Option Item → Item → Bool
-may_stand None header = true
-may_stand (Some header) (device e) = true
-may_stand (Some (device d)) (mask m) = true
-may_stand (Some (mask m)) (start a) = true
-may_stand (Some (start a)) (extent b c) = true
-may_stand (Some (extent a b)) (extent c d) = true
-may_stand (Some (extent a b)) (fetch c) = true
-may_stand (Some (extent a b)) (store c) = true
-may_stand (Some (extent a b)) (storage n) = true
-may_stand (Some (fetch a)) (fetch c) = true
-may_stand (Some (fetch a)) (store c) = true
-may_stand (Some (fetch a)) (storage n) = true
-may_stand (Some (store a)) (store c) = true
-may_stand (Some (store a)) (storage n) = true
-may_stand (Some (storage n)) (put a w) = true
-may_stand (Some (storage n)) end = true
-may_stand (Some (put a w)) (put b v) = true
-may_stand (Some (put a w)) end = true
-may_stand _ _ = false
+-- the header of version 2 stands first
+abbrev pub is_second : List Item → Bool
+is_second (header numbers.Two ∷ is) = true
+is_second is = false
+
+-- which forms may stand behind a line of a deck, of version 2 or not, and which at the start
+abbrev pub may_stand : Bool → Option Item → Item → Bool
+may_stand second None (header h) = true
+may_stand second (Some (header h)) (device e) = true
+may_stand second (Some (device d)) (mask m) = true
+may_stand second (Some (mask m)) (start a) = true
+may_stand second (Some (start a)) (limit n) = second
+may_stand second (Some (start a)) (extent b c) = not second
+may_stand second (Some (limit n)) (extent b c) = true
+may_stand second (Some (extent a b)) (extent c d) = true
+may_stand second (Some (extent a b)) (fetch c) = true
+may_stand second (Some (extent a b)) (store c) = true
+may_stand second (Some (extent a b)) (storage n) = true
+may_stand second (Some (fetch a)) (fetch c) = true
+may_stand second (Some (fetch a)) (store c) = true
+may_stand second (Some (fetch a)) (storage n) = true
+may_stand second (Some (store a)) (store c) = true
+may_stand second (Some (store a)) (storage n) = true
+may_stand second (Some (storage n)) (put a w) = true
+may_stand second (Some (storage n)) end = true
+may_stand second (Some (put a w)) (put b v) = true
+may_stand second (Some (put a w)) end = true
+may_stand second _ _ = false
+
+-- what may stand behind some lines
+abbrev pub may_follow : List Item → Item → Bool
+may_follow before i = may_stand (is_second before) (last_of before) i
 
 abbrev pub is_end : Option Item → Bool
 is_end (Some end) = true
@@ -79,6 +94,10 @@ size_said (i ∷ is) = size_said is
 abbrev pub is_size : ℕ → Bool
 is_size n = n % 8 == 0 && nat_le n 0x1000000
 
+-- a limit that a job may have
+abbrev pub is_limit : ℕ → Bool
+is_limit n = nat_le 1 n && nat_le n 65536
+
 -- above the address of the put before it, where there is one
 abbrev pub is_above : Option Item → ℕ → Bool
 is_above (Some (put b w)) a = nat_lt b a
@@ -93,17 +112,23 @@ pub data Found : Type 0 where
   whole_line : List ℕ → Found
   part : List ℕ → Found
 
--- the table of causes: when each applies to what is found behind these lines, among which `end` is not
+-- the table of causes: when each applies to what is found behind these lines, among which `end` is
+-- not
 abbrev pub Applies : List Item → Found → Cause → Type 0
 Applies before (part rest) Ended = Unit {0}
-Applies before (whole_line l) Header = (before ≡ []) × (l ≢ line header)
-Applies before (whole_line l) Form = (i : Item) → Says l i → may_stand (last_of before) i ≡ false
+Applies before (whole_line l) Header = (before ≡ []) × ((h : VersionNumber) → l ≢ line (header h))
+Applies before (whole_line l) Form = (i : Item) → Says l i → may_follow before i ≡ false
 Applies before (whole_line l) Mask = (m : ℕ) × Says l (mask m) × (is_mask m ≡ false)
-Applies before (whole_line l) ExtentBackwards = (first : ℕ) × (last : ℕ) × Says l (extent first last) × (last < first)
-Applies before (whole_line l) ExtentPastDevice = (first : ℕ) × (last : ℕ) × Says l (extent first last) × (202 < last)
+Applies before (whole_line l) ExtentBackwards =
+    (first : ℕ) × (last : ℕ) × Says l (extent first last) × (last < first)
+Applies before (whole_line l) ExtentPastDevice =
+    (first : ℕ) × (last : ℕ) × Says l (extent first last) × (202 < last)
 Applies before (whole_line l) Size = (n : ℕ) × Says l (storage n) × (is_size n ≡ false)
-Applies before (whole_line l) PutAddress = (a : ℕ) × (word : List ℕ) × Says l (put a word) × (is_place before a ≡ false)
-Applies before (whole_line l) PutZero = (a : ℕ) × (word : List ℕ) × Says l (put a word) × (is_zero word ≡ true)
+Applies before (whole_line l) PutAddress =
+    (a : ℕ) × (word : List ℕ) × Says l (put a word) × (is_place before a ≡ false)
+Applies before (whole_line l) PutZero =
+    (a : ℕ) × (word : List ℕ) × Says l (put a word) × (is_zero word ≡ true)
+Applies before (whole_line l) Limit = (n : ℕ) × Says l (limit n) × (is_limit n ≡ false)
 Applies before found cause = ⊥
 
 -- behind `end` the cause After alone applies, whatever stands there
@@ -114,7 +139,8 @@ Follows found cause = ⊥
 
 -- the cause applies to what is found behind these lines
 abbrev pub CountsAgainst : List Item → Found → Cause → Type 0
-CountsAgainst before found cause = MatchBool (has_ended before) (Follows found cause) (Applies before found cause)
+CountsAgainst before found cause =
+    MatchBool (has_ended before) (Follows found cause) (Applies before found cause)
 
 -- the place of a cause in the table
 abbrev pub rank : Cause → ℕ
@@ -128,6 +154,7 @@ rank Size = 7
 rank PutAddress = 8
 rank PutZero = 9
 rank After = 10
+rank Limit = 11
 
 -- the first cause of the table that applies
 pub record IsCause (before : List Item) (found : Found) (cause : Cause) : Type 0 where
@@ -151,4 +178,10 @@ AreSaid n t before = AllByRecursion HasForm before × (map line before ≡ take 
 pub record IsRefused (t : List ℕ) (n : ℕ) (cause : Cause) : Type 0 where
   pub none : (d : Image) → Spells t d → ⊥
   pub at_line : IsRefusedAt t n
-  pub for_cause : (before : List Item) × AreSaid (n - 1) t before × IsCause before (found_behind (n - 1) t) cause
+  pub for_cause :
+      (before : List Item) × AreSaid (n - 1) t before
+      × IsCause before (found_behind (n - 1) t) cause
+
+-- the text spells a deck, or it is refused at some line for some cause
+abbrev pub IsJudged : List ℕ → Type 0
+IsJudged t = ((d : Image) × Spells t d) ⊎ ((n : ℕ) × (cause : Cause) × IsRefused t n cause)

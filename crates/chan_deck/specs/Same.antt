@@ -7,7 +7,12 @@ use Rattle.ccw_core.specs.declared.areas.Area.{Area}
 use Rattle.ckd_core.specs.Cylinders.{same_extents, same_extents-IsEquivalence}
 use Rattle.ckd_core.specs.declared.device.Device.{Device}
 use Rattle.ckd_core.specs.declared.device.Device.TheVariants.{D2311, D2314}
-use Rattle.chan_deck.specs.Image.{Image}
+use Rattle.chan_deck.specs.Image.{Image, number_of, limit_of}
+use Rattle.chan_deck.specs.declared.version.Version.{Version}
+
+-- the same number and limit
+abbrev pub same_versions : Version → Version → Bool
+same_versions = eq_of_both (on number_of nat_eq) (on limit_of nat_eq)
 
 -- the number of the device's model
 abbrev pub model_of : Device → ℕ
@@ -17,14 +22,22 @@ model_of D2314 = 2314
 abbrev pub same_areas : List Area → List Area → Bool
 same_areas = pointwise (eq_of_both (on (λ a. a.start) nat_eq) (on (λ a. a.len) nat_eq))
 
--- the same device, mask, start, extents, areas and storage
+-- the same version with its limit, device, mask, start, extents, areas and storage
 abbrev pub same_decks : Image → Image → Bool
 same_decks =
-    eq_of_both (on (λ d. model_of d.device) nat_eq)
+    eq_of_both (on (λ d. d.version) same_versions)
+    (eq_of_both (on (λ d. model_of d.device) nat_eq)
     (eq_of_both (on (λ d. d.mask) nat_eq)
     (eq_of_both (on (λ d. d.start) nat_eq)
     (eq_of_both (on (λ d. d.extents) same_extents)
-    (eq_of_both (on (λ d. d.fetch) same_areas) (eq_of_both (on (λ d. d.store) same_areas) (on (λ d. d.storage) (pointwise nat_eq)))))))
+    (eq_of_both (on (λ d. d.fetch) same_areas)
+    (eq_of_both (on (λ d. d.store) same_areas) (on (λ d. d.storage) (pointwise nat_eq))))))))
+
+pub same_versions-IsEquivalence : IsEquivalence same_versions
+same_versions-IsEquivalence =
+    let number : Version → ℕ = λ v. number_of v in
+    let limit : Version → ℕ = λ v. limit_of v in
+    and_equiv (on_equiv number nat_eq_equiv) (on_equiv limit nat_eq_equiv)
 
 pub same_areas-IsEquivalence : IsEquivalence same_areas
 same_areas-IsEquivalence =
@@ -34,6 +47,7 @@ same_areas-IsEquivalence =
 
 pub same_decks-IsEquivalence : IsEquivalence same_decks
 same_decks-IsEquivalence =
+    let version : Image → Version = λ d. d.version in
     let device : Image → ℕ = λ d. model_of d.device in
     let mask : Image → ℕ = λ d. d.mask in
     let start : Image → ℕ = λ d. d.start in
@@ -41,8 +55,11 @@ same_decks-IsEquivalence =
     let fetch : Image → List Area = λ d. d.fetch in
     let store : Image → List Area = λ d. d.store in
     let storage : Image → List ℕ = λ d. d.storage in
-    and_equiv (on_equiv device nat_eq_equiv)
+    and_equiv (on_equiv version same_versions-IsEquivalence)
+    (and_equiv (on_equiv device nat_eq_equiv)
     (and_equiv (on_equiv mask nat_eq_equiv)
     (and_equiv (on_equiv start nat_eq_equiv)
     (and_equiv (on_equiv extents same_extents-IsEquivalence)
-    (and_equiv (on_equiv fetch same_areas-IsEquivalence) (and_equiv (on_equiv store same_areas-IsEquivalence) (on_equiv storage (lists_equiv nat_eq_equiv)))))))
+    (and_equiv (on_equiv fetch same_areas-IsEquivalence)
+    (and_equiv (on_equiv store same_areas-IsEquivalence)
+    (on_equiv storage (lists_equiv nat_eq_equiv))))))))

@@ -9,9 +9,13 @@ use Rattle.chan_deck.specs.Item.{address_digits, size_digits}
 
 -- an address in six hexadecimal digits, or as many as it needs
 abbrev pub address_text : ℕ → List ℕ
-address_text a = if nat_lt a (2 ^ 24) then address_digits a else if nat_lt a (2 ^ 28) then size_digits a else encode_upper (to_be_bytes w32 a)
+address_text a =
+    if nat_lt a (2 ^ 24) then address_digits a
+    else if nat_lt a (2 ^ 28) then size_digits a
+    else encode_upper (to_be_bytes w32 a)
 
 -- `yes`, or `no`, the address and the reason's word, with its line feed
 abbrev pub verdict_line : Verdict → List ℕ
 verdict_line Yes = codes "yes" ++ 10 ∷ []
-verdict_line (No address reason) = codes "no " ++ address_text address ++ codes " " ++ word_of reason ++ 10 ∷ []
+verdict_line (No address reason) =
+    codes "no " ++ address_text address ++ codes " " ++ word_of reason ++ 10 ∷ []

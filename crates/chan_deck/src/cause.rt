@@ -1,12 +1,12 @@
 //! Why a line of a deck is refused.
 
-/// Why a line of a deck is refused. The causes are tried in this order, and the first that applies is named; but to what
-/// follows the line `end` only `After` applies.
+/// Why a line of a deck is refused. The causes are tried in this order, and the first that applies
+/// is named; but to what follows the line `end` only `After` applies.
 #[derive(Clone, Copy, PartialEq, Eq, Debug)]
 pub enum Cause {
     /// The text ends here: no byte is left, or the rest has no line feed, and `end` hasn't come.
     Ended,
-    /// Line 1 isn't the header.
+    /// Line 1 is no header.
     Header,
     /// The line has none of the forms that may stand at this point.
     Form,
@@ -18,10 +18,13 @@ pub enum Cause {
     ExtentPastDevice,
     /// The number of bytes of storage isn't a multiple of 8, or is above 16,777,216.
     Size,
-    /// The put's address isn't a multiple of 8, isn't above that of the put before it, or leaves storage.
+    /// The put's address isn't a multiple of 8, isn't above that of the put before it, or leaves
+    /// storage.
     PutAddress,
     /// The put's eight bytes are all zero.
     PutZero,
     /// A byte follows the line `end`.
     After,
+    /// The limit on places is 0 or above 65,536.
+    Limit,
 }

@@ -1,16 +1,20 @@
 //! Decks.
 
 ghost use Rattle.std.specs.Prelude.{◌≡◌};
+ghost use Rattle.chan_deck.specs.Image.{limit_of, number_of};
+ghost use Rattle.chan_deck.specs.declared.version.Version.TheVariants.{Two};
 ghost use Rattle.chan_walk.specs.Job.{extents_of, fetch_of, storage_of, store_of};
 
+use crate::version::Version;
 use ccw_core::{Area, Storage};
 use chan_walk::{Job, Limit};
 use ckd_core::{Device, Extents, FileMask};
 use std::marker::Model;
 
-/// A storage image with its job, as a deck spells them. `read_deck` makes one.
+/// A storage image with its job, as a deck spells them. `read_deck` makes one, and `upgrade`.
 #[derive(Debug, Drop)]
 pub struct Deck {
+    pub(crate) version: Version,
     pub(crate) device: Device,
     pub(crate) mask: FileMask,
     pub(crate) start: u32,
@@ -33,7 +37,24 @@ impl Model for Deck {
 }
 
 impl Deck {
-    /// The job, as a view of the deck: nothing is copied.
+    /// The version in which the deck is spelled: 1 or 2.
+    pub fn version(&self) -> u8
+        ensures { result ≡ number_of self.now.version }
+    {
+        self.version.number()
+    }
+
+    /// The deck in version 2, with this limit on places and everything else as it is.
+    pub fn upgrade(self, limit: Limit) -> Deck
+        ensures { result ≡ record self { version = Two limit } }
+    {
+        Deck {
+            version: Version::Two(limit),
+            ..self
+        }
+    }
+
+    /// The job, as a view of the deck: nothing is copied. In version 1 its limit is the usual one.
     pub fn job(&self) -> Job<'_>
         ensures storage { storage_of result ≡ self.now.storage }
         ensures start { result.start ≡ self.now.start }
@@ -42,6 +63,7 @@ impl Deck {
         ensures extents { extents_of result ≡ self.now.extents }
         ensures fetch { fetch_of result ≡ self.now.fetch }
         ensures store { store_of result ≡ self.now.store }
+        ensures limit { result.limit ≡ limit_of self.now.version }
     {
         // A deck's storage is never too large: the type's invariant says so.
         let storage = Storage::new(&self.storage).unwrap();
@@ -53,7 +75,7 @@ impl Deck {
             extents: &self.extents,
             fetch: &self.fetch,
             store: &self.store,
-            limit: Limit::usual(),
+            limit: self.version.limit(),
         }
     }
 }
@@ -66,9 +88,11 @@ impl PartialEq for Deck {
 
     ghost laws = { partial_equiv_from_equiv same_decks-IsEquivalence };
 
-    /// The same device, mask, start, extents, areas and storage; so the texts are the same.
+    /// The same version with its limit, device, mask, start, extents, areas and storage; so the
+    /// texts are the same.
     fn eq(&self, other: &Deck) -> bool {
-        self.device == other.device
+        self.version == other.version
+            && self.device == other.device
             && self.mask == other.mask
             && self.start == other.start
             && self.extents == other.extents

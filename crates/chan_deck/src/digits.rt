@@ -6,7 +6,7 @@ ghost use Rattle.std.specs.Int.{w64, to_be_bytes};
 ghost use Rattle.std.specs.List.{AllByRecursion, list_any};
 ghost use Rattle.chan_deck.specs.Digits.{AreValues, IsPair, IsValue};
 ghost use Rattle.hex.specs.Hex.{IsBytes, encode_upper};
-ghost use Rattle.chan_deck.specs.Item.{IsAddress, IsByte, IsWord, address_digits, byte_digits, cylinder_digits, size_digits};
+ghost use Rattle.chan_deck.specs.Item.{IsAddress, IsByte, IsWord, address_digits, byte_digits, cylinder_digits, limit_digits, size_digits};
 
 /// The first of the small letters, which `hex` takes for digits too.
 const SMALL_LETTERS: u8 = b'a';
@@ -29,8 +29,9 @@ pub(crate) type DigitValues = [Option<u8>; 256];
 
 /// Asks `hex` for the value of each character.
 ///
-/// `hex` compares a digit to find out its sort, which is slow where letters and figures come at random, as in the words
-/// of storage. So it is asked once for each character, and a deck's digits are looked up.
+/// `hex` compares a digit to find out its sort, which is slow where letters and figures come at
+/// random, as in the words of storage. So it is asked once for each character, and a deck's digits
+/// are looked up.
 pub(crate) fn digit_values() -> DigitValues
     ensures { AreValues result }
 {
@@ -57,7 +58,8 @@ fn look_up(digits: &[u8], values: &DigitValues, bytes: &mut [u8]) -> bool
     ensures spelled { OnTrue result (digits.now ≡ encode_upper bytes.new) }
     ensures fits { IsBytes bytes.new }
     ensures len { length bytes.new ≡ length bytes.old }
-    ensures refused { OnFalse result ((other : List ℕ) → length other ≡ length bytes.old → AllByRecursion IsByte other → digits.now ≡ encode_upper other → ⊥) }
+    ensures refused { OnFalse result ((other : List ℕ) → length other ≡ length bytes.old
+        → AllByRecursion IsByte other → digits.now ≡ encode_upper other → ⊥) }
 {
     if digits.len() != 2 * bytes.len() {
         return false;
@@ -150,6 +152,30 @@ pub(crate) fn cylinder_of(digits: &[u8]) -> Option<u16>
             ones @ b'0'..=b'9',
         ] => Some(
             u16::from(hundreds - b'0') * 100 + u16::from(tens - b'0') * 10 + u16::from(ones - b'0'),
+        ),
+        _ => None,
+    }
+}
+
+/// A number of places of five decimal digits.
+pub(crate) fn places_of(digits: &[u8]) -> Option<u32>
+    ensures { MatchOption result
+        ((n : ℕ) → n < 100000 → digits.now ≡ limit_digits n → ⊥)
+        (λ n. (n < 100000) × (digits.now ≡ limit_digits n)) }
+{
+    match digits {
+        [
+            ten_thousands @ b'0'..=b'9',
+            thousands @ b'0'..=b'9',
+            hundreds @ b'0'..=b'9',
+            tens @ b'0'..=b'9',
+            ones @ b'0'..=b'9',
+        ] => Some(
+            u32::from(ten_thousands - b'0') * 10_000
+                + u32::from(thousands - b'0') * 1_000
+                + u32::from(hundreds - b'0') * 100
+                + u32::from(tens - b'0') * 10
+                + u32::from(ones - b'0'),
         ),
         _ => None,
     }

@@ -7,7 +7,8 @@ use thiserror::Error;
 /// Why a text gives no deck.
 #[derive(Clone, Copy, PartialEq, Eq, Debug, Error)]
 pub enum DeckError {
-    /// The text spells no deck: this line, counted from 1, is the first that is refused, and for this cause.
+    /// The text spells no deck: this line, counted from 1, is the first that is refused, and for
+    /// this cause.
     #[error("line {line} is refused: {cause:?}")]
     At { line: u64, cause: Cause },
     /// Memory was wanting.

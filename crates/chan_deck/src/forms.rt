@@ -2,12 +2,14 @@
 
 ghost use Rattle.std.specs.Prelude.{◌≡◌, ◌<◌, ◌^◌, ℕ, List, length, ◌∷◌, ◌++◌, IfSome, MatchBool, MatchOption};
 ghost use Rattle.std.specs.Int.{w64, to_be_bytes};
-ghost use Rattle.chan_deck.specs.Item.{IsArea, Says, area_digits, device, end, header, mask, put, start};
+ghost use Rattle.chan_deck.specs.Item.{IsArea, Says, area_digits, device, end, header, limit, mask, put, start};
 ghost use Rattle.chan_deck.specs.Item as item;
 ghost use Rattle.chan_deck.specs.Digits.{AreValues};
+ghost use Rattle.chan_deck.specs.declared.version.VersionNumber.{VersionNumber};
 
-use crate::digits::{DigitValues, address_of, byte_of, cylinder_of, size_of, word_of};
+use crate::digits::{DigitValues, address_of, byte_of, cylinder_of, places_of, size_of, word_of};
 use crate::lines::PUT_LINE;
+use crate::version::VersionNumber;
 use ccw_core::Area;
 use ckd_core::Device;
 
@@ -41,10 +43,19 @@ fn two_fields(fields: &[u8], width: usize) -> Option<(&[u8], &[u8])>
     Some((first, second))
 }
 
-pub(crate) fn is_header(line: &[u8]) -> bool
-    ensures { MatchBool result (Says line.now header) (Says line.now header → ⊥) }
+/// The version that a header names.
+pub(crate) fn header_of(line: &[u8]) -> Option<VersionNumber>
+    ensures { MatchOption result
+        ((h : VersionNumber) → Says line.now (header h) → ⊥)
+        (λ h. Says line.now (header h)) }
 {
-    is_word(line, b"chanv deck 1")
+    if is_word(line, b"chanv deck 1") {
+        Some(VersionNumber::One)
+    } else if is_word(line, b"chanv deck 2") {
+        Some(VersionNumber::Two)
+    } else {
+        None
+    }
 }
 
 pub(crate) fn device_of(line: &[u8]) -> Option<Device>
@@ -79,6 +90,16 @@ pub(crate) fn start_of(line: &[u8], values: &DigitValues) -> Option<u32>
 {
     let digits = behind(line, b"start ")?;
     address_of(digits, values)
+}
+
+/// The number of places.
+pub(crate) fn limit_of(line: &[u8]) -> Option<u32>
+    ensures { MatchOption result
+        ((n : ℕ) → Says line.now (limit n) → ⊥)
+        (λ n. Says line.now (limit n)) }
+{
+    let digits = behind(line, b"limit ")?;
+    places_of(digits)
 }
 
 /// First and last cylinder.

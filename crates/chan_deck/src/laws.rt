@@ -2,7 +2,7 @@
 
 ghost use Rattle.std.specs.Prelude.{◌≡◌, ℕ, true, List};
 ghost use Rattle.chan_deck.specs.Image.{Image, Spells};
-ghost use Rattle.chan_deck.specs.Refused.{IsRefused};
+ghost use Rattle.chan_deck.specs.Refused.{IsJudged, IsRefused};
 ghost use Rattle.chan_deck.specs.Same.{same_decks};
 ghost use Rattle.chan_deck.specs.declared.cause.Cause.{Cause};
 
@@ -20,7 +20,14 @@ fn equal_decks()
 
 /// No text is refused in two ways, and none that is refused spells a deck.
 fn one_refusal()
-    ensures line { (t : List ℕ) (m n : ℕ) (b c : Cause) → IsRefused t m b → IsRefused t n c → m ≡ n }
-    ensures cause { (t : List ℕ) (m n : ℕ) (b c : Cause) → IsRefused t m b → IsRefused t n c → b ≡ c }
+    ensures line { (t : List ℕ) (m n : ℕ) (b c : Cause)
+        → IsRefused t m b → IsRefused t n c → m ≡ n }
+    ensures cause { (t : List ℕ) (m n : ℕ) (b c : Cause)
+        → IsRefused t m b → IsRefused t n c → b ≡ c }
     ensures none { (t : List ℕ) (n : ℕ) (c : Cause) (d : Image) → IsRefused t n c → Spells t d → ⊥ }
+{}
+
+/// Each text spells a deck or is refused, at some line and for some cause.
+fn each_text()
+    ensures { (t : List ℕ) → IsJudged t }
 {}

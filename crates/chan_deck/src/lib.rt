@@ -1,6 +1,7 @@
 //! Decks: main storage and the job of a channel program, as one text.
 //!
-//! Each deck has exactly one text. A text that spells none is refused at its first wrong line, with the cause:
+//! Each deck has exactly one text. A text that spells none is refused at its first wrong line, with
+//! the cause:
 //!
 //! ```
 //! fn same_text(alloc: Global, text: &[u8]) -> Result<Vec<u8>, DeckError> {
@@ -24,6 +25,7 @@ mod reading;
 mod rows;
 mod storage;
 mod texts;
+mod version;
 mod writing;
 
 pub use crate::cause::Cause;

@@ -7,7 +7,8 @@ ghost use Rattle.chan_deck.specs.Refused.{split};
 /// The length of a line that puts a doubleword, as nearly all lines of a long deck do.
 pub(crate) const PUT_LINE: usize = 27;
 
-/// Whether there is a line feed. It doesn't stop at the first, so that the few bytes of a line are compared at once.
+/// Whether there is a line feed. It doesn't stop at the first, so that the few bytes of a line are
+/// compared at once.
 fn has_line_feed(text: &[u8]) -> bool
     ensures { result ≡ list_any (λ b. b == 10) text.now }
 {
@@ -34,7 +35,8 @@ fn line_end(text: &[u8]) -> Option<usize>
 
 /// The next whole line without its line feed, and what follows it.
 pub(crate) fn next_line(text: &[u8]) -> Option<(&[u8], &[u8])>
-    ensures some { IfSome result (λ x. split text.now ≡ (x.0.now ∷ (split x.1.now).0, (split x.1.now).1)) }
+    ensures some { IfSome result (λ x. split text.now
+        ≡ (x.0.now ∷ (split x.1.now).0, (split x.1.now).1)) }
     ensures none { IfNone result (split text.now ≡ ([], text.now)) }
     ensures shorter { IfSome result (λ x. length x.0.now + length x.1.now < length text.now) }
 {

@@ -1,22 +1,27 @@
 //! The listing of the places that a program can come to.
 
-ghost use Rattle.std.specs.Prelude.{◌≡◌, ◌↔◌, false, true, string_bytes, IfOk, IsErrOf, OnOk};
+ghost use Rattle.std.specs.Prelude.{◌≡◌, ◌↔◌, ◌++◌, false, true, option_map, string_bytes, List, ℕ, IfOk, IsErr, IsErrOf, OnOk};
+ghost use Rattle.ckd_core.specs.Entries.{entry_of};
 ghost use Rattle.std.specs.Io.KnownBytes.{Appends};
 ghost use Rattle.ccw_core.specs.Written.{AppendsPrefix};
 ghost use Rattle.ccw_core.specs.Storage.{ccw_at};
 ghost use Rattle.chan_deck.specs.Listing as list;
 ghost use Rattle.chan_walk.specs.Job.{storage_of};
 
-use crate::texts::{address_text, verdict_text};
+use crate::texts::{Address, verdict_text};
 use ccw_core::{Ccw, DeviceFault, Watched, write_out};
 use chan_walk::{Entry, Explored, Job, Place, Verdict};
-use ckd_core::lookup;
+use ckd_core::{Command, lookup};
 use std::alloc::{AllocError, Global};
+use std::fmt::Write as _;
 use std::io::Write;
 use thiserror::Error;
 
 #[cfg(test)]
 mod tests;
+
+/// So many bytes of a listing at least are handed to the writer at once, but at its end.
+const PIECE: usize = 4096;
 
 /// Why a listing was not written whole.
 #[derive(Clone, Copy, PartialEq, Eq, Debug, Error)]
@@ -76,9 +81,9 @@ fn mark_word(marked: bool) -> &'static str
     if marked { "*" } else { "." }
 }
 
-/// What a CCW is to the operation: a transfer, a part of a data chain, or a command.
-fn name_of(entered: Entry, ccw: &Ccw) -> &'static str
-    ensures { result.now ≡ list.name_of entered ccw.now }
+/// What a CCW is to the operation: a transfer, a part of a data chain, or this command.
+fn name_of(entered: Entry, ccw: &Ccw, command: Option<Command>) -> &'static str
+    ensures { result.now ≡ list.name_of entered ccw.now (option_map entry_of command) }
 {
     if ccw.is_transfer() {
         return "transfer-in-channel";
@@ -86,39 +91,77 @@ fn name_of(entered: Entry, ccw: &Ccw) -> &'static str
     if entered != Entry::Fresh {
         return "chained";
     }
-    match lookup(ccw.command()) {
+    match command {
         Some(command) => command.name(),
         None => "unknown",
     }
 }
 
-/// The CCW at a place and its name, or `no-ccw` where none stands.
-fn word_text(alloc: Global, job: &Job, place: Place) -> Result<String, AllocError>
-    ensures { IfOk result (λ t. string_bytes t ≡ list.word_text place.entered (ccw_at (storage_of job.now) place.address)) }
+/// Adds the CCW at a place and its name to a text, or `no-ccw` where none stands.
+fn push_word(
+    alloc: Global,
+    out: &mut String,
+    entered: Entry,
+    ccw: Option<Ccw>,
+    command: Option<Command>,
+) -> Result<(), AllocError>
+    ensures { OnOk result (string_bytes out.new
+        ≡ string_bytes out.old ++ list.word_text entered ccw (option_map entry_of command)) }
 {
-    let ccw = match job.storage.ccw_at(place.address) {
-        Some(ccw) => ccw,
-        None => return String::from_str(alloc, "no-ccw"),
+    let Some(ccw) = ccw else {
+        return out.push_str("no-ccw");
     };
     let text = ccw.text(alloc)?;
-    let name = name_of(place.entered, &ccw);
-    format!(in alloc; "{text} {name}")
+    let name = name_of(entered, &ccw, command);
+    write!(out, "{text} {name}")
 }
 
-/// The row of a place, with its end: `address way transfer mark ccw name`. An error is want of memory.
-///
-/// The place may have any address and need not be one that the job's program can come to. The CCW is the one that stands there in
-/// the job's storage; where none does, because the address isn't a multiple of 8 or leaves storage, `no-ccw`
-/// stands in place of it and its name.
-pub fn row_text(alloc: Global, job: &Job, place: Place, marked: bool) -> Result<String, AllocError>
-    ensures { IfOk result (λ t. string_bytes t ≡ list.row (storage_of job.now) place marked) }
+/// Adds the row of a place to a text, given the CCW that stands there and the command of its code.
+fn push_row(
+    alloc: Global,
+    out: &mut String,
+    place: Place,
+    ccw: Option<Ccw>,
+    command: Option<Command>,
+    marked: bool,
+) -> Result<(), AllocError>
+    ensures { OnOk result (string_bytes out.new
+        ≡ string_bytes out.old ++ list.row_with place ccw (option_map entry_of command) marked) }
 {
-    let address = address_text(alloc, place.address)?;
+    let address = Address(place.address);
     let way = way_word(place.entered);
     let transfer = transfer_word(place.after_transfer);
     let mark = mark_word(marked);
-    let word = word_text(alloc, job, place)?;
-    format!(in alloc; "{address} {way} {transfer} {mark} {word}\n")
+    write!(out, "{address} {way} {transfer} {mark} ")?;
+    push_word(alloc, out, place.entered, ccw, command)?;
+    out.push('\n')
+}
+
+/// The CCW that stands at an address, and the command of its code.
+fn standing_at(job: &Job, address: u32) -> (Option<Ccw>, Option<Command>)
+    ensures ccw { result.0 ≡ ccw_at (storage_of job.now) address }
+    ensures command { option_map entry_of result.1
+        ≡ list.command_of (ccw_at (storage_of job.now) address) }
+{
+    match job.storage.ccw_at(address) {
+        Some(ccw) => (Some(ccw), lookup(ccw.command())),
+        None => (None, None),
+    }
+}
+
+/// The row of a place, with its end: `address way transfer mark ccw name`. An error is want of
+/// memory.
+///
+/// The place may have any address and need not be one that the job's program can come to. The CCW
+/// is the one that stands there in the job's storage; where none does, because the address isn't a
+/// multiple of 8 or leaves storage, `no-ccw` stands in place of it and its name.
+pub fn row_text(alloc: Global, job: &Job, place: Place, marked: bool) -> Result<String, AllocError>
+    ensures { IfOk result (λ t. string_bytes t ≡ list.row (storage_of job.now) place marked) }
+{
+    let (ccw, command) = standing_at(job, place.address);
+    let mut row = String::new(alloc);
+    push_row(alloc, &mut row, place, ccw, command, marked)?;
+    Ok(row)
 }
 
 /// Whether a verdict names an address.
@@ -131,10 +174,31 @@ fn is_named(verdict: Verdict, address: u32) -> bool
     }
 }
 
-/// Writes a row for each of the places, in order, and then the line of the verdict. The rows whose address the verdict names are marked.
+/// Writes a text out and empties it, once it is long enough. Each call leaves bytes behind that,
+/// after those that were written, are the text as it was.
+fn hand_over<W: Write>(piece: &mut String, to: &mut Watched<W>) -> Result<(), DeviceFault>
+    requires { to.old.failed ≡ false }
+    ensures ok { OnOk result ((sent : List ℕ)
+        × Appends (W.contents to.old.device) (W.contents to.new.device) sent
+        × (sent ++ string_bytes piece.new ≡ string_bytes piece.old)) }
+    ensures prefix { AppendsPrefix (W.contents to.old.device) (W.contents to.new.device)
+        (string_bytes piece.old) }
+    ensures fault { IsErr result ↔ (to.new.failed ≡ true) }
+{
+    if piece.len() < PIECE {
+        return Ok(());
+    }
+    write_out(piece.as_bytes(), to)?;
+    piece.clear();
+    Ok(())
+}
+
+/// Writes a row for each of the places, in order, and then the line of the verdict. The rows whose
+/// address the verdict names are marked.
 ///
-/// The rows are written one by one: no text of the whole listing is held. `Write` comes exactly where a write failed. After an
-/// error a prefix of the listing was written. The places and the verdict are taken as they are handed in, whether or not they are the job's.
+/// The rows are written in pieces of a few thousand bytes: no text of the whole listing is held.
+/// `Write` comes exactly where a write failed. After an error a prefix of the listing was written.
+/// The places and the verdict are taken as they are handed in, whether or not they are the job's.
 pub fn write_listing<W: Write>(
     alloc: Global,
     job: &Job,
@@ -143,15 +207,21 @@ pub fn write_listing<W: Write>(
     to: &mut Watched<W>,
 ) -> Result<(), ListError>
     requires { to.old.failed ≡ false }
-    ensures ok { OnOk result (Appends (W.contents to.old.device) (W.contents to.new.device) (list.listing (storage_of job.now) explored.now verdict)) }
-    ensures prefix { AppendsPrefix (W.contents to.old.device) (W.contents to.new.device) (list.listing (storage_of job.now) explored.now verdict) }
+    ensures ok { OnOk result (Appends (W.contents to.old.device) (W.contents to.new.device)
+        (list.listing (storage_of job.now) explored.now verdict)) }
+    ensures prefix { AppendsPrefix (W.contents to.old.device) (W.contents to.new.device)
+        (list.listing (storage_of job.now) explored.now verdict) }
     ensures write { IsErrOf result ListError.Write ↔ (to.new.failed ≡ true) }
 {
+    let mut piece = String::new(alloc);
     for place in explored.places() {
-        let row = row_text(alloc, job, place, is_named(verdict, place.address))?;
-        write_out(row.as_bytes(), to)?;
+        let (ccw, command) = standing_at(job, place.address);
+        let marked = is_named(verdict, place.address);
+        push_row(alloc, &mut piece, place, ccw, command, marked)?;
+        hand_over(&mut piece, to)?;
     }
     let line = verdict_text(alloc, verdict)?;
-    write_out(line.as_bytes(), to)?;
+    piece.push_str(line.as_str())?;
+    write_out(piece.as_bytes(), to)?;
     Ok(())
 }

@@ -9,16 +9,18 @@ ghost use Rattle.chan_deck.specs.declared.cause.Cause.{Cause};
 use crate::deck::Deck;
 use crate::digits::digit_values;
 use crate::error::DeckError;
-use crate::heading::{after_header, read_device, read_mask, read_start};
+use crate::heading::{read_device, read_header, read_mask, read_start, read_version};
 use crate::lists::read_lists;
 use crate::rows::Lists;
 use crate::storage::fill;
+use crate::version::Version;
 use ckd_core::{Device, Extents, FileMask};
 use std::alloc::Global;
 
 /// What the lines of a deck say.
 #[derive(Drop)]
 struct Parts {
+    version: Version,
     device: Device,
     mask: FileMask,
     start: u32,
@@ -28,24 +30,32 @@ struct Parts {
 
 fn read_parts(alloc: Global, text: &[u8]) -> Result<Parts, DeckError>
     ensures spelled { IfOk result (λ p. Spells text.now
-        (image_of (record { device = p.device; mask = p.mask; start = p.start }) p.lists.extents.items p.lists.fetch.items p.lists.store.items p.storage.items)) }
+        (image_of
+        (record { version = p.version; device = p.device; mask = p.mask; start = p.start })
+        p.lists.extents.items p.lists.fetch.items p.lists.store.items p.storage.items)) }
     ensures refused { IfErr result (IsRefusal text.now) }
 {
     let values = digit_values();
-    let rest = after_header(text)?;
+    let (number, rest) = read_header(text)?;
     let (device, rest) = read_device(rest)?;
 
-    // A match, since the borrow checker has no rule for `?` on what holds both a file mask and a borrowed text.
+    // A match, since the borrow checker has no rule for `?` on what holds both a file mask, or a
+    // limit, and a borrowed text.
     let (mask, rest) = match read_mask(rest, &values) {
         Ok(found) => found,
         Err(error) => return Err(error),
     };
     let (start, rest) = read_start(rest, &values)?;
+    let (version, rest, line) = match read_version(number, rest) {
+        Ok(found) => found,
+        Err(error) => return Err(error),
+    };
     let mut lists = Lists::new(alloc);
-    let (size, rest, line) = read_lists(&mut lists, rest, &values)?;
+    let (size, rest, line) = read_lists(&mut lists, rest, line, &values)?;
     let mut storage = vec![in alloc; 0u8; size]?;
     fill(storage.as_mut_slice(), rest, line, &values)?;
     Ok(Parts {
+        version,
         device,
         mask,
         start,
@@ -56,18 +66,23 @@ fn read_parts(alloc: Global, text: &[u8]) -> Result<Parts, DeckError>
 
 /// The deck that a text spells.
 ///
-/// A text that spells none is refused: the line is the first, counted from 1, with which no deck's text goes on, and the cause
-/// is the first of the table that applies to it. `Memory` comes only where a growth was refused. The text is gone over once.
+/// A text that spells none is refused: the line is the first, counted from 1, with which no deck's
+/// text goes on, and the cause is the first of the table that applies to it. `Memory` comes only
+/// where a growth was refused. The text is gone over once.
 pub fn read_deck(alloc: Global, text: &[u8]) -> Result<Deck, DeckError>
     ensures spelled { IfOk result (Spells text.now) }
     ensures refused { IfErr result (IsRefusal text.now) }
 
-    // A text that spells a deck gives that deck, memory aside; one that spells none gives its refusal.
-    ensures accepted { (d : Image) → Spells text.now d → MatchResult result (λ deck. deck ≡ d) (λ e. e ≡ DeckError.Memory) }
+    // A text that spells a deck gives that deck, memory aside; one that spells none gives its
+    // refusal.
+    ensures accepted { (d : Image) → Spells text.now d
+        → MatchResult result (λ deck. deck ≡ d) (λ e. e ≡ DeckError.Memory) }
     ensures named { (line : ℕ) (cause : Cause) → IsRefused text.now line cause
-        → MatchResult result (λ deck. ⊥) (λ e. (e ≡ DeckError.Memory) ⊎ (e ≡ DeckError.At line cause)) }
+        → MatchResult result (λ deck. ⊥)
+        (λ e. (e ≡ DeckError.Memory) ⊎ (e ≡ DeckError.At line cause)) }
 {
     let Parts {
+        version,
         device,
         mask,
         start,
@@ -83,6 +98,7 @@ pub fn read_deck(alloc: Global, text: &[u8]) -> Result<Deck, DeckError>
     // The pairs were judged at their lines, so only memory can be wanting.
     let extents = Extents::new(alloc, &extents).map_err(|_| DeckError::Memory)?;
     Ok(Deck {
+        version,
         device,
         mask,
         start,

@@ -66,11 +66,14 @@ impl Lists {
         }
     }
 
-    /// Adds a row, which stands in this line. Extents come first, and areas for fetching before those for storing.
+    /// Adds a row, which stands in this line. Extents come first, and areas for fetching before
+    /// those for storing.
     pub(crate) fn add(&mut self, row: Row, line: u64) -> Result<(), DeckError>
-        ensures ok { OnOk result ((h : Heading) → step (listing h self.old) (row_item row) ≡ Ok (listing h self.new)) }
+        ensures ok { OnOk result ((h : Heading)
+            → step (listing h self.old) (row_item row) ≡ Ok (listing h self.new)) }
         ensures err { IfErr result (λ e. (e ≡ DeckError.Memory)
-            ⊎ ((cause : Cause) × (e ≡ DeckError.At line cause) × ((h : Heading) → step (listing h self.old) (row_item row) ≡ Err cause))) }
+            ⊎ ((cause : Cause) × (e ≡ DeckError.At line cause)
+            × ((h : Heading) → step (listing h self.old) (row_item row) ≡ Err cause))) }
     {
         let form = At {
             line,

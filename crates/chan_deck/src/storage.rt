@@ -4,7 +4,7 @@ ghost use Rattle.std.specs.Prelude.{◌≡◌, ◌+◌, ◌<◌, ◌≤◌, ◌^
 ghost use Rattle.ccw_core.specs.declared.areas.Area.{Area};
 ghost use Rattle.chan_deck.specs.Digits.{AreValues};
 ghost use Rattle.chan_deck.specs.Image.{Spells};
-ghost use Rattle.chan_deck.specs.Reading.{Filling, Heading, IsRefusal, Stands, image_of};
+ghost use Rattle.chan_deck.specs.Reading.{Fails, Filling, Heading, Stands, image_of};
 
 use crate::cause::Cause;
 use crate::digits::DigitValues;
@@ -15,12 +15,14 @@ use crate::lines::next_line;
 /// Writes bytes into storage.
 fn write_at(storage: &mut [u8], at: usize, bytes: &[u8])
     requires { at + length bytes.now ≤ length storage.old }
-    ensures { storage.new ≡ (take at storage.old ++ bytes.now) ++ drop (at + length bytes.now) storage.old }
+    ensures { storage.new
+        ≡ (take at storage.old ++ bytes.now) ++ drop (at + length bytes.now) storage.old }
 {
     storage[at..at + bytes.len()].copy_from_slice(bytes);
 }
 
-/// Puts what follows the line of storage, up to the end of the deck, into storage, which is zero before.
+/// Puts what follows the line of storage, up to the end of the deck, into storage, which is zero
+/// before.
 pub(crate) fn fill(
     storage: &mut [u8],
     text: &[u8],
@@ -31,10 +33,11 @@ pub(crate) fn fill(
     requires few { first + length text.now < 2 ^ 64 }
     requires size { length storage.old ≤ 2 ^ 24 }
     requires values { AreValues values.now }
-    ensures ok { OnOk result ((t : List ℕ) (h : Heading) (es : List (ℕ × ℕ)) (fs ss : List Area) → Stands t (Filling h es fs ss (length storage.old) []) first text.now
+    ensures ok { OnOk result ((h : Heading) (es : List (ℕ × ℕ)) (fs ss : List Area) (t : List ℕ)
+        → Stands t (Filling h es fs ss (length storage.old) []) first text.now
         → Spells t (image_of h es fs ss storage.new)) }
-    ensures err { IfErr result (λ e. (t : List ℕ) (h : Heading) (es : List (ℕ × ℕ)) (fs ss : List Area) → Stands t (Filling h es fs ss (length storage.old) []) first text.now
-        → IsRefusal t e) }
+    ensures err { IfErr result (λ e. (h : Heading) (es : List (ℕ × ℕ)) (fs ss : List Area)
+        → Fails (Filling h es fs ss (length storage.old) []) first text.now e) }
     ensures len { length storage.new ≡ length storage.old }
 {
     let mut rest = text;

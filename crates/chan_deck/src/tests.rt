@@ -8,6 +8,8 @@ use std::alloc::Global;
 use std::process::Abort;
 use std::test::Fail;
 
+mod versions;
+
 /// The search loop: search for a record by its identifier, try the next one, read what was found.
 const LINES: [&str; 12] = [
     "chanv deck 1",
@@ -107,7 +109,8 @@ fn deck_text(rt: HostRuntime) -> Result<(), Fail> {
         &rt,
         alloc,
         "no storage",
-        b"chanv deck 1\ndevice 2311\nmask D8\nstart FFFFFF\nextent 000 202\nextent 202 202\nfetch FFFFFF FFFFFF\nfetch 000000 000000\nstore ABCDEF 012345\nstorage 0000000\nend\n",
+        b"chanv deck 1\ndevice 2311\nmask D8\nstart FFFFFF\nextent 000 202\nextent 202 202\n\
+fetch FFFFFF FFFFFF\nfetch 000000 000000\nstore ABCDEF 012345\nstorage 0000000\nend\n",
     )
 }
 
@@ -193,7 +196,8 @@ fn deck_causes(rt: HostRuntime) -> Result<(), Fail> {
     Ok(())
 }
 
-/// So many bytes of the search loop's deck from the front, and the line at which they have ended too early.
+/// So many bytes of the search loop's deck from the front, and the line at which they have ended
+/// too early.
 static ENDED: [(&str, usize, u64); 2] = [
     ("deck-ended/empty-text", 0, 1),
     ("deck-ended/no-line-feed-at-the-end", 204, 12),

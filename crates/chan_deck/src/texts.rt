@@ -1,40 +1,71 @@
 //! The line of a verdict.
 
 ghost use Rattle.std.specs.Prelude.{◌≡◌, IfOk, string_bytes};
+ghost use Rattle.hex.specs.Hex.{encode_upper};
 ghost use Rattle.chan_deck.specs.Texts as text;
 
 use chan_walk::Verdict;
 use std::alloc::{AllocError, Global};
+use std::fmt;
 
 /// The hexadecimal digits.
 const DIGITS: [char; 16] = [
     '0', '1', '2', '3', '4', '5', '6', '7', '8', '9', 'A', 'B', 'C', 'D', 'E', 'F',
 ];
 
-/// An address in six digits, or as many as it needs.
-pub(crate) fn address_text(alloc: Global, address: u32) -> Result<String, AllocError>
-    ensures { IfOk result (λ t. string_bytes t ≡ text.address_text address) }
-{
-    let [first, high, middle, low] = address.to_be_bytes();
-    if first == 0 {
-        return hex::encode_upper(alloc, [high, middle, low]);
+/// A byte as text: its two digits.
+#[derive(Clone, Copy)]
+struct Digits(u8);
+
+impl fmt::Display for Digits {
+    ghost use Rattle.std.specs.Prelude.{Some, [], ◌∷◌};
+    ghost use Rattle.hex.specs.Hex.{encode_upper};
+
+    ghost output = { λ d. Some (encode_upper (d.0 ∷ [])) };
+
+    fn fmt<W: fmt::Write>(&self, f: &mut fmt::Formatter<W>) -> fmt::Result {
+        let high = DIGITS[usize::from(self.0 / 16)];
+        let low = DIGITS[usize::from(self.0 % 16)];
+        write!(f, "{high}{low}")
     }
-    if first >= 16 {
-        return hex::encode_upper(alloc, [first, high, middle, low]);
-    }
-    let digit = DIGITS[first as usize];
-    let digits = hex::encode_upper(alloc, [high, middle, low])?;
-    format!(in alloc; "{digit}{digits}")
 }
 
-/// The line of a verdict with its end: `yes`, or `no`, the address and the reason's word. An error is want of memory.
+/// An address as text: six digits, or as many as it needs.
+#[derive(Clone, Copy)]
+pub(crate) struct Address(pub(crate) u32);
+
+impl fmt::Display for Address {
+    ghost use Rattle.std.specs.Prelude.{Some};
+    ghost use Rattle.chan_deck.specs.Texts.{address_text};
+
+    ghost output = { λ a. Some (address_text a.0) };
+
+    fn fmt<W: fmt::Write>(&self, f: &mut fmt::Formatter<W>) -> fmt::Result {
+        let [first, high, middle, low] = self.0.to_be_bytes();
+        let high = Digits(high);
+        let middle = Digits(middle);
+        let low = Digits(low);
+        if first == 0 {
+            return write!(f, "{high}{middle}{low}");
+        }
+        if first >= 16 {
+            let first = Digits(first);
+            return write!(f, "{first}{high}{middle}{low}");
+        }
+        let digit = DIGITS[usize::from(first)];
+        write!(f, "{digit}{high}{middle}{low}")
+    }
+}
+
+/// The line of a verdict with its end: `yes`, or `no`, the address and the reason's word. An error
+/// is want of memory.
 pub fn verdict_text(alloc: Global, verdict: Verdict) -> Result<String, AllocError>
     ensures { IfOk result (λ t. string_bytes t ≡ text.verdict_line verdict) }
 {
     match verdict {
         Verdict::Yes => String::from_str(alloc, "yes\n"),
         Verdict::No { address, reason } => {
-            let address = address_text(alloc, address)?;
+            let address = Address(address);
             let word = reason.word();
             format!(in alloc; "no {address} {word}\n")
         }

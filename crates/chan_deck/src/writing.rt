@@ -4,11 +4,12 @@ ghost use Rattle.std.specs.Prelude.{◌≡◌, ◌+◌, ◌/◌, ◌%◌, ◌<�
 ghost use Rattle.std.specs.List.{flat_map, AllByRecursion};
 ghost use Rattle.hex.specs.Hex.{encode_upper};
 ghost use Rattle.ckd_core.specs.Cylinders.{IsExtent};
-ghost use Rattle.chan_deck.specs.Item.{IsAddress, address_digits, area_digits, cylinder_digits, device, extent, header, line, mask, put, size_digits, start, text};
+ghost use Rattle.chan_deck.specs.Item.{IsAddress, address_digits, area_digits, cylinder_digits, device, extent, header, limit_digits, line, mask, put, size_digits, start, text};
 ghost use Rattle.chan_deck.specs.Item as item;
-ghost use Rattle.chan_deck.specs.Image.{Image, Spells, extent_of, is_zero as zeros, puts};
+ghost use Rattle.chan_deck.specs.Image.{Image, Spells, extent_of, header_of, is_zero as zeros, limit_line, puts};
 
 use crate::deck::Deck;
+use crate::version::Version;
 use ccw_core::Area;
 use ckd_core::{Device, FileMask};
 use std::alloc::{AllocError, Global};
@@ -50,7 +51,8 @@ fn push_cylinder(out: &mut Vec<u8>, cylinder: u16) -> Result<(), AllocError>
 }
 
 fn write_device(out: &mut Vec<u8>, device: Device) -> Result<(), AllocError>
-    ensures { OnOk result (out.new.items ≡ out.old.items ++ (line (item.device device) ++ 10 ∷ [])) }
+    ensures { OnOk result (out.new.items
+        ≡ out.old.items ++ (line (item.device device) ++ 10 ∷ [])) }
 {
     match device {
         Device::D2311 => out.extend_from_slice(b"device 2311\n"),
@@ -72,7 +74,8 @@ fn write_extent(out: &mut Vec<u8>, first: u16, last: u16) -> Result<(), AllocErr
 
 fn write_extents(out: &mut Vec<u8>, extents: &[(u16, u16)]) -> Result<(), AllocError>
     requires { AllByRecursion IsExtent extents.now }
-    ensures { OnOk result (out.new.items ≡ out.old.items ++ text (map line (map extent_of extents.now))) }
+    ensures { OnOk result (out.new.items
+        ≡ out.old.items ++ text (map line (map extent_of extents.now))) }
 {
     for pair in extents {
         let (first, last) = *pair;
@@ -82,7 +85,8 @@ fn write_extents(out: &mut Vec<u8>, extents: &[(u16, u16)]) -> Result<(), AllocE
 }
 
 fn write_area(alloc: Global, out: &mut Vec<u8>, word: &[u8], area: Area) -> Result<(), AllocError>
-    ensures { OnOk result (out.new.items ≡ out.old.items ++ ((word.now ++ area_digits area) ++ 10 ∷ [])) }
+    ensures { OnOk result (out.new.items
+        ≡ out.old.items ++ ((word.now ++ area_digits area) ++ 10 ∷ [])) }
 {
     out.extend_from_slice(word)?;
     push_address(alloc, out, area.start)?;
@@ -98,7 +102,8 @@ fn write_areas(
     word: &[u8],
     areas: &[Area],
 ) -> Result<(), AllocError>
-    ensures { OnOk result (out.new.items ≡ out.old.items ++ flat_map (λ a. (word.now ++ area_digits a) ++ 10 ∷ []) areas.now) }
+    ensures { OnOk result (out.new.items
+        ≡ out.old.items ++ flat_map (λ a. (word.now ++ area_digits a) ++ 10 ∷ []) areas.now) }
 {
     for area in areas {
         write_area(alloc, out, word, *area)?;
@@ -107,7 +112,8 @@ fn write_areas(
 }
 
 fn write_put(alloc: Global, out: &mut Vec<u8>, address: u32, word: &[u8]) -> Result<(), AllocError>
-    ensures { OnOk result (out.new.items ≡ out.old.items ++ (line (put address word.now) ++ 10 ∷ [])) }
+    ensures { OnOk result (out.new.items
+        ≡ out.old.items ++ (line (put address word.now) ++ 10 ∷ [])) }
 {
     out.extend_from_slice(b"put ")?;
     push_address(alloc, out, address)?;
@@ -131,7 +137,8 @@ fn is_zero(bytes: &[u8]) -> bool
 /// A put for each doubleword that isn't zero.
 fn write_puts(alloc: Global, out: &mut Vec<u8>, storage: &[u8]) -> Result<(), AllocError>
     requires { length storage.now ≤ 2 ^ 24 }
-    ensures { OnOk result (out.new.items ≡ out.old.items ++ text (map line (puts (length storage.now / 8) 0 storage.now))) }
+    ensures { OnOk result (out.new.items
+        ≡ out.old.items ++ text (map line (puts (length storage.now / 8) 0 storage.now))) }
 {
     for i in 0..storage.len() / 8 {
         let word = &storage[8 * i..8 * i + 8];
@@ -158,20 +165,60 @@ fn write_start(alloc: Global, out: &mut Vec<u8>, address: u32) -> Result<(), All
     out.extend_from_slice(b"\n")
 }
 
+fn write_header(out: &mut Vec<u8>, version: Version) -> Result<(), AllocError>
+    ensures { OnOk result (out.new.items
+        ≡ out.old.items ++ (line (header (header_of version)) ++ 10 ∷ [])) }
+{
+    match version {
+        Version::One => out.extend_from_slice(b"chanv deck 1\n"),
+        Version::Two(_) => out.extend_from_slice(b"chanv deck 2\n"),
+    }
+}
+
+/// The five digits of a number of places.
+fn push_places(out: &mut Vec<u8>, places: u32) -> Result<(), AllocError>
+    requires { places < 100000 }
+    ensures { OnOk result (out.new.items ≡ out.old.items ++ limit_digits places) }
+{
+    let ten_thousands = b'0' + (places / 10_000) as u8;
+    let thousands = b'0' + (places / 1_000 % 10) as u8;
+    let hundreds = b'0' + (places / 100 % 10) as u8;
+    let tens = b'0' + (places / 10 % 10) as u8;
+    let ones = b'0' + (places % 10) as u8;
+    out.extend_from_slice(&[ten_thousands, thousands, hundreds, tens, ones])
+}
+
+/// The line of the limit, in a version that has one.
+fn write_limit(out: &mut Vec<u8>, version: Version) -> Result<(), AllocError>
+    ensures { OnOk result (out.new.items ≡ out.old.items ++ text (map line (limit_line version))) }
+{
+    let Version::Two(limit) = version else {
+        return Ok(());
+    };
+    out.extend_from_slice(b"limit ")?;
+    push_places(out, limit.get())?;
+    out.extend_from_slice(b"\n")
+}
+
 /// The lines before the lists.
 fn write_heading(alloc: Global, out: &mut Vec<u8>, deck: &Deck) -> Result<(), AllocError>
-    ensures { OnOk result (out.new.items ≡ out.old.items ++ text (map line (header ∷ device deck.now.device ∷ mask deck.now.mask ∷ start deck.now.start ∷ []))) }
+    ensures { OnOk result (out.new.items
+        ≡ out.old.items ++ text (map line (header (header_of deck.now.version)
+        ∷ device deck.now.device ∷ mask deck.now.mask ∷ start deck.now.start ∷ limit_line deck.now.version))) }
 {
-    out.extend_from_slice(b"chanv deck 1\n")?;
+    write_header(out, deck.version)?;
     write_device(out, deck.device)?;
     write_mask(alloc, out, deck.mask.byte())?;
-    write_start(alloc, out, deck.start)
+    write_start(alloc, out, deck.start)?;
+    write_limit(out, deck.version)
 }
 
 /// The line of storage, and the puts.
 fn write_storage(alloc: Global, out: &mut Vec<u8>, storage: &[u8]) -> Result<(), AllocError>
     requires { length storage.now ≤ 2 ^ 24 }
-    ensures { OnOk result (out.new.items ≡ out.old.items ++ text (map line (item.storage (length storage.now) ∷ puts (length storage.now / 8) 0 storage.now))) }
+    ensures { OnOk result (out.new.items
+        ≡ out.old.items ++ text (map line (item.storage (length storage.now)
+        ∷ puts (length storage.now / 8) 0 storage.now))) }
 {
     out.extend_from_slice(b"storage ")?;
     push_size(alloc, out, storage.len() as u32)?;
@@ -179,7 +226,8 @@ fn write_storage(alloc: Global, out: &mut Vec<u8>, storage: &[u8]) -> Result<(),
     write_puts(alloc, out, storage)
 }
 
-/// The text that spells the deck, which `read_deck` reads back as an equal deck. An error is want of memory.
+/// The text that spells the deck, which `read_deck` reads back as an equal deck. An error is want
+/// of memory.
 pub fn write_deck(alloc: Global, deck: &Deck) -> Result<Vec<u8>, AllocError>
     ensures { IfOk result (λ text. Spells text.items deck.now) }
 {

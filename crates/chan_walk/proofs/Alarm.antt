@@ -1,40 +1,45 @@
 -- No false alarm: from each reason to a run that shows it.
-use Rattle.std.proofs.Common.{◌≡◌, ℕ, ◌+◌, ◌<◌, true, false, not, ◌&&◌, List, [], ◌∷◌, length, Option, Some, None, is_none, refl, sym, subst, ◌⊎◌, inl, inr, arith}
-use Rattle.std.proofs.lemmas.Bool.{and_parts, or_cases, not-true}
+use Rattle.std.proofs.Common.{◌≡◌, ℕ, ◌+◌, ◌<◌, true, false, not, ◌&&◌, List, [], ◌∷◌, length, Option, Some, None, is_none, refl, sym, ap, subst, ◌⊎◌, inl, inr, arith}
+use Rattle.std.proofs.lemmas.Bool.{and_parts, or_cases, not-true, ltb-true}
 use Rattle.std.proofs.lemmas.List.FromFn.{length-map-range_with_len}
 use Rattle.ccw_core.specs.Areas.{covered}
-use Rattle.ccw_core.specs.Ccw.{byte, Fields, is_transfer, skips}
+use Rattle.ccw_core.specs.Ccw.{byte, Fields, is_transfer, is_counted, skips}
+use Rattle.ckd_core.specs.declared.command.Kind.TheVariants.{Outward}
 use Rattle.ckd_core.specs.Cylinders.{has_cylinder}
-use Rattle.ckd_core.specs.Mask.{inhibits}
+use Rattle.ckd_core.specs.Mask.{inhibits, is_at_least}
 use Rattle.chan_walk.specs.declared.job.Job.{Job}
+use Rattle.chan_walk.specs.declared.place.Entry.{Entry}
+use Rattle.chan_walk.specs.declared.place.Entry.TheVariants.{Fresh, ChainIn, ChainOut, ChainSearch}
 use Rattle.chan_walk.specs.declared.place.Place.{Place}
 use Rattle.chan_walk.specs.declared.reason.Reason.{Reason}
-use Rattle.chan_walk.specs.declared.reason.Reason.TheVariants.{StoreNotLent, FetchNotLent, ShortSeek, SeekOutside}
+use Rattle.chan_walk.specs.declared.reason.Reason.TheVariants.{StoreNotLent, FetchNotLent, ShortSeek, SeekOutside, WeakensMask}
 use Rattle.chan_walk.specs.Alarm.{IsProper, first_cylinder, ShowsNext, StoresOn, ShowsCheck, Shows, NoFalseAlarm}
 use Rattle.chan_walk.specs.Argument.{IsChain, HasArgument, argument}
 use Rattle.chan_walk.specs.Check.{table_of_any, table_of_word, check}
-use Rattle.chan_walk.specs.Fault.{kind_of, goes_in, goes_out, stores, fetches, is_known, begins_seek, begins_recalibrate, allows, is_refused, table_of_own, HasFault, IsClear}
-use Rattle.chan_walk.specs.Guarded.{IsCcwByte, IsArgumentByte}
+use Rattle.chan_walk.specs.Fault.{kind_of, goes_in, goes_out, stores, fetches, is_known, begins_seek, begins_recalibrate, begins_set_mask, allows, is_refused, table_of_own, HasFault, IsClear}
+use Rattle.chan_walk.specs.Guarded.{IsCcwByte, IsSeekByte, IsMaskByte, IsArgumentByte}
 use Rattle.chan_walk.specs.Job.{storage_of, extents_of, fetch_of, store_of}
 use Rattle.chan_walk.specs.Machine.{Stage, At, Ended, Event, home, ends, Step, checked, unknown}
 use Rattle.chan_walk.specs.Place.{is_fresh, word_at}
 use Rattle.chan_walk.specs.Reachable.{IsReachable}
-use Rattle.chan_walk.specs.Runs.{Moment, IsRun, UsesInCcw, UsesInArgument}
+use Rattle.chan_walk.specs.Runs.{Moment, IsRun, UsesIn, UsesInCcw, UsesInArgument}
 use Rattle.chan_walk.specs.Verdict.{StoresOver, Offends}
 use Rattle.chan_walk.proofs.Areas.{uncovered, home_refused}
 use Rattle.chan_walk.proofs.Chains.{part_is_no_transfer, chain_begins_with_part}
-use Rattle.chan_walk.proofs.Checks.{Cases, each_case, table_case, check_case}
+use Rattle.chan_walk.proofs.Checks.{passed, Cases, each_case, table_case, check_case}
+use Rattle.chan_walk.proofs.Commands.{mask_is_outward, mask_is_no_transfer}
+use Rattle.chan_walk.proofs.Events.{mask_is_used}
 use Rattle.chan_walk.proofs.Faults.{clear_check, clear_good, then_true}
 use Rattle.chan_walk.proofs.Gathering.{begin}
 use Rattle.chan_walk.proofs.Operations.{moment, Finished, finish, stop, ready_fresh}
 use Rattle.chan_walk.proofs.Paths.{few_at, Runs, path_runs}
-use Rattle.chan_walk.proofs.Quiet.{there, Known, Carried, seek_at, carry_out}
+use Rattle.chan_walk.proofs.Quiet.{full_count, bytes_at, there, Known, Carried, seek_at, carry_out}
 
-show_next : {j : Job} {y : ℕ} {p : Place} {ps : List Place} {es : List Event} {st : Stage} {P : List Event → Stage → Type 0} (r : Runs j y p ps) → Step (storage_of j) y p r.gathered es (storage_of j) y st → P es st → ShowsNext j p P
+show_next : {j : Job} {y : ℕ} {p : Place} {ps : List Place} {es : List Event} {st : Stage} {P : List Event → Stage → Type 0} (r : Runs j y p ps) → Step (storage_of j) y j.mask p r.gathered es (storage_of j) y j.mask st → P es st → ShowsNext j p P
 show_next {j = j} {y = y} {p = p} {es = es} {st = st} r step shows = record {
   run = r.run;
-  at = record { storage = storage_of j; arm = y; stage = At p r.gathered; events = r.events };
-  next = record { storage = storage_of j; arm = y; stage = st; events = es };
+  at = record { storage = storage_of j; arm = y; mask = j.mask; stage = At p r.gathered; events = r.events };
+  next = record { storage = storage_of j; arm = y; mask = j.mask; stage = st; events = es };
   is_run = (r.is_run, step);
   comes = (r.gathered, refl);
   shows = shows;
@@ -54,6 +59,24 @@ missing s a (Some x) h e = absurd (cc)
 refused : (j : Job) (a : ℕ) (x : Option (List ℕ)) → HasArgument (storage_of j) a x → is_refused j x ≡ true → (l : List ℕ) × IsChain (storage_of j) 6 a l × (allows j (argument (storage_of j) l) ≡ false)
 refused j a None h e = absurd (cc)
 refused j a (Some x) h e = (h.0, h.1, subst (λ z. allows j z ≡ false) h.2 (not-true _ e))
+
+-- Set File Mask goes out, as its table entry says
+mask_out : (p : Place) (c : Fields) → begins_set_mask p c ≡ true → kind_of p.entered c ≡ Outward
+mask_out p c h = go p.entered h
+  where
+    go : (e : Entry) → begins_set_mask (record p { entered = e }) c ≡ true → kind_of e c ≡ Outward
+    go Fresh h = mask_is_outward c.command h
+    go ChainIn h = absurd (cc)
+    go ChainOut h = absurd (cc)
+    go ChainSearch h = absurd (cc)
+
+-- so that where it begins and no program check applies, it moves a byte
+moves_byte : (j : Job) (p : Place) → check (storage_of j) p ≡ None → is_transfer (word_at j p) ≡ false → begins_set_mask p (word_at j p) ≡ true → 0 < bytes_at j p
+unfolding is_counted
+moves_byte j p e t b =
+    let whole : bytes_at j p ≡ (word_at j p).count = ap (λ k. full_count k (word_at j p)) (mask_out p (word_at j p) b) in
+    let some : 0 < (word_at j p).count = ltb-true 0 _ (passed (storage_of j) p e t).counted in
+    omega (arith, whole, some)
 
 module _ (j : Job) (proper : IsProper j) where
   abbrev pub start : ℕ
@@ -121,7 +144,7 @@ module _ (j : Job) (proper : IsProper j) where
       short_at : check (storage_of j) p ≡ None → is_transfer c ≡ false → Known j p → (begins_seek p c && is_none f.0) ≡ true → Shows j p ShortSeek
       short_at e t known b =
           let a = and_parts (begins_seek p c) (is_none f.0) b in
-          stop j proper.1 start p R.gathered R.events R.run a.0 6 p R.gathered []
+          stop j proper.1 start p R.gathered R.events R.run e a.0 6 p R.gathered []
           (record { past = R.run; upto = []; events = R.events; is_run = R.is_run; split = refl; goes_on = tt })
           (ready_fresh j proper.1 p R.gathered a.0 e t known) (omega arith) (missing (storage_of j) p.address f.0 f.1 a.1)
 
@@ -144,6 +167,11 @@ module _ (j : Job) (proper : IsProper j) where
             shows = ((and_parts (is_fresh p.entered) _ a.0).0, home, en.home a.0, home_refused j (not-true _ a.1));
           }
 
+      weakens_at : check (storage_of j) p ≡ None → is_transfer c ≡ false → EndsAt p m → (begins_set_mask p c && not (is_at_least (byte (storage_of j) c.address) j.mask)) ≡ true → Shows j p WeakensMask
+      weakens_at e t en b =
+          let a = and_parts (begins_set_mask p c) (not (is_at_least (byte (storage_of j) c.address) j.mask)) b in
+          show_next R en.step ((and_parts (is_fresh p.entered) _ a.0).0, c.address, byte (storage_of j) c.address, en.masks a.0 (moves_byte j p e t a.0), not-true _ a.1)
+
       own : check (storage_of j) p ≡ None → is_transfer c ≡ false → Cases (Shows j p) (table_of_own j p c f.0)
       own e t = (
         (λ b. let a = and_parts (is_fresh p.entered) (not (is_known c.command)) b in let u = not-true (is_known c.command) a.1 in show_next R (unknown e t a.0 u) (c.command, inl refl, u)),
@@ -156,7 +184,7 @@ module _ (j : Job) (proper : IsProper j) where
                   (λ b. fetch_at en b),
                   (λ _. (
                     (λ b. short_at e t known b),
-                    (λ _. ((λ b. outside_at e t known en (or_cases _ _ b)), (λ _. tt))),
+                    (λ _. ((λ b. outside_at e t known en (or_cases _ _ b)), (λ _. ((λ b. weakens_at e t en b), (λ _. tt))))),
                   )),
                 )),
               )),
@@ -179,10 +207,25 @@ module _ (j : Job) (proper : IsProper j) where
   ccw_used b u = let r = run_to u.place u.reached in (moment j proper.1 start (At u.place r.gathered) r.events ∷ r.run, r.is_run, inl (u.stands, u.from, u.below))
 
   pub argument_used : (b : ℕ) → IsArgumentByte j b → (used : List Moment) × IsRun j used × UsesInArgument used b
-  argument_used b u =
-      let t = part_is_no_transfer (storage_of j) u.place.address (chain_begins_with_part (storage_of j) _ _ _ u.is_chain) in
-      let z = to_the_end u.place u.reached u.chain u.seeks (clear_check j u.place u.clear) t (clear_good j u.place u.clear t).known u.is_chain in
-      (z.used, z.is_used, z.gathers b u.has)
+  argument_used b u = go u.takes
+    where
+      of_seek : IsSeekByte j u.place b → (used : List Moment) × IsRun j used × UsesInArgument used b
+      of_seek s =
+          let t = part_is_no_transfer (storage_of j) u.place.address (chain_begins_with_part (storage_of j) _ _ _ s.is_chain) in
+          let z = to_the_end u.place u.reached s.chain s.seeks (clear_check j u.place u.clear) t (clear_good j u.place u.clear t).known s.is_chain in
+          (z.used, z.is_used, z.gathers b s.has)
+
+      of_mask : IsMaskByte j u.place b → (used : List Moment) × IsRun j used × UsesInArgument used b
+      of_mask s =
+          let e = clear_check j u.place u.clear in
+          let t = mask_is_no_transfer (word_at j u.place) (and_parts (is_fresh u.place.entered) _ s.sets).1 in
+          let R = run_to u.place u.reached in
+          let en = ends_at u.place u.reached e t (clear_good j u.place u.clear t).known in
+          (moment j proper.1 start Ended en.es ∷ moment j proper.1 start (At u.place R.gathered) R.events ∷ R.run, (R.is_run, en.step), inl (subst (UsesIn en.es) s.at (mask_is_used en.es _ _ (en.masks s.sets (moves_byte j u.place e t s.sets)))))
+
+      go : IsSeekByte j u.place b ⊎ IsMaskByte j u.place b → (used : List Moment) × IsRun j used × UsesInArgument used b
+      go (inl s) = of_seek s
+      go (inr s) = of_mask s
 
   shows : (p : Place) (r : Reason) → IsReachable j p → Offends j p r → Shows j p r
   shows p r m (inl f) = shows_fault p m r f

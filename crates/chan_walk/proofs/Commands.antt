@@ -1,11 +1,16 @@
 -- Rules that the whole command table keeps.
-use Rattle.std.proofs.Common.{◌≡◌, ℕ, Bool, true, false, not, ◌&&◌, ◌||◌, ◌==◌, List, [], ◌∷◌, Option, Some, None, refl, ◌⊎◌, inl, inr}
+use Rattle.std.proofs.Common.{◌≡◌, ℕ, Bool, true, false, not, ◌&&◌, ◌||◌, ◌==◌, ◌%◌, List, [], ◌∷◌, Option, Some, None, refl, subst, ◌⊎◌, inl, inr}
 use Rattle.std.specs.List.{list_all}
-use Rattle.std.proofs.lemmas.Bool.{and_parts, cond_both, not-true, or_cases, both_ways}
+use Rattle.std.proofs.lemmas.Bool.{and_parts, cond_both, not-true, or_cases, both_ways, eqb-true}
+use Rattle.ccw_core.specs.Ccw.{Fields, is_transfer}
 use Rattle.ckd_core.specs.declared.command.Kind.{Kind}
 use Rattle.ckd_core.specs.declared.command.Kind.TheVariants.{Idle, Inward, Outward, Search}
-use Rattle.ckd_core.specs.Table.{Entry as Command, table, find_code, lookup, class_is_seek, class_recalibrates, class_passes, is_seek, recalibrates}
-use Rattle.chan_walk.specs.Fault.{kind_of_command}
+use Rattle.ckd_core.specs.declared.command.MaskClass.{MaskClass}
+use Rattle.ckd_core.specs.declared.command.MaskClass.TheVariants.{Plain, Seek, SeekCylinder, SeekHead, Recalibrate, WriteHome, WriteFormat, WriteUpdate, SetMask}
+use Rattle.ckd_core.specs.Table.{Entry as Command, table, find_code, lookup, class_is_seek, class_recalibrates, class_sets_mask, class_passes, is_seek, recalibrates, sets_mask}
+use Rattle.chan_walk.specs.declared.place.Place.{Place}
+use Rattle.chan_walk.specs.Fault.{begins_seek, begins_set_mask, kind_of_command}
+use Rattle.chan_walk.specs.Place.{is_fresh}
 
 -- a command that was looked up passes a test; so does none
 abbrev Passes : (Command → Bool) → Option Command → Type 0
@@ -47,6 +52,49 @@ rule_at (Some e) h k = go (or_cases (not (class_is_seek e.class)) (is_outward e.
         let a = and_parts (is_outward e.kind) (not (class_recalibrates e.class)) b in
         (outward_from e.kind a.0, not-true (class_recalibrates e.class) a.1)
 
+abbrev masks_go_out : Command → Bool
+masks_go_out e = not (class_sets_mask e.class) || is_outward e.kind
+
+masks_keep : list_all masks_go_out table ≡ true
+unfolding table
+masks_keep = refl
+
+mask_at : (o : Option Command) → Passes masks_go_out o → class_passes class_sets_mask o ≡ true → kind_of_command o ≡ Outward
+mask_at None h k = absurd (cc)
+mask_at (Some e) h k = go (or_cases (not (class_sets_mask e.class)) (is_outward e.kind) h)
+  where
+    go : (not (class_sets_mask e.class) ≡ true) ⊎ (is_outward e.kind ≡ true) → e.kind ≡ Outward
+    go (inl n) = absurd (both_ways (class_sets_mask e.class) (not-true (class_sets_mask e.class) n) k)
+    go (inr b) = outward_from e.kind b
+
+pub mask_is_outward : (code : ℕ) → sets_mask code ≡ true → kind_of_command (lookup code) ≡ Outward
+unfolding sets_mask lookup
+mask_is_outward code h = mask_at (lookup code) (found_passes masks_go_out code table masks_keep) h
+
+-- what was looked up has the code
+found_code : (code : ℕ) (es : List Command) → Passes (λ e. e.code == code) (find_code code es)
+found_code code [] = tt
+found_code code (e ∷ es) = cond_both (e.code == code) (Some e) (find_code code es) (Passes (λ x. x.code == code)) (λ h. h) (λ _. found_code code es)
+
+abbrev masks_are_no_transfers : Command → Bool
+masks_are_no_transfers e = not (class_sets_mask e.class) || not (e.code % 16 == 8)
+
+masks_apart : list_all masks_are_no_transfers table ≡ true
+unfolding table
+masks_apart = refl
+
+apart_at : (code : ℕ) (o : Option Command) → Passes masks_are_no_transfers o → Passes (λ e. e.code == code) o → class_passes class_sets_mask o ≡ true → (code % 16 == 8) ≡ false
+apart_at code None h same k = absurd (cc)
+apart_at code (Some e) h same k = go (or_cases (not (class_sets_mask e.class)) (not (e.code % 16 == 8)) h)
+  where
+    go : (not (class_sets_mask e.class) ≡ true) ⊎ (not (e.code % 16 == 8) ≡ true) → (code % 16 == 8) ≡ false
+    go (inl n) = absurd (both_ways (class_sets_mask e.class) (not-true (class_sets_mask e.class) n) k)
+    go (inr b) = subst (λ n. (n % 16 == 8) ≡ false) (eqb-true e.code code same) (not-true (e.code % 16 == 8) b)
+
+pub mask_is_no_transfer : (c : Fields) → sets_mask c.command ≡ true → is_transfer c ≡ false
+unfolding sets_mask lookup is_transfer
+mask_is_no_transfer c h = apart_at c.command (lookup c.command) (found_passes masks_are_no_transfers c.command table masks_apart) (found_code c.command table) h
+
 pub seek_is_outward : (code : ℕ) → is_seek code ≡ true → kind_of_command (lookup code) ≡ Outward
 unfolding is_seek lookup
 seek_is_outward code h = (rule_at (lookup code) (found_passes seeks_go_out code table table_keeps) h).0
@@ -54,3 +102,23 @@ seek_is_outward code h = (rule_at (lookup code) (found_passes seeks_go_out code 
 pub seek_no_recalibrate : (code : ℕ) → is_seek code ≡ true → recalibrates code ≡ false
 unfolding is_seek recalibrates lookup
 seek_no_recalibrate code h = (rule_at (lookup code) (found_passes seeks_go_out code table table_keeps) h).1
+
+seek_class_sets_none : (o : Option Command) → class_passes class_is_seek o ≡ true → class_passes class_sets_mask o ≡ true → ⊥
+seek_class_sets_none None h k = cc
+seek_class_sets_none (Some e) h k = apart e.class h k
+  where
+    apart : (class : MaskClass) → class_is_seek class ≡ true → class_sets_mask class ≡ true → ⊥
+    apart Seek h k = cc
+    apart SeekCylinder h k = cc
+    apart SeekHead h k = cc
+    apart Plain h k = cc
+    apart Recalibrate h k = cc
+    apart WriteHome h k = cc
+    apart WriteFormat h k = cc
+    apart WriteUpdate h k = cc
+    apart SetMask h k = cc
+
+-- no seek is a Set File Mask
+pub seek_sets_no_mask : (p : Place) (c : Fields) → begins_seek p c ≡ true → begins_set_mask p c ≡ true → ⊥
+unfolding is_seek sets_mask
+seek_sets_no_mask p c h k = seek_class_sets_none (lookup c.command) (and_parts (is_fresh p.entered) _ h).1 (and_parts (is_fresh p.entered) _ k).1

@@ -7,14 +7,14 @@ use Rattle.ccw_core.specs.Ccw.{byte}
 use Rattle.chan_walk.specs.declared.job.Job.{Job}
 use Rattle.chan_walk.specs.declared.place.Place.{Place}
 use Rattle.chan_walk.specs.declared.reason.Reason.{Reason}
-use Rattle.chan_walk.specs.declared.reason.Reason.TheVariants.{NotInTable, Inhibited, StoreNotLent, FetchNotLent, ShortSeek, SeekOutside}
+use Rattle.chan_walk.specs.declared.reason.Reason.TheVariants.{NotInTable, Inhibited, StoreNotLent, FetchNotLent, ShortSeek, SeekOutside, WeakensMask}
 use Rattle.chan_walk.specs.Alarm.{IsProper, ShowsNext, ShowsLater, ShowsCheck, Shows, SafeIsYes, HeadlineAloneIsEnough}
 use Rattle.chan_walk.specs.Argument.{Has}
 use Rattle.chan_walk.specs.Check.{table_of_any, table_of_word}
-use Rattle.chan_walk.specs.Fault.{begins_recalibrate, table_of_own, HasFault, IsClear}
+use Rattle.chan_walk.specs.Fault.{begins_recalibrate, begins_set_mask, table_of_own, HasFault, IsClear}
 use Rattle.chan_walk.specs.Headline.{IsSafeEvent, IsUnchecked, IsSafeMoment, IsSteady, IsSafe}
 use Rattle.chan_walk.specs.Job.{storage_of}
-use Rattle.chan_walk.specs.Machine.{Stage, At, Ended, Checked, Event, Command, Store, Fetch, Seek, IsStored, Moves, stored, ends, begun, Step, carried}
+use Rattle.chan_walk.specs.Machine.{Stage, At, Ended, Checked, Event, Command, Store, Fetch, Seek, SetMask, IsStored, Moves, stored, ends, begun, Step, carried}
 use Rattle.chan_walk.specs.Place.{word_at}
 use Rattle.chan_walk.specs.Reachable.{IsReachable}
 use Rattle.chan_walk.specs.Runs.{Moment, IsRun, Uses}
@@ -24,7 +24,7 @@ use Rattle.chan_walk.proofs.Checks.{passed, data_fits, each_case, table_case, ch
 use Rattle.chan_walk.proofs.Faults.{clear_check, clear_good}
 use Rattle.chan_walk.proofs.Lists.{byte-map-range}
 use Rattle.chan_walk.proofs.Paths.{few_at}
-use Rattle.chan_walk.proofs.Quiet.{full_count, inward_from, kind_at, bytes_at, can_home, seek_at}
+use Rattle.chan_walk.proofs.Quiet.{full_count, inward_from, kind_at, bytes_at, can_home, can_mask, seek_at}
 
 -- ---- what a run shows for an own fault isn't safe
 
@@ -59,7 +59,7 @@ module _ (j : Job) (safe : IsSafe j) (p : Place) where
   no_fetch s = let w = s.shows in both_ways _ w.6 (event_safe j s.next.events (Fetch w.0 w.1) (next_safe s).events w.3 w.2 w.4 w.5)
 
   no_short : Unshown ShortSeek
-  no_short s = go s.shows.2
+  no_short s = go s.shows.3
     where
       go : Has s.next.events (Seek None) ⊎ ((r : Reason) × (s.next.stage ≡ Checked r)) → ⊥
       go (inl h) = event_safe j s.next.events (Seek None) (later_safe s).events h
@@ -68,10 +68,13 @@ module _ (j : Job) (safe : IsSafe j) (p : Place) where
   no_outside : Unshown SeekOutside
   no_outside s = let w = s.shows in both_ways _ w.3 (event_safe j s.next.events (Seek (Some w.1)) (later_safe s).events w.2)
 
+  no_weaker : Unshown WeakensMask
+  no_weaker s = let w = s.shows in both_ways _ w.4 (event_safe j s.next.events (SetMask w.1 w.2) (next_safe s).events w.3)
+
   fault_unshown : (r : Reason) → HasFault j p (Some r) → Unshown r
   fault_unshown r f = table_case Unshown _ _ (table_of_own j p (word_at j p) f.0) r
       (check_case Unshown (storage_of j) p r (each_case Unshown (table_of_any (length (storage_of j)) p (word_at j p)) (no_check, (no_check, (no_check, tt)))) (each_case Unshown (table_of_word (length (storage_of j)) p (word_at j p)) (no_check, (no_check, (no_check, (no_check, tt))))))
-      (λ e t. each_case Unshown (table_of_own j p (word_at j p) f.0) (no_unknown, (no_inhibited, (no_store, (no_fetch, (no_short, (no_outside, tt)))))))
+      (λ e t. each_case Unshown (table_of_own j p (word_at j p) f.0) (no_unknown, (no_inhibited, (no_store, (no_fetch, (no_short, (no_outside, (no_weaker, tt))))))))
       f.2
 
 -- ---- a store that changes what it stores over
@@ -151,10 +154,11 @@ changes_not j proper steady p m f P to o =
     let mv : Moves c (bytes_at j p) (storage_of j) k (Store c.address there ∷ []) s = subst (λ z. Moves c (bytes_at j p) (storage_of j) z (Store c.address there ∷ []) s) (sym inward) (stored a.2 (len ∙ sym whole) (all_small (storage_of j) (range_with_len c.address c.count)) is) in
     let sk = seek_at j y p R.gathered (few_at j p R.gathered R.taking) in
     let hm = can_home j y (begins_recalibrate p c) in
-    let es = begun p c ++ (Store c.address there ∷ []) ++ sk.es ++ hm.es ++ [] in
-    let step : Step (storage_of j) y p R.gathered es s y Ended = carried e t (clear_good j p f t).known (omega (arith, whole)) mv sk.seeks hm.homes ends in
-    let last : Moment = record { storage = s; arm = y; stage = Ended; events = es } in
-    let run : List Moment = last ∷ record { storage = storage_of j; arm = y; stage = At p R.gathered; events = R.events } ∷ R.run in
+    let fm = can_mask j c (bytes_at j p) j.mask (begins_set_mask p c) in
+    let es = begun p c ++ (Store c.address there ∷ []) ++ sk.es ++ hm.es ++ fm.es ++ [] in
+    let step : Step (storage_of j) y j.mask p R.gathered es s y j.mask Ended = carried e t (clear_good j p f t).known (omega (arith, whole)) mv sk.seeks hm.homes fm.sets ends in
+    let last : Moment = record { storage = s; arm = y; mask = j.mask; stage = Ended; events = es } in
+    let run : List Moment = last ∷ record { storage = storage_of j; arm = y; mask = j.mask; stage = At p R.gathered; events = R.events } ∷ R.run in
     let u = to o.at o.holds in
     let held = (steady u.0 run o.at u.1 u.2 (R.is_run, step)).0 in
     changed_not (byte (storage_of j) o.at) (sym (put_in (storage_of j) c.address c.count o.at o.from o.below fits) ∙ held)

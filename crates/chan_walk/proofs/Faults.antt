@@ -2,15 +2,15 @@
 use Rattle.std.proofs.Common.{◌≡◌, ℕ, Bool, true, false, not, ◌&&◌, List, Option, Some, None, is_none, refl, sym, ap, ◌∙◌, inl}
 use Rattle.std.proofs.lemmas.Bool.{not-false, cond-false, or_parts}
 use Rattle.ccw_core.specs.Areas.{covered}
-use Rattle.ccw_core.specs.Ccw.{Fields, is_transfer, skips}
+use Rattle.ccw_core.specs.Ccw.{byte, Fields, is_transfer, skips}
 use Rattle.ckd_core.specs.Cylinders.{has_cylinder}
-use Rattle.ckd_core.specs.Mask.{inhibits}
+use Rattle.ckd_core.specs.Mask.{inhibits, is_at_least}
 use Rattle.chan_walk.specs.declared.job.Job.{Job}
 use Rattle.chan_walk.specs.declared.place.Place.{Place}
 use Rattle.chan_walk.specs.declared.reason.Reason.{Reason}
 use Rattle.chan_walk.specs.declared.verdict.Verdict.TheVariants.{Yes}
 use Rattle.chan_walk.specs.Check.{check}
-use Rattle.chan_walk.specs.Fault.{kind_of, goes_in, goes_out, is_known, begins_seek, begins_recalibrate, is_refused, fault_with, HasFault, IsClear}
+use Rattle.chan_walk.specs.Fault.{kind_of, goes_in, goes_out, is_known, begins_seek, begins_recalibrate, begins_set_mask, is_refused, fault_with, HasFault, IsClear}
 use Rattle.chan_walk.specs.Job.{storage_of, extents_of, fetch_of, store_of}
 use Rattle.chan_walk.specs.Place.{is_fresh, word_at}
 use Rattle.chan_walk.specs.Verdict.{IsVerdict, AreClear}
@@ -34,6 +34,7 @@ pub record IsGood (j : Job) (p : Place) (c : Fields) (x : Option (List ℕ)) : T
   pub argued : begins_seek p c ≡ true → is_none x ≡ false
   pub allowed : begins_seek p c ≡ true → is_refused j x ≡ false
   pub home : begins_recalibrate p c ≡ true → has_cylinder (extents_of j) 0 ≡ true
+  pub strict : begins_set_mask p c ≡ true → is_at_least (byte (storage_of j) c.address) j.mask ≡ true
 
 pub stores_from : (a b d : Bool) → a ≡ false → b ≡ true → d ≡ false → (not a && b && not d) ≡ true
 stores_from false true false e f g = refl
@@ -59,6 +60,7 @@ clear_good j p f t =
     let a4 = cond_none _ _ _ a3.1 in
     let a5 = cond_none _ _ _ a4.1 in
     let a6 = or_parts _ _ a5.0 in
+    let a7 = cond_none _ _ _ a5.1 in
     record {
       known = then_true _ _ a0.0;
       permitted = then_false _ _ a1.0;
@@ -67,6 +69,7 @@ clear_good j p f t =
       argued = then_false _ _ a4.0;
       allowed = then_false _ _ a6.0;
       home = then_true _ _ a6.1;
+      strict = then_true _ _ a7.0;
     }
 
 pub fault_exists : (j : Job) (p : Place) → (r : Option Reason) × HasFault j p r

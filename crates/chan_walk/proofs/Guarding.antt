@@ -8,21 +8,23 @@ use Rattle.ccw_core.specs.Areas.{lies_in}
 use Rattle.ccw_core.specs.Ccw.{Fields}
 use Rattle.ccw_core.specs.Storage.{Stands, ccw_at, is_inside}
 use Rattle.ccw_core.proofs.Covering.{lies_in-nil}
-use Rattle.ccw_core.proofs.StorageLemmas.{ccw_at-some}
+use Rattle.ccw_core.proofs.StorageLemmas.{ccw_at-some, ccw_at-where}
 use Rattle.chan_walk.specs.declared.job.Job.{Job}
 use Rattle.chan_walk.specs.declared.place.Place.{Place}
 use Rattle.chan_walk.specs.declared.reason.Reason.{Reason}
 use Rattle.chan_walk.specs.Argument.{Has, IsChain, is_part, argument_addresses}
 use Rattle.chan_walk.specs.Fault.{begins_seek, HasFault, IsClear}
-use Rattle.chan_walk.specs.Guard.{AddsBytes, IsCcwByteOf, IsArgumentByteOf, byte_area}
-use Rattle.chan_walk.specs.Guarded.{IsCcwByte, IsArgumentByte}
+use Rattle.chan_walk.specs.Guard.{AddsBytes, IsCcwByteOf, IsSeekByteOf, IsMaskByteOf, IsArgumentByteOf, byte_area}
+use Rattle.chan_walk.specs.Guarded.{IsCcwByte, IsSeekByte, IsMaskByte, IsArgumentByte}
 use Rattle.chan_walk.specs.Job.{storage_of}
 use Rattle.chan_walk.specs.Least.{AreReached}
 use Rattle.chan_walk.specs.Place.{word_at}
+use Rattle.chan_walk.specs.Reachable.{IsReachable}
 use Rattle.chan_walk.specs.Ranges.{EndsBelow, HaveSameBytes, Meets}
 use Rattle.chan_walk.proofs.CheckCases.{is_part-none}
 use Rattle.chan_walk.proofs.Chains.{chain_unique, chain_begins_with_part}
-use Rattle.chan_walk.proofs.Faults.{fault_unique}
+use Rattle.chan_walk.proofs.Checks.{check_stands}
+use Rattle.chan_walk.proofs.Faults.{clear_check, fault_unique}
 use Rattle.chan_walk.proofs.Lists.{has_left, has_right, has_cases}
 use Rattle.chan_walk.proofs.Merging.{InArea, lies_in-append, lies_in-cases, lies_in-first, lies_in-rest, get_any}
 
@@ -69,10 +71,18 @@ pub argument_bytes : (j : Job) (ps : List Place) (areas : List Area) → AreReac
 argument_bytes j ps areas r f b = (to, from)
   where
     to : lies_in areas b ≡ true → IsArgumentByte j b
-    to h = let k = (f b).0 h in record { place = k.0; reached = r.1 k.0 k.1; seeks = k.2.seeks; clear = k.2.clear; chain = k.2.chain; is_chain = k.2.is_chain; has = k.2.has }
+    to h = let k = (f b).0 h in go k.0 (r.1 k.0 k.1) k.2
+      where
+        go : (p : Place) → IsReachable j p → IsArgumentByteOf j p b → IsArgumentByte j b
+        go p m (inl k) = record { place = p; reached = m; clear = k.0; takes = inl k.1 }
+        go p m (inr k) = record { place = p; reached = m; clear = k.0; takes = inr k.1 }
 
     from : IsArgumentByte j b → lies_in areas b ≡ true
-    from h = (f b).1 (h.place, r.0 h.place h.reached, record { seeks = h.seeks; clear = h.clear; chain = h.chain; is_chain = h.is_chain; has = h.has })
+    from h = (f b).1 (h.place, r.0 h.place h.reached, go h.takes)
+      where
+        go : IsSeekByte j h.place b ⊎ IsMaskByte j h.place b → IsArgumentByteOf j h.place b
+        go (inl k) = inl (h.clear, k)
+        go (inr k) = inr (h.clear, k)
 
 -- a range meets the areas where it has a byte that is guarded
 pub meets_bytes : (P : ℕ → Type 0) (areas : List Area) (start len : ℕ) → ((b : ℕ) → (lies_in areas b ≡ true) ↔ P b) → Meets areas start len ↔ ((b : ℕ) × (start ≤ b) × (b < start + len) × P b)
@@ -134,15 +144,11 @@ pub low_bytes : (xs : List ℕ) → ((i : ℕ) → get_or xs i 0 < 2 ^ 24) → A
 low_bytes xs h = All-map (EndsBelow (2 ^ 32)) byte_area xs (λ i d l. let k = h i in let e = get_any xs i d 0 l in omega arith)
 
 -- the argument at a place that begins a seek and has no own fault
-pub bytes_of_argument : (j : Job) (p : Place) (l x : List ℕ) → begins_seek p (word_at j p) ≡ true → IsClear j p → IsChain (storage_of j) 6 p.address l → x ≡ argument_addresses (storage_of j) l → (b : ℕ) → Has x b ↔ IsArgumentByteOf j p b
+pub bytes_of_argument : (j : Job) (p : Place) (l x : List ℕ) → begins_seek p (word_at j p) ≡ true → IsClear j p → IsChain (storage_of j) 6 p.address l → x ≡ argument_addresses (storage_of j) l → (b : ℕ) → Has x b ↔ IsSeekByteOf j p b
 bytes_of_argument j p l x s f k e b = (
-  (λ h. record { seeks = s; clear = f; chain = l; is_chain = k; has = subst (λ z. Has z b) e h }),
-  λ h. subst (λ z. Has z b) (ap (argument_addresses (storage_of j)) (chain_unique (storage_of j) 6 p.address h.chain l h.is_chain k) ∙ sym e) h.has,
+  (λ h. (f, record { seeks = s; chain = l; is_chain = k; has = subst (λ z. Has z b) e h })),
+  λ h. subst (λ z. Has z b) (ap (argument_addresses (storage_of j)) (chain_unique (storage_of j) 6 p.address h.1.chain l h.1.is_chain k) ∙ sym e) h.1.has,
 )
-
--- there is none where no CCW stands
-pub no_argument_of_none : (j : Job) (p : Place) → ccw_at (storage_of j) p.address ≡ None → (b : ℕ) → IsArgumentByteOf j p b → ⊥
-no_argument_of_none j p e b h = both_ways (is_part (storage_of j) p.address) (is_part-none (storage_of j) p.address e) (chain_begins_with_part (storage_of j) 6 p.address h.chain h.is_chain)
 
 -- a place with a fault isn't clear
 pub not_clear : (j : Job) (p : Place) (o : Option Reason) → is_some o ≡ true → HasFault j p o → IsClear j p → ⊥

@@ -6,17 +6,17 @@ use Rattle.ccw_core.specs.Ccw.{byte, Fields, is_transfer, skips, chains_data}
 use Rattle.ckd_core.specs.declared.command.Kind.{Kind}
 use Rattle.ckd_core.specs.declared.command.Kind.TheVariants.{Outward}
 use Rattle.ckd_core.specs.Cylinders.{has_cylinder}
-use Rattle.ckd_core.specs.Mask.{inhibits}
+use Rattle.ckd_core.specs.Mask.{inhibits, is_at_least}
 use Rattle.chan_walk.specs.declared.job.Job.{Job}
 use Rattle.chan_walk.specs.declared.place.Entry.{Entry}
 use Rattle.chan_walk.specs.declared.place.Entry.TheVariants.{ChainOut}
 use Rattle.chan_walk.specs.declared.place.Place.{Place}
 use Rattle.chan_walk.specs.Argument.{Has, IsChain, argument_addresses, argument}
-use Rattle.chan_walk.specs.Fault.{kind_of, goes_in, goes_out, is_known, begins_seek, begins_recalibrate, allows}
+use Rattle.chan_walk.specs.Fault.{kind_of, goes_in, goes_out, is_known, begins_seek, begins_recalibrate, begins_set_mask, allows}
 use Rattle.chan_walk.specs.Guarded.{IsArgumentByte, IsGuarded}
 use Rattle.chan_walk.specs.Headline.{IsGathered, IsSafeEvent}
-use Rattle.chan_walk.specs.Job.{storage_of, extents_of, fetch_of, store_of}
-use Rattle.chan_walk.specs.Machine.{Gathered, Stage, At, Ended, Checked, Event, Command, Moves, idle, skipped, stored, written, searched, taken, with_taken, Seeks, none, part, stays, goes, under_way, Homes, no_home, home_stays, home_goes, Goes, ends, on_data, on_command, on_skip, on_short, begun}
+use Rattle.chan_walk.specs.Job.{storage_of, extents_of, fetch_of, store_of, HasMask}
+use Rattle.chan_walk.specs.Machine.{Gathered, Stage, At, Ended, Checked, Event, Command, Moves, idle, skipped, stored, written, searched, taken, with_taken, Seeks, none, part, stays, goes, under_way, Homes, no_home, home_stays, home_goes, SetsMask, no_mask, no_byte, mask_stays, mask_set, Goes, ends, on_data, on_command, on_skip, on_short, begun}
 use Rattle.chan_walk.specs.Place.{is_fresh, straight_to, word_at}
 use Rattle.chan_walk.specs.Reachable.{IsReachable}
 use Rattle.chan_walk.specs.Runs.{UsesIn}
@@ -56,10 +56,15 @@ module _ (j : Job) where
   abbrev pub Same : List ℕ → Type 0
   Same s = (b : ℕ) → IsGuarded j b → byte s b ≡ byte (storage_of j) b
 
-  pub record Kept (s : List ℕ) (y : ℕ) (st : Stage) : Type 0 where
+  -- the mask f is at least as strict as the job's
+  abbrev pub IsStrict : ℕ → Type 0
+  IsStrict f = HasMask j → is_at_least f j.mask ≡ true
+
+  pub record Kept (s : List ℕ) (y f : ℕ) (st : Stage) : Type 0 where
     pub same_length : length s ≡ length (storage_of j)
     pub same : Same s
     pub inside : has_cylinder (extents_of j) y ≡ true
+    pub strict : IsStrict f
     pub stage : IsKept st
 
   -- a seek under way at a place with the CCW c
@@ -85,6 +90,7 @@ module _ (j : Job) where
     pub follows : (q : Place) → Follows p c (kind_of p.entered c) q → IsReachable j q
     pub apart : IsApart p c
     pub seek : Comes p c (under_way p c g)
+    pub mask : begins_set_mask p c ≡ true → IsGuarded j c.address
 
   -- ---- the data moves
 
@@ -163,6 +169,27 @@ module _ (j : Job) where
   homes_ok y home_stays f h = record { inside = h; safe = (allows_home j (f refl), tt); unused = λ b u. u }
   homes_ok y home_goes f h = record { inside = f refl; safe = (allows_home j (f refl), tt); unused = λ b u. u }
 
+  -- ---- Set File Mask
+
+  record Masked (f : ℕ) (es : List Event) : Type 0 where
+    strict : IsStrict f
+    safe : AllByRecursion (IsSafeEvent j) es
+    used : (b : ℕ) → UsesIn es b → IsGuarded j b
+
+  taken_strict : (c : Fields) (s : List ℕ) → IsGuarded j c.address → is_at_least (byte (storage_of j) c.address) j.mask ≡ true → Same s → is_at_least (byte s c.address) j.mask ≡ true
+  taken_strict c s g a same = subst (λ z. is_at_least z j.mask ≡ true) (sym (same c.address g)) a
+
+  mask_guarded : (c : Fields) → IsGuarded j c.address → (b : ℕ) → (c.address ≡ b) ⊎ ⊥ → IsGuarded j b
+  mask_guarded c g b (inl e) = subst (IsGuarded j) e g
+  mask_guarded c g b (inr u) = absurd u
+
+  -- the byte that is taken is guarded, so that it is what it was
+  masks_ok : (c : Fields) (m : ℕ) (s : List ℕ) (f : ℕ) {b : Bool} {es : List Event} {f' : ℕ} → SetsMask c m s f b es f' → (b ≡ true → IsGuarded j c.address) → (b ≡ true → is_at_least (byte (storage_of j) c.address) j.mask ≡ true) → Same s → IsStrict f → Masked f' es
+  masks_ok c m s f no_mask g a same h = record { strict = h; safe = tt; used = λ b u. absurd u }
+  masks_ok c m s f (no_byte z) g a same h = record { strict = h; safe = tt; used = λ b u. absurd u }
+  masks_ok c m s f (mask_stays z) g a same h = record { strict = h; safe = (taken_strict c s (g refl) (a refl) same, tt); used = mask_guarded c (g refl) }
+  masks_ok c m s f (mask_set z k) g a same h = let is = taken_strict c s (g refl) (a refl) same in record { strict = λ _. is; safe = (is, tt); used = mask_guarded c (g refl) }
+
   -- ---- the program goes on
 
   record Gone (es : List Event) (st : Stage) : Type 0 where
@@ -183,21 +210,22 @@ module _ (j : Job) where
 
   -- ---- a whole step
 
-  pub record Stepped (s : List ℕ) (y : ℕ) (st : Stage) (es : List Event) : Type 0 where
-    pub kept : Kept s y st
+  pub record Stepped (s : List ℕ) (y f : ℕ) (st : Stage) (es : List Event) : Type 0 where
+    pub kept : Kept s y f st
     pub safe : AllByRecursion (IsSafeEvent j) es
     pub used : (b : ℕ) → UsesIn es b → IsGuarded j b
 
-  pub carried_ok : (p : Place) (c : Fields) (g : Gathered) {s t : List ℕ} {y y' y'' : ℕ} {g' : Gathered} {moved sought homed went : List Event} {stage : Stage} {m : ℕ} → Here p c g → Kept s y (At p g) → is_transfer c ≡ false → m ≤ c.count → Moves c m s (kind_of p.entered c) moved t → Seeks c m s y (under_way p c g) sought y' g' → Homes y' (begins_recalibrate p c) homed y'' → Goes p c (kind_of p.entered c) m g' went stage → Stepped t y'' stage (begun p c ++ moved ++ sought ++ homed ++ went)
-  carried_ok p c g {s = s} {y = y} {y' = y'} {moved = moved} {sought = sought} {homed = homed} {went = went} {m = m} here k t le mv sk hm gs =
+  pub carried_ok : (p : Place) (c : Fields) (g : Gathered) {s t : List ℕ} {y y' y'' f f' : ℕ} {g' : Gathered} {moved sought homed set went : List Event} {stage : Stage} {m : ℕ} → Here p c g → Kept s y f (At p g) → is_transfer c ≡ false → m ≤ c.count → Moves c m s (kind_of p.entered c) moved t → Seeks c m s y (under_way p c g) sought y' g' → Homes y' (begins_recalibrate p c) homed y'' → SetsMask c m s f (begins_set_mask p c) set f' → Goes p c (kind_of p.entered c) m g' went stage → Stepped t y'' f' stage (begun p c ++ moved ++ sought ++ homed ++ set ++ went)
+  carried_ok p c g {s = s} {y = y} {y' = y'} {f = f} {moved = moved} {sought = sought} {homed = homed} {set = set} {went = went} {m = m} here k t le mv sk hm fm gs =
       let a = moves_ok p c here.x m s mv refl le here.good here.apart k.same_length k.same in
       let b = seeks_ok p c m s y sk here.seek le k.same k.inside in
       let d = homes_ok y' hm here.good.home b.inside in
+      let q = masks_ok c m s f fm here.mask here.good.strict k.same k.strict in
       let e = goes_ok p c _ m gs refl t here.follows b.after in
       record {
-        kept = record { same_length = a.same_length; same = a.same; inside = d.inside; stage = e.stage };
-        safe = all_append _ (begun p c ++ moved ++ sought ++ homed) went (all_append _ (begun p c ++ moved ++ sought) homed (all_append _ (begun p c ++ moved) sought (all_append _ (begun p c) moved (begun_ok (is_fresh p.entered) here.good.known here.good.permitted) a.safe) b.safe) d.safe) e.safe;
-        used = λ z u. used4 z a.unused b.used d.unused e.unused (uses_cases (begun p c ++ moved ++ sought ++ homed) went z u);
+        kept = record { same_length = a.same_length; same = a.same; inside = d.inside; strict = q.strict; stage = e.stage };
+        safe = all_append _ (begun p c ++ moved ++ sought ++ homed ++ set) went (all_append _ (begun p c ++ moved ++ sought ++ homed) set (all_append _ (begun p c ++ moved ++ sought) homed (all_append _ (begun p c ++ moved) sought (all_append _ (begun p c) moved (begun_ok (is_fresh p.entered) here.good.known here.good.permitted) a.safe) b.safe) d.safe) q.safe) e.safe;
+        used = λ z u. used5 z a.unused b.used d.unused q.used e.unused (uses_cases (begun p c ++ moved ++ sought ++ homed ++ set) went z u);
       }
     where
       begun_ok : (f : Bool) → (f ≡ true → is_known c.command ≡ true) → (f ≡ true → inhibits j.mask c.command ≡ false) → AllByRecursion (IsSafeEvent j) (if f then Command c.command ∷ [] else [])
@@ -220,6 +248,10 @@ module _ (j : Job) where
       used3 z a b d (inl u) = used2 z a b (uses_cases (begun p c ++ moved) sought z u)
       used3 z a b d (inr u) = absurd (d z u)
 
-      used4 : (z : ℕ) → ((b : ℕ) → UsesIn moved b → ⊥) → ((b : ℕ) → UsesIn sought b → IsGuarded j b) → ((b : ℕ) → UsesIn homed b → ⊥) → ((b : ℕ) → UsesIn went b → ⊥) → UsesIn (begun p c ++ moved ++ sought ++ homed) z ⊎ UsesIn went z → IsGuarded j z
-      used4 z a b d e (inl u) = used3 z a b d (uses_cases (begun p c ++ moved ++ sought) homed z u)
-      used4 z a b d e (inr u) = absurd (e z u)
+      used4 : (z : ℕ) → ((b : ℕ) → UsesIn moved b → ⊥) → ((b : ℕ) → UsesIn sought b → IsGuarded j b) → ((b : ℕ) → UsesIn homed b → ⊥) → ((b : ℕ) → UsesIn set b → IsGuarded j b) → UsesIn (begun p c ++ moved ++ sought ++ homed) z ⊎ UsesIn set z → IsGuarded j z
+      used4 z a b d q (inl u) = used3 z a b d (uses_cases (begun p c ++ moved ++ sought) homed z u)
+      used4 z a b d q (inr u) = q z u
+
+      used5 : (z : ℕ) → ((b : ℕ) → UsesIn moved b → ⊥) → ((b : ℕ) → UsesIn sought b → IsGuarded j b) → ((b : ℕ) → UsesIn homed b → ⊥) → ((b : ℕ) → UsesIn set b → IsGuarded j b) → ((b : ℕ) → UsesIn went b → ⊥) → UsesIn (begun p c ++ moved ++ sought ++ homed ++ set) z ⊎ UsesIn went z → IsGuarded j z
+      used5 z a b d q e (inl u) = used4 z a b d q (uses_cases (begun p c ++ moved ++ sought ++ homed) set z u)
+      used5 z a b d q e (inr u) = absurd (e z u)

@@ -1,6 +1,7 @@
 pub mod Lists
 pub mod Events
 pub mod Commands
+pub mod Masks
 pub mod Areas
 pub mod Chains
 pub mod Checks
@@ -10,6 +11,7 @@ pub mod Follows
 pub mod Following
 pub mod OwnFaults
 pub mod Visiting
+pub mod Order
 pub mod Words
 pub mod Gathering
 pub mod Kept
@@ -24,6 +26,8 @@ pub mod Walking
 pub mod InOrder
 pub mod Least
 pub mod Verdicts
+pub mod Counted
+pub mod Again
 pub mod Merging
 pub mod Searching
 pub mod Lending

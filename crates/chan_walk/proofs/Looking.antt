@@ -1,6 +1,6 @@
 -- What is seen of a place at one look.
-use Rattle.std.proofs.Common.{◌≡◌, ℕ, suc, ◌+◌, ◌<◌, ◌≤◌, ◌^◌, true, false, List, [], ◌∷◌, ◌++◌, length, get_or, take, slice_get, is_some, option_map, Option, Some, None, refl, sym, ap, ◌∙◌, subst, ◌⊎◌, inl, inr, ◌↔◌, arith}
-use Rattle.std.proofs.lemmas.Bool.{cases_Bool, leb-true}
+use Rattle.std.proofs.Common.{◌≡◌, ℕ, zero, suc, ◌+◌, ◌<◌, ◌≤◌, ◌^◌, true, false, List, [], ◌∷◌, ◌++◌, length, get_or, take, slice_get, is_some, option_map, Option, Some, None, refl, sym, ap, ◌∙◌, subst, ◌⊎◌, inl, inr, ◌↔◌, arith}
+use Rattle.std.proofs.lemmas.Bool.{both_ways, cases_Bool, cond-false, cond-true, leb-true}
 use Rattle.std.proofs.Math.Seq.{take-suc}
 use Rattle.std.proofs.lemmas.Option.{slice_get-map, slice_get_read}
 use Rattle.std.proofs.lemmas.List.{length-map, map-append, take_all}
@@ -12,13 +12,14 @@ use Rattle.chan_walk.specs.declared.place.Place.{Place}
 use Rattle.chan_walk.specs.declared.reason.Reason.{Reason}
 use Rattle.chan_walk.specs.declared.successor.Next.{Next}
 use Rattle.chan_walk.specs.Argument.{Has}
-use Rattle.chan_walk.specs.Fault.{begins_seek, kind_of, HasFault, IsClear}
-use Rattle.chan_walk.specs.Guard.{IsArgumentByteOf}
+use Rattle.chan_walk.specs.Fault.{begins_seek, begins_set_mask, kind_of, HasFault, IsClear}
+use Rattle.chan_walk.specs.Guard.{IsArgumentByteOf, IsSeekByteOf}
 use Rattle.chan_walk.specs.Job.{storage_of}
-use Rattle.chan_walk.specs.Look.{AreLooks, IsLook, Seen, place_of, places_of_looks}
+use Rattle.chan_walk.specs.Look.{AreLooks, IsLook, Seen, mask_addresses, place_of, places_of_looks}
 use Rattle.chan_walk.specs.Place.{word_at}
 use Rattle.chan_walk.specs.Successors.{AreSuccessors, next_of, skip_of}
 use Rattle.chan_walk.specs.Tables.{HasAddresses}
+use Rattle.chan_walk.proofs.Commands.{seek_sets_no_mask}
 use Rattle.chan_walk.proofs.Faults.{fault_unique}
 use Rattle.chan_walk.proofs.Guarding.{bytes_of_argument, stands_from}
 use Rattle.chan_walk.proofs.Lists.{has_at, has_push}
@@ -38,7 +39,11 @@ no_bytes : (j : Job) (p : Place) → ((b : ℕ) → IsArgumentByteOf j p b → �
 no_bytes j p f = ((λ b. ((λ h. absurd h), λ h. absurd (f b h))), λ i. omega arith)
 
 pub taken_faulty : (j : Job) (p : Place) (r : Reason) → HasFault j p (Some r) → IsTaken j p []
-taken_faulty j p r f = no_bytes j p (λ b h. never_both j p r h.clear f)
+taken_faulty j p r f = no_bytes j p none
+  where
+    none : (b : ℕ) → IsArgumentByteOf j p b → ⊥
+    none b (inl h) = never_both j p r h.0 f
+    none b (inr h) = never_both j p r h.0 f
 
 -- the seek that begins at p with the CCW c has the argument o, and where none begins there is none
 pub record IsSought (j : Job) (p : Place) (c : Fields) (o : Option (List ℕ)) : Type 0 where
@@ -46,19 +51,51 @@ pub record IsSought (j : Job) (p : Place) (c : Fields) (o : Option (List ℕ)) :
   pub seek : begins_seek p c ≡ true → HasAddresses (storage_of j) p.address o
   pub other : begins_seek p c ≡ false → o ≡ None
 
-pub taken_none : (j : Job) (p : Place) (c : Fields) (o : Option (List ℕ)) → IsSought j p c o → o ≡ None → IsTaken j p []
-taken_none j p c o w e = no_bytes j p (λ b h.
-    let seeks : begins_seek p c ≡ true = ap (begins_seek p) w.word ∙ h.seeks in
+no_seek : (j : Job) (p : Place) (c : Fields) (o : Option (List ℕ)) → IsSought j p c o → o ≡ None → (b : ℕ) → IsSeekByteOf j p b → ⊥
+no_seek j p c o w e b h =
+    let seeks : begins_seek p c ≡ true = ap (begins_seek p) w.word ∙ h.1.seeks in
     let none : HasAddresses (storage_of j) p.address None = subst (HasAddresses (storage_of j) p.address) e (w.seek seeks) in
-    none h.chain h.is_chain)
+    none h.1.chain h.1.is_chain
+
+-- where no seek has an argument, the byte that is set is guarded, if Set File Mask begins there
+pub taken_none : (j : Job) (p : Place) (c : Fields) (o : Option (List ℕ)) → c.address < 2 ^ 24 → IsClear j p → IsSought j p c o → o ≡ None → IsTaken j p (mask_addresses p c)
+taken_none j p c o low clear w e = go (cases_Bool (begins_set_mask p c))
+  where
+    go : (begins_set_mask p c ≡ true) ⊎ (begins_set_mask p c ≡ false) → IsTaken j p (mask_addresses p c)
+    go (inl s) = subst (IsTaken j p) (sym (cond-true (begins_set_mask p c) (c.address ∷ []) [] s)) ((λ b. (to b, from b)), below)
+      where
+        to : (b : ℕ) → Has (c.address ∷ []) b → IsArgumentByteOf j p b
+        to b (inl same) = inr (clear, record { sets = ap (begins_set_mask p) (sym w.word) ∙ s; at = ap (λ (d : Fields). d.address) (sym w.word) ∙ same })
+        to b (inr h) = absurd h
+
+        from : (b : ℕ) → IsArgumentByteOf j p b → Has (c.address ∷ []) b
+        from b (inl h) = absurd (no_seek j p c o w e b h)
+        from b (inr h) = inl (ap (λ (d : Fields). d.address) w.word ∙ h.1.at)
+
+        below : (i : ℕ) → get_or (c.address ∷ []) i 0 < 2 ^ 24
+        below zero = low
+        below (suc i) = omega arith
+    go (inr n) = subst (IsTaken j p) (sym (cond-false (begins_set_mask p c) (c.address ∷ []) [] n)) (no_bytes j p none)
+      where
+        none : (b : ℕ) → IsArgumentByteOf j p b → ⊥
+        none b (inl h) = no_seek j p c o w e b h
+        none b (inr h) = both_ways (begins_set_mask p c) n (ap (begins_set_mask p) w.word ∙ h.1.sets)
 
 pub taken_whole : (j : Job) (p : Place) (c : Fields) (o : Option (List ℕ)) (x : List ℕ) → length (storage_of j) ≤ 2 ^ 24 → IsClear j p → IsSought j p c o → o ≡ Some x → IsTaken j p x
 taken_whole j p c o x small clear w e = go (cases_Bool (begins_seek p c))
   where
     go : (begins_seek p c ≡ true) ⊎ (begins_seek p c ≡ false) → IsTaken j p x
-    go (inl s) =
-        let h : HasAddresses (storage_of j) p.address (Some x) = subst (HasAddresses (storage_of j) p.address) e (w.seek s) in
-        (bytes_of_argument j p h.0 x (ap (begins_seek p) (sym w.word) ∙ s) clear h.1 h.2, λ i. let k = h.3 i in omega arith)
+    go (inl s) = ((λ b. ((λ k. inl ((bytes b).0 k)), from b)), λ i. let k = h.3 i in omega arith)
+      where
+        h : HasAddresses (storage_of j) p.address (Some x)
+        h = subst (HasAddresses (storage_of j) p.address) e (w.seek s)
+
+        bytes : (b : ℕ) → Has x b ↔ IsSeekByteOf j p b
+        bytes = bytes_of_argument j p h.0 x (ap (begins_seek p) (sym w.word) ∙ s) clear h.1 h.2
+
+        from : (b : ℕ) → IsArgumentByteOf j p b → Has x b
+        from b (inl k) = (bytes b).1 k
+        from b (inr k) = absurd (seek_sets_no_mask p (word_at j p) (ap (begins_seek p) (sym w.word) ∙ s) k.1.sets)
     go (inr s) = let n = w.other s in absurd (cc)
 
 -- ---- where the program goes on

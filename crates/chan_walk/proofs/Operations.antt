@@ -30,7 +30,7 @@ use Rattle.chan_walk.proofs.Yes.{fresh_out}
 module _ (j : Job) (bytes : AreBytes (storage_of j)) where
   -- a moment at which storage is what it was
   abbrev pub moment : ℕ → Stage → List Event → Moment
-  moment y st es = record { storage = storage_of j; arm = y; stage = st; events = es }
+  moment y st es = record { storage = storage_of j; arm = y; mask = j.mask; stage = st; events = es }
 
   -- at q a seek is under way with the bytes x, and the CCW there is carried out
   pub record Ready (q : Place) (g : Gathered) (x : List ℕ) : Type 0 where
@@ -50,9 +50,9 @@ module _ (j : Job) (bytes : AreBytes (storage_of j)) where
   UsesAll q x es = (b : ℕ) → Has (taken (word_at j q) (bytes_at j q) x) b → UsesIn es b
 
   record SeekStep (y : ℕ) (q : Place) (g : Gathered) (x : List ℕ) : Type 0 where
-    full : length (all_at q x) ≡ 6 → (es : List Event) × Step (storage_of j) y q g es (storage_of j) y Ended × Has es (Seek (Some (all_at q x))) × UsesAll q x es
-    on : length (all_at q x) < 6 → chains_data (word_at j q) ≡ true → (es : List Event) × Step (storage_of j) y q g es (storage_of j) y (At (straight_to (q.address + 8) ChainOut) (Some (all_at q x))) × NoSeek es × UsesAll q x es
-    short : length (all_at q x) < 6 → chains_data (word_at j q) ≡ false → (es : List Event) × Step (storage_of j) y q g es (storage_of j) y Ended × Has es (Seek None) × NoSeek es
+    full : length (all_at q x) ≡ 6 → (es : List Event) × Step (storage_of j) y j.mask q g es (storage_of j) y j.mask Ended × Has es (Seek (Some (all_at q x))) × UsesAll q x es
+    on : length (all_at q x) < 6 → chains_data (word_at j q) ≡ true → (es : List Event) × Step (storage_of j) y j.mask q g es (storage_of j) y j.mask (At (straight_to (q.address + 8) ChainOut) (Some (all_at q x))) × NoSeek es × UsesAll q x es
+    short : length (all_at q x) < 6 → chains_data (word_at j q) ≡ false → (es : List Event) × Step (storage_of j) y j.mask q g es (storage_of j) y j.mask Ended × Has es (Seek None) × NoSeek es
 
   seek_step : (y : ℕ) (q : Place) (g : Gathered) (x : List ℕ) → Ready q g x → SeekStep y q g x
   seek_step y q g x r = go (subst (λ z. Left j c m z sk.es sk.after) r.under sk.left)
@@ -139,7 +139,7 @@ module _ (j : Job) (bytes : AreBytes (storage_of j)) where
       pub split : moment y (At q g) events ∷ past ≡ upto ++ moment y (At p g₀) ev ∷ run
       pub goes_on : GoesOn upto
 
-    close : {q : Place} {g : Gathered} {es : List Event} {st : Stage} {P : Moment → List Event → Stage → Type 0} → Going q g → Step (storage_of j) y q g es (storage_of j) y st → P (moment y (At p g₀) ev) es st → ShowsLater j p P
+    close : {q : Place} {g : Gathered} {es : List Event} {st : Stage} {P : Moment → List Event → Stage → Type 0} → Going q g → Step (storage_of j) y j.mask q g es (storage_of j) y j.mask st → P (moment y (At p g₀) ev) es st → ShowsLater j p P
     close {es = es} {st = st} go step shows = record {
       run = run;
       at = moment y (At p g₀) ev;
@@ -151,7 +151,7 @@ module _ (j : Job) (bytes : AreBytes (storage_of j)) where
       shows = shows;
     }
 
-    abbrev push : {q : Place} {g : Gathered} {es : List Event} (q' : Place) (g' : Gathered) → Going q g → Step (storage_of j) y q g es (storage_of j) y (At q' g') → NoSeek es → is_fresh q'.entered ≡ false → Going q' g'
+    abbrev push : {q : Place} {g : Gathered} {es : List Event} (q' : Place) (g' : Gathered) → Going q g → Step (storage_of j) y j.mask q g es (storage_of j) y j.mask (At q' g') → NoSeek es → is_fresh q'.entered ≡ false → Going q' g'
     push {q = q} {g = g} {es = es} q' g' go step quiet f = record {
       past = moment y (At q g) go.events ∷ go.past;
       upto = moment y (At q' g') es ∷ go.upto;
@@ -242,15 +242,15 @@ module _ (j : Job) (bytes : AreBytes (storage_of j)) where
     -- ---- a chain that doesn't
 
     abbrev pub Stops : Moment → List Event → Stage → Type 0
-    Stops at es st = (begins_seek p (ccw at.storage p.address) ≡ true) × NoSeek es × (Has es (Seek None) ⊎ ((r : Reason) × (st ≡ Checked r)))
+    Stops at es st = (check at.storage p ≡ None) × (begins_seek p (ccw at.storage p.address) ≡ true) × NoSeek es × (Has es (Seek None) ⊎ ((r : Reason) × (st ≡ Checked r)))
 
     -- where the bytes after a step are too few, and no chain gives the rest, the seek stops later
     abbrev StopsFrom : List ℕ → Type 0
     StopsFrom x = (q : Place) → Going q (Some x) → Ready q (Some x) x → ((l : List ℕ) → IsChain (storage_of j) (6 - length x) q.address l → ⊥) → ShowsLater j p Stops
 
-    pub stop : begins_seek p (word_at j p) ≡ true → (fuel : ℕ) (q : Place) (g : Gathered) (x : List ℕ) → Going q g → Ready q g x → 6 - length x ≤ fuel → ((l : List ℕ) → IsChain (storage_of j) (6 - length x) q.address l → ⊥) → ShowsLater j p Stops
-    stop b zero q g x go r le no_chain = let few = r.few in absurd (omega arith)
-    stop b (suc fuel) q g x go r le no_chain = cases (cases_lt (length all) 6) (cases_Bool (chains_data c)) (λ lt q' go' r' n. stop b fuel q' (Some all) all go' r' (omega (arith, len, positive, whole, r.few)) n)
+    pub stop : check (storage_of j) p ≡ None → begins_seek p (word_at j p) ≡ true → (fuel : ℕ) (q : Place) (g : Gathered) (x : List ℕ) → Going q g → Ready q g x → 6 - length x ≤ fuel → ((l : List ℕ) → IsChain (storage_of j) (6 - length x) q.address l → ⊥) → ShowsLater j p Stops
+    stop pass b zero q g x go r le no_chain = let few = r.few in absurd (omega arith)
+    stop pass b (suc fuel) q g x go r le no_chain = cases (cases_lt (length all) 6) (cases_Bool (chains_data c)) (λ lt q' go' r' n. stop pass b fuel q' (Some all) all go' r' (omega (arith, len, positive, whole, r.few)) n)
       where
         c : Fields
         c = word_at j q
@@ -284,7 +284,7 @@ module _ (j : Job) (bytes : AreBytes (storage_of j)) where
         none_from lt cd a to l k = no_chain (q.address ∷ l) (chain_cons (storage_of j) _ q.address a l part cd to (omega (arith, len, whole)) (subst (λ n. IsChain (storage_of j) n a l) (omega (arith, len, whole)) k))
 
         at_next' : length all < 6 → chains_data c ≡ true → Going next (Some all) → StopsFrom all → (o : Option Reason) → check (storage_of j) next ≡ o → (is_transfer (word_at j next) ≡ true) ⊎ (is_transfer (word_at j next) ≡ false) → ShowsLater j p Stops
-        at_next' lt cd go' rec (Some t) e z = close go' (checked e) (b, (λ z h. h), inr (t, refl))
+        at_next' lt cd go' rec (Some t) e z = close go' (checked e) (pass, b, (λ z h. h), inr (t, refl))
         at_next' lt cd go' rec None e (inr t) = rec next go' (ready_out next all lt refl e t) (none_from lt cd next.address (inl refl))
         at_next' lt cd go' rec None e (inl t) =
             let q'' : Place = transferred_to (word_at j next).address ChainOut in
@@ -292,10 +292,10 @@ module _ (j : Job) (bytes : AreBytes (storage_of j)) where
             target go'' (check (storage_of j) q'') refl
           where
             target : Going (transferred_to (word_at j next).address ChainOut) (Some all) → (o : Option Reason) → check (storage_of j) (transferred_to (word_at j next).address ChainOut) ≡ o → ShowsLater j p Stops
-            target go'' (Some u) f = close go'' (checked f) (b, (λ z h. h), inr (u, refl))
+            target go'' (Some u) f = close go'' (checked f) (pass, b, (λ z h. h), inr (u, refl))
             target go'' None f = rec _ go'' (ready_out _ all lt refl f (no_second_transfer (storage_of j) _ f refl)) (none_from lt cd (word_at j next).address (inr (check_stands (storage_of j) next e, t, refl)))
 
         cases : (length all < 6) ⊎ (6 ≤ length all) → (chains_data c ≡ true) ⊎ (chains_data c ≡ false) → (length all < 6 → StopsFrom all) → ShowsLater j p Stops
         cases (inr ge) z rec = absurd (no_chain (q.address ∷ []) (record { begins = refl; linked = part; short = omega (arith, r.few); enough = omega (arith, len, whole, r.few) }))
-        cases (inl lt) (inr cd) rec = let s = st.short lt cd in close go s.1 (b, s.3, inl s.2)
+        cases (inl lt) (inr cd) rec = let s = st.short lt cd in close go s.1 (pass, b, s.3, inl s.2)
         cases (inl lt) (inl cd) rec = let s = st.on lt cd in at_next' lt cd (push next (Some all) go s.1 s.2 refl) (rec lt) (check (storage_of j) next) refl (cases_Bool (is_transfer (word_at j next)))

@@ -1,14 +1,14 @@
 -- The own fault of a place, put together from its parts.
-use Rattle.std.proofs.Common.{◌≡◌, Bool, true, false, ◌&&◌, ◌||◌, if◌then◌else◌, List, [], ◌∷◌, ◌++◌, Option, Some, None, is_none, ℕ, ◌+◌, ◌≤◌, length, refl, sym, ap, ◌∙◌, subst}
+use Rattle.std.proofs.Common.{◌≡◌, Bool, true, false, ◌&&◌, ◌||◌, if◌then◌else◌, List, [], ◌∷◌, ◌++◌, Option, Some, None, is_none, ℕ, ◌+◌, ◌<◌, ◌≤◌, length, refl, sym, ap, ◌∙◌, subst, arith}
 use Rattle.std.specs.Option.{option_or}
-use Rattle.ccw_core.specs.Ccw.{Fields, ccw, has_data_in, is_transfer}
-use Rattle.std.proofs.lemmas.Bool.{and_parts, and_right, cond-false, leb-true}
+use Rattle.ccw_core.specs.Ccw.{Fields, ccw, has_data_in, is_counted, is_transfer}
+use Rattle.std.proofs.lemmas.Bool.{and_parts, and_right, cond-false, leb-true, ltb-true}
 use Rattle.ckd_core.specs.Cylinders.{has_cylinder}
 use Rattle.chan_walk.specs.declared.job.Job.{Job}
 use Rattle.chan_walk.specs.declared.place.Place.{Place}
 use Rattle.chan_walk.specs.declared.reason.Reason.{Reason}
 use Rattle.chan_walk.specs.Check.{first_reason, check}
-use Rattle.chan_walk.specs.Fault.{begins_seek, begins_recalibrate, is_refused, command_faults, lent_faults, seek_faults, table_of_own, HasFault}
+use Rattle.chan_walk.specs.Fault.{begins_seek, begins_recalibrate, is_refused, command_faults, lent_faults, seek_faults, mask_faults, table_of_own, HasFault}
 use Rattle.chan_walk.specs.Job.{storage_of, extents_of}
 use Rattle.chan_walk.specs.Place.{word_at}
 use Rattle.chan_walk.specs.Tables.{argument_faults, HasSeekFault}
@@ -17,7 +17,7 @@ use Rattle.chan_walk.proofs.Chains.{argument_exists}
 use Rattle.chan_walk.proofs.Checks.{passed}
 use Rattle.chan_walk.proofs.Commands.{seek_no_recalibrate}
 
-first_reason-append : (xs ys : List (Bool × Reason)) → first_reason (xs ++ ys) ≡ option_or (first_reason xs) (first_reason ys)
+pub first_reason-append : (xs ys : List (Bool × Reason)) → first_reason (xs ++ ys) ≡ option_or (first_reason xs) (first_reason ys)
 first_reason-append [] ys = refl
 first_reason-append (x ∷ xs) ys =
     elim x.0 as (λ b. (if b then Some x.1 else first_reason (xs ++ ys)) ≡ option_or (if b then Some x.1 else first_reason xs) (first_reason ys)) [
@@ -64,22 +64,29 @@ no_fault_of_transfer j p h t =
     let a = argument_exists (storage_of j) p.address in
     (a.0, a.1, ap (λ o. option_or o (if is_transfer (word_at j p) then None else first_reason (table_of_own j p (word_at j p) a.0))) h ∙ rw t refl)
 
--- the three parts of the table, one after another
-pub fault_of_parts : (j : Job) (p : Place) (c : Fields) (command lent seek : Option Reason) → c ≡ word_at j p → check (storage_of j) p ≡ None → is_transfer c ≡ false
+-- the four parts of the table, one after another
+pub fault_of_parts : (j : Job) (p : Place) (c : Fields) (command lent seek mask : Option Reason) → c ≡ word_at j p → check (storage_of j) p ≡ None → is_transfer c ≡ false
     → command ≡ first_reason (command_faults j p c) → lent ≡ first_reason (lent_faults j p c) → HasSeekFault j p c seek
-    → HasFault j p (option_or (option_or command lent) seek)
-fault_of_parts j p c command lent seek e h t f g k =
-    let parts : first_reason (table_of_own j p c k.0) ≡ option_or (option_or command lent) seek =
-    first_reason-append (command_faults j p c ++ lent_faults j p c) (seek_faults j p c k.0)
-    ∙ ap (λ o. option_or o (first_reason (seek_faults j p c k.0))) (first_reason-append (command_faults j p c) (lent_faults j p c))
-    ∙ ap (λ o. option_or (option_or o (first_reason (lent_faults j p c))) (first_reason (seek_faults j p c k.0))) (sym f)
-    ∙ ap (λ o. option_or (option_or command o) (first_reason (seek_faults j p c k.0))) (sym g)
-    ∙ ap (λ o. option_or (option_or command lent) o) k.2
+    → mask ≡ first_reason (mask_faults j p c)
+    → HasFault j p (option_or (option_or (option_or command lent) seek) mask)
+fault_of_parts j p c command lent seek mask e h t f g k n =
+    let parts : first_reason (table_of_own j p c k.0) ≡ option_or (option_or (option_or command lent) seek) mask =
+    first_reason-append (command_faults j p c ++ lent_faults j p c ++ seek_faults j p c k.0) (mask_faults j p c)
+    ∙ ap (λ o. option_or (first_reason (command_faults j p c ++ lent_faults j p c ++ seek_faults j p c k.0)) o) (sym n)
+    ∙ ap (λ o. option_or o mask) three
     in
-    let whole : option_or (check (storage_of j) p) (if is_transfer c then None else first_reason (table_of_own j p c k.0)) ≡ option_or (option_or command lent) seek =
+    let whole : option_or (check (storage_of j) p) (if is_transfer c then None else first_reason (table_of_own j p c k.0)) ≡ option_or (option_or (option_or command lent) seek) mask =
     ap (λ o. option_or o (if is_transfer c then None else first_reason (table_of_own j p c k.0))) h ∙ cond-false _ _ _ t ∙ parts
     in
-    (k.0, k.1, subst (λ w. option_or (check (storage_of j) p) (if is_transfer w then None else first_reason (table_of_own j p w k.0)) ≡ option_or (option_or command lent) seek) e whole)
+    (k.0, k.1, subst (λ w. option_or (check (storage_of j) p) (if is_transfer w then None else first_reason (table_of_own j p w k.0)) ≡ option_or (option_or (option_or command lent) seek) mask) e whole)
+  where
+    three : first_reason (command_faults j p c ++ lent_faults j p c ++ seek_faults j p c k.0) ≡ option_or (option_or command lent) seek
+    three =
+        first_reason-append (command_faults j p c ++ lent_faults j p c) (seek_faults j p c k.0)
+        ∙ ap (λ o. option_or o (first_reason (seek_faults j p c k.0))) (first_reason-append (command_faults j p c) (lent_faults j p c))
+        ∙ ap (λ o. option_or (option_or o (first_reason (lent_faults j p c))) (first_reason (seek_faults j p c k.0))) (sym f)
+        ∙ ap (λ o. option_or (option_or command o) (first_reason (seek_faults j p c k.0))) (sym g)
+        ∙ ap (λ o. option_or (option_or command lent) o) k.2
 
 -- the data range of a word that passed the channel's checks lies in storage
 pub data_in_storage : (s : List ℕ) (p : Place) (c : Fields) → check s p ≡ None → c ≡ ccw s p.address → is_transfer c ≡ false → c.address + c.count ≤ length s
@@ -87,3 +94,12 @@ unfolding has_data_in
 data_in_storage s p c h e t =
     let f = passed s p h (subst (λ (w : Fields). is_transfer w ≡ false) e t) in
     subst (λ (w : Fields). w.address + w.count ≤ length s) (sym e) (leb-true _ _ f.data_in)
+
+-- and begins there, as the count isn't zero
+pub data_begins_in_storage : (s : List ℕ) (p : Place) (c : Fields) → check s p ≡ None → c ≡ ccw s p.address → is_transfer c ≡ false → c.address < length s
+unfolding is_counted
+data_begins_in_storage s p c h e t =
+    let f = passed s p h (subst (λ (w : Fields). is_transfer w ≡ false) e t) in
+    let some : 0 < c.count = subst (λ (w : Fields). 0 < w.count) (sym e) (ltb-true 0 _ f.counted) in
+    let fits = data_in_storage s p c h e t in
+    omega (arith, some, fits)

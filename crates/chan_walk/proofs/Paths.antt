@@ -106,7 +106,7 @@ module _ (j : Job) where
   record CanStep (y : ℕ) (p : Place) (g : Gathered) (q : Place) : Type 0 where
     es : List Event
     after : Gathered
-    step : Step (storage_of j) y p g es (storage_of j) y (At q after)
+    step : Step (storage_of j) y j.mask p g es (storage_of j) y j.mask (At q after)
     quiet : AllByRecursion (IsQuiet j) es
     taking : Taking q after
 
@@ -149,9 +149,9 @@ module _ (j : Job) where
     pub gathered : Gathered
     pub events : List Event
     pub run : List Moment
-    pub is_run : IsRun j (record { storage = storage_of j; arm = y; stage = At p gathered; events = events } ∷ run)
+    pub is_run : IsRun j (record { storage = storage_of j; arm = y; mask = j.mask; stage = At p gathered; events = events } ∷ run)
     pub places : ArePlaces run ps
-    pub quiet : AllByRecursion (IsQuietMoment j) (record { storage = storage_of j; arm = y; stage = At p gathered; events = events } ∷ run)
+    pub quiet : AllByRecursion (IsQuietMoment j) (record { storage = storage_of j; arm = y; mask = j.mask; stage = At p gathered; events = events } ∷ run)
     pub taking : Taking p gathered
 
   pub path_runs : AreBytes (storage_of j) → AreExtents (extents_of j) → (p : Place) (ps : List Place) → IsPath j (p ∷ ps) → Runs (first_cylinder (extents_of j)) p ps
@@ -159,9 +159,9 @@ module _ (j : Job) where
     gathered = None;
     events = [];
     run = [];
-    is_run = record { storage = refl; arm = first_inside (extents_of j) h; stage = ap (λ q. At q None) e; events = refl };
+    is_run = record { storage = refl; arm = first_inside (extents_of j) h; mask = refl; stage = ap (λ q. At q None) e; events = refl };
     places = tt;
-    quiet = (record { storage = refl; arm = refl; events = tt }, tt);
+    quiet = (record { storage = refl; arm = refl; mask = refl; events = tt }, tt);
     taking = tt;
   }
   path_runs bytes h q (p ∷ ps) e =
@@ -170,10 +170,10 @@ module _ (j : Job) where
       record {
         gathered = s.after;
         events = s.es;
-        run = record { storage = storage_of j; arm = first_cylinder (extents_of j); stage = At p r.gathered; events = r.events } ∷ r.run;
+        run = record { storage = storage_of j; arm = first_cylinder (extents_of j); mask = j.mask; stage = At p r.gathered; events = r.events } ∷ r.run;
         is_run = (r.is_run, s.step);
         places = ((r.gathered, refl), r.places);
-        quiet = (record { storage = refl; arm = refl; events = s.quiet }, r.quiet);
+        quiet = (record { storage = refl; arm = refl; mask = refl; events = s.quiet }, r.quiet);
         taking = s.taking;
       }
 
@@ -181,4 +181,4 @@ pub each_path_is_run : EachPathIsRun
 each_path_is_run j proper [] e = absurd e
 each_path_is_run j proper (p ∷ ps) e =
     let r = path_runs j proper.1 proper.0 p ps e in
-    (record { storage = storage_of j; arm = first_cylinder (extents_of j); stage = At p r.gathered; events = r.events } ∷ r.run, r.is_run, ((r.gathered, refl), r.places), r.quiet)
+    (record { storage = storage_of j; arm = first_cylinder (extents_of j); mask = j.mask; stage = At p r.gathered; events = r.events } ∷ r.run, r.is_run, ((r.gathered, refl), r.places), r.quiet)

@@ -1,5 +1,5 @@
 -- A step that carries a CCW out with all its bytes, stores only what was there, and leaves the arm where it stands.
-use Rattle.std.proofs.Common.{◌≡◌, ℕ, ◌+◌, ◌-◌, ◌<◌, ◌≤◌, min, Bool, true, false, if◌then◌else◌, List, [], ◌∷◌, ◌++◌, map, length, Some, None, refl, sym, ap, ◌∙◌, ◌⊎◌, inl, inr, arith, length-append}
+use Rattle.std.proofs.Common.{◌≡◌, ℕ, zero, suc, ◌+◌, ◌-◌, ◌<◌, ◌≤◌, min, Bool, true, false, if◌then◌else◌, List, [], ◌∷◌, ◌++◌, map, length, Some, None, refl, sym, ap, ◌∙◌, ◌⊎◌, inl, inr, arith, length-append}
 use Rattle.std.specs.List.{AllByRecursion, range_with_len}
 use Rattle.std.proofs.lemmas.Bool.{cases_lt, cases_Bool, both_ways}
 use Rattle.std.proofs.lemmas.List.{length-map}
@@ -12,9 +12,9 @@ use Rattle.chan_walk.specs.declared.place.Place.{Place}
 use Rattle.chan_walk.specs.Alarm.{AreBytes, IsQuiet, NoSeek}
 use Rattle.chan_walk.specs.Argument.{Has}
 use Rattle.chan_walk.specs.Check.{check}
-use Rattle.chan_walk.specs.Fault.{kind_of, goes_in, goes_out, is_known, begins_recalibrate}
+use Rattle.chan_walk.specs.Fault.{kind_of, goes_in, goes_out, is_known, begins_recalibrate, begins_set_mask}
 use Rattle.chan_walk.specs.Job.{storage_of}
-use Rattle.chan_walk.specs.Machine.{Gathered, Stage, Event, Command, Store, Fetch, Gather, Seek, home, Moves, idle, skipped, stored, written, searched, taken, with_taken, Seeks, none, part, stays, under_way, Homes, no_home, home_stays, Goes, begun, Step, carried}
+use Rattle.chan_walk.specs.Machine.{Gathered, Stage, Event, Command, Store, Fetch, Gather, Seek, SetMask, home, Moves, idle, skipped, stored, written, searched, taken, with_taken, Seeks, none, part, stays, under_way, Homes, no_home, home_stays, SetsMask, no_mask, no_byte, mask_stays, Goes, begun, Step, carried}
 use Rattle.chan_walk.specs.Place.{is_fresh, word_at}
 use Rattle.chan_walk.specs.Runs.{UsesIn}
 use Rattle.chan_walk.proofs.Events.{uses_left, uses_right, no_seek_append}
@@ -159,6 +159,24 @@ module _ (j : Job) where
   can_home y true = record { es = _; homes = home_stays; quiet = (tt, tt); home = λ e. inl refl; no_seek = λ e. absurd (cc) }
   can_home y false = record { es = []; homes = no_home; quiet = tt; home = λ e. absurd (cc); no_seek = λ e. no_event }
 
+  -- ---- Set File Mask
+
+  pub record CanMask (c : Fields) (m f : ℕ) (b : Bool) : Type 0 where
+    pub es : List Event
+    pub sets : SetsMask c m (storage_of j) f b es f
+    pub quiet : AllByRecursion (IsQuiet j) es
+    pub takes : b ≡ true → 0 < m → Has es (SetMask c.address (byte (storage_of j) c.address))
+    pub no_seek : NoSeek es
+
+  no_taken : (a x : ℕ) → NoSeek (SetMask a x ∷ [])
+  no_taken a x z (inl h) = cc
+  no_taken a x z (inr h) = h
+
+  pub can_mask : (c : Fields) (m f : ℕ) (b : Bool) → CanMask c m f b
+  can_mask c m f false = record { es = []; sets = no_mask; quiet = tt; takes = λ e. absurd (cc); no_seek = no_event }
+  can_mask c zero f true = record { es = []; sets = no_byte refl; quiet = tt; takes = λ e l. absurd (omega arith); no_seek = no_event }
+  can_mask c (suc m) f true = record { es = _; sets = mask_stays (omega arith); quiet = (tt, tt); takes = λ e l. inl refl; no_seek = no_taken c.address (byte (storage_of j) c.address) }
+
   -- ---- the whole step
 
   pub seek_at : (y : ℕ) (p : Place) (g : Gathered) → IsFew (under_way p (word_at j p) g) → CanSeek (word_at j p) (bytes_at p) y (under_way p (word_at j p) g)
@@ -167,7 +185,7 @@ module _ (j : Job) where
   -- a step from p to st, at which sk is what becomes of the seek under way
   pub record Carried (y : ℕ) (p : Place) (g : Gathered) (sk went : List Event) (st : Stage) : Type 0 where
     pub es : List Event
-    pub step : Step (storage_of j) y p g es (storage_of j) y st
+    pub step : Step (storage_of j) y j.mask p g es (storage_of j) y j.mask st
     pub quiet : AllByRecursion (IsQuiet j) es
     pub begins : is_fresh p.entered ≡ true → Has es (Command (word_at j p).command)
     pub stores : goes_in (kind_at p) ≡ true → skips (word_at j p) ≡ false → Has es (Store (word_at j p).address (there (word_at j p)))
@@ -175,22 +193,24 @@ module _ (j : Job) where
     pub sought : (e : Event) → Has sk e → Has es e
     pub uses : (b : ℕ) → UsesIn sk b → UsesIn es b
     pub home : begins_recalibrate p (word_at j p) ≡ true → Has es (Seek (Some home))
+    pub masks : begins_set_mask p (word_at j p) ≡ true → 0 < bytes_at p → Has es (SetMask (word_at j p).address (byte (storage_of j) (word_at j p).address))
     pub last : (e : Event) → Has went e → Has es e
     pub no_seek : begins_recalibrate p (word_at j p) ≡ false → NoSeek sk → NoSeek went → NoSeek es
 
   pub carry_out : AreBytes (storage_of j) → (y : ℕ) (p : Place) (g : Gathered) (few : IsFew (under_way p (word_at j p) g)) → check (storage_of j) p ≡ None → is_transfer (word_at j p) ≡ false → Known p → {went : List Event} {st : Stage} → AllByRecursion (IsQuiet j) went → Goes p (word_at j p) (kind_at p) (bytes_at p) (seek_at y p g few).after went st → Carried y p g (seek_at y p g few).es went st
   carry_out bytes y p g few e t known {went = went} calm goes = record {
-    es = begun p c ++ mv.es ++ sk.es ++ hm.es ++ went;
-    step = carried e t known (full_le (kind_at p) c) mv.moves sk.seeks hm.homes goes;
-    quiet = all_append _ (begun p c ++ mv.es ++ sk.es ++ hm.es) went (all_append _ (begun p c ++ mv.es ++ sk.es) hm.es (all_append _ (begun p c ++ mv.es) sk.es (all_append _ (begun p c) mv.es (calm_begun (is_fresh p.entered)) mv.quiet) sk.quiet) hm.quiet) calm;
+    es = begun p c ++ mv.es ++ sk.es ++ hm.es ++ fm.es ++ went;
+    step = carried e t known (full_le (kind_at p) c) mv.moves sk.seeks hm.homes fm.sets goes;
+    quiet = all_append _ (begun p c ++ mv.es ++ sk.es ++ hm.es ++ fm.es) went (all_append _ (begun p c ++ mv.es ++ sk.es ++ hm.es) fm.es (all_append _ (begun p c ++ mv.es ++ sk.es) hm.es (all_append _ (begun p c ++ mv.es) sk.es (all_append _ (begun p c) mv.es (calm_begun (is_fresh p.entered)) mv.quiet) sk.quiet) hm.quiet) fm.quiet) calm;
     begins = λ f. from_moved _ (has_left (begun p c) mv.es _ (has_begun (is_fresh p.entered) f));
     stores = λ f h. from_moved _ (has_right (begun p c) mv.es _ (mv.stores (inward_from (kind_at p) f) h));
     fetches = λ f. from_moved _ (has_right (begun p c) mv.es _ (mv.fetches f));
     sought = λ z h. from_sought z (has_right (begun p c ++ mv.es) sk.es z h);
-    uses = λ b u. uses_left (begun p c ++ mv.es ++ sk.es ++ hm.es) went b (uses_left (begun p c ++ mv.es ++ sk.es) hm.es b (uses_right (begun p c ++ mv.es) sk.es b u));
-    home = λ f. has_left (begun p c ++ mv.es ++ sk.es ++ hm.es) went _ (has_right (begun p c ++ mv.es ++ sk.es) hm.es _ (hm.home f));
-    last = λ z h. has_right (begun p c ++ mv.es ++ sk.es ++ hm.es) went z h;
-    no_seek = λ h a b. no_seek_append (begun p c ++ mv.es ++ sk.es ++ hm.es) went (no_seek_append (begun p c ++ mv.es ++ sk.es) hm.es (no_seek_append (begun p c ++ mv.es) sk.es (no_seek_append (begun p c) mv.es (no_begun (is_fresh p.entered)) mv.no_seek) a) (hm.no_seek h)) b;
+    uses = λ b u. uses_left (begun p c ++ mv.es ++ sk.es ++ hm.es ++ fm.es) went b (uses_left (begun p c ++ mv.es ++ sk.es ++ hm.es) fm.es b (uses_left (begun p c ++ mv.es ++ sk.es) hm.es b (uses_right (begun p c ++ mv.es) sk.es b u)));
+    home = λ f. from_homed _ (has_right (begun p c ++ mv.es ++ sk.es) hm.es _ (hm.home f));
+    masks = λ f l. has_left (begun p c ++ mv.es ++ sk.es ++ hm.es ++ fm.es) went _ (has_right (begun p c ++ mv.es ++ sk.es ++ hm.es) fm.es _ (fm.takes f l));
+    last = λ z h. has_right (begun p c ++ mv.es ++ sk.es ++ hm.es ++ fm.es) went z h;
+    no_seek = λ h a b. no_seek_append (begun p c ++ mv.es ++ sk.es ++ hm.es ++ fm.es) went (no_seek_append (begun p c ++ mv.es ++ sk.es ++ hm.es) fm.es (no_seek_append (begun p c ++ mv.es ++ sk.es) hm.es (no_seek_append (begun p c ++ mv.es) sk.es (no_seek_append (begun p c) mv.es (no_begun (is_fresh p.entered)) mv.no_seek) a) (hm.no_seek h)) fm.no_seek) b;
   }
     where
       c : Fields
@@ -205,10 +225,16 @@ module _ (j : Job) where
       hm : CanHome y (begins_recalibrate p c)
       hm = can_home y (begins_recalibrate p c)
 
-      from_sought : (z : Event) → Has (begun p c ++ mv.es ++ sk.es) z → Has (begun p c ++ mv.es ++ sk.es ++ hm.es ++ went) z
-      from_sought z h = has_left (begun p c ++ mv.es ++ sk.es ++ hm.es) went z (has_left (begun p c ++ mv.es ++ sk.es) hm.es z h)
+      fm : CanMask c (bytes_at p) j.mask (begins_set_mask p c)
+      fm = can_mask c (bytes_at p) j.mask (begins_set_mask p c)
 
-      from_moved : (z : Event) → Has (begun p c ++ mv.es) z → Has (begun p c ++ mv.es ++ sk.es ++ hm.es ++ went) z
+      from_homed : (z : Event) → Has (begun p c ++ mv.es ++ sk.es ++ hm.es) z → Has (begun p c ++ mv.es ++ sk.es ++ hm.es ++ fm.es ++ went) z
+      from_homed z h = has_left (begun p c ++ mv.es ++ sk.es ++ hm.es ++ fm.es) went z (has_left (begun p c ++ mv.es ++ sk.es ++ hm.es) fm.es z h)
+
+      from_sought : (z : Event) → Has (begun p c ++ mv.es ++ sk.es) z → Has (begun p c ++ mv.es ++ sk.es ++ hm.es ++ fm.es ++ went) z
+      from_sought z h = from_homed z (has_left (begun p c ++ mv.es ++ sk.es) hm.es z h)
+
+      from_moved : (z : Event) → Has (begun p c ++ mv.es) z → Has (begun p c ++ mv.es ++ sk.es ++ hm.es ++ fm.es ++ went) z
       from_moved z h = from_sought z (has_left (begun p c ++ mv.es) sk.es z h)
 
       calm_begun : (f : Bool) → AllByRecursion (IsQuiet j) (if f then Command c.command ∷ [] else [])

@@ -2,9 +2,9 @@
 use Rattle.std.proofs.Common.{◌≡◌, Bool, true, false, ◌&&◌, if◌then◌else◌, Option, None, refl}
 use Rattle.ccw_core.specs.Ccw.{Fields}
 use Rattle.ckd_core.specs.declared.command.MaskClass.{MaskClass}
-use Rattle.ckd_core.specs.Table.{Entry as Command, class_is_seek, class_passes, class_recalibrates, is_seek, lookup, recalibrates}
+use Rattle.ckd_core.specs.Table.{Entry as Command, class_is_seek, class_passes, class_recalibrates, class_sets_mask, is_seek, lookup, recalibrates, sets_mask}
 use Rattle.chan_walk.specs.declared.place.Place.{Place}
-use Rattle.chan_walk.specs.Fault.{begins_seek, begins_recalibrate}
+use Rattle.chan_walk.specs.Fault.{begins_seek, begins_recalibrate, begins_set_mask}
 use Rattle.chan_walk.specs.Place.{is_fresh}
 use Rattle.chan_walk.specs.Visit.{begun}
 
@@ -20,6 +20,10 @@ begins_seek-begun p c = fresh_passes (is_fresh p.entered) class_is_seek (lookup 
 pub begins_recalibrate-begun : (p : Place) (c : Fields) → class_passes class_recalibrates (begun p c) ≡ begins_recalibrate p c
 unfolding recalibrates
 begins_recalibrate-begun p c = fresh_passes (is_fresh p.entered) class_recalibrates (lookup c.command)
+
+pub begins_set_mask-begun : (p : Place) (c : Fields) → class_passes class_sets_mask (begun p c) ≡ begins_set_mask p c
+unfolding sets_mask
+begins_set_mask-begun p c = fresh_passes (is_fresh p.entered) class_sets_mask (lookup c.command)
 
 -- a fresh place's command is the one that the table has for its code
 pub begun-fresh : (p : Place) (c : Fields) → is_fresh p.entered ≡ true → begun p c ≡ lookup c.command

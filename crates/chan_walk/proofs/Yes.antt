@@ -5,6 +5,7 @@ use Rattle.std.proofs.lemmas.Bool.{both_ways, not-false}
 use Rattle.ccw_core.specs.Ccw.{byte, Fields, ccw, is_transfer}
 use Rattle.ccw_core.specs.Storage.{is_aligned, is_inside}
 use Rattle.ckd_core.specs.declared.command.Kind.TheVariants.{Outward}
+use Rattle.ckd_core.specs.Mask.{is_at_least}
 use Rattle.chan_walk.specs.declared.job.Job.{Job}
 use Rattle.chan_walk.specs.declared.place.Entry.{Entry}
 use Rattle.chan_walk.specs.declared.place.Entry.TheVariants.{Fresh, ChainIn, ChainOut, ChainSearch}
@@ -16,7 +17,7 @@ use Rattle.chan_walk.specs.Check.{check, check_of}
 use Rattle.chan_walk.specs.Fault.{kind_of, stores, is_known, begins_seek, allows, is_refused, IsClear}
 use Rattle.chan_walk.specs.Guarded.{IsGuarded}
 use Rattle.chan_walk.specs.Headline.{IsUnchecked, IsSafeMoment, IsSafeEvent, Holds, YesIsSafe, IsAtReachable, GathersPart, GuardedStays, StaysReachable, GathersArguments}
-use Rattle.chan_walk.specs.Job.{storage_of}
+use Rattle.chan_walk.specs.Job.{storage_of, HasMask}
 use Rattle.chan_walk.specs.Machine.{Gathered, Stage, At, Ended, Checked, Event, Step, checked, transferred, unknown, carried, StepFrom}
 use Rattle.chan_walk.specs.Place.{transferred_to, word_at}
 use Rattle.chan_walk.specs.Reachable.{IsReachable}
@@ -28,6 +29,7 @@ use Rattle.chan_walk.proofs.Faults.{IsGood, stores_from, clear_check, clear_good
 use Rattle.chan_walk.proofs.Follows.{Follows, by_transfer, succeeds}
 use Rattle.chan_walk.proofs.Gathering.{advance, transfer_on, begin}
 use Rattle.chan_walk.proofs.Kept.{Under, IsKept, Same, Kept, Coming, Comes, Here, Stepped, carried_ok}
+use Rattle.chan_walk.proofs.Masks.{strict_as_itself}
 use Rattle.chan_walk.proofs.Words.{same_ccw}
 
 -- a seek that begins goes out, as its table entry says
@@ -63,6 +65,7 @@ module _ (j : Job) (v : IsVerdict j Yes) where
     follows = λ q w. onward p q r w;
     apart = λ i k. apart_at p r (stores_from _ _ _ t i k);
     seek = come (begins_seek p (word_at j p)) g u refl;
+    mask = λ e. inr (record { place = p; reached = r; clear = f; takes = inr (record { sets = e; at = refl }) });
   }
     where
       f : IsClear j p
@@ -80,7 +83,7 @@ module _ (j : Job) (v : IsVerdict j Yes) where
       new e (Some x) h miss ref = record {
         l = h.0;
         sought = record {
-          guarded = λ b k. record { place = p; reached = r; seeks = e; clear = f; chain = h.0; is_chain = h.1; has = k };
+          guarded = λ b k. record { place = p; reached = r; clear = f; takes = inl (record { seeks = e; chain = h.0; is_chain = h.1; has = k }) };
           allowed = subst (λ z. allows j z ≡ true) h.2 (not-false _ ref);
           seek = p;
           reached = r;
@@ -96,18 +99,18 @@ module _ (j : Job) (v : IsVerdict j Yes) where
       come true g u e = new e f.0 f.1 (good.argued e) (good.allowed e)
       come false g u e = old g u
 
-  step_ok : {s : List ℕ} {y : ℕ} {p : Place} {g : Gathered} {es : List Event} {t : List ℕ} {y' : ℕ} {st : Stage} → Step s y p g es t y' st → Kept j s y (At p g) → Stepped j t y' st es
+  step_ok : {s : List ℕ} {y f : ℕ} {p : Place} {g : Gathered} {es : List Event} {t : List ℕ} {y' f' : ℕ} {st : Stage} → Step s y f p g es t y' f' st → Kept j s y f (At p g) → Stepped j t y' f' st es
   step_ok {s = s} {p = p} (checked {r = r} e) k =
       let c = ccw_kept s p k.same k.stage.0 in
       let same : check s p ≡ check (storage_of j) p = ap (λ n. check_of n p (ccw s p.address)) k.same_length ∙ ap (λ z. check_of (length (storage_of j)) p z) c in
       let n : check (storage_of j) p ≡ None = clear_check j p (clear_at p k.stage.0) in
       absurd (cc)
-  step_ok {s = s} {y = y} {p = p} {g = g} (transferred e t) k =
+  step_ok {s = s} {y = y} {f = f} {p = p} {g = g} (transferred e t) k =
       let c = ccw_kept s p k.same k.stage.0 in
       let t' : is_transfer (word_at j p) ≡ true = ap is_transfer (sym c) ∙ t in
       record {
-        kept = subst (λ z. Kept j s y (At (transferred_to z.address p.entered) g)) (sym c)
-            (record { same_length = k.same_length; same = k.same; inside = k.inside; stage = (onward p _ k.stage.0 (by_transfer t'), carry g t' k.stage.1) });
+        kept = subst (λ z. Kept j s y f (At (transferred_to z.address p.entered) g)) (sym c)
+            (record { same_length = k.same_length; same = k.same; inside = k.inside; strict = k.strict; stage = (onward p _ k.stage.0 (by_transfer t'), carry g t' k.stage.1) });
         safe = tt;
         used = λ b u. absurd u;
       }
@@ -120,29 +123,30 @@ module _ (j : Job) (v : IsVerdict j Yes) where
       let t' : is_transfer (word_at j p) ≡ false = ap is_transfer (sym c) ∙ t in
       let known = (here_at p g k.stage.0 k.stage.1 t').good.known fr in
       absurd (both_ways _ un (ap (λ z. is_known z.command) c ∙ known))
-  step_ok {s = s} {p = p} {g = g} (carried e t known le mv sk hm gs) k =
+  step_ok {s = s} {p = p} {g = g} (carried e t known le mv sk hm fm gs) k =
       let c = ccw_kept s p k.same k.stage.0 in
       let t' : is_transfer (word_at j p) ≡ false = ap is_transfer (sym c) ∙ t in
-      carried_ok j p (ccw s p.address) g (subst (λ z. Here j p z g) (sym c) (here_at p g k.stage.0 k.stage.1 t')) k t le mv sk hm gs
+      carried_ok j p (ccw s p.address) g (subst (λ z. Here j p z g) (sym c) (here_at p g k.stage.0 k.stage.1 t')) k t le mv sk hm fm gs
 
-  from_ok : {s : List ℕ} {y : ℕ} (at : Stage) {es : List Event} {t : List ℕ} {y' : ℕ} {st : Stage} → StepFrom s y at es t y' st → Kept j s y at → Stepped j t y' st es
+  from_ok : {s : List ℕ} {y f : ℕ} (at : Stage) {es : List Event} {t : List ℕ} {y' f' : ℕ} {st : Stage} → StepFrom s y f at es t y' f' st → Kept j s y f at → Stepped j t y' f' st es
   from_ok (At p g) w k = step_ok w k
   from_ok Ended w k = absurd w
   from_ok (Checked r) w k = absurd w
 
   -- ---- a run
 
-  run_kept : (m : Moment) (ms : List Moment) → IsRun j (m ∷ ms) → Kept j m.storage m.arm m.stage
+  run_kept : (m : Moment) (ms : List Moment) → IsRun j (m ∷ ms) → Kept j m.storage m.arm m.mask m.stage
   run_kept m [] r = record {
     same_length = ap length r.storage;
     same = λ b g. ap (λ z. byte z b) r.storage;
     inside = r.arm;
+    strict = λ h. subst (λ z. is_at_least z j.mask ≡ true) (sym r.mask) (strict_as_itself j.mask h);
     stage = subst (λ z. IsKept j z) (sym r.stage) (([], refl), tt);
   }
   run_kept n (m ∷ ms) r = (from_ok m.stage r.1 (run_kept m ms r.0)).kept
 
   -- what holds of a moment because it is kept holds of each
-  all_kept : (P : Moment → Type 0) → ((m : Moment) → Kept j m.storage m.arm m.stage → P m) → (ms : List Moment) → IsRun j ms → AllByRecursion P ms
+  pub all_kept : (P : Moment → Type 0) → ((m : Moment) → Kept j m.storage m.arm m.mask m.stage → P m) → (ms : List Moment) → IsRun j ms → AllByRecursion P ms
   all_kept P f [] r = absurd r
   all_kept P f (m ∷ []) r = (f m (run_kept m [] r), tt)
   all_kept P f (n ∷ m ∷ ms) r = (f n (run_kept n (m ∷ ms) r), all_kept P f (m ∷ ms) r.0)
@@ -152,14 +156,14 @@ module _ (j : Job) (v : IsVerdict j Yes) where
   unchecked Ended k = tt
   unchecked (Checked r) k = k
 
-  runs_safe : (ms : List Moment) → IsRun j ms → AllByRecursion (IsSafeMoment j) ms
-  runs_safe [] r = absurd r
-  runs_safe (m ∷ []) r =
+  runs_safe : HasMask j → (ms : List Moment) → IsRun j ms → AllByRecursion (IsSafeMoment j) ms
+  runs_safe h [] r = absurd r
+  runs_safe h (m ∷ []) r =
       let k = run_kept m [] r in
-      (record { unchecked = unchecked m.stage k.stage; inside = k.inside; events = subst (λ es. AllByRecursion (IsSafeEvent j) es) (sym r.events) tt }, tt)
-  runs_safe (n ∷ m ∷ ms) r =
+      (record { unchecked = unchecked m.stage k.stage; inside = k.inside; strict = k.strict h; events = subst (λ es. AllByRecursion (IsSafeEvent j) es) (sym r.events) tt }, tt)
+  runs_safe h (n ∷ m ∷ ms) r =
       let k = run_kept n (m ∷ ms) r in
-      (record { unchecked = unchecked n.stage k.stage; inside = k.inside; events = (from_ok m.stage r.1 (run_kept m ms r.0)).safe }, runs_safe (m ∷ ms) r.0)
+      (record { unchecked = unchecked n.stage k.stage; inside = k.inside; strict = k.strict h; events = (from_ok m.stage r.1 (run_kept m ms r.0)).safe }, runs_safe h (m ∷ ms) r.0)
 
   -- each byte that a run uses is guarded
   used_at : (s : List ℕ) (st : Stage) (b : ℕ) → length s ≡ length (storage_of j) → IsKept j st → UsesAt s st b → IsGuarded j b
@@ -215,4 +219,4 @@ pub gathers_arguments : GathersArguments
 gathers_arguments j v = all_kept j v _ (λ m k. gathers j v m.stage k.stage)
 
 pub yes_is_safe : YesIsSafe
-yes_is_safe j v = (runs_safe j v, λ used run b r u s. guarded_holds j v b (used_guarded j v used b r u) run s)
+yes_is_safe j h v = (runs_safe j v h, λ used run b r u s. guarded_holds j v b (used_guarded j v used b r u) run s)

@@ -4,18 +4,19 @@ use Rattle.std.specs.List.{AllByRecursion, range_with_len}
 use Rattle.ccw_core.specs.Areas.{lies_in}
 use Rattle.ccw_core.specs.Ccw.{byte, ccw}
 use Rattle.ckd_core.specs.Cylinders.{AreExtents}
-use Rattle.ckd_core.specs.Mask.{inhibits}
+use Rattle.ckd_core.specs.Mask.{inhibits, is_at_least}
 use Rattle.chan_walk.specs.declared.job.Job.{Job}
 use Rattle.chan_walk.specs.declared.place.Place.{Place}
 use Rattle.chan_walk.specs.declared.reason.Reason.{Reason}
-use Rattle.chan_walk.specs.declared.reason.Reason.TheVariants.{Misaligned, OutsideStorage, TransferNotAllowed, InvalidCode, BadFormat, ZeroCount, DataOutside, NotInTable, Inhibited, StoreNotLent, FetchNotLent, ShortSeek, SeekOutside, ChangesCcw, ChangesArgument}
+use Rattle.chan_walk.specs.declared.reason.Reason.TheVariants.{Misaligned, OutsideStorage, TransferNotAllowed, InvalidCode, BadFormat, ZeroCount, DataOutside, NotInTable, Inhibited, StoreNotLent, FetchNotLent, ShortSeek, SeekOutside, ChangesCcw, ChangesArgument, WeakensMask}
 use Rattle.chan_walk.specs.declared.verdict.Verdict.{Verdict}
 use Rattle.chan_walk.specs.declared.verdict.Verdict.TheVariants.{Yes, No}
 use Rattle.chan_walk.specs.Argument.{Has}
+use Rattle.chan_walk.specs.Check.{check}
 use Rattle.chan_walk.specs.Fault.{is_known, begins_seek, allows}
 use Rattle.chan_walk.specs.Headline.{IsSafe, IsSteady}
-use Rattle.chan_walk.specs.Job.{storage_of, extents_of, fetch_of, store_of}
-use Rattle.chan_walk.specs.Machine.{Gathered, Stage, At, Checked, Event, Command, Store, Fetch, Gather, Seek}
+use Rattle.chan_walk.specs.Job.{storage_of, extents_of, fetch_of, store_of, HasMask}
+use Rattle.chan_walk.specs.Machine.{Gathered, Stage, At, Checked, Event, Command, Store, Fetch, Gather, Seek, SetMask}
 use Rattle.chan_walk.specs.Place.{is_fresh}
 use Rattle.chan_walk.specs.Reachable.{IsPath}
 use Rattle.chan_walk.specs.Runs.{Moment, IsRun, UsesInCcw, UsesInArgument}
@@ -25,9 +26,10 @@ use Rattle.chan_walk.specs.Verdict.{IsVerdict}
 abbrev pub AreBytes : List ℕ → Type 0
 AreBytes s = (b : ℕ) → byte s b < 256
 
--- what the types of the code keep of every job: one extent or more, each of them in order and on the device, and bytes in storage
+-- what the types of the code keep of every job: one extent or more, each of them in order and on the
+-- device, bytes in storage, and a mask
 abbrev pub IsProper : Job → Type 0
-IsProper j = AreExtents (extents_of j) × AreBytes (storage_of j)
+IsProper j = AreExtents (extents_of j) × AreBytes (storage_of j) × HasMask j
 
 -- ---- each path is a run
 
@@ -43,11 +45,13 @@ IsQuiet j (Command code) = Unit {0}
 IsQuiet j (Fetch a n) = Unit {0}
 IsQuiet j (Gather addresses) = Unit {0}
 IsQuiet j (Seek x) = Unit {0}
+IsQuiet j (SetMask a x) = Unit {0}
 
--- nothing has changed, and the arm stands where it stood
+-- nothing has changed, the arm stands where it stood, and the job's mask is in force
 pub record IsQuietMoment (j : Job) (m : Moment) : Type 0 where
   pub storage : m.storage ≡ storage_of j
   pub arm : m.arm ≡ first_cylinder (extents_of j)
+  pub mask : m.mask ≡ j.mask
   pub events : AllByRecursion (IsQuiet j) m.events
 
 -- the moments are at these places, in order
@@ -104,9 +108,11 @@ FetchesFrom P es = (a : ℕ) × (n : ℕ) × (b : ℕ) × Has es (Fetch a n) × 
 abbrev pub ShowsCheck : Job → Place → Reason → Type 0
 ShowsCheck j p r = ShowsNext j p (λ es stage. stage ≡ Checked r)
 
--- what a run shows for a reason at p: the program check itself; a command that may not begin; a store or a fetch outside lent areas;
--- a seek that begins at p and ends, or is checked, before its sixth byte; an operation that begins at p and seeks where it isn't allowed;
--- a store over what some run uses
+-- what a run shows for a reason at p: the program check itself; a command that may not begin; a store
+-- or a fetch outside lent areas; a seek that begins at p, where the channel's check passes, and ends or
+-- is checked before its sixth byte; an operation that begins at p and seeks where it isn't allowed; a
+-- store over what some run uses; a Set File Mask that begins at p and takes a byte less strict than the
+-- job's mask
 abbrev pub Shows : Job → Place → Reason → Type 0
 Shows j p Misaligned = ShowsCheck j p Misaligned
 Shows j p OutsideStorage = ShowsCheck j p OutsideStorage
@@ -119,10 +125,18 @@ Shows j p NotInTable = ShowsNext j p (λ es stage. (code : ℕ) × Has es (Comma
 Shows j p Inhibited = ShowsNext j p (λ es stage. (code : ℕ) × Has es (Command code) × (inhibits j.mask code ≡ true))
 Shows j p StoreNotLent = ShowsNext j p (λ es stage. StoresOn (λ b. lies_in (store_of j) b ≡ false) es)
 Shows j p FetchNotLent = ShowsNext j p (λ es stage. FetchesFrom (λ b. lies_in (fetch_of j) b ≡ false) es)
-Shows j p ShortSeek = ShowsLater j p (λ at es stage. (begins_seek p (ccw at.storage p.address) ≡ true) × NoSeek es × (Has es (Seek None) ⊎ ((r : Reason) × (stage ≡ Checked r))))
+Shows j p ShortSeek =
+    ShowsLater j p (λ at es stage. (check at.storage p ≡ None)
+    × (begins_seek p (ccw at.storage p.address) ≡ true)
+    × NoSeek es
+    × (Has es (Seek None) ⊎ ((r : Reason) × (stage ≡ Checked r))))
 Shows j p SeekOutside = ShowsLater j p (λ at es stage. (is_fresh p.entered ≡ true) × (x : List ℕ) × Has es (Seek (Some x)) × (allows j x ≡ false))
 Shows j p ChangesCcw = ShowsNext j p (λ es stage. StoresOn (λ b. (used : List Moment) × IsRun j used × UsesInCcw used b) es)
 Shows j p ChangesArgument = ShowsNext j p (λ es stage. StoresOn (λ b. (used : List Moment) × IsRun j used × UsesInArgument used b) es)
+Shows j p WeakensMask =
+    ShowsNext j p (λ es stage. (is_fresh p.entered ≡ true)
+    × (a : ℕ) × (x : ℕ) × Has es (SetMask a x)
+    × (is_at_least x j.mask ≡ false))
 
 -- no false alarm: where the verdict is no, a run comes to a place with its address and shows its reason there
 abbrev pub NoFalseAlarm : Type 0

@@ -2,19 +2,19 @@
 use Rattle.std.specs.Prelude.{◌≡◌, ℕ, Bool, true, false, not, ◌&&◌, ◌||◌, List, [], ◌∷◌, ◌++◌, Option, None, Some, is_some, is_none, if◌then◌else◌}
 use Rattle.std.specs.Option.{option_or}
 use Rattle.ccw_core.specs.Areas.{covered}
-use Rattle.ccw_core.specs.Ccw.{Fields, is_transfer, skips}
+use Rattle.ccw_core.specs.Ccw.{byte, Fields, is_transfer, skips}
 use Rattle.ckd_core.specs.declared.command.Kind.{Kind}
 use Rattle.ckd_core.specs.declared.command.Kind.TheVariants.{Idle, Inward, Outward, Search}
 use Rattle.ckd_core.specs.Argument.{is_allowed}
 use Rattle.ckd_core.specs.Cylinders.{has_cylinder}
-use Rattle.ckd_core.specs.Mask.{inhibits}
-use Rattle.ckd_core.specs.Table.{Entry as Command, lookup, is_seek, recalibrates}
+use Rattle.ckd_core.specs.Mask.{inhibits, is_at_least}
+use Rattle.ckd_core.specs.Table.{Entry as Command, lookup, is_seek, recalibrates, sets_mask}
 use Rattle.chan_walk.specs.declared.job.Job.{Job}
 use Rattle.chan_walk.specs.declared.place.Entry.{Entry}
 use Rattle.chan_walk.specs.declared.place.Entry.TheVariants.{Fresh, ChainIn, ChainOut, ChainSearch}
 use Rattle.chan_walk.specs.declared.place.Place.{Place}
 use Rattle.chan_walk.specs.declared.reason.Reason.{Reason}
-use Rattle.chan_walk.specs.declared.reason.Reason.TheVariants.{NotInTable, Inhibited, StoreNotLent, FetchNotLent, ShortSeek, SeekOutside}
+use Rattle.chan_walk.specs.declared.reason.Reason.TheVariants.{NotInTable, Inhibited, StoreNotLent, FetchNotLent, ShortSeek, SeekOutside, WeakensMask}
 use Rattle.chan_walk.specs.Argument.{HasArgument}
 use Rattle.chan_walk.specs.Check.{first_reason, check}
 use Rattle.chan_walk.specs.Job.{storage_of, extents_of, fetch_of, store_of, heads}
@@ -66,6 +66,10 @@ begins_seek p c = is_fresh p.entered && is_seek c.command
 abbrev pub begins_recalibrate : Place → Fields → Bool
 begins_recalibrate p c = is_fresh p.entered && recalibrates c.command
 
+-- Set File Mask begins, which sets the byte at its data address
+abbrev pub begins_set_mask : Place → Fields → Bool
+begins_set_mask p c = is_fresh p.entered && sets_mask c.command
+
 -- the job allows a seek with this argument
 abbrev pub allows : Job → List ℕ → Bool
 allows j x = is_allowed (extents_of j) (heads j) x
@@ -87,14 +91,20 @@ lent_faults j p c =
     (stores p c && not (covered (store_of j) c.address c.count), StoreNotLent) ∷
     (fetches p c && not (covered (fetch_of j) c.address c.count), FetchNotLent) ∷ []
 
--- and the seek that begins there, where x is its argument
+-- the seek that begins there, where x is its argument
 abbrev pub seek_faults : Job → Place → Fields → Option (List ℕ) → List (Bool × Reason)
 seek_faults j p c x =
     (begins_seek p c && is_none x, ShortSeek) ∷
     ((begins_seek p c && is_refused j x) || (begins_recalibrate p c && not (has_cylinder (extents_of j) 0)), SeekOutside) ∷ []
 
+-- and the mask that is set there; commands are judged by the job's mask before it and after it
+abbrev pub mask_faults : Job → Place → Fields → List (Bool × Reason)
+mask_faults j p c =
+    (begins_set_mask p c && not (is_at_least (byte (storage_of j) c.address) j.mask), WeakensMask) ∷ []
+
 abbrev pub table_of_own : Job → Place → Fields → Option (List ℕ) → List (Bool × Reason)
-table_of_own j p c x = command_faults j p c ++ lent_faults j p c ++ seek_faults j p c x
+table_of_own j p c x =
+    command_faults j p c ++ lent_faults j p c ++ seek_faults j p c x ++ mask_faults j p c
 
 -- the own fault, where x is the argument of a seek at the place
 abbrev pub fault_with : Job → Place → Option (List ℕ) → Option Reason

@@ -5,11 +5,9 @@ use Rattle.ccw_core.specs.Areas.{lies_in}
 use Rattle.ccw_core.specs.Storage.{Stands}
 use Rattle.chan_walk.specs.declared.job.Job.{Job}
 use Rattle.chan_walk.specs.declared.place.Place.{Place}
-use Rattle.chan_walk.specs.Argument.{Has, IsChain, argument_addresses}
-use Rattle.chan_walk.specs.Fault.{begins_seek, IsClear}
-use Rattle.chan_walk.specs.Guarded.{IsCcwByte, IsArgumentByte}
+use Rattle.chan_walk.specs.Fault.{IsClear}
+use Rattle.chan_walk.specs.Guarded.{IsCcwByte, IsSeekByte, IsMaskByte, IsArgumentByte}
 use Rattle.chan_walk.specs.Job.{storage_of}
-use Rattle.chan_walk.specs.Place.{word_at}
 use Rattle.chan_walk.specs.Ranges.{IsMerged}
 
 -- two lists of areas: those of CCWs, and those of arguments of seeks
@@ -33,12 +31,16 @@ pub record IsCcwByteOf (j : Job) (p : Place) (b : ℕ) : Type 0 where
   pub below : b < p.address + 8
 
 -- the byte at b belongs to the argument of a seek that begins at a place and has no own fault
-pub record IsArgumentByteOf (j : Job) (p : Place) (b : ℕ) : Type 0 where
-  pub seeks : begins_seek p (word_at j p) ≡ true
-  pub clear : IsClear j p
-  pub chain : List ℕ
-  pub is_chain : IsChain (storage_of j) 6 p.address chain
-  pub has : Has (argument_addresses (storage_of j) chain) b
+abbrev pub IsSeekByteOf : Job → Place → ℕ → Type 0
+IsSeekByteOf j p b = IsClear j p × IsSeekByte j p b
+
+-- the byte at b is set by a Set File Mask that begins at a place and has no own fault
+abbrev pub IsMaskByteOf : Job → Place → ℕ → Type 0
+IsMaskByteOf j p b = IsClear j p × IsMaskByte j p b
+
+-- the byte at b is an argument of a place that has no own fault
+abbrev pub IsArgumentByteOf : Job → Place → ℕ → Type 0
+IsArgumentByteOf j p b = IsSeekByteOf j p b ⊎ IsMaskByteOf j p b
 
 -- the new areas have the bytes of the old ones, those for which P holds, and no others
 abbrev pub AddsBytes : List Area → List Area → (ℕ → Type 0) → Type 0

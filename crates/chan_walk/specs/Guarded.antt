@@ -4,7 +4,7 @@ use Rattle.ccw_core.specs.Storage.{Stands}
 use Rattle.chan_walk.specs.declared.job.Job.{Job}
 use Rattle.chan_walk.specs.declared.place.Place.{Place}
 use Rattle.chan_walk.specs.Argument.{Has, IsChain, argument_addresses}
-use Rattle.chan_walk.specs.Fault.{begins_seek, IsClear}
+use Rattle.chan_walk.specs.Fault.{begins_seek, begins_set_mask, IsClear}
 use Rattle.chan_walk.specs.Job.{storage_of}
 use Rattle.chan_walk.specs.Place.{word_at}
 use Rattle.chan_walk.specs.Reachable.{IsReachable}
@@ -17,15 +17,25 @@ pub record IsCcwByte (j : Job) (b : ℕ) : Type 0 where
   pub from : place.address ≤ b
   pub below : b < place.address + 8
 
--- the byte at b belongs to the argument of a reachable seek that has no own fault
+-- a seek begins at p, and the byte at b is one of the six of its argument
+pub record IsSeekByte (j : Job) (p : Place) (b : ℕ) : Type 0 where
+  pub seeks : begins_seek p (word_at j p) ≡ true
+  pub chain : List ℕ
+  pub is_chain : IsChain (storage_of j) 6 p.address chain
+  pub has : Has (argument_addresses (storage_of j) chain) b
+
+-- Set File Mask begins at p, and the byte at b is the one that it sets
+pub record IsMaskByte (j : Job) (p : Place) (b : ℕ) : Type 0 where
+  pub sets : begins_set_mask p (word_at j p) ≡ true
+  pub at : (word_at j p).address ≡ b
+
+-- the byte at b is an argument of a reachable place that has no own fault: a seek's, or the one of
+-- Set File Mask
 pub record IsArgumentByte (j : Job) (b : ℕ) : Type 0 where
   pub place : Place
   pub reached : IsReachable j place
-  pub seeks : begins_seek place (word_at j place) ≡ true
   pub clear : IsClear j place
-  pub chain : List ℕ
-  pub is_chain : IsChain (storage_of j) 6 place.address chain
-  pub has : Has (argument_addresses (storage_of j) chain) b
+  pub takes : IsSeekByte j place b ⊎ IsMaskByte j place b
 
 -- the byte at b is guarded
 abbrev pub IsGuarded : Job → ℕ → Type 0

@@ -5,21 +5,22 @@ use Rattle.ccw_core.specs.Areas.{lies_in}
 use Rattle.ccw_core.specs.Ccw.{byte, ccw, is_transfer}
 use Rattle.ccw_core.specs.Storage.{Stands}
 use Rattle.ckd_core.specs.Cylinders.{has_cylinder}
-use Rattle.ckd_core.specs.Mask.{inhibits}
+use Rattle.ckd_core.specs.Mask.{inhibits, is_at_least}
 use Rattle.chan_walk.specs.declared.job.Job.{Job}
 use Rattle.chan_walk.specs.declared.place.Place.{Place}
 use Rattle.chan_walk.specs.declared.verdict.Verdict.TheVariants.{Yes}
 use Rattle.chan_walk.specs.Argument.{IsChain, joined, argument}
 use Rattle.chan_walk.specs.Fault.{is_known, begins_seek, allows}
 use Rattle.chan_walk.specs.Guarded.{IsGuarded}
-use Rattle.chan_walk.specs.Job.{storage_of, extents_of, fetch_of, store_of}
-use Rattle.chan_walk.specs.Machine.{Stage, At, Ended, Checked, Event, Command, Store, Fetch, Gather, Seek}
+use Rattle.chan_walk.specs.Job.{storage_of, extents_of, fetch_of, store_of, HasMask}
+use Rattle.chan_walk.specs.Machine.{Stage, At, Ended, Checked, Event, Command, Store, Fetch, Gather, Seek, SetMask}
 use Rattle.chan_walk.specs.Place.{word_at}
 use Rattle.chan_walk.specs.Reachable.{IsReachable}
 use Rattle.chan_walk.specs.Runs.{Moment, IsRun, Uses}
 use Rattle.chan_walk.specs.Verdict.{IsVerdict}
 
--- an event that does no harm: a command of the table that isn't inhibited, a store and a fetch inside lent areas, a seek that is allowed
+-- an event that does no harm: a command of the table that isn't inhibited, a store and a fetch inside
+-- lent areas, a seek that is allowed, a mask byte at least as strict as the job's mask
 abbrev pub IsSafeEvent : Job → Event → Type 0
 IsSafeEvent j (Command code) = (is_known code ≡ true) × (inhibits j.mask code ≡ false)
 IsSafeEvent j (Store a bytes) = (b : ℕ) → a ≤ b → b < a + length bytes → lies_in (store_of j) b ≡ true
@@ -27,6 +28,7 @@ IsSafeEvent j (Fetch a n) = (b : ℕ) → a ≤ b → b < a + n → lies_in (fet
 IsSafeEvent j (Gather addresses) = Unit {0}
 IsSafeEvent j (Seek (Some x)) = allows j x ≡ true
 IsSafeEvent j (Seek None) = ⊥
+IsSafeEvent j (SetMask a x) = is_at_least x j.mask ≡ true
 
 -- no program check stopped the program
 abbrev pub IsUnchecked : Stage → Type 0
@@ -38,6 +40,7 @@ IsUnchecked (Checked r) = ⊥
 pub record IsSafeMoment (j : Job) (m : Moment) : Type 0 where
   pub unchecked : IsUnchecked m.stage
   pub inside : has_cylinder (extents_of j) m.arm ≡ true
+  pub strict : is_at_least m.mask j.mask ≡ true
   pub events : AllByRecursion (IsSafeEvent j) m.events
 
 -- every run is safe
@@ -52,9 +55,10 @@ Holds j b m = byte m.storage b ≡ byte (storage_of j) b
 abbrev pub IsSteady : Job → Type 0
 IsSteady j = (used run : List Moment) (b : ℕ) → IsRun j used → Uses used b → IsRun j run → AllByRecursion (Holds j b) run
 
--- the headline: where the verdict is yes, every run is safe and the job is steady
+-- the headline: where the job's mask is a mask and the verdict is yes, every run is safe and the job
+-- is steady
 abbrev pub YesIsSafe : Type 0
-YesIsSafe = (j : Job) → IsVerdict j Yes → IsSafe j × IsSteady j
+YesIsSafe = (j : Job) → HasMask j → IsVerdict j Yes → IsSafe j × IsSteady j
 
 -- ---- the laws that carry it
 

@@ -1,8 +1,9 @@
 -- What a job shows. The channel program's start and the file mask are numbers of the job itself.
-use Rattle.std.specs.Prelude.{ℕ, List}
+use Rattle.std.specs.Prelude.{◌≡◌, ℕ, true, List}
 use Rattle.ccw_core.specs.declared.areas.Area.{Area}
 use Rattle.ccw_core.specs.Held.{bytes_held}
 use Rattle.ckd_core.specs.Geometry.{heads_of}
+use Rattle.ckd_core.specs.Mask.{is_mask}
 use Rattle.chan_walk.specs.declared.job.Job.{Job}
 
 -- main storage from address 0 on, as it stands before the program's start
@@ -24,3 +25,7 @@ store_of j = j.store.now
 -- how many heads the job's device has
 abbrev pub heads : Job → ℕ
 heads j = heads_of j.device
+
+-- the job's mask is a file mask
+abbrev pub HasMask : Job → Type 0
+HasMask j = is_mask j.mask ≡ true

@@ -5,6 +5,7 @@ pub mod Check
 pub mod Argument
 pub mod Onward
 pub mod Fault
+pub mod Order
 pub mod Successors
 pub mod Reachable
 pub mod Guarded
@@ -12,6 +13,7 @@ pub mod Verdict
 pub mod Machine
 pub mod Runs
 pub mod Headline
+pub mod Counted
 pub mod Alarm
 pub mod Visit
 pub mod Tables

@@ -1,16 +1,16 @@
 -- What is seen of a place at one look, as storage stands before the program's start.
-use Rattle.std.specs.Prelude.{◌≡◌, ℕ, ◌<◌, ◌^◌, Bool, List, [], map, Option, Some, slice_index, ◌↔◌}
+use Rattle.std.specs.Prelude.{◌≡◌, ℕ, ◌<◌, ◌^◌, Bool, List, [], ◌∷◌, map, Option, Some, slice_index, if◌then◌else◌, ◌↔◌}
 use Rattle.ccw_core.specs.Ccw.{Fields}
 use Rattle.ccw_core.specs.Storage.{ccw_at}
 use Rattle.ckd_core.specs.Table.{Entry as Command}
 use Rattle.chan_walk.specs.declared.job.Job.{Job}
 use Rattle.chan_walk.specs.declared.look.Argument.{Argument}
-use Rattle.chan_walk.specs.declared.look.Argument.TheVariants.{Absent, Seek}
+use Rattle.chan_walk.specs.declared.look.Argument.TheVariants.{Absent, Seek, Mask}
 use Rattle.chan_walk.specs.declared.place.Place.{Place}
 use Rattle.chan_walk.specs.declared.reason.Reason.{Reason}
 use Rattle.chan_walk.specs.declared.successor.Next.{Next}
 use Rattle.chan_walk.specs.Argument.{Has}
-use Rattle.chan_walk.specs.Fault.{HasFault, stores}
+use Rattle.chan_walk.specs.Fault.{HasFault, begins_set_mask, stores}
 use Rattle.chan_walk.specs.Guard.{IsArgumentByteOf}
 use Rattle.chan_walk.specs.Job.{storage_of}
 use Rattle.chan_walk.specs.Successors.{AreSuccessors}
@@ -53,3 +53,8 @@ places_of_looks ls = map place_of ls
 abbrev pub addresses_of : Argument → List ℕ
 addresses_of Absent = []
 addresses_of (Seek addresses) = addresses
+addresses_of (Mask address) = address
+
+-- the address of the byte that is set at p with the CCW c, if Set File Mask begins there
+abbrev pub mask_addresses : Place → Fields → List ℕ
+mask_addresses p c = if begins_set_mask p c then c.address ∷ [] else []

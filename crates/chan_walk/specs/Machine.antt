@@ -6,12 +6,13 @@ use Rattle.ccw_core.specs.Ccw.{byte, Fields, ccw, is_transfer, skips, chains_dat
 use Rattle.ckd_core.specs.declared.command.Kind.{Kind}
 use Rattle.ckd_core.specs.declared.command.Kind.TheVariants.{Idle, Inward, Outward, Search}
 use Rattle.ckd_core.specs.Argument.{cylinder_of}
+use Rattle.ckd_core.specs.Mask.{is_mask}
 use Rattle.chan_walk.specs.declared.place.Entry.{Entry}
 use Rattle.chan_walk.specs.declared.place.Entry.TheVariants.{Fresh}
 use Rattle.chan_walk.specs.declared.place.Place.{Place}
 use Rattle.chan_walk.specs.declared.reason.Reason.{Reason}
 use Rattle.chan_walk.specs.Check.{check}
-use Rattle.chan_walk.specs.Fault.{kind_of, is_known, begins_seek, begins_recalibrate}
+use Rattle.chan_walk.specs.Fault.{kind_of, is_known, begins_seek, begins_recalibrate, begins_set_mask}
 use Rattle.chan_walk.specs.Place.{is_fresh, straight_to, transferred_to}
 use Rattle.chan_walk.specs.Successors.{chained, gives_modifier}
 
@@ -26,13 +27,15 @@ pub data Stage : Type 0 where
   Checked : Reason → Stage
 
 -- what is seen of a step: a command begins; bytes are stored from an address on; a range is fetched;
--- bytes at these addresses are added to an argument; the device seeks with an argument, or with none whole
+-- bytes at these addresses are added to an argument; the device seeks with an argument, or with none
+-- whole; Set File Mask takes the byte at an address
 pub data Event : Type 0 where
   Command : (code : ℕ) → Event
   Store : (address : ℕ) (bytes : List ℕ) → Event
   Fetch : (address count : ℕ) → Event
   Gather : (addresses : List ℕ) → Event
   Seek : (argument : Option (List ℕ)) → Event
+  SetMask : (address byte : ℕ) → Event
 
 -- t is storage s with these bytes stored from a on
 pub record IsStored (s : List ℕ) (a : ℕ) (bytes t : List ℕ) : Type 0 where
@@ -77,6 +80,15 @@ pub data Homes (y : ℕ) : Bool → List Event → ℕ → Type 0 where
   home_stays : Homes y true (Seek (Some home) ∷ []) y
   home_goes : Homes y true (Seek (Some home) ∷ []) 0
 
+-- what the first of m bytes does to the mask f in force, where Set File Mask takes it: the mask stays,
+-- or becomes the byte if that is a mask
+pub data SetsMask (c : Fields) (m : ℕ) (s : List ℕ) (f : ℕ) : Bool → List Event → ℕ → Type 0 where
+  no_mask : SetsMask c m s f false [] f
+  no_byte : m ≡ 0 → SetsMask c m s f true [] f
+  mask_stays : 0 < m → SetsMask c m s f true (SetMask c.address (byte s c.address) ∷ []) f
+  mask_set : 0 < m → is_mask (byte s c.address) ≡ true →
+      SetsMask c m s f true (SetMask c.address (byte s c.address) ∷ []) (byte s c.address)
+
 -- how the program goes on from p after m bytes, with g of a seek: the device may end it at any time, and else chaining decides
 pub data Goes (p : Place) (c : Fields) (k : Kind) (m : ℕ) : Gathered → List Event → Stage → Type 0 where
   ends : {g : Gathered} → Goes p c k m g [] Ended
@@ -89,25 +101,36 @@ pub data Goes (p : Place) (c : Fields) (k : Kind) (m : ℕ) : Gathered → List 
 abbrev pub begun : Place → Fields → List Event
 begun p c = if is_fresh p.entered then Command c.command ∷ [] else []
 
--- one step at the place p, with storage s and the arm at cylinder y: a program check stops the program; a transfer is taken;
--- a command that isn't in the table ends the program; or the CCW is carried out, and then m bytes, at most its count, are moved,
--- a seek under way takes what it wants of them, Recalibrate seeks, and the program goes on
-pub data Step (s : List ℕ) (y : ℕ) (p : Place) (g : Gathered) : List Event → List ℕ → ℕ → Stage → Type 0 where
-  checked : {r : Reason} → check s p ≡ Some r → Step s y p g [] s y (Checked r)
-  transferred : check s p ≡ None → is_transfer (ccw s p.address) ≡ true → Step s y p g [] s y (At (transferred_to (ccw s p.address).address p.entered) g)
-  unknown : check s p ≡ None → is_transfer (ccw s p.address) ≡ false → is_fresh p.entered ≡ true → is_known (ccw s p.address).command ≡ false → Step s y p g (Command (ccw s p.address).command ∷ []) s y Ended
-  carried : {t : List ℕ} {y' y'' : ℕ} {g' : Gathered} {moved sought homed went : List Event} {stage : Stage} {m : ℕ} →
+-- one step at the place p, with storage s, the arm at cylinder y and the mask f in force: a program
+-- check stops the program; a transfer is taken; a command that isn't in the table ends the program; or
+-- the CCW is carried out, and then m bytes, at most its count, are moved, a seek under way takes what it
+-- wants of them, Recalibrate seeks, Set File Mask takes the first, and the program goes on
+pub data Step (s : List ℕ) (y f : ℕ) (p : Place) (g : Gathered)
+    : List Event → List ℕ → ℕ → ℕ → Stage → Type 0 where
+  checked : {r : Reason} → check s p ≡ Some r → Step s y f p g [] s y f (Checked r)
+  transferred :
+      check s p ≡ None → is_transfer (ccw s p.address) ≡ true →
+      Step s y f p g [] s y f (At (transferred_to (ccw s p.address).address p.entered) g)
+  unknown :
+      check s p ≡ None → is_transfer (ccw s p.address) ≡ false →
+      is_fresh p.entered ≡ true → is_known (ccw s p.address).command ≡ false →
+      Step s y f p g (Command (ccw s p.address).command ∷ []) s y f Ended
+  carried :
+      {t : List ℕ} {y' y'' f' : ℕ} {g' : Gathered} {moved sought homed set went : List Event}
+      {stage : Stage} {m : ℕ} →
       check s p ≡ None → is_transfer (ccw s p.address) ≡ false →
       (is_fresh p.entered ≡ true → is_known (ccw s p.address).command ≡ true) →
       m ≤ (ccw s p.address).count →
       Moves (ccw s p.address) m s (kind_of p.entered (ccw s p.address)) moved t →
       Seeks (ccw s p.address) m s y (under_way p (ccw s p.address) g) sought y' g' →
       Homes y' (begins_recalibrate p (ccw s p.address)) homed y'' →
+      SetsMask (ccw s p.address) m s f (begins_set_mask p (ccw s p.address)) set f' →
       Goes p (ccw s p.address) (kind_of p.entered (ccw s p.address)) m g' went stage →
-      Step s y p g (begun p (ccw s p.address) ++ moved ++ sought ++ homed ++ went) t y'' stage
+      Step s y f p g
+      (begun p (ccw s p.address) ++ moved ++ sought ++ homed ++ set ++ went) t y'' f' stage
 
 -- one step from a stage; a program that has ended or was checked makes none
-abbrev pub StepFrom : List ℕ → ℕ → Stage → List Event → List ℕ → ℕ → Stage → Type 0
-StepFrom s y (At p g) es t y' stage = Step s y p g es t y' stage
-StepFrom s y Ended es t y' stage = ⊥
-StepFrom s y (Checked r) es t y' stage = ⊥
+abbrev pub StepFrom : List ℕ → ℕ → ℕ → Stage → List Event → List ℕ → ℕ → ℕ → Stage → Type 0
+StepFrom s y f (At p g) es t y' f' stage = Step s y f p g es t y' f' stage
+StepFrom s y f Ended es t y' f' stage = ⊥
+StepFrom s y f (Checked r) es t y' f' stage = ⊥

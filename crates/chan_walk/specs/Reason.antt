@@ -1,9 +1,9 @@
 -- The reasons why a program may not run, by number and by word.
 use Rattle.std.specs.Prelude.{ℕ, List, codes}
 use Rattle.chan_walk.specs.declared.reason.Reason.{Reason}
-use Rattle.chan_walk.specs.declared.reason.Reason.TheVariants.{Misaligned, OutsideStorage, TransferNotAllowed, InvalidCode, BadFormat, ZeroCount, DataOutside, NotInTable, Inhibited, StoreNotLent, FetchNotLent, ShortSeek, SeekOutside, ChangesCcw, ChangesArgument}
+use Rattle.chan_walk.specs.declared.reason.Reason.TheVariants.{Misaligned, OutsideStorage, TransferNotAllowed, InvalidCode, BadFormat, ZeroCount, DataOutside, NotInTable, Inhibited, StoreNotLent, FetchNotLent, ShortSeek, SeekOutside, ChangesCcw, ChangesArgument, WeakensMask}
 
--- the order in which reasons are tried for a place, and by which the least counts
+-- the order by which the least counts, in which own faults are tried too
 abbrev pub number_of : Reason → ℕ
 number_of Misaligned = 1
 number_of OutsideStorage = 2
@@ -20,6 +20,7 @@ number_of ShortSeek = 12
 number_of SeekOutside = 13
 number_of ChangesCcw = 14
 number_of ChangesArgument = 15
+number_of WeakensMask = 16
 
 -- the word for a reason in a verdict, as ASCII text
 abbrev pub word_of : Reason → List ℕ
@@ -38,3 +39,4 @@ word_of ShortSeek = codes "short-seek"
 word_of SeekOutside = codes "seek-outside"
 word_of ChangesCcw = codes "changes-ccw"
 word_of ChangesArgument = codes "changes-argument"
+word_of WeakensMask = codes "weakens-mask"

@@ -5,20 +5,23 @@ use Rattle.ckd_core.specs.Cylinders.{has_cylinder}
 use Rattle.chan_walk.specs.declared.job.Job.{Job}
 use Rattle.chan_walk.specs.Argument.{Has}
 use Rattle.chan_walk.specs.Job.{storage_of, extents_of}
-use Rattle.chan_walk.specs.Machine.{Stage, At, Ended, Checked, Event, Command, Store, Fetch, Gather, Seek, StepFrom}
+use Rattle.chan_walk.specs.Machine.{Stage, At, Ended, Checked, Event, Command, Store, Fetch, Gather, Seek, SetMask, StepFrom}
 use Rattle.chan_walk.specs.Place.{first_place}
 
 -- a state of the machine, with the events of the step that led to it
 pub record Moment : Type 0 where
   pub storage : List ℕ
   pub arm : ℕ
+  pub mask : ℕ
   pub stage : Stage
   pub events : List Event
 
--- a run begins with the job's storage, the arm at any cylinder inside the extents, and at the first place
+-- a run begins with the job's storage, the arm at any cylinder inside the extents, the job's mask in
+-- force, and at the first place
 pub record IsStart (j : Job) (m : Moment) : Type 0 where
   pub storage : m.storage ≡ storage_of j
   pub arm : has_cylinder (extents_of j) m.arm ≡ true
+  pub mask : m.mask ≡ j.mask
   pub stage : m.stage ≡ At (first_place j) None
   pub events : m.events ≡ []
 
@@ -26,7 +29,9 @@ pub record IsStart (j : Job) (m : Moment) : Type 0 where
 abbrev pub IsRun : Job → List Moment → Type 0
 IsRun j [] = ⊥
 IsRun j (m ∷ []) = IsStart j m
-IsRun j (n ∷ m ∷ ms) = IsRun j (m ∷ ms) × StepFrom m.storage m.arm m.stage n.events n.storage n.arm n.stage
+IsRun j (n ∷ m ∷ ms) =
+    IsRun j (m ∷ ms)
+    × StepFrom m.storage m.arm m.mask m.stage n.events n.storage n.arm n.mask n.stage
 
 -- the byte at b belongs to the CCW of this stage's place, where one stands there
 abbrev pub UsesAt : List ℕ → Stage → ℕ → Type 0
@@ -34,7 +39,7 @@ UsesAt s (At p g) b = Stands s p.address × (p.address ≤ b) × (b < p.address 
 UsesAt s Ended b = ⊥
 UsesAt s (Checked r) b = ⊥
 
--- the byte at b is added to an argument
+-- the byte at b is added to an argument, or taken by Set File Mask
 abbrev pub UsesIn : List Event → ℕ → Type 0
 UsesIn [] b = ⊥
 UsesIn (Gather addresses ∷ es) b = Has addresses b ⊎ UsesIn es b
@@ -42,6 +47,7 @@ UsesIn (Command code ∷ es) b = UsesIn es b
 UsesIn (Store a bytes ∷ es) b = UsesIn es b
 UsesIn (Fetch a n ∷ es) b = UsesIn es b
 UsesIn (Seek x ∷ es) b = UsesIn es b
+UsesIn (SetMask a x ∷ es) b = (a ≡ b) ⊎ UsesIn es b
 
 -- a run uses the byte at b as a byte of a CCW, that of its last place among them
 abbrev pub UsesInCcw : List Moment → ℕ → Type 0

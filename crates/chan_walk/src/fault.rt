@@ -20,6 +20,7 @@ use crate::lent::Lending;
 use crate::look::look_at;
 use crate::place::Place;
 use crate::reason::Reason;
+use crate::set_mask::mask_fault;
 use crate::visit::Visit;
 use crate::word::{has_data_in, is_counted, is_formed, is_invalid};
 use ccw_core::Storage;
@@ -161,6 +162,7 @@ pub(crate) fn own_fault(
     command_fault(job, visit)
         .or(lent_fault(job, lending, visit))
         .or(seek_fault(job, visit, argument))
+        .or(mask_fault(job, visit))
 }
 
 /// The own fault of a place where no CCW stands.
@@ -174,8 +176,8 @@ pub(crate) fn fault_without_ccw(place: Place) -> Reason
     }
 }
 
-/// The own fault of a place, one of the reasons 1 to 13: the first that applies; `None` where there
-/// is none. The place may be any, reached or not.
+/// The own fault of a place, one of the reasons 1 to 13 and 16: the first that applies; `None` where
+/// there is none. The place may be any, reached or not.
 ///
 /// It takes no memory. The cost is that of `covers` over the areas lent, at most the square of their
 /// number.

@@ -196,8 +196,10 @@ pub fn judge(alloc: Global, job: &Job) -> Result<Judged, WalkError>
     yes_is_safe();
     no_false_alarm();
     safe_is_yes();
-    // `pairs` tells that the extents are in order and on the device, which the last two laws ask for.
+    // `pairs` tells that the extents are in order and on the device, and `byte` that the mask is a
+    // file mask, which the laws ask for.
     let _extents = job.extents.pairs();
+    let _mask = job.mask.byte();
     let looks = walk_all(alloc, job)?.looks;
     let verdict = verdict_of(alloc, looks.as_slice())?;
     Ok(Judged {
@@ -210,10 +212,10 @@ pub fn judge(alloc: Global, job: &Job) -> Result<Judged, WalkError>
 ///
 /// `Yes` means that no reachable place offends; then whatever the disk holds, however
 /// searches and errors fall and after any number of steps, the channel meets no program check, moves
-/// data only through areas lent for it, changes no CCW or seek argument that any run uses, seeks
-/// only inside the extents and issues no inhibited command. `No` names the first offending CCW, by
-/// address, and the first reason there, by number; some run shows it. A job whose every run is safe,
-/// and which is steady, is never answered `No`.
+/// data only through areas lent for it, changes no CCW, seek argument or mask byte that any run uses,
+/// seeks only inside the extents, sets no weaker mask and issues no inhibited command. `No` names the
+/// first offending CCW, by address, and the first reason there, by number; some run shows it. A job
+/// whose every run is safe, and which is steady, is never answered `No`.
 ///
 /// `TooManyPlaces` comes exactly where more places are reachable than the job's limit and no growth
 /// was refused, also where one of them offends. `Memory` comes where a growth was refused.

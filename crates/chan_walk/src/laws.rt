@@ -1,7 +1,9 @@
 //! The laws of the machine: each is the contract of a function that does nothing, so that it is proved.
 
 ghost use Rattle.chan_walk.specs.Alarm.{EachPathIsRun, HeadlineAloneIsEnough, NoFalseAlarm, SafeIsYes};
+ghost use Rattle.chan_walk.specs.Counted.{SameVerdict, YesByGuarded, YesStays};
 ghost use Rattle.chan_walk.specs.Headline.{GathersArguments, GuardedStays, StaysReachable, YesIsSafe};
+ghost use Rattle.chan_walk.specs.Order.{NumbersIncrease};
 
 /// Where the verdict is yes, guarded bytes never change.
 pub(crate) fn guarded_stays()
@@ -43,4 +45,26 @@ pub(crate) fn safe_is_yes()
 /// Whatever answers yes only for safe and steady jobs answers yes only where the verdict is yes.
 pub(crate) fn headline_alone_is_enough()
     ensures { HeadlineAloneIsEnough }
+{}
+
+/// The own fault of a place is the first that applies of a table along which the reasons' numbers
+/// increase.
+pub(crate) fn numbers_increase()
+    ensures { NumbersIncrease }
+{}
+
+/// The verdict depends on nothing in storage but its length and the bytes that count.
+pub(crate) fn same_verdict()
+    ensures { SameVerdict }
+{}
+
+/// A yes depends on nothing in storage but its length and the guarded bytes.
+pub(crate) fn yes_by_guarded()
+    ensures { YesByGuarded }
+{}
+
+/// Where the verdict is yes, it is yes over what storage holds at any moment of any run, so that the
+/// program may start again.
+pub(crate) fn yes_stays()
+    ensures { YesStays }
 {}

@@ -27,6 +27,7 @@ mod place;
 mod ranges;
 mod reason;
 mod seek;
+mod set_mask;
 mod successor;
 mod verdict;
 mod visit;

@@ -7,7 +7,7 @@ ghost use Rattle.ckd_core.specs.Entries.{entry_of};
 ghost use Rattle.chan_walk.specs.Fault.{begins_seek};
 ghost use Rattle.chan_walk.specs.Job.{storage_of};
 ghost use Rattle.chan_walk.specs.Lending.{Lends};
-ghost use Rattle.chan_walk.specs.Look.{IsLook, addresses_of};
+ghost use Rattle.chan_walk.specs.Look.{IsLook, addresses_of, mask_addresses};
 ghost use Rattle.chan_walk.specs.Tables.{HasAddresses};
 ghost use Rattle.chan_walk.specs.Visit.{IsBegun, IsVisit};
 
@@ -30,6 +30,8 @@ enum Argument {
     Absent,
     /// The argument of a seek.
     Seek([u32; 6]),
+    /// The byte that Set File Mask sets.
+    Mask([u32; 1]),
 }
 
 impl Argument {
@@ -40,6 +42,7 @@ impl Argument {
         match self {
             Argument::Absent => &[],
             Argument::Seek(addresses) => addresses,
+            Argument::Mask(address) => address,
         }
     }
 }
@@ -147,6 +150,20 @@ fn sought(storage: &Storage, visit: &Visit) -> Option<[u32; 6]>
     }
 }
 
+/// The byte that is set at a place, if Set File Mask begins there.
+fn mask_argument(visit: &Visit) -> Argument
+    requires { IsBegun visit.now }
+    ensures addresses { addresses_of result ≡ mask_addresses visit.now.place visit.now.word }
+    ensures low { visit.now.word.address < 2 ^ 24 }
+{
+    let address = visit.word.address();
+    if visit.begins_set_mask() {
+        Argument::Mask([address])
+    } else {
+        Argument::Absent
+    }
+}
+
 /// What is seen of a place where a CCW stands.
 fn look_at_word(job: &Job, lending: Lending, place: Place, word: Ccw) -> Look
     requires stands { word_at (storage_of job.now) place.address ≡ Some word }
@@ -160,7 +177,7 @@ fn look_at_word(job: &Job, lending: Lending, place: Place, word: Ccw) -> Look
     let fault = own_fault(job, lending, &visit, bytes);
     let (argument, next) = match (fault, addresses) {
         (None, Some(addresses)) => (Argument::Seek(addresses), go_on(&visit)),
-        (None, None) => (Argument::Absent, go_on(&visit)),
+        (None, None) => (mask_argument(&visit), go_on(&visit)),
         (Some(_), _) => (Argument::Absent, Next::nowhere()),
     };
     Look {

@@ -34,12 +34,14 @@ pub enum Reason {
     SeekOutside,
     /// Something is stored over a reachable CCW.
     ChangesCcw,
-    /// Something is stored over the argument of a reachable seek.
+    /// Something is stored over the argument of a reachable seek, or over a mask that is set.
     ChangesArgument,
+    /// Set File Mask would set a weaker mask.
+    WeakensMask,
 }
 
 impl Reason {
-    /// The reason's number, 1 to 15: the order in which reasons are tried.
+    /// The reason's number, 1 to 16: the order by which the least counts.
     #[tactic(auto, unfolding(crate::specs::Reason::number_of))]
     pub fn number(self) -> u8
         ensures { result ≡ number_of self }
@@ -60,6 +62,7 @@ impl Reason {
             Reason::SeekOutside => 13,
             Reason::ChangesCcw => 14,
             Reason::ChangesArgument => 15,
+            Reason::WeakensMask => 16,
         }
     }
 
@@ -84,6 +87,7 @@ impl Reason {
             Reason::SeekOutside => "seek-outside",
             Reason::ChangesCcw => "changes-ccw",
             Reason::ChangesArgument => "changes-argument",
+            Reason::WeakensMask => "weakens-mask",
         }
     }
 }

@@ -86,7 +86,7 @@ pub(crate) fn argument_addresses(storage: &Storage, address: u32) -> Option<[u32
 }
 
 /// The byte at an address of storage.
-fn byte_at(storage: &Storage, address: u32) -> u8
+pub(crate) fn byte_at(storage: &Storage, address: u32) -> u8
     requires { address < length (bytes_held storage.now) }
     ensures { result ≡ byte (bytes_held storage.now) address }
 {

@@ -59,6 +59,17 @@ impl Visit {
         }
     }
 
+    /// Set File Mask begins there.
+    pub(crate) fn begins_set_mask(&self) -> bool
+        requires { IsBegun self.now }
+        ensures { result ≡ fault.begins_set_mask self.now.place self.now.word }
+    {
+        match self.command {
+            Some(command) => is_set_mask_class(command.class()),
+            None => false,
+        }
+    }
+
     /// The CCW stores there.
     pub(crate) fn stores(&self) -> bool
         requires { IsBegun self.now }
@@ -116,4 +127,10 @@ fn is_recalibrate_class(class: MaskClass) -> bool
     ensures { result ≡ table.class_recalibrates class }
 {
     matches!(class, MaskClass::Recalibrate)
+}
+
+fn is_set_mask_class(class: MaskClass) -> bool
+    ensures { result ≡ table.class_sets_mask class }
+{
+    matches!(class, MaskClass::SetMask)
 }

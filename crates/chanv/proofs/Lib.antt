@@ -1,4 +1,3 @@
-pub mod Places
 pub mod NamedCommands
 pub mod ShownWord
 pub mod TakenLines

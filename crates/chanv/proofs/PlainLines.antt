@@ -20,8 +20,8 @@ use Rattle.clap.specs.declared.error.kind.ErrorKind.TheVariants.{DisplayHelp, In
 use Rattle.chanv.specs.CommandLine.{AsksFor, FaultsOrNoMemory, HelpsOrNoMemory, IsAnswerTo, IsNoCommand, IsPlainAnswerTo, IsTaken, RunsOrNoMemory, ShowsOrNoMemory, chanv, name_met, ccw_met}
 use Rattle.chanv.specs.declared.command_line.Request.{Request}
 use Rattle.chanv.specs.declared.command_line.Request.TheVariants.{Show, Run, Help, Fault, NoMemory}
-use Rattle.chanv.specs.declared.run.Action.TheVariants as actions
-use Rattle.chanv.specs.declared.run.Action.TheVariants.{Verify}
+use Rattle.chan_run.specs.declared.running.Action.TheVariants as actions
+use Rattle.chan_run.specs.declared.running.Action.TheVariants.{Verify}
 use Rattle.chanv.proofs.NamedCommands.{cons≢nil}
 
 -- ---- the lines that are taken

@@ -5,8 +5,8 @@ use Rattle.clap.specs.Words.{App, IsAmong, Row, Rule, Text, fault_of, first_of, 
 use Rattle.clap.specs.declared.error.kind.ErrorKind.TheVariants.{DisplayHelp, OutOfMemory}
 use Rattle.chanv.specs.declared.command_line.Request.{Request}
 use Rattle.chanv.specs.declared.command_line.Request.TheVariants.{Show, Run, Help, Fault, NoMemory}
-use Rattle.chanv.specs.declared.run.Action.{Action}
-use Rattle.chanv.specs.declared.run.Action.TheVariants as actions
+use Rattle.chan_run.specs.declared.running.Action.{Action}
+use Rattle.chan_run.specs.declared.running.Action.TheVariants as actions
 
 -- the word that `show` requires
 abbrev pub ccw_word : Rule

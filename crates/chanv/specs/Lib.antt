@@ -1,5 +1,1 @@
-pub mod Show
-pub mod Input
-pub mod Run
-pub mod Report
 pub mod CommandLine

@@ -4,7 +4,7 @@ ghost use Rattle.std.specs.Prelude.{◌≡◌, IfErr, IfOk, OnOk, map, string_by
 ghost use Rattle.clap.specs.Words.{HasKind, app_of, fault_of, subcommand_of, subcommand_rows_of};
 ghost use Rattle.chanv.specs.CommandLine.{AsksFor, IsAnswerTo, IsKnown, IsPlainAnswerTo, IsTaken, chanv};
 
-use crate::run::Action;
+use chan_run::Action;
 use clap::error::ErrorKind;
 use clap::{Arg, ArgMatches, Command, Error};
 use std::alloc::{AllocError, Global};

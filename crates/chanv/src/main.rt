@@ -7,18 +7,10 @@
 #![tactic(auto)]
 
 mod command_line;
-#[cfg(test)]
-mod devices;
-mod input;
-mod report;
-mod run;
-mod show;
 
 use crate::command_line::{Request, read_request};
-use crate::report::{Outcome, report};
-use crate::run::{Action, run};
-use crate::show::show;
 use ccw_core::Watched;
+use chan_run::{Action, Outcome, report, run, show};
 use std::io;
 use std::io::Write;
 use std::process::ExitCode;
@@ -62,7 +54,11 @@ fn outcome_of(rt: &HostRuntime) -> Outcome {
 }
 
 fn read_words(rt: &HostRuntime) -> io::Result<Vec<String>> {
-    Ok(std::env::args(rt)?.collect(rt.alloc())?)
+    let mut words = Vec::new(rt.alloc());
+    for word in std::env::args(rt)? {
+        words.push(word)?;
+    }
+    Ok(words)
 }
 
 fn shown(rt: &HostRuntime, text: &str) -> Outcome {

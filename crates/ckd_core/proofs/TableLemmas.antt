@@ -1,11 +1,11 @@
 -- The command table: looking up in it, and what holds of each command that it gives.
-use Rattle.std.proofs.Common.{◌≡◌, ℕ, Bool, true, false, nat_eq, cond, List, [], ◌∷◌, ◌++◌, Option, Some, None, option_map, refl, ap, sym, ◌∙◌, inl, inr}
+use Rattle.std.proofs.Common.{◌≡◌, ℕ, Bool, true, false, nat_eq, cond, List, [], ◌∷◌, ◌++◌, Option, Some, None, refl, ap, sym, ◌∙◌, inl, inr}
 use Rattle.std.specs.Cmp.{first_so, second_so}
 use Rattle.std.specs.List.{list_all}
 use Rattle.std.specs.Option.{option_or}
 use Rattle.std.proofs.lemmas.Bool.Decides.{eqb_tells}
 use Rattle.std.proofs.lemmas.Option.{same_Some}
-use Rattle.ckd_core.specs.Table.{Entry, table, lookup, find_code, class_passes, class_is_seek, class_recalibrates, is_seek, recalibrates}
+use Rattle.ckd_core.specs.Table.{Entry, table, lookup, find_code, class_passes, class_is_seek, class_recalibrates, class_sets_mask, is_seek, recalibrates, sets_mask}
 use Rattle.ckd_core.specs.Mask.{inhibits, inhibits_class}
 
 -- a list of entries that stands before another is searched first
@@ -17,16 +17,13 @@ find_code-append code (x ∷ xs) ys =
       | false ↦ find_code-append code xs ys
     ]
 
--- what is done to the first that is there is done to each
-pub option_map-option_or : {A B : Type 0} (f : A → B) (a b : Option A) → option_map f (option_or a b) ≡ option_or (option_map f a) (option_map f b)
-option_map-option_or f None b = refl
-option_map-option_or f (Some x) b = refl
+-- what is found in a list is found in a longer one
+pub found-append : (code : ℕ) (e : Entry) (xs ys : List Entry) → Some e ≡ find_code code xs → Some e ≡ find_code code (xs ++ ys)
+found-append code e xs ys found = ap (λ (o : Option Entry). option_or o (find_code code ys)) found ∙ sym (find_code-append code xs ys)
 
--- four searches, one after another, are one search through four lists
-pub option_or-find_code : {A : Type 0} (f : A → Entry) (code : ℕ) (a b c d : Option A) (xs ys zs ws : List Entry)
-    → option_map f a ≡ find_code code xs → option_map f b ≡ find_code code ys → option_map f c ≡ find_code code zs → option_map f d ≡ find_code code ws
-    → option_map f (option_or (option_or (option_or a b) c) d) ≡ find_code code (xs ++ ys ++ zs ++ ws)
-option_or-find_code f code a b c d xs ys zs ws ha hb hc hd = simp (option_map-option_or, find_code-append) (cc)
+-- behind a list that hasn't the code the rest is searched
+pub missed-append : (code : ℕ) (o : Option Entry) (xs ys : List Entry) → None ≡ find_code code xs → o ≡ find_code code ys → o ≡ find_code code (xs ++ ys)
+missed-append code o xs ys missed found = found ∙ ap (λ (p : Option Entry). option_or p (find_code code ys)) missed ∙ sym (find_code-append code xs ys)
 
 -- what is looked up has the code that was asked for
 pub find_code-code : (code : ℕ) (es : List Entry) (e : Entry) → find_code code es ≡ Some e → e.code ≡ code
@@ -73,3 +70,8 @@ recalibrates-class code e found = ap (class_passes class_recalibrates) found
 pub inhibits-class : (mask code : ℕ) (e : Entry) → lookup code ≡ Some e → inhibits mask code ≡ inhibits_class mask e.class
 unfolding inhibits
 inhibits-class mask code e found = ap (class_passes (inhibits_class mask)) found
+
+-- a code is that of Set File Mask exactly where its class is
+pub sets_mask-class : (code : ℕ) (e : Entry) → lookup code ≡ Some e → sets_mask code ≡ class_sets_mask e.class
+unfolding sets_mask
+sets_mask-class code e found = ap (class_passes class_sets_mask) found

@@ -1,8 +1,9 @@
 -- Which commands a file mask inhibits
 -- (component descriptions of the 2841 with the 2311, and of the 2314; the classes of Recalibrate and Erase are this project's choice).
-use Rattle.std.specs.Prelude.{ℕ, Bool, false, ◌==◌, ◌||◌, not, bit_and}
+use Rattle.std.specs.Prelude.{ℕ, Bool, true, false, ◌≡◌, ◌↔◌, ◌==◌, ◌&&◌, ◌||◌, not, bit_and, List, [], ◌∷◌}
+use Rattle.std.specs.List.{list_all}
 use Rattle.ckd_core.specs.declared.command.MaskClass.{MaskClass}
-use Rattle.ckd_core.specs.declared.command.MaskClass.TheVariants.{Plain, Seek, SeekCylinder, SeekHead, Recalibrate, WriteHome, WriteFormat, WriteUpdate}
+use Rattle.ckd_core.specs.declared.command.MaskClass.TheVariants.{Plain, Seek, SeekCylinder, SeekHead, Recalibrate, WriteHome, WriteFormat, WriteUpdate, SetMask}
 use Rattle.ckd_core.specs.Table.{class_passes, lookup}
 
 -- no bit but those of writes and seeks
@@ -19,6 +20,7 @@ inhibits_write bits Seek = false
 inhibits_write bits SeekCylinder = false
 inhibits_write bits SeekHead = false
 inhibits_write bits Recalibrate = false
+inhibits_write bits SetMask = false
 
 -- the bits that decide over seeks: 00 inhibits none, 08 Seek and Recalibrate, 10 Seek Cylinder too, 18 Seek Head too
 abbrev pub inhibits_seek : ℕ → MaskClass → Bool
@@ -30,6 +32,7 @@ inhibits_seek bits Plain = false
 inhibits_seek bits WriteHome = false
 inhibits_seek bits WriteFormat = false
 inhibits_seek bits WriteUpdate = false
+inhibits_seek bits SetMask = false
 
 -- the mask inhibits a class of commands
 abbrev pub inhibits_class : ℕ → MaskClass → Bool
@@ -38,3 +41,21 @@ inhibits_class mask class = inhibits_write (bit_and mask 0xC0) class || inhibits
 -- the mask inhibits the command of this code
 unfoldable pub inhibits : ℕ → ℕ → Bool
 inhibits mask code = class_passes (inhibits_class mask) (lookup code)
+
+-- the classes of commands that some mask inhibits
+abbrev pub inhibitable : List MaskClass
+inhibitable = Seek ∷ SeekCylinder ∷ SeekHead ∷ Recalibrate ∷ WriteHome ∷ WriteFormat ∷ WriteUpdate ∷ []
+
+-- where the mask inhibits the class, so does the byte
+abbrev pub inhibits_too : ℕ → ℕ → MaskClass → Bool
+inhibits_too byte mask class = not (inhibits_class mask class) || inhibits_class byte class
+
+-- the byte is at least as strict as the mask: it is a mask, and inhibits each class that the mask inhibits
+unfoldable pub is_at_least : ℕ → ℕ → Bool
+is_at_least byte mask = is_mask byte && list_all (inhibits_too byte mask) inhibitable
+
+-- strictness, said of every class: a byte is at least as strict as a mask exactly where it is a mask and inhibits what that one inhibits
+abbrev pub StrictnessIsByClass : Type 0
+StrictnessIsByClass =
+    (byte mask : ℕ) → (is_at_least byte mask ≡ true)
+    ↔ ((is_mask byte ≡ true) × ((class : MaskClass) → inhibits_class mask class ≡ true → inhibits_class byte class ≡ true))

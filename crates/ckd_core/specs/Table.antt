@@ -4,7 +4,7 @@ use Rattle.std.specs.Prelude.{ℕ, Bool, true, false, ◌==◌, List, [], ◌∷
 use Rattle.ckd_core.specs.declared.command.Kind.{Kind}
 use Rattle.ckd_core.specs.declared.command.Kind.TheVariants.{Idle, Inward, Outward, Search}
 use Rattle.ckd_core.specs.declared.command.MaskClass.{MaskClass}
-use Rattle.ckd_core.specs.declared.command.MaskClass.TheVariants.{Plain, Seek, SeekCylinder, SeekHead, Recalibrate, WriteHome, WriteFormat, WriteUpdate}
+use Rattle.ckd_core.specs.declared.command.MaskClass.TheVariants.{Plain, Seek, SeekCylinder, SeekHead, Recalibrate, WriteHome, WriteFormat, WriteUpdate, SetMask}
 
 -- an entry of the table; the name is ASCII text
 pub record Entry : Type 0 where
@@ -16,7 +16,7 @@ pub record Entry : Type 0 where
 abbrev entry : ℕ → List ℕ → Kind → MaskClass → Entry
 entry code name kind class = record { code = code; name = name; kind = kind; class = class }
 
--- five control commands, and Sense
+-- six control commands, and Sense
 abbrev pub control_commands : List Entry
 control_commands =
     entry 0x03 (codes "no-operation") Idle Plain ∷
@@ -24,6 +24,7 @@ control_commands =
     entry 0x0B (codes "seek-cylinder") Outward SeekCylinder ∷
     entry 0x1B (codes "seek-head") Outward SeekHead ∷
     entry 0x13 (codes "recalibrate") Idle Recalibrate ∷
+    entry 0x1F (codes "set-file-mask") Outward SetMask ∷
     entry 0x04 (codes "sense") Inward Plain ∷
     []
 
@@ -75,7 +76,7 @@ write_commands =
     entry 0x0D (codes "write-key-data") Outward WriteUpdate ∷
     []
 
--- thirty-nine codes: five control, one sense, fourteen search, twelve read, seven write
+-- forty codes: six control, one sense, fourteen search, twelve read, seven write
 unfoldable pub table : List Entry
 table = control_commands ++ search_commands ++ read_commands ++ write_commands
 
@@ -98,7 +99,9 @@ class_is_seek Recalibrate = false
 class_is_seek WriteHome = false
 class_is_seek WriteFormat = false
 class_is_seek WriteUpdate = false
+class_is_seek SetMask = false
 
+-- Recalibrate
 abbrev pub class_recalibrates : MaskClass → Bool
 class_recalibrates Recalibrate = true
 class_recalibrates Plain = false
@@ -108,6 +111,19 @@ class_recalibrates SeekHead = false
 class_recalibrates WriteHome = false
 class_recalibrates WriteFormat = false
 class_recalibrates WriteUpdate = false
+class_recalibrates SetMask = false
+
+-- Set File Mask
+abbrev pub class_sets_mask : MaskClass → Bool
+class_sets_mask SetMask = true
+class_sets_mask Plain = false
+class_sets_mask Seek = false
+class_sets_mask SeekCylinder = false
+class_sets_mask SeekHead = false
+class_sets_mask Recalibrate = false
+class_sets_mask WriteHome = false
+class_sets_mask WriteFormat = false
+class_sets_mask WriteUpdate = false
 
 -- whether the class of a command that was looked up passes a test; a code of no command passes none
 abbrev pub class_passes : (MaskClass → Bool) → Option Entry → Bool
@@ -121,3 +137,7 @@ is_seek code = class_passes class_is_seek (lookup code)
 -- the code is that of Recalibrate
 unfoldable pub recalibrates : ℕ → Bool
 recalibrates code = class_passes class_recalibrates (lookup code)
+
+-- the code is that of Set File Mask
+unfoldable pub sets_mask : ℕ → Bool
+sets_mask code = class_passes class_sets_mask (lookup code)

@@ -36,6 +36,8 @@ pub enum MaskClass {
     WriteFormat,
     /// Writes into a record that stands.
     WriteUpdate,
+    /// Set File Mask, which no mask inhibits.
+    SetMask,
 }
 
 /// A command of the table.
@@ -77,16 +79,24 @@ impl Command {
     }
 }
 
-/// The command with this code, or `None` where the table has none. It takes a few comparisons and no memory.
+/// The command with this code, or `None` where the table has none. It takes a few comparisons and
+/// no memory.
 ///
-/// The table is that of the component descriptions of the 2841 with the 2311, and of the 2314, without the commands that this project leaves out.
+/// The table is that of the component descriptions of the 2841 with the 2311, and of the 2314,
+/// without the commands that this project leaves out.
 pub fn lookup(code: u8) -> Option<Command>
     ensures { option_map entry_of result ≡ table.lookup code }
 {
-    control(code)
-        .or(search(code))
-        .or(read(code))
-        .or(write(code))
+    if let Some(command) = control(code) {
+        return Some(command);
+    }
+    if let Some(command) = search(code) {
+        return Some(command);
+    }
+    if let Some(command) = read(code) {
+        return Some(command);
+    }
+    write(code)
 }
 
 fn control(code: u8) -> Option<Command>
@@ -98,6 +108,7 @@ fn control(code: u8) -> Option<Command>
         0x0B => ("seek-cylinder", Kind::Outward, MaskClass::SeekCylinder),
         0x1B => ("seek-head", Kind::Outward, MaskClass::SeekHead),
         0x13 => ("recalibrate", Kind::Idle, MaskClass::Recalibrate),
+        0x1F => ("set-file-mask", Kind::Outward, MaskClass::SetMask),
         0x04 => ("sense", Kind::Inward, MaskClass::Plain),
         _ => return None,
     };

@@ -2,7 +2,7 @@
 
 ghost use Rattle.std.specs.Prelude.{◌≡◌, ◌↔◌, true, IsSome, IfSome};
 ghost use Rattle.ckd_core.specs.Entries.{entry_of};
-ghost use Rattle.ckd_core.specs.Mask.{inhibits_class, is_mask};
+ghost use Rattle.ckd_core.specs.Mask.{StrictnessIsByClass, inhibits_class, is_at_least, is_mask};
 
 use crate::command::{Command, MaskClass};
 use std::marker::Model;
@@ -12,6 +12,17 @@ const WRITES: u8 = 0xC0;
 
 /// The bits that decide over seeks.
 const SEEKS: u8 = 0x18;
+
+/// The classes of commands that some mask inhibits.
+const INHIBITABLE: [MaskClass; 7] = [
+    MaskClass::Seek,
+    MaskClass::SeekCylinder,
+    MaskClass::SeekHead,
+    MaskClass::Recalibrate,
+    MaskClass::WriteHome,
+    MaskClass::WriteFormat,
+    MaskClass::WriteUpdate,
+];
 
 /// A file mask: one byte, of which the bits `C0` decide over writes and the bits `18` over seeks.
 ///
@@ -23,7 +34,8 @@ const SEEKS: u8 = 0x18;
 /// | `C0` | none | `18` | Seek, Recalibrate, SeekCylinder, SeekHead |
 ///
 /// The bits are those of the component descriptions of the 2841 with the 2311, and of the 2314.
-/// It is this project's choice that a mask has no other bit, that Recalibrate counts as Seek and Erase as a formatting write.
+/// It is this project's choice that a mask has no other bit, that Recalibrate counts as Seek and
+/// Erase as a formatting write.
 #[derive(Clone, Copy, PartialEq, Eq, Debug)]
 pub struct FileMask {
     byte: u8,
@@ -67,11 +79,30 @@ impl FileMask {
     pub fn inhibits(&self, command: Command) -> bool
         ensures { result ≡ inhibits_class self.now (entry_of command).class }
     {
+        self.inhibits_class(command.class())
+    }
+
+    /// Whether the mask is at least as strict as another: whether it inhibits every class of
+    /// commands that the other inhibits. It takes no memory.
+    ///
+    /// From lax to strict, the bits `C0` are `C0`, `00`, `80`, `40`, and the bits `18` are `00`,
+    /// `08`, `10`, `18`.
+    pub fn at_least(&self, than: FileMask) -> bool
+        ensures { result ≡ is_at_least self.now than }
+    {
+        // This tells the prover that the byte of a mask is a mask.
+        let FileMask { byte: _byte } = *self;
+        INHIBITABLE.iter().all(|class| !than.inhibits_class(*class) || self.inhibits_class(*class))
+    }
+
+    fn inhibits_class(&self, class: MaskClass) -> bool
+        ensures { result ≡ inhibits_class self.now class }
+    {
         let FileMask { byte } = *self;
         let writes = byte & WRITES;
         let seeks = byte & SEEKS;
-        match command.class() {
-            MaskClass::Plain => false,
+        match class {
+            MaskClass::Plain | MaskClass::SetMask => false,
             MaskClass::Seek | MaskClass::Recalibrate => seeks != 0x00,
             MaskClass::SeekCylinder => seeks == 0x10 || seeks == 0x18,
             MaskClass::SeekHead => seeks == 0x18,
@@ -81,3 +112,9 @@ impl FileMask {
         }
     }
 }
+
+/// A law: a byte is at least as strict as a mask exactly where it is a mask itself and inhibits each
+/// class of commands that the other inhibits.
+fn strictness_is_by_class()
+    ensures { StrictnessIsByClass }
+{}

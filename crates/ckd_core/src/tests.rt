@@ -38,6 +38,7 @@ fn controls_and_writes(rt: HostRuntime) {
         (0x11, "erase", MaskClass::WriteFormat),
         (0x05, "write-data", MaskClass::WriteUpdate),
         (0x0D, "write-key-data", MaskClass::WriteUpdate),
+        (0x1F, "set-file-mask", MaskClass::SetMask),
     ] {
         expect_command(&rt, code, name, Kind::Outward, class);
     }
@@ -80,9 +81,9 @@ fn searches_and_reads(rt: HostRuntime) {
 #[test]
 fn outside_the_table(rt: HostRuntime) {
     let inside = (0..=255u8).filter(|code| lookup(*code).is_some()).count();
-    assert_eq!(rt; inside, 39);
+    assert_eq!(rt; inside, 40);
     for (code, name) in [
-        (0x1F, "Set File Mask"),
+        (0x9F, "Set File Mask, multi-track"),
         (0x02, "Read IPL"),
         (0x17, "Restore"),
         (0x0F, "Space Count"),
@@ -159,6 +160,36 @@ fn mask_bits(rt: HostRuntime) {
         assert_eq!(rt; FileMask::new(byte), None, "{byte:02X}");
     }
     assert_eq!(rt; FileMask::new(0xD8).map(|mask| mask.byte()), Some(0xD8));
+}
+
+/// Pairs of masks, and whether the first is at least as strict as the second.
+static STRICTNESS: &[(u8, u8, bool)] = &[
+    (0x40, 0x80, true),
+    (0x80, 0x80, true),
+    (0x98, 0x80, true),
+    (0x00, 0x80, false),
+    (0xC0, 0x80, false),
+    (0x00, 0xC0, true),
+    (0x80, 0x00, true),
+    (0x40, 0x00, true),
+    (0x00, 0x08, false),
+    (0x10, 0x08, true),
+    (0x18, 0x10, true),
+    (0x10, 0x18, false),
+    (0x58, 0x00, true),
+    (0x48, 0xD0, false),
+    (0x98, 0x40, false),
+];
+
+#[test]
+fn mask_strictness(rt: HostRuntime) {
+    for (byte, than, answer) in STRICTNESS {
+        let strict = match (FileMask::new(*byte), FileMask::new(*than)) {
+            (Some(mask), Some(than)) => Some(mask.at_least(than)),
+            _ => None,
+        };
+        assert_eq!(rt; strict, Some(*answer), "{byte:02X} beside {than:02X}");
+    }
 }
 
 #[test]

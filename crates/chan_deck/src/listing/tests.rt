@@ -70,7 +70,8 @@ fn deck(alloc: Global, start: &str, puts: &str) -> Result<Deck, Fail> {
     Ok(read_deck(alloc, text.as_bytes())?)
 }
 
-// Each function below that holds a job names the type of its storage, since the borrow checker asks for the type of what a job borrows.
+// Each function below that holds a job names the type of its storage, since the borrow checker asks
+// for the type of what a job borrows.
 
 fn places_of(alloc: Global, deck: &Deck) -> Result<Explored, Fail> {
     let job = deck.job();
@@ -263,5 +264,67 @@ fn listing_cut_off_at_each_byte(rt: HostRuntime) -> Result<(), Fail> {
     let (answer, taken) = cut_off(alloc, &deck, &places, whole.len());
     assert_eq!(rt; answer, Ok(()));
     assert_eq!(rt; taken.as_slice(), whole);
+    Ok(())
+}
+
+// Takes all bytes and notes how many came in each call.
+#[derive(Drop)]
+struct Counting {
+    pieces: Vec<usize>,
+    taken: Vec<u8>,
+}
+
+impl Write for Counting {
+    fn write(&mut self, buf: &[u8]) -> io::Result<usize> {
+        self.pieces.push(buf.len())?;
+        self.taken.extend_from_slice(buf)?;
+        Ok(buf.len())
+    }
+
+    fn flush(&mut self) -> io::Result<()> {
+        Ok(())
+    }
+}
+
+/// Idle commands, one behind the other, and their listing.
+fn idle_commands(alloc: Global, count: u8) -> Result<(String, String), Fail> {
+    let mut puts = String::new(alloc);
+    let mut listing = String::new(alloc);
+    for i in 0..count {
+        let address = hex::encode_upper(alloc, (0x800 + 8 * u32::from(i)).to_be_bytes())?;
+        let address = address.as_str().get(2..).ok_or("six digits")?;
+        let (flags, letters) = if i + 1 < count {
+            ("40", "-C---0")
+        } else {
+            ("00", "-----0")
+        };
+        let way = if i == 0 { "t" } else { "-" };
+        let put = format!(in alloc; "put {address} 03000000{flags}000001\n")?;
+        puts.push_str(put.as_str())?;
+        let row = format!(in alloc;
+            "{address} fresh {way} . 03 000000 {letters} 00 0001 control no-operation\n"
+        )?;
+        listing.push_str(row.as_str())?;
+    }
+    listing.push_str("yes\n")?;
+    Ok((puts, listing))
+}
+
+#[test]
+fn listing_in_pieces(rt: HostRuntime) -> Result<(), Fail> {
+    let alloc = rt.alloc();
+    let (puts, listing) = idle_commands(alloc, 150)?;
+    let deck = deck(alloc, "000800", puts.as_str())?;
+    let places = places_of(alloc, &deck)?;
+    let mut to = Watched::new(Counting {
+        pieces: Vec::new(alloc),
+        taken: Vec::new(alloc),
+    });
+    write_of(alloc, &deck, &places, Verdict::Yes, &mut to)?;
+    let Counting { pieces, taken } = to.into_inner();
+    assert_eq!(rt; taken.as_slice(), listing.as_bytes());
+    assert_eq!(rt; pieces.len(), 3);
+    assert!(rt; pieces[0] >= 4096 && pieces[0] < 4200);
+    assert!(rt; pieces[1] >= 4096 && pieces[1] < 4200);
     Ok(())
 }

@@ -13,7 +13,7 @@ use crate::reason::Reason;
 use crate::seek::argument_addresses;
 use crate::verdict::Verdict;
 use crate::visit::Visit;
-use cases::{FORMATS, GUARDED, MASKS, SEARCHES, SEEKS, STORAGE, TRANSFERS, USUAL};
+use cases::{FORMATS, GUARDED, MASKS, SEARCHES, SEEKS, SET_MASKS, STORAGE, TRANSFERS, USUAL};
 use ccw_core::{Area, Storage};
 use ckd_core::{Device, Extents, FileMask};
 use std::alloc::Global;
@@ -66,7 +66,8 @@ fn has_byte_in(bytes: &[u32], start: u32, len: u32) -> bool {
     false
 }
 
-/// The guarded bytes, one by one: those of each CCW, and those of each argument that a seek gathers.
+/// The guarded bytes, one by one: those of each CCW, those of each argument that a seek gathers, and
+/// each that Set File Mask sets.
 fn guarded_bytes(
     alloc: Global,
     job: &Job,
@@ -82,10 +83,17 @@ fn guarded_bytes(
         for offset in 0..8u32 {
             ccws.push(place.address.saturating_add(offset))?;
         }
-        if Visit::new(place, word).begins_seek() && fault_at(job, place).is_none() {
+        if fault_at(job, place).is_some() {
+            continue;
+        }
+        let visit = Visit::new(place, word);
+        if visit.begins_seek() {
             if let Some(addresses) = argument_addresses(&job.storage, place.address) {
                 arguments.extend_from_slice(&addresses)?;
             }
+        }
+        if visit.begins_set_mask() {
+            arguments.push(word.address())?;
         }
     }
     Ok((ccws, arguments))
@@ -145,6 +153,11 @@ fn storage(rt: HostRuntime) -> Result<(), Fail> {
 #[test]
 fn masks(rt: HostRuntime) -> Result<(), Fail> {
     expect_verdicts(&rt, rt.alloc(), &MASKS)
+}
+
+#[test]
+fn set_masks(rt: HostRuntime) -> Result<(), Fail> {
+    expect_verdicts(&rt, rt.alloc(), &SET_MASKS)
 }
 
 #[test]

@@ -1,7 +1,7 @@
 //! What the words of the command line ask for.
 
 use super::{Request, read_request};
-use crate::run::Action;
+use chan_run::Action;
 use std::alloc::Global;
 use std::test::Fail;
 

@@ -3,7 +3,7 @@ use Rattle.std.specs.Prelude.{codes}
 use Rattle.std.specs.List.{flat_map}
 use Rattle.ccw_core.specs.declared.areas.Area.{Area}
 use Rattle.chan_deck.specs.Item.{area_digits, line, text, header, device, mask, start, fetch, store, storage, end}
-use Rattle.chan_deck.specs.Image.{Image, Spells, extent_of, puts}
+use Rattle.chan_deck.specs.Image.{Image, Spells, extent_of, header_of, limit_line, puts}
 use Rattle.chan_deck.specs.Held.{image_held}
 use Rattle.chan_deck.proofs.WriteLemmas.{fetch_text, store_text, spelling_parts}
 use Rattle.chan_deck.proofs.writing.write_deck.Goals as goal
@@ -11,7 +11,7 @@ use Rattle.chan_deck.proofs.writing.write_deck.Goals as goal
 pub returns : goal.returns
 returns c =
     let it = image_held c.deck.inside in
-    let heading = λ (d : Image). text (map line (header ∷ device d.device ∷ mask d.mask ∷ start d.start ∷ [])) in
+    let heading = λ (d : Image). text (map line (header (header_of d.version) ∷ device d.device ∷ mask d.mask ∷ start d.start ∷ limit_line d.version)) in
     let extents = text (map line (map extent_of it.extents)) in
     let fetches = text (map line (map fetch it.fetch)) in
     let stores = text (map line (map store it.store)) in

@@ -1,11 +1,13 @@
-use Rattle.std.proofs.Common.{◌≡◌, refl, sym, ap, subst}
+use Rattle.std.proofs.Common.{◌≡◌, true, refl, sym, ap, subst}
 use Rattle.ckd_core.specs.Cylinders.{AreExtents}
+use Rattle.ckd_core.specs.Mask.{is_mask}
 use Rattle.chan_walk.specs.declared.job.Job.{Job}
 use Rattle.chan_walk.specs.declared.verdict.Verdict.{Verdict}
 use Rattle.chan_walk.specs.declared.verdict.Verdict.TheVariants.{Yes, No}
 use Rattle.chan_walk.specs.Alarm.{IsProper, NoFalseAlarm}
 use Rattle.chan_walk.specs.Answers.{CoversEveryRun, IsShown}
 use Rattle.chan_walk.specs.Headline.{YesIsSafe}
+use Rattle.chan_walk.specs.Job.{HasMask}
 use Rattle.chan_walk.specs.Least.{AreReached}
 use Rattle.chan_walk.specs.Look.{AreLooks, places_of_looks}
 use Rattle.chan_walk.specs.Verdict.{IsVerdict}
@@ -23,11 +25,13 @@ returns-clause-verdict c =
     let same = sym c.as_slice.ensures.value in
     c.in_ok-verdict.ensures j (subst (AreLooks j) same found.looks) (subst (AreReached j) (ap places_of_looks same) (reached_all j c.in_ok-looks.field-0 found))
 
-covers : (j : Job) (v : Verdict) → YesIsSafe → IsVerdict j v → CoversEveryRun j v
-covers j v law h e = law j (subst (λ (w : Verdict). IsVerdict j w) e h)
+covers : (j : Job) (v : Verdict) → HasMask j → YesIsSafe → IsVerdict j v → CoversEveryRun j v
+covers j v mask law h e = law j mask (subst (λ (w : Verdict). IsVerdict j w) e h)
 
 pub returns-clause-safe : goal.returns-clause-safe
-returns-clause-safe c = covers c.args.job.now c.in_ok-verdict.verdict c.yes_is_safe.ensures (returns-clause-verdict c)
+returns-clause-safe c =
+    let mask = subst (λ n. is_mask n ≡ true) c.byte-mask.ensures.value c.byte-mask.ensures.mask in
+    covers c.args.job.now c.in_ok-verdict.verdict mask c.yes_is_safe.ensures (returns-clause-verdict c)
 
 shown : (j : Job) (v : Verdict) → IsProper j → NoFalseAlarm → IsVerdict j v → IsShown j v
 shown j Yes proper law h = tt
@@ -36,7 +40,8 @@ shown j (No a r) proper law h = law j a r proper h
 pub returns-clause-shown : goal.returns-clause-shown
 returns-clause-shown c =
     let extents = subst AreExtents c.pairs-extents.ensures.value c.pairs-extents.ensures.right in
-    shown c.args.job.now c.in_ok-verdict.verdict (extents, c.args.job.now.storage.fits) c.no_false_alarm.ensures (returns-clause-verdict c)
+    let mask = subst (λ n. is_mask n ≡ true) c.byte-mask.ensures.value c.byte-mask.ensures.mask in
+    shown c.args.job.now c.in_ok-verdict.verdict (extents, c.args.job.now.storage.fits, mask) c.no_false_alarm.ensures (returns-clause-verdict c)
 
 -- where one verdict is yes, so is every other
 only_yes : (j : Job) (v : Verdict) → IsVerdict j v → IsVerdict j Yes → v ≡ Yes
@@ -46,7 +51,8 @@ only_yes j (No a r) h y = absurd (y h.0.place r h.0.reached h.0.offends)
 pub returns-clause-exact : goal.returns-clause-exact
 returns-clause-exact c safe steady =
     let extents = subst AreExtents c.pairs-extents.ensures.value c.pairs-extents.ensures.right in
-    only_yes c.args.job.now c.in_ok-verdict.verdict (returns-clause-verdict c) (c.safe_is_yes.ensures c.args.job.now (extents, c.args.job.now.storage.fits) safe steady)
+    let mask = subst (λ n. is_mask n ≡ true) c.byte-mask.ensures.value c.byte-mask.ensures.mask in
+    only_yes c.args.job.now c.in_ok-verdict.verdict (returns-clause-verdict c) (c.safe_is_yes.ensures c.args.job.now (extents, c.args.job.now.storage.fits, mask) safe steady)
 
 pub returns-clause-places : goal.returns-clause-places
 returns-clause-places c =

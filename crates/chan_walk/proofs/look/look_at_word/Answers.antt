@@ -1,4 +1,5 @@
 use Rattle.std.proofs.Common.{◌≡◌, ◌≤◌, ◌<◌, ◌^◌, Option, None, Some, length, sym, ap, ◌∙◌, subst}
+use Rattle.ccw_core.specs.Ccw.{Fields}
 use Rattle.ccw_core.proofs.StorageLemmas.{ccw_at-some}
 use Rattle.chan_walk.specs.declared.look.Argument.{Argument}
 use Rattle.chan_walk.specs.declared.place.Place.{Place}
@@ -58,7 +59,7 @@ returns-clause-look c =
       | in-None-None w ↦
           let f = clear w.in-None-None.is-0 in
           subst P (sym w.argument-is) (
-            taken_none j v.place v.word addresses sought w.in-None-None.is-1,
+            subst (IsTaken j v.place) (sym w.mask_argument.ensures.addresses) (taken_none j v.place v.word addresses w.mask_argument.ensures.low f sought w.in-None-None.is-1),
             next_clear j v.place v.word w.go_on-in-None-None.result sought.word f w.go_on-in-None-None.ensures.next w.go_on-in-None-None.ensures.skip,
           )
       | in-Some-default w ↦

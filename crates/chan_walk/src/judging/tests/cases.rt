@@ -183,7 +183,7 @@ pub(super) static TRANSFERS: [Case<'static>; 4] = [
     },
 ];
 
-pub(super) static FORMATS: [Case<'static>; 8] = [
+pub(super) static FORMATS: [Case<'static>; 7] = [
     Case {
         name: "zero-count",
         puts: &[
@@ -232,15 +232,6 @@ pub(super) static FORMATS: [Case<'static>; 8] = [
         name: "idle-chain",
         puts: &[(0x800, 0x0300_0000_8000_0001)],
         verdict: Verdict::Yes,
-        ..USUAL
-    },
-    Case {
-        name: "outside-the-table/set-file-mask",
-        puts: &[(0x800, 0x1F00_0900_0000_0001)],
-        verdict: Verdict::No {
-            address: 0x800,
-            reason: Reason::NotInTable,
-        },
         ..USUAL
     },
     Case {
@@ -546,6 +537,167 @@ pub(super) static MASKS: [Case<'static>; 19] = [
             (0x900, 0x0000_000A_0000_0000),
         ],
         verdict: Verdict::Yes,
+        ..USUAL
+    },
+];
+
+pub(super) static SET_MASKS: [Case<'static>; 13] = [
+    Case {
+        name: "set-mask-alone",
+        puts: &[(0x800, 0x1F00_0900_0000_0001)],
+        verdict: Verdict::Yes,
+        ..USUAL
+    },
+    Case {
+        name: "set-mask-strictness/40",
+        mask: 0x80,
+        puts: &[
+            (0x800, 0x1F00_0900_4000_0001),
+            (0x808, 0x0500_0900_0000_0008),
+            (0x900, 0x4000_0000_0000_0000),
+        ],
+        verdict: Verdict::Yes,
+        ..USUAL
+    },
+    Case {
+        name: "set-mask-strictness/80",
+        mask: 0x80,
+        puts: &[
+            (0x800, 0x1F00_0900_4000_0001),
+            (0x808, 0x0500_0900_0000_0008),
+            (0x900, 0x8000_0000_0000_0000),
+        ],
+        verdict: Verdict::Yes,
+        ..USUAL
+    },
+    Case {
+        name: "set-mask-strictness/98",
+        mask: 0x80,
+        puts: &[
+            (0x800, 0x1F00_0900_4000_0001),
+            (0x808, 0x0500_0900_0000_0008),
+            (0x900, 0x9800_0000_0000_0000),
+        ],
+        verdict: Verdict::Yes,
+        ..USUAL
+    },
+    Case {
+        name: "set-mask-strictness/00",
+        mask: 0x80,
+        puts: &[
+            (0x800, 0x1F00_0900_4000_0001),
+            (0x808, 0x0500_0900_0000_0008),
+            (0x900, 0x0000_0000_0000_0000),
+        ],
+        verdict: Verdict::No {
+            address: 0x800,
+            reason: Reason::WeakensMask,
+        },
+        ..USUAL
+    },
+    Case {
+        name: "set-mask-strictness/C0",
+        mask: 0x80,
+        puts: &[
+            (0x800, 0x1F00_0900_4000_0001),
+            (0x808, 0x0500_0900_0000_0008),
+            (0x900, 0xC000_0000_0000_0000),
+        ],
+        verdict: Verdict::No {
+            address: 0x800,
+            reason: Reason::WeakensMask,
+        },
+        ..USUAL
+    },
+    Case {
+        name: "set-mask-strictness/81",
+        mask: 0x80,
+        puts: &[
+            (0x800, 0x1F00_0900_4000_0001),
+            (0x808, 0x0500_0900_0000_0008),
+            (0x900, 0x8100_0000_0000_0000),
+        ],
+        verdict: Verdict::No {
+            address: 0x800,
+            reason: Reason::WeakensMask,
+        },
+        ..USUAL
+    },
+    Case {
+        name: "set-mask-strictness/of-seeks",
+        mask: 0x10,
+        puts: &[
+            (0x800, 0x1F00_0900_0000_0001),
+            (0x900, 0x0800_0000_0000_0000),
+        ],
+        verdict: Verdict::No {
+            address: 0x800,
+            reason: Reason::WeakensMask,
+        },
+        ..USUAL
+    },
+    Case {
+        name: "set-mask-strictness/first-byte-alone",
+        mask: 0x80,
+        puts: &[
+            (0x800, 0x1F00_0900_8000_0001),
+            (0x808, 0x0000_0901_8000_0003),
+            (0x810, 0x0000_0904_0000_0001),
+            (0x900, 0x40C0_8100_FF00_0000),
+        ],
+        verdict: Verdict::Yes,
+        ..USUAL
+    },
+    Case {
+        name: "set-mask-strictness/chained-byte-not-lent",
+        mask: 0x80,
+        puts: &[
+            (0x800, 0x1F00_0900_8000_0001),
+            (0x808, 0x0000_0910_0000_0001),
+            (0x900, 0x4000_0000_0000_0000),
+        ],
+        verdict: Verdict::No {
+            address: 0x808,
+            reason: Reason::FetchNotLent,
+        },
+        ..USUAL
+    },
+    Case {
+        name: "set-mask-guarded",
+        store: &[Area {
+            start: 0x900,
+            len: 1,
+        }],
+        puts: &[
+            (0x800, 0x0600_0900_4000_0001),
+            (0x808, 0x1F00_0900_0000_0001),
+        ],
+        verdict: Verdict::No {
+            address: 0x800,
+            reason: Reason::ChangesArgument,
+        },
+        ..USUAL
+    },
+    Case {
+        name: "set-mask-guarded/the-byte-after",
+        store: &[Area {
+            start: 0x901,
+            len: 2,
+        }],
+        puts: &[
+            (0x800, 0x0600_0901_4000_0002),
+            (0x808, 0x1F00_0900_0000_0003),
+        ],
+        verdict: Verdict::Yes,
+        ..USUAL
+    },
+    Case {
+        name: "set-mask-not-lent",
+        puts: &[(0x800, 0x1F00_0910_0000_0001)],
+        verdict: Verdict::No {
+            address: 0x800,
+            reason: Reason::FetchNotLent,
+        },
         ..USUAL
     },
 ];

@@ -1,0 +1,69 @@
+-- Addresses of six, seven and eight digits, digit by digit and byte by byte.
+use Rattle.std.proofs.Common.{◌≡◌, ℕ, ◌/◌, ◌%◌, ◌^◌, ◌<◌, ◌≤◌, List, [], ◌∷◌, ◌++◌, ◌∙◌, get_or, slice_index, refl, sym, ap, arith, encode_utf8}
+use Rattle.std.specs.Int.{w32, to_be_bytes, bytes_high_first}
+use Rattle.std.proofs.lemmas.Bool.{le-ltb, lt-ltb}
+use Rattle.std.proofs.lemmas.Str.{encode_ascii}
+use Rattle.hex.specs.Hex.{encode_upper, encode_with, upper_digits}
+use Rattle.chan_deck.specs.Item.{size_digits}
+use Rattle.chan_deck.specs.Texts.{address_text}
+use Rattle.chan_deck.proofs.UpperDigits.{digit_ascii}
+
+-- the digits of a byte, as characters
+pub two_digits : (b high low : ℕ) → high ≡ b / 16 → low ≡ b % 16
+    → encode_utf8 (slice_index upper_digits high) ++ encode_utf8 (slice_index upper_digits low) ≡ encode_upper (b ∷ [])
+unfolding encode_with
+two_digits b high low h l =
+    let first = encode_ascii (slice_index upper_digits high) (digit_ascii high) in
+    let second = encode_ascii (slice_index upper_digits low) (digit_ascii low) in
+    rw (first, second, h, l) refl
+
+first_digit : (n : ℕ) → n < 2 ^ 28 → size_digits n ≡ slice_index upper_digits (n / 16777216) ∷ encode_upper (bytes_high_first 3 n)
+unfolding encode_with
+first_digit n lt =
+    let first : n / 16777216 % 256 % 16 ≡ n / 16777216 = omega arith in
+    ap (λ k. slice_index upper_digits k ∷ encode_upper (bytes_high_first 3 n)) first
+
+six_digits : (n : ℕ) → n < 2 ^ 24 → address_text n ≡ encode_upper (bytes_high_first 3 n)
+six_digits n low = rw (lt-ltb n (2 ^ 24) low) refl
+
+seven_digits : (n : ℕ) → 2 ^ 24 ≤ n → n < 2 ^ 28 → address_text n ≡ slice_index upper_digits (n / 16777216) ∷ encode_upper (bytes_high_first 3 n)
+seven_digits n low high = rw (le-ltb n (2 ^ 24) low, lt-ltb n (2 ^ 28) high) (first_digit n high)
+
+eight_digits : (n : ℕ) → 2 ^ 28 ≤ n → address_text n ≡ encode_upper (to_be_bytes w32 n)
+eight_digits n high =
+    let past : 2 ^ 24 ≤ n = omega arith in
+    rw (le-ltb n (2 ^ 24) past, le-ltb n (2 ^ 28) high) refl
+
+-- the last six digits of four bytes
+abbrev last_six : List ℕ → List ℕ
+last_six bytes = encode_upper (get_or bytes 1 0 ∷ []) ++ (encode_upper (get_or bytes 2 0 ∷ []) ++ encode_upper (get_or bytes 3 0 ∷ []))
+
+last_digits : (n : ℕ) → last_six (to_be_bytes w32 n) ≡ encode_upper (bytes_high_first 3 n)
+unfolding encode_with
+last_digits n = refl
+
+all_digits : (n : ℕ) → encode_upper (get_or (to_be_bytes w32 n) 0 0 ∷ []) ++ last_six (to_be_bytes w32 n) ≡ encode_upper (to_be_bytes w32 n)
+unfolding encode_with
+all_digits n = refl
+
+-- an address whose first byte is zero
+pub short_address : (n : ℕ) (bytes : List ℕ) → bytes ≡ to_be_bytes w32 n → n < 2 ^ 32 → get_or bytes 0 0 ≡ 0 → last_six bytes ≡ address_text n
+short_address n bytes e lt z =
+    let first : n / 16777216 % 256 ≡ 0 = ap (λ b. get_or b 0 0) (sym e) ∙ z in
+    ap last_six e ∙ last_digits n ∙ sym (six_digits n (omega arith))
+
+-- one whose first byte has one digit
+pub middle_address : (n : ℕ) (bytes : List ℕ) (k : ℕ) → bytes ≡ to_be_bytes w32 n → n < 2 ^ 32 → (0 < get_or bytes 0 0) × (get_or bytes 0 0 < 16) → k ≡ get_or bytes 0 0
+    → encode_utf8 (slice_index upper_digits k) ++ last_six bytes ≡ address_text n
+middle_address n bytes k e lt some h =
+    let first : get_or bytes 0 0 ≡ n / 16777216 % 256 = ap (λ b. get_or b 0 0) e in
+    let digit : k ≡ n / 16777216 = omega (arith, h, first) in
+    ap (λ t. t ++ last_six bytes) (encode_ascii (slice_index upper_digits k) (digit_ascii k)) ∙ ap (λ j. slice_index upper_digits j ∷ last_six bytes) digit
+    ∙ ap (λ t. slice_index upper_digits (n / 16777216) ∷ t) (ap last_six e ∙ last_digits n) ∙ sym (seven_digits n (omega (arith, some.0, first)) (omega (arith, some.1, first)))
+
+-- one whose first byte has two
+pub long_address : (n : ℕ) (bytes : List ℕ) → bytes ≡ to_be_bytes w32 n → n < 2 ^ 32 → 16 ≤ get_or bytes 0 0
+    → encode_upper (get_or bytes 0 0 ∷ []) ++ last_six bytes ≡ address_text n
+long_address n bytes e lt some =
+    let first : get_or bytes 0 0 ≡ n / 16777216 % 256 = ap (λ b. get_or b 0 0) e in
+    ap (λ b. encode_upper (get_or b 0 0 ∷ []) ++ last_six b) e ∙ all_digits n ∙ sym (eight_digits n (omega (arith, some, first)))

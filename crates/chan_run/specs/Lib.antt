@@ -1,0 +1,4 @@
+pub mod Show
+pub mod Input
+pub mod Run
+pub mod Report

@@ -1,0 +1,176 @@
+//! Running over a deck: from the reader's bytes to the writer's.
+
+ghost use Rattle.std.specs.Prelude.{◌≡◌, ◌↔◌, ◌⊎◌, false, true, IsErrOf, OnOk};
+ghost use Rattle.std.specs.Io.KnownBytes.{Appends};
+ghost use Rattle.ccw_core.specs.Written.{AppendsPrefix};
+ghost use Rattle.chan_deck.specs.Texts.{verdict_line};
+ghost use Rattle.chan_walk.specs.Answers.{HasAtMost};
+ghost use Rattle.chan_run.specs.Run.{BeginsToWrite, IsEarly, IsRunAnswer, IsTextAnswer, IsUnwritten, Writes, status_of_verdict};
+ghost use Rattle.chan_run.specs.declared.running.Action.TheVariants as actions;
+
+use crate::input::{InputError, read_input};
+use ccw_core::{Watched, write_out};
+use chan_deck::{Cause, DeckError, ListError, read_deck, verdict_text, write_listing};
+use chan_walk::{Job, Verdict, WalkError, explore, verify};
+use std::alloc::Global;
+use std::io::{Read, Write};
+use thiserror::Error;
+
+#[cfg(test)]
+mod tests;
+
+/// What a run does with the deck.
+#[derive(Clone, Copy, PartialEq, Eq, Debug)]
+pub enum Action {
+    /// Writes the line of the verdict.
+    Verify,
+    /// Writes a row for each reachable place, and then the line of the verdict.
+    List,
+}
+
+/// What a verdict was.
+#[derive(Clone, Copy, PartialEq, Eq, Debug)]
+pub enum Status {
+    /// The program may run.
+    Yes,
+    /// It may not.
+    No,
+}
+
+/// Why a run gave no verdict, or couldn't write it, in the order of the work.
+#[derive(Clone, Copy, PartialEq, Eq, Debug, Error)]
+pub enum RunError {
+    /// A read failed, before more than 67,108,864 bytes came.
+    #[error("read failed")]
+    Read,
+    /// More than 67,108,864 bytes came.
+    #[error("deck too long")]
+    TooLong,
+    /// The text is no deck.
+    #[error("deck line {line}")]
+    Deck { line: u64, cause: Cause },
+    /// More places of the deck's program are reachable than its limit.
+    #[error("too many places")]
+    TooManyPlaces,
+    /// A write failed.
+    #[error("write failed")]
+    Write,
+    /// Memory was wanting.
+    #[error("out of memory")]
+    Memory,
+}
+
+/// Reads a deck to the end of the input, verifies its job, and writes what the action asks for.
+///
+/// Nothing is written before the whole deck was judged: after `Read`, `TooLong`, `Deck` and
+/// `TooManyPlaces` nothing was written, and after `Write` a prefix of the text. After `Memory`
+/// nothing was written or, for `List` alone, a prefix. `Read` and `Write` come exactly where the
+/// device failed, and `Read` only before more than 67,108,864 bytes came. Over an endless reader it
+/// returns, with `TooLong`.
+pub fn run<R: Read, W: Write>(
+    alloc: Global,
+    action: Action,
+    from: &mut Watched<R>,
+    to: &mut Watched<W>,
+) -> Result<Status, RunError>
+    requires reader { from.old.failed ≡ false }
+    requires writer { to.old.failed ≡ false }
+    ensures answer { IsRunAnswer action (R.remaining from.old.device) (R.remaining from.new.device) (W.contents to.old.device) (W.contents to.new.device) result }
+    ensures early { IsEarly action result → to.new ≡ to.old }
+    ensures read { IsErrOf result RunError.Read ↔ (from.new.failed ≡ true) }
+    ensures write { IsErrOf result RunError.Write ↔ (to.new.failed ≡ true) }
+{
+    let text = match read_input(alloc, from) {
+        Ok(text) => text,
+        Err(InputError::Read) => return Err(RunError::Read),
+        Err(InputError::TooLong) => return Err(RunError::TooLong),
+        Err(InputError::Memory) => return Err(RunError::Memory),
+    };
+    answer(alloc, action, text.as_slice(), to)
+}
+
+/// Verifies the job of the deck that a text spells, and writes what the action asks for.
+fn answer<W: Write>(
+    alloc: Global,
+    action: Action,
+    text: &[u8],
+    to: &mut Watched<W>,
+) -> Result<Status, RunError>
+    requires { to.old.failed ≡ false }
+    ensures answer { IsTextAnswer action text.now (W.contents to.old.device) (W.contents to.new.device) result }
+    ensures early { IsEarly action result → to.new ≡ to.old }
+    ensures read { IsErrOf result RunError.Read → ⊥ }
+    ensures write { IsErrOf result RunError.Write ↔ (to.new.failed ≡ true) }
+{
+    let deck = match read_deck(alloc, text) {
+        Ok(deck) => deck,
+        Err(DeckError::At { line, cause }) => return Err(RunError::Deck { line, cause }),
+        Err(DeckError::Memory) => return Err(RunError::Memory),
+    };
+    let job = deck.job();
+    let verdict = match verify(alloc, &job) {
+        Ok(verdict) => verdict,
+        Err(WalkError::TooManyPlaces) => return Err(RunError::TooManyPlaces),
+        Err(WalkError::Memory) => return Err(RunError::Memory),
+    };
+    match write_output(alloc, action, &job, verdict, to) {
+        Ok(()) => Ok(status_of(verdict)),
+        Err(ListError::Write) => Err(RunError::Write),
+        Err(ListError::Memory) => Err(RunError::Memory),
+    }
+}
+
+/// Writes what the action asks for of a job and its verdict.
+fn write_output<W: Write>(
+    alloc: Global,
+    action: Action,
+    job: &Job,
+    verdict: Verdict,
+    to: &mut Watched<W>,
+) -> Result<(), ListError>
+    requires writer { to.old.failed ≡ false }
+    requires few { HasAtMost job.now job.now.limit }
+    ensures ok { OnOk result (Writes action job.now verdict (W.contents to.old.device) (W.contents to.new.device)) }
+    ensures write { IsErrOf result ListError.Write ↔ (to.new.failed ≡ true) }
+    ensures cut_off { IsErrOf result ListError.Write → BeginsToWrite action job.now verdict (W.contents to.old.device) (W.contents to.new.device) }
+    ensures memory { IsErrOf result ListError.Memory → IsUnwritten (W.contents to.old.device) (W.contents to.new.device) ⊎ BeginsToWrite action job.now verdict (W.contents to.old.device) (W.contents to.new.device) }
+    ensures early { IsErrOf result ListError.Memory → action ≡ actions.Verify → to.new ≡ to.old }
+{
+    match action {
+        Action::Verify => write_verdict(alloc, verdict, to),
+        Action::List => {
+            let places = match explore(alloc, job) {
+                Ok(places) => places,
+                // the job was verified
+                Err(WalkError::TooManyPlaces) => unreachable!(),
+                Err(WalkError::Memory) => return Err(ListError::Memory),
+            };
+            write_listing(alloc, job, &places, verdict, to)
+        }
+    }
+}
+
+/// Writes the line of a verdict.
+fn write_verdict<W: Write>(
+    alloc: Global,
+    verdict: Verdict,
+    to: &mut Watched<W>,
+) -> Result<(), ListError>
+    requires { to.old.failed ≡ false }
+    ensures ok { OnOk result (Appends (W.contents to.old.device) (W.contents to.new.device) (verdict_line verdict)) }
+    ensures prefix { AppendsPrefix (W.contents to.old.device) (W.contents to.new.device) (verdict_line verdict) }
+    ensures write { IsErrOf result ListError.Write ↔ (to.new.failed ≡ true) }
+    ensures memory { IsErrOf result ListError.Memory → to.new ≡ to.old }
+{
+    let line = verdict_text(alloc, verdict)?;
+    Ok(write_out(line.as_bytes(), to)?)
+}
+
+fn status_of(verdict: Verdict) -> Status
+    ensures { result ≡ status_of_verdict verdict }
+{
+    match verdict {
+        Verdict::Yes => Status::Yes,
+        Verdict::No { .. } => Status::No,
+    }
+}

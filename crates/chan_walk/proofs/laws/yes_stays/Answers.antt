@@ -1,0 +1,5 @@
+use Rattle.chan_walk.proofs.Again.{yes_stays}
+use Rattle.chan_walk.proofs.laws.yes_stays.Goals as goal
+
+pub returns : goal.returns
+returns c = yes_stays

@@ -1,0 +1,73 @@
+-- The bytes of storage that count for a verdict; another storage that holds the same in them gets the
+-- same verdict.
+use Rattle.std.specs.Prelude.{◌≡◌, ℕ, ◌+◌, ◌<◌, ◌≤◌, true, List, length, ◌⊎◌, ◌↔◌}
+use Rattle.ccw_core.specs.declared.storage.Storage.{Storage}
+use Rattle.ccw_core.specs.Ccw.{byte, ccw, chains_data}
+use Rattle.ccw_core.specs.Held.{bytes_held}
+use Rattle.ccw_core.specs.Storage.{Stands}
+use Rattle.chan_walk.specs.declared.job.Job.{Job}
+use Rattle.chan_walk.specs.declared.place.Place.{Place}
+use Rattle.chan_walk.specs.declared.verdict.Verdict.{Verdict}
+use Rattle.chan_walk.specs.declared.verdict.Verdict.TheVariants.{Yes}
+use Rattle.chan_walk.specs.Argument.{is_part, Leads}
+use Rattle.chan_walk.specs.Fault.{begins_seek}
+use Rattle.chan_walk.specs.Guarded.{IsCcwByte, IsSeekByte, IsMaskByte, IsGuarded}
+use Rattle.chan_walk.specs.Headline.{EachMomentOfYes}
+use Rattle.chan_walk.specs.Job.{storage_of}
+use Rattle.chan_walk.specs.Place.{word_at}
+use Rattle.chan_walk.specs.Reachable.{IsReachable}
+use Rattle.chan_walk.specs.Verdict.{IsVerdict}
+
+-- data chaining leads from the CCW at a to the one at an address, in any number of steps
+pub data IsChained (s : List ℕ) (a : ℕ) : ℕ → Type 0 where
+  at_once : IsChained s a a
+  further : {b d : ℕ} → IsChained s a b → is_part s b ≡ true → chains_data (ccw s b) ≡ true →
+      Leads s b d → IsChained s a d
+
+-- the byte at b belongs to a CCW to which data chaining leads from a reachable seek
+pub record IsChainByte (j : Job) (b : ℕ) : Type 0 where
+  pub seek : Place
+  pub reached : IsReachable j seek
+  pub seeks : begins_seek seek (word_at j seek) ≡ true
+  pub at : ℕ
+  pub chained : IsChained (storage_of j) seek.address at
+  pub stands : Stands (storage_of j) at
+  pub from : at ≤ b
+  pub below : b < at + 8
+
+-- the byte at b is one that a reachable place takes: a seek as one of its six, or Set File Mask
+pub record IsTakenByte (j : Job) (b : ℕ) : Type 0 where
+  pub place : Place
+  pub reached : IsReachable j place
+  pub takes : IsSeekByte j place b ⊎ IsMaskByte j place b
+
+-- the byte at b counts: it belongs to a reachable CCW, to the data chain of a reachable seek, or to what
+-- a reachable place takes
+abbrev pub IsCounted : Job → ℕ → Type 0
+IsCounted j b = IsCcwByte j b ⊎ IsChainByte j b ⊎ IsTakenByte j b
+
+-- the same job over another storage
+abbrev pub with_storage : Job → Storage → Job
+with_storage j t = record j { storage = t }
+
+-- the storage of k is as long as that of j, and the same in each byte for which P holds
+pub record IsSameIn (P : ℕ → Type 0) (j k : Job) : Type 0 where
+  pub same_length : length (storage_of k) ≡ length (storage_of j)
+  pub same : (b : ℕ) → P b → byte (storage_of k) b ≡ byte (storage_of j) b
+
+-- over each other storage that is the same in the bytes that count, the same places are reachable and
+-- the verdict is the same
+abbrev pub SameVerdict : Type 0
+SameVerdict = (j : Job) (t : Storage) → IsSameIn (IsCounted j) j (with_storage j t) →
+    ((p : Place) → IsReachable j p ↔ IsReachable (with_storage j t) p)
+    × ((v : Verdict) → IsVerdict j v ↔ IsVerdict (with_storage j t) v)
+
+-- a yes depends on the guarded bytes alone
+abbrev pub YesByGuarded : Type 0
+YesByGuarded = (j : Job) (t : Storage) → IsVerdict j Yes → IsSameIn (IsGuarded j) j (with_storage j t) →
+    IsVerdict (with_storage j t) Yes
+
+-- so it stays yes over what storage holds at any moment of any run: the program may start again
+abbrev pub YesStays : Type 0
+YesStays = EachMomentOfYes (λ j m.
+    (t : Storage) → bytes_held t ≡ m.storage → IsVerdict (with_storage j t) Yes)

@@ -1,7 +1,0 @@
-use Rattle.std.proofs.Common.{Err, ap}
-use Rattle.chan_walk.specs.Explored.{place_limit}
-use Rattle.chanv.proofs.Places.{not_more}
-use Rattle.chanv.proofs.run.write_output.Goals as goal
-
-pub unreachable-requires : goal.unreachable-requires
-unreachable-requires g c = not_more c.args.job.now place_limit c.requires.few (c.in-Err-TooManyPlaces.ensures.many (ap Err c.in-Err-TooManyPlaces.field-0-is))

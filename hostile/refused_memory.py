@@ -1,0 +1,108 @@
+#!/usr/bin/env python3
+"""Refuses each growth of memory in turn, and looks at what the call answers.
+
+    hostile/refused_memory.py [CHANV [ONE_CALL]]
+
+CHANV and ONE_CALL are the two built programs; without them, those in out/ of their crates. Each call
+is made over its worked case: once with every growth granted, which has to give the case's answer;
+and then with the first growth refused, the second, and so on up to the last, each alone and each
+with all that come after it, which has to give want of memory and no other answer. The C compiler
+`cc` is needed. The last line is 'N passed, M failed'; the status is 0 if all passed, else 1.
+"""
+
+import os
+import subprocess
+import sys
+import tempfile
+
+HERE = os.path.dirname(os.path.abspath(__file__))
+ROOT = os.path.dirname(HERE)
+OUT_OF_MEMORY = b"chanv: out of memory\n"
+SEARCH_LOOP = open(f"{ROOT}/examples/search-loop.deck", "rb").read()
+LISTING = open(f"{ROOT}/examples/search-loop.list", "rb").read()
+CCW_LINE = b"06 000A00 --L--0 00 0050 read"
+FIRST_ROW = LISTING.split(b"\n")[0] + b"\n"
+
+# each call of the library, and what it answers over its worked case
+CALLS = [
+    ("ccw-text", CCW_LINE),
+    ("extents-new", b"1\n"),
+    ("explore", b"3\n"),
+    ("guard-new", b"3\n"),
+    ("verify", b"yes\n"),
+    ("read-deck", b"1\n"),
+    ("write-deck", SEARCH_LOOP),
+    ("verdict-text", b"yes\n"),
+    ("row-text", FIRST_ROW),
+    ("write-listing", LISTING),
+    ("show", CCW_LINE + b"\n"),
+    ("run-verify", b"yes\n"),
+    ("run-list", LISTING),
+]
+
+# each command of the program, its input, and what it writes
+COMMANDS = [
+    (["show", "06000A0020000050"], b"", CCW_LINE + b"\n"),
+    (["verify"], SEARCH_LOOP, b"yes\n"),
+    (["list"], SEARCH_LOOP, LISTING),
+]
+
+
+class Harness:
+    def __init__(self, room):
+        self.library = f"{room}/refuse_growth.so"
+        self.count = f"{room}/count"
+        self.passed = self.failed = 0
+        source = f"{HERE}/refuse_growth.c"
+        subprocess.run(["cc", "-O2", "-Wall", "-shared", "-fPIC", "-o", self.library, source, "-ldl"], check=True)
+
+    def run(self, words, given, refused=0, after=False):
+        """The status, the two streams, and how many growths were asked for."""
+        environment = {"LD_PRELOAD": self.library, "GROWTH_REFUSED": str(refused), "GROWTH_COUNT": self.count}
+        if after:
+            environment["GROWTH_AFTER"] = "1"
+        ran = subprocess.run(words, input=given, env=environment, capture_output=True)
+        return ran.returncode, ran.stdout, ran.stderr, int(open(self.count).read())
+
+    def expect(self, name, right, seen):
+        if right:
+            self.passed += 1
+        else:
+            self.failed += 1
+            print(f"FAILED {name}: {seen}")
+
+    def refuse_each(self, name, words, given, answer, complaint):
+        """Refuses each growth of a run that answers `answer`; gives how many there are.
+
+        `complaint` is what goes with want of memory. Only a listing may have begun by then.
+        """
+        *seen, growths = self.run(words, given)
+        self.expect(f"{name}, all granted", seen == [0, answer, b""], seen)
+        begun = answer if answer == LISTING else b""
+        for refused in range(1, growths + 1):
+            for after in (False, True):
+                status, output, error, _ = self.run(words, given, refused, after)
+                right = status == 3 and begun.startswith(output) and error == complaint
+                which = f"growth {refused} refused" + (", and all after it" if after else "")
+                self.expect(f"{name}, {which}", right, (status, output, error))
+        return growths
+
+
+def main():
+    chanv = sys.argv[1] if len(sys.argv) > 1 else f"{ROOT}/crates/chanv/out/chanv"
+    one_call = sys.argv[2] if len(sys.argv) > 2 else f"{ROOT}/crates/one_call/out/one_call"
+    with tempfile.TemporaryDirectory() as room:
+        harness = Harness(room)
+        for call, answer in CALLS:
+            before = harness.run([one_call, call, "setup"], b"")[3]
+            growths = harness.refuse_each(call, [one_call, call, "whole"], b"", answer, b"")
+            print(f"{call}: {growths - before} growths, {before} before the call")
+        for words, given, answer in COMMANDS:
+            growths = harness.refuse_each(" ".join(["chanv"] + words), [chanv] + words, given, answer, OUT_OF_MEMORY)
+            print(f"chanv {words[0]}: {growths} growths")
+    print(f"{harness.passed} passed, {harness.failed} failed")
+    return 1 if harness.failed else 0
+
+
+if __name__ == "__main__":
+    sys.exit(main())
