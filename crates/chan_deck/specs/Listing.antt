@@ -10,6 +10,7 @@ use Rattle.chan_walk.specs.declared.place.Entry.TheVariants.{Fresh, ChainIn, Cha
 use Rattle.chan_walk.specs.declared.place.Place.{Place}
 use Rattle.chan_walk.specs.declared.verdict.Verdict.{Verdict}
 use Rattle.chan_walk.specs.declared.verdict.Verdict.TheVariants.{Yes, No}
+use Rattle.chan_walk.specs.Look.{Seen}
 use Rattle.chan_walk.specs.Place.{is_fresh}
 use Rattle.chan_deck.specs.Texts.{address_text, verdict_line}
 
@@ -82,3 +83,11 @@ rows s v ps = flat_map (row_of s v) ps
 -- the whole listing
 abbrev pub listing : List ℕ → List Place → Verdict → List ℕ
 listing s ps v = rows s v ps ++ verdict_line v
+
+-- the row of what a look at a place showed
+abbrev pub seen_row : Verdict → Seen → List ℕ
+seen_row v l = row_with l.place l.ccw l.command (is_named v l.place.address)
+
+-- the listing of what was seen
+abbrev pub seen_listing : List Seen → Verdict → List ℕ
+seen_listing ls v = flat_map (seen_row v) ls ++ verdict_line v

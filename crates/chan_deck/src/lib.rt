@@ -31,7 +31,7 @@ mod writing;
 pub use crate::cause::Cause;
 pub use crate::deck::Deck;
 pub use crate::error::DeckError;
-pub use crate::listing::{ListError, row_text, write_listing};
+pub use crate::listing::{ListError, row_text, write_judged, write_listing};
 pub use crate::reading::read_deck;
 pub use crate::texts::verdict_text;
 pub use crate::writing::write_deck;

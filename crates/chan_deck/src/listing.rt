@@ -6,11 +6,12 @@ ghost use Rattle.std.specs.Io.KnownBytes.{Appends};
 ghost use Rattle.ccw_core.specs.Written.{AppendsPrefix};
 ghost use Rattle.ccw_core.specs.Storage.{ccw_at};
 ghost use Rattle.chan_deck.specs.Listing as list;
+ghost use Rattle.chan_deck.specs.Texts.{verdict_line};
 ghost use Rattle.chan_walk.specs.Job.{storage_of};
 
 use crate::texts::{Address, verdict_text};
 use ccw_core::{Ccw, DeviceFault, Watched, write_out};
-use chan_walk::{Entry, Explored, Job, Place, Verdict};
+use chan_walk::{Entry, Explored, Job, Judged, Place, Verdict};
 use ckd_core::{Command, lookup};
 use std::alloc::{AllocError, Global};
 use std::fmt::Write as _;
@@ -193,6 +194,50 @@ fn hand_over<W: Write>(piece: &mut String, to: &mut Watched<W>) -> Result<(), De
     Ok(())
 }
 
+/// Adds the row of a place to the text that is held back, and writes that once it is long enough.
+fn write_row<W: Write>(
+    alloc: Global,
+    piece: &mut String,
+    place: Place,
+    ccw: Option<Ccw>,
+    command: Option<Command>,
+    marked: bool,
+    to: &mut Watched<W>,
+) -> Result<(), ListError>
+    requires { to.old.failed ≡ false }
+    ensures ok { OnOk result ((sent : List ℕ)
+        × Appends (W.contents to.old.device) (W.contents to.new.device) sent
+        × (sent ++ string_bytes piece.new ≡ string_bytes piece.old ++ list.row_with place ccw (option_map entry_of command) marked)) }
+    ensures prefix { AppendsPrefix (W.contents to.old.device) (W.contents to.new.device)
+        (string_bytes piece.old ++ list.row_with place ccw (option_map entry_of command) marked) }
+    ensures write { IsErrOf result ListError.Write ↔ (to.new.failed ≡ true) }
+{
+    push_row(alloc, piece, place, ccw, command, marked)?;
+    hand_over(piece, to)?;
+    Ok(())
+}
+
+/// Writes what is held back, and then the line of the verdict.
+fn write_end<W: Write>(
+    alloc: Global,
+    piece: String,
+    verdict: Verdict,
+    to: &mut Watched<W>,
+) -> Result<(), ListError>
+    requires { to.old.failed ≡ false }
+    ensures ok { OnOk result (Appends (W.contents to.old.device) (W.contents to.new.device)
+        (string_bytes piece ++ verdict_line verdict)) }
+    ensures prefix { AppendsPrefix (W.contents to.old.device) (W.contents to.new.device)
+        (string_bytes piece ++ verdict_line verdict) }
+    ensures write { IsErrOf result ListError.Write ↔ (to.new.failed ≡ true) }
+{
+    let mut piece = piece;
+    let line = verdict_text(alloc, verdict)?;
+    piece.push_str(line.as_str())?;
+    write_out(piece.as_bytes(), to)?;
+    Ok(())
+}
+
 /// Writes a row for each of the places, in order, and then the line of the verdict. The rows whose
 /// address the verdict names are marked.
 ///
@@ -207,21 +252,47 @@ pub fn write_listing<W: Write>(
     to: &mut Watched<W>,
 ) -> Result<(), ListError>
     requires { to.old.failed ≡ false }
-    ensures ok { OnOk result (Appends (W.contents to.old.device) (W.contents to.new.device)
-        (list.listing (storage_of job.now) explored.now verdict)) }
-    ensures prefix { AppendsPrefix (W.contents to.old.device) (W.contents to.new.device)
-        (list.listing (storage_of job.now) explored.now verdict) }
+    ensures ok { OnOk result (Appends (W.contents to.old.device) (W.contents to.new.device) (list.listing (storage_of job.now) explored.now verdict)) }
+    ensures prefix { AppendsPrefix (W.contents to.old.device) (W.contents to.new.device) (list.listing (storage_of job.now) explored.now verdict) }
     ensures write { IsErrOf result ListError.Write ↔ (to.new.failed ≡ true) }
 {
     let mut piece = String::new(alloc);
     for place in explored.places() {
         let (ccw, command) = standing_at(job, place.address);
         let marked = is_named(verdict, place.address);
-        push_row(alloc, &mut piece, place, ccw, command, marked)?;
-        hand_over(&mut piece, to)?;
+        write_row(alloc, &mut piece, place, ccw, command, marked, to)?;
     }
-    let line = verdict_text(alloc, verdict)?;
-    piece.push_str(line.as_str())?;
-    write_out(piece.as_bytes(), to)?;
-    Ok(())
+    write_end(alloc, piece, verdict, to)
+}
+
+/// Writes the listing of a job that was judged: a row for each of its reachable places, in order,
+/// and then the line of its verdict. Nothing is looked at again.
+///
+/// What is written is what `write_listing` writes for the job, its reachable places and its verdict;
+/// so are the errors.
+pub fn write_judged<W: Write>(
+    alloc: Global,
+    judged: &Judged,
+    to: &mut Watched<W>,
+) -> Result<(), ListError>
+    requires { to.old.failed ≡ false }
+    ensures ok { OnOk result (Appends (W.contents to.old.device) (W.contents to.new.device) (list.seen_listing judged.now.looks judged.now.verdict)) }
+    ensures prefix { AppendsPrefix (W.contents to.old.device) (W.contents to.new.device) (list.seen_listing judged.now.looks judged.now.verdict) }
+    ensures write { IsErrOf result ListError.Write ↔ (to.new.failed ≡ true) }
+{
+    let mut piece = String::new(alloc);
+    for look in judged.looks() {
+        let place = look.place();
+        let marked = is_named(judged.verdict(), place.address);
+        write_row(
+            alloc,
+            &mut piece,
+            place,
+            look.ccw(),
+            look.command(),
+            marked,
+            to,
+        )?;
+    }
+    write_end(alloc, piece, judged.verdict(), to)
 }
