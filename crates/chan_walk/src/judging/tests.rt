@@ -13,9 +13,11 @@ use crate::reason::Reason;
 use crate::seek::argument_addresses;
 use crate::verdict::Verdict;
 use crate::visit::Visit;
-use cases::{FORMATS, GUARDED, MASKS, SEARCHES, SEEKS, SET_MASKS, STORAGE, TRANSFERS, TWO_FAULTS, USUAL};
+use cases::{
+    FORMATS, GUARDED, MASKS, SEARCHES, SEEKS, SET_MASKS, STORAGE, TRANSFERS, TWO_FAULTS, USUAL,
+};
 use ccw_core::{Area, Storage};
-use ckd_core::{Device, Extents, FileMask};
+use ckd_core::{Command, Device, Extents, FileMask};
 use std::alloc::Global;
 use std::process::Abort;
 use std::test::Fail;
@@ -87,6 +89,7 @@ fn guarded_bytes(
             continue;
         }
         let visit = Visit::new(place, word);
+        let _command: Option<Command> = visit.command;
         if visit.begins_seek() {
             if let Some(addresses) = argument_addresses(&job.storage, place.address) {
                 arguments.extend_from_slice(&addresses)?;
@@ -109,10 +112,14 @@ fn guards_agree(alloc: Global, job: &Job) -> Result<(), Fail> {
     let guard = Guard::new(alloc, job, &explored)?;
     let (ccws, arguments) = guarded_bytes(alloc, job, &explored)?;
     for place in explored.places() {
-        let word = match job.storage.ccw_at(place.address) {
-            Some(word) if Visit::new(place, word).stores() => word,
-            _ => continue,
+        let Some(word) = job.storage.ccw_at(place.address) else {
+            continue;
         };
+        let visit = Visit::new(place, word);
+        let _command: Option<Command> = visit.command;
+        if !visit.stores() {
+            continue;
+        }
         let (start, len) = (word.address(), u32::from(word.count()));
         if guard.meets_ccw(start, len) != has_byte_in(&ccws, start, len)
             || guard.meets_argument(start, len) != has_byte_in(&arguments, start, len)
