@@ -10,9 +10,8 @@ use Rattle.chan_walk.specs.declared.place.Entry.TheVariants.{Fresh, ChainIn, Cha
 use Rattle.chan_walk.specs.declared.place.Place.{Place}
 use Rattle.chan_walk.specs.declared.verdict.Verdict.{Verdict}
 use Rattle.chan_walk.specs.declared.verdict.Verdict.TheVariants.{Yes, No}
-use Rattle.chan_walk.specs.Place.{is_fresh}
-use Rattle.chan_walk.specs.Judged.{JudgedJob}
 use Rattle.chan_walk.specs.Look.{Seen}
+use Rattle.chan_walk.specs.Place.{is_fresh}
 use Rattle.chan_deck.specs.Texts.{address_text, verdict_line}
 
 -- how a CCW is entered: by a new operation, or by the data chain of one that stores, fetches or
@@ -85,14 +84,10 @@ rows s v ps = flat_map (row_of s v) ps
 abbrev pub listing : List ℕ → List Place → Verdict → List ℕ
 listing s ps v = rows s v ps ++ verdict_line v
 
--- the row of a place as it was seen, which is marked where the verdict names its address
+-- the row of what a look at a place showed
 abbrev pub seen_row : Verdict → Seen → List ℕ
 seen_row v l = row_with l.place l.ccw l.command (is_named v l.place.address)
 
--- the rows of what was seen
-abbrev pub seen_rows : Verdict → List Seen → List ℕ
-seen_rows v ls = flat_map (seen_row v) ls
-
--- the listing of a judged job, by what was seen of its places
-abbrev pub judged_listing : JudgedJob → List ℕ
-judged_listing d = seen_rows d.verdict d.looks ++ verdict_line d.verdict
+-- the listing of what was seen
+abbrev pub seen_listing : List Seen → Verdict → List ℕ
+seen_listing ls v = flat_map (seen_row v) ls ++ verdict_line v

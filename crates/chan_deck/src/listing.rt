@@ -196,24 +196,47 @@ fn hand_over<W: Write>(piece: &mut String, to: &mut Watched<W>) -> Result<(), De
     Ok(())
 }
 
-/// Writes what is held back of a listing, and the line of the verdict.
+/// Adds the row of a place to the text that is held back, and writes that once it is long enough.
+fn write_row<W: Write>(
+    alloc: Global,
+    piece: &mut String,
+    place: Place,
+    ccw: Option<Ccw>,
+    command: Option<Command>,
+    marked: bool,
+    to: &mut Watched<W>,
+) -> Result<(), ListError>
+    requires { to.old.failed ≡ false }
+    ensures ok { OnOk result ((sent : List ℕ)
+        × Appends (W.contents to.old.device) (W.contents to.new.device) sent
+        × (sent ++ string_bytes piece.new ≡ string_bytes piece.old ++ list.row_with place ccw (option_map entry_of command) marked)) }
+    ensures prefix { AppendsPrefix (W.contents to.old.device) (W.contents to.new.device)
+        (string_bytes piece.old ++ list.row_with place ccw (option_map entry_of command) marked) }
+    ensures write { IsErrOf result ListError.Write ↔ (to.new.failed ≡ true) }
+{
+    push_row(alloc, piece, place, ccw, command, marked)?;
+    hand_over(piece, to)?;
+    Ok(())
+}
+
+/// Writes what is held back, and then the line of the verdict.
 fn write_end<W: Write>(
     alloc: Global,
-    held: String,
+    piece: String,
     verdict: Verdict,
     to: &mut Watched<W>,
 ) -> Result<(), ListError>
     requires { to.old.failed ≡ false }
     ensures ok { OnOk result (Appends (W.contents to.old.device) (W.contents to.new.device)
-        (string_bytes held ++ verdict_line verdict)) }
+        (string_bytes piece ++ verdict_line verdict)) }
     ensures prefix { AppendsPrefix (W.contents to.old.device) (W.contents to.new.device)
-        (string_bytes held ++ verdict_line verdict) }
+        (string_bytes piece ++ verdict_line verdict) }
     ensures write { IsErrOf result ListError.Write ↔ (to.new.failed ≡ true) }
 {
-    let mut held = held;
+    let mut piece = piece;
     let line = verdict_text(alloc, verdict)?;
-    held.push_str(line.as_str())?;
-    write_out(held.as_bytes(), to)?;
+    piece.push_str(line.as_str())?;
+    write_out(piece.as_bytes(), to)?;
     Ok(())
 }
 
@@ -231,24 +254,24 @@ pub fn write_listing<W: Write>(
     to: &mut Watched<W>,
 ) -> Result<(), ListError>
     requires { to.old.failed ≡ false }
-    ensures ok { OnOk result (Appends (W.contents to.old.device) (W.contents to.new.device)
-        (list.listing (storage_of job.now) explored.now verdict)) }
-    ensures prefix { AppendsPrefix (W.contents to.old.device) (W.contents to.new.device)
-        (list.listing (storage_of job.now) explored.now verdict) }
+    ensures ok { OnOk result (Appends (W.contents to.old.device) (W.contents to.new.device) (list.listing (storage_of job.now) explored.now verdict)) }
+    ensures prefix { AppendsPrefix (W.contents to.old.device) (W.contents to.new.device) (list.listing (storage_of job.now) explored.now verdict) }
     ensures write { IsErrOf result ListError.Write ↔ (to.new.failed ≡ true) }
 {
     let mut piece = String::new(alloc);
     for place in explored.places() {
         let (ccw, command) = standing_at(job, place.address);
         let marked = is_named(verdict, place.address);
-        push_row(alloc, &mut piece, place, ccw, command, marked)?;
-        hand_over(&mut piece, to)?;
+        write_row(alloc, &mut piece, place, ccw, command, marked, to)?;
     }
     write_end(alloc, piece, verdict, to)
 }
 
-/// Writes the listing of a judged job: what `write_listing` writes for its places and its verdict,
-/// from what was seen of them. Nothing is decoded or looked up again.
+/// Writes the listing of a job that was judged: a row for each of its reachable places, in order,
+/// and then the line of its verdict. Nothing is looked at again.
+///
+/// What is written is what `write_listing` writes for the job, its reachable places and its verdict;
+/// so are the errors.
 pub fn write_judged<W: Write>(
     alloc: Global,
     judged: &Judged,
@@ -256,23 +279,29 @@ pub fn write_judged<W: Write>(
 ) -> Result<(), ListError>
     requires { to.old.failed ≡ false }
     ensures ok { OnOk result (Appends (W.contents to.old.device) (W.contents to.new.device)
-        (list.judged_listing judged.now)) }
+        (list.seen_listing judged.now.looks judged.now.verdict)) }
     ensures prefix { AppendsPrefix (W.contents to.old.device) (W.contents to.new.device)
-        (list.judged_listing judged.now) }
+        (list.seen_listing judged.now.looks judged.now.verdict) }
     ensures write { IsErrOf result ListError.Write ↔ (to.new.failed ≡ true) }
 
     // It is the listing of the job that was judged.
-    ensures listing { (j : Job) → AreLooks j judged.now.looks → list.judged_listing judged.now
+    ensures listing { (j : Job) → AreLooks j judged.now.looks
+        → list.seen_listing judged.now.looks judged.now.verdict
         ≡ list.listing (storage_of j) (places_of_looks judged.now.looks) judged.now.verdict }
 {
-    let verdict = judged.verdict();
     let mut piece = String::new(alloc);
     for look in judged.looks() {
         let place = look.place();
-        let address = place.address;
-        let marked = is_named(verdict, address);
-        push_row(alloc, &mut piece, place, look.ccw(), look.command(), marked)?;
-        hand_over(&mut piece, to)?;
+        let marked = is_named(judged.verdict(), place.address);
+        write_row(
+            alloc,
+            &mut piece,
+            place,
+            look.ccw(),
+            look.command(),
+            marked,
+            to,
+        )?;
     }
-    write_end(alloc, piece, verdict, to)
+    write_end(alloc, piece, judged.verdict(), to)
 }

@@ -3,7 +3,7 @@ use Rattle.std.specs.Prelude.{◌≡◌, ◌≤◌, ℕ, List, [], Option, lengt
 use Rattle.std.specs.Io.KnownBytes.{Appends}
 use Rattle.ccw_core.specs.Written.{AppendsPrefix}
 use Rattle.chan_deck.specs.Image.{Image, Spells, limit_of}
-use Rattle.chan_deck.specs.Listing.{listing}
+use Rattle.chan_deck.specs.Listing.{listing, seen_listing}
 use Rattle.chan_deck.specs.Refused.{IsRefused}
 use Rattle.chan_deck.specs.Texts.{verdict_line}
 use Rattle.chan_walk.specs.declared.job.Job.{Job}
@@ -12,6 +12,7 @@ use Rattle.chan_walk.specs.declared.verdict.Verdict.{Verdict}
 use Rattle.chan_walk.specs.declared.verdict.Verdict.TheVariants.{Yes, No}
 use Rattle.chan_walk.specs.Answers.{CoversEveryRun, HasAtMost, IsShown, MissesNoYes}
 use Rattle.chan_walk.specs.Explored.{AreReachable, HasMoreThan}
+use Rattle.chan_walk.specs.Judged.{JudgedJob}
 use Rattle.chan_walk.specs.Job.{extents_of, fetch_of, storage_of, store_of}
 use Rattle.chan_walk.specs.Verdict.{IsVerdict}
 use Rattle.chan_run.specs.declared.running.Action.{Action}
@@ -58,6 +59,11 @@ pub record HasTooMany (t : List ℕ) : Type 0 where
 abbrev pub IsOutput : Action → Job → Verdict → List ℕ → Type 0
 IsOutput actions.Verify j v text = text ≡ verdict_line v
 IsOutput actions.List j v text = (ps : List Place) × AreReachable j ps × (text ≡ listing (storage_of j) ps v)
+
+-- the same of a job that was judged
+abbrev pub output_of : Action → JudgedJob → List ℕ
+output_of actions.Verify d = verdict_line d.verdict
+output_of actions.List d = seen_listing d.looks d.verdict
 
 -- all of it was written
 pub record Writes (a : Action) (j : Job) (v : Verdict) (old new : Option (List ℕ)) : Type 0 where

@@ -1,17 +1,16 @@
 //! Running over a deck: from the reader's bytes to the writer's.
 
-ghost use Rattle.std.specs.Prelude.{◌≡◌, ◌↔◌, ◌⊎◌, false, true, IsErrOf, OnOk};
+ghost use Rattle.std.specs.Prelude.{◌≡◌, ◌↔◌, false, true, IsErrOf, OnOk};
 ghost use Rattle.std.specs.Io.KnownBytes.{Appends};
 ghost use Rattle.ccw_core.specs.Written.{AppendsPrefix};
 ghost use Rattle.chan_deck.specs.Texts.{verdict_line};
-ghost use Rattle.chan_walk.specs.Answers.{HasAtMost};
-ghost use Rattle.chan_run.specs.Run.{BeginsToWrite, IsEarly, IsRunAnswer, IsTextAnswer, IsUnwritten, Writes, status_of_verdict};
+ghost use Rattle.chan_run.specs.Run.{IsEarly, IsRunAnswer, IsTextAnswer, output_of, status_of_verdict};
 ghost use Rattle.chan_run.specs.declared.running.Action.TheVariants as actions;
 
 use crate::input::{InputError, read_input};
 use ccw_core::{Watched, write_out};
-use chan_deck::{Cause, DeckError, ListError, read_deck, verdict_text, write_listing};
-use chan_walk::{Job, Verdict, WalkError, explore, verify};
+use chan_deck::{Cause, DeckError, ListError, read_deck, verdict_text, write_judged};
+use chan_walk::{Judged, Verdict, WalkError, judge};
 use std::alloc::Global;
 use std::io::{Read, Write};
 use thiserror::Error;
@@ -108,45 +107,34 @@ fn answer<W: Write>(
         Err(DeckError::Memory) => return Err(RunError::Memory),
     };
     let job = deck.job();
-    let verdict = match verify(alloc, &job) {
-        Ok(verdict) => verdict,
+    let judged = match judge(alloc, &job) {
+        Ok(judged) => judged,
         Err(WalkError::TooManyPlaces) => return Err(RunError::TooManyPlaces),
         Err(WalkError::Memory) => return Err(RunError::Memory),
     };
-    match write_output(alloc, action, &job, verdict, to) {
-        Ok(()) => Ok(status_of(verdict)),
+    match write_output(alloc, action, &judged, to) {
+        Ok(()) => Ok(status_of(judged.verdict())),
         Err(ListError::Write) => Err(RunError::Write),
         Err(ListError::Memory) => Err(RunError::Memory),
     }
 }
 
-/// Writes what the action asks for of a job and its verdict.
+/// Writes what the action asks for of a job that was judged.
 fn write_output<W: Write>(
     alloc: Global,
     action: Action,
-    job: &Job,
-    verdict: Verdict,
+    judged: &Judged,
     to: &mut Watched<W>,
 ) -> Result<(), ListError>
-    requires writer { to.old.failed ≡ false }
-    requires few { HasAtMost job.now job.now.limit }
-    ensures ok { OnOk result (Writes action job.now verdict (W.contents to.old.device) (W.contents to.new.device)) }
+    requires { to.old.failed ≡ false }
+    ensures ok { OnOk result (Appends (W.contents to.old.device) (W.contents to.new.device) (output_of action judged.now)) }
+    ensures prefix { AppendsPrefix (W.contents to.old.device) (W.contents to.new.device) (output_of action judged.now) }
     ensures write { IsErrOf result ListError.Write ↔ (to.new.failed ≡ true) }
-    ensures cut_off { IsErrOf result ListError.Write → BeginsToWrite action job.now verdict (W.contents to.old.device) (W.contents to.new.device) }
-    ensures memory { IsErrOf result ListError.Memory → IsUnwritten (W.contents to.old.device) (W.contents to.new.device) ⊎ BeginsToWrite action job.now verdict (W.contents to.old.device) (W.contents to.new.device) }
     ensures early { IsErrOf result ListError.Memory → action ≡ actions.Verify → to.new ≡ to.old }
 {
     match action {
-        Action::Verify => write_verdict(alloc, verdict, to),
-        Action::List => {
-            let places = match explore(alloc, job) {
-                Ok(places) => places,
-                // the job was verified
-                Err(WalkError::TooManyPlaces) => unreachable!(),
-                Err(WalkError::Memory) => return Err(ListError::Memory),
-            };
-            write_listing(alloc, job, &places, verdict, to)
-        }
+        Action::Verify => write_verdict(alloc, judged.verdict(), to),
+        Action::List => write_judged(alloc, judged, to),
     }
 }
 

@@ -5,12 +5,8 @@ use Rattle.std.proofs.lemmas.Bool.{and_parts, cond_both, not-true, or_cases, bot
 use Rattle.ccw_core.specs.Ccw.{Fields, is_transfer}
 use Rattle.ckd_core.specs.declared.command.Kind.{Kind}
 use Rattle.ckd_core.specs.declared.command.Kind.TheVariants.{Idle, Inward, Outward, Search}
-use Rattle.ckd_core.specs.declared.command.MaskClass.{MaskClass}
-use Rattle.ckd_core.specs.declared.command.MaskClass.TheVariants.{Plain, Seek, SeekCylinder, SeekHead, Recalibrate, WriteHome, WriteFormat, WriteUpdate, SetMask}
 use Rattle.ckd_core.specs.Table.{Entry as Command, table, find_code, lookup, class_is_seek, class_recalibrates, class_sets_mask, class_passes, is_seek, recalibrates, sets_mask}
-use Rattle.chan_walk.specs.declared.place.Place.{Place}
-use Rattle.chan_walk.specs.Fault.{begins_seek, begins_set_mask, kind_of_command}
-use Rattle.chan_walk.specs.Place.{is_fresh}
+use Rattle.chan_walk.specs.Fault.{kind_of_command}
 
 -- a command that was looked up passes a test; so does none
 abbrev Passes : (Command → Bool) → Option Command → Type 0
@@ -102,23 +98,3 @@ seek_is_outward code h = (rule_at (lookup code) (found_passes seeks_go_out code 
 pub seek_no_recalibrate : (code : ℕ) → is_seek code ≡ true → recalibrates code ≡ false
 unfolding is_seek recalibrates lookup
 seek_no_recalibrate code h = (rule_at (lookup code) (found_passes seeks_go_out code table table_keeps) h).1
-
-seek_class_sets_none : (o : Option Command) → class_passes class_is_seek o ≡ true → class_passes class_sets_mask o ≡ true → ⊥
-seek_class_sets_none None h k = cc
-seek_class_sets_none (Some e) h k = apart e.class h k
-  where
-    apart : (class : MaskClass) → class_is_seek class ≡ true → class_sets_mask class ≡ true → ⊥
-    apart Seek h k = cc
-    apart SeekCylinder h k = cc
-    apart SeekHead h k = cc
-    apart Plain h k = cc
-    apart Recalibrate h k = cc
-    apart WriteHome h k = cc
-    apart WriteFormat h k = cc
-    apart WriteUpdate h k = cc
-    apart SetMask h k = cc
-
--- no seek is a Set File Mask
-pub seek_sets_no_mask : (p : Place) (c : Fields) → begins_seek p c ≡ true → begins_set_mask p c ≡ true → ⊥
-unfolding is_seek sets_mask
-seek_sets_no_mask p c h k = seek_class_sets_none (lookup c.command) (and_parts (is_fresh p.entered) _ h).1 (and_parts (is_fresh p.entered) _ k).1

@@ -8,23 +8,21 @@ use Rattle.ccw_core.specs.Areas.{lies_in}
 use Rattle.ccw_core.specs.Ccw.{Fields}
 use Rattle.ccw_core.specs.Storage.{Stands, ccw_at, is_inside}
 use Rattle.ccw_core.proofs.Covering.{lies_in-nil}
-use Rattle.ccw_core.proofs.StorageLemmas.{ccw_at-some, ccw_at-where}
+use Rattle.ccw_core.proofs.StorageLemmas.{ccw_at-some}
 use Rattle.chan_walk.specs.declared.job.Job.{Job}
 use Rattle.chan_walk.specs.declared.place.Place.{Place}
 use Rattle.chan_walk.specs.declared.reason.Reason.{Reason}
-use Rattle.chan_walk.specs.Argument.{Has, IsChain, is_part, argument_addresses}
+use Rattle.chan_walk.specs.Argument.{Has, IsChain, argument_addresses}
 use Rattle.chan_walk.specs.Fault.{begins_seek, HasFault, IsClear}
-use Rattle.chan_walk.specs.Guard.{AddsBytes, IsCcwByteOf, IsSeekByteOf, IsMaskByteOf, IsArgumentByteOf, byte_area}
+use Rattle.chan_walk.specs.Guard.{AddsBytes, IsCcwByteOf, IsSeekByteOf, IsArgumentByteOf, byte_area}
 use Rattle.chan_walk.specs.Guarded.{IsCcwByte, IsSeekByte, IsMaskByte, IsArgumentByte}
 use Rattle.chan_walk.specs.Job.{storage_of}
 use Rattle.chan_walk.specs.Least.{AreReached}
 use Rattle.chan_walk.specs.Place.{word_at}
 use Rattle.chan_walk.specs.Reachable.{IsReachable}
 use Rattle.chan_walk.specs.Ranges.{EndsBelow, HaveSameBytes, Meets}
-use Rattle.chan_walk.proofs.CheckCases.{is_part-none}
-use Rattle.chan_walk.proofs.Chains.{chain_unique, chain_begins_with_part}
-use Rattle.chan_walk.proofs.Checks.{check_stands}
-use Rattle.chan_walk.proofs.Faults.{clear_check, fault_unique}
+use Rattle.chan_walk.proofs.Chains.{chain_unique}
+use Rattle.chan_walk.proofs.Faults.{fault_unique}
 use Rattle.chan_walk.proofs.Lists.{has_left, has_right, has_cases}
 use Rattle.chan_walk.proofs.Merging.{InArea, lies_in-append, lies_in-cases, lies_in-first, lies_in-rest, get_any}
 

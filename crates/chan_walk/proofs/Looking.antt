@@ -11,7 +11,7 @@ use Rattle.chan_walk.specs.declared.job.Job.{Job}
 use Rattle.chan_walk.specs.declared.place.Place.{Place}
 use Rattle.chan_walk.specs.declared.reason.Reason.{Reason}
 use Rattle.chan_walk.specs.declared.successor.Next.{Next}
-use Rattle.chan_walk.specs.Argument.{Has}
+use Rattle.chan_walk.specs.Argument.{Has, argument_addresses}
 use Rattle.chan_walk.specs.Fault.{begins_seek, begins_set_mask, kind_of, HasFault, IsClear}
 use Rattle.chan_walk.specs.Guard.{IsArgumentByteOf, IsSeekByteOf}
 use Rattle.chan_walk.specs.Job.{storage_of}
@@ -19,7 +19,7 @@ use Rattle.chan_walk.specs.Look.{AreLooks, IsLook, Seen, mask_addresses, place_o
 use Rattle.chan_walk.specs.Place.{word_at}
 use Rattle.chan_walk.specs.Successors.{AreSuccessors, next_of, skip_of}
 use Rattle.chan_walk.specs.Tables.{HasAddresses}
-use Rattle.chan_walk.proofs.Commands.{seek_sets_no_mask}
+use Rattle.chan_walk.proofs.Chains.{first_address}
 use Rattle.chan_walk.proofs.Faults.{fault_unique}
 use Rattle.chan_walk.proofs.Guarding.{bytes_of_argument, stands_from}
 use Rattle.chan_walk.proofs.Lists.{has_at, has_push}
@@ -95,7 +95,7 @@ taken_whole j p c o x small clear w e = go (cases_Bool (begins_seek p c))
 
         from : (b : ℕ) → IsArgumentByteOf j p b → Has x b
         from b (inl k) = (bytes b).1 k
-        from b (inr k) = absurd (seek_sets_no_mask p (word_at j p) (ap (begins_seek p) (sym w.word) ∙ s) k.1.sets)
+        from b (inr k) = subst (λ z. Has z b) (sym h.2) (subst (Has (argument_addresses (storage_of j) h.0)) k.1.at (first_address (storage_of j) p.address h.0 h.1))
     go (inr s) = let n = w.other s in absurd (cc)
 
 -- ---- where the program goes on

@@ -1,76 +1,80 @@
-use Rattle.std.proofs.Common.{◌≡◌, ◌++◌, ◌∙◌, ◌+◌, ◌<◌, get_or, ap, sym, subst, take, drop, arith, rules, string_bytes, option_map, length}
+use Rattle.std.proofs.Common.{◌≡◌, ◌∷◌, [], ◌++◌, ◌+◌, ◌<◌, ◌≤◌, ◌∙◌, ap, sym, subst, arith, rules, string_bytes, List, ℕ, length, get_or, take, drop}
 use Rattle.std.proofs.lemmas.Result.{on_ok_weaker}
-use Rattle.ckd_core.specs.Entries.{entry_of}
-use Rattle.chan_deck.specs.Listing.{seen_row, seen_rows}
+use Rattle.std.specs.Io.KnownBytes.{Appends}
+use Rattle.ccw_core.specs.Written.{AppendsPrefix}
+use Rattle.chan_walk.specs.Look.{Seen}
+use Rattle.chan_deck.specs.Listing.{is_named, seen_row}
 use Rattle.chan_deck.specs.Texts.{verdict_line}
-use Rattle.chan_deck.proofs.ListingLemmas.{IsSent, seen_told, seen_more, seen_parts, seen_all, row_sent, sent_begun, more_begun, line_sent, line_begun, judged_is_listing}
+use Rattle.chan_deck.proofs.ListingLemmas.{IsSent, row_sent, row_begun, end_begun, end_sent, listing_seen, none_sent, seen_all, seen_next, seen_row-told, seen_split}
 use Rattle.chan_deck.proofs.listing.write_judged.Goals as goal
 
-pub returns-in_err-push_row-clause-prefix : goal.returns-in_err-push_row-clause-prefix
-returns-in_err-push_row-clause-prefix g c =
-    let d = c.args.judged.now in
-    let v = c.verdict-verdict.result in
-    let i = c.loop-look.look-index in
-    sent_begun (seen_rows v (take i d.looks)) (seen_rows v (drop i d.looks) ++ verdict_line v) _ _ _ _ c.loop-look.invariant.sent (seen_parts d v i c.verdict-verdict.ensures)
-
-pub returns-in_err-push_row-clause-listing : goal.returns-in_err-push_row-clause-listing
-returns-in_err-push_row-clause-listing g c = judged_is_listing c.args.judged.now
+pub loop-look-init : goal.loop-look-init
+loop-look-init g c = record { sound = c.requires; sent = none_sent (seen_row c.args.judged.now.verdict) _ (string_bytes c.new-piece.result) (search rules) }
 
 pub loop-look-preserved : goal.loop-look-preserved
 loop-look-preserved g c =
-    let d = c.args.judged.now in
-    let v = c.verdict-verdict.result in
+    let v = c.args.judged.now.verdict in
+    let ls = c.args.judged.now.looks in
     let i = c.loop-look.look-index in
     let l = c.look-item.result in
-    let same = c.looks-look-items.ensures in
-    let inside : i < length d.looks = omega (arith, ap length same) in
-    let is : l ≡ get_or d.looks i l = c.look-item.is ∙ ap (λ xs. get_or xs i l) same in
     let held = string_bytes c.loop-look.piece in
-    let told : string_bytes c.push_row.new.out ≡ held ++ seen_row v l =
-    seen_told v l held _ _ _ _ _ c.in_ok-push_row.ensures c.place-place.ensures c.ccw.ensures c.command.ensures c.is_named-marked.ensures in
-    let before = g.W.Write.contents c.args.to.now.device in
-    let here = g.W.Write.contents c.loop-look.to.device in
-    let after = g.W.Write.contents c.hand_over.new.to.device in
+    let given = c.in_ok-write_row.ensures.ok in
+    let same = c.looks-look-items.ensures in
+    let lengths = ap (λ (xs : List Seen). length xs) same in
+    let within : i < length ls = omega (arith, lengths) in
+    let is : l ≡ get_or ls i l = c.look-item.is ∙ ap (λ (xs : List Seen). get_or xs i l) same in
+    let named = c.is_named-marked.ensures ∙ ap (λ w. is_named w c.place-place.result.address) c.verdict.ensures in
+    let told = seen_row-told v l held _ _ _ _ c.place-place.ensures c.ccw.ensures c.command.ensures named in
     record {
       sound = search rules;
-      sent = subst (λ t. IsSent t before after (string_bytes c.hand_over.new.piece)) (sym (seen_more v d.looks i l inside is))
-          (row_sent (seen_rows v (take i d.looks)) (seen_row v l) before here after held (string_bytes c.push_row.new.out) (string_bytes c.hand_over.new.piece) c.loop-look.invariant.sent told
-          c.in_ok-hand_over.ensures.ok);
+      sent = subst (λ (xs : List Seen). IsSent (seen_row v) (g.W.Write.contents c.args.to.now.device) (g.W.Write.contents c.write_row.new.to.device) xs (string_bytes c.write_row.new.piece))
+          (sym (seen_next ls i l within is))
+          (row_sent (seen_row v) _ _ _ (take i ls) l held (string_bytes c.write_row.new.piece) c.loop-look.invariant.sent (given.0, given.1, given.2 ∙ told));
     }
 
-pub returns-in_err-hand_over-clause-prefix : goal.returns-in_err-hand_over-clause-prefix
-returns-in_err-hand_over-clause-prefix g c =
-    let d = c.args.judged.now in
-    let v = c.verdict-verdict.result in
+pub returns-in_err-write_row-clause-prefix : goal.returns-in_err-write_row-clause-prefix
+returns-in_err-write_row-clause-prefix g c =
+    let v = c.args.judged.now.verdict in
+    let ls = c.args.judged.now.looks in
     let i = c.loop-look.look-index in
     let l = c.look-item.result in
-    let same = c.looks-look-items.ensures in
-    let inside : i < length d.looks = omega (arith, ap length same) in
-    let is : l ≡ get_or d.looks i l = c.look-item.is ∙ ap (λ xs. get_or xs i l) same in
     let held = string_bytes c.loop-look.piece in
-    let told : string_bytes c.push_row.new.out ≡ held ++ seen_row v l =
-    seen_told v l held _ _ _ _ _ c.in_ok-push_row.ensures c.place-place.ensures c.ccw.ensures c.command.ensures c.is_named-marked.ensures in
-    let rest = seen_rows v (drop (i + 1) d.looks) ++ verdict_line v in
-    more_begun (seen_rows v (take i d.looks)) (seen_row v l) rest _ _ _ _ held (string_bytes c.push_row.new.out) c.loop-look.invariant.sent told
-    (ap (λ t. t ++ rest) (sym (seen_more v d.looks i l inside is)) ∙ seen_parts d v (i + 1) c.verdict-verdict.ensures) c.hand_over.ensures.prefix
-
-pub returns-in_err-hand_over-clause-listing : goal.returns-in_err-hand_over-clause-listing
-returns-in_err-hand_over-clause-listing g c = judged_is_listing c.args.judged.now
+    let same = c.looks-look-items.ensures in
+    let lengths = ap (λ (xs : List Seen). length xs) same in
+    let within : i < length ls = omega (arith, lengths) in
+    let is : l ≡ get_or ls i l = c.look-item.is ∙ ap (λ (xs : List Seen). get_or xs i l) same in
+    let named = c.is_named-marked.ensures ∙ ap (λ w. is_named w c.place-place.result.address) c.verdict.ensures in
+    let told = seen_row-told v l held _ _ _ _ c.place-place.ensures c.ccw.ensures c.command.ensures named in
+    row_begun (seen_row v) (verdict_line v) _ _ _ (take i ls) l (drop (i + 1) ls) ls held c.loop-look.invariant.sent
+    (subst (λ (t : List ℕ). AppendsPrefix (g.W.Write.contents c.loop-look.to.device) (g.W.Write.contents c.write_row.new.to.device) t) told c.write_row.ensures.prefix)
+    (seen_split ls i l within is)
 
 pub returns-clause-ok : goal.returns-clause-ok
 returns-clause-ok g c =
-    let d = c.args.judged.now in
-    let v = c.verdict-verdict.result in
+    let v = c.args.judged.now.verdict in
+    let ls = c.args.judged.now.looks in
     let i = c.loop-look.look-index in
-    on_ok_weaker c.write_end.result (λ written.
-    line_sent (seen_rows v (take i d.looks)) (verdict_line v) _ _ _ _ (string_bytes c.loop-look.piece) c.loop-look.invariant.sent (seen_all d v i c.verdict-verdict.ensures (omega (arith, ap length c.looks-look-items.ensures))) written) c.write_end.ensures.ok
+    let held = string_bytes c.loop-look.piece in
+    let lengths = ap (λ (xs : List Seen). length xs) c.looks-look-items.ensures in
+    let all = seen_all ls i (omega (arith, lengths)) in
+    on_ok_weaker c.write_end.result
+    (λ written. end_sent (seen_row v) (verdict_line v) _ _ _ (take i ls) ls held c.loop-look.invariant.sent
+    (subst (λ w. Appends (g.W.Write.contents c.loop-look.to.device) (g.W.Write.contents c.write_end.new.to.device) (held ++ verdict_line w)) c.verdict-2.ensures written) all)
+    c.write_end.ensures.ok
 
 pub returns-clause-prefix : goal.returns-clause-prefix
 returns-clause-prefix g c =
-    let d = c.args.judged.now in
-    let v = c.verdict-verdict.result in
+    let v = c.args.judged.now.verdict in
+    let ls = c.args.judged.now.looks in
     let i = c.loop-look.look-index in
-    line_begun (seen_rows v (take i d.looks)) (verdict_line v) _ _ _ _ (string_bytes c.loop-look.piece) c.loop-look.invariant.sent (seen_all d v i c.verdict-verdict.ensures (omega (arith, ap length c.looks-look-items.ensures))) c.write_end.ensures.prefix
+    let held = string_bytes c.loop-look.piece in
+    let lengths = ap (λ (xs : List Seen). length xs) c.looks-look-items.ensures in
+    let all = seen_all ls i (omega (arith, lengths)) in
+    end_begun (seen_row v) (verdict_line v) _ _ _ (take i ls) ls held c.loop-look.invariant.sent
+    (subst (λ w. AppendsPrefix (g.W.Write.contents c.loop-look.to.device) (g.W.Write.contents c.write_end.new.to.device) (held ++ verdict_line w)) c.verdict-2.ensures c.write_end.ensures.prefix) all
 
 pub returns-clause-listing : goal.returns-clause-listing
-returns-clause-listing g c = judged_is_listing c.args.judged.now
+returns-clause-listing g c = λ j h. listing_seen j c.args.judged.now.verdict c.args.judged.now.looks h
+
+pub returns-in_err-write_row-clause-listing : goal.returns-in_err-write_row-clause-listing
+returns-in_err-write_row-clause-listing g c = λ j h. listing_seen j c.args.judged.now.verdict c.args.judged.now.looks h

@@ -1,13 +1,12 @@
 use Rattle.std.proofs.Common.{◌≡◌, ◌++◌, false, string_bytes}
+use Rattle.chan_deck.specs.Listing.{row_of}
 use Rattle.chan_walk.specs.Job.{storage_of}
-use Rattle.chan_deck.specs.Listing.{rows}
 use Rattle.chan_deck.proofs.ListingLemmas.{IsSent}
 use Rattle.chan_deck.proofs.listing.write_listing.Given as goal
 
--- the rows so far are written or held back
 abbrev pub invariant-loop-place : goal.invariant-loop-place
 invariant-loop-place g l = record {
   all : l.yielded ++ l.place-iterator ≡ l.explored;
   sound : l.to.failed ≡ false;
-  sent : IsSent (rows (storage_of l.job) l.verdict l.yielded) (g.W.Write.contents l.initial.to.device) (g.W.Write.contents l.to.device) (string_bytes l.piece);
+  sent : IsSent (row_of (storage_of l.job) l.verdict) (g.W.Write.contents l.initial.to.device) (g.W.Write.contents l.to.device) l.yielded (string_bytes l.piece);
 }

@@ -49,5 +49,5 @@ returns c j h guards clear =
     let start : c.address-start.result ≡ word.address = c.address-start.ensures.value in
     let len : c.from-len.result ≡ word.count = c.from-len.ensures ∙ c.count.ensures in
     first_none j p
-    (λ over. let no = c.if-meets_ccw.ensures.1 (meets_from_over j p word c.args.guard.now.ccws (IsCcwByte j) _ _ guards.ccws found start len over) in cc)
+    (λ over. let never = c.if-meets_ccw.ensures.1 (meets_from_over j p word c.args.guard.now.ccws (IsCcwByte j) _ _ guards.ccws found start len over) in cc)
     (λ over. let no = c.if-meets_argument.ensures.1 (meets_from_over j p word c.args.guard.now.arguments (IsArgumentByte j) _ _ guards.arguments found start len over) in cc)

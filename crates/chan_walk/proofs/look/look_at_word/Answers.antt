@@ -1,5 +1,4 @@
 use Rattle.std.proofs.Common.{◌≡◌, ◌≤◌, ◌<◌, ◌^◌, Option, None, Some, length, sym, ap, ◌∙◌, subst}
-use Rattle.ccw_core.specs.Ccw.{Fields}
 use Rattle.ccw_core.proofs.StorageLemmas.{ccw_at-some}
 use Rattle.chan_walk.specs.declared.look.Argument.{Argument}
 use Rattle.chan_walk.specs.declared.place.Place.{Place}
