@@ -13,7 +13,7 @@ use crate::reason::Reason;
 use crate::seek::argument_addresses;
 use crate::verdict::Verdict;
 use crate::visit::Visit;
-use cases::{FORMATS, GUARDED, MASKS, SEARCHES, SEEKS, SET_MASKS, STORAGE, TRANSFERS, USUAL};
+use cases::{FORMATS, GUARDED, MASKS, SEARCHES, SEEKS, SET_MASKS, STORAGE, TRANSFERS, TWO_FAULTS, USUAL};
 use ccw_core::{Area, Storage};
 use ckd_core::{Device, Extents, FileMask};
 use std::alloc::Global;
@@ -158,6 +158,11 @@ fn masks(rt: HostRuntime) -> Result<(), Fail> {
 #[test]
 fn set_masks(rt: HostRuntime) -> Result<(), Fail> {
     expect_verdicts(&rt, rt.alloc(), &SET_MASKS)
+}
+
+#[test]
+fn two_faults(rt: HostRuntime) -> Result<(), Fail> {
+    expect_verdicts(&rt, rt.alloc(), &TWO_FAULTS)
 }
 
 #[test]
