@@ -1,20 +1,18 @@
 -- The cause for which a line is refused is the first of the table that applies.
-use Rattle.std.proofs.Common.{◌≡◌, ℕ, suc, ◌+◌, ◌/◌, ◌%◌, ◌<◌, ◌≤◌, ◌⊎◌, Bool, true, false, cond, ltb, List, [], ◌∷◌, ◌++◌, length, map, Result, Ok, Err, Option, Some, None, MatchBool, refl, sym, ap, subst, ◌∙◌, append_assoc, arith, inl, inr, lit<}
-use Rattle.std.specs.Prelude.{◌==◌, ◌&&◌, nat_lt, nat_le, not}
+use Rattle.std.proofs.Common.{◌≡◌, ℕ, suc, ◌+◌, ◌/◌, ◌%◌, ◌<◌, ◌≤◌, ◌⊎◌, Bool, true, false, cond, ltb, List, [], ◌∷◌, ◌++◌, length, map, Result, Ok, Err, Option, MatchBool, refl, sym, ap, subst, ◌∙◌, append_assoc, arith, inl, inr, lit<}
+use Rattle.std.specs.Prelude.{◌==◌, ◌&&◌, nat_lt, nat_le}
 use Rattle.std.proofs.lemmas.Bool.{ltb-true, ltb-false, le-leb, cases_lt}
 use Rattle.std.proofs.lemmas.Bool.Decides.{nat_tests}
 use Rattle.ccw_core.specs.declared.areas.Area.{Area}
-use Rattle.ckd_core.specs.declared.device.Device.{Device}
 use Rattle.ckd_core.specs.Mask.{is_mask}
-use Rattle.chan_deck.specs.Item.{Item, header, device, mask, start, limit, extent, fetch, store, storage, put, end, line, Says}
-use Rattle.chan_deck.specs.Image.{Image, IsDeck, items, puts, is_zero, extent_of, header_of, limit_line}
+use Rattle.chan_deck.specs.Item.{Item, header, device, mask, start, limit, extent, fetch, store, storage, put, end, Says}
+use Rattle.chan_deck.specs.Image.{Image, items, puts, is_zero, extent_of, limit_line}
 use Rattle.chan_deck.specs.Refused.{last_of, is_end, is_second, has_ended, may_stand, may_follow, size_said, is_size, is_limit, is_above, is_place, Found, whole_line, part, Applies, Follows, IsCause, rank}
-use Rattle.chan_deck.specs.Reading.{Heading, State, Opening, Named, OnDevice, Masked, Started, Listing, Filling, Whole, step, stands, judged, pad, image_of, on_put, is_empty, no_form, Refuses}
-use Rattle.chan_deck.proofs.StepLemmas.{heading, lists, said, IsState, IsRight, Ends, at_front, at_header, at_device, at_mask, at_start, at_second_start, at_limit, at_extent, at_fetch, at_store, at_storage, at_put, at_end, last_of-push}
+use Rattle.chan_deck.specs.Reading.{Heading, State, Opening, Named, OnDevice, Masked, Started, Listing, Filling, Whole, step, stands, judged, pad, is_empty, no_form, Refuses}
+use Rattle.chan_deck.proofs.StepLemmas.{heading, lists, said, IsState, Ends, at_front, at_header, at_device, at_mask, at_start, at_second_start, at_limit, at_extent, at_fetch, at_store, at_storage, at_put, at_end, last_of-push}
 use Rattle.chan_deck.proofs.ItemLemmas.{says_one}
 use Rattle.chan_deck.specs.declared.version.Version.{Version}
 use Rattle.chan_deck.specs.declared.version.Version.TheVariants.{One, Two}
-use Rattle.chan_deck.specs.declared.version.VersionNumber.{VersionNumber}
 use Rattle.chan_deck.specs.declared.cause.Cause.{Cause}
 use Rattle.chan_deck.specs.declared.cause.Cause.TheVariants as causes
 
@@ -293,10 +291,12 @@ follows_after (part (b ∷ rest)) causes.After h = refl
 follows_after found c h = absurd h
 
 pub after_cause : (d : Image) (found : Found) → Follows found causes.After → IsCause (items d) found causes.After
-after_cause d found h =
-    let ended : has_ended (items d) ≡ true = ap is_end (last_of-push (lists (record { version = d.version; device = d.device; mask = d.mask; start = d.start }) d.extents d.fetch d.store ++ storage (length d.storage) ∷ puts (length d.storage / 8) 0 d.storage) end) in
+after_cause d found applies =
+    let h : Heading = record { version = d.version; device = d.device; mask = d.mask; start = d.start } in
+    let opened = lists h d.extents d.fetch d.store ++ storage (length d.storage) ∷ puts (length d.storage / 8) 0 d.storage in
+    let ended : has_ended (items d) ≡ true = ap is_end (last_of-push opened end) in
     record {
-      applies = subst (λ b. MatchBool b (Follows found causes.After) (Applies (items d) found causes.After)) (sym ended) h;
+      applies = subst (λ b. MatchBool b (Follows found causes.After) (Applies (items d) found causes.After)) (sym ended) applies;
       first = λ other lt k.
           let same = follows_after found other (subst (λ b. MatchBool b (Follows found other) (Applies (items d) found other)) ended k) in
           absurd (omega (arith, ap rank same));

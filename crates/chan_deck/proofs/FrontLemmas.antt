@@ -7,7 +7,7 @@ use Rattle.std.proofs.lemmas.Grind.{flat_map-append}
 use Rattle.std.proofs.lemmas.Bool.{eqb-true}
 use Rattle.ccw_core.specs.declared.areas.Area.{Area}
 use Rattle.ckd_core.specs.Cylinders.{IsExtent}
-use Rattle.chan_deck.specs.Item.{Item, header, device, mask, start, limit, fetch, store, storage, put, end, line, text, HasForm, Says, IsByte, IsArea}
+use Rattle.chan_deck.specs.Item.{Item, header, device, mask, start, fetch, store, storage, put, end, line, text, HasForm, Says, IsByte, IsArea}
 use Rattle.chan_deck.specs.Image.{Image, IsDeck, HasLimit, header_of, limit_line, items, puts, is_zero, extent_of, spelling, Spells}
 use Rattle.chan_deck.specs.Refused.{split, lines, first_lines, onto_first, IsFront, IsRefusedAt}
 use Rattle.chan_deck.specs.Reading.{State, Opening, Whole, Stands, step, go_on, run}

@@ -8,6 +8,8 @@ ghost use Rattle.ccw_core.specs.Storage.{ccw_at};
 ghost use Rattle.chan_deck.specs.Listing as list;
 ghost use Rattle.chan_deck.specs.Texts.{verdict_line};
 ghost use Rattle.chan_walk.specs.Job.{storage_of};
+ghost use Rattle.chan_walk.specs.Look.{AreLooks, places_of_looks};
+ghost use Rattle.chan_walk.specs.declared.job.Job.{Job};
 
 use crate::texts::{Address, verdict_text};
 use ccw_core::{Ccw, DeviceFault, Watched, write_out};
@@ -276,9 +278,16 @@ pub fn write_judged<W: Write>(
     to: &mut Watched<W>,
 ) -> Result<(), ListError>
     requires { to.old.failed ≡ false }
-    ensures ok { OnOk result (Appends (W.contents to.old.device) (W.contents to.new.device) (list.seen_listing judged.now.looks judged.now.verdict)) }
-    ensures prefix { AppendsPrefix (W.contents to.old.device) (W.contents to.new.device) (list.seen_listing judged.now.looks judged.now.verdict) }
+    ensures ok { OnOk result (Appends (W.contents to.old.device) (W.contents to.new.device)
+        (list.seen_listing judged.now.looks judged.now.verdict)) }
+    ensures prefix { AppendsPrefix (W.contents to.old.device) (W.contents to.new.device)
+        (list.seen_listing judged.now.looks judged.now.verdict) }
     ensures write { IsErrOf result ListError.Write ↔ (to.new.failed ≡ true) }
+
+    // It is the listing of the job that was judged.
+    ensures listing { (j : Job) → AreLooks j judged.now.looks
+        → list.seen_listing judged.now.looks judged.now.verdict
+        ≡ list.listing (storage_of j) (places_of_looks judged.now.looks) judged.now.verdict }
 {
     let mut piece = String::new(alloc);
     for look in judged.looks() {

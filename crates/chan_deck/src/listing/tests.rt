@@ -2,9 +2,9 @@
 
 ghost use Rattle.std.specs.Prelude.{◌≡◌, false};
 
-use crate::{Deck, ListError, read_deck, row_text, write_listing};
+use crate::{Deck, ListError, read_deck, row_text, write_judged, write_listing};
 use ccw_core::{Storage, Watched};
-use chan_walk::{Entry, Explored, Place, Reason, Verdict, explore, verify};
+use chan_walk::{Entry, Explored, Judged, Place, Reason, Verdict, explore, judge, verify};
 use std::alloc::Global;
 use std::io;
 use std::io::{ErrorKind, Write};
@@ -85,6 +85,12 @@ fn verdict_of(alloc: Global, deck: &Deck) -> Result<Verdict, Fail> {
     Ok(verify(alloc, &job)?)
 }
 
+fn judged_of(alloc: Global, deck: &Deck) -> Result<Judged, Fail> {
+    let job = deck.job();
+    let _storage: Storage<'_> = job.storage;
+    Ok(judge(alloc, &job)?)
+}
+
 /// Writes a listing of these places in a deck's storage.
 fn write_of<W: Write>(
     alloc: Global,
@@ -104,6 +110,13 @@ fn row_of(alloc: Global, deck: &Deck, place: Place, marked: bool) -> Result<Stri
     let job = deck.job();
     let _storage: Storage<'_> = job.storage;
     Ok(row_text(alloc, &job, place, marked)?)
+}
+
+fn judged_listing_of(alloc: Global, deck: &Deck) -> Result<Vec<u8>, Fail> {
+    let mut to = Watched::new(Vec::new(alloc));
+    let judged = judged_of(alloc, deck)?;
+    write_judged(alloc, &judged, &mut to)?;
+    Ok(to.into_inner())
 }
 
 fn listing_of(alloc: Global, deck: &Deck) -> Result<Vec<u8>, Fail> {
@@ -128,6 +141,10 @@ fn listings(rt: HostRuntime) -> Result<(), Fail> {
     ] {
         let deck = deck(alloc, start, puts)?;
         assert_eq!(rt; listing_of(alloc, &deck)?.as_slice(), listing.as_bytes());
+        assert_eq!(rt;
+            judged_listing_of(alloc, &deck)?.as_slice(),
+            listing.as_bytes()
+        );
     }
     Ok(())
 }

@@ -14,7 +14,9 @@ use crate::reason::Reason;
 use crate::seek::argument_addresses;
 use crate::verdict::Verdict;
 use crate::word::skips;
-use cases::{FORMATS, GUARDED, MASKS, SEARCHES, SEEKS, SET_MASKS, STORAGE, TRANSFERS, USUAL};
+use cases::{
+    FORMATS, GUARDED, MASKS, SEARCHES, SEEKS, SET_MASKS, STORAGE, TRANSFERS, TWO_FAULTS, USUAL,
+};
 use ccw_core::{Area, Ccw, Storage};
 use ckd_core::{Device, Extents, FileMask, Kind, MaskClass, lookup};
 use std::alloc::Global;
@@ -177,6 +179,11 @@ fn masks(rt: HostRuntime) -> Result<(), Fail> {
 #[test]
 fn set_masks(rt: HostRuntime) -> Result<(), Fail> {
     expect_verdicts(&rt, rt.alloc(), &SET_MASKS)
+}
+
+#[test]
+fn two_faults(rt: HostRuntime) -> Result<(), Fail> {
+    expect_verdicts(&rt, rt.alloc(), &TWO_FAULTS)
 }
 
 #[test]

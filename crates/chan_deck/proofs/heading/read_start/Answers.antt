@@ -1,4 +1,4 @@
-use Rattle.std.proofs.Common.{refl, []}
+use Rattle.std.proofs.Common.{refl}
 use Rattle.chan_deck.specs.Item.{start}
 use Rattle.chan_deck.specs.Reading.{Masked, on_start}
 use Rattle.chan_deck.proofs.RefusalLemmas.{takes, refuses_line, refuses_end}

@@ -1,5 +1,5 @@
-use Rattle.std.proofs.Common.{sym, subst}
-use Rattle.chan_deck.specs.Reading.{IsRefusal, Stands, on_start}
+use Rattle.std.proofs.Common.{subst}
+use Rattle.chan_deck.specs.Reading.{Stands, on_start}
 use Rattle.chan_deck.proofs.heading.read_version.Goals as goal
 
 pub returns-in-Err-clause-err : goal.returns-in-Err-clause-err

@@ -5,7 +5,7 @@ use Rattle.ccw_core.specs.Written.{AppendsPrefix}
 use Rattle.chan_walk.specs.Look.{Seen}
 use Rattle.chan_deck.specs.Listing.{is_named, seen_row}
 use Rattle.chan_deck.specs.Texts.{verdict_line}
-use Rattle.chan_deck.proofs.ListingLemmas.{IsSent, row_sent, row_begun, end_begun, end_sent, none_sent, seen_all, seen_next, seen_row-told, seen_split}
+use Rattle.chan_deck.proofs.ListingLemmas.{IsSent, row_sent, row_begun, end_begun, end_sent, listing_seen, none_sent, seen_all, seen_next, seen_row-told, seen_split}
 use Rattle.chan_deck.proofs.listing.write_judged.Goals as goal
 
 pub loop-look-init : goal.loop-look-init
@@ -72,3 +72,9 @@ returns-clause-prefix g c =
     let all = seen_all ls i (omega (arith, lengths)) in
     end_begun (seen_row v) (verdict_line v) _ _ _ (take i ls) ls held c.loop-look.invariant.sent
     (subst (λ w. AppendsPrefix (g.W.Write.contents c.loop-look.to.device) (g.W.Write.contents c.write_end.new.to.device) (held ++ verdict_line w)) c.verdict-2.ensures c.write_end.ensures.prefix) all
+
+pub returns-clause-listing : goal.returns-clause-listing
+returns-clause-listing g c = λ j h. listing_seen j c.args.judged.now.verdict c.args.judged.now.looks h
+
+pub returns-in_err-write_row-clause-listing : goal.returns-in_err-write_row-clause-listing
+returns-in_err-write_row-clause-listing g c = λ j h. listing_seen j c.args.judged.now.verdict c.args.judged.now.looks h

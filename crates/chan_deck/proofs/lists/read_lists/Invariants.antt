@@ -1,4 +1,4 @@
-use Rattle.std.proofs.Common.{◌<◌, ◌+◌, ◌^◌, ℕ, List, [], length}
+use Rattle.std.proofs.Common.{◌<◌, ◌+◌, ◌^◌, [], length}
 use Rattle.chan_deck.specs.Reading.{Heading, Leads, Listing, listing}
 use Rattle.chan_deck.proofs.lists.read_lists.Given as goal
 

@@ -1015,3 +1015,114 @@ pub(super) static GUARDED: [Case<'static>; 12] = [
         ..USUAL
     },
 ];
+
+/// Two faults at once, of which the one with the lesser number is named.
+pub(super) static TWO_FAULTS: [Case<'static>; 11] = [
+    Case {
+        name: "two-faults/misaligned-and-outside",
+        start: 0x1004,
+        verdict: Verdict::No {
+            address: 0x1004,
+            reason: Reason::Misaligned,
+        },
+        ..USUAL
+    },
+    Case {
+        name: "two-faults/invalid-code-and-bad-format",
+        puts: &[(0x800, 0x0000_0900_0400_0001)],
+        verdict: Verdict::No {
+            address: 0x800,
+            reason: Reason::InvalidCode,
+        },
+        ..USUAL
+    },
+    Case {
+        name: "two-faults/bad-format-and-zero-count",
+        puts: &[(0x800, 0x0300_0000_0400_0000)],
+        verdict: Verdict::No {
+            address: 0x800,
+            reason: Reason::BadFormat,
+        },
+        ..USUAL
+    },
+    Case {
+        name: "two-faults/zero-count-and-data-outside",
+        puts: &[(0x800, 0x0300_2000_0000_0000)],
+        verdict: Verdict::No {
+            address: 0x800,
+            reason: Reason::ZeroCount,
+        },
+        ..USUAL
+    },
+    Case {
+        name: "two-faults/data-outside-and-not-in-table",
+        puts: &[(0x800, 0x0200_2000_0000_0001)],
+        verdict: Verdict::No {
+            address: 0x800,
+            reason: Reason::DataOutside,
+        },
+        ..USUAL
+    },
+    Case {
+        name: "two-faults/inhibited-and-not-lent",
+        mask: 0x40,
+        puts: &[(0x800, 0x0500_0B00_0000_0008)],
+        verdict: Verdict::No {
+            address: 0x800,
+            reason: Reason::Inhibited,
+        },
+        ..USUAL
+    },
+    Case {
+        name: "two-faults/inhibited-and-short-seek",
+        mask: 0x08,
+        puts: &[(0x800, 0x0700_0900_0000_0005)],
+        verdict: Verdict::No {
+            address: 0x800,
+            reason: Reason::Inhibited,
+        },
+        ..USUAL
+    },
+    Case {
+        name: "two-faults/not-lent-and-short-seek",
+        puts: &[(0x800, 0x0700_0B00_0000_0005)],
+        verdict: Verdict::No {
+            address: 0x800,
+            reason: Reason::FetchNotLent,
+        },
+        ..USUAL
+    },
+    Case {
+        name: "two-faults/not-lent-and-seek-outside",
+        puts: &[(0x800, 0x0700_0B00_0000_0006)],
+        verdict: Verdict::No {
+            address: 0x800,
+            reason: Reason::FetchNotLent,
+        },
+        ..USUAL
+    },
+    Case {
+        name: "two-faults/not-lent-and-weakens-mask",
+        mask: 0x80,
+        puts: &[(0x800, 0x1F00_0B00_0000_0001)],
+        verdict: Verdict::No {
+            address: 0x800,
+            reason: Reason::FetchNotLent,
+        },
+        ..USUAL
+    },
+    Case {
+        name: "two-faults/in-two-ways",
+        puts: &[
+            (0x800, 0x3100_0900_4000_0005),
+            (0x808, 0x0600_0B00_0000_0010),
+            (0x810, 0x3100_0900_8000_0002),
+            (0x818, 0x0800_0808_0000_0000),
+        ],
+        verdict: Verdict::No {
+            address: 0x808,
+            reason: Reason::StoreNotLent,
+        },
+        ..USUAL
+    },
+];

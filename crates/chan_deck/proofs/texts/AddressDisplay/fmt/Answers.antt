@@ -1,6 +1,5 @@
-use Rattle.std.proofs.Common.{◌≡◌, ◌++◌, ◌∷◌, [], ◌∙◌, ℕ, List, ◌/◌, ◌%◌, ◌<◌, ◌^◌, ap, sym, subst, get_or, slice_index, arith, refl, encode_utf8}
+use Rattle.std.proofs.Common.{subst, arith}
 use Rattle.std.specs.Fmt.{HasWritten}
-use Rattle.chan_deck.specs.Texts.{address_text}
 use Rattle.chan_deck.proofs.AddressLemmas.{short_address, middle_address, long_address}
 use Rattle.chan_deck.proofs.texts.AddressDisplay.fmt.Goals as goal
 
