@@ -9,15 +9,16 @@ use crate::guard::Guard;
 use crate::image::image;
 use crate::job::Job;
 use crate::limit::Limit;
+use crate::place::{Entry, Place};
 use crate::reason::Reason;
 use crate::seek::argument_addresses;
 use crate::verdict::Verdict;
-use crate::visit::Visit;
+use crate::word::skips;
 use cases::{
     FORMATS, GUARDED, MASKS, SEARCHES, SEEKS, SET_MASKS, STORAGE, TRANSFERS, TWO_FAULTS, USUAL,
 };
-use ccw_core::{Area, Storage};
-use ckd_core::{Command, Device, Extents, FileMask};
+use ccw_core::{Area, Ccw, Storage};
+use ckd_core::{Device, Extents, FileMask, Kind, MaskClass, lookup};
 use std::alloc::Global;
 use std::process::Abort;
 use std::test::Fail;
@@ -68,6 +69,24 @@ fn has_byte_in(bytes: &[u32], start: u32, len: u32) -> bool {
     false
 }
 
+/// What a file mask decides over in the command that begins at a place.
+fn class_at(place: Place, word: &Ccw) -> Option<MaskClass> {
+    if place.entered != Entry::Fresh {
+        return None;
+    }
+    lookup(word.command()).map(|command| command.class())
+}
+
+/// Whether the CCW at a place stores.
+fn stores(place: Place, word: &Ccw) -> bool {
+    let kind = match place.entered {
+        Entry::Fresh => lookup(word.command()).map(|command| command.kind()),
+        Entry::ChainIn => Some(Kind::Inward),
+        _ => None,
+    };
+    kind == Some(Kind::Inward) && !word.is_transfer() && !skips(word)
+}
+
 /// The guarded bytes, one by one: those of each CCW, those of each argument that a seek gathers, and
 /// each that Set File Mask sets.
 fn guarded_bytes(
@@ -88,15 +107,14 @@ fn guarded_bytes(
         if fault_at(job, place).is_some() {
             continue;
         }
-        let visit = Visit::new(place, word);
-        let _command: Option<Command> = visit.command;
-        if visit.begins_seek() {
-            if let Some(addresses) = argument_addresses(&job.storage, place.address) {
-                arguments.extend_from_slice(&addresses)?;
+        match class_at(place, &word) {
+            Some(MaskClass::Seek | MaskClass::SeekCylinder | MaskClass::SeekHead) => {
+                if let Some(addresses) = argument_addresses(&job.storage, place.address) {
+                    arguments.extend_from_slice(&addresses)?;
+                }
             }
-        }
-        if visit.begins_set_mask() {
-            arguments.push(word.address())?;
+            Some(MaskClass::SetMask) => arguments.push(word.address())?,
+            _ => {}
         }
     }
     Ok((ccws, arguments))
@@ -112,14 +130,10 @@ fn guards_agree(alloc: Global, job: &Job) -> Result<(), Fail> {
     let guard = Guard::new(alloc, job, &explored)?;
     let (ccws, arguments) = guarded_bytes(alloc, job, &explored)?;
     for place in explored.places() {
-        let Some(word) = job.storage.ccw_at(place.address) else {
-            continue;
+        let word = match job.storage.ccw_at(place.address) {
+            Some(word) if stores(place, &word) => word,
+            _ => continue,
         };
-        let visit = Visit::new(place, word);
-        let _command: Option<Command> = visit.command;
-        if !visit.stores() {
-            continue;
-        }
         let (start, len) = (word.address(), u32::from(word.count()));
         if guard.meets_ccw(start, len) != has_byte_in(&ccws, start, len)
             || guard.meets_argument(start, len) != has_byte_in(&arguments, start, len)
