@@ -10,7 +10,7 @@ use Rattle.ccw_core.specs.Ccw.{Fields}
 use Rattle.ccw_core.specs.Storage.{ccw_at}
 use Rattle.ccw_core.specs.Written.{AppendsPrefix}
 use Rattle.ckd_core.specs.Table.{Entry as TableEntry, lookup}
-use Rattle.ccw_core.proofs.Prefixes.{appends_all, prefix_of_more, prefix_after}
+use Rattle.ccw_core.proofs.Prefixes.{prefix_of_more, prefix_after}
 use Rattle.chan_walk.specs.declared.job.Job.{Job}
 use Rattle.chan_walk.specs.declared.place.Entry.{Entry}
 use Rattle.chan_walk.specs.declared.place.Entry.TheVariants.{Fresh, ChainIn, ChainOut, ChainSearch}

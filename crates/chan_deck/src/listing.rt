@@ -209,7 +209,8 @@ fn write_row<W: Write>(
     requires { to.old.failed ≡ false }
     ensures ok { OnOk result ((sent : List ℕ)
         × Appends (W.contents to.old.device) (W.contents to.new.device) sent
-        × (sent ++ string_bytes piece.new ≡ string_bytes piece.old ++ list.row_with place ccw (option_map entry_of command) marked)) }
+        × (sent ++ string_bytes piece.new ≡ string_bytes piece.old
+        ++ list.row_with place ccw (option_map entry_of command) marked)) }
     ensures prefix { AppendsPrefix (W.contents to.old.device) (W.contents to.new.device)
         (string_bytes piece.old ++ list.row_with place ccw (option_map entry_of command) marked) }
     ensures write { IsErrOf result ListError.Write ↔ (to.new.failed ≡ true) }
@@ -254,8 +255,10 @@ pub fn write_listing<W: Write>(
     to: &mut Watched<W>,
 ) -> Result<(), ListError>
     requires { to.old.failed ≡ false }
-    ensures ok { OnOk result (Appends (W.contents to.old.device) (W.contents to.new.device) (list.listing (storage_of job.now) explored.now verdict)) }
-    ensures prefix { AppendsPrefix (W.contents to.old.device) (W.contents to.new.device) (list.listing (storage_of job.now) explored.now verdict) }
+    ensures ok { OnOk result (Appends (W.contents to.old.device) (W.contents to.new.device)
+        (list.listing (storage_of job.now) explored.now verdict)) }
+    ensures prefix { AppendsPrefix (W.contents to.old.device) (W.contents to.new.device)
+        (list.listing (storage_of job.now) explored.now verdict) }
     ensures write { IsErrOf result ListError.Write ↔ (to.new.failed ≡ true) }
 {
     let mut piece = String::new(alloc);
@@ -289,10 +292,11 @@ pub fn write_judged<W: Write>(
         → list.seen_listing judged.now.looks judged.now.verdict
         ≡ list.listing (storage_of j) (places_of_looks judged.now.looks) judged.now.verdict }
 {
+    let named = judged.verdict();
     let mut piece = String::new(alloc);
     for look in judged.looks() {
         let place = look.place();
-        let marked = is_named(judged.verdict(), place.address);
+        let marked = is_named(named, place.address);
         write_row(
             alloc,
             &mut piece,
@@ -303,5 +307,5 @@ pub fn write_judged<W: Write>(
             to,
         )?;
     }
-    write_end(alloc, piece, judged.verdict(), to)
+    write_end(alloc, piece, named, to)
 }

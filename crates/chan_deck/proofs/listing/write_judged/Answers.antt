@@ -1,4 +1,4 @@
-use Rattle.std.proofs.Common.{◌≡◌, ◌∷◌, [], ◌++◌, ◌+◌, ◌<◌, ◌≤◌, ◌∙◌, ap, sym, subst, arith, rules, string_bytes, List, ℕ, length, get_or, take, drop}
+use Rattle.std.proofs.Common.{◌≡◌, ◌++◌, ◌+◌, ◌<◌, ◌∙◌, ap, sym, subst, arith, rules, string_bytes, List, ℕ, length, get_or, take, drop}
 use Rattle.std.proofs.lemmas.Result.{on_ok_weaker}
 use Rattle.std.specs.Io.KnownBytes.{Appends}
 use Rattle.ccw_core.specs.Written.{AppendsPrefix}
@@ -23,7 +23,7 @@ loop-look-preserved g c =
     let lengths = ap (λ (xs : List Seen). length xs) same in
     let within : i < length ls = omega (arith, lengths) in
     let is : l ≡ get_or ls i l = c.look-item.is ∙ ap (λ (xs : List Seen). get_or xs i l) same in
-    let named = c.is_named-marked.ensures ∙ ap (λ w. is_named w c.place-place.result.address) c.verdict.ensures in
+    let named = c.is_named-marked.ensures ∙ ap (λ w. is_named w c.place-place.result.address) c.verdict-named.ensures in
     let told = seen_row-told v l held _ _ _ _ c.place-place.ensures c.ccw.ensures c.command.ensures named in
     record {
       sound = search rules;
@@ -43,7 +43,7 @@ returns-in_err-write_row-clause-prefix g c =
     let lengths = ap (λ (xs : List Seen). length xs) same in
     let within : i < length ls = omega (arith, lengths) in
     let is : l ≡ get_or ls i l = c.look-item.is ∙ ap (λ (xs : List Seen). get_or xs i l) same in
-    let named = c.is_named-marked.ensures ∙ ap (λ w. is_named w c.place-place.result.address) c.verdict.ensures in
+    let named = c.is_named-marked.ensures ∙ ap (λ w. is_named w c.place-place.result.address) c.verdict-named.ensures in
     let told = seen_row-told v l held _ _ _ _ c.place-place.ensures c.ccw.ensures c.command.ensures named in
     row_begun (seen_row v) (verdict_line v) _ _ _ (take i ls) l (drop (i + 1) ls) ls held c.loop-look.invariant.sent
     (subst (λ (t : List ℕ). AppendsPrefix (g.W.Write.contents c.loop-look.to.device) (g.W.Write.contents c.write_row.new.to.device) t) told c.write_row.ensures.prefix)
@@ -59,7 +59,7 @@ returns-clause-ok g c =
     let all = seen_all ls i (omega (arith, lengths)) in
     on_ok_weaker c.write_end.result
     (λ written. end_sent (seen_row v) (verdict_line v) _ _ _ (take i ls) ls held c.loop-look.invariant.sent
-    (subst (λ w. Appends (g.W.Write.contents c.loop-look.to.device) (g.W.Write.contents c.write_end.new.to.device) (held ++ verdict_line w)) c.verdict-2.ensures written) all)
+    (subst (λ w. Appends (g.W.Write.contents c.loop-look.to.device) (g.W.Write.contents c.write_end.new.to.device) (held ++ verdict_line w)) c.verdict-named.ensures written) all)
     c.write_end.ensures.ok
 
 pub returns-clause-prefix : goal.returns-clause-prefix
@@ -71,7 +71,7 @@ returns-clause-prefix g c =
     let lengths = ap (λ (xs : List Seen). length xs) c.looks-look-items.ensures in
     let all = seen_all ls i (omega (arith, lengths)) in
     end_begun (seen_row v) (verdict_line v) _ _ _ (take i ls) ls held c.loop-look.invariant.sent
-    (subst (λ w. AppendsPrefix (g.W.Write.contents c.loop-look.to.device) (g.W.Write.contents c.write_end.new.to.device) (held ++ verdict_line w)) c.verdict-2.ensures c.write_end.ensures.prefix) all
+    (subst (λ w. AppendsPrefix (g.W.Write.contents c.loop-look.to.device) (g.W.Write.contents c.write_end.new.to.device) (held ++ verdict_line w)) c.verdict-named.ensures c.write_end.ensures.prefix) all
 
 pub returns-clause-listing : goal.returns-clause-listing
 returns-clause-listing g c = λ j h. listing_seen j c.args.judged.now.verdict c.args.judged.now.looks h
