@@ -21,22 +21,6 @@ pub record IsFollowed (s : List ℕ) (a : ℕ) (taken : List ℕ) (have here : �
   pub to : (l : List ℕ) → IsChain s (6 - have) here l → (k : List ℕ) × IsChain s 6 a k × (joined s k ≡ before ++ joined s l)
   pub from : (k : List ℕ) → IsChain s 6 a k → (l : List ℕ) × IsChain s (6 - have) here l
 
-pub followed_first : (s : List ℕ) (a : ℕ) (taken : List ℕ) → length taken ≡ 6 → a < 2 ^ 32 → IsFollowed s a taken 0 a
-followed_first s a taken n h = record {
-  size = n;
-  few = omega arith;
-  near = h;
-  before = [];
-  count = refl;
-  noted = λ i l. absurd (omega arith);
-  to = λ l k. (l, k, refl);
-  from = λ k h. (k, h);
-}
-
-pub no_part : (s : List ℕ) (a : ℕ) (taken : List ℕ) (have here : ℕ) → IsFollowed s a taken have here → is_part s here ≡ false
-    → (l : List ℕ) → IsChain s 6 a l → ⊥
-no_part s a taken have here w e k h = let l = w.from k h in both_ways _ e (chain_begins_with_part s _ here l.0 l.1)
-
 chain_goes_on : (s : List ℕ) (n a : ℕ) (l : List ℕ) → (ccw s a).count < n → IsChain s n a l
     → (chains_data (ccw s a) ≡ true) × ((k : List ℕ) × IsChain s (n - (ccw s a).count) (onward s a) k)
 chain_goes_on s n a [] lt k = absurd k.begins

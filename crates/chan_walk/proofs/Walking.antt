@@ -195,17 +195,6 @@ first_overflows j n p ps e a = record {
   only = only_first j;
 }
 
-pub walked_first : (j : Job) (n : ℕ) (ps : List Place) → Adds n (Some (first_place j)) [] ps → IsWalked j n ps 0
-walked_first j n ps (inl a) = absurd a.0
-walked_first j n ps (inr a) = subst (λ z. IsWalked j n z 0) (sym a.1) (record {
-  few = omega (arith, a.2);
-  within = omega arith;
-  apart = ((λ h. h), tt);
-  begins = inl refl;
-  only = only_first j;
-  closed = λ k p q h e f. absurd (omega arith);
-})
-
 -- where the successors of all are found, each reachable place is
 pub all_found : (j : Job) (n : ℕ) (ps : List Place) (i : ℕ) → IsWalked j n ps i → length ps ≤ i → (p : Place) → IsReachable j p → Has ps p
 all_found j n ps i w h p r = go p r.0 r.1

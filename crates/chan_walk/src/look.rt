@@ -191,8 +191,8 @@ fn look_at_word(job: &Job, lending: Lending, place: Place, word: Ccw) -> Look
     }
 }
 
-/// Looks at a place: its CCW is decoded once, the command table is asked once, and the argument of a
-/// seek is gathered once.
+/// Looks at a place: the command table is asked once, and the argument of a seek is gathered once,
+/// along its chain.
 pub(crate) fn look_at(job: &Job, lending: Lending, place: Place) -> Look
     requires { Lends job.now lending }
     ensures place { result.place ≡ place }
