@@ -1,4 +1,4 @@
-//! One look at a place: all that judging asks of it, as storage stands before the program's start.
+//! One look at a place: all that judging asks of it, in the initial storage.
 
 ghost use Rattle.std.specs.Prelude.{◌≡◌, ◌<◌, ◌^◌, ℕ, Some, None, true, false, option_map};
 ghost use Rattle.ccw_core.specs.Held.{bytes_held};
@@ -47,7 +47,7 @@ impl Argument {
     }
 }
 
-/// What is seen of a place at one look, as storage stands before the program's start.
+/// What is seen of a place at one look, in the initial storage.
 #[derive(Debug, Drop)]
 pub struct Look {
     place: Place,
