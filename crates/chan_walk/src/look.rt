@@ -139,12 +139,12 @@ fn look_at_nothing(place: Place) -> Look
 
 /// The addresses of the argument of the seek that begins at a place, if one does.
 fn sought(storage: &Storage, visit: &Visit) -> Option<[u32; 6]>
-    requires { IsBegun visit.now }
+    requires { IsVisit (bytes_held storage.now) visit.now }
     ensures seek { begins_seek visit.now.place visit.now.word ≡ true → HasAddresses (bytes_held storage.now) visit.now.place.address result }
     ensures other { begins_seek visit.now.place visit.now.word ≡ false → result ≡ None }
 {
     if visit.begins_seek() {
-        argument_addresses(storage, visit.place.address)
+        argument_addresses(storage, visit.place.address, visit.word)
     } else {
         None
     }
