@@ -4,7 +4,7 @@ use Rattle.chan_walk.specs.declared.job.Job.{Job}
 use Rattle.chan_walk.specs.declared.place.Place.{Place}
 use Rattle.chan_walk.specs.declared.verdict.Verdict.{Verdict}
 use Rattle.chan_walk.specs.declared.verdict.Verdict.TheVariants.{Yes, No}
-use Rattle.chan_walk.specs.Alarm.{Shows}
+use Rattle.chan_walk.specs.Alarm.{IsShownAt}
 use Rattle.chan_walk.specs.Explored.{AreReachable}
 use Rattle.chan_walk.specs.Headline.{IsSafe, IsSteady}
 
@@ -15,7 +15,7 @@ CoversEveryRun j v = v ≡ Yes → IsSafe j × IsSteady j
 -- a no is no false alarm: a run comes to a place with its address and shows its reason there
 abbrev pub IsShown : Job → Verdict → Type 0
 IsShown j Yes = Unit {0}
-IsShown j (No a r) = (p : Place) × (p.address ≡ a) × Shows j p r
+IsShown j (No a r) = (p : Place) × (p.address ≡ a) × IsShownAt j p r
 
 -- the answer is yes wherever every run is safe and the job is steady
 abbrev pub MissesNoYes : Job → Verdict → Type 0

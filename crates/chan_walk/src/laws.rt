@@ -1,6 +1,6 @@
 //! The laws of the machine: each is the contract of a function that does nothing, so that it is proved.
 
-ghost use Rattle.chan_walk.specs.Alarm.{EachPathIsRun, HeadlineAloneIsEnough, NoFalseAlarm, SafeIsYes};
+ghost use Rattle.chan_walk.specs.Alarm.{EachPathIsRun, EachPathShows, HeadlineAloneIsEnough, NoFalseAlarm, SafeIsYes};
 ghost use Rattle.chan_walk.specs.Counted.{SameVerdict, YesByGuarded, YesStays};
 ghost use Rattle.chan_walk.specs.Headline.{GathersArguments, GuardedStays, StaysReachable, YesIsSafe};
 ghost use Rattle.chan_walk.specs.Order.{NumbersIncrease};
@@ -30,6 +30,12 @@ pub(crate) fn yes_is_safe()
 /// stores only what storage already held.
 pub(crate) fn each_path_is_run()
     ensures { EachPathIsRun }
+{}
+
+/// Each path to an offending place is a witness: a run over exactly this path, which changes nothing
+/// on the way, shows the reason there.
+pub(crate) fn each_path_shows()
+    ensures { EachPathShows }
 {}
 
 /// Where the verdict is no, a run comes to a place with its address and shows its reason there.
