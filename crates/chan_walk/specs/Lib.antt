@@ -29,3 +29,5 @@ pub mod Guard
 pub mod Look
 pub mod Judged
 pub mod Answers
+pub mod Offences
+pub mod Paths

@@ -3,6 +3,7 @@
 ghost use Rattle.chan_walk.specs.Alarm.{EachPathIsRun, EachPathShows, HeadlineAloneIsEnough, NoFalseAlarm, SafeIsYes};
 ghost use Rattle.chan_walk.specs.Counted.{SameVerdict, YesByGuarded, YesStays};
 ghost use Rattle.chan_walk.specs.Headline.{GathersArguments, GuardedStays, StaysReachable, YesIsSafe};
+ghost use Rattle.chan_walk.specs.Offences.{FirstIsVerdict};
 ghost use Rattle.chan_walk.specs.Order.{NumbersIncrease};
 
 /// Where the verdict is yes, guarded bytes never change.
@@ -36,6 +37,11 @@ pub(crate) fn each_path_is_run()
 /// on the way, shows the reason there.
 pub(crate) fn each_path_shows()
     ensures { EachPathShows }
+{}
+
+/// The first of a job's offences is the verdict, and yes where there is none.
+pub(crate) fn first_is_verdict()
+    ensures { FirstIsVerdict }
 {}
 
 /// Where the verdict is no, a run comes to a place with its address and shows its reason there.
