@@ -34,6 +34,6 @@ pub mod Lending
 pub mod Guarding
 pub mod Looking
 pub mod Sorting
-pub mod Offences
+pub mod Listing
 pub mod Tracing
 pub mod Backward

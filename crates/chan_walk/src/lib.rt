@@ -45,7 +45,7 @@ pub use crate::job::Job;
 pub use crate::judging::{Judged, judge, verify};
 pub use crate::limit::Limit;
 pub use crate::look::Look;
-pub use crate::offence::Offence;
+pub use crate::offence::{Offence, offences};
 pub use crate::path::path_to;
 pub use crate::place::{Entry, Place, first_place};
 pub use crate::reason::Reason;
