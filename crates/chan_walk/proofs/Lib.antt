@@ -35,5 +35,6 @@ pub mod Guarding
 pub mod Looking
 pub mod Sorting
 pub mod Listing
+pub mod Explaining
 pub mod Tracing
 pub mod Backward

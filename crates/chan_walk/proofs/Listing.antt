@@ -24,7 +24,7 @@ use Rattle.chan_walk.specs.Guarded.{IsArgumentByte, IsCcwByte}
 use Rattle.chan_walk.specs.Job.{storage_of}
 use Rattle.chan_walk.specs.Least.{AreReached, IsOwn}
 use Rattle.chan_walk.specs.Look.{IsLook, Seen, place_of, places_of_looks}
-use Rattle.chan_walk.specs.Offences.{AddsOffences, AreOffences, FirstIsVerdict, HasOffences, Offending, StoresInto, first_verdict, offence_number}
+use Rattle.chan_walk.specs.Offences.{AddsOffences, AreAllOffences, AreOffences, FirstIsVerdict, HasOffences, Offending, StoresInto, first_verdict, offence_number}
 use Rattle.chan_walk.specs.Place.{word_at}
 use Rattle.chan_walk.specs.Ranges.{Meets}
 use Rattle.chan_walk.specs.Reachable.{IsReachable}
@@ -125,7 +125,7 @@ reason_of-number WeakensMask = refl
 same_reason : (r t : Reason) → number_of r ≡ number_of t → r ≡ t
 same_reason r t e = sym (reason_of-number r) ∙ ap reason_of e ∙ reason_of-number t
 
-same_offence : (o t : Offence) → offence_number o ≡ offence_number t → o ≡ t
+pub same_offence : (o t : Offence) → offence_number o ≡ offence_number t → o ≡ t
 same_offence o t e =
     let a = number_small o.reason in
     let b = number_small t.reason in
@@ -327,3 +327,11 @@ some_offence (o ∷ os) n b l e f = (o, inl refl)
 pub no_offence : (os : List Offence) (n : ℕ) (b : Bool) → n ≡ length os → b ≡ (n == 0) → b ≡ true → os ≡ []
 no_offence [] n b l e f = refl
 no_offence (o ∷ os) n b l e f = let z = eqb-true n 0 (sym e ∙ f) in absurd (omega (arith, l, z))
+
+-- the same offences in order
+pub put_in_order : (j : Job) (os ts : List Offence) → AreAllOffences j os → IsStrictlyIncreasing (map offence_number ts) → ((o : Offence) → Has ts o ↔ Has os o) → AreOffences j ts
+put_in_order j os ts all up same = record {
+  ordered = up;
+  each = λ o h. (same o).1 ((all.exactly o).1 h);
+  only = λ o h. (all.exactly o).0 ((same o).0 h);
+}

@@ -31,3 +31,4 @@ pub mod Judged
 pub mod Answers
 pub mod Offences
 pub mod Paths
+pub mod Explained

@@ -11,6 +11,7 @@
 #![tactic(auto)]
 
 mod error;
+mod explanation;
 mod explored;
 mod exploring;
 mod fault;
@@ -37,6 +38,7 @@ mod ways;
 mod word;
 
 pub use crate::error::WalkError;
+pub use crate::explanation::{Explanation, explain};
 pub use crate::explored::{Explored, Places};
 pub use crate::exploring::explore;
 pub use crate::fault::fault_at;

@@ -39,7 +39,7 @@ pub struct Offence {
 impl Offence {
     /// The number by which offences are in order: by address, then by the reason's number, then by
     /// the way in which the place is entered.
-    fn number(&self) -> u64
+    pub(crate) fn number(&self) -> u64
         ensures { result ≡ listed.offence_number self.now }
     {
         let address = u64::from(self.place.address);
@@ -58,11 +58,22 @@ pub fn offences(alloc: Global, job: &Job) -> Result<Vec<Offence>, WalkError>
     ensures many { result ≡ Err WalkError.TooManyPlaces → HasMoreThan job.now job.now.limit }
 {
     let looks = walk_all(alloc, job)?.looks;
-    Ok(in_order(offences_of(alloc, looks.as_slice())?))
+    let offences = offences_of(alloc, looks.as_slice())?;
+    Ok(offences)
 }
 
-/// The offences of a job whose reachable places are those that were looked at.
+/// The offences, in order, of a job whose reachable places are those that were looked at.
 pub(crate) fn offences_of(alloc: Global, looks: &[Look]) -> Result<Vec<Offence>, AllocError>
+    requires looks { (j : Job) × AreLooks j looks.now × AreReached j (places_of_looks looks.now) }
+    requires apart { AreApart (places_of_looks looks.now) }
+    ensures { IfOk result (λ v. (j : Job) → AreLooks j looks.now → AreReached j (places_of_looks looks.now) → AreOffences j v.items) }
+{
+    let offences = unordered(alloc, looks)?;
+    Ok(in_order(offences))
+}
+
+/// The same offences, not in order yet.
+fn unordered(alloc: Global, looks: &[Look]) -> Result<Vec<Offence>, AllocError>
     requires looks { (j : Job) × AreLooks j looks.now }
     requires apart { AreApart (places_of_looks looks.now) }
     ensures { IfOk result (λ v. (j : Job) → AreLooks j looks.now → AreReached j (places_of_looks looks.now) → AreAllOffences j v.items) }
