@@ -34,3 +34,7 @@ pub mod Lending
 pub mod Guarding
 pub mod Looking
 pub mod Sorting
+pub mod Listing
+pub mod Explaining
+pub mod Tracing
+pub mod Backward

@@ -4,7 +4,7 @@ use Rattle.chan_walk.specs.declared.job.Job.{Job}
 use Rattle.chan_walk.specs.declared.place.Place.{Place}
 use Rattle.chan_walk.specs.declared.verdict.Verdict.{Verdict}
 use Rattle.chan_walk.specs.declared.verdict.Verdict.TheVariants.{Yes, No}
-use Rattle.chan_walk.specs.Alarm.{Shows}
+use Rattle.chan_walk.specs.Alarm.{IsShownAt}
 use Rattle.chan_walk.specs.Explored.{AreReachable}
 use Rattle.chan_walk.specs.Headline.{IsSafe, IsSteady}
 
@@ -15,7 +15,7 @@ IsSound j v = v ≡ Yes → IsSafe j × IsSteady j
 -- a no has a witness: a run that comes to a place with its address and shows its reason there
 abbrev pub HasWitness : Job → Verdict → Type 0
 HasWitness j Yes = Unit {0}
-HasWitness j (No a r) = (p : Place) × (p.address ≡ a) × Shows j p r
+HasWitness j (No a r) = (p : Place) × (p.address ≡ a) × IsShownAt j p r
 
 -- complete: the answer is yes wherever every run is safe and the job is steady
 abbrev pub IsComplete : Job → Verdict → Type 0
