@@ -11,7 +11,7 @@ pub enum DeckError {
     /// this cause.
     #[error("line {line} is refused: {cause:?}")]
     At { line: u64, cause: Cause },
-    /// Memory was wanting.
+    /// An allocation was refused.
     #[error("out of memory")]
     Memory,
 }

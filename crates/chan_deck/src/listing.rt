@@ -32,7 +32,7 @@ pub enum ListError {
     /// A write failed.
     #[error("write failed")]
     Write,
-    /// Memory was wanting.
+    /// An allocation was refused.
     #[error("out of memory")]
     Memory,
 }

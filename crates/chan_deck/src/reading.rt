@@ -68,7 +68,7 @@ fn read_parts(alloc: Global, text: &[u8]) -> Result<Parts, DeckError>
 ///
 /// A text that spells none is refused: the line is the first, counted from 1, with which no deck's
 /// text goes on, and the cause is the first of the table that applies to it. `Memory` comes only
-/// where a growth was refused. The text is gone over once.
+/// where a growth was refused. Each line is looked at once, after its line feed was found.
 pub fn read_deck(alloc: Global, text: &[u8]) -> Result<Deck, DeckError>
     ensures spelled { IfOk result (Spells text.now) }
     ensures refused { IfErr result (IsRefusal text.now) }
@@ -95,7 +95,7 @@ pub fn read_deck(alloc: Global, text: &[u8]) -> Result<Deck, DeckError>
         store,
     } = lists;
 
-    // The pairs were judged at their lines, so only memory can be wanting.
+    // The pairs were judged at their lines, so only an allocation can fail.
     let extents = Extents::new(alloc, &extents).map_err(|_| DeckError::Memory)?;
     Ok(Deck {
         version,

@@ -21,7 +21,7 @@ pub(crate) enum InputError {
     Read,
     /// There are more than 67,108,864 bytes.
     TooLong,
-    /// Memory was wanting.
+    /// An allocation was refused.
     Memory,
 }
 

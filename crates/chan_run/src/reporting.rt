@@ -26,7 +26,7 @@ pub enum Outcome {
     HelpAsked,
     /// The command line is wrong.
     UsageFault,
-    /// Memory was wanting for the command line.
+    /// An allocation for the command line was refused.
     NoMemoryForCommandLine,
     /// Standard output couldn't be flushed.
     FlushFailed,

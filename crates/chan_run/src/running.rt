@@ -54,7 +54,7 @@ pub enum RunError {
     /// A write failed.
     #[error("write failed")]
     Write,
-    /// Memory was wanting.
+    /// An allocation was refused.
     #[error("out of memory")]
     Memory,
 }

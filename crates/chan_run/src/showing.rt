@@ -21,7 +21,7 @@ pub enum ShowError {
     /// The text isn't sixteen hexadecimal digits.
     #[error("not a CCW")]
     NotCcw,
-    /// Memory was wanting.
+    /// An allocation was refused.
     #[error("out of memory")]
     Memory,
     /// The writer failed.

@@ -1,41 +1,26 @@
 -- Following the chain of a seek, CCW by CCW.
-use Rattle.std.proofs.Common.{◌≡◌, ℕ, zero, suc, ◌+◌, ◌-◌, ◌<◌, ◌≤◌, ◌^◌, true, false, List, [], ◌∷◌, ◌++◌, take, length, get_or, refl, sym, ap, ◌∙◌, subst, ◌⊎◌, inl, inr, arith, append_assoc, append-nil, length-append}
+use Rattle.std.proofs.Common.{◌≡◌, ℕ, zero, suc, ◌+◌, ◌-◌, ◌<◌, ◌≤◌, true, false, List, [], ◌∷◌, ◌++◌, take, length, get_or, None, Some, refl, sym, ap, ◌∙◌, subst, ◌⊎◌, inl, inr, arith, append_assoc, append-nil, length-append}
 use Rattle.std.proofs.lemmas.List.{ext_get_or}
 use Rattle.std.specs.List.{range_with_len, AllByRecursion}
 use Rattle.std.proofs.lemmas.Bool.{cases_lt, both_ways, and_parts, leb-true}
-use Rattle.ccw_core.specs.Ccw.{ccw, has_data_in, chains_data}
-use Rattle.ccw_core.specs.Storage.{is_inside}
+use Rattle.ccw_core.specs.Ccw.{Fields, ccw, has_data_in, chains_data}
+use Rattle.ccw_core.specs.Storage.{ccw_at, is_inside}
+use Rattle.ccw_core.proofs.StorageLemmas.{ccw_at-some}
 use Rattle.chan_walk.specs.Argument.{is_part, Leads, AreLinked, IsChain, argument_addresses, joined, data_of, total}
 use Rattle.chan_walk.specs.Onward.{onward}
 use Rattle.chan_walk.proofs.Chains.{chain_cons, chain_tail, chain_begins_with_part, onward_leads, onward_only, part_counts}
+use Rattle.chan_walk.proofs.CheckCases.{is_part-none}
 use Rattle.chan_walk.proofs.Lists.{all_append, range_split, take_front}
 
 -- the addresses taken so far are those of the chain in front of here, and six less these are still to come
 pub record IsFollowed (s : List ℕ) (a : ℕ) (taken : List ℕ) (have here : ℕ) : Type 0 where
   pub size : length taken ≡ 6
   pub few : have < 6
-  pub near : here < 2 ^ 32
   pub before : List ℕ
   pub count : length before ≡ have
   pub noted : (i : ℕ) → i < have → get_or taken i 0 ≡ get_or before i 0
   pub to : (l : List ℕ) → IsChain s (6 - have) here l → (k : List ℕ) × IsChain s 6 a k × (joined s k ≡ before ++ joined s l)
   pub from : (k : List ℕ) → IsChain s 6 a k → (l : List ℕ) × IsChain s (6 - have) here l
-
-pub followed_first : (s : List ℕ) (a : ℕ) (taken : List ℕ) → length taken ≡ 6 → a < 2 ^ 32 → IsFollowed s a taken 0 a
-followed_first s a taken n h = record {
-  size = n;
-  few = omega arith;
-  near = h;
-  before = [];
-  count = refl;
-  noted = λ i l. absurd (omega arith);
-  to = λ l k. (l, k, refl);
-  from = λ k h. (k, h);
-}
-
-pub no_part : (s : List ℕ) (a : ℕ) (taken : List ℕ) (have here : ℕ) → IsFollowed s a taken have here → is_part s here ≡ false
-    → (l : List ℕ) → IsChain s 6 a l → ⊥
-no_part s a taken have here w e k h = let l = w.from k h in both_ways _ e (chain_begins_with_part s _ here l.0 l.1)
 
 chain_goes_on : (s : List ℕ) (n a : ℕ) (l : List ℕ) → (ccw s a).count < n → IsChain s n a l
     → (chains_data (ccw s a) ≡ true) × ((k : List ℕ) × IsChain s (n - (ccw s a).count) (onward s a) k)
@@ -55,6 +40,23 @@ chain_goes_on s n a (x ∷ y ∷ l) lt k =
 pub no_more : (s : List ℕ) (a : ℕ) (taken : List ℕ) (have here : ℕ) → IsFollowed s a taken have here → (ccw s here).count < 6 - have
     → chains_data (ccw s here) ≡ false → (l : List ℕ) → IsChain s 6 a l → ⊥
 no_more s a taken have here w lt e k h = let l = w.from k h in both_ways _ e (chain_goes_on s _ here l.0 lt l.1).0
+
+-- no chain begins where no CCW stands
+pub begins_nowhere : (s : List ℕ) (n a : ℕ) → ccw_at s a ≡ None → (l : List ℕ) → IsChain s n a l → ⊥
+begins_nowhere s n a e l k = both_ways _ (is_part-none s a e) (chain_begins_with_part s n a l k)
+
+-- there is no chain where what stands here gives no bytes
+pub leads_to_no_part : (s : List ℕ) (a : ℕ) (taken : List ℕ) (have here : ℕ) → IsFollowed s a taken have here → is_part s here ≡ false
+    → (l : List ℕ) → IsChain s 6 a l → ⊥
+leads_to_no_part s a taken have here w n k h = let l = w.from k h in both_ways _ n (chain_begins_with_part s _ here l.0 l.1)
+
+-- nor where data chaining leads to no CCW
+pub leads_nowhere : (s : List ℕ) (a : ℕ) (taken : List ℕ) (have here : ℕ) → IsFollowed s a taken have here → (ccw s here).count < 6 - have
+    → ccw_at s (onward s here) ≡ None → (l : List ℕ) → IsChain s 6 a l → ⊥
+leads_nowhere s a taken have here w lt n k h =
+    let l = w.from k h in
+    let m = (chain_goes_on s _ here l.0 lt l.1).1 in
+    begins_nowhere s _ (onward s here) n m.0 m.1
 
 length-range : (a n : ℕ) → length (range_with_len a n) ≡ n
 length-range a zero = refl
@@ -89,17 +91,16 @@ note_more before taken taken' have from n c r b a i h = go (cases_lt i have)
         ∙ sym (ap (λ z. get_or (before ++ range_with_len from n) z 0) k' ∙ index_right before (range_with_len from n) (i - have) ∙ index-range from n (i - have) (omega arith))
 
 pub followed_more : (s : List ℕ) (a : ℕ) (taken taken' : List ℕ) (have here : ℕ) → IsFollowed s a taken have here → is_part s here ≡ true
-    → (ccw s here).count < 6 - have → chains_data (ccw s here) ≡ true → length taken' ≡ 6 → onward s here < 2 ^ 32
+    → (ccw s here).count < 6 - have → chains_data (ccw s here) ≡ true → length taken' ≡ 6
     → ((i : ℕ) → i < have → get_or taken' i 0 ≡ get_or taken i 0) → ((i : ℕ) → i < (ccw s here).count → get_or taken' (have + i) 0 ≡ (ccw s here).address + i)
     → IsFollowed s a taken' (have + (ccw s here).count) (onward s here)
-followed_more s a taken taken' have here w part lt cd n near b ad =
+followed_more s a taken taken' have here w part lt cd n b ad =
     let f = w.few in
     let c = w.count in
     let d : 6 - have - (ccw s here).count ≡ 6 - (have + (ccw s here).count) = omega arith in
     record {
       size = n;
       few = omega arith;
-      near = near;
       before = w.before ++ data_of s here;
       count = length-append w.before (data_of s here) ∙ ap (λ z. z + length (data_of s here)) c ∙ ap (λ z. have + z) (length-range (ccw s here).address (ccw s here).count);
       noted = note_more w.before taken taken' have (ccw s here).address (ccw s here).count c w.noted b ad;
@@ -131,20 +132,23 @@ followed_whole s a taken taken' have here w part le n b ad =
     (t.0, t.1, same ∙ sym args)
 
 -- what a CCW that gives bytes fits
-pub record IsInRange (s : List ℕ) (a : ℕ) : Type 0 where
+pub record IsInRange (s : List ℕ) (a : ℕ) (c : Fields) : Type 0 where
   pub inside : a + 8 ≤ length s
-  pub data_in : (ccw s a).address + (ccw s a).count ≤ length s
-  pub counts : 0 < (ccw s a).count
+  pub data_in : c.address + c.count ≤ length s
+  pub counts : 0 < c.count
 
-pub part_in_range : (s : List ℕ) (a : ℕ) → is_part s a ≡ true → IsInRange s a
+in_range : (s : List ℕ) (a : ℕ) → is_part s a ≡ true → IsInRange s a (ccw s a)
 unfolding is_part is_inside has_data_in
-part_in_range s a h =
+in_range s a h =
     let h5 = and_parts _ _ h in
     let h4 = and_parts _ _ h5.0 in
     let h3 = and_parts _ _ h4.0 in
     let h2 = and_parts _ _ h3.0 in
     let h1 = and_parts _ _ h2.0 in
     record { inside = leb-true _ _ h1.1; data_in = leb-true _ _ h5.1; counts = part_counts s a h }
+
+pub part_in_range : (s : List ℕ) (a : ℕ) (c : Fields) → ccw_at s a ≡ Some c → is_part s a ≡ true → IsInRange s a c
+part_in_range s a c h k = subst (IsInRange s a) (sym (ccw_at-some s a c h).2) (in_range s a k)
 
 -- ---- the bytes of an argument lie in storage
 
@@ -153,7 +157,7 @@ range_below a zero n h = tt
 range_below a (suc k) n h = (omega arith, range_below (a + 1) k n (omega arith))
 
 data_below : (s : List ℕ) (a : ℕ) → is_part s a ≡ true → AllByRecursion (λ b. b < length s) (data_of s a)
-data_below s a h = range_below (ccw s a).address (ccw s a).count (length s) (part_in_range s a h).data_in
+data_below s a h = range_below (ccw s a).address (ccw s a).count (length s) (in_range s a h).data_in
 
 joined_below : (s l : List ℕ) → AreLinked s l → AllByRecursion (λ b. b < length s) (joined s l)
 joined_below s [] h = tt
@@ -172,5 +176,5 @@ index_below n (suc i) (x ∷ xs) p h = index_below n i xs p h.1
 
 pub argument_below : (s : List ℕ) (n a : ℕ) (l x : List ℕ) → IsChain s n a l → x ≡ argument_addresses s l → (i : ℕ) → get_or x i 0 < length s
 argument_below s n a l x k e i =
-    let fits = part_in_range s a (chain_begins_with_part s n a l k) in
+    let fits = in_range s a (chain_begins_with_part s n a l k) in
     subst (λ z. get_or z i 0 < length s) (sym e) (index_below (length s) i (take 6 (joined s l)) (omega (arith, fits.inside)) (take_below (length s) 6 (joined s l) (joined_below s l k.linked)))

@@ -1,5 +1,5 @@
 -- The areas of a guard while they are gathered, place by place.
-use Rattle.std.proofs.Common.{◌≡◌, ℕ, ◌+◌, ◌<◌, ◌≤◌, ◌^◌, true, ◌||◌, ◌++◌, List, [], ◌∷◌, map, length, get_or, Option, Some, None, is_some, IfSome, IfNone, refl, sym, ap, ◌∙◌, subst, ◌⊎◌, inl, inr, ◌↔◌, arith}
+use Rattle.std.proofs.Common.{◌≡◌, ℕ, ◌+◌, ◌<◌, ◌≤◌, ◌^◌, true, ◌||◌, ◌++◌, List, [], ◌∷◌, map, length, get_or, Option, Some, None, is_some, refl, sym, ap, ◌∙◌, subst, ◌⊎◌, inl, inr, ◌↔◌, arith}
 use Rattle.std.specs.List.{All}
 use Rattle.std.proofs.lemmas.Bool.{or_cases, or_left, or_right, both_ways, leb-true}
 use Rattle.std.proofs.lemmas.List.Elements.{All-append, All-map}
@@ -11,18 +11,16 @@ use Rattle.ccw_core.proofs.Covering.{lies_in-nil}
 use Rattle.ccw_core.proofs.StorageLemmas.{ccw_at-some}
 use Rattle.chan_walk.specs.declared.job.Job.{Job}
 use Rattle.chan_walk.specs.declared.place.Place.{Place}
-use Rattle.chan_walk.specs.declared.reason.Reason.{Reason}
 use Rattle.chan_walk.specs.Argument.{Has, IsChain, argument_addresses}
-use Rattle.chan_walk.specs.Fault.{begins_seek, HasFault, IsClear}
+use Rattle.chan_walk.specs.Fault.{begins_seek, IsClear}
 use Rattle.chan_walk.specs.Guard.{AddsBytes, IsCcwByteOf, IsSeekByteOf, IsArgumentByteOf, byte_area}
 use Rattle.chan_walk.specs.Guarded.{IsCcwByte, IsSeekByte, IsMaskByte, IsArgumentByte}
 use Rattle.chan_walk.specs.Job.{storage_of}
 use Rattle.chan_walk.specs.Least.{AreReached}
 use Rattle.chan_walk.specs.Place.{word_at}
 use Rattle.chan_walk.specs.Reachable.{IsReachable}
-use Rattle.chan_walk.specs.Ranges.{EndsBelow, HaveSameBytes, Meets}
+use Rattle.chan_walk.specs.Ranges.{EndsBelow, HaveSameBytes}
 use Rattle.chan_walk.proofs.Chains.{chain_unique}
-use Rattle.chan_walk.proofs.Faults.{fault_unique}
 use Rattle.chan_walk.proofs.Lists.{has_left, has_right, has_cases}
 use Rattle.chan_walk.proofs.Merging.{InArea, lies_in-append, lies_in-cases, lies_in-first, lies_in-rest, get_any}
 
@@ -82,21 +80,7 @@ argument_bytes j ps areas r f b = (to, from)
         go (inl k) = inl (h.clear, k)
         go (inr k) = inr (h.clear, k)
 
--- a range meets the areas where it has a byte that is guarded
-pub meets_bytes : (P : ℕ → Type 0) (areas : List Area) (start len : ℕ) → ((b : ℕ) → (lies_in areas b ≡ true) ↔ P b) → Meets areas start len ↔ ((b : ℕ) × (start ≤ b) × (b < start + len) × P b)
-meets_bytes P areas start len f = (
-  (λ m. (m.at, m.from, m.below, (f m.at).0 m.lies)),
-  λ r. record { at = r.0; from = r.1; below = r.2; lies = (f r.0).1 r.3 },
-)
-
 -- ---- at one place
-
-pub adds_nothing : (areas : List Area) (P : ℕ → Type 0) → ((b : ℕ) → P b → ⊥) → AddsBytes areas areas P
-adds_nothing areas P f b = ((λ h. inl h), from)
-  where
-    from : (lies_in areas b ≡ true) ⊎ P b → lies_in areas b ≡ true
-    from (inl h) = h
-    from (inr h) = absurd (f b h)
 
 pub adds_areas : (old added new : List Area) (P : ℕ → Type 0) → new ≡ old ++ added → ((b : ℕ) → (lies_in added b ≡ true) ↔ P b) → AddsBytes old new P
 adds_areas old added new P e f b = ((λ h. to (or_cases (lies_in old b) (lies_in added b) (sym whole ∙ h))), from)
@@ -148,11 +132,6 @@ bytes_of_argument j p l x s f k e b = (
   λ h. subst (λ z. Has z b) (ap (argument_addresses (storage_of j)) (chain_unique (storage_of j) 6 p.address h.1.chain l h.1.is_chain k) ∙ sym e) h.1.has,
 )
 
--- a place with a fault isn't clear
-pub not_clear : (j : Job) (p : Place) (o : Option Reason) → is_some o ≡ true → HasFault j p o → IsClear j p → ⊥
-not_clear j p None e f h = absurd (cc)
-not_clear j p (Some r) e f h = let k = fault_unique j p (Some r) None f h in absurd (cc)
-
 pub stands_from : (s : List ℕ) (a : ℕ) (o : Option Fields) → o ≡ ccw_at s a → is_some o ≡ true → Stands s a
 stands_from s a None e h = absurd (cc)
 stands_from s a (Some c) e h = let k = ccw_at-some s a c (sym e) in (k.0, k.1)
@@ -160,13 +139,3 @@ stands_from s a (Some c) e h = let k = ccw_at-some s a c (sym e) in (k.0, k.1)
 pub stands_low : (s : List ℕ) (a : ℕ) → length s ≤ 2 ^ 24 → Stands s a → EndsBelow (2 ^ 32) (record { start = a; len = 8 })
 unfolding is_inside
 stands_low s a l h = let k = leb-true (a + 8) (length s) h.1 in omega arith
-
--- ---- answers with and without a value
-
-pub if_some : {X : Type 0} (o : Option X) (P Q : X → Type 0) → ((x : X) → P x → Q x) → IfSome o P → IfSome o Q
-if_some None P Q f h = h
-if_some (Some x) P Q f h = f x h
-
-pub if_none : {X : Type 0} (o : Option X) (P : Type 0) → P → IfNone o P
-if_none None P h = h
-if_none (Some x) P h = tt

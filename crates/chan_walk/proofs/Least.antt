@@ -1,5 +1,5 @@
 -- Finding the least pair of address and reason, place by place.
-use Rattle.std.proofs.Common.{◌≡◌, ℕ, zero, suc, ◌+◌, ◌<◌, ◌≤◌, List, [], ◌∷◌, length, get_or, slice_get, Option, Some, None, refl, sym, ap, ◌∙◌, subst, ◌⊎◌, inl, inr, arith}
+use Rattle.std.proofs.Common.{◌≡◌, ℕ, suc, ◌+◌, ◌<◌, ◌≤◌, List, [], ◌∷◌, length, slice_get, Option, Some, None, refl, sym, ap, ◌∙◌, subst, ◌⊎◌, inl, inr, arith}
 use Rattle.std.proofs.lemmas.Bool.{cases_lt}
 use Rattle.chan_walk.specs.declared.job.Job.{Job}
 use Rattle.chan_walk.specs.declared.judging.Finding.{Finding}
@@ -64,10 +64,6 @@ module _ (Off : Place → Reason → Type 0) where
       go q t (inl m) o = comes_first-trans l.0.address b.address q.address l.0.reason b.reason t l.4 (h.1 q t m o)
       go q t (inr e) o = moved l.0 p r q.address t l.2 l.3 (by_new p q r t first e o)
 
-  -- before the first place
-  pub least_none : (ps : List Place) → IsLeast Off (Below ps 0) None
-  least_none ps = λ p t b o. let l = b.below in absurd (omega arith)
-
   -- after the place at i
   pub least_next : (ps : List Place) (i : ℕ) (best : Option Finding) (p : Place) (reason : Option Reason) (now : Option Finding)
       → slice_get ps i ≡ Some p → IsFirst Off p reason → IsLesser best p reason now → IsLeast Off (Below ps i) best → IsLeast Off (Below ps (i + 1)) now
@@ -111,9 +107,3 @@ first_own j p (Some r) h = (
       let e : r ≡ t = cc in
       subst (λ z. number_of r ≤ number_of z) e (omega arith),
 )
-
--- the place at an index that the list has
-pub get_or-slice_get : (ps : List Place) (i : ℕ) (d : Place) → i < length ps → slice_get ps i ≡ Some (get_or ps i d)
-get_or-slice_get [] i d h = absurd (omega arith)
-get_or-slice_get (p ∷ ps) zero d h = refl
-get_or-slice_get (p ∷ ps) (suc i) d h = get_or-slice_get ps i d (omega arith)

@@ -104,20 +104,8 @@ meets_next xs start len a p n = (to, from)
         go (inl l) = l
         go (inr l) = absurd (late k l)
 
-pub meets_none : (xs : List Area) (start len : ℕ) → ((b : ℕ) → start ≤ b → lies_in xs b ≡ false) → Meets xs start len → ⊥
-meets_none xs start len f k = both_ways (lies_in xs k.at) (f k.at k.from) k.lies
-
-pub meets_nothing : (xs : List Area) (start len : ℕ) → len ≡ 0 → Meets xs start len → ⊥
-meets_nothing xs start len e k = let a = k.from in let b = k.below in omega arith
-
 pub covered_next : (xs : List Area) (start len : ℕ) (a : Area) → IsNext xs start a → a.start ≤ start → start + len ≤ end_of a → covered xs start len ≡ true
 covered_next xs start len a n s e = covered-true xs start len (λ b l h. n.inside b (omega arith) (omega arith))
 
-pub uncovered_first : (xs : List Area) (start len : ℕ) (a : Area) → IsNext xs start a → 0 < len → start < a.start → covered xs start len ≡ false
-uncovered_first xs start len a n p s = covered-false xs start len start (omega arith) (omega arith) (n.before start (omega arith) s)
-
 pub uncovered_end : (xs : List Area) (start len : ℕ) (a : Area) → IsNext xs start a → end_of a < start + len → covered xs start len ≡ false
 uncovered_end xs start len a n e = let s = n.ends in covered-false xs start len (end_of a) (omega arith) e n.after
-
-pub uncovered_none : (xs : List Area) (start len : ℕ) → 0 < len → ((b : ℕ) → start ≤ b → lies_in xs b ≡ false) → covered xs start len ≡ false
-uncovered_none xs start len p f = covered-false xs start len start (omega arith) (omega arith) (f start (omega arith))

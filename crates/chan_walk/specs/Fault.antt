@@ -1,4 +1,4 @@
--- The own fault of a place: what is wrong with its CCW as it stands before the program's start.
+-- The own fault of a place: what is wrong with its CCW in the initial storage.
 use Rattle.std.specs.Prelude.{◌≡◌, ℕ, Bool, true, false, not, ◌&&◌, ◌||◌, List, [], ◌∷◌, ◌++◌, Option, None, Some, is_some, is_none, if◌then◌else◌}
 use Rattle.std.specs.Option.{option_or}
 use Rattle.ccw_core.specs.Areas.{covered}

@@ -47,7 +47,7 @@ pub record IsSafeMoment (j : Job) (m : Moment) : Type 0 where
 abbrev pub IsSafe : Job → Type 0
 IsSafe j = (run : List Moment) → IsRun j run → AllByRecursion (IsSafeMoment j) run
 
--- the byte at b is what it was before the program's start
+-- the byte at b is what it was in the initial storage
 abbrev pub Holds : Job → ℕ → Moment → Type 0
 Holds j b m = byte m.storage b ≡ byte (storage_of j) b
 

@@ -6,7 +6,7 @@ use Rattle.ckd_core.specs.Geometry.{heads_of}
 use Rattle.ckd_core.specs.Mask.{is_mask}
 use Rattle.chan_walk.specs.declared.job.Job.{Job}
 
--- main storage from address 0 on, as it stands before the program's start
+-- main storage from address 0 on, as it is before the program's start: the initial storage
 abbrev pub storage_of : Job → List ℕ
 storage_of j = bytes_held j.storage
 

@@ -1,4 +1,4 @@
--- What is seen of a place at one look, as storage stands before the program's start.
+-- What is seen of a place at one look, in the initial storage.
 use Rattle.std.specs.Prelude.{◌≡◌, ℕ, ◌<◌, ◌^◌, Bool, List, [], ◌∷◌, map, Option, Some, slice_index, if◌then◌else◌, ◌↔◌}
 use Rattle.ccw_core.specs.Ccw.{Fields}
 use Rattle.ccw_core.specs.Storage.{ccw_at}

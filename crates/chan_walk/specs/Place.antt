@@ -27,6 +27,6 @@ transferred_to a e = record { address = a; entered = e; after_transfer = true }
 abbrev pub first_place : Job → Place
 first_place j = transferred_to j.start Fresh
 
--- the CCW at a place, in storage before the program's start
+-- the CCW at a place, in the initial storage
 abbrev pub word_at : Job → Place → Fields
 word_at j p = ccw (storage_of j) p.address

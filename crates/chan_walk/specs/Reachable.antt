@@ -1,4 +1,4 @@
--- The places that a program can come to, as its storage stands before its start.
+-- The places that a program can come to, in the initial storage.
 use Rattle.std.specs.Prelude.{◌≡◌, List, [], ◌∷◌}
 use Rattle.chan_walk.specs.declared.job.Job.{Job}
 use Rattle.chan_walk.specs.declared.place.Place.{Place}

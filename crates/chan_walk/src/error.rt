@@ -9,7 +9,7 @@ pub enum WalkError {
     /// More places are reachable than the job's limit.
     #[error("too many places")]
     TooManyPlaces,
-    /// Memory was wanting.
+    /// An allocation was refused.
     #[error("out of memory")]
     Memory,
 }

@@ -12,8 +12,8 @@ use std::alloc::Global;
 use std::collections::BTreeMap;
 use std::marker::Model;
 
-/// The reachable places of a program, each once, in order: those that it can come to as storage
-/// stands before its start. It borrows nothing from the job.
+/// The reachable places of a program, each once, in order: those that it can come to in the initial
+/// storage. It borrows nothing from the job.
 #[derive(Debug, Drop)]
 pub struct Explored {
     /// For each address the ways in which it is entered, a bit for each.

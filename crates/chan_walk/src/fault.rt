@@ -1,4 +1,4 @@
-//! The own fault of a place: what is wrong with its CCW as it stands before the program's start.
+//! The own fault of a place: what is wrong with its CCW in the initial storage.
 
 ghost use Rattle.std.specs.Prelude.{◌≡◌, ◌+◌, ◌≤◌, ◌&&◌, ℕ, List, not, true, length};
 ghost use Rattle.ccw_core.specs.Areas.{covered};

@@ -1,4 +1,4 @@
-//! One look at a place: all that judging asks of it, as storage stands before the program's start.
+//! One look at a place: all that judging asks of it, in the initial storage.
 
 ghost use Rattle.std.specs.Prelude.{◌≡◌, ◌<◌, ◌^◌, ℕ, Some, None, true, false, option_map};
 ghost use Rattle.ccw_core.specs.Held.{bytes_held};
@@ -47,7 +47,7 @@ impl Argument {
     }
 }
 
-/// What is seen of a place at one look, as storage stands before the program's start.
+/// What is seen of a place at one look, in the initial storage.
 #[derive(Debug, Drop)]
 pub struct Look {
     place: Place,
@@ -139,12 +139,12 @@ fn look_at_nothing(place: Place) -> Look
 
 /// The addresses of the argument of the seek that begins at a place, if one does.
 fn sought(storage: &Storage, visit: &Visit) -> Option<[u32; 6]>
-    requires { IsBegun visit.now }
+    requires { IsVisit (bytes_held storage.now) visit.now }
     ensures seek { begins_seek visit.now.place visit.now.word ≡ true → HasAddresses (bytes_held storage.now) visit.now.place.address result }
     ensures other { begins_seek visit.now.place visit.now.word ≡ false → result ≡ None }
 {
     if visit.begins_seek() {
-        argument_addresses(storage, visit.place.address)
+        argument_addresses(storage, visit.place.address, visit.word)
     } else {
         None
     }
@@ -191,8 +191,8 @@ fn look_at_word(job: &Job, lending: Lending, place: Place, word: Ccw) -> Look
     }
 }
 
-/// Looks at a place: its CCW is decoded once, the command table is asked once, and the argument of a
-/// seek is gathered once.
+/// Looks at a place: the command table is asked once, and the argument of a seek is gathered once,
+/// along its chain.
 pub(crate) fn look_at(job: &Job, lending: Lending, place: Place) -> Look
     requires { Lends job.now lending }
     ensures place { result.place ≡ place }

@@ -1,9 +1,10 @@
 //! The argument of a seek, gathered along the data chain that begins at it.
 
-ghost use Rattle.std.specs.Prelude.{◌≡◌, ◌&&◌, not, ◌+◌, ◌<◌, ◌≤◌, ◌^◌, ℕ, List, true, false, length, slice_index, IfSome, IfNone};
+ghost use Rattle.std.specs.Prelude.{◌≡◌, ◌&&◌, not, ◌+◌, ◌<◌, ◌≤◌, ◌^◌, ℕ, List, true, false, length, slice_index, IfSome, IfNone, Some, None};
 ghost use Rattle.ccw_core.specs.Ccw.{byte, ccw, is_transfer, is_formed as formed, is_counted as counted, has_data_in as data_in};
 ghost use Rattle.ccw_core.specs.Held.{bytes_held};
-ghost use Rattle.chan_walk.specs.Argument.{HasArgument, is_part};
+ghost use Rattle.ccw_core.specs.Storage.{ccw_at as word_at};
+ghost use Rattle.chan_walk.specs.Argument.{HasArgument};
 ghost use Rattle.chan_walk.specs.Onward as onward;
 ghost use Rattle.chan_walk.specs.Tables.{HasAddresses};
 
@@ -20,29 +21,28 @@ fn gives_bytes(storage: &Storage, word: &Ccw) -> bool
     !word.is_transfer() && is_formed(word) && is_counted(word) && has_data_in(storage, word)
 }
 
-/// The CCW at an address, where it can give bytes of an argument.
-fn part_at(storage: &Storage, address: u32) -> Option<Ccw>
-    ensures part { IfSome result (λ c. is_part (bytes_held storage.now) address ≡ true) }
-    ensures word { IfSome result (λ c. c ≡ ccw (bytes_held storage.now) address) }
-    ensures none { IfNone result (is_part (bytes_held storage.now) address ≡ false) }
-{
-    match storage.ccw_at(address) {
-        Some(word) if gives_bytes(storage, &word) => Some(word),
-        _ => None,
-    }
+/// A CCW of the chain, and the address at which it stands.
+#[derive(Clone, Copy)]
+struct Link {
+    address: u32,
+    ccw: Ccw,
 }
 
-/// Where data chaining goes on from the CCW at an address.
-fn onward(storage: &Storage, address: u32) -> u32
+/// The CCW to which data chaining leads from the one at an address, where one stands there.
+fn onward(storage: &Storage, address: u32) -> Option<Link>
     requires { address < 2 ^ 25 }
-    ensures value { result ≡ onward.onward (bytes_held storage.now) address }
-    ensures small { result < 2 ^ 26 }
+    ensures found { IfSome result (λ link. link.address ≡ onward.onward (bytes_held storage.now) address) }
+    ensures stands { IfSome result (λ link. word_at (bytes_held storage.now) link.address ≡ Some link.ccw) }
+    ensures none { IfNone result (word_at (bytes_held storage.now) (onward.onward (bytes_held storage.now) address) ≡ None) }
 {
     let next = address + 8;
-    match storage.ccw_at(next) {
-        Some(word) if word.is_transfer() => word.address(),
-        _ => next,
+    let ccw = storage.ccw_at(next)?;
+    if !ccw.is_transfer() {
+        return Some(Link { address: next, ccw });
     }
+    let address = ccw.address();
+    let ccw = storage.ccw_at(address)?;
+    Some(Link { address, ccw })
 }
 
 /// Notes the addresses of some bytes in a row, from the place `have` on.
@@ -59,29 +59,32 @@ fn note(addresses: &mut [u32; 6], have: usize, from: u32, count: usize)
     }
 }
 
-/// The addresses of the six bytes of a seek's argument. At most six CCWs and five transfers are
-/// looked at.
-pub(crate) fn argument_addresses(storage: &Storage, address: u32) -> Option<[u32; 6]>
+/// The addresses of the six bytes of the argument of a seek whose own CCW, `ccw`, stands at
+/// `address`. At most five further CCWs and five transfers are looked at, each of them once.
+pub(crate) fn argument_addresses(storage: &Storage, address: u32, ccw: Ccw) -> Option<[u32; 6]>
+    requires { word_at (bytes_held storage.now) address ≡ Some ccw }
     ensures { HasAddresses (bytes_held storage.now) address result }
 {
     let mut addresses = [0u32; 6];
     let mut have: usize = 0;
-    let mut here = address;
+    let mut here = Link { address, ccw };
     loop {
-        let part = part_at(storage, here)?;
-        let from = part.address();
-        let count = usize::from(part.count());
+        if !gives_bytes(storage, &here.ccw) {
+            return None;
+        }
+        let from = here.ccw.address();
+        let count = usize::from(here.ccw.count());
         let room = 6 - have;
         if count >= room {
             note(&mut addresses, have, from, room);
             return Some(addresses);
         }
-        if !chains_data(&part) {
+        if !chains_data(&here.ccw) {
             return None;
         }
         note(&mut addresses, have, from, count);
         have += count;
-        here = onward(storage, here);
+        here = onward(storage, here.address)?;
     }
 }
 
@@ -120,5 +123,6 @@ pub(crate) fn bytes_at(storage: &Storage, addresses: Option<[u32; 6]>) -> Option
 pub fn seek_argument(storage: &Storage, address: u32) -> Option<[u8; 6]>
     ensures { HasArgument (bytes_held storage.now) address result }
 {
-    bytes_at(storage, argument_addresses(storage, address))
+    let ccw = storage.ccw_at(address)?;
+    bytes_at(storage, argument_addresses(storage, address, ccw))
 }

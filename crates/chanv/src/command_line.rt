@@ -23,7 +23,7 @@ pub enum Request<'a> {
     Help(Error),
     /// Nothing: clap doesn't take the words. The text that says why is the error's.
     Fault(Error),
-    /// It isn't known: memory was wanting.
+    /// It isn't known: an allocation was refused.
     NoMemory,
 }
 

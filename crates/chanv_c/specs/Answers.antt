@@ -5,7 +5,7 @@ use Rattle.chan_walk.specs.declared.place.Place.{Place}
 use Rattle.chan_walk.specs.declared.reason.Reason.{Reason}
 use Rattle.chan_walk.specs.declared.verdict.Verdict.{Verdict}
 use Rattle.chan_walk.specs.declared.verdict.Verdict.TheVariants.{No}
-use Rattle.chan_walk.specs.Answers.{CoversEveryRun, HasAtMost, IsShown, MissesNoYes}
+use Rattle.chan_walk.specs.Answers.{IsSound, HasAtMost, HasWitness, IsComplete}
 use Rattle.chan_walk.specs.Explored.{AreReachable, HasMoreThan, entry_number, transfer_number}
 use Rattle.chan_walk.specs.Reason.{number_of}
 use Rattle.chan_walk.specs.Verdict.{IsVerdict}
@@ -21,9 +21,9 @@ pub record IsJudged (c : CJob) (v : Verdict) : Type 0 where
   pub job : Job
   pub asked : IsJobOf c job
   pub verdict : IsVerdict job v
-  pub safe : CoversEveryRun job v
-  pub shown : IsShown job v
-  pub exact : MissesNoYes job v
+  pub safe : IsSound job v
+  pub shown : HasWitness job v
+  pub exact : IsComplete job v
   pub few : HasAtMost job c.limit
 
 -- the verdict is no, with this address and the reason of this number

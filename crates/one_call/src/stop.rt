@@ -11,7 +11,7 @@ use std::io;
 /// Why the program ends without the case's answer.
 #[derive(Clone, Copy, Debug)]
 pub(crate) enum Stop {
-    /// Memory was wanting.
+    /// An allocation was refused.
     Memory,
     /// The call gave another answer than its worked case.
     Wrong,

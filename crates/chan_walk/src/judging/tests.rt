@@ -109,7 +109,7 @@ fn guarded_bytes(
         }
         match class_at(place, &word) {
             Some(MaskClass::Seek | MaskClass::SeekCylinder | MaskClass::SeekHead) => {
-                if let Some(addresses) = argument_addresses(&job.storage, place.address) {
+                if let Some(addresses) = argument_addresses(&job.storage, place.address, word) {
                     arguments.extend_from_slice(&addresses)?;
                 }
             }

@@ -1,10 +1,14 @@
-use Rattle.std.proofs.Common.{◌-◌}
+use Rattle.std.proofs.Common.{◌≡◌, ◌-◌, Some}
 use Rattle.ccw_core.specs.Held.{bytes_held}
+use Rattle.ccw_core.specs.Storage.{ccw_at}
 use Rattle.chan_walk.proofs.Following.{IsFollowed}
 use Rattle.chan_walk.proofs.seek.argument_addresses.Given as goal
 
-abbrev pub invariant-loop-part : goal.invariant-loop-part
-invariant-loop-part l = IsFollowed (bytes_held l.storage) l.address l.addresses l.have l.here
+abbrev pub invariant-loop-addresses : goal.invariant-loop-addresses
+invariant-loop-addresses l = record {
+  followed : IsFollowed (bytes_held l.storage) l.address l.addresses l.have l.here.address;
+  stands : ccw_at (bytes_held l.storage) l.here.address ≡ Some l.here.ccw;
+}
 
-abbrev pub decreases-loop-part : goal.decreases-loop-part
-decreases-loop-part l = 6 - l.have
+abbrev pub decreases-loop-addresses : goal.decreases-loop-addresses
+decreases-loop-addresses l = 6 - l.have
