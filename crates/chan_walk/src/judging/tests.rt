@@ -9,13 +9,14 @@ use crate::guard::Guard;
 use crate::image::image;
 use crate::job::Job;
 use crate::limit::Limit;
+use crate::place::Place;
 use crate::reason::Reason;
 use crate::seek::argument_addresses;
 use crate::verdict::Verdict;
 use crate::visit::Visit;
 use cases::{FORMATS, GUARDED, MASKS, SEARCHES, SEEKS, SET_MASKS, STORAGE, TRANSFERS, USUAL};
-use ccw_core::{Area, Storage};
-use ckd_core::{Device, Extents, FileMask};
+use ccw_core::{Area, Ccw, Storage};
+use ckd_core::{Command, Device, Extents, FileMask};
 use std::alloc::Global;
 use std::process::Abort;
 use std::test::Fail;
@@ -66,6 +67,21 @@ fn has_byte_in(bytes: &[u32], start: u32, len: u32) -> bool {
     false
 }
 
+/// Whether a seek begins at a place with this CCW, and whether Set File Mask does.
+fn begins_at(place: Place, word: Ccw) -> (bool, bool) {
+    let visit = Visit::new(place, word);
+    // The check of borrows finds the type only where a function names it.
+    let _command: Option<Command> = visit.command;
+    (visit.begins_seek(), visit.begins_set_mask())
+}
+
+/// Whether the CCW stores at a place.
+fn stores_at(place: Place, word: Ccw) -> bool {
+    let visit = Visit::new(place, word);
+    let _command: Option<Command> = visit.command;
+    visit.stores()
+}
+
 /// The guarded bytes, one by one: those of each CCW, those of each argument that a seek gathers, and
 /// each that Set File Mask sets.
 fn guarded_bytes(
@@ -86,13 +102,13 @@ fn guarded_bytes(
         if fault_at(job, place).is_some() {
             continue;
         }
-        let visit = Visit::new(place, word);
-        if visit.begins_seek() {
+        let (seeks, sets_mask) = begins_at(place, word);
+        if seeks {
             if let Some(addresses) = argument_addresses(&job.storage, place.address) {
                 arguments.extend_from_slice(&addresses)?;
             }
         }
-        if visit.begins_set_mask() {
+        if sets_mask {
             arguments.push(word.address())?;
         }
     }
@@ -110,7 +126,7 @@ fn guards_agree(alloc: Global, job: &Job) -> Result<(), Fail> {
     let (ccws, arguments) = guarded_bytes(alloc, job, &explored)?;
     for place in explored.places() {
         let word = match job.storage.ccw_at(place.address) {
-            Some(word) if Visit::new(place, word).stores() => word,
+            Some(word) if stores_at(place, word) => word,
             _ => continue,
         };
         let (start, len) = (word.address(), u32::from(word.count()));
