@@ -68,7 +68,7 @@ EachPathIsRun = (j : Job) → IsProper j → (ps : List Place) → IsPath j ps �
 -- ---- what a run shows
 
 -- a run comes over the places ps to p, with nothing changed so far, and there its next step shows P
-pub record ShowsNext (j : Job) (p : Place) (ps : List Place) (P : List Event → Stage → Type 0) : Type 0 where
+pub record ShowsInStep (j : Job) (p : Place) (ps : List Place) (P : List Event → Stage → Type 0) : Type 0 where
   pub run : List Moment
   pub at : Moment
   pub next : Moment
@@ -82,13 +82,13 @@ abbrev pub NoSeek : List Event → Type 0
 NoSeek es = (x : List ℕ) → Has es (Seek (Some x)) → ⊥
 
 -- moments at which the same operation goes on, by data chaining, and no argument is complete
-abbrev pub GoesOn : List Moment → Type 0
-GoesOn [] = Unit {0}
-GoesOn (m ∷ ms) = ((q : Place) × (g : Gathered) × (m.stage ≡ At q g) × (is_fresh q.entered ≡ false)) × NoSeek m.events × GoesOn ms
+abbrev pub StaysInOperation : List Moment → Type 0
+StaysInOperation [] = Unit {0}
+StaysInOperation (m ∷ ms) = ((q : Place) × (g : Gathered) × (m.stage ≡ At q g) × (is_fresh q.entered ≡ false)) × NoSeek m.events × StaysInOperation ms
 
 -- a run comes over the places ps to p, with nothing changed so far, and a step of the operation that
 -- begins there shows P; P is also told of the moment at p
-pub record ShowsLater (j : Job) (p : Place) (ps : List Place) (P : Moment → List Event → Stage → Type 0) : Type 0 where
+pub record ShowsInOperation (j : Job) (p : Place) (ps : List Place) (P : Moment → List Event → Stage → Type 0) : Type 0 where
   pub run : List Moment
   pub at : Moment
   pub more : List Moment
@@ -96,7 +96,7 @@ pub record ShowsLater (j : Job) (p : Place) (ps : List Place) (P : Moment → Li
   pub is_run : IsRun j (next ∷ (more ++ at ∷ run))
   pub over : ArePlaces (at ∷ run) (p ∷ ps)
   pub quiet : AllByRecursion (IsQuietMoment j) (at ∷ run)
-  pub goes_on : GoesOn more
+  pub goes_on : StaysInOperation more
   pub shows : P at next.events next.stage
 
 -- a byte is stored for whose address P holds
@@ -109,7 +109,7 @@ FetchesFrom P es = (a : ℕ) × (n : ℕ) × (b : ℕ) × Has es (Fetch a n) × 
 
 -- a run comes over the places ps to p, and there the channel stops it by this program check
 abbrev pub ShowsCheck : Job → Place → List Place → Reason → Type 0
-ShowsCheck j p ps r = ShowsNext j p ps (λ es stage. stage ≡ Checked r)
+ShowsCheck j p ps r = ShowsInStep j p ps (λ es stage. stage ≡ Checked r)
 
 -- what a run over the places ps shows for a reason at p: the program check itself; a command that may not begin; a store
 -- or a fetch outside lent areas; a seek that begins at p, where the channel's check passes, and ends or
@@ -124,20 +124,20 @@ Shows j p ps InvalidCode = ShowsCheck j p ps InvalidCode
 Shows j p ps BadFormat = ShowsCheck j p ps BadFormat
 Shows j p ps ZeroCount = ShowsCheck j p ps ZeroCount
 Shows j p ps DataOutside = ShowsCheck j p ps DataOutside
-Shows j p ps NotInTable = ShowsNext j p ps (λ es stage. (code : ℕ) × Has es (Command code) × (is_known code ≡ false))
-Shows j p ps Inhibited = ShowsNext j p ps (λ es stage. (code : ℕ) × Has es (Command code) × (inhibits j.mask code ≡ true))
-Shows j p ps StoreNotLent = ShowsNext j p ps (λ es stage. StoresOn (λ b. lies_in (store_of j) b ≡ false) es)
-Shows j p ps FetchNotLent = ShowsNext j p ps (λ es stage. FetchesFrom (λ b. lies_in (fetch_of j) b ≡ false) es)
+Shows j p ps NotInTable = ShowsInStep j p ps (λ es stage. (code : ℕ) × Has es (Command code) × (is_known code ≡ false))
+Shows j p ps Inhibited = ShowsInStep j p ps (λ es stage. (code : ℕ) × Has es (Command code) × (inhibits j.mask code ≡ true))
+Shows j p ps StoreNotLent = ShowsInStep j p ps (λ es stage. StoresOn (λ b. lies_in (store_of j) b ≡ false) es)
+Shows j p ps FetchNotLent = ShowsInStep j p ps (λ es stage. FetchesFrom (λ b. lies_in (fetch_of j) b ≡ false) es)
 Shows j p ps ShortSeek =
-    ShowsLater j p ps (λ at es stage. (check at.storage p ≡ None)
+    ShowsInOperation j p ps (λ at es stage. (check at.storage p ≡ None)
     × (begins_seek p (ccw at.storage p.address) ≡ true)
     × NoSeek es
     × (Has es (Seek None) ⊎ ((r : Reason) × (stage ≡ Checked r))))
-Shows j p ps SeekOutside = ShowsLater j p ps (λ at es stage. (is_fresh p.entered ≡ true) × (x : List ℕ) × Has es (Seek (Some x)) × (allows j x ≡ false))
-Shows j p ps ChangesCcw = ShowsNext j p ps (λ es stage. StoresOn (λ b. (used : List Moment) × IsRun j used × UsesInCcw used b) es)
-Shows j p ps ChangesArgument = ShowsNext j p ps (λ es stage. StoresOn (λ b. (used : List Moment) × IsRun j used × UsesInArgument used b) es)
+Shows j p ps SeekOutside = ShowsInOperation j p ps (λ at es stage. (is_fresh p.entered ≡ true) × (x : List ℕ) × Has es (Seek (Some x)) × (allows j x ≡ false))
+Shows j p ps ChangesCcw = ShowsInStep j p ps (λ es stage. StoresOn (λ b. (used : List Moment) × IsRun j used × UsesInCcw used b) es)
+Shows j p ps ChangesArgument = ShowsInStep j p ps (λ es stage. StoresOn (λ b. (used : List Moment) × IsRun j used × UsesInArgument used b) es)
 Shows j p ps WeakensMask =
-    ShowsNext j p ps (λ es stage. (is_fresh p.entered ≡ true)
+    ShowsInStep j p ps (λ es stage. (is_fresh p.entered ≡ true)
     × (a : ℕ) × (x : ℕ) × Has es (SetMask a x)
     × (is_at_least x j.mask ≡ false))
 
