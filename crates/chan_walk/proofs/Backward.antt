@@ -1,5 +1,5 @@
 -- Reading a path backwards, from a place to the one that it was found from.
-use Rattle.std.proofs.Common.{◌≡◌, Bool, true, false, eqb, ◌&&◌, ℕ, zero, suc, ◌+◌, ◌<◌, ◌≤◌, List, [], ◌∷◌, ◌++◌, append_assoc, length, get_or, reverse, slice_index, Option, Some, None, refl, sym, ap, ◌∙◌, subst, ◌⊎◌, inl, inr, arith}
+use Rattle.std.proofs.Common.{◌≡◌, Bool, true, false, eqb, ◌&&◌, ℕ, ◌+◌, ◌<◌, ◌≤◌, List, [], ◌∷◌, ◌++◌, append_assoc, length, get_or, reverse, slice_index, Option, Some, refl, sym, ap, ◌∙◌, subst, ◌⊎◌, inl, inr, arith}
 use Rattle.std.specs.List.{slice_get}
 use Rattle.std.proofs.lemmas.Bool.{and_from, cases_lt, eq-eqb}
 use denote.Enum.Bare.{sameb}
@@ -15,7 +15,7 @@ use Rattle.chan_walk.specs.Look.{Seen, places_of_looks}
 use Rattle.chan_walk.specs.Paths.{ArePathWhere}
 use Rattle.chan_walk.specs.Place.{first_place}
 use Rattle.chan_walk.specs.Reachable.{IsReachable}
-use Rattle.chan_walk.specs.Walk.{HasFound, IsBest, IsFrom, IsPathAt}
+use Rattle.chan_walk.specs.Walk.{HasFound, IsBest, IsPathAt}
 use Rattle.chan_walk.proofs.Looking.{number_of_places, place_at}
 use Rattle.chan_walk.proofs.Tracing.{best_first, best_next, get_within}
 use Rattle.chan_walk.proofs.Walking.{all_found, at_has}

@@ -1,18 +1,16 @@
 -- The path to a place that offends by the verdict's reason.
-use Rattle.std.proofs.Common.{◌≡◌, IsTrue, ℕ, zero, suc, ◌+◌, ◌<◌, ◌≤◌, List, [], ◌∷◌, length, get_or, slice_get, Option, Some, None, refl, sym, ap, ◌∙◌, subst, ◌⊎◌, inl, inr, ◌↔◌, arith}
+use Rattle.std.proofs.Common.{◌≡◌, ℕ, zero, suc, ◌+◌, ◌<◌, ◌≤◌, List, [], ◌∷◌, length, get_or, slice_get, Option, Some, None, refl, sym, ap, ◌∙◌, subst, ◌⊎◌, inl, inr, ◌↔◌, arith}
 use Rattle.std.proofs.lemmas.Bool.{cases_lt}
 use Rattle.chan_walk.specs.declared.exploring.Walk.{Walk}
 use Rattle.chan_walk.specs.declared.job.Job.{Job}
 use Rattle.chan_walk.specs.declared.offence.Offence.{Offence}
 use Rattle.chan_walk.specs.declared.place.Place.{Place}
-use Rattle.chan_walk.specs.declared.reason.Reason.{Reason}
 use Rattle.chan_walk.specs.Alarm.{EachPathShows, IsProper}
 use Rattle.chan_walk.specs.Argument.{Has}
 use Rattle.chan_walk.specs.Explained.{HasNumber, IsFirstLike, IsLike, IsPathOf, IsWitness, OffendsAt}
 use Rattle.chan_walk.specs.Least.{AreReached}
 use Rattle.chan_walk.specs.Look.{AreLooks, Seen, places_of_looks}
 use Rattle.chan_walk.specs.Offences.{AreOffences, first_verdict, offence_number}
-use Rattle.chan_walk.specs.Reachable.{IsPath}
 use Rattle.chan_walk.specs.Walk.{HasFound, IsPathAt}
 use Rattle.chan_walk.proofs.Listing.{offence, same_offence}
 use Rattle.chan_walk.proofs.Lists.{has_at}

@@ -1,5 +1,5 @@
 -- The first of a job's offences is the verdict.
-use Rattle.std.proofs.Common.{◌≡◌, Bool, IsTrue, true, false, eqb, ◌==◌, if◌then◌else◌, min, ℕ, ◌+◌, ◌*◌, ◌<◌, ◌≤◌, List, [], ◌∷◌, ◌++◌, append_assoc, append-nil, map, take, drop, length, get_or, slice_get, Option, Some, None, refl, sym, ap, ◌∙◌, subst, ◌⊎◌, inl, inr, ◌↔◌, arith, Less}
+use Rattle.std.proofs.Common.{◌≡◌, Bool, IsTrue, true, false, eqb, ◌==◌, if◌then◌else◌, min, ℕ, ◌<◌, ◌≤◌, List, [], ◌∷◌, ◌++◌, append_assoc, append-nil, map, take, drop, length, get_or, slice_get, Option, Some, None, refl, sym, ap, ◌∙◌, subst, ◌⊎◌, inl, inr, ◌↔◌, arith, Less}
 use Rattle.std.specs.List.Sorted.{IsNonDecreasing, IsNonDecreasingBy, IsPermutation, IsStrictlyIncreasing, IsStrictlySortedBy}
 use Rattle.std.specs.List.{AllByRecursion, IsDistinct}
 use Rattle.std.specs.Ordering.{nat_cmp}
@@ -18,18 +18,18 @@ use Rattle.chan_walk.specs.declared.place.Place.{Place}
 use Rattle.chan_walk.specs.declared.reason.Reason.{Reason}
 use Rattle.chan_walk.specs.declared.reason.Reason.TheVariants.{Misaligned, OutsideStorage, TransferNotAllowed, InvalidCode, BadFormat, ZeroCount, DataOutside, NotInTable, Inhibited, StoreNotLent, FetchNotLent, ShortSeek, SeekOutside, ChangesCcw, ChangesArgument, WeakensMask}
 use Rattle.chan_walk.specs.Argument.{Has}
-use Rattle.chan_walk.specs.Explored.{AreApart, way_of}
+use Rattle.chan_walk.specs.Explored.{AreApart}
 use Rattle.chan_walk.specs.Fault.{HasFault, IsClear, stores}
 use Rattle.chan_walk.specs.Guarded.{IsArgumentByte, IsCcwByte}
 use Rattle.chan_walk.specs.Job.{storage_of}
 use Rattle.chan_walk.specs.Least.{AreReached, IsOwn}
 use Rattle.chan_walk.specs.Look.{IsLook, Seen, place_of, places_of_looks}
-use Rattle.chan_walk.specs.Offences.{AddsOffences, AreAllOffences, AreOffences, FirstIsVerdict, HasOffences, Offending, StoresInto, first_verdict, offence_number}
+use Rattle.chan_walk.specs.Offences.{AddsOffences, AreAllOffences, AreOffences, FirstIsVerdict, HasOffences, Offending, StoresInto, offence_number}
 use Rattle.chan_walk.specs.Place.{word_at}
 use Rattle.chan_walk.specs.Ranges.{Meets}
 use Rattle.chan_walk.specs.Reachable.{IsReachable}
 use Rattle.chan_walk.specs.Reason.{number_of}
-use Rattle.chan_walk.specs.Verdict.{Changes, ComesFirst, IsVerdict, Offends, StoresOver}
+use Rattle.chan_walk.specs.Verdict.{Changes, ComesFirst, Offends, StoresOver}
 use Rattle.chan_walk.proofs.Checks.{check_stands}
 use Rattle.chan_walk.proofs.Faults.{clear_check, fault_unique}
 use Rattle.chan_walk.proofs.InOrder.{cmp_less}

@@ -9,7 +9,7 @@ use Rattle.chan_walk.specs.declared.successor.Next.{Next}
 use Rattle.chan_walk.specs.Argument.{Has}
 use Rattle.chan_walk.specs.Explored.{AreApart}
 use Rattle.chan_walk.specs.Fault.{HasFault}
-use Rattle.chan_walk.specs.Paths.{IsNext, IsSkip, IsFirstOf, PartsByNext}
+use Rattle.chan_walk.specs.Paths.{IsNext, IsSkip, IsFirstOf}
 use Rattle.chan_walk.specs.Place.{first_place}
 use Rattle.chan_walk.specs.Reachable.{IsPath, IsReachable}
 use Rattle.chan_walk.specs.Successors.{AreSuccessors}

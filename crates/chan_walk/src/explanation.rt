@@ -21,6 +21,9 @@ use crate::verdict::Verdict;
 use std::alloc::{AllocError, Global};
 use std::marker::Model;
 
+#[cfg(test)]
+mod tests;
+
 /// A job's verdict with its witness: all offences, in order, and the path to a place that offends by
 /// the first of them.
 #[derive(Debug, Drop)]

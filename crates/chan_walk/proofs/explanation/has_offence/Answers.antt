@@ -1,4 +1,4 @@
-use Rattle.std.proofs.Common.{◌≡◌, ◌<◌, ◌≤◌, length, sym, ◌∙◌, arith, refl}
+use Rattle.std.proofs.Common.{sym, ◌∙◌, arith, refl}
 use Rattle.chan_walk.proofs.Explaining.{more_numbers, no_number, number_there}
 use Rattle.chan_walk.proofs.explanation.has_offence.Goals as goal
 

@@ -1,4 +1,4 @@
-use Rattle.std.proofs.Common.{◌≡◌, IsTrue, ◌↔◌, sym, subst}
+use Rattle.std.proofs.Common.{sym, subst}
 use Rattle.chan_walk.specs.Explained.{HasNumber}
 use Rattle.chan_walk.proofs.Explaining.{like_number}
 use Rattle.chan_walk.proofs.explanation.is_like.Goals as goal

@@ -1,4 +1,4 @@
-use Rattle.std.proofs.Common.{◌≡◌, List, None, Some, subst}
+use Rattle.std.proofs.Common.{List, None, Some, subst}
 use Rattle.std.proofs.lemmas.Result.{IfOk-weaker}
 use Rattle.chan_walk.specs.Explained.{IsFirstLike}
 use Rattle.chan_walk.specs.Look.{Seen, places_of_looks}

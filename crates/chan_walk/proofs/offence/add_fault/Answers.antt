@@ -1,7 +1,5 @@
-use Rattle.std.proofs.Common.{◌≡◌, ◌++◌, [], ◌∷◌, List, Option, Some, None, refl, sym, ap, ◌∙◌, subst}
-use Rattle.chan_walk.specs.declared.offence.Offence.{Offence}
+use Rattle.std.proofs.Common.{◌++◌, [], ◌∷◌, refl, sym, ap, ◌∙◌, subst}
 use Rattle.chan_walk.specs.declared.place.Place.{Place}
-use Rattle.chan_walk.specs.declared.reason.Reason.{Reason}
 use Rattle.chan_walk.specs.Fault.{HasFault}
 use Rattle.chan_walk.proofs.Listing.{added_fault, offence, unadded_fault}
 use Rattle.chan_walk.proofs.offence.add_fault.Goals as goal

@@ -1,10 +1,8 @@
-use Rattle.std.proofs.Common.{◌≡◌, ◌<◌, ℕ, List, length, take, sym, ap, ◌∙◌, subst, arith, ◌↔◌, true}
-use Rattle.ccw_core.specs.declared.areas.Area.{Area}
-use Rattle.ccw_core.specs.Areas.{lies_in}
+use Rattle.std.proofs.Common.{◌<◌, List, length, take, sym, subst, arith}
 use Rattle.chan_walk.specs.declared.place.Place.{Place}
 use Rattle.chan_walk.specs.Guarded.{IsArgumentByte, IsCcwByte}
 use Rattle.chan_walk.specs.Look.{places_of_looks}
-use Rattle.chan_walk.specs.Offences.{HasOffences, StoresInto}
+use Rattle.chan_walk.specs.Offences.{HasOffences}
 use Rattle.chan_walk.specs.Verdict.{Changes}
 use Rattle.chan_walk.proofs.Lists.{has_at}
 use Rattle.chan_walk.proofs.Listing.{adds_changes, new_place, offences_more, offences_none, stores_both}

@@ -1,9 +1,6 @@
-use Rattle.std.proofs.Common.{◌≡◌, ◌<◌, ◌≤◌, ℕ, List, length, get_or, slice_get, slice_index, Some, sym, ap, ◌∙◌, subst, refl, arith}
+use Rattle.std.proofs.Common.{◌≡◌, ◌<◌, length, slice_get, slice_index, Some, sym, ap, ◌∙◌, subst, arith}
 use Rattle.std.proofs.lemmas.List.{get_or_read}
-use Rattle.chan_walk.specs.declared.job.Job.{Job}
-use Rattle.chan_walk.specs.declared.place.Place.{Place}
 use Rattle.chan_walk.specs.Look.{places_of_looks}
-use Rattle.chan_walk.specs.Walk.{HasFound}
 use Rattle.chan_walk.proofs.Backward.{IsWayBack, back_end, back_next, from_earlier}
 use Rattle.chan_walk.proofs.Looking.{place_at}
 use Rattle.chan_walk.proofs.path.path_at.Goals as goal
