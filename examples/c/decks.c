@@ -67,7 +67,8 @@ static uint32_t list(const struct chanv_job *job)
     size_t count;
     uint32_t answer = chanv_list(job, rows, CHANV_LARGEST_LIMIT, &count);
     for (size_t i = 0; answer == CHANV_LISTED && i < count; i++)
-        printf("%06" PRIX32 " %s %c\n", rows[i].address, entries[rows[i].entered], rows[i].after_transfer ? 't' : '-');
+        printf("%06" PRIX32 " %s %c\n", rows[i].address, entries[rows[i].entered],
+               rows[i].after_transfer ? 't' : '-');
     return answer;
 }
 

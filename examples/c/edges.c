@@ -32,8 +32,9 @@ static void ask(const char *name, struct chanv_job job)
     memcpy(before, rows, sizeof rows);
     answer = chanv_list(&job, rows, CHANV_LARGEST_LIMIT + 1, &count);
     written = answer == CHANV_LISTED ? count : 0;
-    printf("; list %" PRIu32 ", %zu%s\n", answer, count,
-           memcmp(rows + written, before + written, sizeof *rows * (CHANV_LARGEST_LIMIT + 1 - written)) ? ", written past the end" : "");
+    size_t rest = sizeof *rows * (CHANV_LARGEST_LIMIT + 1 - written);
+    const char *more = memcmp(rows + written, before + written, rest) ? ", written past the end" : "";
+    printf("; list %" PRIu32 ", %zu%s\n", answer, count, more);
 }
 
 /* Asks with so much room. */

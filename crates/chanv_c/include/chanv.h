@@ -70,14 +70,14 @@ struct chanv_job {
 /* A limit that serves where nothing else is asked for, and the largest. */
 enum { CHANV_USUAL_LIMIT = 4096, CHANV_LARGEST_LIMIT = 65536 };
 
-/* What a call returns. If several faults of a job apply, the one with the least number is returned;
- * but want of memory may come in place of any answer. */
+/* What a call returns. 4 to 10 are faults of the job itself; if several apply, the least is returned, and
+ * a job with a fault gets no answer. CHANV_MEMORY may come in place of any of the others. */
 enum {
     CHANV_YES = 0,                 /* every run of the program is safe */
     CHANV_LISTED = 0,              /* the places are listed */
     CHANV_NO = 1,                  /* `address` and `reason` say which CCW offends first, and why */
     CHANV_TOO_MANY_PLACES = 2,     /* more places are reachable than the limit */
-    CHANV_MEMORY = 3,              /* memory was wanting */
+    CHANV_MEMORY = 3,              /* memory ran out */
     CHANV_STORAGE_TOO_LARGE = 4,   /* storage has more than 16,777,216 bytes */
     CHANV_NOT_A_DEVICE = 5,        /* there is no such device */
     CHANV_NOT_A_MASK = 6,          /* a bit of the mask is on that isn't in C0 or 18 */

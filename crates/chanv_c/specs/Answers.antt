@@ -73,7 +73,7 @@ refusal_extent TooManyPlaces = 0
 refusal_extent Memory = 0
 refusal_extent (Wrong f) = fault_extent f
 
--- what a refusal says of the job; want of memory says nothing
+-- what a refusal says of the job; that an allocation was refused says nothing of it
 abbrev pub IsRefusal : CJob → Refusal → Type 0
 IsRefusal c TooManyPlaces = HasTooMany c × HasNoFault c
 IsRefusal c Memory = Unit {0}

@@ -55,7 +55,7 @@ impl JobFault {
 pub enum Refusal {
     /// More places are reachable than the job's limit.
     TooManyPlaces,
-    /// Memory was wanting.
+    /// An allocation was refused.
     Memory,
     /// The job is none.
     Wrong(JobFault),
