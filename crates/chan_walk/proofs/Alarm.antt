@@ -13,7 +13,7 @@ use Rattle.chan_walk.specs.declared.place.Entry.TheVariants.{Fresh, ChainIn, Cha
 use Rattle.chan_walk.specs.declared.place.Place.{Place}
 use Rattle.chan_walk.specs.declared.reason.Reason.{Reason}
 use Rattle.chan_walk.specs.declared.reason.Reason.TheVariants.{StoreNotLent, FetchNotLent, ShortSeek, SeekOutside, WeakensMask}
-use Rattle.chan_walk.specs.Alarm.{IsProper, first_cylinder, ShowsNext, StoresOn, ShowsCheck, Shows, NoFalseAlarm}
+use Rattle.chan_walk.specs.Alarm.{IsProper, first_cylinder, ShowsInStep, StoresOn, ShowsCheck, Shows, NoFalseAlarm}
 use Rattle.chan_walk.specs.Argument.{IsChain, HasArgument, argument}
 use Rattle.chan_walk.specs.Check.{table_of_any, table_of_word, check}
 use Rattle.chan_walk.specs.Fault.{kind_of, goes_in, goes_out, stores, fetches, is_known, begins_seek, begins_recalibrate, begins_set_mask, allows, is_refused, table_of_own, HasFault, IsClear}
@@ -35,7 +35,7 @@ use Rattle.chan_walk.proofs.Operations.{moment, Finished, finish, stop, ready_fr
 use Rattle.chan_walk.proofs.Paths.{few_at, Runs, path_runs}
 use Rattle.chan_walk.proofs.Quiet.{full_count, bytes_at, there, Known, Carried, seek_at, carry_out}
 
-show_next : {j : Job} {y : ℕ} {p : Place} {ps : List Place} {es : List Event} {st : Stage} {P : List Event → Stage → Type 0} (r : Runs j y p ps) → Step (storage_of j) y j.mask p r.gathered es (storage_of j) y j.mask st → P es st → ShowsNext j p P
+show_next : {j : Job} {y : ℕ} {p : Place} {ps : List Place} {es : List Event} {st : Stage} {P : List Event → Stage → Type 0} (r : Runs j y p ps) → Step (storage_of j) y j.mask p r.gathered es (storage_of j) y j.mask st → P es st → ShowsInStep j p P
 show_next {j = j} {y = y} {p = p} {es = es} {st = st} r step shows = record {
   run = r.run;
   at = record { storage = storage_of j; arm = y; mask = j.mask; stage = At p r.gathered; events = r.events };
@@ -192,7 +192,7 @@ module _ (j : Job) (proper : IsProper j) where
       )
 
   -- a store over a byte for which P holds
-  shows_store : (p : Place) → IsReachable j p → IsClear j p → (P Q : ℕ → Type 0) → ((b : ℕ) → P b → Q b) → StoresOver j p P → ShowsNext j p (λ es st. StoresOn Q es)
+  shows_store : (p : Place) → IsReachable j p → IsClear j p → (P Q : ℕ → Type 0) → ((b : ℕ) → P b → Q b) → StoresOver j p P → ShowsInStep j p (λ es st. StoresOn Q es)
   shows_store p m f P Q to o =
       let c = word_at j p in
       let s = stores_parts p c o.stores in

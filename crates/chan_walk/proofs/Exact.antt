@@ -8,7 +8,7 @@ use Rattle.chan_walk.specs.declared.job.Job.{Job}
 use Rattle.chan_walk.specs.declared.place.Place.{Place}
 use Rattle.chan_walk.specs.declared.reason.Reason.{Reason}
 use Rattle.chan_walk.specs.declared.reason.Reason.TheVariants.{NotInTable, Inhibited, StoreNotLent, FetchNotLent, ShortSeek, SeekOutside, WeakensMask}
-use Rattle.chan_walk.specs.Alarm.{IsProper, ShowsNext, ShowsLater, ShowsCheck, Shows, SafeIsYes, HeadlineAloneIsEnough}
+use Rattle.chan_walk.specs.Alarm.{IsProper, ShowsInStep, ShowsInOperation, ShowsCheck, Shows, SafeIsYes, HeadlineAloneIsEnough}
 use Rattle.chan_walk.specs.Argument.{Has}
 use Rattle.chan_walk.specs.Check.{table_of_any, table_of_word}
 use Rattle.chan_walk.specs.Fault.{begins_recalibrate, begins_set_mask, table_of_own, HasFault, IsClear}
@@ -34,10 +34,10 @@ event_safe j (x ∷ es) e a (inl h) = subst (IsSafeEvent j) h a.0
 event_safe j (x ∷ es) e a (inr h) = event_safe j es e a.1 h
 
 module _ (j : Job) (safe : IsSafe j) (p : Place) where
-  next_safe : {P : List Event → Stage → Type 0} → (s : ShowsNext j p P) → IsSafeMoment j s.next
+  next_safe : {P : List Event → Stage → Type 0} → (s : ShowsInStep j p P) → IsSafeMoment j s.next
   next_safe s = (safe (s.next ∷ s.at ∷ s.run) s.is_run).0
 
-  later_safe : {P : Moment → List Event → Stage → Type 0} → (s : ShowsLater j p P) → IsSafeMoment j s.next
+  later_safe : {P : Moment → List Event → Stage → Type 0} → (s : ShowsInOperation j p P) → IsSafeMoment j s.next
   later_safe s = (safe (s.next ∷ (s.more ++ s.at ∷ s.run)) s.is_run).0
 
   abbrev Unshown : Reason → Type 0

@@ -14,7 +14,7 @@ pub mod Visiting
 pub mod Order
 pub mod Words
 pub mod Gathering
-pub mod Kept
+pub mod Invariant
 pub mod Yes
 pub mod Quiet
 pub mod Paths

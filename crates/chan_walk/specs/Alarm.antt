@@ -68,7 +68,7 @@ EachPathIsRun = (j : Job) → IsProper j → (ps : List Place) → IsPath j ps �
 -- ---- what a run shows
 
 -- a run comes to p, and there its next step shows P
-pub record ShowsNext (j : Job) (p : Place) (P : List Event → Stage → Type 0) : Type 0 where
+pub record ShowsInStep (j : Job) (p : Place) (P : List Event → Stage → Type 0) : Type 0 where
   pub run : List Moment
   pub at : Moment
   pub next : Moment
@@ -81,19 +81,19 @@ abbrev pub NoSeek : List Event → Type 0
 NoSeek es = (x : List ℕ) → Has es (Seek (Some x)) → ⊥
 
 -- moments at which the same operation goes on, by data chaining, and no argument is complete
-abbrev pub GoesOn : List Moment → Type 0
-GoesOn [] = Unit {0}
-GoesOn (m ∷ ms) = ((q : Place) × (g : Gathered) × (m.stage ≡ At q g) × (is_fresh q.entered ≡ false)) × NoSeek m.events × GoesOn ms
+abbrev pub StaysInOperation : List Moment → Type 0
+StaysInOperation [] = Unit {0}
+StaysInOperation (m ∷ ms) = ((q : Place) × (g : Gathered) × (m.stage ≡ At q g) × (is_fresh q.entered ≡ false)) × NoSeek m.events × StaysInOperation ms
 
 -- a run comes to p, and a step of the operation that begins there shows P; P is also told of the moment at p
-pub record ShowsLater (j : Job) (p : Place) (P : Moment → List Event → Stage → Type 0) : Type 0 where
+pub record ShowsInOperation (j : Job) (p : Place) (P : Moment → List Event → Stage → Type 0) : Type 0 where
   pub run : List Moment
   pub at : Moment
   pub more : List Moment
   pub next : Moment
   pub is_run : IsRun j (next ∷ (more ++ at ∷ run))
   pub comes : (g : Gathered) × (at.stage ≡ At p g)
-  pub goes_on : GoesOn more
+  pub goes_on : StaysInOperation more
   pub shows : P at next.events next.stage
 
 -- a byte is stored for whose address P holds
@@ -106,7 +106,7 @@ FetchesFrom P es = (a : ℕ) × (n : ℕ) × (b : ℕ) × Has es (Fetch a n) × 
 
 -- a run comes to p, and there the channel stops it by this program check
 abbrev pub ShowsCheck : Job → Place → Reason → Type 0
-ShowsCheck j p r = ShowsNext j p (λ es stage. stage ≡ Checked r)
+ShowsCheck j p r = ShowsInStep j p (λ es stage. stage ≡ Checked r)
 
 -- what a run shows for a reason at p: the program check itself; a command that may not begin; a store
 -- or a fetch outside lent areas; a seek that begins at p, where the channel's check passes, and ends or
@@ -121,20 +121,20 @@ Shows j p InvalidCode = ShowsCheck j p InvalidCode
 Shows j p BadFormat = ShowsCheck j p BadFormat
 Shows j p ZeroCount = ShowsCheck j p ZeroCount
 Shows j p DataOutside = ShowsCheck j p DataOutside
-Shows j p NotInTable = ShowsNext j p (λ es stage. (code : ℕ) × Has es (Command code) × (is_known code ≡ false))
-Shows j p Inhibited = ShowsNext j p (λ es stage. (code : ℕ) × Has es (Command code) × (inhibits j.mask code ≡ true))
-Shows j p StoreNotLent = ShowsNext j p (λ es stage. StoresOn (λ b. lies_in (store_of j) b ≡ false) es)
-Shows j p FetchNotLent = ShowsNext j p (λ es stage. FetchesFrom (λ b. lies_in (fetch_of j) b ≡ false) es)
+Shows j p NotInTable = ShowsInStep j p (λ es stage. (code : ℕ) × Has es (Command code) × (is_known code ≡ false))
+Shows j p Inhibited = ShowsInStep j p (λ es stage. (code : ℕ) × Has es (Command code) × (inhibits j.mask code ≡ true))
+Shows j p StoreNotLent = ShowsInStep j p (λ es stage. StoresOn (λ b. lies_in (store_of j) b ≡ false) es)
+Shows j p FetchNotLent = ShowsInStep j p (λ es stage. FetchesFrom (λ b. lies_in (fetch_of j) b ≡ false) es)
 Shows j p ShortSeek =
-    ShowsLater j p (λ at es stage. (check at.storage p ≡ None)
+    ShowsInOperation j p (λ at es stage. (check at.storage p ≡ None)
     × (begins_seek p (ccw at.storage p.address) ≡ true)
     × NoSeek es
     × (Has es (Seek None) ⊎ ((r : Reason) × (stage ≡ Checked r))))
-Shows j p SeekOutside = ShowsLater j p (λ at es stage. (is_fresh p.entered ≡ true) × (x : List ℕ) × Has es (Seek (Some x)) × (allows j x ≡ false))
-Shows j p ChangesCcw = ShowsNext j p (λ es stage. StoresOn (λ b. (used : List Moment) × IsRun j used × UsesInCcw used b) es)
-Shows j p ChangesArgument = ShowsNext j p (λ es stage. StoresOn (λ b. (used : List Moment) × IsRun j used × UsesInArgument used b) es)
+Shows j p SeekOutside = ShowsInOperation j p (λ at es stage. (is_fresh p.entered ≡ true) × (x : List ℕ) × Has es (Seek (Some x)) × (allows j x ≡ false))
+Shows j p ChangesCcw = ShowsInStep j p (λ es stage. StoresOn (λ b. (used : List Moment) × IsRun j used × UsesInCcw used b) es)
+Shows j p ChangesArgument = ShowsInStep j p (λ es stage. StoresOn (λ b. (used : List Moment) × IsRun j used × UsesInArgument used b) es)
 Shows j p WeakensMask =
-    ShowsNext j p (λ es stage. (is_fresh p.entered ≡ true)
+    ShowsInStep j p (λ es stage. (is_fresh p.entered ≡ true)
     × (a : ℕ) × (x : ℕ) × Has es (SetMask a x)
     × (is_at_least x j.mask ≡ false))
 
