@@ -1,15 +1,8 @@
 -- Ranges that areas cover, by jumps from the end of one area to the end of another.
-use Rattle.std.proofs.Common.{◌≡◌, ℕ, zero, suc, ◌+◌, ◌<◌, ◌≤◌, Bool, true, false, ◌&&◌, ◌||◌, nat_le, nat_lt, List, [], ◌∷◌, length, get_or, take, refl, sym, subst, ◌⊎◌, inl, inr, arith}
-use Rattle.std.proofs.lemmas.Bool.{cases_lt, or_left, or_right, and_from, and_left, and_right, le-leb, lt-ltb, lt-leb, le-ltb}
+use Rattle.std.proofs.Common.{◌≡◌, ℕ, zero, suc, ◌+◌, ◌<◌, ◌≤◌, true, false, ◌&&◌, nat_le, nat_lt, List, [], ◌∷◌, length, get_or, take, refl, sym, subst, ◌⊎◌, inl, inr, arith}
+use Rattle.std.proofs.lemmas.Bool.{cases_lt, or_left, or_right, and_from, and_left, and_right, le-leb, lt-ltb, lt-leb, le-ltb, or_from, or_parts}
 use Rattle.ccw_core.specs.declared.areas.Area.{Area}
 use Rattle.ccw_core.specs.Areas.{lies_in, covered}
-
-or_neither : (x y : Bool) → x ≡ false → y ≡ false → (x || y) ≡ false
-or_neither x y h k = rw (h, k) refl
-
-neither_or : (x y : Bool) → (x || y) ≡ false → (x ≡ false) × (y ≡ false)
-neither_or true y h = absurd (cc)
-neither_or false y h = (refl, h)
 
 -- a byte of one area
 pub lies_in-at : (areas : List Area) (i : ℕ) (d : Area) (b : ℕ) → i < length areas → (get_or areas i d).start ≤ b
@@ -23,12 +16,12 @@ in_front : (areas : List Area) (i : ℕ) (d : Area) (b : ℕ) → i < length are
     → (b < (get_or areas i d).start) ⊎ ((get_or areas i d).start + (get_or areas i d).len ≤ b) → lies_in (take (suc i) areas) b ≡ false
 unfolding lies_in
 in_front [] i d b l h k = absurd (omega arith)
-in_front (a ∷ areas) zero d b l h k = or_neither _ _ (outside k) refl
+in_front (a ∷ areas) zero d b l h k = or_from _ _ (outside k) refl
   where
     outside : (b < a.start) ⊎ (a.start + a.len ≤ b) → (nat_le a.start b && nat_lt b (a.start + a.len)) ≡ false
     outside (inl x) = and_left _ _ (lt-leb _ _ x)
     outside (inr x) = and_right _ _ (le-ltb _ _ x)
-in_front (a ∷ areas) (suc i) d b l h k = or_neither _ _ (neither_or _ _ h).0 (in_front areas i d b (omega arith) (neither_or _ _ h).1 k)
+in_front (a ∷ areas) (suc i) d b l h k = or_from _ _ (or_parts _ _ h).0 (in_front areas i d b (omega arith) (or_parts _ _ h).1 k)
 
 -- a byte that is in none of the areas so far, nor in the next
 pub lies_in-more : (areas : List Area) (i : ℕ) (d : Area) (b : ℕ) → i < length areas → lies_in (take i areas) b ≡ false
@@ -53,12 +46,3 @@ covered-false areas a (suc n) b l h d = go (cases_lt a b) (λ k. covered-false a
     go : (a < b) ⊎ (b ≤ a) → (a < b → covered areas (suc a) n ≡ false) → (lies_in areas a && covered areas (suc a) n) ≡ false
     go (inl k) f = and_right _ _ (f k)
     go (inr k) f = let e : a ≡ b = omega arith in and_left _ _ (subst (λ z. lies_in areas z ≡ false) (sym e) d)
-
--- one jump further
-pub each_further : (areas : List Area) (start at next : ℕ) → ((b : ℕ) → start ≤ b → b < at → lies_in areas b ≡ true)
-    → ((b : ℕ) → at ≤ b → b < next → lies_in areas b ≡ true) → (b : ℕ) → start ≤ b → b < next → lies_in areas b ≡ true
-each_further areas start at next f g b l h = go (cases_lt b at)
-  where
-    go : (b < at) ⊎ (at ≤ b) → lies_in areas b ≡ true
-    go (inl k) = f b l k
-    go (inr k) = g b k h

@@ -3,5 +3,4 @@ pub mod CcwLemmas
 pub mod GroupLemmas
 pub mod StorageLemmas
 pub mod Covering
-pub mod SameTest
 pub mod Prefixes

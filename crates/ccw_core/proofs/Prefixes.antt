@@ -1,18 +1,10 @@
 -- What a writer got, part by part.
 use Rattle.std.proofs.Common.{ℕ, ◌+◌, List, ◌++◌, Option, length, take, arith}
-use Rattle.std.proofs.lemmas.List.{length-append, take-append-le, take_all}
+use Rattle.std.proofs.lemmas.List.{length-append, take-append-le}
 use Rattle.std.proofs.Math.Seq.{take-append-add}
 use Rattle.std.proofs.KnownBytes.{Appends-trans}
 use Rattle.std.specs.Io.KnownBytes.{Appends}
 use Rattle.ccw_core.specs.Written.{AppendsPrefix}
-
--- all of the bytes
-pub appends_all : (a b : Option (List ℕ)) (xs : List ℕ) → Appends a b xs → AppendsPrefix a b xs
-appends_all a b xs h = record {
-  count = length xs;
-  within = omega arith;
-  grown = rw (take_all (length xs) xs (omega arith)) h;
-}
 
 -- a prefix of some bytes is one of more bytes
 pub prefix_of_more : (a b : Option (List ℕ)) (xs ys : List ℕ) → AppendsPrefix a b xs → AppendsPrefix a b (xs ++ ys)

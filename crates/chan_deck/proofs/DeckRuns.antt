@@ -1,9 +1,10 @@
 -- A deck's lines are read as that deck, and whatever has been read can go on to be a deck.
-use Rattle.std.proofs.Common.{◌≡◌, ℕ, zero, suc, ◌+◌, ◌-◌, ◌*◌, ◌/◌, ◌%◌, ◌^◌, ◌<◌, ◌≤◌, ◌⊎◌, Bool, true, false, cond, List, [], ◌∷◌, ◌++◌, length, take, drop, map, Result, Ok, Err, refl, sym, ap, subst, ◌∙◌, append_assoc, arith, inl, inr, replicate, length-append, length-drop, lit<}
+use Rattle.std.proofs.Common.{◌≡◌, ℕ, zero, suc, ◌+◌, ◌-◌, ◌*◌, ◌/◌, ◌%◌, ◌^◌, ◌<◌, ◌≤◌, true, false, cond, List, [], ◌∷◌, ◌++◌, length, take, drop, map, Result, Ok, Err, refl, sym, ap, subst, ◌∙◌, append_assoc, arith, inl, inr, replicate, length-append, length-drop, lit<}
 use Rattle.std.specs.Prelude.{◌==◌}
 use Rattle.std.specs.List.{AllByRecursion}
-use Rattle.std.proofs.lemmas.Bool.{le-leb, le-ltb, eqb-true}
+use Rattle.std.proofs.lemmas.Bool.{le-leb, le-ltb, eqb-true, and_parts, cases_Bool}
 use Rattle.std.proofs.lemmas.List.{append-nil, take-append-drop, replicate-append-replicate, length-take}
+use Rattle.chan_deck.proofs.Results.{same_ok}
 use Rattle.ccw_core.specs.declared.areas.Area.{Area}
 use Rattle.ckd_core.specs.declared.device.Device.TheVariants.{D2311}
 use Rattle.ckd_core.specs.Cylinders.{IsExtent, AreExtents}
@@ -11,7 +12,7 @@ use Rattle.chan_deck.specs.Item.{Item, header, device, mask, start, limit, exten
 use Rattle.chan_deck.specs.Image.{Image, IsDeck, HasLimit, header_of, limit_line, items, puts, is_zero, extent_of}
 use Rattle.chan_deck.specs.Reading.{Heading, State, Opening, Named, OnDevice, Masked, Started, Listing, Filling, Whole, step, go_on, run, pad, image_of}
 use Rattle.chan_deck.proofs.PutLemmas.{length_pad}
-use Rattle.chan_deck.proofs.StepLemmas.{and_both, said, IsState, step-says}
+use Rattle.chan_deck.proofs.StepLemmas.{said, IsState, step-says}
 use Rattle.ckd_core.specs.declared.device.Device.{Device}
 use Rattle.chan_deck.specs.declared.version.Version.{Version}
 use Rattle.chan_deck.specs.declared.version.Version.TheVariants.{One, Two}
@@ -30,19 +31,13 @@ pub run-append : (s : State) (is js : List Item) → run s (is ++ js) ≡ go_on 
 run-append s [] js = refl
 run-append s (i ∷ is) js = after (step s i) (λ t. run t is) (λ t. run t (is ++ js)) (λ t. run t js) (λ t. run-append t is js)
 
-abbrev ok_state : State → Result State Cause
-ok_state x = Ok x
-
-ok_is : (x y : State) → ok_state x ≡ ok_state y → x ≡ y
-ok_is x y e = cc
-
 pub go_on_ok : (r : Result State Cause) (f : State → Result State Cause) (t : State) → go_on r f ≡ Ok t → (s : State) × (r ≡ Ok s) × (f s ≡ Ok t)
 go_on_ok (Ok s) f t e = (s, refl, e)
 go_on_ok (Err c) f t e = absurd cc
 
 -- a run leads to a state, and says its lines more
 pub run-says : (s t : State) (js : List Item) → IsState s → AllByRecursion HasForm js → run s js ≡ Ok t → IsState t × (said t ≡ said s ++ js)
-run-says s t [] is forms e = subst (λ x. IsState x × (said x ≡ said s ++ [])) (ok_is s t e) (is, sym (append-nil (said s)))
+run-says s t [] is forms e = subst (λ x. IsState x × (said x ≡ said s ++ [])) (same_ok s t e) (is, sym (append-nil (said s)))
 run-says s t (i ∷ js) is forms e =
     let r = go_on_ok (step s i) (λ q. run q js) t e in
     let one = step-says s r.0 i is forms.0 r.1 in
@@ -82,14 +77,10 @@ on_size h (e ∷ es) fs ss n some al le = rw (al, le-leb n (2 ^ 24) le) refl
 
 -- ---- puts
 
-either_way : (b : Bool) → (b ≡ true) ⊎ (b ≡ false)
-either_way true = inl refl
-either_way false = inr refl
-
 pub zeros_is : (bytes : List ℕ) → is_zero bytes ≡ true → bytes ≡ replicate (length bytes) 0
 zeros_is [] h = refl
 zeros_is (b ∷ bytes) h =
-    let t = and_both (b == 0) (is_zero bytes) h in
+    let t = and_parts (b == 0) (is_zero bytes) h in
     let z : b ≡ 0 = eqb-true b 0 t.0 in
     ap (λ (x : ℕ). x ∷ bytes) z ∙ ap (λ (t : List ℕ). 0 ∷ t) (zeros_is bytes t.1)
 
@@ -116,7 +107,7 @@ over_puts h es fs ss size (suc n) at front bytes low al len is =
     let eight : length (take 8 bytes) ≡ 8 = omega (arith, length-take 8 bytes) in
     let rest : length (drop 8 bytes) ≡ 8 * n = omega (arith, length-drop 8 bytes) in
     let whole = take-append-drop 8 bytes in
-    elim (either_way (is_zero (take 8 bytes))) [
+    elim (cases_Bool (is_zero (take 8 bytes))) [
       | inl z ↦
           let r = over_puts h es fs ss size n (at + 8) front (drop 8 bytes) (omega arith) (omega arith) rest (omega arith) in
           let w : take 8 bytes ≡ replicate 8 0 = zeros_is (take 8 bytes) z ∙ ap (λ (k : ℕ). replicate k 0) eight in (

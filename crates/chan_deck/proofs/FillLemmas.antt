@@ -2,7 +2,7 @@
 use Rattle.std.proofs.Common.{◌≡◌, ℕ, ◌+◌, ◌-◌, ◌^◌, ◌<◌, ◌≤◌, Bool, true, false, cond, List, [], ◌∷◌, ◌++◌, length, take, drop, Result, Ok, Err, refl, sym, ap, ◌∙◌, arith, replicate, length-append, length-drop, ◌&&◌, inl}
 use Rattle.std.specs.Prelude.{◌==◌, nat_le, ◌%◌}
 use Rattle.std.specs.Int.{w64, to_be_bytes, from_be_bytes}
-use Rattle.std.proofs.lemmas.Bool.{le-leb, leb-true, eqb-true}
+use Rattle.std.proofs.lemmas.Bool.{le-leb, leb-true, eqb-true, and_parts}
 use Rattle.std.proofs.lemmas.Nat.{from_be_bytes-to_be_bytes_8}
 use Rattle.std.proofs.lemmas.List.{take-append-drop, length-take, take_at, drop_at, drop-replicate, take-replicate, drop-drop}
 use Rattle.std.proofs.Math.Seq.{take-append-add}
@@ -11,7 +11,6 @@ use Rattle.chan_deck.specs.Item.{put, end, Says}
 use Rattle.chan_deck.specs.Image.{Image, is_zero, Spells}
 use Rattle.chan_deck.specs.Refused.{split, IsRefused}
 use Rattle.chan_deck.specs.Reading.{Heading, Filling, Whole, Stands, Refuses, step, pad, image_of}
-use Rattle.chan_deck.proofs.StepLemmas.{and_both}
 use Rattle.chan_deck.proofs.DeckRuns.{put_step, zeros_is}
 use Rattle.chan_deck.proofs.RefusalLemmas.{takes, spells_deck, refuses_more}
 use Rattle.chan_deck.specs.declared.cause.Cause.{Cause}
@@ -48,8 +47,8 @@ bad_place h es fs ss size a front w l says bad =
       put a w,
       says,
       refused_unless (a % 8 == 0 && nat_le (length front) a && nat_le (a + 8) size) _ causes.PutAddress (λ t.
-          let x = and_both (a % 8 == 0 && nat_le (length front) a) (nat_le (a + 8) size) t in
-          let y = and_both (a % 8 == 0) (nat_le (length front) a) x.0 in
+          let x = and_parts (a % 8 == 0 && nat_le (length front) a) (nat_le (a + 8) size) t in
+          let y = and_parts (a % 8 == 0) (nat_le (length front) a) x.0 in
           bad (eqb-true _ _ y.0, leb-true _ _ y.1, leb-true _ _ x.1)),
     )
 

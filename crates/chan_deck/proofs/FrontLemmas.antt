@@ -1,10 +1,11 @@
 -- The lines of a text, and where it is refused.
-use Rattle.std.proofs.Common.{◌≡◌, ℕ, zero, suc, ◌+◌, ◌*◌, ◌/◌, ◌^◌, ◌<◌, ◌≤◌, ◌⊎◌, Bool, true, false, cond, List, [], ◌∷◌, ◌++◌, length, take, drop, map, Result, Ok, Err, refl, sym, ap, subst, ◌∙◌, append_assoc, arith, inl, inr, length-append, length-drop}
+use Rattle.std.proofs.Common.{◌≡◌, ℕ, zero, suc, ◌+◌, ◌*◌, ◌/◌, ◌^◌, ◌<◌, ◌≤◌, Bool, true, false, cond, List, [], ◌∷◌, ◌++◌, length, take, drop, map, Result, Ok, Err, refl, sym, ap, subst, ◌∙◌, append_assoc, arith, inl, inr, length-append, length-drop}
 use Rattle.std.specs.Prelude.{◌==◌}
 use Rattle.std.specs.List.{AllByRecursion}
 use Rattle.std.proofs.lemmas.List.{append-nil, take-append-drop, take-append-le, length-take, map-append}
 use Rattle.std.proofs.lemmas.Grind.{flat_map-append}
-use Rattle.std.proofs.lemmas.Bool.{eqb-true}
+use Rattle.std.proofs.lemmas.Bool.{eqb-true, cases_Bool}
+use Rattle.chan_walk.proofs.Lists.{all_append}
 use Rattle.ccw_core.specs.declared.areas.Area.{Area}
 use Rattle.ckd_core.specs.Cylinders.{IsExtent}
 use Rattle.chan_deck.specs.Item.{Item, header, device, mask, start, fetch, store, storage, put, end, line, text, HasForm, Says, IsByte, IsArea}
@@ -12,7 +13,7 @@ use Rattle.chan_deck.specs.Image.{Image, IsDeck, HasLimit, header_of, limit_line
 use Rattle.chan_deck.specs.Refused.{split, lines, first_lines, onto_first, BeginsSomeDeck, IsRefusedAt}
 use Rattle.chan_deck.specs.Reading.{State, Opening, Whole, Stands, step, go_on, run}
 use Rattle.chan_deck.proofs.ItemLemmas.{HasNoFeed, line_no_feed, one_item}
-use Rattle.chan_deck.proofs.StepLemmas.{said, IsState, at_front, all-append}
+use Rattle.chan_deck.proofs.StepLemmas.{said, IsState, at_front}
 use Rattle.chan_deck.specs.declared.version.Version.{Version}
 use Rattle.chan_deck.specs.declared.version.Version.TheVariants.{One, Two}
 use Rattle.chan_deck.proofs.DeckRuns.{run-append, run-says, reads_deck, completes}
@@ -88,19 +89,7 @@ take_past (x ∷ xs) y ys =
     let k : suc (length xs) + 1 ≡ suc (length xs + 1) = omega arith in
     rw k (ap (λ t. x ∷ t) (take_past xs y ys))
 
-pub take_front : {X : Type 0} (xs ys : List X) → take (length xs) (xs ++ ys) ≡ xs
-take_front [] ys = refl
-take_front (x ∷ xs) ys = ap (λ t. x ∷ t) (take_front xs ys)
-
-pub drop_front : {X : Type 0} (xs ys : List X) → drop (length xs) (xs ++ ys) ≡ ys
-drop_front [] ys = refl
-drop_front (x ∷ xs) ys = drop_front xs ys
-
 -- ---- the lines of a deck
-
-either_way : (b : Bool) → (b ≡ true) ⊎ (b ≡ false)
-either_way true = inl refl
-either_way false = inr refl
 
 front_bytes : (k : ℕ) (bytes : List ℕ) → AllByRecursion IsByte bytes → AllByRecursion IsByte (take k bytes)
 front_bytes zero bytes h = tt
@@ -120,7 +109,7 @@ puts_form (suc n) at bytes len fits h =
     let eight : length (take 8 bytes) ≡ 8 = omega (arith, length-take 8 bytes) in
     let more = puts_form n (at + 8) (drop 8 bytes) rest (omega arith) (rest_bytes 8 bytes h) in
     let P = puts n (at + 8) (drop 8 bytes) in
-    elim (either_way (is_zero (take 8 bytes))) [
+    elim (cases_Bool (is_zero (take 8 bytes))) [
       | inl z ↦ subst (λ b. AllByRecursion HasForm (cond b P (put at (take 8 bytes) ∷ P))) (sym z) more
       | inr z ↦ subst (λ b. AllByRecursion HasForm (cond b P (put at (take 8 bytes) ∷ P))) (sym z) ((omega arith, (eight, front_bytes 8 bytes h)), more)
     ]
@@ -153,11 +142,11 @@ items_form d is =
     let opened : AllByRecursion HasForm H = (tt, (tt, (is.mask.0, (is.start, limit_form d.version is.limit)))) in
     let size : n < 2 ^ 28 = omega (arith, is.size) in
     let filled : AllByRecursion HasForm (storage n ∷ P) = (size, puts_form (n / 8) 0 d.storage (omega (arith, is.whole)) (omega (arith, is.size, is.whole)) is.bytes) in
-    let with_extents = all-append HasForm H E opened (extents_form d.extents is.extents.1) in
-    let with_fetch = all-append HasForm (H ++ E) F with_extents (fetches_form d.fetch is.fetch) in
-    let with_store = all-append HasForm (H ++ E ++ F) S with_fetch (stores_form d.store is.store) in
-    let with_puts = all-append HasForm (H ++ E ++ F ++ S) (storage n ∷ P) with_store filled in
-    all-append HasForm (H ++ E ++ F ++ S ++ storage n ∷ P) (end ∷ []) with_puts (tt, tt)
+    let with_extents = all_append HasForm H E opened (extents_form d.extents is.extents.1) in
+    let with_fetch = all_append HasForm (H ++ E) F with_extents (fetches_form d.fetch is.fetch) in
+    let with_store = all_append HasForm (H ++ E ++ F) S with_fetch (stores_form d.store is.store) in
+    let with_puts = all_append HasForm (H ++ E ++ F ++ S) (storage n ∷ P) with_store filled in
+    all_append HasForm (H ++ E ++ F ++ S ++ storage n ∷ P) (end ∷ []) with_puts (tt, tt)
 
 pub split_deck : (d : Image) → split (spelling d) ≡ (map line (items d), [])
 unfolding split

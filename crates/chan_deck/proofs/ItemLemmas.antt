@@ -3,7 +3,7 @@ use Rattle.std.proofs.Common.{◌≡◌, ℕ, ◌+◌, ◌*◌, ◌/◌, ◌%◌
 use Rattle.std.specs.Prelude.{◌==◌, ◌&&◌, not, codes}
 use Rattle.std.specs.Int.{bytes_high_first}
 use Rattle.std.specs.List.{AllByRecursion}
-use Rattle.std.proofs.lemmas.Bool.{eqb-false}
+use Rattle.std.proofs.lemmas.Bool.{eqb-false, and_parts, not-true}
 use Rattle.std.proofs.lemmas.Bool.Decides.{nat_tests}
 use Rattle.hex.specs.Hex.{encode_upper}
 use Rattle.ccw_core.specs.declared.areas.Area.{Area}
@@ -29,23 +29,15 @@ abbrev no_feeds : List ℕ → Bool
 no_feeds [] = true
 no_feeds (b ∷ l) = not (b == 10) && no_feeds l
 
-not_true : (b : Bool) → not b ≡ true → b ≡ false
-not_true true e = absurd cc
-not_true false e = refl
-
-both : (a b : Bool) → (a && b) ≡ true → (a ≡ true) × (b ≡ true)
-both true b e = (refl, e)
-both false b e = absurd cc
-
 from_test : (l : List ℕ) → no_feeds l ≡ true → HasNoFeed l
 from_test [] h = tt
 from_test (b ∷ l) h =
-    let t = both (not (b == 10)) (no_feeds l) h in
-    (not_true (b == 10) t.0, from_test l t.1)
+    let t = and_parts (not (b == 10)) (no_feeds l) h in
+    (not-true (b == 10) t.0, from_test l t.1)
 
 weaker : (l : List ℕ) → AllByRecursion (λ c. not (c == 10) ≡ true) l → HasNoFeed l
 weaker [] h = tt
-weaker (b ∷ l) h = (not_true (b == 10) h.0, weaker l h.1)
+weaker (b ∷ l) h = (not-true (b == 10) h.0, weaker l h.1)
 
 upper_no_feed : (bytes : List ℕ) → HasNoFeed (encode_upper bytes)
 upper_no_feed bytes = weaker (encode_upper bytes) (encoded_pass (λ c. not (c == 10)) refl refl bytes)

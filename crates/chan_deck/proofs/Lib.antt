@@ -1,3 +1,4 @@
+pub mod Results
 pub mod LineFeeds
 pub mod PutLemmas
 pub mod StepLemmas

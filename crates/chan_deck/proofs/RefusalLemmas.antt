@@ -3,15 +3,17 @@ use Rattle.std.proofs.Common.{◌≡◌, ℕ, suc, ◌+◌, ◌-◌, ◌<◌, �
 use Rattle.std.specs.Prelude.{◌==◌}
 use Rattle.std.proofs.lemmas.List.{append-nil, map-append}
 use Rattle.std.proofs.lemmas.Bool.{cases_lt}
+use Rattle.std.proofs.Math.Seq.{take-append_seam, drop-append_seam}
+use Rattle.chan_walk.proofs.Lists.{all_append}
 use Rattle.chan_deck.specs.Item.{Item, line, text, HasForm, Says}
 use Rattle.chan_deck.specs.Image.{Image, items, Spells}
 use Rattle.chan_deck.specs.Refused.{split, lines, onto_first, IsRefusedAt, Found, whole_line, part, found_in, found_behind, AreSaid, IsCause, IsRefused, rank}
 use Rattle.chan_deck.specs.Reading.{State, Opening, Whole, Stands, step, go_on, run, Refuses, IsRefusal}
 use Rattle.chan_deck.specs.declared.error.DeckError.{DeckError}
 use Rattle.chan_deck.specs.declared.error.DeckError.TheVariants as errors
-use Rattle.chan_deck.proofs.StepLemmas.{said, all-append}
+use Rattle.chan_deck.proofs.StepLemmas.{said}
 use Rattle.chan_deck.proofs.DeckRuns.{run-append, reads_deck}
-use Rattle.chan_deck.proofs.FrontLemmas.{one_deck, is_state, says_said, lines_left, refused_at_line, refused_at_end, whole_front, take_front, drop_front, length-said, split_deck, items_form, said_once, join}
+use Rattle.chan_deck.proofs.FrontLemmas.{one_deck, is_state, says_said, lines_left, refused_at_line, refused_at_end, whole_front, length-said, split_deck, items_form, said_once, join}
 use Rattle.chan_deck.proofs.CauseLemmas.{is_whole, one_rank, line_cause, all_refused, end_cause, after_cause}
 use Rattle.chan_deck.specs.declared.cause.Cause.{Cause}
 use Rattle.chan_deck.specs.declared.cause.Cause.TheVariants as causes
@@ -25,7 +27,7 @@ pub takes : (t : List ℕ) (s next : State) (n : ℕ) (rest l after : List ℕ) 
     → Stands t next (n + 1) after
 takes t s next n rest l after i st e says goes = record {
   said = st.said ++ i ∷ [];
-  forms = all-append HasForm st.said (i ∷ []) st.forms (says.0, tt);
+  forms = all_append HasForm st.said (i ∷ []) st.forms (says.0, tt);
   runs = run-append Opening st.said (i ∷ []) ∙ ap (λ r. go_on r (λ q. run q (i ∷ []))) st.runs ∙ ap (λ r. go_on r (λ q. Ok q)) goes;
   parts =
       let more : map line st.said ++ l ∷ (split after).0 ≡ map line (st.said ++ i ∷ []) ++ (split after).0 =
@@ -40,13 +42,13 @@ behind_said : (t : List ℕ) (s : State) (n : ℕ) (rest : List ℕ) (st : Stand
 behind_said t s n rest st =
     let ls = map line st.said in
     let k : n - 1 ≡ length ls = omega (arith, length-said st.said, st.number) in
-    ap (λ j. found_in (drop j (lines t)) (split t).1) k ∙ ap (λ (p : List (List ℕ) × List ℕ). found_in (drop (length ls) p.0) p.1) st.parts ∙ ap (λ x. found_in x (split rest).1) (drop_front ls (split rest).0)
+    ap (λ j. found_in (drop j (lines t)) (split t).1) k ∙ ap (λ (p : List (List ℕ) × List ℕ). found_in (drop (length ls) p.0) p.1) st.parts ∙ ap (λ x. found_in x (split rest).1) (drop-append_seam ls (split rest).0)
 
 are_said : (t : List ℕ) (s : State) (n : ℕ) (rest : List ℕ) (st : Stands t s n rest) → AreSaid (n - 1) t st.said
 are_said t s n rest st =
     let ls = map line st.said in
     let k : n - 1 ≡ length ls = omega (arith, length-said st.said, st.number) in
-    (st.forms, sym (ap (λ j. take j (lines t)) k ∙ ap (λ (p : List (List ℕ) × List ℕ). take (length ls) p.0) st.parts ∙ take_front ls (split rest).0))
+    (st.forms, sym (ap (λ j. take j (lines t)) k ∙ ap (λ (p : List (List ℕ) × List ℕ). take (length ls) p.0) st.parts ∙ take-append_seam ls (split rest).0))
 
 with_cause : (t : List ℕ) (s : State) (n : ℕ) (rest : List ℕ) (found : Found) (c : Cause) (st : Stands t s n rest) → found_in (split rest).0 (split rest).1 ≡ found → IsCause (said s) found c
     → (before : List Item) × AreSaid (n - 1) t before × IsCause before (found_behind (n - 1) t) c
@@ -171,10 +173,6 @@ one_refusal t n m b c hn hm =
     (lines_same, for_cause_at t m b c (subst (λ k. (before : List Item) × AreSaid (k - 1) t before × IsCause before (found_behind (k - 1) t) b) lines_same hn.for_cause) hm.for_cause)
 
 -- ---- what an answer of reading tells
-
-pub memory_only : (t : List ℕ) (e : DeckError) (d : Image) → IsRefusal t e → Spells t d → e ≡ errors.Memory
-memory_only t (errors.At n c) d h spells = absurd (h.none d spells)
-memory_only t errors.Memory d h spells = refl
 
 pub refusal_only : (t : List ℕ) (e : DeckError) (n : ℕ) (c : Cause) → IsRefusal t e → IsRefused t n c → (e ≡ errors.Memory) ⊎ (e ≡ errors.At n c)
 refusal_only t (errors.At m b) n c h refused =

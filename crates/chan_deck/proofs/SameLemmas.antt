@@ -1,9 +1,10 @@
 -- Decks that compare as equal are one.
-use Rattle.std.proofs.Common.{◌≡◌, ℕ, Bool, true, false, ◌&&◌, refl, sym, ap, ◌∙◌, arith}
+use Rattle.std.proofs.Common.{◌≡◌, ℕ, true, ◌&&◌, refl, sym, ap, ◌∙◌, arith}
 use Rattle.std.specs.Prelude.{nat_eq}
 use Rattle.std.specs.Bool.{Decides}
-use Rattle.std.proofs.lemmas.Bool.{eqb-true, eq-eqb}
+use Rattle.std.proofs.lemmas.Bool.{eqb-true, eq-eqb, and_parts, and_from}
 use Rattle.std.proofs.lemmas.Slice.Eq.{slice_eq-Decides, bytes_eq-Decides}
+use Rattle.ckd_core.proofs.CylinderLemmas.{same_extents-decides}
 use Rattle.ccw_core.specs.declared.areas.Area.{Area}
 use Rattle.ckd_core.specs.Cylinders.{same_extents}
 use Rattle.ckd_core.specs.declared.device.Device.{Device}
@@ -13,33 +14,18 @@ use Rattle.chan_deck.specs.declared.version.Version.{Version}
 use Rattle.chan_deck.specs.declared.version.Version.TheVariants.{One, Two}
 use Rattle.chan_deck.specs.Same.{model_of, same_areas, same_versions, same_decks, same_decks-IsEquivalence}
 
-both : (a b : Bool) → (a && b) ≡ true → (a ≡ true) × (b ≡ true)
-both true b e = (refl, e)
-both false b e = absurd cc
-
-join : (a b : Bool) → a ≡ true → b ≡ true → (a && b) ≡ true
-join a b ha hb = ap (λ x. x && b) ha ∙ hb
-
 abbrev pair : ℕ → ℕ → ℕ × ℕ
 pair a b = (a, b)
 
 pair_is : (a b c d : ℕ) → a ≡ c → b ≡ d → pair a b ≡ pair c d
 pair_is a b c d e f = ap (λ (x : ℕ). pair x b) e ∙ ap (λ (x : ℕ). pair c x) f
 
-pair_decides : (a b : ℕ × ℕ) → Decides (nat_eq a.0 b.0 && nat_eq a.1 b.1) (a ≡ b)
-pair_decides a b = (
-  λ e.
-      let t = both (nat_eq a.0 b.0) (nat_eq a.1 b.1) e in
-      pair_is a.0 a.1 b.0 b.1 (eqb-true _ _ t.0) (eqb-true _ _ t.1),
-  λ e. join (nat_eq a.0 b.0) (nat_eq a.1 b.1) (eq-eqb _ _ (ap (λ (p : ℕ × ℕ). p.0) e)) (eq-eqb _ _ (ap (λ (p : ℕ × ℕ). p.1) e)),
-)
-
 area_decides : (a b : Area) → Decides (nat_eq a.start b.start && nat_eq a.len b.len) (a ≡ b)
 area_decides a b = (
   λ e.
-      let t = both (nat_eq a.start b.start) (nat_eq a.len b.len) e in
+      let t = and_parts (nat_eq a.start b.start) (nat_eq a.len b.len) e in
       ap (λ (p : ℕ × ℕ). record { start = p.0; len = p.1 }) (pair_is a.start a.len b.start b.len (eqb-true _ _ t.0) (eqb-true _ _ t.1)),
-  λ e. join (nat_eq a.start b.start) (nat_eq a.len b.len) (eq-eqb _ _ (ap (λ (p : Area). p.start) e)) (eq-eqb _ _ (ap (λ (p : Area). p.len) e)),
+  λ e. and_from (nat_eq a.start b.start) (nat_eq a.len b.len) (eq-eqb _ _ (ap (λ (p : Area). p.start) e)) (eq-eqb _ _ (ap (λ (p : Area). p.len) e)),
 )
 
 one_model : (a b : Device) → model_of a ≡ model_of b → a ≡ b
@@ -56,19 +42,19 @@ one_version (Two a) One n l = absurd (omega arith)
 
 pub same_is : (d e : Image) → same_decks d e ≡ true → d ≡ e
 same_is d e h =
-    let v = both (same_versions d.version e.version) _ h in
-    let n = both (nat_eq (number_of d.version) (number_of e.version)) _ v.0 in
-    let a = both (nat_eq (model_of d.device) (model_of e.device)) _ v.1 in
+    let v = and_parts (same_versions d.version e.version) _ h in
+    let n = and_parts (nat_eq (number_of d.version) (number_of e.version)) _ v.0 in
+    let a = and_parts (nat_eq (model_of d.device) (model_of e.device)) _ v.1 in
     let version : d.version ≡ e.version = one_version d.version e.version (eqb-true _ _ n.0) (eqb-true _ _ n.1) in
-    let b = both (nat_eq d.mask e.mask) _ a.1 in
-    let c = both (nat_eq d.start e.start) _ b.1 in
-    let x = both (same_extents d.extents e.extents) _ c.1 in
-    let f = both (same_areas d.fetch e.fetch) _ x.1 in
-    let s = both (same_areas d.store e.store) _ f.1 in
+    let b = and_parts (nat_eq d.mask e.mask) _ a.1 in
+    let c = and_parts (nat_eq d.start e.start) _ b.1 in
+    let x = and_parts (same_extents d.extents e.extents) _ c.1 in
+    let f = and_parts (same_areas d.fetch e.fetch) _ x.1 in
+    let s = and_parts (same_areas d.store e.store) _ f.1 in
     let device : d.device ≡ e.device = one_model d.device e.device (eqb-true _ _ a.0) in
     let mask : d.mask ≡ e.mask = eqb-true _ _ b.0 in
     let start : d.start ≡ e.start = eqb-true _ _ c.0 in
-    let extents : d.extents ≡ e.extents = (slice_eq-Decides pair_decides d.extents e.extents (same_extents d.extents e.extents) refl).0 x.0 in
+    let extents : d.extents ≡ e.extents = (same_extents-decides d.extents e.extents).0 x.0 in
     let fetch : d.fetch ≡ e.fetch = (slice_eq-Decides area_decides d.fetch e.fetch (same_areas d.fetch e.fetch) refl).0 f.0 in
     let store : d.store ≡ e.store = (slice_eq-Decides area_decides d.store e.store (same_areas d.store e.store) refl).0 s.0 in
     let storage : d.storage ≡ e.storage = (bytes_eq-Decides d.storage e.storage).0 s.1 in

@@ -1,10 +1,13 @@
 -- What has been said where reading stands, and that a step says one line more.
 use Rattle.std.proofs.Common.{◌≡◌, ℕ, zero, suc, ◌+◌, ◌-◌, ◌/◌, ◌%◌, ◌^◌, ◌<◌, ◌≤◌, Bool, true, false, cond, ltb, List, [], ◌∷◌, ◌++◌, length, map, Result, Ok, Err, Option, Some, None, refl, sym, ap, subst, ◌∙◌, append_assoc, arith, replicate, length-append, lit<, ◌&&◌}
 use Rattle.std.specs.Prelude.{◌==◌, nat_le, not}
-use Rattle.std.proofs.lemmas.Bool.{ltb-false, leb-true, eqb-true}
+use Rattle.std.proofs.lemmas.Bool.Decides.{nat_tests}
+use Rattle.std.proofs.lemmas.Bool.{ltb-false, leb-true, eqb-true, and_parts}
 use Rattle.chan_deck.proofs.PutLemmas.{length_pad, puts-padded, puts-put}
 use Rattle.std.proofs.lemmas.List.{map-append, append-nil}
 use Rattle.std.specs.List.{AllByRecursion}
+use Rattle.chan_walk.proofs.Lists.{all_append}
+use Rattle.chan_deck.proofs.Results.{same_ok}
 use Rattle.ccw_core.specs.declared.areas.Area.{Area}
 use Rattle.ckd_core.specs.declared.device.Device.{Device}
 use Rattle.ckd_core.specs.Cylinders.{IsExtent}
@@ -98,13 +101,6 @@ pub record IsState (s : State) : Type 0 where
 
 -- ---- tools
 
-abbrev done : {A : Type 0} → A → Result A Cause
-done x = Ok x
-
-pub all-append : {X : Type 0} (P : X → Type 0) (xs ys : List X) → AllByRecursion P xs → AllByRecursion P ys → AllByRecursion P (xs ++ ys)
-all-append P [] ys h k = k
-all-append P (x ∷ xs) ys h k = (h.0, all-append P xs ys h.1 k)
-
 unless : {A : Type 0} (b : Bool) (c : Cause) (r : Result A Cause) (y : A) → cond b (Err c) r ≡ Ok y → (b ≡ false) × (r ≡ Ok y)
 unless true c r y e = absurd cc
 unless false c r y e = (refl, e)
@@ -117,12 +113,8 @@ no_puts : puts (length {A = ℕ} [] / 8) 0 [] ≡ []
 unfolding puts
 no_puts = refl
 
-pub and_both : (a b : Bool) → (a && b) ≡ true → (a ≡ true) × (b ≡ true)
-and_both true b e = (refl, e)
-and_both false b e = absurd cc
-
-ok_is : {A : Type 0} (x y : A) → done x ≡ done y → x ≡ y
-ok_is x y e = cc
+pub not_zero : (n : ℕ) → (n == 0) ≡ false → 0 < n
+not_zero n h = grind (arith, nat_tests)
 
 pub is_nil : {X : Type 0} (xs : List X) → is_empty xs ≡ true → xs ≡ []
 is_nil [] e = refl
@@ -139,7 +131,7 @@ last_of-push (j ∷ k ∷ is) i = last_of-push (k ∷ is) i
 
 pub size_parts : (n : ℕ) → is_size n ≡ true → (n % 8 ≡ 0) × (n ≤ 2 ^ 24)
 size_parts n e =
-    let t = and_both (n % 8 == 0) (nat_le n 0x1000000) e in
+    let t = and_parts (n % 8 == 0) (nat_le n 0x1000000) e in
     (eqb-true _ _ t.0, leb-true _ _ t.1)
 
 come_after : (es : List (ℕ × ℕ)) (fs ss : List Area) → not (is_empty es) ≡ true → ComeAfter es fs ss
@@ -196,14 +188,14 @@ of_extent : (h : Heading) (es : List (ℕ × ℕ)) (fs ss : List Area) (first la
 of_extent h es fs ss first last next are e =
     let x = Listing h (es ++ (first, last) ∷ []) [] [] in
     let g = chosen (is_empty fs && is_empty ss) (on_extent h es first last) causes.Form next e in
-    let none = and_both (is_empty fs) (is_empty ss) g.0 in
+    let none = and_parts (is_empty fs) (is_empty ss) g.0 in
     let o = unless (ltb last first) causes.ExtentBackwards (cond (ltb 202 last) (Err causes.ExtentPastDevice) (Ok x)) next g.1 in
     let k = unless (ltb 202 last) causes.ExtentPastDevice (Ok x) next o.1 in
-    to (Listing h es fs ss) x next (extent first last) (ok_is _ _ k.1) (
+    to (Listing h es fs ss) x next (extent first last) (same_ok _ _ k.1) (
       record {
         heading = are.heading;
         after = come_more es (first, last) [] [];
-        extents = all-append IsExtent es ((first, last) ∷ []) are.extents ((ltb-false _ _ o.0, ltb-false _ _ k.0), tt);
+        extents = all_append IsExtent es ((first, last) ∷ []) are.extents ((ltb-false _ _ o.0, ltb-false _ _ k.0), tt);
         fetch = tt;
         store = tt;
       },
@@ -217,14 +209,14 @@ of_fetch : (h : Heading) (es : List (ℕ × ℕ)) (fs ss : List Area) (a : Area)
 of_fetch h es fs ss a next are form e =
     let x = Listing h es (fs ++ a ∷ []) ss in
     let g = chosen (not (is_empty es) && is_empty ss) (Ok x) causes.Form next e in
-    let both = and_both (not (is_empty es)) (is_empty ss) g.0 in
+    let both = and_parts (not (is_empty es)) (is_empty ss) g.0 in
     let nil : ss ≡ [] = is_nil ss both.1 in
-    to (Listing h es fs ss) x next (fetch a) (ok_is _ _ g.1) (
+    to (Listing h es fs ss) x next (fetch a) (same_ok _ _ g.1) (
       record {
         heading = are.heading;
         after = come_after es (fs ++ a ∷ []) ss both.0;
         extents = are.extents;
-        fetch = all-append IsArea fs (a ∷ []) are.fetch (form, tt);
+        fetch = all_append IsArea fs (a ∷ []) are.fetch (form, tt);
         store = are.store;
       },
       subst (λ x. Ends (Listing h es (fs ++ a ∷ []) x) (Some (fetch a))) (sym nil) (fetch_ends h es fs a both.0),
@@ -236,13 +228,13 @@ of_store : (h : Heading) (es : List (ℕ × ℕ)) (fs ss : List Area) (a : Area)
 of_store h es fs ss a next are form e =
     let x = Listing h es fs (ss ++ a ∷ []) in
     let g = chosen (not (is_empty es)) (Ok x) causes.Form next e in
-    to (Listing h es fs ss) x next (store a) (ok_is _ _ g.1) (
+    to (Listing h es fs ss) x next (store a) (same_ok _ _ g.1) (
       record {
         heading = are.heading;
         after = come_after es fs (ss ++ a ∷ []) g.0;
         extents = are.extents;
         fetch = are.fetch;
-        store = all-append IsArea ss (a ∷ []) are.store (form, tt);
+        store = all_append IsArea ss (a ∷ []) are.store (form, tt);
       },
       store_ends h es fs ss a g.0,
       lists_store h es fs ss a,
@@ -255,7 +247,7 @@ of_storage h es fs ss n next are e =
     let g = chosen (not (is_empty es)) (on_storage h es fs ss n) causes.Form next e in
     let k = chosen (is_size n) (Ok x) causes.Size next g.1 in
     let says : said x ≡ lists h es fs ss ++ storage n ∷ [] = rw no_puts refl in
-    to (Listing h es fs ss) x next (storage n) (ok_is _ _ k.1) (
+    to (Listing h es fs ss) x next (storage n) (same_ok _ _ k.1) (
       (
         are,
         record {
@@ -275,15 +267,15 @@ bytes_zeros zero = tt
 bytes_zeros (suc n) = (lit< tt, bytes_zeros n)
 
 bytes_pad : (bytes : List ℕ) (n : ℕ) → AllByRecursion IsByte bytes → AllByRecursion IsByte (pad bytes n)
-bytes_pad bytes n h = all-append IsByte bytes (replicate (n - length bytes) 0) h (bytes_zeros (n - length bytes))
+bytes_pad bytes n h = all_append IsByte bytes (replicate (n - length bytes) 0) h (bytes_zeros (n - length bytes))
 
 of_put : (h : Heading) (es : List (ℕ × ℕ)) (fs ss : List Area) (n : ℕ) (bytes : List ℕ) (a : ℕ) (word : List ℕ) (next : State) → IsRight (Filling h es fs ss n bytes) → HasForm (put a word)
     → step (Filling h es fs ss n bytes) (put a word) ≡ Ok next → Says_more (Filling h es fs ss n bytes) next (put a word)
 of_put h es fs ss n bytes a word next is form e =
     let x = Filling h es fs ss n (pad bytes a ++ word) in
     let g = chosen (a % 8 == 0 && nat_le (length bytes) a && nat_le (a + 8) n) (cond (is_zero word) (Err causes.PutZero) (Ok x)) causes.PutAddress next e in
-    let t = and_both (a % 8 == 0 && nat_le (length bytes) a) (nat_le (a + 8) n) g.0 in
-    let u = and_both (a % 8 == 0) (nat_le (length bytes) a) t.0 in
+    let t = and_parts (a % 8 == 0 && nat_le (length bytes) a) (nat_le (a + 8) n) g.0 in
+    let u = and_parts (a % 8 == 0) (nat_le (length bytes) a) t.0 in
     let z = unless (is_zero word) causes.PutZero (Ok x) next g.1 in
     let above : length bytes ≤ a = leb-true _ _ u.1 in
     let inside : a + 8 ≤ n = leb-true _ _ t.1 in
@@ -293,7 +285,7 @@ of_put h es fs ss n bytes a word next is form e =
     let says : said x ≡ said (Filling h es fs ss n bytes) ++ put a word ∷ [] =
     ap (λ js. lists h es fs ss ++ storage n ∷ js) (puts-put a bytes word above aligned is.1.words eight z.0)
     ∙ sym (append_assoc (lists h es fs ss) (storage n ∷ puts (length bytes / 8) 0 bytes) (put a word ∷ [])) in
-    to (Filling h es fs ss n bytes) x next (put a word) (ok_is _ _ z.1) (
+    to (Filling h es fs ss n bytes) x next (put a word) (same_ok _ _ z.1) (
       (
         is.0,
         record {
@@ -301,7 +293,7 @@ of_put h es fs ss n bytes a word next is form e =
           size = is.1.size;
           within = rw len inside;
           words = rw len (omega arith);
-          bytes = all-append IsByte (pad bytes a) word (bytes_pad bytes a is.1.bytes) form.1.1;
+          bytes = all_append IsByte (pad bytes a) word (bytes_pad bytes a is.1.bytes) form.1.1;
         },
       ),
       at_put h es fs ss n (pad bytes a ++ word) a word (sym len),
@@ -334,37 +326,37 @@ of_end : (h : Heading) (es : List (ℕ × ℕ)) (fs ss : List Area) (n : ℕ) (b
 of_end h es fs ss n bytes next is e =
     let d = image_of h es fs ss (pad bytes n) in
     let whole = filled_is_deck h es fs ss n bytes is in
-    to (Filling h es fs ss n bytes) (Whole d) next end (ok_is _ _ e) (whole.0, at_end d, whole.1)
+    to (Filling h es fs ss n bytes) (Whole d) next end (same_ok _ _ e) (whole.0, at_end d, whole.1)
 
 of_mask : (h : VersionNumber) (v : Device) (m : ℕ) (next : State) → IsByte m → step (OnDevice h v) (mask m) ≡ Ok next → Says_more (OnDevice h v) next (mask m)
 of_mask h v m next form e =
     let g = chosen (is_mask m) (Ok (Masked h v m)) causes.Mask next e in
-    to (OnDevice h v) (Masked h v m) next (mask m) (ok_is _ _ g.1) ((form, g.0), at_mask h v m, refl)
+    to (OnDevice h v) (Masked h v m) next (mask m) (same_ok _ _ g.1) ((form, g.0), at_mask h v m, refl)
 
 pub limit_parts : (n : ℕ) → is_limit n ≡ true → IsLimit n
 limit_parts n e =
-    let t = and_both (nat_le 1 n) (nat_le n 65536) e in
+    let t = and_parts (nat_le 1 n) (nat_le n 65536) e in
     (leb-true _ _ t.0, leb-true _ _ t.1)
 
 of_limit : (v : Device) (m a n : ℕ) (next : State) → IsRight (Started v m a) → step (Started v m a) (limit n) ≡ Ok next → Says_more (Started v m a) next (limit n)
 of_limit v m a n next is e =
     let x = Listing (record { version = Two n; device = v; mask = m; start = a }) [] [] [] in
     let g = chosen (is_limit n) (Ok x) causes.Limit next e in
-    to (Started v m a) x next (limit n) (ok_is _ _ g.1)
+    to (Started v m a) x next (limit n) (same_ok _ _ g.1)
     (record { heading = record { limit = limit_parts n g.0; mask = is.0; start = is.1 }; after = (refl, refl); extents = tt; fetch = tt; store = tt }, at_limit n v m a, refl)
 
 -- a step that goes on leads to what is right, and says one line more
 says_more : (s next : State) (i : Item) → IsRight s → HasForm i → step s i ≡ Ok next → Says_more s next i
-says_more Opening next (header h) is form e = to Opening (Named h) next (header h) (ok_is _ _ e) (tt, at_header h, refl)
+says_more Opening next (header h) is form e = to Opening (Named h) next (header h) (same_ok _ _ e) (tt, at_header h, refl)
 says_more Opening next _ is form e = absurd cc
-says_more (Named h) next (device v) is form e = to (Named h) (OnDevice h v) next (device v) (ok_is _ _ e) (tt, at_device h v, refl)
+says_more (Named h) next (device v) is form e = to (Named h) (OnDevice h v) next (device v) (same_ok _ _ e) (tt, at_device h v, refl)
 says_more (Named h) next _ is form e = absurd cc
 says_more (OnDevice h v) next (mask m) is form e = of_mask h v m next form e
 says_more (OnDevice h v) next _ is form e = absurd cc
 says_more (Masked numbers.One v m) next (start a) is form e =
-    to (Masked numbers.One v m) (on_start numbers.One v m a) next (start a) (ok_is _ _ e)
+    to (Masked numbers.One v m) (on_start numbers.One v m a) next (start a) (same_ok _ _ e)
     (record { heading = record { limit = tt; mask = is; start = form }; after = (refl, refl); extents = tt; fetch = tt; store = tt }, at_start v m a, refl)
-says_more (Masked numbers.Two v m) next (start a) is form e = to (Masked numbers.Two v m) (Started v m a) next (start a) (ok_is _ _ e) ((is, form), at_second_start v m a, refl)
+says_more (Masked numbers.Two v m) next (start a) is form e = to (Masked numbers.Two v m) (Started v m a) next (start a) (same_ok _ _ e) ((is, form), at_second_start v m a, refl)
 says_more (Masked h v m) next _ is form e = absurd cc
 says_more (Started v m a) next (limit n) is form e = of_limit v m a n next is e
 says_more (Started v m a) next _ is form e = absurd cc

@@ -1,11 +1,12 @@
 -- Upper-case hexadecimal digits: what is decoded is what was encoded, and no digit is a small letter or a line feed.
 use Rattle.std.proofs.Common.{◌≡◌, ℕ, zero, suc, ◌+◌, ◌*◌, ◌/◌, ◌%◌, ◌<◌, Bool, true, false, cond, ◌&&◌, List, [], ◌∷◌, length, drop, slice_index, Option, Some, None, Result, Ok, Err, refl, sym, ap, subst, ◌∙◌, arith, inl, inr}
-use Rattle.std.specs.Prelude.{◌==◌, ◌||◌, nat_lt, nat_le, MatchResult, is_ok}
+use Rattle.std.specs.Prelude.{◌==◌, nat_lt, nat_le, MatchResult, is_ok}
 use Rattle.std.specs.Bool.{OnTrue, OnFalse}
 use Rattle.std.specs.List.{AllByRecursion, list_any}
-use Rattle.std.proofs.lemmas.Bool.{eqb-true, ltb-true, cases_lt}
+use Rattle.std.proofs.lemmas.Bool.{eqb-true, ltb-true, cases_lt, and_parts, or_parts}
 use Rattle.std.proofs.lemmas.Bool.Decides.{nat_tests}
 use Rattle.std.proofs.lemmas.List.{get_or_past}
+use Rattle.chan_deck.proofs.Results.{same_ok}
 use Rattle.hex.specs.Hex.{IsBytes, decode_of, decode_pairs, decode_sized, digit_or_error, hex_digit_value, encode_upper, encode_with, pair_value, upper_digits, value_at, ◌>>=◌}
 use Rattle.hex.specs.declared.error.FromHexError.{FromHexError}
 use Rattle.hex.proofs.HexLemmas.{length-encode_with, decode_of-encode_upper, decode_of-even, decode_sized-ok, decode_sized-twice}
@@ -17,14 +18,10 @@ abbrev all_pass : (ℕ → Bool) → List ℕ → Bool
 all_pass p [] = true
 all_pass p (x ∷ xs) = p x && all_pass p xs
 
-both : (a b : Bool) → (a && b) ≡ true → (a ≡ true) × (b ≡ true)
-both true b e = (refl, e)
-both false b e = absurd cc
-
 passes : (p : ℕ → Bool) (t : List ℕ) → all_pass p t ≡ true → p 0 ≡ true → (k : ℕ) → p (slice_index t k) ≡ true
 passes p [] h z k = z
-passes p (x ∷ t) h z zero = (both (p x) (all_pass p t) h).0
-passes p (x ∷ t) h z (suc k) = passes p t (both (p x) (all_pass p t) h).1 z k
+passes p (x ∷ t) h z zero = (and_parts (p x) (all_pass p t) h).0
+passes p (x ∷ t) h z (suc k) = passes p t (and_parts (p x) (all_pass p t) h).1 z k
 
 -- each digit is a character of ASCII
 pub digit_ascii : (k : ℕ) → slice_index upper_digits k < 128
@@ -52,7 +49,7 @@ all_below p (suc n) = p n && all_below p n
 below : (p : ℕ → Bool) (n k : ℕ) → all_below p n ≡ true → k < n → p k ≡ true
 below p zero k h lt = absurd (omega arith)
 below p (suc n) k h lt =
-    let parts = both (p n) (all_below p n) h in
+    let parts = and_parts (p n) (all_below p n) h in
     elim (cases_lt k n) [
       | inl under ↦ below p n k parts.1 under
       | inr top ↦
@@ -82,19 +79,13 @@ value_read : (c i : ℕ) (o : Option ℕ) (v : ℕ) → digit_or_error c i o ≡
 value_read c i (Some w) v h = ap Some cc
 value_read c i None v h = absurd cc
 
-abbrev done : {A : Type 0} → A → Result A FromHexError
-done x = Ok x
-
-ok_is : {A : Type 0} (x y : A) → done x ≡ done y → x ≡ y
-ok_is x y e = cc
-
 pair_back : (a b i n : ℕ) → a < 97 → b < 97 → pair_value a b i ≡ Ok n → (slice_index upper_digits (n / 16) ≡ a) × (slice_index upper_digits (n % 16) ≡ b)
 pair_back a b i n la lb e =
     let h = bind_ok (value_at a i) _ n e in
     let l = bind_ok (value_at b (i + 1)) _ n h.2 in
     let va = value_read a i (hex_digit_value a) h.0 h.1 in
     let vb = value_read b (i + 1) (hex_digit_value b) l.0 l.1 in
-    let sum : h.0 * 16 + l.0 ≡ n = ok_is _ _ l.2 in
+    let sum : h.0 * 16 + l.0 ≡ n = same_ok _ _ l.2 in
     let small = value_small b l.0 vb in
     let high : n / 16 ≡ h.0 = omega arith in
     let low : n % 16 ≡ l.0 = omega arith in
@@ -103,23 +94,19 @@ pair_back a b i n la lb e =
 below_97 : (c : ℕ) → (nat_le 97 c) ≡ false → c < 97
 below_97 c h = grind (arith, nat_tests)
 
-neither : (a b : Bool) → (a || b) ≡ false → (a ≡ false) × (b ≡ false)
-neither true b e = absurd cc
-neither false b e = (refl, e)
-
 -- digits without small letters are those of the bytes that they decode to
 decoded : (i : ℕ) (s bytes : List ℕ) → list_any (λ c. nat_le 97 c) s ≡ false → decode_pairs i s ≡ Ok bytes → s ≡ encode_upper bytes
 unfolding encode_with decode_pairs
-decoded i [] bytes none e = ap encode_upper (ok_is _ _ e)
+decoded i [] bytes none e = ap encode_upper (same_ok _ _ e)
 decoded i (a ∷ []) bytes none e = absurd cc
 decoded i (a ∷ b ∷ s) bytes none e =
-    let na = neither (nat_le 97 a) (list_any (λ c. nat_le 97 c) (b ∷ s)) none in
-    let nb = neither (nat_le 97 b) (list_any (λ c. nat_le 97 c) s) na.1 in
+    let na = or_parts (nat_le 97 a) (list_any (λ c. nat_le 97 c) (b ∷ s)) none in
+    let nb = or_parts (nat_le 97 b) (list_any (λ c. nat_le 97 c) s) na.1 in
     let p = bind_ok (pair_value a b i) _ bytes e in
     let r = bind_ok (decode_pairs (i + 2) s) _ bytes p.2 in
     let back = pair_back a b i p.0 (below_97 a na.0) (below_97 b nb.0) p.1 in
     let rest = decoded (i + 2) s r.0 nb.1 r.1 in
-    let same : p.0 ∷ r.0 ≡ bytes = ok_is _ _ r.2 in
+    let same : p.0 ∷ r.0 ≡ bytes = same_ok _ _ r.2 in
     ap (λ x. x ∷ b ∷ s) (sym back.0) ∙ ap (λ x. slice_index upper_digits (p.0 / 16) ∷ x ∷ s) (sym back.1)
     ∙ ap (λ t. slice_index upper_digits (p.0 / 16) ∷ slice_index upper_digits (p.0 % 16) ∷ t) rest ∙ ap encode_upper same
 
@@ -144,13 +131,10 @@ pub encoded_decodes : (bytes : List ℕ) (n : ℕ) → length bytes ≡ n → Al
 encoded_decodes bytes n len h =
     decode_sized-twice (encode_upper bytes) n (omega (arith, length-encode_upper bytes)) ∙ decode_of-encode_upper bytes (bytes_at bytes h)
 
-ok_bytes : (x y : List ℕ) → done x ≡ done y → x ≡ y
-ok_bytes x y e = cc
-
 -- digits are those of one list of bytes
 pub encoded_one : (x y : List ℕ) → AllByRecursion IsByte x → AllByRecursion IsByte y → encode_upper x ≡ encode_upper y → x ≡ y
 encoded_one x y hx hy e =
-    ok_bytes x y (sym (decode_of-encode_upper x (bytes_at x hx)) ∙ ap decode_of e ∙ decode_of-encode_upper y (bytes_at y hy))
+    same_ok x y (sym (decode_of-encode_upper x (bytes_at x hx)) ∙ ap decode_of e ∙ decode_of-encode_upper y (bytes_at y hy))
 
 -- ---- what decoding into room for n bytes tells
 

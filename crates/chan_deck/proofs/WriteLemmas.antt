@@ -1,18 +1,12 @@
 -- What is written, line by line.
-use Rattle.std.proofs.Common.{◌≡◌, ℕ, zero, suc, ◌+◌, ◌-◌, ◌*◌, ◌/◌, ◌<◌, ◌≤◌, true, false, cond, List, [], ◌∷◌, ◌++◌, length, take, drop, map, get_or, refl, sym, ap, ◌∙◌, append_assoc, arith}
-use Rattle.std.specs.List.{AllByRecursion, flat_map}
+use Rattle.std.proofs.Common.{◌≡◌, ℕ, suc, ◌+◌, ◌-◌, ◌*◌, ◌/◌, ◌<◌, ◌≤◌, true, false, cond, List, [], ◌∷◌, ◌++◌, length, take, drop, map, get_or, refl, sym, ap, ◌∙◌, append_assoc, arith}
+use Rattle.std.specs.List.{flat_map}
 use Rattle.std.proofs.lemmas.List.{take_more, drop-drop, map-append, append-nil}
 use Rattle.std.specs.Prelude.{codes}
 use Rattle.ccw_core.specs.declared.areas.Area.{Area}
-use Rattle.ckd_core.specs.Cylinders.{IsExtent}
 use Rattle.chan_deck.specs.Item.{Item, header, device, mask, start, fetch, store, storage, put, end, line, text, area_digits}
 use Rattle.chan_deck.specs.Image.{Image, extent_of, is_zero, puts, spelling, header_of, limit_line}
 use Rattle.chan_deck.proofs.FrontLemmas.{text-append}
-
-pub extent_at : (es : List (ℕ × ℕ)) (i : ℕ) → AllByRecursion IsExtent es → i < length es → IsExtent (get_or es i (0, 0))
-extent_at [] i h lt = absurd (omega arith)
-extent_at (e ∷ es) zero h lt = h.0
-extent_at (e ∷ es) (suc i) h lt = extent_at es i h.1 (omega arith)
 
 -- one line more
 pub text_more : (is : List Item) (i : Item) → text (map line (is ++ i ∷ [])) ≡ text (map line is) ++ (line i ++ 10 ∷ [])

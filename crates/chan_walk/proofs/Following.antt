@@ -1,8 +1,10 @@
 -- Following the chain of a seek, CCW by CCW.
 use Rattle.std.proofs.Common.{◌≡◌, ℕ, zero, suc, ◌+◌, ◌-◌, ◌<◌, ◌≤◌, true, false, List, [], ◌∷◌, ◌++◌, take, length, get_or, None, Some, refl, sym, ap, ◌∙◌, subst, ◌⊎◌, inl, inr, arith, append_assoc, append-nil, length-append}
-use Rattle.std.proofs.lemmas.List.{ext_get_or}
+use Rattle.std.proofs.lemmas.List.{ext_get_or, get_or-append-add}
 use Rattle.std.specs.List.{range_with_len, AllByRecursion}
 use Rattle.std.proofs.lemmas.Bool.{cases_lt, both_ways, and_parts, leb-true}
+use Rattle.std.proofs.Math.ListN.{get_or-append}
+use Rattle.std.proofs.lemmas.List.FromFn.{get_or-range_with_len, length-range_with_len}
 use Rattle.ccw_core.specs.Ccw.{Fields, ccw, has_data_in, chains_data}
 use Rattle.ccw_core.specs.Storage.{ccw_at, is_inside}
 use Rattle.ccw_core.proofs.StorageLemmas.{ccw_at-some}
@@ -58,24 +60,6 @@ leads_nowhere s a taken have here w lt n k h =
     let m = (chain_goes_on s _ here l.0 lt l.1).1 in
     begins_nowhere s _ (onward s here) n m.0 m.1
 
-length-range : (a n : ℕ) → length (range_with_len a n) ≡ n
-length-range a zero = refl
-length-range a (suc n) = ap suc (length-range (a + 1) n)
-
-index-range : (a n i : ℕ) → i < n → get_or (range_with_len a n) i 0 ≡ a + i
-index-range a zero i h = absurd (omega arith)
-index-range a (suc n) zero h = omega arith
-index-range a (suc n) (suc i) h = index-range (a + 1) n i (omega arith) ∙ omega arith
-
-index_left : (xs ys : List ℕ) (i : ℕ) → i < length xs → get_or (xs ++ ys) i 0 ≡ get_or xs i 0
-index_left [] ys i h = absurd (omega arith)
-index_left (x ∷ xs) ys zero h = refl
-index_left (x ∷ xs) ys (suc i) h = index_left xs ys i (omega arith)
-
-index_right : (xs ys : List ℕ) (i : ℕ) → get_or (xs ++ ys) (length xs + i) 0 ≡ get_or ys i 0
-index_right [] ys i = let e : 0 + i ≡ i = omega arith in ap (λ n. get_or ys n 0) e
-index_right (x ∷ xs) ys i = let e : suc (length xs) + i ≡ suc (length xs + i) = omega arith in ap (λ n. get_or (x ∷ (xs ++ ys)) n 0) e ∙ index_right xs ys i
-
 -- the addresses after n more from a
 note_more : (before taken taken' : List ℕ) (have from n : ℕ) → length before ≡ have → ((i : ℕ) → i < have → get_or taken i 0 ≡ get_or before i 0)
     → ((i : ℕ) → i < have → get_or taken' i 0 ≡ get_or taken i 0) → ((i : ℕ) → i < n → get_or taken' (have + i) 0 ≡ from + i)
@@ -83,12 +67,12 @@ note_more : (before taken taken' : List ℕ) (have from n : ℕ) → length befo
 note_more before taken taken' have from n c r b a i h = go (cases_lt i have)
   where
     go : (i < have) ⊎ (have ≤ i) → get_or taken' i 0 ≡ get_or (before ++ range_with_len from n) i 0
-    go (inl l) = b i l ∙ r i l ∙ sym (index_left before (range_with_len from n) i (omega arith))
+    go (inl l) = b i l ∙ r i l ∙ sym (get_or-append before (range_with_len from n) 0 i (omega arith))
     go (inr l) =
         let k : i ≡ have + (i - have) = omega arith in
         let k' : i ≡ length before + (i - have) = omega arith in
         ap (λ z. get_or taken' z 0) k ∙ a (i - have) (omega arith)
-        ∙ sym (ap (λ z. get_or (before ++ range_with_len from n) z 0) k' ∙ index_right before (range_with_len from n) (i - have) ∙ index-range from n (i - have) (omega arith))
+        ∙ sym (ap (λ z. get_or (before ++ range_with_len from n) z 0) k' ∙ get_or-append-add before (range_with_len from n) (i - have) 0 ∙ get_or-range_with_len from n (i - have) 0 (omega arith))
 
 pub followed_more : (s : List ℕ) (a : ℕ) (taken taken' : List ℕ) (have here : ℕ) → IsFollowed s a taken have here → is_part s here ≡ true
     → (ccw s here).count < 6 - have → chains_data (ccw s here) ≡ true → length taken' ≡ 6
@@ -102,7 +86,7 @@ followed_more s a taken taken' have here w part lt cd n b ad =
       size = n;
       few = omega arith;
       before = w.before ++ data_of s here;
-      count = length-append w.before (data_of s here) ∙ ap (λ z. z + length (data_of s here)) c ∙ ap (λ z. have + z) (length-range (ccw s here).address (ccw s here).count);
+      count = length-append w.before (data_of s here) ∙ ap (λ z. z + length (data_of s here)) c ∙ ap (λ z. have + z) (length-range_with_len (ccw s here).address (ccw s here).count);
       noted = note_more w.before taken taken' have (ccw s here).address (ccw s here).count c w.noted b ad;
       to = λ l k.
           let t = w.to (here ∷ l) (chain_cons s (6 - have) here (onward s here) l part cd (onward_leads s here) lt (subst (λ z. IsChain s z (onward s here) l) (sym d) k)) in
@@ -124,7 +108,7 @@ followed_whole s a taken taken' have here w part le n b ad =
     let split : data_of s here ≡ range_with_len from room ++ range_with_len (from + room) ((ccw s here).count - room) = ap (range_with_len from) cut ∙ range_split from room ((ccw s here).count - room) in
     let front = w.before ++ range_with_len from room in
     let rest = range_with_len (from + room) ((ccw s here).count - room) in
-    let len : length front ≡ 6 = length-append w.before (range_with_len from room) ∙ ap (λ z. length w.before + z) (length-range from room) ∙ omega arith in
+    let len : length front ≡ 6 = length-append w.before (range_with_len from room) ∙ ap (λ z. length w.before + z) (length-range_with_len from room) ∙ omega arith in
     let whole : joined s t.0 ≡ front ++ rest = t.2 ∙ ap (λ z. w.before ++ z) (append-nil (data_of s here) ∙ split) ∙ sym (append_assoc w.before (range_with_len from room) rest) in
     let none : 6 - length front ≡ 0 = omega arith in
     let args : argument_addresses s t.0 ≡ front = ap (take 6) whole ∙ take_front front rest (omega arith) ∙ ap (λ z. front ++ take z rest) none ∙ append-nil front in

@@ -1,12 +1,13 @@
 -- Areas clipped to storage.
 use Rattle.std.proofs.Common.{◌≡◌, ℕ, zero, suc, ◌+◌, ◌<◌, ◌≤◌, true, ◌&&◌, List, [], ◌∷◌, map, refl, sym, ap, ◌∙◌, subst, ◌⊎◌, inl, inr, arith}
+use Rattle.std.specs.Cmp.Derive.{one_truth}
 use Rattle.std.specs.List.{All}
 use Rattle.std.proofs.lemmas.List.Elements.{All-map}
 use Rattle.ccw_core.specs.declared.areas.Area.{Area}
 use Rattle.ccw_core.specs.Areas.{lies_in, covered}
 use Rattle.chan_walk.specs.Lent.{clip}
 use Rattle.chan_walk.specs.Ranges.{EndsBelow, HaveSameBytes}
-use Rattle.chan_walk.proofs.Merging.{InArea, same_tests, lies_in-cases, lies_in-first, lies_in-rest}
+use Rattle.chan_walk.proofs.Merging.{InArea, lies_in-cases, lies_in-first, lies_in-rest}
 
 -- a range is covered alike where its bytes lie alike
 pub same_cover : (xs ys : List Area) (a n : ℕ) → ((b : ℕ) → b < a + n → lies_in xs b ≡ lies_in ys b) → covered xs a n ≡ covered ys a n
@@ -20,7 +21,7 @@ pub lies_in-clip : (n : ℕ) (xs : List Area) (b : ℕ) → b < n → lies_in (m
 lies_in-clip n [] b l = refl
 lies_in-clip n (x ∷ xs) b l =
     let rest = lies_in-clip n xs b l in
-    same_tests (lies_in (map (clip n) (x ∷ xs)) b) (lies_in (x ∷ xs) b)
+    one_truth (lies_in (map (clip n) (x ∷ xs)) b) (lies_in (x ∷ xs) b)
     (λ h. to rest (lies_in-cases (clip n x) (map (clip n) xs) b h))
     (λ h. from rest (lies_in-cases x xs b h))
   where

@@ -1,5 +1,6 @@
 -- Bytes of areas, how they stay the same while areas are merged, and that there is one merged list for them.
-use Rattle.std.proofs.Common.{◌≡◌, ℕ, zero, suc, ◌+◌, ◌++◌, ◌<◌, ◌≤◌, Bool, true, false, ◌||◌, ◌&&◌, nat_le, nat_lt, List, [], ◌∷◌, length, get_or, take, refl, sym, ap, ◌∙◌, subst, ◌⊎◌, inl, inr, arith, append_assoc, IsPermutation}
+use Rattle.std.proofs.Common.{◌≡◌, ℕ, zero, suc, ◌+◌, ◌++◌, ◌<◌, ◌≤◌, true, ◌||◌, ◌&&◌, nat_le, nat_lt, List, [], ◌∷◌, length, get_or, take, refl, sym, ap, ◌∙◌, subst, ◌⊎◌, inl, inr, arith, append_assoc, IsPermutation}
+use Rattle.std.specs.Cmp.Derive.{one_truth}
 use Rattle.std.specs.List.{All}
 use Rattle.std.specs.List.Sorted.{IsNonDecreasingBy}
 use Rattle.std.proofs.lemmas.Bool.{cases_lt, or_cases, or_left, or_right, and_parts, and_from, le-leb, lt-ltb, leb-true, ltb-true, both_ways}
@@ -15,12 +16,6 @@ use Rattle.chan_walk.specs.Ranges.{start_of, end_of, EndsBelow, BeginAbove, IsMe
 -- the byte at b lies in the area
 abbrev pub InArea : Area → ℕ → Type 0
 InArea a b = (a.start ≤ b) × (b < end_of a)
-
--- two tests that are true of the same
-pub same_tests : (x y : Bool) → (x ≡ true → y ≡ true) → (y ≡ true → x ≡ true) → x ≡ y
-same_tests true y f g = sym (f refl)
-same_tests false true f g = g refl
-same_tests false false f g = refl
 
 -- ---- bytes of areas
 
@@ -54,7 +49,7 @@ same_before xs ys zs b e = lies_in-append xs zs b ∙ ap (λ t. t || lies_in zs 
 
 -- one area for two
 pub one_for_two : (x y r : Area) (b : ℕ) → (InArea r b → InArea x b ⊎ InArea y b) → (InArea x b → InArea r b) → (InArea y b → InArea r b) → lies_in (r ∷ []) b ≡ lies_in (x ∷ y ∷ []) b
-one_for_two x y r b f g h = same_tests (lies_in (r ∷ []) b) (lies_in (x ∷ y ∷ []) b) (λ k. to (lies_in-cases r [] b k)) (λ k. lies_in-first r [] b (from (lies_in-cases x (y ∷ []) b k)))
+one_for_two x y r b f g h = one_truth (lies_in (r ∷ []) b) (lies_in (x ∷ y ∷ []) b) (λ k. to (lies_in-cases r [] b k)) (λ k. lies_in-first r [] b (from (lies_in-cases x (y ∷ []) b k)))
   where
     both : InArea x b ⊎ InArea y b → lies_in (x ∷ y ∷ []) b ≡ true
     both (inl k) = lies_in-first x (y ∷ []) b k
@@ -167,7 +162,7 @@ bytes_end now all xs i b e f g = ap (λ z. lies_in z b) f ∙ g ∙ ap (λ n. li
 
 -- an empty run has no bytes
 pub bytes_empty : (xs : List Area) (run : Area) (b : ℕ) → run.len ≡ 0 → lies_in xs b ≡ lies_in (xs ++ run ∷ []) b
-bytes_empty xs run b e = same_tests (lies_in xs b) (lies_in (xs ++ run ∷ []) b) (λ k. lies_in-append xs (run ∷ []) b ∙ or_left (lies_in xs b) (lies_in (run ∷ []) b) k) (λ k. from (or_cases (lies_in xs b) (lies_in (run ∷ []) b) (sym (lies_in-append xs (run ∷ []) b) ∙ k)))
+bytes_empty xs run b e = one_truth (lies_in xs b) (lies_in (xs ++ run ∷ []) b) (λ k. lies_in-append xs (run ∷ []) b ∙ or_left (lies_in xs b) (lies_in (run ∷ []) b) k) (λ k. from (or_cases (lies_in xs b) (lies_in (run ∷ []) b) (sym (lies_in-append xs (run ∷ []) b) ∙ k)))
   where
     none : InArea run b ⊎ (lies_in [] b ≡ true) → lies_in xs b ≡ true
     none (inl k) = let l = k.0 in let m = k.1 in absurd (omega arith)
@@ -248,5 +243,5 @@ merged_is_unique (x ∷ xs) (y ∷ ys) m n s =
     let d = same_ends y x ys xs n m back (sym start) in
     let len : x.len ≡ y.len = omega arith in
     let e = same_area x y start len in
-    let rests = merged_is_unique xs ys m.2 n.2 (λ b. same_tests (lies_in xs b) (lies_in ys b) (λ k. rest_within x y xs ys b e m s k) (λ k. rest_within y x ys xs b (sym e) n back k)) in
+    let rests = merged_is_unique xs ys m.2 n.2 (λ b. one_truth (lies_in xs b) (lies_in ys b) (λ k. rest_within x y xs ys b e m s k) (λ k. rest_within y x ys xs b (sym e) n back k)) in
     ap (λ z. z ∷ xs) e ∙ ap (λ z. y ∷ z) rests

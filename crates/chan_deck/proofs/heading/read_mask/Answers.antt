@@ -1,16 +1,12 @@
-use Rattle.std.proofs.Common.{◌≡◌, refl, true, false}
+use Rattle.std.proofs.Common.{◌≡◌, refl, true}
 use Rattle.chan_deck.specs.Item.{mask}
 use Rattle.chan_deck.specs.Reading.{OnDevice, Masked}
 use Rattle.chan_deck.proofs.RefusalLemmas.{takes, refuses_line, refuses_end}
 use Rattle.chan_deck.proofs.LineRefusals.{not_mask, bad_mask}
 use Rattle.chan_deck.specs.declared.cause.Cause.TheVariants as causes
 use Rattle.chan_deck.proofs.heading.read_mask.Goals as goal
-use Rattle.std.proofs.Common.{Bool}
+use Rattle.std.proofs.lemmas.Bool.{false_from_ne_true}
 use Rattle.ckd_core.specs.Mask.{is_mask}
-
-not_true : (b : Bool) → (b ≡ true → ⊥) → b ≡ false
-not_true true h = absurd (h refl)
-not_true false h = refl
 
 pub returns-in_default-clause-err : goal.returns-in_default-clause-err
 returns-in_default-clause-err c = rw c.refused.ensures (λ h v t st. refuses_end t (OnDevice h v) 3 c.args.text.now st c.in_default.ensures.none refl)
@@ -30,4 +26,4 @@ returns-in-Some-new-clause-ok c = λ h v t st.
 pub returns-in-None-clause-err : goal.returns-in-None-clause-err
 returns-in-None-clause-err c = λ h v t st.
     let parts = rw (c.in-Some.line-is, c.in-Some.rest-is) at c.in-Some.ensures.some in
-    rw c.refused-in-None.ensures (refuses_line t (OnDevice h v) 3 c.args.text.now c.in-Some.line.now c.in-Some.rest.now causes.Mask st parts (bad_mask h v c.in-Some.line.now c.in-Some-mask_of.byte c.in-Some-mask_of.ensures (not_true (is_mask c.in-Some-mask_of.byte) (λ e. absurd (cc (c.in-None.ensures.mask.1 e))))))
+    rw c.refused-in-None.ensures (refuses_line t (OnDevice h v) 3 c.args.text.now c.in-Some.line.now c.in-Some.rest.now causes.Mask st parts (bad_mask h v c.in-Some.line.now c.in-Some-mask_of.byte c.in-Some-mask_of.ensures (false_from_ne_true (is_mask c.in-Some-mask_of.byte) (λ e. absurd (cc (c.in-None.ensures.mask.1 e))))))

@@ -1,19 +1,15 @@
-use Rattle.std.proofs.Common.{◌≡◌, ℕ, ◌+◌, ◌++◌, ◌<◌, ◌≤◌, length, take, drop, refl, sym, subst, ◌∙◌, arith, false}
-use Rattle.std.specs.Prelude.{◌==◌}
+use Rattle.std.proofs.Common.{◌≡◌, ◌+◌, ◌++◌, ◌≤◌, length, take, drop, refl, sym, subst, ◌∙◌, arith}
 use Rattle.std.specs.Int.{w64, to_be_bytes}
 use Rattle.std.proofs.lemmas.Bool.{eqb-true}
-use Rattle.std.proofs.lemmas.Bool.Decides.{nat_tests}
 use Rattle.std.proofs.lemmas.List.{length-take}
 use Rattle.chan_deck.specs.Reading.{Filling, image_of}
+use Rattle.chan_deck.proofs.StepLemmas.{not_zero}
 use Rattle.chan_deck.proofs.RefusalLemmas.{refuses_line, refuses_end}
 use Rattle.chan_deck.proofs.LineRefusals.{not_put}
 use Rattle.chan_deck.proofs.FillLemmas.{zero_word, some_word, bad_place, zero_put, written, takes_put, ends, spells_whole, more_whole}
 use Rattle.chan_deck.specs.declared.cause.Cause.TheVariants as causes
 use Rattle.chan_deck.proofs.storage.fill.Goals as goal
 use Rattle.chan_deck.proofs.storage.fill.Goals.{then-address-ne0-via-then-address-ne0, then-address-ne0-via-else-address-ne0+then-address-next, then-address-ne0-via-else-address-ne0+else-address-next+then-storage-address}
-
-not_empty : (n : ℕ) → (n == 0) ≡ false → 0 < n
-not_empty n h = grind (arith, nat_tests)
 
 pub loop-found-preserved : goal.loop-found-preserved
 loop-found-preserved c =
@@ -83,7 +79,7 @@ returns-then-is_end-clause-err c = λ h es fs ss t st.
     let last = rw c.in-Some.found-is at c.if-is_end.ensures in
     more_whole t (image_of h es fs ss S) (c.loop-found.line + 1) c.in-Some.after.now
     (ends t h es fs ss c.loop-found.line c.loop-found.next S c.loop-found.rest.now c.in-Some.found.now c.in-Some.after.now (c.loop-found.invariant.told h es fs ss t st) parts last c.loop-found.invariant.within c.loop-found.invariant.behind)
-    (not_empty _ (sym c.is_empty.ensures ∙ c.if-is_empty.false))
+    (not_zero _ (sym c.is_empty.ensures ∙ c.if-is_empty.false))
 
 pub returns-else-is_end-clause-err : goal.returns-else-is_end-clause-err
 returns-else-is_end-clause-err c = λ h es fs ss t st.

@@ -1,7 +1,8 @@
 use Rattle.std.proofs.Common.{◌∷◌, [], ◌++◌, ◌∙◌, ap, sym, arith, take, map, append_assoc, slice_index_or}
+use Rattle.ckd_core.proofs.CylinderLemmas.{extent_at}
 use Rattle.chan_deck.specs.Item.{line, text}
 use Rattle.chan_deck.specs.Image.{extent_of}
-use Rattle.chan_deck.proofs.WriteLemmas.{extent_at, extents_more}
+use Rattle.chan_deck.proofs.WriteLemmas.{extents_more}
 use Rattle.chan_deck.proofs.writing.write_extents.Goals as goal
 
 pub write_extent-requires-clause-first : goal.write_extent-requires-clause-first

@@ -1,4 +1,5 @@
-use Rattle.std.proofs.Common.{◌≡◌, ◌≤◌, ◌<◌, ◌^◌, Option, None, Some, length, sym, ap, ◌∙◌, subst}
+use Rattle.std.proofs.Common.{◌≡◌, ◌≤◌, ◌<◌, ◌^◌, Option, None, length, sym, ap, ◌∙◌, subst}
+use Rattle.std.proofs.lemmas.Option.{same_Some}
 use Rattle.ccw_core.proofs.StorageLemmas.{ccw_at-some}
 use Rattle.chan_walk.specs.declared.look.Argument.{Argument}
 use Rattle.chan_walk.specs.declared.place.Place.{Place}
@@ -26,9 +27,6 @@ pub go_on-requires-in-None-None-clause-low : goal.go_on-requires-in-None-None-cl
 go_on-requires-in-None-None-clause-low c =
     let small : length (storage_of c.args.job.now) ≤ 2 ^ 24 = c.args.job.now.storage.small in
     subst (λ (p : Place). p.address < 2 ^ 25) (sym c.new-visit.ensures.place) (stands_below (storage_of c.args.job.now) c.args.place.address c.args.word small c.requires.stands)
-
-some_same : {X : Type 0} {x y : X} → ◌≡◌ {A = Option X} (Some x) (Some y) → x ≡ y
-some_same e = cc
 
 pub returns-clause-look : goal.returns-clause-look
 returns-clause-look c =
@@ -74,6 +72,6 @@ returns-clause-look c =
       fault = subst (λ (q : Place). HasFault j q c.own_fault-fault.result) at c.own_fault-fault.ensures;
       argument = (subst (λ (q : Place). IsTaken j q (addresses_of c.match-fault.argument.0)) at here.0).0;
       low = here.0.1;
-      stores = λ d e. let same : c.args.word ≡ d = some_same e in c.stores.ensures ∙ ap (λ (q : Place). stores q v.word) at ∙ ap (stores p) (is ∙ same);
+      stores = λ d e. let same : c.args.word ≡ d = same_Some c.args.word d e in c.stores.ensures ∙ ap (λ (q : Place). stores q v.word) at ∙ ap (stores p) (is ∙ same);
       next = subst (λ (q : Place). AreSuccessors j q c.match-fault.argument.1) at here.1;
     }

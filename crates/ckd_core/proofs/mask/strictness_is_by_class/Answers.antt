@@ -1,8 +1,9 @@
 -- Of the classes that no mask inhibits there is nothing to ask.
-use Rattle.std.proofs.Common.{◌≡◌, ◌&&◌, ◌||◌, not, ℕ, Bool, true, false, ◌<◌, get_or, arith, refl}
+use Rattle.std.proofs.Common.{◌≡◌, ◌||◌, not, ℕ, Bool, true, false, ◌<◌, get_or, arith, refl}
 use Rattle.std.specs.Cmp.{first_so, second_so}
 use Rattle.std.specs.List.{list_all}
 use Rattle.std.proofs.lemmas.List.Sums.{AllPass-from_list_all, list_all-from_AllPass}
+use Rattle.std.proofs.lemmas.Bool.{and_from}
 use Rattle.ckd_core.specs.declared.command.MaskClass.{MaskClass}
 use Rattle.ckd_core.specs.declared.command.MaskClass.TheVariants.{Plain, Seek, SeekCylinder, SeekHead, Recalibrate, WriteHome, WriteFormat, WriteUpdate, SetMask}
 use Rattle.ckd_core.specs.Mask.{is_mask, is_at_least, inhibits_class, inhibits_too, inhibitable}
@@ -17,11 +18,6 @@ implied false b h e = cc
 asked : (m b : Bool) → (m ≡ true → b ≡ true) → (not m || b) ≡ true
 asked true b h = h refl
 asked false b h = refl
-
--- two tests that both pass
-both : (a b : Bool) → a ≡ true → b ≡ true → (a && b) ≡ true
-both true b ha hb = hb
-both false b ha hb = cc
 
 -- what passes for the list holds of its class at a place
 at_place : (byte mask i : ℕ) → list_all (inhibits_too byte mask) inhibitable ≡ true → i < 7
@@ -54,5 +50,5 @@ pub returns : goal.returns
 unfolding is_at_least
 returns c byte mask = (
   λ h. (first_so (is_mask byte) (list_all (inhibits_too byte mask) inhibitable) h, of_each byte mask (second_so (is_mask byte) (list_all (inhibits_too byte mask) inhibitable) h)),
-  λ h. both (is_mask byte) (list_all (inhibits_too byte mask) inhibitable) h.0 (for_all byte mask h.1),
+  λ h. and_from (is_mask byte) (list_all (inhibits_too byte mask) inhibitable) h.0 (for_all byte mask h.1),
 )

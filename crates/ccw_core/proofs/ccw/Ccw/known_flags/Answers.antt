@@ -3,7 +3,7 @@ use Rattle.std.proofs.lemmas.Bool.{eqb-true}
 use Rattle.std.proofs.lemmas.Nat.{and-not, and_comm}
 use Rattle.ccw_core.specs.Ccw.{is_formed}
 use Rattle.bitflags.proofs.OnLiterals.{bitflags_on_literals}
-use Rattle.ccw_core.proofs.SameTest.{same_test}
+use Rattle.std.specs.Cmp.Derive.{one_truth}
 use Rattle.ccw_core.proofs.ccw.Ccw.known_flags.Goals as goal
 
 pub returns-clause-found : goal.returns-clause-found
@@ -22,5 +22,5 @@ pub returns-clause-formed : goal.returns-clause-formed
 unfolding is_formed
 returns-clause-formed c =
     let found = returns-clause-found c in
-    same_test (is_some c.from_bits.result) (bit_and c.args.self.now.flags 7 == 0)
+    one_truth (is_some c.from_bits.result) (bit_and c.args.self.now.flags 7 == 0)
     (λ some. eq-eqb _ _ (found.0 some)) (λ zero. found.1 (eqb-true _ _ zero))
