@@ -10,7 +10,7 @@ use Rattle.ccw_core.specs.declared.areas.Area.{Area}
 use Rattle.ckd_core.specs.Cylinders.{IsExtent}
 use Rattle.chan_deck.specs.Item.{Item, header, device, mask, start, fetch, store, storage, put, end, line, text, HasForm, Says, IsByte, IsArea}
 use Rattle.chan_deck.specs.Image.{Image, IsDeck, HasLimit, header_of, limit_line, items, puts, is_zero, extent_of, spelling, Spells}
-use Rattle.chan_deck.specs.Refused.{split, lines, first_lines, onto_first, IsFront, IsRefusedAt}
+use Rattle.chan_deck.specs.Refused.{split, lines, first_lines, onto_first, BeginsSomeDeck, IsRefusedAt}
 use Rattle.chan_deck.specs.Reading.{State, Opening, Whole, Stands, step, go_on, run}
 use Rattle.chan_deck.proofs.ItemLemmas.{HasNoFeed, line_no_feed, one_item}
 use Rattle.chan_deck.proofs.StepLemmas.{said, IsState, at_front}
@@ -155,7 +155,7 @@ split_deck d =
     ap (λ x. split x) (sym (append-nil (spelling d))) ∙ split_text (map line (items d)) [] (no_feeds_said (items d)) ∙ ap (λ ls. (ls, [])) (append-nil (map line (items d)))
 
 -- lines with which a deck's text begins are its first lines
-pub front_lines : (ls : List Line) → AllByRecursion HasNoFeed ls → IsFront (text ls) → (d : Image) × (more : List Line) × IsDeck d × (map line (items d) ≡ ls ++ more)
+pub front_lines : (ls : List Line) → AllByRecursion HasNoFeed ls → BeginsSomeDeck (text ls) → (d : Image) × (more : List Line) × IsDeck d × (map line (items d) ≡ ls ++ more)
 front_lines ls h f =
     (f.0, (split f.1).0, f.2.0, ap (λ (p : List Line × List ℕ). p.0) (sym (split_deck f.0) ∙ ap (λ x. split x) (sym f.2.1) ∙ split_text ls f.1 h))
 
@@ -207,7 +207,7 @@ pub says_said : (t : List ℕ) (s : State) (n : ℕ) (rest : List ℕ) (st : Sta
 says_said t s n rest st = (state_of t s n rest st).1
 
 -- the text of what has been read, of fewer lines too, is a front of a deck's
-pub fronts : (t : List ℕ) (s : State) (n : ℕ) (rest : List ℕ) → Stands t s n rest → (m : ℕ) → m < n → IsFront (first_lines m t)
+pub fronts : (t : List ℕ) (s : State) (n : ℕ) (rest : List ℕ) → Stands t s n rest → (m : ℕ) → m < n → BeginsSomeDeck (first_lines m t)
 fronts t s n rest st m h =
     let ls = map line st.said in
     let c = completes s (is_state t s n rest st) in
@@ -238,7 +238,7 @@ lines_left t s n rest l after st e = ap (λ (p : List Line × List ℕ). p.0) st
 -- a line that the state refuses, whatever it says, is on no front of a deck's text
 pub no_front : (t : List ℕ) (s : State) (n : ℕ) (rest l after : List ℕ) (c : Cause)
     → Stands t s n rest → split rest ≡ (l ∷ (split after).0, (split after).1)
-    → ((i : Item) → Says l i → step s i ≡ Err c) → IsFront (first_lines n t) → ⊥
+    → ((i : Item) → Says l i → step s i ≡ Err c) → BeginsSomeDeck (first_lines n t) → ⊥
 no_front t s n rest l after c st e all f =
     let ls = map line st.said in
     let n-is : n ≡ length ls + 1 = omega (arith, length-said st.said, st.number) in
@@ -252,7 +252,7 @@ no_front t s n rest l after c st e all f =
     not_ok (step s same.0) (Whole d.0) c (λ q. run q same.1) (all same.0 same.2) goes
 
 -- the first lines of a deck's text are a front
-pub whole_front : (t : List ℕ) (n : ℕ) (d : Image) → Spells t d → IsFront (first_lines n t)
+pub whole_front : (t : List ℕ) (n : ℕ) (d : Image) → Spells t d → BeginsSomeDeck (first_lines n t)
 whole_front t n d sp = (
   d,
   text (drop n (lines t)) ++ (split t).1,

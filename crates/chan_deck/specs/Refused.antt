@@ -28,14 +28,14 @@ abbrev pub first_lines : ℕ → List ℕ → List ℕ
 first_lines n t = text (take n (lines t))
 
 -- some deck's text begins so
-abbrev pub IsFront : List ℕ → Type 0
-IsFront front = (d : Image) × (rest : List ℕ) × Spells (front ++ rest) d
+abbrev pub BeginsSomeDeck : List ℕ → Type 0
+BeginsSomeDeck front = (d : Image) × (rest : List ℕ) × Spells (front ++ rest) d
 
 -- n is the least number of whole lines with which no deck's text begins; if there is none, one more
 -- than there are lines
 pub record IsRefusedAt (t : List ℕ) (n : ℕ) : Type 0 where
-  pub least : (m : ℕ) → m < n → IsFront (first_lines m t)
-  pub here : n ≤ length (lines t) → IsFront (first_lines n t) → ⊥
+  pub least : (m : ℕ) → m < n → BeginsSomeDeck (first_lines m t)
+  pub here : n ≤ length (lines t) → BeginsSomeDeck (first_lines n t) → ⊥
   pub within : n ≤ length (lines t) + 1
 
 abbrev pub last_of : List Item → Option Item

@@ -5,7 +5,7 @@ use Rattle.ccw_core.specs.Written.{AppendsPrefix}
 use Rattle.chan_deck.specs.Image.{Image, Spells}
 use Rattle.chan_deck.proofs.ListingLemmas.{listing_seen}
 use Rattle.chan_walk.specs.declared.job.Job.{Job}
-use Rattle.chan_walk.specs.Answers.{CoversEveryRun, IsShown, MissesNoYes}
+use Rattle.chan_walk.specs.Answers.{IsSound, HasWitness, IsComplete}
 use Rattle.chan_walk.specs.Explored.{AreReachable}
 use Rattle.chan_walk.specs.Judged.{JudgedJob}
 use Rattle.chan_walk.specs.Look.{AreLooks, places_of_looks}
@@ -18,9 +18,9 @@ use Rattle.chan_run.specs.Run.{BeginsToWrite, IsJobOf, IsJudged, IsOutput, Write
 -- what was seen is what can be reached, and the verdict is the job's
 pub record IsSeen (j : Job) (d : JudgedJob) : Type 0 where
   pub verdict : IsVerdict j d.verdict
-  pub covers : CoversEveryRun j d.verdict
-  pub shown : IsShown j d.verdict
-  pub exact : MissesNoYes j d.verdict
+  pub covers : IsSound j d.verdict
+  pub shown : HasWitness j d.verdict
+  pub exact : IsComplete j d.verdict
   pub places : AreReachable j (places_of_looks d.looks)
   pub looks : AreLooks j d.looks
   pub few : length d.looks ≤ j.limit

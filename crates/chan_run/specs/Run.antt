@@ -10,7 +10,7 @@ use Rattle.chan_walk.specs.declared.job.Job.{Job}
 use Rattle.chan_walk.specs.declared.place.Place.{Place}
 use Rattle.chan_walk.specs.declared.verdict.Verdict.{Verdict}
 use Rattle.chan_walk.specs.declared.verdict.Verdict.TheVariants.{Yes, No}
-use Rattle.chan_walk.specs.Answers.{CoversEveryRun, HasAtMost, IsShown, MissesNoYes}
+use Rattle.chan_walk.specs.Answers.{IsSound, HasAtMost, HasWitness, IsComplete}
 use Rattle.chan_walk.specs.Explored.{AreReachable, HasMoreThan}
 use Rattle.chan_walk.specs.Judged.{JudgedJob}
 use Rattle.chan_walk.specs.Job.{extents_of, fetch_of, storage_of, store_of}
@@ -43,9 +43,9 @@ pub record IsJudged (t : List ℕ) (v : Verdict) : Type 0 where
   pub of_deck : IsJobOf deck job
   pub few : HasAtMost job job.limit
   pub verdict : IsVerdict job v
-  pub covers : CoversEveryRun job v
-  pub shown : IsShown job v
-  pub exact : MissesNoYes job v
+  pub covers : IsSound job v
+  pub shown : HasWitness job v
+  pub exact : IsComplete job v
 
 -- the text spells a deck whose job has more reachable places than its limit
 pub record HasTooMany (t : List ℕ) : Type 0 where

@@ -13,7 +13,7 @@ use Rattle.chan_walk.specs.declared.place.Entry.TheVariants.{Fresh, ChainIn, Cha
 use Rattle.chan_walk.specs.declared.place.Place.{Place}
 use Rattle.chan_walk.specs.declared.reason.Reason.{Reason}
 use Rattle.chan_walk.specs.declared.reason.Reason.TheVariants.{StoreNotLent, FetchNotLent, ShortSeek, SeekOutside, WeakensMask}
-use Rattle.chan_walk.specs.Alarm.{IsProper, first_cylinder, ShowsNext, StoresOn, ShowsCheck, Shows, NoFalseAlarm}
+use Rattle.chan_walk.specs.Alarm.{IsProper, first_cylinder, ShowsInStep, StoresOn, ShowsCheck, Shows, EachPathShows, NoFalseAlarm}
 use Rattle.chan_walk.specs.Argument.{IsChain, HasArgument, argument}
 use Rattle.chan_walk.specs.Check.{table_of_any, table_of_word, check}
 use Rattle.chan_walk.specs.Fault.{kind_of, goes_in, goes_out, stores, fetches, is_known, begins_seek, begins_recalibrate, begins_set_mask, allows, is_refused, table_of_own, HasFault, IsClear}
@@ -35,13 +35,14 @@ use Rattle.chan_walk.proofs.Operations.{moment, Finished, finish, stop, ready_fr
 use Rattle.chan_walk.proofs.Paths.{few_at, Runs, path_runs}
 use Rattle.chan_walk.proofs.Quiet.{full_count, bytes_at, there, Known, Carried, seek_at, carry_out}
 
-show_next : {j : Job} {y : ℕ} {p : Place} {ps : List Place} {es : List Event} {st : Stage} {P : List Event → Stage → Type 0} (r : Runs j y p ps) → Step (storage_of j) y j.mask p r.gathered es (storage_of j) y j.mask st → P es st → ShowsNext j p P
+show_next : {j : Job} {y : ℕ} {p : Place} {ps : List Place} {es : List Event} {st : Stage} {P : List Event → Stage → Type 0} (r : Runs j y p ps) → Step (storage_of j) y j.mask p r.gathered es (storage_of j) y j.mask st → P es st → ShowsInStep j p ps P
 show_next {j = j} {y = y} {p = p} {es = es} {st = st} r step shows = record {
   run = r.run;
   at = record { storage = storage_of j; arm = y; mask = j.mask; stage = At p r.gathered; events = r.events };
   next = record { storage = storage_of j; arm = y; mask = j.mask; stage = st; events = es };
   is_run = (r.is_run, step);
-  comes = (r.gathered, refl);
+  over = ((r.gathered, refl), r.places);
+  quiet = r.quiet;
   shows = shows;
 }
 
@@ -93,14 +94,14 @@ module _ (j : Job) (proper : IsProper j) where
   ends_at p m e t known = let r = run_to p m in carry_out j proper.1 start p r.gathered (few_at j p r.gathered r.taking) e t known tt ends
 
   -- the seek at p has the chain l
-  to_the_end : (p : Place) (m : IsReachable j p) (l : List ℕ) → begins_seek p (word_at j p) ≡ true → check (storage_of j) p ≡ None → is_transfer (word_at j p) ≡ false → Known j p → IsChain (storage_of j) 6 p.address l → Finished j proper.1 start p (run_to p m).gathered (run_to p m).events (run_to p m).run l
+  to_the_end : (p : Place) (m : IsReachable j p) (l : List ℕ) → begins_seek p (word_at j p) ≡ true → check (storage_of j) p ≡ None → is_transfer (word_at j p) ≡ false → Known j p → IsChain (storage_of j) 6 p.address l → Finished j proper.1 start p (run_to p m).gathered (run_to p m).events (run_to p m).run m.0 (run_to p m).places (run_to p m).quiet l
   to_the_end p m l b e t known k =
       let r = run_to p m in
-      finish j proper.1 start p r.gathered r.events r.run 6 l p r.gathered []
+      finish j proper.1 start p r.gathered r.events r.run m.0 r.places r.quiet 6 l p r.gathered []
       (record { past = r.run; upto = []; events = r.events; is_run = r.is_run; split = refl; goes_on = tt })
       (ready_fresh j proper.1 p r.gathered b e t known) (begin (storage_of j) l p k) (omega arith) (λ b h. absurd h)
 
-  shows_check : (p : Place) → IsReachable j p → (r : Reason) → check (storage_of j) p ≡ Some r → Shows j p r
+  shows_check : (p : Place) (m : IsReachable j p) (r : Reason) → check (storage_of j) p ≡ Some r → Shows j p m.0 r
   shows_check p m r h = check_case P (storage_of j) p r (each_case P (table_of_any n p c) (go, (go, (go, tt)))) (each_case P (table_of_word n p c) (go, (go, (go, (go, tt))))) h h
     where
       n : ℕ
@@ -110,14 +111,14 @@ module _ (j : Job) (proper : IsProper j) where
       c = word_at j p
 
       P : Reason → Type 0
-      P t = check (storage_of j) p ≡ Some t → Shows j p t
+      P t = check (storage_of j) p ≡ Some t → Shows j p m.0 t
 
-      go : {t : Reason} → check (storage_of j) p ≡ Some t → ShowsCheck j p t
+      go : {t : Reason} → check (storage_of j) p ≡ Some t → ShowsCheck j p m.0 t
       go e = show_next (run_to p m) (checked e) refl
 
   -- an own fault is shown
-  pub shows_fault : (p : Place) → IsReachable j p → (r : Reason) → HasFault j p (Some r) → Shows j p r
-  shows_fault p m r f = table_case (Shows j p) (check (storage_of j) p) (is_transfer (word_at j p)) (table_of_own j p (word_at j p) f.0) r (shows_check p m r) own f.2
+  pub shows_fault : (p : Place) (m : IsReachable j p) (r : Reason) → HasFault j p (Some r) → Shows j p m.0 r
+  shows_fault p m r f = table_case (Shows j p m.0) (check (storage_of j) p) (is_transfer (word_at j p)) (table_of_own j p (word_at j p) f.0) r (shows_check p m r) own f.2
     where
       c : Fields
       c = word_at j p
@@ -125,7 +126,7 @@ module _ (j : Job) (proper : IsProper j) where
       R : Runs j start p m.0
       R = run_to p m
 
-      store_at : EndsAt p m → (stores p c && not (covered (store_of j) c.address c.count)) ≡ true → Shows j p StoreNotLent
+      store_at : EndsAt p m → (stores p c && not (covered (store_of j) c.address c.count)) ≡ true → Shows j p m.0 StoreNotLent
       store_at en b =
           let a = and_parts (stores p c) (not (covered (store_of j) c.address c.count)) b in
           let s = stores_parts p c a.0 in
@@ -134,26 +135,26 @@ module _ (j : Job) (proper : IsProper j) where
           let lt : u.0 < c.address + length (there j c) = omega (arith, u.2, n) in
           show_next R en.step (c.address, there j c, u.0, en.stores s.1 s.2, u.1, lt, u.3)
 
-      fetch_at : EndsAt p m → (fetches p c && not (covered (fetch_of j) c.address c.count)) ≡ true → Shows j p FetchNotLent
+      fetch_at : EndsAt p m → (fetches p c && not (covered (fetch_of j) c.address c.count)) ≡ true → Shows j p m.0 FetchNotLent
       fetch_at en b =
           let a = and_parts (fetches p c) (not (covered (fetch_of j) c.address c.count)) b in
           let a1 = and_parts (not (is_transfer c)) (goes_out (kind_of p.entered c)) a.0 in
           let u = uncovered (fetch_of j) c.address c.count (not-true _ a.1) in
           show_next R en.step (c.address, c.count, u.0, en.fetches a1.1, u.1, u.2, u.3)
 
-      short_at : check (storage_of j) p ≡ None → is_transfer c ≡ false → Known j p → (begins_seek p c && is_none f.0) ≡ true → Shows j p ShortSeek
+      short_at : check (storage_of j) p ≡ None → is_transfer c ≡ false → Known j p → (begins_seek p c && is_none f.0) ≡ true → Shows j p m.0 ShortSeek
       short_at e t known b =
           let a = and_parts (begins_seek p c) (is_none f.0) b in
-          stop j proper.1 start p R.gathered R.events R.run e a.0 6 p R.gathered []
+          stop j proper.1 start p R.gathered R.events R.run m.0 R.places R.quiet e a.0 6 p R.gathered []
           (record { past = R.run; upto = []; events = R.events; is_run = R.is_run; split = refl; goes_on = tt })
           (ready_fresh j proper.1 p R.gathered a.0 e t known) (omega arith) (missing (storage_of j) p.address f.0 f.1 a.1)
 
-      outside_at : check (storage_of j) p ≡ None → is_transfer c ≡ false → Known j p → EndsAt p m → ((begins_seek p c && is_refused j f.0) ≡ true) ⊎ ((begins_recalibrate p c && not (has_cylinder (extents_of j) 0)) ≡ true) → Shows j p SeekOutside
+      outside_at : check (storage_of j) p ≡ None → is_transfer c ≡ false → Known j p → EndsAt p m → ((begins_seek p c && is_refused j f.0) ≡ true) ⊎ ((begins_recalibrate p c && not (has_cylinder (extents_of j) 0)) ≡ true) → Shows j p m.0 SeekOutside
       outside_at e t known en (inl b) =
           let a = and_parts (begins_seek p c) (is_refused j f.0) b in
           let k = refused j p.address f.0 f.1 a.1 in
           let z = (to_the_end p m k.0 a.0 e t known k.1).later in
-          record { run = z.run; at = z.at; more = z.more; next = z.next; is_run = z.is_run; comes = z.comes; goes_on = z.goes_on; shows = ((and_parts (is_fresh p.entered) _ a.0).0, argument (storage_of j) k.0, z.shows, k.2) }
+          record { run = z.run; at = z.at; more = z.more; next = z.next; is_run = z.is_run; over = z.over; quiet = z.quiet; goes_on = z.goes_on; shows = ((and_parts (is_fresh p.entered) _ a.0).0, argument (storage_of j) k.0, z.shows, k.2) }
       outside_at e t known en (inr b) =
           let a = and_parts (begins_recalibrate p c) (not (has_cylinder (extents_of j) 0)) b in
           record {
@@ -162,17 +163,18 @@ module _ (j : Job) (proper : IsProper j) where
             more = [];
             next = moment j proper.1 start Ended en.es;
             is_run = (R.is_run, en.step);
-            comes = (R.gathered, refl);
+            over = ((R.gathered, refl), R.places);
+            quiet = R.quiet;
             goes_on = tt;
             shows = ((and_parts (is_fresh p.entered) _ a.0).0, home, en.home a.0, home_refused j (not-true _ a.1));
           }
 
-      weakens_at : check (storage_of j) p ≡ None → is_transfer c ≡ false → EndsAt p m → (begins_set_mask p c && not (is_at_least (byte (storage_of j) c.address) j.mask)) ≡ true → Shows j p WeakensMask
+      weakens_at : check (storage_of j) p ≡ None → is_transfer c ≡ false → EndsAt p m → (begins_set_mask p c && not (is_at_least (byte (storage_of j) c.address) j.mask)) ≡ true → Shows j p m.0 WeakensMask
       weakens_at e t en b =
           let a = and_parts (begins_set_mask p c) (not (is_at_least (byte (storage_of j) c.address) j.mask)) b in
           show_next R en.step ((and_parts (is_fresh p.entered) _ a.0).0, c.address, byte (storage_of j) c.address, en.masks a.0 (moves_byte j p e t a.0), not-true _ a.1)
 
-      own : check (storage_of j) p ≡ None → is_transfer c ≡ false → Cases (Shows j p) (table_of_own j p c f.0)
+      own : check (storage_of j) p ≡ None → is_transfer c ≡ false → Cases (Shows j p m.0) (table_of_own j p c f.0)
       own e t = (
         (λ b. let a = and_parts (is_fresh p.entered) (not (is_known c.command)) b in let u = not-true (is_known c.command) a.1 in show_next R (unknown e t a.0 u) (c.command, inl refl, u)),
         (λ n. let known : Known j p = then_true _ _ n in
@@ -192,7 +194,7 @@ module _ (j : Job) (proper : IsProper j) where
       )
 
   -- a store over a byte for which P holds
-  shows_store : (p : Place) → IsReachable j p → IsClear j p → (P Q : ℕ → Type 0) → ((b : ℕ) → P b → Q b) → StoresOver j p P → ShowsNext j p (λ es st. StoresOn Q es)
+  shows_store : (p : Place) (m : IsReachable j p) → IsClear j p → (P Q : ℕ → Type 0) → ((b : ℕ) → P b → Q b) → StoresOver j p P → ShowsInStep j p m.0 (λ es st. StoresOn Q es)
   shows_store p m f P Q to o =
       let c = word_at j p in
       let s = stores_parts p c o.stores in
@@ -227,10 +229,15 @@ module _ (j : Job) (proper : IsProper j) where
       go (inl s) = of_seek s
       go (inr s) = of_mask s
 
-  shows : (p : Place) (r : Reason) → IsReachable j p → Offends j p r → Shows j p r
-  shows p r m (inl f) = shows_fault p m r f
-  shows p r m (inr (clear, inl o)) = subst (Shows j p) (sym o.0) (shows_store p m (clear p m) _ _ ccw_used o.1)
-  shows p r m (inr (clear, inr o)) = subst (Shows j p) (sym o.0) (shows_store p m (clear p m) _ _ argument_used o.1)
+  shows : (p : Place) (m : IsReachable j p) (r : Reason) → Offends j p r → Shows j p m.0 r
+  shows p m r (inl f) = shows_fault p m r f
+  shows p m r (inr (clear, inl o)) = subst (Shows j p m.0) (sym o.0) (shows_store p m (clear p m) _ _ ccw_used o.1)
+  shows p m r (inr (clear, inr o)) = subst (Shows j p m.0) (sym o.0) (shows_store p m (clear p m) _ _ argument_used o.1)
+
+pub each_path_shows : EachPathShows
+each_path_shows j p ps r proper path offends = shows j proper p (ps, path) r offends
 
 pub no_false_alarm : NoFalseAlarm
-no_false_alarm j a r proper v = (v.0.place, v.0.address, shows j proper v.0.place r v.0.reached v.0.offends)
+no_false_alarm j a r proper v =
+    let o = v.0 in
+    (o.place, o.address, (o.reached.0, o.reached.1, each_path_shows j o.place o.reached.0 r proper o.reached.1 o.offends))

@@ -8,7 +8,7 @@ use Rattle.chan_walk.specs.declared.job.Job.{Job}
 use Rattle.chan_walk.specs.declared.place.Place.{Place}
 use Rattle.chan_walk.specs.declared.reason.Reason.{Reason}
 use Rattle.chan_walk.specs.declared.reason.Reason.TheVariants.{NotInTable, Inhibited, StoreNotLent, FetchNotLent, ShortSeek, SeekOutside, WeakensMask}
-use Rattle.chan_walk.specs.Alarm.{IsProper, ShowsNext, ShowsLater, ShowsCheck, Shows, SafeIsYes, HeadlineAloneIsEnough}
+use Rattle.chan_walk.specs.Alarm.{IsProper, ShowsInStep, ShowsInOperation, ShowsCheck, Shows, SafeIsYes, HeadlineAloneIsEnough}
 use Rattle.chan_walk.specs.Argument.{Has}
 use Rattle.chan_walk.specs.Check.{table_of_any, table_of_word}
 use Rattle.chan_walk.specs.Fault.{begins_recalibrate, begins_set_mask, table_of_own, HasFault, IsClear}
@@ -33,17 +33,17 @@ event_safe j [] e a h = elim h [ ]
 event_safe j (x ∷ es) e a (inl h) = subst (IsSafeEvent j) h a.0
 event_safe j (x ∷ es) e a (inr h) = event_safe j es e a.1 h
 
-module _ (j : Job) (safe : IsSafe j) (p : Place) where
-  next_safe : {P : List Event → Stage → Type 0} → (s : ShowsNext j p P) → IsSafeMoment j s.next
+module _ (j : Job) (safe : IsSafe j) (p : Place) (ps : List Place) where
+  next_safe : {P : List Event → Stage → Type 0} → (s : ShowsInStep j p ps P) → IsSafeMoment j s.next
   next_safe s = (safe (s.next ∷ s.at ∷ s.run) s.is_run).0
 
-  later_safe : {P : Moment → List Event → Stage → Type 0} → (s : ShowsLater j p P) → IsSafeMoment j s.next
+  later_safe : {P : Moment → List Event → Stage → Type 0} → (s : ShowsInOperation j p ps P) → IsSafeMoment j s.next
   later_safe s = (safe (s.next ∷ (s.more ++ s.at ∷ s.run)) s.is_run).0
 
   abbrev Unshown : Reason → Type 0
-  Unshown r = Shows j p r → ⊥
+  Unshown r = Shows j p ps r → ⊥
 
-  no_check : {r : Reason} → ShowsCheck j p r → ⊥
+  no_check : {r : Reason} → ShowsCheck j p ps r → ⊥
   no_check s = subst IsUnchecked s.shows (next_safe s).unchecked
 
   no_unknown : Unshown NotInTable
@@ -164,7 +164,7 @@ changes_not j proper steady p m f P to o =
     changed_not (byte (storage_of j) o.at) (sym (put_in (storage_of j) c.address c.count o.at o.from o.below fits) ∙ held)
 
 pub safe_is_yes : SafeIsYes
-safe_is_yes j proper safe steady p r m (inl f) = fault_unshown j safe p r f (shows_fault j proper p m r f)
+safe_is_yes j proper safe steady p r m (inl f) = fault_unshown j safe p m.0 r f (shows_fault j proper p m r f)
 safe_is_yes j proper safe steady p r m (inr (clear, inl o)) = changes_not j proper steady p m (clear p m) _ (λ b h. let u = ccw_used j proper b h in (u.0, u.1, inl u.2)) o.1
 safe_is_yes j proper safe steady p r m (inr (clear, inr o)) = changes_not j proper steady p m (clear p m) _ (λ b h. let u = argument_used j proper b h in (u.0, u.1, inr u.2)) o.1
 

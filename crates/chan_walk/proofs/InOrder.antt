@@ -29,7 +29,7 @@ use Rattle.chan_walk.proofs.Walking.{all_found}
 less_cmp : (a b : ℕ) → a < b → nat_cmp a b ≡ Less
 less_cmp a b l = grind (arith, nat_tests)
 
-cmp_less : (a b : ℕ) → nat_cmp a b ≡ Less → a < b
+pub cmp_less : (a b : ℕ) → nat_cmp a b ≡ Less → a < b
 cmp_less a b e = grind (arith, nat_tests)
 
 -- ---- lists of places in order

@@ -14,7 +14,7 @@ pub mod Visiting
 pub mod Order
 pub mod Words
 pub mod Gathering
-pub mod Kept
+pub mod Invariant
 pub mod Yes
 pub mod Quiet
 pub mod Paths
@@ -34,3 +34,7 @@ pub mod Lending
 pub mod Guarding
 pub mod Looking
 pub mod Sorting
+pub mod Listing
+pub mod Explaining
+pub mod Tracing
+pub mod Backward

@@ -9,13 +9,13 @@ use Rattle.chan_walk.specs.declared.job.Job.{Job}
 use Rattle.chan_walk.specs.declared.place.Entry.TheVariants.{ChainOut}
 use Rattle.chan_walk.specs.declared.place.Place.{Place}
 use Rattle.chan_walk.specs.declared.reason.Reason.{Reason}
-use Rattle.chan_walk.specs.Alarm.{AreBytes, IsQuiet, NoSeek, GoesOn, ShowsLater}
+use Rattle.chan_walk.specs.Alarm.{AreBytes, IsQuiet, IsQuietMoment, ArePlaces, NoSeek, StaysInOperation, ShowsInOperation}
 use Rattle.chan_walk.specs.Argument.{Has, is_part, Leads, IsChain, argument_addresses, argument}
 use Rattle.chan_walk.specs.Check.{check}
 use Rattle.chan_walk.specs.Fault.{kind_of, begins_seek, begins_recalibrate}
 use Rattle.chan_walk.specs.Headline.{ComesTo, IsGathered}
 use Rattle.chan_walk.specs.Job.{storage_of}
-use Rattle.chan_walk.specs.Machine.{Gathered, Stage, At, Ended, Checked, Event, Seek, taken, with_taken, under_way, Goes, ends, on_data, on_short, Step, checked, transferred}
+use Rattle.chan_walk.specs.Machine.{Gathered, Stage, At, Ended, Checked, Event, Seek, taken, with_taken, under_way, Continues, ends, on_data, on_short, Step, checked, transferred}
 use Rattle.chan_walk.specs.Place.{is_fresh, straight_to, transferred_to, word_at}
 use Rattle.chan_walk.specs.Runs.{Moment, IsRun, UsesIn, UsesInArgument}
 use Rattle.chan_walk.specs.Successors.{chained}
@@ -75,7 +75,7 @@ module _ (j : Job) (bytes : AreBytes (storage_of j)) where
       uses : UsesAll q x sk.es
       uses = subst (λ z. UsesTaken j c m z sk.es) r.under sk.uses
 
-      carry : {went : List Event} {st : Stage} → AllByRecursion (IsQuiet j) went → Goes q c (kind_at j q) m sk.after went st → Carried j y q g sk.es went st
+      carry : {went : List Event} {st : Stage} → AllByRecursion (IsQuiet j) went → Continues q c (kind_at j q) m sk.after went st → Carried j y q g sk.es went st
       carry calm goes = carry_out j bytes y q g few r.pass r.no_transfer r.known calm goes
 
       no_event : NoSeek []
@@ -89,10 +89,10 @@ module _ (j : Job) (bytes : AreBytes (storage_of j)) where
       go (inl left) = record {
         full = λ six. let lt = left.0 in absurd (omega (arith, six));
         on = λ lt cd.
-            let w = carry tt (subst (λ z. Goes q c (kind_at j q) m z [] (At (straight_to (q.address + 8) ChainOut) (Some (all_at q x)))) (sym left.1) (on_data cd (ap chained r.outward) whole)) in
+            let w = carry tt (subst (λ z. Continues q c (kind_at j q) m z [] (At (straight_to (q.address + 8) ChainOut) (Some (all_at q x)))) (sym left.1) (on_data cd (ap chained r.outward) whole)) in
             (w.es, w.step, w.no_seek r.no_home left.2 no_event, λ b h. w.uses b (uses b h));
         short = λ lt cd.
-            let w = carry (tt, tt) (subst (λ z. Goes q c (kind_at j q) m z (Seek None ∷ []) Ended) (sym left.1) (on_short cd whole)) in
+            let w = carry (tt, tt) (subst (λ z. Continues q c (kind_at j q) m z (Seek None ∷ []) Ended) (sym left.1) (on_short cd whole)) in
             (w.es, w.step, w.last (Seek None) (inl refl), w.no_seek r.no_home left.2 no_none);
       }
       go (inr left) = record {
@@ -129,7 +129,7 @@ module _ (j : Job) (bytes : AreBytes (storage_of j)) where
 
   -- ---- from a moment at p on
 
-  module _ (y : ℕ) (p : Place) (g₀ : Gathered) (ev : List Event) (run : List Moment) where
+  module _ (y : ℕ) (p : Place) (g₀ : Gathered) (ev : List Event) (run : List Moment) (ps : List Place) (over : ArePlaces run ps) (quiet : AllByRecursion (IsQuietMoment j) (moment y (At p g₀) ev ∷ run)) where
     -- the operation has come to q
     pub record Going (q : Place) (g : Gathered) : Type 0 where
       pub past : List Moment
@@ -137,16 +137,17 @@ module _ (j : Job) (bytes : AreBytes (storage_of j)) where
       pub events : List Event
       pub is_run : IsRun j (moment y (At q g) events ∷ past)
       pub split : moment y (At q g) events ∷ past ≡ upto ++ moment y (At p g₀) ev ∷ run
-      pub goes_on : GoesOn upto
+      pub goes_on : StaysInOperation upto
 
-    close : {q : Place} {g : Gathered} {es : List Event} {st : Stage} {P : Moment → List Event → Stage → Type 0} → Going q g → Step (storage_of j) y j.mask q g es (storage_of j) y j.mask st → P (moment y (At p g₀) ev) es st → ShowsLater j p P
+    close : {q : Place} {g : Gathered} {es : List Event} {st : Stage} {P : Moment → List Event → Stage → Type 0} → Going q g → Step (storage_of j) y j.mask q g es (storage_of j) y j.mask st → P (moment y (At p g₀) ev) es st → ShowsInOperation j p ps P
     close {es = es} {st = st} go step shows = record {
       run = run;
       at = moment y (At p g₀) ev;
       more = go.upto;
       next = moment y st es;
       is_run = let R : List Moment → Type 0 = λ z. IsRun j (moment y st es ∷ z) in subst R go.split (go.is_run, step);
-      comes = (g₀, refl);
+      over = ((g₀, refl), over);
+      quiet = quiet;
       goes_on = go.goes_on;
       shows = shows;
     }
@@ -167,7 +168,7 @@ module _ (j : Job) (bytes : AreBytes (storage_of j)) where
     -- ---- a chain that gives the six bytes
 
     pub record Finished (l : List ℕ) : Type 0 where
-      pub later : ShowsLater j p (λ at es st. Has es (Seek (Some (argument (storage_of j) l))))
+      pub later : ShowsInOperation j p ps (λ at es st. Has es (Seek (Some (argument (storage_of j) l))))
       pub used : List Moment
       pub is_used : IsRun j used
       pub gathers : (b : ℕ) → Has (argument_addresses (storage_of j) l) b → UsesInArgument used b
@@ -246,9 +247,9 @@ module _ (j : Job) (bytes : AreBytes (storage_of j)) where
 
     -- where the bytes after a step are too few, and no chain gives the rest, the seek stops later
     abbrev StopsFrom : List ℕ → Type 0
-    StopsFrom x = (q : Place) → Going q (Some x) → Ready q (Some x) x → ((l : List ℕ) → IsChain (storage_of j) (6 - length x) q.address l → ⊥) → ShowsLater j p Stops
+    StopsFrom x = (q : Place) → Going q (Some x) → Ready q (Some x) x → ((l : List ℕ) → IsChain (storage_of j) (6 - length x) q.address l → ⊥) → ShowsInOperation j p ps Stops
 
-    pub stop : check (storage_of j) p ≡ None → begins_seek p (word_at j p) ≡ true → (fuel : ℕ) (q : Place) (g : Gathered) (x : List ℕ) → Going q g → Ready q g x → 6 - length x ≤ fuel → ((l : List ℕ) → IsChain (storage_of j) (6 - length x) q.address l → ⊥) → ShowsLater j p Stops
+    pub stop : check (storage_of j) p ≡ None → begins_seek p (word_at j p) ≡ true → (fuel : ℕ) (q : Place) (g : Gathered) (x : List ℕ) → Going q g → Ready q g x → 6 - length x ≤ fuel → ((l : List ℕ) → IsChain (storage_of j) (6 - length x) q.address l → ⊥) → ShowsInOperation j p ps Stops
     stop pass b zero q g x go r le no_chain = let few = r.few in absurd (omega arith)
     stop pass b (suc fuel) q g x go r le no_chain = cases (cases_lt (length all) 6) (cases_Bool (chains_data c)) (λ lt q' go' r' n. stop pass b fuel q' (Some all) all go' r' (omega (arith, len, positive, whole, r.few)) n)
       where
@@ -283,7 +284,7 @@ module _ (j : Job) (bytes : AreBytes (storage_of j)) where
         none_from : length all < 6 → chains_data c ≡ true → (a : ℕ) → Leads (storage_of j) q.address a → (l : List ℕ) → IsChain (storage_of j) (6 - length all) a l → ⊥
         none_from lt cd a to l k = no_chain (q.address ∷ l) (chain_cons (storage_of j) _ q.address a l part cd to (omega (arith, len, whole)) (subst (λ n. IsChain (storage_of j) n a l) (omega (arith, len, whole)) k))
 
-        at_next' : length all < 6 → chains_data c ≡ true → Going next (Some all) → StopsFrom all → (o : Option Reason) → check (storage_of j) next ≡ o → (is_transfer (word_at j next) ≡ true) ⊎ (is_transfer (word_at j next) ≡ false) → ShowsLater j p Stops
+        at_next' : length all < 6 → chains_data c ≡ true → Going next (Some all) → StopsFrom all → (o : Option Reason) → check (storage_of j) next ≡ o → (is_transfer (word_at j next) ≡ true) ⊎ (is_transfer (word_at j next) ≡ false) → ShowsInOperation j p ps Stops
         at_next' lt cd go' rec (Some t) e z = close go' (checked e) (pass, b, (λ z h. h), inr (t, refl))
         at_next' lt cd go' rec None e (inr t) = rec next go' (ready_out next all lt refl e t) (none_from lt cd next.address (inl refl))
         at_next' lt cd go' rec None e (inl t) =
@@ -291,11 +292,11 @@ module _ (j : Job) (bytes : AreBytes (storage_of j)) where
             let go'' = push q'' (Some all) go' (transferred e t) (λ z h. h) refl in
             target go'' (check (storage_of j) q'') refl
           where
-            target : Going (transferred_to (word_at j next).address ChainOut) (Some all) → (o : Option Reason) → check (storage_of j) (transferred_to (word_at j next).address ChainOut) ≡ o → ShowsLater j p Stops
+            target : Going (transferred_to (word_at j next).address ChainOut) (Some all) → (o : Option Reason) → check (storage_of j) (transferred_to (word_at j next).address ChainOut) ≡ o → ShowsInOperation j p ps Stops
             target go'' (Some u) f = close go'' (checked f) (pass, b, (λ z h. h), inr (u, refl))
             target go'' None f = rec _ go'' (ready_out _ all lt refl f (no_second_transfer (storage_of j) _ f refl)) (none_from lt cd (word_at j next).address (inr (check_stands (storage_of j) next e, t, refl)))
 
-        cases : (length all < 6) ⊎ (6 ≤ length all) → (chains_data c ≡ true) ⊎ (chains_data c ≡ false) → (length all < 6 → StopsFrom all) → ShowsLater j p Stops
+        cases : (length all < 6) ⊎ (6 ≤ length all) → (chains_data c ≡ true) ⊎ (chains_data c ≡ false) → (length all < 6 → StopsFrom all) → ShowsInOperation j p ps Stops
         cases (inr ge) z rec = absurd (no_chain (q.address ∷ []) (record { begins = refl; linked = part; short = omega (arith, r.few); enough = omega (arith, len, whole, r.few) }))
         cases (inl lt) (inr cd) rec = let s = st.short lt cd in close go s.1 (pass, b, s.3, inl s.2)
         cases (inl lt) (inl cd) rec = let s = st.on lt cd in at_next' lt cd (push next (Some all) go s.1 s.2 refl) (rec lt) (check (storage_of j) next) refl (cases_Bool (is_transfer (word_at j next)))

@@ -15,7 +15,7 @@ use Rattle.chan_walk.specs.Argument.{HasArgument}
 use Rattle.chan_walk.specs.Fault.{kind_of, begins_seek, IsClear}
 use Rattle.chan_walk.specs.Headline.{IsGathered}
 use Rattle.chan_walk.specs.Job.{storage_of, extents_of}
-use Rattle.chan_walk.specs.Machine.{Gathered, At, Event, under_way, Goes, on_data, on_command, on_skip, Step, transferred}
+use Rattle.chan_walk.specs.Machine.{Gathered, At, Event, under_way, Continues, on_data, on_command, on_skip, Step, transferred}
 use Rattle.chan_walk.specs.Place.{straight_to, transferred_to, word_at}
 use Rattle.chan_walk.specs.Reachable.{IsPath}
 use Rattle.chan_walk.specs.Runs.{Moment, IsRun}
@@ -23,7 +23,7 @@ use Rattle.chan_walk.specs.Successors.{chained}
 use Rattle.chan_walk.proofs.Faults.{IsGood, clear_check, clear_good}
 use Rattle.chan_walk.proofs.Follows.{Follows, by_transfer, by_data, by_command, by_skip, follows}
 use Rattle.chan_walk.proofs.Gathering.{Advance, advance, transfer_on, begin}
-use Rattle.chan_walk.proofs.Kept.{chained_out}
+use Rattle.chan_walk.proofs.Invariant.{chained_out}
 use Rattle.chan_walk.proofs.Quiet.{full_count, IsFew, kind_at, bytes_at, Left, seek_at, carry_out}
 use Rattle.chan_walk.proofs.Yes.{fresh_out}
 
@@ -136,12 +136,12 @@ module _ (j : Job) where
   can_step bytes y p g tk f (by_command t cd cc') =
       let few = few_of p (under_way p (word_at j p) g) (comes_at p g tk f t) in
       let n = none_left y p g tk f t cd in
-      let r = carry_out j bytes y p g few (clear_check j p f) t (clear_good j p f t).known tt (subst (λ z. Goes p (word_at j p) (kind_at j p) (bytes_at j p) z [] (At (straight_to (p.address + 8) Fresh) None)) (sym n) (on_command cd cc')) in
+      let r = carry_out j bytes y p g few (clear_check j p f) t (clear_good j p f t).known tt (subst (λ z. Continues p (word_at j p) (kind_at j p) (bytes_at j p) z [] (At (straight_to (p.address + 8) Fresh) None)) (sym n) (on_command cd cc')) in
       record { es = r.es; after = None; step = r.step; quiet = r.quiet; taking = tt }
   can_step bytes y p g tk f (by_skip t cd cc' ks) =
       let few = few_of p (under_way p (word_at j p) g) (comes_at p g tk f t) in
       let n = none_left y p g tk f t cd in
-      let r = carry_out j bytes y p g few (clear_check j p f) t (clear_good j p f t).known tt (subst (λ z. Goes p (word_at j p) (kind_at j p) (bytes_at j p) z [] (At (straight_to (p.address + 16) Fresh) None)) (sym n) (on_skip cd cc' ks)) in
+      let r = carry_out j bytes y p g few (clear_check j p f) t (clear_good j p f t).known tt (subst (λ z. Continues p (word_at j p) (kind_at j p) (bytes_at j p) z [] (At (straight_to (p.address + 16) Fresh) None)) (sym n) (on_skip cd cc' ks)) in
       record { es = r.es; after = None; step = r.step; quiet = r.quiet; taking = tt }
 
   -- a path is a run

@@ -14,7 +14,7 @@ use Rattle.chan_walk.specs.Argument.{Has}
 use Rattle.chan_walk.specs.Check.{check}
 use Rattle.chan_walk.specs.Fault.{kind_of, goes_in, goes_out, is_known, begins_recalibrate, begins_set_mask}
 use Rattle.chan_walk.specs.Job.{storage_of}
-use Rattle.chan_walk.specs.Machine.{Gathered, Stage, Event, Command, Store, Fetch, Gather, Seek, SetMask, home, Moves, idle, skipped, stored, written, searched, taken, with_taken, Seeks, none, part, stays, under_way, Homes, no_home, home_stays, SetsMask, no_mask, no_byte, mask_stays, Goes, begun, Step, carried}
+use Rattle.chan_walk.specs.Machine.{Gathered, Stage, Event, Command, Store, Fetch, Gather, Seek, SetMask, home, Moves, idle, skipped, stored, written, searched, taken, with_taken, Seeks, none, part, stays, under_way, Recalibration, no_home, home_stays, SetsMask, no_mask, no_byte, mask_stays, Continues, begun, Step, carried}
 use Rattle.chan_walk.specs.Place.{is_fresh, word_at}
 use Rattle.chan_walk.specs.Runs.{UsesIn}
 use Rattle.chan_walk.proofs.Events.{uses_left, uses_right, no_seek_append}
@@ -150,7 +150,7 @@ module _ (j : Job) where
 
   pub record CanHome (y : ℕ) (b : Bool) : Type 0 where
     pub es : List Event
-    pub homes : Homes y b es y
+    pub homes : Recalibration y b es y
     pub quiet : AllByRecursion (IsQuiet j) es
     pub home : b ≡ true → Has es (Seek (Some home))
     pub no_seek : b ≡ false → NoSeek es
@@ -197,7 +197,7 @@ module _ (j : Job) where
     pub last : (e : Event) → Has went e → Has es e
     pub no_seek : begins_recalibrate p (word_at j p) ≡ false → NoSeek sk → NoSeek went → NoSeek es
 
-  pub carry_out : AreBytes (storage_of j) → (y : ℕ) (p : Place) (g : Gathered) (few : IsFew (under_way p (word_at j p) g)) → check (storage_of j) p ≡ None → is_transfer (word_at j p) ≡ false → Known p → {went : List Event} {st : Stage} → AllByRecursion (IsQuiet j) went → Goes p (word_at j p) (kind_at p) (bytes_at p) (seek_at y p g few).after went st → Carried y p g (seek_at y p g few).es went st
+  pub carry_out : AreBytes (storage_of j) → (y : ℕ) (p : Place) (g : Gathered) (few : IsFew (under_way p (word_at j p) g)) → check (storage_of j) p ≡ None → is_transfer (word_at j p) ≡ false → Known p → {went : List Event} {st : Stage} → AllByRecursion (IsQuiet j) went → Continues p (word_at j p) (kind_at p) (bytes_at p) (seek_at y p g few).after went st → Carried y p g (seek_at y p g few).es went st
   carry_out bytes y p g few e t known {went = went} calm goes = record {
     es = begun p c ++ mv.es ++ sk.es ++ hm.es ++ fm.es ++ went;
     step = carried e t known (full_le (kind_at p) c) mv.moves sk.seeks hm.homes fm.sets goes;

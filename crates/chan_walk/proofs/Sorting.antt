@@ -37,7 +37,7 @@ non_decreasing (l ∷ ls) up i j d le lt =
     let h = up i j l le below in
     omega (arith, a, b, h)
 
-eqb_flips : (x y : ℕ) → eqb x y ≡ eqb y x
+pub eqb_flips : (x y : ℕ) → eqb x y ≡ eqb y x
 eqb_flips x y = go (cases_eq x y)
   where
     go : (x ≡ y) ⊎ (x ≡ y → ⊥) → eqb x y ≡ eqb y x

@@ -27,7 +27,7 @@ clear_all j h p reached = go (fault_exists j p)
     go (None, f) = f
     go (Some t, f) = absurd (h p t reached f)
 
-not_clear : (j : Job) (p : Place) (r : Reason) → HasFault j p (Some r) → IsReachable j p → AreClear j → ⊥
+pub not_clear : (j : Job) (p : Place) (r : Reason) → HasFault j p (Some r) → IsReachable j p → AreClear j → ⊥
 not_clear j p r f reached clear = let d : ◌≡◌ {A = Option Reason} None (Some r) = fault_unique j p None (Some r) (clear p reached) f in cc
 
 pub verdict_of_fault : (j : Job) (f : Finding) → IsLeast (IsOwn j) (IsReachable j) (Some f) → IsVerdict j (No f.address f.reason)
@@ -38,7 +38,7 @@ verdict_of_fault j f h = (record { place = h.0.0; reached = h.0.1; address = h.0
     go p t r (inr o) = absurd (not_clear j h.0.0 f.reason h.0.3 h.0.1 o.0)
 
 -- without own faults, only changes offend
-change_of : (j : Job) → IsLeast (IsOwn j) (IsReachable j) None → (p : Place) (t : Reason) → IsReachable j p → Offends j p t → Changes j p t
+pub change_of : (j : Job) → IsLeast (IsOwn j) (IsReachable j) None → (p : Place) (t : Reason) → IsReachable j p → Offends j p t → Changes j p t
 change_of j none p t r (inl o) = absurd (none p t r o)
 change_of j none p t r (inr o) = o.1
 

@@ -22,12 +22,12 @@ use Rattle.chan_walk.proofs.Lists.{has_at, has_left, has_push}
 
 -- ---- places by their index
 
-slice_get-append : (ps qs : List Place) (k : ℕ) → k < length ps → slice_get (ps ++ qs) k ≡ slice_get ps k
+pub slice_get-append : (ps qs : List Place) (k : ℕ) → k < length ps → slice_get (ps ++ qs) k ≡ slice_get ps k
 slice_get-append [] qs k h = absurd (omega arith)
 slice_get-append (p ∷ ps) qs zero h = refl
 slice_get-append (p ∷ ps) qs (suc k) h = slice_get-append ps qs k (omega arith)
 
-at_has : (ps : List Place) (p : Place) → Has ps p → (k : ℕ) × (k < length ps) × (slice_get ps k ≡ Some p)
+pub at_has : (ps : List Place) (p : Place) → Has ps p → (k : ℕ) × (k < length ps) × (slice_get ps k ≡ Some p)
 at_has [] p h = absurd h
 at_has (q ∷ ps) p (inl e) = (0, omega arith, ap Some e)
 at_has (q ∷ ps) p (inr h) = let r = at_has ps p h in (suc r.0, omega (arith, r.1), r.2)
@@ -82,10 +82,10 @@ grows j n q ps i r d l w = record {
   longer = omega (arith, length-append ps (q ∷ []));
 }
 
-walked_adds : (j : Job) (n : ℕ) (o : Option Place) (ps qs : List Place) (i : ℕ) → ((q : Place) → o ≡ Some q → IsReachable j q) → Adds n o ps qs → IsWalked j n ps i → Grows j n o ps qs i
-walked_adds j n None ps qs i r a w = subst (λ z. Grows j n None ps z i) (sym a) (record { walked = w; keeps = λ p k. k; has = λ q e. absurd (cc); same = λ k l. refl; longer = omega arith })
-walked_adds j n (Some q) ps qs i r (inl a) w = subst (λ z. Grows j n (Some q) ps z i) (sym a.1) (stays j n q ps i a.0 w)
-walked_adds j n (Some q) ps qs i r (inr a) w = subst (λ z. Grows j n (Some q) ps z i) (sym a.1) (grows j n q ps i (r q refl) a.0 a.2 w)
+walked_adds : (j : Job) (n : ℕ) (o : Option Place) (from : ℕ) (ps qs : List Place) (fs gs : List ℕ) (i : ℕ) → ((q : Place) → o ≡ Some q → IsReachable j q) → Adds n o from ps qs fs gs → IsWalked j n ps i → Grows j n o ps qs i
+walked_adds j n None from ps qs fs gs i r a w = subst (λ z. Grows j n None ps z i) (sym a.0) (record { walked = w; keeps = λ p k. k; has = λ q e. absurd (cc); same = λ k l. refl; longer = omega arith })
+walked_adds j n (Some q) from ps qs fs gs i r (inl a) w = subst (λ z. Grows j n (Some q) ps z i) (sym a.1) (stays j n q ps i a.0 w)
+walked_adds j n (Some q) from ps qs fs gs i r (inr a) w = subst (λ z. Grows j n (Some q) ps z i) (sym a.1) (grows j n q ps i (r q refl) a.0 a.2 w)
 
 walked_overflows : (j : Job) (n : ℕ) (o : Option Place) (ps : List Place) (i : ℕ) → ((q : Place) → o ≡ Some q → IsReachable j q) → Overflows n o ps → IsWalked j n ps i → HasMoreThan j n
 walked_overflows j n None ps i r a w = absurd a
@@ -127,12 +127,18 @@ pub record Leads (j : Job) (ps : List Place) (i : ℕ) (n : Next) : Type 0 where
   pub there : slice_get ps i ≡ Some from
   pub each : (q : Place) → IsAmong n q ↔ Follows j from q
 
+pub place_there : (ls : List Seen) (i : ℕ) (l : Seen) → slice_get ls i ≡ Some l → slice_get (places_of_looks ls) i ≡ Some l.place
+place_there ls i l e = slice_get-map place_of ls i ∙ ap (option_map place_of) e
+
+pub are_next : (j : Job) (ls : List Seen) (i : ℕ) (l : Seen) (n : Next) → AreLooks j ls → slice_get ls i ≡ Some l → n ≡ l.next → AreSuccessors j l.place n
+are_next j ls i l n are e same = subst (AreSuccessors j l.place) (sym same) (are l (has_at ls i l e)).next
+
 -- what follows the place of a look is what the look shows
 pub leads_from_look : (j : Job) (ls : List Seen) (i : ℕ) (l : Seen) (n : Next) → AreLooks j ls → slice_get ls i ≡ Some l → n ≡ l.next → Leads j (places_of_looks ls) i n
 leads_from_look j ls i l n are e same = record {
   from = l.place;
-  there = slice_get-map place_of ls i ∙ ap (option_map place_of) e;
-  each = follows_exactly j l.place n (subst (AreSuccessors j l.place) (sym same) (are l (has_at ls i l e)).next);
+  there = place_there ls i l e;
+  each = follows_exactly j l.place n (are_next j ls i l n are e same);
 }
 
 from_next : (j : Job) (l : ℕ) (n : Next) (ps : List Place) (i : ℕ) → IsWalked j l ps i → Leads j ps i n → (q : Place) → n.next ≡ Some q → IsReachable j q
@@ -144,13 +150,13 @@ from_skip j l n ps i w s q e = reaches j s.from q (w.only s.from (has_at ps i s.
 pub next_overflows : (j : Job) (l : ℕ) (n : Next) (ps : List Place) (i : ℕ) → IsWalked j l ps i → Leads j ps i n → Overflows l n.next ps → HasMoreThan j l
 next_overflows j l n ps i w s b = walked_overflows j l n.next ps i (from_next j l n ps i w s) b w
 
-pub skip_overflows : (j : Job) (l : ℕ) (n : Next) (ps qs : List Place) (i : ℕ) → IsWalked j l ps i → Leads j ps i n → Adds l n.next ps qs → Overflows l n.skip qs → HasMoreThan j l
-skip_overflows j l n ps qs i w s a b =
-    let g = walked_adds j l n.next ps qs i (from_next j l n ps i w s) a w in
+pub skip_overflows : (j : Job) (l : ℕ) (n : Next) (from : ℕ) (ps qs : List Place) (fs gs : List ℕ) (i : ℕ) → IsWalked j l ps i → Leads j ps i n → Adds l n.next from ps qs fs gs → Overflows l n.skip qs → HasMoreThan j l
+skip_overflows j l n from ps qs fs gs i w s a b =
+    let g = walked_adds j l n.next from ps qs fs gs i (from_next j l n ps i w s) a w in
     walked_overflows j l n.skip qs i (from_skip j l n ps i w s) b g.walked
 
-pub walked_on : (j : Job) (l : ℕ) (n : Next) (ps qs rs : List Place) (i : ℕ) → IsWalked j l ps i → i < length ps → Leads j ps i n → Adds l n.next ps qs → Adds l n.skip qs rs → IsWalked j l rs (i + 1)
-walked_on j l n ps qs rs i w h s a b = record {
+pub walked_on : (j : Job) (l : ℕ) (n : Next) (from : ℕ) (ps qs rs : List Place) (fs gs hs : List ℕ) (i : ℕ) → IsWalked j l ps i → i < length ps → Leads j ps i n → Adds l n.next from ps qs fs gs → Adds l n.skip from qs rs gs hs → IsWalked j l rs (i + 1)
+walked_on j l n from ps qs rs fs gs hs i w h s a b = record {
   few = z.walked.few;
   within = omega (arith, y.longer, z.longer);
   apart = z.walked.apart;
@@ -160,10 +166,10 @@ walked_on j l n ps qs rs i w h s a b = record {
 }
   where
     y : Grows j l n.next ps qs i
-    y = walked_adds j l n.next ps qs i (from_next j l n ps i w s) a w
+    y = walked_adds j l n.next from ps qs fs gs i (from_next j l n ps i w s) a w
 
     z : Grows j l n.skip qs rs i
-    z = walked_adds j l n.skip qs rs i (from_skip j l n ps i w s) b y.walked
+    z = walked_adds j l n.skip from qs rs gs hs i (from_skip j l n ps i w s) b y.walked
 
     same : slice_get rs i ≡ slice_get ps i
     same = z.same i (omega (arith, y.longer)) ∙ y.same i h

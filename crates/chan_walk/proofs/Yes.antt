@@ -28,7 +28,7 @@ use Rattle.chan_walk.proofs.Commands.{seek_is_outward}
 use Rattle.chan_walk.proofs.Faults.{IsGood, stores_from, clear_check, clear_good, yes_clear}
 use Rattle.chan_walk.proofs.Follows.{Follows, by_transfer, succeeds}
 use Rattle.chan_walk.proofs.Gathering.{advance, transfer_on, begin}
-use Rattle.chan_walk.proofs.Kept.{Under, IsKept, Same, Kept, Coming, Comes, Here, Stepped, carried_ok}
+use Rattle.chan_walk.proofs.Invariant.{Under, IsKept, Same, Invariant, Coming, Comes, Here, Stepped, carried_ok}
 use Rattle.chan_walk.proofs.Masks.{strict_as_itself}
 use Rattle.chan_walk.proofs.Words.{same_ccw}
 
@@ -99,7 +99,7 @@ module _ (j : Job) (v : IsVerdict j Yes) where
       come true g u e = new e f.0 f.1 (good.argued e) (good.allowed e)
       come false g u e = old g u
 
-  step_ok : {s : List ℕ} {y f : ℕ} {p : Place} {g : Gathered} {es : List Event} {t : List ℕ} {y' f' : ℕ} {st : Stage} → Step s y f p g es t y' f' st → Kept j s y f (At p g) → Stepped j t y' f' st es
+  step_ok : {s : List ℕ} {y f : ℕ} {p : Place} {g : Gathered} {es : List Event} {t : List ℕ} {y' f' : ℕ} {st : Stage} → Step s y f p g es t y' f' st → Invariant j s y f (At p g) → Stepped j t y' f' st es
   step_ok {s = s} {p = p} (checked {r = r} e) k =
       let c = ccw_kept s p k.same k.stage.0 in
       let same : check s p ≡ check (storage_of j) p = ap (λ n. check_of n p (ccw s p.address)) k.same_length ∙ ap (λ z. check_of (length (storage_of j)) p z) c in
@@ -109,7 +109,7 @@ module _ (j : Job) (v : IsVerdict j Yes) where
       let c = ccw_kept s p k.same k.stage.0 in
       let t' : is_transfer (word_at j p) ≡ true = ap is_transfer (sym c) ∙ t in
       record {
-        kept = subst (λ z. Kept j s y f (At (transferred_to z.address p.entered) g)) (sym c)
+        kept = subst (λ z. Invariant j s y f (At (transferred_to z.address p.entered) g)) (sym c)
             (record { same_length = k.same_length; same = k.same; inside = k.inside; strict = k.strict; stage = (onward p _ k.stage.0 (by_transfer t'), carry g t' k.stage.1) });
         safe = tt;
         used = λ b u. absurd u;
@@ -128,14 +128,14 @@ module _ (j : Job) (v : IsVerdict j Yes) where
       let t' : is_transfer (word_at j p) ≡ false = ap is_transfer (sym c) ∙ t in
       carried_ok j p (ccw s p.address) g (subst (λ z. Here j p z g) (sym c) (here_at p g k.stage.0 k.stage.1 t')) k t le mv sk hm fm gs
 
-  from_ok : {s : List ℕ} {y f : ℕ} (at : Stage) {es : List Event} {t : List ℕ} {y' f' : ℕ} {st : Stage} → StepFrom s y f at es t y' f' st → Kept j s y f at → Stepped j t y' f' st es
+  from_ok : {s : List ℕ} {y f : ℕ} (at : Stage) {es : List Event} {t : List ℕ} {y' f' : ℕ} {st : Stage} → StepFrom s y f at es t y' f' st → Invariant j s y f at → Stepped j t y' f' st es
   from_ok (At p g) w k = step_ok w k
   from_ok Ended w k = absurd w
   from_ok (Checked r) w k = absurd w
 
   -- ---- a run
 
-  run_kept : (m : Moment) (ms : List Moment) → IsRun j (m ∷ ms) → Kept j m.storage m.arm m.mask m.stage
+  run_kept : (m : Moment) (ms : List Moment) → IsRun j (m ∷ ms) → Invariant j m.storage m.arm m.mask m.stage
   run_kept m [] r = record {
     same_length = ap length r.storage;
     same = λ b g. ap (λ z. byte z b) r.storage;
@@ -146,7 +146,7 @@ module _ (j : Job) (v : IsVerdict j Yes) where
   run_kept n (m ∷ ms) r = (from_ok m.stage r.1 (run_kept m ms r.0)).kept
 
   -- what holds of a moment because it is kept holds of each
-  pub all_kept : (P : Moment → Type 0) → ((m : Moment) → Kept j m.storage m.arm m.mask m.stage → P m) → (ms : List Moment) → IsRun j ms → AllByRecursion P ms
+  pub all_kept : (P : Moment → Type 0) → ((m : Moment) → Invariant j m.storage m.arm m.mask m.stage → P m) → (ms : List Moment) → IsRun j ms → AllByRecursion P ms
   all_kept P f [] r = absurd r
   all_kept P f (m ∷ []) r = (f m (run_kept m [] r), tt)
   all_kept P f (n ∷ m ∷ ms) r = (f n (run_kept n (m ∷ ms) r), all_kept P f (m ∷ ms) r.0)

@@ -20,7 +20,7 @@ use Rattle.chan_walk.specs.Machine.{Gathered, Stage, At, Checked, Event, Command
 use Rattle.chan_walk.specs.Place.{is_fresh}
 use Rattle.chan_walk.specs.Reachable.{IsPath}
 use Rattle.chan_walk.specs.Runs.{Moment, IsRun, UsesInCcw, UsesInArgument}
-use Rattle.chan_walk.specs.Verdict.{IsVerdict}
+use Rattle.chan_walk.specs.Verdict.{Offends, IsVerdict}
 
 -- storage holds bytes
 abbrev pub AreBytes : List ℕ → Type 0
@@ -67,13 +67,14 @@ EachPathIsRun = (j : Job) → IsProper j → (ps : List Place) → IsPath j ps �
 
 -- ---- what a run shows
 
--- a run comes to p, and there its next step shows P
-pub record ShowsNext (j : Job) (p : Place) (P : List Event → Stage → Type 0) : Type 0 where
+-- a run comes over the places ps to p, with nothing changed so far, and there its next step shows P
+pub record ShowsInStep (j : Job) (p : Place) (ps : List Place) (P : List Event → Stage → Type 0) : Type 0 where
   pub run : List Moment
   pub at : Moment
   pub next : Moment
   pub is_run : IsRun j (next ∷ at ∷ run)
-  pub comes : (g : Gathered) × (at.stage ≡ At p g)
+  pub over : ArePlaces (at ∷ run) (p ∷ ps)
+  pub quiet : AllByRecursion (IsQuietMoment j) (at ∷ run)
   pub shows : P next.events next.stage
 
 -- no argument of a seek is complete
@@ -81,19 +82,21 @@ abbrev pub NoSeek : List Event → Type 0
 NoSeek es = (x : List ℕ) → Has es (Seek (Some x)) → ⊥
 
 -- moments at which the same operation goes on, by data chaining, and no argument is complete
-abbrev pub GoesOn : List Moment → Type 0
-GoesOn [] = Unit {0}
-GoesOn (m ∷ ms) = ((q : Place) × (g : Gathered) × (m.stage ≡ At q g) × (is_fresh q.entered ≡ false)) × NoSeek m.events × GoesOn ms
+abbrev pub StaysInOperation : List Moment → Type 0
+StaysInOperation [] = Unit {0}
+StaysInOperation (m ∷ ms) = ((q : Place) × (g : Gathered) × (m.stage ≡ At q g) × (is_fresh q.entered ≡ false)) × NoSeek m.events × StaysInOperation ms
 
--- a run comes to p, and a step of the operation that begins there shows P; P is also told of the moment at p
-pub record ShowsLater (j : Job) (p : Place) (P : Moment → List Event → Stage → Type 0) : Type 0 where
+-- a run comes over the places ps to p, with nothing changed so far, and a step of the operation that
+-- begins there shows P; P is also told of the moment at p
+pub record ShowsInOperation (j : Job) (p : Place) (ps : List Place) (P : Moment → List Event → Stage → Type 0) : Type 0 where
   pub run : List Moment
   pub at : Moment
   pub more : List Moment
   pub next : Moment
   pub is_run : IsRun j (next ∷ (more ++ at ∷ run))
-  pub comes : (g : Gathered) × (at.stage ≡ At p g)
-  pub goes_on : GoesOn more
+  pub over : ArePlaces (at ∷ run) (p ∷ ps)
+  pub quiet : AllByRecursion (IsQuietMoment j) (at ∷ run)
+  pub goes_on : StaysInOperation more
   pub shows : P at next.events next.stage
 
 -- a byte is stored for whose address P holds
@@ -104,43 +107,51 @@ StoresOn P es = (a : ℕ) × (bytes : List ℕ) × (b : ℕ) × Has es (Store a 
 abbrev pub FetchesFrom : (ℕ → Type 0) → List Event → Type 0
 FetchesFrom P es = (a : ℕ) × (n : ℕ) × (b : ℕ) × Has es (Fetch a n) × (a ≤ b) × (b < a + n) × P b
 
--- a run comes to p, and there the channel stops it by this program check
-abbrev pub ShowsCheck : Job → Place → Reason → Type 0
-ShowsCheck j p r = ShowsNext j p (λ es stage. stage ≡ Checked r)
+-- a run comes over the places ps to p, and there the channel stops it by this program check
+abbrev pub ShowsCheck : Job → Place → List Place → Reason → Type 0
+ShowsCheck j p ps r = ShowsInStep j p ps (λ es stage. stage ≡ Checked r)
 
--- what a run shows for a reason at p: the program check itself; a command that may not begin; a store
+-- what a run over the places ps shows for a reason at p: the program check itself; a command that may not begin; a store
 -- or a fetch outside lent areas; a seek that begins at p, where the channel's check passes, and ends or
 -- is checked before its sixth byte; an operation that begins at p and seeks where it isn't allowed; a
 -- store over what some run uses; a Set File Mask that begins at p and takes a byte less strict than the
 -- job's mask
-abbrev pub Shows : Job → Place → Reason → Type 0
-Shows j p Misaligned = ShowsCheck j p Misaligned
-Shows j p OutsideStorage = ShowsCheck j p OutsideStorage
-Shows j p TransferNotAllowed = ShowsCheck j p TransferNotAllowed
-Shows j p InvalidCode = ShowsCheck j p InvalidCode
-Shows j p BadFormat = ShowsCheck j p BadFormat
-Shows j p ZeroCount = ShowsCheck j p ZeroCount
-Shows j p DataOutside = ShowsCheck j p DataOutside
-Shows j p NotInTable = ShowsNext j p (λ es stage. (code : ℕ) × Has es (Command code) × (is_known code ≡ false))
-Shows j p Inhibited = ShowsNext j p (λ es stage. (code : ℕ) × Has es (Command code) × (inhibits j.mask code ≡ true))
-Shows j p StoreNotLent = ShowsNext j p (λ es stage. StoresOn (λ b. lies_in (store_of j) b ≡ false) es)
-Shows j p FetchNotLent = ShowsNext j p (λ es stage. FetchesFrom (λ b. lies_in (fetch_of j) b ≡ false) es)
-Shows j p ShortSeek =
-    ShowsLater j p (λ at es stage. (check at.storage p ≡ None)
+abbrev pub Shows : Job → Place → List Place → Reason → Type 0
+Shows j p ps Misaligned = ShowsCheck j p ps Misaligned
+Shows j p ps OutsideStorage = ShowsCheck j p ps OutsideStorage
+Shows j p ps TransferNotAllowed = ShowsCheck j p ps TransferNotAllowed
+Shows j p ps InvalidCode = ShowsCheck j p ps InvalidCode
+Shows j p ps BadFormat = ShowsCheck j p ps BadFormat
+Shows j p ps ZeroCount = ShowsCheck j p ps ZeroCount
+Shows j p ps DataOutside = ShowsCheck j p ps DataOutside
+Shows j p ps NotInTable = ShowsInStep j p ps (λ es stage. (code : ℕ) × Has es (Command code) × (is_known code ≡ false))
+Shows j p ps Inhibited = ShowsInStep j p ps (λ es stage. (code : ℕ) × Has es (Command code) × (inhibits j.mask code ≡ true))
+Shows j p ps StoreNotLent = ShowsInStep j p ps (λ es stage. StoresOn (λ b. lies_in (store_of j) b ≡ false) es)
+Shows j p ps FetchNotLent = ShowsInStep j p ps (λ es stage. FetchesFrom (λ b. lies_in (fetch_of j) b ≡ false) es)
+Shows j p ps ShortSeek =
+    ShowsInOperation j p ps (λ at es stage. (check at.storage p ≡ None)
     × (begins_seek p (ccw at.storage p.address) ≡ true)
     × NoSeek es
     × (Has es (Seek None) ⊎ ((r : Reason) × (stage ≡ Checked r))))
-Shows j p SeekOutside = ShowsLater j p (λ at es stage. (is_fresh p.entered ≡ true) × (x : List ℕ) × Has es (Seek (Some x)) × (allows j x ≡ false))
-Shows j p ChangesCcw = ShowsNext j p (λ es stage. StoresOn (λ b. (used : List Moment) × IsRun j used × UsesInCcw used b) es)
-Shows j p ChangesArgument = ShowsNext j p (λ es stage. StoresOn (λ b. (used : List Moment) × IsRun j used × UsesInArgument used b) es)
-Shows j p WeakensMask =
-    ShowsNext j p (λ es stage. (is_fresh p.entered ≡ true)
+Shows j p ps SeekOutside = ShowsInOperation j p ps (λ at es stage. (is_fresh p.entered ≡ true) × (x : List ℕ) × Has es (Seek (Some x)) × (allows j x ≡ false))
+Shows j p ps ChangesCcw = ShowsInStep j p ps (λ es stage. StoresOn (λ b. (used : List Moment) × IsRun j used × UsesInCcw used b) es)
+Shows j p ps ChangesArgument = ShowsInStep j p ps (λ es stage. StoresOn (λ b. (used : List Moment) × IsRun j used × UsesInArgument used b) es)
+Shows j p ps WeakensMask =
+    ShowsInStep j p ps (λ es stage. (is_fresh p.entered ≡ true)
     × (a : ℕ) × (x : ℕ) × Has es (SetMask a x)
     × (is_at_least x j.mask ≡ false))
 
+-- each path to an offending place is a witness: a run over exactly this path shows the reason
+abbrev pub EachPathShows : Type 0
+EachPathShows = (j : Job) (p : Place) (ps : List Place) (r : Reason) → IsProper j → IsPath j (p ∷ ps) → Offends j p r → Shows j p ps r
+
+-- a run over some path to p shows the reason
+abbrev pub IsShownAt : Job → Place → Reason → Type 0
+IsShownAt j p r = (ps : List Place) × IsPath j (p ∷ ps) × Shows j p ps r
+
 -- no false alarm: where the verdict is no, a run comes to a place with its address and shows its reason there
 abbrev pub NoFalseAlarm : Type 0
-NoFalseAlarm = (j : Job) (a : ℕ) (r : Reason) → IsProper j → IsVerdict j (No a r) → (p : Place) × (p.address ≡ a) × Shows j p r
+NoFalseAlarm = (j : Job) (a : ℕ) (r : Reason) → IsProper j → IsVerdict j (No a r) → (p : Place) × (p.address ≡ a) × IsShownAt j p r
 
 -- ---- exactness
 

@@ -34,8 +34,8 @@ pub record AreReachable (j : Job) (ps : List Place) : Type 0 where
   pub each : (p : Place) → IsReachable j p → Has ps p
   pub only : (p : Place) → Has ps p → IsReachable j p
 
--- no place stands twice
-abbrev pub AreApart : List Place → Type 0
+-- nothing stands twice
+abbrev pub AreApart : {X : Type 0} → List X → Type 0
 AreApart [] = Unit {0}
 AreApart (p ∷ ps) = (Has ps p → ⊥) × AreApart ps
 

@@ -29,3 +29,6 @@ pub mod Guard
 pub mod Look
 pub mod Judged
 pub mod Answers
+pub mod Offences
+pub mod Paths
+pub mod Explained

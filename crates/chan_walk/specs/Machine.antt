@@ -75,10 +75,10 @@ abbrev pub home : List ℕ
 home = 0 ∷ 0 ∷ 0 ∷ 0 ∷ 0 ∷ 0 ∷ []
 
 -- what Recalibrate does: the arm stays or goes to cylinder 0
-pub data Homes (y : ℕ) : Bool → List Event → ℕ → Type 0 where
-  no_home : Homes y false [] y
-  home_stays : Homes y true (Seek (Some home) ∷ []) y
-  home_goes : Homes y true (Seek (Some home) ∷ []) 0
+pub data Recalibration (y : ℕ) : Bool → List Event → ℕ → Type 0 where
+  no_home : Recalibration y false [] y
+  home_stays : Recalibration y true (Seek (Some home) ∷ []) y
+  home_goes : Recalibration y true (Seek (Some home) ∷ []) 0
 
 -- what the first of m bytes does to the mask f in force, where Set File Mask takes it: the mask stays,
 -- or becomes the byte if that is a mask
@@ -90,12 +90,12 @@ pub data SetsMask (c : Fields) (m : ℕ) (s : List ℕ) (f : ℕ) : Bool → Lis
       SetsMask c m s f true (SetMask c.address (byte s c.address) ∷ []) (byte s c.address)
 
 -- how the program goes on from p after m bytes, with g of a seek: the device may end it at any time, and else chaining decides
-pub data Goes (p : Place) (c : Fields) (k : Kind) (m : ℕ) : Gathered → List Event → Stage → Type 0 where
-  ends : {g : Gathered} → Goes p c k m g [] Ended
-  on_data : {g : Gathered} {e : Entry} → chains_data c ≡ true → chained k ≡ Some e → m ≡ c.count → Goes p c k m g [] (At (straight_to (p.address + 8) e) g)
-  on_command : chains_data c ≡ false → chains_command c ≡ true → Goes p c k m None [] (At (straight_to (p.address + 8) Fresh) None)
-  on_skip : chains_data c ≡ false → chains_command c ≡ true → gives_modifier k ≡ true → Goes p c k m None [] (At (straight_to (p.address + 16) Fresh) None)
-  on_short : {x : List ℕ} → chains_data c ≡ false → m ≡ c.count → Goes p c k m (Some x) (Seek None ∷ []) Ended
+pub data Continues (p : Place) (c : Fields) (k : Kind) (m : ℕ) : Gathered → List Event → Stage → Type 0 where
+  ends : {g : Gathered} → Continues p c k m g [] Ended
+  on_data : {g : Gathered} {e : Entry} → chains_data c ≡ true → chained k ≡ Some e → m ≡ c.count → Continues p c k m g [] (At (straight_to (p.address + 8) e) g)
+  on_command : chains_data c ≡ false → chains_command c ≡ true → Continues p c k m None [] (At (straight_to (p.address + 8) Fresh) None)
+  on_skip : chains_data c ≡ false → chains_command c ≡ true → gives_modifier k ≡ true → Continues p c k m None [] (At (straight_to (p.address + 16) Fresh) None)
+  on_short : {x : List ℕ} → chains_data c ≡ false → m ≡ c.count → Continues p c k m (Some x) (Seek None ∷ []) Ended
 
 -- the event that a command begins, where an operation does
 abbrev pub begun : Place → Fields → List Event
@@ -123,9 +123,9 @@ pub data Step (s : List ℕ) (y f : ℕ) (p : Place) (g : Gathered)
       m ≤ (ccw s p.address).count →
       Moves (ccw s p.address) m s (kind_of p.entered (ccw s p.address)) moved t →
       Seeks (ccw s p.address) m s y (under_way p (ccw s p.address) g) sought y' g' →
-      Homes y' (begins_recalibrate p (ccw s p.address)) homed y'' →
+      Recalibration y' (begins_recalibrate p (ccw s p.address)) homed y'' →
       SetsMask (ccw s p.address) m s f (begins_set_mask p (ccw s p.address)) set f' →
-      Goes p (ccw s p.address) (kind_of p.entered (ccw s p.address)) m g' went stage →
+      Continues p (ccw s p.address) (kind_of p.entered (ccw s p.address)) m g' went stage →
       Step s y f p g
       (begun p (ccw s p.address) ++ moved ++ sought ++ homed ++ set ++ went) t y'' f' stage
 

@@ -1,10 +1,10 @@
 //! Exploring: from the first place on to the successors of each place found.
 
-ghost use Rattle.std.specs.Prelude.{◌≡◌, ◌<◌, ◌≤◌, ◌+◌, length, IfOk, OnOk};
+ghost use Rattle.std.specs.Prelude.{◌≡◌, ◌<◌, ◌≤◌, ◌+◌, ◌^◌, length, IfOk, OnOk};
 ghost use Rattle.chan_walk.specs.Explored.{AreReachable, HasMoreThan};
 ghost use Rattle.chan_walk.specs.Lent.{AreLent};
 ghost use Rattle.chan_walk.specs.Look.{AreLooks, places_of_looks};
-ghost use Rattle.chan_walk.specs.Walk.{Adds, Agrees, HasFound, IsWalked, Overflows};
+ghost use Rattle.chan_walk.specs.Walk.{Adds, Agrees, HasFound, IsTraced, IsWalked, Overflows};
 
 use crate::error::WalkError;
 use crate::explored::Explored;
@@ -23,16 +23,25 @@ mod tests;
 #[derive(Drop)]
 pub(crate) struct Walk {
     pub(crate) looks: Vec<Look>,
+    /// For each place the index of the one that it was found from; of the first place 0.
+    pub(crate) found_from: Vec<u32>,
     pub(crate) marks: BTreeMap<u32, u8>,
 }
 
 impl Walk {
-    /// Looks at a place and adds it, unless it is found already.
-    fn add(&mut self, job: &Job, lent: &Lent, place: Option<Place>) -> Result<(), WalkError>
+    /// Looks at a place, which was found from the one of the index `from`, and adds it, unless it is
+    /// found already.
+    fn add(
+        &mut self,
+        job: &Job,
+        lent: &Lent,
+        place: Option<Place>,
+        from: u32,
+    ) -> Result<(), WalkError>
         requires lent { AreLent job.now lent.now }
         requires looks { AreLooks job.now self.old.looks.items }
         requires agrees { Agrees self.old.marks (places_of_looks self.old.looks.items) }
-        ensures ok { OnOk result (Adds job.now.limit place (places_of_looks self.old.looks.items) (places_of_looks self.new.looks.items)) }
+        ensures ok { OnOk result (Adds job.now.limit place from (places_of_looks self.old.looks.items) (places_of_looks self.new.looks.items) self.old.found_from.items self.new.found_from.items) }
         ensures looks { OnOk result (AreLooks job.now self.new.looks.items) }
         ensures agrees { OnOk result (Agrees self.new.marks (places_of_looks self.new.looks.items)) }
         ensures many { result ≡ Err WalkError.TooManyPlaces → Overflows job.now.limit place (places_of_looks self.old.looks.items) }
@@ -43,6 +52,7 @@ impl Walk {
                     return Err(WalkError::TooManyPlaces);
                 }
                 self.looks.push(look_at(job, Lending::Merged(lent), place))?;
+                self.found_from.push(from)?;
                 mark(&mut self.marks, place)?;
             }
         }
@@ -55,15 +65,19 @@ impl Walk {
         requires looks { AreLooks job.now self.old.looks.items }
         requires agrees { Agrees self.old.marks (places_of_looks self.old.looks.items) }
         requires walked { IsWalked job.now job.now.limit (places_of_looks self.old.looks.items) at }
+        requires traced { IsTraced job.now (places_of_looks self.old.looks.items) self.old.found_from.items at at }
         requires within { at < length self.old.looks.items }
+        requires small { at < 2 ^ 32 }
         ensures ok { OnOk result (IsWalked job.now job.now.limit (places_of_looks self.new.looks.items) (at + 1)) }
+        ensures traced { OnOk result (IsTraced job.now (places_of_looks self.new.looks.items) self.new.found_from.items (at + 1) (at + 1)) }
         ensures looks { OnOk result (AreLooks job.now self.new.looks.items) }
         ensures agrees { OnOk result (Agrees self.new.marks (places_of_looks self.new.looks.items)) }
         ensures many { result ≡ Err WalkError.TooManyPlaces → HasMoreThan job.now job.now.limit }
     {
         let next = self.looks[at].next();
-        self.add(job, lent, next.next)?;
-        self.add(job, lent, next.skip)?;
+        let from = at as u32;
+        self.add(job, lent, next.next, from)?;
+        self.add(job, lent, next.skip, from)?;
         Ok(())
     }
 }
@@ -89,12 +103,15 @@ pub(crate) fn walk_all(alloc: Global, job: &Job) -> Result<Walk, WalkError>
     ensures found { IfOk result (HasFound job.now) }
     ensures many { result ≡ Err WalkError.TooManyPlaces → HasMoreThan job.now job.now.limit }
 {
+    // `get` tells that the limit is small, so that an index fits.
+    let _limit = job.limit.get();
     let lent = Lent::new(alloc, job)?;
     let mut walk = Walk {
         looks: Vec::new(alloc),
+        found_from: Vec::new(alloc),
         marks: BTreeMap::new(alloc),
     };
-    walk.add(job, &lent, Some(first_place(job)))?;
+    walk.add(job, &lent, Some(first_place(job)), 0)?;
     let mut at = 0;
     while at < walk.looks.len() {
         walk.add_successors(job, &lent, at)?;

@@ -2,7 +2,7 @@
 
 ghost use Rattle.std.specs.Prelude.{◌≡◌, ◌≤◌, ◌↔◌, false, true, length, map, IfOk, OnOk};
 ghost use Rattle.std.specs.List.Sorted.{IsStrictlyIncreasing};
-ghost use Rattle.chan_walk.specs.Answers.{CoversEveryRun, HasAtMost, IsShown, MissesNoYes};
+ghost use Rattle.chan_walk.specs.Answers.{IsSound, HasAtMost, HasWitness, IsComplete};
 ghost use Rattle.chan_walk.specs.Argument.{Has};
 ghost use Rattle.chan_walk.specs.Explored.{AreApart, AreReachable, HasMoreThan, place_number};
 ghost use Rattle.chan_walk.specs.Guard.{Guards};
@@ -181,9 +181,9 @@ pub fn judge(alloc: Global, job: &Job) -> Result<Judged, WalkError>
     ensures verdict { IfOk result (λ d. IsVerdict job.now d.verdict) }
 
     // A yes covers every run, a no is no false alarm, and no safe and steady job is refused.
-    ensures safe { IfOk result (λ d. CoversEveryRun job.now d.verdict) }
-    ensures shown { IfOk result (λ d. IsShown job.now d.verdict) }
-    ensures exact { IfOk result (λ d. MissesNoYes job.now d.verdict) }
+    ensures safe { IfOk result (λ d. IsSound job.now d.verdict) }
+    ensures shown { IfOk result (λ d. HasWitness job.now d.verdict) }
+    ensures exact { IfOk result (λ d. IsComplete job.now d.verdict) }
 
     // The places are the reachable ones, and what each look says is so.
     ensures places { IfOk result (λ d. AreReachable job.now (places_of_looks d.looks)) }
@@ -225,9 +225,9 @@ pub fn verify(alloc: Global, job: &Job) -> Result<Verdict, WalkError>
     ensures verdict { IfOk result (IsVerdict job.now) }
 
     // A yes covers every run, a no is no false alarm, and no safe and steady job is refused.
-    ensures safe { IfOk result (CoversEveryRun job.now) }
-    ensures shown { IfOk result (IsShown job.now) }
-    ensures exact { IfOk result (MissesNoYes job.now) }
+    ensures safe { IfOk result (IsSound job.now) }
+    ensures shown { IfOk result (HasWitness job.now) }
+    ensures exact { IfOk result (IsComplete job.now) }
 
     // There is an answer only up to the limit, and too many places only above it.
     ensures few { OnOk result (HasAtMost job.now job.now.limit) }

@@ -1,8 +1,9 @@
 //! The laws of the machine: each is the contract of a function that does nothing, so that it is proved.
 
-ghost use Rattle.chan_walk.specs.Alarm.{EachPathIsRun, HeadlineAloneIsEnough, NoFalseAlarm, SafeIsYes};
+ghost use Rattle.chan_walk.specs.Alarm.{EachPathIsRun, EachPathShows, HeadlineAloneIsEnough, NoFalseAlarm, SafeIsYes};
 ghost use Rattle.chan_walk.specs.Counted.{SameVerdict, YesByGuarded, YesStays};
 ghost use Rattle.chan_walk.specs.Headline.{GathersArguments, GuardedStays, StaysReachable, YesIsSafe};
+ghost use Rattle.chan_walk.specs.Offences.{FirstIsVerdict};
 ghost use Rattle.chan_walk.specs.Order.{NumbersIncrease};
 
 /// Where the verdict is yes, guarded bytes never change.
@@ -30,6 +31,17 @@ pub(crate) fn yes_is_safe()
 /// stores only what storage already held.
 pub(crate) fn each_path_is_run()
     ensures { EachPathIsRun }
+{}
+
+/// Each path to an offending place is a witness: a run over exactly this path, which changes nothing
+/// on the way, shows the reason there.
+pub(crate) fn each_path_shows()
+    ensures { EachPathShows }
+{}
+
+/// The first of a job's offences is the verdict, and yes where there is none.
+pub(crate) fn first_is_verdict()
+    ensures { FirstIsVerdict }
 {}
 
 /// Where the verdict is no, a run comes to a place with its address and shows its reason there.

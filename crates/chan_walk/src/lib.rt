@@ -11,6 +11,7 @@
 #![tactic(auto)]
 
 mod error;
+mod explanation;
 mod explored;
 mod exploring;
 mod fault;
@@ -23,6 +24,8 @@ mod laws;
 mod lent;
 mod limit;
 mod look;
+mod offence;
+mod path;
 mod place;
 mod ranges;
 mod reason;
@@ -35,6 +38,7 @@ mod ways;
 mod word;
 
 pub use crate::error::WalkError;
+pub use crate::explanation::{Explanation, explain};
 pub use crate::explored::{Explored, Places};
 pub use crate::exploring::explore;
 pub use crate::fault::fault_at;
@@ -43,6 +47,8 @@ pub use crate::job::Job;
 pub use crate::judging::{Judged, judge, verify};
 pub use crate::limit::Limit;
 pub use crate::look::Look;
+pub use crate::offence::{Offence, offences};
+pub use crate::path::path_to;
 pub use crate::place::{Entry, Place, first_place};
 pub use crate::reason::Reason;
 pub use crate::seek::seek_argument;

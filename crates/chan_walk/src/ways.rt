@@ -14,7 +14,7 @@ use std::collections::BTreeMap;
 const WAYS: u32 = 8;
 
 /// The way in which a place is entered, 0 to 7.
-fn way_of(place: Place) -> u32
+pub(crate) fn way_of(place: Place) -> u32
     ensures value { result ≡ way place }
     ensures small { result < 8 }
 {

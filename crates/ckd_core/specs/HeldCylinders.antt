@@ -7,6 +7,6 @@ abbrev pub IsHeldTable : List (ℕ × ℕ) → List Bool → Type 0
 IsHeldTable extents held = (cylinder : ℕ) → cylinder < 203 → slice_index_or held cylinder false ≡ has_cylinder extents cylinder
 
 -- the pairs are extents, and the table is theirs
-pub record IsSound (extents : List (ℕ × ℕ)) (held : List Bool) : Type 0 where
+pub record HoldsRight (extents : List (ℕ × ℕ)) (held : List Bool) : Type 0 where
   pub extents_right : AreExtents extents
   pub table_right : IsHeldTable extents held

@@ -43,13 +43,13 @@ pub struct Extents {
 
 impl Model for Extents {
     ghost use Rattle.std.specs.Prelude.{ℕ, List};
-    ghost use Rattle.ckd_core.specs.HeldCylinders.{IsSound};
+    ghost use Rattle.ckd_core.specs.HeldCylinders.{HoldsRight};
 
     ghost Value = { List (ℕ × ℕ) };
 
     ghost view = { λ e. e.pairs.items };
 
-    ghost invariant = { λ e. IsSound e.pairs.items e.held };
+    ghost invariant = { λ e. HoldsRight e.pairs.items e.held };
 }
 
 impl PartialEq for Extents {

@@ -2,100 +2,156 @@
 
 use crate::{Device, ExtentError, Extents, FileMask, Kind, MaskClass, Track, allowed, lookup};
 use std::alloc::Global;
-use std::process::Abort;
 use std::test::Fail;
 
-/// Asserts that the table has the command, with this name, kind and class.
-fn expect_command(rt: &impl Abort, code: u8, name: &str, kind: Kind, class: MaskClass) {
-    match lookup(code) {
-        Some(command) => {
-            assert_eq!(rt; command.code(), code);
-            assert_eq!(rt; command.name(), name);
-            assert_eq!(rt; command.kind(), kind, "{name}");
-            assert_eq!(rt; command.class(), class, "{name}");
-        }
-        None => assert!(rt; false, "{name} is in the table"),
-    }
+/// Each command of the table: its code, name, kind and class.
+static COMMANDS: &[(u8, &str, Kind, MaskClass)] = &[
+    (0x03, "no-operation", Kind::Idle, MaskClass::Plain),
+    (0x07, "seek", Kind::Outward, MaskClass::Seek),
+    (
+        0x0B,
+        "seek-cylinder",
+        Kind::Outward,
+        MaskClass::SeekCylinder,
+    ),
+    (0x1B, "seek-head", Kind::Outward, MaskClass::SeekHead),
+    (0x13, "recalibrate", Kind::Idle, MaskClass::Recalibrate),
+    (0x1F, "set-file-mask", Kind::Outward, MaskClass::SetMask),
+    (0x04, "sense", Kind::Inward, MaskClass::Plain),
+    (
+        0x39,
+        "search-home-address-equal",
+        Kind::Search,
+        MaskClass::Plain,
+    ),
+    (
+        0xB9,
+        "search-home-address-equal-mt",
+        Kind::Search,
+        MaskClass::Plain,
+    ),
+    (0x31, "search-id-equal", Kind::Search, MaskClass::Plain),
+    (0xB1, "search-id-equal-mt", Kind::Search, MaskClass::Plain),
+    (0x51, "search-id-high", Kind::Search, MaskClass::Plain),
+    (0xD1, "search-id-high-mt", Kind::Search, MaskClass::Plain),
+    (
+        0x71,
+        "search-id-equal-or-high",
+        Kind::Search,
+        MaskClass::Plain,
+    ),
+    (
+        0xF1,
+        "search-id-equal-or-high-mt",
+        Kind::Search,
+        MaskClass::Plain,
+    ),
+    (0x29, "search-key-equal", Kind::Search, MaskClass::Plain),
+    (0xA9, "search-key-equal-mt", Kind::Search, MaskClass::Plain),
+    (0x49, "search-key-high", Kind::Search, MaskClass::Plain),
+    (0xC9, "search-key-high-mt", Kind::Search, MaskClass::Plain),
+    (
+        0x69,
+        "search-key-equal-or-high",
+        Kind::Search,
+        MaskClass::Plain,
+    ),
+    (
+        0xE9,
+        "search-key-equal-or-high-mt",
+        Kind::Search,
+        MaskClass::Plain,
+    ),
+    (0x1A, "read-home-address", Kind::Inward, MaskClass::Plain),
+    (0x9A, "read-home-address-mt", Kind::Inward, MaskClass::Plain),
+    (0x12, "read-count", Kind::Inward, MaskClass::Plain),
+    (0x92, "read-count-mt", Kind::Inward, MaskClass::Plain),
+    (0x16, "read-record-zero", Kind::Inward, MaskClass::Plain),
+    (0x96, "read-record-zero-mt", Kind::Inward, MaskClass::Plain),
+    (0x06, "read-data", Kind::Inward, MaskClass::Plain),
+    (0x86, "read-data-mt", Kind::Inward, MaskClass::Plain),
+    (0x0E, "read-key-data", Kind::Inward, MaskClass::Plain),
+    (0x8E, "read-key-data-mt", Kind::Inward, MaskClass::Plain),
+    (0x1E, "read-count-key-data", Kind::Inward, MaskClass::Plain),
+    (
+        0x9E,
+        "read-count-key-data-mt",
+        Kind::Inward,
+        MaskClass::Plain,
+    ),
+    (
+        0x19,
+        "write-home-address",
+        Kind::Outward,
+        MaskClass::WriteHome,
+    ),
+    (
+        0x15,
+        "write-record-zero",
+        Kind::Outward,
+        MaskClass::WriteHome,
+    ),
+    (
+        0x1D,
+        "write-count-key-data",
+        Kind::Outward,
+        MaskClass::WriteFormat,
+    ),
+    (
+        0x01,
+        "write-special-count-key-data",
+        Kind::Outward,
+        MaskClass::WriteFormat,
+    ),
+    (0x11, "erase", Kind::Outward, MaskClass::WriteFormat),
+    (0x05, "write-data", Kind::Outward, MaskClass::WriteUpdate),
+    (
+        0x0D,
+        "write-key-data",
+        Kind::Outward,
+        MaskClass::WriteUpdate,
+    ),
+];
+
+/// What a code was found to be.
+fn found(code: u8) -> Option<(u8, &'static str, Kind, MaskClass)> {
+    let command = lookup(code)?;
+    Some((
+        command.code(),
+        command.name(),
+        command.kind(),
+        command.class(),
+    ))
 }
 
 #[test]
-fn controls_and_writes(rt: HostRuntime) {
-    for (code, name, kind, class) in [
-        (0x03, "no-operation", Kind::Idle, MaskClass::Plain),
-        (0x13, "recalibrate", Kind::Idle, MaskClass::Recalibrate),
-        (0x04, "sense", Kind::Inward, MaskClass::Plain),
-    ] {
-        expect_command(&rt, code, name, kind, class);
-    }
-    for (code, name, class) in [
-        (0x07, "seek", MaskClass::Seek),
-        (0x0B, "seek-cylinder", MaskClass::SeekCylinder),
-        (0x1B, "seek-head", MaskClass::SeekHead),
-        (0x19, "write-home-address", MaskClass::WriteHome),
-        (0x15, "write-record-zero", MaskClass::WriteHome),
-        (0x1D, "write-count-key-data", MaskClass::WriteFormat),
-        (0x01, "write-special-count-key-data", MaskClass::WriteFormat),
-        (0x11, "erase", MaskClass::WriteFormat),
-        (0x05, "write-data", MaskClass::WriteUpdate),
-        (0x0D, "write-key-data", MaskClass::WriteUpdate),
-        (0x1F, "set-file-mask", MaskClass::SetMask),
-    ] {
-        expect_command(&rt, code, name, Kind::Outward, class);
+fn commands(rt: HostRuntime) {
+    for (code, name, kind, class) in COMMANDS {
+        assert_eq!(rt; found(*code), Some((*code, *name, *kind, *class)), "{name}");
     }
 }
 
-#[test]
-fn searches_and_reads(rt: HostRuntime) {
-    for (code, name, kind) in [
-        (0x39, "search-home-address-equal", Kind::Search),
-        (0xB9, "search-home-address-equal-mt", Kind::Search),
-        (0x31, "search-id-equal", Kind::Search),
-        (0xB1, "search-id-equal-mt", Kind::Search),
-        (0x51, "search-id-high", Kind::Search),
-        (0xD1, "search-id-high-mt", Kind::Search),
-        (0x71, "search-id-equal-or-high", Kind::Search),
-        (0xF1, "search-id-equal-or-high-mt", Kind::Search),
-        (0x29, "search-key-equal", Kind::Search),
-        (0xA9, "search-key-equal-mt", Kind::Search),
-        (0x49, "search-key-high", Kind::Search),
-        (0xC9, "search-key-high-mt", Kind::Search),
-        (0x69, "search-key-equal-or-high", Kind::Search),
-        (0xE9, "search-key-equal-or-high-mt", Kind::Search),
-        (0x1A, "read-home-address", Kind::Inward),
-        (0x9A, "read-home-address-mt", Kind::Inward),
-        (0x12, "read-count", Kind::Inward),
-        (0x92, "read-count-mt", Kind::Inward),
-        (0x16, "read-record-zero", Kind::Inward),
-        (0x96, "read-record-zero-mt", Kind::Inward),
-        (0x06, "read-data", Kind::Inward),
-        (0x86, "read-data-mt", Kind::Inward),
-        (0x0E, "read-key-data", Kind::Inward),
-        (0x8E, "read-key-data-mt", Kind::Inward),
-        (0x1E, "read-count-key-data", Kind::Inward),
-        (0x9E, "read-count-key-data-mt", Kind::Inward),
-    ] {
-        expect_command(&rt, code, name, kind, MaskClass::Plain);
-    }
-}
+/// Codes that the table doesn't have.
+static OUTSIDE: &[(u8, &str)] = &[
+    (0x9F, "Set File Mask, multi-track"),
+    (0x02, "Read IPL"),
+    (0x17, "Restore"),
+    (0x0F, "Space Count"),
+    (0x94, "Device Release"),
+    (0xB4, "Device Reserve"),
+    (0x0C, "Read Backward"),
+    (0x83, "No Operation, multi-track"),
+    (0x99, "Write Home Address, multi-track"),
+    (0x00, "invalid"),
+    (0x08, "Transfer in Channel"),
+];
 
 #[test]
 fn outside_the_table(rt: HostRuntime) {
     let inside = (0..=255u8).filter(|code| lookup(*code).is_some()).count();
     assert_eq!(rt; inside, 40);
-    for (code, name) in [
-        (0x9F, "Set File Mask, multi-track"),
-        (0x02, "Read IPL"),
-        (0x17, "Restore"),
-        (0x0F, "Space Count"),
-        (0x94, "Device Release"),
-        (0xB4, "Device Reserve"),
-        (0x0C, "Read Backward"),
-        (0x83, "No Operation, multi-track"),
-        (0x99, "Write Home Address, multi-track"),
-        (0x00, "invalid"),
-        (0x08, "Transfer in Channel"),
-    ] {
-        assert!(rt; lookup(code).is_none(), "{name}");
+    for (code, name) in OUTSIDE {
+        assert!(rt; lookup(*code).is_none(), "{name}");
     }
 }
 
@@ -106,51 +162,96 @@ fn inhibited(mask: u8, code: u8) -> Option<bool> {
     Some(mask.inhibits(command))
 }
 
-#[test]
-fn mask_table(rt: HostRuntime) {
-    for (name, code, under) in [
-        ("Write CKD", 0x1D, [false, true, true, false]),
-        ("Erase", 0x11, [false, true, true, false]),
-        ("Write Data", 0x05, [false, true, false, false]),
-        ("Write Home Address", 0x19, [true, true, true, false]),
-        ("Read Data", 0x06, [false, false, false, false]),
-    ] {
-        for (mask, answer) in [0x00, 0x40, 0x80, 0xC0].into_iter().zip(under) {
-            assert_eq!(rt;
-                inhibited(mask, code),
-                Some(answer),
-                "{name} under {mask:02X}"
-            );
-            assert_eq!(rt;
-                inhibited(mask | 0x08, code),
-                Some(answer),
-                "{name} under {mask:02X} and 08"
-            );
-        }
-    }
-}
+/// A command, a mask, the command's code, and whether the mask inhibits it: first the masks of writes,
+/// each also with a bit for seeks, then the masks of seeks, each also with the bits for writes.
+static MASKS: &[(&str, u8, u8, bool)] = &[
+    ("Write CKD", 0x00, 0x1D, false),
+    ("Write CKD", 0x08, 0x1D, false),
+    ("Write CKD", 0x40, 0x1D, true),
+    ("Write CKD", 0x48, 0x1D, true),
+    ("Write CKD", 0x80, 0x1D, true),
+    ("Write CKD", 0x88, 0x1D, true),
+    ("Write CKD", 0xC0, 0x1D, false),
+    ("Write CKD", 0xC8, 0x1D, false),
+    ("Erase", 0x00, 0x11, false),
+    ("Erase", 0x08, 0x11, false),
+    ("Erase", 0x40, 0x11, true),
+    ("Erase", 0x48, 0x11, true),
+    ("Erase", 0x80, 0x11, true),
+    ("Erase", 0x88, 0x11, true),
+    ("Erase", 0xC0, 0x11, false),
+    ("Erase", 0xC8, 0x11, false),
+    ("Write Data", 0x00, 0x05, false),
+    ("Write Data", 0x08, 0x05, false),
+    ("Write Data", 0x40, 0x05, true),
+    ("Write Data", 0x48, 0x05, true),
+    ("Write Data", 0x80, 0x05, false),
+    ("Write Data", 0x88, 0x05, false),
+    ("Write Data", 0xC0, 0x05, false),
+    ("Write Data", 0xC8, 0x05, false),
+    ("Write Home Address", 0x00, 0x19, true),
+    ("Write Home Address", 0x08, 0x19, true),
+    ("Write Home Address", 0x40, 0x19, true),
+    ("Write Home Address", 0x48, 0x19, true),
+    ("Write Home Address", 0x80, 0x19, true),
+    ("Write Home Address", 0x88, 0x19, true),
+    ("Write Home Address", 0xC0, 0x19, false),
+    ("Write Home Address", 0xC8, 0x19, false),
+    ("Read Data", 0x00, 0x06, false),
+    ("Read Data", 0x08, 0x06, false),
+    ("Read Data", 0x40, 0x06, false),
+    ("Read Data", 0x48, 0x06, false),
+    ("Read Data", 0x80, 0x06, false),
+    ("Read Data", 0x88, 0x06, false),
+    ("Read Data", 0xC0, 0x06, false),
+    ("Read Data", 0xC8, 0x06, false),
+    ("Seek", 0x00, 0x07, false),
+    ("Seek", 0xC0, 0x07, false),
+    ("Seek", 0x08, 0x07, true),
+    ("Seek", 0xC8, 0x07, true),
+    ("Seek", 0x10, 0x07, true),
+    ("Seek", 0xD0, 0x07, true),
+    ("Seek", 0x18, 0x07, true),
+    ("Seek", 0xD8, 0x07, true),
+    ("Recalibrate", 0x00, 0x13, false),
+    ("Recalibrate", 0xC0, 0x13, false),
+    ("Recalibrate", 0x08, 0x13, true),
+    ("Recalibrate", 0xC8, 0x13, true),
+    ("Recalibrate", 0x10, 0x13, true),
+    ("Recalibrate", 0xD0, 0x13, true),
+    ("Recalibrate", 0x18, 0x13, true),
+    ("Recalibrate", 0xD8, 0x13, true),
+    ("Seek Cylinder", 0x00, 0x0B, false),
+    ("Seek Cylinder", 0xC0, 0x0B, false),
+    ("Seek Cylinder", 0x08, 0x0B, false),
+    ("Seek Cylinder", 0xC8, 0x0B, false),
+    ("Seek Cylinder", 0x10, 0x0B, true),
+    ("Seek Cylinder", 0xD0, 0x0B, true),
+    ("Seek Cylinder", 0x18, 0x0B, true),
+    ("Seek Cylinder", 0xD8, 0x0B, true),
+    ("Seek Head", 0x00, 0x1B, false),
+    ("Seek Head", 0xC0, 0x1B, false),
+    ("Seek Head", 0x08, 0x1B, false),
+    ("Seek Head", 0xC8, 0x1B, false),
+    ("Seek Head", 0x10, 0x1B, false),
+    ("Seek Head", 0xD0, 0x1B, false),
+    ("Seek Head", 0x18, 0x1B, true),
+    ("Seek Head", 0xD8, 0x1B, true),
+    ("Read Data, multi-track", 0x00, 0x86, false),
+    ("Read Data, multi-track", 0xC0, 0x86, false),
+    ("Read Data, multi-track", 0x08, 0x86, false),
+    ("Read Data, multi-track", 0xC8, 0x86, false),
+    ("Read Data, multi-track", 0x10, 0x86, false),
+    ("Read Data, multi-track", 0xD0, 0x86, false),
+    ("Read Data, multi-track", 0x18, 0x86, false),
+    ("Read Data, multi-track", 0xD8, 0x86, false),
+];
 
 #[test]
-fn seek_mask(rt: HostRuntime) {
-    for (name, code, under) in [
-        ("Seek", 0x07, [false, true, true, true]),
-        ("Recalibrate", 0x13, [false, true, true, true]),
-        ("Seek Cylinder", 0x0B, [false, false, true, true]),
-        ("Seek Head", 0x1B, [false, false, false, true]),
-        ("Read Data, multi-track", 0x86, [false, false, false, false]),
-    ] {
-        for (mask, answer) in [0x00, 0x08, 0x10, 0x18].into_iter().zip(under) {
-            assert_eq!(rt;
-                inhibited(mask, code),
-                Some(answer),
-                "{name} under {mask:02X}"
-            );
-            assert_eq!(rt;
-                inhibited(mask | 0xC0, code),
-                Some(answer),
-                "{name} under {mask:02X} and C0"
-            );
-        }
+fn mask_table(rt: HostRuntime) {
+    for (name, mask, code, answer) in MASKS {
+        let seen = inhibited(*mask, *code);
+        assert_eq!(rt; seen, Some(*answer), "{name} under {mask:02X}");
     }
 }
 

@@ -5,7 +5,7 @@ use Rattle.chan_walk.specs.declared.job.Job.{Job}
 use Rattle.chan_walk.specs.declared.verdict.Verdict.{Verdict}
 use Rattle.chan_walk.specs.declared.verdict.Verdict.TheVariants.{Yes, No}
 use Rattle.chan_walk.specs.Alarm.{IsProper, NoFalseAlarm}
-use Rattle.chan_walk.specs.Answers.{CoversEveryRun, IsShown}
+use Rattle.chan_walk.specs.Answers.{IsSound, HasWitness}
 use Rattle.chan_walk.specs.Headline.{YesIsSafe}
 use Rattle.chan_walk.specs.Job.{HasMask}
 use Rattle.chan_walk.specs.Least.{AreReached}
@@ -25,7 +25,7 @@ returns-clause-verdict c =
     let same = sym c.as_slice.ensures.value in
     c.in_ok-verdict.ensures j (subst (AreLooks j) same found.looks) (subst (AreReached j) (ap places_of_looks same) (reached_all j c.in_ok-looks.field-0 found))
 
-covers : (j : Job) (v : Verdict) → HasMask j → YesIsSafe → IsVerdict j v → CoversEveryRun j v
+covers : (j : Job) (v : Verdict) → HasMask j → YesIsSafe → IsVerdict j v → IsSound j v
 covers j v mask law h e = law j mask (subst (λ (w : Verdict). IsVerdict j w) e h)
 
 pub returns-clause-safe : goal.returns-clause-safe
@@ -33,7 +33,7 @@ returns-clause-safe c =
     let mask = subst (λ n. is_mask n ≡ true) c.byte-mask.ensures.value c.byte-mask.ensures.mask in
     covers c.args.job.now c.in_ok-verdict.verdict mask c.yes_is_safe.ensures (returns-clause-verdict c)
 
-shown : (j : Job) (v : Verdict) → IsProper j → NoFalseAlarm → IsVerdict j v → IsShown j v
+shown : (j : Job) (v : Verdict) → IsProper j → NoFalseAlarm → IsVerdict j v → HasWitness j v
 shown j Yes proper law h = tt
 shown j (No a r) proper law h = law j a r proper h
 

@@ -16,7 +16,7 @@ use Rattle.chan_walk.specs.Fault.{kind_of, goes_in, goes_out, is_known, begins_s
 use Rattle.chan_walk.specs.Guarded.{IsArgumentByte, IsGuarded}
 use Rattle.chan_walk.specs.Headline.{IsGathered, IsSafeEvent}
 use Rattle.chan_walk.specs.Job.{storage_of, extents_of, fetch_of, store_of, HasMask}
-use Rattle.chan_walk.specs.Machine.{Gathered, Stage, At, Ended, Checked, Event, Command, Moves, idle, skipped, stored, written, searched, taken, with_taken, Seeks, none, part, stays, goes, under_way, Homes, no_home, home_stays, home_goes, SetsMask, no_mask, no_byte, mask_stays, mask_set, Goes, ends, on_data, on_command, on_skip, on_short, begun}
+use Rattle.chan_walk.specs.Machine.{Gathered, Stage, At, Ended, Checked, Event, Command, Moves, idle, skipped, stored, written, searched, taken, with_taken, Seeks, none, part, stays, goes, under_way, Recalibration, no_home, home_stays, home_goes, SetsMask, no_mask, no_byte, mask_stays, mask_set, Continues, ends, on_data, on_command, on_skip, on_short, begun}
 use Rattle.chan_walk.specs.Place.{is_fresh, straight_to, word_at}
 use Rattle.chan_walk.specs.Reachable.{IsReachable}
 use Rattle.chan_walk.specs.Runs.{UsesIn}
@@ -60,7 +60,7 @@ module _ (j : Job) where
   abbrev pub IsStrict : ℕ → Type 0
   IsStrict f = HasMask j → is_at_least f j.mask ≡ true
 
-  pub record Kept (s : List ℕ) (y f : ℕ) (st : Stage) : Type 0 where
+  pub record Invariant (s : List ℕ) (y f : ℕ) (st : Stage) : Type 0 where
     pub same_length : length s ≡ length (storage_of j)
     pub same : Same s
     pub inside : has_cylinder (extents_of j) y ≡ true
@@ -164,7 +164,7 @@ module _ (j : Job) where
     safe : AllByRecursion (IsSafeEvent j) es
     unused : (b : ℕ) → UsesIn es b → ⊥
 
-  homes_ok : (y : ℕ) {b : Bool} {es : List Event} {y' : ℕ} → Homes y b es y' → (b ≡ true → has_cylinder (extents_of j) 0 ≡ true) → has_cylinder (extents_of j) y ≡ true → Homed y' es
+  homes_ok : (y : ℕ) {b : Bool} {es : List Event} {y' : ℕ} → Recalibration y b es y' → (b ≡ true → has_cylinder (extents_of j) 0 ≡ true) → has_cylinder (extents_of j) y ≡ true → Homed y' es
   homes_ok y no_home f h = record { inside = h; safe = tt; unused = λ b u. u }
   homes_ok y home_stays f h = record { inside = h; safe = (allows_home j (f refl), tt); unused = λ b u. u }
   homes_ok y home_goes f h = record { inside = f refl; safe = (allows_home j (f refl), tt); unused = λ b u. u }
@@ -197,7 +197,7 @@ module _ (j : Job) where
     safe : AllByRecursion (IsSafeEvent j) es
     unused : (b : ℕ) → UsesIn es b → ⊥
 
-  goes_ok : (p : Place) (c : Fields) (k : Kind) (m : ℕ) {g : Gathered} {es : List Event} {st : Stage} → Goes p c k m g es st → kind_of p.entered c ≡ k → is_transfer c ≡ false → ((q : Place) → Follows p c k q → IsReachable j q) → After p c m g → Gone es st
+  goes_ok : (p : Place) (c : Fields) (k : Kind) (m : ℕ) {g : Gathered} {es : List Event} {st : Stage} → Continues p c k m g es st → kind_of p.entered c ≡ k → is_transfer c ≡ false → ((q : Place) → Follows p c k q → IsReachable j q) → After p c m g → Gone es st
   goes_ok p c k m ends e t f a = record { stage = tt; safe = tt; unused = λ b u. u }
   goes_ok p c k m (on_data {g = g} {e = into} cd ch mc) e t f a = record { stage = (f _ (by_data t cd ch), carry g a); safe = tt; unused = λ b u. u }
     where
@@ -211,11 +211,11 @@ module _ (j : Job) where
   -- ---- a whole step
 
   pub record Stepped (s : List ℕ) (y f : ℕ) (st : Stage) (es : List Event) : Type 0 where
-    pub kept : Kept s y f st
+    pub kept : Invariant s y f st
     pub safe : AllByRecursion (IsSafeEvent j) es
     pub used : (b : ℕ) → UsesIn es b → IsGuarded j b
 
-  pub carried_ok : (p : Place) (c : Fields) (g : Gathered) {s t : List ℕ} {y y' y'' f f' : ℕ} {g' : Gathered} {moved sought homed set went : List Event} {stage : Stage} {m : ℕ} → Here p c g → Kept s y f (At p g) → is_transfer c ≡ false → m ≤ c.count → Moves c m s (kind_of p.entered c) moved t → Seeks c m s y (under_way p c g) sought y' g' → Homes y' (begins_recalibrate p c) homed y'' → SetsMask c m s f (begins_set_mask p c) set f' → Goes p c (kind_of p.entered c) m g' went stage → Stepped t y'' f' stage (begun p c ++ moved ++ sought ++ homed ++ set ++ went)
+  pub carried_ok : (p : Place) (c : Fields) (g : Gathered) {s t : List ℕ} {y y' y'' f f' : ℕ} {g' : Gathered} {moved sought homed set went : List Event} {stage : Stage} {m : ℕ} → Here p c g → Invariant s y f (At p g) → is_transfer c ≡ false → m ≤ c.count → Moves c m s (kind_of p.entered c) moved t → Seeks c m s y (under_way p c g) sought y' g' → Recalibration y' (begins_recalibrate p c) homed y'' → SetsMask c m s f (begins_set_mask p c) set f' → Continues p c (kind_of p.entered c) m g' went stage → Stepped t y'' f' stage (begun p c ++ moved ++ sought ++ homed ++ set ++ went)
   carried_ok p c g {s = s} {y = y} {y' = y'} {f = f} {moved = moved} {sought = sought} {homed = homed} {set = set} {went = went} {m = m} here k t le mv sk hm fm gs =
       let a = moves_ok p c here.x m s mv refl le here.good here.apart k.same_length k.same in
       let b = seeks_ok p c m s y sk here.seek le k.same k.inside in

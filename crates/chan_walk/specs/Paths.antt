@@ -1,0 +1,49 @@
+-- The path to a place: the shortest, and of several the one that goes to next where another goes to skip.
+use Rattle.std.specs.Prelude.{◌≡◌, ◌<◌, List, [], ◌∷◌, length, reverse, Option, None, Some, ◌⊎◌}
+use Rattle.chan_walk.specs.declared.job.Job.{Job}
+use Rattle.chan_walk.specs.declared.place.Place.{Place}
+use Rattle.chan_walk.specs.Fault.{kind_of}
+use Rattle.chan_walk.specs.Place.{word_at}
+use Rattle.chan_walk.specs.Reachable.{IsPath, IsReachable}
+use Rattle.chan_walk.specs.Successors.{next_of, skip_of}
+
+-- q is the next place after p
+abbrev pub IsNext : Job → Place → Place → Type 0
+IsNext j p q = next_of p (word_at j p) (kind_of p.entered (word_at j p)) ≡ Some q
+
+-- q is the place skipped to after p
+abbrev pub IsSkip : Job → Place → Place → Type 0
+IsSkip j p q = skip_of p (word_at j p) (kind_of p.entered (word_at j p)) ≡ Some q
+
+-- of two lists of places, the newest first: at the first place where they part, the one goes on to
+-- next and the other to skip
+abbrev pub PartsByNext : Job → List Place → List Place → Type 0
+PartsByNext j [] qs = ⊥
+PartsByNext j (p ∷ ps) [] = ⊥
+PartsByNext j (p ∷ []) (q ∷ qs) = ⊥
+PartsByNext j (p ∷ a ∷ ps) (q ∷ []) = ⊥
+PartsByNext j (p ∷ a ∷ ps) (q ∷ b ∷ qs) =
+    PartsByNext j (a ∷ ps) (b ∷ qs) ⊎ ((a ∷ ps ≡ b ∷ qs) × IsNext j a p × IsSkip j a q)
+
+-- the one is shorter, or they are equally long and the same, or part so
+abbrev pub IsFirstOf : Job → List Place → List Place → Type 0
+IsFirstOf j ps qs =
+    (length ps < length qs) ⊎ ((length ps ≡ length qs) × ((ps ≡ qs) ⊎ PartsByNext j ps qs))
+
+-- the path to a place for which P holds: before lead to last, and they are the first of all such paths
+pub record IsPathWhere (j : Job) (P : Place → Type 0) (last : Place) (before : List Place) : Type 0 where
+  pub path : IsPath j (last ∷ before)
+  pub holds : P last
+  pub first : (q : Place) (qs : List Place) → IsPath j (q ∷ qs) → P q → IsFirstOf j (last ∷ before) (q ∷ qs)
+
+-- these places, from the first place on, are the path to a place for which P holds
+pub record ArePathWhere (j : Job) (P : Place → Type 0) (places : List Place) : Type 0 where
+  pub last : Place
+  pub before : List Place
+  pub is : places ≡ reverse (last ∷ before)
+  pub path : IsPathWhere j P last before
+
+-- the path to p, from the first place on; none where p isn't reachable
+abbrev pub IsPathTo : Job → Place → Option (List Place) → Type 0
+IsPathTo j p None = IsReachable j p → ⊥
+IsPathTo j p (Some places) = ArePathWhere j (λ q. q ≡ p) places

@@ -1,0 +1,167 @@
+//! Offences: the reachable places that offend, with their reasons.
+
+ghost use Rattle.std.specs.Prelude.{◌≡◌, ◌↔◌, map, IfOk, IsTrue, OnOk};
+ghost use Rattle.std.specs.List.Sorted.{IsStrictlyIncreasing};
+ghost use Rattle.chan_walk.specs.Argument.{Has};
+ghost use Rattle.chan_walk.specs.Explored.{AreApart, HasMoreThan};
+ghost use Rattle.chan_walk.specs.Fault.{IsClear};
+ghost use Rattle.chan_walk.specs.Guard.{Guards};
+ghost use Rattle.chan_walk.specs.Least.{AreReached, IsOwn};
+ghost use Rattle.chan_walk.specs.Look.{AreLooks, IsLook, places_of_looks};
+ghost use Rattle.chan_walk.specs.Offences as listed;
+ghost use Rattle.chan_walk.specs.Offences.{AddsOffences, AreAllOffences, AreOffences, HasOffences, StoresInto};
+ghost use Rattle.chan_walk.specs.Ranges.{IsMerged};
+ghost use Rattle.chan_walk.specs.Verdict.{AreClear, Changes};
+ghost use Rattle.chan_walk.specs.declared.job.Job.{Job};
+ghost use Rattle.chan_walk.specs.declared.offence.Offence as declared;
+
+use crate::error::WalkError;
+use crate::exploring::walk_all;
+use crate::guard::Guard;
+use crate::job::Job;
+use crate::look::Look;
+use crate::place::Place;
+use crate::ranges::meets;
+use crate::reason::Reason;
+use crate::ways::way_of;
+use ccw_core::Area;
+use std::alloc::{AllocError, Global};
+
+/// A reachable place that offends, and a reason by which it does.
+#[derive(Clone, Copy, PartialEq, Eq, Debug)]
+pub struct Offence {
+    /// The place.
+    pub place: Place,
+    /// Why it offends.
+    pub reason: Reason,
+}
+
+impl Offence {
+    /// The number by which offences are in order: by address, then by the reason's number, then by
+    /// the way in which the place is entered.
+    pub(crate) fn number(&self) -> u64
+        ensures { result ≡ listed.offence_number self.now }
+    {
+        let address = u64::from(self.place.address);
+        let reason = u64::from(self.reason.number());
+        (address * 32 + reason) * 8 + u64::from(way_of(self.place))
+    }
+}
+
+/// All offences of a job: exactly the reachable places that offend, each with each of its reasons, in
+/// order of address, then of the reason's number, then of place. So the first of them is the
+/// verdict, and where there is none the verdict is yes.
+///
+/// The errors and the cost are those of `verify`.
+pub fn offences(alloc: Global, job: &Job) -> Result<Vec<Offence>, WalkError>
+    ensures all { IfOk result (λ offences. AreOffences job.now offences.items) }
+    ensures many { result ≡ Err WalkError.TooManyPlaces → HasMoreThan job.now job.now.limit }
+{
+    let looks = walk_all(alloc, job)?.looks;
+    let offences = offences_of(alloc, looks.as_slice())?;
+    Ok(offences)
+}
+
+/// The offences, in order, of a job whose reachable places are those that were looked at.
+pub(crate) fn offences_of(alloc: Global, looks: &[Look]) -> Result<Vec<Offence>, AllocError>
+    requires looks { (j : Job) × AreLooks j looks.now × AreReached j (places_of_looks looks.now) }
+    requires apart { AreApart (places_of_looks looks.now) }
+    ensures { IfOk result (λ v. (j : Job) → AreLooks j looks.now → AreReached j (places_of_looks looks.now) → AreOffences j v.items) }
+{
+    let offences = unordered(alloc, looks)?;
+    Ok(in_order(offences))
+}
+
+/// The same offences, not in order yet.
+fn unordered(alloc: Global, looks: &[Look]) -> Result<Vec<Offence>, AllocError>
+    requires looks { (j : Job) × AreLooks j looks.now }
+    requires apart { AreApart (places_of_looks looks.now) }
+    ensures { IfOk result (λ v. (j : Job) → AreLooks j looks.now → AreReached j (places_of_looks looks.now) → AreAllOffences j v.items) }
+{
+    let faults = faults_of(alloc, looks)?;
+    if !faults.is_empty() {
+        return Ok(faults);
+    }
+    let guard = Guard::of(alloc, looks)?;
+    changes_of(alloc, &guard, looks)
+}
+
+/// The own faults of the places that were looked at.
+fn faults_of(alloc: Global, looks: &[Look]) -> Result<Vec<Offence>, AllocError>
+    requires { AreApart (places_of_looks looks.now) }
+    ensures { IfOk result (λ v. (j : Job) → AreLooks j looks.now → HasOffences (IsOwn j) (places_of_looks looks.now) v.items) }
+{
+    let mut faults = Vec::new(alloc);
+    for look in looks {
+        add_fault(&mut faults, look)?;
+    }
+    Ok(faults)
+}
+
+/// Adds the own fault of a place, if it has one.
+fn add_fault(faults: &mut Vec<Offence>, look: &Look) -> Result<(), AllocError>
+    ensures { OnOk result ((j : Job) → IsLook j look.now → AddsOffences (IsOwn j) look.now.place faults.old.items faults.new.items) }
+{
+    if let Some(reason) = look.fault() {
+        faults.push(Offence {
+            place: look.place(),
+            reason,
+        })?;
+    }
+    Ok(())
+}
+
+/// What the places that were looked at, none of which has an own fault, change that is guarded.
+fn changes_of(alloc: Global, guard: &Guard, looks: &[Look]) -> Result<Vec<Offence>, AllocError>
+    requires { AreApart (places_of_looks looks.now) }
+    ensures { IfOk result (λ v. (j : Job) → AreLooks j looks.now → AreReached j (places_of_looks looks.now) → Guards j guard.now → AreClear j → HasOffences (Changes j) (places_of_looks looks.now) v.items) }
+{
+    let mut changes = Vec::new(alloc);
+    for look in looks {
+        let ccws = stores_into(guard.ccw_ranges(), look);
+        add_change(&mut changes, look, Reason::ChangesCcw, ccws)?;
+        let arguments = stores_into(guard.argument_ranges(), look);
+        add_change(&mut changes, look, Reason::ChangesArgument, arguments)?;
+    }
+    Ok(changes)
+}
+
+/// Adds a change at a place, if it is so.
+fn add_change(
+    changes: &mut Vec<Offence>,
+    look: &Look,
+    reason: Reason,
+    is_so: bool,
+) -> Result<(), AllocError>
+    ensures { OnOk result (AddsOffences (λ _ t. (t ≡ reason) × IsTrue is_so) look.now.place changes.old.items changes.new.items) }
+{
+    if is_so {
+        changes.push(Offence {
+            place: look.place(),
+            reason,
+        })?;
+    }
+    Ok(())
+}
+
+/// Whether the CCW at a place stores into some area of a merged list.
+fn stores_into(areas: &[Area], look: &Look) -> bool
+    requires { IsMerged areas.now }
+    ensures { IsTrue result ↔ StoresInto look.now areas.now }
+{
+    match look.ccw() {
+        Some(ccw) => look.stores() && meets(areas, ccw.address(), u32::from(ccw.count())),
+        None => false,
+    }
+}
+
+/// The same offences, in order.
+fn in_order(offences: Vec<Offence>) -> Vec<Offence>
+    requires { AreApart offences.items }
+    ensures ordered { IsStrictlyIncreasing (map listed.offence_number result.items) }
+    ensures same { (o : declared.Offence) → Has result.items o ↔ Has offences.items o }
+{
+    let mut offences = offences;
+    offences.sort_unstable_by_key(|offence| offence.number());
+    offences
+}

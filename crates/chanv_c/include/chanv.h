@@ -1,0 +1,224 @@
+/* chanv.h: may a System/360 channel program run, and which CCWs can it come to?
+ *
+ * Link with libchanv.a. docs/EMBEDDING.md has a whole example, and says what is proved of the two
+ * calls and what is trusted.
+ *
+ * What the caller owes:
+ *
+ * - Each pointer is valid, and aligned for its type, for as many elements as the length beside it
+ *   says. Where that length is 0 it may be NULL. `job`, `out` and `count` are never NULL.
+ * - `out`, `rows` and `count` lie apart from each other, from the job and from all that it points to.
+ * - From the call to its return nobody writes the job or anything that it points to, and nobody
+ *   touches what the call writes. In an emulator the threads of the processors and of the channels
+ *   write storage: stop them, or copy storage and ask about the copy.
+ * - No call is made from a signal handler, nor, in the child of a process with threads, between
+ *   fork and exec.
+ * - malloc, realloc and free are those of one allocator, and aligned as C asks.
+ *
+ * A call writes nothing of the caller's but what it was handed for that. It keeps nothing between
+ * calls, so several threads may call at once, also about one job.
+ */
+#ifndef CHANV_H
+#define CHANV_H
+
+#include <stddef.h>
+#include <stdint.h>
+
+#ifdef __cplusplus
+extern "C" {
+#endif
+
+/* An area of storage. It may be empty, and it may reach past storage. */
+struct chanv_area {
+    uint32_t start; /* the address of its first byte */
+    uint32_t len;   /* how many bytes it has */
+};
+
+/* Whole cylinders of the file. */
+struct chanv_extent {
+    uint16_t first;
+    uint16_t last;
+};
+
+struct chanv_bytes {
+    const uint8_t *at;
+    size_t len;
+};
+
+struct chanv_extents {
+    const struct chanv_extent *at;
+    size_t len;
+};
+
+struct chanv_areas {
+    const struct chanv_area *at;
+    size_t len;
+};
+
+/* A channel program before its start, and all that it may use. */
+struct chanv_job {
+    struct chanv_bytes storage;   /* main storage from address 0 on, as it stands */
+    struct chanv_extents extents; /* the cylinders of the file, one extent or more */
+    struct chanv_areas fetch;     /* lent for fetching, from storage to the device */
+    struct chanv_areas store;     /* lent for storing, from the device into storage */
+    uint32_t start;               /* the address of the first CCW */
+    uint32_t limit;               /* how many places may be reachable, 1 to 65,536 */
+    uint16_t device;              /* 2311 or 2314 */
+    uint8_t mask;                 /* the file mask that the supervisor set */
+};
+
+/* A limit that serves where nothing else is asked for, and the largest. */
+enum { CHANV_USUAL_LIMIT = 4096, CHANV_LARGEST_LIMIT = 65536 };
+
+/* What a call returns. 4 to 10 are faults of the job itself; if several apply, the least is returned, and
+ * a job with a fault gets no answer. CHANV_MEMORY may come in place of any of the others. */
+enum {
+    CHANV_YES = 0,                 /* every run of the program is safe */
+    CHANV_LISTED = 0,              /* the places are listed */
+    CHANV_NO = 1,                  /* `address` and `reason` say which CCW offends first, and why */
+    CHANV_TOO_MANY_PLACES = 2,     /* more places are reachable than the limit */
+    CHANV_MEMORY = 3,              /* memory ran out */
+    CHANV_STORAGE_TOO_LARGE = 4,   /* storage has more than 16,777,216 bytes */
+    CHANV_NOT_A_DEVICE = 5,        /* there is no such device */
+    CHANV_NOT_A_MASK = 6,          /* a bit of the mask is on that isn't in C0 or 18 */
+    CHANV_NO_EXTENT = 7,           /* there is no extent */
+    CHANV_EXTENT_BACKWARDS = 8,    /* the first extent that is wrong: its first cylinder is above its last */
+    CHANV_EXTENT_PAST_DEVICE = 9,  /* the first extent that is wrong: its last cylinder is above 202 */
+    CHANV_NOT_A_LIMIT = 10,        /* the limit is 0, or above 65,536 */
+    CHANV_NO_ROOM = 11             /* there are more places than rows */
+};
+
+/* What `chanv_verify` tells; a field that the answer doesn't use is 0. */
+struct chanv_verdict {
+    size_t extent;    /* the index of the extent that is wrong, counted from 0 */
+    uint32_t address; /* the address of the first offending CCW */
+    uint32_t reason;  /* the number of its reason, 1 to 16 */
+};
+
+/* How a CCW is entered: by a new operation, or by a data chain that goes on with an operation that
+ * stores, that fetches, or that searches. */
+enum { CHANV_FRESH = 0, CHANV_CHAIN_IN = 1, CHANV_CHAIN_OUT = 2, CHANV_CHAIN_SEARCH = 3 };
+
+/* A place that the program can come to: a CCW, and the way in which it is entered. */
+struct chanv_place {
+    uint32_t address;       /* the address of the CCW */
+    uint8_t entered;        /* how it is entered */
+    uint8_t after_transfer; /* 1 if it counts as reached by a transfer in channel, else 0 */
+};
+
+/* Whether the program may run: CHANV_YES, CHANV_NO, or why there is no answer. */
+uint32_t chanv_verify(const struct chanv_job *job, struct chanv_verdict *out);
+
+/* Lists the places that the program can come to, each once, by address, then by `entered`, then by
+ * `after_transfer`. CHANV_LISTED: the first `*count` rows are written, and those behind them stand
+ * as they did. CHANV_NO_ROOM: `*count` is how many rows there would be. Else it returns why there
+ * is no answer, and `*count` is the index of the extent that is wrong, or 0. Only for CHANV_LISTED
+ * is a row written. There are never more places than the job's limit. */
+uint32_t chanv_list(const struct chanv_job *job, struct chanv_place *rows, size_t room, size_t *count);
+
+/* The word for a reason, or "" for a number that is none. */
+static inline const char *chanv_reason_word(uint32_t reason)
+{
+    static const char *const words[] = {
+        "",
+        "misaligned",
+        "outside-storage",
+        "transfer-not-allowed",
+        "invalid-code",
+        "bad-format",
+        "zero-count",
+        "data-outside",
+        "not-in-table",
+        "inhibited",
+        "store-not-lent",
+        "fetch-not-lent",
+        "short-seek",
+        "seek-outside",
+        "changes-ccw",
+        "changes-argument",
+        "weakens-mask",
+    };
+    return reason < sizeof words / sizeof *words ? words[reason] : "";
+}
+
+/* The library takes a pointer for each list, also for an empty one. The rest of this header gives it
+ * one where the caller has NULL, before each call. */
+
+static inline struct chanv_job chanv_without_null(const struct chanv_job *job)
+{
+    static const uint64_t nothing = 0;
+    struct chanv_job whole = *job;
+    if (whole.storage.len == 0)
+        whole.storage.at = (const uint8_t *)&nothing;
+    if (whole.extents.len == 0)
+        whole.extents.at = (const struct chanv_extent *)&nothing;
+    if (whole.fetch.len == 0)
+        whole.fetch.at = (const struct chanv_area *)&nothing;
+    if (whole.store.len == 0)
+        whole.store.at = (const struct chanv_area *)&nothing;
+    return whole;
+}
+
+static inline uint32_t chanv_verify_or_null(const struct chanv_job *job, struct chanv_verdict *out)
+{
+    struct chanv_job whole = chanv_without_null(job);
+    return chanv_verify(&whole, out);
+}
+
+static inline uint32_t chanv_list_or_null(const struct chanv_job *job, struct chanv_place *rows, size_t room,
+                                          size_t *count)
+{
+    struct chanv_job whole = chanv_without_null(job);
+    struct chanv_place none;
+    return chanv_list(&whole, room == 0 ? &none : rows, room, count);
+}
+
+#define chanv_verify chanv_verify_or_null
+#define chanv_list chanv_list_or_null
+
+/* The layout that the library was built with. */
+#ifdef __cplusplus
+#define CHANV_ASSERT static_assert
+#else
+#define CHANV_ASSERT _Static_assert
+#endif
+CHANV_ASSERT(sizeof(void *) == 8 && sizeof(size_t) == 8, "the library is built for 64 bits");
+CHANV_ASSERT(sizeof(struct chanv_area) == 8, "chanv_area");
+CHANV_ASSERT(offsetof(struct chanv_area, start) == 0, "chanv_area.start");
+CHANV_ASSERT(offsetof(struct chanv_area, len) == 4, "chanv_area.len");
+CHANV_ASSERT(sizeof(struct chanv_extent) == 4, "chanv_extent");
+CHANV_ASSERT(offsetof(struct chanv_extent, first) == 0, "chanv_extent.first");
+CHANV_ASSERT(offsetof(struct chanv_extent, last) == 2, "chanv_extent.last");
+CHANV_ASSERT(sizeof(struct chanv_bytes) == 16, "chanv_bytes");
+CHANV_ASSERT(offsetof(struct chanv_bytes, at) == 0, "chanv_bytes.at");
+CHANV_ASSERT(offsetof(struct chanv_bytes, len) == 8, "chanv_bytes.len");
+CHANV_ASSERT(sizeof(struct chanv_extents) == 16, "chanv_extents");
+CHANV_ASSERT(offsetof(struct chanv_extents, at) == 0, "chanv_extents.at");
+CHANV_ASSERT(offsetof(struct chanv_extents, len) == 8, "chanv_extents.len");
+CHANV_ASSERT(sizeof(struct chanv_areas) == 16, "chanv_areas");
+CHANV_ASSERT(offsetof(struct chanv_areas, at) == 0, "chanv_areas.at");
+CHANV_ASSERT(offsetof(struct chanv_areas, len) == 8, "chanv_areas.len");
+CHANV_ASSERT(sizeof(struct chanv_job) == 80, "chanv_job");
+CHANV_ASSERT(offsetof(struct chanv_job, storage) == 0, "chanv_job.storage");
+CHANV_ASSERT(offsetof(struct chanv_job, extents) == 16, "chanv_job.extents");
+CHANV_ASSERT(offsetof(struct chanv_job, fetch) == 32, "chanv_job.fetch");
+CHANV_ASSERT(offsetof(struct chanv_job, store) == 48, "chanv_job.store");
+CHANV_ASSERT(offsetof(struct chanv_job, start) == 64, "chanv_job.start");
+CHANV_ASSERT(offsetof(struct chanv_job, limit) == 68, "chanv_job.limit");
+CHANV_ASSERT(offsetof(struct chanv_job, device) == 72, "chanv_job.device");
+CHANV_ASSERT(offsetof(struct chanv_job, mask) == 74, "chanv_job.mask");
+CHANV_ASSERT(sizeof(struct chanv_verdict) == 16, "chanv_verdict");
+CHANV_ASSERT(offsetof(struct chanv_verdict, extent) == 0, "chanv_verdict.extent");
+CHANV_ASSERT(offsetof(struct chanv_verdict, address) == 8, "chanv_verdict.address");
+CHANV_ASSERT(offsetof(struct chanv_verdict, reason) == 12, "chanv_verdict.reason");
+CHANV_ASSERT(sizeof(struct chanv_place) == 8, "chanv_place");
+CHANV_ASSERT(offsetof(struct chanv_place, address) == 0, "chanv_place.address");
+CHANV_ASSERT(offsetof(struct chanv_place, entered) == 4, "chanv_place.entered");
+CHANV_ASSERT(offsetof(struct chanv_place, after_transfer) == 5, "chanv_place.after_transfer");
+#undef CHANV_ASSERT
+
+#ifdef __cplusplus
+}
+#endif
+
+#endif

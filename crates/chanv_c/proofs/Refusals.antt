@@ -1,0 +1,25 @@
+-- What a refusal's number tells.
+use Rattle.std.proofs.Common.{◌≡◌, arith}
+use Rattle.chanv_c.specs.declared.asked.CJob.{CJob}
+use Rattle.chanv_c.specs.declared.refusal.JobFault.{JobFault}
+use Rattle.chanv_c.specs.declared.refusal.JobFault.TheVariants.{StorageTooLarge, NotADevice, NotAMask, NoExtent, ExtentBackwards, ExtentPastDevice, NotALimit}
+use Rattle.chanv_c.specs.declared.refusal.Refusal.{Refusal}
+use Rattle.chanv_c.specs.declared.refusal.Refusal.TheVariants.{TooManyPlaces, Memory, Wrong}
+use Rattle.chanv_c.specs.Answers.{HasTooMany, IsRefusal, refusal_code}
+use Rattle.chanv_c.specs.Faults.{fault_code}
+
+-- no fault has the number of too many places
+not_too_many : (f : JobFault) → fault_code f ≡ 2 → ⊥
+not_too_many StorageTooLarge e = omega (arith, e)
+not_too_many NotADevice e = omega (arith, e)
+not_too_many NotAMask e = omega (arith, e)
+not_too_many NoExtent e = omega (arith, e)
+not_too_many (ExtentBackwards i) e = omega (arith, e)
+not_too_many (ExtentPastDevice i) e = omega (arith, e)
+not_too_many NotALimit e = omega (arith, e)
+
+-- a refusal of this number is that of too many places
+pub too_many_by_number : (c : CJob) (r : Refusal) → IsRefusal c r → refusal_code r ≡ 2 → HasTooMany c
+too_many_by_number c TooManyPlaces is e = is.0
+too_many_by_number c Memory is e = absurd (omega (arith, e))
+too_many_by_number c (Wrong f) is e = absurd (not_too_many f e)

@@ -1,0 +1,33 @@
+-- A row is written where the rows so far end.
+use Rattle.std.proofs.Common.{◌≡◌, ◌<◌, ◌++◌, ℕ, zero, suc, ◌+◌, Some, None, List, [], ◌∷◌, drop, length, map, take, set, slice_get, ap, sym, ◌∙◌, arith}
+use Rattle.chanv_c.specs.Answers.{row}
+use Rattle.chanv_c.proofs.rows.write_rows.Goals as goal
+use Rattle.chanv_c.proofs.rows.write_rows.Goals.{in-Some, in_default}
+
+one_more : {X Y : Type 0} (f : X → Y) (xs : List X) (ys : List Y) (i : ℕ) (x : X) → slice_get xs i ≡ Some x → i < length ys
+    → set (map f (take i xs) ++ drop i ys) i (f x) ≡ map f (take (suc i) xs) ++ drop (suc i) ys
+one_more f [] ys i x is within = absurd cc
+one_more f (z ∷ xs) [] i x is within = absurd (omega (arith, within))
+one_more f (z ∷ xs) (y ∷ ys) zero x is within = let same : z ≡ x = cc in ap (λ w. f w ∷ ys) (sym same)
+one_more f (z ∷ xs) (y ∷ ys) (suc i) x is within = let h : i < length ys = omega (arith, within) in ap (λ l. f z ∷ l) (one_more f xs ys i x is h)
+
+-- an index below the length has an element
+present : {X : Type 0} (xs : List X) (i : ℕ) → i < length xs → slice_get xs i ≡ None → ⊥
+present [] i within none = omega (arith, within)
+present (x ∷ xs) zero within none = absurd cc
+present (x ∷ xs) (suc i) within none = present xs i (omega (arith, within)) none
+
+pub loop-index-preserved : goal.loop-index-preserved
+loop-index-preserved c =
+    let within : c.loop-index.index < length c.args.found.now = omega (arith, c.loop-index-test.true, c.len-index-end.ensures) in
+    let room : c.loop-index.index < length c.args.rows.now = omega (arith, within, c.requires) in
+    let next : suc c.loop-index.index ≡ c.loop-index.index + 1 = omega arith in
+    elim c.match-place.branch [
+      | in-Some w ↦
+          let there = sym c.place.ensures ∙ w.in-Some.is in
+          w.rows-is ∙ ap (λ l. set l c.loop-index.index w.row_of.result) c.loop-index.invariant
+          ∙ ap (set (map row (take c.loop-index.index c.args.found.now) ++ drop c.loop-index.index c.args.rows.now) c.loop-index.index) w.row_of.ensures
+          ∙ one_more row c.args.found.now c.args.rows.now c.loop-index.index w.in-Some.place there room
+          ∙ ap (λ n. map row (take n c.args.found.now) ++ drop n c.args.rows.now) next
+      | in_default w ↦ absurd (present c.args.found.now c.loop-index.index within (sym c.place.ensures ∙ w.in_default.is))
+    ]

@@ -1,0 +1,80 @@
+-- What the answers to C promise.
+use Rattle.std.specs.Prelude.{◌≡◌, ℕ, List, ◌++◌, drop, length, map}
+use Rattle.chan_walk.specs.declared.job.Job.{Job}
+use Rattle.chan_walk.specs.declared.place.Place.{Place}
+use Rattle.chan_walk.specs.declared.reason.Reason.{Reason}
+use Rattle.chan_walk.specs.declared.verdict.Verdict.{Verdict}
+use Rattle.chan_walk.specs.declared.verdict.Verdict.TheVariants.{No}
+use Rattle.chan_walk.specs.Answers.{IsSound, HasAtMost, HasWitness, IsComplete}
+use Rattle.chan_walk.specs.Explored.{AreReachable, HasMoreThan, entry_number, transfer_number}
+use Rattle.chan_walk.specs.Reason.{number_of}
+use Rattle.chan_walk.specs.Verdict.{IsVerdict}
+use Rattle.chanv_c.specs.declared.asked.CJob.{CJob}
+use Rattle.chanv_c.specs.declared.refusal.Refusal.{Refusal}
+use Rattle.chanv_c.specs.declared.refusal.Refusal.TheVariants.{TooManyPlaces, Memory, Wrong}
+use Rattle.chanv_c.specs.declared.rows.CPlace.{CPlace}
+use Rattle.chanv_c.specs.Asked.{IsJobOf}
+use Rattle.chanv_c.specs.Faults.{HasNoFault, IsFirstFault, fault_code, fault_extent}
+
+-- the verdict on the job that C asks about, with all that `verify` says of a verdict
+pub record IsJudged (c : CJob) (v : Verdict) : Type 0 where
+  pub job : Job
+  pub asked : IsJobOf c job
+  pub verdict : IsVerdict job v
+  pub safe : IsSound job v
+  pub shown : HasWitness job v
+  pub exact : IsComplete job v
+  pub few : HasAtMost job c.limit
+
+-- the verdict is no, with this address and the reason of this number
+pub record IsDenied (c : CJob) (address number : ℕ) : Type 0 where
+  pub reason : Reason
+  pub number_is : number_of reason ≡ number
+  pub judged : IsJudged c (No address reason)
+
+-- more places are reachable than the limit
+pub record HasTooMany (c : CJob) : Type 0 where
+  pub job : Job
+  pub asked : IsJobOf c job
+  pub many : HasMoreThan job c.limit
+
+-- the row of a place
+abbrev pub row : Place → CPlace
+row p = record { address = p.address; entered = entry_number p.entered; after_transfer = transfer_number p.after_transfer }
+
+-- the reachable places, each once, in order
+pub record AreFound (c : CJob) (places : List Place) : Type 0 where
+  pub job : Job
+  pub asked : IsJobOf c job
+  pub are : AreReachable job places
+
+-- so many places are reachable
+pub record HasPlaces (c : CJob) (count : ℕ) : Type 0 where
+  pub places : List Place
+  pub found : AreFound c places
+  pub count_is : length places ≡ count
+
+-- the rows of the reachable places, so many, stand first; what stood behind them stands there still
+pub record AreListed (c : CJob) (count : ℕ) (old new : List CPlace) : Type 0 where
+  pub places : List Place
+  pub found : AreFound c places
+  pub count_is : length places ≡ count
+  pub rows : new ≡ map row places ++ drop count old
+
+-- the number of a refusal in the header
+abbrev pub refusal_code : Refusal → ℕ
+refusal_code TooManyPlaces = 2
+refusal_code Memory = 3
+refusal_code (Wrong f) = fault_code f
+
+-- the index of the extent that is wrong, else 0
+abbrev pub refusal_extent : Refusal → ℕ
+refusal_extent TooManyPlaces = 0
+refusal_extent Memory = 0
+refusal_extent (Wrong f) = fault_extent f
+
+-- what a refusal says of the job; that an allocation was refused says nothing of it
+abbrev pub IsRefusal : CJob → Refusal → Type 0
+IsRefusal c TooManyPlaces = HasTooMany c × HasNoFault c
+IsRefusal c Memory = Unit {0}
+IsRefusal c (Wrong f) = IsFirstFault c f

@@ -1,0 +1,59 @@
+-- What can be wrong with a job as C gives it, and which of it counts.
+use Rattle.std.specs.Prelude.{◌≡◌, ◌≢◌, ℕ, ◌<◌, false, [], length}
+use Rattle.ckd_core.specs.Faults.{IsBackwards, IsFirstWrong, IsPastDevice}
+use Rattle.ckd_core.specs.Mask.{is_mask}
+use Rattle.chan_walk.specs.Limit.{IsLimit}
+use Rattle.chanv_c.specs.declared.asked.CJob.{CJob}
+use Rattle.chanv_c.specs.declared.refusal.JobFault.{JobFault}
+use Rattle.chanv_c.specs.declared.refusal.JobFault.TheVariants.{StorageTooLarge, NotADevice, NotAMask, NoExtent, ExtentBackwards, ExtentPastDevice, NotALimit}
+use Rattle.chanv_c.specs.Asked.{extents_asked}
+
+-- this is wrong with the job; of the extents only the first from the left that is wrong is named, counted from 0
+abbrev pub Applies : CJob → JobFault → Type 0
+Applies c StorageTooLarge = 16777216 < length c.storage.now
+Applies c NotADevice = (c.device ≢ 2311) × (c.device ≢ 2314)
+Applies c NotAMask = is_mask c.mask ≡ false
+Applies c NoExtent = extents_asked c ≡ []
+Applies c (ExtentBackwards i) = IsFirstWrong IsBackwards (extents_asked c) i
+Applies c (ExtentPastDevice i) = IsFirstWrong IsPastDevice (extents_asked c) i
+Applies c NotALimit = IsLimit c.limit → ⊥
+
+-- the number of a fault in the header, by whose order the first fault is the one that counts
+abbrev pub fault_code : JobFault → ℕ
+fault_code StorageTooLarge = 4
+fault_code NotADevice = 5
+fault_code NotAMask = 6
+fault_code NoExtent = 7
+fault_code (ExtentBackwards i) = 8
+fault_code (ExtentPastDevice i) = 9
+fault_code NotALimit = 10
+
+-- the index of the extent that is wrong, else 0
+abbrev pub fault_extent : JobFault → ℕ
+fault_extent StorageTooLarge = 0
+fault_extent NotADevice = 0
+fault_extent NotAMask = 0
+fault_extent NoExtent = 0
+fault_extent (ExtentBackwards i) = i
+fault_extent (ExtentPastDevice i) = i
+fault_extent NotALimit = 0
+
+-- no fault with a number below n applies
+abbrev pub HasNoneBelow : CJob → ℕ → Type 0
+HasNoneBelow c n = (f : JobFault) → fault_code f < n → Applies c f → ⊥
+
+-- nothing is wrong with the job
+abbrev pub HasNoFault : CJob → Type 0
+HasNoFault c = (f : JobFault) → Applies c f → ⊥
+
+-- the fault applies, and none before it
+pub record IsFirstFault (c : CJob) (f : JobFault) : Type 0 where
+  pub applies : Applies c f
+  pub first : HasNoneBelow c (fault_code f)
+
+-- the first fault of the job has this number, and names this extent
+pub record IsRefused (c : CJob) (code extent : ℕ) : Type 0 where
+  pub fault : JobFault
+  pub code_is : fault_code fault ≡ code
+  pub extent_is : fault_extent fault ≡ extent
+  pub first : IsFirstFault c fault

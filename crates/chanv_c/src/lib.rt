@@ -1,0 +1,15 @@
+//! chanv for C: a supervisor asks whether a channel program may run, and which CCWs it can come to.
+//!
+//! `include/chanv.h` declares what this library exports, and says what a caller owes.
+#![tactic(auto)]
+
+mod asked;
+mod listing;
+mod refusal;
+mod rows;
+mod verifying;
+
+pub use crate::asked::{CExtent, CJob};
+pub use crate::listing::chanv_list;
+pub use crate::rows::CPlace;
+pub use crate::verifying::{CVerdict, chanv_verify};

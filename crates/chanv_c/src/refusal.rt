@@ -1,0 +1,85 @@
+//! Why C gets no answer.
+
+ghost use Rattle.std.specs.Prelude.{◌≡◌};
+ghost use Rattle.chanv_c.specs.Answers.{refusal_code, refusal_extent};
+ghost use Rattle.chanv_c.specs.Faults.{fault_code, fault_extent};
+
+/// What is wrong with a job as C gives it, in the order in which it counts.
+#[derive(Clone, Copy)]
+pub enum JobFault {
+    /// Storage has more than 16,777,216 bytes.
+    StorageTooLarge,
+    /// There is no device of this number.
+    NotADevice,
+    /// The byte is no file mask.
+    NotAMask,
+    /// There is no extent.
+    NoExtent,
+    /// The extent of this index is the first that is wrong: its first cylinder is above its last.
+    ExtentBackwards(usize),
+    /// The extent of this index is the first that is wrong: it ends past the device.
+    ExtentPastDevice(usize),
+    /// The limit is 0, or above 65,536.
+    NotALimit,
+}
+
+impl JobFault {
+    /// The fault's number in the header.
+    fn code(self) -> u32
+        ensures { result ≡ fault_code self }
+    {
+        match self {
+            JobFault::StorageTooLarge => 4,
+            JobFault::NotADevice => 5,
+            JobFault::NotAMask => 6,
+            JobFault::NoExtent => 7,
+            JobFault::ExtentBackwards(_) => 8,
+            JobFault::ExtentPastDevice(_) => 9,
+            JobFault::NotALimit => 10,
+        }
+    }
+
+    /// The index of the extent that is wrong, or 0.
+    fn extent(self) -> usize
+        ensures { result ≡ fault_extent self }
+    {
+        match self {
+            JobFault::ExtentBackwards(index) | JobFault::ExtentPastDevice(index) => index,
+            _ => 0,
+        }
+    }
+}
+
+/// Why there is no answer.
+#[derive(Clone, Copy)]
+pub enum Refusal {
+    /// More places are reachable than the job's limit.
+    TooManyPlaces,
+    /// An allocation was refused.
+    Memory,
+    /// The job is none.
+    Wrong(JobFault),
+}
+
+impl Refusal {
+    /// The refusal's number in the header.
+    pub(crate) fn code(self) -> u32
+        ensures { result ≡ refusal_code self }
+    {
+        match self {
+            Refusal::TooManyPlaces => 2,
+            Refusal::Memory => 3,
+            Refusal::Wrong(fault) => fault.code(),
+        }
+    }
+
+    /// The index of the extent that is wrong, or 0.
+    pub(crate) fn extent(self) -> usize
+        ensures { result ≡ refusal_extent self }
+    {
+        match self {
+            Refusal::Wrong(fault) => fault.extent(),
+            _ => 0,
+        }
+    }
+}

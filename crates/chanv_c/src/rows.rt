@@ -1,0 +1,43 @@
+//! The rows of a listing.
+
+ghost use Rattle.std.specs.Prelude.{◌≡◌, ◌≤◌, ◌++◌, drop, length, map};
+ghost use Rattle.chanv_c.specs.Answers.{row};
+
+use chan_walk::{Entry, Explored, Place};
+
+/// `struct chanv_place`.
+#[repr(C)]
+#[derive(Clone, Copy)]
+pub struct CPlace {
+    pub address: u32,
+    pub entered: u8,
+    pub after_transfer: u8,
+}
+
+/// The row of a place.
+fn row_of(place: Place) -> CPlace
+    ensures { result ≡ row place }
+{
+    CPlace {
+        address: place.address,
+        entered: match place.entered {
+            Entry::Fresh => 0,
+            Entry::ChainIn => 1,
+            Entry::ChainOut => 2,
+            Entry::ChainSearch => 3,
+        },
+        after_transfer: u8::from(place.after_transfer),
+    }
+}
+
+/// Writes the rows of the places, and leaves what is behind them as it is.
+pub(crate) fn write_rows(found: &Explored, rows: &mut [CPlace])
+    requires { length found.now ≤ length rows.old }
+    ensures { rows.new ≡ map row found.now ++ drop (length found.now) rows.old }
+{
+    for index in 0..found.len() {
+        if let Some(place) = found.place(index) {
+            rows[index] = row_of(place);
+        }
+    }
+}

@@ -1,0 +1,52 @@
+/* Asks about the usual search loop before it is started, and lists the CCWs that it can come to. */
+#include <chanv.h>
+#include <stdio.h>
+
+/* Puts a CCW where it belongs: the high byte comes first. */
+static void put(uint8_t *storage, uint32_t address, uint64_t ccw)
+{
+    for (int i = 0; i < 8; i++)
+        storage[address + i] = (uint8_t)(ccw >> (56 - 8 * i));
+}
+
+int main(void)
+{
+    static uint8_t storage[0x1000];
+    put(storage, 0x800, 0x3100090040000005); /* search for the record named at 000900 */
+    put(storage, 0x808, 0x0800080000000000); /* not this one: go back and try the next */
+    put(storage, 0x810, 0x06000A0020000050); /* found: read its 80 bytes to 000A00 */
+
+    struct chanv_extent cylinders[] = {{10, 19}};
+    struct chanv_area fetch[] = {{0x900, 0x10}};
+    struct chanv_area store[] = {{0xA00, 0x100}};
+    struct chanv_job job = {
+        .storage = {storage, sizeof storage},
+        .extents = {cylinders, 1},
+        .fetch = {fetch, 1},
+        .store = {store, 1},
+        .start = 0x800,
+        .limit = CHANV_USUAL_LIMIT,
+        .device = 2314,
+        .mask = 0x00,
+    };
+
+    struct chanv_verdict verdict;
+    uint32_t answer = chanv_verify(&job, &verdict);
+    if (answer == CHANV_NO) {
+        printf("no %06X %s\n", verdict.address, chanv_reason_word(verdict.reason));
+        return 1;
+    }
+    if (answer != CHANV_YES) {
+        printf("no answer: %u\n", answer);
+        return 2;
+    }
+    printf("yes\n");
+
+    struct chanv_place places[16];
+    size_t count;
+    if (chanv_list(&job, places, 16, &count) != CHANV_LISTED)
+        return 2;
+    for (size_t i = 0; i < count; i++)
+        printf("%06X entered %u\n", places[i].address, places[i].entered);
+    return 0;
+}

@@ -1,0 +1,87 @@
+/* Reads a deck from standard input, and asks about its job.
+ *
+ *     decks verify    prints the verdict, as `chanv verify` does
+ *     decks list      prints address, entry and mark of each place, as `chanv list` begins its rows
+ *     decks count     prints how many places there are, asked with no room for any
+ *
+ * It reads decks that are known to be decks: it looks for no error in them.
+ */
+#include <chanv.h>
+#include <inttypes.h>
+#include <stdio.h>
+#include <stdlib.h>
+#include <string.h>
+
+enum { MOST = 64 };
+
+static struct chanv_extent extents[MOST];
+static struct chanv_area fetch[MOST], store[MOST];
+
+static struct chanv_job read_deck(void)
+{
+    struct chanv_job job = {.extents = {extents, 0}, .fetch = {fetch, 0}, .store = {store, 0}};
+    uint8_t *storage = NULL;
+    char line[128];
+    job.limit = CHANV_USUAL_LIMIT;
+    while (fgets(line, sizeof line, stdin)) {
+        uint32_t a = 0, b = 0;
+        uint16_t first, last;
+        uint64_t ccw;
+        if (sscanf(line, "device %" SCNu16, &job.device) == 1 || sscanf(line, "mask %" SCNx8, &job.mask) == 1
+            || sscanf(line, "start %" SCNx32, &job.start) == 1 || sscanf(line, "limit %" SCNu32, &job.limit) == 1)
+            continue;
+        if (sscanf(line, "extent %" SCNu16 " %" SCNu16, &first, &last) == 2)
+            extents[job.extents.len++] = (struct chanv_extent){first, last};
+        else if (sscanf(line, "fetch %" SCNx32 " %" SCNx32, &a, &b) == 2)
+            fetch[job.fetch.len++] = (struct chanv_area){a, b};
+        else if (sscanf(line, "store %" SCNx32 " %" SCNx32, &a, &b) == 2)
+            store[job.store.len++] = (struct chanv_area){a, b};
+        else if (sscanf(line, "storage %" SCNx32, &a) == 1)
+            storage = calloc(a + 1, 1), job.storage = (struct chanv_bytes){storage, a};
+        else if (sscanf(line, "put %" SCNx32 " %" SCNx64, &a, &ccw) == 2)
+            for (int i = 0; i < 8; i++)
+                storage[a + i] = (uint8_t)(ccw >> (56 - 8 * i));
+        if (job.extents.len == MOST || job.fetch.len == MOST || job.store.len == MOST)
+            exit(4);
+    }
+    return job;
+}
+
+static uint32_t verify(const struct chanv_job *job)
+{
+    struct chanv_verdict verdict;
+    uint32_t answer = chanv_verify(job, &verdict);
+    if (answer == CHANV_YES)
+        puts("yes");
+    else if (answer == CHANV_NO)
+        printf("no %06" PRIX32 " %s\n", verdict.address, chanv_reason_word(verdict.reason));
+    else
+        printf("no answer: %" PRIu32 "\n", answer);
+    return answer;
+}
+
+static uint32_t list(const struct chanv_job *job)
+{
+    static const char *const entries[] = {"fresh", "in", "out", "search"};
+    static struct chanv_place rows[CHANV_LARGEST_LIMIT];
+    size_t count;
+    uint32_t answer = chanv_list(job, rows, CHANV_LARGEST_LIMIT, &count);
+    for (size_t i = 0; answer == CHANV_LISTED && i < count; i++)
+        printf("%06" PRIX32 " %s %c\n", rows[i].address, entries[rows[i].entered],
+               rows[i].after_transfer ? 't' : '-');
+    return answer;
+}
+
+int main(int argc, char **argv)
+{
+    struct chanv_job job = read_deck();
+    const char *action = argc > 1 ? argv[1] : "verify";
+    size_t count;
+    if (strcmp(action, "verify") == 0)
+        return (int)verify(&job);
+    if (strcmp(action, "list") == 0)
+        return (int)list(&job);
+    uint32_t answer = chanv_list(&job, NULL, 0, &count);
+    printf("%zu\n", count);
+    return (int)answer;
+}
