@@ -53,7 +53,8 @@ short_address n bytes e lt z =
     ap last_six e ∙ last_digits n ∙ sym (six_digits n (omega arith))
 
 -- one whose first byte has one digit
-pub middle_address : (n : ℕ) (bytes : List ℕ) (k : ℕ) → bytes ≡ to_be_bytes w32 n → n < 2 ^ 32 → (0 < get_or bytes 0 0) × (get_or bytes 0 0 < 16) → k ≡ get_or bytes 0 0
+pub middle_address : (n : ℕ) (bytes : List ℕ) (k : ℕ) → bytes ≡ to_be_bytes w32 n → n < 2 ^ 32
+    → (0 < get_or bytes 0 0) × (get_or bytes 0 0 < 16) → k ≡ get_or bytes 0 0
     → encode_utf8 (slice_index upper_digits k) ++ last_six bytes ≡ address_text n
 middle_address n bytes k e lt some h =
     let first : get_or bytes 0 0 ≡ n / 16777216 % 256 = ap (λ b. get_or b 0 0) e in

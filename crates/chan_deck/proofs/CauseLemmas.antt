@@ -175,14 +175,18 @@ size_filling h es fs ss n P =
 above_put : (b reach a : ℕ) → b + 8 ≡ reach → reach % 8 ≡ 0 → (a % 8 == 0 && nat_le reach a) ≡ (a % 8 == 0 && nat_lt b a)
 above_put b reach a e al = grind (arith, nat_tests)
 
-above_last : (h : Heading) (es : List (ℕ × ℕ)) (fs ss : List Area) (n : ℕ) (bytes : List ℕ) (o : Option Item) (a : ℕ) → Ends (Filling h es fs ss n bytes) o → length bytes % 8 ≡ 0
+above_last : (h : Heading) (es : List (ℕ × ℕ)) (fs ss : List Area) (n : ℕ) (bytes : List ℕ)
+    (o : Option Item) (a : ℕ)
+    → Ends (Filling h es fs ss n bytes) o → length bytes % 8 ≡ 0
     → (a % 8 == 0 && nat_le (length bytes) a) ≡ (a % 8 == 0 && is_above o a)
 above_last _ _ _ _ _ _ _ a (at_storage h es fs ss n) al = ap (λ b. a % 8 == 0 && b) (le-leb 0 a (omega arith))
 above_last _ _ _ _ _ _ _ a (at_put h es fs ss n bytes b w e) al = above_put b (length bytes) a e al
 
 -- the address that reading takes is one that a put may have
-place_said : (h : Heading) (es : List (ℕ × ℕ)) (fs ss : List Area) (n : ℕ) (bytes : List ℕ) (a : ℕ) → IsState (Filling h es fs ss n bytes)
-    → (a % 8 == 0 && nat_le (length bytes) a && nat_le (a + 8) n) ≡ is_place (said (Filling h es fs ss n bytes)) a
+place_said : (h : Heading) (es : List (ℕ × ℕ)) (fs ss : List Area) (n : ℕ) (bytes : List ℕ) (a : ℕ)
+    → IsState (Filling h es fs ss n bytes)
+    → (a % 8 == 0 && nat_le (length bytes) a && nat_le (a + 8) n)
+    ≡ is_place (said (Filling h es fs ss n bytes)) a
 place_said h es fs ss n bytes a is =
     let before = said (Filling h es fs ss n bytes) in
     ap (λ b. b && nat_le (a + 8) n) (above_last h es fs ss n bytes (last_of before) a is.ends is.right.1.words)
@@ -224,7 +228,9 @@ in_order l a b c d says other ordered back =
     let last : b ≡ d = cc in
     absurd (omega arith)
 
-extent_cause : (h : Heading) (es : List (ℕ × ℕ)) (fs ss : List Area) (l : List ℕ) (a b : ℕ) (c : Cause) → IsState (Listing h es fs ss) → IsTold (said (Listing h es fs ss)) l (extent a b)
+extent_cause : (h : Heading) (es : List (ℕ × ℕ)) (fs ss : List Area) (l : List ℕ) (a b : ℕ)
+    (c : Cause)
+    → IsState (Listing h es fs ss) → IsTold (said (Listing h es fs ss)) l (extent a b)
     → judged (Listing h es fs ss) (extent a b) ≡ bad c → For (Listing h es fs ss) l c
 extent_cause h es fs ss l a b c is told e =
     let s = Listing h es fs ss in
@@ -244,8 +250,10 @@ at_place before l a b v w says other place not_place =
     let same : a ≡ b = cc in
     absurd (cc (place, ap (λ k. is_place before k) same, not_place))
 
-put_cause : (h : Heading) (es : List (ℕ × ℕ)) (fs ss : List Area) (n : ℕ) (bytes l : List ℕ) (a : ℕ) (w : List ℕ) (c : Cause) → IsState (Filling h es fs ss n bytes)
-    → IsTold (said (Filling h es fs ss n bytes)) l (put a w) → judged (Filling h es fs ss n bytes) (put a w) ≡ bad c → For (Filling h es fs ss n bytes) l c
+put_cause : (h : Heading) (es : List (ℕ × ℕ)) (fs ss : List Area) (n : ℕ) (bytes l : List ℕ)
+    (a : ℕ) (w : List ℕ) (c : Cause)
+    → IsState (Filling h es fs ss n bytes) → IsTold (said (Filling h es fs ss n bytes)) l (put a w)
+    → judged (Filling h es fs ss n bytes) (put a w) ≡ bad c → For (Filling h es fs ss n bytes) l c
 put_cause h es fs ss n bytes l a w c is told e =
     let s = Filling h es fs ss n bytes in
     let x = Filling h es fs ss n (pad bytes a ++ w) in

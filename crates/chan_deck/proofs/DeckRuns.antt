@@ -94,12 +94,19 @@ pad_same front n h =
     let z : n - length front ≡ 0 = omega arith in
     rw z (append-nil front)
 
-pub put_step : (h : Heading) (es : List (ℕ × ℕ)) (fs ss : List Area) (size at : ℕ) (front word : List ℕ) → length front ≤ at → at % 8 ≡ 0 → at + 8 ≤ size → is_zero word ≡ false
-    → step (Filling h es fs ss size front) (put at word) ≡ Ok (Filling h es fs ss size (pad front at ++ word))
+pub put_step : (h : Heading) (es : List (ℕ × ℕ)) (fs ss : List Area) (size at : ℕ)
+    (front word : List ℕ)
+    → length front ≤ at → at % 8 ≡ 0 → at + 8 ≤ size → is_zero word ≡ false
+    → step (Filling h es fs ss size front) (put at word)
+    ≡ Ok (Filling h es fs ss size (pad front at ++ word))
 put_step h es fs ss size at front word low al fits z = rw (al, le-leb (length front) at low, le-leb (at + 8) size fits, z) refl
 
-over_puts : (h : Heading) (es : List (ℕ × ℕ)) (fs ss : List Area) (size n at : ℕ) (front bytes : List ℕ) → length front ≤ at → at % 8 ≡ 0 → length bytes ≡ 8 * n → at + 8 * n ≡ size
-    → (full : List ℕ) × (run (Filling h es fs ss size front) (puts n at bytes) ≡ Ok (Filling h es fs ss size full)) × (pad full size ≡ pad front at ++ bytes)
+over_puts : (h : Heading) (es : List (ℕ × ℕ)) (fs ss : List Area) (size n at : ℕ)
+    (front bytes : List ℕ)
+    → length front ≤ at → at % 8 ≡ 0 → length bytes ≡ 8 * n → at + 8 * n ≡ size
+    → (full : List ℕ)
+    × (run (Filling h es fs ss size front) (puts n at bytes) ≡ Ok (Filling h es fs ss size full))
+    × (pad full size ≡ pad front at ++ bytes)
 unfolding puts
 over_puts h es fs ss size zero at front [] low al len is = (front, refl, ap (λ k. pad front k) (omega (arith, is)) ∙ sym (append-nil (pad front at)))
 over_puts h es fs ss size zero at front (b ∷ bytes) low al len is = absurd (omega arith)
@@ -127,7 +134,8 @@ over_puts h es fs ss size (suc n) at front bytes low al len is =
 -- ---- the whole deck
 
 by_version : (x : Version) (v : Device) (m a : ℕ) (more : List Item) → HasLimit x → is_mask m ≡ true
-    → run Opening (header (header_of x) ∷ device v ∷ mask m ∷ start a ∷ limit_line x ++ more) ≡ run (Listing (record { version = x; device = v; mask = m; start = a }) [] [] []) more
+    → run Opening (header (header_of x) ∷ device v ∷ mask m ∷ start a ∷ limit_line x ++ more)
+    ≡ run (Listing (record { version = x; device = v; mask = m; start = a }) [] [] []) more
 by_version One v m a more limited is = rw is refl
 by_version (Two n) v m a more limited is = rw (is, le-leb 1 n limited.0, le-leb n 65536 limited.1) refl
 

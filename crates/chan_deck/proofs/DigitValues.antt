@@ -71,8 +71,10 @@ joined [] y = refl
 joined (b ∷ x) y = ap (λ t. digit (b / 16) ∷ digit (b % 16) ∷ t) (joined x y)
 
 -- one more byte is read from two more digits
-pub one_more : (digits bytes : List ℕ) (i b : ℕ) → i < length bytes → 2 * i + 1 < length digits → take (2 * i) digits ≡ encode_upper (take i bytes)
-    → IsPair (get_or digits (2 * i) 0) (get_or digits (2 * i + 1) 0) (Some b) → take (2 * (i + 1)) digits ≡ encode_upper (take (i + 1) (set bytes i b))
+pub one_more : (digits bytes : List ℕ) (i b : ℕ) → i < length bytes → 2 * i + 1 < length digits
+    → take (2 * i) digits ≡ encode_upper (take i bytes)
+    → IsPair (get_or digits (2 * i) 0) (get_or digits (2 * i + 1) 0) (Some b)
+    → take (2 * (i + 1)) digits ≡ encode_upper (take (i + 1) (set bytes i b))
 unfolding encode_with
 one_more digits bytes i b within width so_far pair =
     let twice : 2 * (i + 1) ≡ 2 * i + 1 + 1 = omega arith in
@@ -96,8 +98,9 @@ no_pair digits other i lt are same none =
 -- ---- how they are looked up
 
 -- one more character has its value
-pub one_value : (values : List (Option ℕ)) (n k : ℕ) (o : Option ℕ) → k ≡ n → n < length values → ((c : ℕ) → c < n → IsValue c (get_or values c None)) → IsValue n o
-    → (c : ℕ) → c < n + 1 → IsValue c (get_or (set values k o) c None)
+pub one_value : (values : List (Option ℕ)) (n k : ℕ) (o : Option ℕ) → k ≡ n → n < length values
+    → ((c : ℕ) → c < n → IsValue c (get_or values c None)) → IsValue n o → (c : ℕ) → c < n + 1
+    → IsValue c (get_or (set values k o) c None)
 one_value values n k o same within so_far is c lt = elim (cases_lt c n) [
   | inl under ↦
       let other : c ≢ k = λ e. omega (arith, under, e, same) in

@@ -40,7 +40,9 @@ refused_unless : {A : Type 0} (b : Bool) (r : Result A Cause) (c : Cause) → (b
 refused_unless true r c h = absurd (h refl)
 refused_unless false r c h = refl
 
-pub bad_place : (h : Heading) (es : List (ℕ × ℕ)) (fs ss : List Area) (size a : ℕ) (front w l : List ℕ) → Says l (put a w) → ((a % 8 ≡ 0) × (length front ≤ a) × (a + 8 ≤ size) → ⊥)
+pub bad_place : (h : Heading) (es : List (ℕ × ℕ)) (fs ss : List Area) (size a : ℕ)
+    (front w l : List ℕ)
+    → Says l (put a w) → ((a % 8 ≡ 0) × (length front ≤ a) × (a + 8 ≤ size) → ⊥)
     → Refuses (Filling h es fs ss size front) l causes.PutAddress
 bad_place h es fs ss size a front w l says bad =
     inl (
@@ -52,7 +54,9 @@ bad_place h es fs ss size a front w l says bad =
           bad (eqb-true _ _ y.0, leb-true _ _ y.1, leb-true _ _ x.1)),
     )
 
-pub zero_put : (h : Heading) (es : List (ℕ × ℕ)) (fs ss : List Area) (size a : ℕ) (front w l : List ℕ) → Says l (put a w) → a % 8 ≡ 0 → length front ≤ a → a + 8 ≤ size → is_zero w ≡ true
+pub zero_put : (h : Heading) (es : List (ℕ × ℕ)) (fs ss : List Area) (size a : ℕ)
+    (front w l : List ℕ)
+    → Says l (put a w) → a % 8 ≡ 0 → length front ≤ a → a + 8 ≤ size → is_zero w ≡ true
     → Refuses (Filling h es fs ss size front) l causes.PutZero
 zero_put h es fs ss size a front w l says al low fits z = inl (put a w, says, rw (al, le-leb (length front) a low, le-leb (a + 8) size fits, z) refl)
 
@@ -63,7 +67,9 @@ pub record IsWritten (S new word : List ℕ) (next a : ℕ) : Type 0 where
   pub front : take (a + 8) new ≡ pad (take next S) a ++ word
   pub behind : drop (a + 8) new ≡ replicate (length new - (a + 8)) 0
 
-pub written : (S new word : List ℕ) (next a : ℕ) → drop next S ≡ replicate (length S - next) 0 → next ≤ a → a + 8 ≤ length S → length word ≡ 8 → new ≡ (take a S ++ word) ++ drop (a + length word) S → IsWritten S new word next a
+pub written : (S new word : List ℕ) (next a : ℕ) → drop next S ≡ replicate (length S - next) 0
+    → next ≤ a → a + 8 ≤ length S → length word ≡ 8
+    → new ≡ (take a S ++ word) ++ drop (a + length word) S → IsWritten S new word next a
 written S new word next a z low fits eight is =
     let T = take next S in
     let lenT : length T ≡ next = omega (arith, length-take next S) in
@@ -83,8 +89,11 @@ written S new word next a z low fits eight is =
     }
 
 -- a put that is taken
-pub takes_put : (t : List ℕ) (h : Heading) (es : List (ℕ × ℕ)) (fs ss : List Area) (n a next : ℕ) (S new word rest l after : List ℕ) → Stands t (Filling h es fs ss (length S) (take next S)) n rest
-    → split rest ≡ (l ∷ (split after).0, (split after).1) → Says l (put a word) → next ≤ a → a % 8 ≡ 0 → a + 8 ≤ length S → is_zero word ≡ false → IsWritten S new word next a
+pub takes_put : (t : List ℕ) (h : Heading) (es : List (ℕ × ℕ)) (fs ss : List Area)
+    (n a next : ℕ) (S new word rest l after : List ℕ)
+    → Stands t (Filling h es fs ss (length S) (take next S)) n rest
+    → split rest ≡ (l ∷ (split after).0, (split after).1) → Says l (put a word) → next ≤ a
+    → a % 8 ≡ 0 → a + 8 ≤ length S → is_zero word ≡ false → IsWritten S new word next a
     → Stands t (Filling h es fs ss (length new) (take (a + 8) new)) (n + 1) after
 takes_put t h es fs ss n a next S new word rest l after st parts says low al fits z w =
     let lenT : length (take next S) ≤ a = omega (arith, length-take next S) in
@@ -99,8 +108,11 @@ take_all S next h z =
     ap (λ k. take next S ++ replicate (length S - k) 0) lenT ∙ ap (λ t. take next S ++ t) (sym z) ∙ take-append-drop next S
 
 -- the deck whose last line this is
-pub ends : (t : List ℕ) (h : Heading) (es : List (ℕ × ℕ)) (fs ss : List Area) (n next : ℕ) (S rest l after : List ℕ) → Stands t (Filling h es fs ss (length S) (take next S)) n rest
-    → split rest ≡ (l ∷ (split after).0, (split after).1) → Says l end → next ≤ length S → drop next S ≡ replicate (length S - next) 0
+pub ends : (t : List ℕ) (h : Heading) (es : List (ℕ × ℕ)) (fs ss : List Area) (n next : ℕ)
+    (S rest l after : List ℕ)
+    → Stands t (Filling h es fs ss (length S) (take next S)) n rest
+    → split rest ≡ (l ∷ (split after).0, (split after).1) → Says l end → next ≤ length S
+    → drop next S ≡ replicate (length S - next) 0
     → Stands t (Whole (image_of h es fs ss S)) (n + 1) after
 ends t h es fs ss n next S rest l after st parts says within zeros =
     takes t (Filling h es fs ss (length S) (take next S)) (Whole (image_of h es fs ss S)) n rest l after end st parts says (ap (λ b. Ok (Whole (image_of h es fs ss b))) (take_all S next within zeros))

@@ -55,7 +55,8 @@ onto_join b ([], rest) = refl
 onto_join b (l ∷ ls, rest) = refl
 
 join_at : (q : Bool) (b : ℕ) (t : List ℕ) → (b == 10) ≡ q → text (split t).0 ++ (split t).1 ≡ t
-    → text (cond q ([] ∷ (split t).0, (split t).1) (onto_first b (split t))).0 ++ (cond q ([] ∷ (split t).0, (split t).1) (onto_first b (split t))).1 ≡ b ∷ t
+    → text (cond q ([] ∷ (split t).0, (split t).1) (onto_first b (split t))).0
+    ++ (cond q ([] ∷ (split t).0, (split t).1) (onto_first b (split t))).1 ≡ b ∷ t
 join_at true b t h k =
     let ten : b ≡ 10 = eqb-true b 10 h in
     ap (λ (x : List ℕ). 10 ∷ x) k ∙ ap (λ (x : ℕ). x ∷ t) (sym ten)
@@ -159,7 +160,8 @@ front_lines ls h f =
     (f.0, (split f.1).0, f.2.0, ap (λ (p : List Line × List ℕ). p.0) (sym (split_deck f.0) ∙ ap (λ x. split x) (sym f.2.1) ∙ split_text ls f.1 h))
 
 -- what lines say, with one line more
-pub same_front : (is js : List Item) (l : Line) (more : List Line) → AllByRecursion HasForm is → AllByRecursion HasForm js → map line js ≡ map line is ++ l ∷ more
+pub same_front : (is js : List Item) (l : Line) (more : List Line) → AllByRecursion HasForm is
+    → AllByRecursion HasForm js → map line js ≡ map line is ++ l ∷ more
     → (i : Item) × (rest : List Item) × Says l i × (js ≡ is ++ i ∷ rest)
 same_front [] [] l more hi hj e = absurd (omega (arith, ap length e))
 same_front [] (j ∷ js) l more hi hj e =
@@ -228,12 +230,14 @@ not_ok : {A : Type 0} (r : Result State Cause) (s : State) (c : Cause) (f : Stat
 not_ok r s c f e g = absurd cc
 
 -- what comes first of what is left, where a line is
-pub lines_left : (t : List ℕ) (s : State) (n : ℕ) (rest l after : List ℕ) (st : Stands t s n rest) → split rest ≡ (l ∷ (split after).0, (split after).1)
+pub lines_left : (t : List ℕ) (s : State) (n : ℕ) (rest l after : List ℕ) (st : Stands t s n rest)
+    → split rest ≡ (l ∷ (split after).0, (split after).1)
     → lines t ≡ map line st.said ++ l ∷ (split after).0
 lines_left t s n rest l after st e = ap (λ (p : List Line × List ℕ). p.0) st.parts ∙ ap (λ (p : List Line × List ℕ). map line st.said ++ p.0) e
 
 -- a line that the state refuses, whatever it says, is on no front of a deck's text
-pub no_front : (t : List ℕ) (s : State) (n : ℕ) (rest l after : List ℕ) (c : Cause) → Stands t s n rest → split rest ≡ (l ∷ (split after).0, (split after).1)
+pub no_front : (t : List ℕ) (s : State) (n : ℕ) (rest l after : List ℕ) (c : Cause)
+    → Stands t s n rest → split rest ≡ (l ∷ (split after).0, (split after).1)
     → ((i : Item) → Says l i → step s i ≡ Err c) → BeginsSomeDeck (first_lines n t) → ⊥
 no_front t s n rest l after c st e all f =
     let ls = map line st.said in
@@ -261,7 +265,8 @@ whole_front t n d sp = (
 
 -- ---- the line where a text is refused
 
-pub refused_at_line : (t : List ℕ) (s : State) (n : ℕ) (rest l after : List ℕ) (c : Cause) → Stands t s n rest → split rest ≡ (l ∷ (split after).0, (split after).1)
+pub refused_at_line : (t : List ℕ) (s : State) (n : ℕ) (rest l after : List ℕ) (c : Cause)
+    → Stands t s n rest → split rest ≡ (l ∷ (split after).0, (split after).1)
     → ((i : Item) → Says l i → step s i ≡ Err c) → IsRefusedAt t n
 refused_at_line t s n rest l after c st e all = record {
   least = fronts t s n rest st;

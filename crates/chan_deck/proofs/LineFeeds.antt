@@ -46,7 +46,9 @@ some_line t i e =
 pub no_line : (t : List ℕ) → position (λ b. b == 10) t ≡ None → split t ≡ ([], t)
 no_line t e = subst (λ o. Splits 0 t o) e (split_at t)
 
-after : (q : Bool) (k : ℕ) (front rest : List ℕ) → (q || list_any feed front) ≡ false → (list_any feed front ≡ false → position_from feed (k + 1) (front ++ rest) ≡ Some (k + 1 + length front))
+after : (q : Bool) (k : ℕ) (front rest : List ℕ) → (q || list_any feed front) ≡ false
+    → (list_any feed front ≡ false → position_from feed (k + 1) (front ++ rest)
+    ≡ Some (k + 1 + length front))
     → cond q (just k) (position_from feed (k + 1) (front ++ rest)) ≡ Some (k + suc (length front))
 after true k front rest none e = absurd cc
 after false k front rest none e = e none ∙ ap just (omega arith)

@@ -65,14 +65,18 @@ bad_limit v m a l n says none = inl (limit n, says, limit_refused (is_limit n) n
 pub good_limit : (v : Device) (m a n : ℕ) → IsLimit n → step (Started v m a) (limit n) ≡ Ok (Listing (record { version = Two n; device = v; mask = m; start = a }) [] [] [])
 good_limit v m a n is = rw (le-leb 1 n is.0, le-leb n 65536 is.1) refl
 
-no_list : (h : Heading) (es : List (ℕ × ℕ)) (fs ss : List Area) (l : List ℕ) → ((r : Row) → Says l (row_item r) → ⊥) → ((n : ℕ) → Says l (storage n) → ⊥) → (i : Item) → Says l i → stands (Listing h es fs ss) i ≡ false
+no_list : (h : Heading) (es : List (ℕ × ℕ)) (fs ss : List Area) (l : List ℕ)
+    → ((r : Row) → Says l (row_item r) → ⊥) → ((n : ℕ) → Says l (storage n) → ⊥) → (i : Item)
+    → Says l i → stands (Listing h es fs ss) i ≡ false
 no_list h es fs ss l row none (extent a b) says = absurd (row (Extent a b) says)
 no_list h es fs ss l row none (fetch a) says = absurd (row (Fetch a) says)
 no_list h es fs ss l row none (store a) says = absurd (row (Store a) says)
 no_list h es fs ss l row none (storage n) says = absurd (none n says)
 no_list h es fs ss l row none _ says = refl
 
-pub not_list : (h : Heading) (es : List (ℕ × ℕ)) (fs ss : List Area) (l : List ℕ) → ((r : Row) → Says l (row_item r) → ⊥) → ((n : ℕ) → Says l (storage n) → ⊥) → Refuses (Listing h es fs ss) l causes.Form
+pub not_list : (h : Heading) (es : List (ℕ × ℕ)) (fs ss : List Area) (l : List ℕ)
+    → ((r : Row) → Says l (row_item r) → ⊥) → ((n : ℕ) → Says l (storage n) → ⊥)
+    → Refuses (Listing h es fs ss) l causes.Form
 not_list h es fs ss l row none = inr (no_list h es fs ss l row none, refl)
 
 -- storage before any extent
@@ -90,10 +94,14 @@ bad_size h fs ss es l n says some e = inl (storage n, says, storage_step h es fs
 pub good_size : (h : Heading) (fs ss : List Area) (es : List (ℕ × ℕ)) (n : ℕ) → 0 < length es → is_size n ≡ true → step (Listing h es fs ss) (storage n) ≡ Ok (Filling h es fs ss n [])
 good_size h fs ss es n some e = storage_step h es fs ss n some ∙ ap (λ b. cond b (Ok (Filling h es fs ss n [])) (Err causes.Size)) e
 
-no_put : (h : Heading) (es : List (ℕ × ℕ)) (fs ss : List Area) (n : ℕ) (bytes l : List ℕ) → ((a : ℕ) (w : List ℕ) → Says l (put a w) → ⊥) → (Says l end → ⊥) → (i : Item) → Says l i → stands (Filling h es fs ss n bytes) i ≡ false
+no_put : (h : Heading) (es : List (ℕ × ℕ)) (fs ss : List Area) (n : ℕ) (bytes l : List ℕ)
+    → ((a : ℕ) (w : List ℕ) → Says l (put a w) → ⊥) → (Says l end → ⊥) → (i : Item) → Says l i
+    → stands (Filling h es fs ss n bytes) i ≡ false
 no_put h es fs ss n bytes l none last (put a w) says = absurd (none a w says)
 no_put h es fs ss n bytes l none last end says = absurd (last says)
 no_put h es fs ss n bytes l none last _ says = refl
 
-pub not_put : (h : Heading) (es : List (ℕ × ℕ)) (fs ss : List Area) (n : ℕ) (bytes l : List ℕ) → ((a : ℕ) (w : List ℕ) → Says l (put a w) → ⊥) → (Says l end → ⊥) → Refuses (Filling h es fs ss n bytes) l causes.Form
+pub not_put : (h : Heading) (es : List (ℕ × ℕ)) (fs ss : List Area) (n : ℕ) (bytes l : List ℕ)
+    → ((a : ℕ) (w : List ℕ) → Says l (put a w) → ⊥) → (Says l end → ⊥)
+    → Refuses (Filling h es fs ss n bytes) l causes.Form
 not_put h es fs ss n bytes l none last = inr (no_put h es fs ss n bytes l none last, refl)

@@ -36,8 +36,10 @@ pub with_tail-parts : {X : Type 0} (f : X → List ℕ) (tail : List ℕ) (xs ys
 with_tail-parts f tail xs ys = ap (λ t. t ++ tail) (flat_map-append f xs ys) ∙ append_assoc (flat_map f xs) (flat_map f ys) tail
 
 -- a row of what stands at its place, marked where the verdict names its address
-pub row_told : (s : List ℕ) (v : Verdict) (p : Place) (held : List ℕ) (c : Option Fields) (command : Option TableEntry) (marked : Bool)
-    → c ≡ ccw_at s p.address → command ≡ command_of (ccw_at s p.address) → marked ≡ is_named v p.address → held ++ row_with p c command marked ≡ held ++ row_of s v p
+pub row_told : (s : List ℕ) (v : Verdict) (p : Place) (held : List ℕ) (c : Option Fields)
+    (command : Option TableEntry) (marked : Bool)
+    → c ≡ ccw_at s p.address → command ≡ command_of (ccw_at s p.address)
+    → marked ≡ is_named v p.address → held ++ row_with p c command marked ≡ held ++ row_of s v p
 row_told s v p held c command marked stands is named =
     ap (λ x. held ++ row_with p x command marked) stands ∙ ap (λ x. held ++ row_with p (ccw_at s p.address) x marked) is
     ∙ ap (λ m. held ++ row s p m) named
@@ -52,8 +54,10 @@ pub none_sent : {X : Type 0} (f : X → List ℕ) (a : Option (List ℕ)) (held 
 none_sent f a held e = record { sent = []; written = Appends-nil a; whole = e }
 
 -- one row more is held back, and then some of what was held is written
-pub row_sent : {X : Type 0} (f : X → List ℕ) (a b c : Option (List ℕ)) (xs : List X) (x : X) (held left : List ℕ) → IsSent f a b xs held
-    → (sent : List ℕ) × Appends b c sent × (sent ++ left ≡ held ++ f x) → IsSent f a c (xs ++ x ∷ []) left
+pub row_sent : {X : Type 0} (f : X → List ℕ) (a b c : Option (List ℕ)) (xs : List X) (x : X)
+    (held left : List ℕ)
+    → IsSent f a b xs held → (sent : List ℕ) × Appends b c sent × (sent ++ left ≡ held ++ f x)
+    → IsSent f a c (xs ++ x ∷ []) left
 row_sent f a b c xs x held left is given = record {
   sent = is.sent ++ given.0;
   written = Appends-trans a b c is.sent given.0 is.written given.1;
@@ -63,8 +67,10 @@ row_sent f a b c xs x held left is given = record {
 }
 
 -- what was written is a prefix of the whole, and so is a prefix of what is held back and more that came after it
-pub sent_begun : {X : Type 0} (f : X → List ℕ) (tail : List ℕ) (a b c : Option (List ℕ)) (xs ys all : List X) (held more rest : List ℕ) → IsSent f a b xs held
-    → with_tail f tail ys ≡ more ++ rest → AppendsPrefix b c (held ++ more) → xs ++ ys ≡ all → AppendsPrefix a c (with_tail f tail all)
+pub sent_begun : {X : Type 0} (f : X → List ℕ) (tail : List ℕ) (a b c : Option (List ℕ))
+    (xs ys all : List X) (held more rest : List ℕ)
+    → IsSent f a b xs held → with_tail f tail ys ≡ more ++ rest → AppendsPrefix b c (held ++ more)
+    → xs ++ ys ≡ all → AppendsPrefix a c (with_tail f tail all)
 sent_begun f tail a b c xs ys all held more rest is e begun split =
     let whole : (is.sent ++ (held ++ more)) ++ rest ≡ with_tail f tail all =
     ap (λ t. t ++ rest) (sym (append_assoc is.sent held more) ∙ ap (λ t. t ++ more) is.whole)
@@ -74,18 +80,24 @@ sent_begun f tail a b c xs ys all held more rest is e begun split =
     (prefix_of_more a c (is.sent ++ (held ++ more)) rest (prefix_after a b c is.sent (held ++ more) is.written begun))
 
 -- one row more
-pub row_begun : {X : Type 0} (f : X → List ℕ) (tail : List ℕ) (a b c : Option (List ℕ)) (xs : List X) (x : X) (ys all : List X) (held : List ℕ) → IsSent f a b xs held
-    → AppendsPrefix b c (held ++ f x) → xs ++ (x ∷ ys) ≡ all → AppendsPrefix a c (with_tail f tail all)
+pub row_begun : {X : Type 0} (f : X → List ℕ) (tail : List ℕ) (a b c : Option (List ℕ))
+    (xs : List X) (x : X) (ys all : List X) (held : List ℕ)
+    → IsSent f a b xs held → AppendsPrefix b c (held ++ f x) → xs ++ (x ∷ ys) ≡ all
+    → AppendsPrefix a c (with_tail f tail all)
 row_begun f tail a b c xs x ys all held is begun split =
     sent_begun f tail a b c xs (x ∷ ys) all held (f x) (with_tail f tail ys) is (append_assoc (f x) (flat_map f ys) tail) begun split
 
 -- and the tail
-pub end_begun : {X : Type 0} (f : X → List ℕ) (tail : List ℕ) (a b c : Option (List ℕ)) (xs all : List X) (held : List ℕ) → IsSent f a b xs held
-    → AppendsPrefix b c (held ++ tail) → xs ++ [] ≡ all → AppendsPrefix a c (with_tail f tail all)
+pub end_begun : {X : Type 0} (f : X → List ℕ) (tail : List ℕ) (a b c : Option (List ℕ))
+    (xs all : List X) (held : List ℕ)
+    → IsSent f a b xs held → AppendsPrefix b c (held ++ tail) → xs ++ [] ≡ all
+    → AppendsPrefix a c (with_tail f tail all)
 end_begun f tail a b c xs all held is begun split = sent_begun f tail a b c xs [] all held tail [] is (sym (append-nil tail)) begun split
 
-pub end_sent : {X : Type 0} (f : X → List ℕ) (tail : List ℕ) (a b c : Option (List ℕ)) (xs all : List X) (held : List ℕ) → IsSent f a b xs held
-    → Appends b c (held ++ tail) → xs ++ [] ≡ all → Appends a c (with_tail f tail all)
+pub end_sent : {X : Type 0} (f : X → List ℕ) (tail : List ℕ) (a b c : Option (List ℕ))
+    (xs all : List X) (held : List ℕ)
+    → IsSent f a b xs held → Appends b c (held ++ tail) → xs ++ [] ≡ all
+    → Appends a c (with_tail f tail all)
 end_sent f tail a b c xs all held is written split =
     subst (λ t. Appends a c t)
     (sym (append_assoc is.sent held tail) ∙ ap (λ t. t ++ tail) is.whole ∙ ap (with_tail f tail) (sym (append-nil xs) ∙ split))

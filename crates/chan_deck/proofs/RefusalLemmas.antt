@@ -23,8 +23,9 @@ pub starts : (t : List ℕ) → Stands t Opening 1 t
 starts t = record { said = []; forms = tt; runs = refl; parts = refl; number = refl }
 
 -- a line that is taken
-pub takes : (t : List ℕ) (s next : State) (n : ℕ) (rest l after : List ℕ) (i : Item) → Stands t s n rest → split rest ≡ (l ∷ (split after).0, (split after).1) → Says l i → step s i ≡ Ok next
-    → Stands t next (n + 1) after
+pub takes : (t : List ℕ) (s next : State) (n : ℕ) (rest l after : List ℕ) (i : Item)
+    → Stands t s n rest → split rest ≡ (l ∷ (split after).0, (split after).1) → Says l i
+    → step s i ≡ Ok next → Stands t next (n + 1) after
 takes t s next n rest l after i st e says goes = record {
   said = st.said ++ i ∷ [];
   forms = all_append HasForm st.said (i ∷ []) st.forms (says.0, tt);
@@ -50,7 +51,9 @@ are_said t s n rest st =
     let k : n - 1 ≡ length ls = omega (arith, length-said st.said, st.number) in
     (st.forms, sym (ap (λ j. take j (lines t)) k ∙ ap (λ (p : List (List ℕ) × List ℕ). take (length ls) p.0) st.parts ∙ take-append_seam ls (split rest).0))
 
-with_cause : (t : List ℕ) (s : State) (n : ℕ) (rest : List ℕ) (found : Found) (c : Cause) (st : Stands t s n rest) → found_in (split rest).0 (split rest).1 ≡ found → IsCause (said s) found c
+with_cause : (t : List ℕ) (s : State) (n : ℕ) (rest : List ℕ) (found : Found) (c : Cause)
+    (st : Stands t s n rest)
+    → found_in (split rest).0 (split rest).1 ≡ found → IsCause (said s) found c
     → (before : List Item) × AreSaid (n - 1) t before × IsCause before (found_behind (n - 1) t) c
 with_cause t s n rest found c st e h = (
   st.said,
@@ -160,8 +163,10 @@ one_line t n m hn hm =
           ]
     ]
 
-for_cause_at : (t : List ℕ) (n : ℕ) (b c : Cause) → (before : List Item) × AreSaid (n - 1) t before × IsCause before (found_behind (n - 1) t) b
-    → (before : List Item) × AreSaid (n - 1) t before × IsCause before (found_behind (n - 1) t) c → b ≡ c
+for_cause_at : (t : List ℕ) (n : ℕ) (b c : Cause)
+    → (before : List Item) × AreSaid (n - 1) t before × IsCause before (found_behind (n - 1) t) b
+    → (before : List Item) × AreSaid (n - 1) t before × IsCause before (found_behind (n - 1) t) c
+    → b ≡ c
 for_cause_at t n b c hb hc =
     let same = said_once hb.0 hc.0 hb.1.0 hc.1.0 (hb.1.1 ∙ sym hc.1.1) in
     one_cause hc.0 (found_behind (n - 1) t) b c (subst (λ is. IsCause is (found_behind (n - 1) t) b) same hb.2) hc.2

@@ -183,7 +183,8 @@ lists_store h es fs ss a =
     let front = heading h ++ map extent_of es ++ map fetch fs in
     ap (λ t. front ++ t) (map-append store ss (a ∷ [])) ∙ sym (append_assoc front (map store ss) (store a ∷ []))
 
-of_extent : (h : Heading) (es : List (ℕ × ℕ)) (fs ss : List Area) (first last : ℕ) (next : State) → AreLists h es fs ss → step (Listing h es fs ss) (extent first last) ≡ Ok next
+of_extent : (h : Heading) (es : List (ℕ × ℕ)) (fs ss : List Area) (first last : ℕ) (next : State)
+    → AreLists h es fs ss → step (Listing h es fs ss) (extent first last) ≡ Ok next
     → Says_more (Listing h es fs ss) next (extent first last)
 of_extent h es fs ss first last next are e =
     let x = Listing h (es ++ (first, last) ∷ []) [] [] in
@@ -204,7 +205,8 @@ of_extent h es fs ss first last next are e =
           ∙ ap (λ ss. lists h es fs ss ++ extent first last ∷ []) (sym (is_nil ss none.1)),
     )
 
-of_fetch : (h : Heading) (es : List (ℕ × ℕ)) (fs ss : List Area) (a : Area) (next : State) → AreLists h es fs ss → IsArea a → step (Listing h es fs ss) (fetch a) ≡ Ok next
+of_fetch : (h : Heading) (es : List (ℕ × ℕ)) (fs ss : List Area) (a : Area) (next : State)
+    → AreLists h es fs ss → IsArea a → step (Listing h es fs ss) (fetch a) ≡ Ok next
     → Says_more (Listing h es fs ss) next (fetch a)
 of_fetch h es fs ss a next are form e =
     let x = Listing h es (fs ++ a ∷ []) ss in
@@ -223,7 +225,8 @@ of_fetch h es fs ss a next are form e =
       ap (λ ss. lists h es (fs ++ a ∷ []) ss) nil ∙ lists_fetch h es fs a ∙ ap (λ ss. lists h es fs ss ++ fetch a ∷ []) (sym nil),
     )
 
-of_store : (h : Heading) (es : List (ℕ × ℕ)) (fs ss : List Area) (a : Area) (next : State) → AreLists h es fs ss → IsArea a → step (Listing h es fs ss) (store a) ≡ Ok next
+of_store : (h : Heading) (es : List (ℕ × ℕ)) (fs ss : List Area) (a : Area) (next : State)
+    → AreLists h es fs ss → IsArea a → step (Listing h es fs ss) (store a) ≡ Ok next
     → Says_more (Listing h es fs ss) next (store a)
 of_store h es fs ss a next are form e =
     let x = Listing h es fs (ss ++ a ∷ []) in
@@ -240,7 +243,8 @@ of_store h es fs ss a next are form e =
       lists_store h es fs ss a,
     )
 
-of_storage : (h : Heading) (es : List (ℕ × ℕ)) (fs ss : List Area) (n : ℕ) (next : State) → AreLists h es fs ss → step (Listing h es fs ss) (storage n) ≡ Ok next
+of_storage : (h : Heading) (es : List (ℕ × ℕ)) (fs ss : List Area) (n : ℕ) (next : State)
+    → AreLists h es fs ss → step (Listing h es fs ss) (storage n) ≡ Ok next
     → Says_more (Listing h es fs ss) next (storage n)
 of_storage h es fs ss n next are e =
     let x = Filling h es fs ss n [] in
@@ -269,8 +273,11 @@ bytes_zeros (suc n) = (lit< tt, bytes_zeros n)
 bytes_pad : (bytes : List ℕ) (n : ℕ) → AllByRecursion IsByte bytes → AllByRecursion IsByte (pad bytes n)
 bytes_pad bytes n h = all_append IsByte bytes (replicate (n - length bytes) 0) h (bytes_zeros (n - length bytes))
 
-of_put : (h : Heading) (es : List (ℕ × ℕ)) (fs ss : List Area) (n : ℕ) (bytes : List ℕ) (a : ℕ) (word : List ℕ) (next : State) → IsRight (Filling h es fs ss n bytes) → HasForm (put a word)
-    → step (Filling h es fs ss n bytes) (put a word) ≡ Ok next → Says_more (Filling h es fs ss n bytes) next (put a word)
+of_put : (h : Heading) (es : List (ℕ × ℕ)) (fs ss : List Area) (n : ℕ) (bytes : List ℕ) (a : ℕ)
+    (word : List ℕ) (next : State)
+    → IsRight (Filling h es fs ss n bytes) → HasForm (put a word)
+    → step (Filling h es fs ss n bytes) (put a word) ≡ Ok next
+    → Says_more (Filling h es fs ss n bytes) next (put a word)
 of_put h es fs ss n bytes a word next is form e =
     let x = Filling h es fs ss n (pad bytes a ++ word) in
     let g = chosen (a % 8 == 0 && nat_le (length bytes) a && nat_le (a + 8) n) (cond (is_zero word) (Err causes.PutZero) (Ok x)) causes.PutAddress next e in
@@ -301,8 +308,10 @@ of_put h es fs ss n bytes a word next is form e =
     )
 
 -- the deck that a filled state would be
-pub filled_is_deck : (h : Heading) (es : List (ℕ × ℕ)) (fs ss : List Area) (n : ℕ) (bytes : List ℕ) → IsRight (Filling h es fs ss n bytes)
-    → IsDeck (image_of h es fs ss (pad bytes n)) × (items (image_of h es fs ss (pad bytes n)) ≡ said (Filling h es fs ss n bytes) ++ end ∷ [])
+pub filled_is_deck : (h : Heading) (es : List (ℕ × ℕ)) (fs ss : List Area) (n : ℕ) (bytes : List ℕ)
+    → IsRight (Filling h es fs ss n bytes)
+    → IsDeck (image_of h es fs ss (pad bytes n))
+    × (items (image_of h es fs ss (pad bytes n)) ≡ said (Filling h es fs ss n bytes) ++ end ∷ [])
 filled_is_deck h es fs ss n bytes is =
     let parts = size_parts n is.1.size in
     let len = length_pad bytes n is.1.within in
@@ -321,7 +330,9 @@ filled_is_deck h es fs ss n bytes is =
       rw (len, p) refl,
     )
 
-of_end : (h : Heading) (es : List (ℕ × ℕ)) (fs ss : List Area) (n : ℕ) (bytes : List ℕ) (next : State) → IsRight (Filling h es fs ss n bytes) → step (Filling h es fs ss n bytes) end ≡ Ok next
+of_end : (h : Heading) (es : List (ℕ × ℕ)) (fs ss : List Area) (n : ℕ) (bytes : List ℕ)
+    (next : State)
+    → IsRight (Filling h es fs ss n bytes) → step (Filling h es fs ss n bytes) end ≡ Ok next
     → Says_more (Filling h es fs ss n bytes) next end
 of_end h es fs ss n bytes next is e =
     let d = image_of h es fs ss (pad bytes n) in

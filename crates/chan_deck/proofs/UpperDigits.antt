@@ -138,27 +138,35 @@ encoded_one x y hx hy e =
 
 -- ---- what decoding into room for n bytes tells
 
-spelled_by : (s out : List ℕ) (n : ℕ) (r : Result Unit FromHexError) (d : Result (List ℕ) FromHexError) → list_any (λ c. nat_le 97 c) s ≡ false → decode_sized s n ≡ d
-    → MatchResult d (λ bytes. (r ≡ Ok tt) × (out ≡ bytes)) (λ e. r ≡ Err e) → OnTrue (is_ok r) (s ≡ encode_upper out)
+spelled_by : (s out : List ℕ) (n : ℕ) (r : Result Unit FromHexError)
+    (d : Result (List ℕ) FromHexError)
+    → list_any (λ c. nat_le 97 c) s ≡ false → decode_sized s n ≡ d
+    → MatchResult d (λ bytes. (r ≡ Ok tt) × (out ≡ bytes)) (λ e. r ≡ Err e)
+    → OnTrue (is_ok r) (s ≡ encode_upper out)
 spelled_by s out n r (Ok bytes) none e h = rw h.0 (decoded_upper s bytes n none e ∙ ap encode_upper (sym h.1))
 spelled_by s out n r (Err x) none e h = rw h tt
 
-pub spelled : (s out : List ℕ) (n : ℕ) (r : Result Unit FromHexError) → list_any (λ c. nat_le 97 c) s ≡ false
-    → MatchResult (decode_sized s n) (λ bytes. (r ≡ Ok tt) × (out ≡ bytes)) (λ e. r ≡ Err e) → OnTrue (is_ok r) (s ≡ encode_upper out)
+pub spelled : (s out : List ℕ) (n : ℕ) (r : Result Unit FromHexError)
+    → list_any (λ c. nat_le 97 c) s ≡ false
+    → MatchResult (decode_sized s n) (λ bytes. (r ≡ Ok tt) × (out ≡ bytes)) (λ e. r ≡ Err e)
+    → OnTrue (is_ok r) (s ≡ encode_upper out)
 spelled s out n r none h = spelled_by s out n r (decode_sized s n) none refl h
 
 not_both : {A : Type 0} (d : Result (List ℕ) FromHexError) (x : List ℕ) (e : FromHexError) → d ≡ Ok x → d ≡ Err e → A
 not_both d x e f g = absurd cc
 
-refused_by : (s out : List ℕ) (n : ℕ) (r : Result Unit FromHexError) (d : Result (List ℕ) FromHexError) → decode_sized s n ≡ d
-    → MatchResult d (λ bytes. (r ≡ Ok tt) × (out ≡ bytes)) (λ e. r ≡ Err e)
-    → OnFalse (is_ok r) ((other : List ℕ) → length other ≡ n → AllByRecursion IsByte other → s ≡ encode_upper other → ⊥)
+refused_by : (s out : List ℕ) (n : ℕ) (r : Result Unit FromHexError)
+    (d : Result (List ℕ) FromHexError)
+    → decode_sized s n ≡ d → MatchResult d (λ bytes. (r ≡ Ok tt) × (out ≡ bytes)) (λ e. r ≡ Err e)
+    → OnFalse (is_ok r) ((other : List ℕ) → length other ≡ n → AllByRecursion IsByte other → s
+    ≡ encode_upper other → ⊥)
 refused_by s out n r (Ok bytes) e h = rw h.0 tt
 refused_by s out n r (Err x) e h = rw h (λ other len are same. not_both (decode_sized s n) other x (ap (λ t. decode_sized t n) same ∙ encoded_decodes other n len are) e)
 
 pub refused : (s out : List ℕ) (n : ℕ) (r : Result Unit FromHexError)
     → MatchResult (decode_sized s n) (λ bytes. (r ≡ Ok tt) × (out ≡ bytes)) (λ e. r ≡ Err e)
-    → OnFalse (is_ok r) ((other : List ℕ) → length other ≡ n → AllByRecursion IsByte other → s ≡ encode_upper other → ⊥)
+    → OnFalse (is_ok r) ((other : List ℕ) → length other ≡ n → AllByRecursion IsByte other → s
+    ≡ encode_upper other → ⊥)
 refused s out n r h = refused_by s out n r (decode_sized s n) refl h
 
 -- ---- the first digit of four bytes

@@ -12,7 +12,10 @@ use Rattle.chan_deck.proofs.FrontLemmas.{text-append}
 pub text_more : (is : List Item) (i : Item) → text (map line (is ++ i ∷ [])) ≡ text (map line is) ++ (line i ++ 10 ∷ [])
 text_more is i = ap text (map-append line is (i ∷ [])) ∙ text-append (map line is) (line i ∷ []) ∙ ap (λ t. text (map line is) ++ t) (append-nil (line i ++ 10 ∷ []))
 
-pub extents_more : (es : List (ℕ × ℕ)) (i : ℕ) → i < length es → text (map line (map extent_of (take (i + 1) es))) ≡ text (map line (map extent_of (take i es))) ++ (line (extent_of (get_or es i (0, 0))) ++ 10 ∷ [])
+pub extents_more : (es : List (ℕ × ℕ)) (i : ℕ) → i < length es
+    → text (map line (map extent_of (take (i + 1) es)))
+    ≡ text (map line (map extent_of (take i es)))
+    ++ (line (extent_of (get_or es i (0, 0))) ++ 10 ∷ [])
 extents_more es i lt =
     ap (λ xs. text (map line (map extent_of xs))) (take_more es i (0, 0) lt) ∙ ap (λ is. text (map line is)) (map-append extent_of (take i es) (get_or es i (0, 0) ∷ []))
     ∙ text_more (map extent_of (take i es)) (extent_of (get_or es i (0, 0)))
@@ -22,8 +25,12 @@ extents_more es i lt =
 next_word : (i : ℕ) (S : List ℕ) → drop 8 (drop (8 * i) S) ≡ drop (8 * (i + 1)) S
 next_word i S = drop-drop 8 (8 * i) S ∙ ap (λ k. drop k S) (omega arith)
 
-step : (N i : ℕ) (S : List ℕ) → i < N → puts (N - i) (8 * i) (drop (8 * i) S)
-    ≡ cond (is_zero (take 8 (drop (8 * i) S))) (puts (N - (i + 1)) (8 * (i + 1)) (drop (8 * (i + 1)) S)) (put (8 * i) (take 8 (drop (8 * i) S)) ∷ puts (N - (i + 1)) (8 * (i + 1)) (drop (8 * (i + 1)) S))
+step : (N i : ℕ) (S : List ℕ) → i < N
+    → puts (N - i) (8 * i) (drop (8 * i) S)
+    ≡ cond (is_zero (take 8 (drop (8 * i) S)))
+    (puts (N - (i + 1)) (8 * (i + 1)) (drop (8 * (i + 1)) S))
+    (put (8 * i) (take 8 (drop (8 * i) S))
+    ∷ puts (N - (i + 1)) (8 * (i + 1)) (drop (8 * (i + 1)) S))
 unfolding puts
 step N i S lt =
     let more : N - i ≡ suc (N - (i + 1)) = omega arith in
@@ -32,7 +39,9 @@ step N i S lt =
     ∙ ap (λ t. cond (is_zero (take 8 (drop (8 * i) S))) (puts (N - (i + 1)) (8 * (i + 1)) t) (put (8 * i) (take 8 (drop (8 * i) S)) ∷ puts (N - (i + 1)) (8 * (i + 1)) t)) (next_word i S)
 
 -- a doubleword of zeros is passed over
-pub past_zeros : (N i : ℕ) (S out goal_text : List ℕ) → i < N → is_zero (take 8 (drop (8 * i) S)) ≡ true → out ++ text (map line (puts (N - i) (8 * i) (drop (8 * i) S))) ≡ goal_text
+pub past_zeros : (N i : ℕ) (S out goal_text : List ℕ) → i < N
+    → is_zero (take 8 (drop (8 * i) S)) ≡ true
+    → out ++ text (map line (puts (N - i) (8 * i) (drop (8 * i) S))) ≡ goal_text
     → out ++ text (map line (puts (N - (i + 1)) (8 * (i + 1)) (drop (8 * (i + 1)) S))) ≡ goal_text
 past_zeros N i S out goal_text lt z told =
     let rest = puts (N - (i + 1)) (8 * (i + 1)) (drop (8 * (i + 1)) S) in
@@ -40,8 +49,11 @@ past_zeros N i S out goal_text lt z told =
     ap (λ is. out ++ text (map line is)) (sym e) ∙ told
 
 -- any other is put
-pub past_put : (N i : ℕ) (S out new goal_text : List ℕ) → i < N → is_zero (take 8 (drop (8 * i) S)) ≡ false → new ≡ out ++ (line (put (8 * i) (take 8 (drop (8 * i) S))) ++ 10 ∷ [])
-    → out ++ text (map line (puts (N - i) (8 * i) (drop (8 * i) S))) ≡ goal_text → new ++ text (map line (puts (N - (i + 1)) (8 * (i + 1)) (drop (8 * (i + 1)) S))) ≡ goal_text
+pub past_put : (N i : ℕ) (S out new goal_text : List ℕ) → i < N
+    → is_zero (take 8 (drop (8 * i) S)) ≡ false
+    → new ≡ out ++ (line (put (8 * i) (take 8 (drop (8 * i) S))) ++ 10 ∷ [])
+    → out ++ text (map line (puts (N - i) (8 * i) (drop (8 * i) S))) ≡ goal_text
+    → new ++ text (map line (puts (N - (i + 1)) (8 * (i + 1)) (drop (8 * (i + 1)) S))) ≡ goal_text
 past_put N i S out new goal_text lt z written told =
     let rest = puts (N - (i + 1)) (8 * (i + 1)) (drop (8 * (i + 1)) S) in
     let this = put (8 * i) (take 8 (drop (8 * i) S)) in
@@ -68,8 +80,12 @@ text_parts : (a b : List Item) → text (map line (a ++ b)) ≡ text (map line a
 text_parts a b = ap text (map-append line a b) ∙ text-append (map line a) (map line b)
 
 -- the text of a deck, part by part
-pub spelling_parts : (d : Image) → ((((text (map line (header (header_of d.version) ∷ device d.device ∷ mask d.mask ∷ start d.start ∷ limit_line d.version)) ++ text (map line (map extent_of d.extents))) ++ text (map line (map fetch d.fetch)))
-    ++ text (map line (map store d.store))) ++ text (map line (storage (length d.storage) ∷ puts (length d.storage / 8) 0 d.storage))) ++ text (map line (end ∷ [])) ≡ spelling d
+pub spelling_parts : (d : Image)
+    → ((((text (map line (header (header_of d.version) ∷ device d.device ∷ mask d.mask
+    ∷ start d.start ∷ limit_line d.version)) ++ text (map line (map extent_of d.extents)))
+    ++ text (map line (map fetch d.fetch))) ++ text (map line (map store d.store)))
+    ++ text (map line (storage (length d.storage) ∷ puts (length d.storage / 8) 0 d.storage)))
+    ++ text (map line (end ∷ [])) ≡ spelling d
 spelling_parts d =
     let H = header (header_of d.version) ∷ device d.device ∷ mask d.mask ∷ start d.start ∷ limit_line d.version in
     let E = map extent_of d.extents in

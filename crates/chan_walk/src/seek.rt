@@ -31,9 +31,12 @@ struct Link {
 /// The CCW to which data chaining leads from the one at an address, where one stands there.
 fn onward(storage: &Storage, address: u32) -> Option<Link>
     requires { address < 2 ^ 25 }
-    ensures found { IfSome result (λ link. link.address ≡ onward.onward (bytes_held storage.now) address) }
-    ensures stands { IfSome result (λ link. word_at (bytes_held storage.now) link.address ≡ Some link.ccw) }
-    ensures none { IfNone result (word_at (bytes_held storage.now) (onward.onward (bytes_held storage.now) address) ≡ None) }
+    ensures found { IfSome result
+        (λ link. link.address ≡ onward.onward (bytes_held storage.now) address) }
+    ensures stands { IfSome result
+        (λ link. word_at (bytes_held storage.now) link.address ≡ Some link.ccw) }
+    ensures none { IfNone result
+        (word_at (bytes_held storage.now) (onward.onward (bytes_held storage.now) address) ≡ None) }
 {
     let next = address + 8;
     let ccw = storage.ccw_at(next)?;

@@ -7,7 +7,8 @@ use Rattle.chan_deck.proofs.storage.fill.Given as goal
 abbrev pub invariant-loop-found : goal.invariant-loop-found
 invariant-loop-found l = record {
   told : (h : Heading) (es : List (ℕ × ℕ)) (fs ss : List Area)
-      → Leads (Filling h es fs ss (length l.fn.storage) []) l.fn.first l.fn.text (Filling h es fs ss (length l.storage) (take l.next l.storage)) l.line l.rest;
+      → Leads (Filling h es fs ss (length l.fn.storage) []) l.fn.first l.fn.text
+      (Filling h es fs ss (length l.storage) (take l.next l.storage)) l.line l.rest;
   behind : drop l.next l.storage ≡ replicate (length l.storage - l.next) 0;
   within : l.next ≤ length l.storage;
   same : length l.storage ≡ length l.fn.storage;
