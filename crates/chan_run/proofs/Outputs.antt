@@ -1,5 +1,5 @@
 -- What a run writes of a job that was judged is what the action asks for.
-use Rattle.std.proofs.Common.{◌≡◌, ◌≤◌, ℕ, List, Option, length, refl, sym, ap, subst, ◌∙◌}
+use Rattle.std.proofs.Common.{◌≤◌, ℕ, List, Option, length, refl, sym, subst}
 use Rattle.std.specs.Io.KnownBytes.{Appends}
 use Rattle.ccw_core.specs.Written.{AppendsPrefix}
 use Rattle.chan_deck.specs.Image.{Image, Spells}
