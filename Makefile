@@ -1,5 +1,6 @@
-# `make` runs the main job, `make test` passes all proofs and tests. `make lib` builds the library for C,
-# `make install PREFIX=/usr/local` puts the program, the library and its header where users expect them.
+# `make` runs the main job, `make test` passes all proofs and tests. `make lib` builds the library
+# for C, `make install PREFIX=/usr/local` puts the program, the library and its header where users
+# expect them.
 
 PREFIX ?= /usr/local
 
