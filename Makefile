@@ -1,6 +1,6 @@
 # `make` runs the main job, `make test` passes all proofs and tests. `make lib` builds the library
-# for C, `make install PREFIX=/usr/local` puts the program, the library and its header where users
-# expect them.
+# for C, `make install PREFIX=/usr/local` puts the program, its manual page and its completions for
+# bash, the library and its header where users expect them.
 
 PREFIX ?= /usr/local
 
@@ -8,6 +8,7 @@ PREFIX ?= /usr/local
 
 run:
 	cd crates/chanv && rt run < stdin
+	crates/chanv/out/chanv why examples/changes-itself.deck || test $$? -eq 1
 
 test:
 	rt ci
@@ -23,5 +24,7 @@ lib:
 
 install: run lib
 	install -D crates/chanv/out/chanv $(DESTDIR)$(PREFIX)/bin/chanv
+	install -D -m 644 docs/chanv.1 $(DESTDIR)$(PREFIX)/share/man/man1/chanv.1
+	install -D -m 644 docs/chanv.bash $(DESTDIR)$(PREFIX)/share/bash-completion/completions/chanv
 	install -D -m 644 out/libchanv.a $(DESTDIR)$(PREFIX)/lib/libchanv.a
 	install -D -m 644 out/chanv.h $(DESTDIR)$(PREFIX)/include/chanv.h

@@ -49,13 +49,13 @@ def in_a_row(words, start=START):
     return (put(start + DOUBLEWORD * i, digits) for i, digits in enumerate(words))
 
 
-def deck(puts, storage, extents=((10, 19),), fetch=(), store=(), places=PLACES):
+def deck(puts, storage, extents=((10, 19),), fetch=(), store=(), places=PLACES, start=START):
     """The lines of a deck on a 2314 with the mask 00, in the order of the grammar.
 
     Where the program has another number of places, the deck is of version 2 and says it as its limit.
     """
     yield f"chanv deck {1 if places == PLACES else 2}\ndevice 2314\nmask 00\n"
-    yield f"start {START:06X}\n"
+    yield f"start {start:06X}\n"
     if places != PLACES:
         yield f"limit {places:05d}\n"
     yield from (f"extent {first:03d} {last:03d}\n" for first, last in extents)
@@ -173,6 +173,17 @@ def areas_apart(count=PLACES):
     return deck(in_a_row(words), 0x900000, store=store, places=count)
 
 
+def offends(count=PLACES):
+    """As many places as there may be, all of which offend but one transfer: each stores over the CCW reached last.
+
+    That CCW has the least address, so the path to the first offence has all the places.
+    """
+    words = [word(READ_DATA, START, CHAIN_COMMAND, 1)] * (count - 1) + [word(TRANSFER, START, 0, 0)]
+    words[0] = word(READ_DATA, START, LAST, 1)
+    _, storage = room_for(count)
+    return deck(in_a_row(words), storage, store=[(START, 1)], places=count, start=START + DOUBLEWORD)
+
+
 def extents():
     """500,000 extents, and as many seeks as there may be places, all to a cylinder that only the last extent has."""
     argument = 0x20000
@@ -193,12 +204,19 @@ DECKS = {
     "areas-mixed": areas_mixed,
     "areas-apart": areas_apart,
     "extents": extents,
+    "offends": offends,
 }
 
 # The same with more places, to see how time grows with their number.
-for name, write in [("places", places), ("loops", loops), ("chain", chain), ("areas-apart", areas_apart)]:
+GROWING = [("places", places), ("loops", loops), ("chain", chain), ("areas-apart", areas_apart), ("offends", offends)]
+for name, write in GROWING:
     for count in (MOST_PLACES // 4, MOST_PLACES):
         DECKS[f"{name}-{count}"] = partial(write, count)
+
+
+def verdict_on(name):
+    """The verdict's line that the rules give."""
+    return f"no {START:06X} changes-ccw" if name.startswith("offends") else "yes"
 
 
 def main(arguments):
@@ -210,7 +228,7 @@ def main(arguments):
     for name in names:
         with open(folder / f"{name}.deck", "w", encoding="ascii", newline="\n") as file:
             file.writelines(DECKS[name]())
-    verdicts = "".join(f"{name}.deck\tyes\n" for name in names)
+    verdicts = "".join(f"{name}.deck\t{verdict_on(name)}\n" for name in names)
     (folder / "verdicts.txt").write_text(verdicts, encoding="ascii")
 
 

@@ -1,5 +1,5 @@
 #!/usr/bin/env python3
-"""Runs `chanv verify` and `chanv list` over the decks of a folder and prints a table. Called by measure.sh.
+"""Runs `chanv verify`, `list` and `why` over the decks of a folder and prints a table. Called by measure.sh.
 
     measure.py PROGRAM FOLDER RUNS LIMIT
 
@@ -30,7 +30,7 @@ def run_limits(limit):
 
 
 def run(program, action, deck, report, limit):
-    """Seconds, peak in bytes, status, and the last line that was printed, of one run."""
+    """Seconds, peak in bytes, status, and the verdict's line, of one run."""
     by_time = os.access(GNU_TIME, os.X_OK)
     command = [GNU_TIME, "-v", "-o", report] if by_time else []
     command += [program, action]
@@ -46,7 +46,8 @@ def run(program, action, deck, report, limit):
     kibibytes = usage.ru_maxrss
     if by_time:
         kibibytes = int(re.search(r"Maximum resident set size \(kbytes\): (\d+)", report.read_text())[1])
-    return seconds, kibibytes * 1024, status, (printed.splitlines() or [""])[-1]
+    lines = printed.splitlines() or [""]
+    return seconds, kibibytes * 1024, status, lines[0 if action == "why" else -1]
 
 
 def measure(program, action, deck, report, runs, limit):
@@ -68,7 +69,7 @@ def main(program, folder, runs, limit):
         name, expected = row.split("\t")
         deck = folder / name
         size = deck.stat().st_size
-        for action in ("verify", "list"):
+        for action in ("verify", "list", "why"):
             seconds, peak, verdict = measure(program, action, deck, folder / "report", int(runs), int(limit))
             wrong += verdict != expected
             shown = verdict if verdict == expected else f"{verdict} (expected {expected})"

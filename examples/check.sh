@@ -6,7 +6,8 @@
 # PROGRAM is the built chanv; without it, crates/chanv/out/chanv from the top of the repository.
 # A deck passes if `chanv verify` prints its line of the folder's verdicts.txt, and nothing else, with
 # status 0 for yes and 1 for no. Where a listing stands beside a deck, NAME.list beside NAME.deck, `chanv
-# list` has to print it, with the same status. A deck without a line, and a line without a deck, fail.
+# list` has to print it, with the same status; and so have `chanv why` an explanation, NAME.why, and
+# `chanv graph` a picture, NAME.dot. A deck without a line, and a line without a deck, fail.
 # The status is 0 if all passed, 1 if one failed, 2 if there is no such program.
 set -u
 
@@ -38,7 +39,8 @@ compare() {
 
 # check_deck FOLDER NAME VERDICT
 check_deck() {
-    local deck=$1/$2 listing=$1/${2%.deck}.list
+    local deck=$1/$2 listing=$1/${2%.deck}.list explanation=$1/${2%.deck}.why
+    local picture=$1/${2%.deck}.dot
     if [ ! -f "$deck" ]; then
         fail "$deck" 'a line of verdicts.txt, but no deck'
         return
@@ -47,6 +49,12 @@ check_deck() {
     compare verify "$deck" "$work/want" "$(status_of "$3")"
     if [ -f "$listing" ]; then
         compare list "$deck" "$listing" "$(status_of "$3")"
+    fi
+    if [ -f "$explanation" ]; then
+        compare why "$deck" "$explanation" "$(status_of "$3")"
+    fi
+    if [ -f "$picture" ]; then
+        compare graph "$deck" "$picture" "$(status_of "$3")"
     fi
 }
 

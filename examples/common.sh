@@ -14,6 +14,26 @@ trap 'rm -r "$work"' EXIT
 passed=0
 failed=0
 
+# expect NAME STATUS GOT: what was written is in $work/output and $work/error, what should be in $work/want
+# and $work/complaint.
+expect() {
+    if [ "$3" -eq "$2" ] && cmp -s "$work/want" "$work/output" && cmp -s "$work/complaint" "$work/error"; then
+        passed=$((passed + 1))
+    else
+        failed=$((failed + 1))
+        printf 'FAILED %s: status %s, expected %s\n' "$1" "$3" "$2"
+        head -n 3 "$work/output" "$work/error"
+    fi
+}
+
+# says OUTPUT ERROR: what the next run should write
+says() {
+    printf '%s' "$1" > "$work/want"
+    printf '%s' "$2" > "$work/complaint"
+    : > "$work/output"
+    : > "$work/error"
+}
+
 # The last line of a script, and its status: 0 if all passed, else 1.
 finish() {
     printf '%d passed, %d failed\n' "$passed" "$failed"

@@ -10,26 +10,6 @@ set -u
 
 source "$(dirname "${BASH_SOURCE[0]}")/common.sh"
 
-# expect NAME STATUS GOT: what was written is in $work/output and $work/error, what should be in $work/want
-# and $work/complaint.
-expect() {
-    if [ "$3" -eq "$2" ] && cmp -s "$work/want" "$work/output" && cmp -s "$work/complaint" "$work/error"; then
-        passed=$((passed + 1))
-    else
-        failed=$((failed + 1))
-        printf 'FAILED %s: status %s, expected %s\n' "$1" "$3" "$2"
-        head -n 3 "$work/output" "$work/error"
-    fi
-}
-
-# says OUTPUT ERROR: what the next run should write
-says() {
-    printf '%s' "$1" > "$work/want"
-    printf '%s' "$2" > "$work/complaint"
-    : > "$work/output"
-    : > "$work/error"
-}
-
 # A deck of 67,108,864 bytes, the most that a text may have: two extents, 3,355,437 areas, and one CCW.
 longest() {
     printf 'chanv deck 1\ndevice 2314\nmask 00\nstart 000800\nextent 010 019\nextent 010 019\n'
@@ -60,7 +40,7 @@ says '' $'chanv: deck too long\n'
 "$program" < "$work/longest" > "$work/output" 2> "$work/error"
 expect 'one byte more' 2 $?
 
-for action in verify list; do
+for action in verify list why; do
     says '' $'chanv: write failed\n'
     "$program" $action < "$loop" > /dev/full 2> "$work/error"
     expect "$action, a full standard output" 3 $?
@@ -99,6 +79,10 @@ says '' $'chanv: write failed\n'
 expect 'show, a full standard output' 3 $?
 
 says '' $'chanv: write failed\n'
+"$program" explain changes-ccw > /dev/full 2> "$work/error"
+expect 'explain, a full standard output' 3 $?
+
+says '' $'chanv: write failed\n'
 "$program" --help > /dev/full 2> "$work/error"
 expect 'help, a full standard output' 3 $?
 
@@ -110,11 +94,15 @@ usage_fault() {
     expect "usage fault: $*" 4 $?
 }
 
-usage_fault "unrecognized subcommand 'judge'" 'chanv [COMMAND]' judge
-usage_fault "unexpected argument '--fast' found" 'chanv [COMMAND]' --fast
+usage=$'chanv verify [FILE]...\n       chanv list [FILE]\n       chanv why [FILE]\n       chanv graph [FILE]\n'
+usage+=$'       chanv deck --start <ADDRESS> --extent <FIRST-LAST> [OPTIONS] [FILE]\n'
+usage+=$'       chanv explain <WORD>\n       chanv show <CCW>'
+usage_fault "unrecognized subcommand 'judge'" "$usage" judge
+usage_fault "unrecognized subcommand '$loop'" "$usage" "$loop"
+usage_fault "unexpected argument '--fast' found" "$usage" --fast
 usage_fault $'the following required arguments were not provided:\n  <CCW>' 'chanv show <CCW>' show
 usage_fault "unexpected argument 'extra' found" 'chanv show <CCW>' show 06000A0020000050 extra
-usage_fault "unexpected argument 'extra' found" 'chanv verify' verify extra
+usage_fault "unexpected argument 'extra' found" 'chanv list [FILE]' list "$loop" extra
 
 help_of_show=$'shows one channel command word\n\nUsage: chanv show <CCW>\n\nArguments:\n'
 help_of_show+=$'  <CCW>  sixteen hexadecimal digits\n\nOptions:\n  -h, --help  Print help\n'
@@ -124,12 +112,16 @@ for words in 'help show' 'show --help' 'show -h'; do
     expect "$words" 0 $?
 done
 
-help_of_chanv=$'verifies channel programs\n\nUsage: chanv [COMMAND]\n\nCommands:\n'
-help_of_chanv+=$'  show    shows one channel command word\n'
-help_of_chanv+=$'  verify  reads a deck from standard input and writes its verdict; so does chanv without words\n'
-help_of_chanv+=$'  list    reads a deck from standard input and lists its reachable CCWs, with the verdict\n'
-help_of_chanv+=$'  help    Print this message or the help of the given subcommand(s)\n\n'
-help_of_chanv+=$'Options:\n  -h, --help  Print help\n'
+help_of_chanv=$'verifies channel programs\n\nUsage: '"$usage"$'\n\nCommands:\n'
+help_of_chanv+=$'  show     shows one channel command word\n'
+help_of_chanv+=$'  verify   says of each deck whether its channel program may run; so does chanv without words\n'
+help_of_chanv+=$'  list     lists the reachable CCWs of a deck, with the verdict\n'
+help_of_chanv+=$'  why      explains the verdict on a deck: the path to the CCW, and the cause\n'
+help_of_chanv+=$'  graph    draws the program of a deck, in Graphviz\'s language\n'
+help_of_chanv+=$'  deck     writes the deck of an image of storage\n'
+help_of_chanv+=$'  explain  says what a reason or a cause means, and what usually mends it\n'
+help_of_chanv+=$'  help     Print this message or the help of the given subcommand(s)\n\n'
+help_of_chanv+=$'Options:\n  -h, --help     Print help\n  -V, --version  Print version\n'
 for words in '--help' 'help'; do
     says "$help_of_chanv" ''
     "$program" $words < "$loop" > "$work/output" 2> "$work/error"
@@ -140,15 +132,16 @@ says '' $'error: invalid UTF-8 was detected in one or more arguments\n\nFor more
 "$program" $'show\xff' > "$work/output" 2> "$work/error"
 expect 'a word that is not UTF-8' 4 $?
 
-# Each command runs with 48 KiB of stack.
+# Each command runs with 40 KiB of stack.
 small_stack() {
     says "$2" ''
-    (ulimit -s 48 && exec "$program" $1) < "$loop" > "$work/output" 2> "$work/error"
-    expect "$1, a stack of 48 KiB" 0 $?
+    (ulimit -s 40 && exec "$program" $1) < "$loop" > "$work/output" 2> "$work/error"
+    expect "$1, a stack of 40 KiB" 0 $?
 }
 
 small_stack verify $'yes\n'
 small_stack list "$(cat "$here/search-loop.list")"$'\n'
+small_stack why $'yes\n'
 small_stack 'show 06000A0020000050' $'06 000A00 --L--0 00 0050 read\n'
 small_stack --help "$help_of_chanv"
 

@@ -33,7 +33,7 @@ def cases():
 def main():
     program = sys.argv[1] if len(sys.argv) > 1 else f"{ROOT}/crates/chanv/out/chanv"
     passed = failed = 0
-    for action in ("verify", "list"):
+    for action in ("verify", "list", "why"):
         for name, deck, line, cause in cases():
             ran = subprocess.run([program, action], input=deck, capture_output=True)
             want = (2, b"", f"chanv: deck line {line}: {cause}\n".encode())

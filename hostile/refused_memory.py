@@ -18,8 +18,15 @@ import tempfile
 HERE = os.path.dirname(os.path.abspath(__file__))
 ROOT = os.path.dirname(HERE)
 OUT_OF_MEMORY = b"chanv: out of memory\n"
-SEARCH_LOOP = open(f"{ROOT}/examples/search-loop.deck", "rb").read()
+FILE = f"{ROOT}/examples/search-loop.deck"
+SEARCH_LOOP = open(FILE, "rb").read()
 LISTING = open(f"{ROOT}/examples/search-loop.list", "rb").read()
+CHANGES_ITSELF = open(f"{ROOT}/examples/changes-itself.deck", "rb").read()
+EXPLANATION = open(f"{ROOT}/examples/changes-itself.why", "rb").read()
+PICTURE = open(f"{ROOT}/examples/search-loop.dot", "rb").read()
+IMAGE = open(f"{ROOT}/examples/core.bin", "rb").read()
+CHANGES_ARGUMENT = open(f"{ROOT}/examples/changes-argument.deck", "rb").read()
+OF_IMAGE = "--start 800 --extent 10-19 --fetch 900+10 --store 900+10".split()
 CCW_LINE = b"06 000A00 --L--0 00 0050 read"
 FIRST_ROW = LISTING.split(b"\n")[0] + b"\n"
 
@@ -38,6 +45,7 @@ CALLS = [
     ("show", CCW_LINE + b"\n"),
     ("run-verify", b"yes\n"),
     ("run-list", LISTING),
+    ("run-why", EXPLANATION),
 ]
 
 # each command of the program, its input, and what it writes
@@ -45,7 +53,15 @@ COMMANDS = [
     (["show", "06000A0020000050"], b"", CCW_LINE + b"\n"),
     (["verify"], SEARCH_LOOP, b"yes\n"),
     (["list"], SEARCH_LOOP, LISTING),
+    (["verify", FILE], b"", FILE.encode() + b": yes\n"),
+    (["list", FILE], b"", LISTING),
+    (["why"], CHANGES_ITSELF, EXPLANATION),
+    (["graph"], SEARCH_LOOP, PICTURE),
+    (["deck", *OF_IMAGE], IMAGE, CHANGES_ARGUMENT),
 ]
+
+# what goes with want of memory: the second once a file is read
+COMPLAINTS = (OUT_OF_MEMORY, b"chanv: " + FILE.encode() + b": out of memory\n")
 
 
 class Harness:
@@ -71,18 +87,19 @@ class Harness:
             self.failed += 1
             print(f"FAILED {name}: {seen}")
 
-    def refuse_each(self, name, words, given, answer, complaint):
+    def refuse_each(self, name, words, given, answer, complaints):
         """Refuses each growth of a run that answers `answer`; gives how many there are.
 
-        `complaint` is what goes with want of memory. Only a listing may have begun by then.
+        One of `complaints` goes with want of memory. Only a listing or a picture may have begun by then.
         """
         *seen, growths = self.run(words, given)
-        self.expect(f"{name}, all granted", seen == [0, answer, b""], seen)
-        begun = answer if answer == LISTING else b""
+        answered = 1 if name == "chanv why" else 0
+        self.expect(f"{name}, all granted", seen == [answered, answer, b""], seen)
+        begun = answer if answer in (LISTING, PICTURE) else b""
         for refused in range(1, growths + 1):
             for after in (False, True):
                 status, output, error, _ = self.run(words, given, refused, after)
-                right = status == 3 and begun.startswith(output) and error == complaint
+                right = status == 3 and begun.startswith(output) and error in complaints
                 which = f"growth {refused} refused" + (", and all after it" if after else "")
                 self.expect(f"{name}, {which}", right, (status, output, error))
         return growths
@@ -95,11 +112,13 @@ def main():
         harness = Harness(room)
         for call, answer in CALLS:
             before = harness.run([one_call, call, "setup"], b"")[3]
-            growths = harness.refuse_each(call, [one_call, call, "whole"], b"", answer, b"")
+            growths = harness.refuse_each(call, [one_call, call, "whole"], b"", answer, (b"",))
             print(f"{call}: {growths - before} growths, {before} before the call")
         for words, given, answer in COMMANDS:
-            growths = harness.refuse_each(" ".join(["chanv"] + words), [chanv] + words, given, answer, OUT_OF_MEMORY)
-            print(f"chanv {words[0]}: {growths} growths")
+            complaints = COMPLAINTS if FILE in words else (OUT_OF_MEMORY,)
+            name = " ".join(["chanv"] + words)
+            growths = harness.refuse_each(name, [chanv] + words, given, answer, complaints)
+            print(f"chanv {words[0]}{' FILE' * (FILE in words)}: {growths} growths")
     print(f"{harness.passed} passed, {harness.failed} failed")
     return 1 if harness.failed else 0
 

@@ -1,4 +1,5 @@
-/* Asks about the usual search loop before it is started, and lists the CCWs that it can come to. */
+/* Asks about the usual search loop before it is started, lists the CCWs that it can come to, and
+ * asks why another one may not run. */
 #include <chanv.h>
 #include <stdio.h>
 
@@ -48,5 +49,14 @@ int main(void)
         return 2;
     for (size_t i = 0; i < count; i++)
         printf("%06X entered %u\n", places[i].address, places[i].entered);
+
+    put(storage, 0x810, 0x06000AC020000050); /* read them to 000AC0 instead, past the area */
+    struct chanv_explanation why;
+    if (chanv_why(&job, places, 16, NULL, 0, &why) != CHANV_NO)
+        return 2;
+    printf("no %06X %s\n", why.verdict.address, chanv_reason_word(why.verdict.reason));
+    for (size_t i = 0; i < why.path; i++)
+        printf("%06X entered %u\n", places[i].address, places[i].entered);
+    printf("%u bytes from %06X on aren't lent\n", why.evidence.gap.len, why.evidence.gap.start);
     return 0;
 }

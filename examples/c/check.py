@@ -4,10 +4,11 @@
     examples/c/check.py FOLDER
 
 FOLDER has the programs. What they should write was worked out from the rules: edges.out here, the
-verdicts and listings of the decks beside and in ../cases, the words of src/reason.rt in chan_walk, and
-the example of docs/EMBEDDING.md, whose text has to be that of ask.c. The archive may ask only for what
-the C library has to have, and each growth of memory in a call is refused in turn. The last line is 'N
-passed, M failed'; the status is 0 if all passed, else 1.
+verdicts and listings of the decks beside and in ../cases, the paths and values of each no among
+them in why-examples.out and why-cases.out here, the words of src/reason.rt in chan_walk, and the
+example of docs/EMBEDDING.md, whose text has to be that of ask.c. The archive may ask only for what
+the C library has to have, and each growth of memory in a call is refused in turn. The last line is
+'N passed, M failed'; the status is 0 if all passed, else 1.
 """
 
 import re
@@ -83,17 +84,29 @@ def look_at_the_archive(checks):
     asked = {name for kind, name in symbols if kind == "U"}
     checks.expect("what the archive asks for", NEEDS, asked - defined)
     runtime = {"rattle_alloc", "rattle_realloc", "rattle_dealloc"}
-    checks.expect("what the archive gives", {"chanv_verify", "chanv_list"}, defined - runtime)
+    calls = {"chanv_verify", "chanv_list", "chanv_why"}
+    checks.expect("what the archive gives", calls, defined - runtime)
+
+
+def read_reasons(path):
+    """For each deck the lines of its paths and values: a block under its name, then a blank line."""
+    blocks = path.read_text().rstrip("\n").split("\n\n")
+    return {name: lines + "\n" for name, lines in (block.split("\n", 1) for block in blocks)}
 
 
 def look_at_the_decks(checks):
     for folder in (ROOT / "examples", ROOT / "examples/cases"):
         table = dict(line.split("\t") for line in (folder / "verdicts.txt").read_text().splitlines())
         checks.expect(f"{folder.name}, which decks", sorted(table), sorted(p.name for p in folder.glob("*.deck")))
+        reasons = read_reasons(HERE / f"why-{folder.name}.out")
+        refused = sorted(name for name, verdict in table.items() if verdict != "yes")
+        checks.expect(f"{folder.name}, which have a no", refused, sorted(reasons))
         for name, verdict in table.items():
             deck = folder / name
             status = 0 if verdict == "yes" else 1
             checks.expect(f"verify {name}", (status, verdict + "\n"), checks.run("decks", "verify", deck=deck))
+            why = verdict + "\n" + reasons.get(name, "")
+            checks.expect(f"why {name}", (status, why), checks.run("decks", "why", deck=deck))
             listing = deck.with_suffix(".list")
             if listing.exists():
                 rows = listing.read_text().splitlines()[:-1]
@@ -106,7 +119,7 @@ def look_at_the_decks(checks):
 def refuse_growths(checks):
     harness = Harness(checks.programs)
     program = checks.programs / "one_call"
-    for call, answer in (("verify", b"yes\n"), ("list", b"3\n")):
+    for call, answer in (("verify", b"yes\n"), ("list", b"3\n"), ("why", b"2 3\n")):
         before = harness.run([program, "setup"], b"")[3]
         growths = harness.refuse_each(f"chanv_{call}", [program, call], b"", answer, b"")
         checks.expect(f"chanv_{call} asks for memory", True, growths > before)

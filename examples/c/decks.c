@@ -3,6 +3,8 @@
  *     decks verify    prints the verdict, as `chanv verify` does
  *     decks list      prints address, entry and mark of each place, as `chanv list` begins its rows
  *     decks count     prints how many places there are, asked with no room for any
+ *     decks why       prints the verdict; with a no the path, the values of the cause, each that
+ *                     isn't 0 behind its name, and the second path where there is one
  *
  * It reads decks that are known to be decks: it looks for no error in them.
  */
@@ -60,15 +62,77 @@ static uint32_t verify(const struct chanv_job *job)
     return answer;
 }
 
-static uint32_t list(const struct chanv_job *job)
+static void print_rows(const struct chanv_place *rows, size_t count)
 {
     static const char *const entries[] = {"fresh", "in", "out", "search"};
+    for (size_t i = 0; i < count; i++)
+        printf("%06" PRIX32 " %s %c\n", rows[i].address, entries[rows[i].entered],
+               rows[i].after_transfer ? 't' : '-');
+}
+
+static uint32_t list(const struct chanv_job *job)
+{
     static struct chanv_place rows[CHANV_LARGEST_LIMIT];
     size_t count;
     uint32_t answer = chanv_list(job, rows, CHANV_LARGEST_LIMIT, &count);
-    for (size_t i = 0; answer == CHANV_LISTED && i < count; i++)
-        printf("%06" PRIX32 " %s %c\n", rows[i].address, entries[rows[i].entered],
-               rows[i].after_transfer ? 't' : '-');
+    print_rows(rows, answer == CHANV_LISTED ? count : 0);
+    return answer;
+}
+
+static void print_area(const char *name, struct chanv_area area)
+{
+    if (area.start != 0 || area.len != 0)
+        printf(" %s %06" PRIX32 " %06" PRIX32, name, area.start, area.len);
+}
+
+/* Prints addresses, lengths of storage and bytes in hexadecimal. */
+static void print_value(const char *name, uint32_t value, int digits)
+{
+    if (value != 0)
+        printf(" %s %0*" PRIX32, name, digits, value);
+}
+
+static void print_number(const char *name, uint32_t number)
+{
+    if (number != 0)
+        printf(" %s %" PRIu32, name, number);
+}
+
+static void print_evidence(const struct chanv_evidence *values)
+{
+    printf("because %" PRIu32, values->reason);
+    print_area("range", values->range);
+    print_area("gap", values->gap);
+    print_value("address", values->address, 6);
+    print_value("taker", values->taker, 6);
+    print_value("length", values->length, 7);
+    print_value("code", values->code, 2);
+    print_value("mask", values->mask, 2);
+    print_value("bits", values->bits, 2);
+    print_number("given", values->given);
+    print_number("outside", values->outside);
+    print_number("value", values->value);
+    print_number("below", values->below);
+    print_number("sets_mask", values->sets_mask);
+    printf("\n");
+}
+
+static uint32_t why(const struct chanv_job *job)
+{
+    enum { ROOM = CHANV_LARGEST_LIMIT };
+    static struct chanv_place path[ROOM], second_path[ROOM];
+    struct chanv_explanation told;
+    uint32_t answer = chanv_why(job, path, ROOM, second_path, ROOM, &told);
+    if (answer == CHANV_YES)
+        puts("yes");
+    if (answer != CHANV_NO)
+        return answer;
+    printf("no %06" PRIX32 " %s\n", told.verdict.address, chanv_reason_word(told.verdict.reason));
+    print_rows(path, told.path);
+    print_evidence(&told.evidence);
+    if (told.second_path != 0)
+        puts("reached by");
+    print_rows(second_path, told.second_path);
     return answer;
 }
 
@@ -81,6 +145,8 @@ int main(int argc, char **argv)
         return (int)verify(&job);
     if (strcmp(action, "list") == 0)
         return (int)list(&job);
+    if (strcmp(action, "why") == 0)
+        return (int)why(&job);
     uint32_t answer = chanv_list(&job, NULL, 0, &count);
     printf("%zu\n", count);
     return (int)answer;

@@ -19,22 +19,100 @@ static void put(uint32_t address, uint64_t ccw)
         storage[address + i] = (uint8_t)(ccw >> (56 - 8 * i));
 }
 
-/* Both calls, with what they wrote. What isn't to be written is looked at. */
+/* Whether so many rows from the front are written, and none behind them. */
+static int are_written(const struct chanv_place *rows, size_t room, size_t written)
+{
+    for (size_t i = 0; i < room; i++)
+        if ((i < written) == (rows[i].address == 0x77777777))
+            return 0;
+    return 1;
+}
+
+/* Asks why with so much room, and says what was told and whether the rows are as they should be. */
+static uint32_t why(struct chanv_job job, struct chanv_place *path, size_t room,
+                    struct chanv_place *second_path, size_t second_room,
+                    struct chanv_explanation *told)
+{
+    memset(told, 0x77, sizeof *told);
+    if (room != 0)
+        memset(path, 0x77, sizeof *path * room);
+    if (second_room != 0)
+        memset(second_path, 0x77, sizeof *second_path * second_room);
+    uint32_t answer = chanv_why(&job, path, room, second_path, second_room, told);
+    int written = answer == CHANV_NO;
+    printf("why %" PRIu32 ", %zu and %zu", answer, told->path, told->second_path);
+    if (!are_written(path, room, written ? told->path : 0)
+        || !are_written(second_path, second_room, written ? told->second_path : 0))
+        printf(", wrong rows");
+    return answer;
+}
+
+/* Whether nothing is told but perhaps an extent. */
+static int is_empty(const struct chanv_explanation *told)
+{
+    static const struct chanv_evidence no_values;
+    return told->path == 0 && told->second_path == 0 && told->verdict.address == 0
+           && told->verdict.reason == 0 && memcmp(&told->evidence, &no_values, sizeof no_values) == 0;
+}
+
+/* `chanv_why` says what `chanv_verify` said, and what it doesn't tell is 0. */
+static void ask_why(struct chanv_job job, uint32_t verified, const struct chanv_verdict *verdict)
+{
+    enum { ROOM = CHANV_LARGEST_LIMIT + 1 };
+    static struct chanv_place path[ROOM], second_path[ROOM];
+    struct chanv_explanation told;
+    uint32_t answer = why(job, path, ROOM, second_path, ROOM, &told);
+    if (answer != verified || memcmp(&told.verdict, verdict, sizeof *verdict) != 0)
+        printf(", another verdict");
+    if (told.evidence.reason != verdict->reason || (answer != CHANV_NO && !is_empty(&told)))
+        printf(", wrong values");
+    printf("\n");
+}
+
+static void print_path(const char *name, const struct chanv_place *path, size_t count)
+{
+    printf("; %s", name);
+    for (size_t i = 0; i < count; i++)
+        printf(" %06" PRIX32 " %u %u", path[i].address, path[i].entered, path[i].after_transfer);
+}
+
+/* Asks why with room for so many rows. */
+static void why_with_room(const char *name, struct chanv_job job, size_t room, size_t second_room)
+{
+    static struct chanv_place rows[4], second_rows[4];
+    struct chanv_place *path = room == 0 ? NULL : rows;
+    struct chanv_place *second_path = second_room == 0 ? NULL : second_rows;
+    struct chanv_explanation told;
+    printf("%s: ", name);
+    uint32_t answer = why(job, path, room, second_path, second_room, &told);
+    struct chanv_evidence values = told.evidence;
+    printf(", %06" PRIX32 " %s, range %06" PRIX32 " %" PRIX32 ", address %06" PRIX32,
+           told.verdict.address, chanv_reason_word(values.reason), values.range.start,
+           values.range.len, values.address);
+    if (answer == CHANV_NO) {
+        print_path("path", path, told.path);
+        print_path("second", second_path, told.second_path);
+    }
+    printf("\n");
+}
+
+/* All calls, with what they wrote. What isn't to be written is looked at. */
 static void ask(const char *name, struct chanv_job job)
 {
     static struct chanv_place rows[CHANV_LARGEST_LIMIT + 1], before[CHANV_LARGEST_LIMIT + 1];
     struct chanv_verdict verdict = {77, 77, 77};
     size_t count = 77, written;
-    uint32_t answer = chanv_verify(&job, &verdict);
-    printf("%s: verify %" PRIu32 ", %06" PRIX32 " %s, extent %zu", name, answer, verdict.address,
+    uint32_t verified = chanv_verify(&job, &verdict);
+    printf("%s: verify %" PRIu32 ", %06" PRIX32 " %s, extent %zu", name, verified, verdict.address,
            verdict.reason ? chanv_reason_word(verdict.reason) : "-", verdict.extent);
     memset(rows, 0x77, sizeof rows);
     memcpy(before, rows, sizeof rows);
-    answer = chanv_list(&job, rows, CHANV_LARGEST_LIMIT + 1, &count);
+    uint32_t answer = chanv_list(&job, rows, CHANV_LARGEST_LIMIT + 1, &count);
     written = answer == CHANV_LISTED ? count : 0;
     size_t rest = sizeof *rows * (CHANV_LARGEST_LIMIT + 1 - written);
     const char *more = memcmp(rows + written, before + written, rest) ? ", written past the end" : "";
-    printf("; list %" PRIu32 ", %zu%s\n", answer, count, more);
+    printf("; list %" PRIu32 ", %zu%s; ", answer, count, more);
+    ask_why(job, verified, &verdict);
 }
 
 /* Asks with so much room. */
@@ -56,9 +134,12 @@ static void *ask_often(void *about)
     for (int i = 0; i < 1000; i++) {
         struct chanv_verdict verdict;
         struct chanv_place rows[3];
+        struct chanv_explanation told;
         size_t count;
         right += chanv_verify(job, &verdict) == CHANV_NO && verdict.address == 0x810 && verdict.reason == 10
-                 && chanv_list(job, rows, 3, &count) == CHANV_LISTED && count == 3 && rows[2].address == 0x810;
+                 && chanv_list(job, rows, 3, &count) == CHANV_LISTED && count == 3 && rows[2].address == 0x810
+                 && chanv_why(job, rows, 3, NULL, 0, &told) == CHANV_NO && told.path == 2
+                 && rows[1].address == 0x810;
     }
     return (void *)right;
 }
@@ -119,10 +200,17 @@ int main(void)
     put(0x818, 0x0300000000000001);
     job.limit = 4;
     ask("a store over the next CCW", job);
+    why_with_room("no room, NULL", job, 0, 0);
+    why_with_room("room for one and three", job, 1, 3);
+    why_with_room("room for two and none, NULL", job, 2, 0);
+    why_with_room("room for two and two", job, 2, 2);
+    why_with_room("room for two and three", job, 2, 3);
+    why_with_room("room for four and four", job, 4, 4);
     put(0x810, 0x06000A0020000050);
 
     job = good, job.store = no_areas;
     ask("nothing lent for storing, NULL", job);
+    why_with_room("a path of two, no second", job, 2, 0);
     ask_in_threads(job);
     job.fetch = no_areas;
     ask("nothing lent, NULL", job);

@@ -1,8 +1,9 @@
-/* Makes one call about the search loop, so that the growths of memory in that call can be refused one
- * by one.
+/* Makes one call, so that the growths of memory in that call can be refused one by one. It is about
+ * the search loop, and that of `chanv_why` about one whose read stores over the CCW behind it.
  *
- *     one_call verify | list    the call; prints what it answers, and ends with its code
- *     one_call setup            all that comes before the call
+ *     one_call verify | list | why    the call; prints what it answers, and ends with its code, or
+ *                                     with 0 where it is the answer that is due
+ *     one_call setup                  all that comes before the call
  *
  * The status is 99 where something was written that shouldn't be. Nothing here asks for memory.
  */
@@ -46,10 +47,29 @@ static int list(const struct chanv_job *job)
     return answer == CHANV_LISTED ? say("3\n") : (int)answer;
 }
 
+static int why(const struct chanv_job *job)
+{
+    static const struct chanv_explanation empty;
+    struct chanv_explanation told;
+    struct chanv_place path[4], second_path[4], before[4];
+    memset(&told, 7, sizeof told);
+    memset(path, 7, sizeof path);
+    memset(second_path, 7, sizeof second_path);
+    memcpy(before, path, sizeof path);
+    uint32_t answer = chanv_why(job, path, 4, second_path, 4, &told);
+    size_t written = answer == CHANV_NO ? 2 : 0, second_written = answer == CHANV_NO ? 3 : 0;
+    if (told.path != written || told.second_path != second_written
+        || memcmp(path + written, before, sizeof *path * (4 - written)) != 0
+        || memcmp(second_path + second_written, before, sizeof *path * (4 - second_written)) != 0
+        || (answer != CHANV_NO && memcmp(&told, &empty, sizeof empty) != 0))
+        return 99;
+    return answer == CHANV_NO ? say("2 3\n") : (int)answer;
+}
+
 int main(int argc, char **argv)
 {
     struct chanv_extent cylinders[] = {{10, 19}};
-    struct chanv_area fetch[] = {{0x900, 0x10}}, store[] = {{0xA00, 0x100}};
+    struct chanv_area fetch[] = {{0x900, 0x10}}, store[] = {{0xA00, 0x100}}, over[] = {{0x818, 8}};
     struct chanv_job job = {
         .storage = {storage, sizeof storage},
         .extents = {cylinders, 1},
@@ -64,5 +84,11 @@ int main(int argc, char **argv)
     put(0x810, 0x06000A0020000050);
     if (argc < 2 || strcmp(argv[1], "setup") == 0)
         return 0;
+    if (strcmp(argv[1], "why") == 0) {
+        put(0x810, 0x0600081840000008);
+        put(0x818, 0x0300000000000001);
+        job.store.at = over;
+        return why(&job);
+    }
     return strcmp(argv[1], "list") == 0 ? list(&job) : verify(&job);
 }

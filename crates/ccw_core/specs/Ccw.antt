@@ -1,6 +1,7 @@
--- The channel command word: its fields, the eight bytes that hold them, what its flags ask for, and its text
--- (System/360 Principles of Operation, A22-6821, on the channel command word).
-use Rattle.std.specs.Prelude.{ℕ, ◌+◌, ◌*◌, ◌%◌, ◌==◌, not, nat_lt, nat_le, Bool, bit_and, List, [], ◌∷◌, ◌++◌, slice_index, codes, if◌then◌else◌}
+-- The channel command word: its fields, the eight bytes that hold them, what its flags ask for, and
+-- its text (System/360 Principles of Operation, A22-6821, on the channel command word).
+use Rattle.std.specs.Prelude.{ℕ, ◌+◌, ◌*◌, ◌%◌, ◌==◌, not, nat_lt, nat_le, Bool, bit_and, List, []}
+use Rattle.std.specs.Prelude.{◌∷◌, ◌++◌, slice_index, codes, if◌then◌else◌}
 use Rattle.byteorder.specs.Endian.{big_bytes}
 use Rattle.hex.specs.Hex.{encode_upper}
 use Rattle.ccw_core.specs.Group.{group_of, group_word}
@@ -17,7 +18,8 @@ pub record Fields : Type 0 where
 abbrev pub byte : List ℕ → ℕ → ℕ
 byte storage address = slice_index storage address
 
--- the word in the eight bytes from a on: command code, three bytes of data address, flags, a spare byte, two bytes of count
+-- the word in the eight bytes from a on: command code, three bytes of data address, flags, a spare
+-- byte, two bytes of count
 unfoldable pub ccw : List ℕ → ℕ → Fields
 ccw s a = record {
   command = byte s a;
@@ -71,12 +73,17 @@ has_data_in n c = nat_le (c.address + c.count) n
 abbrev pub letter_of : ℕ → ℕ → ℕ → ℕ
 letter_of flags flag letter = if is_on flags flag then letter else 45
 
--- chain data D, chain command C, suppress length L, skip S, program-controlled interruption P, and the value of the three low bits
+-- chain data D, chain command C, suppress length L, skip S, program-controlled interruption P, and
+-- the value of the three low bits
 abbrev pub flag_letters : ℕ → List ℕ
 flag_letters f =
-    letter_of f 0x80 68 ∷ letter_of f 0x40 67 ∷ letter_of f 0x20 76 ∷ letter_of f 0x10 83 ∷ letter_of f 0x08 80 ∷ (48 + f % 8) ∷ []
+    letter_of f 0x80 68 ∷ letter_of f 0x40 67 ∷ letter_of f 0x20 76 ∷ letter_of f 0x10 83
+    ∷ letter_of f 0x08 80 ∷ (48 + f % 8) ∷ []
 
 -- `code address flags spare count group`
 abbrev pub ccw_text : Fields → List ℕ
-ccw_text c = encode_upper (c.command ∷ []) ++ codes " " ++ encode_upper (big_bytes 3 c.address) ++ codes " " ++ flag_letters c.flags
-    ++ codes " " ++ encode_upper (c.spare ∷ []) ++ codes " " ++ encode_upper (big_bytes 2 c.count) ++ codes " " ++ group_word (group_of c.command)
+ccw_text c =
+    encode_upper (c.command ∷ []) ++ codes " " ++ encode_upper (big_bytes 3 c.address) ++ codes " "
+    ++ flag_letters c.flags
+    ++ codes " " ++ encode_upper (c.spare ∷ []) ++ codes " " ++ encode_upper (big_bytes 2 c.count)
+    ++ codes " " ++ group_word (group_of c.command)

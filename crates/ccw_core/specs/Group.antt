@@ -1,7 +1,9 @@
--- The groups of command codes (System/360 Principles of Operation, A22-6821, on the channel command word).
+-- The groups of command codes (System/360 Principles of Operation, A22-6821, on the channel command
+-- word).
 use Rattle.std.specs.Prelude.{ℕ, ◌==◌, ◌%◌, List, codes, if◌then◌else◌}
 use Rattle.ccw_core.specs.declared.group.Group.{Group}
-use Rattle.ccw_core.specs.declared.group.Group.TheVariants.{Invalid, Sense, Transfer, ReadBackward, Write, Read, Control}
+use Rattle.ccw_core.specs.declared.group.Group.TheVariants.{Invalid, Sense, Transfer, ReadBackward}
+use Rattle.ccw_core.specs.declared.group.Group.TheVariants.{Write, Read, Control}
 
 -- the group of a command code: by its low four bits, and where these do not decide by its low two
 abbrev pub group_of : ℕ → Group

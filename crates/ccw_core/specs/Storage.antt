@@ -1,5 +1,6 @@
 -- Main storage as a list of bytes, and the channel command words in it.
-use Rattle.std.specs.Prelude.{ℕ, ◌≡◌, Bool, true, ◌+◌, ◌%◌, ◌==◌, ◌&&◌, nat_le, List, length, take, drop, Option, Some, None, if◌then◌else◌}
+use Rattle.std.specs.Prelude.{ℕ, ◌≡◌, Bool, true, ◌+◌, ◌%◌, ◌==◌, ◌&&◌, nat_le, List, length, take}
+use Rattle.std.specs.Prelude.{drop, Option, Some, None, if◌then◌else◌}
 use Rattle.ccw_core.specs.Ccw.{Fields, ccw}
 
 -- on a doubleword boundary
@@ -20,4 +21,5 @@ ccw_at s a = if is_aligned a && is_inside (length s) a then Some (ccw s a) else 
 
 -- the bytes of a range, where it lies in storage
 abbrev pub range_at : List ℕ → ℕ → ℕ → Option (List ℕ)
-range_at s start len = if nat_le (start + len) (length s) then Some (take len (drop start s)) else None
+range_at s start len =
+    if nat_le (start + len) (length s) then Some (take len (drop start s)) else None

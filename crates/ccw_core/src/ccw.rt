@@ -1,6 +1,7 @@
 //! The channel command word.
 
-ghost use Rattle.std.specs.Prelude.{◌≡◌, ◌≤◌, ◌<◌, ◌↔◌, ◌+◌, ◌-◌, bit_and, length, IsTrue, IsSome, IsNone, IfSome, IfOk, is_some, string_bytes};
+ghost use Rattle.std.specs.Prelude.{◌≡◌, ◌≤◌, ◌<◌, ◌↔◌, ◌+◌, ◌-◌, bit_and, length, IsTrue, IsSome};
+ghost use Rattle.std.specs.Prelude.{IsNone, IfSome, IfOk, is_some, string_bytes};
 ghost use Rattle.ccw_core.specs.Ccw.{Fields, bytes_of, ccw, ccw_text, is_formed, is_transfer};
 ghost use Rattle.ccw_core.specs.Flags.{bits_of};
 ghost use Rattle.ccw_core.specs.Group.{group_of};
@@ -32,11 +33,23 @@ impl Model for Ccw {
 
     ghost Value = { Fields };
 
-    ghost view = { λ c. record { command = c.command; address = c.address; flags = c.flags; spare = c.spare; count = c.count } };
+    ghost view = { λ c. record {
+      command = c.command;
+      address = c.address;
+      flags = c.flags;
+      spare = c.spare;
+      count = c.count;
+    } };
 
     ghost invariant = { λ c. c.address < 16777216 };
 
-    ghost inverse = { λ d. record { command = d.command; address = d.address; flags = d.flags; spare = d.spare; count = d.count } };
+    ghost inverse = { λ d. record {
+      command = d.command;
+      address = d.address;
+      flags = d.flags;
+      spare = d.spare;
+      count = d.count;
+    } };
 }
 
 impl Ccw {
@@ -45,7 +58,8 @@ impl Ccw {
     pub fn new(command: u8, address: u32, flags: u8, spare: u8, count: u16) -> Option<Ccw>
         ensures found { IsSome result ↔ (address < 16777216) }
         ensures refused { IsNone result ↔ (16777216 ≤ address) }
-        ensures value { let c : Fields = record { command = command; address = address; flags = flags; spare = spare; count = count } in
+        ensures value { let c : Fields = record
+            { command = command; address = address; flags = flags; spare = spare; count = count } in
             IfSome result (λ r. r ≡ c) }
     {
         if address < 0x100_0000 {

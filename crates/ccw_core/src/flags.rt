@@ -29,7 +29,8 @@ impl Flags for CcwFlags {
 
     ghost exact = { ⊤ };
 
-    ghost table = { (codes "CD", 128) ∷ (codes "CC", 64) ∷ (codes "SLI", 32) ∷ (codes "SKIP", 16) ∷ (codes "PCI", 8) ∷ [] };
+    ghost table = { (codes "CD", 128) ∷ (codes "CC", 64) ∷ (codes "SLI", 32) ∷ (codes "SKIP", 16)
+        ∷ (codes "PCI", 8) ∷ [] };
 
     ghost set_of = { bits_of };
 

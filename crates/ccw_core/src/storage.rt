@@ -1,6 +1,7 @@
 //! Main storage as it stands.
 
-ghost use Rattle.std.specs.Prelude.{◌≡◌, ◌≤◌, ◌<◌, ◌↔◌, ℕ, length, IsOk, IsErr, IfOk, option_copied};
+ghost use Rattle.std.specs.Prelude.{◌≡◌, ◌≤◌, ◌<◌, ◌↔◌, ℕ, length, IsOk, IsErr, IfOk};
+ghost use Rattle.std.specs.Prelude.{option_copied};
 ghost use Rattle.ccw_core.specs.Ccw.{byte};
 ghost use Rattle.ccw_core.specs.Storage.{ccw_at, range_at};
 

@@ -1,6 +1,7 @@
 //! Readers and writers that remember a failure.
 
-ghost use Rattle.std.specs.Prelude.{◌≡◌, ◌≤◌, ◌<◌, ◌↔◌, true, false, take, length, IsTrue, IsErr, IfOk, OnOk, OnErr};
+ghost use Rattle.std.specs.Prelude.{◌≡◌, ◌≤◌, ◌<◌, ◌↔◌, true, false, take, length, IsTrue, IsErr};
+ghost use Rattle.std.specs.Prelude.{IfOk, OnOk, OnErr};
 ghost use Rattle.std.specs.Io.KnownBytes.{Appends, ReadConsumes, WriteAppends};
 ghost use Rattle.ccw_core.specs.Written.{AppendsPrefix};
 
@@ -75,7 +76,8 @@ impl<R: Read> Watched<R> {
     /// An error of any kind is a fault, an interruption too: it isn't tried again.
     pub fn read(&mut self, buffer: &mut [u8]) -> Result<usize, DeviceFault>
         ensures bound { IfOk result (λ n. n ≤ length buffer.new) }
-        ensures bytes { ReadConsumes (R.remaining self.old.device) (R.remaining self.new.device) result buffer.new }
+        ensures bytes { ReadConsumes (R.remaining self.old.device) (R.remaining self.new.device)
+            result buffer.new }
         ensures ok { OnOk result (self.new.failed ≡ self.old.failed) }
         ensures fault { OnErr result (self.new.failed ≡ true) }
     {
@@ -94,7 +96,8 @@ impl<W: Write> Watched<W> {
     pub fn write(&mut self, bytes: &[u8]) -> Result<usize, DeviceFault>
         ensures bound { IfOk result (λ n. n ≤ length bytes.now) }
         ensures moves { IfOk result (λ n. 0 < length bytes.now → 0 < n) }
-        ensures bytes { WriteAppends (W.contents self.old.device) (W.contents self.new.device) result bytes.now }
+        ensures bytes { WriteAppends (W.contents self.old.device) (W.contents self.new.device)
+            result bytes.now }
         ensures ok { OnOk result (self.new.failed ≡ self.old.failed) }
         ensures fault { OnErr result (self.new.failed ≡ true) }
     {
@@ -109,7 +112,8 @@ impl<W: Write> Watched<W> {
 /// from the front, were written.
 pub fn write_out<W: Write>(bytes: &[u8], to: &mut Watched<W>) -> Result<(), DeviceFault>
     requires { to.old.failed ≡ false }
-    ensures ok { OnOk result (Appends (W.contents to.old.device) (W.contents to.new.device) bytes.now) }
+    ensures ok { OnOk result (Appends (W.contents to.old.device) (W.contents to.new.device)
+        bytes.now) }
     ensures prefix { AppendsPrefix (W.contents to.old.device) (W.contents to.new.device) bytes.now }
     ensures fault { IsErr result ↔ (to.new.failed ≡ true) }
 {

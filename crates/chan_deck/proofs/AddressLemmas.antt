@@ -1,4 +1,4 @@
--- Addresses of six, seven and eight digits, digit by digit and byte by byte.
+-- Addresses of six, seven and eight digits, and sizes, digit by digit and byte by byte.
 use Rattle.std.proofs.Common.{◌≡◌, ℕ, ◌/◌, ◌%◌, ◌^◌, ◌<◌, ◌≤◌, List, [], ◌∷◌, ◌++◌, ◌∙◌, get_or, slice_index, refl, sym, ap, arith, encode_utf8}
 use Rattle.std.specs.Int.{w32, to_be_bytes, bytes_high_first}
 use Rattle.std.proofs.lemmas.Bool.{le-ltb, lt-ltb}
@@ -68,3 +68,11 @@ pub long_address : (n : ℕ) (bytes : List ℕ) → bytes ≡ to_be_bytes w32 n 
 long_address n bytes e lt some =
     let first : get_or bytes 0 0 ≡ n / 16777216 % 256 = ap (λ b. get_or b 0 0) e in
     ap (λ b. encode_upper (get_or b 0 0 ∷ []) ++ last_six b) e ∙ all_digits n ∙ sym (eight_digits n (omega (arith, some, first)))
+
+-- the seven digits of a size
+pub size_told : (n : ℕ) (bytes : List ℕ) (k : ℕ) → bytes ≡ to_be_bytes w32 n → k ≡ get_or bytes 0 0 % 16 → encode_utf8 (slice_index upper_digits k) ++ last_six bytes ≡ size_digits n
+unfolding encode_with
+size_told n bytes k e h =
+    let digit : k ≡ n / 16777216 % 256 % 16 = h ∙ ap (λ b. get_or b 0 0 % 16) e in
+    ap (λ t. t ++ last_six bytes) (encode_ascii (slice_index upper_digits k) (digit_ascii k)) ∙ ap (λ j. slice_index upper_digits j ∷ last_six bytes) digit
+    ∙ ap (λ t. slice_index upper_digits (n / 16777216 % 256 % 16) ∷ t) (ap last_six e ∙ last_digits n)

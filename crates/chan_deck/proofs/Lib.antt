@@ -15,6 +15,9 @@ pub mod LineRefusals
 pub mod EachText
 pub mod FillLemmas
 pub mod WriteLemmas
+pub mod PartLemmas
 pub mod AddressLemmas
 pub mod SameLemmas
 pub mod ListingLemmas
+pub mod ExplanationLemmas
+pub mod GraphLemmas

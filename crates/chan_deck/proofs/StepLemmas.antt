@@ -266,11 +266,11 @@ of_storage h es fs ss n next are e =
       says,
     )
 
-bytes_zeros : (n : ℕ) → AllByRecursion IsByte (replicate n 0)
+pub bytes_zeros : (n : ℕ) → AllByRecursion IsByte (replicate n 0)
 bytes_zeros zero = tt
 bytes_zeros (suc n) = (lit< tt, bytes_zeros n)
 
-bytes_pad : (bytes : List ℕ) (n : ℕ) → AllByRecursion IsByte bytes → AllByRecursion IsByte (pad bytes n)
+pub bytes_pad : (bytes : List ℕ) (n : ℕ) → AllByRecursion IsByte bytes → AllByRecursion IsByte (pad bytes n)
 bytes_pad bytes n h = all_append IsByte bytes (replicate (n - length bytes) 0) h (bytes_zeros (n - length bytes))
 
 of_put : (h : Heading) (es : List (ℕ × ℕ)) (fs ss : List Area) (n : ℕ) (bytes : List ℕ) (a : ℕ)

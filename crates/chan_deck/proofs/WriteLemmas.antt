@@ -1,7 +1,7 @@
 -- What is written, line by line.
-use Rattle.std.proofs.Common.{◌≡◌, ℕ, suc, ◌+◌, ◌-◌, ◌*◌, ◌/◌, ◌<◌, ◌≤◌, true, false, cond, List, [], ◌∷◌, ◌++◌, length, take, drop, map, get_or, refl, sym, ap, ◌∙◌, append_assoc, arith}
+use Rattle.std.proofs.Common.{◌≡◌, ℕ, zero, suc, replicate, ◌%◌, length-append, ◌+◌, ◌-◌, ◌*◌, ◌/◌, ◌<◌, ◌≤◌, true, false, cond, List, [], ◌∷◌, ◌++◌, length, take, drop, map, get_or, refl, sym, ap, ◌∙◌, append_assoc, arith}
 use Rattle.std.specs.List.{flat_map}
-use Rattle.std.proofs.lemmas.List.{take_more, drop-drop, map-append, append-nil}
+use Rattle.std.proofs.lemmas.List.{take_more, drop-drop, map-append, append-nil, length-replicate}
 use Rattle.std.specs.Prelude.{codes}
 use Rattle.ccw_core.specs.declared.areas.Area.{Area}
 use Rattle.chan_deck.specs.Item.{Item, header, device, mask, start, fetch, store, storage, put, end, line, text, area_digits}
@@ -25,46 +25,91 @@ extents_more es i lt =
 next_word : (i : ℕ) (S : List ℕ) → drop 8 (drop (8 * i) S) ≡ drop (8 * (i + 1)) S
 next_word i S = drop-drop 8 (8 * i) S ∙ ap (λ k. drop k S) (omega arith)
 
-step : (N i : ℕ) (S : List ℕ) → i < N
-    → puts (N - i) (8 * i) (drop (8 * i) S)
+step : (N i a : ℕ) (S : List ℕ) → i < N
+    → puts (N - i) (a + 8 * i) (drop (8 * i) S)
     ≡ cond (is_zero (take 8 (drop (8 * i) S)))
-    (puts (N - (i + 1)) (8 * (i + 1)) (drop (8 * (i + 1)) S))
-    (put (8 * i) (take 8 (drop (8 * i) S))
-    ∷ puts (N - (i + 1)) (8 * (i + 1)) (drop (8 * (i + 1)) S))
+    (puts (N - (i + 1)) (a + 8 * (i + 1)) (drop (8 * (i + 1)) S))
+    (put (a + 8 * i) (take 8 (drop (8 * i) S))
+    ∷ puts (N - (i + 1)) (a + 8 * (i + 1)) (drop (8 * (i + 1)) S))
 unfolding puts
-step N i S lt =
+step N i a S lt =
     let more : N - i ≡ suc (N - (i + 1)) = omega arith in
-    let at : 8 * i + 8 ≡ 8 * (i + 1) = omega arith in
-    ap (λ n. puts n (8 * i) (drop (8 * i) S)) more ∙ ap (λ a. cond (is_zero (take 8 (drop (8 * i) S))) (puts (N - (i + 1)) a (drop 8 (drop (8 * i) S))) (put (8 * i) (take 8 (drop (8 * i) S)) ∷ puts (N - (i + 1)) a (drop 8 (drop (8 * i) S)))) at
-    ∙ ap (λ t. cond (is_zero (take 8 (drop (8 * i) S))) (puts (N - (i + 1)) (8 * (i + 1)) t) (put (8 * i) (take 8 (drop (8 * i) S)) ∷ puts (N - (i + 1)) (8 * (i + 1)) t)) (next_word i S)
+    let at : a + 8 * i + 8 ≡ a + 8 * (i + 1) = omega arith in
+    let word = take 8 (drop (8 * i) S) in
+    let here = put (a + 8 * i) word in
+    ap (λ n. puts n (a + 8 * i) (drop (8 * i) S)) more
+    ∙ ap (λ b. cond (is_zero word) (puts (N - (i + 1)) b (drop 8 (drop (8 * i) S))) (here ∷ puts (N - (i + 1)) b (drop 8 (drop (8 * i) S)))) at
+    ∙ ap (λ t. cond (is_zero word) (puts (N - (i + 1)) (a + 8 * (i + 1)) t) (here ∷ puts (N - (i + 1)) (a + 8 * (i + 1)) t)) (next_word i S)
 
 -- a doubleword of zeros is passed over
-pub past_zeros : (N i : ℕ) (S out goal_text : List ℕ) → i < N
+pub past_zeros : (N i a : ℕ) (S out goal_text : List ℕ) → i < N
     → is_zero (take 8 (drop (8 * i) S)) ≡ true
-    → out ++ text (map line (puts (N - i) (8 * i) (drop (8 * i) S))) ≡ goal_text
-    → out ++ text (map line (puts (N - (i + 1)) (8 * (i + 1)) (drop (8 * (i + 1)) S))) ≡ goal_text
-past_zeros N i S out goal_text lt z told =
-    let rest = puts (N - (i + 1)) (8 * (i + 1)) (drop (8 * (i + 1)) S) in
-    let e : puts (N - i) (8 * i) (drop (8 * i) S) ≡ rest = step N i S lt ∙ ap (λ b. cond b rest (put (8 * i) (take 8 (drop (8 * i) S)) ∷ rest)) z in
+    → out ++ text (map line (puts (N - i) (a + 8 * i) (drop (8 * i) S))) ≡ goal_text
+    → out ++ text (map line (puts (N - (i + 1)) (a + 8 * (i + 1)) (drop (8 * (i + 1)) S)))
+    ≡ goal_text
+past_zeros N i a S out goal_text lt z told =
+    let rest = puts (N - (i + 1)) (a + 8 * (i + 1)) (drop (8 * (i + 1)) S) in
+    let e : puts (N - i) (a + 8 * i) (drop (8 * i) S) ≡ rest = step N i a S lt ∙ ap (λ b. cond b rest (put (a + 8 * i) (take 8 (drop (8 * i) S)) ∷ rest)) z in
     ap (λ is. out ++ text (map line is)) (sym e) ∙ told
 
 -- any other is put
-pub past_put : (N i : ℕ) (S out new goal_text : List ℕ) → i < N
+pub past_put : (N i a : ℕ) (S out new goal_text : List ℕ) → i < N
     → is_zero (take 8 (drop (8 * i) S)) ≡ false
-    → new ≡ out ++ (line (put (8 * i) (take 8 (drop (8 * i) S))) ++ 10 ∷ [])
-    → out ++ text (map line (puts (N - i) (8 * i) (drop (8 * i) S))) ≡ goal_text
-    → new ++ text (map line (puts (N - (i + 1)) (8 * (i + 1)) (drop (8 * (i + 1)) S))) ≡ goal_text
-past_put N i S out new goal_text lt z written told =
-    let rest = puts (N - (i + 1)) (8 * (i + 1)) (drop (8 * (i + 1)) S) in
-    let this = put (8 * i) (take 8 (drop (8 * i) S)) in
-    let e : puts (N - i) (8 * i) (drop (8 * i) S) ≡ this ∷ rest = step N i S lt ∙ ap (λ b. cond b rest (this ∷ rest)) z in
+    → new ≡ out ++ (line (put (a + 8 * i) (take 8 (drop (8 * i) S))) ++ 10 ∷ [])
+    → out ++ text (map line (puts (N - i) (a + 8 * i) (drop (8 * i) S))) ≡ goal_text
+    → new ++ text (map line (puts (N - (i + 1)) (a + 8 * (i + 1)) (drop (8 * (i + 1)) S)))
+    ≡ goal_text
+past_put N i a S out new goal_text lt z written told =
+    let rest = puts (N - (i + 1)) (a + 8 * (i + 1)) (drop (8 * (i + 1)) S) in
+    let this = put (a + 8 * i) (take 8 (drop (8 * i) S)) in
+    let e : puts (N - i) (a + 8 * i) (drop (8 * i) S) ≡ this ∷ rest = step N i a S lt ∙ ap (λ b. cond b rest (this ∷ rest)) z in
     ap (λ t. t ++ text (map line rest)) written ∙ append_assoc out (line this ++ 10 ∷ []) (text (map line rest)) ∙ ap (λ is. out ++ text (map line is)) (sym e) ∙ told
 
-pub no_puts_left : (N i : ℕ) (S out : List ℕ) → N ≤ i → out ++ text (map line (puts (N - i) (8 * i) (drop (8 * i) S))) ≡ out
+pub no_puts_left : (N i a : ℕ) (S out : List ℕ) → N ≤ i
+    → out ++ text (map line (puts (N - i) (a + 8 * i) (drop (8 * i) S))) ≡ out
 unfolding puts
-no_puts_left N i S out le =
+no_puts_left N i a S out le =
     let none : N - i ≡ 0 = omega arith in
-    ap (λ n. out ++ text (map line (puts n (8 * i) (drop (8 * i) S)))) none ∙ append-nil out
+    ap (λ n. out ++ text (map line (puts n (a + 8 * i) (drop (8 * i) S)))) none ∙ append-nil out
+
+-- zeros in front are passed over
+past_front : (k n a : ℕ) (S : List ℕ)
+    → puts (k + n) a (replicate (8 * k) 0 ++ S) ≡ puts n (a + 8 * k) S
+unfolding puts
+past_front zero n a S =
+    let none : zero + n ≡ n = omega arith in
+    let here : a ≡ a + 8 * zero = omega arith in
+    ap (λ m. puts m a S) none ∙ ap (λ b. puts n b S) here
+past_front (suc k) n a S =
+    let one : suc k + n ≡ suc (k + n) = omega arith in
+    let eight : 8 * suc k ≡ suc (suc (suc (suc (suc (suc (suc (suc (8 * k)))))))) = omega arith in
+    let at : a + 8 + 8 * k ≡ a + 8 * suc k = omega arith in
+    ap (λ m. puts m a (replicate (8 * suc k) 0 ++ S)) one
+    ∙ ap (λ m. puts (suc (k + n)) a (replicate m 0 ++ S)) eight
+    ∙ past_front k n (a + 8) S ∙ ap (λ b. puts n b S) at
+
+length_behind : (at : ℕ) (S : List ℕ) → length (replicate at 0 ++ S) ≡ at + length S
+length_behind at S = length-append (replicate at 0) S ∙ ap (λ m. m + length S) (length-replicate at 0)
+
+-- storage that is zero up to an address has the puts of what follows
+puts_behind : (at : ℕ) (S : List ℕ) → at % 8 ≡ 0
+    → puts (length (replicate at 0 ++ S) / 8) 0 (replicate at 0 ++ S) ≡ puts (length S / 8) at S
+puts_behind at S whole =
+    let k = at / 8 in
+    let front : at ≡ 8 * k = omega arith in
+    let words : length (replicate at 0 ++ S) / 8 ≡ k + length S / 8 = omega (arith, length_behind at S) in
+    let end : 0 + 8 * k ≡ at = omega arith in
+    ap (λ m. puts m 0 (replicate at 0 ++ S)) words ∙ ap (λ m. puts (k + length S / 8) 0 (replicate m 0 ++ S)) front
+    ∙ past_front k (length S / 8) 0 S ∙ ap (λ b. puts (length S / 8) b S) end
+
+-- the line of storage and the puts of storage that is zero up to an address
+pub storage_behind : (at : ℕ) (S : List ℕ) → at % 8 ≡ 0
+    → storage (at + length S) ∷ puts (length S / 8) at S
+    ≡ storage (length (replicate at 0 ++ S))
+    ∷ puts (length (replicate at 0 ++ S) / 8) 0 (replicate at 0 ++ S)
+storage_behind at S whole =
+    ap (λ n. storage n ∷ puts (length S / 8) at S) (sym (length_behind at S))
+    ∙ ap (λ is. storage (length (replicate at 0 ++ S)) ∷ is) (sym (puts_behind at S whole))
 
 -- ---- the whole text
 

@@ -4,6 +4,10 @@ pub mod Image
 pub mod Refused
 pub mod Reading
 pub mod Held
+pub mod Preamble
+pub mod Parts
 pub mod Same
 pub mod Texts
 pub mod Listing
+pub mod Explanation
+pub mod Graph

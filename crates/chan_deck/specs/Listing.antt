@@ -1,5 +1,6 @@
 -- The listing: a row for each place that a program can come to, and the line of the verdict.
-use Rattle.std.specs.Prelude.{ℕ, ◌==◌, Bool, true, false, List, ◌∷◌, [], ◌++◌, codes, Option, Some, None, if◌then◌else◌}
+use Rattle.std.specs.Prelude.{ℕ, ◌==◌, Bool, true, false, List, ◌∷◌, [], ◌++◌, codes, Option, Some}
+use Rattle.std.specs.Prelude.{None, if◌then◌else◌}
 use Rattle.std.specs.List.{flat_map}
 use Rattle.ccw_core.specs.Ccw.{Fields, ccw_text, is_transfer}
 use Rattle.ccw_core.specs.Storage.{ccw_at}

@@ -1,13 +1,19 @@
 -- Where a text that spells no deck is refused, and why.
-use Rattle.std.specs.Prelude.{ℕ, ◌+◌, ◌-◌, ◌%◌, ◌<◌, ◌≤◌, ◌≡◌, ◌≢◌, ◌==◌, ◌&&◌, ◌⊎◌, nat_lt, nat_le, not, Bool, true, false, MatchBool, List, [], ◌∷◌, ◌++◌, length, take, drop, map, if◌then◌else◌, Option, Some, None}
+use Rattle.std.specs.Prelude.{ℕ, ◌+◌, ◌-◌, ◌%◌, ◌<◌, ◌≤◌, ◌≡◌, ◌≢◌, ◌==◌, ◌&&◌, ◌⊎◌, nat_lt, nat_le}
+use Rattle.std.specs.Prelude.{not, Bool, true, false, MatchBool, List, [], ◌∷◌, ◌++◌, length, take}
+use Rattle.std.specs.Prelude.{drop, map, if◌then◌else◌, Option, Some, None}
 use Rattle.std.specs.List.{AllByRecursion}
 use Rattle.ckd_core.specs.Mask.{is_mask}
-use Rattle.chan_deck.specs.Item.{Item, header, device, mask, start, limit, extent, fetch, store, storage, put, end, line, text, HasForm, Says}
+use Rattle.chan_deck.specs.Item.{Item, header, device, mask, start, limit, extent, fetch, store}
+use Rattle.chan_deck.specs.Item.{storage, put, end, line, text, HasForm, Says}
 use Rattle.chan_deck.specs.Image.{Image, Spells, is_zero}
 use Rattle.chan_deck.specs.declared.version.VersionNumber.{VersionNumber}
 use Rattle.chan_deck.specs.declared.version.VersionNumber.TheVariants as numbers
 use Rattle.chan_deck.specs.declared.cause.Cause.{Cause}
-use Rattle.chan_deck.specs.declared.cause.Cause.TheVariants.{Ended, Header, Form, Mask, ExtentBackwards, ExtentPastDevice, Size, PutAddress, PutZero, After, Limit}
+use Rattle.chan_deck.specs.declared.cause.Cause.TheVariants.{Ended, Header, Form, Mask}
+use Rattle.chan_deck.specs.declared.cause.Cause.TheVariants.{ExtentBackwards, ExtentPastDevice}
+use Rattle.chan_deck.specs.declared.cause.Cause.TheVariants.{Size, PutAddress, PutZero, After}
+use Rattle.chan_deck.specs.declared.cause.Cause.TheVariants.{Limit}
 
 abbrev pub onto_first : ℕ → List (List ℕ) × List ℕ → List (List ℕ) × List ℕ
 onto_first b ([], rest) = ([], b ∷ rest)

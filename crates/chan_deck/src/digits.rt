@@ -6,7 +6,8 @@ ghost use Rattle.std.specs.Int.{w64, to_be_bytes};
 ghost use Rattle.std.specs.List.{AllByRecursion, list_any};
 ghost use Rattle.chan_deck.specs.Digits.{AreValues, IsPair, IsValue};
 ghost use Rattle.hex.specs.Hex.{IsBytes, encode_upper};
-ghost use Rattle.chan_deck.specs.Item.{IsAddress, IsByte, IsWord, address_digits, byte_digits, cylinder_digits, limit_digits, size_digits};
+ghost use Rattle.chan_deck.specs.Item.{IsAddress, IsByte, IsWord, address_digits, byte_digits};
+ghost use Rattle.chan_deck.specs.Item.{cylinder_digits, limit_digits, size_digits};
 
 /// The first of the small letters, which `hex` takes for digits too.
 const SMALL_LETTERS: u8 = b'a';

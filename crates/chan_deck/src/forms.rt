@@ -1,8 +1,10 @@
 //! The forms of lines.
 
-ghost use Rattle.std.specs.Prelude.{◌≡◌, ◌<◌, ◌^◌, ℕ, List, length, ◌∷◌, ◌++◌, IfSome, MatchBool, MatchOption};
+ghost use Rattle.std.specs.Prelude.{◌≡◌, ◌<◌, ◌^◌, ℕ, List, length, ◌∷◌, ◌++◌, IfSome, MatchBool};
+ghost use Rattle.std.specs.Prelude.{MatchOption};
 ghost use Rattle.std.specs.Int.{w64, to_be_bytes};
-ghost use Rattle.chan_deck.specs.Item.{IsArea, Says, area_digits, device, end, header, limit, mask, put, start};
+ghost use Rattle.chan_deck.specs.Item.{IsArea, Says, area_digits, device, end, header, limit, mask};
+ghost use Rattle.chan_deck.specs.Item.{put, start};
 ghost use Rattle.chan_deck.specs.Item as item;
 ghost use Rattle.chan_deck.specs.Digits.{AreValues};
 ghost use Rattle.chan_deck.specs.declared.version.VersionNumber.{VersionNumber};

@@ -3,7 +3,8 @@
 ghost use Rattle.std.specs.Prelude.{◌≡◌, ◌+◌, ◌<◌, ◌≤◌, ℕ, [], List, length, IfOk, IfErr};
 ghost use Rattle.ckd_core.specs.declared.device.Device.{Device};
 ghost use Rattle.chan_deck.specs.Digits.{AreValues};
-ghost use Rattle.chan_deck.specs.Reading.{Fails, Leads, Listing, Masked, Named, OnDevice, Opening, Started, on_start};
+ghost use Rattle.chan_deck.specs.Reading.{Fails, Leads, Listing, Masked, Named, OnDevice, Opening};
+ghost use Rattle.chan_deck.specs.Reading.{Started, on_start};
 ghost use Rattle.chan_deck.specs.declared.error.DeckError.TheVariants as errors;
 ghost use Rattle.chan_deck.specs.declared.version.Version.TheVariants.{Two};
 ghost use Rattle.chan_deck.specs.declared.version.VersionNumber.{VersionNumber};

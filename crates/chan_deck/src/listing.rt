@@ -1,6 +1,7 @@
 //! The listing of the places that a program can come to.
 
-ghost use Rattle.std.specs.Prelude.{◌≡◌, ◌↔◌, ◌++◌, false, true, option_map, string_bytes, List, ℕ, IfOk, IsErr, IsErrOf, OnOk};
+ghost use Rattle.std.specs.Prelude.{◌≡◌, ◌↔◌, ◌++◌, false, true, option_map, string_bytes, List, ℕ};
+ghost use Rattle.std.specs.Prelude.{IfOk, IsErr, IsErrOf, OnOk};
 ghost use Rattle.ckd_core.specs.Entries.{entry_of};
 ghost use Rattle.std.specs.Io.KnownBytes.{Appends};
 ghost use Rattle.ccw_core.specs.Written.{AppendsPrefix};
@@ -60,7 +61,7 @@ impl From<DeviceFault> for ListError {
 }
 
 /// How a CCW is entered.
-fn way_word(entered: Entry) -> &'static str
+pub(crate) fn way_word(entered: Entry) -> &'static str
     ensures { result.now ≡ list.way_word entered }
 {
     match entered {
@@ -72,7 +73,7 @@ fn way_word(entered: Entry) -> &'static str
 }
 
 /// Whether a place counts as reached by a transfer in channel.
-fn transfer_word(after_transfer: bool) -> &'static str
+pub(crate) fn transfer_word(after_transfer: bool) -> &'static str
     ensures { result.now ≡ list.transfer_word after_transfer }
 {
     if after_transfer { "t" } else { "-" }
@@ -85,7 +86,7 @@ fn mark_word(marked: bool) -> &'static str
 }
 
 /// What a CCW is to the operation: a transfer, a part of a data chain, or this command.
-fn name_of(entered: Entry, ccw: &Ccw, command: Option<Command>) -> &'static str
+pub(crate) fn name_of(entered: Entry, ccw: &Ccw, command: Option<Command>) -> &'static str
     ensures { result.now ≡ list.name_of entered ccw.now (option_map entry_of command) }
 {
     if ccw.is_transfer() {
@@ -120,7 +121,7 @@ fn push_word(
 }
 
 /// Adds the row of a place to a text, given the CCW that stands there and the command of its code.
-fn push_row(
+pub(crate) fn push_row(
     alloc: Global,
     out: &mut String,
     place: Place,
@@ -141,7 +142,7 @@ fn push_row(
 }
 
 /// The CCW that stands at an address, and the command of its code.
-fn standing_at(job: &Job, address: u32) -> (Option<Ccw>, Option<Command>)
+pub(crate) fn standing_at(job: &Job, address: u32) -> (Option<Ccw>, Option<Command>)
     ensures ccw { result.0 ≡ ccw_at (storage_of job.now) address }
     ensures command { option_map entry_of result.1
         ≡ list.command_of (ccw_at (storage_of job.now) address) }
@@ -179,7 +180,10 @@ fn is_named(verdict: Verdict, address: u32) -> bool
 
 /// Writes a text out and empties it, once it is long enough. Each call leaves bytes behind that,
 /// after those that were written, are the text as it was.
-fn hand_over<W: Write>(piece: &mut String, to: &mut Watched<W>) -> Result<(), DeviceFault>
+pub(crate) fn hand_over<W: Write>(
+    piece: &mut String,
+    to: &mut Watched<W>,
+) -> Result<(), DeviceFault>
     requires { to.old.failed ≡ false }
     ensures ok { OnOk result ((sent : List ℕ)
         × Appends (W.contents to.old.device) (W.contents to.new.device) sent
@@ -273,8 +277,8 @@ pub fn write_listing<W: Write>(
 /// Writes the listing of a job that was judged: a row for each of its reachable places, in order,
 /// and then the line of its verdict. Nothing is looked at again.
 ///
-/// What is written is what `write_listing` writes for the job, its reachable places and its verdict;
-/// so are the errors.
+/// What is written is what `write_listing` writes for the job, its reachable places and its
+/// verdict; so are the errors.
 pub fn write_judged<W: Write>(
     alloc: Global,
     judged: &Judged,

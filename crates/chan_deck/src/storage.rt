@@ -1,6 +1,7 @@
 //! The lines of storage.
 
-ghost use Rattle.std.specs.Prelude.{◌≡◌, ◌+◌, ◌<◌, ◌≤◌, ◌^◌, ℕ, List, [], ◌++◌, length, replicate, take, drop, IfErr, OnOk};
+ghost use Rattle.std.specs.Prelude.{◌≡◌, ◌+◌, ◌<◌, ◌≤◌, ◌^◌, ℕ, List, [], ◌++◌, length, replicate};
+ghost use Rattle.std.specs.Prelude.{take, drop, IfErr, OnOk};
 ghost use Rattle.ccw_core.specs.declared.areas.Area.{Area};
 ghost use Rattle.chan_deck.specs.Digits.{AreValues};
 ghost use Rattle.chan_deck.specs.Image.{Spells};
@@ -13,7 +14,7 @@ use crate::forms::{is_end, put_of};
 use crate::lines::next_line;
 
 /// Writes bytes into storage.
-fn write_at(storage: &mut [u8], at: usize, bytes: &[u8])
+pub(crate) fn write_at(storage: &mut [u8], at: usize, bytes: &[u8])
     requires { at + length bytes.now ≤ length storage.old }
     ensures { storage.new
         ≡ (take at storage.old ++ bytes.now) ++ drop (at + length bytes.now) storage.old }

@@ -4,6 +4,7 @@ ghost use Rattle.std.specs.Prelude.{◌≡◌, IfOk, string_bytes};
 ghost use Rattle.hex.specs.Hex.{encode_upper};
 ghost use Rattle.chan_deck.specs.Texts as text;
 
+use ccw_core::Area;
 use chan_walk::Verdict;
 use std::alloc::{AllocError, Global};
 use std::fmt;
@@ -15,7 +16,7 @@ const DIGITS: [char; 16] = [
 
 /// A byte as text: its two digits.
 #[derive(Clone, Copy)]
-struct Digits(u8);
+pub(crate) struct Digits(pub(crate) u8);
 
 impl fmt::Display for Digits {
     ghost use Rattle.std.specs.Prelude.{Some, [], ◌∷◌};
@@ -54,6 +55,43 @@ impl fmt::Display for Address {
         }
         let digit = DIGITS[usize::from(first)];
         write!(f, "{digit}{high}{middle}{low}")
+    }
+}
+
+/// A number of bytes of storage as text: seven digits, of which it needs no more.
+#[derive(Clone, Copy)]
+pub(crate) struct Size(pub(crate) u32);
+
+impl fmt::Display for Size {
+    ghost use Rattle.std.specs.Prelude.{Some};
+    ghost use Rattle.chan_deck.specs.Item.{size_digits};
+
+    ghost output = { λ n. Some (size_digits n.0) };
+
+    fn fmt<W: fmt::Write>(&self, f: &mut fmt::Formatter<W>) -> fmt::Result {
+        let [first, high, middle, low] = self.0.to_be_bytes();
+        let digit = DIGITS[usize::from(first % 16)];
+        let high = Digits(high);
+        let middle = Digits(middle);
+        let low = Digits(low);
+        write!(f, "{digit}{high}{middle}{low}")
+    }
+}
+
+/// A range of storage as text: the addresses of its first byte and of its last.
+#[derive(Clone, Copy)]
+pub(crate) struct Range(pub(crate) Area);
+
+impl fmt::Display for Range {
+    ghost use Rattle.std.specs.Prelude.{Some};
+    ghost use Rattle.chan_deck.specs.Explanation.{range_text};
+
+    ghost output = { λ r. Some (range_text r.0) };
+
+    fn fmt<W: fmt::Write>(&self, f: &mut fmt::Formatter<W>) -> fmt::Result {
+        let first = Address(self.0.start);
+        let last = Address(self.0.start.saturating_add(self.0.len.saturating_sub(1)));
+        write!(f, "{first}-{last}")
     }
 }
 

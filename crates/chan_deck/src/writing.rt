@@ -1,18 +1,36 @@
 //! Writing a deck.
 
-ghost use Rattle.std.specs.Prelude.{◌≡◌, ◌+◌, ◌/◌, ◌%◌, ◌<◌, ◌≤◌, ◌^◌, ℕ, [], ◌∷◌, ◌++◌, length, map, IfOk, OnOk};
+ghost use Rattle.std.specs.Prelude.{◌≡◌, ◌+◌, ◌/◌, ◌%◌, ◌<◌, ◌≤◌, ◌^◌, true, [], ◌∷◌, ◌++◌, length};
+ghost use Rattle.std.specs.Prelude.{map, replicate, IfOk, OnOk};
 ghost use Rattle.std.specs.List.{flat_map, AllByRecursion};
 ghost use Rattle.hex.specs.Hex.{encode_upper};
-ghost use Rattle.ckd_core.specs.Cylinders.{IsExtent};
-ghost use Rattle.chan_deck.specs.Item.{IsAddress, address_digits, area_digits, cylinder_digits, device, extent, header, limit_digits, line, mask, put, size_digits, start, text};
+ghost use Rattle.ckd_core.specs.Cylinders.{AreExtents, IsExtent};
+ghost use Rattle.ckd_core.specs.Mask.{is_mask};
+ghost use Rattle.chan_deck.specs.Item.{IsByte, address_digits, area_digits, cylinder_digits};
+ghost use Rattle.chan_deck.specs.Item.{device, extent, header, limit_digits, line, mask, put};
+ghost use Rattle.chan_deck.specs.Item.{size_digits, start, text};
 ghost use Rattle.chan_deck.specs.Item as item;
-ghost use Rattle.chan_deck.specs.Image.{Image, Spells, extent_of, header_of, is_zero as zeros, limit_line, puts};
+ghost use Rattle.chan_deck.specs.Image.{HasLimit, Spells, extent_of, header_of, is_zero as zeros};
+ghost use Rattle.chan_deck.specs.Image.{limit_line, puts, spelling};
+ghost use Rattle.chan_deck.specs.Preamble.{image_with};
 
 use crate::deck::Deck;
 use crate::version::Version;
 use ccw_core::Area;
-use ckd_core::{Device, FileMask};
+use ckd_core::{Device, Extents, FileMask};
 use std::alloc::{AllocError, Global};
+
+/// What a deck says before its storage.
+#[derive(Clone, Copy)]
+pub(crate) struct Preamble<'a> {
+    pub(crate) version: Version,
+    pub(crate) device: Device,
+    pub(crate) mask: FileMask,
+    pub(crate) start: u32,
+    pub(crate) extents: &'a Extents,
+    pub(crate) fetch: &'a [Area],
+    pub(crate) store: &'a [Area],
+}
 
 /// The digits of some bytes.
 fn push_digits(alloc: Global, out: &mut Vec<u8>, bytes: &[u8]) -> Result<(), AllocError>
@@ -134,24 +152,27 @@ fn is_zero(bytes: &[u8]) -> bool
     true
 }
 
-/// A put for each doubleword that isn't zero.
-fn write_puts(alloc: Global, out: &mut Vec<u8>, storage: &[u8]) -> Result<(), AllocError>
-    requires { length storage.now ≤ 2 ^ 24 }
+/// A put for each doubleword that isn't zero, of bytes that stand at an address.
+fn write_puts(alloc: Global, out: &mut Vec<u8>, at: u32, bytes: &[u8]) -> Result<(), AllocError>
+    requires { at + length bytes.now ≤ 2 ^ 24 }
     ensures { OnOk result (out.new.items
-        ≡ out.old.items ++ text (map line (puts (length storage.now / 8) 0 storage.now))) }
+        ≡ out.old.items ++ text (map line (puts (length bytes.now / 8) at bytes.now))) }
 {
-    for i in 0..storage.len() / 8 {
-        let word = &storage[8 * i..8 * i + 8];
+    for i in 0..bytes.len() / 8 {
+        let word = &bytes[8 * i..8 * i + 8];
         if !is_zero(word) {
-            write_put(alloc, out, (8 * i) as u32, word)?;
+            write_put(alloc, out, at + (8 * i) as u32, word)?;
         }
     }
     Ok(())
 }
 
-fn write_mask(alloc: Global, out: &mut Vec<u8>, byte: u8) -> Result<(), AllocError>
-    ensures { OnOk result (out.new.items ≡ out.old.items ++ (line (mask byte) ++ 10 ∷ [])) }
+fn write_mask(alloc: Global, out: &mut Vec<u8>, file_mask: FileMask) -> Result<(), AllocError>
+    ensures text { OnOk result (out.new.items
+        ≡ out.old.items ++ (line (mask file_mask) ++ 10 ∷ [])) }
+    ensures right { OnOk result (IsByte file_mask × (is_mask file_mask ≡ true)) }
 {
+    let byte = file_mask.byte();
     out.extend_from_slice(b"mask ")?;
     push_digits(alloc, out, &[byte])?;
     out.extend_from_slice(b"\n")
@@ -190,7 +211,9 @@ fn push_places(out: &mut Vec<u8>, places: u32) -> Result<(), AllocError>
 
 /// The line of the limit, in a version that has one.
 fn write_limit(out: &mut Vec<u8>, version: Version) -> Result<(), AllocError>
-    ensures { OnOk result (out.new.items ≡ out.old.items ++ text (map line (limit_line version))) }
+    ensures text { OnOk result (out.new.items
+        ≡ out.old.items ++ text (map line (limit_line version))) }
+    ensures limit { OnOk result (HasLimit version) }
 {
     let Version::Two(limit) = version else {
         return Ok(());
@@ -201,29 +224,63 @@ fn write_limit(out: &mut Vec<u8>, version: Version) -> Result<(), AllocError>
 }
 
 /// The lines before the lists.
-fn write_heading(alloc: Global, out: &mut Vec<u8>, deck: &Deck) -> Result<(), AllocError>
-    ensures { OnOk result (out.new.items
-        ≡ out.old.items ++ text (map line (header (header_of deck.now.version)
-        ∷ device deck.now.device ∷ mask deck.now.mask ∷ start deck.now.start ∷ limit_line deck.now.version))) }
+fn write_heading(
+    alloc: Global,
+    out: &mut Vec<u8>,
+    preamble: &Preamble<'_>,
+) -> Result<(), AllocError>
+    ensures text { OnOk result (out.new.items
+        ≡ out.old.items ++ text (map line (header (header_of preamble.now.version)
+        ∷ device preamble.now.device ∷ mask preamble.now.mask ∷ start preamble.now.start
+        ∷ limit_line preamble.now.version))) }
+    ensures limit { OnOk result (HasLimit preamble.now.version) }
+    ensures mask { OnOk result (IsByte preamble.now.mask × (is_mask preamble.now.mask ≡ true)) }
 {
-    write_header(out, deck.version)?;
-    write_device(out, deck.device)?;
-    write_mask(alloc, out, deck.mask.byte())?;
-    write_start(alloc, out, deck.start)?;
-    write_limit(out, deck.version)
+    write_header(out, preamble.version)?;
+    write_device(out, preamble.device)?;
+    write_mask(alloc, out, preamble.mask)?;
+    write_start(alloc, out, preamble.start)?;
+    write_limit(out, preamble.version)
 }
 
-/// The line of storage, and the puts.
-fn write_storage(alloc: Global, out: &mut Vec<u8>, storage: &[u8]) -> Result<(), AllocError>
-    requires { length storage.now ≤ 2 ^ 24 }
+/// The line of storage, which is zero up to an address and has some bytes from there on, and the
+/// puts.
+fn write_storage(alloc: Global, out: &mut Vec<u8>, at: u32, bytes: &[u8]) -> Result<(), AllocError>
+    requires { at + length bytes.now ≤ 2 ^ 24 }
     ensures { OnOk result (out.new.items
-        ≡ out.old.items ++ text (map line (item.storage (length storage.now)
-        ∷ puts (length storage.now / 8) 0 storage.now))) }
+        ≡ out.old.items ++ text (map line (item.storage (at + length bytes.now)
+        ∷ puts (length bytes.now / 8) at bytes.now))) }
 {
     out.extend_from_slice(b"storage ")?;
-    push_size(alloc, out, storage.len() as u32)?;
+    push_size(alloc, out, at + bytes.len() as u32)?;
     out.extend_from_slice(b"\n")?;
-    write_puts(alloc, out, storage)
+    write_puts(alloc, out, at, bytes)
+}
+
+/// The text of the deck that says this before its storage, which is zero up to an address and has
+/// some bytes from there on.
+pub(crate) fn text_of(
+    alloc: Global,
+    preamble: &Preamble<'_>,
+    at: u32,
+    bytes: &[u8],
+) -> Result<Vec<u8>, AllocError>
+    requires whole { at % 8 ≡ 0 }
+    requires size { at + length bytes.now ≤ 2 ^ 24 }
+    ensures text { IfOk result (λ text. text.items
+        ≡ spelling (image_with preamble.now (replicate at 0 ++ bytes.now))) }
+    ensures limit { OnOk result (HasLimit preamble.now.version) }
+    ensures mask { OnOk result (IsByte preamble.now.mask × (is_mask preamble.now.mask ≡ true)) }
+    ensures extents { OnOk result (AreExtents preamble.now.extents.now) }
+{
+    let mut out = Vec::new(alloc);
+    write_heading(alloc, &mut out, preamble)?;
+    write_extents(&mut out, preamble.extents.pairs())?;
+    write_areas(alloc, &mut out, b"fetch ", preamble.fetch)?;
+    write_areas(alloc, &mut out, b"store ", preamble.store)?;
+    write_storage(alloc, &mut out, at, bytes)?;
+    out.extend_from_slice(b"end\n")?;
+    Ok(out)
 }
 
 /// The text that spells the deck, which `read_deck` reads back as an equal deck. An error is want
@@ -231,12 +288,14 @@ fn write_storage(alloc: Global, out: &mut Vec<u8>, storage: &[u8]) -> Result<(),
 pub fn write_deck(alloc: Global, deck: &Deck) -> Result<Vec<u8>, AllocError>
     ensures { IfOk result (λ text. Spells text.items deck.now) }
 {
-    let mut out = Vec::new(alloc);
-    write_heading(alloc, &mut out, deck)?;
-    write_extents(&mut out, deck.extents.pairs())?;
-    write_areas(alloc, &mut out, b"fetch ", &deck.fetch)?;
-    write_areas(alloc, &mut out, b"store ", &deck.store)?;
-    write_storage(alloc, &mut out, &deck.storage)?;
-    out.extend_from_slice(b"end\n")?;
-    Ok(out)
+    let preamble = Preamble {
+        version: deck.version,
+        device: deck.device,
+        mask: deck.mask,
+        start: deck.start,
+        extents: &deck.extents,
+        fetch: &deck.fetch,
+        store: &deck.store,
+    };
+    text_of(alloc, &preamble, 0, &deck.storage)
 }

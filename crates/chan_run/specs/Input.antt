@@ -7,14 +7,14 @@ pub record GaveAll (old new : Option (List ℕ)) (text : List ℕ) : Type 0 wher
   pub taken : Consumes old new text
   pub ended : IsAtEnd new
 
--- more bytes than a deck's text may have
-pub record GaveTooMuch (old new : Option (List ℕ)) : Type 0 where
+-- more bytes than so many
+pub record GaveTooMuch (limit : ℕ) (old new : Option (List ℕ)) : Type 0 where
   pub text : List ℕ
   pub taken : Consumes old new text
-  pub many : 67108864 < length text
+  pub many : limit < length text
 
--- no more bytes than a deck's text may have, and then it failed
-pub record GaveOut (old new : Option (List ℕ)) : Type 0 where
+-- no more bytes than so many, and then it failed
+pub record GaveOut (limit : ℕ) (old new : Option (List ℕ)) : Type 0 where
   pub text : List ℕ
   pub taken : Consumes old new text
-  pub short : length text ≤ 67108864
+  pub short : length text ≤ limit

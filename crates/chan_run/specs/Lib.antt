@@ -1,4 +1,9 @@
 pub mod Show
 pub mod Input
+pub mod Naming
 pub mod Run
+pub mod Meaning
 pub mod Report
+pub mod Options
+pub mod Imaging
+pub mod OptionFault

@@ -1,13 +1,24 @@
 -- The exit status of each outcome, and its line on standard error.
-use Rattle.std.specs.Prelude.{ℕ, List, [], codes, ◌++◌, ◌∷◌, Ok, Err}
+use Rattle.std.specs.Prelude.{◌≡◌, ◌⊎◌, ◌++◌, ◌∷◌, ℕ, Bool, true, false, List, [], Option, None}
+use Rattle.std.specs.Prelude.{codes, Ok, Err}
 use Rattle.std.specs.Fmt.{decimal}
 use Rattle.chan_deck.specs.declared.cause.Cause.{Cause}
-use Rattle.chan_deck.specs.declared.cause.Cause.TheVariants.{Ended, Header, Form, Mask, ExtentBackwards, ExtentPastDevice, Size, PutAddress, PutZero, After, Limit}
+use Rattle.chan_deck.specs.declared.cause.Cause.TheVariants.{Ended, Header, Form, Mask}
+use Rattle.chan_deck.specs.declared.cause.Cause.TheVariants.{ExtentBackwards, ExtentPastDevice}
+use Rattle.chan_deck.specs.declared.cause.Cause.TheVariants.{Size, PutAddress, PutZero, After}
+use Rattle.chan_deck.specs.declared.cause.Cause.TheVariants.{Limit}
+use Rattle.chan_run.specs.declared.image.ImageError.TheVariants as images
+use Rattle.chan_run.specs.declared.meaning.MeaningError.TheVariants as meanings
 use Rattle.chan_run.specs.declared.running.RunError.TheVariants as runs
 use Rattle.chan_run.specs.declared.running.Status.TheVariants as statuses
 use Rattle.chan_run.specs.declared.showing.ShowError.TheVariants.{NotCcw, Memory, Write}
 use Rattle.chan_run.specs.declared.reporting.Outcome.{Outcome}
-use Rattle.chan_run.specs.declared.reporting.Outcome.TheVariants.{Shown, Ran, HelpAsked, UsageFault, NoMemoryForCommandLine, FlushFailed}
+use Rattle.chan_run.specs.declared.reporting.Outcome.TheVariants.{Shown, Ran, Imaged, Explained}
+use Rattle.chan_run.specs.declared.reporting.Outcome.TheVariants.{HelpAsked}
+use Rattle.chan_run.specs.declared.reporting.Outcome.TheVariants.{UsageFault}
+use Rattle.chan_run.specs.declared.reporting.Outcome.TheVariants.{NoMemoryForCommandLine}
+use Rattle.chan_run.specs.declared.reporting.Outcome.TheVariants.{FlushFailed, CannotOpen}
+use Rattle.chan_run.specs.Naming.{name_before}
 
 abbrev pub status_of : Outcome → ℕ
 status_of (Shown (Ok _)) = 0
@@ -22,28 +33,65 @@ status_of (Ran (Err (runs.Deck _ _))) = 2
 status_of (Ran (Err runs.TooManyPlaces)) = 2
 status_of (Ran (Err runs.Write)) = 3
 status_of (Ran (Err runs.Memory)) = 3
+status_of (Imaged (Ok _)) = 0
+status_of (Imaged (Err images.Read)) = 3
+status_of (Imaged (Err images.TooLong)) = 2
+status_of (Imaged (Err images.Write)) = 3
+status_of (Imaged (Err images.Memory)) = 3
+status_of (Explained (Ok _)) = 0
+status_of (Explained (Err meanings.Unknown)) = 4
+status_of (Explained (Err meanings.Write)) = 3
 status_of HelpAsked = 0
 status_of UsageFault = 4
 status_of NoMemoryForCommandLine = 3
 status_of FlushFailed = 3
+status_of CannotOpen = 3
 
--- the line of an outcome, or as much of it as comes before the number of a deck's line
+-- what an outcome's line begins with; an outcome that says nothing has no line
+abbrev pub program_of : Outcome → List ℕ
+program_of (Shown (Ok _)) = []
+program_of (Ran (Ok _)) = []
+program_of (Imaged (Ok _)) = []
+program_of (Explained (Ok _)) = []
+program_of HelpAsked = []
+program_of UsageFault = []
+program_of _ = codes "chanv: "
+
+-- the line is on the input, and so names it; any other is on the program or on what it writes
+abbrev pub is_on_input : Outcome → Bool
+is_on_input (Ran (Err runs.Write)) = false
+is_on_input (Ran (Err _)) = true
+is_on_input (Imaged (Err images.Write)) = false
+is_on_input (Imaged (Err _)) = true
+is_on_input CannotOpen = true
+is_on_input _ = false
+
+-- what the line of an outcome says, or as much of it as comes before the number of a deck's line
 abbrev pub text_of : Outcome → List ℕ
 text_of (Shown (Ok _)) = []
-text_of (Shown (Err NotCcw)) = codes "chanv: not a CCW" ++ 10 ∷ []
-text_of (Shown (Err Memory)) = codes "chanv: out of memory" ++ 10 ∷ []
-text_of (Shown (Err Write)) = codes "chanv: write failed" ++ 10 ∷ []
+text_of (Shown (Err NotCcw)) = codes "not a CCW" ++ 10 ∷ []
+text_of (Shown (Err Memory)) = codes "out of memory" ++ 10 ∷ []
+text_of (Shown (Err Write)) = codes "write failed" ++ 10 ∷ []
 text_of (Ran (Ok _)) = []
-text_of (Ran (Err runs.Read)) = codes "chanv: read failed" ++ 10 ∷ []
-text_of (Ran (Err runs.TooLong)) = codes "chanv: deck too long" ++ 10 ∷ []
-text_of (Ran (Err (runs.Deck _ _))) = codes "chanv: deck line "
-text_of (Ran (Err runs.TooManyPlaces)) = codes "chanv: too many places" ++ 10 ∷ []
-text_of (Ran (Err runs.Write)) = codes "chanv: write failed" ++ 10 ∷ []
-text_of (Ran (Err runs.Memory)) = codes "chanv: out of memory" ++ 10 ∷ []
+text_of (Ran (Err runs.Read)) = codes "read failed" ++ 10 ∷ []
+text_of (Ran (Err runs.TooLong)) = codes "deck too long" ++ 10 ∷ []
+text_of (Ran (Err (runs.Deck _ _))) = codes "deck line "
+text_of (Ran (Err runs.TooManyPlaces)) = codes "too many places" ++ 10 ∷ []
+text_of (Ran (Err runs.Write)) = codes "write failed" ++ 10 ∷ []
+text_of (Ran (Err runs.Memory)) = codes "out of memory" ++ 10 ∷ []
+text_of (Imaged (Ok _)) = []
+text_of (Imaged (Err images.Read)) = codes "read failed" ++ 10 ∷ []
+text_of (Imaged (Err images.TooLong)) = codes "image too long" ++ 10 ∷ []
+text_of (Imaged (Err images.Write)) = codes "write failed" ++ 10 ∷ []
+text_of (Imaged (Err images.Memory)) = codes "out of memory" ++ 10 ∷ []
+text_of (Explained (Ok _)) = []
+text_of (Explained (Err meanings.Unknown)) = codes "no such word" ++ 10 ∷ []
+text_of (Explained (Err meanings.Write)) = codes "write failed" ++ 10 ∷ []
 text_of HelpAsked = []
 text_of UsageFault = []
-text_of NoMemoryForCommandLine = codes "chanv: out of memory" ++ 10 ∷ []
-text_of FlushFailed = codes "chanv: write failed" ++ 10 ∷ []
+text_of NoMemoryForCommandLine = codes "out of memory" ++ 10 ∷ []
+text_of FlushFailed = codes "write failed" ++ 10 ∷ []
+text_of CannotOpen = codes "cannot open" ++ 10 ∷ []
 
 -- the word of a cause, and what stands around it
 abbrev pub word_of : Cause → List ℕ
@@ -64,5 +112,16 @@ abbrev pub refusal_of : Outcome → List ℕ
 refusal_of (Ran (Err (runs.Deck number cause))) = decimal number ++ word_of cause
 refusal_of _ = []
 
+-- the line of an outcome over an input that may have a name
+abbrev pub line_over : Option (List ℕ) → Outcome → List ℕ
+line_over name outcome = (program_of outcome ++ name_before name (is_on_input outcome))
+    ++ (text_of outcome ++ refusal_of outcome)
+
 abbrev pub line_of : Outcome → List ℕ
-line_of outcome = text_of outcome ++ refusal_of outcome
+line_of = line_over None
+
+-- a write failed, so that nothing more can be written
+abbrev pub IsWriteFailure : Outcome → Type 0
+IsWriteFailure outcome =
+    (outcome ≡ Ran (Err runs.Write)) ⊎ (outcome ≡ Imaged (Err images.Write))
+    ⊎ (outcome ≡ Explained (Err meanings.Write)) ⊎ (outcome ≡ FlushFailed)

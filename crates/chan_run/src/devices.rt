@@ -26,7 +26,8 @@ impl Write for Narrow {
     }
 }
 
-/// Gives the bytes of a text one by one, and fails in the place of the read of this number, counted from 0.
+/// Gives the bytes of a text one by one, and fails in the place of the read of this number, counted
+/// from 0.
 #[derive(Drop)]
 pub(crate) struct Broken<'a> {
     pub(crate) rest: &'a [u8],

@@ -1,6 +1,7 @@
 //! Reading the whole input.
 
-ghost use Rattle.std.specs.Prelude.{◌≡◌, ◌≤◌, ◌↔◌, ◌<◌, ◌⊎◌, ℕ, false, true, length, Err, IfOk, IfErr, IsErrOf};
+ghost use Rattle.std.specs.Prelude.{◌≡◌, ◌≤◌, ◌↔◌, ◌<◌, ◌⊎◌, ℕ, false, true, length, Err, IfOk};
+ghost use Rattle.std.specs.Prelude.{IfErr, IsErrOf};
 ghost use Rattle.std.specs.Io.KnownBytes.{Consumes, IsAtEnd};
 ghost use Rattle.chan_run.specs.Input.{GaveAll, GaveOut, GaveTooMuch};
 
@@ -17,28 +18,32 @@ const CHUNK: usize = 8_192;
 /// Why the input was not read to its end.
 #[derive(Clone, Copy, PartialEq, Eq, Debug)]
 pub(crate) enum InputError {
-    /// The reader failed, before more than 67,108,864 bytes came.
+    /// The reader failed, before more bytes came than there may be.
     Read,
-    /// There are more than 67,108,864 bytes.
+    /// There are more bytes than there may be.
     TooLong,
     /// An allocation was refused.
     Memory,
 }
 
-/// The bytes that a reader gives up to its end, 67,108,864 of them at the most.
+/// The bytes that a reader gives up to its end, of which there may be no more than a limit.
 ///
 /// Each turn of the loop takes at least one byte, ends the input or fails, so it returns over an
 /// endless reader, with `TooLong`.
 pub(crate) fn read_input<R: Read>(
     alloc: Global,
+    limit: usize,
     from: &mut Watched<R>,
 ) -> Result<Vec<u8>, InputError>
     requires { from.old.failed ≡ false }
-    ensures ok { IfOk result (λ text. GaveAll (R.remaining from.old.device) (R.remaining from.new.device) text.items) }
-    ensures few { IfOk result (λ text. length text.items ≤ 67108864) }
-    ensures too_long { IsErrOf result InputError.TooLong → GaveTooMuch (R.remaining from.old.device) (R.remaining from.new.device) }
+    ensures ok { IfOk result (λ text. GaveAll (R.remaining from.old.device)
+        (R.remaining from.new.device) text.items) }
+    ensures few { IfOk result (λ text. length text.items ≤ limit) }
+    ensures too_long { IsErrOf result InputError.TooLong
+        → GaveTooMuch limit (R.remaining from.old.device) (R.remaining from.new.device) }
     ensures read { IsErrOf result InputError.Read ↔ (from.new.failed ≡ true) }
-    ensures early { IsErrOf result InputError.Read → GaveOut (R.remaining from.old.device) (R.remaining from.new.device) }
+    ensures early { IsErrOf result InputError.Read
+        → GaveOut limit (R.remaining from.old.device) (R.remaining from.new.device) }
 {
     let mut text = Vec::new(alloc);
     let mut chunk = [0u8; CHUNK];
@@ -50,7 +55,7 @@ pub(crate) fn read_input<R: Read>(
         if count == 0 {
             return Ok(text);
         }
-        if count > TEXT_LIMIT - text.len() {
+        if count > limit - text.len() {
             return Err(InputError::TooLong);
         }
         text.extend_from_slice(&chunk[..count])

@@ -10,15 +10,30 @@
 //!     report(Outcome::Ran(answer), &mut Watched::new(rt.stderr()))
 //! }
 //! ```
+//!
+//! `run_named` and `report_named` do the same over one of several inputs, which have names.
 #![tactic(auto)]
 
 #[cfg(test)]
 mod devices;
+mod image;
+mod image_options;
 mod input;
+mod meaning;
+mod naming;
+mod option_fault;
+mod option_reading;
+mod options;
 mod reporting;
 mod running;
 mod showing;
 
-pub use crate::reporting::{Outcome, report};
-pub use crate::running::{Action, RunError, Status, run};
+pub use crate::image::{ImageError, write_image};
+pub use crate::image_options::{ImageOption, ImageOptions, ImageWords, OptionError, OptionFault};
+pub use crate::meaning::{MeaningError, Term, explain_word, term_of};
+pub use crate::option_fault::report_option;
+pub use crate::option_reading::options_of;
+pub use crate::options::{address_of, area_of, cylinders_of, device_of, limit_of, mask_of};
+pub use crate::reporting::{Outcome, ends_run, greater_status, report, report_named};
+pub use crate::running::{Action, RunError, Status, run, run_named};
 pub use crate::showing::{ShowError, show};

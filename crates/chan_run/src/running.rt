@@ -1,16 +1,23 @@
 //! Running over a deck: from the reader's bytes to the writer's.
 
-ghost use Rattle.std.specs.Prelude.{◌≡◌, ◌↔◌, false, true, IsErrOf, OnOk};
+ghost use Rattle.std.specs.Prelude.{◌≡◌, ◌≢◌, ◌↔◌, ◌++◌, [], false, true, IsErrOf, OnOk};
 ghost use Rattle.std.specs.Io.KnownBytes.{Appends};
 ghost use Rattle.ccw_core.specs.Written.{AppendsPrefix};
 ghost use Rattle.chan_deck.specs.Texts.{verdict_line};
-ghost use Rattle.chan_run.specs.Run.{IsEarly, IsRunAnswer, IsTextAnswer, output_of, status_of_verdict};
+ghost use Rattle.chan_run.specs.Naming.{name_in};
+ghost use Rattle.chan_run.specs.Run.{IsAnswerBehind, IsEarly, IsJobAnswer, IsNamedAnswer};
+ghost use Rattle.chan_run.specs.Run.{IsRunAnswer};
+ghost use Rattle.chan_run.specs.Run.{IsTextAnswer, front_of, output_of, status_of_verdict};
 ghost use Rattle.chan_run.specs.declared.running.Action.TheVariants as actions;
 
-use crate::input::{InputError, read_input};
+use crate::input::{InputError, TEXT_LIMIT, read_input};
+use crate::naming::write_name;
 use ccw_core::{Watched, write_out};
-use chan_deck::{Cause, DeckError, ListError, read_deck, verdict_text, write_judged};
-use chan_walk::{Judged, Verdict, WalkError, judge};
+use chan_deck::{
+    Cause, DeckError, ListError, read_deck, verdict_text, write_explanation, write_graph,
+    write_judged,
+};
+use chan_walk::{Job, Judged, Verdict, WalkError, explain, judge, offences};
 use std::alloc::Global;
 use std::io::{Read, Write};
 use thiserror::Error;
@@ -25,6 +32,10 @@ pub enum Action {
     Verify,
     /// Writes a row for each reachable place, and then the line of the verdict.
     List,
+    /// Writes the explanation of the verdict.
+    Why,
+    /// Writes the picture of the program in Graphviz's language.
+    Graph,
 }
 
 /// What a verdict was.
@@ -63,9 +74,9 @@ pub enum RunError {
 ///
 /// Nothing is written before the whole deck was judged: after `Read`, `TooLong`, `Deck` and
 /// `TooManyPlaces` nothing was written, and after `Write` a prefix of the text. After `Memory`
-/// nothing was written or, for `List` alone, a prefix. `Read` and `Write` come exactly where the
-/// device failed, and `Read` only before more than 67,108,864 bytes came. Over an endless reader it
-/// returns, with `TooLong`.
+/// nothing was written or, for `List` and `Graph` alone, a prefix. `Read` and `Write` come exactly
+/// where the device failed, and `Read` only before more than 67,108,864 bytes came. Over an endless
+/// reader it returns, with `TooLong`.
 pub fn run<R: Read, W: Write>(
     alloc: Global,
     action: Action,
@@ -74,29 +85,76 @@ pub fn run<R: Read, W: Write>(
 ) -> Result<Status, RunError>
     requires reader { from.old.failed ≡ false }
     requires writer { to.old.failed ≡ false }
-    ensures answer { IsRunAnswer action (R.remaining from.old.device) (R.remaining from.new.device) (W.contents to.old.device) (W.contents to.new.device) result }
+    ensures answer { IsRunAnswer action (R.remaining from.old.device) (R.remaining from.new.device)
+        (W.contents to.old.device) (W.contents to.new.device) result }
     ensures early { IsEarly action result → to.new ≡ to.old }
     ensures read { IsErrOf result RunError.Read ↔ (from.new.failed ≡ true) }
     ensures write { IsErrOf result RunError.Write ↔ (to.new.failed ≡ true) }
 {
-    let text = match read_input(alloc, from) {
+    run_behind(alloc, None, action, from, to)
+}
+
+/// As `run`, over an input that has a name.
+///
+/// For `Verify` the verdict's line stands behind the name, a colon and a space, of which nothing is
+/// written either before the whole deck was judged; after `Write` a prefix of all this was written.
+/// For `List`, `Why` and `Graph` the text is that of `run`.
+pub fn run_named<R: Read, W: Write>(
+    alloc: Global,
+    name: &str,
+    action: Action,
+    from: &mut Watched<R>,
+    to: &mut Watched<W>,
+) -> Result<Status, RunError>
+    requires reader { from.old.failed ≡ false }
+    requires writer { to.old.failed ≡ false }
+    ensures answer { IsNamedAnswer name.now action
+        (R.remaining from.old.device) (R.remaining from.new.device)
+        (W.contents to.old.device) (W.contents to.new.device) result }
+    ensures early { IsEarly action result → to.new ≡ to.old }
+    ensures read { IsErrOf result RunError.Read ↔ (from.new.failed ≡ true) }
+    ensures write { IsErrOf result RunError.Write ↔ (to.new.failed ≡ true) }
+{
+    run_behind(alloc, Some(name), action, from, to)
+}
+
+/// As `run`, over an input that may have a name.
+fn run_behind<R: Read, W: Write>(
+    alloc: Global,
+    name: Option<&str>,
+    action: Action,
+    from: &mut Watched<R>,
+    to: &mut Watched<W>,
+) -> Result<Status, RunError>
+    requires reader { from.old.failed ≡ false }
+    requires writer { to.old.failed ≡ false }
+    ensures answer { IsAnswerBehind (front_of (name_in name.entry) action) action
+        (R.remaining from.old.device) (R.remaining from.new.device)
+        (W.contents to.old.device) (W.contents to.new.device) result }
+    ensures early { IsEarly action result → to.new ≡ to.old }
+    ensures read { IsErrOf result RunError.Read ↔ (from.new.failed ≡ true) }
+    ensures write { IsErrOf result RunError.Write ↔ (to.new.failed ≡ true) }
+{
+    let text = match read_input(alloc, TEXT_LIMIT, from) {
         Ok(text) => text,
         Err(InputError::Read) => return Err(RunError::Read),
         Err(InputError::TooLong) => return Err(RunError::TooLong),
         Err(InputError::Memory) => return Err(RunError::Memory),
     };
-    answer(alloc, action, text.as_slice(), to)
+    answer(alloc, name, action, text.as_slice(), to)
 }
 
 /// Verifies the job of the deck that a text spells, and writes what the action asks for.
 fn answer<W: Write>(
     alloc: Global,
+    name: Option<&str>,
     action: Action,
     text: &[u8],
     to: &mut Watched<W>,
 ) -> Result<Status, RunError>
     requires { to.old.failed ≡ false }
-    ensures answer { IsTextAnswer action text.now (W.contents to.old.device) (W.contents to.new.device) result }
+    ensures answer { IsTextAnswer (front_of (name_in name.entry) action) action
+        text.now (W.contents to.old.device) (W.contents to.new.device) result }
     ensures early { IsEarly action result → to.new ≡ to.old }
     ensures read { IsErrOf result RunError.Read → ⊥ }
     ensures write { IsErrOf result RunError.Write ↔ (to.new.failed ≡ true) }
@@ -107,50 +165,131 @@ fn answer<W: Write>(
         Err(DeckError::Memory) => return Err(RunError::Memory),
     };
     let job = deck.job();
-    let judged = match judge(alloc, &job) {
+    match action {
+        Action::Why => explained(alloc, &job, to),
+        Action::Graph => drawn(alloc, &job, to),
+        _ => judged(alloc, name, action, &job, to),
+    }
+}
+
+/// Verifies a job, and writes what the action asks for, if that is neither the explanation nor the
+/// picture.
+fn judged<W: Write>(
+    alloc: Global,
+    name: Option<&str>,
+    action: Action,
+    job: &Job,
+    to: &mut Watched<W>,
+) -> Result<Status, RunError>
+    requires writer { to.old.failed ≡ false }
+    requires why { action ≢ actions.Why }
+    requires graph { action ≢ actions.Graph }
+    ensures answer { IsJobAnswer (front_of (name_in name.entry) action) action
+        job.now (W.contents to.old.device) (W.contents to.new.device) result }
+    ensures early { IsEarly action result → to.new ≡ to.old }
+    ensures write { IsErrOf result RunError.Write ↔ (to.new.failed ≡ true) }
+{
+    let judged = match judge(alloc, job) {
         Ok(judged) => judged,
         Err(WalkError::TooManyPlaces) => return Err(RunError::TooManyPlaces),
         Err(WalkError::Memory) => return Err(RunError::Memory),
     };
-    match write_output(alloc, action, &judged, to) {
+    match write_output(alloc, name, action, &judged, to) {
         Ok(()) => Ok(status_of(judged.verdict())),
         Err(ListError::Write) => Err(RunError::Write),
         Err(ListError::Memory) => Err(RunError::Memory),
     }
 }
 
-/// Writes what the action asks for of a job that was judged.
+/// Explains the verdict on a job.
+fn explained<W: Write>(alloc: Global, job: &Job, to: &mut Watched<W>) -> Result<Status, RunError>
+    requires { to.old.failed ≡ false }
+    ensures answer { IsJobAnswer [] actions.Why
+        job.now (W.contents to.old.device) (W.contents to.new.device) result }
+    ensures early { IsEarly actions.Why result → to.new ≡ to.old }
+    ensures write { IsErrOf result RunError.Write ↔ (to.new.failed ≡ true) }
+{
+    let explanation = match explain(alloc, job) {
+        Ok(explanation) => explanation,
+        Err(WalkError::TooManyPlaces) => return Err(RunError::TooManyPlaces),
+        Err(WalkError::Memory) => return Err(RunError::Memory),
+    };
+    match write_explanation(alloc, job, &explanation, to) {
+        Ok(()) => Ok(status_of(explanation.verdict())),
+        Err(ListError::Write) => Err(RunError::Write),
+        Err(ListError::Memory) => Err(RunError::Memory),
+    }
+}
+
+/// Judges a job, and draws its program. The places are walked through twice, for the verdict and
+/// for the offences.
+fn drawn<W: Write>(alloc: Global, job: &Job, to: &mut Watched<W>) -> Result<Status, RunError>
+    requires { to.old.failed ≡ false }
+    ensures answer { IsJobAnswer [] actions.Graph
+        job.now (W.contents to.old.device) (W.contents to.new.device) result }
+    ensures early { IsEarly actions.Graph result → to.new ≡ to.old }
+    ensures write { IsErrOf result RunError.Write ↔ (to.new.failed ≡ true) }
+{
+    let seen = match judge(alloc, job) {
+        Ok(seen) => seen,
+        Err(WalkError::TooManyPlaces) => return Err(RunError::TooManyPlaces),
+        Err(WalkError::Memory) => return Err(RunError::Memory),
+    };
+    let offences = match offences(alloc, job) {
+        Ok(offences) => offences,
+        Err(WalkError::TooManyPlaces) => return Err(RunError::TooManyPlaces),
+        Err(WalkError::Memory) => return Err(RunError::Memory),
+    };
+    match write_graph(alloc, &seen, offences.as_slice(), to) {
+        Ok(()) => Ok(status_of(seen.verdict())),
+        Err(ListError::Write) => Err(RunError::Write),
+        Err(ListError::Memory) => Err(RunError::Memory),
+    }
+}
+
+/// Writes what the action asks for of a job that was judged, if that is neither the explanation nor
+/// the picture.
 fn write_output<W: Write>(
     alloc: Global,
+    name: Option<&str>,
     action: Action,
     judged: &Judged,
     to: &mut Watched<W>,
 ) -> Result<(), ListError>
-    requires { to.old.failed ≡ false }
-    ensures ok { OnOk result (Appends (W.contents to.old.device) (W.contents to.new.device) (output_of action judged.now)) }
-    ensures prefix { AppendsPrefix (W.contents to.old.device) (W.contents to.new.device) (output_of action judged.now) }
+    requires writer { to.old.failed ≡ false }
+    requires why { action ≢ actions.Why }
+    requires graph { action ≢ actions.Graph }
+    ensures ok { OnOk result (Appends (W.contents to.old.device) (W.contents to.new.device)
+        (front_of (name_in name.entry) action ++ output_of action judged.now)) }
+    ensures prefix { AppendsPrefix (W.contents to.old.device) (W.contents to.new.device)
+        (front_of (name_in name.entry) action ++ output_of action judged.now) }
     ensures write { IsErrOf result ListError.Write ↔ (to.new.failed ≡ true) }
     ensures early { IsErrOf result ListError.Memory → action ≡ actions.Verify → to.new ≡ to.old }
 {
     match action {
-        Action::Verify => write_verdict(alloc, judged.verdict(), to),
         Action::List => write_judged(alloc, judged, to),
+        _ => write_verdict(alloc, name, judged.verdict(), to),
     }
 }
 
-/// Writes the line of a verdict.
+/// Writes the line of a verdict, behind the name that the input may have.
+#[tactic(auto, using(ccw_core::proofs::Prefixes::prefix_after, ccw_core::proofs::Prefixes::prefix_of_more))]
 fn write_verdict<W: Write>(
     alloc: Global,
+    name: Option<&str>,
     verdict: Verdict,
     to: &mut Watched<W>,
 ) -> Result<(), ListError>
     requires { to.old.failed ≡ false }
-    ensures ok { OnOk result (Appends (W.contents to.old.device) (W.contents to.new.device) (verdict_line verdict)) }
-    ensures prefix { AppendsPrefix (W.contents to.old.device) (W.contents to.new.device) (verdict_line verdict) }
+    ensures ok { OnOk result (Appends (W.contents to.old.device) (W.contents to.new.device)
+        (front_of (name_in name.entry) actions.Verify ++ verdict_line verdict)) }
+    ensures prefix { AppendsPrefix (W.contents to.old.device) (W.contents to.new.device)
+        (front_of (name_in name.entry) actions.Verify ++ verdict_line verdict) }
     ensures write { IsErrOf result ListError.Write ↔ (to.new.failed ≡ true) }
     ensures memory { IsErrOf result ListError.Memory → to.new ≡ to.old }
 {
     let line = verdict_text(alloc, verdict)?;
+    write_name(name, true, to)?;
     Ok(write_out(line.as_bytes(), to)?)
 }
 

@@ -1,6 +1,7 @@
 //! Showing one channel command word.
 
-ghost use Rattle.std.specs.Prelude.{◌≡◌, ◌↔◌, ◌⊎◌, false, true, Err, IsErrOf, OnOk, IfOk, IsSome, IfSome, Ok, string_bytes};
+ghost use Rattle.std.specs.Prelude.{◌≡◌, ◌↔◌, ◌⊎◌, false, true, Err, IsErrOf, OnOk, IfOk, IsSome};
+ghost use Rattle.std.specs.Prelude.{IfSome, Ok, string_bytes};
 ghost use Rattle.std.specs.Io.KnownBytes.{Appends};
 ghost use Rattle.ccw_core.specs.Written.{AppendsPrefix};
 ghost use Rattle.chan_run.specs.Show.{SpellsCcw, line_of_bytes, shown_line};
@@ -37,9 +38,11 @@ pub enum ShowError {
 pub fn show<W: Write>(alloc: Global, text: &str, to: &mut Watched<W>) -> Result<(), ShowError>
     requires { to.old.failed ≡ false }
     ensures spelled { OnOk result (SpellsCcw text.now) }
-    ensures shown { OnOk result (Appends (W.contents to.old.device) (W.contents to.new.device) (shown_line text.now)) }
+    ensures shown { OnOk result (Appends (W.contents to.old.device) (W.contents to.new.device)
+        (shown_line text.now)) }
     ensures not_ccw { IsErrOf result ShowError.NotCcw ↔ ¬ SpellsCcw text.now }
-    ensures early { (result ≡ Err ShowError.NotCcw) ⊎ (result ≡ Err ShowError.Memory) → to.new ≡ to.old }
+    ensures early { (result ≡ Err ShowError.NotCcw) ⊎ (result ≡ Err ShowError.Memory) → to.new
+        ≡ to.old }
     ensures write { IsErrOf result ShowError.Write ↔ (to.new.failed ≡ true) }
     ensures prefix { IsErrOf result ShowError.Write
         → AppendsPrefix (W.contents to.old.device) (W.contents to.new.device) (shown_line text.now) }

@@ -1,22 +1,24 @@
 -- The path to a place that offends by the verdict's reason.
-use Rattle.std.proofs.Common.{◌≡◌, ℕ, zero, suc, ◌+◌, ◌<◌, ◌≤◌, List, [], ◌∷◌, length, get_or, slice_get, Option, Some, None, refl, sym, ap, ◌∙◌, subst, ◌⊎◌, inl, inr, ◌↔◌, arith}
+use Rattle.std.proofs.Common.{◌≡◌, ℕ, suc, ◌+◌, ◌<◌, ◌≤◌, List, [], ◌∷◌, length, get_or, slice_get, Option, Some, None, IsSome, Bool, true, false, refl, sym, ap, ◌∙◌, subst, ◌⊎◌, inl, inr, ◌↔◌, arith}
 use Rattle.std.proofs.lemmas.Bool.{cases_lt}
+use Rattle.chan_walk.specs.declared.evidence.Evidence.{Evidence}
 use Rattle.chan_walk.specs.declared.exploring.Walk.{Walk}
 use Rattle.chan_walk.specs.declared.job.Job.{Job}
 use Rattle.chan_walk.specs.declared.offence.Offence.{Offence}
 use Rattle.chan_walk.specs.declared.place.Place.{Place}
 use Rattle.chan_walk.specs.Alarm.{EachPathShows, IsProper}
 use Rattle.chan_walk.specs.Argument.{Has}
-use Rattle.chan_walk.specs.Explained.{HasNumber, IsFirstLike, IsLike, IsPathOf, IsWitness, OffendsAt}
+use Rattle.chan_walk.specs.Explained.{HasNumber, IsEvidenceOf, IsLike, IsPathOf, IsWitness, OffendsAt}
 use Rattle.chan_walk.specs.Least.{AreReached}
 use Rattle.chan_walk.specs.Look.{AreLooks, Seen, places_of_looks}
-use Rattle.chan_walk.specs.Offences.{AreOffences, first_verdict, offence_number}
-use Rattle.chan_walk.specs.Walk.{HasFound, IsPathAt}
+use Rattle.chan_walk.specs.Evidence.{IsEvidence}
+use Rattle.chan_walk.specs.Offences.{AreOffences, Offending, first_verdict, offence_number}
+use Rattle.chan_walk.specs.Reachable.{IsReachable}
+use Rattle.chan_walk.specs.Walk.{HasFound, IsFirstWhere, IsPathAt}
 use Rattle.chan_walk.proofs.Listing.{offence, same_offence}
-use Rattle.chan_walk.proofs.Lists.{has_at}
-use Rattle.chan_walk.proofs.Looking.{number_of_places, place_at}
-use Rattle.chan_walk.proofs.Tracing.{get_within}
-use Rattle.chan_walk.proofs.Walking.{all_found, at_has, reached_all}
+use Rattle.chan_walk.proofs.Lists.{get_there, has_at}
+use Rattle.chan_walk.proofs.Finding.{path_where, reached_at}
+use Rattle.chan_walk.proofs.Walking.{reached_all}
 
 -- ---- offences by their number
 
@@ -34,22 +36,9 @@ no_number os n i h none m = let a = offence_at os m.0 m.1 in none a.0 m.0 (omega
 pub like_number : (os : List Offence) (o : Offence) (p : Place) → HasNumber os (offence_number (offence p o.reason)) ↔ Has os (offence p o.reason)
 like_number os o p = ((λ h. subst (Has os) (same_offence h.0 (offence p o.reason) h.2) h.1), λ h. (offence p o.reason, h, refl))
 
--- ---- the first place found
-
-pub more_unlike : (os : List Offence) (o : Offence) (ls : List Seen) (i : ℕ) (l : Seen) → i < length ls → l ≡ get_or ls i l → (IsLike os o l.place → ⊥)
-    → ((k : ℕ) (p : Place) → k < i → slice_get (places_of_looks ls) k ≡ Some p → IsLike os o p → ⊥) → (k : ℕ) (p : Place) → k < i + 1 → slice_get (places_of_looks ls) k ≡ Some p → IsLike os o p → ⊥
-more_unlike os o ls i l h e n old k p lt d like = go (cases_lt k i)
-  where
-    go : (k < i) ⊎ (i ≤ k) → ⊥
-    go (inl b) = old k p b d like
-    go (inr b) =
-        let at : k ≡ i = omega arith in
-        let same : ◌≡◌ {A = Option Place} (Some p) (Some l.place) = sym d ∙ ap (slice_get (places_of_looks ls)) at ∙ place_at ls i l h e in
-        let is : p ≡ l.place = cc in
-        n (subst (IsLike os o) is like)
-
-pub none_like : (os : List Offence) (o : Offence) (ls : List Seen) (i : ℕ) → length ls ≤ i → ((k : ℕ) (p : Place) → k < i → slice_get (places_of_looks ls) k ≡ Some p → IsLike os o p → ⊥) → IsFirstLike os o (places_of_looks ls) None
-none_like os o ls i h n k p e like = n k p (omega (arith, number_of_places ls, get_within (places_of_looks ls) k p e)) e like
+-- an offence and its number
+pub numbered : (os : List Offence) (o : Offence) (n : ℕ) → n ≡ offence_number o → HasNumber os n ↔ Has os o
+numbered os o n e = ((λ h. subst (Has os) (same_offence h.0 o (h.2 ∙ e)) h.1), λ h. (o, h, sym e))
 
 -- ---- the path to it
 
@@ -57,68 +46,68 @@ module _ (j : Job) (w : Walk) (f : HasFound j w) where
   abbrev ps : List Place
   ps = places_of_looks w.looks.items
 
-  -- a place that offends in this way is like the first offence
-  like : (o : Offence) (os : List Offence) → AreOffences j (o ∷ os) → (p : Place) → Has ps p → OffendsAt j o.place.address o.reason p → IsLike (o ∷ os) o p
-  like o os are p h off = (off.0, are.each (offence p o.reason) (f.walked.only p h, off.1))
+  -- a reachable place offends as the first offence does exactly where it is like it
+  like : (o : Offence) (os : List Offence) → AreOffences j (o ∷ os) → (p : Place) → IsReachable j p → OffendsAt j o.place.address o.reason p → IsLike (o ∷ os) o p
+  like o os are p r off = (off.0, are.each (offence p o.reason) (r, off.1))
 
-  pub path_found : (o : Offence) (os : List Offence) (i : ℕ) (path : List Place) → AreOffences j (o ∷ os) → IsFirstLike (o ∷ os) o ps (Some i) → IsPathAt j ps i path → IsPathOf j (first_verdict (o ∷ os)) path
-  path_found o os i path are h a =
-      let p = h.0.0 in
-      let same : ◌≡◌ {A = Option Place} (Some a.last) (Some p) = sym a.best.here ∙ h.0.1 in
-      let is : p ≡ a.last = cc in
-      let off : OffendsAt j o.place.address o.reason p = (h.0.2.0, (are.only (offence p o.reason) h.0.2.1).1) in
-      record {
-        last = a.last;
-        before = a.before;
-        is = a.is;
-        path = record {
-          path = a.best.path;
-          holds = subst (OffendsAt j o.place.address o.reason) is off;
-          first = λ q qs path off.
-              let at = at_has ps q (all_found j j.limit ps f.at f.walked f.all q (qs, path)) in
-              a.best.first at.0 q qs (not_before at.0 q at.2 off (cases_lt at.0 i)) at.2 path;
-        };
-      }
-    where
-      not_before : (k : ℕ) (q : Place) → slice_get ps k ≡ Some q → OffendsAt j o.place.address o.reason q → (k < i) ⊎ (i ≤ k) → i ≤ k
-      not_before k q e off (inl b) = absurd (h.1 k q b e (like o os are q (has_at ps k q e) off))
-      not_before k q e off (inr b) = b
+  pub offends : (o : Offence) (os : List Offence) → AreOffences j (o ∷ os) → (p : Place) → IsLike (o ∷ os) o p → OffendsAt j o.place.address o.reason p
+  offends o os are p h = (h.0, (are.only (offence p o.reason) h.1).1)
+
+  first_offending : (o : Offence) (os : List Offence) (i : ℕ) → AreOffences j (o ∷ os) → IsFirstWhere (IsLike (o ∷ os) o) ps (Some i) → IsFirstWhere (OffendsAt j o.place.address o.reason) ps (Some i)
+  first_offending o os i are h =
+      ((h.0.0, h.0.1, offends o os are h.0.0 h.0.2), λ k p l e off. h.1 k p l e (like o os are p (f.walked.only p (has_at ps k p e)) off))
+
+  pub path_found : (o : Offence) (os : List Offence) (i : ℕ) (path : List Place) → AreOffences j (o ∷ os) → IsFirstWhere (IsLike (o ∷ os) o) ps (Some i) → IsPathAt j ps i path → IsPathOf j (first_verdict (o ∷ os)) path
+  path_found o os i path are h a = path_where j w f (OffendsAt j o.place.address o.reason) i path (first_offending o os i are h) a
 
   -- the first offence's own place is like it
-  pub some_like : (o : Offence) (os : List Offence) → AreOffences j (o ∷ os) → IsFirstLike (o ∷ os) o ps None → ⊥
+  pub some_like : (o : Offence) (os : List Offence) → AreOffences j (o ∷ os) → IsFirstWhere (IsLike (o ∷ os) o) ps None → ⊥
   some_like o os are n =
       let here = are.only o (inl refl) in
-      let at = at_has ps o.place (all_found j j.limit ps f.at f.walked f.all o.place here.0) in
-      n at.0 o.place at.2 (refl, inl refl)
+      reached_at j w f (IsLike (o ∷ os) o) n o.place here.0 (refl, inl refl)
+
+  pub offending_found : (o : Offence) (os : List Offence) (i : ℕ) (p : Place) → AreOffences j (o ∷ os) → IsFirstWhere (IsLike (o ∷ os) o) ps (Some i) → slice_get ps i ≡ Some p → Offending j (offence p o.reason)
+  offending_found o os i p are h e =
+      let same : ◌≡◌ {A = Option Place} (Some h.0.0) (Some p) = sym h.0.1 ∙ e in
+      let is : h.0.0 ≡ p = cc in
+      subst (λ (q : Place). Offending j (offence q o.reason)) is (are.only (offence h.0.0 o.reason) h.0.2.1)
+
+  -- the same, by the first of a list
+  module _ (os : List Offence) (o : Offence) (first : Some o ≡ slice_get os 0) (are : AreOffences j os) where
+    -- a list has its first element at its head
+    as_head : (P : List Offence → Offence → Type 0) → ((t : Offence) (ts : List Offence) → AreOffences j (t ∷ ts) → P (t ∷ ts) t) → P os o
+    as_head P f = go os first are
+      where
+        go : (os : List Offence) → Some o ≡ slice_get os 0 → AreOffences j os → P os o
+        go [] e are = absurd (cc)
+        go (t ∷ ts) e are = let is : t ≡ o = cc in subst (P (t ∷ ts)) is (f t ts are)
+
+    pub some_chosen : (at : Option ℕ) → IsFirstWhere (IsLike os o) ps at → IsSome at
+    some_chosen None n = as_head (λ os o. IsFirstWhere (IsLike os o) ps None → ◌≡◌ {A = Bool} false true) (λ t ts are n. absurd (some_like t ts are n)) n
+    some_chosen (Some i) n = refl
+
+    pub offending_chosen : (i : ℕ) (p : Place) → slice_get ps i ≡ Some p → IsFirstWhere (IsLike os o) ps (Some i) → Offending j (offence p o.reason)
+    offending_chosen i p e = as_head (λ os o. IsFirstWhere (IsLike os o) ps (Some i) → Offending j (offence p o.reason)) (λ t ts are h. offending_found t ts i p are h e)
+
+    pub path_chosen : (i : ℕ) (path : List Place) → IsPathAt j ps i path → IsFirstWhere (IsLike os o) ps (Some i) → IsPathOf j (first_verdict os) path
+    path_chosen i path a = as_head (λ os o. IsFirstWhere (IsLike os o) ps (Some i) → IsPathOf j (first_verdict os) path) (λ t ts are h. path_found t ts i path are h a)
+
+    pub evidence_chosen : (i : ℕ) (p : Place) (path : List Place) (e : Evidence) → slice_get ps i ≡ Some p → IsPathAt j ps i path → IsEvidence j (offence p o.reason) e → IsEvidenceOf j (first_verdict os) path (Some e)
+    evidence_chosen i p path e here a =
+        let same : ◌≡◌ {A = Option Place} (Some p) (Some a.last) = sym here ∙ a.best.here in
+        let is : p ≡ a.last = cc in
+        as_head (λ os o. IsEvidence j (offence p o.reason) e → IsEvidenceOf j (first_verdict os) path (Some e))
+        (λ t ts are v. (a.last, a.before, a.is, subst (λ (q : Place). IsEvidence j (offence q t.reason) e) is v))
 
 -- a run over the path shows the reason
 pub witness : (j : Job) (os : List Offence) (path : List Place) → IsProper j → EachPathShows → IsPathOf j (first_verdict os) path → IsWitness j (first_verdict os) path
 witness j [] path proper law h = tt
 witness j (o ∷ os) path proper law h = (h.last, h.before, h.is, h.path.holds.0, law j h.last h.before o.reason proper h.path.path h.path.holds.1)
 
--- by the first of a list
-pub path_chosen : (j : Job) (w : Walk) (f : HasFound j w) (os : List Offence) (o : Offence) (i : ℕ) (path : List Place) → Some o ≡ slice_get os 0 → AreOffences j os
-    → IsFirstLike os o (places_of_looks w.looks.items) (Some i) → IsPathAt j (places_of_looks w.looks.items) i path → IsPathOf j (first_verdict os) path
-path_chosen j w f [] o i path e are h a = absurd (cc)
-path_chosen j w f (t ∷ os) o i path e are h a =
-    let same : o ≡ t = cc in
-    path_found j w f t os i path are (subst (λ (z : Offence). IsFirstLike (t ∷ os) z (places_of_looks w.looks.items) (Some i)) same h) a
-
-pub some_chosen : (j : Job) (w : Walk) (f : HasFound j w) (os : List Offence) (o : Offence) → Some o ≡ slice_get os 0 → AreOffences j os → IsFirstLike os o (places_of_looks w.looks.items) None → ⊥
-some_chosen j w f [] o e are h = absurd (cc)
-some_chosen j w f (t ∷ os) o e are h =
-    let same : o ≡ t = cc in
-    some_like j w f t os are (subst (λ (z : Offence). IsFirstLike (t ∷ os) z (places_of_looks w.looks.items) None) same h)
-
 -- ---- numbers by their index
 
-offence_there : (os : List Offence) (k : ℕ) (d : Offence) → k < length os → slice_get os k ≡ Some (get_or os k d)
-offence_there [] k d h = absurd (omega arith)
-offence_there (o ∷ os) zero d h = refl
-offence_there (o ∷ os) (suc k) d h = offence_there os k d (omega arith)
-
 pub number_there : (os : List Offence) (k n : ℕ) (d : Offence) → k < length os → offence_number (get_or os k d) ≡ n → HasNumber os n
-number_there os k n d h e = has_number os k (get_or os k d) n (offence_there os k d h) e
+number_there os k n d h e = has_number os k (get_or os k d) n (get_there os k d h) e
 
 pub more_numbers : (os : List Offence) (i n : ℕ) (d : Offence) → i < length os → (offence_number (get_or os i d) ≡ n → ⊥) → ((k : ℕ) (o : Offence) → k < i → slice_get os k ≡ Some o → offence_number o ≡ n → ⊥)
     → (k : ℕ) (o : Offence) → k < i + 1 → slice_get os k ≡ Some o → offence_number o ≡ n → ⊥
@@ -128,7 +117,7 @@ more_numbers os i n d h unlike old k o lt e f = go (cases_lt k i)
     go (inl b) = old k o b e f
     go (inr b) =
         let at : k ≡ i = omega arith in
-        let same : ◌≡◌ {A = Option Offence} (Some o) (Some (get_or os i d)) = sym e ∙ ap (slice_get os) at ∙ offence_there os i d h in
+        let same : ◌≡◌ {A = Option Offence} (Some o) (Some (get_or os i d)) = sym e ∙ ap (slice_get os) at ∙ get_there os i d h in
         let is : o ≡ get_or os i d = cc in
         unlike (sym (ap offence_number is) ∙ f)
 

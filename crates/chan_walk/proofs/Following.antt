@@ -1,6 +1,7 @@
 -- Following the chain of a seek, CCW by CCW.
-use Rattle.std.proofs.Common.{◌≡◌, ℕ, zero, suc, ◌+◌, ◌-◌, ◌<◌, ◌≤◌, true, false, List, [], ◌∷◌, ◌++◌, take, length, get_or, None, Some, refl, sym, ap, ◌∙◌, subst, ◌⊎◌, inl, inr, arith, append_assoc, append-nil, length-append}
+use Rattle.std.proofs.Common.{◌≡◌, ℕ, zero, suc, ◌+◌, ◌-◌, ◌<◌, ◌≤◌, true, false, List, [], ◌∷◌, ◌++◌, take, length, get_or, None, Some, Option, Result, Ok, Err, IfOk, IfErr, refl, sym, ap, ◌∙◌, subst, ◌⊎◌, inl, inr, arith, append_assoc, append-nil, length-append}
 use Rattle.std.proofs.lemmas.List.{ext_get_or, get_or-append-add}
+use Rattle.std.specs.Result.{result_ok}
 use Rattle.std.specs.List.{range_with_len, AllByRecursion}
 use Rattle.std.proofs.lemmas.Bool.{cases_lt, both_ways, and_parts, leb-true}
 use Rattle.std.proofs.Math.ListN.{get_or-append}
@@ -10,6 +11,7 @@ use Rattle.ccw_core.specs.Storage.{ccw_at, is_inside}
 use Rattle.ccw_core.proofs.StorageLemmas.{ccw_at-some}
 use Rattle.chan_walk.specs.Argument.{is_part, Leads, AreLinked, IsChain, argument_addresses, joined, data_of, total}
 use Rattle.chan_walk.specs.Onward.{onward}
+use Rattle.chan_walk.specs.Tables.{HasAddresses}
 use Rattle.chan_walk.proofs.Chains.{chain_cons, chain_tail, chain_begins_with_part, onward_leads, onward_only, part_counts}
 use Rattle.chan_walk.proofs.CheckCases.{is_part-none}
 use Rattle.chan_walk.proofs.Lists.{all_append, range_split, take_front}
@@ -24,7 +26,7 @@ pub record IsFollowed (s : List ℕ) (a : ℕ) (taken : List ℕ) (have here : �
   pub to : (l : List ℕ) → IsChain s (6 - have) here l → (k : List ℕ) × IsChain s 6 a k × (joined s k ≡ before ++ joined s l)
   pub from : (k : List ℕ) → IsChain s 6 a k → (l : List ℕ) × IsChain s (6 - have) here l
 
-chain_goes_on : (s : List ℕ) (n a : ℕ) (l : List ℕ) → (ccw s a).count < n → IsChain s n a l
+pub chain_goes_on : (s : List ℕ) (n a : ℕ) (l : List ℕ) → (ccw s a).count < n → IsChain s n a l
     → (chains_data (ccw s a) ≡ true) × ((k : List ℕ) × IsChain s (n - (ccw s a).count) (onward s a) k)
 chain_goes_on s n a [] lt k = absurd k.begins
 chain_goes_on s n a (x ∷ []) lt k =
@@ -59,6 +61,11 @@ leads_nowhere s a taken have here w lt n k h =
     let l = w.from k h in
     let m = (chain_goes_on s _ here l.0 lt l.1).1 in
     begins_nowhere s _ (onward s here) n m.0 m.1
+
+-- the addresses that were found, if they were
+pub found_or_none : (s : List ℕ) (a : ℕ) (r : Result (List ℕ) ℕ) (o : Option (List ℕ)) → o ≡ result_ok r → IfOk r (λ x. HasAddresses s a (Some x)) → IfErr r (λ _. HasAddresses s a None) → HasAddresses s a o
+found_or_none s a (Ok x) o e six none = subst (HasAddresses s a) (sym e) six
+found_or_none s a (Err n) o e six none = subst (HasAddresses s a) (sym e) none
 
 -- the addresses after n more from a
 note_more : (before taken taken' : List ℕ) (have from n : ℕ) → length before ≡ have → ((i : ℕ) → i < have → get_or taken i 0 ≡ get_or before i 0)

@@ -35,6 +35,12 @@ pub mod Guarding
 pub mod Looking
 pub mod Sorting
 pub mod Listing
-pub mod Explaining
 pub mod Tracing
 pub mod Backward
+pub mod Finding
+pub mod Explaining
+pub mod Gaps
+pub mod Changing
+pub mod Causes
+pub mod Given
+pub mod Answering

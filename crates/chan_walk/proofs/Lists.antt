@@ -47,6 +47,11 @@ has_at [] k x e = absurd (cc)
 has_at (y ∷ xs) zero x e = let same : y ≡ x = cc in inl same
 has_at (y ∷ xs) (suc k) x e = inr (has_at xs k x e)
 
+pub get_there : {X : Type 0} (xs : List X) (k : ℕ) (d : X) → k < length xs → slice_get xs k ≡ Some (get_or xs k d)
+get_there [] k d h = absurd (omega arith)
+get_there (x ∷ xs) zero d h = refl
+get_there (x ∷ xs) (suc k) d h = get_there xs k d (omega arith)
+
 -- what is an element, in the library's word
 pub has_contains : {X : Type 0} (es : List X) (e : X) → Has es e → Contains es e
 has_contains [] e h = absurd h

@@ -1,5 +1,7 @@
--- No false alarm: where the verdict is no, a run shows why; and yes is said of every job that is safe and steady.
-use Rattle.std.specs.Prelude.{◌≡◌, ℕ, ◌+◌, ◌<◌, ◌≤◌, true, false, List, [], ◌∷◌, ◌++◌, map, length, Some, None, ◌⊎◌}
+-- No false alarm: where the verdict is no, a run shows why; and yes is said of every job that is
+-- safe and steady.
+use Rattle.std.specs.Prelude.{◌≡◌, ℕ, ◌+◌, ◌<◌, ◌≤◌, true, false, List, [], ◌∷◌, ◌++◌, map, length}
+use Rattle.std.specs.Prelude.{Some, None, ◌⊎◌}
 use Rattle.std.specs.List.{AllByRecursion, range_with_len}
 use Rattle.ccw_core.specs.Areas.{lies_in}
 use Rattle.ccw_core.specs.Ccw.{byte, ccw}
@@ -8,7 +10,13 @@ use Rattle.ckd_core.specs.Mask.{inhibits, is_at_least}
 use Rattle.chan_walk.specs.declared.job.Job.{Job}
 use Rattle.chan_walk.specs.declared.place.Place.{Place}
 use Rattle.chan_walk.specs.declared.reason.Reason.{Reason}
-use Rattle.chan_walk.specs.declared.reason.Reason.TheVariants.{Misaligned, OutsideStorage, TransferNotAllowed, InvalidCode, BadFormat, ZeroCount, DataOutside, NotInTable, Inhibited, StoreNotLent, FetchNotLent, ShortSeek, SeekOutside, ChangesCcw, ChangesArgument, WeakensMask}
+use Rattle.chan_walk.specs.declared.reason.Reason.TheVariants.{Misaligned, OutsideStorage}
+use Rattle.chan_walk.specs.declared.reason.Reason.TheVariants.{TransferNotAllowed, InvalidCode}
+use Rattle.chan_walk.specs.declared.reason.Reason.TheVariants.{BadFormat, ZeroCount, DataOutside}
+use Rattle.chan_walk.specs.declared.reason.Reason.TheVariants.{NotInTable, Inhibited, StoreNotLent}
+use Rattle.chan_walk.specs.declared.reason.Reason.TheVariants.{FetchNotLent, ShortSeek, SeekOutside}
+use Rattle.chan_walk.specs.declared.reason.Reason.TheVariants.{ChangesCcw, ChangesArgument}
+use Rattle.chan_walk.specs.declared.reason.Reason.TheVariants.{WeakensMask}
 use Rattle.chan_walk.specs.declared.verdict.Verdict.{Verdict}
 use Rattle.chan_walk.specs.declared.verdict.Verdict.TheVariants.{Yes, No}
 use Rattle.chan_walk.specs.Argument.{Has}
@@ -16,7 +24,8 @@ use Rattle.chan_walk.specs.Check.{check}
 use Rattle.chan_walk.specs.Fault.{is_known, begins_seek, allows}
 use Rattle.chan_walk.specs.Headline.{IsSafe, IsSteady}
 use Rattle.chan_walk.specs.Job.{storage_of, extents_of, fetch_of, store_of, HasMask}
-use Rattle.chan_walk.specs.Machine.{Gathered, Stage, At, Checked, Event, Command, Store, Fetch, Gather, Seek, SetMask}
+use Rattle.chan_walk.specs.Machine.{Gathered, Stage, At, Checked, Event, Command, Store, Fetch}
+use Rattle.chan_walk.specs.Machine.{Gather, Seek, SetMask}
 use Rattle.chan_walk.specs.Place.{is_fresh}
 use Rattle.chan_walk.specs.Reachable.{IsPath}
 use Rattle.chan_walk.specs.Runs.{Moment, IsRun, UsesInCcw, UsesInArgument}
@@ -26,8 +35,8 @@ use Rattle.chan_walk.specs.Verdict.{Offends, IsVerdict}
 abbrev pub AreBytes : List ℕ → Type 0
 AreBytes s = (b : ℕ) → byte s b < 256
 
--- what the types of the code keep of every job: one extent or more, each of them in order and on the
--- device, bytes in storage, and a mask
+-- what the types of the code keep of every job: one extent or more, each of them in order and on
+-- the device, bytes in storage, and a mask
 abbrev pub IsProper : Job → Type 0
 IsProper j = AreExtents (extents_of j) × AreBytes (storage_of j) × HasMask j
 
@@ -61,14 +70,18 @@ ArePlaces [] (p ∷ ps) = ⊥
 ArePlaces (m ∷ ms) [] = ⊥
 ArePlaces (m ∷ ms) (p ∷ ps) = ((g : Gathered) × (m.stage ≡ At p g)) × ArePlaces ms ps
 
--- each path is the places of a run that begins at the first cylinder of the first extent and stores only what was there
+-- each path is the places of a run that begins at the first cylinder of the first extent and stores
+-- only what was there
 abbrev pub EachPathIsRun : Type 0
-EachPathIsRun = (j : Job) → IsProper j → (ps : List Place) → IsPath j ps → (run : List Moment) × IsRun j run × ArePlaces run ps × AllByRecursion (IsQuietMoment j) run
+EachPathIsRun =
+    (j : Job) → IsProper j → (ps : List Place) → IsPath j ps → (run : List Moment) × IsRun j run
+    × ArePlaces run ps × AllByRecursion (IsQuietMoment j) run
 
 -- ---- what a run shows
 
 -- a run comes over the places ps to p, with nothing changed so far, and there its next step shows P
-pub record ShowsInStep (j : Job) (p : Place) (ps : List Place) (P : List Event → Stage → Type 0) : Type 0 where
+pub record ShowsInStep (j : Job) (p : Place) (ps : List Place) (P : List Event → Stage → Type 0)
+    : Type 0 where
   pub run : List Moment
   pub at : Moment
   pub next : Moment
@@ -84,11 +97,14 @@ NoSeek es = (x : List ℕ) → Has es (Seek (Some x)) → ⊥
 -- moments at which the same operation goes on, by data chaining, and no argument is complete
 abbrev pub StaysInOperation : List Moment → Type 0
 StaysInOperation [] = Unit {0}
-StaysInOperation (m ∷ ms) = ((q : Place) × (g : Gathered) × (m.stage ≡ At q g) × (is_fresh q.entered ≡ false)) × NoSeek m.events × StaysInOperation ms
+StaysInOperation (m ∷ ms) =
+    ((q : Place) × (g : Gathered) × (m.stage ≡ At q g) × (is_fresh q.entered ≡ false))
+    × NoSeek m.events × StaysInOperation ms
 
--- a run comes over the places ps to p, with nothing changed so far, and a step of the operation that
--- begins there shows P; P is also told of the moment at p
-pub record ShowsInOperation (j : Job) (p : Place) (ps : List Place) (P : Moment → List Event → Stage → Type 0) : Type 0 where
+-- a run comes over the places ps to p, with nothing changed so far, and a step of the operation
+-- that begins there shows P; P is also told of the moment at p
+pub record ShowsInOperation (j : Job) (p : Place) (ps : List Place)
+    (P : Moment → List Event → Stage → Type 0) : Type 0 where
   pub run : List Moment
   pub at : Moment
   pub more : List Moment
@@ -101,7 +117,9 @@ pub record ShowsInOperation (j : Job) (p : Place) (ps : List Place) (P : Moment 
 
 -- a byte is stored for whose address P holds
 abbrev pub StoresOn : (ℕ → Type 0) → List Event → Type 0
-StoresOn P es = (a : ℕ) × (bytes : List ℕ) × (b : ℕ) × Has es (Store a bytes) × (a ≤ b) × (b < a + length bytes) × P b
+StoresOn P es =
+    (a : ℕ) × (bytes : List ℕ) × (b : ℕ) × Has es (Store a bytes) × (a ≤ b) × (b < a + length bytes)
+    × P b
 
 -- a byte is fetched for whose address P holds
 abbrev pub FetchesFrom : (ℕ → Type 0) → List Event → Type 0
@@ -111,11 +129,11 @@ FetchesFrom P es = (a : ℕ) × (n : ℕ) × (b : ℕ) × Has es (Fetch a n) × 
 abbrev pub ShowsCheck : Job → Place → List Place → Reason → Type 0
 ShowsCheck j p ps r = ShowsInStep j p ps (λ es stage. stage ≡ Checked r)
 
--- what a run over the places ps shows for a reason at p: the program check itself; a command that may not begin; a store
--- or a fetch outside lent areas; a seek that begins at p, where the channel's check passes, and ends or
--- is checked before its sixth byte; an operation that begins at p and seeks where it isn't allowed; a
--- store over what some run uses; a Set File Mask that begins at p and takes a byte less strict than the
--- job's mask
+-- what a run over the places ps shows for a reason at p: the program check itself; a command that
+-- may not begin; a store or a fetch outside lent areas; a seek that begins at p, where the
+-- channel's check passes, and ends or is checked before its sixth byte; an operation that begins at
+-- p and seeks where it isn't allowed; a store over what some run uses; a Set File Mask that begins
+-- at p and takes a byte less strict than the job's mask
 abbrev pub Shows : Job → Place → List Place → Reason → Type 0
 Shows j p ps Misaligned = ShowsCheck j p ps Misaligned
 Shows j p ps OutsideStorage = ShowsCheck j p ps OutsideStorage
@@ -124,18 +142,29 @@ Shows j p ps InvalidCode = ShowsCheck j p ps InvalidCode
 Shows j p ps BadFormat = ShowsCheck j p ps BadFormat
 Shows j p ps ZeroCount = ShowsCheck j p ps ZeroCount
 Shows j p ps DataOutside = ShowsCheck j p ps DataOutside
-Shows j p ps NotInTable = ShowsInStep j p ps (λ es stage. (code : ℕ) × Has es (Command code) × (is_known code ≡ false))
-Shows j p ps Inhibited = ShowsInStep j p ps (λ es stage. (code : ℕ) × Has es (Command code) × (inhibits j.mask code ≡ true))
-Shows j p ps StoreNotLent = ShowsInStep j p ps (λ es stage. StoresOn (λ b. lies_in (store_of j) b ≡ false) es)
-Shows j p ps FetchNotLent = ShowsInStep j p ps (λ es stage. FetchesFrom (λ b. lies_in (fetch_of j) b ≡ false) es)
+Shows j p ps NotInTable =
+    ShowsInStep j p ps (λ es stage. (code : ℕ) × Has es (Command code) × (is_known code ≡ false))
+Shows j p ps Inhibited =
+    ShowsInStep j p ps (λ es stage. (code : ℕ) × Has es (Command code)
+    × (inhibits j.mask code ≡ true))
+Shows j p ps StoreNotLent =
+    ShowsInStep j p ps (λ es stage. StoresOn (λ b. lies_in (store_of j) b ≡ false) es)
+Shows j p ps FetchNotLent =
+    ShowsInStep j p ps (λ es stage. FetchesFrom (λ b. lies_in (fetch_of j) b ≡ false) es)
 Shows j p ps ShortSeek =
     ShowsInOperation j p ps (λ at es stage. (check at.storage p ≡ None)
     × (begins_seek p (ccw at.storage p.address) ≡ true)
     × NoSeek es
     × (Has es (Seek None) ⊎ ((r : Reason) × (stage ≡ Checked r))))
-Shows j p ps SeekOutside = ShowsInOperation j p ps (λ at es stage. (is_fresh p.entered ≡ true) × (x : List ℕ) × Has es (Seek (Some x)) × (allows j x ≡ false))
-Shows j p ps ChangesCcw = ShowsInStep j p ps (λ es stage. StoresOn (λ b. (used : List Moment) × IsRun j used × UsesInCcw used b) es)
-Shows j p ps ChangesArgument = ShowsInStep j p ps (λ es stage. StoresOn (λ b. (used : List Moment) × IsRun j used × UsesInArgument used b) es)
+Shows j p ps SeekOutside =
+    ShowsInOperation j p ps (λ at es stage. (is_fresh p.entered ≡ true) × (x : List ℕ)
+    × Has es (Seek (Some x)) × (allows j x ≡ false))
+Shows j p ps ChangesCcw =
+    ShowsInStep j p ps (λ es stage. StoresOn
+    (λ b. (used : List Moment) × IsRun j used × UsesInCcw used b) es)
+Shows j p ps ChangesArgument =
+    ShowsInStep j p ps (λ es stage. StoresOn
+    (λ b. (used : List Moment) × IsRun j used × UsesInArgument used b) es)
 Shows j p ps WeakensMask =
     ShowsInStep j p ps (λ es stage. (is_fresh p.entered ≡ true)
     × (a : ℕ) × (x : ℕ) × Has es (SetMask a x)
@@ -143,15 +172,20 @@ Shows j p ps WeakensMask =
 
 -- each path to an offending place is a witness: a run over exactly this path shows the reason
 abbrev pub EachPathShows : Type 0
-EachPathShows = (j : Job) (p : Place) (ps : List Place) (r : Reason) → IsProper j → IsPath j (p ∷ ps) → Offends j p r → Shows j p ps r
+EachPathShows =
+    (j : Job) (p : Place) (ps : List Place) (r : Reason) → IsProper j → IsPath j (p ∷ ps)
+    → Offends j p r → Shows j p ps r
 
 -- a run over some path to p shows the reason
 abbrev pub IsShownAt : Job → Place → Reason → Type 0
 IsShownAt j p r = (ps : List Place) × IsPath j (p ∷ ps) × Shows j p ps r
 
--- no false alarm: where the verdict is no, a run comes to a place with its address and shows its reason there
+-- no false alarm: where the verdict is no, a run comes to a place with its address and shows its
+-- reason there
 abbrev pub NoFalseAlarm : Type 0
-NoFalseAlarm = (j : Job) (a : ℕ) (r : Reason) → IsProper j → IsVerdict j (No a r) → (p : Place) × (p.address ≡ a) × IsShownAt j p r
+NoFalseAlarm =
+    (j : Job) (a : ℕ) (r : Reason) → IsProper j → IsVerdict j (No a r) → (p : Place)
+    × (p.address ≡ a) × IsShownAt j p r
 
 -- ---- exactness
 
@@ -161,4 +195,6 @@ SafeIsYes = (j : Job) → IsProper j → IsSafe j → IsSteady j → IsVerdict j
 
 -- whatever answers yes only for safe and steady jobs answers yes only where the verdict is yes
 abbrev pub HeadlineAloneIsEnough : Type 0
-HeadlineAloneIsEnough = (answer : Job → Verdict) → ((j : Job) → IsProper j → answer j ≡ Yes → IsSafe j × IsSteady j) → (j : Job) → IsProper j → answer j ≡ Yes → IsVerdict j Yes
+HeadlineAloneIsEnough =
+    (answer : Job → Verdict) → ((j : Job) → IsProper j → answer j ≡ Yes → IsSafe j × IsSteady j)
+    → (j : Job) → IsProper j → answer j ≡ Yes → IsVerdict j Yes

@@ -1,8 +1,11 @@
--- The argument of a seek: the first six bytes of the joined data ranges of the data chain that begins at it
--- (System/360 Principles of Operation, A22-6821; component descriptions of the 2841 with the 2311, and of the 2314).
-use Rattle.std.specs.Prelude.{◌≡◌, ℕ, ◌+◌, ◌<◌, ◌≤◌, Bool, true, not, ◌&&◌, List, [], ◌∷◌, ◌++◌, map, take, length, Option, None, Some, ◌⊎◌}
+-- The argument of a seek: the first six bytes of the joined data ranges of the data chain that
+-- begins at it (System/360 Principles of Operation, A22-6821; component descriptions of the 2841
+-- with the 2311, and of the 2314).
+use Rattle.std.specs.Prelude.{◌≡◌, ℕ, ◌+◌, ◌<◌, ◌≤◌, Bool, true, not, ◌&&◌, List, [], ◌∷◌, ◌++◌}
+use Rattle.std.specs.Prelude.{map, take, length, Option, None, Some, ◌⊎◌}
 use Rattle.std.specs.List.{range_with_len}
-use Rattle.ccw_core.specs.Ccw.{byte, ccw, is_transfer, is_formed, is_counted, has_data_in, chains_data}
+use Rattle.ccw_core.specs.Ccw.{byte, ccw, is_transfer, is_formed, is_counted, has_data_in}
+use Rattle.ccw_core.specs.Ccw.{chains_data}
 use Rattle.ccw_core.specs.Storage.{Stands, is_aligned, is_inside}
 
 -- x is an element of the list
@@ -12,11 +15,16 @@ Has (y ∷ ys) x = (y ≡ x) ⊎ Has ys x
 
 -- at a stands a CCW that can give bytes of an argument
 unfoldable pub is_part : List ℕ → ℕ → Bool
-is_part s a = is_aligned a && is_inside (length s) a && not (is_transfer (ccw s a)) && is_formed (ccw s a) && is_counted (ccw s a) && has_data_in (length s) (ccw s a)
+is_part s a =
+    is_aligned a && is_inside (length s) a && not (is_transfer (ccw s a)) && is_formed (ccw s a)
+    && is_counted (ccw s a) && has_data_in (length s) (ccw s a)
 
--- data chaining goes from the CCW at a to the one at b: the next one, or by a transfer in channel that stands there
+-- data chaining goes from the CCW at a to the one at b: the next one, or by a transfer in channel
+-- that stands there
 abbrev pub Leads : List ℕ → ℕ → ℕ → Type 0
-Leads s a b = (b ≡ a + 8) ⊎ (Stands s (a + 8) × (is_transfer (ccw s (a + 8)) ≡ true) × (b ≡ (ccw s (a + 8)).address))
+Leads s a b =
+    (b ≡ a + 8) ⊎ (Stands s (a + 8) × (is_transfer (ccw s (a + 8)) ≡ true)
+    × (b ≡ (ccw s (a + 8)).address))
 
 -- the data addresses of the CCW at a
 abbrev pub data_of : List ℕ → ℕ → List ℕ
@@ -42,14 +50,16 @@ but_last (a ∷ b ∷ l) = a ∷ but_last (b ∷ l)
 abbrev pub AreLinked : List ℕ → List ℕ → Type 0
 AreLinked s [] = Unit {0}
 AreLinked s (a ∷ []) = is_part s a ≡ true
-AreLinked s (a ∷ b ∷ l) = (is_part s a ≡ true) × (chains_data (ccw s a) ≡ true) × Leads s a b × AreLinked s (b ∷ l)
+AreLinked s (a ∷ b ∷ l) =
+    (is_part s a ≡ true) × (chains_data (ccw s a) ≡ true) × Leads s a b × AreLinked s (b ∷ l)
 
 -- the list begins with a
 abbrev pub BeginsAt : ℕ → List ℕ → Type 0
 BeginsAt a [] = ⊥
 BeginsAt a (b ∷ l) = b ≡ a
 
--- the list holds the addresses of the CCWs that give the first n bytes of the data chain that begins at a, and no more than these
+-- the list holds the addresses of the CCWs that give the first n bytes of the data chain that
+-- begins at a, and no more than these
 pub record IsChain (s : List ℕ) (n a : ℕ) (l : List ℕ) : Type 0 where
   pub begins : BeginsAt a l
   pub linked : AreLinked s l

@@ -1,12 +1,17 @@
 -- Program checks: what the channel finds wrong with a CCW before it carries it out
--- (System/360 Principles of Operation, A22-6821; that the whole data range has to lie in storage is this project's choice).
-use Rattle.std.specs.Prelude.{ℕ, Bool, not, ◌&&◌, List, [], ◌∷◌, length, Option, Some, None, if◌then◌else◌}
+-- (System/360 Principles of Operation, A22-6821; that the whole data range has to lie in storage is
+-- this project's choice).
+use Rattle.std.specs.Prelude.{ℕ, Bool, not, ◌&&◌, List, [], ◌∷◌, length, Option, Some, None}
+use Rattle.std.specs.Prelude.{if◌then◌else◌}
 use Rattle.std.specs.Option.{option_or}
-use Rattle.ccw_core.specs.Ccw.{Fields, ccw, is_transfer, is_invalid, is_formed, is_counted, has_data_in}
+use Rattle.ccw_core.specs.Ccw.{Fields, ccw, is_transfer, is_invalid, is_formed, is_counted}
+use Rattle.ccw_core.specs.Ccw.{has_data_in}
 use Rattle.ccw_core.specs.Storage.{is_aligned, is_inside}
 use Rattle.chan_walk.specs.declared.place.Place.{Place}
 use Rattle.chan_walk.specs.declared.reason.Reason.{Reason}
-use Rattle.chan_walk.specs.declared.reason.Reason.TheVariants.{Misaligned, OutsideStorage, TransferNotAllowed, InvalidCode, BadFormat, ZeroCount, DataOutside}
+use Rattle.chan_walk.specs.declared.reason.Reason.TheVariants.{Misaligned, OutsideStorage}
+use Rattle.chan_walk.specs.declared.reason.Reason.TheVariants.{TransferNotAllowed, InvalidCode}
+use Rattle.chan_walk.specs.declared.reason.Reason.TheVariants.{BadFormat, ZeroCount, DataOutside}
 use Rattle.chan_walk.specs.Place.{is_fresh}
 
 -- the reason of the first test of a table that is true
@@ -21,7 +26,8 @@ table_of_any n p c =
     (not (is_inside n p.address), OutsideStorage) ∷
     (is_transfer c && p.after_transfer, TransferNotAllowed) ∷ []
 
--- what is looked at besides in a CCW that is no transfer; under data chaining its command code doesn't count
+-- what is looked at besides in a CCW that is no transfer; under data chaining its command code
+-- doesn't count
 abbrev pub table_of_word : ℕ → Place → Fields → List (Bool × Reason)
 table_of_word n p c =
     (is_fresh p.entered && is_invalid c, InvalidCode) ∷
@@ -31,7 +37,9 @@ table_of_word n p c =
 
 -- the program check of the CCW c at a place of n bytes of storage
 unfoldable pub check_of : ℕ → Place → Fields → Option Reason
-check_of n p c = option_or (first_reason (table_of_any n p c)) (if is_transfer c then None else first_reason (table_of_word n p c))
+check_of n p c =
+    option_or (first_reason (table_of_any n p c))
+    (if is_transfer c then None else first_reason (table_of_word n p c))
 
 -- the program check of a place, in storage as it is at that moment
 abbrev pub check : List ℕ → Place → Option Reason

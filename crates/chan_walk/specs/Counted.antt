@@ -1,5 +1,5 @@
--- The bytes of storage that count for a verdict; another storage that holds the same in them gets the
--- same verdict.
+-- The bytes of storage that count for a verdict; another storage that holds the same in them gets
+-- the same verdict.
 use Rattle.std.specs.Prelude.{◌≡◌, ℕ, ◌+◌, ◌<◌, ◌≤◌, true, List, length, ◌⊎◌, ◌↔◌}
 use Rattle.ccw_core.specs.declared.storage.Storage.{Storage}
 use Rattle.ccw_core.specs.Ccw.{byte, ccw, chains_data}
@@ -41,8 +41,8 @@ pub record IsTakenByte (j : Job) (b : ℕ) : Type 0 where
   pub reached : IsReachable j place
   pub takes : IsSeekByte j place b ⊎ IsMaskByte j place b
 
--- the byte at b counts: it belongs to a reachable CCW, to the data chain of a reachable seek, or to what
--- a reachable place takes
+-- the byte at b counts: it belongs to a reachable CCW, to the data chain of a reachable seek, or to
+-- what a reachable place takes
 abbrev pub IsCounted : Job → ℕ → Type 0
 IsCounted j b = IsCcwByte j b ⊎ IsChainByte j b ⊎ IsTakenByte j b
 
@@ -55,8 +55,8 @@ pub record IsSameIn (P : ℕ → Type 0) (j k : Job) : Type 0 where
   pub same_length : length (storage_of k) ≡ length (storage_of j)
   pub same : (b : ℕ) → P b → byte (storage_of k) b ≡ byte (storage_of j) b
 
--- over each other storage that is the same in the bytes that count, the same places are reachable and
--- the verdict is the same
+-- over each other storage that is the same in the bytes that count, the same places are reachable
+-- and the verdict is the same
 abbrev pub SameVerdict : Type 0
 SameVerdict = (j : Job) (t : Storage) → IsSameIn (IsCounted j) j (with_storage j t) →
     ((p : Place) → IsReachable j p ↔ IsReachable (with_storage j t) p)
@@ -64,7 +64,8 @@ SameVerdict = (j : Job) (t : Storage) → IsSameIn (IsCounted j) j (with_storage
 
 -- a yes depends on the guarded bytes alone
 abbrev pub YesByGuarded : Type 0
-YesByGuarded = (j : Job) (t : Storage) → IsVerdict j Yes → IsSameIn (IsGuarded j) j (with_storage j t) →
+YesByGuarded =
+    (j : Job) (t : Storage) → IsVerdict j Yes → IsSameIn (IsGuarded j) j (with_storage j t) →
     IsVerdict (with_storage j t) Yes
 
 -- so it stays yes over what storage holds at any moment of any run: the program may start again

@@ -1,5 +1,6 @@
 -- A verdict explained by its witness: the path to an offending place.
-use Rattle.std.specs.Prelude.{◌≡◌, ℕ, ◌<◌, List, [], ◌∷◌, reverse, slice_get, Option, None, Some}
+use Rattle.std.specs.Prelude.{◌≡◌, ℕ, List, [], ◌∷◌, reverse, Option, None, Some}
+use Rattle.chan_walk.specs.declared.evidence.Evidence.{Evidence}
 use Rattle.chan_walk.specs.declared.job.Job.{Job}
 use Rattle.chan_walk.specs.declared.offence.Offence.{Offence}
 use Rattle.chan_walk.specs.declared.place.Place.{Place}
@@ -8,14 +9,18 @@ use Rattle.chan_walk.specs.declared.verdict.Verdict.{Verdict}
 use Rattle.chan_walk.specs.declared.verdict.Verdict.TheVariants.{Yes, No}
 use Rattle.chan_walk.specs.Alarm.{Shows}
 use Rattle.chan_walk.specs.Argument.{Has}
+use Rattle.chan_walk.specs.Evidence.{IsEvidence, IsSecondPath}
 use Rattle.chan_walk.specs.Offences.{offence_number}
 use Rattle.chan_walk.specs.Paths.{ArePathWhere}
 use Rattle.chan_walk.specs.Verdict.{Offends}
 
--- all offences in order, and the places of the path, from the first place on
+-- all offences in order, the places of the path, from the first place on, the evidence at its last
+-- place, and the places of the path to what is changed
 pub record ExplainedJob : Type 0 where
   pub offences : List Offence
   pub path : List Place
+  pub evidence : Option Evidence
+  pub second_path : List Place
 
 -- p has this address and offends by this reason
 abbrev pub OffendsAt : Job → ℕ → Reason → Place → Type 0
@@ -31,7 +36,21 @@ IsPathOf j (No a r) places = ArePathWhere j (OffendsAt j a r) places
 abbrev pub IsWitness : Job → Verdict → List Place → Type 0
 IsWitness j Yes places = Unit {0}
 IsWitness j (No a r) places =
-    (p : Place) × (before : List Place) × (places ≡ reverse (p ∷ before)) × (p.address ≡ a) × Shows j p before r
+    (p : Place) × (before : List Place) × (places ≡ reverse (p ∷ before)) × (p.address ≡ a)
+    × Shows j p before r
+
+-- with a no, the evidence is that of the last of these places
+abbrev pub IsEvidenceOf : Job → Verdict → List Place → Option Evidence → Type 0
+IsEvidenceOf j Yes places e = e ≡ None
+IsEvidenceOf j (No a r) places None = ⊥
+IsEvidenceOf j (No a r) places (Some e) =
+    (p : Place) × (before : List Place) × (places ≡ reverse (p ∷ before))
+    × IsEvidence j (record { place = p; reason = r }) e
+
+-- the second path of the evidence, where there is one
+abbrev pub IsSecondPathOf : Job → Option Evidence → List Place → Type 0
+IsSecondPathOf j None places = places ≡ []
+IsSecondPathOf j (Some e) places = IsSecondPath j e places
 
 -- ---- the first place found
 
@@ -42,10 +61,3 @@ IsLike os o p = (p.address ≡ o.place.address) × Has os (record { place = p; r
 -- one of the list has this number
 abbrev pub HasNumber : List Offence → ℕ → Type 0
 HasNumber os n = (o : Offence) × Has os o × (offence_number o ≡ n)
-
--- the first of the places at which there is an offence like o, or that there is none
-abbrev pub IsFirstLike : List Offence → Offence → List Place → Option ℕ → Type 0
-IsFirstLike os o ps None = (k : ℕ) (p : Place) → slice_get ps k ≡ Some p → IsLike os o p → ⊥
-IsFirstLike os o ps (Some i) =
-    ((p : Place) × (slice_get ps i ≡ Some p) × IsLike os o p)
-    × ((k : ℕ) (p : Place) → k < i → slice_get ps k ≡ Some p → IsLike os o p → ⊥)

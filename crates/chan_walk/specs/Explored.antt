@@ -24,7 +24,8 @@ transfer_number false = 0
 abbrev pub way_of : Place → ℕ
 way_of p = 2 * entry_number p.entered + transfer_number p.after_transfer
 
--- places are in order as these numbers are: by address, then by entry, then whether reached by a transfer
+-- places are in order as these numbers are: by address, then by entry, then whether reached by a
+-- transfer
 abbrev pub place_number : Place → ℕ
 place_number p = 8 * p.address + way_of p
 

@@ -1,5 +1,6 @@
 -- The own fault of a place: what is wrong with its CCW in the initial storage.
-use Rattle.std.specs.Prelude.{◌≡◌, ℕ, Bool, true, false, not, ◌&&◌, ◌||◌, List, [], ◌∷◌, ◌++◌, Option, None, Some, is_some, is_none, if◌then◌else◌}
+use Rattle.std.specs.Prelude.{◌≡◌, ℕ, Bool, true, false, not, ◌&&◌, ◌||◌, List, [], ◌∷◌, ◌++◌}
+use Rattle.std.specs.Prelude.{Option, None, Some, is_some, is_none, if◌then◌else◌}
 use Rattle.std.specs.Option.{option_or}
 use Rattle.ccw_core.specs.Areas.{covered}
 use Rattle.ccw_core.specs.Ccw.{byte, Fields, is_transfer, skips}
@@ -14,7 +15,9 @@ use Rattle.chan_walk.specs.declared.place.Entry.{Entry}
 use Rattle.chan_walk.specs.declared.place.Entry.TheVariants.{Fresh, ChainIn, ChainOut, ChainSearch}
 use Rattle.chan_walk.specs.declared.place.Place.{Place}
 use Rattle.chan_walk.specs.declared.reason.Reason.{Reason}
-use Rattle.chan_walk.specs.declared.reason.Reason.TheVariants.{NotInTable, Inhibited, StoreNotLent, FetchNotLent, ShortSeek, SeekOutside, WeakensMask}
+use Rattle.chan_walk.specs.declared.reason.Reason.TheVariants.{NotInTable, Inhibited, StoreNotLent}
+use Rattle.chan_walk.specs.declared.reason.Reason.TheVariants.{FetchNotLent, ShortSeek, SeekOutside}
+use Rattle.chan_walk.specs.declared.reason.Reason.TheVariants.{WeakensMask}
 use Rattle.chan_walk.specs.Argument.{HasArgument}
 use Rattle.chan_walk.specs.Check.{first_reason, check}
 use Rattle.chan_walk.specs.Job.{storage_of, extents_of, fetch_of, store_of, heads}
@@ -25,7 +28,8 @@ abbrev pub kind_of_command : Option Command → Kind
 kind_of_command None = Idle
 kind_of_command (Some k) = k.kind
 
--- the kind of a CCW entered in a way: its command's where an operation begins, else that of the operation that goes on
+-- the kind of a CCW entered in a way: its command's where an operation begins, else that of the
+-- operation that goes on
 abbrev pub kind_of : Entry → Fields → Kind
 kind_of Fresh c = kind_of_command (lookup c.command)
 kind_of ChainIn c = Inward
@@ -79,7 +83,8 @@ abbrev pub is_refused : Job → Option (List ℕ) → Bool
 is_refused j None = false
 is_refused j (Some x) = not (allows j x)
 
--- what is looked at in a CCW c that is no transfer and meets no program check: the command that begins there
+-- what is looked at in a CCW c that is no transfer and meets no program check: the command that
+-- begins there
 abbrev pub command_faults : Job → Place → Fields → List (Bool × Reason)
 command_faults j p c =
     (is_fresh p.entered && not (is_known c.command), NotInTable) ∷
@@ -94,13 +99,17 @@ lent_faults j p c =
 -- the seek that begins there, where x is its argument
 abbrev pub seek_faults : Job → Place → Fields → Option (List ℕ) → List (Bool × Reason)
 seek_faults j p c x =
-    (begins_seek p c && is_none x, ShortSeek) ∷
-    ((begins_seek p c && is_refused j x) || (begins_recalibrate p c && not (has_cylinder (extents_of j) 0)), SeekOutside) ∷ []
+    (begins_seek p c && is_none x, ShortSeek) ∷ (
+      (begins_seek p c && is_refused j x)
+          || (begins_recalibrate p c && not (has_cylinder (extents_of j) 0)),
+      SeekOutside,
+    ) ∷ []
 
 -- and the mask that is set there; commands are judged by the job's mask before it and after it
 abbrev pub mask_faults : Job → Place → Fields → List (Bool × Reason)
 mask_faults j p c =
-    (begins_set_mask p c && not (is_at_least (byte (storage_of j) c.address) j.mask), WeakensMask) ∷ []
+    (begins_set_mask p c && not (is_at_least (byte (storage_of j) c.address) j.mask), WeakensMask)
+    ∷ []
 
 abbrev pub table_of_own : Job → Place → Fields → Option (List ℕ) → List (Bool × Reason)
 table_of_own j p c x =
@@ -108,11 +117,14 @@ table_of_own j p c x =
 
 -- the own fault, where x is the argument of a seek at the place
 abbrev pub fault_with : Job → Place → Option (List ℕ) → Option Reason
-fault_with j p x = option_or (check (storage_of j) p) (if is_transfer (word_at j p) then None else first_reason (table_of_own j p (word_at j p) x))
+fault_with j p x =
+    option_or (check (storage_of j) p)
+    (if is_transfer (word_at j p) then None else first_reason (table_of_own j p (word_at j p) x))
 
 -- the own fault of a place, or that it has none
 abbrev pub HasFault : Job → Place → Option Reason → Type 0
-HasFault j p r = (x : Option (List ℕ)) × HasArgument (storage_of j) p.address x × (fault_with j p x ≡ r)
+HasFault j p r =
+    (x : Option (List ℕ)) × HasArgument (storage_of j) p.address x × (fault_with j p x ≡ r)
 
 -- the place has no own fault
 abbrev pub IsClear : Job → Place → Type 0

@@ -1,5 +1,6 @@
 -- What a yes means: every run is safe, and the job is steady; and the laws that carry it.
-use Rattle.std.specs.Prelude.{◌≡◌, ℕ, ◌+◌, ◌-◌, ◌<◌, ◌≤◌, true, false, List, ◌++◌, map, length, Some, None, ◌⊎◌}
+use Rattle.std.specs.Prelude.{◌≡◌, ℕ, ◌+◌, ◌-◌, ◌<◌, ◌≤◌, true, false, List, ◌++◌, map, length}
+use Rattle.std.specs.Prelude.{Some, None, ◌⊎◌}
 use Rattle.std.specs.List.{AllByRecursion}
 use Rattle.ccw_core.specs.Areas.{lies_in}
 use Rattle.ccw_core.specs.Ccw.{byte, ccw, is_transfer}
@@ -13,17 +14,19 @@ use Rattle.chan_walk.specs.Argument.{IsChain, joined, argument}
 use Rattle.chan_walk.specs.Fault.{is_known, begins_seek, allows}
 use Rattle.chan_walk.specs.Guarded.{IsGuarded}
 use Rattle.chan_walk.specs.Job.{storage_of, extents_of, fetch_of, store_of, HasMask}
-use Rattle.chan_walk.specs.Machine.{Stage, At, Ended, Checked, Event, Command, Store, Fetch, Gather, Seek, SetMask}
+use Rattle.chan_walk.specs.Machine.{Stage, At, Ended, Checked, Event, Command, Store, Fetch, Gather}
+use Rattle.chan_walk.specs.Machine.{Seek, SetMask}
 use Rattle.chan_walk.specs.Place.{word_at}
 use Rattle.chan_walk.specs.Reachable.{IsReachable}
 use Rattle.chan_walk.specs.Runs.{Moment, IsRun, Uses}
 use Rattle.chan_walk.specs.Verdict.{IsVerdict}
 
--- an event that does no harm: a command of the table that isn't inhibited, a store and a fetch inside
--- lent areas, a seek that is allowed, a mask byte at least as strict as the job's mask
+-- an event that does no harm: a command of the table that isn't inhibited, a store and a fetch
+-- inside lent areas, a seek that is allowed, a mask byte at least as strict as the job's mask
 abbrev pub IsSafeEvent : Job → Event → Type 0
 IsSafeEvent j (Command code) = (is_known code ≡ true) × (inhibits j.mask code ≡ false)
-IsSafeEvent j (Store a bytes) = (b : ℕ) → a ≤ b → b < a + length bytes → lies_in (store_of j) b ≡ true
+IsSafeEvent j (Store a bytes) =
+    (b : ℕ) → a ≤ b → b < a + length bytes → lies_in (store_of j) b ≡ true
 IsSafeEvent j (Fetch a n) = (b : ℕ) → a ≤ b → b < a + n → lies_in (fetch_of j) b ≡ true
 IsSafeEvent j (Gather addresses) = Unit {0}
 IsSafeEvent j (Seek (Some x)) = allows j x ≡ true
@@ -53,10 +56,12 @@ Holds j b m = byte m.storage b ≡ byte (storage_of j) b
 
 -- the job is steady: what some run uses never changes, in any run
 abbrev pub IsSteady : Job → Type 0
-IsSteady j = (used run : List Moment) (b : ℕ) → IsRun j used → Uses used b → IsRun j run → AllByRecursion (Holds j b) run
+IsSteady j =
+    (used run : List Moment) (b : ℕ) → IsRun j used → Uses used b → IsRun j run
+    → AllByRecursion (Holds j b) run
 
--- the headline: where the job's mask is a mask and the verdict is yes, every run is safe and the job
--- is steady
+-- the headline: where the job's mask is a mask and the verdict is yes, every run is safe and the
+-- job is steady
 abbrev pub YesIsSafe : Type 0
 YesIsSafe = (j : Job) → HasMask j → IsVerdict j Yes → IsSafe j × IsSteady j
 
@@ -64,7 +69,8 @@ YesIsSafe = (j : Job) → HasMask j → IsVerdict j Yes → IsSafe j × IsSteady
 
 -- where the verdict is yes, P holds at each moment of each run
 abbrev pub EachMomentOfYes : (Job → Moment → Type 0) → Type 0
-EachMomentOfYes P = (j : Job) → IsVerdict j Yes → (run : List Moment) → IsRun j run → AllByRecursion (P j) run
+EachMomentOfYes P =
+    (j : Job) → IsVerdict j Yes → (run : List Moment) → IsRun j run → AllByRecursion (P j) run
 
 -- guarded bytes never change
 abbrev pub GuardedStays : Type 0
@@ -80,11 +86,15 @@ IsAtReachable j (Checked r) = Unit {0}
 abbrev pub StaysReachable : Type 0
 StaysReachable = EachMomentOfYes (λ j m. IsAtReachable j m.stage)
 
--- at p the data chain goes on with the CCW at a: p is there, or at a transfer in channel that leads there
+-- at p the data chain goes on with the CCW at a: p is there, or at a transfer in channel that leads
+-- there
 abbrev pub ComesTo : List ℕ → Place → ℕ → Type 0
-ComesTo s p a = (p.address ≡ a) ⊎ ((p.after_transfer ≡ false) × Stands s p.address × (is_transfer (ccw s p.address) ≡ true) × ((ccw s p.address).address ≡ a))
+ComesTo s p a =
+    (p.address ≡ a) ⊎ ((p.after_transfer ≡ false) × Stands s p.address
+    × (is_transfer (ccw s p.address) ≡ true) × ((ccw s p.address).address ≡ a))
 
--- a seek whose chain is l has come to p with the bytes x: they are the first of the chain, fewer than six, and the rest of the chain lies ahead of p
+-- a seek whose chain is l has come to p with the bytes x: they are the first of the chain, fewer
+-- than six, and the rest of the chain lies ahead of p
 pub record IsGathered (s l : List ℕ) (p : Place) (x : List ℕ) : Type 0 where
   pub before : List ℕ
   pub rest : List ℕ

@@ -34,12 +34,15 @@ pub record Below (ps : List Place) (n : ℕ) (p : Place) : Type 0 where
 
 -- the list has exactly the reachable places
 abbrev pub AreReached : Job → List Place → Type 0
-AreReached j ps = ((p : Place) → IsReachable j p → Has ps p) × ((p : Place) → Has ps p → IsReachable j p)
+AreReached j ps =
+    ((p : Place) → IsReachable j p → Has ps p) × ((p : Place) → Has ps p → IsReachable j p)
 
 -- the lesser of what was found so far and a reason at p
 abbrev pub IsLesser : Option Finding → Place → Option Reason → Option Finding → Type 0
 IsLesser best p None now = now ≡ best
-IsLesser None p (Some r) now = (f : Finding) × (now ≡ Some f) × (f.address ≡ p.address) × (f.reason ≡ r)
+IsLesser None p (Some r) now =
+    (f : Finding) × (now ≡ Some f) × (f.address ≡ p.address) × (f.reason ≡ r)
 IsLesser (Some b) p (Some r) now =
     ((now ≡ Some b) × ComesFirst b.address b.reason p.address r)
-    ⊎ ((f : Finding) × (now ≡ Some f) × (f.address ≡ p.address) × (f.reason ≡ r) × ComesFirst f.address f.reason b.address b.reason)
+    ⊎ ((f : Finding) × (now ≡ Some f) × (f.address ≡ p.address) × (f.reason ≡ r)
+    × ComesFirst f.address f.reason b.address b.reason)

@@ -10,11 +10,14 @@ pub record LentAreas : Type 0 where
   pub fetch : List Area
   pub store : List Area
 
--- the part of an area that lies in n bytes of storage; empty and at their end for one that begins past them
+-- the part of an area that lies in n bytes of storage; empty and at their end for one that begins
+-- past them
 abbrev pub clip : ℕ → Area → Area
 clip n a = record { start = min a.start n; len = min a.len (n - a.start) }
 
 -- these areas cover the same ranges of storage as those that the job was lent
 pub record AreLent (j : Job) (l : LentAreas) : Type 0 where
-  pub fetch : (start len : ℕ) → start + len ≤ length (storage_of j) → covered l.fetch start len ≡ covered (fetch_of j) start len
-  pub store : (start len : ℕ) → start + len ≤ length (storage_of j) → covered l.store start len ≡ covered (store_of j) start len
+  pub fetch : (start len : ℕ) → start + len ≤ length (storage_of j) → covered l.fetch start len
+      ≡ covered (fetch_of j) start len
+  pub store : (start len : ℕ) → start + len ≤ length (storage_of j) → covered l.store start len
+      ≡ covered (store_of j) start len

@@ -31,4 +31,6 @@ pub mod Judged
 pub mod Answers
 pub mod Offences
 pub mod Paths
+pub mod Evidence
+pub mod Changed
 pub mod Explained

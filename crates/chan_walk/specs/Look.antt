@@ -1,5 +1,6 @@
 -- What is seen of a place at one look, in the initial storage.
-use Rattle.std.specs.Prelude.{◌≡◌, ℕ, ◌<◌, ◌^◌, Bool, List, [], ◌∷◌, map, Option, Some, slice_index, if◌then◌else◌, ◌↔◌}
+use Rattle.std.specs.Prelude.{◌≡◌, ℕ, ◌<◌, ◌^◌, Bool, List, [], ◌∷◌, map, Option, Some, slice_index}
+use Rattle.std.specs.Prelude.{if◌then◌else◌, ◌↔◌}
 use Rattle.ccw_core.specs.Ccw.{Fields}
 use Rattle.ccw_core.specs.Storage.{ccw_at}
 use Rattle.ckd_core.specs.Table.{Entry as Command}
@@ -16,8 +17,9 @@ use Rattle.chan_walk.specs.Job.{storage_of}
 use Rattle.chan_walk.specs.Successors.{AreSuccessors}
 use Rattle.chan_walk.specs.Visit.{begun_at}
 
--- what a look shows: a place, the CCW that stands there, the table's entry of the command that begins, the own fault, the addresses
--- of the guarded bytes of an argument, whether the CCW stores, and the successors
+-- what a look shows: a place, the CCW that stands there, the table's entry of the command that
+-- begins, the own fault, the addresses of the guarded bytes of an argument, whether the CCW stores,
+-- and the successors
 pub record Seen : Type 0 where
   pub place : Place
   pub ccw : Option Fields

@@ -1,5 +1,7 @@
--- Sets of places as marks: for each address a number whose bit w is on where a place with that address is entered in the way w.
-use Rattle.std.specs.Prelude.{◌≡◌, ℕ, zero, suc, ◌/◌, ◌%◌, ◌==◌, Bool, true, false, List, [], ◌∷◌, ◌++◌, Option, None, Some, if◌then◌else◌}
+-- Sets of places as marks: for each address a number whose bit w is on where a place with that
+-- address is entered in the way w.
+use Rattle.std.specs.Prelude.{◌≡◌, ℕ, zero, suc, ◌/◌, ◌%◌, ◌==◌, Bool, true, false, List, [], ◌∷◌}
+use Rattle.std.specs.Prelude.{◌++◌, Option, None, Some, if◌then◌else◌}
 use Rattle.std.specs.Int.{bit_at}
 use Rattle.std.specs.Ordering.{nat_cmp}
 use Rattle.std.specs.BTreeMap.{BTreeMap}
@@ -19,7 +21,8 @@ pub record HasWay (ps : List Place) (a w : ℕ) : Type 0 where
 
 -- the entry of a number
 abbrev pub entry_of : ℕ → Entry
-entry_of n = if n == 0 then Fresh else if n == 1 then ChainIn else if n == 2 then ChainOut else ChainSearch
+entry_of n =
+    if n == 0 then Fresh else if n == 1 then ChainIn else if n == 2 then ChainOut else ChainSearch
 
 -- the place at the address a that is entered in the way w
 abbrev pub place_at : ℕ → ℕ → Place

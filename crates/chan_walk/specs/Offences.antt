@@ -50,14 +50,16 @@ FirstIsVerdict = (j : Job) (os : List Offence) → AreOffences j os → IsVerdic
 -- ---- place by place
 
 -- new is old with the reasons by which p offends in this way, each once, at its end
-pub record AddsOffences (Off : Place → Reason → Type 0) (p : Place) (old new : List Offence) : Type 0 where
+pub record AddsOffences (Off : Place → Reason → Type 0) (p : Place) (old new : List Offence)
+    : Type 0 where
   pub more : List Offence
   pub is : new ≡ old ++ more
   pub exactly : (o : Offence) → Has more o ↔ ((o.place ≡ p) × Off p o.reason)
   pub apart : AreApart more
 
 -- the list has exactly the offences of this kind among the places, each once
-pub record HasOffences (Off : Place → Reason → Type 0) (ps : List Place) (os : List Offence) : Type 0 where
+pub record HasOffences (Off : Place → Reason → Type 0) (ps : List Place) (os : List Offence)
+    : Type 0 where
   pub exactly : (o : Offence) → Has os o ↔ (Has ps o.place × Off o.place o.reason)
   pub apart : AreApart os
 

@@ -11,8 +11,8 @@ use Rattle.chan_walk.specs.Job.{storage_of}
 use Rattle.chan_walk.specs.Place.{word_at}
 use Rattle.chan_walk.specs.Reason.{number_of}
 
--- the whole table of own faults: all that is looked at in the CCW c at a place, where x is the argument
--- of a seek there
+-- the whole table of own faults: all that is looked at in the CCW c at a place, where x is the
+-- argument of a seek there
 abbrev pub table_of_faults : Job → Place → Fields → Option (List ℕ) → List (Bool × Reason)
 table_of_faults j p c x =
     table_of_any (length (storage_of j)) p c
@@ -23,8 +23,8 @@ table_of_faults j p c x =
 abbrev pub numbers_of : List (Bool × Reason) → List ℕ
 numbers_of ts = map (λ t. number_of t.1) ts
 
--- the own fault is the first of the whole table that applies, and the numbers increase along it: so it
--- is the least that applies
+-- the own fault is the first of the whole table that applies, and the numbers increase along it: so
+-- it is the least that applies
 abbrev pub NumbersIncrease : Type 0
 NumbersIncrease = (j : Job) (p : Place) (x : Option (List ℕ)) →
     (fault_with j p x ≡ first_reason (table_of_faults j p (word_at j p) x))

@@ -1,4 +1,5 @@
--- Places: the address of a channel command word (CCW), together with the way in which it is entered.
+-- Places: the address of a channel command word (CCW), together with the way in which it is
+-- entered.
 use Rattle.std.specs.Prelude.{ℕ, Bool, true, false}
 use Rattle.ccw_core.specs.Ccw.{Fields, ccw}
 use Rattle.chan_walk.specs.declared.job.Job.{Job}
@@ -22,8 +23,9 @@ straight_to a e = record { address = a; entered = e; after_transfer = false }
 abbrev pub transferred_to : ℕ → Entry → Place
 transferred_to a e = record { address = a; entered = e; after_transfer = true }
 
--- the first place: it counts as reached by a transfer in channel, since a transfer may not come first
--- (System/360 Principles of Operation, A22-6821), and a supervisor may put commands of its own and a transfer before the program
+-- the first place: it counts as reached by a transfer in channel, since a transfer may not come
+-- first (System/360 Principles of Operation, A22-6821), and a supervisor may put commands of its
+-- own and a transfer before the program
 abbrev pub first_place : Job → Place
 first_place j = transferred_to j.start Fresh
 

@@ -30,6 +30,10 @@ IsMerged (a ∷ rest) = (0 < a.len) × BeginAbove (end_of a) rest × IsMerged re
 abbrev pub HaveSameBytes : List Area → List Area → Type 0
 HaveSameBytes xs ys = (b : ℕ) → lies_in xs b ≡ lies_in ys b
 
+-- b is in the range, and lies in some area
+abbrev pub IsByteIn : List Area → ℕ → ℕ → ℕ → Type 0
+IsByteIn areas start len b = (start ≤ b) × (b < start + len) × (lies_in areas b ≡ true)
+
 -- a byte of the range lies in some area
 pub record Meets (areas : List Area) (start len : ℕ) : Type 0 where
   pub at : ℕ
@@ -42,7 +46,8 @@ pub record AreRuns (areas : List Area) (run : Area) : Type 0 where
   pub merged : IsMerged areas
   pub before : All (EndsBelow run.start) areas
 
--- the first area of a merged list that ends above n: all that it says of the bytes from n on, up to the one after the area
+-- the first area of a merged list that ends above n: all that it says of the bytes from n on, up to
+-- the one after the area
 pub record IsNext (areas : List Area) (n : ℕ) (a : Area) : Type 0 where
   pub ends : n < end_of a
   pub filled : 0 < a.len
@@ -54,6 +59,21 @@ pub record IsNext (areas : List Area) (n : ℕ) (a : Area) : Type 0 where
 abbrev pub IsNextArea : List Area → ℕ → Option Area → Type 0
 IsNextArea areas n None = (b : ℕ) → n ≤ b → lies_in areas b ≡ false
 IsNextArea areas n (Some a) = IsNext areas n a
+
+-- a is the first byte of the range that lies in no area
+pub record IsGapStart (areas : List Area) (range : Area) (a : ℕ) : Type 0 where
+  pub from : range.start ≤ a
+  pub below : a < end_of range
+  pub before : (b : ℕ) → range.start ≤ b → b < a → lies_in areas b ≡ true
+  pub out : lies_in areas a ≡ false
+
+-- the bytes from a up to, and without, n lie in no area; n is at most end, and the byte at n lies
+-- in one if n isn't end
+pub record IsGapEnd (areas : List Area) (a end n : ℕ) : Type 0 where
+  pub filled : a < n
+  pub within : n ≤ end
+  pub inside : (b : ℕ) → a ≤ b → b < n → lies_in areas b ≡ false
+  pub after : n < end → lies_in areas n ≡ true
 
 -- there is at most one merged list for some bytes
 abbrev pub MergedIsUnique : Type 0

@@ -6,7 +6,8 @@ use Rattle.chan_walk.specs.Fault.{IsClear}
 use Rattle.chan_walk.specs.Place.{first_place}
 use Rattle.chan_walk.specs.Successors.{Successor}
 
--- the places of a path from the first place on, the newest first; a place with an own fault leads nowhere
+-- the places of a path from the first place on, the newest first; a place with an own fault leads
+-- nowhere
 abbrev pub IsPath : Job → List Place → Type 0
 IsPath j [] = ⊥
 IsPath j (p ∷ []) = p ≡ first_place j

@@ -5,7 +5,8 @@ use Rattle.ckd_core.specs.Cylinders.{has_cylinder}
 use Rattle.chan_walk.specs.declared.job.Job.{Job}
 use Rattle.chan_walk.specs.Argument.{Has}
 use Rattle.chan_walk.specs.Job.{storage_of, extents_of}
-use Rattle.chan_walk.specs.Machine.{Stage, At, Ended, Checked, Event, Command, Store, Fetch, Gather, Seek, SetMask, StepFrom}
+use Rattle.chan_walk.specs.Machine.{Stage, At, Ended, Checked, Event, Command, Store, Fetch, Gather}
+use Rattle.chan_walk.specs.Machine.{Seek, SetMask, StepFrom}
 use Rattle.chan_walk.specs.Place.{first_place}
 
 -- a state of the machine, with the events of the step that led to it
@@ -16,8 +17,8 @@ pub record Moment : Type 0 where
   pub stage : Stage
   pub events : List Event
 
--- a run begins with the job's storage, the arm at any cylinder inside the extents, the job's mask in
--- force, and at the first place
+-- a run begins with the job's storage, the arm at any cylinder inside the extents, the job's mask
+-- in force, and at the first place
 pub record IsStart (j : Job) (m : Moment) : Type 0 where
   pub storage : m.storage ≡ storage_of j
   pub arm : has_cylinder (extents_of j) m.arm ≡ true

@@ -1,6 +1,7 @@
--- Where a program goes on after a place (System/360 Principles of Operation, A22-6821; that only a search gives status modifier:
--- component descriptions of the 2841 with the 2311, and of the 2314).
-use Rattle.std.specs.Prelude.{◌≡◌, ◌+◌, Bool, true, false, not, ◌&&◌, Option, None, Some, ◌⊎◌, if◌then◌else◌, option_map}
+-- Where a program goes on after a place (System/360 Principles of Operation, A22-6821; that only a
+-- search gives status modifier: component descriptions of the 2841 with the 2311, and of the 2314).
+use Rattle.std.specs.Prelude.{◌≡◌, ◌+◌, Bool, true, false, not, ◌&&◌, Option, None, Some, ◌⊎◌}
+use Rattle.std.specs.Prelude.{if◌then◌else◌, option_map}
 use Rattle.ccw_core.specs.Ccw.{Fields, is_transfer, chains_data, chains_command}
 use Rattle.ckd_core.specs.declared.command.Kind.{Kind}
 use Rattle.ckd_core.specs.declared.command.Kind.TheVariants.{Idle, Inward, Outward, Search}
@@ -27,7 +28,8 @@ gives_modifier Idle = false
 gives_modifier Inward = false
 gives_modifier Outward = false
 
--- the place after p, whose CCW is c and whose kind is k: a transfer's target, else the next CCW under data or command chaining
+-- the place after p, whose CCW is c and whose kind is k: a transfer's target, else the next CCW
+-- under data or command chaining
 abbrev pub next_of : Place → Fields → Kind → Option Place
 next_of p c k =
     if is_transfer c then Some (transferred_to c.address p.entered)
@@ -48,7 +50,8 @@ Successor j p q =
     (next_of p (word_at j p) (kind_of p.entered (word_at j p)) ≡ Some q)
     ⊎ (skip_of p (word_at j p) (kind_of p.entered (word_at j p)) ≡ Some q)
 
--- the successors of p as an answer: the two of its CCW where p has no own fault, and none where it has one
+-- the successors of p as an answer: the two of its CCW where p has no own fault, and none where it
+-- has one
 pub record AreSuccessors (j : Job) (p : Place) (n : Next) : Type 0 where
   pub next : IsClear j p → n.next ≡ next_of p (word_at j p) (kind_of p.entered (word_at j p))
   pub skip : IsClear j p → n.skip ≡ skip_of p (word_at j p) (kind_of p.entered (word_at j p))

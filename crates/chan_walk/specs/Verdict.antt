@@ -26,7 +26,9 @@ pub record StoresOver (j : Job) (p : Place) (P : ℕ → Type 0) : Type 0 where
 
 -- p stores over a guarded byte, by this reason
 abbrev pub Changes : Job → Place → Reason → Type 0
-Changes j p r = ((r ≡ ChangesCcw) × StoresOver j p (IsCcwByte j)) ⊎ ((r ≡ ChangesArgument) × StoresOver j p (IsArgumentByte j))
+Changes j p r =
+    ((r ≡ ChangesCcw) × StoresOver j p (IsCcwByte j))
+    ⊎ ((r ≡ ChangesArgument) × StoresOver j p (IsArgumentByte j))
 
 -- p offends by its own fault; and where no reachable place has one, by a store over a guarded byte
 abbrev pub Offends : Job → Place → Reason → Type 0
@@ -39,11 +41,14 @@ pub record IsOffence (j : Job) (a : ℕ) (r : Reason) : Type 0 where
   pub address : place.address ≡ a
   pub offends : Offends j place r
 
--- an address and a reason come before another pair, or are the same: by address, then by the reason's number
+-- an address and a reason come before another pair, or are the same: by address, then by the
+-- reason's number
 abbrev pub ComesFirst : ℕ → Reason → ℕ → Reason → Type 0
 ComesFirst a r b t = (a < b) ⊎ ((a ≡ b) × (number_of r ≤ number_of t))
 
 -- yes: no reachable place offends; no: the first pair of address and reason among those that offend
 abbrev pub IsVerdict : Job → Verdict → Type 0
 IsVerdict j Yes = (p : Place) (r : Reason) → IsReachable j p → Offends j p r → ⊥
-IsVerdict j (No a r) = IsOffence j a r × ((p : Place) (t : Reason) → IsReachable j p → Offends j p t → ComesFirst a r p.address t)
+IsVerdict j (No a r) =
+    IsOffence j a r × ((p : Place) (t : Reason) → IsReachable j p → Offends j p t
+    → ComesFirst a r p.address t)

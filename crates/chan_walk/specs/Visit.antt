@@ -13,7 +13,8 @@ use Rattle.chan_walk.specs.declared.visit.Visit.{Visit}
 use Rattle.chan_walk.specs.Fault.{kind_of, kind_of_command}
 use Rattle.chan_walk.specs.Place.{is_fresh}
 
--- the command of the table that begins at p with the CCW c: none under data chaining, and none where the table hasn't the code
+-- the command of the table that begins at p with the CCW c: none under data chaining, and none
+-- where the table hasn't the code
 abbrev pub begun : Place → Fields → Option Command
 begun p c = if is_fresh p.entered then lookup c.command else None
 

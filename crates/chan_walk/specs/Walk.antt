@@ -1,5 +1,6 @@
 -- A walk from place to place: which places are found, and of how many the successors are found too.
-use Rattle.std.specs.Prelude.{◌≡◌, ℕ, ◌<◌, ◌≤◌, List, [], ◌∷◌, ◌++◌, length, reverse, slice_get, slice_index, ◌⊎◌, ◌↔◌, Option, Some, None}
+use Rattle.std.specs.Prelude.{◌≡◌, ℕ, ◌<◌, ◌≤◌, List, [], ◌∷◌, ◌++◌, length, reverse, slice_get}
+use Rattle.std.specs.Prelude.{slice_index, ◌⊎◌, ◌↔◌, Option, Some, None}
 use Rattle.std.specs.BTreeMap.{BTreeMap}
 use Rattle.chan_walk.specs.declared.exploring.Walk.{Walk}
 use Rattle.chan_walk.specs.declared.job.Job.{Job}
@@ -44,7 +45,8 @@ abbrev pub Overflows : ℕ → Option Place → List Place → Type 0
 Overflows n None ps = ⊥
 Overflows n (Some p) ps = (Has ps p → ⊥) × (n ≤ length ps)
 
--- the places found are reachable, each is found once, no more than n, and the successors of the first i are among them
+-- the places found are reachable, each is found once, no more than n, and the successors of the
+-- first i are among them
 pub record IsWalked (j : Job) (n : ℕ) (ps : List Place) (i : ℕ) : Type 0 where
   pub few : length ps ≤ n
   pub within : i ≤ length ps
@@ -78,17 +80,20 @@ pub record AreSiblings (j : Job) (ps : List Place) (from k l : ℕ) : Type 0 whe
 abbrev pub IsFoundBy : List Place → List ℕ → ℕ → Place → Type 0
 IsFoundBy ps fs k q = (l : ℕ) × (slice_get ps l ≡ Some q) × (0 < l → slice_index fs l ≤ k)
 
--- fs has for each place the index of the one that it was found from, which is among the first n; the
--- places are in the order in which those are, and the successors of the first i are found
+-- fs has for each place the index of the one that it was found from, which is among the first n;
+-- the places are in the order in which those are, and the successors of the first i are found
 pub record IsTraced (j : Job) (ps : List Place) (fs : List ℕ) (i n : ℕ) : Type 0 where
   pub each : length fs ≡ length ps
   pub begins : slice_get ps 0 ≡ Some (first_place j)
   pub from : (k : ℕ) → 0 < k → k < length ps → IsFrom j ps fs n k
   pub rising : (k l : ℕ) → 0 < k → k ≤ l → l < length ps → slice_index fs k ≤ slice_index fs l
-  pub siblings : (k l : ℕ) → 0 < k → k < l → l < length ps → slice_index fs k ≡ slice_index fs l → AreSiblings j ps (slice_index fs k) k l
-  pub found : (k : ℕ) (p q : Place) → k < i → slice_get ps k ≡ Some p → Follows j p q → IsFoundBy ps fs k q
+  pub siblings : (k l : ℕ) → 0 < k → k < l → l < length ps → slice_index fs k ≡ slice_index fs l
+      → AreSiblings j ps (slice_index fs k) k l
+  pub found : (k : ℕ) (p q : Place) → k < i → slice_get ps k ≡ Some p → Follows j p q
+      → IsFoundBy ps fs k q
 
--- the walk has found all reachable places, with a true look at each, and no more than the job's limit
+-- the walk has found all reachable places, with a true look at each, and no more than the job's
+-- limit
 pub record HasFound (j : Job) (w : Walk) : Type 0 where
   pub looks : AreLooks j w.looks.items
   pub agrees : Agrees w.marks (places_of_looks w.looks.items)
@@ -98,10 +103,12 @@ pub record HasFound (j : Job) (w : Walk) : Type 0 where
   pub traced : IsTraced j (places_of_looks w.looks.items) w.found_from.items at at
 
 -- before lead to the place at k, and no place from there on has a path that comes before this one
-pub record IsBest (j : Job) (ps : List Place) (k : ℕ) (p : Place) (before : List Place) : Type 0 where
+pub record IsBest (j : Job) (ps : List Place) (k : ℕ) (p : Place) (before : List Place)
+    : Type 0 where
   pub here : slice_get ps k ≡ Some p
   pub path : IsPath j (p ∷ before)
-  pub first : (l : ℕ) (q : Place) (qs : List Place) → k ≤ l → slice_get ps l ≡ Some q → IsPath j (q ∷ qs) → IsFirstOf j (p ∷ before) (q ∷ qs)
+  pub first : (l : ℕ) (q : Place) (qs : List Place) → k ≤ l → slice_get ps l ≡ Some q
+      → IsPath j (q ∷ qs) → IsFirstOf j (p ∷ before) (q ∷ qs)
 
 -- these places, from the first place on, are this path to the place at k
 pub record IsPathAt (j : Job) (ps : List Place) (k : ℕ) (places : List Place) : Type 0 where
@@ -114,3 +121,10 @@ pub record IsPathAt (j : Job) (ps : List Place) (k : ℕ) (places : List Place) 
 abbrev pub IsIndexOf : List Place → Place → Option ℕ → Type 0
 IsIndexOf ps p None = Has ps p → ⊥
 IsIndexOf ps p (Some k) = slice_get ps k ≡ Some p
+
+-- the index of the first of the places for which P holds, or that it holds for none
+abbrev pub IsFirstWhere : (Place → Type 0) → List Place → Option ℕ → Type 0
+IsFirstWhere P ps None = (k : ℕ) (p : Place) → slice_get ps k ≡ Some p → P p → ⊥
+IsFirstWhere P ps (Some i) =
+    ((p : Place) × (slice_get ps i ≡ Some p) × P p)
+    × ((k : ℕ) (p : Place) → k < i → slice_get ps k ≡ Some p → P p → ⊥)

@@ -42,7 +42,8 @@ impl Explored {
         self.places.len()
     }
 
-    /// The place of this index in the order, counted from 0; `None` from `len` on. The cost is the same for each.
+    /// The place of this index in the order, counted from 0; `None` from `len` on. The cost is the
+    /// same for each.
     pub fn place(&self, index: usize) -> Option<Place>
         ensures { result ≡ slice_get self.now index }
     {

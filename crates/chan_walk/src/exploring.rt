@@ -29,8 +29,8 @@ pub(crate) struct Walk {
 }
 
 impl Walk {
-    /// Looks at a place, which was found from the one of the index `from`, and adds it, unless it is
-    /// found already.
+    /// Looks at a place, which was found from the one of the index `from`, and adds it, unless it
+    /// is found already.
     fn add(
         &mut self,
         job: &Job,
@@ -41,10 +41,13 @@ impl Walk {
         requires lent { AreLent job.now lent.now }
         requires looks { AreLooks job.now self.old.looks.items }
         requires agrees { Agrees self.old.marks (places_of_looks self.old.looks.items) }
-        ensures ok { OnOk result (Adds job.now.limit place from (places_of_looks self.old.looks.items) (places_of_looks self.new.looks.items) self.old.found_from.items self.new.found_from.items) }
+        ensures ok { OnOk result (Adds job.now.limit place from
+            (places_of_looks self.old.looks.items) (places_of_looks self.new.looks.items)
+            self.old.found_from.items self.new.found_from.items) }
         ensures looks { OnOk result (AreLooks job.now self.new.looks.items) }
         ensures agrees { OnOk result (Agrees self.new.marks (places_of_looks self.new.looks.items)) }
-        ensures many { result ≡ Err WalkError.TooManyPlaces → Overflows job.now.limit place (places_of_looks self.old.looks.items) }
+        ensures many { result ≡ Err WalkError.TooManyPlaces
+            → Overflows job.now.limit place (places_of_looks self.old.looks.items) }
     {
         if let Some(place) = place {
             if !is_marked(&self.marks, place) {
@@ -65,11 +68,14 @@ impl Walk {
         requires looks { AreLooks job.now self.old.looks.items }
         requires agrees { Agrees self.old.marks (places_of_looks self.old.looks.items) }
         requires walked { IsWalked job.now job.now.limit (places_of_looks self.old.looks.items) at }
-        requires traced { IsTraced job.now (places_of_looks self.old.looks.items) self.old.found_from.items at at }
+        requires traced { IsTraced job.now (places_of_looks self.old.looks.items)
+            self.old.found_from.items at at }
         requires within { at < length self.old.looks.items }
         requires small { at < 2 ^ 32 }
-        ensures ok { OnOk result (IsWalked job.now job.now.limit (places_of_looks self.new.looks.items) (at + 1)) }
-        ensures traced { OnOk result (IsTraced job.now (places_of_looks self.new.looks.items) self.new.found_from.items (at + 1) (at + 1)) }
+        ensures ok { OnOk result (IsWalked job.now job.now.limit
+            (places_of_looks self.new.looks.items) (at + 1)) }
+        ensures traced { OnOk result (IsTraced job.now (places_of_looks self.new.looks.items)
+            self.new.found_from.items (at + 1) (at + 1)) }
         ensures looks { OnOk result (AreLooks job.now self.new.looks.items) }
         ensures agrees { OnOk result (Agrees self.new.marks (places_of_looks self.new.looks.items)) }
         ensures many { result ≡ Err WalkError.TooManyPlaces → HasMoreThan job.now job.now.limit }
@@ -82,8 +88,8 @@ impl Walk {
     }
 }
 
-/// The reachable places: the first place, and each successor of one of them, in storage as it stands
-/// before the program's start.
+/// The reachable places: the first place, and each successor of one of them, in storage as it
+/// stands before the program's start.
 ///
 /// `TooManyPlaces` comes exactly where there are more than the job's limit, and no growth was
 /// refused: also where one of the places has a fault. `Memory` comes where a growth was refused.

@@ -80,7 +80,8 @@ fn stores_unlent(job: &Job, lending: Lending, visit: &Visit) -> bool
     requires begun { IsBegun visit.now }
     requires lends { Lends job.now lending }
     requires inside { visit.now.word.address + visit.now.word.count ≤ length (storage_of job.now) }
-    ensures { result ≡ (fault.stores visit.now.place visit.now.word && not (covered (store_of job.now) visit.now.word.address visit.now.word.count)) }
+    ensures { result ≡ (fault.stores visit.now.place visit.now.word
+        && not (covered (store_of job.now) visit.now.word.address visit.now.word.count)) }
 {
     let (start, len) = (visit.word.address(), u32::from(visit.word.count()));
     visit.stores() && !lending.stores_in(job, start, len)
@@ -91,7 +92,8 @@ fn fetches_unlent(job: &Job, lending: Lending, visit: &Visit) -> bool
     requires begun { IsBegun visit.now }
     requires lends { Lends job.now lending }
     requires inside { visit.now.word.address + visit.now.word.count ≤ length (storage_of job.now) }
-    ensures { result ≡ (fault.fetches visit.now.place visit.now.word && not (covered (fetch_of job.now) visit.now.word.address visit.now.word.count)) }
+    ensures { result ≡ (fault.fetches visit.now.place visit.now.word
+        && not (covered (fetch_of job.now) visit.now.word.address visit.now.word.count)) }
 {
     let (start, len) = (visit.word.address(), u32::from(visit.word.count()));
     visit.fetches() && !lending.fetches_in(job, start, len)
@@ -113,10 +115,12 @@ fn lent_fault(job: &Job, lending: Lending, visit: &Visit) -> Option<Reason>
     }
 }
 
-/// What is wrong with the seek that begins at a place: no whole argument, or one that isn't allowed.
+/// What is wrong with the seek that begins at a place: no whole argument, or one that isn't
+/// allowed.
 fn seek_fault(job: &Job, visit: &Visit, argument: Option<[u8; 6]>) -> Option<Reason>
     requires begun { IsBegun visit.now }
-    requires argument { fault.begins_seek visit.now.place visit.now.word ≡ true → HasArgument (storage_of job.now) visit.now.place.address argument }
+    requires argument { fault.begins_seek visit.now.place visit.now.word ≡ true
+        → HasArgument (storage_of job.now) visit.now.place.address argument }
     ensures { HasSeekFault job.now visit.now.place visit.now.word result }
 {
     if visit.begins_seek() {
@@ -141,7 +145,8 @@ fn argument_fault(job: &Job, argument: Option<[u8; 6]>) -> Option<Reason>
     }
 }
 
-/// The own fault of a place where a CCW stands; where a seek begins there, `argument` is the seek's.
+/// The own fault of a place where a CCW stands; where a seek begins there, `argument` is the
+/// seek's.
 pub(crate) fn own_fault(
     job: &Job,
     lending: Lending,
@@ -150,7 +155,8 @@ pub(crate) fn own_fault(
 ) -> Option<Reason>
     requires visit { IsVisit (bytes_held job.now.storage) visit.now }
     requires lends { Lends job.now lending }
-    requires argument { fault.begins_seek visit.now.place visit.now.word ≡ true → HasArgument (storage_of job.now) visit.now.place.address argument }
+    requires argument { fault.begins_seek visit.now.place visit.now.word ≡ true
+        → HasArgument (storage_of job.now) visit.now.place.address argument }
     ensures { HasFault job.now visit.now.place result }
 {
     if let Some(reason) = checked(&job.storage, visit) {
@@ -176,11 +182,11 @@ pub(crate) fn fault_without_ccw(place: Place) -> Reason
     }
 }
 
-/// The own fault of a place, one of the reasons 1 to 13 and 16: the first that applies; `None` where
-/// there is none. The place may be any, reached or not.
+/// The own fault of a place, one of the reasons 1 to 13 and 16: the first that applies; `None`
+/// where there is none. The place may be any, reached or not.
 ///
-/// It takes no memory. The cost is that of `covers` over the areas lent, at most the square of their
-/// number.
+/// It takes no memory. The cost is that of `covers` over the areas lent, at most the square of
+/// their number.
 pub fn fault_at(job: &Job, place: Place) -> Option<Reason>
     ensures { HasFault job.now place result }
 {

@@ -3,7 +3,8 @@
 ghost use Rattle.std.specs.Prelude.{◌≡◌, ◌<◌, ◌↔◌, ◌^◌, ◌++◌, ℕ, map, IfOk, OnOk, IsTrue};
 ghost use Rattle.std.specs.List.{All};
 ghost use Rattle.chan_walk.specs.Explored.{AreReachable};
-ghost use Rattle.chan_walk.specs.Guard.{AddsBytes, GuardAreas, Guards, IsArgumentByteOf, IsCcwByteOf, byte_area};
+ghost use Rattle.chan_walk.specs.Guard.{AddsBytes, GuardAreas, Guards, IsArgumentByteOf};
+ghost use Rattle.chan_walk.specs.Guard.{IsCcwByteOf, byte_area};
 ghost use Rattle.chan_walk.specs.Least.{AreReached};
 ghost use Rattle.chan_walk.specs.Look.{AreLooks, IsLook, places_of_looks};
 ghost use Rattle.chan_walk.specs.Ranges.{EndsBelow, IsMerged, Meets};
@@ -35,9 +36,9 @@ impl Model for Guard {
 }
 
 impl Guard {
-    /// The guard of a job whose reachable places are these. Each of them is looked at once. The cost is
-    /// that of sorting an area for each place, six for each seek, one for each Set File Mask, and the
-    /// areas lent.
+    /// The guard of a job whose reachable places are these. Each of them is looked at once. The
+    /// cost is that of sorting an area for each place, six for each seek, one for each Set File
+    /// Mask, and the areas lent.
     pub fn new(alloc: Global, job: &Job, explored: &Explored) -> Result<Guard, AllocError>
         requires { AreReachable job.now explored.now }
         ensures { IfOk result (Guards job.now) }
@@ -53,7 +54,8 @@ impl Guard {
     /// The guard of a job whose reachable places are those that were looked at.
     pub(crate) fn of(alloc: Global, looks: &[Look]) -> Result<Guard, AllocError>
         requires { (j : Job) × AreLooks j looks.now }
-        ensures { IfOk result (λ g. (j : Job) → AreLooks j looks.now → AreReached j (places_of_looks looks.now) → Guards j g) }
+        ensures { IfOk result (λ g. (j : Job) → AreLooks j looks.now
+            → AreReached j (places_of_looks looks.now) → Guards j g) }
     {
         let mut ccws = Vec::new(alloc);
         let mut arguments = Vec::new(alloc);
@@ -105,7 +107,8 @@ fn add_ccw(areas: &mut Vec<Area>, look: &Look) -> Result<(), AllocError>
     requires low { All (EndsBelow (2 ^ 32)) areas.old.items }
     requires look { (j : Job) × IsLook j look.now }
     ensures low { OnOk result (All (EndsBelow (2 ^ 32)) areas.new.items) }
-    ensures bytes { OnOk result ((j : Job) → IsLook j look.now → AddsBytes areas.old.items areas.new.items (IsCcwByteOf j look.now.place)) }
+    ensures bytes { OnOk result ((j : Job) → IsLook j look.now
+        → AddsBytes areas.old.items areas.new.items (IsCcwByteOf j look.now.place)) }
 {
     if look.ccw().is_some() {
         areas.push(Area {
@@ -121,7 +124,8 @@ fn add_argument(areas: &mut Vec<Area>, look: &Look) -> Result<(), AllocError>
     requires low { All (EndsBelow (2 ^ 32)) areas.old.items }
     requires look { (j : Job) × IsLook j look.now }
     ensures low { OnOk result (All (EndsBelow (2 ^ 32)) areas.new.items) }
-    ensures bytes { OnOk result ((j : Job) → IsLook j look.now → AddsBytes areas.old.items areas.new.items (IsArgumentByteOf j look.now.place)) }
+    ensures bytes { OnOk result ((j : Job) → IsLook j look.now
+        → AddsBytes areas.old.items areas.new.items (IsArgumentByteOf j look.now.place)) }
 {
     add_bytes(areas, look.argument())
 }

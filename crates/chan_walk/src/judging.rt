@@ -76,7 +76,8 @@ fn comes_first(one: Finding, other: Finding) -> bool
 
 /// The least pair of address and own fault among the places looked at.
 fn least_fault(looks: &[Look]) -> Option<Finding>
-    ensures { (j : Job) → AreLooks j looks.now → AreReached j (places_of_looks looks.now) → IsLeast (IsOwn j) (IsReachable j) result }
+    ensures { (j : Job) → AreLooks j looks.now → AreReached j (places_of_looks looks.now)
+        → IsLeast (IsOwn j) (IsReachable j) result }
 {
     let mut best = None;
     for look in looks {
@@ -87,7 +88,8 @@ fn least_fault(looks: &[Look]) -> Option<Finding>
 
 /// What a place without an own fault changes that is guarded.
 fn change_at(guard: &Guard, look: &Look) -> Option<Reason>
-    ensures { (j : Job) → IsLook j look.now → Guards j guard.now → IsClear j look.now.place → IsFirst (Changes j) look.now.place result }
+    ensures { (j : Job) → IsLook j look.now → Guards j guard.now → IsClear j look.now.place
+        → IsFirst (Changes j) look.now.place result }
 {
     let ccw = look.ccw()?;
     if !look.stores() {
@@ -105,7 +107,8 @@ fn change_at(guard: &Guard, look: &Look) -> Option<Reason>
 
 /// The least pair of address and change among the places looked at, none of which has an own fault.
 fn least_change(guard: &Guard, looks: &[Look]) -> Option<Finding>
-    ensures { (j : Job) → AreLooks j looks.now → AreReached j (places_of_looks looks.now) → Guards j guard.now → AreClear j → IsLeast (Changes j) (IsReachable j) result }
+    ensures { (j : Job) → AreLooks j looks.now → AreReached j (places_of_looks looks.now)
+        → Guards j guard.now → AreClear j → IsLeast (Changes j) (IsReachable j) result }
 {
     let mut best = None;
     for look in looks {
@@ -117,7 +120,8 @@ fn least_change(guard: &Guard, looks: &[Look]) -> Option<Finding>
 /// The verdict on a job whose reachable places are those that were looked at.
 fn verdict_of(alloc: Global, looks: &[Look]) -> Result<Verdict, AllocError>
     requires { (j : Job) × AreLooks j looks.now }
-    ensures { IfOk result (λ v. (j : Job) → AreLooks j looks.now → AreReached j (places_of_looks looks.now) → IsVerdict j v) }
+    ensures { IfOk result (λ v. (j : Job) → AreLooks j looks.now
+        → AreReached j (places_of_looks looks.now) → IsVerdict j v) }
 {
     if let Some(found) = least_fault(looks) {
         return Ok(found.verdict());
@@ -211,11 +215,11 @@ pub fn judge(alloc: Global, job: &Job) -> Result<Judged, WalkError>
 /// Whether the program may run.
 ///
 /// `Yes` means that no reachable place offends; then whatever the disk holds, however
-/// searches and errors fall and after any number of steps, the channel meets no program check, moves
-/// data only through areas lent for it, changes no CCW, seek argument or mask byte that any run uses,
-/// seeks only inside the extents, sets no weaker mask and issues no inhibited command. `No` names the
-/// first offending CCW, by address, and the first reason there, by number; some run shows it. A job
-/// whose every run is safe, and which is steady, is never answered `No`.
+/// searches and errors fall and after any number of steps, the channel meets no program check,
+/// moves data only through areas lent for it, changes no CCW, seek argument or mask byte that any
+/// run uses, seeks only inside the extents, sets no weaker mask and issues no inhibited command.
+/// `No` names the first offending CCW, by address, and the first reason there, by number; some run
+/// shows it. A job whose every run is safe, and which is steady, is never answered `No`.
 ///
 /// `TooManyPlaces` comes exactly where more places are reachable than the job's limit and no growth
 /// was refused, also where one of them offends. `Memory` comes where a growth was refused.

@@ -1,8 +1,11 @@
-//! The laws of the machine: each is the contract of a function that does nothing, so that it is proved.
+//! The laws of the machine: each is the contract of a function that does nothing, so that it is
+//! proved.
 
-ghost use Rattle.chan_walk.specs.Alarm.{EachPathIsRun, EachPathShows, HeadlineAloneIsEnough, NoFalseAlarm, SafeIsYes};
+ghost use Rattle.chan_walk.specs.Alarm.{EachPathIsRun, EachPathShows, HeadlineAloneIsEnough};
+ghost use Rattle.chan_walk.specs.Alarm.{NoFalseAlarm, SafeIsYes};
 ghost use Rattle.chan_walk.specs.Counted.{SameVerdict, YesByGuarded, YesStays};
-ghost use Rattle.chan_walk.specs.Headline.{GathersArguments, GuardedStays, StaysReachable, YesIsSafe};
+ghost use Rattle.chan_walk.specs.Headline.{GathersArguments, GuardedStays, StaysReachable};
+ghost use Rattle.chan_walk.specs.Headline.{YesIsSafe};
 ghost use Rattle.chan_walk.specs.Offences.{FirstIsVerdict};
 ghost use Rattle.chan_walk.specs.Order.{NumbersIncrease};
 
@@ -33,8 +36,8 @@ pub(crate) fn each_path_is_run()
     ensures { EachPathIsRun }
 {}
 
-/// Each path to an offending place is a witness: a run over exactly this path, which changes nothing
-/// on the way, shows the reason there.
+/// Each path to an offending place is a witness: a run over exactly this path, which changes
+/// nothing on the way, shows the reason there.
 pub(crate) fn each_path_shows()
     ensures { EachPathShows }
 {}
@@ -75,8 +78,8 @@ pub(crate) fn yes_by_guarded()
     ensures { YesByGuarded }
 {}
 
-/// Where the verdict is yes, it is yes over what storage holds at any moment of any run, so that the
-/// program may start again.
+/// Where the verdict is yes, it is yes over what storage holds at any moment of any run, so that
+/// the program may start again.
 pub(crate) fn yes_stays()
     ensures { YesStays }
 {}

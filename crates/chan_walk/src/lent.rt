@@ -1,14 +1,16 @@
 //! The areas lent to a program, kept so that a range is looked up by binary search.
 
-ghost use Rattle.std.specs.Prelude.{◌≡◌, ◌+◌, ◌≤◌, map, length, IfOk};
+ghost use Rattle.std.specs.Prelude.{◌≡◌, ◌+◌, ◌≤◌, ◌^◌, false, map, length, IfOk};
 ghost use Rattle.ccw_core.specs.Areas.{covered};
+ghost use Rattle.chan_walk.specs.Evidence.{IsFirstGap};
 ghost use Rattle.chan_walk.specs.Job.{fetch_of, storage_of, store_of};
 ghost use Rattle.chan_walk.specs.Lent as lent;
 ghost use Rattle.chan_walk.specs.Lent.{AreLent};
 ghost use Rattle.chan_walk.specs.Lending.{Lends};
+ghost use Rattle.chan_walk.specs.Ranges.{EndsBelow};
 
 use crate::job::Job;
-use crate::ranges::{holds, merge};
+use crate::ranges::{first_gap, holds, merge};
 use ccw_core::{Area, covers};
 use std::alloc::{AllocError, Global};
 use std::marker::Model;
@@ -55,6 +57,26 @@ impl Lent {
         ensures { result ≡ covered self.now.store start len }
     {
         holds(self.store.as_slice(), start, len)
+    }
+
+    /// The first bytes in a row of some data that weren't lent for fetching. The cost is that of
+    /// two binary searches.
+    pub(crate) fn fetch_gap(&self, range: Area) -> Area
+        requires low { EndsBelow (2 ^ 32) range }
+        requires uncovered { covered self.now.fetch range.start range.len ≡ false }
+        ensures { IsFirstGap self.now.fetch range result }
+    {
+        first_gap(self.fetch.as_slice(), range)
+    }
+
+    /// The first bytes in a row of some data that weren't lent for storing. The cost is that of two
+    /// binary searches.
+    pub(crate) fn store_gap(&self, range: Area) -> Area
+        requires low { EndsBelow (2 ^ 32) range }
+        requires uncovered { covered self.now.store range.start range.len ≡ false }
+        ensures { IsFirstGap self.now.store range result }
+    {
+        first_gap(self.store.as_slice(), range)
     }
 }
 

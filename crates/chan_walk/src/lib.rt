@@ -10,7 +10,9 @@
 //! ```
 #![tactic(auto)]
 
+mod changed;
 mod error;
+mod evidence;
 mod explanation;
 mod explored;
 mod exploring;
@@ -38,6 +40,7 @@ mod ways;
 mod word;
 
 pub use crate::error::WalkError;
+pub use crate::evidence::{Evidence, Outside, evidence_for};
 pub use crate::explanation::{Explanation, explain};
 pub use crate::explored::{Explored, Places};
 pub use crate::exploring::explore;

@@ -66,7 +66,15 @@ impl Model for Look {
 
     ghost Value = { Seen };
 
-    ghost view = { λ l. record { place = l.place; ccw = l.ccw; command = option_map entry_of l.command; fault = l.fault; argument = addresses_of l.argument; stores = l.stores; next = l.next } };
+    ghost view = { λ l. record {
+      place = l.place;
+      ccw = l.ccw;
+      command = option_map entry_of l.command;
+      fault = l.fault;
+      argument = addresses_of l.argument;
+      stores = l.stores;
+      next = l.next;
+    } };
 }
 
 impl Look {
@@ -106,7 +114,8 @@ impl Look {
         self.next
     }
 
-    /// The addresses of the bytes that are guarded because the operation takes them as its argument.
+    /// The addresses of the bytes that are guarded because the operation takes them as its
+    /// argument.
     pub(crate) fn argument(&self) -> &[u32]
         ensures { result.now ≡ self.now.argument }
     {
@@ -140,11 +149,12 @@ fn look_at_nothing(place: Place) -> Look
 /// The addresses of the argument of the seek that begins at a place, if one does.
 fn sought(storage: &Storage, visit: &Visit) -> Option<[u32; 6]>
     requires { IsVisit (bytes_held storage.now) visit.now }
-    ensures seek { begins_seek visit.now.place visit.now.word ≡ true → HasAddresses (bytes_held storage.now) visit.now.place.address result }
+    ensures seek { begins_seek visit.now.place visit.now.word ≡ true
+        → HasAddresses (bytes_held storage.now) visit.now.place.address result }
     ensures other { begins_seek visit.now.place visit.now.word ≡ false → result ≡ None }
 {
     if visit.begins_seek() {
-        argument_addresses(storage, visit.place.address, visit.word)
+        argument_addresses(storage, visit.place.address, visit.word).ok()
     } else {
         None
     }

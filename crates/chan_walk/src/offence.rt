@@ -3,13 +3,15 @@
 ghost use Rattle.std.specs.Prelude.{◌≡◌, ◌↔◌, map, IfOk, IsTrue, OnOk};
 ghost use Rattle.std.specs.List.Sorted.{IsStrictlyIncreasing};
 ghost use Rattle.chan_walk.specs.Argument.{Has};
+ghost use Rattle.chan_walk.specs.Explained.{HasNumber};
 ghost use Rattle.chan_walk.specs.Explored.{AreApart, HasMoreThan};
 ghost use Rattle.chan_walk.specs.Fault.{IsClear};
 ghost use Rattle.chan_walk.specs.Guard.{Guards};
 ghost use Rattle.chan_walk.specs.Least.{AreReached, IsOwn};
 ghost use Rattle.chan_walk.specs.Look.{AreLooks, IsLook, places_of_looks};
 ghost use Rattle.chan_walk.specs.Offences as listed;
-ghost use Rattle.chan_walk.specs.Offences.{AddsOffences, AreAllOffences, AreOffences, HasOffences, StoresInto};
+ghost use Rattle.chan_walk.specs.Offences.{AddsOffences, AreAllOffences, AreOffences, HasOffences};
+ghost use Rattle.chan_walk.specs.Offences.{StoresInto};
 ghost use Rattle.chan_walk.specs.Ranges.{IsMerged};
 ghost use Rattle.chan_walk.specs.Verdict.{AreClear, Changes};
 ghost use Rattle.chan_walk.specs.declared.job.Job.{Job};
@@ -48,8 +50,8 @@ impl Offence {
     }
 }
 
-/// All offences of a job: exactly the reachable places that offend, each with each of its reasons, in
-/// order of address, then of the reason's number, then of place. So the first of them is the
+/// All offences of a job: exactly the reachable places that offend, each with each of its reasons,
+/// in order of address, then of the reason's number, then of place. So the first of them is the
 /// verdict, and where there is none the verdict is yes.
 ///
 /// The errors and the cost are those of `verify`.
@@ -66,7 +68,8 @@ pub fn offences(alloc: Global, job: &Job) -> Result<Vec<Offence>, WalkError>
 pub(crate) fn offences_of(alloc: Global, looks: &[Look]) -> Result<Vec<Offence>, AllocError>
     requires looks { (j : Job) × AreLooks j looks.now × AreReached j (places_of_looks looks.now) }
     requires apart { AreApart (places_of_looks looks.now) }
-    ensures { IfOk result (λ v. (j : Job) → AreLooks j looks.now → AreReached j (places_of_looks looks.now) → AreOffences j v.items) }
+    ensures { IfOk result (λ v. (j : Job) → AreLooks j looks.now
+        → AreReached j (places_of_looks looks.now) → AreOffences j v.items) }
 {
     let offences = unordered(alloc, looks)?;
     Ok(in_order(offences))
@@ -76,7 +79,8 @@ pub(crate) fn offences_of(alloc: Global, looks: &[Look]) -> Result<Vec<Offence>,
 fn unordered(alloc: Global, looks: &[Look]) -> Result<Vec<Offence>, AllocError>
     requires looks { (j : Job) × AreLooks j looks.now }
     requires apart { AreApart (places_of_looks looks.now) }
-    ensures { IfOk result (λ v. (j : Job) → AreLooks j looks.now → AreReached j (places_of_looks looks.now) → AreAllOffences j v.items) }
+    ensures { IfOk result (λ v. (j : Job) → AreLooks j looks.now
+        → AreReached j (places_of_looks looks.now) → AreAllOffences j v.items) }
 {
     let faults = faults_of(alloc, looks)?;
     if !faults.is_empty() {
@@ -89,7 +93,8 @@ fn unordered(alloc: Global, looks: &[Look]) -> Result<Vec<Offence>, AllocError>
 /// The own faults of the places that were looked at.
 fn faults_of(alloc: Global, looks: &[Look]) -> Result<Vec<Offence>, AllocError>
     requires { AreApart (places_of_looks looks.now) }
-    ensures { IfOk result (λ v. (j : Job) → AreLooks j looks.now → HasOffences (IsOwn j) (places_of_looks looks.now) v.items) }
+    ensures { IfOk result (λ v. (j : Job) → AreLooks j looks.now
+        → HasOffences (IsOwn j) (places_of_looks looks.now) v.items) }
 {
     let mut faults = Vec::new(alloc);
     for look in looks {
@@ -100,7 +105,8 @@ fn faults_of(alloc: Global, looks: &[Look]) -> Result<Vec<Offence>, AllocError>
 
 /// Adds the own fault of a place, if it has one.
 fn add_fault(faults: &mut Vec<Offence>, look: &Look) -> Result<(), AllocError>
-    ensures { OnOk result ((j : Job) → IsLook j look.now → AddsOffences (IsOwn j) look.now.place faults.old.items faults.new.items) }
+    ensures { OnOk result ((j : Job) → IsLook j look.now
+        → AddsOffences (IsOwn j) look.now.place faults.old.items faults.new.items) }
 {
     if let Some(reason) = look.fault() {
         faults.push(Offence {
@@ -114,7 +120,9 @@ fn add_fault(faults: &mut Vec<Offence>, look: &Look) -> Result<(), AllocError>
 /// What the places that were looked at, none of which has an own fault, change that is guarded.
 fn changes_of(alloc: Global, guard: &Guard, looks: &[Look]) -> Result<Vec<Offence>, AllocError>
     requires { AreApart (places_of_looks looks.now) }
-    ensures { IfOk result (λ v. (j : Job) → AreLooks j looks.now → AreReached j (places_of_looks looks.now) → Guards j guard.now → AreClear j → HasOffences (Changes j) (places_of_looks looks.now) v.items) }
+    ensures { IfOk result (λ v. (j : Job) → AreLooks j looks.now
+        → AreReached j (places_of_looks looks.now) → Guards j guard.now → AreClear j
+        → HasOffences (Changes j) (places_of_looks looks.now) v.items) }
 {
     let mut changes = Vec::new(alloc);
     for look in looks {
@@ -133,7 +141,8 @@ fn add_change(
     reason: Reason,
     is_so: bool,
 ) -> Result<(), AllocError>
-    ensures { OnOk result (AddsOffences (λ _ t. (t ≡ reason) × IsTrue is_so) look.now.place changes.old.items changes.new.items) }
+    ensures { OnOk result (AddsOffences (λ _ t. (t ≡ reason) × IsTrue is_so) look.now.place
+        changes.old.items changes.new.items) }
 {
     if is_so {
         changes.push(Offence {
@@ -164,4 +173,16 @@ fn in_order(offences: Vec<Offence>) -> Vec<Offence>
     let mut offences = offences;
     offences.sort_unstable_by_key(|offence| offence.number());
     offences
+}
+
+/// Whether one of the offences has this number.
+pub(crate) fn has_offence(offences: &[Offence], number: u64) -> bool
+    ensures { IsTrue result ↔ HasNumber offences.now number }
+{
+    for at in 0..offences.len() {
+        if offences[at].number() == number {
+            return true;
+        }
+    }
+    false
 }

@@ -15,8 +15,8 @@ use crate::place::Place;
 use std::alloc::{AllocError, Global};
 
 /// The path from the first place to a place: the shortest list of successors, and of several that
-/// are equally short the one that goes on to `next` where another goes to `skip`, at the first place
-/// where they part. So there is exactly one. `None` exactly where the place isn't reachable.
+/// are equally short the one that goes on to `next` where another goes to `skip`, at the first
+/// place where they part. So there is exactly one. `None` exactly where the place isn't reachable.
 ///
 /// The errors and the cost are those of `verify`.
 pub fn path_to(alloc: Global, job: &Job, place: Place) -> Result<Option<Vec<Place>>, WalkError>
@@ -47,7 +47,8 @@ fn index_of(looks: &[Look], place: Place) -> Option<usize>
 pub(crate) fn path_at(alloc: Global, walk: &Walk, at: usize) -> Result<Vec<Place>, AllocError>
     requires found { (j : Job) × HasFound j walk.now }
     requires within { at < length walk.now.looks.items }
-    ensures { IfOk result (λ path. (j : Job) → HasFound j walk.now → IsPathAt j (places_of_looks walk.now.looks.items) at path.items) }
+    ensures { IfOk result (λ path. (j : Job) → HasFound j walk.now
+        → IsPathAt j (places_of_looks walk.now.looks.items) at path.items) }
 {
     let mut path = Vec::new(alloc);
     path.push(walk.looks[at].place())?;

@@ -1,11 +1,14 @@
 //! Areas merged into one list, in which a byte or a range is found by binary search.
 
-ghost use Rattle.std.specs.Prelude.{◌≡◌, ◌++◌, ◌∷◌, ◌<◌, ◌≤◌, ◌^◌, ◌↔◌, [], IfOk, IsTrue};
+ghost use Rattle.std.specs.Prelude.{◌≡◌, ◌++◌, ◌∷◌, ◌<◌, ◌≤◌, ◌^◌, ◌↔◌, [], false, IfOk, IsTrue};
 ghost use Rattle.std.specs.List.{All};
 ghost use Rattle.std.specs.List.Sorted.{IsNonDecreasingBy};
-ghost use Rattle.ccw_core.specs.Areas.{covered};
+ghost use Rattle.ccw_core.specs.Areas.{covered, lies_in};
+ghost use Rattle.chan_walk.specs.Evidence.{IsFirstGap, IsLeastOrNone};
 ghost use Rattle.chan_walk.specs.Ranges as ranges;
-ghost use Rattle.chan_walk.specs.Ranges.{AreRuns, EndsBelow, HaveSameBytes, IsMerged, IsNextArea, Meets, MergedIsUnique, start_of};
+ghost use Rattle.chan_walk.specs.Ranges.{AreRuns, EndsBelow, HaveSameBytes, IsByteIn, IsGapEnd};
+ghost use Rattle.chan_walk.specs.Ranges.{IsGapStart, IsMerged, IsNextArea, Meets, MergedIsUnique};
+ghost use Rattle.chan_walk.specs.Ranges.{start_of};
 
 use ccw_core::Area;
 use std::alloc::{AllocError, Global};
@@ -27,7 +30,8 @@ fn join(merged: &mut Vec<Area>, run: Area, area: Area) -> Result<Area, AllocErro
     ensures runs { IfOk result (λ r. AreRuns merged.new.items r) }
     ensures order { IfOk result (λ r. r.start ≤ area.start) }
     ensures low { IfOk result (λ r. EndsBelow (2 ^ 32) r) }
-    ensures bytes { IfOk result (λ r. HaveSameBytes (merged.new.items ++ r ∷ []) (merged.old.items ++ run ∷ area ∷ [])) }
+    ensures bytes { IfOk result (λ r. HaveSameBytes (merged.new.items ++ r ∷ [])
+        (merged.old.items ++ run ∷ area ∷ [])) }
 {
     if area.len == 0 {
         return Ok(run);
@@ -69,8 +73,8 @@ fn merge_sorted(alloc: Global, areas: &[Area]) -> Result<Vec<Area>, AllocError>
     Ok(merged)
 }
 
-/// The one list of areas, none empty, in order of start, and with at least one byte between two, that
-/// has the bytes of these areas. Each has to end below 2^32.
+/// The one list of areas, none empty, in order of start, and with at least one byte between two,
+/// that has the bytes of these areas. Each has to end below 2^32.
 ///
 /// The cost is that of sorting.
 pub(crate) fn merge(alloc: Global, areas: Vec<Area>) -> Result<Vec<Area>, AllocError>
@@ -92,7 +96,8 @@ fn next_area(areas: &[Area], address: u32) -> Option<Area>
     areas.get(at).copied()
 }
 
-/// Whether a byte of a range lies in some area of a merged list. The cost is that of a binary search.
+/// Whether a byte of a range lies in some area of a merged list. The cost is that of a binary
+/// search.
 pub(crate) fn meets(areas: &[Area], start: u32, len: u32) -> bool
     requires { IsMerged areas.now }
     ensures { IsTrue result ↔ Meets areas.now start len }
@@ -120,6 +125,65 @@ pub(crate) fn holds(areas: &[Area], start: u32, len: u32) -> bool
     match next_area(areas, start) {
         Some(area) => area.start <= start && end <= end_of(&area),
         None => false,
+    }
+}
+
+/// The first byte of a range that lies in some area of a merged list. The cost is that of a binary
+/// search.
+pub(crate) fn first_in(areas: &[Area], start: u32, len: u32) -> Option<u32>
+    requires { IsMerged areas.now }
+    ensures { IsLeastOrNone (λ b. IsByteIn areas.now start len b) result }
+{
+    let end = u64::from(start) + u64::from(len);
+    let area = next_area(areas, start)?;
+    let first = area.start.max(start);
+    if u64::from(first) < end {
+        Some(first)
+    } else {
+        None
+    }
+}
+
+/// The first byte of a range that lies in no area of a merged list.
+fn gap_start(areas: &[Area], range: Area) -> u32
+    requires merged { IsMerged areas.now }
+    requires low { EndsBelow (2 ^ 32) range }
+    requires uncovered { covered areas.now range.start range.len ≡ false }
+    ensures { IsGapStart areas.now range result }
+{
+    match next_area(areas, range.start) {
+        Some(area) if area.start <= range.start => area.start + area.len,
+        _ => range.start,
+    }
+}
+
+/// The address after the last of the bytes in a row, from `start` on and before `end`, that lie in
+/// no area of a merged list.
+fn gap_end(areas: &[Area], start: u32, end: u32) -> u32
+    requires merged { IsMerged areas.now }
+    requires some { start < end }
+    requires out { lies_in areas.now start ≡ false }
+    ensures { IsGapEnd areas.now start end result }
+{
+    match next_area(areas, start) {
+        Some(area) => area.start.min(end),
+        None => end,
+    }
+}
+
+/// The first bytes in a row of a range that lie in no area of a merged list. The cost is that of
+/// two binary searches.
+pub(crate) fn first_gap(areas: &[Area], range: Area) -> Area
+    requires merged { IsMerged areas.now }
+    requires low { EndsBelow (2 ^ 32) range }
+    requires uncovered { covered areas.now range.start range.len ≡ false }
+    ensures { IsFirstGap areas.now range result }
+{
+    let start = gap_start(areas, range);
+    let end = gap_end(areas, start, range.start + range.len);
+    Area {
+        start,
+        len: end - start,
     }
 }
 

@@ -1,10 +1,13 @@
 //! The argument of a seek, gathered along the data chain that begins at it.
 
-ghost use Rattle.std.specs.Prelude.{◌≡◌, ◌&&◌, not, ◌+◌, ◌<◌, ◌≤◌, ◌^◌, ℕ, List, true, false, length, slice_index, IfSome, IfNone, Some, None};
-ghost use Rattle.ccw_core.specs.Ccw.{byte, ccw, is_transfer, is_formed as formed, is_counted as counted, has_data_in as data_in};
+ghost use Rattle.std.specs.Prelude.{◌≡◌, ◌&&◌, not, ◌+◌, ◌<◌, ◌≤◌, ◌^◌, ℕ, List, true, false};
+ghost use Rattle.std.specs.Prelude.{length, slice_index, IfSome, IfNone, IfOk, IfErr, Some, None};
+ghost use Rattle.ccw_core.specs.Ccw.{byte, ccw, is_transfer, is_formed as formed};
+ghost use Rattle.ccw_core.specs.Ccw.{is_counted as counted, has_data_in as data_in};
 ghost use Rattle.ccw_core.specs.Held.{bytes_held};
 ghost use Rattle.ccw_core.specs.Storage.{ccw_at as word_at};
 ghost use Rattle.chan_walk.specs.Argument.{HasArgument};
+ghost use Rattle.chan_walk.specs.Evidence.{Gives};
 ghost use Rattle.chan_walk.specs.Onward as onward;
 ghost use Rattle.chan_walk.specs.Tables.{HasAddresses};
 
@@ -16,7 +19,8 @@ mod tests;
 
 /// A CCW can give bytes of an argument.
 fn gives_bytes(storage: &Storage, word: &Ccw) -> bool
-    ensures { result ≡ (not (is_transfer word.now) && formed word.now && counted word.now && data_in (length (bytes_held storage.now)) word.now) }
+    ensures { result ≡ (not (is_transfer word.now) && formed word.now && counted word.now
+        && data_in (length (bytes_held storage.now)) word.now) }
 {
     !word.is_transfer() && is_formed(word) && is_counted(word) && has_data_in(storage, word)
 }
@@ -54,7 +58,8 @@ fn note(addresses: &mut [u32; 6], have: usize, from: u32, count: usize)
     requires range { from + count ≤ 2 ^ 24 }
     requires size { length addresses.old ≡ 6 }
     ensures size { length addresses.new ≡ 6 }
-    ensures before { (i : ℕ) → i < have → slice_index addresses.new i ≡ slice_index addresses.old i }
+    ensures before { (i : ℕ) → i < have → slice_index addresses.new i
+        ≡ slice_index addresses.old i }
     ensures added { (i : ℕ) → i < count → slice_index addresses.new (have + i) ≡ from + i }
 {
     for k in 0..count {
@@ -63,37 +68,42 @@ fn note(addresses: &mut [u32; 6], have: usize, from: u32, count: usize)
 }
 
 /// The addresses of the six bytes of the argument of a seek whose own CCW, `ccw`, stands at
-/// `address`. At most five further CCWs and five transfers are looked at, each of them once.
-pub(crate) fn argument_addresses(storage: &Storage, address: u32, ccw: Ccw) -> Option<[u32; 6]>
+/// `address`; or how many bytes its data chain gives, if they are fewer. At most five further CCWs
+/// and five transfers are looked at, each of them once.
+pub(crate) fn argument_addresses(storage: &Storage, address: u32, ccw: Ccw) -> Result<[u32; 6], u8>
     requires { word_at (bytes_held storage.now) address ≡ Some ccw }
-    ensures { HasAddresses (bytes_held storage.now) address result }
+    ensures six { IfOk result (λ x. HasAddresses (bytes_held storage.now) address (Some x)) }
+    ensures none { IfErr result (λ _. HasAddresses (bytes_held storage.now) address None) }
+    ensures given { IfErr result (Gives (bytes_held storage.now) address) }
 {
     let mut addresses = [0u32; 6];
     let mut have: usize = 0;
     let mut here = Link { address, ccw };
     loop {
         if !gives_bytes(storage, &here.ccw) {
-            return None;
+            return Err(have as u8);
         }
         let from = here.ccw.address();
         let count = usize::from(here.ccw.count());
         let room = 6 - have;
         if count >= room {
             note(&mut addresses, have, from, room);
-            return Some(addresses);
+            return Ok(addresses);
         }
         if !chains_data(&here.ccw) {
-            return None;
+            return Err((have + count) as u8);
         }
         note(&mut addresses, have, from, count);
         have += count;
-        here = onward(storage, here.address)?;
+        match onward(storage, here.address) {
+            Some(next) => here = next,
+            None => return Err(have as u8),
+        }
     }
 }
 
-/// The byte at an address of storage.
+/// The byte at an address of storage, and zero past its end.
 pub(crate) fn byte_at(storage: &Storage, address: u32) -> u8
-    requires { address < length (bytes_held storage.now) }
     ensures { result ≡ byte (bytes_held storage.now) address }
 {
     match storage.range(address, 1) {
@@ -102,17 +112,27 @@ pub(crate) fn byte_at(storage: &Storage, address: u32) -> u8
     }
 }
 
-/// The bytes of an argument at these addresses, if there is one.
-pub(crate) fn bytes_at(storage: &Storage, addresses: Option<[u32; 6]>) -> Option<[u8; 6]>
-    requires { IfSome addresses (λ x. (i : ℕ) → slice_index x i < length (bytes_held storage.now)) }
-    ensures { (address : ℕ) → HasAddresses (bytes_held storage.now) address addresses → HasArgument (bytes_held storage.now) address result }
+/// The bytes at these addresses.
+pub(crate) fn bytes_of(storage: &Storage, addresses: [u32; 6]) -> [u8; 6]
+    ensures { (address : ℕ) → HasAddresses (bytes_held storage.now) address (Some addresses)
+        → HasArgument (bytes_held storage.now) address (Some result) }
 {
-    let addresses = addresses?;
     let mut bytes = [0u8; 6];
     for k in 0..6usize {
         bytes[k] = byte_at(storage, addresses[k]);
     }
-    Some(bytes)
+    bytes
+}
+
+/// The bytes of an argument at these addresses, if there is one.
+pub(crate) fn bytes_at(storage: &Storage, addresses: Option<[u32; 6]>) -> Option<[u8; 6]>
+    ensures { (address : ℕ) → HasAddresses (bytes_held storage.now) address addresses
+        → HasArgument (bytes_held storage.now) address result }
+{
+    match addresses {
+        Some(addresses) => Some(bytes_of(storage, addresses)),
+        None => None,
+    }
 }
 
 /// The argument of a seek at an address: the first six bytes of the joined data ranges of the data
@@ -127,5 +147,5 @@ pub fn seek_argument(storage: &Storage, address: u32) -> Option<[u8; 6]>
     ensures { HasArgument (bytes_held storage.now) address result }
 {
     let ccw = storage.ccw_at(address)?;
-    bytes_at(storage, argument_addresses(storage, address, ccw))
+    bytes_at(storage, argument_addresses(storage, address, ccw).ok())
 }

@@ -49,8 +49,10 @@ pub fn successors(job: &Job, place: Place) -> Next
 pub(crate) fn go_on(visit: &Visit) -> Next
     requires begun { IsBegun visit.now }
     requires low { visit.now.place.address < 2 ^ 25 }
-    ensures next { result.next ≡ next_of visit.now.place visit.now.word (kind visit.now.place.entered visit.now.word) }
-    ensures skip { result.skip ≡ skip_of visit.now.place visit.now.word (kind visit.now.place.entered visit.now.word) }
+    ensures next { result.next ≡ next_of visit.now.place visit.now.word
+        (kind visit.now.place.entered visit.now.word) }
+    ensures skip { result.skip ≡ skip_of visit.now.place visit.now.word
+        (kind visit.now.place.entered visit.now.word) }
 {
     let Visit {
         place,

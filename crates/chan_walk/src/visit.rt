@@ -87,6 +87,26 @@ impl Visit {
     }
 }
 
+/// Recalibrate begins at a place whose CCW is `word`.
+pub(crate) fn recalibrates_at(place: Place, word: Ccw) -> bool
+    ensures { result ≡ fault.begins_recalibrate place word }
+{
+    match begun_command(place, &word) {
+        Some(command) => is_recalibrate_class(command.class()),
+        None => false,
+    }
+}
+
+/// Set File Mask begins at a place whose CCW is `word`.
+pub(crate) fn sets_mask_at(place: Place, word: Ccw) -> bool
+    ensures { result ≡ fault.begins_set_mask place word }
+{
+    match begun_command(place, &word) {
+        Some(command) => is_set_mask_class(command.class()),
+        None => false,
+    }
+}
+
 /// The command of the table that begins at a place whose CCW is `word`.
 fn begun_command(place: Place, word: &Ccw) -> Option<Command>
     ensures { option_map entry_of result ≡ begun place word.now }
@@ -98,8 +118,8 @@ fn begun_command(place: Place, word: &Ccw) -> Option<Command>
     }
 }
 
-/// The kind of an operation: its command's where it begins, and else that of the operation that goes
-/// on. A code of no command moves nothing.
+/// The kind of an operation: its command's where it begins, and else that of the operation that
+/// goes on. A code of no command moves nothing.
 fn kind_of(entered: Entry, command: Option<Command>) -> Kind
     ensures { result ≡ kind_by entered (option_map entry_of command) }
 {

@@ -12,7 +12,7 @@ use Rattle.clap.specs.Walk.{done, waits, plain, refused, idle, option, positiona
 use Rattle.clap.specs.declared.error.kind.ErrorKind.{ErrorKind}
 use Rattle.chanv.specs.CommandLine.{chanv}
 
--- the commands below `chanv`, as clap builds them, in turn: show, verify, list, help
+-- the commands below `chanv`, as clap builds them, in turn: show, verify, list, why, graph, deck, explain, help
 abbrev pub sub_at : ℕ → Shape
 sub_at k = slice_index_or (built chanv).subs k help_shape
 

@@ -1,4 +1,4 @@
--- What words that are taken name: no command, or one of the three, and `show` with its word.
+-- What words that are taken name: no command, or that of an action, or `show` with its word, or `deck`, or `explain`.
 use Rattle.std.proofs.Common.{◌≡◌, ◌∙◌, ◌||◌, inl, inr, Bool, true, false, cond, List, Option, [], Some, None, codes, refl, sym}
 use Rattle.std.specs.Prelude.{option_map}
 use Rattle.std.specs.Option.{option_map_or}
@@ -9,6 +9,7 @@ use Rattle.clap.specs.Faults.{entered_fault, level_fault, walk_fault}
 use Rattle.clap.specs.Simple.{argument_words, built, entered, label_of, names_of, rows_at}
 use Rattle.clap.specs.Walk.{Text, answers_to, nothing_held, walk, walk_from}
 use Rattle.clap.specs.Words.{subcommand_of}
+use Rattle.chan_run.specs.declared.running.Action.TheVariants as actions
 use Rattle.chanv.specs.CommandLine.{IsKnown, IsTaken, chanv}
 use Rattle.chanv.proofs.NamedCommands.{IsNoHelp, or_else_none, sub_at, walk_stops}
 use Rattle.chanv.proofs.ShownWord.{has_word}
@@ -24,16 +25,20 @@ known_at : (stop : Option (Text × List Text)) → IsNoHelp stop → entered_fau
 known_at None no_help none = inl refl
 known_at (Some p) no_help none =
     go (answers_to p.0 (label_of (sub_at 0))) (answers_to p.0 (label_of (sub_at 1))) (answers_to p.0 (label_of (sub_at 2))) (answers_to p.0 (label_of (sub_at 3)))
-    (not_help p.0 no_help) none
+    (answers_to p.0 (label_of (sub_at 4))) (answers_to p.0 (label_of (sub_at 5))) (answers_to p.0 (label_of (sub_at 6))) (answers_to p.0 (label_of (sub_at 7))) (not_help p.0 no_help) none
   where
-    go : (a b c d : Bool) → d ≡ false
-        → option_map_or (λ s. level_fault s [] nothing_held p.1 false []) (cond a (Some (sub_at 0)) (cond b (Some (sub_at 1)) (cond c (Some (sub_at 2)) (cond d (Some (sub_at 3)) None)))) [] ≡ []
-        → IsKnown (option_map (λ s. rows_at s p.1) (cond a (Some (sub_at 0)) (cond b (Some (sub_at 1)) (cond c (Some (sub_at 2)) (cond d (Some (sub_at 3)) None)))))
-    go true b c d e sound = inr (inr (inr (refl, has_word p.1 sound)))
-    go false true c d e sound = inr (inl refl)
-    go false false true d e sound = inr (inr (inl refl))
-    go false false false true e sound = absurd (true≢false e)
-    go false false false false e sound = inl refl
+    go : (a b c d e f g h : Bool) → h ≡ false
+        → option_map_or (λ s. level_fault s [] nothing_held p.1 false []) (cond a (Some (sub_at 0)) (cond b (Some (sub_at 1)) (cond c (Some (sub_at 2)) (cond d (Some (sub_at 3)) (cond e (Some (sub_at 4)) (cond f (Some (sub_at 5)) (cond g (Some (sub_at 6)) (cond h (Some (sub_at 7)) None)))))))) [] ≡ []
+        → IsKnown (option_map (λ s. rows_at s p.1) (cond a (Some (sub_at 0)) (cond b (Some (sub_at 1)) (cond c (Some (sub_at 2)) (cond d (Some (sub_at 3)) (cond e (Some (sub_at 4)) (cond f (Some (sub_at 5)) (cond g (Some (sub_at 6)) (cond h (Some (sub_at 7)) None)))))))))
+    go true b c d e f g h no_help sound = inr (inr (inl (refl, has_word p.1 sound)))
+    go false true c d e f g h no_help sound = inr (inl (actions.Verify, refl))
+    go false false true d e f g h no_help sound = inr (inl (actions.List, refl))
+    go false false false true e f g h no_help sound = inr (inl (actions.Why, refl))
+    go false false false false true f g h no_help sound = inr (inl (actions.Graph, refl))
+    go false false false false false true g h no_help sound = inr (inr (inr (inl refl)))
+    go false false false false false false true h no_help sound = inr (inr (inr (inr refl)))
+    go false false false false false false false true no_help sound = absurd (true≢false no_help)
+    go false false false false false false false false no_help sound = inl refl
 
 pub taken_is_known : (words : List Text) → IsTaken words → IsKnown (subcommand_of chanv words)
 taken_is_known words taken =

@@ -1,10 +1,19 @@
 -- What the command line takes, and what its words ask for.
-use Rattle.std.specs.Prelude.{◌≡◌, ◌≢◌, ◌⊎◌, List, [], ◌∷◌, Option, Some, None, IsSome, false, true, codes, option_map, option_and_then}
+use Rattle.std.specs.Prelude.{◌≡◌, ◌≢◌, ◌⊎◌, List, [], ◌∷◌, Option, Some, None, IsSome, false, true}
+use Rattle.std.specs.Prelude.{codes, option_map, option_and_then}
+use Rattle.std.specs.List.{All}
 use Rattle.std.specs.Str.Parse.{starts_with_minus}
-use Rattle.clap.specs.Words.{App, IsAmong, Row, Rule, Text, fault_of, first_of, kind_of, new_app, new_rule, subcommand_of, with_rule, with_subcommand}
-use Rattle.clap.specs.declared.error.kind.ErrorKind.TheVariants.{DisplayHelp, OutOfMemory}
+use Rattle.clap.specs.Words.{App, IsAmong, Row, Rule, Text, fault_of, first_of}
+use Rattle.clap.specs.Words.{kind_of, new_app, new_rule, subcommand_of, with_rule, with_subcommand}
+use Rattle.clap.specs.declared.builder.action.ArgAction.TheVariants.{Append}
+use Rattle.clap.specs.declared.error.kind.ErrorKind.TheVariants.{DisplayHelp, DisplayVersion}
+use Rattle.clap.specs.declared.error.kind.ErrorKind.TheVariants.{OutOfMemory}
 use Rattle.chanv.specs.declared.command_line.Request.{Request}
-use Rattle.chanv.specs.declared.command_line.Request.TheVariants.{Show, Run, Help, Fault, NoMemory}
+use Rattle.chanv.specs.declared.command_line.Request.TheVariants.{Show, Run, RunNamed, Image}
+use Rattle.chanv.specs.declared.command_line.Request.TheVariants.{Explain}
+use Rattle.chanv.specs.declared.command_line.Request.TheVariants.{Help, Version, Fault, NoMemory}
+use Rattle.chanv.specs.CommandWords.{IsStandardInput, file_word, files_in, texts_of}
+use Rattle.chanv.specs.ImageLine.{SaysImage, image_line, text_or}
 use Rattle.chan_run.specs.declared.running.Action.{Action}
 use Rattle.chan_run.specs.declared.running.Action.TheVariants as actions
 
@@ -12,15 +21,52 @@ use Rattle.chan_run.specs.declared.running.Action.TheVariants as actions
 abbrev pub ccw_word : Rule
 ccw_word = record (new_rule (codes "CCW")) { required = true }
 
--- what the command line takes: `show` with a word, `verify`, `list`, or no command
+-- any number of such words
+abbrev pub file_words : Rule
+file_words = record file_word { action = Some Append }
+
+-- the command `show`, with its word
+abbrev pub show_line : App
+show_line = with_rule (new_app (codes "show")) ccw_word
+
+-- the command `verify`, with any number of files
+abbrev pub verify_line : App
+verify_line = with_rule (new_app (codes "verify")) file_words
+
+-- a command of this name, with one file or none
+abbrev pub deck_line : Text → App
+deck_line name = with_rule (new_app name) file_word
+
+-- the command `explain`, with the word that it requires
+abbrev pub explain_line : App
+explain_line =
+    with_rule (new_app (codes "explain")) (record (new_rule (codes "WORD")) { required = true })
+
+-- the program alone, which has a version
+abbrev pub program_line : App
+program_line =
+    let app = new_app (codes "chanv") in
+    record app { top = record app.top { has_version = true } }
+
+-- the program with `show` and `verify`
+abbrev pub judging_line : App
+judging_line = with_subcommand (with_subcommand program_line show_line.top) verify_line.top
+
+-- a program with `list`, `why` and `graph` too
+abbrev pub with_tellers : App → App
+with_tellers app =
+    let listing = with_subcommand app (deck_line (codes "list")).top in
+    let explaining = with_subcommand listing (deck_line (codes "why")).top in
+    with_subcommand explaining (deck_line (codes "graph")).top
+
+-- what the command line takes: `show`, `verify`, `list`, `why`, `graph`, `deck`, `explain`, or no
+-- command
 abbrev pub chanv : App
 chanv =
-    let show = with_rule (new_app (codes "show")) ccw_word in
-    let verify = new_app (codes "verify") in
-    let list = new_app (codes "list") in
-    with_subcommand (with_subcommand (with_subcommand (new_app (codes "chanv")) show.top) verify.top) list.top
+    with_subcommand (with_subcommand (with_tellers judging_line) image_line.top) explain_line.top
 
 -- clap finds no fault in the words, of which the first is the program's name, and no call for help
+-- or the version
 abbrev pub IsTaken : List Text → Type 0
 IsTaken words = fault_of chanv words ≡ []
 
@@ -32,24 +78,66 @@ name_met = option_map (λ p. p.0)
 abbrev pub ccw_met : Option (Text × List Row) → Option Text
 ccw_met = option_and_then (λ p. first_of (codes "CCW") p.1)
 
--- it met no command, or one of the three, and `show` with its word
+-- the words that it met as that command's files, in order
+abbrev pub files_met : Option (Text × List Row) → List Text
+files_met None = []
+files_met (Some p) = files_in p.1
+
+-- what it met behind the command
+abbrev pub rows_met : Option (Text × List Row) → List Row
+rows_met None = []
+rows_met (Some p) = p.1
+
+-- the name of the command for each action
+abbrev pub name_of : Action → Text
+name_of actions.Verify = codes "verify"
+name_of actions.List = codes "list"
+name_of actions.Why = codes "why"
+name_of actions.Graph = codes "graph"
+
+-- it met no command, or that of an action, or `show` with its word, or `deck`, or `explain`
 abbrev pub IsKnown : Option (Text × List Row) → Type 0
-IsKnown met = (name_met met ≡ None) ⊎ ((name_met met ≡ Some (codes "verify")) ⊎ ((name_met met ≡ Some (codes "list"))
-    ⊎ ((name_met met ≡ Some (codes "show")) × IsSome (ccw_met met))))
+IsKnown met = (name_met met ≡ None) ⊎ (((action : Action) × (name_met met ≡ Some (name_of action)))
+    ⊎ (((name_met met ≡ Some (codes "show")) × IsSome (ccw_met met))
+    ⊎ ((name_met met ≡ Some (codes "deck")) ⊎ (name_met met ≡ Some (codes "explain")))))
+
+-- the command asks for this action; no command asks to verify
+abbrev pub IsFor : Option Text → Action → Type 0
+IsFor None action = action ≡ actions.Verify
+IsFor (Some name) action = name ≡ name_of action
+
+-- the request is to run over these files
+abbrev pub RunsOver : Action → List Text → Request → Type 0
+RunsOver action files (Run a) = (a ≡ action) × IsStandardInput files
+RunsOver action files (RunNamed a names) =
+    (a ≡ action) × (¬ IsStandardInput files) × (texts_of names.items ≡ files)
+RunsOver action files _ = ⊥
 
 -- what was met asks for this request
 abbrev pub AsksFor : Option (Text × List Row) → Request → Type 0
 AsksFor met (Show word) = (name_met met ≡ Some (codes "show")) × (ccw_met met ≡ Some word.now)
-AsksFor met (Run actions.List) = name_met met ≡ Some (codes "list")
-AsksFor met (Run actions.Verify) = (name_met met ≡ Some (codes "verify")) ⊎ (name_met met ≡ None)
+AsksFor met (Run a) = IsFor (name_met met) a × RunsOver a (files_met met) (Run a)
+AsksFor met (RunNamed a names) =
+    IsFor (name_met met) a × RunsOver a (files_met met) (RunNamed a names)
+AsksFor met (Image asked) = (name_met met ≡ Some (codes "deck")) × SaysImage (rows_met met) asked
+AsksFor met (Explain word) =
+    (name_met met ≡ Some (codes "explain")) × (word.now ≡ text_or (codes "WORD") [] (rows_met met))
 AsksFor met _ = ⊥
 
 -- what each answer says of the words
 abbrev pub IsAnswerTo : List Text → Request → Type 0
 IsAnswerTo words (Show word) = IsTaken words × AsksFor (subcommand_of chanv words) (Show word)
 IsAnswerTo words (Run action) = IsTaken words × AsksFor (subcommand_of chanv words) (Run action)
+IsAnswerTo words (RunNamed action files) =
+    IsTaken words × AsksFor (subcommand_of chanv words) (RunNamed action files)
+IsAnswerTo words (Image asked) = IsTaken words × AsksFor (subcommand_of chanv words) (Image asked)
+IsAnswerTo words (Explain word) = IsTaken words × AsksFor (subcommand_of chanv words) (Explain word)
 IsAnswerTo words (Help e) = (kind_of e ≡ DisplayHelp) × IsAmong DisplayHelp (fault_of chanv words)
-IsAnswerTo words (Fault e) = (kind_of e ≢ DisplayHelp) × (kind_of e ≢ OutOfMemory) × IsAmong (kind_of e) (fault_of chanv words)
+IsAnswerTo words (Version e) =
+    (kind_of e ≡ DisplayVersion) × IsAmong DisplayVersion (fault_of chanv words)
+IsAnswerTo words (Fault e) =
+    (kind_of e ≢ DisplayHelp) × (kind_of e ≢ DisplayVersion) × (kind_of e ≢ OutOfMemory)
+    × IsAmong (kind_of e) (fault_of chanv words)
 IsAnswerTo words NoMemory = Unit {0}
 
 -- the answer is to show this word, or memory was wanting
@@ -58,11 +146,35 @@ ShowsOrNoMemory text (Show word) = word.now ≡ text
 ShowsOrNoMemory text NoMemory = Unit {0}
 ShowsOrNoMemory text _ = ⊥
 
--- the answer is this action, or memory was wanting
+-- the answer is to say what this word means, or memory was wanting
+abbrev pub ExplainsOrNoMemory : Text → Request → Type 0
+ExplainsOrNoMemory text (Explain word) = word.now ≡ text
+ExplainsOrNoMemory text NoMemory = Unit {0}
+ExplainsOrNoMemory text _ = ⊥
+
+-- the answer is this action over standard input, or memory was wanting
 abbrev pub RunsOrNoMemory : Action → Request → Type 0
 RunsOrNoMemory asked (Run action) = action ≡ asked
 RunsOrNoMemory asked NoMemory = Unit {0}
 RunsOrNoMemory asked _ = ⊥
+
+-- the answer is this action over exactly these files, in order, or memory was wanting
+abbrev pub RunsNamedOrNoMemory : Action → List Text → Request → Type 0
+RunsNamedOrNoMemory asked files (RunNamed action names) =
+    (action ≡ asked) × (texts_of names.items ≡ files)
+RunsNamedOrNoMemory asked files NoMemory = Unit {0}
+RunsNamedOrNoMemory asked files _ = ⊥
+
+-- the answer is to make a deck with this start and this extent, and else as usual, of standard
+-- input, or memory was wanting
+abbrev pub ImagesOrNoMemory : Text → Text → Request → Type 0
+ImagesOrNoMemory start extent (Image asked) =
+    (asked.words.device.now ≡ codes "2314") × (asked.words.mask.now ≡ codes "00")
+    × (asked.words.start.now ≡ start) × (asked.words.limit ≡ None)
+    × (texts_of asked.words.extents.items ≡ extent ∷ []) × (asked.words.fetch.items ≡ [])
+    × (asked.words.store.items ≡ []) × (asked.words.at.now ≡ codes "0") × (asked.file ≡ None)
+ImagesOrNoMemory start extent NoMemory = Unit {0}
+ImagesOrNoMemory start extent _ = ⊥
 
 -- the answer is help, or memory was wanting
 abbrev pub HelpsOrNoMemory : Request → Type 0
@@ -70,26 +182,87 @@ HelpsOrNoMemory (Help e) = Unit {0}
 HelpsOrNoMemory NoMemory = Unit {0}
 HelpsOrNoMemory _ = ⊥
 
+-- the answer is the version, or memory was wanting
+abbrev pub VersionOrNoMemory : Request → Type 0
+VersionOrNoMemory (Version e) = Unit {0}
+VersionOrNoMemory NoMemory = Unit {0}
+VersionOrNoMemory _ = ⊥
+
 -- the answer is a usage fault, or memory was wanting
 abbrev pub FaultsOrNoMemory : Request → Type 0
 FaultsOrNoMemory (Fault e) = Unit {0}
 FaultsOrNoMemory NoMemory = Unit {0}
 FaultsOrNoMemory _ = ⊥
 
--- the text is none of the three commands, nor `help`, which clap adds to them
+-- the text is none of the seven commands, nor `help`, which clap adds to them
 abbrev pub IsNoCommand : Text → Type 0
-IsNoCommand text = (text ≢ codes "show") × (text ≢ codes "verify") × (text ≢ codes "list") × (text ≢ codes "help")
+IsNoCommand text =
+    (text ≢ codes "show") × (text ≢ codes "verify") × (text ≢ codes "list") × (text ≢ codes "why")
+    × (text ≢ codes "graph") × (text ≢ codes "deck") × (text ≢ codes "explain")
+    × (text ≢ codes "help")
 
--- the answer in plain words, by what follows the program's name; a text that begins with no hyphen is no option
+-- the text may stand for a file: it is `-`, or begins with no hyphen
+abbrev pub IsFile : Text → Type 0
+IsFile text = (text ≡ codes "-") ⊎ (starts_with_minus text ≡ false)
+
+-- the answer in plain words, by what follows the program's name; a text that begins with no hyphen
+-- is no option
 pub record IsPlainAnswerTo (words : List Text) (answer : Request) : Type 0 where
   pub alone : (program : Text) → words ≡ program ∷ [] → RunsOrNoMemory actions.Verify answer
-  pub verify : (program : Text) → words ≡ program ∷ codes "verify" ∷ [] → RunsOrNoMemory actions.Verify answer
-  pub list : (program : Text) → words ≡ program ∷ codes "list" ∷ [] → RunsOrNoMemory actions.List answer
-  pub show : (program text : Text) → starts_with_minus text ≡ false → words ≡ program ∷ codes "show" ∷ text ∷ [] → ShowsOrNoMemory text answer
-  pub help : (program : Text) (rest : List Text) → words ≡ program ∷ codes "--help" ∷ rest → HelpsOrNoMemory answer
-  pub show_alone : (program : Text) → words ≡ program ∷ codes "show" ∷ [] → FaultsOrNoMemory answer
-  pub unknown : (program text : Text) (rest : List Text) → starts_with_minus text ≡ false → IsNoCommand text → words ≡ program ∷ text ∷ rest → FaultsOrNoMemory answer
-  pub verify_more : (program text : Text) (rest : List Text) → starts_with_minus text ≡ false → words ≡ program ∷ codes "verify" ∷ text ∷ rest → FaultsOrNoMemory answer
-  pub list_more : (program text : Text) (rest : List Text) → starts_with_minus text ≡ false → words ≡ program ∷ codes "list" ∷ text ∷ rest → FaultsOrNoMemory answer
-  pub show_more : (program text more : Text) (rest : List Text) → starts_with_minus text ≡ false → starts_with_minus more ≡ false
-      → words ≡ program ∷ codes "show" ∷ text ∷ more ∷ rest → FaultsOrNoMemory answer
+  pub verify : (program : Text) → words ≡ program ∷ codes "verify" ∷ []
+      → RunsOrNoMemory actions.Verify answer
+  pub verify_input : (program : Text) → words ≡ program ∷ codes "verify" ∷ codes "-" ∷ []
+      → RunsOrNoMemory actions.Verify answer
+  pub verify_files : (program : Text) (files : List Text) → All IsFile files
+      → ¬ IsStandardInput files → words ≡ program ∷ codes "verify" ∷ files
+      → RunsNamedOrNoMemory actions.Verify files answer
+  pub list : (program : Text) → words ≡ program ∷ codes "list" ∷ []
+      → RunsOrNoMemory actions.List answer
+  pub list_input : (program : Text) → words ≡ program ∷ codes "list" ∷ codes "-" ∷ []
+      → RunsOrNoMemory actions.List answer
+  pub list_file : (program file : Text) → starts_with_minus file ≡ false
+      → words ≡ program ∷ codes "list" ∷ file ∷ []
+      → RunsNamedOrNoMemory actions.List (file ∷ []) answer
+  pub list_more : (program file more : Text) (rest : List Text) → IsFile file → IsFile more
+      → words ≡ program ∷ codes "list" ∷ file ∷ more ∷ rest → FaultsOrNoMemory answer
+  pub why : (program : Text) → words ≡ program ∷ codes "why" ∷ []
+      → RunsOrNoMemory actions.Why answer
+  pub why_input : (program : Text) → words ≡ program ∷ codes "why" ∷ codes "-" ∷ []
+      → RunsOrNoMemory actions.Why answer
+  pub why_file : (program file : Text) → starts_with_minus file ≡ false
+      → words ≡ program ∷ codes "why" ∷ file ∷ []
+      → RunsNamedOrNoMemory actions.Why (file ∷ []) answer
+  pub why_more : (program file more : Text) (rest : List Text) → IsFile file → IsFile more
+      → words ≡ program ∷ codes "why" ∷ file ∷ more ∷ rest → FaultsOrNoMemory answer
+  pub graph : (program : Text) → words ≡ program ∷ codes "graph" ∷ []
+      → RunsOrNoMemory actions.Graph answer
+  pub graph_input : (program : Text) → words ≡ program ∷ codes "graph" ∷ codes "-" ∷ []
+      → RunsOrNoMemory actions.Graph answer
+  pub graph_file : (program file : Text) → starts_with_minus file ≡ false
+      → words ≡ program ∷ codes "graph" ∷ file ∷ []
+      → RunsNamedOrNoMemory actions.Graph (file ∷ []) answer
+  pub graph_more : (program file more : Text) (rest : List Text) → IsFile file → IsFile more
+      → words ≡ program ∷ codes "graph" ∷ file ∷ more ∷ rest → FaultsOrNoMemory answer
+  pub show : (program text : Text) → starts_with_minus text ≡ false
+      → words ≡ program ∷ codes "show" ∷ text ∷ [] → ShowsOrNoMemory text answer
+  pub show_alone : (program : Text) → words ≡ program ∷ codes "show" ∷ []
+      → FaultsOrNoMemory answer
+  pub show_more : (program text more : Text) (rest : List Text) → starts_with_minus text ≡ false
+      → starts_with_minus more ≡ false → words ≡ program ∷ codes "show" ∷ text ∷ more ∷ rest
+      → FaultsOrNoMemory answer
+  pub deck : (program start extent : Text) → starts_with_minus start ≡ false
+      → starts_with_minus extent ≡ false
+      → words ≡ program ∷ codes "deck" ∷ codes "--start" ∷ start ∷ codes "--extent" ∷ extent ∷ []
+      → ImagesOrNoMemory start extent answer
+  pub deck_alone : (program : Text) → words ≡ program ∷ codes "deck" ∷ []
+      → FaultsOrNoMemory answer
+  pub explain : (program text : Text) → starts_with_minus text ≡ false
+      → words ≡ program ∷ codes "explain" ∷ text ∷ [] → ExplainsOrNoMemory text answer
+  pub explain_alone : (program : Text) → words ≡ program ∷ codes "explain" ∷ []
+      → FaultsOrNoMemory answer
+  pub help : (program : Text) (rest : List Text) → words ≡ program ∷ codes "--help" ∷ rest
+      → HelpsOrNoMemory answer
+  pub version : (program : Text) (rest : List Text) → words ≡ program ∷ codes "--version" ∷ rest
+      → VersionOrNoMemory answer
+  pub unknown : (program text : Text) (rest : List Text) → starts_with_minus text ≡ false
+      → IsNoCommand text → words ≡ program ∷ text ∷ rest → FaultsOrNoMemory answer

@@ -1,1 +1,3 @@
+pub mod CommandWords
+pub mod ImageLine
 pub mod CommandLine

@@ -3,17 +3,27 @@
 //! ```text
 //! $ chanv verify < examples/changes-itself.deck
 //! no 000810 changes-ccw
+//! $ chanv verify examples/search-loop.deck examples/changes-itself.deck
+//! examples/search-loop.deck: yes
+//! examples/changes-itself.deck: no 000810 changes-ccw
 //! ```
 #![tactic(auto)]
 
 mod command_line;
+mod image_command;
 
 use crate::command_line::{Request, read_request};
+use crate::image_command::ImageRequest;
 use ccw_core::Watched;
-use chan_run::{Action, Outcome, report, run, show};
+use chan_run::{
+    Action, ImageOptions, OptionError, Outcome, ends_run, explain_word, greater_status, options_of,
+    report, report_named, report_option, run, run_named, show, write_image,
+};
+use std::fs::File;
 use std::io;
-use std::io::Write;
+use std::io::{Read, Write};
 use std::process::ExitCode;
+use std::rt::Stdin;
 
 /// The text of the usage fault where a word isn't UTF-8, in clap's wording. Here clap takes text
 /// alone, so it has no such error.
@@ -22,26 +32,46 @@ const NOT_TEXT: &str = "error: invalid UTF-8 was detected in one or more argumen
 For more information, try '--help'.
 ";
 
-fn main(rt: HostRuntime) -> ExitCode {
-    let outcome = outcome_of(&rt);
-    ExitCode::from(report(outcome, &mut Watched::new(rt.stderr())))
+/// What a deck is read from. One type, so that the program has one function that reads, whose
+/// buffer is on the stack.
+#[derive(Drop)]
+enum Input {
+    Standard(Stdin),
+    File(File),
 }
 
-fn outcome_of(rt: &HostRuntime) -> Outcome {
-    let words: Vec<String> = match read_words(rt) {
-        Ok(words) => words,
+impl Read for Input {
+    fn read(&mut self, buf: &mut [u8]) -> io::Result<usize> {
+        match self {
+            Input::Standard(input) => input.read(buf),
+            Input::File(file) => file.read(buf),
+        }
+    }
+}
+
+fn main(rt: HostRuntime) -> ExitCode {
+    let status = match read_words(&rt) {
+        Ok(words) => answered(&rt, words.as_slice()),
         Err(error) if error.kind() == io::ErrorKind::OutOfMemory => {
-            return Outcome::NoMemoryForCommandLine;
+            reported(&rt, Outcome::NoMemoryForCommandLine)
         }
         Err(_) => {
             let _ = rt.eprint(NOT_TEXT);
-            return Outcome::UsageFault;
+            reported(&rt, Outcome::UsageFault)
         }
     };
-    match read_request(rt.alloc(), words.as_slice()) {
+    ExitCode::from(status)
+}
+
+/// Does what the words ask for, and gives the exit status.
+fn answered(rt: &HostRuntime, words: &[String]) -> u8 {
+    let outcome = match read_request(rt.alloc(), words) {
         Request::Show(text) => shown(rt, text),
-        Request::Run(action) => ran(rt, action),
-        Request::Help(text) => match rt.print(text) {
+        Request::Run(action) => ran(rt, action, None, Input::Standard(rt.stdin())),
+        Request::RunNamed(action, names) => return ran_over(rt, action, names.as_slice()),
+        Request::Image(request) => return imaged(rt, &request),
+        Request::Explain(word) => explained(rt, word),
+        Request::Help(text) | Request::Version(text) => match rt.print(text) {
             Ok(()) => Outcome::HelpAsked,
             Err(_) => Outcome::FlushFailed,
         },
@@ -50,7 +80,12 @@ fn outcome_of(rt: &HostRuntime) -> Outcome {
             Outcome::UsageFault
         }
         Request::NoMemory => Outcome::NoMemoryForCommandLine,
-    }
+    };
+    reported(rt, outcome)
+}
+
+fn reported(rt: &HostRuntime, outcome: Outcome) -> u8 {
+    report(outcome, &mut Watched::new(rt.stderr()))
 }
 
 fn read_words(rt: &HostRuntime) -> io::Result<Vec<String>> {
@@ -70,12 +105,80 @@ fn shown(rt: &HostRuntime, text: &str) -> Outcome {
     Outcome::Shown(answer)
 }
 
-fn ran(rt: &HostRuntime, action: Action) -> Outcome {
-    let mut input = Watched::new(rt.stdin());
+fn explained(rt: &HostRuntime, word: &str) -> Outcome {
     let mut output = Watched::new(rt.stdout());
-    let answer = run(rt.alloc(), action, &mut input, &mut output);
+    let answer = explain_word(word, &mut output);
+    if answer.is_ok() && output.into_inner().flush().is_err() {
+        return Outcome::FlushFailed;
+    }
+    Outcome::Explained(answer)
+}
+
+/// Runs over each input in turn, up to a failed write, and gives the greatest status.
+fn ran_over(rt: &HostRuntime, action: Action, names: &[&str]) -> u8 {
+    let mut greatest = 0;
+    for name in names {
+        let outcome = opened(rt, action, name);
+        let status = report_named(name, outcome, &mut Watched::new(rt.stderr()));
+        greatest = greater_status(greatest, status);
+        if ends_run(outcome) {
+            break;
+        }
+    }
+    greatest
+}
+
+/// Runs over the input of this name, which is standard input where it is `-`, and else a file.
+fn opened(rt: &HostRuntime, action: Action, name: &str) -> Outcome {
+    if name == "-" {
+        return ran(rt, action, Some(name), Input::Standard(rt.stdin()));
+    }
+    match File::open(rt, name) {
+        Ok(file) => ran(rt, action, Some(name), Input::File(file)),
+        Err(_) => Outcome::CannotOpen,
+    }
+}
+
+/// Runs over an input that may have a name.
+fn ran(rt: &HostRuntime, action: Action, name: Option<&str>, input: Input) -> Outcome {
+    let mut input = Watched::new(input);
+    let mut output = Watched::new(rt.stdout());
+    let answer = match name {
+        Some(name) => run_named(rt.alloc(), name, action, &mut input, &mut output),
+        None => run(rt.alloc(), action, &mut input, &mut output),
+    };
     if answer.is_ok() && output.into_inner().flush().is_err() {
         return Outcome::FlushFailed;
     }
     Outcome::Ran(answer)
+}
+
+/// Makes a deck of an image of storage, and gives the exit status.
+fn imaged(rt: &HostRuntime, request: &ImageRequest<'_>) -> u8 {
+    let options = match options_of(rt.alloc(), &request.words) {
+        Ok(options) => options,
+        Err(OptionError::Wrong(fault)) => {
+            return report_option(fault, &mut Watched::new(rt.stderr()));
+        }
+        Err(OptionError::Memory) => return reported(rt, Outcome::NoMemoryForCommandLine),
+    };
+    let Some(name) = request.file else {
+        return reported(rt, written(rt, &options, Input::Standard(rt.stdin())));
+    };
+    let outcome = match File::open(rt, name) {
+        Ok(file) => written(rt, &options, Input::File(file)),
+        Err(_) => Outcome::CannotOpen,
+    };
+    report_named(name, outcome, &mut Watched::new(rt.stderr()))
+}
+
+/// Writes the deck that the options make with an image.
+fn written(rt: &HostRuntime, options: &ImageOptions, input: Input) -> Outcome {
+    let mut input = Watched::new(input);
+    let mut output = Watched::new(rt.stdout());
+    let answer = write_image(rt.alloc(), options, &mut input, &mut output);
+    if answer.is_ok() && output.into_inner().flush().is_err() {
+        return Outcome::FlushFailed;
+    }
+    Outcome::Imaged(answer)
 }

@@ -1,13 +1,14 @@
-/* chanv.h: may a System/360 channel program run, and which CCWs can it come to?
+/* chanv.h: may a System/360 channel program run, why may it not, and which CCWs can it come to?
  *
- * Link with libchanv.a. docs/EMBEDDING.md has a whole example, and says what is proved of the two
+ * Link with libchanv.a. docs/EMBEDDING.md has a whole example, and says what is proved of the three
  * calls and what is trusted.
  *
  * What the caller owes:
  *
  * - Each pointer is valid, and aligned for its type, for as many elements as the length beside it
  *   says. Where that length is 0 it may be NULL. `job`, `out` and `count` are never NULL.
- * - `out`, `rows` and `count` lie apart from each other, from the job and from all that it points to.
+ * - `out`, `rows`, `count`, `path` and `second_path` lie apart from each other, from the job and
+ *   from all that it points to.
  * - From the call to its return nobody writes the job or anything that it points to, and nobody
  *   touches what the call writes. In an emulator the threads of the processors and of the channels
  *   write storage: stop them, or copy storage and ask about the copy.
@@ -85,10 +86,10 @@ enum {
     CHANV_EXTENT_BACKWARDS = 8,    /* the first extent that is wrong: its first cylinder is above its last */
     CHANV_EXTENT_PAST_DEVICE = 9,  /* the first extent that is wrong: its last cylinder is above 202 */
     CHANV_NOT_A_LIMIT = 10,        /* the limit is 0, or above 65,536 */
-    CHANV_NO_ROOM = 11             /* there are more places than rows */
+    CHANV_NO_ROOM = 11             /* there are more places than rows; for `chanv_why`, with a no */
 };
 
-/* What `chanv_verify` tells; a field that the answer doesn't use is 0. */
+/* What `chanv_verify` tells, and `chanv_why` too; a field that the answer doesn't use is 0. */
 struct chanv_verdict {
     size_t extent;    /* the index of the extent that is wrong, counted from 0 */
     uint32_t address; /* the address of the first offending CCW */
@@ -106,6 +107,56 @@ struct chanv_place {
     uint8_t after_transfer; /* 1 if it counts as reached by a transfer in channel, else 0 */
 };
 
+/* What a seek names that the job doesn't allow. */
+enum { CHANV_BIN = 1, CHANV_CYLINDER = 2, CHANV_HEAD = 3 };
+
+/* The values of the cause of a no, at the last place of the path. Which fields have one goes by the
+ * reason; all others are 0.
+ *
+ *     1  misaligned            address
+ *     2  outside-storage       range, length
+ *     3  transfer-not-allowed
+ *     4  invalid-code          code
+ *     5  bad-format            bits
+ *     6  zero-count
+ *     7  data-outside          range, length
+ *     8  not-in-table          code
+ *     9  inhibited             code, mask
+ *    10  store-not-lent        range, gap
+ *    11  fetch-not-lent        range, gap
+ *    12  short-seek            given
+ *    13  seek-outside          outside, value; below for a head
+ *    14  changes-ccw           range, address
+ *    15  changes-argument      range, address, taker, sets_mask
+ *    16  weakens-mask          mask, value
+ */
+struct chanv_evidence {
+    uint32_t reason;         /* the number of the reason, 1 to 16 */
+    struct chanv_area range; /* the data range of the CCW; for 2 the CCW's own eight bytes */
+    struct chanv_area gap;   /* the first bytes in a row of the range that no area lends */
+    uint32_t address;        /* for 1 that of the CCW; for 14 the least of a reachable CCW that has
+                                a byte in the range; for 15 that of the least byte in the range that
+                                is of a seek's argument, or a mask that is set */
+    uint32_t taker;          /* the address of the CCW that takes the byte at `address` */
+    uint32_t length;         /* how many bytes storage has */
+    uint32_t code;           /* the command code */
+    uint32_t mask;           /* the job's file mask */
+    uint32_t bits;           /* the three low flag bits of the CCW */
+    uint32_t given;          /* how many of the argument's six bytes the seek's data chain gives */
+    uint32_t outside;        /* the first that is wrong: CHANV_BIN, CHANV_CYLINDER or CHANV_HEAD */
+    uint32_t value;          /* for 13 that bin, cylinder or head; for 16 the byte that is set */
+    uint32_t below;          /* how many heads the device has */
+    uint32_t sets_mask;      /* 1 if the taker is a Set File Mask, 0 if it is a seek */
+};
+
+/* What `chanv_why` tells; a field that the answer doesn't use is 0. */
+struct chanv_explanation {
+    struct chanv_verdict verdict;
+    size_t path;        /* how many places the path has */
+    size_t second_path; /* how many places the second path has */
+    struct chanv_evidence evidence;
+};
+
 /* Whether the program may run: CHANV_YES, CHANV_NO, or why there is no answer. */
 uint32_t chanv_verify(const struct chanv_job *job, struct chanv_verdict *out);
 
@@ -115,6 +166,24 @@ uint32_t chanv_verify(const struct chanv_job *job, struct chanv_verdict *out);
  * is no answer, and `*count` is the index of the extent that is wrong, or 0. Only for CHANV_LISTED
  * is a row written. There are never more places than the job's limit. */
 uint32_t chanv_list(const struct chanv_job *job, struct chanv_place *rows, size_t room, size_t *count);
+
+/* Why the program may not run. CHANV_NO: `out` has the verdict, the values of the cause and the
+ * lengths of both paths, and the paths are the first rows of `path` and of `second_path`; the rows
+ * behind them stand as they did.
+ *
+ * The path leads from the first place to one with the verdict's address that offends by its reason.
+ * It is the shortest, and of several the one that goes on to the next CCW where another skips it.
+ * The second path, chosen in the same way, leads to what is changed: for 14 to the CCW at
+ * `out->evidence.address`, for 15 to the one at `out->evidence.taker`. For any other reason it has
+ * no places.
+ *
+ * CHANV_NO_ROOM: the answer is no, and `out` has the same, but one path or both have more places
+ * than rows. CHANV_YES: there is nothing to tell. Else it returns why there is no answer, as
+ * `chanv_verify` does, with the extent that is wrong if one is. Only for CHANV_NO is a row written.
+ * No path has more places than the job's limit. */
+uint32_t chanv_why(const struct chanv_job *job, struct chanv_place *path, size_t room,
+                   struct chanv_place *second_path, size_t second_room,
+                   struct chanv_explanation *out);
 
 /* The word for a reason, or "" for a number that is none. */
 static inline const char *chanv_reason_word(uint32_t reason)
@@ -173,8 +242,19 @@ static inline uint32_t chanv_list_or_null(const struct chanv_job *job, struct ch
     return chanv_list(&whole, room == 0 ? &none : rows, room, count);
 }
 
+static inline uint32_t chanv_why_or_null(const struct chanv_job *job, struct chanv_place *path,
+                                         size_t room, struct chanv_place *second_path,
+                                         size_t second_room, struct chanv_explanation *out)
+{
+    struct chanv_job whole = chanv_without_null(job);
+    struct chanv_place none, second_none;
+    return chanv_why(&whole, room == 0 ? &none : path, room,
+                     second_room == 0 ? &second_none : second_path, second_room, out);
+}
+
 #define chanv_verify chanv_verify_or_null
 #define chanv_list chanv_list_or_null
+#define chanv_why chanv_why_or_null
 
 /* The layout that the library was built with. */
 #ifdef __cplusplus
@@ -215,6 +295,27 @@ CHANV_ASSERT(sizeof(struct chanv_place) == 8, "chanv_place");
 CHANV_ASSERT(offsetof(struct chanv_place, address) == 0, "chanv_place.address");
 CHANV_ASSERT(offsetof(struct chanv_place, entered) == 4, "chanv_place.entered");
 CHANV_ASSERT(offsetof(struct chanv_place, after_transfer) == 5, "chanv_place.after_transfer");
+CHANV_ASSERT(sizeof(struct chanv_evidence) == 64, "chanv_evidence");
+CHANV_ASSERT(offsetof(struct chanv_evidence, reason) == 0, "chanv_evidence.reason");
+CHANV_ASSERT(offsetof(struct chanv_evidence, range) == 4, "chanv_evidence.range");
+CHANV_ASSERT(offsetof(struct chanv_evidence, gap) == 12, "chanv_evidence.gap");
+CHANV_ASSERT(offsetof(struct chanv_evidence, address) == 20, "chanv_evidence.address");
+CHANV_ASSERT(offsetof(struct chanv_evidence, taker) == 24, "chanv_evidence.taker");
+CHANV_ASSERT(offsetof(struct chanv_evidence, length) == 28, "chanv_evidence.length");
+CHANV_ASSERT(offsetof(struct chanv_evidence, code) == 32, "chanv_evidence.code");
+CHANV_ASSERT(offsetof(struct chanv_evidence, mask) == 36, "chanv_evidence.mask");
+CHANV_ASSERT(offsetof(struct chanv_evidence, bits) == 40, "chanv_evidence.bits");
+CHANV_ASSERT(offsetof(struct chanv_evidence, given) == 44, "chanv_evidence.given");
+CHANV_ASSERT(offsetof(struct chanv_evidence, outside) == 48, "chanv_evidence.outside");
+CHANV_ASSERT(offsetof(struct chanv_evidence, value) == 52, "chanv_evidence.value");
+CHANV_ASSERT(offsetof(struct chanv_evidence, below) == 56, "chanv_evidence.below");
+CHANV_ASSERT(offsetof(struct chanv_evidence, sets_mask) == 60, "chanv_evidence.sets_mask");
+CHANV_ASSERT(sizeof(struct chanv_explanation) == 96, "chanv_explanation");
+CHANV_ASSERT(offsetof(struct chanv_explanation, verdict) == 0, "chanv_explanation.verdict");
+CHANV_ASSERT(offsetof(struct chanv_explanation, path) == 16, "chanv_explanation.path");
+CHANV_ASSERT(offsetof(struct chanv_explanation, second_path) == 24,
+             "chanv_explanation.second_path");
+CHANV_ASSERT(offsetof(struct chanv_explanation, evidence) == 32, "chanv_explanation.evidence");
 #undef CHANV_ASSERT
 
 #ifdef __cplusplus

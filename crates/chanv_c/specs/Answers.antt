@@ -40,7 +40,12 @@ pub record HasTooMany (c : CJob) : Type 0 where
 
 -- the row of a place
 abbrev pub row : Place → CPlace
-row p = record { address = p.address; entered = entry_number p.entered; after_transfer = transfer_number p.after_transfer }
+row p =
+    record {
+      address = p.address;
+      entered = entry_number p.entered;
+      after_transfer = transfer_number p.after_transfer;
+    }
 
 -- the reachable places, each once, in order
 pub record AreFound (c : CJob) (places : List Place) : Type 0 where

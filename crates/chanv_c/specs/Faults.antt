@@ -5,10 +5,13 @@ use Rattle.ckd_core.specs.Mask.{is_mask}
 use Rattle.chan_walk.specs.Limit.{IsLimit}
 use Rattle.chanv_c.specs.declared.asked.CJob.{CJob}
 use Rattle.chanv_c.specs.declared.refusal.JobFault.{JobFault}
-use Rattle.chanv_c.specs.declared.refusal.JobFault.TheVariants.{StorageTooLarge, NotADevice, NotAMask, NoExtent, ExtentBackwards, ExtentPastDevice, NotALimit}
+use Rattle.chanv_c.specs.declared.refusal.JobFault.TheVariants.{StorageTooLarge, NotADevice}
+use Rattle.chanv_c.specs.declared.refusal.JobFault.TheVariants.{NotAMask, NoExtent, ExtentBackwards}
+use Rattle.chanv_c.specs.declared.refusal.JobFault.TheVariants.{ExtentPastDevice, NotALimit}
 use Rattle.chanv_c.specs.Asked.{extents_asked}
 
--- this is wrong with the job; of the extents only the first from the left that is wrong is named, counted from 0
+-- this is wrong with the job; of the extents only the first from the left that is wrong is named,
+-- counted from 0
 abbrev pub Applies : CJob → JobFault → Type 0
 Applies c StorageTooLarge = 16777216 < length c.storage.now
 Applies c NotADevice = (c.device ≢ 2311) × (c.device ≢ 2314)

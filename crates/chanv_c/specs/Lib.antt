@@ -1,3 +1,5 @@
 pub mod Asked
 pub mod Faults
 pub mod Answers
+pub mod Cause
+pub mod Explained

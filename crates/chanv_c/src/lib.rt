@@ -1,15 +1,20 @@
-//! chanv for C: a supervisor asks whether a channel program may run, and which CCWs it can come to.
+//! chanv for C: a supervisor asks whether a channel program may run, why it may not, and which CCWs
+//! it can come to.
 //!
 //! `include/chanv.h` declares what this library exports, and says what a caller owes.
 #![tactic(auto)]
 
 mod asked;
+mod evidence;
+mod explaining;
 mod listing;
 mod refusal;
 mod rows;
 mod verifying;
 
 pub use crate::asked::{CExtent, CJob};
+pub use crate::evidence::CEvidence;
+pub use crate::explaining::{CExplanation, chanv_why};
 pub use crate::listing::chanv_list;
 pub use crate::rows::CPlace;
 pub use crate::verifying::{CVerdict, chanv_verify};

@@ -41,3 +41,13 @@ pub(crate) fn write_rows(found: &Explored, rows: &mut [CPlace])
         }
     }
 }
+
+/// Writes the rows of the places of a path, and leaves what is behind them as it is.
+pub(crate) fn write_path(path: &[Place], rows: &mut [CPlace])
+    requires { length path.now ≤ length rows.old }
+    ensures { rows.new ≡ map row path.now ++ drop (length path.now) rows.old }
+{
+    for index in 0..path.len() {
+        rows[index] = row_of(path[index]);
+    }
+}

@@ -3,7 +3,8 @@ use Rattle.std.specs.Prelude.{◌≡◌, ℕ, ◌<◌, ◌≤◌, List, [], take
 use Rattle.std.specs.List.{AllByRecursion}
 use Rattle.ckd_core.specs.Cylinders.{IsExtent, AreExtents}
 use Rattle.ckd_core.specs.declared.extents.ExtentError.{ExtentError}
-use Rattle.ckd_core.specs.declared.extents.ExtentError.TheVariants.{Empty, Backwards, PastDevice, Memory}
+use Rattle.ckd_core.specs.declared.extents.ExtentError.TheVariants.{Empty, Backwards, PastDevice}
+use Rattle.ckd_core.specs.declared.extents.ExtentError.TheVariants.{Memory}
 
 -- the first cylinder is above the last
 abbrev pub IsBackwards : ℕ × ℕ → Type 0

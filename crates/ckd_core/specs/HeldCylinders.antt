@@ -4,7 +4,9 @@ use Rattle.ckd_core.specs.Cylinders.{has_cylinder, AreExtents}
 
 -- the table says of each cylinder of a device whether it lies in some extent
 abbrev pub IsHeldTable : List (ℕ × ℕ) → List Bool → Type 0
-IsHeldTable extents held = (cylinder : ℕ) → cylinder < 203 → slice_index_or held cylinder false ≡ has_cylinder extents cylinder
+IsHeldTable extents held =
+    (cylinder : ℕ) → cylinder < 203 → slice_index_or held cylinder false
+    ≡ has_cylinder extents cylinder
 
 -- the pairs are extents, and the table is theirs
 pub record HoldsRight (extents : List (ℕ × ℕ)) (held : List Bool) : Type 0 where

@@ -1,9 +1,13 @@
 -- Which commands a file mask inhibits
--- (component descriptions of the 2841 with the 2311, and of the 2314; the classes of Recalibrate and Erase are this project's choice).
-use Rattle.std.specs.Prelude.{ℕ, Bool, true, false, ◌≡◌, ◌↔◌, ◌==◌, ◌&&◌, ◌||◌, not, bit_and, List, [], ◌∷◌}
+-- (component descriptions of the 2841 with the 2311, and of the 2314; the classes of Recalibrate
+-- and Erase are this project's choice).
+use Rattle.std.specs.Prelude.{ℕ, Bool, true, false, ◌≡◌, ◌↔◌, ◌==◌, ◌&&◌, ◌||◌, not, bit_and, List}
+use Rattle.std.specs.Prelude.{[], ◌∷◌}
 use Rattle.std.specs.List.{list_all}
 use Rattle.ckd_core.specs.declared.command.MaskClass.{MaskClass}
-use Rattle.ckd_core.specs.declared.command.MaskClass.TheVariants.{Plain, Seek, SeekCylinder, SeekHead, Recalibrate, WriteHome, WriteFormat, WriteUpdate, SetMask}
+use Rattle.ckd_core.specs.declared.command.MaskClass.TheVariants.{Plain, Seek, SeekCylinder}
+use Rattle.ckd_core.specs.declared.command.MaskClass.TheVariants.{SeekHead, Recalibrate, WriteHome}
+use Rattle.ckd_core.specs.declared.command.MaskClass.TheVariants.{WriteFormat, WriteUpdate, SetMask}
 use Rattle.ckd_core.specs.Table.{class_passes, lookup}
 
 -- no bit but those of writes and seeks
@@ -22,7 +26,8 @@ inhibits_write bits SeekHead = false
 inhibits_write bits Recalibrate = false
 inhibits_write bits SetMask = false
 
--- the bits that decide over seeks: 00 inhibits none, 08 Seek and Recalibrate, 10 Seek Cylinder too, 18 Seek Head too
+-- the bits that decide over seeks: 00 inhibits none, 08 Seek and Recalibrate, 10 Seek Cylinder too,
+-- 18 Seek Head too
 abbrev pub inhibits_seek : ℕ → MaskClass → Bool
 inhibits_seek bits Seek = not (bits == 0x00)
 inhibits_seek bits Recalibrate = not (bits == 0x00)
@@ -36,7 +41,8 @@ inhibits_seek bits SetMask = false
 
 -- the mask inhibits a class of commands
 abbrev pub inhibits_class : ℕ → MaskClass → Bool
-inhibits_class mask class = inhibits_write (bit_and mask 0xC0) class || inhibits_seek (bit_and mask 0x18) class
+inhibits_class mask class =
+    inhibits_write (bit_and mask 0xC0) class || inhibits_seek (bit_and mask 0x18) class
 
 -- the mask inhibits the command of this code
 unfoldable pub inhibits : ℕ → ℕ → Bool
@@ -44,18 +50,22 @@ inhibits mask code = class_passes (inhibits_class mask) (lookup code)
 
 -- the classes of commands that some mask inhibits
 abbrev pub inhibitable : List MaskClass
-inhibitable = Seek ∷ SeekCylinder ∷ SeekHead ∷ Recalibrate ∷ WriteHome ∷ WriteFormat ∷ WriteUpdate ∷ []
+inhibitable =
+    Seek ∷ SeekCylinder ∷ SeekHead ∷ Recalibrate ∷ WriteHome ∷ WriteFormat ∷ WriteUpdate ∷ []
 
 -- where the mask inhibits the class, so does the byte
 abbrev pub inhibits_too : ℕ → ℕ → MaskClass → Bool
 inhibits_too byte mask class = not (inhibits_class mask class) || inhibits_class byte class
 
--- the byte is at least as strict as the mask: it is a mask, and inhibits each class that the mask inhibits
+-- the byte is at least as strict as the mask: it is a mask, and inhibits each class that the mask
+-- inhibits
 unfoldable pub is_at_least : ℕ → ℕ → Bool
 is_at_least byte mask = is_mask byte && list_all (inhibits_too byte mask) inhibitable
 
--- strictness, said of every class: a byte is at least as strict as a mask exactly where it is a mask and inhibits what that one inhibits
+-- strictness, said of every class: a byte is at least as strict as a mask exactly where it is a
+-- mask and inhibits what that one inhibits
 abbrev pub StrictnessIsByClass : Type 0
 StrictnessIsByClass =
     (byte mask : ℕ) → (is_at_least byte mask ≡ true)
-    ↔ ((is_mask byte ≡ true) × ((class : MaskClass) → inhibits_class mask class ≡ true → inhibits_class byte class ≡ true))
+    ↔ ((is_mask byte ≡ true) × ((class : MaskClass) → inhibits_class mask class ≡ true
+    → inhibits_class byte class ≡ true))

@@ -1,6 +1,7 @@
 //! The extents of a file, in whole cylinders.
 
-ghost use Rattle.std.specs.Prelude.{◌≡◌, ◌≢◌, ℕ, ◌<◌, ◌&&◌, ◌==◌, nat_lt, nat_le, IfOk, IfErr, OnOk, IsOkUnless, MatchOption, MatchResult, slice_index};
+ghost use Rattle.std.specs.Prelude.{◌≡◌, ◌≢◌, ℕ, ◌<◌, ◌&&◌, ◌==◌, nat_lt, nat_le, IfOk, IfErr};
+ghost use Rattle.std.specs.Prelude.{OnOk, IsOkUnless, MatchOption, MatchResult, slice_index};
 ghost use Rattle.std.specs.List.{AllByRecursion, list_any};
 ghost use Rattle.ckd_core.specs.Cylinders.{AreExtents, IsExtent, has_cylinder};
 ghost use Rattle.ckd_core.specs.Faults.{IsFault};
@@ -22,10 +23,12 @@ pub enum ExtentError {
     /// There is no pair.
     #[error("no extent")]
     Empty,
-    /// The pair of this index, counted from 0, is the first that is wrong, and its first cylinder is above its last.
+    /// The pair of this index, counted from 0, is the first that is wrong, and its first cylinder
+    /// is above its last.
     #[error("extent {0}: first cylinder above last")]
     Backwards(usize),
-    /// The pair of this index, counted from 0, is the first that is wrong: it is in order, and its last cylinder is above 202.
+    /// The pair of this index, counted from 0, is the first that is wrong: it is in order, and its
+    /// last cylinder is above 202.
     #[error("extent {0}: past the last cylinder of the device")]
     PastDevice(usize),
     /// Each pair is right, and there was no memory for them.
@@ -33,7 +36,8 @@ pub enum ExtentError {
     Memory,
 }
 
-/// Extents of whole cylinders, one or more, in the order in which they were given. They may overlap.
+/// Extents of whole cylinders, one or more, in the order in which they were given. They may
+/// overlap.
 #[derive(Debug, Drop)]
 pub struct Extents {
     pairs: Vec<(u16, u16)>,
@@ -75,15 +79,17 @@ impl Eq for Extents {
 impl Extents {
     /// Extents of these pairs of first and last cylinder.
     ///
-    /// The first pair from the left that is wrong is named, whether or not there is memory; of one pair it is asked first
-    /// whether it is backwards. The time is that of one pass over the pairs, the memory that of a copy of them.
+    /// The first pair from the left that is wrong is named, whether or not there is memory; of one
+    /// pair it is asked first whether it is backwards. The time is that of one pass over the pairs,
+    /// the memory that of a copy of them.
     pub fn new(alloc: Global, pairs: &[(u16, u16)]) -> Result<Extents, ExtentError>
         ensures ok { IfOk result (λ extents. extents ≡ pairs.now) }
         ensures right { OnOk result (AreExtents pairs.now) }
         ensures fault { IfErr result (IsFault pairs.now) }
 
         // Memory aside, a fault is named where it is there.
-        ensures named { (fault : ExtentError) → fault ≢ ExtentError.Memory → IsFault pairs.now fault → result ≡ Err fault }
+        ensures named { (fault : ExtentError) → fault ≢ ExtentError.Memory → IsFault pairs.now fault
+            → result ≡ Err fault }
         ensures accepted { AreExtents pairs.now → IsOkUnless result ExtentError.Memory }
     {
         judge(pairs)?;
@@ -100,7 +106,8 @@ impl Extents {
         &self.pairs
     }
 
-    /// Whether the cylinder lies in some extent. The cost is the same however many extents there are.
+    /// Whether the cylinder lies in some extent. The cost is the same however many extents there
+    /// are.
     pub fn has(&self, cylinder: u16) -> bool
         ensures { result ≡ has_cylinder self.now cylinder }
     {
@@ -111,7 +118,8 @@ impl Extents {
 
 /// Whether the pairs are extents, and else the first fault from the left.
 fn judge(pairs: &[(u16, u16)]) -> Result<(), ExtentError>
-    ensures { MatchResult result (λ _. AreExtents pairs.now) (λ fault. IsFault pairs.now fault × (fault ≢ ExtentError.Memory)) }
+    ensures { MatchResult result (λ _. AreExtents pairs.now)
+        (λ fault. IsFault pairs.now fault × (fault ≢ ExtentError.Memory)) }
 {
     if pairs.is_empty() {
         return Err(ExtentError::Empty);
@@ -128,10 +136,12 @@ fn judge(pairs: &[(u16, u16)]) -> Result<(), ExtentError>
     Ok(())
 }
 
-/// For each cylinder, one more than the furthest last cylinder of the extents that begin there, or 0 where none does.
+/// For each cylinder, one more than the furthest last cylinder of the extents that begin there, or
+/// 0 where none does.
 fn ends(pairs: &[(u16, u16)]) -> [u16; 203]
     requires { AllByRecursion IsExtent pairs.now }
-    ensures { (c x : ℕ) → c < 203 → nat_lt x (slice_index result c) ≡ list_any (λ e. e.0 == c && nat_le x e.1) pairs.now }
+    ensures { (c x : ℕ) → c < 203 → nat_lt x (slice_index result c)
+        ≡ list_any (λ e. e.0 == c && nat_le x e.1) pairs.now }
 {
     let mut ends = [0; 203];
     for pair in pairs {

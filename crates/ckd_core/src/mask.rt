@@ -113,8 +113,8 @@ impl FileMask {
     }
 }
 
-/// A law: a byte is at least as strict as a mask exactly where it is a mask itself and inhibits each
-/// class of commands that the other inhibits.
+/// A law: a byte is at least as strict as a mask exactly where it is a mask itself and inhibits
+/// each class of commands that the other inhibits.
 fn strictness_is_by_class()
     ensures { StrictnessIsByClass }
 {}

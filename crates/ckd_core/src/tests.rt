@@ -162,8 +162,9 @@ fn inhibited(mask: u8, code: u8) -> Option<bool> {
     Some(mask.inhibits(command))
 }
 
-/// A command, a mask, the command's code, and whether the mask inhibits it: first the masks of writes,
-/// each also with a bit for seeks, then the masks of seeks, each also with the bits for writes.
+/// A command, a mask, the command's code, and whether the mask inhibits it: first the masks of
+/// writes, each also with a bit for seeks, then the masks of seeks, each also with the bits for
+/// writes.
 static MASKS: &[(&str, u8, u8, bool)] = &[
     ("Write CKD", 0x00, 0x1D, false),
     ("Write CKD", 0x08, 0x1D, false),

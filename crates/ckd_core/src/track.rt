@@ -18,9 +18,10 @@ pub struct Track {
 }
 
 impl Track {
-    /// The track that the argument of a seek names: two bytes of bin, two of cylinder, two of head, each number with its high byte first.
-    /// It is `None` exactly where a byte of bin isn't zero, since the devices have no bins
-    /// (component descriptions of the 2841 with the 2311, and of the 2314). Whether a device has the track is not asked here.
+    /// The track that the argument of a seek names: two bytes of bin, two of cylinder, two of head,
+    /// each number with its high byte first. It is `None` exactly where a byte of bin isn't zero,
+    /// since the devices have no bins (component descriptions of the 2841 with the 2311, and of the
+    /// 2314). Whether a device has the track is not asked here.
     pub fn from_argument(argument: [u8; 6]) -> Option<Track>
         ensures value { result ≡ track_of argument }
         ensures no_bin { IsSome result ↔ (has_no_bin argument ≡ true) }
@@ -43,10 +44,11 @@ impl Track {
     }
 }
 
-/// Whether a seek may go to the track: its cylinder lies in an extent, and its head is below the device's number of heads.
-/// The cost is the same however many extents there are.
+/// Whether a seek may go to the track: its cylinder lies in an extent, and its head is below the
+/// device's number of heads. The cost is the same however many extents there are.
 pub fn allowed(extents: &Extents, device: Device, track: Track) -> bool
-    ensures { result ≡ (has_cylinder extents.now track.cylinder && nat_lt track.head (heads_of device)) }
+    ensures { result ≡ (has_cylinder extents.now track.cylinder
+        && nat_lt track.head (heads_of device)) }
 {
     extents.has(track.cylinder) && track.head < device.heads()
 }

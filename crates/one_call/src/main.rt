@@ -10,7 +10,7 @@
 mod cases;
 mod stop;
 
-use crate::cases::{SEARCH_LOOP, SPLIT_ARGUMENT};
+use crate::cases::{CHANGES_ITSELF, SEARCH_LOOP, SPLIT_ARGUMENT};
 use crate::stop::Stop;
 use ccw_core::{Ccw, Watched, write_out};
 use chan_deck::{Deck, read_deck, row_text, verdict_text, write_deck, write_listing};
@@ -42,8 +42,9 @@ fn make_call(rt: &HostRuntime) -> Result<(), Stop> {
         "ccw-text" => ccw_text(rt, setup),
         "read-deck" => deck_read(rt, setup),
         "show" => shown(rt, setup),
-        "run-verify" => ran(rt, Action::Verify, setup),
-        "run-list" => ran(rt, Action::List, setup),
+        "run-verify" => ran(rt, Action::Verify, SEARCH_LOOP, setup),
+        "run-list" => ran(rt, Action::List, SEARCH_LOOP, setup),
+        "run-why" => ran(rt, Action::Why, CHANGES_ITSELF, setup),
         _ => over_a_deck(rt, call, setup),
     }
 }
@@ -101,8 +102,8 @@ fn shown(rt: &HostRuntime, setup: bool) -> Result<(), Stop> {
     Ok(show(rt.alloc(), "06000A0020000050", &mut to)?)
 }
 
-fn ran(rt: &HostRuntime, action: Action, setup: bool) -> Result<(), Stop> {
-    let mut from = Watched::new(SEARCH_LOOP.as_bytes());
+fn ran(rt: &HostRuntime, action: Action, text: &str, setup: bool) -> Result<(), Stop> {
+    let mut from = Watched::new(text.as_bytes());
     let mut to = Watched::new(rt.stdout());
     if setup {
         return Ok(());

@@ -1,7 +1,9 @@
 //! The status and the line of each outcome.
 
-use super::{Outcome, report};
+use super::{Outcome, ends_run, greater_status, report, report_named};
 use crate::devices::Narrow;
+use crate::image::ImageError;
+use crate::meaning::MeaningError;
 use crate::running::{RunError, Status};
 use crate::showing::ShowError;
 use ccw_core::Watched;
@@ -37,6 +39,7 @@ fn reports_of_the_program(rt: HostRuntime) {
         (Outcome::UsageFault, 4, ""),
         (Outcome::NoMemoryForCommandLine, 3, "chanv: out of memory\n"),
         (Outcome::FlushFailed, 3, "chanv: write failed\n"),
+        (Outcome::CannotOpen, 3, "chanv: cannot open\n"),
     ];
     expect(&rt, rt.alloc(), &outcomes);
 }
@@ -95,6 +98,52 @@ fn reports_of_runs(rt: HostRuntime) {
 }
 
 #[test]
+fn reports_of_images(rt: HostRuntime) {
+    let outcomes = [
+        (Outcome::Imaged(Ok(())), 0, ""),
+        (
+            Outcome::Imaged(Err(ImageError::Read)),
+            3,
+            "chanv: read failed\n",
+        ),
+        (
+            Outcome::Imaged(Err(ImageError::TooLong)),
+            2,
+            "chanv: image too long\n",
+        ),
+        (
+            Outcome::Imaged(Err(ImageError::Write)),
+            3,
+            "chanv: write failed\n",
+        ),
+        (
+            Outcome::Imaged(Err(ImageError::Memory)),
+            3,
+            "chanv: out of memory\n",
+        ),
+    ];
+    expect(&rt, rt.alloc(), &outcomes);
+}
+
+#[test]
+fn reports_of_words(rt: HostRuntime) {
+    let outcomes = [
+        (Outcome::Explained(Ok(())), 0, ""),
+        (
+            Outcome::Explained(Err(MeaningError::Unknown)),
+            4,
+            "chanv: no such word\n",
+        ),
+        (
+            Outcome::Explained(Err(MeaningError::Write)),
+            3,
+            "chanv: write failed\n",
+        ),
+    ];
+    expect(&rt, rt.alloc(), &outcomes);
+}
+
+#[test]
 fn reports_of_refused_decks(rt: HostRuntime) {
     let outcomes = [
         (refused(1, Cause::Header), 2, "chanv: deck line 1: header\n"),
@@ -126,4 +175,76 @@ fn reports_of_refused_decks(rt: HostRuntime) {
         (refused(5, Cause::Limit), 2, "chanv: deck line 5: limit\n"),
     ];
     expect(&rt, rt.alloc(), &outcomes);
+}
+
+#[test]
+fn reports_over_an_input(rt: HostRuntime) {
+    for (outcome, status, line) in [
+        (Outcome::Ran(Ok(Status::Yes)), 0, ""),
+        (Outcome::Ran(Ok(Status::No)), 1, ""),
+        (
+            Outcome::Ran(Err(RunError::Read)),
+            3,
+            "chanv: a.deck: read failed\n",
+        ),
+        (
+            Outcome::Ran(Err(RunError::TooLong)),
+            2,
+            "chanv: a.deck: deck too long\n",
+        ),
+        (
+            refused(7, Cause::Form),
+            2,
+            "chanv: a.deck: deck line 7: form\n",
+        ),
+        (
+            Outcome::Ran(Err(RunError::TooManyPlaces)),
+            2,
+            "chanv: a.deck: too many places\n",
+        ),
+        (
+            Outcome::Ran(Err(RunError::Memory)),
+            3,
+            "chanv: a.deck: out of memory\n",
+        ),
+        (
+            Outcome::Imaged(Err(ImageError::TooLong)),
+            2,
+            "chanv: a.deck: image too long\n",
+        ),
+        (Outcome::CannotOpen, 3, "chanv: a.deck: cannot open\n"),
+        (
+            Outcome::Imaged(Err(ImageError::Write)),
+            3,
+            "chanv: write failed\n",
+        ),
+        (
+            Outcome::Ran(Err(RunError::Write)),
+            3,
+            "chanv: write failed\n",
+        ),
+        (
+            Outcome::Explained(Err(MeaningError::Unknown)),
+            4,
+            "chanv: no such word\n",
+        ),
+        (
+            Outcome::Explained(Err(MeaningError::Write)),
+            3,
+            "chanv: write failed\n",
+        ),
+        (Outcome::FlushFailed, 3, "chanv: write failed\n"),
+    ] {
+        let mut to = Watched::new(Vec::new(rt.alloc()));
+        assert_eq!(rt; report_named("a.deck", outcome, &mut to), status);
+        assert_eq!(rt; to.into_inner().as_slice(), line.as_bytes());
+        assert_eq!(rt; ends_run(outcome), line == "chanv: write failed\n");
+    }
+}
+
+#[test]
+fn greatest_of_statuses(rt: HostRuntime) {
+    for (so_far, status, greatest) in [(0, 0, 0), (0, 1, 1), (2, 1, 2), (2, 3, 3)] {
+        assert_eq!(rt; greater_status(so_far, status), greatest);
+    }
 }

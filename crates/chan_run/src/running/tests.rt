@@ -1,6 +1,6 @@
 //! Runs over decks, and over devices that fail.
 
-use super::{Action, RunError, Status, run};
+use super::{Action, RunError, Status, run, run_named};
 use crate::devices::{Broken, LineFeeds, Narrow};
 use ccw_core::Watched;
 use chan_deck::Cause;
@@ -49,6 +49,38 @@ const END_OF_STORAGE_LISTING: &str =
 no 001000 outside-storage
 ";
 
+const END_OF_STORAGE_EXPLANATION: &str = "no 001000 outside-storage
+000FF8 fresh t . 31 000900 -C---0 00 0005 write search-id-equal
+001000 fresh - * no-ccw
+because 001000-001007 is not in storage of 0001000 bytes
+also 001008 outside-storage
+";
+
+const SEARCH_LOOP_PICTURE: &str = r#"digraph program {
+  node [shape=box, fontname="monospace", fontsize=10];
+  edge [arrowsize=0.7];
+  "000800 fresh t" [label="000800 fresh t\nsearch-id-equal"];
+  "000808 fresh -" [label="000808 fresh\ntransfer-in-channel"];
+  "000810 fresh -" [label="000810 fresh\nread-data"];
+  "000800 fresh t" -> "000808 fresh -";
+  "000800 fresh t" -> "000810 fresh -" [style=dashed];
+  "000808 fresh -" -> "000800 fresh t" [style=dotted];
+}
+"#;
+
+const END_OF_STORAGE_PICTURE: &str = r#"digraph program {
+  node [shape=box, fontname="monospace", fontsize=10];
+  edge [arrowsize=0.7];
+  "000FF8 fresh t" [label="000FF8 fresh t\nsearch-id-equal"];
+  "001000 fresh -" [label="001000 fresh\nno-ccw"];
+  "001008 fresh -" [label="001008 fresh\nno-ccw"];
+  "001000 fresh -" [color=red, fontcolor=red, xlabel="outside-storage"];
+  "001008 fresh -" [color=red, fontcolor=red, xlabel="outside-storage"];
+  "000FF8 fresh t" -> "001000 fresh -";
+  "000FF8 fresh t" -> "001008 fresh -" [style=dashed];
+}
+"#;
+
 fn ran(alloc: Global, action: Action, text: &[u8]) -> (Result<Status, RunError>, Vec<u8>) {
     let mut from = Watched::new(text);
     let mut to = Watched::new(Vec::new(alloc));
@@ -73,10 +105,93 @@ fn runs_over_decks(rt: HostRuntime) {
             Status::No,
             END_OF_STORAGE_LISTING,
         ),
+        (Action::Why, SEARCH_LOOP, Status::Yes, "yes\n"),
+        (
+            Action::Why,
+            END_OF_STORAGE,
+            Status::No,
+            END_OF_STORAGE_EXPLANATION,
+        ),
+        (Action::Graph, SEARCH_LOOP, Status::Yes, SEARCH_LOOP_PICTURE),
+        (
+            Action::Graph,
+            END_OF_STORAGE,
+            Status::No,
+            END_OF_STORAGE_PICTURE,
+        ),
     ] {
         let (answer, output) = ran(rt.alloc(), action, text.as_bytes());
         assert_eq!(rt; answer, Ok(status));
         assert_eq!(rt; output.as_slice(), written.as_bytes());
+    }
+}
+
+#[test]
+fn runs_over_named_inputs(rt: HostRuntime) {
+    for (name, action, text, answer, written) in [
+        (
+            "a.deck",
+            Action::Verify,
+            SEARCH_LOOP,
+            Ok(Status::Yes),
+            "a.deck: yes\n",
+        ),
+        (
+            "-",
+            Action::Verify,
+            END_OF_STORAGE,
+            Ok(Status::No),
+            "-: no 001000 outside-storage\n",
+        ),
+        (
+            "a.deck",
+            Action::List,
+            SEARCH_LOOP,
+            Ok(Status::Yes),
+            SEARCH_LOOP_LISTING,
+        ),
+        (
+            "a.deck",
+            Action::Graph,
+            SEARCH_LOOP,
+            Ok(Status::Yes),
+            SEARCH_LOOP_PICTURE,
+        ),
+        (
+            "a.deck",
+            Action::Verify,
+            "chanv deck 3\n",
+            Err(RunError::Deck {
+                line: 1,
+                cause: Cause::Header,
+            }),
+            "",
+        ),
+    ] {
+        let mut from = Watched::new(text.as_bytes());
+        let mut to = Watched::new(Vec::new(rt.alloc()));
+        assert_eq!(rt;
+            run_named(rt.alloc(), name, action, &mut from, &mut to),
+            answer
+        );
+        assert_eq!(rt; to.into_inner().as_slice(), written.as_bytes());
+    }
+}
+
+#[test]
+fn each_write_over_a_named_input_failing_in_turn(rt: HostRuntime) {
+    let whole = "a.deck: yes\n";
+    for room in 0..whole.len() {
+        let mut from = Watched::new(SEARCH_LOOP.as_bytes());
+        let mut to = Watched::new(Narrow {
+            room,
+            taken: Vec::new(rt.alloc()),
+        });
+        assert_eq!(rt;
+            run_named(rt.alloc(), "a.deck", Action::Verify, &mut from, &mut to),
+            Err(RunError::Write)
+        );
+        assert_eq!(rt; to.into_inner().taken.as_slice(), &whole.as_bytes()[..room]);
     }
 }
 
@@ -92,7 +207,7 @@ fn refused_decks_write_nothing(rt: HostRuntime) {
         ),
         ("chanv deck 1\ndevice 2311\nmask 20\n", 3, Cause::Mask),
     ] {
-        for action in [Action::Verify, Action::List] {
+        for action in [Action::Verify, Action::List, Action::Why, Action::Graph] {
             let (answer, output) = ran(rt.alloc(), action, text.as_bytes());
             assert_eq!(rt; answer, Err(RunError::Deck { line, cause }));
             assert!(rt; output.is_empty());
@@ -100,8 +215,8 @@ fn refused_decks_write_nothing(rt: HostRuntime) {
     }
 }
 
-/// A deck of so many CCWs from 000800 on, each chained to the next; the heading up to the start, with
-/// what follows it, and the last CCW are given.
+/// A deck of so many CCWs from 000800 on, each chained to the next; the heading up to the start,
+/// with what follows it, and the last CCW are given.
 fn chain_of(alloc: Global, heading: &str, count: u32, last: &str) -> Result<String, Fail> {
     let mut text = String::from_str(alloc, heading)?;
     text.push_str("extent 010 019\nstorage 0010000\n")?;
@@ -123,8 +238,8 @@ const USUAL: &str = "chanv deck 2\ndevice 2314\nmask 00\nstart 000800\nlimit 040
 
 const ONE_MORE: &str = "chanv deck 2\ndevice 2314\nmask 00\nstart 000800\nlimit 04097\n";
 
-/// Chains of CCWs under a limit of the deck: the name, the heading, how many CCWs, the last one, the
-/// answer, and what is written.
+/// Chains of CCWs under a limit of the deck: the name, the heading, how many CCWs, the last one,
+/// the answer, and what is written.
 static LIMITS: &[(&str, &str, u32, &str, Result<Status, RunError>, &str)] = &[
     (
         "4,096 places",
@@ -253,12 +368,14 @@ fn each_read_failing_in_turn(rt: HostRuntime) {
 #[test]
 fn each_write_failing_in_turn(rt: HostRuntime) {
     let alloc = rt.alloc();
-    for (action, whole) in [
-        (Action::Verify, "yes\n"),
-        (Action::List, SEARCH_LOOP_LISTING),
+    for (action, text, whole) in [
+        (Action::Verify, SEARCH_LOOP, "yes\n"),
+        (Action::List, SEARCH_LOOP, SEARCH_LOOP_LISTING),
+        (Action::Why, END_OF_STORAGE, END_OF_STORAGE_EXPLANATION),
+        (Action::Graph, SEARCH_LOOP, SEARCH_LOOP_PICTURE),
     ] {
         for room in 0..whole.len() {
-            let mut from = Watched::new(SEARCH_LOOP.as_bytes());
+            let mut from = Watched::new(text.as_bytes());
             let mut to = Watched::new(Narrow {
                 room,
                 taken: Vec::new(alloc),

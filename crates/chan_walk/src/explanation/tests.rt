@@ -146,8 +146,8 @@ static CASES: [Case<'static>; 6] = [
         ],
         ..USUAL
     },
-    // Two ways of one length lead to the last CCW: by the CCW after the search, and by the one after
-    // that.
+    // Two ways of one length lead to the last CCW: by the CCW after the search, and by the one
+    // after that.
     Case {
         name: "next-before-skip",
         puts: &[

@@ -220,7 +220,8 @@ fn places_and_marks(rt: HostRuntime) -> Result<(), Fail> {
     Ok(())
 }
 
-/// No-operations from `800` on, as many as are given, each of which chains to the next, but the last.
+/// No-operations from `800` on, as many as are given, each of which chains to the next, but the
+/// last.
 fn no_operations(alloc: Global, count: usize) -> Result<Vec<u8>, Fail> {
     let mut puts = Vec::new(alloc);
     let mut address = 0x800usize;

@@ -87,8 +87,8 @@ fn stores(place: Place, word: &Ccw) -> bool {
     kind == Some(Kind::Inward) && !word.is_transfer() && !skips(word)
 }
 
-/// The guarded bytes, one by one: those of each CCW, those of each argument that a seek gathers, and
-/// each that Set File Mask sets.
+/// The guarded bytes, one by one: those of each CCW, those of each argument that a seek gathers,
+/// and each that Set File Mask sets.
 fn guarded_bytes(
     alloc: Global,
     job: &Job,
@@ -109,7 +109,7 @@ fn guarded_bytes(
         }
         match class_at(place, &word) {
             Some(MaskClass::Seek | MaskClass::SeekCylinder | MaskClass::SeekHead) => {
-                if let Some(addresses) = argument_addresses(&job.storage, place.address, word) {
+                if let Ok(addresses) = argument_addresses(&job.storage, place.address, word) {
                     arguments.extend_from_slice(&addresses)?;
                 }
             }

@@ -3,8 +3,8 @@ use Rattle.std.proofs.KnownBytes.{Consumes-trans}
 use Rattle.std.proofs.lemmas.List.{length-take-le}
 use Rattle.chan_run.proofs.input.read_input.Goals as goal
 
-pub returns-then-count-len-clause-too_long : goal.returns-then-count-len-clause-too_long
-returns-then-count-len-clause-too_long g c = λ named.
+pub returns-then-count-limit-clause-too_long : goal.returns-then-count-limit-clause-too_long
+returns-then-count-limit-clause-too_long g c = λ named.
     let remaining = g.R.Read.remaining in
     let text = c.loop-count.text.items in
     let new = take c.in-Ok.count c.read.new.buffer in

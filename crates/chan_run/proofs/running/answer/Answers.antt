@@ -1,45 +1,23 @@
-use Rattle.std.proofs.Common.{Err, ap, inr, rules, ◌∙◌}
-use Rattle.chan_run.specs.Run.{status_of_verdict}
-use Rattle.chan_run.proofs.Outputs.{IsSeen, begins, is_judged, writes}
+use Rattle.std.proofs.Common.{rules, sym, subst}
+use Rattle.chan_run.specs.declared.running.Action.{Action}
+use Rattle.chan_run.specs.declared.running.Action.TheVariants as actions
+use Rattle.chan_run.specs.Naming.{name_in}
+use Rattle.chan_run.specs.Run.{IsTextAnswer, front_of}
+use Rattle.chan_run.proofs.Outputs.{text_answer}
 use Rattle.chan_run.proofs.running.answer.Goals as goal
 
-pub returns-in-Err-TooManyPlaces-clause-answer : goal.returns-in-Err-TooManyPlaces-clause-answer
-returns-in-Err-TooManyPlaces-clause-answer g c = record {
-  deck = c.in-Ok.deck;
-  spelled = c.in-Ok.ensures.spelled;
-  job = c.job-job.result;
-  of_deck = search rules;
-  many = c.in-Err-TooManyPlaces.ensures.many (ap Err c.in-Err-TooManyPlaces.field-0-is);
-}
+pub returns-in-Why-clause-answer : goal.returns-in-Why-clause-answer
+returns-in-Why-clause-answer g c =
+    subst (λ (a : Action). IsTextAnswer (front_of (name_in c.args.name) a) a c.args.text.now (g.W.Write.contents c.args.to.now.device) (g.W.Write.contents c.explained.new.to.device) c.explained.result)
+    (sym c.in-Why.is)
+    (text_answer _ actions.Why c.args.text.now c.in-Ok.deck c.job-job.result _ _ c.explained.result c.in-Ok.ensures.spelled (search rules) c.explained.ensures.answer)
 
-pub returns-in-Ok-write_output-clause-answer : goal.returns-in-Ok-write_output-clause-answer
-returns-in-Ok-write_output-clause-answer g c =
-    let j = c.job-job.result in
-    let d = c.in-Ok-judge.judged in
-    let found = c.in-Ok-judge.ensures in
-    let seen : IsSeen j d = record { verdict = found.verdict; covers = found.safe; shown = found.shown; exact = found.exact; places = found.places; looks = found.looks; few = found.few } in
-    let judged = is_judged c.args.text.now c.in-Ok.deck j d c.in-Ok.ensures.spelled (search rules) seen in
-    record {
-      verdict = d.verdict;
-      judged = judged;
-      status = c.status_of.ensures ∙ ap status_of_verdict c.verdict.ensures;
-      written = writes c.args.action j d _ _ seen c.in-Ok-write_output.ensures.ok;
-    }
-
-pub returns-in-Err-Write-clause-answer : goal.returns-in-Err-Write-clause-answer
-returns-in-Err-Write-clause-answer g c =
-    let j = c.job-job.result in
-    let d = c.in-Ok-judge.judged in
-    let found = c.in-Ok-judge.ensures in
-    let seen : IsSeen j d = record { verdict = found.verdict; covers = found.safe; shown = found.shown; exact = found.exact; places = found.places; looks = found.looks; few = found.few } in
-    let judged = is_judged c.args.text.now c.in-Ok.deck j d c.in-Ok.ensures.spelled (search rules) seen in
-    record { verdict = d.verdict; judged = judged; written = begins c.args.action j d _ _ seen c.in-Err-Write.ensures.prefix }
+pub returns-in-Graph-clause-answer : goal.returns-in-Graph-clause-answer
+returns-in-Graph-clause-answer g c =
+    subst (λ (a : Action). IsTextAnswer (front_of (name_in c.args.name) a) a c.args.text.now (g.W.Write.contents c.args.to.now.device) (g.W.Write.contents c.drawn.new.to.device) c.drawn.result)
+    (sym c.in-Graph.is)
+    (text_answer _ actions.Graph c.args.text.now c.in-Ok.deck c.job-job.result _ _ c.drawn.result c.in-Ok.ensures.spelled (search rules) c.drawn.ensures.answer)
 
 pub returns-clause-answer : goal.returns-clause-answer
 returns-clause-answer g c =
-    let j = c.job-job.result in
-    let d = c.in-Ok-judge.judged in
-    let found = c.in-Ok-judge.ensures in
-    let seen : IsSeen j d = record { verdict = found.verdict; covers = found.safe; shown = found.shown; exact = found.exact; places = found.places; looks = found.looks; few = found.few } in
-    let judged = is_judged c.args.text.now c.in-Ok.deck j d c.in-Ok.ensures.spelled (search rules) seen in
-    inr (record { verdict = d.verdict; judged = judged; written = begins c.args.action j d _ _ seen c.in-Err-Memory-write_output.ensures.prefix })
+    text_answer (front_of (name_in c.args.name) c.args.action) c.args.action c.args.text.now c.in-Ok.deck c.job-job.result _ _ c.judged.result c.in-Ok.ensures.spelled (search rules) c.judged.ensures.answer

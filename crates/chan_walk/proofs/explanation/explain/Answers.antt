@@ -2,8 +2,9 @@ use Rattle.std.proofs.Common.{◌≡◌, true, List, sym, subst}
 use Rattle.ckd_core.specs.Cylinders.{AreExtents}
 use Rattle.ckd_core.specs.Mask.{is_mask}
 use Rattle.chan_walk.specs.declared.offence.Offence.{Offence}
-use Rattle.chan_walk.specs.Explained.{IsPathOf}
+use Rattle.chan_walk.specs.Explained.{IsEvidenceOf, IsPathOf}
 use Rattle.chan_walk.specs.Offences.{AreOffences, first_verdict}
+use Rattle.chan_walk.proofs.Answering.{at_most, covers, only_yes, shown}
 use Rattle.chan_walk.proofs.Explaining.{reached_looks, witness}
 use Rattle.chan_walk.proofs.explanation.explain.Goals as goal
 
@@ -12,8 +13,10 @@ offences_of-requires-clause-looks c =
     let r = reached_looks c.args.job.now c.in_ok-walk.walk c.as_slice.result.now c.in_ok-walk.ensures.found c.as_slice.ensures.value in
     (c.args.job.now, r.0, r.1)
 
-pub path_of-requires : goal.path_of-requires
-path_of-requires c = record { found = (c.args.job.now, c.in_ok-walk.ensures.found) }
+pub witness_of-requires-clause-offences : goal.witness_of-requires-clause-offences
+witness_of-requires-clause-offences c =
+    let r = reached_looks c.args.job.now c.in_ok-walk.walk c.as_slice.result.now c.in_ok-walk.ensures.found c.as_slice.ensures.value in
+    subst (λ (os : List Offence). AreOffences c.args.job.now os) (sym c.as_slice-2.ensures.value) (c.in_ok-offences.ensures c.args.job.now r.0 r.1)
 
 pub returns-clause-offences : goal.returns-clause-offences
 returns-clause-offences c =
@@ -25,13 +28,34 @@ returns-clause-verdict c = c.first_is_verdict.ensures c.args.job.now c.in_ok-off
 
 pub returns-clause-path : goal.returns-clause-path
 returns-clause-path c =
-    let j = c.args.job.now in
-    let same = c.as_slice-2.ensures.value in
-    subst (λ (os : List Offence). IsPathOf j (first_verdict os) c.in_ok-path.path.items) same
-    (c.in_ok-path.ensures j c.in_ok-walk.ensures.found (subst (λ (os : List Offence). AreOffences j os) (sym same) (returns-clause-offences c)))
+    subst (λ (os : List Offence). IsPathOf c.args.job.now (first_verdict os) c.in_ok-witness.witness.path.items) c.as_slice-2.ensures.value c.in_ok-witness.ensures.path
+
+pub returns-clause-evidence : goal.returns-clause-evidence
+returns-clause-evidence c =
+    subst (λ (os : List Offence). IsEvidenceOf c.args.job.now (first_verdict os) c.in_ok-witness.witness.path.items c.in_ok-witness.witness.evidence) c.as_slice-2.ensures.value c.in_ok-witness.ensures.evidence
 
 pub returns-clause-shown : goal.returns-clause-shown
 returns-clause-shown c =
     let extents = subst AreExtents c.pairs-extents.ensures.value c.pairs-extents.ensures.right in
     let mask = subst (λ n. is_mask n ≡ true) c.byte-mask.ensures.value c.byte-mask.ensures.mask in
-    witness c.args.job.now c.in_ok-offences.offences.items c.in_ok-path.path.items (extents, c.args.job.now.storage.fits, mask) c.each_path_shows.ensures (returns-clause-path c)
+    witness c.args.job.now c.in_ok-offences.offences.items c.in_ok-witness.witness.path.items (extents, c.args.job.now.storage.fits, mask) c.each_path_shows.ensures (returns-clause-path c)
+
+pub returns-clause-safe : goal.returns-clause-safe
+returns-clause-safe c =
+    let mask = subst (λ n. is_mask n ≡ true) c.byte-mask.ensures.value c.byte-mask.ensures.mask in
+    covers c.args.job.now (first_verdict c.in_ok-offences.offences.items) mask c.yes_is_safe.ensures (returns-clause-verdict c)
+
+pub returns-clause-witness : goal.returns-clause-witness
+returns-clause-witness c =
+    let extents = subst AreExtents c.pairs-extents.ensures.value c.pairs-extents.ensures.right in
+    let mask = subst (λ n. is_mask n ≡ true) c.byte-mask.ensures.value c.byte-mask.ensures.mask in
+    shown c.args.job.now (first_verdict c.in_ok-offences.offences.items) (extents, c.args.job.now.storage.fits, mask) c.no_false_alarm.ensures (returns-clause-verdict c)
+
+pub returns-clause-exact : goal.returns-clause-exact
+returns-clause-exact c safe steady =
+    let extents = subst AreExtents c.pairs-extents.ensures.value c.pairs-extents.ensures.right in
+    let mask = subst (λ n. is_mask n ≡ true) c.byte-mask.ensures.value c.byte-mask.ensures.mask in
+    only_yes c.args.job.now (first_verdict c.in_ok-offences.offences.items) (returns-clause-verdict c) (c.safe_is_yes.ensures c.args.job.now (extents, c.args.job.now.storage.fits, mask) safe steady)
+
+pub returns-clause-few : goal.returns-clause-few
+returns-clause-few c = at_most c.args.job.now c.in_ok-walk.walk c.iter-marks.ensures.ordered c.in_ok-walk.ensures.found

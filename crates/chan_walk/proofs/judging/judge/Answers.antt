@@ -1,16 +1,9 @@
-use Rattle.std.proofs.Common.{◌≡◌, true, refl, sym, ap, subst}
+use Rattle.std.proofs.Common.{◌≡◌, true, sym, ap, subst}
 use Rattle.ckd_core.specs.Cylinders.{AreExtents}
 use Rattle.ckd_core.specs.Mask.{is_mask}
-use Rattle.chan_walk.specs.declared.job.Job.{Job}
-use Rattle.chan_walk.specs.declared.verdict.Verdict.{Verdict}
-use Rattle.chan_walk.specs.declared.verdict.Verdict.TheVariants.{Yes, No}
-use Rattle.chan_walk.specs.Alarm.{IsProper, NoFalseAlarm}
-use Rattle.chan_walk.specs.Answers.{IsSound, HasWitness}
-use Rattle.chan_walk.specs.Headline.{YesIsSafe}
-use Rattle.chan_walk.specs.Job.{HasMask}
 use Rattle.chan_walk.specs.Least.{AreReached}
 use Rattle.chan_walk.specs.Look.{AreLooks, places_of_looks}
-use Rattle.chan_walk.specs.Verdict.{IsVerdict}
+use Rattle.chan_walk.proofs.Answering.{covers, only_yes, shown}
 use Rattle.chan_walk.proofs.Looking.{moved_places}
 use Rattle.chan_walk.proofs.Walking.{reached_all}
 use Rattle.chan_walk.proofs.judging.judge.Goals as goal
@@ -25,28 +18,16 @@ returns-clause-verdict c =
     let same = sym c.as_slice.ensures.value in
     c.in_ok-verdict.ensures j (subst (AreLooks j) same found.looks) (subst (AreReached j) (ap places_of_looks same) (reached_all j c.in_ok-looks.field-0 found))
 
-covers : (j : Job) (v : Verdict) → HasMask j → YesIsSafe → IsVerdict j v → IsSound j v
-covers j v mask law h e = law j mask (subst (λ (w : Verdict). IsVerdict j w) e h)
-
 pub returns-clause-safe : goal.returns-clause-safe
 returns-clause-safe c =
     let mask = subst (λ n. is_mask n ≡ true) c.byte-mask.ensures.value c.byte-mask.ensures.mask in
     covers c.args.job.now c.in_ok-verdict.verdict mask c.yes_is_safe.ensures (returns-clause-verdict c)
-
-shown : (j : Job) (v : Verdict) → IsProper j → NoFalseAlarm → IsVerdict j v → HasWitness j v
-shown j Yes proper law h = tt
-shown j (No a r) proper law h = law j a r proper h
 
 pub returns-clause-shown : goal.returns-clause-shown
 returns-clause-shown c =
     let extents = subst AreExtents c.pairs-extents.ensures.value c.pairs-extents.ensures.right in
     let mask = subst (λ n. is_mask n ≡ true) c.byte-mask.ensures.value c.byte-mask.ensures.mask in
     shown c.args.job.now c.in_ok-verdict.verdict (extents, c.args.job.now.storage.fits, mask) c.no_false_alarm.ensures (returns-clause-verdict c)
-
--- where one verdict is yes, so is every other
-only_yes : (j : Job) (v : Verdict) → IsVerdict j v → IsVerdict j Yes → v ≡ Yes
-only_yes j Yes h y = refl
-only_yes j (No a r) h y = absurd (y h.0.place r h.0.reached h.0.offends)
 
 pub returns-clause-exact : goal.returns-clause-exact
 returns-clause-exact c safe steady =

@@ -2,17 +2,26 @@ use Rattle.std.proofs.Common.{◌≡◌, ℕ, ◌+◌, ◌-◌, ◌<◌, ◌≤�
 use Rattle.ccw_core.specs.Ccw.{Fields, ccw, chains_data}
 use Rattle.ccw_core.specs.Held.{bytes_held}
 use Rattle.ccw_core.proofs.StorageLemmas.{ccw_at-some}
-use Rattle.chan_walk.specs.Tables.{HasAddresses}
+use Rattle.chan_walk.specs.Evidence.{Gives}
 use Rattle.chan_walk.proofs.CheckCases.{is_part-found}
 use Rattle.chan_walk.proofs.Following.{IsFollowed, argument_below, followed_more, followed_whole, leads_nowhere, leads_to_no_part, no_more, part_in_range}
+use Rattle.chan_walk.proofs.Given.{IsGiven, given_more, given_no_part, given_nowhere, given_unchained}
 use Rattle.chan_walk.proofs.seek.argument_addresses.Goals as goal
 
-pub returns-then-not-gives_bytes : goal.returns-then-not-gives_bytes
-returns-then-not-gives_bytes c =
+pub returns-then-not-gives_bytes-clause-none : goal.returns-then-not-gives_bytes-clause-none
+returns-then-not-gives_bytes-clause-none c =
     let s = bytes_held c.args.storage.now in
     let here = c.loop-addresses.here.address in
     let stands = c.loop-addresses.invariant.stands in
     leads_to_no_part s c.args.address c.loop-addresses.addresses c.loop-addresses.have here c.loop-addresses.invariant.followed
+    (is_part-found s here c.loop-addresses.here.ccw stands ∙ sym c.gives_bytes.ensures ∙ c.if-not-gives_bytes.true)
+
+pub returns-then-not-gives_bytes-clause-given : goal.returns-then-not-gives_bytes-clause-given
+returns-then-not-gives_bytes-clause-given c =
+    let s = bytes_held c.args.storage.now in
+    let here = c.loop-addresses.here.address in
+    let stands = c.loop-addresses.invariant.stands in
+    given_no_part s c.args.address c.loop-addresses.have here c.loop-addresses.invariant.given
     (is_part-found s here c.loop-addresses.here.ccw stands ∙ sym c.gives_bytes.ensures ∙ c.if-not-gives_bytes.true)
 
 pub note-requires-clause-range : goal.note-requires-clause-range
@@ -25,8 +34,8 @@ note-requires-clause-range c =
     let small : length s ≤ 2 ^ 24 = c.args.storage.now.small in
     omega (arith, fits.data_in, c.address-from.ensures.value, c.from-count.ensures, c.count.ensures)
 
-pub returns-then-count-room : goal.returns-then-count-room
-returns-then-count-room c =
+pub returns-then-count-room-clause-six : goal.returns-then-count-room-clause-six
+returns-then-count-room-clause-six c =
     let s = bytes_held c.args.storage.now in
     let here = c.loop-addresses.here.address in
     let stands = c.loop-addresses.invariant.stands in
@@ -42,8 +51,8 @@ returns-then-count-room c =
     in
     (found.0, found.1, found.2, argument_below s 6 c.args.address found.0 c.note.new.addresses found.1 found.2)
 
-pub returns-then-not-chains_data : goal.returns-then-not-chains_data
-returns-then-not-chains_data c =
+pub returns-then-not-chains_data-clause-none : goal.returns-then-not-chains_data-clause-none
+returns-then-not-chains_data-clause-none c =
     let s = bytes_held c.args.storage.now in
     let here = c.loop-addresses.here.address in
     let word = (ccw_at-some s here c.loop-addresses.here.ccw c.loop-addresses.invariant.stands).2 in
@@ -51,6 +60,17 @@ returns-then-not-chains_data c =
     let less : (ccw s here).count < 6 - c.loop-addresses.have = omega (arith, c.from-count.ensures, c.count.ensures, c.if-count-room.false) in
     let unchained : chains_data (ccw s here) ≡ false = ap chains_data (sym word) ∙ sym c.chains_data.ensures ∙ c.if-not-chains_data.true in
     no_more s c.args.address c.loop-addresses.addresses c.loop-addresses.have here c.loop-addresses.invariant.followed less unchained
+
+pub returns-then-not-chains_data-clause-given : goal.returns-then-not-chains_data-clause-given
+returns-then-not-chains_data-clause-given c =
+    let s = bytes_held c.args.storage.now in
+    let here = c.loop-addresses.here.address in
+    let stands = c.loop-addresses.invariant.stands in
+    let part = is_part-found s here c.loop-addresses.here.ccw stands ∙ sym c.gives_bytes.ensures ∙ c.if-not-gives_bytes.false in
+    let word = (ccw_at-some s here c.loop-addresses.here.ccw stands).2 in
+    let count : c.from-count.result ≡ (ccw s here).count = c.from-count.ensures ∙ c.count.ensures ∙ ap (λ (w : Fields). w.count) word in
+    let unchained : chains_data (ccw s here) ≡ false = ap chains_data (sym word) ∙ sym c.chains_data.ensures ∙ c.if-not-chains_data.true in
+    subst (λ n. Gives s c.args.address (c.loop-addresses.have + n)) (sym count) (given_unchained s c.args.address c.loop-addresses.have here c.loop-addresses.invariant.given part unchained)
 
 pub note-requires-in-loop-addresses-clause-range : goal.note-requires-in-loop-addresses-clause-range
 note-requires-in-loop-addresses-clause-range c =
@@ -72,14 +92,23 @@ onward-requires c =
     let small : length s ≤ 2 ^ 24 = c.args.storage.now.small in
     omega (arith, fits.inside)
 
-pub returns-in_err-here : goal.returns-in_err-here
-returns-in_err-here c =
+pub returns-in-None-clause-none : goal.returns-in-None-clause-none
+returns-in-None-clause-none c =
     let s = bytes_held c.args.storage.now in
     let here = c.loop-addresses.here.address in
     let count = ap (λ (w : Fields). w.count) (ccw_at-some s here c.loop-addresses.here.ccw c.loop-addresses.invariant.stands).2 in
     let less : (ccw s here).count < 6 - c.loop-addresses.have = omega (arith, c.from-count.ensures, c.count.ensures, c.if-count-room.false) in
-    subst (HasAddresses s c.args.address) (sym c.from_residual.ensures)
-    (leads_nowhere s c.args.address c.loop-addresses.addresses c.loop-addresses.have here c.loop-addresses.invariant.followed less c.in_err-here.ensures.none)
+    leads_nowhere s c.args.address c.loop-addresses.addresses c.loop-addresses.have here c.loop-addresses.invariant.followed less c.in-None.ensures.none
+
+pub returns-in-None-clause-given : goal.returns-in-None-clause-given
+returns-in-None-clause-given c =
+    let s = bytes_held c.args.storage.now in
+    let here = c.loop-addresses.here.address in
+    let stands = c.loop-addresses.invariant.stands in
+    let part = is_part-found s here c.loop-addresses.here.ccw stands ∙ sym c.gives_bytes.ensures ∙ c.if-not-gives_bytes.false in
+    let word = (ccw_at-some s here c.loop-addresses.here.ccw stands).2 in
+    let count : c.from-count.result ≡ (ccw s here).count = c.from-count.ensures ∙ c.count.ensures ∙ ap (λ (w : Fields). w.count) word in
+    subst (λ n. Gives s c.args.address (c.loop-addresses.have + n)) (sym count) (given_nowhere s c.args.address c.loop-addresses.have here c.loop-addresses.invariant.given part c.in-None.ensures.none)
 
 pub loop-addresses-smaller : goal.loop-addresses-smaller
 loop-addresses-smaller c =
@@ -110,7 +139,9 @@ loop-addresses-preserved c =
     c.note-in-loop-addresses.ensures.size c.note-in-loop-addresses.ensures.before added
     in
     record {
-      followed = subst (λ n. IsFollowed s c.args.address taken (have + n) c.in_ok-here.here.address) (sym count)
-          (subst (λ z. IsFollowed s c.args.address taken (have + (ccw s here).count) z) (sym c.in_ok-here.ensures.found) more);
-      stands = c.in_ok-here.ensures.stands;
+      followed = subst (λ n. IsFollowed s c.args.address taken (have + n) c.in-Some.next.address) (sym count)
+          (subst (λ z. IsFollowed s c.args.address taken (have + (ccw s here).count) z) (sym c.in-Some.ensures.found) more);
+      given = subst (λ n. IsGiven s c.args.address (have + n) c.in-Some.next.address) (sym count)
+          (subst (λ z. IsGiven s c.args.address (have + (ccw s here).count) z) (sym c.in-Some.ensures.found) (given_more s c.args.address have here c.loop-addresses.invariant.given part chained));
+      stands = c.in-Some.ensures.stands;
     }

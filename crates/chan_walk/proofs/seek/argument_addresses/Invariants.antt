@@ -2,11 +2,13 @@ use Rattle.std.proofs.Common.{◌≡◌, ◌-◌, Some}
 use Rattle.ccw_core.specs.Held.{bytes_held}
 use Rattle.ccw_core.specs.Storage.{ccw_at}
 use Rattle.chan_walk.proofs.Following.{IsFollowed}
+use Rattle.chan_walk.proofs.Given.{IsGiven}
 use Rattle.chan_walk.proofs.seek.argument_addresses.Given as goal
 
 abbrev pub invariant-loop-addresses : goal.invariant-loop-addresses
 invariant-loop-addresses l = record {
   followed : IsFollowed (bytes_held l.storage) l.address l.addresses l.have l.here.address;
+  given : IsGiven (bytes_held l.storage) l.address l.have l.here.address;
   stands : ccw_at (bytes_held l.storage) l.here.address ≡ Some l.here.ccw;
 }
 

@@ -1,6 +1,6 @@
-use Rattle.std.proofs.Common.{ap, map, string_bytes, subst, sym, true, List, [], ◌≡◌, ◌∙◌}
+use Rattle.std.proofs.Common.{ap, rules, map, string_bytes, subst, sym, true, List, [], ◌≡◌, ◌∙◌}
 use Rattle.clap.specs.declared.parser.matches.ArgMatches.{ArgMatches}
-use Rattle.clap.specs.Words.{App, HasMatchesOf, Text, fault_of, is_simple, is_simple_and_free, subcommand_of, subcommand_rows_of}
+use Rattle.clap.specs.Words.{App, HasKind, HasMatchesOf, Text, fault_of, is_simple, is_simple_and_free, subcommand_of, subcommand_rows_of}
 use Rattle.chanv.specs.CommandLine.{AsksFor, IsKnown, IsTaken, chanv}
 use Rattle.chanv.proofs.TakenLines.{taken_is_known}
 use Rattle.chanv.proofs.command_line.asked.Goals as goal
@@ -23,4 +23,12 @@ returns-clause-taken c = taken_of _ (map string_bytes c.args.words.now) c.in_ok-
 pub returns-clause-asked : goal.returns-clause-asked
 returns-clause-asked c =
     let met = met_of _ (map string_bytes c.args.words.now) c.in_ok-matches.matches c.in_ok-command.ensures c.in_ok-matches.ensures.matches in
-    subst (λ m. AsksFor m c.request_of.result) met c.request_of.ensures
+    subst (λ m. AsksFor m c.in_ok-request_of.field-0) met c.in_ok-request_of.ensures
+
+pub returns-in_err-matches-clause-err : goal.returns-in_err-matches-clause-err
+returns-in_err-matches-clause-err c =
+    let words : List Text = map string_bytes c.args.words.now in
+    let is = c.in_ok-command.ensures in
+    let kind : HasKind (fault_of chanv words) c.in_err-matches.field-0.0 =
+    subst (λ (x : App). HasKind (fault_of x words) c.in_err-matches.field-0.0) is (c.in_err-matches.ensures.kinds (ap is_simple_and_free is)) in
+    search (kind, rules)

@@ -1,15 +1,9 @@
 -- A row is written where the rows so far end.
-use Rattle.std.proofs.Common.{◌≡◌, ◌<◌, ◌++◌, ℕ, zero, suc, ◌+◌, Some, None, List, [], ◌∷◌, drop, length, map, take, set, slice_get, ap, sym, ◌∙◌, arith}
+use Rattle.std.proofs.Common.{◌≡◌, ◌<◌, ◌++◌, ℕ, zero, suc, ◌+◌, None, List, [], ◌∷◌, drop, length, map, take, set, slice_get, ap, sym, ◌∙◌, arith}
 use Rattle.chanv_c.specs.Answers.{row}
+use Rattle.chanv_c.proofs.Written.{one_more}
 use Rattle.chanv_c.proofs.rows.write_rows.Goals as goal
 use Rattle.chanv_c.proofs.rows.write_rows.Goals.{in-Some, in_default}
-
-one_more : {X Y : Type 0} (f : X → Y) (xs : List X) (ys : List Y) (i : ℕ) (x : X) → slice_get xs i ≡ Some x → i < length ys
-    → set (map f (take i xs) ++ drop i ys) i (f x) ≡ map f (take (suc i) xs) ++ drop (suc i) ys
-one_more f [] ys i x is within = absurd cc
-one_more f (z ∷ xs) [] i x is within = absurd (omega (arith, within))
-one_more f (z ∷ xs) (y ∷ ys) zero x is within = let same : z ≡ x = cc in ap (λ w. f w ∷ ys) (sym same)
-one_more f (z ∷ xs) (y ∷ ys) (suc i) x is within = let h : i < length ys = omega (arith, within) in ap (λ l. f z ∷ l) (one_more f xs ys i x is h)
 
 -- an index below the length has an element
 present : {X : Type 0} (xs : List X) (i : ℕ) → i < length xs → slice_get xs i ≡ None → ⊥

@@ -1,0 +1,150 @@
+#!/usr/bin/env python3
+"""Tries the further wrong bodies, batches/CRATE/NAME.edit, several with one check.
+
+usage: batches/try.py [CRATE..] [--jobs=N]     (no CRATE: each that has a folder here)
+
+`rt ci` tries each edit of must-fail/ with a check of its own. Here stand those that turn another
+clause or branch of what has an edit there. They have the same form, the lines 'file:', 'old:'
+and 'new:', for one file of src/, and name the function whose body they turn, as `rt check` does
+but without the crate:
+
+    function: extents::judge
+
+For each crate, `rt check` first proves it as it is, over the work kept in out/. Then a copy gets
+a wrong body in each of several functions, and is checked once. Each of these functions has to be
+refused for a goal of its own: one that the search left open, or one that its written answer shows
+no longer. It doesn't count that it calls what isn't proved, that a proof lost a name, or that a
+text isn't Rattle. An edit that such a thing hides is tried again without those that were refused
+beside it, and at last alone. What a caller owes rests on the contracts of what it calls and never
+on their bodies, so a function is refused here for its own body alone.
+
+It prints a line for each edit, with these goals, those of the second sort as (answered), and the
+processor time of each check. The last line is 'N refused, M failed', and the exit status is 1
+where M isn't 0.
+"""
+
+import collections
+import pathlib
+import re
+import resource
+import shutil
+import subprocess
+import sys
+import tempfile
+
+HERE = pathlib.Path(__file__).resolve().parent
+ROOT = HERE.parent
+# What antt says of an answer that names what is no longer there, or that it can't read.
+LOST = re.compile(
+    "is not in scope|has no field|has no `|was not admitted|is no name|operand is missing"
+    "|expected the end|cannot continue"
+)
+FLAGS = [word for word in sys.argv[1:] if word.startswith("--")]
+NAMES = [word for word in sys.argv[1:] if not word.startswith("--")]
+
+Edit = collections.namedtuple("Edit", "name function file pairs")  # pairs of an old text and a new
+
+
+def read_edit(path):
+    said = [line.partition(":")[::2] for line in path.read_text().splitlines()]
+    once = {word: text.strip() for word, text in said}
+    texts = [text.removeprefix(" ") for word, text in said if word in ("old", "new")]
+    pairs = [*zip(texts[::2], texts[1::2])]
+    return Edit(path.stem, once.get("function", ""), once.get("file", ""), pairs)
+
+
+def source(crate, edit):
+    """The text of the edit's file, empty where it isn't one of src/."""
+    path = ROOT / "crates" / crate / edit.file
+    return path.read_text() if edit.file.startswith("src/") and path.is_file() else ""
+
+
+def applied(edit, text):
+    """The text with the edit, or None where an old text doesn't stand in it exactly once."""
+    for old, new in edit.pairs:
+        if text.count(old) != 1:
+            return None
+        text = text.replace(old, new)
+    return text
+
+
+def check(folder, what):
+    """What `rt check` says of the crate in the folder."""
+    spent = lambda: sum(resource.getrusage(resource.RUSAGE_CHILDREN)[:2])
+    before, words = spent(), ["rt", "check", *FLAGS]
+    how = {"stdout": subprocess.PIPE, "stderr": subprocess.STDOUT, "stdin": subprocess.DEVNULL}
+    ran = subprocess.run(words, cwd=folder, text=True, errors="replace", **how)
+    print(f"{folder.name}, {what}: checked in {spent() - before:.0f} s of a processor", flush=True)
+    return ran.stdout
+
+
+def check_with(crate, texts, count):
+    """What `rt check` says of a copy of the crate that has these texts in place of its own."""
+
+    def left_out(folder, names):
+        is_below = not folder.endswith(f"/{crate}/out")
+        return [it for it in names if it == "must-fail" or is_below and it == "incremental"]
+
+    with tempfile.TemporaryDirectory(prefix="batch-") as room:
+        copy = pathlib.Path(room) / "crates"
+        shutil.copytree(ROOT / "crates", copy, ignore=left_out)
+        shutil.copy(ROOT / "crates.txt", room)
+        for file, text in texts.items():
+            (copy / crate / file).write_text(text)
+        return check(copy / crate, f"{count} bodies wrong")
+
+
+def own_goals(function, line, said):
+    """The goals of its own for which a function is refused that has this line."""
+    left = re.search("`search` did not prove ((?:`[^`]*`(?:, )?)*)", line)
+    folder = re.escape(function.replace("::", "/"))
+    error = rf"(?m)^(?:\./)?proofs/{folder}/\w+\.antt:\d+:\d+: error: `([^`]*)`: (.*)"
+    answers = [f"{it} (answered)" for it, why in re.findall(error, said) if not LOST.search(why)]
+    found = (re.findall("`([^`]*)`", left[1]) if left else []) + answers
+    return [*dict.fromkeys(found)]
+
+
+def tried(crate, edits):
+    """Gives each edit with the goals for which it is refused, or with none and why it isn't."""
+    batch, later, texts = [], [], {}
+    for edit in edits:
+        whole = source(crate, edit)
+        text = applied(edit, texts.get(edit.file, whole))
+        if applied(edit, whole) is None:
+            yield edit, [], f"an old text doesn't stand in {edit.file} exactly once"
+        elif text is None or edit.function in [it.function for it in batch]:
+            later.append(edit)
+        else:
+            batch, texts[edit.file] = [*batch, edit], text
+    said, hidden = check_with(crate, texts, len(batch)) if batch else "", []
+    for edit in batch:
+        line = re.search(rf"(?m)^fn {re.escape(f'{crate}::{edit.function}')}: (.*)", said)
+        error = re.search(r"(?m)^.*\berror(\[[\w-]+\])?: .*", said)
+        goals = own_goals(edit.function, line[1], said) if line else []
+        if goals or len(batch) == 1 or line and line[1].startswith("proved"):
+            told = [it[0] for it in (line, len(batch) == 1 and error) if it]
+            yield edit, goals, "; ".join(told)[:240] or "`rt check` doesn't name its function"
+        else:
+            hidden.append(edit)
+    again = [[it] for it in hidden] + [later] if hidden == batch else [hidden + later]
+    for edits in filter(None, again):
+        yield from tried(crate, edits)
+
+
+def main():
+    refused = failed = 0
+    for crate in NAMES or sorted(it.name for it in HERE.iterdir() if it.is_dir()):
+        edits = [read_edit(it) for it in sorted((HERE / crate).glob("*.edit"))]
+        if "\nlogic=proved" not in check(ROOT / "crates" / crate, "as it is"):
+            print(f"{crate}: FAILED: it isn't proved as it is")
+            failed, edits = failed + len(edits), []
+        for edit, goals, why in tried(crate, edits):
+            refused, failed = refused + bool(goals), failed + (not goals)
+            end = f"refused: {edit.function}: {', '.join(goals)}" if goals else f"FAILED: {why}"
+            print(f"{crate}/{edit.name}: {end}", flush=True)
+    print(f"{refused} refused, {failed} failed")
+    return 1 if failed or not refused else 0
+
+
+if __name__ == "__main__":
+    sys.exit(main())

@@ -1,0 +1,107 @@
+-- The explanation, row by row and line by line.
+use Rattle.std.proofs.Common.{◌≡◌, ◌∷◌, [], ◌++◌, ◌∙◌, ◌+◌, ◌-◌, ◌<◌, ◌≤◌, ap, sym, List, ℕ, suc, Bool, true, false, Option, refl, nat_eq, if◌then◌else◌, append_assoc, append-nil, arith, codes, drop, drop-cons, get_or, length, length-drop}
+use Rattle.std.proofs.lemmas.Bool.Decides.{nat_tests}
+use Rattle.std.specs.Fmt.{decimal}
+use Rattle.std.specs.Int.{w16, to_be_bytes}
+use Rattle.hex.specs.Hex.{encode_upper, encode_with}
+use Rattle.ccw_core.specs.Ccw.{Fields}
+use Rattle.ccw_core.specs.Storage.{ccw_at}
+use Rattle.ckd_core.specs.Table.{Entry as TableEntry}
+use Rattle.chan_walk.specs.declared.evidence.Evidence.TheVariants.{WeakensMask}
+use Rattle.chan_walk.specs.declared.evidence.Outside.TheVariants.{Bin, Head}
+use Rattle.chan_walk.specs.declared.offence.Offence.{Offence}
+use Rattle.chan_walk.specs.declared.place.Place.{Place}
+use Rattle.chan_deck.specs.Explanation.{also_line, also_lines, are_alike, cause_text, path_rows, seek_text}
+use Rattle.chan_deck.specs.Item.{byte_digits}
+use Rattle.chan_deck.specs.Listing.{command_of, row, row_with}
+
+-- ---- the cause
+
+pub bin_told : (held bytes : List ℕ) (n : ℕ) → bytes ≡ to_be_bytes w16 n
+    → held ++ (codes "bin " ++ (encode_upper (get_or bytes 0 0 ∷ []) ++ (encode_upper (get_or bytes 1 0 ∷ []) ++ codes " is not zero"))) ≡ held ++ seek_text (Bin n)
+unfolding encode_with
+bin_told held bytes n e = ap (λ b. held ++ (codes "bin " ++ (encode_upper (get_or b 0 0 ∷ []) ++ (encode_upper (get_or b 1 0 ∷ []) ++ codes " is not zero")))) e
+
+pub head_told : (held : List ℕ) (n m : ℕ) → held ++ (codes "head " ++ (decimal n ++ (codes " is not below " ++ decimal m))) ≡ held ++ seek_text (Head n m)
+head_told held n m = ap (λ t. held ++ (codes "head " ++ t)) (sym (append_assoc (decimal n) (codes " is not below ") (decimal m)))
+
+pub weaker_told : (held : List ℕ) (path : List Place) (b mask is : ℕ) → is ≡ mask
+    → held ++ (codes "mask byte " ++ (byte_digits b ++ (codes " is not as strict as " ++ byte_digits is))) ≡ held ++ cause_text path (WeakensMask b mask)
+weaker_told held path b mask is e =
+    ap (λ t. held ++ (codes "mask byte " ++ t)) (ap (λ m. byte_digits b ++ (codes " is not as strict as " ++ byte_digits m)) e ∙ sym (append_assoc (byte_digits b) (codes " is not as strict as ") (byte_digits mask)))
+
+-- ---- the rows of a path
+
+-- they begin with that of its first place, marked where no place follows
+row_first : (s : List ℕ) (p : Place) (ps : List Place) → path_rows s (p ∷ ps) ≡ row s p (nat_eq (length ps) 0) ++ path_rows s ps
+row_first s p [] = sym (append-nil (row s p true))
+row_first s p (q ∷ ps) =
+    let more : nat_eq (length (q ∷ ps)) 0 ≡ false = grind (arith, nat_tests) in
+    ap (λ b. row s p b ++ path_rows s (q ∷ ps)) (sym more)
+
+-- the rows from a place of the path on
+rows_left : (s : List ℕ) (ps : List Place) (at : ℕ) (d : Place) → at < length ps
+    → path_rows s (drop at ps) ≡ row s (get_or ps at d) (nat_eq (at + 1) (length ps)) ++ path_rows s (drop (at + 1) ps)
+rows_left s ps at d lt =
+    let next : suc at ≡ at + 1 = omega arith in
+    let p = get_or ps at d in
+    let ends : nat_eq (length (drop (suc at) ps)) 0 ≡ nat_eq (at + 1) (length ps) = grind (arith, nat_tests, length-drop (suc at) ps) in
+    ap (path_rows s) (drop-cons ps at d lt) ∙ row_first s p (drop (suc at) ps)
+    ∙ ap (λ b. row s p b ++ path_rows s (drop (suc at) ps)) ends ∙ ap (λ n. row s p (nat_eq (at + 1) (length ps)) ++ path_rows s (drop n ps)) next
+
+-- one row more, of what stands at its place
+pub path_more : (s : List ℕ) (ps : List Place) (at : ℕ) (d : Place) (held more whole : List ℕ) (c : Option Fields) (command : Option TableEntry)
+    → at < length ps → c ≡ ccw_at s (get_or ps at d).address → command ≡ command_of (ccw_at s (get_or ps at d).address)
+    → more ≡ held ++ row_with (get_or ps at d) c command (nat_eq (at + 1) (length ps))
+    → held ++ path_rows s (drop at ps) ≡ whole → more ++ path_rows s (drop (at + 1) ps) ≡ whole
+path_more s ps at d held more whole c command lt stands is told before =
+    let p = get_or ps at d in
+    let last = nat_eq (at + 1) (length ps) in
+    let rest = path_rows s (drop (at + 1) ps) in
+    ap (λ t. t ++ rest) (told ∙ ap (λ x. held ++ row_with p x command last) stands ∙ ap (λ x. held ++ row_with p (ccw_at s p.address) x last) is)
+    ∙ append_assoc held (row s p last) rest ∙ ap (λ t. held ++ t) (sym (rows_left s ps at d lt)) ∙ before
+
+-- ---- the lines of the other offences
+
+-- those of the offences behind one of them
+lines_left : (os : List Offence) (at : ℕ) (d : Offence) → 0 < at → at < length os
+    → also_lines (drop (at - 1) os) ≡ (if are_alike (get_or os (at - 1) d) (get_or os at d) then [] else also_line (get_or os at d)) ++ also_lines (drop at os)
+lines_left os at d some lt =
+    let o = get_or os (at - 1) d in
+    let p = get_or os at d in
+    let next : suc (at - 1) ≡ at = omega arith in
+    let here = drop-cons os at d lt in
+    let both : drop (at - 1) os ≡ o ∷ p ∷ drop (suc at) os = drop-cons os (at - 1) d (omega arith) ∙ ap (λ n. o ∷ drop n os) next ∙ ap (λ t. o ∷ t) here in
+    ap also_lines both ∙ ap (λ t. (if are_alike o p then [] else also_line p) ++ also_lines t) (sym here)
+
+-- one line more
+pub others_more : (os : List Offence) (at : ℕ) (d : Offence) (held more whole : List ℕ) → 0 < at → at < length os
+    → are_alike (get_or os (at - 1) d) (get_or os at d) ≡ false → more ≡ held ++ also_line (get_or os at d)
+    → held ++ also_lines (drop (at - 1) os) ≡ whole → more ++ also_lines (drop (at + 1 - 1) os) ≡ whole
+others_more os at d held more whole some lt apart told before =
+    let p = get_or os at d in
+    let next : at + 1 - 1 ≡ at = omega arith in
+    let rest = also_lines (drop at os) in
+    ap (λ n. more ++ also_lines (drop n os)) next ∙ ap (λ t. t ++ rest) told ∙ append_assoc held (also_line p) rest
+    ∙ ap (λ (b : Bool). held ++ ((if b then [] else also_line p) ++ rest)) (sym apart) ∙ ap (λ t. held ++ t) (sym (lines_left os at d some lt)) ∙ before
+
+-- none for an offence that is like the one before it
+pub others_same : (os : List Offence) (at : ℕ) (d : Offence) (held more whole : List ℕ) → 0 < at → at < length os
+    → are_alike (get_or os (at - 1) d) (get_or os at d) ≡ true → more ≡ held
+    → held ++ also_lines (drop (at - 1) os) ≡ whole → more ++ also_lines (drop (at + 1 - 1) os) ≡ whole
+others_same os at d held more whole some lt alike told before =
+    let p = get_or os at d in
+    let next : at + 1 - 1 ≡ at = omega arith in
+    let rest = also_lines (drop at os) in
+    ap (λ n. more ++ also_lines (drop n os)) next ∙ ap (λ t. t ++ rest) told
+    ∙ ap (λ (b : Bool). held ++ ((if b then [] else also_line p) ++ rest)) (sym alike) ∙ ap (λ t. held ++ t) (sym (lines_left os at d some lt)) ∙ before
+
+-- one offence has no other behind it
+no_line : (os : List Offence) → length os ≤ 1 → also_lines os ≡ []
+no_line [] h = refl
+no_line (o ∷ []) h = refl
+no_line (o ∷ p ∷ os) h = absurd (omega (arith, h))
+
+pub none_left : (os : List Offence) (at : ℕ) (held whole : List ℕ) → length os ≤ at → 0 < at → held ++ also_lines (drop (at - 1) os) ≡ whole → held ≡ whole
+none_left os at held whole h some before =
+    sym (append-nil held) ∙ ap (λ t. held ++ t) (sym (no_line (drop (at - 1) os) (omega (arith, length-drop (at - 1) os)))) ∙ before

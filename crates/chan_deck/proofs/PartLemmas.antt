@@ -1,0 +1,109 @@
+-- The parts of a deck: its areas, and the storage of an image.
+use Rattle.std.proofs.Common.{◌≡◌, ℕ, zero, suc, ◌+◌, ◌-◌, ◌*◌, ◌/◌, ◌%◌, ◌<◌, ◌≤◌, ◌^◌, Bool, true, false, List, [], ◌∷◌, ◌++◌, ◌&&◌, Result, Ok, Err, IfOk, OnOk, length, get_or, take, drop, refl, sym, ap, ◌∙◌, append_assoc, arith, length-append}
+use Rattle.std.specs.Prelude.{nat_lt, MatchBool}
+use Rattle.std.specs.Int.{next_multiple_of}
+use Rattle.std.specs.List.{AllByRecursion, list_all}
+use Rattle.std.proofs.lemmas.Bool.{and_parts, ltb-true, lt-ltb}
+use Rattle.std.proofs.lemmas.List.{length-replicate, take-replicate, drop-replicate, replicate-append-replicate}
+use Rattle.ccw_core.specs.declared.areas.Area.{Area}
+use Rattle.ckd_core.specs.Cylinders.{AreExtents}
+use Rattle.ckd_core.specs.Mask.{is_mask}
+use Rattle.chan_walk.proofs.Lists.{all_append}
+use Rattle.chan_deck.specs.Image.{HasLimit, IsDeck}
+use Rattle.chan_deck.specs.Item.{IsAddress, IsArea, IsByte}
+use Rattle.chan_deck.specs.Parts.{HasAddresses, image_of, storage_with, version_with, zeros}
+use Rattle.chan_deck.specs.declared.parts.Parts.{Parts}
+use Rattle.chan_deck.proofs.StepLemmas.{bytes_pad, bytes_zeros}
+
+-- six digits are enough for both numbers of an area
+abbrev pub is_area : Area → Bool
+is_area a = nat_lt a.start (2 ^ 24) && nat_lt a.len (2 ^ 24)
+
+areas_right : (areas : List Area) → list_all is_area areas ≡ true → AllByRecursion IsArea areas
+areas_right [] e = tt
+areas_right (a ∷ areas) e =
+    let x = and_parts (is_area a) (list_all is_area areas) e in
+    let y = and_parts (nat_lt a.start (2 ^ 24)) (nat_lt a.len (2 ^ 24)) x.0 in
+    ((ltb-true a.start (2 ^ 24) y.0, ltb-true a.len (2 ^ 24) y.1), areas_right areas x.1)
+
+areas_pass : (areas : List Area) → AllByRecursion IsArea areas → list_all is_area areas ≡ true
+areas_pass [] h = refl
+areas_pass (a ∷ areas) h = rw (lt-ltb a.start (2 ^ 24) h.0.0, lt-ltb a.len (2 ^ 24) h.0.1, areas_pass areas h.1) refl
+
+-- the test decides whether six digits are enough for each area
+pub areas_decided : (areas : List Area) (b : Bool)
+    → b ≡ list_all (λ a. nat_lt a.start (2 ^ 24) && nat_lt a.len (2 ^ 24)) areas
+    → MatchBool b (AllByRecursion IsArea areas) (AllByRecursion IsArea areas → ⊥)
+areas_decided areas true e = areas_right areas (sym e)
+areas_decided areas false e = λ right.
+    let both : false ≡ true = e ∙ areas_pass areas right in
+    absurd cc
+
+-- where start and areas for fetching have six digits, those for storing decide
+pub by_store : (p : Parts) (b : Bool) → IsAddress p.start → AllByRecursion IsArea p.fetch.now
+    → b ≡ list_all (λ a. nat_lt a.start (2 ^ 24) && nat_lt a.len (2 ^ 24)) p.store.now
+    → MatchBool b (HasAddresses p) (HasAddresses p → ⊥)
+by_store p true start fetch e = (start, fetch, areas_decided p.store.now true e)
+by_store p false start fetch e = λ right. areas_decided p.store.now false e right.2
+
+-- what stands before the doublewords of an image, and these, are its storage
+pub doublewords_are : (at : ℕ) (image bytes : List ℕ)
+    → bytes ≡ (take (at % 8) (zeros (next_multiple_of (at % 8 + length image) 8)) ++ image)
+    ++ drop (at % 8 + length image) (zeros (next_multiple_of (at % 8 + length image) 8))
+    → zeros (8 * (at / 8)) ++ bytes ≡ storage_with at image
+doublewords_are at image bytes e =
+    let b = at % 8 in
+    let n = length image in
+    let len = next_multiple_of (b + n) 8 in
+    let rest = len - (b + n) in
+    let before : take b (zeros len) ≡ zeros b = take-replicate b len 0 (omega arith) in
+    let behind : drop (b + n) (zeros len) ≡ zeros rest = drop-replicate (b + n) len 0 in
+    let front : zeros (8 * (at / 8)) ++ zeros b ≡ zeros at = replicate-append-replicate (8 * (at / 8)) b 0 ∙ ap (λ (m : ℕ). zeros m) (omega arith) in
+    let all : length (zeros at ++ image) ≡ at + n = length-append (zeros at) image ∙ ap (λ m. m + n) (length-replicate at 0) in
+    let end : rest ≡ next_multiple_of (length (zeros at ++ image)) 8 - length (zeros at ++ image) = omega (arith, all) in
+    ap (λ t. zeros (8 * (at / 8)) ++ t) (e ∙ ap (λ t. (t ++ image) ++ drop (b + n) (zeros len)) before ∙ ap (λ t. (zeros b ++ image) ++ t) behind)
+    ∙ sym (append_assoc (zeros (8 * (at / 8))) (zeros b ++ image) (zeros rest))
+    ∙ ap (λ t. t ++ zeros rest) (sym (append_assoc (zeros (8 * (at / 8))) (zeros b) image) ∙ ap (λ t. t ++ image) front)
+    ∙ ap (λ m. (zeros at ++ image) ++ zeros m) end
+
+-- the doublewords of an image end in storage where it does
+pub doublewords_fit : (at n len : ℕ) → at + n ≤ 2 ^ 24 → len ≡ next_multiple_of (at % 8 + n) 8
+    → 8 * (at / 8) + len ≤ 2 ^ 24
+doublewords_fit at n len le e = omega (arith, e, le)
+
+pub all_bytes : (bytes : List ℕ) → ((i : ℕ) → get_or bytes i 0 < 256) → AllByRecursion IsByte bytes
+all_bytes [] h = tt
+all_bytes (b ∷ bytes) h = (h zero, all_bytes bytes (λ i. h (suc i)))
+
+length_storage : (at : ℕ) (image : List ℕ)
+    → length (storage_with at image) ≡ next_multiple_of (at + length image) 8
+length_storage at image =
+    let front = zeros at ++ image in
+    let all : length front ≡ at + length image = length-append (zeros at) image ∙ ap (λ m. m + length image) (length-replicate {A = ℕ} at 0) in
+    let rest = next_multiple_of (length front) 8 - length front in
+    omega (arith, all, length-append front (zeros rest), length-replicate {A = ℕ} rest 0)
+
+-- parts whose image isn't too long, and whose numbers have six digits, make a deck
+pub parts_deck : (p : Parts) → p.at + length p.image.now ≤ 2 ^ 24 → HasAddresses p
+    → HasLimit (version_with p.limit) → IsByte p.mask × (is_mask p.mask ≡ true)
+    → AreExtents p.extents.now → AllByRecursion IsByte p.image.now → IsDeck (image_of p)
+parts_deck p short right limited masked cylinders bytes =
+    let len = length_storage p.at p.image.now in
+    let front = zeros p.at ++ p.image.now in
+    record {
+      limit = limited;
+      mask = masked;
+      start = right.0;
+      extents = cylinders;
+      fetch = right.1;
+      store = right.2;
+      size = omega (arith, len, short);
+      whole = omega (arith, len);
+      bytes = bytes_pad front (next_multiple_of (length front) 8) (all_append IsByte (zeros p.at) p.image.now (bytes_zeros p.at) bytes);
+    }
+
+-- what follows from four facts of a value
+pub from_facts : {T E A B C : Type 0} {P Q : T → Type 0} (r : Result T E) → IfOk r P → OnOk r A
+    → OnOk r B → OnOk r C → ((x : T) → P x → A → B → C → Q x) → IfOk r Q
+from_facts (Ok x) p a b c f = f x p a b c
+from_facts (Err e) p a b c f = tt

@@ -1,0 +1,7 @@
+use Rattle.std.proofs.Common.{◌≡◌, ◌++◌, ◌-◌, drop, string_bytes}
+use Rattle.chan_deck.specs.Explanation.{also_lines}
+use Rattle.chan_deck.proofs.explanation.push_others.Given as goal
+
+-- what is written and the lines that are left are all
+abbrev pub invariant-loop-at : goal.invariant-loop-at
+invariant-loop-at l = string_bytes l.out ++ also_lines (drop (l.at - 1) l.offences) ≡ string_bytes l.fn.out ++ also_lines l.offences

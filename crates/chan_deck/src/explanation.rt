@@ -1,0 +1,276 @@
+//! The explanation of a verdict: what `chanv why` writes.
+
+ghost use Rattle.std.specs.Prelude.{◌≡◌, ◌↔◌, ◌++◌, false, true, string_bytes, IfOk, IsErrOf, OnOk};
+ghost use Rattle.std.specs.Io.KnownBytes.{Appends};
+ghost use Rattle.ccw_core.specs.Written.{AppendsPrefix};
+ghost use Rattle.chan_deck.specs.Explanation as texts;
+ghost use Rattle.chan_deck.specs.Listing.{command_name};
+ghost use Rattle.ckd_core.specs.Table as table;
+ghost use Rattle.chan_walk.specs.Job.{storage_of};
+
+use crate::listing::{ListError, push_row, standing_at};
+use crate::texts::{Address, Digits, Range, Size, verdict_text};
+use ccw_core::{Area, Watched, write_out};
+use chan_walk::{Evidence, Explanation, Job, Offence, Outside, Place};
+use ckd_core::lookup;
+use std::alloc::{AllocError, Global};
+use std::fmt::Write as _;
+use std::io::Write;
+
+#[cfg(test)]
+mod tests;
+
+/// The name of the command of a code.
+fn name_of_code(code: u8) -> &'static str
+    ensures { result.now ≡ command_name (table.lookup code) }
+{
+    match lookup(code) {
+        Some(command) => command.name(),
+        None => "unknown",
+    }
+}
+
+/// Adds that a range leaves so many bytes of storage.
+fn push_outside(out: &mut String, range: Area, length: u32) -> Result<(), AllocError>
+    ensures { OnOk result (string_bytes out.new
+        ≡ string_bytes out.old ++ texts.outside_text range length) }
+{
+    let range = Range(range);
+    let length = Size(length);
+    write!(out, "{range} is not in storage of {length} bytes")
+}
+
+/// Adds that a part of some data isn't lent.
+fn push_unlent(out: &mut String, range: Area, gap: Area, purpose: &str) -> Result<(), AllocError>
+    ensures { OnOk result (string_bytes out.new
+        ≡ string_bytes out.old ++ texts.unlent_text range gap purpose.now) }
+{
+    let range = Range(range);
+    let gap = Range(gap);
+    write!(out, "{gap} of {range} is not lent for {purpose}")
+}
+
+/// Adds what is wrong with the argument of a seek.
+fn push_seek(out: &mut String, outside: Outside) -> Result<(), AllocError>
+    ensures { OnOk result (string_bytes out.new
+        ≡ string_bytes out.old ++ texts.seek_text outside) }
+{
+    match outside {
+        Outside::Bin(bin) => {
+            let [high, low] = bin.to_be_bytes();
+            let high = Digits(high);
+            let low = Digits(low);
+            write!(out, "bin {high}{low} is not zero")
+        }
+        Outside::Cylinder(cylinder) => write!(out, "cylinder {cylinder} is in no extent"),
+        Outside::Head { head, heads } => write!(out, "head {head} is not below {heads}"),
+    }
+}
+
+/// What is wrong with a transfer in channel to which a path leads.
+fn transfer_word(path: &[Place]) -> &'static str
+    ensures { result.now ≡ texts.transfer_text path.now }
+{
+    match path {
+        [_] => "a transfer stands first",
+        _ => "a transfer leads to a transfer",
+    }
+}
+
+/// What the byte that is stored over is to the place that takes it.
+fn byte_word(sets_mask: bool) -> &'static str
+    ensures { result.now ≡ texts.byte_word sets_mask }
+{
+    if sets_mask { "mask byte" } else { "argument" }
+}
+
+/// Adds the cause to a text, if it is that some data is stored over what may not change.
+fn push_change(out: &mut String, evidence: Evidence) -> Result<(), AllocError>
+    ensures { OnOk result (string_bytes out.new
+        ≡ string_bytes out.old ++ texts.change_text evidence) }
+{
+    match evidence {
+        Evidence::ChangesCcw { data, ccw } => {
+            let data = Range(data);
+            let ccw = Address(ccw);
+            write!(out, "it stores {data}, over the CCW at {ccw}")
+        }
+        Evidence::ChangesArgument {
+            data,
+            byte,
+            taker,
+            sets_mask,
+        } => {
+            let data = Range(data);
+            let word = byte_word(sets_mask);
+            let byte = Address(byte);
+            let taker = Address(taker);
+            write!(out, "it stores {data}, over the {word} {byte} of {taker}")
+        }
+        _ => Ok(()),
+    }
+}
+
+/// Adds the cause to a text.
+fn push_cause(out: &mut String, path: &[Place], evidence: Evidence) -> Result<(), AllocError>
+    ensures { OnOk result (string_bytes out.new
+        ≡ string_bytes out.old ++ texts.cause_text path.now evidence) }
+{
+    match evidence {
+        Evidence::Misaligned { address } => {
+            let address = Address(address);
+            write!(out, "{address} is not a multiple of 8")
+        }
+        Evidence::OutsideStorage { ccw, length } => push_outside(out, ccw, length),
+        Evidence::TransferNotAllowed => out.push_str(transfer_word(path)),
+        Evidence::InvalidCode { code } => {
+            let code = Digits(code);
+            write!(out, "code {code} is invalid")
+        }
+        Evidence::BadFormat { bits } => {
+            let bits = Digits(bits);
+            write!(out, "flag bits {bits} are on")
+        }
+        Evidence::ZeroCount => out.push_str("the count is zero"),
+        Evidence::DataOutside { data, length } => push_outside(out, data, length),
+        Evidence::NotInTable { code } => {
+            let code = Digits(code);
+            write!(out, "code {code} is not in the table")
+        }
+        Evidence::Inhibited { mask, code } => {
+            let mask = Digits(mask.byte());
+            let name = name_of_code(code);
+            write!(out, "mask {mask} inhibits {name}")
+        }
+        Evidence::StoreNotLent { data, gap } => push_unlent(out, data, gap, "storing"),
+        Evidence::FetchNotLent { data, gap } => push_unlent(out, data, gap, "fetching"),
+        Evidence::ShortSeek { given } => write!(out, "the argument ends after {given} of 6 bytes"),
+        Evidence::SeekOutside { outside } => push_seek(out, outside),
+        Evidence::ChangesCcw { .. } | Evidence::ChangesArgument { .. } => push_change(
+            out, evidence,
+        ),
+        Evidence::WeakensMask { byte, mask } => {
+            let byte = Digits(byte);
+            let mask = Digits(mask.byte());
+            write!(out, "mask byte {byte} is not as strict as {mask}")
+        }
+    }
+}
+
+/// Adds a row for each place of a path, the last of them marked.
+fn push_path(alloc: Global, out: &mut String, job: &Job, path: &[Place]) -> Result<(), AllocError>
+    ensures { OnOk result (string_bytes out.new
+        ≡ string_bytes out.old ++ texts.path_rows (storage_of job.now) path.now) }
+{
+    for at in 0..path.len() {
+        let place = path[at];
+        let (ccw, command) = standing_at(job, place.address);
+        push_row(alloc, out, place, ccw, command, at + 1 == path.len())?;
+    }
+    Ok(())
+}
+
+/// Adds the path to what is changed, if there is one.
+fn push_second(alloc: Global, out: &mut String, job: &Job, path: &[Place]) -> Result<(), AllocError>
+    ensures { OnOk result (string_bytes out.new
+        ≡ string_bytes out.old ++ texts.second_rows (storage_of job.now) path.now) }
+{
+    if path.is_empty() {
+        return Ok(());
+    }
+    out.push_str("reached by\n")?;
+    push_path(alloc, out, job, path)
+}
+
+/// Whether two offences have one address and one reason.
+fn are_alike(one: Offence, other: Offence) -> bool
+    ensures { result ≡ texts.are_alike one other }
+{
+    one.place.address == other.place.address && one.reason.number() == other.reason.number()
+}
+
+/// Adds the line of an offence beside the first.
+fn push_also(out: &mut String, offence: Offence) -> Result<(), AllocError>
+    ensures { OnOk result (string_bytes out.new
+        ≡ string_bytes out.old ++ texts.also_line offence) }
+{
+    let address = Address(offence.place.address);
+    let word = offence.reason.word();
+    write!(out, "also {address} {word}\n")
+}
+
+/// Adds a line for each address and reason but the first.
+fn push_others(out: &mut String, offences: &[Offence]) -> Result<(), AllocError>
+    ensures { OnOk result (string_bytes out.new
+        ≡ string_bytes out.old ++ texts.also_lines offences.now) }
+{
+    for at in 1..offences.len() {
+        if !are_alike(offences[at - 1], offences[at]) {
+            push_also(out, offences[at])?;
+        }
+    }
+    Ok(())
+}
+
+/// Adds what shows that a verdict is no, if it is: the path, the cause, and the path to what is
+/// changed.
+fn push_witness(
+    alloc: Global,
+    out: &mut String,
+    job: &Job,
+    explanation: &Explanation,
+) -> Result<(), AllocError>
+    ensures { OnOk result (string_bytes out.new ≡ string_bytes out.old
+        ++ texts.witness_text (storage_of job.now) explanation.now explanation.now.evidence) }
+{
+    let Some(evidence) = explanation.evidence() else {
+        return Ok(());
+    };
+    push_path(alloc, out, job, explanation.path())?;
+    out.push_str("because ")?;
+    push_cause(out, explanation.path(), evidence)?;
+    out.push('\n')?;
+    push_second(alloc, out, job, explanation.second_path())
+}
+
+/// The explanation of a verdict as text: its line; the path to an offending place, a row for each
+/// place, the last marked; the cause, with its values; the path to what is changed; and a line for
+/// each other address and reason that offends. An error is want of memory.
+///
+/// The rows show the CCWs that stand in the job's storage, whether or not the explanation is the
+/// job's.
+pub fn explanation_text(
+    alloc: Global,
+    job: &Job,
+    explanation: &Explanation,
+) -> Result<String, AllocError>
+    ensures { IfOk result
+        (λ t. string_bytes t ≡ texts.explanation (storage_of job.now) explanation.now) }
+{
+    let mut text = verdict_text(alloc, explanation.verdict())?;
+    push_witness(alloc, &mut text, job, explanation)?;
+    push_others(&mut text, explanation.offences())?;
+    Ok(text)
+}
+
+/// Writes the explanation of a verdict.
+///
+/// `Write` comes exactly where a write failed; then a prefix was written. After `Memory` nothing
+/// was.
+pub fn write_explanation<W: Write>(
+    alloc: Global,
+    job: &Job,
+    explanation: &Explanation,
+    to: &mut Watched<W>,
+) -> Result<(), ListError>
+    requires { to.old.failed ≡ false }
+    ensures ok { OnOk result (Appends (W.contents to.old.device) (W.contents to.new.device)
+        (texts.explanation (storage_of job.now) explanation.now)) }
+    ensures prefix { AppendsPrefix (W.contents to.old.device) (W.contents to.new.device)
+        (texts.explanation (storage_of job.now) explanation.now) }
+    ensures write { IsErrOf result ListError.Write ↔ (to.new.failed ≡ true) }
+    ensures memory { IsErrOf result ListError.Memory → to.new ≡ to.old }
+{
+    let text = explanation_text(alloc, job, explanation)?;
+    Ok(write_out(text.as_bytes(), to)?)
+}

@@ -1,0 +1,7 @@
+use Rattle.std.proofs.Common.{take}
+use Rattle.std.specs.List.{AllZip}
+use Rattle.chan_run.specs.Imaging.{SaysExtent, texts_of}
+use Rattle.chan_run.proofs.option_reading.pairs_of.Given as goal
+
+abbrev pub invariant-loop-text : goal.invariant-loop-text
+invariant-loop-text l = AllZip SaysExtent (texts_of (take l.text-index l.texts)) l.pairs.items

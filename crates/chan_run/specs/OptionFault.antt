@@ -1,0 +1,34 @@
+-- The text of a usage fault that names an option, in the wording of the command line's library.
+use Rattle.std.specs.Prelude.{◌++◌, ◌∷◌, ℕ, List, [], codes}
+use Rattle.chan_run.specs.declared.image_options.ImageOption.{ImageOption}
+use Rattle.chan_run.specs.declared.image_options.ImageOption.TheVariants as options
+use Rattle.chan_run.specs.declared.image_options.OptionFault.{OptionFault}
+
+-- how an option is written, with the name of its value
+abbrev pub option_usage : ImageOption → List ℕ
+option_usage options.Device = codes "--device <NUMBER>"
+option_usage options.Mask = codes "--mask <BYTE>"
+option_usage options.Start = codes "--start <ADDRESS>"
+option_usage options.Limit = codes "--limit <PLACES>"
+option_usage options.Extent = codes "--extent <FIRST-LAST>"
+option_usage options.Fetch = codes "--fetch <START+LENGTH>"
+option_usage options.Store = codes "--store <START+LENGTH>"
+option_usage options.At = codes "--at <ADDRESS>"
+
+-- what an option accepts
+abbrev pub accepted_by : ImageOption → List ℕ
+accepted_by options.Device = codes "2311 or 2314"
+accepted_by options.Mask = codes "a hexadecimal byte with no bits on but C0 and 18"
+accepted_by options.Start = codes "a hexadecimal address, at most FFFFFF"
+accepted_by options.Limit = codes "a decimal number, 1 to 65536"
+accepted_by options.Extent = codes "decimal cylinders in order, 0 to 202, as 10-19"
+accepted_by options.Fetch = codes "hexadecimal start and length, each at most FFFFFF, as 900+10"
+accepted_by options.Store = codes "hexadecimal start and length, each at most FFFFFF, as 900+10"
+accepted_by options.At = codes "a hexadecimal address, at most FFFFFF"
+
+-- the text that was given, the option, and what it accepts
+abbrev pub fault_text : OptionFault → List ℕ
+fault_text fault =
+    codes "error: invalid value '" ++ (fault.text.now ++ (codes "' for '"
+    ++ (option_usage fault.option ++ (codes "': " ++ (accepted_by fault.option
+    ++ (10 ∷ 10 ∷ codes "For more information, try '--help'." ++ 10 ∷ []))))))

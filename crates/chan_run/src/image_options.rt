@@ -1,0 +1,95 @@
+//! The options with which a deck is made of an image of storage: their texts, and what these say.
+
+ghost use Rattle.std.specs.List.{All};
+ghost use Rattle.chan_deck.specs.Item.{IsAddress, IsArea};
+
+use ccw_core::Area;
+use chan_walk::Limit;
+use ckd_core::{Device, Extents, FileMask};
+
+/// An option with which a deck is made of an image.
+#[derive(Clone, Copy, PartialEq, Eq, Debug)]
+pub enum ImageOption {
+    /// `--device`: the device that the program runs against.
+    Device,
+    /// `--mask`: the file mask that the supervisor set.
+    Mask,
+    /// `--start`: the address of the first CCW.
+    Start,
+    /// `--limit`: how many places may be reachable, at most.
+    Limit,
+    /// `--extent`: an extent of the file.
+    Extent,
+    /// `--fetch`: an area lent for fetching.
+    Fetch,
+    /// `--store`: an area lent for storing.
+    Store,
+    /// `--at`: the address at which the image begins.
+    At,
+}
+
+/// The texts of the options with which a deck is made of an image, as a command line has them.
+#[derive(Debug, Drop)]
+pub struct ImageWords<'a> {
+    /// As `device_of` reads it.
+    pub device: &'a str,
+    /// As `mask_of` reads it.
+    pub mask: &'a str,
+    /// As `address_of` reads it.
+    pub start: &'a str,
+    /// As `limit_of` reads it.
+    pub limit: Option<&'a str>,
+    /// Each as `cylinders_of` reads it. There has to be one, and each has to be in order and on the
+    /// device.
+    pub extents: Vec<&'a str>,
+    /// Each as `area_of` reads it.
+    pub fetch: Vec<&'a str>,
+    /// Each as `area_of` reads it.
+    pub store: Vec<&'a str>,
+    /// As `address_of` reads it.
+    pub at: &'a str,
+}
+
+/// What the options say: the job of the deck, and where the image stands.
+#[derive(Debug, Drop)]
+pub struct ImageOptions {
+    /// The device that the program runs against.
+    pub device: Device,
+    /// The file mask that the supervisor set.
+    pub mask: FileMask,
+    /// The address of the first CCW, at most `FFFFFF`.
+    pub start: u32,
+    /// How many places may be reachable, at most. With a limit the deck is of version 2, without
+    /// one of version 1.
+    pub limit: Option<Limit>,
+    /// The cylinders of the file.
+    pub extents: Extents,
+    /// The areas lent for fetching. Start and length of each are at most `FFFFFF`.
+    pub fetch: Vec<Area>,
+    /// The areas lent for storing. Start and length of each are at most `FFFFFF`.
+    pub store: Vec<Area>,
+    /// The address at which the image begins, at most `FFFFFF`.
+    pub at: u32,
+    pub ghost start_is_address: { IsAddress start },
+    pub ghost fetch_are_areas: { All IsArea fetch.items },
+    pub ghost store_are_areas: { All IsArea store.items },
+    pub ghost at_is_address: { IsAddress at },
+}
+
+/// An option that says nothing which it may say, with its text.
+#[derive(Clone, Copy, PartialEq, Eq, Debug)]
+pub struct OptionFault<'a> {
+    /// Which option.
+    pub option: ImageOption,
+    /// What was given for it.
+    pub text: &'a str,
+}
+
+/// Why the texts of options weren't read.
+#[derive(Clone, Copy, PartialEq, Eq, Debug)]
+pub enum OptionError<'a> {
+    /// This option is the first that says nothing which it may say.
+    Wrong(OptionFault<'a>),
+    /// An allocation was refused.
+    Memory,
+}

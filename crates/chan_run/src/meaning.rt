@@ -1,0 +1,342 @@
+//! What the words of verdicts and of refused decks mean.
+
+ghost use Rattle.std.specs.Prelude.{◌≡◌, ◌≢◌, ◌↔◌, false, true, Err, IfSome, IsErrOf, None, OnOk};
+ghost use Rattle.std.specs.Io.KnownBytes.{Appends};
+ghost use Rattle.ccw_core.specs.Written.{AppendsPrefix};
+ghost use Rattle.chan_walk.specs.Reason.{word_of};
+ghost use Rattle.chan_run.specs.Meaning.{meaning_of, meaning_of_cause, meaning_of_reason};
+ghost use Rattle.chan_run.specs.Meaning.{word_of_cause, word_of_term};
+
+use ccw_core::{Watched, write_out};
+use chan_deck::Cause;
+use chan_walk::Reason;
+use std::io::Write;
+use thiserror::Error;
+
+#[cfg(test)]
+mod tests;
+
+const MISALIGNED: &str = "\
+The CCW's address isn't a multiple of 8, so that no CCW can stand there.
+Only the start or a transfer in channel leads to such an address: correct the
+one that does. `chanv why` shows how the program comes there.
+";
+
+const OUTSIDE_STORAGE: &str = "\
+The CCW's eight bytes don't lie wholly in main storage.
+Where a chain goes on too far, switch off chain data and chain command in its
+last CCW. Else correct the start or the transfer in channel that leads there,
+or judge a larger storage, as with the line `storage` of the deck.
+";
+
+const TRANSFER_NOT_ALLOWED: &str = "\
+A transfer in channel stands first in the program, or another one leads to it.
+Start at a command, and let a transfer point straight at the CCW to which the
+next transfer would lead.
+";
+
+const INVALID_CODE: &str = "\
+A new operation begins at the CCW, and the low four bits of its code are zero,
+which no command has.
+Correct the code. Where the CCW is to go on with a data chain, switch on chain
+data in the CCW before it; where the program is to end before it, switch off
+chain command in the last one.
+";
+
+const BAD_FORMAT: &str = "\
+One of the three low bits of the CCW's flags is on.
+Switch off the bits 07 of the CCW's byte 4: they must be zero in every CCW but
+a transfer in channel.
+";
+
+const ZERO_COUNT: &str = "\
+The CCW's count is zero.
+Set it to 1 or more: every CCW but a transfer in channel needs that, also one
+that moves no data, such as No Operation.
+";
+
+const DATA_OUTSIDE: &str = "\
+The CCW's data address plus its count is more than the length of main storage.
+Correct one of the two, also where the CCW skips or moves no data, or judge a
+larger storage, as with the line `storage` of the deck.
+";
+
+const NOT_IN_TABLE: &str = "\
+A new operation begins at the CCW, and its code isn't in the table of commands
+that chanv knows (docs/DEVICE.md).
+Use a command of the table. Where the CCW is to go on with a data chain,
+switch on chain data in the CCW before it.
+";
+
+const INHIBITED: &str = "\
+A new operation begins at the CCW, and the file mask inhibits its command.
+Use a command that the mask permits, or judge under the mask that the
+supervisor will have set, as with the line `mask` of the deck. A Set File Mask
+doesn't help: all commands are judged by the job's mask.
+";
+
+const STORE_NOT_LENT: &str = "\
+The CCW stores, and a byte of its data range lies in no area lent for storing.
+Lend the area, as with a line `store` in the deck, or shorten the count. What
+isn't wanted of a record can go to a CCW with the flag skip, by chain data: it
+stores nothing. `chanv why` names the bytes.
+";
+
+const FETCH_NOT_LENT: &str = "\
+The CCW fetches, and a byte of its data range lies in no area lent for
+fetching. Writes fetch, but so do searches, seeks and Set File Mask.
+Lend the area, as with a line `fetch` in the deck, or shorten the count.
+`chanv why` names the bytes.
+";
+
+const SHORT_SEEK: &str = "\
+The CCW is a seek, and the data chain that begins there has no six bytes for
+its argument.
+Set the seek's count to 6, or switch on its chain data and let the CCWs that
+follow give the rest. `chanv why` says how many bytes there are.
+";
+
+const SEEK_OUTSIDE: &str = "\
+A seek's argument has a bin other than zero, a cylinder in no extent or a head
+that the device lacks; or a Recalibrate finds cylinder 0 in no extent.
+Correct the argument, which is two bytes each of bin, cylinder and head, or
+lend the cylinder, as with a line `extent` in the deck. All three seeks are
+judged by the whole argument. `chanv why` has the values.
+";
+
+const CHANGES_CCW: &str = "\
+The CCW stores, and its data range meets a CCW that the program can reach.
+Move the data, shorten the count, or use the flag skip. The whole range
+counts, however few bytes the device gives, and so does a CCW that comes
+earlier. `chanv why` names the CCW, and shows how the program comes there.
+";
+
+const CHANGES_ARGUMENT: &str = "\
+The CCW stores, and its data range meets the argument of a seek or the mask
+byte of a Set File Mask that the program can reach.
+Move the data or the argument, shorten the count, or use the flag skip. The
+whole range counts, however few bytes the device gives. `chanv why` names the
+byte.
+";
+
+const WEAKENS_MASK: &str = "\
+A Set File Mask sets a byte that isn't a file mask, or that permits what the
+job's mask inhibits.
+Set a byte that is at least as strict. From lax to strict, the bits for writes
+are C0, 00, 80 and 40, those for seeks are 00, 08, 10 and 18, and no other bit
+may be on.
+";
+
+const ENDED: &str = "\
+The deck ends before the line `end`, or that line has no line feed.
+See that nothing was cut off: each line ends with a line feed, the last one
+too.
+";
+
+const HEADER: &str = "\
+Line 1 is neither `chanv deck 1` nor `chanv deck 2`.
+Write one of the two, with nothing before it, and a line feed alone behind it.
+An image of storage is no deck yet: `chanv deck` writes the deck of one.
+";
+
+const FORM: &str = "\
+The line has none of the forms that may stand at this point.
+See that the lines are in order, that one space stands between two parts and
+nothing behind the last, and that each number has all its digits, in capitals
+where they are hexadecimal. A deck of version 2 has a line `limit`, and one of
+version 1 has none. The forms are in docs/DECK.md.
+";
+
+const MASK: &str = "\
+The mask isn't a file mask: one of the bits 27 is on.
+Only the bits C0, which decide over writes, and 18, over seeks, may be on.
+";
+
+const EXTENT_BACKWARDS: &str = "\
+The extent's first cylinder is above its last.
+Write the lower number first. Both are decimal.
+";
+
+const EXTENT_PAST_DEVICE: &str = "\
+The extent's last cylinder is above 202, the last one of a 2311 and of a 2314.
+Write a number of at most 202. It is decimal.
+";
+
+const SIZE: &str = "\
+The number of bytes of storage isn't a multiple of 8, or is above 16,777,216.
+Write a multiple of 8 that is at most 1000000. It is hexadecimal.
+";
+
+const PUT_ADDRESS: &str = "\
+The put's address isn't a multiple of 8, isn't above that of the put before
+it, or leaves storage.
+Write the puts in order of address, each of eight bytes on a multiple of 8,
+and see that the line `storage` gives as many bytes as they need.
+";
+
+const PUT_ZERO: &str = "\
+The put's eight bytes are all zero.
+Leave the line out: storage is zero where there is no put.
+";
+
+const AFTER: &str = "\
+Something follows the line `end`; the line after it is named.
+Take out all that follows the line feed of `end`, also an empty line.
+";
+
+const LIMIT: &str = "\
+The limit on places is 0 or above 65,536.
+Write a number from 00001 to 65536. It is decimal. A deck of version 1 has no
+such line, and its limit is 4,096 places.
+";
+
+/// A word that a verdict gives as its reason, or a refused deck's line as its cause.
+#[derive(Clone, Copy, PartialEq, Eq, Debug)]
+pub enum Term {
+    /// The reason of a verdict.
+    Reason(Reason),
+    /// The cause for which a deck's line is refused.
+    Cause(Cause),
+}
+
+/// Why a word was not explained.
+#[derive(Clone, Copy, PartialEq, Eq, Debug, Error)]
+pub enum MeaningError {
+    /// No reason and no cause has this word.
+    #[error("no such word")]
+    Unknown,
+    /// The writer failed.
+    #[error("write failed")]
+    Write,
+}
+
+/// The reason or the cause that has this word; none where none has.
+pub fn term_of(word: &str) -> Option<Term>
+    ensures named { IfSome result (λ t. word_of_term t ≡ word.now) }
+    ensures none { result ≡ None → (t : Term) → word_of_term t ≢ word.now }
+{
+    match reason_of(word) {
+        Some(reason) => Some(Term::Reason(reason)),
+        None => Some(Term::Cause(cause_of(word)?)),
+    }
+}
+
+/// Writes what a word means, and what usually mends what it names.
+///
+/// `Unknown` comes exactly where the word is no reason's and no cause's, and then nothing was
+/// written; `Write` comes exactly where a write failed, and then a prefix was written. It takes no
+/// memory.
+pub fn explain_word<W: Write>(word: &str, to: &mut Watched<W>) -> Result<(), MeaningError>
+    requires { to.old.failed ≡ false }
+    ensures ok { OnOk result ((t : Term) × (word_of_term t ≡ word.now)
+        × Appends (W.contents to.old.device) (W.contents to.new.device) (meaning_of t)) }
+    ensures unknown { IsErrOf result MeaningError.Unknown
+        ↔ ((t : Term) → word_of_term t ≢ word.now) }
+    ensures early { result ≡ Err MeaningError.Unknown → to.new ≡ to.old }
+    ensures prefix { IsErrOf result MeaningError.Write → (t : Term) × (word_of_term t ≡ word.now)
+        × AppendsPrefix (W.contents to.old.device) (W.contents to.new.device) (meaning_of t) }
+    ensures write { IsErrOf result MeaningError.Write ↔ (to.new.failed ≡ true) }
+{
+    let term = term_of(word).ok_or(MeaningError::Unknown)?;
+    write_out(meaning(term).as_bytes(), to).map_err(|_| MeaningError::Write)
+}
+
+/// The reason that has this word.
+fn reason_of(word: &str) -> Option<Reason>
+    ensures named { IfSome result (λ r. word_of r ≡ word.now) }
+    ensures none { result ≡ None → (r : Reason) → word_of r ≢ word.now }
+{
+    match word {
+        "misaligned" => Some(Reason::Misaligned),
+        "outside-storage" => Some(Reason::OutsideStorage),
+        "transfer-not-allowed" => Some(Reason::TransferNotAllowed),
+        "invalid-code" => Some(Reason::InvalidCode),
+        "bad-format" => Some(Reason::BadFormat),
+        "zero-count" => Some(Reason::ZeroCount),
+        "data-outside" => Some(Reason::DataOutside),
+        "not-in-table" => Some(Reason::NotInTable),
+        "inhibited" => Some(Reason::Inhibited),
+        "store-not-lent" => Some(Reason::StoreNotLent),
+        "fetch-not-lent" => Some(Reason::FetchNotLent),
+        "short-seek" => Some(Reason::ShortSeek),
+        "seek-outside" => Some(Reason::SeekOutside),
+        "changes-ccw" => Some(Reason::ChangesCcw),
+        "changes-argument" => Some(Reason::ChangesArgument),
+        "weakens-mask" => Some(Reason::WeakensMask),
+        _ => None,
+    }
+}
+
+/// The cause that has this word.
+fn cause_of(word: &str) -> Option<Cause>
+    ensures named { IfSome result (λ c. word_of_cause c ≡ word.now) }
+    ensures none { result ≡ None → (c : Cause) → word_of_cause c ≢ word.now }
+{
+    match word {
+        "ended" => Some(Cause::Ended),
+        "header" => Some(Cause::Header),
+        "form" => Some(Cause::Form),
+        "mask" => Some(Cause::Mask),
+        "extent-backwards" => Some(Cause::ExtentBackwards),
+        "extent-past-device" => Some(Cause::ExtentPastDevice),
+        "size" => Some(Cause::Size),
+        "put-address" => Some(Cause::PutAddress),
+        "put-zero" => Some(Cause::PutZero),
+        "after" => Some(Cause::After),
+        "limit" => Some(Cause::Limit),
+        _ => None,
+    }
+}
+
+/// What a word means.
+fn meaning(term: Term) -> &'static str
+    ensures { result.now ≡ meaning_of term }
+{
+    match term {
+        Term::Reason(reason) => reason_meaning(reason),
+        Term::Cause(cause) => cause_meaning(cause),
+    }
+}
+
+/// What a reason means.
+fn reason_meaning(reason: Reason) -> &'static str
+    ensures { result.now ≡ meaning_of_reason reason }
+{
+    match reason {
+        Reason::Misaligned => MISALIGNED,
+        Reason::OutsideStorage => OUTSIDE_STORAGE,
+        Reason::TransferNotAllowed => TRANSFER_NOT_ALLOWED,
+        Reason::InvalidCode => INVALID_CODE,
+        Reason::BadFormat => BAD_FORMAT,
+        Reason::ZeroCount => ZERO_COUNT,
+        Reason::DataOutside => DATA_OUTSIDE,
+        Reason::NotInTable => NOT_IN_TABLE,
+        Reason::Inhibited => INHIBITED,
+        Reason::StoreNotLent => STORE_NOT_LENT,
+        Reason::FetchNotLent => FETCH_NOT_LENT,
+        Reason::ShortSeek => SHORT_SEEK,
+        Reason::SeekOutside => SEEK_OUTSIDE,
+        Reason::ChangesCcw => CHANGES_CCW,
+        Reason::ChangesArgument => CHANGES_ARGUMENT,
+        Reason::WeakensMask => WEAKENS_MASK,
+    }
+}
+
+/// What a cause means.
+fn cause_meaning(cause: Cause) -> &'static str
+    ensures { result.now ≡ meaning_of_cause cause }
+{
+    match cause {
+        Cause::Ended => ENDED,
+        Cause::Header => HEADER,
+        Cause::Form => FORM,
+        Cause::Mask => MASK,
+        Cause::ExtentBackwards => EXTENT_BACKWARDS,
+        Cause::ExtentPastDevice => EXTENT_PAST_DEVICE,
+        Cause::Size => SIZE,
+        Cause::PutAddress => PUT_ADDRESS,
+        Cause::PutZero => PUT_ZERO,
+        Cause::After => AFTER,
+        Cause::Limit => LIMIT,
+    }
+}

@@ -1,0 +1,79 @@
+//! The usage fault that names an option.
+
+ghost use Rattle.std.specs.Prelude.{◌≡◌, ◌↔◌, false, true, IsErr, OnOk};
+ghost use Rattle.std.specs.Io.KnownBytes.{Appends};
+ghost use Rattle.ccw_core.specs.Written.{AppendsPrefix};
+ghost use Rattle.chan_run.specs.OptionFault.{accepted_by, fault_text, option_usage};
+
+use crate::image_options::{ImageOption, OptionFault};
+use ccw_core::{DeviceFault, Watched, write_out};
+use std::io::Write;
+
+#[cfg(test)]
+mod tests;
+
+/// Writes the text of a usage fault that names an option, its text and what is accepted in its
+/// place, and gives the exit status, 4. It takes no memory. A writer that fails doesn't change the
+/// status, and a prefix of the text was written.
+pub fn report_option<W: Write>(fault: OptionFault<'_>, to: &mut Watched<W>) -> u8
+    requires { to.old.failed ≡ false }
+    ensures status { result ≡ 4 }
+    ensures text { to.new.failed ≡ false → Appends (W.contents to.old.device)
+        (W.contents to.new.device) (fault_text fault.entry) }
+    ensures prefix { AppendsPrefix (W.contents to.old.device) (W.contents to.new.device)
+        (fault_text fault.entry) }
+{
+    let _ = write_fault(fault, to);
+    4
+}
+
+/// Writes the text of a usage fault that names an option.
+#[tactic(auto, using(ccw_core::proofs::Prefixes::prefix_after, ccw_core::proofs::Prefixes::prefix_of_more))]
+fn write_fault<W: Write>(fault: OptionFault<'_>, to: &mut Watched<W>) -> Result<(), DeviceFault>
+    requires { to.old.failed ≡ false }
+    ensures ok { OnOk result (Appends (W.contents to.old.device) (W.contents to.new.device)
+        (fault_text fault.entry)) }
+    ensures prefix { AppendsPrefix (W.contents to.old.device) (W.contents to.new.device)
+        (fault_text fault.entry) }
+    ensures fault { IsErr result ↔ (to.new.failed ≡ true) }
+{
+    write_out(b"error: invalid value '", to)?;
+    write_out(fault.text.as_bytes(), to)?;
+    write_out(b"' for '", to)?;
+    write_out(usage(fault.option).as_bytes(), to)?;
+    write_out(b"': ", to)?;
+    write_out(accepted(fault.option).as_bytes(), to)?;
+    write_out(b"\n\nFor more information, try '--help'.\n", to)
+}
+
+/// How an option is written, with the name of its value.
+fn usage(option: ImageOption) -> &'static str
+    ensures { result.now ≡ option_usage option }
+{
+    match option {
+        ImageOption::Device => "--device <NUMBER>",
+        ImageOption::Mask => "--mask <BYTE>",
+        ImageOption::Start => "--start <ADDRESS>",
+        ImageOption::Limit => "--limit <PLACES>",
+        ImageOption::Extent => "--extent <FIRST-LAST>",
+        ImageOption::Fetch => "--fetch <START+LENGTH>",
+        ImageOption::Store => "--store <START+LENGTH>",
+        ImageOption::At => "--at <ADDRESS>",
+    }
+}
+
+/// What an option accepts.
+fn accepted(option: ImageOption) -> &'static str
+    ensures { result.now ≡ accepted_by option }
+{
+    match option {
+        ImageOption::Device => "2311 or 2314",
+        ImageOption::Mask => "a hexadecimal byte with no bits on but C0 and 18",
+        ImageOption::Start | ImageOption::At => "a hexadecimal address, at most FFFFFF",
+        ImageOption::Limit => "a decimal number, 1 to 65536",
+        ImageOption::Extent => "decimal cylinders in order, 0 to 202, as 10-19",
+        ImageOption::Fetch | ImageOption::Store => {
+            "hexadecimal start and length, each at most FFFFFF, as 900+10"
+        }
+    }
+}

@@ -1,0 +1,30 @@
+use Rattle.std.proofs.Common.{List, Some, None, subst}
+use Rattle.std.proofs.lemmas.Result.{IfOk-weaker}
+use Rattle.chan_walk.specs.Changed.{IsFirstChanged}
+use Rattle.chan_walk.specs.Look.{Seen, places_of_looks}
+use Rattle.chan_walk.proofs.Changing.{changed_within, none_found, second_found}
+use Rattle.chan_walk.proofs.Explaining.{reached_looks}
+use Rattle.chan_walk.proofs.changed.second_path.Goals as goal
+
+pub path_at-requires-clause-within : goal.path_at-requires-clause-within
+path_at-requires-clause-within c =
+    let j = c.requires.0 in
+    let f = c.requires.1 in
+    let looks = (reached_looks j c.args.walk.now c.as_slice.result.now f c.as_slice.ensures.value).0 in
+    changed_within j c.args.walk.now f c.args.evidence.now c.in-Some.at
+    (subst (λ (ls : List Seen). IsFirstChanged j c.args.evidence.now (places_of_looks ls) (Some c.in-Some.at)) c.as_slice.ensures.value (c.in-Some.ensures j looks))
+
+pub returns-in-Some : goal.returns-in-Some
+returns-in-Some c =
+    IfOk-weaker c.path_at.result _ _
+    (λ path h j f p cause.
+    let looks = (reached_looks j c.args.walk.now c.as_slice.result.now f c.as_slice.ensures.value).0 in
+    second_found j c.args.walk.now f c.args.evidence.now c.in-Some.at path.items
+    (subst (λ (ls : List Seen). IsFirstChanged j c.args.evidence.now (places_of_looks ls) (Some c.in-Some.at)) c.as_slice.ensures.value (c.in-Some.ensures j looks)) (h j f))
+    c.path_at.ensures
+
+pub returns-in-None : goal.returns-in-None
+returns-in-None c j f p cause =
+    let looks = (reached_looks j c.args.walk.now c.as_slice.result.now f c.as_slice.ensures.value).0 in
+    none_found j c.args.walk.now f c.args.evidence.now p c.new.result.items cause
+    (subst (λ (ls : List Seen). IsFirstChanged j c.args.evidence.now (places_of_looks ls) None) c.as_slice.ensures.value (c.in-None.ensures j looks)) c.new.ensures.items

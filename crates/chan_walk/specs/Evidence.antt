@@ -1,0 +1,180 @@
+-- The evidence for an offence: the values of its cause, and the path that shows what is changed.
+use Rattle.std.specs.Prelude.{◌≡◌, ℕ, ◌+◌, ◌*◌, ◌%◌, ◌<◌, ◌≤◌, Bool, true, false, List, [], length}
+use Rattle.std.specs.Prelude.{slice_index, Option, Some, None, ◌⊎◌}
+use Rattle.ccw_core.specs.declared.areas.Area.{Area}
+use Rattle.ccw_core.specs.Areas.{lies_in}
+use Rattle.ccw_core.specs.Ccw.{Fields, byte}
+use Rattle.ccw_core.specs.Storage.{Stands}
+use Rattle.ckd_core.specs.Argument.{has_no_bin, cylinder_of, head_of}
+use Rattle.ckd_core.specs.Cylinders.{has_cylinder}
+use Rattle.chan_walk.specs.declared.evidence.Evidence.{Evidence}
+use Rattle.chan_walk.specs.declared.evidence.Evidence.TheVariants as because
+use Rattle.chan_walk.specs.declared.evidence.Outside.{Outside}
+use Rattle.chan_walk.specs.declared.evidence.Outside.TheVariants.{Bin, Cylinder, Head}
+use Rattle.chan_walk.specs.declared.job.Job.{Job}
+use Rattle.chan_walk.specs.declared.offence.Offence.{Offence}
+use Rattle.chan_walk.specs.declared.place.Place.{Place}
+use Rattle.chan_walk.specs.declared.reason.Reason.{Reason}
+use Rattle.chan_walk.specs.declared.reason.Reason.TheVariants as reasons
+use Rattle.chan_walk.specs.Argument.{HasArgument, IsChain}
+use Rattle.chan_walk.specs.Fault.{allows, begins_recalibrate, begins_seek, begins_set_mask}
+use Rattle.chan_walk.specs.Guard.{IsArgumentByteOf}
+use Rattle.chan_walk.specs.Guarded.{IsArgumentByte}
+use Rattle.chan_walk.specs.Job.{extents_of, fetch_of, heads, storage_of, store_of}
+use Rattle.chan_walk.specs.Machine.{home}
+use Rattle.chan_walk.specs.Offences.{Offending}
+use Rattle.chan_walk.specs.Paths.{ArePathWhere, IsPathWhere}
+use Rattle.chan_walk.specs.Place.{word_at}
+use Rattle.chan_walk.specs.Ranges.{end_of}
+use Rattle.chan_walk.specs.Reachable.{IsReachable}
+
+-- ---- what a cause says
+
+-- the data range of a CCW
+abbrev pub data_of : Fields → Area
+data_of c = record { start = c.address; len = c.count }
+
+-- that of the CCW at a place
+abbrev pub data_at : Job → Place → Area
+data_at j p = data_of (word_at j p)
+
+-- the first bytes in a row of some data that lie in no area
+pub record IsFirstGap (areas : List Area) (range gap : Area) : Type 0 where
+  pub from : range.start ≤ gap.start
+  pub filled : 0 < gap.len
+  pub within : end_of gap ≤ end_of range
+  pub before : (b : ℕ) → range.start ≤ b → b < gap.start → lies_in areas b ≡ true
+  pub inside : (b : ℕ) → gap.start ≤ b → b < end_of gap → lies_in areas b ≡ false
+  pub after : end_of gap < end_of range → lies_in areas (end_of gap) ≡ true
+
+-- the data chain that begins at a gives n bytes, and not one more
+pub record Gives (s : List ℕ) (a n : ℕ) : Type 0 where
+  pub some : 0 < n → (l : List ℕ) × IsChain s n a l
+  pub no_more : (l : List ℕ) → IsChain s (n + 1) a l → ⊥
+
+-- the two bytes of bin
+abbrev pub bin_of : List ℕ → ℕ
+bin_of x = slice_index x 0 * 256 + slice_index x 1
+
+-- where the seek or the Recalibrate that begins at p goes
+abbrev pub SeeksTo : Job → Place → List ℕ → Type 0
+SeeksTo j p x =
+    ((begins_seek p (word_at j p) ≡ true) × HasArgument (storage_of j) p.address (Some x))
+    ⊎ ((begins_recalibrate p (word_at j p) ≡ true) × (x ≡ home))
+
+-- what is wrong with the seek or the Recalibrate that begins at p: no argument, or one that the job
+-- doesn't allow
+abbrev pub FailsToSeek : Job → Place → Reason → Type 0
+FailsToSeek j p reasons.ShortSeek =
+    (begins_seek p (word_at j p) ≡ true) × HasArgument (storage_of j) p.address None
+FailsToSeek j p reasons.SeekOutside = (x : List ℕ) × SeeksTo j p x × (allows j x ≡ false)
+FailsToSeek j p _ = ⊥
+
+-- the first of three things that is wrong with an argument: a bin that isn't zero, a cylinder in no
+-- extent, a head that the device hasn't
+abbrev pub IsOutside : Job → List ℕ → Outside → Type 0
+IsOutside j x (Bin n) = (n ≡ bin_of x) × (0 < n)
+IsOutside j x (Cylinder n) =
+    (has_no_bin x ≡ true) × (n ≡ cylinder_of x) × (has_cylinder (extents_of j) n ≡ false)
+IsOutside j x (Head n m) =
+    (has_no_bin x ≡ true) × (has_cylinder (extents_of j) (cylinder_of x) ≡ true)
+    × (n ≡ head_of x) × (m ≡ heads j) × (m ≤ n)
+
+-- a reachable CCW stands at a, and the data has a byte of it
+pub record IsCcwIn (j : Job) (range : Area) (a : ℕ) : Type 0 where
+  pub place : Place
+  pub reached : IsReachable j place
+  pub address : place.address ≡ a
+  pub stands : Stands (storage_of j) a
+  pub from : range.start < a + 8
+  pub below : a < end_of range
+
+-- the byte at b is the argument of a reachable place, and the data has it
+pub record IsArgumentIn (j : Job) (range : Area) (b : ℕ) : Type 0 where
+  pub from : range.start ≤ b
+  pub below : b < end_of range
+  pub argument : IsArgumentByte j b
+
+-- the least number for which P holds
+abbrev pub IsLeastOf : (ℕ → Type 0) → ℕ → Type 0
+IsLeastOf P n = P n × ((m : ℕ) → P m → n ≤ m)
+
+-- the same, or that there is none
+abbrev pub IsLeastOrNone : (ℕ → Type 0) → Option ℕ → Type 0
+IsLeastOrNone P None = (n : ℕ) → P n → ⊥
+IsLeastOrNone P (Some n) = IsLeastOf P n
+
+-- before lead to taker on the path to a place that takes the byte at b as its argument
+abbrev pub IsPathToTaker : Job → ℕ → Place → List Place → Type 0
+IsPathToTaker j b taker before = IsPathWhere j (λ q. IsArgumentByteOf j q b) taker before
+
+-- that path ends at the address a, with a Set File Mask or with a seek
+abbrev pub IsTakenAt : Job → ℕ → ℕ → Bool → Type 0
+IsTakenAt j b a sets =
+    (taker : Place) × (before : List Place) × IsPathToTaker j b taker before
+    × (taker.address ≡ a) × (begins_set_mask taker (word_at j taker) ≡ sets)
+
+-- ---- the evidence
+
+-- the reason that it is evidence for
+abbrev pub reason_of : Evidence → Reason
+reason_of (because.Misaligned a) = reasons.Misaligned
+reason_of (because.OutsideStorage ccw n) = reasons.OutsideStorage
+reason_of because.TransferNotAllowed = reasons.TransferNotAllowed
+reason_of (because.InvalidCode code) = reasons.InvalidCode
+reason_of (because.BadFormat bits) = reasons.BadFormat
+reason_of because.ZeroCount = reasons.ZeroCount
+reason_of (because.DataOutside range n) = reasons.DataOutside
+reason_of (because.NotInTable code) = reasons.NotInTable
+reason_of (because.Inhibited mask code) = reasons.Inhibited
+reason_of (because.StoreNotLent range gap) = reasons.StoreNotLent
+reason_of (because.FetchNotLent range gap) = reasons.FetchNotLent
+reason_of (because.ShortSeek n) = reasons.ShortSeek
+reason_of (because.SeekOutside outside) = reasons.SeekOutside
+reason_of (because.ChangesCcw range ccw) = reasons.ChangesCcw
+reason_of (because.ChangesArgument range b taker sets) = reasons.ChangesArgument
+reason_of (because.WeakensMask b mask) = reasons.WeakensMask
+
+-- its values are those of the place
+abbrev pub IsCause : Job → Place → Evidence → Type 0
+IsCause j p (because.Misaligned a) = a ≡ p.address
+IsCause j p (because.OutsideStorage ccw n) =
+    (ccw ≡ record { start = p.address; len = 8 }) × (n ≡ length (storage_of j))
+IsCause j p because.TransferNotAllowed = Unit {0}
+IsCause j p (because.InvalidCode code) = code ≡ (word_at j p).command
+IsCause j p (because.BadFormat bits) = bits ≡ (word_at j p).flags % 8
+IsCause j p because.ZeroCount = Unit {0}
+IsCause j p (because.DataOutside range n) = (range ≡ data_at j p) × (n ≡ length (storage_of j))
+IsCause j p (because.NotInTable code) = code ≡ (word_at j p).command
+IsCause j p (because.Inhibited mask code) = (mask ≡ j.mask) × (code ≡ (word_at j p).command)
+IsCause j p (because.StoreNotLent range gap) =
+    (range ≡ data_at j p) × IsFirstGap (store_of j) range gap
+IsCause j p (because.FetchNotLent range gap) =
+    (range ≡ data_at j p) × IsFirstGap (fetch_of j) range gap
+IsCause j p (because.ShortSeek n) = Gives (storage_of j) p.address n
+IsCause j p (because.SeekOutside outside) = (x : List ℕ) × SeeksTo j p x × IsOutside j x outside
+IsCause j p (because.ChangesCcw range ccw) =
+    (range ≡ data_at j p) × IsLeastOf (IsCcwIn j range) ccw
+IsCause j p (because.ChangesArgument range b taker sets) =
+    (range ≡ data_at j p) × IsLeastOf (IsArgumentIn j range) b × IsTakenAt j b taker sets
+IsCause j p (because.WeakensMask b mask) =
+    (b ≡ byte (storage_of j) (word_at j p).address) × (mask ≡ j.mask)
+
+-- it is the evidence for this offence
+abbrev pub IsEvidence : Job → Offence → Evidence → Type 0
+IsEvidence j o e = (reason_of e ≡ o.reason) × IsCause j o.place e
+
+-- the evidence for an offence of the job; none where it isn't one
+abbrev pub IsEvidenceOrNone : Job → Offence → Option Evidence → Type 0
+IsEvidenceOrNone j o None = Offending j o → ⊥
+IsEvidenceOrNone j o (Some e) = Offending j o × IsEvidence j o e
+
+-- ---- the second path
+
+-- the places of the path to what is changed: to the CCW that is stored over, or to a place that
+-- takes the argument; no places for other causes
+abbrev pub IsSecondPath : Job → Evidence → List Place → Type 0
+IsSecondPath j (because.ChangesCcw range ccw) places = ArePathWhere j (λ q. q.address ≡ ccw) places
+IsSecondPath j (because.ChangesArgument range b taker sets) places =
+    ArePathWhere j (λ q. IsArgumentByteOf j q b) places
+IsSecondPath j _ places = places ≡ []

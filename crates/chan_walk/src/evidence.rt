@@ -1,0 +1,324 @@
+//! Evidence: the values of an offence's cause.
+
+ghost use Rattle.std.specs.Prelude.{◌≡◌, ◌+◌, ◌≤◌, false, length, IfOk, None, Some};
+ghost use Rattle.ccw_core.specs.Areas.{covered};
+ghost use Rattle.ccw_core.specs.Storage.{ccw_at as word_at};
+ghost use Rattle.ccw_core.specs.declared.areas.Area as areas;
+ghost use Rattle.chan_walk.specs.Evidence as specs;
+ghost use Rattle.chan_walk.specs.Evidence.{FailsToSeek, IsEvidence, IsEvidenceOrNone, IsFirstGap};
+ghost use Rattle.chan_walk.specs.Evidence.{IsOutside};
+ghost use Rattle.chan_walk.specs.Explored.{HasMoreThan};
+ghost use Rattle.chan_walk.specs.Fault.{allows};
+ghost use Rattle.chan_walk.specs.Job.{fetch_of, storage_of, store_of};
+ghost use Rattle.chan_walk.specs.Offences.{Offending};
+ghost use Rattle.chan_walk.specs.Walk.{HasFound};
+ghost use Rattle.chan_walk.specs.declared.evidence.Evidence.TheVariants as because;
+
+use crate::changed::{changed_argument, changed_ccw};
+use crate::error::WalkError;
+use crate::exploring::{Walk, walk_all};
+use crate::job::Job;
+use crate::lent::Lent;
+use crate::offence::{Offence, has_offence, offences_of};
+use crate::reason::Reason;
+use crate::seek::{argument_addresses, byte_at, bytes_of};
+use crate::visit::recalibrates_at;
+use ccw_core::{Area, Ccw};
+use ckd_core::{FileMask, Track};
+use std::alloc::{AllocError, Global};
+
+/// Why a program may not run, with the values of the cause.
+#[derive(Clone, Copy, PartialEq, Eq, Debug)]
+pub enum Evidence {
+    /// This address of the CCW isn't a multiple of 8.
+    Misaligned {
+        address: u32,
+    },
+    /// The eight bytes of the CCW aren't wholly in so many bytes of storage.
+    OutsideStorage {
+        ccw: Area,
+        length: u32,
+    },
+    /// A transfer in channel comes first, or after another one.
+    TransferNotAllowed,
+    /// The command code can't be any command's.
+    InvalidCode {
+        code: u8,
+    },
+    /// The three low flag bits, not all of which are off.
+    BadFormat {
+        bits: u8,
+    },
+    /// The count is zero.
+    ZeroCount,
+    /// The data range isn't wholly in so many bytes of storage.
+    DataOutside {
+        data: Area,
+        length: u32,
+    },
+    /// The table of commands doesn't have the code.
+    NotInTable {
+        code: u8,
+    },
+    /// The file mask inhibits the command of this code.
+    Inhibited {
+        mask: FileMask,
+        code: u8,
+    },
+    /// The first bytes in a row of the data that no area for storing has.
+    StoreNotLent {
+        data: Area,
+        gap: Area,
+    },
+    /// The first bytes in a row of the data that no area for fetching has.
+    FetchNotLent {
+        data: Area,
+        gap: Area,
+    },
+    /// How many of the six bytes of its argument the seek's data chain gives.
+    ShortSeek {
+        given: u8,
+    },
+    /// What the argument names that the job doesn't allow.
+    SeekOutside {
+        outside: Outside,
+    },
+    /// The data that is stored, and the least address of a reachable CCW of which it has a byte.
+    ChangesCcw {
+        data: Area,
+        ccw: u32,
+    },
+    /// The data that is stored, the least address in it of a byte that a reachable place takes as
+    /// its argument, the address of such a place, and whether it is a Set File Mask. Of several
+    /// such places it is the one to which the path leads.
+    ChangesArgument {
+        data: Area,
+        byte: u32,
+        taker: u32,
+        sets_mask: bool,
+    },
+    /// The byte that is set, and the job's mask, which is stricter.
+    WeakensMask {
+        byte: u8,
+        mask: FileMask,
+    },
+}
+
+/// The first of three things that is wrong with the argument of a seek.
+#[derive(Clone, Copy, PartialEq, Eq, Debug)]
+pub enum Outside {
+    /// The number of a bin, which isn't zero.
+    Bin(u16),
+    /// The number of a cylinder that no extent has.
+    Cylinder(u16),
+    /// The number of a head that isn't below the device's number of heads.
+    Head { head: u16, heads: u16 },
+}
+
+impl Evidence {
+    /// The reason that it is evidence for.
+    pub fn reason(&self) -> Reason
+        ensures { result ≡ specs.reason_of self.now }
+    {
+        match self {
+            Evidence::Misaligned { .. } => Reason::Misaligned,
+            Evidence::OutsideStorage { .. } => Reason::OutsideStorage,
+            Evidence::TransferNotAllowed => Reason::TransferNotAllowed,
+            Evidence::InvalidCode { .. } => Reason::InvalidCode,
+            Evidence::BadFormat { .. } => Reason::BadFormat,
+            Evidence::ZeroCount => Reason::ZeroCount,
+            Evidence::DataOutside { .. } => Reason::DataOutside,
+            Evidence::NotInTable { .. } => Reason::NotInTable,
+            Evidence::Inhibited { .. } => Reason::Inhibited,
+            Evidence::StoreNotLent { .. } => Reason::StoreNotLent,
+            Evidence::FetchNotLent { .. } => Reason::FetchNotLent,
+            Evidence::ShortSeek { .. } => Reason::ShortSeek,
+            Evidence::SeekOutside { .. } => Reason::SeekOutside,
+            Evidence::ChangesCcw { .. } => Reason::ChangesCcw,
+            Evidence::ChangesArgument { .. } => Reason::ChangesArgument,
+            Evidence::WeakensMask { .. } => Reason::WeakensMask,
+        }
+    }
+}
+
+/// The evidence for an offence: the values of its cause. `None` exactly where it isn't an offence
+/// of the job.
+///
+/// The errors and the cost are those of `verify`.
+pub fn evidence_for(
+    alloc: Global,
+    job: &Job,
+    offence: Offence,
+) -> Result<Option<Evidence>, WalkError>
+    ensures evidence { IfOk result (λ e. IsEvidenceOrNone job.now offence e) }
+    ensures many { result ≡ Err WalkError.TooManyPlaces → HasMoreThan job.now job.now.limit }
+{
+    let walk = walk_all(alloc, job)?;
+    let offences = offences_of(alloc, walk.looks.as_slice())?;
+    if !has_offence(offences.as_slice(), offence.number()) {
+        return Ok(None);
+    }
+    let evidence = evidence_at(alloc, job, &walk, offence)?;
+    Ok(Some(evidence))
+}
+
+/// The evidence for an offence of a job whose reachable places a walk has found.
+pub(crate) fn evidence_at(
+    alloc: Global,
+    job: &Job,
+    walk: &Walk,
+    offence: Offence,
+) -> Result<Evidence, AllocError>
+    requires found { HasFound job.now walk.now }
+    requires offends { Offending job.now offence }
+    ensures { IfOk result (IsEvidence job.now offence) }
+{
+    match job.storage.ccw_at(offence.place.address) {
+        Some(ccw) => evidence_of_ccw(alloc, job, walk, offence, ccw),
+        None => Ok(evidence_of_nothing(job, offence)),
+    }
+}
+
+/// The evidence for an offence where no CCW stands.
+fn evidence_of_nothing(job: &Job, offence: Offence) -> Evidence
+    requires nothing { word_at (storage_of job.now) offence.place.address ≡ None }
+    requires offends { Offending job.now offence }
+    ensures { IsEvidence job.now offence result }
+{
+    let address = offence.place.address;
+    match offence.reason {
+        Reason::Misaligned => Evidence::Misaligned { address },
+        _ => Evidence::OutsideStorage {
+            ccw: eight_bytes(address),
+            length: job.storage.len(),
+        },
+    }
+}
+
+/// The evidence for an offence where this CCW stands.
+fn evidence_of_ccw(
+    alloc: Global,
+    job: &Job,
+    walk: &Walk,
+    offence: Offence,
+    ccw: Ccw,
+) -> Result<Evidence, AllocError>
+    requires stands { word_at (storage_of job.now) offence.place.address ≡ Some ccw }
+    requires found { HasFound job.now walk.now }
+    requires offends { Offending job.now offence }
+    ensures { IfOk result (IsEvidence job.now offence) }
+{
+    let address = offence.place.address;
+    let (code, data) = (ccw.command(), data_of(&ccw));
+    let (length, mask) = (job.storage.len(), job.mask);
+    let evidence = match offence.reason {
+        Reason::Misaligned => Evidence::Misaligned { address },
+        Reason::OutsideStorage => Evidence::OutsideStorage {
+            ccw: eight_bytes(address),
+            length,
+        },
+        Reason::TransferNotAllowed => Evidence::TransferNotAllowed,
+        Reason::InvalidCode => Evidence::InvalidCode { code },
+        Reason::BadFormat => Evidence::BadFormat {
+            bits: ccw.flags() % 8,
+        },
+        Reason::ZeroCount => Evidence::ZeroCount,
+        Reason::DataOutside => Evidence::DataOutside { data, length },
+        Reason::NotInTable => Evidence::NotInTable { code },
+        Reason::Inhibited => Evidence::Inhibited { mask, code },
+        Reason::StoreNotLent => not_lent_for_storing(alloc, job, data)?,
+        Reason::FetchNotLent => not_lent_for_fetching(alloc, job, data)?,
+        Reason::ShortSeek | Reason::SeekOutside => evidence_of_seek(job, offence, ccw),
+        Reason::ChangesCcw => changed_ccw(walk, data),
+        Reason::ChangesArgument => changed_argument(alloc, walk, data)?,
+        Reason::WeakensMask => Evidence::WeakensMask {
+            byte: byte_at(&job.storage, ccw.address()),
+            mask,
+        },
+    };
+    Ok(evidence)
+}
+
+/// The bytes of a CCW at an address.
+fn eight_bytes(address: u32) -> Area
+    ensures { result ≡ record { start = address; len = 8 } }
+{
+    Area {
+        start: address,
+        len: 8,
+    }
+}
+
+/// The range of a CCW's data.
+fn data_of(ccw: &Ccw) -> Area
+    ensures { result ≡ specs.data_of ccw.now }
+{
+    Area {
+        start: ccw.address(),
+        len: u32::from(ccw.count()),
+    }
+}
+
+/// What of some data isn't lent for storing.
+fn not_lent_for_storing(alloc: Global, job: &Job, range: Area) -> Result<Evidence, AllocError>
+    requires inside { range.start + range.len ≤ length (storage_of job.now) }
+    requires uncovered { covered (store_of job.now) range.start range.len ≡ false }
+    ensures { IfOk result (λ e. (gap : areas.Area) × (e ≡ because.StoreNotLent range gap)
+        × IsFirstGap (store_of job.now) range gap) }
+{
+    let lent = Lent::new(alloc, job)?;
+    Ok(Evidence::StoreNotLent {
+        data: range,
+        gap: lent.store_gap(range),
+    })
+}
+
+/// What of some data isn't lent for fetching.
+fn not_lent_for_fetching(alloc: Global, job: &Job, range: Area) -> Result<Evidence, AllocError>
+    requires inside { range.start + range.len ≤ length (storage_of job.now) }
+    requires uncovered { covered (fetch_of job.now) range.start range.len ≡ false }
+    ensures { IfOk result (λ e. (gap : areas.Area) × (e ≡ because.FetchNotLent range gap)
+        × IsFirstGap (fetch_of job.now) range gap) }
+{
+    let lent = Lent::new(alloc, job)?;
+    Ok(Evidence::FetchNotLent {
+        data: range,
+        gap: lent.fetch_gap(range),
+    })
+}
+
+/// What is wrong with the argument of the seek, or with cylinder 0 where a Recalibrate begins.
+fn evidence_of_seek(job: &Job, offence: Offence, ccw: Ccw) -> Evidence
+    requires stands { word_at (storage_of job.now) offence.place.address ≡ Some ccw }
+    requires fails { FailsToSeek job.now offence.place offence.reason }
+    ensures { IsEvidence job.now offence result }
+{
+    if recalibrates_at(offence.place, ccw) {
+        return Evidence::SeekOutside {
+            outside: Outside::Cylinder(0),
+        };
+    }
+    match argument_addresses(&job.storage, offence.place.address, ccw) {
+        Ok(addresses) => Evidence::SeekOutside {
+            outside: outside_of(job, bytes_of(&job.storage, addresses)),
+        },
+        Err(given) => Evidence::ShortSeek { given },
+    }
+}
+
+/// The first thing that is wrong with an argument that the job doesn't allow.
+fn outside_of(job: &Job, argument: [u8; 6]) -> Outside
+    requires { allows job.now argument ≡ false }
+    ensures { IsOutside job.now argument result }
+{
+    let Some(track) = Track::from_argument(argument) else {
+        return Outside::Bin(u16::from_be_bytes([argument[0], argument[1]]));
+    };
+    if !job.extents.has(track.cylinder) {
+        return Outside::Cylinder(track.cylinder);
+    }
+    Outside::Head {
+        head: track.head,
+        heads: job.device.heads(),
+    }
+}

@@ -1,0 +1,153 @@
+//! The values of a cause.
+
+ghost use Rattle.std.specs.Prelude.{◌≡◌};
+ghost use Rattle.chanv_c.specs.Cause as specs;
+
+use ccw_core::Area;
+use chan_walk::{Evidence, Outside};
+
+/// `struct chanv_evidence`.
+#[repr(C)]
+#[derive(Clone, Copy)]
+pub struct CEvidence {
+    pub reason: u32,
+    pub range: Area,
+    pub gap: Area,
+    pub address: u32,
+    pub taker: u32,
+    pub length: u32,
+    pub code: u32,
+    pub mask: u32,
+    pub bits: u32,
+    pub given: u32,
+    pub outside: u32,
+    pub value: u32,
+    pub below: u32,
+    pub sets_mask: u32,
+}
+
+/// An area of no bytes.
+const NO_AREA: Area = Area { start: 0, len: 0 };
+
+/// No value.
+pub(crate) const NO_VALUES: CEvidence = CEvidence {
+    reason: 0,
+    range: NO_AREA,
+    gap: NO_AREA,
+    address: 0,
+    taker: 0,
+    length: 0,
+    code: 0,
+    mask: 0,
+    bits: 0,
+    given: 0,
+    outside: 0,
+    value: 0,
+    below: 0,
+    sets_mask: 0,
+};
+
+/// The values of what is outside.
+fn outside_values(outside: Outside) -> CEvidence
+    ensures { result ≡ specs.outside_values outside }
+{
+    match outside {
+        Outside::Bin(number) => CEvidence {
+            outside: 1,
+            value: u32::from(number),
+            ..NO_VALUES
+        },
+        Outside::Cylinder(number) => CEvidence {
+            outside: 2,
+            value: u32::from(number),
+            ..NO_VALUES
+        },
+        Outside::Head { head, heads } => CEvidence {
+            outside: 3,
+            value: u32::from(head),
+            below: u32::from(heads),
+            ..NO_VALUES
+        },
+    }
+}
+
+/// The values of a cause, without the reason's number.
+fn values_of(evidence: Evidence) -> CEvidence
+    ensures { result ≡ specs.values_of evidence }
+{
+    match evidence {
+        Evidence::Misaligned { address } => CEvidence {
+            address,
+            ..NO_VALUES
+        },
+        Evidence::OutsideStorage { ccw, length } => CEvidence {
+            range: ccw,
+            length,
+            ..NO_VALUES
+        },
+        Evidence::TransferNotAllowed | Evidence::ZeroCount => NO_VALUES,
+        Evidence::InvalidCode { code } | Evidence::NotInTable { code } => CEvidence {
+            code: u32::from(code),
+            ..NO_VALUES
+        },
+        Evidence::BadFormat { bits } => CEvidence {
+            bits: u32::from(bits),
+            ..NO_VALUES
+        },
+        Evidence::DataOutside { data, length } => CEvidence {
+            range: data,
+            length,
+            ..NO_VALUES
+        },
+        Evidence::Inhibited { mask, code } => CEvidence {
+            mask: u32::from(mask.byte()),
+            code: u32::from(code),
+            ..NO_VALUES
+        },
+        Evidence::StoreNotLent { data, gap } | Evidence::FetchNotLent { data, gap } => CEvidence {
+            range: data,
+            gap,
+            ..NO_VALUES
+        },
+        Evidence::ShortSeek { given } => CEvidence {
+            given: u32::from(given),
+            ..NO_VALUES
+        },
+        Evidence::SeekOutside { outside } => outside_values(outside),
+        Evidence::ChangesCcw { data, ccw } => CEvidence {
+            range: data,
+            address: ccw,
+            ..NO_VALUES
+        },
+        Evidence::ChangesArgument {
+            data,
+            byte,
+            taker,
+            sets_mask,
+        } => CEvidence {
+            range: data,
+            address: byte,
+            taker,
+            sets_mask: u32::from(sets_mask),
+            ..NO_VALUES
+        },
+        Evidence::WeakensMask { byte, mask } => CEvidence {
+            value: u32::from(byte),
+            mask: u32::from(mask.byte()),
+            ..NO_VALUES
+        },
+    }
+}
+
+/// The number of the reason and the values of a cause, none of them where there is none.
+pub(crate) fn cause_told(evidence: Option<Evidence>) -> CEvidence
+    ensures { result ≡ specs.cause_told evidence }
+{
+    match evidence {
+        Some(evidence) => CEvidence {
+            reason: u32::from(evidence.reason().number()),
+            ..values_of(evidence)
+        },
+        None => NO_VALUES,
+    }
+}

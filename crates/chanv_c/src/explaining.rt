@@ -1,0 +1,156 @@
+//! Why a channel program may not run: the path to a place that offends, and the cause's values.
+
+ghost use Rattle.std.specs.Prelude.{◌≡◌, ◌≢◌, ◌<◌, ◌≤◌, ◌⊎◌, length, IfOk, IfErr, OnOk};
+ghost use Rattle.chan_walk.specs.declared.verdict.Verdict.TheVariants.{Yes};
+ghost use Rattle.chan_walk.specs.Explained.{ExplainedJob};
+ghost use Rattle.chanv_c.specs.Answers.{HasTooMany, IsJudged, IsRefusal};
+ghost use Rattle.chanv_c.specs.Asked.{IsJobOf};
+ghost use Rattle.chanv_c.specs.Explained as specs;
+ghost use Rattle.chanv_c.specs.Explained.{AreInFront, IsExplanation, IsRoomTooSmall, IsTold};
+ghost use Rattle.chanv_c.specs.Explained.{told_nothing, verdict_told};
+ghost use Rattle.chanv_c.specs.Faults.{HasNoFault, IsRefused};
+
+use crate::asked::{CJob, make_ready};
+use crate::evidence::{CEvidence, NO_VALUES, cause_told};
+use crate::refusal::Refusal;
+use crate::rows::{CPlace, write_path};
+use crate::verifying::CVerdict;
+use chan_walk::{Explanation, Job, Verdict, WalkError, explain};
+use std::alloc::Global;
+
+/// `struct chanv_explanation`.
+#[repr(C)]
+#[derive(Clone, Copy)]
+pub struct CExplanation {
+    pub verdict: CVerdict,
+    pub path: usize,
+    pub second_path: usize,
+    pub evidence: CEvidence,
+}
+
+/// Why the program may not run: 0 where it may; 1 where it may not, with the verdict, the values of
+/// the cause, the path to a place that offends and, where something is changed, the path to that;
+/// 11 where one of the paths has more places than there are rows for it, with the same but for the
+/// rows. Else it says why there is no answer, as `chanv_verify` does. What isn't said so is written
+/// as 0. Only for 1 is anything written to the rows.
+#[unsafe(no_mangle)]
+pub extern "C" fn chanv_why(
+    alloc: Global,
+    job: &CJob<'_>,
+    path: &mut [CPlace],
+    second_path: &mut [CPlace],
+    out: &mut CExplanation,
+) -> u32
+    ensures yes { result ≡ 0 → IsJudged job.now Yes }
+    ensures no { result ≡ 1 → (x : ExplainedJob) × IsTold job.now x out.new
+        × AreInFront x.path path.old path.new
+        × AreInFront x.second_path second_path.old second_path.new }
+    ensures room { result ≡ 11 → (x : ExplainedJob) × IsTold job.now x out.new
+        × IsRoomTooSmall x path.old second_path.old }
+    ensures kept { result ≢ 1 → (path.new ≡ path.old) × (second_path.new ≡ second_path.old) }
+    ensures many { result ≡ 2 → HasTooMany job.now }
+
+    // A job is refused by its first fault, and one that has a fault gets no answer.
+    ensures refused { 4 ≤ result → result ≤ 10 → IsRefused job.now result out.new.verdict.extent }
+    ensures accepted { result < 3 → HasNoFault job.now }
+    ensures roomless { result ≡ 11 → HasNoFault job.now }
+    ensures codes { result ≤ 11 }
+
+    ensures nothing { result ≢ 1 → result ≢ 11 → out.new ≡ told_nothing out.new.verdict.extent }
+    ensures no_extent { result < 4 → out.new.verdict.extent ≡ 0 }
+{
+    let found = match explanation_of(alloc, job) {
+        Ok(found) => found,
+        Err(refusal) => {
+            *out = nothing(refusal.extent());
+            return refusal.code();
+        }
+    };
+    match found.verdict() {
+        Verdict::Yes => {
+            *out = nothing(0);
+            return 0;
+        }
+        Verdict::No { .. } => *out = told(&found),
+    }
+    if path.len() < found.path().len() || second_path.len() < found.second_path().len() {
+        return 11;
+    }
+    write_path(found.path(), path);
+    write_path(found.second_path(), second_path);
+    1
+}
+
+/// What is told where there is no explanation.
+fn nothing(extent: usize) -> CExplanation
+    ensures { result ≡ told_nothing extent }
+{
+    CExplanation {
+        verdict: CVerdict {
+            extent,
+            address: 0,
+            reason: 0,
+        },
+        path: 0,
+        second_path: 0,
+        evidence: NO_VALUES,
+    }
+}
+
+/// What is told of an explanation, but for the rows.
+fn told(found: &Explanation) -> CExplanation
+    ensures { result ≡ specs.told found.now }
+{
+    CExplanation {
+        verdict: verdict_of(found.verdict()),
+        path: found.path().len(),
+        second_path: found.second_path().len(),
+        evidence: cause_told(found.evidence()),
+    }
+}
+
+/// What is told of a verdict.
+fn verdict_of(verdict: Verdict) -> CVerdict
+    ensures { result ≡ verdict_told verdict }
+{
+    match verdict {
+        Verdict::Yes => CVerdict {
+            extent: 0,
+            address: 0,
+            reason: 0,
+        },
+        Verdict::No { address, reason } => CVerdict {
+            extent: 0,
+            address,
+            reason: u32::from(reason.number()),
+        },
+    }
+}
+
+/// The explanation of the verdict on the job that C asks about.
+fn explanation_of(alloc: Global, asked: &CJob<'_>) -> Result<Explanation, Refusal>
+    ensures answer { IfOk result (IsExplanation asked.now) }
+    ensures right { OnOk result (HasNoFault asked.now) }
+    ensures refusal { IfErr result (IsRefusal asked.now) }
+{
+    let ready = match make_ready(alloc, asked) {
+        Ok(ready) => ready,
+        Err(refusal) => return Err(refusal),
+    };
+    let job = ready.job(asked);
+    explanation_on(alloc, asked, &job)
+}
+
+/// The explanation of the verdict on a job that is the one that C asks about.
+fn explanation_on(alloc: Global, _asked: &CJob<'_>, job: &Job) -> Result<Explanation, Refusal>
+    requires asked { IsJobOf _asked.now job.now }
+    requires right { HasNoFault _asked.now }
+    ensures answer { IfOk result (IsExplanation _asked.now) }
+    ensures refusal { IfErr result (IsRefusal _asked.now) }
+{
+    match explain(alloc, job) {
+        Ok(found) => Ok(found),
+        Err(WalkError::TooManyPlaces) => Err(Refusal::TooManyPlaces),
+        Err(WalkError::Memory) => Err(Refusal::Memory),
+    }
+}
