@@ -21,3 +21,4 @@ pub mod SameLemmas
 pub mod ListingLemmas
 pub mod ExplanationLemmas
 pub mod GraphLemmas
+pub mod HintLemmas

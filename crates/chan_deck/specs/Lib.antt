@@ -11,3 +11,4 @@ pub mod Texts
 pub mod Listing
 pub mod Explanation
 pub mod Graph
+pub mod Hint

@@ -1,0 +1,308 @@
+-- What a hint says of a line: the forms behind the line before it, and the bytes that are shown.
+use Rattle.std.proofs.Common.{◌≡◌, ℕ, ◌+◌, ◌-◌, ◌<◌, ◌≤◌, Bool, true, false, cond, List, [], ◌∷◌, ◌++◌, length, take, drop, map, Option, Some, None, Bor, refl, sym, ap, subst, ◌∙◌, arith, append_assoc, length-append, take_all, zero, suc, add-zero, slice_index, Result, Ok, Err, IfOk}
+use Rattle.std.specs.Prelude.{nat_le, position, ◌==◌}
+use Rattle.std.specs.List.{AllByRecursion, position_from}
+use Rattle.std.proofs.lemmas.Iterator.Adapters.{position_from-zero}
+use Rattle.std.proofs.lemmas.Bool.{le-leb, lt-leb}
+use Rattle.std.proofs.lemmas.List.{append-nil, append_cancel_left, drop_all, take-append-drop}
+use Rattle.std.proofs.Math.Seq.{drop-cons, take-append_seam}
+use Rattle.ckd_core.specs.declared.device.Device.TheVariants.{D2311, D2314}
+use Rattle.chan_deck.specs.Hint.{AreBehind, IsLastOf, IsSaidBy, all_forms, begun_as, example_of, first_word, forms_behind, forms_text, IsBehind, put_address, shown, shown_byte}
+use Rattle.chan_deck.specs.Item.{Item, header, device, mask, start, limit, extent, fetch, store, storage, put, end, line, HasForm, Says}
+use Rattle.chan_deck.specs.Refused.{AreSaid, found_behind, found_in, is_second, last_of, lines, part, split, whole_line}
+use Rattle.chan_deck.specs.declared.keyword.Form.{Form}
+use Rattle.chan_deck.specs.declared.keyword.Form.TheVariants as forms
+use Rattle.chan_deck.specs.declared.hint.Spot.{Spot}
+use Rattle.chan_deck.specs.declared.version.VersionNumber.{VersionNumber}
+use Rattle.chan_deck.specs.declared.version.VersionNumber.TheVariants as numbers
+use Rattle.chan_deck.proofs.ItemLemmas.{says_one}
+
+head_is : {A : Type 0} {x y : A} {xs ys : List A} → x ∷ xs ≡ y ∷ ys → x ≡ y
+head_is e = cc
+
+tail_is : {A : Type 0} {x y : A} {xs ys : List A} → x ∷ xs ≡ y ∷ ys → xs ≡ ys
+tail_is e = cc
+
+-- ---- words
+
+abbrev space : ℕ → Bool
+space b = b == 32
+
+-- what the first space at some place says of the first word, counted from k on
+abbrev Words : ℕ → List ℕ → Option ℕ → Type 0
+Words k l None = first_word l ≡ l
+Words k l (Some i) = (j : ℕ) × (i ≡ k + j) × (first_word l ≡ take j l)
+
+more : (k b : ℕ) (l : List ℕ) (o : Option ℕ) → (b == 32) ≡ false → Words (k + 1) l o → Words k (b ∷ l) o
+unfolding first_word
+more k b l None h s = ap (λ q. cond q [] (b ∷ first_word l)) h ∙ ap (λ w. b ∷ w) s
+more k b l (Some i) h s =
+    (suc s.0, omega (arith, s.1), ap (λ q. cond q [] (b ∷ first_word l)) h ∙ ap (λ w. b ∷ w) s.2)
+
+at : (q : Bool) (k b : ℕ) (l : List ℕ) → (b == 32) ≡ q → Words (k + 1) l (position_from space (k + 1) l)
+    → Words k (b ∷ l) (cond q (Some k) (position_from space (k + 1) l))
+unfolding first_word
+at true k b l h s = (0, sym (add-zero k), ap (λ q. cond q [] (b ∷ first_word l)) h)
+at false k b l h s = more k b l (position_from space (k + 1) l) h s
+
+from : (k : ℕ) (l : List ℕ) → Words k l (position_from space k l)
+unfolding first_word
+from k [] = refl
+from k (b ∷ l) = at (b == 32) k b l refl (from (k + 1) l)
+
+words : (l : List ℕ) (o : Option ℕ) → o ≡ position space l → Words 0 l o
+words l o e = subst (λ r. Words 0 l r) (sym (e ∙ position_from-zero space l)) (from 0 l)
+
+pub word_before : (l : List ℕ) (i : ℕ) → Some i ≡ position (λ b. b == 32) l → take i l ≡ first_word l
+word_before l i e =
+    let w = words l (Some i) e in
+    let same : i ≡ w.0 = omega (arith, w.1) in
+    ap (λ j. take j l) same ∙ sym w.2
+
+pub whole_word : (l : List ℕ) → None ≡ position (λ b. b == 32) l → l ≡ first_word l
+whole_word l e = sym (words l None e)
+
+-- ---- forms
+
+abbrev form_of : Item → Form
+form_of (header h) = forms.Header
+form_of (device d) = forms.Device
+form_of (mask m) = forms.Mask
+form_of (start a) = forms.Start
+form_of (limit n) = forms.Limit
+form_of (extent a b) = forms.Extent
+form_of (fetch a) = forms.Fetch
+form_of (store a) = forms.Store
+form_of (storage n) = forms.Storage
+form_of (put a w) = forms.Put
+form_of end = forms.End
+
+-- a line begins as its form
+begins : (i : Item) → begun_as all_forms (line i) ≡ Some (form_of i)
+unfolding first_word
+begins (header numbers.One) = refl
+begins (header numbers.Two) = refl
+begins (device D2311) = refl
+begins (device D2314) = refl
+begins (mask m) = refl
+begins (start a) = refl
+begins (limit n) = refl
+begins (extent a b) = refl
+begins (fetch a) = refl
+begins (store a) = refl
+begins (storage n) = refl
+begins (put a w) = refl
+begins end = refl
+
+-- what may stand behind a line is a question of its form
+behind_item : (second : Bool) (i : Item)
+    → forms_behind second (Some (example_of (form_of i))) ≡ forms_behind second (Some i)
+behind_item second (header h) = refl
+behind_item second (device d) = refl
+behind_item second (mask m) = refl
+behind_item second (start a) = refl
+behind_item second (limit n) = refl
+behind_item second (extent a b) = refl
+behind_item second (fetch a) = refl
+behind_item second (store a) = refl
+behind_item second (storage n) = refl
+behind_item second (put a w) = refl
+behind_item second end = refl
+
+begun : (l : List ℕ) (i : Item) → Says l i → begun_as all_forms l ≡ Some (form_of i)
+begun l i says = ap (λ x. begun_as all_forms x) says.1 ∙ begins i
+
+just_is : {A : Type 0} {x y : A} → Some x ≡ Some y → x ≡ y
+just_is e = cc
+
+pub behind_begun : (second : Bool) (l : Bor (List ℕ)) (last : Option Item) (f : Form)
+    → IsSaidBy (Some l) last → Some f ≡ begun_as all_forms l.now
+    → forms_behind second (Some (example_of f)) ≡ forms_behind second last
+behind_begun second l None f said e = absurd said
+behind_begun second l (Some i) f said e =
+    let same : f ≡ form_of i = just_is (e ∙ begun l.now i said) in
+    ap (λ g. forms_behind second (Some (example_of g))) same ∙ behind_item second i
+
+pub not_begun : (l : Bor (List ℕ)) (last : Option Item) → IsSaidBy (Some l) last
+    → None ≡ begun_as all_forms l.now → ⊥
+not_begun l None said e = said
+not_begun l (Some i) said e =
+    let same : None ≡ Some (form_of i) = e ∙ begun l.now i said in
+    cc
+
+pub behind_nothing : (second : Bool) (last : Option Item) → IsSaidBy None last
+    → forms.Header ∷ [] ≡ forms_behind second last
+behind_nothing second None said = refl
+behind_nothing second (Some i) said = absurd said
+
+-- the forms at a spot
+pub at_spot : (before : List Item) (spot : Spot) → IsBehind before spot
+    → forms_behind spot.is_second (last_of before) ≡ forms_behind (is_second before) (last_of before)
+at_spot [] spot h = refl
+at_spot (i ∷ before) spot h = ap (λ q. forms_behind q (last_of (i ∷ before))) (h.second (λ e. cc))
+
+pub put_said : (l : List ℕ) (i : Item) (a : ℕ) (w : List ℕ) → Says l (put a w) → Says l i
+    → Some a ≡ put_address (Some i)
+put_said l i a w h says = ap (λ j. put_address (Some j)) (says_one l (put a w) i h says)
+
+pub no_put_said : (l : List ℕ) (i : Item) → ((a : ℕ) (w : List ℕ) → Says l (put a w) → ⊥) → Says l i
+    → None ≡ put_address (Some i)
+no_put_said l (put a w) none says = absurd (none a w says)
+no_put_said l _ none says = refl
+
+pub no_second : (l : List ℕ) (i : Item) (more : List Item) → ((h : VersionNumber) → Says l (header h) → ⊥)
+    → Says l i → false ≡ is_second (i ∷ more)
+no_second l (header h) more none says = absurd (none h says)
+no_second l _ more none says = refl
+
+-- ---- lines
+
+-- n lines of a text were taken: the last of them, and the rest
+pub record AreTaken (t : List ℕ) (n : ℕ) (last : Option (Bor (List ℕ))) (rest : List ℕ)
+    : Type 0 where
+  pub done : List (List ℕ)
+  pub count : length done ≡ n
+  pub parts : split t ≡ (done ++ (split rest).0, (split rest).1)
+  pub is_last : IsLastOf done last
+
+pub none_taken : (t : List ℕ) → AreTaken t 0 None t
+none_taken t = record { done = []; count = refl; parts = refl; is_last = refl }
+
+pub one_taken : (t : List ℕ) (n : ℕ) (last : Option (Bor (List ℕ))) (rest after : List ℕ) (l : Bor (List ℕ))
+    → AreTaken t n last rest → split rest ≡ (l.now ∷ (split after).0, (split after).1)
+    → AreTaken t (n + 1) (Some l) after
+one_taken t n last rest after l h e = record {
+  done = h.done ++ l.now ∷ [];
+  count = omega (arith, h.count, length-append h.done (l.now ∷ []));
+  parts =
+      h.parts ∙ ap (λ (p : List (List ℕ) × List ℕ). (h.done ++ p.0, p.1)) e
+      ∙ ap (λ x. (x, (split after).1)) (sym (append_assoc h.done (l.now ∷ []) (split after).0));
+  is_last = (h.done, refl);
+}
+
+-- when as many lines were taken as are asked for, or no whole line is left, they are behind
+pub all_behind : (t : List ℕ) (n k : ℕ) (last : Option (Bor (List ℕ))) (rest : List ℕ)
+    → AreTaken t k last rest → take n (lines t) ≡ take k (lines t) → AreBehind t n last rest
+all_behind t n k last rest h same =
+    let ls : lines t ≡ h.done ++ (split rest).0 = ap (λ (p : List (List ℕ) × List ℕ). p.0) h.parts in
+    let is : take n (lines t) ≡ h.done =
+    same ∙ ap (λ x. take k x) ls ∙ ap (λ j. take j (h.done ++ (split rest).0)) (sym h.count) ∙ take-append_seam h.done (split rest).0 in
+    record {
+      is_last = subst (λ x. IsLastOf x last) (sym is) h.is_last;
+      left = h.parts ∙ ap (λ x. (x ++ (split rest).0, (split rest).1)) (sym is);
+    }
+
+pub none_left : (t : List ℕ) (n k : ℕ) (last : Option (Bor (List ℕ))) (rest : List ℕ)
+    → AreTaken t k last rest → k ≤ n → split rest ≡ ([], rest) → take n (lines t) ≡ take k (lines t)
+none_left t n k last rest h le e =
+    let ls : lines t ≡ h.done =
+    ap (λ (p : List (List ℕ) × List ℕ). p.0) h.parts ∙ ap (λ (p : List (List ℕ) × List ℕ). h.done ++ p.0) e ∙ append-nil h.done in
+    let len : length (lines t) ≡ k = ap (λ x. length x) ls ∙ h.count in
+    take_all n (lines t) (omega (arith, len)) ∙ sym (take_all k (lines t) (omega (arith, len)))
+
+-- what is behind so many lines
+found_left : (t : List ℕ) (n : ℕ) (last : Option (Bor (List ℕ))) (rest : List ℕ)
+    → AreBehind t n last rest → found_behind n t ≡ found_in (split rest).0 (split rest).1
+found_left t n last rest h =
+    let ls : take n (lines t) ++ drop n (lines t) ≡ take n (lines t) ++ (split rest).0 =
+    take-append-drop n (lines t) ∙ ap (λ (p : List (List ℕ) × List ℕ). p.0) h.left in
+    let left : drop n (lines t) ≡ (split rest).0 = append_cancel_left (take n (lines t)) _ _ ls in
+    ap (λ x. found_in x (split t).1) left ∙ ap (λ (p : List (List ℕ) × List ℕ). found_in (split rest).0 p.1) h.left
+
+pub found_line : (t : List ℕ) (n : ℕ) (last : Option (Bor (List ℕ))) (rest l after : List ℕ)
+    → AreBehind t n last rest → split rest ≡ (l ∷ (split after).0, (split after).1)
+    → found_behind n t ≡ whole_line l
+found_line t n last rest l after h e =
+    found_left t n last rest h ∙ ap (λ (p : List (List ℕ) × List ℕ). found_in p.0 p.1) e
+
+pub found_part : (t : List ℕ) (n : ℕ) (last : Option (Bor (List ℕ))) (rest : List ℕ)
+    → AreBehind t n last rest → split rest ≡ ([], rest) → found_behind n t ≡ part rest
+found_part t n last rest h e =
+    found_left t n last rest h ∙ ap (λ (p : List (List ℕ) × List ℕ). found_in p.0 p.1) e
+
+-- the last line is the last that was said
+last_said : (before : List Item) (last : Option (Bor (List ℕ))) → AllByRecursion HasForm before
+    → IsLastOf (map line before) last → IsSaidBy last (last_of before)
+last_said [] None forms is = tt
+last_said [] (Some l) forms ([], e) = absurd cc
+last_said [] (Some l) forms (x ∷ front, e) = absurd cc
+last_said (i ∷ is) None forms e = absurd cc
+last_said (i ∷ []) (Some l) forms ([], e) = (forms.0, sym (head_is e))
+last_said (i ∷ []) (Some l) forms (x ∷ [], e) = absurd cc
+last_said (i ∷ []) (Some l) forms (x ∷ y ∷ front, e) = absurd cc
+last_said (i ∷ j ∷ is) (Some l) forms ([], e) = absurd cc
+last_said (i ∷ j ∷ is) (Some l) forms (x ∷ front, e) =
+    last_said (j ∷ is) (Some l) forms.1 (front, tail_is e)
+
+pub said_behind : (t : List ℕ) (n : ℕ) (last : Option (Bor (List ℕ))) (rest : List ℕ) (before : List Item)
+    → AreBehind t n last rest → AreSaid n t before → IsSaidBy last (last_of before)
+said_behind t n last rest before h said =
+    last_said before last said.0 (subst (λ x. IsLastOf x last) (sym said.1) h.is_last)
+
+-- the first line says the first thing
+pub first_said : (t l after : List ℕ) (n : ℕ) (i : Item) (before : List Item) → AreSaid n t (i ∷ before)
+    → split t ≡ (l ∷ (split after).0, (split after).1) → Says l i
+first_said t l after zero i before said e = absurd cc
+first_said t l after (suc n) i before said e =
+    let same : line i ∷ map line before ≡ l ∷ take n (split after).0 =
+    said.1 ∙ ap (λ (p : List (List ℕ) × List ℕ). take (suc n) p.0) e in
+    (said.0.0, sym (head_is same))
+
+pub none_said : (t : List ℕ) (n : ℕ) (i : Item) (before : List Item) → AreSaid n t (i ∷ before)
+    → split t ≡ ([], t) → ⊥
+none_said t zero i before said e = cc
+none_said t (suc n) i before said e =
+    let same : line i ∷ map line before ≡ [] = said.1 ∙ ap (λ (p : List (List ℕ) × List ℕ). take (suc n) p.0) e in
+    cc
+
+-- ---- bytes
+
+-- a byte that has room is shown, and what follows it in the room that is left
+pub shown_more : (room b : ℕ) (l : List ℕ) → length (shown_byte b) ≤ room
+    → shown room (b ∷ l) ≡ shown_byte b ++ shown (room - length (shown_byte b)) l
+unfolding shown
+shown_more room b l h = rw (le-leb (length (shown_byte b)) room h) refl
+
+-- and one that has none ends what is shown
+pub shown_no_more : (room b : ℕ) (l : List ℕ) → room < length (shown_byte b) → shown room (b ∷ l) ≡ []
+unfolding shown
+shown_no_more room b l h = rw (lt-leb (length (shown_byte b)) room h) refl
+
+pub shown_step : (l out old text new : List ℕ) (at left room width : ℕ) → at < length l
+    → text ≡ shown_byte (slice_index l at) → width ≡ length text → width ≤ left → new ≡ out ++ text
+    → out ++ shown left (drop at l) ≡ old ++ shown room l
+    → new ++ shown (left - width) (drop (at + 1) l) ≡ old ++ shown room l
+shown_step l out old text new at left room width here e wide fits is told =
+    let b = slice_index l at in
+    let byte : length (shown_byte b) ≡ width = ap (λ t. length t) (sym e) ∙ sym wide in
+    let one : suc at ≡ at + 1 = omega arith in
+    let cons : drop at l ≡ b ∷ drop (at + 1) l = drop-cons l at 0 here ∙ ap (λ k. b ∷ drop k l) one in
+    let front : shown left (drop at l) ≡ text ++ shown (left - width) (drop (at + 1) l) =
+    ap (λ x. shown left x) cons ∙ shown_more left b (drop (at + 1) l) (omega (arith, byte))
+    ∙ ap (λ n. shown_byte b ++ shown (left - n) (drop (at + 1) l)) byte
+    ∙ ap (λ t. t ++ shown (left - width) (drop (at + 1) l)) (sym e) in
+    ap (λ t. t ++ shown (left - width) (drop (at + 1) l)) is
+    ∙ append_assoc out text (shown (left - width) (drop (at + 1) l))
+    ∙ ap (λ t. out ++ t) (sym front) ∙ told
+
+pub shown_stops : (l out old text : List ℕ) (at left room : ℕ) → at < length l
+    → text ≡ shown_byte (slice_index l at) → left < length text
+    → out ++ shown left (drop at l) ≡ old ++ shown room l → out ≡ old ++ shown room l
+shown_stops l out old text at left room here e full told =
+    let b = slice_index l at in
+    let byte : left < length (shown_byte b) = subst (λ t. left < length t) e full in
+    let one : suc at ≡ at + 1 = omega arith in
+    let cons : drop at l ≡ b ∷ drop (at + 1) l = drop-cons l at 0 here ∙ ap (λ k. b ∷ drop k l) one in
+    let none : shown left (drop at l) ≡ [] = ap (λ x. shown left x) cons ∙ shown_no_more left b (drop (at + 1) l) byte in
+    sym (append-nil out) ∙ ap (λ t. out ++ t) (sym none) ∙ told
+
+pub shown_all : (l out old : List ℕ) (at left room : ℕ) → length l ≤ at
+    → out ++ shown left (drop at l) ≡ old ++ shown room l → out ≡ old ++ shown room l
+unfolding shown
+shown_all l out old at left room past told =
+    sym (append-nil out) ∙ ap (λ x. out ++ shown left x) (sym (drop_all at l past)) ∙ told
+
+pub if_ok : {A E : Type 0} {P Q : A → Type 0} (r : Result A E) → ((x : A) → P x → Q x) → IfOk r P
+    → IfOk r Q
+if_ok (Ok x) f h = f x h
+if_ok (Err e) f h = tt

@@ -1,0 +1,219 @@
+-- What is said of the line at which a text is refused: the line as it stands, and what may stand
+-- in its place or what it has to fulfil.
+use Rattle.std.specs.Prelude.{ℕ, ◌-◌, ◌%◌, ◌≡◌, ◌≢◌, ◌==◌, ◌&&◌, nat_le, nat_lt, List, [], ◌∷◌, ◌++◌, length, take}
+use Rattle.std.specs.Prelude.{map, codes, if◌then◌else◌, Bool, true, false, Option, Some, None}
+use Rattle.std.specs.List.{filter, find, flat_map}
+use Rattle.std.specs.Borrow.{Bor}
+use Rattle.std.specs.Str.{bytes_eq}
+use Rattle.ckd_core.specs.declared.device.Device.TheVariants.{D2314}
+use Rattle.chan_deck.specs.Item.{Item, header, device, mask, start, limit, extent, fetch, store}
+use Rattle.chan_deck.specs.Item.{storage, put, end, byte_digits, Says}
+use Rattle.chan_deck.specs.Refused.{AreSaid, Found, found_behind, is_second, last_of, lines}
+use Rattle.chan_deck.specs.Refused.{may_stand, part, split, whole_line}
+use Rattle.chan_deck.specs.Texts.{address_text}
+use Rattle.chan_deck.specs.declared.cause.Cause.{Cause}
+use Rattle.chan_deck.specs.declared.cause.Cause.TheVariants as causes
+use Rattle.chan_deck.specs.declared.keyword.Form.{Form}
+use Rattle.chan_deck.specs.declared.keyword.Form.TheVariants as forms
+use Rattle.chan_deck.specs.declared.hint.Spot.{Spot}
+use Rattle.chan_deck.specs.declared.version.VersionNumber.TheVariants as numbers
+
+-- ---- the line as it stands
+
+-- a byte as text: printable ASCII as itself, any other as `\x` and its two digits
+abbrev pub shown_byte : ℕ → List ℕ
+shown_byte b = if nat_le 32 b && nat_le b 126 then b ∷ [] else codes "\\x" ++ byte_digits b
+
+-- the bytes of a line from the first on, as many as have room in so many characters
+unfoldable pub shown : ℕ → List ℕ → List ℕ
+shown room [] = []
+shown room (b ∷ l) =
+    if nat_le (length (shown_byte b)) room
+    then shown_byte b ++ shown (room - length (shown_byte b)) l
+    else []
+
+-- what stands at the place of a line
+abbrev pub bytes_found : Found → List ℕ
+bytes_found (whole_line l) = l
+bytes_found (part rest) = rest
+
+-- ---- what may stand there
+
+-- something that a line of the form says
+abbrev pub example_of : Form → Item
+example_of forms.Header = header numbers.One
+example_of forms.Device = device D2314
+example_of forms.Mask = mask 0
+example_of forms.Start = start 0
+example_of forms.Limit = limit 0
+example_of forms.Extent = extent 0 0
+example_of forms.Fetch = fetch (record { start = 0; len = 0 })
+example_of forms.Store = store (record { start = 0; len = 0 })
+example_of forms.Storage = storage 0
+example_of forms.Put = put 0 []
+example_of forms.End = end
+
+-- the forms, in the order in which they come in a deck
+abbrev pub all_forms : List Form
+all_forms =
+    forms.Header ∷ forms.Device ∷ forms.Mask ∷ forms.Start ∷ forms.Limit ∷ forms.Extent
+    ∷ forms.Fetch ∷ forms.Store ∷ forms.Storage ∷ forms.Put ∷ forms.End ∷ []
+
+-- those that may stand behind a line of a deck, of version 2 or not, and those at the start
+abbrev pub forms_behind : Bool → Option Item → List Form
+forms_behind second last = filter (λ f. may_stand second last (example_of f)) all_forms
+
+-- the first word of a line of the form
+abbrev pub keyword_of : Form → List ℕ
+keyword_of forms.Header = codes "chanv"
+keyword_of forms.Device = codes "device"
+keyword_of forms.Mask = codes "mask"
+keyword_of forms.Start = codes "start"
+keyword_of forms.Limit = codes "limit"
+keyword_of forms.Extent = codes "extent"
+keyword_of forms.Fetch = codes "fetch"
+keyword_of forms.Store = codes "store"
+keyword_of forms.Storage = codes "storage"
+keyword_of forms.Put = codes "put"
+keyword_of forms.End = codes "end"
+
+-- the form as a picture, and what its letters stand for
+abbrev pub picture_of : Form → List ℕ
+picture_of forms.Header = codes "chanv deck 1, chanv deck 2"
+picture_of forms.Device = codes "device 2311, device 2314"
+picture_of forms.Mask = codes "mask XX, where X is 0-9 or A-F"
+picture_of forms.Start = codes "start XXXXXX, where X is 0-9 or A-F"
+picture_of forms.Limit = codes "limit NNNNN, where N is 0-9"
+picture_of forms.Extent = codes "extent NNN NNN, where N is 0-9"
+picture_of forms.Fetch = codes "fetch XXXXXX XXXXXX, where X is 0-9 or A-F"
+picture_of forms.Store = codes "store XXXXXX XXXXXX, where X is 0-9 or A-F"
+picture_of forms.Storage = codes "storage XXXXXXX, where X is 0-9 or A-F"
+picture_of forms.Put = codes "put XXXXXX XXXXXXXXXXXXXXXX, where X is 0-9 or A-F"
+picture_of forms.End = codes "end"
+
+-- what a line has before its first space
+unfoldable pub first_word : List ℕ → List ℕ
+first_word [] = []
+first_word (b ∷ l) = if b == 32 then [] else b ∷ first_word l
+
+-- the form whose keyword a line begins with, if it is one of these
+abbrev pub begun_as : List Form → List ℕ → Option Form
+begun_as fs l = find (λ f. bytes_eq (keyword_of f) (first_word l)) fs
+
+-- the keywords of some forms
+abbrev pub keywords : List Form → List ℕ
+keywords [] = []
+keywords (f ∷ fs) = keyword_of f ++ flat_map (λ g. codes ", " ++ keyword_of g) fs
+
+-- the picture of the form that a line begins as, or all keywords
+abbrev pub picture_or_keywords : Option Form → List Form → List ℕ
+picture_or_keywords (Some f) fs = picture_of f
+picture_or_keywords None fs = keywords fs
+
+-- of forms that may stand: the picture of the only one, or of the one that the line begins as, or
+-- the keywords
+abbrev pub form_text : List Form → List ℕ → List ℕ
+form_text (f ∷ []) l = picture_of f
+form_text fs l = picture_or_keywords (begun_as fs l) fs
+
+-- ---- what the line has to fulfil
+
+-- the address of the put that a line may be
+abbrev pub put_address : Option Item → Option ℕ
+put_address (Some (put a word)) = Some a
+put_address last = None
+
+-- an address above that of the put before, where there is one
+abbrev pub above_text : Option ℕ → List ℕ
+above_text None = codes "an address that is a multiple of 8"
+above_text (Some a) = codes "an address above " ++ address_text a ++ codes " that is a multiple of 8"
+
+abbrev pub is_past : Option ℕ → ℕ → Bool
+is_past None a = true
+is_past (Some b) a = nat_lt b a
+
+-- what the address of a put doesn't fulfil, behind a put with an address or behind none
+abbrev pub place_text : Option ℕ → ℕ → List ℕ
+place_text above a =
+    if a % 8 == 0 && is_past above a then codes "an address at which storage has eight bytes"
+    else above_text above
+
+-- the condition that a line refused for the cause doesn't fulfil, whatever it says
+abbrev pub condition_of : Cause → List ℕ
+condition_of causes.Mask = codes "a mask with no bits on but C0 and 18"
+condition_of causes.ExtentBackwards = codes "a last cylinder that isn't below the first"
+condition_of causes.ExtentPastDevice = codes "a last cylinder of at most 202"
+condition_of causes.Size = codes "a multiple of 8 that is at most 1000000"
+condition_of causes.PutZero = codes "eight bytes that aren't all zero"
+condition_of causes.After = codes "nothing behind the line end"
+condition_of causes.Limit = codes "a limit from 00001 to 65536"
+condition_of cause = []
+
+-- what may stand behind these lines, for what stands there
+abbrev pub forms_text : List Item → List ℕ → List ℕ
+forms_text before l = form_text (forms_behind (is_second before) (last_of before)) l
+
+-- what is expected behind these lines in place of what is found, where it is refused for the cause
+abbrev pub IsExpected : List Item → Found → Cause → List ℕ → Type 0
+IsExpected before (part (b ∷ rest)) causes.Ended t = t ≡ codes "a line feed behind this line"
+IsExpected before found causes.Ended t = t ≡ forms_text before (bytes_found found)
+IsExpected before found causes.Header t = t ≡ forms_text before (bytes_found found)
+IsExpected before found causes.Form t = t ≡ forms_text before (bytes_found found)
+IsExpected before found causes.PutAddress t =
+    (a : ℕ) (word : List ℕ) → Says (bytes_found found) (put a word)
+    → t ≡ place_text (put_address (last_of before)) a
+IsExpected before found cause t = t ≡ condition_of cause
+
+-- ---- the hint
+
+-- a line of what stands in a line, and one of what is expected
+abbrev pub hint_of : List ℕ → List ℕ → List ℕ
+hint_of l t = codes "found " ++ (shown 60 l ++ 10 ∷ (codes "expected " ++ (t ++ 10 ∷ [])))
+
+-- the hint for what is found behind these lines, refused for the cause
+abbrev pub IsHintBehind : List Item → Found → Cause → List ℕ → Type 0
+IsHintBehind before found cause hint =
+    (t : List ℕ) × IsExpected before found cause t × (hint ≡ hint_of (bytes_found found) t)
+
+-- the hint for a text that is refused at line n, for the cause
+abbrev pub IsHint : List ℕ → ℕ → Cause → List ℕ → Type 0
+IsHint t n cause hint =
+    (before : List Item) → AreSaid (n - 1) t before
+    → IsHintBehind before (found_behind (n - 1) t) cause hint
+
+-- ---- the place of a line
+
+-- the line, if there is one, says this, if anything
+abbrev pub IsSaidBy : Option (Bor (List ℕ)) → Option Item → Type 0
+IsSaidBy None None = Unit {0}
+IsSaidBy (Some l) (Some i) = Says l.now i
+IsSaidBy l i = ⊥
+
+-- the last of some lines, if there is one
+abbrev pub IsLastOf : List (List ℕ) → Option (Bor (List ℕ)) → Type 0
+IsLastOf ls None = ls ≡ []
+IsLastOf ls (Some l) = (front : List (List ℕ)) × (ls ≡ front ++ l.now ∷ [])
+
+-- the last of the first n whole lines of a text, or of all if there are fewer, and what follows it
+pub record AreBehind (t : List ℕ) (n : ℕ) (last : Option (Bor (List ℕ))) (rest : List ℕ)
+    : Type 0 where
+  pub is_last : IsLastOf (take n (lines t)) last
+  pub left : split t ≡ (take n (lines t) ++ (split rest).0, (split rest).1)
+
+-- what is found, as a whole line or not
+abbrev pub found_as : Bool → List ℕ → Found
+found_as true l = whole_line l
+found_as false l = part l
+
+-- the spot behind n lines of a text
+pub record IsSpot (t : List ℕ) (n : ℕ) (spot : Spot) : Type 0 where
+  pub found : found_behind n t ≡ found_as spot.is_whole spot.found.now
+  pub last : (before : List Item) → AreSaid n t before → IsSaidBy spot.last (last_of before)
+  pub second :
+      (i : Item) (before : List Item) → AreSaid n t (i ∷ before)
+      → spot.is_second ≡ is_second (i ∷ before)
+
+-- the spot, in terms of what the lines before say
+pub record IsBehind (before : List Item) (spot : Spot) : Type 0 where
+  pub last : IsSaidBy spot.last (last_of before)
+  pub second : before ≢ [] → spot.is_second ≡ is_second before

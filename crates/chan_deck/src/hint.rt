@@ -1,0 +1,299 @@
+//! What is said of the line at which a text is refused.
+
+ghost use Rattle.std.specs.Prelude.{◌≡◌, ◌++◌, ◌∷◌, ℕ, List, IfOk, OnOk, string_bytes};
+ghost use Rattle.std.specs.Prelude.{Option as Maybe};
+ghost use Rattle.std.specs.Prelude.{Some, codes};
+ghost use Rattle.std.specs.List.{flat_map};
+ghost use Rattle.chan_deck.specs.Digits.{AreValues};
+ghost use Rattle.chan_deck.specs.Hint as hint;
+ghost use Rattle.chan_deck.specs.Hint.{AreBehind, IsBehind, IsExpected, IsHint, IsSaidBy, IsSpot, condition_of};
+ghost use Rattle.chan_deck.specs.Hint.{forms_text, found_as, keyword_of, shown_byte};
+ghost use Rattle.chan_deck.specs.Item.{Item, Says, put};
+ghost use Rattle.chan_deck.specs.declared.cause.Cause.TheVariants as causes;
+ghost use Rattle.chan_deck.specs.Refused.{AreSaid, is_second as second};
+
+use crate::cause::Cause;
+use crate::digits::{DigitValues, digit_values};
+use crate::forms::{header_of, put_of};
+use crate::keyword::{Form, begun_as, forms_behind};
+use crate::lines::next_line;
+use crate::texts::{Address, Digits};
+use crate::version::VersionNumber;
+use std::alloc::{AllocError, Global};
+
+#[cfg(test)]
+mod tests;
+
+/// How many characters of a line are shown.
+const SHOWN: usize = 60;
+
+/// The place of a line in a text.
+#[derive(Clone, Copy)]
+struct Spot<'a> {
+    /// Whether the text begins with the header of version 2.
+    is_second: bool,
+    /// The line before.
+    last: Option<&'a [u8]>,
+    /// What stands there.
+    found: &'a [u8],
+    /// Whether it has a line feed behind it.
+    is_whole: bool,
+}
+
+/// Whether a line is the header of version 2.
+fn is_second_header(line: &[u8]) -> bool
+    ensures { (i : Item) (more : List Item) → Says line.now i → result ≡ second (i ∷ more) }
+{
+    match header_of(line) {
+        Some(VersionNumber::Two) => true,
+        Some(VersionNumber::One) => false,
+        None => false,
+    }
+}
+
+/// Whether a text begins with the header of version 2.
+fn is_second(text: &[u8]) -> bool
+    ensures { (n : ℕ) (i : Item) (before : List Item) → AreSaid n text.now (i ∷ before)
+        → result ≡ second (i ∷ before) }
+{
+    match next_line(text) {
+        Some((line, _)) => is_second_header(line),
+        None => false,
+    }
+}
+
+/// The last of so many whole lines, or of all if there are fewer, and what follows it.
+fn skip_lines(text: &[u8], count: u64) -> (Option<&[u8]>, &[u8])
+    ensures { AreBehind text.now count result.0 result.1.now }
+{
+    let mut last = None;
+    let mut rest = text;
+    for _ in 0..count {
+        let Some((line, after)) = next_line(rest) else {
+            return (last, rest);
+        };
+        last = Some(line);
+        rest = after;
+    }
+    (last, rest)
+}
+
+/// The place behind so many lines.
+fn spot_behind(text: &[u8], count: u64) -> Spot<'_>
+    ensures { IsSpot text.now count result }
+{
+    let is_second = is_second(text);
+    let (last, rest) = skip_lines(text, count);
+    match next_line(rest) {
+        Some((line, _)) => Spot {
+            is_second,
+            last,
+            found: line,
+            is_whole: true,
+        },
+        None => Spot {
+            is_second,
+            last,
+            found: rest,
+            is_whole: false,
+        },
+    }
+}
+
+/// A byte as text: printable ASCII as itself, any other as `\x` and its two digits.
+fn byte_text(alloc: Global, byte: u8) -> Result<String, AllocError>
+    ensures { IfOk result (λ t. string_bytes t ≡ shown_byte byte) }
+{
+    if byte.is_ascii_graphic() || byte == b' ' {
+        let shown = char::from(byte);
+        return format!(in alloc; "{shown}");
+    }
+    let digits = Digits(byte);
+    format!(in alloc; "\\x{digits}")
+}
+
+/// Adds the bytes of a line from the first on, as many as have room in so many characters.
+fn push_shown(alloc: Global, out: &mut Vec<u8>, line: &[u8], room: usize) -> Result<(), AllocError>
+    ensures { OnOk result (out.new.items ≡ out.old.items ++ hint.shown room line.now) }
+{
+    let mut left = room;
+    for at in 0..line.len() {
+        let shown = byte_text(alloc, line[at])?;
+        let width = shown.len();
+        if width > left {
+            return Ok(());
+        }
+        left -= width;
+        out.extend_from_slice(shown.as_bytes())?;
+    }
+    Ok(())
+}
+
+/// Adds the keywords of some forms, each behind a comma.
+fn push_keywords(text: &mut String, forms: &[Form]) -> Result<(), AllocError>
+    ensures { OnOk result (string_bytes text.new ≡ string_bytes text.old
+        ++ flat_map (λ f. codes ", " ++ keyword_of f) forms.now) }
+{
+    for form in forms {
+        text.push_str(", ")?;
+        text.push_str(form.keyword())?;
+    }
+    Ok(())
+}
+
+/// The keywords of some forms.
+fn keywords(alloc: Global, forms: &[Form]) -> Result<String, AllocError>
+    ensures { IfOk result (λ t. string_bytes t ≡ hint.keywords forms.now) }
+{
+    let Some((first, rest)) = forms.split_first() else {
+        return Ok(String::new(alloc));
+    };
+    let mut text = String::from_str(alloc, first.keyword())?;
+    push_keywords(&mut text, rest)?;
+    Ok(text)
+}
+
+/// Which forms may stand at a line: the picture of the only one, or of the one that the line begins
+/// as, or the keywords.
+fn form_text(alloc: Global, forms: &[Form], line: &[u8]) -> Result<String, AllocError>
+    ensures { IfOk result (λ t. string_bytes t ≡ hint.form_text forms.now line.now) }
+{
+    if let [form] = forms {
+        return String::from_str(alloc, form.picture());
+    }
+    match begun_as(forms, line) {
+        Some(form) => String::from_str(alloc, form.picture()),
+        None => keywords(alloc, forms),
+    }
+}
+
+/// The address of the put that a line is, if it is one.
+fn put_address(line: &[u8], values: &DigitValues) -> Option<u32>
+    requires { AreValues values.now }
+    ensures { (i : Item) → Says line.now i → result ≡ hint.put_address (Some i) }
+{
+    match put_of(line, values) {
+        Some((address, _)) => Some(address),
+        None => None,
+    }
+}
+
+/// The address of the put that stands before, if one does.
+fn last_put(last: Option<&[u8]>, values: &DigitValues) -> Option<u32>
+    requires { AreValues values.now }
+    ensures { (i : Maybe Item) → IsSaidBy last.entry i → result ≡ hint.put_address i }
+{
+    match last {
+        Some(line) => put_address(line, values),
+        None => None,
+    }
+}
+
+/// Whether an address is above another, where there is one.
+fn is_past(above: Option<u32>, address: u32) -> bool
+    ensures { result ≡ hint.is_past above address }
+{
+    match above {
+        Some(above) => above < address,
+        None => true,
+    }
+}
+
+/// What the address of a put doesn't fulfil, behind a put with an address or behind none.
+fn place_text(alloc: Global, above: Option<u32>, address: u32) -> Result<String, AllocError>
+    ensures { IfOk result (λ t. string_bytes t ≡ hint.place_text above address) }
+{
+    if address % 8 == 0 && is_past(above, address) {
+        return String::from_str(alloc, "an address at which storage has eight bytes");
+    }
+    match above {
+        Some(above) => {
+            let above = Address(above);
+            format!(in alloc; "an address above {above} that is a multiple of 8")
+        }
+        None => String::from_str(alloc, "an address that is a multiple of 8"),
+    }
+}
+
+/// What a put at a spot doesn't fulfil by its address.
+fn expected_place(alloc: Global, spot: &Spot<'_>) -> Result<String, AllocError>
+    ensures { IfOk result (λ t. (i : Maybe Item) (a : ℕ) (word : List ℕ) → IsSaidBy spot.now.last i
+        → Says spot.now.found.now (put a word)
+        → string_bytes t ≡ hint.place_text (hint.put_address i) a) }
+{
+    let values = digit_values();
+    let above = last_put(spot.last, &values);
+    let address = put_address(spot.found, &values).unwrap_or(0);
+    place_text(alloc, above, address)
+}
+
+/// The condition that a line refused for a cause doesn't fulfil, whatever it says.
+fn condition(cause: Cause) -> &'static str
+    ensures { result.now ≡ condition_of cause }
+{
+    match cause {
+        Cause::Mask => "a mask with no bits on but C0 and 18",
+        Cause::ExtentBackwards => "a last cylinder that isn't below the first",
+        Cause::ExtentPastDevice => "a last cylinder of at most 202",
+        Cause::Size => "a multiple of 8 that is at most 1000000",
+        Cause::PutZero => "eight bytes that aren't all zero",
+        Cause::After => "nothing behind the line end",
+        Cause::Limit => "a limit from 00001 to 65536",
+        _ => "",
+    }
+}
+
+/// The forms that may stand at a spot.
+fn expected_forms(alloc: Global, spot: &Spot<'_>) -> Result<String, AllocError>
+    ensures { IfOk result (λ t. (before : List Item) → IsBehind before spot.now
+        → string_bytes t ≡ forms_text before spot.now.found.now) }
+{
+    form_text(alloc, forms_behind(spot.last, spot.is_second), spot.found)
+}
+
+/// What is expected where a text ends.
+fn expected_at_end(alloc: Global, spot: &Spot<'_>) -> Result<String, AllocError>
+    ensures { IfOk result (λ t. (before : List Item) → IsBehind before spot.now
+        → IsExpected before (found_as spot.now.is_whole spot.now.found.now) causes.Ended
+        (string_bytes t)) }
+{
+    if spot.is_whole || spot.found.is_empty() {
+        return expected_forms(alloc, spot);
+    }
+    String::from_str(alloc, "a line feed behind this line")
+}
+
+/// What is expected in place of what is found.
+fn expected_text(alloc: Global, spot: &Spot<'_>, cause: Cause) -> Result<String, AllocError>
+    ensures { IfOk result (λ t. (before : List Item) → IsBehind before spot.now
+        → IsExpected before (found_as spot.now.is_whole spot.now.found.now) cause
+        (string_bytes t)) }
+{
+    match cause {
+        Cause::Ended => expected_at_end(alloc, spot),
+        Cause::Header | Cause::Form => expected_forms(alloc, spot),
+        Cause::PutAddress => expected_place(alloc, spot),
+        _ => String::from_str(alloc, condition(cause)),
+    }
+}
+
+/// The hint for a text that is refused at this line for this cause: a line `found ` with the line
+/// as it stands, and a line `expected ` with what may stand in its place, or the condition that it
+/// doesn't fulfil. An error is want of memory.
+///
+/// Of the line 60 characters are shown at most; a byte that isn't printable ASCII is shown as `\x`
+/// and two digits. Where several forms may stand, their keywords are given, but the picture of the
+/// one whose keyword the line begins with.
+pub fn hint_text(alloc: Global, text: &[u8], line: u64, cause: Cause) -> Result<Vec<u8>, AllocError>
+    ensures { IfOk result (λ v. IsHint text.now line cause v.items) }
+{
+    let spot = spot_behind(text, line.saturating_sub(1));
+    let expected = expected_text(alloc, &spot, cause)?;
+    let mut out = Vec::new(alloc);
+    out.extend_from_slice(b"found ")?;
+    push_shown(alloc, &mut out, spot.found, SHOWN)?;
+    out.extend_from_slice(b"\nexpected ")?;
+    out.extend_from_slice(expected.as_bytes())?;
+    out.push(b'\n')?;
+    Ok(out)
+}
