@@ -44,3 +44,4 @@ pub mod Changing
 pub mod Causes
 pub mod Given
 pub mod Answering
+pub mod Noted

@@ -34,3 +34,4 @@ pub mod Paths
 pub mod Evidence
 pub mod Changed
 pub mod Explained
+pub mod Notes

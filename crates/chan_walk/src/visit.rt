@@ -107,6 +107,14 @@ pub(crate) fn sets_mask_at(place: Place, word: Ccw) -> bool
     }
 }
 
+/// The CCW `word` fetches at a place.
+pub(crate) fn fetches_at(place: Place, word: Ccw) -> bool
+    ensures { result ≡ fault.fetches place word }
+{
+    let kind = kind_of(place.entered, begun_command(place, &word));
+    !word.is_transfer() && matches!(kind, Kind::Outward | Kind::Search)
+}
+
 /// The command of the table that begins at a place whose CCW is `word`.
 fn begun_command(place: Place, word: &Ccw) -> Option<Command>
     ensures { option_map entry_of result ≡ begun place word.now }

@@ -1,0 +1,123 @@
+-- What a verdict leaves open: areas lent in vain, CCWs that interrupt, and CCWs that end the program
+-- though their flags say that it goes on.
+use Rattle.std.specs.Prelude.{◌≡◌, ℕ, ◌+◌, ◌<◌, ◌≤◌, nat_lt, Bool, true, false, not, ◌&&◌, ◌⊎◌, ◌↔◌}
+use Rattle.std.specs.Prelude.{List, length, Option, None, Some, IsTrue}
+use Rattle.std.specs.List.{filter}
+use Rattle.std.specs.List.Sorted.{IsStrictlyIncreasing}
+use Rattle.ccw_core.specs.declared.areas.Area.{Area}
+use Rattle.ccw_core.specs.Areas.{lies_in}
+use Rattle.ccw_core.specs.Ccw.{Fields, chains_command, chains_data, is_on, is_transfer}
+use Rattle.ccw_core.specs.Storage.{Stands}
+use Rattle.ckd_core.specs.declared.command.Kind.{Kind}
+use Rattle.ckd_core.specs.declared.command.Kind.TheVariants.{Idle, Inward, Outward, Search}
+use Rattle.ckd_core.specs.Table.{Entry as Command, lookup}
+use Rattle.chan_walk.specs.declared.job.Job.{Job}
+use Rattle.chan_walk.specs.declared.place.Place.{Place}
+use Rattle.chan_walk.specs.Argument.{Has}
+use Rattle.chan_walk.specs.Evidence.{data_at, data_of}
+use Rattle.chan_walk.specs.Fault.{fetches, stores}
+use Rattle.chan_walk.specs.Job.{storage_of}
+use Rattle.chan_walk.specs.Look.{Seen}
+use Rattle.chan_walk.specs.Place.{is_fresh, word_at}
+use Rattle.chan_walk.specs.Ranges.{end_of}
+use Rattle.chan_walk.specs.Reachable.{IsReachable}
+
+-- ---- areas
+
+-- the area ends above the last byte of storage
+abbrev pub reaches_past_storage : Job → Area → Bool
+reaches_past_storage j a = nat_lt (length (storage_of j)) (end_of a)
+
+-- a CCW stands at p and, entered as p is, passes the test, whether or not p has an own fault
+abbrev pub Passes : (Place → Fields → Bool) → Job → Place → Type 0
+Passes test j p = Stands (storage_of j) p.address × (test p (word_at j p) ≡ true)
+
+-- the byte at b is in the data range of a reachable CCW that passes the test
+pub record IsDataOf (test : Place → Fields → Bool) (j : Job) (b : ℕ) : Type 0 where
+  pub place : Place
+  pub reached : IsReachable j place
+  pub passes : Passes test j place
+  pub from : (data_at j place).start ≤ b
+  pub below : b < end_of (data_at j place)
+
+-- a reachable CCW fetches the byte at b
+abbrev pub IsFetchedFrom : Job → ℕ → Type 0
+IsFetchedFrom j b = IsDataOf fetches j b
+
+-- a reachable CCW stores into the byte at b
+abbrev pub IsStoredInto : Job → ℕ → Type 0
+IsStoredInto j b = IsDataOf stores j b
+
+-- the area has a byte that is used
+abbrev pub IsUsed : (ℕ → Type 0) → Area → Type 0
+IsUsed Used a = (b : ℕ) × (a.start ≤ b) × (b < end_of a) × Used b
+
+-- the second list has the areas of the first that are not used, in their order
+pub record AreUnused (Used : ℕ → Type 0) (areas unused : List Area) : Type 0 where
+  pub is_used : Area → Bool
+  pub right : (a : Area) → (is_used a ≡ true) ↔ IsUsed Used a
+  pub are : unused ≡ filter (λ a. not (is_used a)) areas
+
+-- ---- CCWs
+
+-- the flag for a program-controlled interruption is on: the channel asks for an interruption when
+-- it takes up the CCW (System/360 Principles of Operation, A22-6821)
+unfoldable pub asks_interruption : Fields → Bool
+asks_interruption c = is_on c.flags 0x08
+
+-- so it does with the CCW c; in a transfer in channel the flags mean nothing
+abbrev pub interrupts : Place → Fields → Bool
+interrupts p c = not (is_transfer c) && asks_interruption c
+
+-- the kind moves no data
+abbrev pub moves_nothing : Kind → Bool
+moves_nothing Idle = true
+moves_nothing Inward = false
+moves_nothing Outward = false
+moves_nothing Search = false
+
+-- so does a command that was looked up; a code of no command is none
+abbrev pub is_idle : Option Command → Bool
+is_idle None = false
+is_idle (Some k) = moves_nothing k.kind
+
+-- No Operation or Recalibrate begins, the two commands that move no data, and both chaining flags
+-- are on: by chain command the program goes on, but chain data counts, by which such an operation
+-- never does
+abbrev pub ends_there : Place → Fields → Bool
+ends_there p c =
+    is_fresh p.entered && is_idle (lookup c.command) && chains_data c && chains_command c
+
+-- a is the address of a reachable CCW that passes the test
+pub record IsPassedAt (test : Place → Fields → Bool) (j : Job) (a : ℕ) : Type 0 where
+  pub place : Place
+  pub reached : IsReachable j place
+  pub passes : Passes test j place
+  pub address : place.address ≡ a
+
+-- the list has the addresses of these CCWs, each once, rising
+pub record ArePassed (test : Place → Fields → Bool) (j : Job) (addresses : List ℕ) : Type 0 where
+  pub rising : IsStrictlyIncreasing addresses
+  pub exactly : (a : ℕ) → Has addresses a ↔ IsPassedAt test j a
+
+-- ---- place by place
+
+-- the areas have exactly the bytes of the data of these CCWs
+abbrev pub HoldData : (Place → Fields → Bool) → Job → List Area → Type 0
+HoldData test j areas = (b : ℕ) → (lies_in areas b ≡ true) ↔ IsDataOf test j b
+
+-- it is so, and the byte at b is in the data range of the CCW that was seen
+pub record IsSeenByte (l : Seen) (is_so : Bool) (b : ℕ) : Type 0 where
+  pub ccw : Fields
+  pub seen : l.ccw ≡ Some ccw
+  pub so : is_so ≡ true
+  pub from : (data_of ccw).start ≤ b
+  pub below : b < end_of (data_of ccw)
+
+-- a CCW was seen that passes the test
+abbrev pub IsSeenWith : (Place → Fields → Bool) → Seen → Type 0
+IsSeenWith test l = (c : Fields) × (l.ccw ≡ Some c) × (test l.place c ≡ true)
+
+-- the new addresses are the old ones, a if it is so, and no others
+abbrev pub AddsAddress : Bool → ℕ → List ℕ → List ℕ → Type 0
+AddsAddress is_so a old new = (b : ℕ) → Has new b ↔ (Has old b ⊎ (IsTrue is_so × (a ≡ b)))
