@@ -12,3 +12,4 @@ pub mod Listing
 pub mod Explanation
 pub mod Graph
 pub mod Hint
+pub mod Notes

@@ -7,3 +7,4 @@ pub mod Report
 pub mod Options
 pub mod Imaging
 pub mod OptionFault
+pub mod Advice

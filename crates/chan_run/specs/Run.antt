@@ -196,6 +196,13 @@ pub record IsInput (old new : Option (List ℕ)) (t : List ℕ) : Type 0 where
   pub gave : GaveAll old new t
   pub short : length t ≤ 67108864
 
+-- the input wasn't read to its end, for this fault
+abbrev pub IsReadFault : Option (List ℕ) → Option (List ℕ) → RunError → Type 0
+IsReadFault old new Read = GaveOut 67108864 old new
+IsReadFault old new TooLong = GaveTooMuch 67108864 old new
+IsReadFault old new Memory = Unit {0}
+IsReadFault old new fault = ⊥
+
 -- the input was read to its end, and this is the answer for its text
 pub record IsReadAnswer (front : List ℕ) (a : Action)
     (old_in new_in old_out new_out : Option (List ℕ)) (answer : Result Status RunError) : Type 0 where

@@ -14,6 +14,7 @@
 //! `run_named` and `report_named` do the same over one of several inputs, which have names.
 #![tactic(auto)]
 
+mod advising;
 #[cfg(test)]
 mod devices;
 mod image;
@@ -28,12 +29,15 @@ mod reporting;
 mod running;
 mod showing;
 
+pub use crate::advising::advice_on;
 pub use crate::image::{ImageError, write_image};
 pub use crate::image_options::{ImageOption, ImageOptions, ImageWords, OptionError, OptionFault};
 pub use crate::meaning::{MeaningError, Term, explain_word, term_of};
 pub use crate::option_fault::report_option;
 pub use crate::option_reading::options_of;
 pub use crate::options::{address_of, area_of, cylinders_of, device_of, limit_of, mask_of};
-pub use crate::reporting::{Outcome, ends_run, greater_status, report, report_named};
-pub use crate::running::{Action, RunError, Status, run, run_named};
+pub use crate::reporting::{
+    Outcome, ends_run, exit_status, greater_status, has_advice, report, report_named,
+};
+pub use crate::running::{Action, RunError, Status, read_text, run, run_named, run_text};
 pub use crate::showing::{ShowError, show};

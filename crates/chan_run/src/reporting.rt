@@ -6,7 +6,7 @@ ghost use Rattle.std.specs.Io.KnownBytes.{Appends};
 ghost use Rattle.std.specs.Fmt.{decimal};
 ghost use Rattle.ccw_core.specs.Written.{AppendsPrefix};
 ghost use Rattle.chan_run.specs.Naming.{name_before, name_in};
-ghost use Rattle.chan_run.specs.Report.{IsWriteFailure, is_on_input, line_of, line_over};
+ghost use Rattle.chan_run.specs.Report.{IsOnText, IsWriteFailure, is_on_input, line_of, line_over};
 ghost use Rattle.chan_run.specs.Report.{program_of, refusal_of, status_of, text_of, word_of};
 
 use crate::image::ImageError;
@@ -56,7 +56,7 @@ pub fn report<W: Write>(outcome: Outcome, to: &mut Watched<W>) -> u8
         (line_of outcome) }
 {
     let _ = write_line(None, outcome, to);
-    status(outcome)
+    exit_status(outcome)
 }
 
 /// As `report`, of what came of an input that has a name.
@@ -72,7 +72,7 @@ pub fn report_named<W: Write>(name: &str, outcome: Outcome, to: &mut Watched<W>)
         (line_over (Some name.now) outcome) }
 {
     let _ = write_line(Some(name), outcome, to);
-    status(outcome)
+    exit_status(outcome)
 }
 
 /// Whether a write failed, so that a run over several inputs ends with this one.
@@ -88,6 +88,13 @@ pub fn ends_run(outcome: Outcome) -> bool
     )
 }
 
+/// Whether there is advice on the text: it was judged, or it is no deck.
+pub fn has_advice(outcome: Outcome) -> bool
+    ensures { IsTrue result ↔ IsOnText outcome }
+{
+    matches!(outcome, Outcome::Ran(Ok(_) | Err(RunError::Deck { .. })))
+}
+
 /// The exit status of a run over several inputs, from that of those before and that of one more:
 /// the greater of the two.
 pub fn greater_status(so_far: u8, status: u8) -> u8
@@ -97,7 +104,8 @@ pub fn greater_status(so_far: u8, status: u8) -> u8
     so_far.max(status)
 }
 
-fn status(outcome: Outcome) -> u8
+/// The exit status of an outcome.
+pub fn exit_status(outcome: Outcome) -> u8
     ensures { result ≡ status_of outcome }
 {
     match outcome {

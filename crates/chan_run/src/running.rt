@@ -1,12 +1,12 @@
 //! Running over a deck: from the reader's bytes to the writer's.
 
-ghost use Rattle.std.specs.Prelude.{◌≡◌, ◌≢◌, ◌↔◌, ◌++◌, [], false, true, IsErrOf, OnOk};
+ghost use Rattle.std.specs.Prelude.{◌≡◌, ◌≢◌, ◌↔◌, ◌++◌, [], false, true, IfErr, IfOk, IsErrOf, OnOk};
 ghost use Rattle.std.specs.Io.KnownBytes.{Appends};
 ghost use Rattle.ccw_core.specs.Written.{AppendsPrefix};
 ghost use Rattle.chan_deck.specs.Texts.{verdict_line};
 ghost use Rattle.chan_run.specs.Naming.{name_in};
 ghost use Rattle.chan_run.specs.Run.{IsAnswerBehind, IsEarly, IsJobAnswer, IsNamedAnswer};
-ghost use Rattle.chan_run.specs.Run.{IsRunAnswer};
+ghost use Rattle.chan_run.specs.Run.{IsInput, IsReadFault, IsRunAnswer};
 ghost use Rattle.chan_run.specs.Run.{IsTextAnswer, front_of, output_of, status_of_verdict};
 ghost use Rattle.chan_run.specs.declared.running.Action.TheVariants as actions;
 
@@ -135,17 +135,34 @@ fn run_behind<R: Read, W: Write>(
     ensures read { IsErrOf result RunError.Read ↔ (from.new.failed ≡ true) }
     ensures write { IsErrOf result RunError.Write ↔ (to.new.failed ≡ true) }
 {
-    let text = match read_input(alloc, TEXT_LIMIT, from) {
-        Ok(text) => text,
-        Err(InputError::Read) => return Err(RunError::Read),
-        Err(InputError::TooLong) => return Err(RunError::TooLong),
-        Err(InputError::Memory) => return Err(RunError::Memory),
-    };
-    answer(alloc, name, action, text.as_slice(), to)
+    let text = read_text(alloc, from)?;
+    run_text(alloc, name, action, text.as_slice(), to)
 }
 
-/// Verifies the job of the deck that a text spells, and writes what the action asks for.
-fn answer<W: Write>(
+/// The text of the input, read to its end: at most 67,108,864 bytes.
+///
+/// `Read` comes exactly where the reader failed, before more bytes came; `TooLong` where more came;
+/// `Memory` where an allocation was refused; and no other error. Over an endless reader it returns,
+/// with `TooLong`.
+pub fn read_text<R: Read>(alloc: Global, from: &mut Watched<R>) -> Result<Vec<u8>, RunError>
+    requires { from.old.failed ≡ false }
+    ensures ok { IfOk result (λ text. IsInput (R.remaining from.old.device)
+        (R.remaining from.new.device) text.items) }
+    ensures err { IfErr result (IsReadFault (R.remaining from.old.device)
+        (R.remaining from.new.device)) }
+    ensures read { IsErrOf result RunError.Read ↔ (from.new.failed ≡ true) }
+{
+    match read_input(alloc, TEXT_LIMIT, from) {
+        Ok(text) => Ok(text),
+        Err(InputError::Read) => Err(RunError::Read),
+        Err(InputError::TooLong) => Err(RunError::TooLong),
+        Err(InputError::Memory) => Err(RunError::Memory),
+    }
+}
+
+/// Verifies the job of the deck that a text spells, and writes what the action asks for: what `run`
+/// and, where there is a name, `run_named` do with the text of the input.
+pub fn run_text<W: Write>(
     alloc: Global,
     name: Option<&str>,
     action: Action,

@@ -14,10 +14,11 @@ mod image_command;
 
 use crate::command_line::{Request, read_request};
 use crate::image_command::ImageRequest;
-use ccw_core::Watched;
+use ccw_core::{Watched, write_out};
 use chan_run::{
-    Action, ImageOptions, OptionError, Outcome, ends_run, explain_word, greater_status, options_of,
-    report, report_named, report_option, run, run_named, show, write_image,
+    Action, ImageOptions, OptionError, Outcome, RunError, advice_on, ends_run, exit_status,
+    explain_word, greater_status, has_advice, options_of, read_text, report, report_named,
+    report_option, run_text, show, write_image,
 };
 use std::fs::File;
 use std::io;
@@ -67,7 +68,9 @@ fn main(rt: HostRuntime) -> ExitCode {
 fn answered(rt: &HostRuntime, words: &[String]) -> u8 {
     let outcome = match read_request(rt.alloc(), words) {
         Request::Show(text) => shown(rt, text),
-        Request::Run(action) => ran(rt, action, None, Input::Standard(rt.stdin())),
+        Request::Run(action) => {
+            return exit_status(ran(rt, action, None, Input::Standard(rt.stdin())));
+        }
         Request::RunNamed(action, names) => return ran_over(rt, action, names.as_slice()),
         Request::Image(request) => return imaged(rt, &request),
         Request::Explain(word) => explained(rt, word),
@@ -85,7 +88,16 @@ fn answered(rt: &HostRuntime, words: &[String]) -> u8 {
 }
 
 fn reported(rt: &HostRuntime, outcome: Outcome) -> u8 {
-    report(outcome, &mut Watched::new(rt.stderr()))
+    reported_over(rt, None, outcome)
+}
+
+/// Reports what came of an input that may have a name, and gives the exit status.
+fn reported_over(rt: &HostRuntime, name: Option<&str>, outcome: Outcome) -> u8 {
+    let mut errors = Watched::new(rt.stderr());
+    match name {
+        Some(name) => report_named(name, outcome, &mut errors),
+        None => report(outcome, &mut errors),
+    }
 }
 
 fn read_words(rt: &HostRuntime) -> io::Result<Vec<String>> {
@@ -119,8 +131,7 @@ fn ran_over(rt: &HostRuntime, action: Action, names: &[&str]) -> u8 {
     let mut greatest = 0;
     for name in names {
         let outcome = opened(rt, action, name);
-        let status = report_named(name, outcome, &mut Watched::new(rt.stderr()));
-        greatest = greater_status(greatest, status);
+        greatest = greater_status(greatest, exit_status(outcome));
         if ends_run(outcome) {
             break;
         }
@@ -135,22 +146,52 @@ fn opened(rt: &HostRuntime, action: Action, name: &str) -> Outcome {
     }
     match File::open(rt, name) {
         Ok(file) => ran(rt, action, Some(name), Input::File(file)),
-        Err(_) => Outcome::CannotOpen,
+        Err(_) => {
+            reported_over(rt, Some(name), Outcome::CannotOpen);
+            Outcome::CannotOpen
+        }
     }
 }
 
-/// Runs over an input that may have a name.
+/// Runs over an input that may have a name, and reports what came of it. Beside an explanation, or
+/// in its place where the text is no deck, stands the advice on the text.
 fn ran(rt: &HostRuntime, action: Action, name: Option<&str>, input: Input) -> Outcome {
-    let mut input = Watched::new(input);
-    let mut output = Watched::new(rt.stdout());
-    let answer = match name {
-        Some(name) => run_named(rt.alloc(), name, action, &mut input, &mut output),
-        None => run(rt.alloc(), action, &mut input, &mut output),
+    let text = match read_text(rt.alloc(), &mut Watched::new(input)) {
+        Ok(text) => text,
+        Err(error) => {
+            reported_over(rt, name, Outcome::Ran(Err(error)));
+            return Outcome::Ran(Err(error));
+        }
     };
+    let outcome = answered_text(rt, action, name, text.as_slice());
+    reported_over(rt, name, outcome);
+    if action == Action::Why && has_advice(outcome) {
+        advise(rt, text.as_slice());
+    }
+    outcome
+}
+
+/// Does with a text what the action asks for.
+fn answered_text(rt: &HostRuntime, action: Action, name: Option<&str>, text: &[u8]) -> Outcome {
+    let mut output = Watched::new(rt.stdout());
+    let answer = run_text(rt.alloc(), name, action, text, &mut output);
     if answer.is_ok() && output.into_inner().flush().is_err() {
         return Outcome::FlushFailed;
     }
     Outcome::Ran(answer)
+}
+
+/// Writes the advice on a text on standard error. The exit status stays as it is, also where memory
+/// is wanting, which is then said.
+fn advise(rt: &HostRuntime, text: &[u8]) {
+    match advice_on(rt.alloc(), text) {
+        Ok(advice) => {
+            let _ = write_out(advice.as_slice(), &mut Watched::new(rt.stderr()));
+        }
+        Err(_) => {
+            reported(rt, Outcome::Ran(Err(RunError::Memory)));
+        }
+    }
 }
 
 /// Makes a deck of an image of storage, and gives the exit status.
@@ -162,14 +203,14 @@ fn imaged(rt: &HostRuntime, request: &ImageRequest<'_>) -> u8 {
         }
         Err(OptionError::Memory) => return reported(rt, Outcome::NoMemoryForCommandLine),
     };
-    let Some(name) = request.file else {
-        return reported(rt, written(rt, &options, Input::Standard(rt.stdin())));
+    let outcome = match request.file {
+        None => written(rt, &options, Input::Standard(rt.stdin())),
+        Some(name) => match File::open(rt, name) {
+            Ok(file) => written(rt, &options, Input::File(file)),
+            Err(_) => Outcome::CannotOpen,
+        },
     };
-    let outcome = match File::open(rt, name) {
-        Ok(file) => written(rt, &options, Input::File(file)),
-        Err(_) => Outcome::CannotOpen,
-    };
-    report_named(name, outcome, &mut Watched::new(rt.stderr()))
+    reported_over(rt, request.file, outcome)
 }
 
 /// Writes the deck that the options make with an image.

@@ -4,7 +4,7 @@ use Rattle.chan_run.specs.declared.running.Action.TheVariants as actions
 use Rattle.chan_run.specs.Naming.{name_in}
 use Rattle.chan_run.specs.Run.{IsTextAnswer, front_of}
 use Rattle.chan_run.proofs.Outputs.{text_answer}
-use Rattle.chan_run.proofs.running.answer.Goals as goal
+use Rattle.chan_run.proofs.running.run_text.Goals as goal
 
 pub returns-in-Why-clause-answer : goal.returns-in-Why-clause-answer
 returns-in-Why-clause-answer g c =
