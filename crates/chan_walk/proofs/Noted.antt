@@ -21,7 +21,7 @@ use Rattle.chan_walk.specs.Guard.{AddsBytes}
 use Rattle.chan_walk.specs.Job.{storage_of}
 use Rattle.chan_walk.specs.Least.{AreReached}
 use Rattle.chan_walk.specs.Look.{IsLook, Seen}
-use Rattle.chan_walk.specs.Notes.{AddsAddress, ArePassed, AreUnused, HoldData, IsDataOf, IsPassedAt, IsSeenByte, IsSeenWith, IsUsed, Passes}
+use Rattle.chan_walk.specs.Notes.{AddsAddress, AreAddressesOf, AreUnused, HoldData, IsDataOf, IsAddressOf, IsSeenByte, IsSeenWith, IsUsed, Passes}
 use Rattle.chan_walk.specs.Place.{word_at}
 use Rattle.chan_walk.specs.Ranges.{end_of, Meets}
 use Rattle.chan_walk.specs.Reachable.{IsReachable}
@@ -178,16 +178,16 @@ adds_address test j l so old new look same adds a = ((λ h. to ((adds a).0 h)), 
     from (inr h) = inr (same.1 (word_at j l.place, word_seen j l look h.0.0, h.0.1), h.1)
 
 -- over the reachable places, each once
-pub all_addresses : (test : Place → Fields → Bool) (j : Job) (some ps : List Place) (xs ys : List ℕ) → some ≡ ps → AreReached j ps → HoldAddresses (Has xs) (HasAddress test j) some → IsStrictlyIncreasing ys → ((a : ℕ) → Has ys a ↔ Has xs a) → ArePassed test j ys
+pub all_addresses : (test : Place → Fields → Bool) (j : Job) (some ps : List Place) (xs ys : List ℕ) → some ≡ ps → AreReached j ps → HoldAddresses (Has xs) (HasAddress test j) some → IsStrictlyIncreasing ys → ((a : ℕ) → Has ys a ↔ Has xs a) → AreAddressesOf test j ys
 all_addresses test j some ps xs ys e r f up same = record {
   rising = up;
   exactly = λ a. ((λ h. to a ((f a).0 ((same a).0 h))), λ h. (same a).1 ((f a).1 (from a h)));
 }
   where
-    to : (a : ℕ) → (p : Place) × Has some p × HasAddress test j p a → IsPassedAt test j a
+    to : (a : ℕ) → (p : Place) × Has some p × HasAddress test j p a → IsAddressOf test j a
     to a k = record { place = k.0; reached = r.1 k.0 (subst (λ (z : List Place). Has z k.0) e k.1); passes = k.2.0; address = k.2.1 }
 
-    from : (a : ℕ) → IsPassedAt test j a → (p : Place) × Has some p × HasAddress test j p a
+    from : (a : ℕ) → IsAddressOf test j a → (p : Place) × Has some p × HasAddress test j p a
     from a k = (k.place, subst (λ (z : List Place). Has z k.place) (sym e) (r.0 k.place k.reached), (k.passes, k.address))
 
 -- sorted, and each once

@@ -1,5 +1,5 @@
--- What a verdict leaves open: areas lent in vain, CCWs that interrupt, and CCWs that end the program
--- though their flags say that it goes on.
+-- What a verdict leaves open: areas lent in vain, CCWs that interrupt, and CCWs at which the program
+-- ends though chain command is on.
 use Rattle.std.specs.Prelude.{◌≡◌, ℕ, ◌+◌, ◌<◌, ◌≤◌, nat_lt, Bool, true, false, not, ◌&&◌, ◌⊎◌, ◌↔◌}
 use Rattle.std.specs.Prelude.{List, length, Option, None, Some, IsTrue}
 use Rattle.std.specs.List.{filter}
@@ -82,23 +82,22 @@ is_idle None = false
 is_idle (Some k) = moves_nothing k.kind
 
 -- No Operation or Recalibrate begins, the two commands that move no data, and both chaining flags
--- are on: by chain command the program goes on, but chain data counts, by which such an operation
--- never does
+-- are on: chain data counts, not chain command, and by it such an operation never goes on
 abbrev pub ends_there : Place → Fields → Bool
 ends_there p c =
     is_fresh p.entered && is_idle (lookup c.command) && chains_data c && chains_command c
 
 -- a is the address of a reachable CCW that passes the test
-pub record IsPassedAt (test : Place → Fields → Bool) (j : Job) (a : ℕ) : Type 0 where
+pub record IsAddressOf (test : Place → Fields → Bool) (j : Job) (a : ℕ) : Type 0 where
   pub place : Place
   pub reached : IsReachable j place
   pub passes : Passes test j place
   pub address : place.address ≡ a
 
 -- the list has the addresses of these CCWs, each once, rising
-pub record ArePassed (test : Place → Fields → Bool) (j : Job) (addresses : List ℕ) : Type 0 where
+pub record AreAddressesOf (test : Place → Fields → Bool) (j : Job) (addresses : List ℕ) : Type 0 where
   pub rising : IsStrictlyIncreasing addresses
-  pub exactly : (a : ℕ) → Has addresses a ↔ IsPassedAt test j a
+  pub exactly : (a : ℕ) → Has addresses a ↔ IsAddressOf test j a
 
 -- ---- place by place
 

@@ -4,8 +4,8 @@ use ccw_core::Area;
 
 /// What a verdict leaves open, and people trip over.
 ///
-/// A reachable CCW counts here whether or not a place of its has an own fault: the program asks for
-/// it all the same.
+/// A reachable CCW counts, whether or not its place has an own fault: the program asks for it all
+/// the same.
 #[derive(Debug, Drop)]
 pub struct Notes {
     /// The areas lent for fetching that end past storage, in the job's order.
