@@ -1,30 +1,35 @@
 -- Notes: areas lent in vain, and the addresses of CCWs that pass a test.
-use Rattle.std.proofs.Common.{◌≡◌, ℕ, zero, suc, ◌+◌, ◌<◌, ◌≤◌, ◌^◌, Bool, true, false, not, ◌&&◌, ◌||◌, cond, IsTrue, List, [], ◌∷◌, ◌++◌, append-nil, length, get_or, take, Option, Some, None, refl, sym, ap, ◌∙◌, subst, ◌⊎◌, inl, inr, ◌↔◌, arith, eqb}
+use Rattle.std.proofs.Common.{◌≡◌, ℕ, zero, suc, ◌+◌, ◌<◌, ◌≤◌, Bool, true, false, not, ◌&&◌, ◌||◌, cond, IsTrue, List, [], ◌∷◌, ◌++◌, append-nil, length, get_or, take, Some, refl, sym, ap, ◌∙◌, subst, ◌⊎◌, inl, inr, ◌↔◌, arith, eqb}
 use Rattle.std.specs.List.{dedup, filter}
 use Rattle.std.specs.List.Sorted.{IsPermutation, IsStrictlyIncreasing}
-use Rattle.std.proofs.lemmas.Bool.{both_ways, or_cases, or_left, or_right, cases_lt}
+use Rattle.std.proofs.lemmas.Bool.{and_parts, both_ways, or_cases, or_left, or_right, cases_lt}
 use Rattle.std.proofs.lemmas.Option.{same_Some}
 use Rattle.std.proofs.lemmas.List.Elements.{filter_more}
 use Rattle.std.proofs.lemmas.List.Kept.{Contains-dedup_nat, Contains-from_dedup}
 use Rattle.std.proofs.lemmas.List.Sorted.{Contains-permutation, IsPermutation-sym}
 use Rattle.ccw_core.specs.declared.areas.Area.{Area}
 use Rattle.ccw_core.specs.Areas.{lies_in}
-use Rattle.ccw_core.specs.Ccw.{Fields, ccw}
-use Rattle.ccw_core.specs.Storage.{Stands, ccw_at}
+use Rattle.ccw_core.specs.Ccw.{Fields, chains_command, chains_data, is_transfer}
+use Rattle.ccw_core.specs.Storage.{Stands}
 use Rattle.ccw_core.proofs.Covering.{lies_in-nil}
 use Rattle.ccw_core.proofs.StorageLemmas.{ccw_at-some, ccw_at-where}
+use Rattle.ckd_core.specs.declared.command.Kind.TheVariants.{Idle}
+use Rattle.ckd_core.specs.Table.{lookup}
 use Rattle.chan_walk.specs.declared.job.Job.{Job}
+use Rattle.chan_walk.specs.declared.place.Entry.{Entry}
+use Rattle.chan_walk.specs.declared.place.Entry.TheVariants.{Fresh, ChainIn, ChainOut, ChainSearch}
 use Rattle.chan_walk.specs.declared.place.Place.{Place}
 use Rattle.chan_walk.specs.Argument.{Has}
 use Rattle.chan_walk.specs.Evidence.{data_at, data_of}
+use Rattle.chan_walk.specs.Fault.{kind_of, kind_of_command}
 use Rattle.chan_walk.specs.Guard.{AddsBytes}
 use Rattle.chan_walk.specs.Job.{storage_of}
 use Rattle.chan_walk.specs.Least.{AreReached}
 use Rattle.chan_walk.specs.Look.{IsLook, Seen}
-use Rattle.chan_walk.specs.Notes.{AddsAddress, AreAddressesOf, AreUnused, HoldData, IsDataOf, IsAddressOf, IsSeenByte, IsSeenWith, IsUsed, Passes}
-use Rattle.chan_walk.specs.Place.{word_at}
+use Rattle.chan_walk.specs.Notes.{AddsAddress, AreAddressesOf, AreUnused, HoldData, IsDataOf, IsAddressOf, IsSeenByte, IsSeenWith, IsUsed, NothingFollows, Passes, is_idle}
+use Rattle.chan_walk.specs.Place.{is_fresh, word_at}
 use Rattle.chan_walk.specs.Ranges.{end_of, Meets}
-use Rattle.chan_walk.specs.Reachable.{IsReachable}
+use Rattle.chan_walk.proofs.Commands.{idle_is_no_transfer}
 use Rattle.chan_walk.proofs.Guarding.{HoldBytes}
 use Rattle.chan_walk.proofs.Lists.{contains_has, has_cases, has_contains, has_left, has_push, has_right}
 use Rattle.chan_walk.proofs.Merging.{InArea, lies_in-cases, lies_in-first}
@@ -223,3 +228,26 @@ address_added so here a old new s e n b = ((λ h. to ((has_push old here b).0 (s
     from : Has old b ⊎ (IsTrue so × (a ≡ b)) → Has old b ⊎ (here ≡ b)
     from (inl h) = inl h
     from (inr h) = inr (e ∙ h.1)
+
+-- ---- where a program ends
+
+fresh_kind : (e : Entry) (c : Fields) → is_fresh e ≡ true → kind_of e c ≡ kind_of_command (lookup c.command)
+fresh_kind Fresh c h = refl
+fresh_kind ChainIn c h = absurd (cc)
+fresh_kind ChainOut c h = absurd (cc)
+fresh_kind ChainSearch c h = absurd (cc)
+
+pub nothing_follows : NothingFollows
+nothing_follows p c h = (rw (idle.1, parts.1, kind) refl, rw (idle.1, parts.1) refl)
+  where
+    parts : ((is_fresh p.entered && is_idle (lookup c.command)) ≡ true) × (chains_data c ≡ true)
+    parts = and_parts (is_fresh p.entered && is_idle (lookup c.command)) (chains_data c) (and_parts (is_fresh p.entered && is_idle (lookup c.command) && chains_data c) (chains_command c) h).0
+
+    begins : (is_fresh p.entered ≡ true) × (is_idle (lookup c.command) ≡ true)
+    begins = and_parts (is_fresh p.entered) (is_idle (lookup c.command)) parts.0
+
+    idle : (kind_of_command (lookup c.command) ≡ Idle) × (is_transfer c ≡ false)
+    idle = idle_is_no_transfer c begins.1
+
+    kind : kind_of p.entered c ≡ Idle
+    kind = fresh_kind p.entered c begins.0 ∙ idle.0

@@ -12,11 +12,11 @@ pub struct Notes {
     pub fetch_past_storage: Vec<Area>,
     /// The areas lent for storing that end past storage, in the job's order.
     pub store_past_storage: Vec<Area>,
-    /// The areas lent for fetching of which no reachable CCW fetches a byte, in the job's order; so
-    /// each that is empty.
+    /// The areas lent for fetching of which no reachable CCW fetches a byte, in the job's order;
+    /// each empty area is one.
     pub unused_fetch: Vec<Area>,
-    /// The areas lent for storing into which no reachable CCW stores, in the job's order; so each
-    /// that is empty.
+    /// The areas lent for storing into which no reachable CCW stores a byte, in the job's order;
+    /// each empty area is one.
     pub unused_store: Vec<Area>,
     /// The addresses of the reachable CCWs, transfers apart, whose flag for a program-controlled
     /// interruption is on; each once, rising.

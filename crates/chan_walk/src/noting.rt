@@ -15,7 +15,7 @@ ghost use Rattle.chan_walk.specs.Look.{AreLooks, IsLook, places_of_looks};
 ghost use Rattle.chan_walk.specs.Notes as noted;
 ghost use Rattle.chan_walk.specs.Notes.{AddsAddress, AreAddressesOf, AreUnused, HoldData};
 ghost use Rattle.chan_walk.specs.Notes.{IsFetchedFrom, IsSeenByte, IsSeenWith, IsStoredInto};
-ghost use Rattle.chan_walk.specs.Notes.{reaches_past_storage};
+ghost use Rattle.chan_walk.specs.Notes.{NothingFollows, reaches_past_storage};
 ghost use Rattle.chan_walk.specs.Ranges.{EndsBelow, IsMerged};
 ghost use Rattle.chan_walk.specs.declared.job.Job.{Job};
 
@@ -221,3 +221,9 @@ fn ends_there(look: &Look) -> bool
         _ => false,
     }
 }
+
+/// A law, like those of `laws`: where No Operation or Recalibrate begins with both chaining flags
+/// on, the program ends.
+fn nothing_follows()
+    ensures { NothingFollows }
+{}

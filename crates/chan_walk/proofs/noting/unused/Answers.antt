@@ -16,14 +16,14 @@ loop-area-preserved c =
     let area : Area = get_or areas i none in
     let met : IsTrue c.meets.result ↔ Meets used area.start area.len = search rules in
     elim c.if-not-meets.branch [
-    | then-not-meets+in_ok-push w ↦
-        ap (λ v. v.items) w.unused-is
-        ∙ filter_keeps (misses used) areas i none c.loop-area.unused.items _ (omega arith)
-        (ap not (any_unless used area.start area.len c.meets.result met w.if-not-meets.true)) c.loop-area.invariant w.in_ok-push.ensures.items
-    | else-not-meets w ↦
-        ap (λ v. v.items) w.unused-is
-        ∙ filter_drops (misses used) areas i none c.loop-area.unused.items (omega arith)
-        (ap not (any_if used area.start area.len c.meets.result met w.if-not-meets.false)) c.loop-area.invariant
+      | then-not-meets+in_ok-push w ↦
+          ap (λ v. v.items) w.unused-is
+          ∙ filter_keeps (misses used) areas i none c.loop-area.unused.items _ (omega arith)
+          (ap not (any_unless used area.start area.len c.meets.result met w.if-not-meets.true)) c.loop-area.invariant w.in_ok-push.ensures.items
+      | else-not-meets w ↦
+          ap (λ v. v.items) w.unused-is
+          ∙ filter_drops (misses used) areas i none c.loop-area.unused.items (omega arith)
+          (ap not (any_if used area.start area.len c.meets.result met w.if-not-meets.false)) c.loop-area.invariant
     ]
 
 pub returns : goal.returns
