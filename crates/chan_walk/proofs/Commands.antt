@@ -7,6 +7,7 @@ use Rattle.ckd_core.specs.declared.command.Kind.{Kind}
 use Rattle.ckd_core.specs.declared.command.Kind.TheVariants.{Idle, Inward, Outward, Search}
 use Rattle.ckd_core.specs.Table.{Entry as Command, table, find_code, lookup, class_is_seek, class_recalibrates, class_sets_mask, class_passes, is_seek, recalibrates, sets_mask}
 use Rattle.chan_walk.specs.Fault.{kind_of_command}
+use Rattle.chan_walk.specs.Notes.{is_idle, moves_nothing}
 
 -- a command that was looked up passes a test; so does none
 abbrev Passes : (Command → Bool) → Option Command → Type 0
@@ -98,3 +99,28 @@ seek_is_outward code h = (rule_at (lookup code) (found_passes seeks_go_out code 
 pub seek_no_recalibrate : (code : ℕ) → is_seek code ≡ true → recalibrates code ≡ false
 unfolding is_seek recalibrates lookup
 seek_no_recalibrate code h = (rule_at (lookup code) (found_passes seeks_go_out code table table_keeps) h).1
+
+idle_from : (k : Kind) → moves_nothing k ≡ true → k ≡ Idle
+idle_from Idle h = refl
+idle_from Inward h = absurd (cc)
+idle_from Outward h = absurd (cc)
+idle_from Search h = absurd (cc)
+
+abbrev idle_are_no_transfers : Command → Bool
+idle_are_no_transfers e = not (moves_nothing e.kind) || not (e.code % 16 == 8)
+
+idle_apart : list_all idle_are_no_transfers table ≡ true
+unfolding table
+idle_apart = refl
+
+idle_at : (code : ℕ) (o : Option Command) → Passes idle_are_no_transfers o → Passes (λ e. e.code == code) o → is_idle o ≡ true → (kind_of_command o ≡ Idle) × ((code % 16 == 8) ≡ false)
+idle_at code None h same k = absurd (cc)
+idle_at code (Some e) h same k = (idle_from e.kind k, go (or_cases (not (moves_nothing e.kind)) (not (e.code % 16 == 8)) h))
+  where
+    go : (not (moves_nothing e.kind) ≡ true) ⊎ (not (e.code % 16 == 8) ≡ true) → (code % 16 == 8) ≡ false
+    go (inl n) = absurd (both_ways (moves_nothing e.kind) (not-true (moves_nothing e.kind) n) k)
+    go (inr b) = subst (λ n. (n % 16 == 8) ≡ false) (eqb-true e.code code same) (not-true (e.code % 16 == 8) b)
+
+pub idle_is_no_transfer : (c : Fields) → is_idle (lookup c.command) ≡ true → (kind_of_command (lookup c.command) ≡ Idle) × (is_transfer c ≡ false)
+unfolding lookup is_transfer
+idle_is_no_transfer c h = idle_at c.command (lookup c.command) (found_passes idle_are_no_transfers c.command table idle_apart) (found_code c.command table) h

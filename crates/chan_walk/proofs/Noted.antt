@@ -1,30 +1,35 @@
 -- Notes: areas lent in vain, and the addresses of CCWs that pass a test.
-use Rattle.std.proofs.Common.{◌≡◌, ℕ, zero, suc, ◌+◌, ◌<◌, ◌≤◌, ◌^◌, Bool, true, false, not, ◌&&◌, ◌||◌, cond, IsTrue, List, [], ◌∷◌, ◌++◌, append-nil, length, get_or, take, Option, Some, None, refl, sym, ap, ◌∙◌, subst, ◌⊎◌, inl, inr, ◌↔◌, arith, eqb}
+use Rattle.std.proofs.Common.{◌≡◌, ℕ, zero, suc, ◌+◌, ◌<◌, ◌≤◌, Bool, true, false, not, ◌&&◌, ◌||◌, cond, IsTrue, List, [], ◌∷◌, ◌++◌, append-nil, length, get_or, take, Some, refl, sym, ap, ◌∙◌, subst, ◌⊎◌, inl, inr, ◌↔◌, arith, eqb}
 use Rattle.std.specs.List.{dedup, filter}
 use Rattle.std.specs.List.Sorted.{IsPermutation, IsStrictlyIncreasing}
-use Rattle.std.proofs.lemmas.Bool.{both_ways, or_cases, or_left, or_right, cases_lt}
+use Rattle.std.proofs.lemmas.Bool.{and_parts, both_ways, or_cases, or_left, or_right, cases_lt}
 use Rattle.std.proofs.lemmas.Option.{same_Some}
 use Rattle.std.proofs.lemmas.List.Elements.{filter_more}
 use Rattle.std.proofs.lemmas.List.Kept.{Contains-dedup_nat, Contains-from_dedup}
 use Rattle.std.proofs.lemmas.List.Sorted.{Contains-permutation, IsPermutation-sym}
 use Rattle.ccw_core.specs.declared.areas.Area.{Area}
 use Rattle.ccw_core.specs.Areas.{lies_in}
-use Rattle.ccw_core.specs.Ccw.{Fields, ccw}
-use Rattle.ccw_core.specs.Storage.{Stands, ccw_at}
+use Rattle.ccw_core.specs.Ccw.{Fields, chains_command, chains_data, is_transfer}
+use Rattle.ccw_core.specs.Storage.{Stands}
 use Rattle.ccw_core.proofs.Covering.{lies_in-nil}
 use Rattle.ccw_core.proofs.StorageLemmas.{ccw_at-some, ccw_at-where}
+use Rattle.ckd_core.specs.declared.command.Kind.TheVariants.{Idle}
+use Rattle.ckd_core.specs.Table.{lookup}
 use Rattle.chan_walk.specs.declared.job.Job.{Job}
+use Rattle.chan_walk.specs.declared.place.Entry.{Entry}
+use Rattle.chan_walk.specs.declared.place.Entry.TheVariants.{Fresh, ChainIn, ChainOut, ChainSearch}
 use Rattle.chan_walk.specs.declared.place.Place.{Place}
 use Rattle.chan_walk.specs.Argument.{Has}
 use Rattle.chan_walk.specs.Evidence.{data_at, data_of}
+use Rattle.chan_walk.specs.Fault.{kind_of, kind_of_command}
 use Rattle.chan_walk.specs.Guard.{AddsBytes}
 use Rattle.chan_walk.specs.Job.{storage_of}
 use Rattle.chan_walk.specs.Least.{AreReached}
 use Rattle.chan_walk.specs.Look.{IsLook, Seen}
-use Rattle.chan_walk.specs.Notes.{AddsAddress, ArePassed, AreUnused, HoldData, IsDataOf, IsPassedAt, IsSeenByte, IsSeenWith, IsUsed, Passes}
-use Rattle.chan_walk.specs.Place.{word_at}
+use Rattle.chan_walk.specs.Notes.{AddsAddress, AreAddressesOf, AreUnused, HoldData, IsDataOf, IsAddressOf, IsSeenByte, IsSeenWith, IsUsed, NothingFollows, Passes, is_idle}
+use Rattle.chan_walk.specs.Place.{is_fresh, word_at}
 use Rattle.chan_walk.specs.Ranges.{end_of, Meets}
-use Rattle.chan_walk.specs.Reachable.{IsReachable}
+use Rattle.chan_walk.proofs.Commands.{idle_is_no_transfer}
 use Rattle.chan_walk.proofs.Guarding.{HoldBytes}
 use Rattle.chan_walk.proofs.Lists.{contains_has, has_cases, has_contains, has_left, has_push, has_right}
 use Rattle.chan_walk.proofs.Merging.{InArea, lies_in-cases, lies_in-first}
@@ -178,16 +183,16 @@ adds_address test j l so old new look same adds a = ((λ h. to ((adds a).0 h)), 
     from (inr h) = inr (same.1 (word_at j l.place, word_seen j l look h.0.0, h.0.1), h.1)
 
 -- over the reachable places, each once
-pub all_addresses : (test : Place → Fields → Bool) (j : Job) (some ps : List Place) (xs ys : List ℕ) → some ≡ ps → AreReached j ps → HoldAddresses (Has xs) (HasAddress test j) some → IsStrictlyIncreasing ys → ((a : ℕ) → Has ys a ↔ Has xs a) → ArePassed test j ys
+pub all_addresses : (test : Place → Fields → Bool) (j : Job) (some ps : List Place) (xs ys : List ℕ) → some ≡ ps → AreReached j ps → HoldAddresses (Has xs) (HasAddress test j) some → IsStrictlyIncreasing ys → ((a : ℕ) → Has ys a ↔ Has xs a) → AreAddressesOf test j ys
 all_addresses test j some ps xs ys e r f up same = record {
   rising = up;
   exactly = λ a. ((λ h. to a ((f a).0 ((same a).0 h))), λ h. (same a).1 ((f a).1 (from a h)));
 }
   where
-    to : (a : ℕ) → (p : Place) × Has some p × HasAddress test j p a → IsPassedAt test j a
+    to : (a : ℕ) → (p : Place) × Has some p × HasAddress test j p a → IsAddressOf test j a
     to a k = record { place = k.0; reached = r.1 k.0 (subst (λ (z : List Place). Has z k.0) e k.1); passes = k.2.0; address = k.2.1 }
 
-    from : (a : ℕ) → IsPassedAt test j a → (p : Place) × Has some p × HasAddress test j p a
+    from : (a : ℕ) → IsAddressOf test j a → (p : Place) × Has some p × HasAddress test j p a
     from a k = (k.place, subst (λ (z : List Place). Has z k.place) (sym e) (r.0 k.place k.reached), (k.passes, k.address))
 
 -- sorted, and each once
@@ -223,3 +228,26 @@ address_added so here a old new s e n b = ((λ h. to ((has_push old here b).0 (s
     from : Has old b ⊎ (IsTrue so × (a ≡ b)) → Has old b ⊎ (here ≡ b)
     from (inl h) = inl h
     from (inr h) = inr (e ∙ h.1)
+
+-- ---- where a program ends
+
+fresh_kind : (e : Entry) (c : Fields) → is_fresh e ≡ true → kind_of e c ≡ kind_of_command (lookup c.command)
+fresh_kind Fresh c h = refl
+fresh_kind ChainIn c h = absurd (cc)
+fresh_kind ChainOut c h = absurd (cc)
+fresh_kind ChainSearch c h = absurd (cc)
+
+pub nothing_follows : NothingFollows
+nothing_follows p c h = (rw (idle.1, parts.1, kind) refl, rw (idle.1, parts.1) refl)
+  where
+    parts : ((is_fresh p.entered && is_idle (lookup c.command)) ≡ true) × (chains_data c ≡ true)
+    parts = and_parts (is_fresh p.entered && is_idle (lookup c.command)) (chains_data c) (and_parts (is_fresh p.entered && is_idle (lookup c.command) && chains_data c) (chains_command c) h).0
+
+    begins : (is_fresh p.entered ≡ true) × (is_idle (lookup c.command) ≡ true)
+    begins = and_parts (is_fresh p.entered) (is_idle (lookup c.command)) parts.0
+
+    idle : (kind_of_command (lookup c.command) ≡ Idle) × (is_transfer c ≡ false)
+    idle = idle_is_no_transfer c begins.1
+
+    kind : kind_of p.entered c ≡ Idle
+    kind = fresh_kind p.entered c begins.0 ∙ idle.0

@@ -1,6 +1,6 @@
--- What a verdict leaves open: areas lent in vain, CCWs that interrupt, and CCWs that end the program
--- though their flags say that it goes on.
-use Rattle.std.specs.Prelude.{◌≡◌, ℕ, ◌+◌, ◌<◌, ◌≤◌, nat_lt, Bool, true, false, not, ◌&&◌, ◌⊎◌, ◌↔◌}
+-- What a verdict leaves open: areas lent in vain, CCWs that interrupt, and CCWs at which a program
+-- ends though chain command is on.
+use Rattle.std.specs.Prelude.{◌≡◌, ℕ, ◌<◌, ◌≤◌, nat_lt, Bool, true, false, not, ◌&&◌, ◌⊎◌, ◌↔◌}
 use Rattle.std.specs.Prelude.{List, length, Option, None, Some, IsTrue}
 use Rattle.std.specs.List.{filter}
 use Rattle.std.specs.List.Sorted.{IsStrictlyIncreasing}
@@ -15,16 +15,17 @@ use Rattle.chan_walk.specs.declared.job.Job.{Job}
 use Rattle.chan_walk.specs.declared.place.Place.{Place}
 use Rattle.chan_walk.specs.Argument.{Has}
 use Rattle.chan_walk.specs.Evidence.{data_at, data_of}
-use Rattle.chan_walk.specs.Fault.{fetches, stores}
+use Rattle.chan_walk.specs.Fault.{fetches, kind_of, stores}
 use Rattle.chan_walk.specs.Job.{storage_of}
 use Rattle.chan_walk.specs.Look.{Seen}
 use Rattle.chan_walk.specs.Place.{is_fresh, word_at}
 use Rattle.chan_walk.specs.Ranges.{end_of}
 use Rattle.chan_walk.specs.Reachable.{IsReachable}
+use Rattle.chan_walk.specs.Successors.{next_of, skip_of}
 
 -- ---- areas
 
--- the area ends above the last byte of storage
+-- the area ends past storage; an empty one does so where it begins past storage
 abbrev pub reaches_past_storage : Job → Area → Bool
 reaches_past_storage j a = nat_lt (length (storage_of j)) (end_of a)
 
@@ -65,7 +66,7 @@ pub record AreUnused (Used : ℕ → Type 0) (areas unused : List Area) : Type 0
 unfoldable pub asks_interruption : Fields → Bool
 asks_interruption c = is_on c.flags 0x08
 
--- so it does with the CCW c; in a transfer in channel the flags mean nothing
+-- it asks for one with the CCW c; in a transfer in channel the flags mean nothing
 abbrev pub interrupts : Place → Fields → Bool
 interrupts p c = not (is_transfer c) && asks_interruption c
 
@@ -76,29 +77,34 @@ moves_nothing Inward = false
 moves_nothing Outward = false
 moves_nothing Search = false
 
--- so does a command that was looked up; a code of no command is none
+-- a command that was looked up moves no data; a code of no command is none
 abbrev pub is_idle : Option Command → Bool
 is_idle None = false
 is_idle (Some k) = moves_nothing k.kind
 
 -- No Operation or Recalibrate begins, the two commands that move no data, and both chaining flags
--- are on: by chain command the program goes on, but chain data counts, by which such an operation
--- never does
+-- are on: chain data counts, not chain command, and by it such an operation never goes on
 abbrev pub ends_there : Place → Fields → Bool
 ends_there p c =
     is_fresh p.entered && is_idle (lookup c.command) && chains_data c && chains_command c
 
+-- such a place has no successor
+abbrev pub NothingFollows : Type 0
+NothingFollows = (p : Place) (c : Fields) → ends_there p c ≡ true →
+    (next_of p c (kind_of p.entered c) ≡ None) × (skip_of p c (kind_of p.entered c) ≡ None)
+
 -- a is the address of a reachable CCW that passes the test
-pub record IsPassedAt (test : Place → Fields → Bool) (j : Job) (a : ℕ) : Type 0 where
+pub record IsAddressOf (test : Place → Fields → Bool) (j : Job) (a : ℕ) : Type 0 where
   pub place : Place
   pub reached : IsReachable j place
   pub passes : Passes test j place
   pub address : place.address ≡ a
 
 -- the list has the addresses of these CCWs, each once, rising
-pub record ArePassed (test : Place → Fields → Bool) (j : Job) (addresses : List ℕ) : Type 0 where
+pub record AreAddressesOf (test : Place → Fields → Bool) (j : Job) (addresses : List ℕ)
+    : Type 0 where
   pub rising : IsStrictlyIncreasing addresses
-  pub exactly : (a : ℕ) → Has addresses a ↔ IsPassedAt test j a
+  pub exactly : (a : ℕ) → Has addresses a ↔ IsAddressOf test j a
 
 -- ---- place by place
 

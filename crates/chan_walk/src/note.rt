@@ -4,19 +4,19 @@ use ccw_core::Area;
 
 /// What a verdict leaves open, and people trip over.
 ///
-/// A reachable CCW counts here whether or not a place of its has an own fault: the program asks for
-/// it all the same.
+/// A reachable CCW counts, whether or not its place has an own fault: the program asks for it all
+/// the same.
 #[derive(Debug, Drop)]
 pub struct Notes {
     /// The areas lent for fetching that end past storage, in the job's order.
     pub fetch_past_storage: Vec<Area>,
     /// The areas lent for storing that end past storage, in the job's order.
     pub store_past_storage: Vec<Area>,
-    /// The areas lent for fetching of which no reachable CCW fetches a byte, in the job's order; so
-    /// each that is empty.
+    /// The areas lent for fetching of which no reachable CCW fetches a byte, in the job's order;
+    /// each empty area is one.
     pub unused_fetch: Vec<Area>,
-    /// The areas lent for storing into which no reachable CCW stores, in the job's order; so each
-    /// that is empty.
+    /// The areas lent for storing into which no reachable CCW stores a byte, in the job's order;
+    /// each empty area is one.
     pub unused_store: Vec<Area>,
     /// The addresses of the reachable CCWs, transfers apart, whose flag for a program-controlled
     /// interruption is on; each once, rising.

@@ -13,9 +13,9 @@ ghost use Rattle.chan_walk.specs.Job.{fetch_of, store_of};
 ghost use Rattle.chan_walk.specs.Least.{AreReached};
 ghost use Rattle.chan_walk.specs.Look.{AreLooks, IsLook, places_of_looks};
 ghost use Rattle.chan_walk.specs.Notes as noted;
-ghost use Rattle.chan_walk.specs.Notes.{AddsAddress, ArePassed, AreUnused, HoldData};
+ghost use Rattle.chan_walk.specs.Notes.{AddsAddress, AreAddressesOf, AreUnused, HoldData};
 ghost use Rattle.chan_walk.specs.Notes.{IsFetchedFrom, IsSeenByte, IsSeenWith, IsStoredInto};
-ghost use Rattle.chan_walk.specs.Notes.{reaches_past_storage};
+ghost use Rattle.chan_walk.specs.Notes.{NothingFollows, reaches_past_storage};
 ghost use Rattle.chan_walk.specs.Ranges.{EndsBelow, IsMerged};
 ghost use Rattle.chan_walk.specs.declared.job.Job.{Job};
 
@@ -51,8 +51,8 @@ pub fn notes(alloc: Global, job: &Job) -> Result<Notes, WalkError>
 
     // What flags ask for.
     ensures interrupting { IfOk result
-        (λ n. ArePassed noted.interrupts job.now n.interrupting.items) }
-    ensures ending { IfOk result (λ n. ArePassed noted.ends_there job.now n.ending.items) }
+        (λ n. AreAddressesOf noted.interrupts job.now n.interrupting.items) }
+    ensures ending { IfOk result (λ n. AreAddressesOf noted.ends_there job.now n.ending.items) }
 
     ensures many { result ≡ Err WalkError.TooManyPlaces → HasMoreThan job.now job.now.limit }
 {
@@ -155,7 +155,7 @@ fn fetches(look: &Look) -> bool
 /// interruption is on.
 fn interrupting(alloc: Global, looks: &[Look]) -> Result<Vec<u32>, AllocError>
     ensures { IfOk result (λ v. (j : Job) → AreLooks j looks.now
-        → AreReached j (places_of_looks looks.now) → ArePassed noted.interrupts j v.items) }
+        → AreReached j (places_of_looks looks.now) → AreAddressesOf noted.interrupts j v.items) }
 {
     let mut addresses = Vec::new(alloc);
     for look in looks {
@@ -167,7 +167,7 @@ fn interrupting(alloc: Global, looks: &[Look]) -> Result<Vec<u32>, AllocError>
 /// The addresses of the reachable No Operations and Recalibrates with both chaining flags on.
 fn ending(alloc: Global, looks: &[Look]) -> Result<Vec<u32>, AllocError>
     ensures { IfOk result (λ v. (j : Job) → AreLooks j looks.now
-        → AreReached j (places_of_looks looks.now) → ArePassed noted.ends_there j v.items) }
+        → AreReached j (places_of_looks looks.now) → AreAddressesOf noted.ends_there j v.items) }
 {
     let mut addresses = Vec::new(alloc);
     for look in looks {
@@ -221,3 +221,9 @@ fn ends_there(look: &Look) -> bool
         _ => false,
     }
 }
+
+/// A law, like those of `laws`: where No Operation or Recalibrate begins with both chaining flags
+/// on, the program ends.
+fn nothing_follows()
+    ensures { NothingFollows }
+{}

@@ -1,0 +1,5 @@
+use Rattle.chan_walk.proofs.Noted.{nothing_follows}
+use Rattle.chan_walk.proofs.noting.nothing_follows.Goals as goal
+
+pub returns : goal.returns
+returns c = nothing_follows
