@@ -1,3 +1,4 @@
 pub mod Outputs
 pub mod OptionLemmas
 pub mod ImageLemmas
+pub mod AdviceLemmas
