@@ -6,8 +6,8 @@
 # PROGRAM is the built chanv; without it, crates/chanv/out/chanv from the top of the repository.
 # A deck passes if `chanv verify` prints its line of the folder's verdicts.txt, and nothing else, with
 # status 0 for yes and 1 for no. Where a listing stands beside a deck, NAME.list beside NAME.deck, `chanv
-# list` has to print it, with the same status; and so have `chanv why` an explanation, NAME.why, and
-# `chanv graph` a picture, NAME.dot. A deck without a line, and a line without a deck, fail.
+# list` has to print it, with the same status; and so have `chanv why` an explanation, NAME.why, with
+# the notes of NAME.notes, if there are such, on standard error, and `chanv graph` a picture, NAME.dot. A deck without a line, and a line without a deck, fail.
 # The status is 0 if all passed, 1 if one failed, 2 if there is no such program.
 set -u
 
@@ -25,15 +25,28 @@ status_of() {
 
 # compare ACTION DECK WANT STATUS: runs the action over the deck; WANT holds what chanv should print.
 compare() {
-    "$program" "$1" < "$2" > "$work/got"
+    "$program" "$1" < "$2" > "$work/got" 2> "$work/notes"
     local status=$?
     if ! cmp -s "$3" "$work/got"; then
         fail "$1 $2" 'expected (<) and got (>)'
         diff "$3" "$work/got" | grep '^[<>\\]'
+    elif [ "$1" != why ] && [ -s "$work/notes" ]; then
+        fail "$1 $2" 'expected nothing on standard error'
     elif [ "$status" -ne "$4" ]; then
         fail "$1 $2" "expected status $4, got $status"
     else
         passed=$((passed + 1))
+    fi
+}
+
+# compare_notes DECK WANT: WANT, where it stands, holds what the last run should have noted.
+compare_notes() {
+    [ -f "$2" ] || return
+    if cmp -s "$2" "$work/notes"; then
+        passed=$((passed + 1))
+    else
+        fail "why $1" 'expected notes (<) and got (>)'
+        diff "$2" "$work/notes" | grep '^[<>\\]'
     fi
 }
 
@@ -52,6 +65,7 @@ check_deck() {
     fi
     if [ -f "$explanation" ]; then
         compare why "$deck" "$explanation" "$(status_of "$3")"
+        compare_notes "$deck" "${explanation%.why}.notes"
     fi
     if [ -f "$picture" ]; then
         compare graph "$deck" "$picture" "$(status_of "$3")"

@@ -57,7 +57,9 @@ for action in verify list why; do
     "$program" $action < "$work" > "$work/output" 2> "$work/error"
     expect "$action, a folder in place of a deck" 3 $?
 
-    says '' $'chanv: deck line 1: ended\n'
+    hint=''
+    [ $action = why ] && hint=$'found \nexpected chanv deck 1, chanv deck 2\n'
+    says '' $'chanv: deck line 1: ended\n'"$hint"
     "$program" $action < /dev/null > "$work/output" 2> "$work/error"
     expect "$action, no input" 2 $?
 done

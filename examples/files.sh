@@ -58,6 +58,8 @@ input=
 
 runs 0 "$listing" '' list yes
 runs 2 '' $'chanv: damaged: deck line 3: form\n' list damaged
+hint=$'found mask\nexpected mask XX, where X is 0-9 or A-F\n'
+runs 2 '' $'chanv: damaged: deck line 3: form\n'"$hint" why damaged
 runs 3 '' $'chanv: nowhere: cannot open\n' list nowhere
 runs 3 '' $'chanv: folder: read failed\n' list folder
 

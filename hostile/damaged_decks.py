@@ -36,9 +36,15 @@ def main():
     for action in ("verify", "list", "why"):
         for name, deck, line, cause in cases():
             ran = subprocess.run([program, action], input=deck, capture_output=True)
-            want = (2, b"", f"chanv: deck line {line}: {cause}\n".encode())
-            seen = (ran.returncode, ran.stdout, ran.stderr)
-            if seen == want:
+            complaint = f"chanv: deck line {line}: {cause}\n".encode()
+            if action == "why":
+                found = (deck.split(b"\n") + [b""])[line - 1]
+                complaint += b"found " + found + b"\nexpected "
+            want = (2, b"", complaint)
+            rest = ran.stderr[len(complaint) :]
+            seen = (ran.returncode, ran.stdout, ran.stderr[: len(complaint)])
+            is_whole = rest.count(b"\n") == 1 and rest.endswith(b"\n") and rest != b"\n"
+            if seen == want and (is_whole if action == "why" else rest == b""):
                 passed += 1
             else:
                 failed += 1

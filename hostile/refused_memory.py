@@ -28,6 +28,9 @@ IMAGE = open(f"{ROOT}/examples/core.bin", "rb").read()
 CHANGES_ARGUMENT = open(f"{ROOT}/examples/changes-argument.deck", "rb").read()
 OF_IMAGE = "--start 800 --extent 10-19 --fetch 900+10 --store 900+10".split()
 CCW_LINE = b"06 000A00 --L--0 00 0050 read"
+NOTES = b"""note: fetch 000FFF 000002 reaches past storage
+note: fetch 000FFF 000002 is used by no reachable CCW
+"""
 FIRST_ROW = LISTING.split(b"\n")[0] + b"\n"
 
 # each call of the library, and what it answers over its worked case
@@ -46,6 +49,8 @@ CALLS = [
     ("run-verify", b"yes\n"),
     ("run-list", LISTING),
     ("run-why", EXPLANATION),
+    ("advice-on-a-deck", NOTES),
+    ("advice-on-no-deck", b"found chanv deck 3\nexpected chanv deck 1, chanv deck 2\n"),
 ]
 
 # each command of the program, its input, and what it writes
@@ -91,6 +96,7 @@ class Harness:
         """Refuses each growth of a run that answers `answer`; gives how many there are.
 
         One of `complaints` goes with want of memory. Only a listing or a picture may have begun by then.
+        An explanation may stand whole, with its status, and the complaint in place of the advice.
         """
         *seen, growths = self.run(words, given)
         answered = 1 if name == "chanv why" else 0
@@ -100,6 +106,8 @@ class Harness:
             for after in (False, True):
                 status, output, error, _ = self.run(words, given, refused, after)
                 right = status == 3 and begun.startswith(output) and error in complaints
+                if name == "chanv why" and status == 1:
+                    right = output == answer and error in complaints
                 which = f"growth {refused} refused" + (", and all after it" if after else "")
                 self.expect(f"{name}, {which}", right, (status, output, error))
         return growths

@@ -77,19 +77,19 @@ keyword_of forms.Storage = codes "storage"
 keyword_of forms.Put = codes "put"
 keyword_of forms.End = codes "end"
 
--- the form as a picture, and what its letters stand for
-abbrev pub picture_of : Form → List ℕ
-picture_of forms.Header = codes "chanv deck 1, chanv deck 2"
-picture_of forms.Device = codes "device 2311, device 2314"
-picture_of forms.Mask = codes "mask XX, where X is 0-9 or A-F"
-picture_of forms.Start = codes "start XXXXXX, where X is 0-9 or A-F"
-picture_of forms.Limit = codes "limit NNNNN, where N is 0-9"
-picture_of forms.Extent = codes "extent NNN NNN, where N is 0-9"
-picture_of forms.Fetch = codes "fetch XXXXXX XXXXXX, where X is 0-9 or A-F"
-picture_of forms.Store = codes "store XXXXXX XXXXXX, where X is 0-9 or A-F"
-picture_of forms.Storage = codes "storage XXXXXXX, where X is 0-9 or A-F"
-picture_of forms.Put = codes "put XXXXXX XXXXXXXXXXXXXXXX, where X is 0-9 or A-F"
-picture_of forms.End = codes "end"
+-- the form as a pattern, and what its letters stand for
+abbrev pub pattern_of : Form → List ℕ
+pattern_of forms.Header = codes "chanv deck 1, chanv deck 2"
+pattern_of forms.Device = codes "device 2311, device 2314"
+pattern_of forms.Mask = codes "mask XX, where X is 0-9 or A-F"
+pattern_of forms.Start = codes "start XXXXXX, where X is 0-9 or A-F"
+pattern_of forms.Limit = codes "limit NNNNN, where N is 0-9"
+pattern_of forms.Extent = codes "extent NNN NNN, where N is 0-9"
+pattern_of forms.Fetch = codes "fetch XXXXXX XXXXXX, where X is 0-9 or A-F"
+pattern_of forms.Store = codes "store XXXXXX XXXXXX, where X is 0-9 or A-F"
+pattern_of forms.Storage = codes "storage XXXXXXX, where X is 0-9 or A-F"
+pattern_of forms.Put = codes "put XXXXXX XXXXXXXXXXXXXXXX, where X is 0-9 or A-F"
+pattern_of forms.End = codes "end"
 
 -- what a line has before its first space
 unfoldable pub first_word : List ℕ → List ℕ
@@ -105,16 +105,16 @@ abbrev pub keywords : List Form → List ℕ
 keywords [] = []
 keywords (f ∷ fs) = keyword_of f ++ flat_map (λ g. codes ", " ++ keyword_of g) fs
 
--- the picture of the form that a line begins as, or all keywords
-abbrev pub picture_or_keywords : Option Form → List Form → List ℕ
-picture_or_keywords (Some f) fs = picture_of f
-picture_or_keywords None fs = keywords fs
+-- the pattern of the form that a line begins as, or all keywords
+abbrev pub pattern_or_keywords : Option Form → List Form → List ℕ
+pattern_or_keywords (Some f) fs = pattern_of f
+pattern_or_keywords None fs = keywords fs
 
--- of forms that may stand: the picture of the only one, or of the one that the line begins as, or
+-- of forms that may stand: the pattern of the only one, or of the one that the line begins as, or
 -- the keywords
 abbrev pub form_text : List Form → List ℕ → List ℕ
-form_text (f ∷ []) l = picture_of f
-form_text fs l = picture_or_keywords (begun_as fs l) fs
+form_text (f ∷ []) l = pattern_of f
+form_text fs l = pattern_or_keywords (begun_as fs l) fs
 
 -- ---- what the line has to fulfil
 

@@ -153,16 +153,16 @@ fn keywords(alloc: Global, forms: &[Form]) -> Result<String, AllocError>
     Ok(text)
 }
 
-/// Which forms may stand at a line: the picture of the only one, or of the one that the line begins
+/// Which forms may stand at a line: the pattern of the only one, or of the one that the line begins
 /// as, or the keywords.
 fn form_text(alloc: Global, forms: &[Form], line: &[u8]) -> Result<String, AllocError>
     ensures { IfOk result (λ t. string_bytes t ≡ hint.form_text forms.now line.now) }
 {
     if let [form] = forms {
-        return String::from_str(alloc, form.picture());
+        return String::from_str(alloc, form.pattern());
     }
     match begun_as(forms, line) {
-        Some(form) => String::from_str(alloc, form.picture()),
+        Some(form) => String::from_str(alloc, form.pattern()),
         None => keywords(alloc, forms),
     }
 }
@@ -282,7 +282,7 @@ fn expected_text(alloc: Global, spot: &Spot<'_>, cause: Cause) -> Result<String,
 /// doesn't fulfil. An error is want of memory.
 ///
 /// Of the line 60 characters are shown at most; a byte that isn't printable ASCII is shown as `\x`
-/// and two digits. Where several forms may stand, their keywords are given, but the picture of the
+/// and two digits. Where several forms may stand, their keywords are given, but the pattern of the
 /// one whose keyword the line begins with.
 pub fn hint_text(alloc: Global, text: &[u8], line: u64, cause: Cause) -> Result<Vec<u8>, AllocError>
     ensures { IfOk result (λ v. IsHint text.now line cause v.items) }

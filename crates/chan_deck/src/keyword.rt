@@ -2,7 +2,7 @@
 
 ghost use Rattle.std.specs.Prelude.{◌≡◌, ◌==◌, ◌<◌, length, position, IfSome, Option as Maybe, Some};
 ghost use Rattle.chan_deck.specs.Hint as hint;
-ghost use Rattle.chan_deck.specs.Hint.{IsSaidBy, example_of, keyword_of, picture_of};
+ghost use Rattle.chan_deck.specs.Hint.{IsSaidBy, example_of, keyword_of, pattern_of};
 ghost use Rattle.chan_deck.specs.Item.{Item};
 
 /// A form of lines.
@@ -56,9 +56,9 @@ impl Form {
         }
     }
 
-    /// The form as a picture, and what its letters stand for.
-    pub(crate) fn picture(self) -> &'static str
-        ensures { result.now ≡ picture_of self }
+    /// The form as a pattern, and what its letters stand for.
+    pub(crate) fn pattern(self) -> &'static str
+        ensures { result.now ≡ pattern_of self }
     {
         match self {
             Form::Header => "chanv deck 1, chanv deck 2",

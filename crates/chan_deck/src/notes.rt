@@ -74,8 +74,18 @@ pub fn notes_text(alloc: Global, notes: &Notes) -> Result<String, AllocError>
     ensures { IfOk result (λ t. string_bytes t ≡ texts.notes notes.now) }
 {
     let mut text = String::new(alloc);
-    push_areas(&mut text, "fetch", PAST_STORAGE, notes.fetch_past_storage.as_slice())?;
-    push_areas(&mut text, "store", PAST_STORAGE, notes.store_past_storage.as_slice())?;
+    push_areas(
+        &mut text,
+        "fetch",
+        PAST_STORAGE,
+        notes.fetch_past_storage.as_slice(),
+    )?;
+    push_areas(
+        &mut text,
+        "store",
+        PAST_STORAGE,
+        notes.store_past_storage.as_slice(),
+    )?;
     push_areas(&mut text, "fetch", UNUSED, notes.unused_fetch.as_slice())?;
     push_areas(&mut text, "store", UNUSED, notes.unused_store.as_slice())?;
     push_ccws(&mut text, INTERRUPTS, notes.interrupting.as_slice())?;
