@@ -8,7 +8,7 @@ use Rattle.std.proofs.lemmas.List.{length-replicate, take-replicate, drop-replic
 use Rattle.ccw_core.specs.declared.areas.Area.{Area}
 use Rattle.ckd_core.specs.Cylinders.{AreExtents}
 use Rattle.ckd_core.specs.Mask.{is_mask}
-use Rattle.chan_walk.proofs.Lists.{all_append}
+use Rattle.chan_walk.proofs.Theory.Lists.{all_append}
 use Rattle.chan_deck.specs.Image.{HasLimit, IsDeck}
 use Rattle.chan_deck.specs.Item.{IsAddress, IsArea, IsByte}
 use Rattle.chan_deck.specs.Parts.{HasAddresses, image_of, storage_with, version_with, zeros}

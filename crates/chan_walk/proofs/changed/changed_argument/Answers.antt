@@ -6,9 +6,9 @@ use Rattle.chan_walk.specs.Guard.{IsArgumentByteOf}
 use Rattle.chan_walk.specs.Look.{Seen, places_of_looks}
 use Rattle.chan_walk.specs.Ranges.{IsByteIn}
 use Rattle.chan_walk.specs.Walk.{IsFirstWhere}
-use Rattle.chan_walk.proofs.Changing.{first_within, found_first, found_least, one_argument, one_taker, taken_at}
-use Rattle.chan_walk.proofs.Explaining.{reached_looks}
-use Rattle.chan_walk.proofs.Looking.{look_of}
+use Rattle.chan_walk.proofs.Algorithms.Changing.{first_within, found_first, found_least, one_argument, one_taker, taken_at}
+use Rattle.chan_walk.proofs.Algorithms.Explaining.{reached_looks}
+use Rattle.chan_walk.proofs.Algorithms.Looking.{look_of}
 use Rattle.chan_walk.proofs.changed.changed_argument.Goals as goal
 
 pub of-requires : goal.of-requires

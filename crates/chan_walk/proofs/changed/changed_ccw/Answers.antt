@@ -2,7 +2,7 @@ use Rattle.std.proofs.Common.{List, Option, length, refl, subst}
 use Rattle.chan_walk.specs.Changed.{HasCcwIn}
 use Rattle.chan_walk.specs.Evidence.{IsLeastOrNone}
 use Rattle.chan_walk.specs.Look.{Seen}
-use Rattle.chan_walk.proofs.Changing.{least_reached, one_reached}
+use Rattle.chan_walk.proofs.Algorithms.Changing.{least_reached, one_reached}
 use Rattle.chan_walk.proofs.changed.changed_ccw.Goals as goal
 
 pub unwrap-ccw-requires : goal.unwrap-ccw-requires

@@ -1,6 +1,6 @@
 use Rattle.std.proofs.Common.{◌≡◌, ◌∙◌, ap, arith}
 use Rattle.chan_walk.specs.declared.place.Place.{Place}
-use Rattle.chan_walk.proofs.Finding.{none_at_all, none_more}
+use Rattle.chan_walk.proofs.Algorithms.Finding.{none_at_all, none_more}
 use Rattle.chan_walk.proofs.changed.first_at.Goals as goal
 
 pub loop-at-preserved : goal.loop-at-preserved

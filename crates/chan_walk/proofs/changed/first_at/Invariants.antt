@@ -1,6 +1,6 @@
 use Rattle.std.proofs.Common.{◌≡◌}
 use Rattle.chan_walk.specs.Look.{places_of_looks}
-use Rattle.chan_walk.proofs.Finding.{NoneBefore}
+use Rattle.chan_walk.proofs.Algorithms.Finding.{NoneBefore}
 use Rattle.chan_walk.proofs.changed.first_at.Given as goal
 
 abbrev pub invariant-loop-at : goal.invariant-loop-at

@@ -1,8 +1,8 @@
 use Rattle.std.proofs.Common.{◌<◌, length, arith}
 use Rattle.std.proofs.lemmas.Bool.{both_ways}
 use Rattle.chan_walk.specs.Guard.{IsArgumentByteOf}
-use Rattle.chan_walk.proofs.Finding.{first_there, none_at_all, none_more}
-use Rattle.chan_walk.proofs.Looking.{look_of}
+use Rattle.chan_walk.proofs.Algorithms.Finding.{first_there, none_at_all, none_more}
+use Rattle.chan_walk.proofs.Algorithms.Looking.{look_of}
 use Rattle.chan_walk.proofs.changed.first_taker.Goals as goal
 
 pub loop-at-preserved : goal.loop-at-preserved

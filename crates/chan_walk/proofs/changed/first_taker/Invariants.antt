@@ -1,7 +1,7 @@
 use Rattle.chan_walk.specs.declared.job.Job.{Job}
 use Rattle.chan_walk.specs.Guard.{IsArgumentByteOf}
 use Rattle.chan_walk.specs.Look.{AreLooks, places_of_looks}
-use Rattle.chan_walk.proofs.Finding.{NoneBefore}
+use Rattle.chan_walk.proofs.Algorithms.Finding.{NoneBefore}
 use Rattle.chan_walk.proofs.changed.first_taker.Given as goal
 
 abbrev pub invariant-loop-at : goal.invariant-loop-at

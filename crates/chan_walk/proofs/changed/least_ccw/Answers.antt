@@ -3,7 +3,7 @@ use Rattle.std.proofs.lemmas.Bool.{both_ways}
 use Rattle.chan_walk.specs.declared.place.Place.{Place}
 use Rattle.chan_walk.specs.Changed.{HasCcwIn, IsLesserOf}
 use Rattle.chan_walk.specs.Evidence.{IsLeastOrNone}
-use Rattle.chan_walk.proofs.Changing.{least_skip, least_take}
+use Rattle.chan_walk.proofs.Algorithms.Changing.{least_skip, least_take}
 use Rattle.chan_walk.proofs.changed.least_ccw.Goals as goal
 use Rattle.chan_walk.proofs.changed.least_ccw.Goals.{then-is_in, else-is_in}
 

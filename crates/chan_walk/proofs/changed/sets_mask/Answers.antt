@@ -1,8 +1,8 @@
 use Rattle.std.proofs.Common.{◌∙◌, sym}
 use Rattle.ccw_core.proofs.StorageLemmas.{ccw_at-where}
 use Rattle.chan_walk.specs.Job.{storage_of}
-use Rattle.chan_walk.proofs.Checks.{check_stands}
-use Rattle.chan_walk.proofs.Faults.{clear_check}
+use Rattle.chan_walk.proofs.Theory.Checks.{check_stands}
+use Rattle.chan_walk.proofs.Theory.Faults.{clear_check}
 use Rattle.chan_walk.proofs.changed.sets_mask.Goals as goal
 
 pub returns-in-None : goal.returns-in-None

@@ -1,4 +1,4 @@
-use Rattle.chan_walk.proofs.Changing.{any_has}
+use Rattle.chan_walk.proofs.Algorithms.Changing.{any_has}
 use Rattle.chan_walk.proofs.changed.takes.Goals as goal
 
 pub returns : goal.returns

@@ -2,7 +2,7 @@ use Rattle.std.proofs.Common.{List, sym, subst}
 use Rattle.std.proofs.lemmas.Bool.{both_ways}
 use Rattle.chan_walk.specs.declared.offence.Offence.{Offence}
 use Rattle.chan_walk.specs.Argument.{Has}
-use Rattle.chan_walk.proofs.Explaining.{numbered, reached_looks}
+use Rattle.chan_walk.proofs.Algorithms.Explaining.{numbered, reached_looks}
 use Rattle.chan_walk.proofs.evidence.evidence_for.Goals as goal
 
 pub offences_of-requires-clause-looks : goal.offences_of-requires-clause-looks

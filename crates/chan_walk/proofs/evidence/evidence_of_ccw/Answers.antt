@@ -6,7 +6,7 @@ use Rattle.ccw_core.proofs.StorageLemmas.{ccw_at-some}
 use Rattle.chan_walk.specs.Evidence.{IsArgumentIn, IsCcwIn, IsEvidence, data_at, data_of}
 use Rattle.chan_walk.specs.Job.{fetch_of, storage_of, store_of}
 use Rattle.chan_walk.specs.Place.{word_at}
-use Rattle.chan_walk.proofs.Causes.{Told, over_argument, over_ccw, seek_told, told}
+use Rattle.chan_walk.proofs.Theory.Causes.{Told, over_argument, over_ccw, seek_told, told}
 use Rattle.chan_walk.proofs.evidence.evidence_of_ccw.Goals as goal
 use Rattle.chan_walk.proofs.evidence.evidence_of_ccw.Goals.{in-Misaligned, in-OutsideStorage, in-TransferNotAllowed, in-InvalidCode, in-BadFormat, in-ZeroCount, in-DataOutside, in-NotInTable, in-Inhibited, in-StoreNotLent+in_ok-evidence-in-StoreNotLent, in-FetchNotLent+in_ok-evidence-in-FetchNotLent, in-ShortSeek, in-ChangesCcw, in-ChangesArgument+in_ok-evidence-in-ChangesArgument, in-WeakensMask}
 

@@ -1,4 +1,4 @@
-use Rattle.chan_walk.proofs.Causes.{nothing_told, told}
+use Rattle.chan_walk.proofs.Theory.Causes.{nothing_told, told}
 use Rattle.chan_walk.proofs.evidence.evidence_of_nothing.Goals as goal
 
 pub returns-in_default : goal.returns-in_default

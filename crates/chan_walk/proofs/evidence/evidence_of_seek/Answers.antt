@@ -4,7 +4,7 @@ use Rattle.ccw_core.proofs.StorageLemmas.{ccw_at-some}
 use Rattle.chan_walk.specs.Fault.{begins_recalibrate}
 use Rattle.chan_walk.specs.Job.{storage_of}
 use Rattle.chan_walk.specs.Machine.{home}
-use Rattle.chan_walk.proofs.Causes.{recalibrates_out, sought_out}
+use Rattle.chan_walk.proofs.Theory.Causes.{recalibrates_out, sought_out}
 use Rattle.chan_walk.proofs.evidence.evidence_of_seek.Goals as goal
 
 pub returns-then-recalibrates_at : goal.returns-then-recalibrates_at

@@ -1,6 +1,6 @@
 use Rattle.std.proofs.Common.{length, refl}
 use Rattle.chan_walk.specs.Job.{fetch_of, storage_of}
-use Rattle.chan_walk.proofs.Causes.{gap_in_storage}
+use Rattle.chan_walk.proofs.Theory.Causes.{gap_in_storage}
 use Rattle.chan_walk.proofs.evidence.not_lent_for_fetching.Goals as goal
 
 pub returns : goal.returns

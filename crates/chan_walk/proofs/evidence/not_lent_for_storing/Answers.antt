@@ -1,6 +1,6 @@
 use Rattle.std.proofs.Common.{length, refl}
 use Rattle.chan_walk.specs.Job.{store_of, storage_of}
-use Rattle.chan_walk.proofs.Causes.{gap_in_storage}
+use Rattle.chan_walk.proofs.Theory.Causes.{gap_in_storage}
 use Rattle.chan_walk.proofs.evidence.not_lent_for_storing.Goals as goal
 
 pub returns : goal.returns

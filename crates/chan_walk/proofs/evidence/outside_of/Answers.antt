@@ -2,7 +2,7 @@ use Rattle.std.proofs.Common.{sym, ◌∙◌, ap, subst, ◌≤◌}
 use Rattle.ckd_core.specs.Argument.{head_of}
 use Rattle.ckd_core.specs.Cylinders.{has_cylinder}
 use Rattle.chan_walk.specs.Job.{extents_of}
-use Rattle.chan_walk.proofs.Causes.{head_out, track_parts}
+use Rattle.chan_walk.proofs.Theory.Causes.{head_out, track_parts}
 use Rattle.chan_walk.proofs.evidence.outside_of.Goals as goal
 
 pub returns : goal.returns

@@ -4,8 +4,8 @@ use Rattle.ckd_core.specs.Mask.{is_mask}
 use Rattle.chan_walk.specs.declared.offence.Offence.{Offence}
 use Rattle.chan_walk.specs.Explained.{IsEvidenceOf, IsPathOf}
 use Rattle.chan_walk.specs.Offences.{AreOffences, first_verdict}
-use Rattle.chan_walk.proofs.Answering.{at_most, covers, only_yes, shown}
-use Rattle.chan_walk.proofs.Explaining.{reached_looks, witness}
+use Rattle.chan_walk.proofs.Machine.Answering.{at_most, covers, only_yes, shown}
+use Rattle.chan_walk.proofs.Algorithms.Explaining.{reached_looks, witness}
 use Rattle.chan_walk.proofs.explanation.explain.Goals as goal
 
 pub offences_of-requires-clause-looks : goal.offences_of-requires-clause-looks

@@ -2,7 +2,7 @@ use Rattle.std.proofs.Common.{sym, subst, arith}
 use Rattle.std.proofs.lemmas.Bool.{both_ways}
 use Rattle.chan_walk.specs.declared.place.Place.{Place}
 use Rattle.chan_walk.specs.Explained.{IsLike}
-use Rattle.chan_walk.proofs.Finding.{none_at_all, none_more}
+use Rattle.chan_walk.proofs.Algorithms.Finding.{none_at_all, none_more}
 use Rattle.chan_walk.proofs.explanation.first_like.Goals as goal
 
 pub loop-at-preserved : goal.loop-at-preserved

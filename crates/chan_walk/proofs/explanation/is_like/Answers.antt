@@ -1,6 +1,6 @@
 use Rattle.std.proofs.Common.{sym, subst}
 use Rattle.chan_walk.specs.Explained.{HasNumber}
-use Rattle.chan_walk.proofs.Explaining.{like_number}
+use Rattle.chan_walk.proofs.Algorithms.Explaining.{like_number}
 use Rattle.chan_walk.proofs.explanation.is_like.Goals as goal
 
 pub returns : goal.returns

@@ -2,9 +2,9 @@ use Rattle.std.proofs.Common.{List, Some, sym, ap, ◌∙◌, subst, rules}
 use Rattle.chan_walk.specs.Explained.{IsLike}
 use Rattle.chan_walk.specs.Look.{Seen, places_of_looks}
 use Rattle.chan_walk.specs.Walk.{IsFirstWhere}
-use Rattle.chan_walk.proofs.Changing.{first_within, found_first}
-use Rattle.chan_walk.proofs.Explaining.{evidence_chosen, offending_chosen, path_chosen, some_chosen}
-use Rattle.chan_walk.proofs.Looking.{place_at}
+use Rattle.chan_walk.proofs.Algorithms.Changing.{first_within, found_first}
+use Rattle.chan_walk.proofs.Algorithms.Explaining.{evidence_chosen, offending_chosen, path_chosen, some_chosen}
+use Rattle.chan_walk.proofs.Algorithms.Looking.{place_at}
 use Rattle.chan_walk.proofs.explanation.witness_of.Goals as goal
 
 pub unwrap-at-requires : goal.unwrap-at-requires

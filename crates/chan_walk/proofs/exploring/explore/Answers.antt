@@ -1,6 +1,6 @@
 use Rattle.std.proofs.lemmas.Result.{IfOk-weaker}
 use Rattle.chan_walk.specs.Look.{places_of_looks}
-use Rattle.chan_walk.proofs.InOrder.{listed_reachable, listed_few}
+use Rattle.chan_walk.proofs.Algorithms.InOrder.{listed_reachable, listed_few}
 use Rattle.chan_walk.proofs.exploring.explore.Goals as goal
 
 pub returns-clause-ok : goal.returns-clause-ok

@@ -3,8 +3,8 @@ use Rattle.std.proofs.lemmas.Result.{err_from_is_err_and}
 use Rattle.chan_walk.specs.declared.error.WalkError.{WalkError}
 use Rattle.chan_walk.specs.declared.error.WalkError.TheVariants.{TooManyPlaces}
 use Rattle.chan_walk.specs.Look.{places_of_looks}
-use Rattle.chan_walk.proofs.Looking.{number_of_places}
-use Rattle.chan_walk.proofs.Walking.{first_overflows}
+use Rattle.chan_walk.proofs.Algorithms.Looking.{number_of_places}
+use Rattle.chan_walk.proofs.Algorithms.Walking.{first_overflows}
 use Rattle.chan_walk.proofs.exploring.walk_all.Goals as goal
 
 pub returns-in_err-add-clause-many : goal.returns-in_err-add-clause-many

@@ -2,7 +2,7 @@ use Rattle.std.proofs.Common.{◌≡◌, ◌&&◌, true, false, length, refl, sy
 use Rattle.ccw_core.specs.Ccw.{is_transfer, is_invalid, is_formed, is_counted, has_data_in}
 use Rattle.ccw_core.specs.Held.{bytes_held}
 use Rattle.chan_walk.specs.Place.{is_fresh}
-use Rattle.chan_walk.proofs.CheckCases.{check-found, check-transfer}
+use Rattle.chan_walk.proofs.Theory.CheckCases.{check-found, check-transfer}
 use Rattle.chan_walk.proofs.fault.checked.Goals as goal
 
 pub returns-then-is_transfer : goal.returns-then-is_transfer

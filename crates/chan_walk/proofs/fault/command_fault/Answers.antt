@@ -4,7 +4,7 @@ use Rattle.ckd_core.specs.Mask.{inhibits}
 use Rattle.ckd_core.specs.Table.{lookup}
 use Rattle.ckd_core.proofs.TableLemmas.{inhibits-class}
 use Rattle.chan_walk.specs.Place.{is_fresh}
-use Rattle.chan_walk.proofs.Visiting.{begun-fresh}
+use Rattle.chan_walk.proofs.Algorithms.Visiting.{begun-fresh}
 use Rattle.chan_walk.proofs.fault.command_fault.Goals as goal
 
 pub returns-in-Some : goal.returns-in-Some

@@ -1,4 +1,4 @@
-use Rattle.chan_walk.proofs.CheckCases.{check-misaligned, check-outside}
+use Rattle.chan_walk.proofs.Theory.CheckCases.{check-misaligned, check-outside}
 use Rattle.chan_walk.proofs.fault.fault_without_ccw.Goals as goal
 
 pub returns-then-place-eq0 : goal.returns-then-place-eq0

@@ -5,7 +5,7 @@ use Rattle.ccw_core.specs.Ccw.{is_transfer}
 use Rattle.ccw_core.proofs.StorageLemmas.{ccw_at-some}
 use Rattle.chan_walk.specs.Fault.{HasFault}
 use Rattle.chan_walk.specs.Job.{storage_of}
-use Rattle.chan_walk.proofs.OwnFaults.{data_begins_in_storage, data_in_storage, fault_of_check, fault_of_parts, no_fault_of_transfer}
+use Rattle.chan_walk.proofs.Theory.OwnFaults.{data_begins_in_storage, data_in_storage, fault_of_check, fault_of_parts, no_fault_of_transfer}
 use Rattle.chan_walk.proofs.fault.own_fault.Goals as goal
 
 pub returns-in-Some : goal.returns-in-Some

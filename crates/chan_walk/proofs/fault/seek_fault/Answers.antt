@@ -1,7 +1,7 @@
 use Rattle.std.proofs.Common.{sym, ◌∙◌}
 use Rattle.chan_walk.specs.Job.{storage_of}
-use Rattle.chan_walk.proofs.Chains.{argument_exists}
-use Rattle.chan_walk.proofs.OwnFaults.{fault_of_seek, fault_of_recalibrate, no_fault_of_recalibrate, no_fault_of_other}
+use Rattle.chan_walk.proofs.Theory.Chains.{argument_exists}
+use Rattle.chan_walk.proofs.Theory.OwnFaults.{fault_of_seek, fault_of_recalibrate, no_fault_of_recalibrate, no_fault_of_other}
 use Rattle.chan_walk.proofs.fault.seek_fault.Goals as goal
 use Rattle.chan_walk.proofs.fault.seek_fault.Goals.{else-begins_recalibrate-via-then-begins_recalibrate+else-not-has, else-begins_recalibrate-via-else-begins_recalibrate}
 

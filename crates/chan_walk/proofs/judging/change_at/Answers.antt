@@ -4,9 +4,9 @@ use Rattle.ccw_core.proofs.StorageLemmas.{ccw_at-some, ccw_at-where}
 use Rattle.chan_walk.specs.Fault.{stores}
 use Rattle.chan_walk.specs.Guarded.{IsCcwByte, IsArgumentByte}
 use Rattle.chan_walk.specs.Job.{storage_of}
-use Rattle.chan_walk.proofs.Checks.{check_stands}
-use Rattle.chan_walk.proofs.Faults.{clear_check}
-use Rattle.chan_walk.proofs.Verdicts.{first_argument, first_ccw, first_none, meets_from_over, over_from_meets}
+use Rattle.chan_walk.proofs.Theory.Checks.{check_stands}
+use Rattle.chan_walk.proofs.Theory.Faults.{clear_check}
+use Rattle.chan_walk.proofs.Algorithms.Verdicts.{first_argument, first_ccw, first_none, meets_from_over, over_from_meets}
 use Rattle.chan_walk.proofs.judging.change_at.Goals as goal
 
 pub returns-in_err-ccw : goal.returns-in_err-ccw

@@ -1,7 +1,7 @@
 use Rattle.std.proofs.Common.{rules}
 use Rattle.std.proofs.lemmas.Fn.{always_returns_same}
 use Rattle.chan_walk.specs.Look.{place_of}
-use Rattle.chan_walk.proofs.Sorting.{increasing, same_looks}
+use Rattle.chan_walk.proofs.Algorithms.Sorting.{increasing, same_looks}
 use Rattle.chan_walk.proofs.judging.in_order.Goals as goal
 
 pub returns-clause-ordered : goal.returns-clause-ordered

@@ -3,9 +3,9 @@ use Rattle.ckd_core.specs.Cylinders.{AreExtents}
 use Rattle.ckd_core.specs.Mask.{is_mask}
 use Rattle.chan_walk.specs.Least.{AreReached}
 use Rattle.chan_walk.specs.Look.{AreLooks, places_of_looks}
-use Rattle.chan_walk.proofs.Answering.{covers, only_yes, shown}
-use Rattle.chan_walk.proofs.Looking.{moved_places}
-use Rattle.chan_walk.proofs.Walking.{reached_all}
+use Rattle.chan_walk.proofs.Machine.Answering.{covers, only_yes, shown}
+use Rattle.chan_walk.proofs.Algorithms.Looking.{moved_places}
+use Rattle.chan_walk.proofs.Algorithms.Walking.{reached_all}
 use Rattle.chan_walk.proofs.judging.judge.Goals as goal
 
 pub verdict_of-requires : goal.verdict_of-requires

@@ -3,9 +3,9 @@ use Rattle.chan_walk.specs.declared.place.Place.{Place}
 use Rattle.chan_walk.specs.Least.{IsLesser}
 use Rattle.chan_walk.specs.Look.{places_of_looks}
 use Rattle.chan_walk.specs.Verdict.{Changes}
-use Rattle.chan_walk.proofs.Least.{least_all, least_next}
-use Rattle.chan_walk.proofs.Lists.{has_at}
-use Rattle.chan_walk.proofs.Looking.{look_of, number_of_places, place_at}
+use Rattle.chan_walk.proofs.Algorithms.Least.{least_all, least_next}
+use Rattle.chan_walk.proofs.Theory.Lists.{has_at}
+use Rattle.chan_walk.proofs.Algorithms.Looking.{look_of, number_of_places, place_at}
 use Rattle.chan_walk.proofs.judging.least_change.Goals as goal
 
 pub loop-look-preserved : goal.loop-look-preserved

@@ -3,8 +3,8 @@ use Rattle.chan_walk.specs.declared.place.Place.{Place}
 use Rattle.chan_walk.specs.declared.reason.Reason.{Reason}
 use Rattle.chan_walk.specs.Least.{IsOwn, IsLesser}
 use Rattle.chan_walk.specs.Look.{places_of_looks}
-use Rattle.chan_walk.proofs.Least.{first_own, least_all, least_next}
-use Rattle.chan_walk.proofs.Looking.{look_of, number_of_places, place_at}
+use Rattle.chan_walk.proofs.Algorithms.Least.{first_own, least_all, least_next}
+use Rattle.chan_walk.proofs.Algorithms.Looking.{look_of, number_of_places, place_at}
 use Rattle.chan_walk.proofs.judging.least_fault.Goals as goal
 
 pub loop-look-preserved : goal.loop-look-preserved

@@ -1,7 +1,7 @@
 use Rattle.std.proofs.Common.{sym, subst}
 use Rattle.chan_walk.specs.declared.verdict.Verdict.{Verdict}
 use Rattle.chan_walk.specs.Verdict.{IsVerdict}
-use Rattle.chan_walk.proofs.Verdicts.{clear_all, verdict_of_change, verdict_of_fault, verdict_yes}
+use Rattle.chan_walk.proofs.Algorithms.Verdicts.{clear_all, verdict_of_change, verdict_of_fault, verdict_yes}
 use Rattle.chan_walk.proofs.judging.verdict_of.Goals as goal
 
 pub returns-in-Some : goal.returns-in-Some

@@ -1,4 +1,4 @@
-use Rattle.chan_walk.proofs.Paths.{each_path_is_run}
+use Rattle.chan_walk.proofs.Machine.Paths.{each_path_is_run}
 use Rattle.chan_walk.proofs.laws.each_path_is_run.Goals as goal
 
 pub returns : goal.returns

@@ -1,4 +1,4 @@
-use Rattle.chan_walk.proofs.Yes.{gathers_arguments}
+use Rattle.chan_walk.proofs.Machine.Yes.{gathers_arguments}
 use Rattle.chan_walk.proofs.laws.gathers_arguments.Goals as goal
 
 pub returns : goal.returns

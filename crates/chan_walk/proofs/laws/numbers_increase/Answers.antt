@@ -1,4 +1,4 @@
-use Rattle.chan_walk.proofs.Order.{numbers_increase}
+use Rattle.chan_walk.proofs.Theory.Order.{numbers_increase}
 use Rattle.chan_walk.proofs.laws.numbers_increase.Goals as goal
 
 pub returns : goal.returns

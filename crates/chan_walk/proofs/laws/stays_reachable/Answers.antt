@@ -1,4 +1,4 @@
-use Rattle.chan_walk.proofs.Yes.{stays_reachable}
+use Rattle.chan_walk.proofs.Machine.Yes.{stays_reachable}
 use Rattle.chan_walk.proofs.laws.stays_reachable.Goals as goal
 
 pub returns : goal.returns

@@ -1,7 +1,7 @@
 use Rattle.std.proofs.Common.{refl, sym}
 use Rattle.chan_walk.specs.Job.{storage_of}
-use Rattle.chan_walk.proofs.Looking.{next_faulty, taken_faulty}
-use Rattle.chan_walk.proofs.OwnFaults.{fault_of_check}
+use Rattle.chan_walk.proofs.Algorithms.Looking.{next_faulty, taken_faulty}
+use Rattle.chan_walk.proofs.Theory.OwnFaults.{fault_of_check}
 use Rattle.chan_walk.proofs.look.look_at_nothing.Goals as goal
 
 pub returns-clause-look : goal.returns-clause-look

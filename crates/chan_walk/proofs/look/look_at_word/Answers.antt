@@ -11,7 +11,7 @@ use Rattle.chan_walk.specs.Look.{addresses_of}
 use Rattle.chan_walk.specs.Place.{word_at}
 use Rattle.chan_walk.specs.Successors.{AreSuccessors}
 use Rattle.chan_walk.specs.Visit.{begun}
-use Rattle.chan_walk.proofs.Looking.{IsSought, IsTaken, next_clear, next_faulty, stands_below, taken_faulty, taken_none, taken_whole}
+use Rattle.chan_walk.proofs.Algorithms.Looking.{IsSought, IsTaken, next_clear, next_faulty, stands_below, taken_faulty, taken_none, taken_whole}
 use Rattle.chan_walk.proofs.look.look_at_word.Goals as goal
 use Rattle.chan_walk.proofs.look.look_at_word.Goals.{in-None-Some, in-None-None, in-Some-default}
 

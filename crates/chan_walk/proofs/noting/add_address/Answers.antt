@@ -1,6 +1,6 @@
 use Rattle.std.proofs.Common.{ap}
 use Rattle.chan_walk.specs.declared.place.Place.{Place}
-use Rattle.chan_walk.proofs.Noted.{address_added}
+use Rattle.chan_walk.proofs.Algorithms.Noted.{address_added}
 use Rattle.chan_walk.proofs.noting.add_address.Goals as goal
 
 pub returns-in_ok-push : goal.returns-in_ok-push

@@ -2,8 +2,8 @@ use Rattle.std.proofs.Common.{ℕ, ◌++◌, [], ◌∷◌, sym, ap, ◌∙◌}
 use Rattle.ccw_core.specs.declared.areas.Area.{Area}
 use Rattle.chan_walk.specs.Evidence.{data_of}
 use Rattle.chan_walk.specs.Notes.{IsSeenByte}
-use Rattle.chan_walk.proofs.Guarding.{adds_areas}
-use Rattle.chan_walk.proofs.Noted.{seen_bytes}
+use Rattle.chan_walk.proofs.Algorithms.Guarding.{adds_areas}
+use Rattle.chan_walk.proofs.Algorithms.Noted.{seen_bytes}
 use Rattle.chan_walk.proofs.noting.add_range.Goals as goal
 
 abbrev area : ℕ → ℕ → Area

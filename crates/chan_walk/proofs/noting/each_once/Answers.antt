@@ -1,6 +1,6 @@
 use Rattle.std.proofs.lemmas.List.Filters.{dedup_is}
 use Rattle.std.proofs.lemmas.Map.Keys.{IsStrictlyIncreasing-dedup}
-use Rattle.chan_walk.proofs.Noted.{same_once}
+use Rattle.chan_walk.proofs.Algorithms.Noted.{same_once}
 use Rattle.chan_walk.proofs.noting.each_once.Goals as goal
 
 pub returns-clause-rising : goal.returns-clause-rising

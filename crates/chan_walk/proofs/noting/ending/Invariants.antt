@@ -3,7 +3,7 @@ use Rattle.chan_walk.specs.declared.job.Job.{Job}
 use Rattle.chan_walk.specs.Argument.{Has}
 use Rattle.chan_walk.specs.Look.{AreLooks, places_of_looks}
 use Rattle.chan_walk.specs.Notes.{ends_there}
-use Rattle.chan_walk.proofs.Noted.{HasAddress, HoldAddresses}
+use Rattle.chan_walk.proofs.Algorithms.Noted.{HasAddress, HoldAddresses}
 use Rattle.chan_walk.proofs.noting.ending.Given as goal
 
 abbrev pub invariant-loop-look : goal.invariant-loop-look

@@ -3,9 +3,9 @@ use Rattle.std.proofs.lemmas.Result.{IfOk-weaker}
 use Rattle.chan_walk.specs.declared.place.Place.{Place}
 use Rattle.chan_walk.specs.Fault.{fetches}
 use Rattle.chan_walk.specs.Look.{places_of_looks}
-use Rattle.chan_walk.proofs.Guarding.{HoldBytes, hold_more, hold_none, hold_same, low_none}
-use Rattle.chan_walk.proofs.Looking.{look_of, places_next, places_taken}
-use Rattle.chan_walk.proofs.Noted.{HasData, adds_data, all_data}
+use Rattle.chan_walk.proofs.Algorithms.Guarding.{HoldBytes, hold_more, hold_none, hold_same, low_none}
+use Rattle.chan_walk.proofs.Algorithms.Looking.{look_of, places_next, places_taken}
+use Rattle.chan_walk.proofs.Algorithms.Noted.{HasData, adds_data, all_data}
 use Rattle.chan_walk.proofs.noting.fetched.Goals as goal
 
 pub loop-look-init : goal.loop-look-init

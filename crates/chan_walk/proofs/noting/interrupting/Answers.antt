@@ -3,8 +3,8 @@ use Rattle.chan_walk.specs.declared.place.Place.{Place}
 use Rattle.chan_walk.specs.Argument.{Has}
 use Rattle.chan_walk.specs.Look.{places_of_looks}
 use Rattle.chan_walk.specs.Notes.{interrupts}
-use Rattle.chan_walk.proofs.Looking.{look_of, places_next, places_taken}
-use Rattle.chan_walk.proofs.Noted.{HasAddress, HoldAddresses, addresses_more, addresses_none, adds_address, all_addresses}
+use Rattle.chan_walk.proofs.Algorithms.Looking.{look_of, places_next, places_taken}
+use Rattle.chan_walk.proofs.Algorithms.Noted.{HasAddress, HoldAddresses, addresses_more, addresses_none, adds_address, all_addresses}
 use Rattle.chan_walk.proofs.noting.interrupting.Goals as goal
 
 pub loop-look-init : goal.loop-look-init

@@ -1,7 +1,7 @@
 use Rattle.chan_walk.specs.Fault.{fetches, stores}
 use Rattle.chan_walk.specs.Job.{fetch_of, store_of}
-use Rattle.chan_walk.proofs.Explaining.{reached_looks}
-use Rattle.chan_walk.proofs.Noted.{unused_data}
+use Rattle.chan_walk.proofs.Algorithms.Explaining.{reached_looks}
+use Rattle.chan_walk.proofs.Algorithms.Noted.{unused_data}
 use Rattle.chan_walk.proofs.noting.notes.Goals as goal
 
 pub returns-clause-unused_fetch : goal.returns-clause-unused_fetch

@@ -1,4 +1,4 @@
-use Rattle.chan_walk.proofs.Noted.{nothing_follows}
+use Rattle.chan_walk.proofs.Algorithms.Noted.{nothing_follows}
 use Rattle.chan_walk.proofs.noting.nothing_follows.Goals as goal
 
 pub returns : goal.returns

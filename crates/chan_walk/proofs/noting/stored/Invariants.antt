@@ -4,8 +4,8 @@ use Rattle.chan_walk.specs.declared.job.Job.{Job}
 use Rattle.chan_walk.specs.Fault.{stores}
 use Rattle.chan_walk.specs.Look.{AreLooks, places_of_looks}
 use Rattle.chan_walk.specs.Ranges.{EndsBelow}
-use Rattle.chan_walk.proofs.Guarding.{HoldBytes}
-use Rattle.chan_walk.proofs.Noted.{HasData}
+use Rattle.chan_walk.proofs.Algorithms.Guarding.{HoldBytes}
+use Rattle.chan_walk.proofs.Algorithms.Noted.{HasData}
 use Rattle.chan_walk.proofs.noting.stored.Given as goal
 
 abbrev pub invariant-loop-look : goal.invariant-loop-look

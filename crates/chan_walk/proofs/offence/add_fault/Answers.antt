@@ -1,7 +1,7 @@
 use Rattle.std.proofs.Common.{◌++◌, [], ◌∷◌, refl, sym, ap, ◌∙◌, subst}
 use Rattle.chan_walk.specs.declared.place.Place.{Place}
 use Rattle.chan_walk.specs.Fault.{HasFault}
-use Rattle.chan_walk.proofs.Listing.{added_fault, offence, unadded_fault}
+use Rattle.chan_walk.proofs.Algorithms.Listing.{added_fault, offence, unadded_fault}
 use Rattle.chan_walk.proofs.offence.add_fault.Goals as goal
 
 pub returns-in_ok-push : goal.returns-in_ok-push

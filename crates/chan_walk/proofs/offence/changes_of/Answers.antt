@@ -4,9 +4,9 @@ use Rattle.chan_walk.specs.Guarded.{IsArgumentByte, IsCcwByte}
 use Rattle.chan_walk.specs.Look.{places_of_looks}
 use Rattle.chan_walk.specs.Offences.{HasOffences}
 use Rattle.chan_walk.specs.Verdict.{Changes}
-use Rattle.chan_walk.proofs.Lists.{has_at}
-use Rattle.chan_walk.proofs.Listing.{adds_changes, new_place, offences_more, offences_none, stores_both}
-use Rattle.chan_walk.proofs.Looking.{look_of, place_at, places_next, places_taken}
+use Rattle.chan_walk.proofs.Theory.Lists.{has_at}
+use Rattle.chan_walk.proofs.Algorithms.Listing.{adds_changes, new_place, offences_more, offences_none, stores_both}
+use Rattle.chan_walk.proofs.Algorithms.Looking.{look_of, place_at, places_next, places_taken}
 use Rattle.chan_walk.proofs.offence.changes_of.Goals as goal
 
 pub loop-look-init : goal.loop-look-init

@@ -1,5 +1,5 @@
 use Rattle.std.proofs.Common.{sym, ◌∙◌, arith, refl}
-use Rattle.chan_walk.proofs.Explaining.{more_numbers, no_number, number_there}
+use Rattle.chan_walk.proofs.Algorithms.Explaining.{more_numbers, no_number, number_there}
 use Rattle.chan_walk.proofs.offence.has_offence.Goals as goal
 
 pub returns-then-number : goal.returns-then-number

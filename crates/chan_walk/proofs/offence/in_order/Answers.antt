@@ -1,7 +1,7 @@
 use Rattle.std.proofs.Common.{rules}
 use Rattle.std.proofs.lemmas.List.Sorted.{IsNonDecreasingBy-from_sort_by_key}
 use Rattle.chan_walk.specs.Offences.{offence_number}
-use Rattle.chan_walk.proofs.Listing.{increasing, same_offences}
+use Rattle.chan_walk.proofs.Algorithms.Listing.{increasing, same_offences}
 use Rattle.chan_walk.proofs.offence.in_order.Goals as goal
 
 pub returns-clause-ordered : goal.returns-clause-ordered

@@ -1,4 +1,4 @@
-use Rattle.chan_walk.proofs.Explaining.{reached_looks}
+use Rattle.chan_walk.proofs.Algorithms.Explaining.{reached_looks}
 use Rattle.chan_walk.proofs.offence.offences.Goals as goal
 
 pub offences_of-requires-clause-looks : goal.offences_of-requires-clause-looks

@@ -1,4 +1,4 @@
-use Rattle.chan_walk.proofs.Listing.{put_in_order}
+use Rattle.chan_walk.proofs.Algorithms.Listing.{put_in_order}
 use Rattle.chan_walk.proofs.offence.offences_of.Goals as goal
 
 pub in_order-requires : goal.in_order-requires

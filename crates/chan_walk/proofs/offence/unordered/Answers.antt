@@ -1,7 +1,7 @@
 use Rattle.std.proofs.Common.{arith}
 use Rattle.std.proofs.lemmas.Result.{IfOk-weaker}
-use Rattle.chan_walk.proofs.Listing.{change_offences, fault_offences, no_faults, no_offence, some_offence}
-use Rattle.chan_walk.proofs.Verdicts.{clear_all}
+use Rattle.chan_walk.proofs.Algorithms.Listing.{change_offences, fault_offences, no_faults, no_offence, some_offence}
+use Rattle.chan_walk.proofs.Algorithms.Verdicts.{clear_all}
 use Rattle.chan_walk.proofs.offence.unordered.Goals as goal
 
 pub returns-then-not-is_empty : goal.returns-then-not-is_empty

@@ -1,6 +1,6 @@
 use Rattle.std.proofs.Common.{◌∙◌, arith}
 use Rattle.std.proofs.lemmas.Bool.{both_ways}
-use Rattle.chan_walk.proofs.Backward.{more_differ, none_there, same_place}
+use Rattle.chan_walk.proofs.Algorithms.Backward.{more_differ, none_there, same_place}
 use Rattle.chan_walk.proofs.path.index_of.Goals as goal
 
 pub loop-at-preserved : goal.loop-at-preserved

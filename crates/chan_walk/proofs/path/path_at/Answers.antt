@@ -1,8 +1,8 @@
 use Rattle.std.proofs.Common.{◌≡◌, ◌<◌, length, slice_get, slice_index, Some, sym, ap, ◌∙◌, subst, arith}
 use Rattle.std.proofs.lemmas.List.{get_or_read}
 use Rattle.chan_walk.specs.Look.{places_of_looks}
-use Rattle.chan_walk.proofs.Backward.{IsWayBack, back_end, back_next, from_earlier}
-use Rattle.chan_walk.proofs.Looking.{place_at}
+use Rattle.chan_walk.proofs.Algorithms.Backward.{IsWayBack, back_end, back_next, from_earlier}
+use Rattle.chan_walk.proofs.Algorithms.Looking.{place_at}
 use Rattle.chan_walk.proofs.path.path_at.Goals as goal
 
 pub loop-from-smaller : goal.loop-from-smaller

@@ -2,7 +2,7 @@ use Rattle.std.proofs.Common.{◌<◌, length}
 use Rattle.chan_walk.specs.declared.job.Job.{Job}
 use Rattle.chan_walk.specs.Look.{places_of_looks}
 use Rattle.chan_walk.specs.Walk.{HasFound}
-use Rattle.chan_walk.proofs.Backward.{IsWayBack}
+use Rattle.chan_walk.proofs.Algorithms.Backward.{IsWayBack}
 use Rattle.chan_walk.proofs.path.path_at.Given as goal
 
 abbrev pub invariant-loop-from : goal.invariant-loop-from

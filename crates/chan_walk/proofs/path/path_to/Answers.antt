@@ -1,7 +1,7 @@
 use Rattle.std.proofs.Common.{◌≡◌, List, slice_get, subst, Some}
 use Rattle.chan_walk.specs.Argument.{Has}
 use Rattle.chan_walk.specs.Look.{Seen, places_of_looks}
-use Rattle.chan_walk.proofs.Backward.{unreached, within_looks}
+use Rattle.chan_walk.proofs.Algorithms.Backward.{unreached, within_looks}
 use Rattle.chan_walk.proofs.path.path_to.Goals as goal
 
 pub path_at-requires-clause-found : goal.path_at-requires-clause-found

@@ -1,7 +1,7 @@
 use Rattle.std.proofs.Common.{sym, subst, arith}
 use Rattle.chan_walk.specs.Evidence.{IsLeastOrNone}
 use Rattle.chan_walk.specs.Ranges.{IsByteIn}
-use Rattle.chan_walk.proofs.Gaps.{first_of_next, none_from_next, none_from_start}
+use Rattle.chan_walk.proofs.Algorithms.Gaps.{first_of_next, none_from_next, none_from_start}
 use Rattle.chan_walk.proofs.ranges.first_in.Goals as goal
 
 pub returns-in_err-area : goal.returns-in_err-area

@@ -1,5 +1,5 @@
 use Rattle.std.proofs.Common.{arith, rules}
-use Rattle.chan_walk.proofs.Gaps.{ends_early, start_after}
+use Rattle.chan_walk.proofs.Algorithms.Gaps.{ends_early, start_after}
 use Rattle.chan_walk.proofs.ranges.gap_start.Goals as goal
 
 pub overflow_add-result : goal.overflow_add-result

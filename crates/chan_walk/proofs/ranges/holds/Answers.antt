@@ -1,7 +1,7 @@
 use Rattle.std.proofs.Common.{◌≡◌, ◌+◌, ◌<◌, ◌≤◌, ◌⊎◌, inl, inr, ◌∙◌, leb, arith, sym}
 use Rattle.std.proofs.lemmas.Bool.{cases_lt, lt-leb, le-leb}
 use Rattle.ccw_core.specs.Areas.{covered}
-use Rattle.chan_walk.proofs.Searching.{covered_next, uncovered_end}
+use Rattle.chan_walk.proofs.Algorithms.Searching.{covered_next, uncovered_end}
 use Rattle.chan_walk.proofs.ranges.holds.Goals as goal
 
 pub returns-then-area-start : goal.returns-then-area-start

@@ -1,5 +1,5 @@
 use Rattle.std.proofs.Common.{◌+◌, ◌-◌, arith, refl, inl, inr}
-use Rattle.chan_walk.proofs.Merging.{run_stays, run_begins, run_ends, run_grows, runs_later, runs_push}
+use Rattle.chan_walk.proofs.Algorithms.Merging.{run_stays, run_begins, run_ends, run_grows, runs_later, runs_push}
 use Rattle.chan_walk.proofs.ranges.join.Goals as goal
 
 pub returns-then-area-eq0-clause-bytes : goal.returns-then-area-eq0-clause-bytes

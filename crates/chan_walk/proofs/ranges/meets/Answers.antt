@@ -1,5 +1,5 @@
 use Rattle.std.proofs.Common.{◌<◌, ◌+◌, arith, rules}
-use Rattle.chan_walk.proofs.Searching.{meets_next}
+use Rattle.chan_walk.proofs.Algorithms.Searching.{meets_next}
 use Rattle.chan_walk.proofs.ranges.meets.Goals as goal
 
 pub returns-in-Some : goal.returns-in-Some

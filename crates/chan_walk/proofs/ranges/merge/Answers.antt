@@ -5,7 +5,7 @@ use Rattle.std.proofs.lemmas.List.Sorted.{IsNonDecreasingBy-from_sort_by_key, Al
 use Rattle.std.proofs.lemmas.Result.{IfOk-weaker}
 use Rattle.ccw_core.specs.Areas.{lies_in}
 use Rattle.chan_walk.specs.Ranges.{start_of, EndsBelow, HaveSameBytes}
-use Rattle.chan_walk.proofs.Merging.{bytes_moved}
+use Rattle.chan_walk.proofs.Algorithms.Merging.{bytes_moved}
 use Rattle.chan_walk.proofs.ranges.merge.Goals as goal
 
 pub merge_sorted-requires-clause-sorted : goal.merge_sorted-requires-clause-sorted

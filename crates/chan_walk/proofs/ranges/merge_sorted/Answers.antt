@@ -1,7 +1,7 @@
 use Rattle.std.proofs.Common.{◌++◌, [], ◌∷◌, ◌∙◌, arith, rules, slice_index_or, refl, sym, subst}
 use Rattle.ccw_core.specs.declared.areas.Area.{Area}
 use Rattle.chan_walk.specs.Ranges.{IsMerged}
-use Rattle.chan_walk.proofs.Merging.{runs_first, bytes_first, get_any, order_next, bytes_next, bytes_end, bytes_empty, merged_push}
+use Rattle.chan_walk.proofs.Algorithms.Merging.{runs_first, bytes_first, get_any, order_next, bytes_next, bytes_end, bytes_empty, merged_push}
 use Rattle.chan_walk.proofs.ranges.merge_sorted.Goals as goal
 
 pub loop-area-init : goal.loop-area-init

@@ -2,7 +2,7 @@ use Rattle.std.proofs.Common.{rules, leb}
 use Rattle.std.proofs.lemmas.List.Sorted.{IsPartitionPoint-from_clause, IsPartitionedBy-leb}
 use Rattle.ccw_core.specs.declared.areas.Area.{Area}
 use Rattle.chan_walk.specs.Ranges.{end_of}
-use Rattle.chan_walk.proofs.Searching.{merged_ends, IsCut, found}
+use Rattle.chan_walk.proofs.Algorithms.Searching.{merged_ends, IsCut, found}
 use Rattle.chan_walk.proofs.ranges.next_area.Goals as goal
 
 pub returns : goal.returns

@@ -3,9 +3,9 @@ use Rattle.ccw_core.specs.Ccw.{Fields, ccw, chains_data}
 use Rattle.ccw_core.specs.Held.{bytes_held}
 use Rattle.ccw_core.proofs.StorageLemmas.{ccw_at-some}
 use Rattle.chan_walk.specs.Evidence.{Gives}
-use Rattle.chan_walk.proofs.CheckCases.{is_part-found}
-use Rattle.chan_walk.proofs.Following.{IsFollowed, argument_below, followed_more, followed_whole, leads_nowhere, leads_to_no_part, no_more, part_in_range}
-use Rattle.chan_walk.proofs.Given.{IsGiven, given_more, given_no_part, given_nowhere, given_unchained}
+use Rattle.chan_walk.proofs.Theory.CheckCases.{is_part-found}
+use Rattle.chan_walk.proofs.Algorithms.Following.{IsFollowed, argument_below, followed_more, followed_whole, leads_nowhere, leads_to_no_part, no_more, part_in_range}
+use Rattle.chan_walk.proofs.Algorithms.Given.{IsGiven, given_more, given_no_part, given_nowhere, given_unchained}
 use Rattle.chan_walk.proofs.seek.argument_addresses.Goals as goal
 
 pub returns-then-not-gives_bytes-clause-none : goal.returns-then-not-gives_bytes-clause-none

@@ -1,8 +1,8 @@
 use Rattle.std.proofs.Common.{◌≡◌, ◌-◌, Some}
 use Rattle.ccw_core.specs.Held.{bytes_held}
 use Rattle.ccw_core.specs.Storage.{ccw_at}
-use Rattle.chan_walk.proofs.Following.{IsFollowed}
-use Rattle.chan_walk.proofs.Given.{IsGiven}
+use Rattle.chan_walk.proofs.Algorithms.Following.{IsFollowed}
+use Rattle.chan_walk.proofs.Algorithms.Given.{IsGiven}
 use Rattle.chan_walk.proofs.seek.argument_addresses.Given as goal
 
 abbrev pub invariant-loop-addresses : goal.invariant-loop-addresses

@@ -1,7 +1,7 @@
 use Rattle.std.proofs.Common.{sym, subst, ◌∙◌}
 use Rattle.ccw_core.specs.Held.{bytes_held}
 use Rattle.chan_walk.specs.Argument.{HasArgument}
-use Rattle.chan_walk.proofs.Following.{begins_nowhere, found_or_none}
+use Rattle.chan_walk.proofs.Algorithms.Following.{begins_nowhere, found_or_none}
 use Rattle.chan_walk.proofs.seek.seek_argument.Goals as goal
 
 pub returns-in_err-ccw : goal.returns-in_err-ccw

@@ -1,7 +1,7 @@
 use Rattle.std.proofs.Common.{option_map, sym, ap, ◌∙◌}
 use Rattle.ckd_core.specs.Entries.{entry_of}
 use Rattle.ckd_core.specs.Table.{class_sets_mask, class_passes}
-use Rattle.chan_walk.proofs.Visiting.{begins_set_mask-begun}
+use Rattle.chan_walk.proofs.Algorithms.Visiting.{begins_set_mask-begun}
 use Rattle.chan_walk.proofs.visit.sets_mask_at.Goals as goal
 
 pub returns-in-Some : goal.returns-in-Some

@@ -1,5 +1,5 @@
 use Rattle.std.proofs.Common.{rules}
-use Rattle.chan_walk.proofs.Marks.{mark_put}
+use Rattle.chan_walk.proofs.Algorithms.Marks.{mark_put}
 use Rattle.chan_walk.proofs.ways.mark.Goals as goal
 
 pub returns-clause-ok : goal.returns-clause-ok

@@ -2,7 +2,7 @@ use Rattle.std.proofs.Common.{◌≡◌, ◌++◌, ◌∷◌, [], ◌+◌, ◌-�
 use Rattle.std.specs.Int.{bit_at}
 use Rattle.std.proofs.lemmas.Nat.Bits.{shr_and_one}
 use Rattle.chan_walk.specs.Marks.{ways, place_at}
-use Rattle.chan_walk.proofs.InOrder.{ways_next, ways_skip, ways_done}
+use Rattle.chan_walk.proofs.Algorithms.InOrder.{ways_next, ways_skip, ways_done}
 use Rattle.chan_walk.proofs.ways.push_ways.Goals as goal
 use Rattle.chan_walk.proofs.ways.push_ways.Goals.{then-bits-way-eq1+in_ok-push, else-bits-way-eq1}
 

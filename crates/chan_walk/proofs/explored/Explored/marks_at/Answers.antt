@@ -1,7 +1,7 @@
 use Rattle.std.proofs.Common.{◌≡◌, ◌↔◌, subst, sym}
 use Rattle.std.specs.Int.{bit_at}
 use Rattle.chan_walk.specs.Marks.{HasWay, marks_of}
-use Rattle.chan_walk.proofs.InOrder.{bit_is_way}
+use Rattle.chan_walk.proofs.Algorithms.InOrder.{bit_is_way}
 use Rattle.chan_walk.proofs.explored.Explored.marks_at.Goals as goal
 
 pub returns-clause-ways : goal.returns-clause-ways

@@ -1,6 +1,6 @@
 use Rattle.chan_walk.specs.Look.{places_of_looks}
-use Rattle.chan_walk.proofs.Looking.{looks_push, places_push}
-use Rattle.chan_walk.proofs.Marks.{agrees_push}
+use Rattle.chan_walk.proofs.Algorithms.Looking.{looks_push, places_push}
+use Rattle.chan_walk.proofs.Algorithms.Marks.{agrees_push}
 use Rattle.chan_walk.proofs.exploring.Walk.add.Goals as goal
 
 pub returns-in_ok-mark-clause-looks : goal.returns-in_ok-mark-clause-looks

@@ -3,7 +3,7 @@ use Rattle.std.proofs.lemmas.Result.{IfOk-weaker}
 use Rattle.chan_walk.specs.declared.place.Place.{Place}
 use Rattle.chan_walk.specs.Least.{AreReached}
 use Rattle.chan_walk.specs.Look.{AreLooks, places_of_looks}
-use Rattle.chan_walk.proofs.Looking.{looks_push, places_push}
+use Rattle.chan_walk.proofs.Algorithms.Looking.{looks_push, places_push}
 use Rattle.chan_walk.proofs.guard.Guard.new.Goals as goal
 
 pub loop-place-preserved : goal.loop-place-preserved

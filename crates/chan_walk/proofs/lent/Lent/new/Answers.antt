@@ -1,5 +1,5 @@
 use Rattle.std.proofs.Common.{arith, ◌^◌}
-use Rattle.chan_walk.proofs.Lending.{covers_clipped, clipped_low}
+use Rattle.chan_walk.proofs.Algorithms.Lending.{covers_clipped, clipped_low}
 use Rattle.chan_walk.proofs.lent.Lent.new.Goals as goal
 
 pub merge-requires : goal.merge-requires

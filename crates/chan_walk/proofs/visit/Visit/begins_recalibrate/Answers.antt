@@ -1,7 +1,7 @@
 use Rattle.std.proofs.Common.{option_map, sym, ap, ◌∙◌}
 use Rattle.ckd_core.specs.Entries.{entry_of}
 use Rattle.ckd_core.specs.Table.{class_recalibrates, class_passes}
-use Rattle.chan_walk.proofs.Visiting.{begins_recalibrate-begun}
+use Rattle.chan_walk.proofs.Algorithms.Visiting.{begins_recalibrate-begun}
 use Rattle.chan_walk.proofs.visit.Visit.begins_recalibrate.Goals as goal
 
 pub returns-in-Some : goal.returns-in-Some

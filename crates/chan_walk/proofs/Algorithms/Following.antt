@@ -1,0 +1,171 @@
+-- Following the chain of a seek, CCW by CCW.
+use Rattle.std.proofs.Common.{◌≡◌, ℕ, zero, suc, ◌+◌, ◌-◌, ◌<◌, ◌≤◌, true, false, List, [], ◌∷◌, ◌++◌, take, length, get_or, None, Some, Option, Result, Ok, Err, IfOk, IfErr, refl, sym, ap, ◌∙◌, subst, ◌⊎◌, inl, inr, arith, append_assoc, append-nil, length-append}
+use Rattle.std.proofs.lemmas.List.{ext_get_or, get_or-append-add}
+use Rattle.std.specs.Result.{result_ok}
+use Rattle.std.specs.List.{range_with_len, AllByRecursion}
+use Rattle.std.proofs.lemmas.Bool.{cases_lt, both_ways, and_parts, leb-true}
+use Rattle.std.proofs.Math.ListN.{get_or-append}
+use Rattle.std.proofs.lemmas.List.FromFn.{get_or-range_with_len, length-range_with_len}
+use Rattle.ccw_core.specs.Ccw.{Fields, ccw, has_data_in, chains_data}
+use Rattle.ccw_core.specs.Storage.{ccw_at, is_inside}
+use Rattle.ccw_core.proofs.StorageLemmas.{ccw_at-some}
+use Rattle.chan_walk.specs.Argument.{is_part, Leads, AreLinked, IsChain, argument_addresses, joined, data_of, total}
+use Rattle.chan_walk.specs.Onward.{onward}
+use Rattle.chan_walk.specs.Tables.{HasAddresses}
+use Rattle.chan_walk.proofs.Theory.Chains.{chain_cons, chain_tail, chain_begins_with_part, onward_leads, onward_only, part_counts}
+use Rattle.chan_walk.proofs.Theory.CheckCases.{is_part-none}
+use Rattle.chan_walk.proofs.Theory.Lists.{all_append, range_split, take_front}
+
+-- the addresses taken so far are those of the chain in front of here, and six less these are still to come
+pub record IsFollowed (s : List ℕ) (a : ℕ) (taken : List ℕ) (have here : ℕ) : Type 0 where
+  pub size : length taken ≡ 6
+  pub few : have < 6
+  pub before : List ℕ
+  pub count : length before ≡ have
+  pub noted : (i : ℕ) → i < have → get_or taken i 0 ≡ get_or before i 0
+  pub to : (l : List ℕ) → IsChain s (6 - have) here l → (k : List ℕ) × IsChain s 6 a k × (joined s k ≡ before ++ joined s l)
+  pub from : (k : List ℕ) → IsChain s 6 a k → (l : List ℕ) × IsChain s (6 - have) here l
+
+pub chain_goes_on : (s : List ℕ) (n a : ℕ) (l : List ℕ) → (ccw s a).count < n → IsChain s n a l
+    → (chains_data (ccw s a) ≡ true) × ((k : List ℕ) × IsChain s (n - (ccw s a).count) (onward s a) k)
+chain_goes_on s n a [] lt k = absurd k.begins
+chain_goes_on s n a (x ∷ []) lt k =
+    let e : total s (x ∷ []) ≡ (ccw s a).count = subst (λ m. (ccw s m).count + 0 ≡ (ccw s a).count) (sym k.begins) (omega arith) in
+    let f = k.enough in
+    absurd (omega arith)
+chain_goes_on s n a (x ∷ y ∷ l) lt k =
+    let b : x ≡ a = k.begins in
+    let tail = chain_tail s n a x y l k in
+    let lead = subst (λ m. Leads s m y) b k.linked.2 in
+    let e = onward_only s a y lead (chain_begins_with_part s _ y (y ∷ l) tail) in
+    let rest = subst (λ m. IsChain s (n - (ccw s m).count) y (y ∷ l)) b tail in
+    (subst (λ m. chains_data (ccw s m) ≡ true) b k.linked.1, (y ∷ l, subst (λ m. IsChain s (n - (ccw s a).count) m (y ∷ l)) e rest))
+
+pub no_more : (s : List ℕ) (a : ℕ) (taken : List ℕ) (have here : ℕ) → IsFollowed s a taken have here → (ccw s here).count < 6 - have
+    → chains_data (ccw s here) ≡ false → (l : List ℕ) → IsChain s 6 a l → ⊥
+no_more s a taken have here w lt e k h = let l = w.from k h in both_ways _ e (chain_goes_on s _ here l.0 lt l.1).0
+
+-- no chain begins where no CCW stands
+pub begins_nowhere : (s : List ℕ) (n a : ℕ) → ccw_at s a ≡ None → (l : List ℕ) → IsChain s n a l → ⊥
+begins_nowhere s n a e l k = both_ways _ (is_part-none s a e) (chain_begins_with_part s n a l k)
+
+-- there is no chain where what stands here gives no bytes
+pub leads_to_no_part : (s : List ℕ) (a : ℕ) (taken : List ℕ) (have here : ℕ) → IsFollowed s a taken have here → is_part s here ≡ false
+    → (l : List ℕ) → IsChain s 6 a l → ⊥
+leads_to_no_part s a taken have here w n k h = let l = w.from k h in both_ways _ n (chain_begins_with_part s _ here l.0 l.1)
+
+-- nor where data chaining leads to no CCW
+pub leads_nowhere : (s : List ℕ) (a : ℕ) (taken : List ℕ) (have here : ℕ) → IsFollowed s a taken have here → (ccw s here).count < 6 - have
+    → ccw_at s (onward s here) ≡ None → (l : List ℕ) → IsChain s 6 a l → ⊥
+leads_nowhere s a taken have here w lt n k h =
+    let l = w.from k h in
+    let m = (chain_goes_on s _ here l.0 lt l.1).1 in
+    begins_nowhere s _ (onward s here) n m.0 m.1
+
+-- the addresses that were found, if they were
+pub found_or_none : (s : List ℕ) (a : ℕ) (r : Result (List ℕ) ℕ) (o : Option (List ℕ)) → o ≡ result_ok r → IfOk r (λ x. HasAddresses s a (Some x)) → IfErr r (λ _. HasAddresses s a None) → HasAddresses s a o
+found_or_none s a (Ok x) o e six none = subst (HasAddresses s a) (sym e) six
+found_or_none s a (Err n) o e six none = subst (HasAddresses s a) (sym e) none
+
+-- the addresses after n more from a
+note_more : (before taken taken' : List ℕ) (have from n : ℕ) → length before ≡ have → ((i : ℕ) → i < have → get_or taken i 0 ≡ get_or before i 0)
+    → ((i : ℕ) → i < have → get_or taken' i 0 ≡ get_or taken i 0) → ((i : ℕ) → i < n → get_or taken' (have + i) 0 ≡ from + i)
+    → (i : ℕ) → i < have + n → get_or taken' i 0 ≡ get_or (before ++ range_with_len from n) i 0
+note_more before taken taken' have from n c r b a i h = go (cases_lt i have)
+  where
+    go : (i < have) ⊎ (have ≤ i) → get_or taken' i 0 ≡ get_or (before ++ range_with_len from n) i 0
+    go (inl l) = b i l ∙ r i l ∙ sym (get_or-append before (range_with_len from n) 0 i (omega arith))
+    go (inr l) =
+        let k : i ≡ have + (i - have) = omega arith in
+        let k' : i ≡ length before + (i - have) = omega arith in
+        ap (λ z. get_or taken' z 0) k ∙ a (i - have) (omega arith)
+        ∙ sym (ap (λ z. get_or (before ++ range_with_len from n) z 0) k' ∙ get_or-append-add before (range_with_len from n) (i - have) 0 ∙ get_or-range_with_len from n (i - have) 0 (omega arith))
+
+pub followed_more : (s : List ℕ) (a : ℕ) (taken taken' : List ℕ) (have here : ℕ) → IsFollowed s a taken have here → is_part s here ≡ true
+    → (ccw s here).count < 6 - have → chains_data (ccw s here) ≡ true → length taken' ≡ 6
+    → ((i : ℕ) → i < have → get_or taken' i 0 ≡ get_or taken i 0) → ((i : ℕ) → i < (ccw s here).count → get_or taken' (have + i) 0 ≡ (ccw s here).address + i)
+    → IsFollowed s a taken' (have + (ccw s here).count) (onward s here)
+followed_more s a taken taken' have here w part lt cd n b ad =
+    let f = w.few in
+    let c = w.count in
+    let d : 6 - have - (ccw s here).count ≡ 6 - (have + (ccw s here).count) = omega arith in
+    record {
+      size = n;
+      few = omega arith;
+      before = w.before ++ data_of s here;
+      count = length-append w.before (data_of s here) ∙ ap (λ z. z + length (data_of s here)) c ∙ ap (λ z. have + z) (length-range_with_len (ccw s here).address (ccw s here).count);
+      noted = note_more w.before taken taken' have (ccw s here).address (ccw s here).count c w.noted b ad;
+      to = λ l k.
+          let t = w.to (here ∷ l) (chain_cons s (6 - have) here (onward s here) l part cd (onward_leads s here) lt (subst (λ z. IsChain s z (onward s here) l) (sym d) k)) in
+          (t.0, t.1, t.2 ∙ sym (append_assoc w.before (data_of s here) (joined s l)));
+      from = λ k h. let l = w.from k h in let r = (chain_goes_on s (6 - have) here l.0 lt l.1).1 in (r.0, subst (λ z. IsChain s z (onward s here) r.0) d r.1);
+    }
+
+pub followed_whole : (s : List ℕ) (a : ℕ) (taken taken' : List ℕ) (have here : ℕ) → IsFollowed s a taken have here → is_part s here ≡ true
+    → 6 - have ≤ (ccw s here).count → length taken' ≡ 6 → ((i : ℕ) → i < have → get_or taken' i 0 ≡ get_or taken i 0)
+    → ((i : ℕ) → i < 6 - have → get_or taken' (have + i) 0 ≡ (ccw s here).address + i)
+    → (l : List ℕ) × IsChain s 6 a l × (taken' ≡ argument_addresses s l)
+followed_whole s a taken taken' have here w part le n b ad =
+    let f = w.few in
+    let c = w.count in
+    let from = (ccw s here).address in
+    let t = w.to (here ∷ []) (record { begins = refl; linked = part; short = omega arith; enough = omega arith }) in
+    let room = 6 - have in
+    let cut : (ccw s here).count ≡ room + ((ccw s here).count - room) = omega arith in
+    let split : data_of s here ≡ range_with_len from room ++ range_with_len (from + room) ((ccw s here).count - room) = ap (range_with_len from) cut ∙ range_split from room ((ccw s here).count - room) in
+    let front = w.before ++ range_with_len from room in
+    let rest = range_with_len (from + room) ((ccw s here).count - room) in
+    let len : length front ≡ 6 = length-append w.before (range_with_len from room) ∙ ap (λ z. length w.before + z) (length-range_with_len from room) ∙ omega arith in
+    let whole : joined s t.0 ≡ front ++ rest = t.2 ∙ ap (λ z. w.before ++ z) (append-nil (data_of s here) ∙ split) ∙ sym (append_assoc w.before (range_with_len from room) rest) in
+    let none : 6 - length front ≡ 0 = omega arith in
+    let args : argument_addresses s t.0 ≡ front = ap (take 6) whole ∙ take_front front rest (omega arith) ∙ ap (λ z. front ++ take z rest) none ∙ append-nil front in
+    let same : taken' ≡ front = ext_get_or 0 taken' front (n ∙ sym len) (λ i h. note_more w.before taken taken' have from room c w.noted b ad i (omega arith)) in
+    (t.0, t.1, same ∙ sym args)
+
+-- what a CCW that gives bytes fits
+pub record IsInRange (s : List ℕ) (a : ℕ) (c : Fields) : Type 0 where
+  pub inside : a + 8 ≤ length s
+  pub data_in : c.address + c.count ≤ length s
+  pub counts : 0 < c.count
+
+in_range : (s : List ℕ) (a : ℕ) → is_part s a ≡ true → IsInRange s a (ccw s a)
+unfolding is_part is_inside has_data_in
+in_range s a h =
+    let h5 = and_parts _ _ h in
+    let h4 = and_parts _ _ h5.0 in
+    let h3 = and_parts _ _ h4.0 in
+    let h2 = and_parts _ _ h3.0 in
+    let h1 = and_parts _ _ h2.0 in
+    record { inside = leb-true _ _ h1.1; data_in = leb-true _ _ h5.1; counts = part_counts s a h }
+
+pub part_in_range : (s : List ℕ) (a : ℕ) (c : Fields) → ccw_at s a ≡ Some c → is_part s a ≡ true → IsInRange s a c
+part_in_range s a c h k = subst (IsInRange s a) (sym (ccw_at-some s a c h).2) (in_range s a k)
+
+-- ---- the bytes of an argument lie in storage
+
+range_below : (a k n : ℕ) → a + k ≤ n → AllByRecursion (λ b. b < n) (range_with_len a k)
+range_below a zero n h = tt
+range_below a (suc k) n h = (omega arith, range_below (a + 1) k n (omega arith))
+
+data_below : (s : List ℕ) (a : ℕ) → is_part s a ≡ true → AllByRecursion (λ b. b < length s) (data_of s a)
+data_below s a h = range_below (ccw s a).address (ccw s a).count (length s) (in_range s a h).data_in
+
+joined_below : (s l : List ℕ) → AreLinked s l → AllByRecursion (λ b. b < length s) (joined s l)
+joined_below s [] h = tt
+joined_below s (a ∷ []) h = all_append (λ b. b < length s) (data_of s a) [] (data_below s a h) tt
+joined_below s (a ∷ b ∷ l) h = all_append (λ b. b < length s) (data_of s a) (joined s (b ∷ l)) (data_below s a h.0) (joined_below s (b ∷ l) h.3)
+
+take_below : (n k : ℕ) (xs : List ℕ) → AllByRecursion (λ b. b < n) xs → AllByRecursion (λ b. b < n) (take k xs)
+take_below n zero xs h = tt
+take_below n (suc k) [] h = tt
+take_below n (suc k) (x ∷ xs) h = (h.0, take_below n k xs h.1)
+
+index_below : (n i : ℕ) (xs : List ℕ) → 0 < n → AllByRecursion (λ b. b < n) xs → get_or xs i 0 < n
+index_below n i [] p h = p
+index_below n zero (x ∷ xs) p h = h.0
+index_below n (suc i) (x ∷ xs) p h = index_below n i xs p h.1
+
+pub argument_below : (s : List ℕ) (n a : ℕ) (l x : List ℕ) → IsChain s n a l → x ≡ argument_addresses s l → (i : ℕ) → get_or x i 0 < length s
+argument_below s n a l x k e i =
+    let fits = in_range s a (chain_begins_with_part s n a l k) in
+    subst (λ z. get_or z i 0 < length s) (sym e) (index_below (length s) i (take 6 (joined s l)) (omega (arith, fits.inside)) (take_below (length s) 6 (joined s l) (joined_below s l k.linked)))

@@ -1,0 +1,141 @@
+-- The areas of a guard while they are gathered, place by place.
+use Rattle.std.proofs.Common.{◌≡◌, ℕ, ◌+◌, ◌<◌, ◌≤◌, ◌^◌, true, ◌||◌, ◌++◌, List, [], ◌∷◌, map, length, get_or, Option, Some, None, is_some, refl, sym, ap, ◌∙◌, subst, ◌⊎◌, inl, inr, ◌↔◌, arith}
+use Rattle.std.specs.List.{All}
+use Rattle.std.proofs.lemmas.Bool.{or_cases, or_left, or_right, both_ways, leb-true}
+use Rattle.std.proofs.lemmas.List.Elements.{All-append, All-map}
+use Rattle.ccw_core.specs.declared.areas.Area.{Area}
+use Rattle.ccw_core.specs.Areas.{lies_in}
+use Rattle.ccw_core.specs.Ccw.{Fields}
+use Rattle.ccw_core.specs.Storage.{Stands, ccw_at, is_inside}
+use Rattle.ccw_core.proofs.Covering.{lies_in-nil}
+use Rattle.ccw_core.proofs.StorageLemmas.{ccw_at-some}
+use Rattle.chan_walk.specs.declared.job.Job.{Job}
+use Rattle.chan_walk.specs.declared.place.Place.{Place}
+use Rattle.chan_walk.specs.Argument.{Has, IsChain, argument_addresses}
+use Rattle.chan_walk.specs.Fault.{begins_seek, IsClear}
+use Rattle.chan_walk.specs.Guard.{AddsBytes, IsCcwByteOf, IsSeekByteOf, IsArgumentByteOf, byte_area}
+use Rattle.chan_walk.specs.Guarded.{IsCcwByte, IsSeekByte, IsMaskByte, IsArgumentByte}
+use Rattle.chan_walk.specs.Job.{storage_of}
+use Rattle.chan_walk.specs.Least.{AreReached}
+use Rattle.chan_walk.specs.Place.{word_at}
+use Rattle.chan_walk.specs.Reachable.{IsReachable}
+use Rattle.chan_walk.specs.Ranges.{EndsBelow, HaveSameBytes}
+use Rattle.chan_walk.proofs.Theory.Chains.{chain_unique}
+use Rattle.chan_walk.proofs.Theory.Lists.{has_left, has_right, has_cases}
+use Rattle.chan_walk.proofs.Algorithms.Merging.{InArea, lies_in-append, lies_in-cases, lies_in-first, lies_in-rest, get_any}
+
+-- the areas have exactly the bytes that are P's at some place of the list
+abbrev pub HoldBytes : (Place → ℕ → Type 0) → List Place → List Area → Type 0
+HoldBytes P ps areas = (b : ℕ) → (lies_in areas b ≡ true) ↔ ((p : Place) × Has ps p × P p b)
+
+pub hold_none : (P : Place → ℕ → Type 0) (areas : List Area) → areas ≡ [] → HoldBytes P [] areas
+hold_none P areas e b = ((λ h. absurd (both_ways (lies_in [] b) (lies_in-nil b) (ap (λ z. lies_in z b) (sym e) ∙ h))), λ h. absurd h.1)
+
+pub low_none : (n : ℕ) (areas : List Area) → areas ≡ [] → All (EndsBelow n) areas
+low_none n areas e = subst (All (EndsBelow n)) (sym e) (λ i d l. absurd (omega arith))
+
+-- one more place
+pub hold_more : (P : Place → ℕ → Type 0) (ps : List Place) (p : Place) (old new : List Area) → HoldBytes P ps old → AddsBytes old new (P p) → HoldBytes P (ps ++ p ∷ []) new
+hold_more P ps p old new f g b = ((λ h. to ((g b).0 h)), λ h. (g b).1 (from h.0 h.2 (has_cases ps (p ∷ []) h.0 h.1)))
+  where
+    to : (lies_in old b ≡ true) ⊎ P p b → (q : Place) × Has (ps ++ p ∷ []) q × P q b
+    to (inl h) = let r = (f b).0 h in (r.0, has_left ps (p ∷ []) r.0 r.1, r.2)
+    to (inr h) = (p, has_right ps (p ∷ []) p (inl refl), h)
+
+    from : (q : Place) → P q b → Has ps q ⊎ Has (p ∷ []) q → (lies_in old b ≡ true) ⊎ P p b
+    from q h (inl k) = inl ((f b).1 (q, k, h))
+    from q h (inr (inl e)) = inr (subst (λ z. P z b) (sym e) h)
+    from q h (inr (inr k)) = absurd k
+
+-- at the end, in a list with the same bytes
+pub hold_same : (P : Place → ℕ → Type 0) (some ps : List Place) (areas merged : List Area) → some ≡ ps → HoldBytes P some areas → HaveSameBytes merged areas → HoldBytes P ps merged
+hold_same P some ps areas merged e f g b =
+    let h = subst (λ z. HoldBytes P z areas) e f in
+    ((λ k. (h b).0 (sym (g b) ∙ k)), λ k. g b ∙ (h b).1 k)
+
+-- over the reachable places
+pub ccw_bytes : (j : Job) (ps : List Place) (areas : List Area) → AreReached j ps → HoldBytes (IsCcwByteOf j) ps areas → (b : ℕ) → (lies_in areas b ≡ true) ↔ IsCcwByte j b
+ccw_bytes j ps areas r f b = (to, from)
+  where
+    to : lies_in areas b ≡ true → IsCcwByte j b
+    to h = let k = (f b).0 h in record { place = k.0; reached = r.1 k.0 k.1; stands = k.2.stands; from = k.2.from; below = k.2.below }
+
+    from : IsCcwByte j b → lies_in areas b ≡ true
+    from h = (f b).1 (h.place, r.0 h.place h.reached, record { stands = h.stands; from = h.from; below = h.below })
+
+pub argument_bytes : (j : Job) (ps : List Place) (areas : List Area) → AreReached j ps → HoldBytes (IsArgumentByteOf j) ps areas → (b : ℕ) → (lies_in areas b ≡ true) ↔ IsArgumentByte j b
+argument_bytes j ps areas r f b = (to, from)
+  where
+    to : lies_in areas b ≡ true → IsArgumentByte j b
+    to h = let k = (f b).0 h in go k.0 (r.1 k.0 k.1) k.2
+      where
+        go : (p : Place) → IsReachable j p → IsArgumentByteOf j p b → IsArgumentByte j b
+        go p m (inl k) = record { place = p; reached = m; clear = k.0; takes = inl k.1 }
+        go p m (inr k) = record { place = p; reached = m; clear = k.0; takes = inr k.1 }
+
+    from : IsArgumentByte j b → lies_in areas b ≡ true
+    from h = (f b).1 (h.place, r.0 h.place h.reached, go h.takes)
+      where
+        go : IsSeekByte j h.place b ⊎ IsMaskByte j h.place b → IsArgumentByteOf j h.place b
+        go (inl k) = inl (h.clear, k)
+        go (inr k) = inr (h.clear, k)
+
+-- ---- at one place
+
+pub adds_areas : (old added new : List Area) (P : ℕ → Type 0) → new ≡ old ++ added → ((b : ℕ) → (lies_in added b ≡ true) ↔ P b) → AddsBytes old new P
+adds_areas old added new P e f b = ((λ h. to (or_cases (lies_in old b) (lies_in added b) (sym whole ∙ h))), from)
+  where
+    whole : lies_in new b ≡ (lies_in old b || lies_in added b)
+    whole = ap (λ z. lies_in z b) e ∙ lies_in-append old added b
+
+    to : (lies_in old b ≡ true) ⊎ (lies_in added b ≡ true) → (lies_in old b ≡ true) ⊎ P b
+    to (inl h) = inl h
+    to (inr h) = inr ((f b).0 h)
+
+    from : (lies_in old b ≡ true) ⊎ P b → lies_in new b ≡ true
+    from (inl h) = whole ∙ or_left (lies_in old b) (lies_in added b) h
+    from (inr h) = whole ∙ or_right (lies_in old b) (lies_in added b) ((f b).1 h)
+
+pub low_more : (old added new : List Area) (n : ℕ) → new ≡ old ++ added → All (EndsBelow n) old → All (EndsBelow n) added → All (EndsBelow n) new
+low_more old added new n e f g = subst (All (EndsBelow n)) (sym e) (All-append (EndsBelow n) old added f g)
+
+-- the eight bytes of a CCW
+pub bytes_of_ccw : (j : Job) (p : Place) → Stands (storage_of j) p.address → (b : ℕ) → (lies_in ((record { start = p.address; len = 8 }) ∷ []) b ≡ true) ↔ IsCcwByteOf j p b
+bytes_of_ccw j p s b = ((λ h. to (lies_in-cases area [] b h)), λ h. lies_in-first area [] b (h.from, h.below))
+  where
+    area : Area
+    area = record { start = p.address; len = 8 }
+
+    to : InArea area b ⊎ (lies_in [] b ≡ true) → IsCcwByteOf j p b
+    to (inl h) = record { stands = s; from = h.0; below = h.1 }
+    to (inr h) = absurd (both_ways (lies_in [] b) (lies_in-nil b) h)
+
+pub lies_in-bytes : (xs : List ℕ) (b : ℕ) → (lies_in (map byte_area xs) b ≡ true) ↔ Has xs b
+lies_in-bytes [] b = ((λ h. absurd (both_ways (lies_in [] b) (lies_in-nil b) h)), λ h. absurd h)
+lies_in-bytes (x ∷ xs) b = let rest = lies_in-bytes xs b in ((λ h. to rest.0 (lies_in-cases (byte_area x) (map byte_area xs) b h)), λ h. from rest.1 h)
+  where
+    to : (lies_in (map byte_area xs) b ≡ true → Has xs b) → InArea (byte_area x) b ⊎ (lies_in (map byte_area xs) b ≡ true) → Has (x ∷ xs) b
+    to f (inl h) = inl (omega (arith, h.0, h.1))
+    to f (inr h) = inr (f h)
+
+    from : (Has xs b → lies_in (map byte_area xs) b ≡ true) → Has (x ∷ xs) b → lies_in (map byte_area (x ∷ xs)) b ≡ true
+    from f (inl e) = lies_in-first (byte_area x) (map byte_area xs) b (omega arith, omega arith)
+    from f (inr h) = lies_in-rest (byte_area x) (map byte_area xs) b (f h)
+
+pub low_bytes : (xs : List ℕ) → ((i : ℕ) → get_or xs i 0 < 2 ^ 24) → All (EndsBelow (2 ^ 32)) (map byte_area xs)
+low_bytes xs h = All-map (EndsBelow (2 ^ 32)) byte_area xs (λ i d l. let k = h i in let e = get_any xs i d 0 l in omega arith)
+
+-- the argument at a place that begins a seek and has no own fault
+pub bytes_of_argument : (j : Job) (p : Place) (l x : List ℕ) → begins_seek p (word_at j p) ≡ true → IsClear j p → IsChain (storage_of j) 6 p.address l → x ≡ argument_addresses (storage_of j) l → (b : ℕ) → Has x b ↔ IsSeekByteOf j p b
+bytes_of_argument j p l x s f k e b = (
+  (λ h. (f, record { seeks = s; chain = l; is_chain = k; has = subst (λ z. Has z b) e h })),
+  λ h. subst (λ z. Has z b) (ap (argument_addresses (storage_of j)) (chain_unique (storage_of j) 6 p.address h.1.chain l h.1.is_chain k) ∙ sym e) h.1.has,
+)
+
+pub stands_from : (s : List ℕ) (a : ℕ) (o : Option Fields) → o ≡ ccw_at s a → is_some o ≡ true → Stands s a
+stands_from s a None e h = absurd (cc)
+stands_from s a (Some c) e h = let k = ccw_at-some s a c (sym e) in (k.0, k.1)
+
+pub stands_low : (s : List ℕ) (a : ℕ) → length s ≤ 2 ^ 24 → Stands s a → EndsBelow (2 ^ 32) (record { start = a; len = 8 })
+unfolding is_inside
+stands_low s a l h = let k = leb-true (a + 8) (length s) h.1 in omega arith

@@ -1,0 +1,278 @@
+-- The marked places, written out in order.
+use Rattle.std.proofs.Common.{◌≡◌, ℕ, zero, suc, ◌+◌, ◌-◌, ◌*◌, ◌<◌, ◌≤◌, ◌==◌, true, false, Bool, List, [], ◌∷◌, ◌++◌, append_assoc, append-nil, map, length, Option, Some, None, refl, sym, ap, ◌∙◌, subst, ◌⊎◌, inl, inr, ◌↔◌, arith, eqb, Less}
+use Rattle.std.specs.List.{AllByRecursion, IsDistinct, list_any}
+use Rattle.std.specs.List.Sorted.{IsStrictlySortedBy}
+use Rattle.std.specs.Int.{bit_at}
+use Rattle.std.specs.Ordering.{nat_cmp}
+use Rattle.std.specs.BTreeMap.{BTreeMap}
+use Rattle.std.specs.BTreeMap as tree
+use Rattle.std.specs.Map.{keys_of}
+use Rattle.std.proofs.lemmas.Bool.{ne_eqb, eqb-true, eq-eqb, cases_eq, both_ways, or_cases, or_left, or_right}
+use Rattle.std.proofs.lemmas.Bool.Decides.{nat_tests}
+use Rattle.std.proofs.lemmas.Cmp.{nat_cmp_total, nat_eq_equiv}
+use Rattle.std.proofs.lemmas.List.{length-map}
+use Rattle.std.proofs.lemmas.Map.Made.{length-le_from_is_member}
+use Rattle.std.proofs.lemmas.Map.Lookups.{exact_unsigned}
+use Rattle.std.proofs.lemmas.Map.Views.{btree_map_get_iff}
+use Rattle.std.proofs.lemmas.Map.Keys.{IsStrictlyIncreasing-from_sorted}
+use Rattle.std.proofs.lemmas.Nat.Bits.{bit_at-zero}
+use Rattle.chan_walk.specs.declared.job.Job.{Job}
+use Rattle.chan_walk.specs.declared.place.Place.{Place}
+use Rattle.chan_walk.specs.Argument.{Has}
+use Rattle.chan_walk.specs.Explored.{AreApart, AreReachable, way_of, place_number}
+use Rattle.chan_walk.specs.Marks.{put, ways, place_at, places_at, places_of, HasMark, HasWay, ListsMarks, or_none, marks_of}
+use Rattle.chan_walk.specs.Walk.{Agrees, IsWalked}
+use Rattle.chan_walk.proofs.Theory.Lists.{contains_has, has_cases, has_contains, has_left, has_right}
+use Rattle.chan_walk.proofs.Algorithms.Marks.{way_small, way_of-place_at, place_at-way_of, same_number}
+use Rattle.chan_walk.proofs.Algorithms.Walking.{all_found}
+
+less_cmp : (a b : ℕ) → a < b → nat_cmp a b ≡ Less
+less_cmp a b l = grind (arith, nat_tests)
+
+pub cmp_less : (a b : ℕ) → nat_cmp a b ≡ Less → a < b
+cmp_less a b e = grind (arith, nat_tests)
+
+-- ---- lists of places in order
+
+-- the places are in order
+abbrev AreSorted : List Place → Type 0
+AreSorted ps = IsStrictlySortedBy nat_cmp (map place_number ps)
+
+-- b is below the number of each
+abbrev AllAbove : ℕ → List Place → Type 0
+AllAbove b ps = AllByRecursion (λ y. nat_cmp b y ≡ Less) (map place_number ps)
+
+all_above : (b : ℕ) (ps : List Place) → ((p : Place) → Has ps p → b < place_number p) → AllAbove b ps
+all_above b [] f = tt
+all_above b (p ∷ ps) f = (less_cmp b (place_number p) (f p (inl refl)), all_above b ps (λ q h. f q (inr h)))
+
+above_all : (b : ℕ) (ps : List Place) → AllAbove b ps → (p : Place) → Has ps p → b < place_number p
+above_all b [] a p h = absurd h
+above_all b (q ∷ ps) a p (inl e) = subst (λ z. b < place_number z) e (cmp_less b (place_number q) a.0)
+above_all b (q ∷ ps) a p (inr h) = above_all b ps a.1 p h
+
+sorted_append : (ps qs : List Place) → AreSorted ps → AreSorted qs → ((p q : Place) → Has ps p → Has qs q → place_number p < place_number q) → AreSorted (ps ++ qs)
+unfolding IsStrictlySortedBy
+sorted_append [] qs s t f = t
+sorted_append (p ∷ ps) qs s t f = (all_above (place_number p) (ps ++ qs) (λ q h. go q (has_cases ps qs q h)), sorted_append ps qs s.1 t (λ q r h k. f q r (inr h) k))
+  where
+    go : (q : Place) → Has ps q ⊎ Has qs q → place_number p < place_number q
+    go q (inl h) = above_all (place_number p) ps s.0 q h
+    go q (inr h) = f p q (inl refl) h
+
+apart_sorted : (ps : List Place) → AreSorted ps → AreApart ps
+unfolding IsStrictlySortedBy
+apart_sorted [] s = tt
+apart_sorted (p ∷ ps) s = ((λ h. let l = above_all (place_number p) ps s.0 p h in absurd (omega arith)), apart_sorted ps s.1)
+
+-- ---- the places at one address
+
+-- one of the ways i to i + n - 1, whose bit is on
+record IsWay (a m i n : ℕ) (p : Place) : Type 0 where
+  way : ℕ
+  from : i ≤ way
+  below : way < i + n
+  is : p ≡ place_at a way
+  set : bit_at m way ≡ 1
+
+later_way : (a m i n : ℕ) (p : Place) → IsWay a m (suc i) n p → IsWay a m i (suc n) p
+later_way a m i n p w = let f = w.from in let b = w.below in record { way = w.way; from = omega arith; below = omega arith; is = w.is; set = w.set }
+
+way_in : (a m i n : ℕ) (p : Place) → Has (ways a m i n) p → IsWay a m i n p
+unfolding ways
+way_in a m i zero p h = absurd h
+way_in a m i (suc n) p h = go (bit_at m i == 1) refl (way_in a m (suc i) n p) h
+  where
+    go : (t : Bool) → (bit_at m i == 1) ≡ t → (Has (ways a m (suc i) n) p → IsWay a m (suc i) n p) → Has (put t (place_at a i) (ways a m (suc i) n)) p → IsWay a m i (suc n) p
+    go true e f (inl d) = record { way = i; from = omega arith; below = omega arith; is = sym d; set = eqb-true _ _ e }
+    go true e f (inr k) = later_way a m i n p (f k)
+    go false e f k = later_way a m i n p (f k)
+
+in_ways : (a m i n k : ℕ) → i ≤ k → k < i + n → bit_at m k ≡ 1 → Has (ways a m i n) (place_at a k)
+unfolding ways
+in_ways a m i zero k l h s = absurd (omega arith)
+in_ways a m i (suc n) k l h s = go (bit_at m i == 1) refl (cases_eq k i) (λ d. in_ways a m (suc i) n k (omega arith) (omega arith) s)
+  where
+    go : (t : Bool) → (bit_at m i == 1) ≡ t → (k ≡ i) ⊎ (k ≡ i → ⊥) → ((k ≡ i → ⊥) → Has (ways a m (suc i) n) (place_at a k)) → Has (put t (place_at a i) (ways a m (suc i) n)) (place_at a k)
+    go true e (inl d) f = inl (ap (place_at a) (sym d))
+    go true e (inr d) f = inr (f d)
+    go false e (inl d) f = absurd (both_ways _ e (eq-eqb _ _ (subst (λ z. bit_at m z ≡ 1) d s)))
+    go false e (inr d) f = f d
+
+-- the number of the place at a that is entered in the way w
+number_at : (a w : ℕ) → w < 8 → place_number (place_at a w) ≡ 8 * a + w
+number_at a w h = ap (λ z. 8 * a + z) (way_of-place_at a w h)
+
+sorted_ways : (a m i n : ℕ) → i + n ≤ 8 → AreSorted (ways a m i n)
+unfolding IsStrictlySortedBy ways
+sorted_ways a m i zero h = tt
+sorted_ways a m i (suc n) h = go (bit_at m i == 1) (sorted_ways a m (suc i) n (omega arith))
+  where
+    above : (p : Place) → Has (ways a m (suc i) n) p → place_number (place_at a i) < place_number p
+    above p k =
+        let w = way_in a m (suc i) n p k in
+        let f = w.from in
+        let b = w.below in
+        let here = number_at a i (omega arith) in
+        let there : place_number p ≡ 8 * a + w.way = ap place_number w.is ∙ number_at a w.way (omega arith) in
+        omega arith
+
+    go : (t : Bool) → AreSorted (ways a m (suc i) n) → AreSorted (put t (place_at a i) (ways a m (suc i) n))
+    go true s = (all_above (place_number (place_at a i)) (ways a m (suc i) n) above, s)
+    go false s = s
+
+-- the place has the address a, and its bit of m is on
+record IsAt (a m : ℕ) (p : Place) : Type 0 where
+  there : p.address ≡ a
+  set : bit_at m (way_of p) ≡ 1
+
+at_one : (a m : ℕ) (p : Place) → Has (places_at a m) p → IsAt a m p
+at_one a m p h =
+    let w = way_in a m 0 8 p h in
+    let b : w.way < 8 = omega (arith, w.below) in
+    let e : way_of p ≡ w.way = ap way_of w.is ∙ way_of-place_at a w.way b in
+    record { there = ap (λ z. z.address) w.is; set = ap (bit_at m) e ∙ w.set }
+
+one_at : (a m : ℕ) (p : Place) → IsAt a m p → Has (places_at a m) p
+one_at a m p w = subst (Has (places_at a m)) (ap (λ z. place_at z (way_of p)) (sym w.there) ∙ place_at-way_of p) (in_ways a m 0 8 (way_of p) (omega arith) (way_small p) w.set)
+
+-- ---- the places of all entries
+
+-- an entry tells of the place
+record IsTold (es : List (ℕ × ℕ)) (p : Place) : Type 0 where
+  marks : ℕ
+  entry : Has es (p.address, marks)
+  set : bit_at marks (way_of p) ≡ 1
+
+told : (es : List (ℕ × ℕ)) (p : Place) → Has (places_of es) p → IsTold es p
+told [] p h = absurd h
+told (e ∷ es) p h = go (has_cases (places_at e.0 e.1) (places_of es) p h) (told es p)
+  where
+    go : Has (places_at e.0 e.1) p ⊎ Has (places_of es) p → (Has (places_of es) p → IsTold es p) → IsTold (e ∷ es) p
+    go (inl k) f = let w = at_one e.0 e.1 p k in record { marks = e.1; entry = inl (ap (λ z. (z, e.1)) (sym w.there)); set = w.set }
+    go (inr k) f = let w = f k in record { marks = w.marks; entry = inr w.entry; set = w.set }
+
+tells : (es : List (ℕ × ℕ)) (p : Place) (m : ℕ) → Has es (p.address, m) → bit_at m (way_of p) ≡ 1 → Has (places_of es) p
+tells [] p m h s = absurd h
+tells (e ∷ es) p m (inl d) s =
+    let P : ℕ × ℕ → Type 0 = λ z. Has (places_at z.0 z.1) p in
+    has_left (places_at e.0 e.1) (places_of es) p (subst P (sym d) (one_at p.address m p (record { there = refl; set = s })))
+tells (e ∷ es) p m (inr h) s = has_right (places_at e.0 e.1) (places_of es) p (tells es p m h s)
+
+key_above : (a : ℕ) (es : List (ℕ × ℕ)) (b v : ℕ) → AllByRecursion (λ y. nat_cmp a y ≡ Less) (keys_of es) → Has es (b, v) → a < b
+key_above a [] b v s h = absurd h
+key_above a (e ∷ es) b v s (inl d) = let P : ℕ × ℕ → Type 0 = λ z. nat_cmp a z.0 ≡ Less in cmp_less a b (subst P d s.0)
+key_above a (e ∷ es) b v s (inr h) = key_above a es b v s.1 h
+
+sorted_places : (es : List (ℕ × ℕ)) → IsStrictlySortedBy nat_cmp (keys_of es) → AreSorted (places_of es)
+unfolding IsStrictlySortedBy
+sorted_places [] s = tt
+sorted_places (e ∷ es) s = sorted_append (places_at e.0 e.1) (places_of es) (sorted_ways e.0 e.1 0 8 (omega arith)) (sorted_places es s.1) above
+  where
+    above : (p q : Place) → Has (places_at e.0 e.1) p → Has (places_of es) q → place_number p < place_number q
+    above p q h k =
+        let here = (at_one e.0 e.1 p h).there in
+        let there = told es q k in
+        let l = key_above e.0 es q.address there.marks s.0 there.entry in
+        let a = way_small p in
+        omega arith
+
+-- the marked places are those written out
+pub mark_is_place : (m : BTreeMap ℕ ℕ) (p : Place) → tree.IsOrdered nat_cmp m → HasMark m p ↔ Has (places_of m.entries) p
+mark_is_place m p o = (to (tree.get nat_cmp m p.address) refl, from)
+  where
+    no_bit : bit_at 0 (way_of p) ≡ 1 → ⊥
+    no_bit h = let z = bit_at-zero (way_of p) in absurd (omega arith)
+
+    to : (g : Option ℕ) → tree.get nat_cmp m p.address ≡ g → bit_at (or_none (tree.get nat_cmp m p.address)) (way_of p) ≡ 1 → Has (places_of m.entries) p
+    to None e h = absurd (no_bit (subst (λ z. bit_at (or_none z) (way_of p) ≡ 1) e h))
+    to (Some v) e h = tells m.entries p v (contains_has m.entries (p.address, v) ((btree_map_get_iff nat_cmp_total exact_unsigned m o p.address v).0 e)) (subst (λ z. bit_at (or_none z) (way_of p) ≡ 1) e h)
+
+    from : Has (places_of m.entries) p → HasMark m p
+    from h = let r = told m.entries p h in subst (λ z. bit_at (or_none z) (way_of p) ≡ 1) (sym ((btree_map_get_iff nat_cmp_total exact_unsigned m o p.address r.marks).1 (has_contains m.entries (p.address, r.marks) r.entry))) r.set
+
+-- ---- what is written out
+
+pub listed_reachable : (j : Job) (n : ℕ) (m : BTreeMap ℕ ℕ) (ps qs : List Place) (i : ℕ) → ListsMarks m qs → Agrees m ps → IsWalked j n ps i → length ps ≤ i → AreReachable j qs
+listed_reachable j n m ps qs i l a w h = subst (AreReachable j) (sym l.listed) (record {
+  ordered = IsStrictlyIncreasing-from_sorted (map place_number (places_of m.entries)) (sorted_places m.entries l.ordered);
+  each = λ p r. (mark_is_place m p l.ordered).0 ((a p).1 (all_found j n ps i w h p r));
+  only = λ p k. w.only p ((a p).0 ((mark_is_place m p l.ordered).1 k));
+})
+
+-- the bits of an address are the ways of the places written out for it
+pub bit_is_way : (m : BTreeMap ℕ ℕ) (qs : List Place) (a w : ℕ) → ListsMarks m qs → w < 8 → (bit_at (marks_of m a) w ≡ 1) ↔ HasWay qs a w
+bit_is_way m qs a w l h = (to, from)
+  where
+    back : way_of (place_at a w) ≡ w
+    back = way_of-place_at a w h
+
+    to : bit_at (marks_of m a) w ≡ 1 → HasWay qs a w
+    to e = record {
+      place = place_at a w;
+      listed = subst (λ z. Has z (place_at a w)) (sym l.listed) ((mark_is_place m (place_at a w) l.ordered).0 (ap (bit_at (marks_of m a)) back ∙ e));
+      there = refl;
+      entered = back;
+    }
+
+    from : HasWay qs a w → bit_at (marks_of m a) w ≡ 1
+    from g = ap (λ z. bit_at (marks_of m z) w) (sym g.there) ∙ ap (bit_at (marks_of m g.place.address)) (sym g.entered) ∙ (mark_is_place m g.place l.ordered).1 (subst (λ z. Has z g.place) l.listed g.listed)
+
+-- ---- how many
+
+pub distinct : (ps : List Place) → AreApart ps → IsDistinct eqb (map place_number ps)
+unfolding IsDistinct
+distinct [] a = tt
+distinct (p ∷ ps) a = (all ps a.0, distinct ps a.1)
+  where
+    all : (qs : List Place) → (Has qs p → ⊥) → AllByRecursion (λ y. eqb (place_number p) y ≡ false) (map place_number qs)
+    all [] n = tt
+    all (q ∷ qs) n = (ne_eqb (place_number p) (place_number q) (λ e. n (inl (sym (same_number p q e)))), all qs (λ h. n (inr h)))
+
+has_number : (k : ℕ) (ps : List Place) → list_any (λ y. eqb k y) (map place_number ps) ≡ true → (p : Place) × Has ps p × (place_number p ≡ k)
+has_number k [] h = absurd (cc)
+has_number k (p ∷ ps) h = go (has_number k ps) (or_cases _ _ h)
+  where
+    go : (list_any (λ y. eqb k y) (map place_number ps) ≡ true → (q : Place) × Has ps q × (place_number q ≡ k)) → (eqb k (place_number p) ≡ true) ⊎ (list_any (λ y. eqb k y) (map place_number ps) ≡ true) → (q : Place) × Has (p ∷ ps) q × (place_number q ≡ k)
+    go f (inl e) = (p, inl refl, sym (eqb-true k (place_number p) e))
+    go f (inr e) = let r = f e in (r.0, inr r.1, r.2)
+
+number_has : (k : ℕ) (ps : List Place) (p : Place) → Has ps p → place_number p ≡ k → list_any (λ y. eqb k y) (map place_number ps) ≡ true
+number_has k [] p h e = absurd h
+number_has k (q ∷ ps) p (inl d) e = or_left _ _ (eq-eqb k (place_number q) (sym e ∙ ap place_number (sym d)))
+number_has k (q ∷ ps) p (inr h) e = or_right _ _ (number_has k ps p h e)
+
+-- places that are apart, each of which the second list has, are no more than it has
+pub fewer : (ps qs : List Place) → AreApart ps → ((p : Place) → Has ps p → Has qs p) → length ps ≤ length qs
+fewer ps qs a f =
+    let l : length (map place_number ps) ≤ length (map place_number qs) = length-le_from_is_member nat_eq_equiv (map place_number ps) (map place_number qs) (distinct ps a) (λ k h. let r = has_number k ps h in number_has k qs r.0 (f r.0 r.1) r.2) in
+    omega (arith, length-map ps place_number, length-map qs place_number)
+
+pub listed_few : (j : Job) (n : ℕ) (m : BTreeMap ℕ ℕ) (ps qs : List Place) (i : ℕ) → ListsMarks m qs → Agrees m ps → IsWalked j n ps i → length qs ≤ n
+listed_few j n m ps qs i l a w =
+    let f = fewer (places_of m.entries) ps (apart_sorted (places_of m.entries) (sorted_places m.entries l.ordered)) (λ p h. (a p).0 ((mark_is_place m p l.ordered).1 h)) in
+    omega (arith, w.few, ap length l.listed)
+
+-- ---- writing out the places of one address
+
+pub ways_next : (a m i : ℕ) (ps qs rs : List Place) → i < 8 → bit_at m i ≡ 1 → qs ≡ ps ++ place_at a i ∷ [] → ps ++ ways a m i (8 - i) ≡ rs → qs ++ ways a m (i + 1) (8 - (i + 1)) ≡ rs
+unfolding ways
+ways_next a m i ps qs rs l b e h =
+    let n : 8 - i ≡ suc (8 - (i + 1)) = omega arith in
+    let k : i + 1 ≡ suc i = omega arith in
+    let s : (bit_at m i == 1) ≡ true = eq-eqb _ _ b in
+    ap (λ z. z ++ ways a m (i + 1) (8 - (i + 1))) e ∙ append_assoc ps (place_at a i ∷ []) (ways a m (i + 1) (8 - (i + 1))) ∙ ap (λ z. ps ++ place_at a i ∷ ways a m z (8 - (i + 1))) k ∙ ap (λ t. ps ++ put t (place_at a i) (ways a m (suc i) (8 - (i + 1)))) (sym s) ∙ ap (λ z. ps ++ ways a m i z) (sym n) ∙ h
+
+pub ways_skip : (a m i : ℕ) (ps rs : List Place) → i < 8 → (bit_at m i ≡ 1 → ⊥) → ps ++ ways a m i (8 - i) ≡ rs → ps ++ ways a m (i + 1) (8 - (i + 1)) ≡ rs
+unfolding ways
+ways_skip a m i ps rs l b h =
+    let n : 8 - i ≡ suc (8 - (i + 1)) = omega arith in
+    let k : i + 1 ≡ suc i = omega arith in
+    let s : (bit_at m i == 1) ≡ false = ne_eqb _ _ b in
+    ap (λ z. ps ++ ways a m z (8 - (i + 1))) k ∙ ap (λ t. ps ++ put t (place_at a i) (ways a m (suc i) (8 - (i + 1)))) (sym s) ∙ ap (λ z. ps ++ ways a m i z) (sym n) ∙ h
+
+pub ways_done : (a m i : ℕ) (ps rs : List Place) → 8 ≤ i → ps ++ ways a m i (8 - i) ≡ rs → ps ≡ rs
+unfolding ways
+ways_done a m i ps rs l h =
+    let n : 8 - i ≡ 0 = omega arith in
+    sym (append-nil ps) ∙ ap (λ z. ps ++ ways a m i z) (sym n) ∙ h

@@ -1,0 +1,59 @@
+-- Looks put in order of place.
+use Rattle.std.proofs.Common.{◌≡◌, ℕ, ◌+◌, ◌<◌, List, [], ◌∷◌, map, length, get_or, Ordering, sym, ap, ◌∙◌, subst, ◌⊎◌, inl, inr, ◌↔◌, arith, eqb}
+use Rattle.std.specs.List.{IsDistinct}
+use Rattle.std.specs.List.Sorted.{IsNonDecreasing, IsNonDecreasingBy, IsPermutation, IsSortedByKey, IsStrictlyIncreasing}
+use Rattle.std.specs.Ordering.{is_lt, nat_cmp}
+use Rattle.std.proofs.lemmas.Bool.{cases_eq, eq-eqb, ne_eqb}
+use Rattle.std.proofs.lemmas.List.{length-map, get_or-map}
+use Rattle.std.proofs.lemmas.List.Sorted.{IsNonDecreasingBy-from_sort, IsPermutation-map, IsPermutation-sym, Contains-permutation}
+use Rattle.std.proofs.lemmas.Map.Keys.{IsDistinct-IsPermutation, IsStrictlyIncreasing-from_distinct}
+use Rattle.std.proofs.lemmas.Simd.{map-map}
+use Rattle.chan_walk.specs.declared.place.Place.{Place}
+use Rattle.chan_walk.specs.Argument.{Has}
+use Rattle.chan_walk.specs.Explored.{AreApart, place_number}
+use Rattle.chan_walk.specs.Look.{Seen, place_of, places_of_looks}
+use Rattle.chan_walk.proofs.Algorithms.InOrder.{distinct}
+use Rattle.chan_walk.proofs.Theory.Lists.{contains_has, has_contains}
+
+-- the number of a look's place
+abbrev number : Seen → ℕ
+number l = place_number l.place
+
+numbers_of_places : (ls : List Seen) → map place_number (places_of_looks ls) ≡ map number ls
+numbers_of_places ls = map-map place_number place_of ls
+
+-- an order of places that is that of their numbers
+by_number : (cmp : Place → Place → Ordering) (ls : List Seen) → ((p q : Place) → cmp p q ≡ nat_cmp (place_number p) (place_number q))
+    → IsSortedByKey place_of cmp ls → IsNonDecreasingBy number ls
+by_number cmp ls same up = IsNonDecreasingBy-from_sort number ls (λ k d low high. ap is_lt (sym (same (get_or ls (k + 1) d).place (get_or ls k d).place)) ∙ up k d low high)
+
+non_decreasing : (ls : List Seen) → IsNonDecreasingBy number ls → IsNonDecreasing (map number ls)
+non_decreasing [] up i j d le lt = absurd (omega arith)
+non_decreasing (l ∷ ls) up i j d le lt =
+    let n : length (map number (l ∷ ls)) ≡ length (l ∷ ls) = length-map (l ∷ ls) number in
+    let below : j < length (l ∷ ls) = omega arith in
+    let a = get_or-map number (l ∷ ls) i l d (omega arith) in
+    let b = get_or-map number (l ∷ ls) j l d below in
+    let h = up i j l le below in
+    omega (arith, a, b, h)
+
+pub eqb_flips : (x y : ℕ) → eqb x y ≡ eqb y x
+eqb_flips x y = go (cases_eq x y)
+  where
+    go : (x ≡ y) ⊎ (x ≡ y → ⊥) → eqb x y ≡ eqb y x
+    go (inl e) = eq-eqb x y e ∙ sym (eq-eqb y x (sym e))
+    go (inr n) = ne_eqb x y n ∙ sym (ne_eqb y x (λ e. n (sym e)))
+
+-- sorted by place, and no place twice
+pub increasing : (cmp : Place → Place → Ordering) (ls ms : List Seen) → ((p q : Place) → cmp p q ≡ nat_cmp (place_number p) (place_number q))
+    → IsSortedByKey place_of cmp ms → IsPermutation ls ms → AreApart (places_of_looks ls) → IsStrictlyIncreasing (map place_number (places_of_looks ms))
+increasing cmp ls ms same up moved apart =
+    let differ : IsDistinct eqb (map number ls) = subst (IsDistinct eqb) (numbers_of_places ls) (distinct (places_of_looks ls) apart) in
+    let still : IsDistinct eqb (map number ms) = IsDistinct-IsPermutation eqb eqb_flips (map number ls) (map number ms) (IsPermutation-map number ls ms moved) differ in
+    subst IsStrictlyIncreasing (sym (numbers_of_places ms)) (IsStrictlyIncreasing-from_distinct (map number ms) (non_decreasing ms (by_number cmp ms same up)) still)
+
+pub same_looks : (ls ms : List Seen) (l : Seen) → IsPermutation ls ms → Has ms l ↔ Has ls l
+same_looks ls ms l moved = (
+  (λ h. contains_has ls l (Contains-permutation ms ls l (IsPermutation-sym ls ms moved) (has_contains ms l h))),
+  λ h. contains_has ms l (Contains-permutation ls ms l moved (has_contains ls l h)),
+)

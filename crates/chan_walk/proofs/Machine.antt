@@ -1,0 +1,11 @@
+pub mod Events
+pub mod Gathering
+pub mod Invariant
+pub mod Yes
+pub mod Quiet
+pub mod Paths
+pub mod Operations
+pub mod Alarm
+pub mod Exact
+pub mod Again
+pub mod Answering

@@ -1,0 +1,82 @@
+-- Where the verdict is yes, only guarded bytes count, and as these never change, it is yes again.
+use Rattle.std.proofs.Common.{◌≡◌, ℕ, ◌+◌, ◌<◌, ◌≤◌, true, false, ◌∷◌, length, refl, sym, ap, ◌∙◌, subst, inl, inr}
+use Rattle.ccw_core.specs.Ccw.{byte, Fields, ccw, is_transfer, chains_data}
+use Rattle.ccw_core.specs.Storage.{Stands}
+use Rattle.ckd_core.specs.declared.command.Kind.TheVariants.{Outward}
+use Rattle.chan_walk.specs.declared.job.Job.{Job}
+use Rattle.chan_walk.specs.declared.place.Entry.TheVariants.{ChainOut}
+use Rattle.chan_walk.specs.declared.place.Place.{Place}
+use Rattle.chan_walk.specs.declared.verdict.Verdict.TheVariants.{Yes}
+use Rattle.chan_walk.specs.Argument.{is_part, Leads}
+use Rattle.chan_walk.specs.Counted.{IsChained, at_once, further, IsCounted, YesByGuarded, YesStays}
+use Rattle.chan_walk.specs.Fault.{kind_of, begins_seek}
+use Rattle.chan_walk.specs.Guarded.{IsGuarded}
+use Rattle.chan_walk.specs.Job.{storage_of}
+use Rattle.chan_walk.specs.Place.{straight_to, transferred_to, word_at}
+use Rattle.chan_walk.specs.Reachable.{IsReachable}
+use Rattle.chan_walk.specs.Successors.{chained}
+use Rattle.chan_walk.specs.Verdict.{IsVerdict}
+use Rattle.chan_walk.proofs.Theory.Chains.{part_is_no_transfer}
+use Rattle.chan_walk.proofs.Algorithms.Counted.{same_verdict}
+use Rattle.chan_walk.proofs.Theory.Faults.{yes_clear}
+use Rattle.chan_walk.proofs.Theory.Follows.{Follows, by_transfer, by_data, succeeds}
+use Rattle.chan_walk.proofs.Machine.Yes.{fresh_out, all_kept}
+
+module _ (j : Job) (v : IsVerdict j Yes) where
+  onward : (p q : Place) → IsReachable j p → Follows p (word_at j p) (kind_of p.entered (word_at j p)) q → IsReachable j q
+  onward p q r f = (p ∷ r.0, (r.1, yes_clear j v p r, succeeds _ _ _ _ f))
+
+  -- a reachable place at the address, at which an operation that goes out begins or goes on
+  record Out (a : ℕ) : Type 0 where
+    place : Place
+    reached : IsReachable j place
+    address : place.address ≡ a
+    outward : kind_of place.entered (word_at j place) ≡ Outward
+
+  one_on : {from to : ℕ} → Out from → is_part (storage_of j) from ≡ true → chains_data (ccw (storage_of j) from) ≡ true → Leads (storage_of j) from to → Out to
+  one_on {from = from} {to = to} here part cd lead = go lead
+    where
+      other : is_transfer (word_at j here.place) ≡ false
+      other = subst (λ n. is_transfer (ccw (storage_of j) n) ≡ false) (sym here.address) (part_is_no_transfer (storage_of j) from part)
+
+      next : Place
+      next = straight_to (here.place.address + 8) ChainOut
+
+      reached : IsReachable j next
+      reached = onward here.place next here.reached (by_data other (subst (λ n. chains_data (ccw (storage_of j) n) ≡ true) (sym here.address) cd) (ap chained here.outward))
+
+      go : Leads (storage_of j) from to → Out to
+      go (inl e) = record { place = next; reached = reached; address = ap (λ n. n + 8) here.address ∙ sym e; outward = refl }
+      go (inr e) =
+          let same : ccw (storage_of j) (from + 8) ≡ word_at j next = ap (λ n. ccw (storage_of j) (n + 8)) (sym here.address) in
+          let there : Place = transferred_to (word_at j next).address ChainOut in
+          record {
+            place = there;
+            reached = onward next there reached (by_transfer (subst (λ c. is_transfer c ≡ true) same e.1));
+            address = sym (subst (λ (c : Fields). to ≡ c.address) same e.2);
+            outward = refl;
+          }
+
+  -- the data chain of a reachable seek is reachable
+  along : (seek : Place) → IsReachable j seek → begins_seek seek (word_at j seek) ≡ true → {a : ℕ} → IsChained (storage_of j) seek.address a → Out a
+  along seek r b at_once = record { place = seek; reached = r; address = refl; outward = fresh_out seek (word_at j seek) b }
+  along seek r b (further c part cd lead) = one_on (along seek r b c) part cd lead
+
+  counted_is_guarded : (b : ℕ) → IsCounted j b → IsGuarded j b
+  counted_is_guarded b (inl g) = inl g
+  counted_is_guarded b (inr (inl g)) =
+      let o = along g.seek g.reached g.seeks g.chained in
+      inl (record {
+        place = o.place;
+        reached = o.reached;
+        stands = subst (λ n. Stands (storage_of j) n) (sym o.address) g.stands;
+        from = subst (λ n. n ≤ b) (sym o.address) g.from;
+        below = subst (λ n. b < n + 8) (sym o.address) g.below;
+      })
+  counted_is_guarded b (inr (inr g)) = inr (record { place = g.place; reached = g.reached; clear = yes_clear j v g.place g.reached; takes = g.takes })
+
+pub yes_by_guarded : YesByGuarded
+yes_by_guarded j t v h = ((same_verdict j t (record { same_length = h.same_length; same = λ b c. h.same b (counted_is_guarded j v b c) })).1 Yes).0 v
+
+pub yes_stays : YesStays
+yes_stays j v = all_kept j v _ (λ m k t e. yes_by_guarded j t v (record { same_length = ap length e ∙ k.same_length; same = λ b g. ap (λ s. byte s b) e ∙ k.same b g }))

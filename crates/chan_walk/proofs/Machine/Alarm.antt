@@ -1,0 +1,243 @@
+-- No false alarm: from each reason to a run that shows it.
+use Rattle.std.proofs.Common.{◌≡◌, ℕ, ◌+◌, ◌<◌, true, false, not, ◌&&◌, List, [], ◌∷◌, length, Option, Some, None, is_none, refl, sym, ap, subst, ◌⊎◌, inl, inr, arith}
+use Rattle.std.proofs.lemmas.Bool.{and_parts, or_cases, not-true, ltb-true}
+use Rattle.std.proofs.lemmas.List.FromFn.{length-map-range_with_len}
+use Rattle.ccw_core.specs.Areas.{covered}
+use Rattle.ccw_core.specs.Ccw.{byte, Fields, is_transfer, is_counted, skips}
+use Rattle.ckd_core.specs.declared.command.Kind.TheVariants.{Outward}
+use Rattle.ckd_core.specs.Cylinders.{has_cylinder}
+use Rattle.ckd_core.specs.Mask.{inhibits, is_at_least}
+use Rattle.chan_walk.specs.declared.job.Job.{Job}
+use Rattle.chan_walk.specs.declared.place.Entry.{Entry}
+use Rattle.chan_walk.specs.declared.place.Entry.TheVariants.{Fresh, ChainIn, ChainOut, ChainSearch}
+use Rattle.chan_walk.specs.declared.place.Place.{Place}
+use Rattle.chan_walk.specs.declared.reason.Reason.{Reason}
+use Rattle.chan_walk.specs.declared.reason.Reason.TheVariants.{StoreNotLent, FetchNotLent, ShortSeek, SeekOutside, WeakensMask}
+use Rattle.chan_walk.specs.Alarm.{IsProper, first_cylinder, ShowsInStep, StoresOn, ShowsCheck, Shows, EachPathShows, NoFalseAlarm}
+use Rattle.chan_walk.specs.Argument.{IsChain, HasArgument, argument}
+use Rattle.chan_walk.specs.Check.{table_of_any, table_of_word, check}
+use Rattle.chan_walk.specs.Fault.{kind_of, goes_in, goes_out, stores, fetches, is_known, begins_seek, begins_recalibrate, begins_set_mask, allows, is_refused, table_of_own, HasFault, IsClear}
+use Rattle.chan_walk.specs.Guarded.{IsCcwByte, IsSeekByte, IsMaskByte, IsArgumentByte}
+use Rattle.chan_walk.specs.Job.{storage_of, extents_of, fetch_of, store_of}
+use Rattle.chan_walk.specs.Machine.{Stage, At, Ended, Event, home, ends, Step, checked, unknown}
+use Rattle.chan_walk.specs.Place.{is_fresh, word_at}
+use Rattle.chan_walk.specs.Reachable.{IsReachable}
+use Rattle.chan_walk.specs.Runs.{Moment, IsRun, UsesIn, UsesInCcw, UsesInArgument}
+use Rattle.chan_walk.specs.Verdict.{StoresOver, Offends}
+use Rattle.chan_walk.proofs.Theory.Areas.{uncovered, home_refused}
+use Rattle.chan_walk.proofs.Theory.Chains.{part_is_no_transfer, chain_begins_with_part}
+use Rattle.chan_walk.proofs.Theory.Checks.{passed, Cases, each_case, table_case, check_case}
+use Rattle.chan_walk.proofs.Theory.Commands.{mask_is_outward, mask_is_no_transfer}
+use Rattle.chan_walk.proofs.Machine.Events.{mask_is_used}
+use Rattle.chan_walk.proofs.Theory.Faults.{clear_check, clear_good, then_true}
+use Rattle.chan_walk.proofs.Machine.Gathering.{begin}
+use Rattle.chan_walk.proofs.Machine.Operations.{moment, Finished, finish, stop, ready_fresh}
+use Rattle.chan_walk.proofs.Machine.Paths.{few_at, Runs, path_runs}
+use Rattle.chan_walk.proofs.Machine.Quiet.{full_count, bytes_at, there, Known, Carried, seek_at, carry_out}
+
+show_next : {j : Job} {y : ℕ} {p : Place} {ps : List Place} {es : List Event} {st : Stage} {P : List Event → Stage → Type 0} (r : Runs j y p ps) → Step (storage_of j) y j.mask p r.gathered es (storage_of j) y j.mask st → P es st → ShowsInStep j p ps P
+show_next {j = j} {y = y} {p = p} {es = es} {st = st} r step shows = record {
+  run = r.run;
+  at = record { storage = storage_of j; arm = y; mask = j.mask; stage = At p r.gathered; events = r.events };
+  next = record { storage = storage_of j; arm = y; mask = j.mask; stage = st; events = es };
+  is_run = (r.is_run, step);
+  over = ((r.gathered, refl), r.places);
+  quiet = r.quiet;
+  shows = shows;
+}
+
+-- a place that stores, and not into an area; its parts
+pub stores_parts : (p : Place) (c : Fields) → stores p c ≡ true → (is_transfer c ≡ false) × (goes_in (kind_of p.entered c) ≡ true) × (skips c ≡ false)
+stores_parts p c h =
+    let a = and_parts (not (is_transfer c) && goes_in (kind_of p.entered c)) (not (skips c)) h in
+    let b = and_parts (not (is_transfer c)) (goes_in (kind_of p.entered c)) a.0 in
+    (not-true (is_transfer c) b.0, b.1, not-true (skips c) a.1)
+
+missing : (s : List ℕ) (a : ℕ) (x : Option (List ℕ)) → HasArgument s a x → is_none x ≡ true → (l : List ℕ) → IsChain s 6 a l → ⊥
+missing s a None h e = h
+missing s a (Some x) h e = absurd (cc)
+
+refused : (j : Job) (a : ℕ) (x : Option (List ℕ)) → HasArgument (storage_of j) a x → is_refused j x ≡ true → (l : List ℕ) × IsChain (storage_of j) 6 a l × (allows j (argument (storage_of j) l) ≡ false)
+refused j a None h e = absurd (cc)
+refused j a (Some x) h e = (h.0, h.1, subst (λ z. allows j z ≡ false) h.2 (not-true _ e))
+
+-- Set File Mask goes out, as its table entry says
+mask_out : (p : Place) (c : Fields) → begins_set_mask p c ≡ true → kind_of p.entered c ≡ Outward
+mask_out p c h = go p.entered h
+  where
+    go : (e : Entry) → begins_set_mask (record p { entered = e }) c ≡ true → kind_of e c ≡ Outward
+    go Fresh h = mask_is_outward c.command h
+    go ChainIn h = absurd (cc)
+    go ChainOut h = absurd (cc)
+    go ChainSearch h = absurd (cc)
+
+-- so that where it begins and no program check applies, it moves a byte
+moves_byte : (j : Job) (p : Place) → check (storage_of j) p ≡ None → is_transfer (word_at j p) ≡ false → begins_set_mask p (word_at j p) ≡ true → 0 < bytes_at j p
+unfolding is_counted
+moves_byte j p e t b =
+    let whole : bytes_at j p ≡ (word_at j p).count = ap (λ k. full_count k (word_at j p)) (mask_out p (word_at j p) b) in
+    let some : 0 < (word_at j p).count = ltb-true 0 _ (passed (storage_of j) p e t).counted in
+    omega (arith, whole, some)
+
+module _ (j : Job) (proper : IsProper j) where
+  abbrev pub start : ℕ
+  start = first_cylinder (extents_of j)
+
+  pub run_to : (p : Place) (m : IsReachable j p) → Runs j start p m.0
+  run_to p m = path_runs j proper.1 proper.0 p m.0 m.1
+
+  -- at the last place of a path its CCW is carried out, and the program ends
+  abbrev EndsAt : (p : Place) → IsReachable j p → Type 0
+  EndsAt p m = Carried j start p (run_to p m).gathered (seek_at j start p (run_to p m).gathered (few_at j p (run_to p m).gathered (run_to p m).taking)).es [] Ended
+
+  ends_at : (p : Place) (m : IsReachable j p) → check (storage_of j) p ≡ None → is_transfer (word_at j p) ≡ false → Known j p → EndsAt p m
+  ends_at p m e t known = let r = run_to p m in carry_out j proper.1 start p r.gathered (few_at j p r.gathered r.taking) e t known tt ends
+
+  -- the seek at p has the chain l
+  to_the_end : (p : Place) (m : IsReachable j p) (l : List ℕ) → begins_seek p (word_at j p) ≡ true → check (storage_of j) p ≡ None → is_transfer (word_at j p) ≡ false → Known j p → IsChain (storage_of j) 6 p.address l → Finished j proper.1 start p (run_to p m).gathered (run_to p m).events (run_to p m).run m.0 (run_to p m).places (run_to p m).quiet l
+  to_the_end p m l b e t known k =
+      let r = run_to p m in
+      finish j proper.1 start p r.gathered r.events r.run m.0 r.places r.quiet 6 l p r.gathered []
+      (record { past = r.run; upto = []; events = r.events; is_run = r.is_run; split = refl; goes_on = tt })
+      (ready_fresh j proper.1 p r.gathered b e t known) (begin (storage_of j) l p k) (omega arith) (λ b h. absurd h)
+
+  shows_check : (p : Place) (m : IsReachable j p) (r : Reason) → check (storage_of j) p ≡ Some r → Shows j p m.0 r
+  shows_check p m r h = check_case P (storage_of j) p r (each_case P (table_of_any n p c) (go, (go, (go, tt)))) (each_case P (table_of_word n p c) (go, (go, (go, (go, tt))))) h h
+    where
+      n : ℕ
+      n = length (storage_of j)
+
+      c : Fields
+      c = word_at j p
+
+      P : Reason → Type 0
+      P t = check (storage_of j) p ≡ Some t → Shows j p m.0 t
+
+      go : {t : Reason} → check (storage_of j) p ≡ Some t → ShowsCheck j p m.0 t
+      go e = show_next (run_to p m) (checked e) refl
+
+  -- an own fault is shown
+  pub shows_fault : (p : Place) (m : IsReachable j p) (r : Reason) → HasFault j p (Some r) → Shows j p m.0 r
+  shows_fault p m r f = table_case (Shows j p m.0) (check (storage_of j) p) (is_transfer (word_at j p)) (table_of_own j p (word_at j p) f.0) r (shows_check p m r) own f.2
+    where
+      c : Fields
+      c = word_at j p
+
+      R : Runs j start p m.0
+      R = run_to p m
+
+      store_at : EndsAt p m → (stores p c && not (covered (store_of j) c.address c.count)) ≡ true → Shows j p m.0 StoreNotLent
+      store_at en b =
+          let a = and_parts (stores p c) (not (covered (store_of j) c.address c.count)) b in
+          let s = stores_parts p c a.0 in
+          let u = uncovered (store_of j) c.address c.count (not-true _ a.1) in
+          let n : length (there j c) ≡ c.count = length-map-range_with_len (byte (storage_of j)) c.address c.count in
+          let lt : u.0 < c.address + length (there j c) = omega (arith, u.2, n) in
+          show_next R en.step (c.address, there j c, u.0, en.stores s.1 s.2, u.1, lt, u.3)
+
+      fetch_at : EndsAt p m → (fetches p c && not (covered (fetch_of j) c.address c.count)) ≡ true → Shows j p m.0 FetchNotLent
+      fetch_at en b =
+          let a = and_parts (fetches p c) (not (covered (fetch_of j) c.address c.count)) b in
+          let a1 = and_parts (not (is_transfer c)) (goes_out (kind_of p.entered c)) a.0 in
+          let u = uncovered (fetch_of j) c.address c.count (not-true _ a.1) in
+          show_next R en.step (c.address, c.count, u.0, en.fetches a1.1, u.1, u.2, u.3)
+
+      short_at : check (storage_of j) p ≡ None → is_transfer c ≡ false → Known j p → (begins_seek p c && is_none f.0) ≡ true → Shows j p m.0 ShortSeek
+      short_at e t known b =
+          let a = and_parts (begins_seek p c) (is_none f.0) b in
+          stop j proper.1 start p R.gathered R.events R.run m.0 R.places R.quiet e a.0 6 p R.gathered []
+          (record { past = R.run; upto = []; events = R.events; is_run = R.is_run; split = refl; goes_on = tt })
+          (ready_fresh j proper.1 p R.gathered a.0 e t known) (omega arith) (missing (storage_of j) p.address f.0 f.1 a.1)
+
+      outside_at : check (storage_of j) p ≡ None → is_transfer c ≡ false → Known j p → EndsAt p m → ((begins_seek p c && is_refused j f.0) ≡ true) ⊎ ((begins_recalibrate p c && not (has_cylinder (extents_of j) 0)) ≡ true) → Shows j p m.0 SeekOutside
+      outside_at e t known en (inl b) =
+          let a = and_parts (begins_seek p c) (is_refused j f.0) b in
+          let k = refused j p.address f.0 f.1 a.1 in
+          let z = (to_the_end p m k.0 a.0 e t known k.1).later in
+          record { run = z.run; at = z.at; more = z.more; next = z.next; is_run = z.is_run; over = z.over; quiet = z.quiet; goes_on = z.goes_on; shows = ((and_parts (is_fresh p.entered) _ a.0).0, argument (storage_of j) k.0, z.shows, k.2) }
+      outside_at e t known en (inr b) =
+          let a = and_parts (begins_recalibrate p c) (not (has_cylinder (extents_of j) 0)) b in
+          record {
+            run = R.run;
+            at = moment j proper.1 start (At p R.gathered) R.events;
+            more = [];
+            next = moment j proper.1 start Ended en.es;
+            is_run = (R.is_run, en.step);
+            over = ((R.gathered, refl), R.places);
+            quiet = R.quiet;
+            goes_on = tt;
+            shows = ((and_parts (is_fresh p.entered) _ a.0).0, home, en.home a.0, home_refused j (not-true _ a.1));
+          }
+
+      weakens_at : check (storage_of j) p ≡ None → is_transfer c ≡ false → EndsAt p m → (begins_set_mask p c && not (is_at_least (byte (storage_of j) c.address) j.mask)) ≡ true → Shows j p m.0 WeakensMask
+      weakens_at e t en b =
+          let a = and_parts (begins_set_mask p c) (not (is_at_least (byte (storage_of j) c.address) j.mask)) b in
+          show_next R en.step ((and_parts (is_fresh p.entered) _ a.0).0, c.address, byte (storage_of j) c.address, en.masks a.0 (moves_byte j p e t a.0), not-true _ a.1)
+
+      own : check (storage_of j) p ≡ None → is_transfer c ≡ false → Cases (Shows j p m.0) (table_of_own j p c f.0)
+      own e t = (
+        (λ b. let a = and_parts (is_fresh p.entered) (not (is_known c.command)) b in let u = not-true (is_known c.command) a.1 in show_next R (unknown e t a.0 u) (c.command, inl refl, u)),
+        (λ n. let known : Known j p = then_true _ _ n in
+            let en = ends_at p m e t known in (
+              (λ b. let a = and_parts (is_fresh p.entered) (inhibits j.mask c.command) b in show_next R en.step (c.command, en.begins a.0, a.1)),
+              (λ _. (
+                (λ b. store_at en b),
+                (λ _. (
+                  (λ b. fetch_at en b),
+                  (λ _. (
+                    (λ b. short_at e t known b),
+                    (λ _. ((λ b. outside_at e t known en (or_cases _ _ b)), (λ _. ((λ b. weakens_at e t en b), (λ _. tt))))),
+                  )),
+                )),
+              )),
+            )),
+      )
+
+  -- a store over a byte for which P holds
+  shows_store : (p : Place) (m : IsReachable j p) → IsClear j p → (P Q : ℕ → Type 0) → ((b : ℕ) → P b → Q b) → StoresOver j p P → ShowsInStep j p m.0 (λ es st. StoresOn Q es)
+  shows_store p m f P Q to o =
+      let c = word_at j p in
+      let s = stores_parts p c o.stores in
+      let en = ends_at p m (clear_check j p f) s.0 (clear_good j p f s.0).known in
+      let n : length (there j c) ≡ c.count = length-map-range_with_len (byte (storage_of j)) c.address c.count in
+      let below = o.below in
+      let lt : o.at < c.address + length (there j c) = omega (arith, below, n) in
+      show_next (run_to p m) en.step (c.address, there j c, o.at, en.stores s.1 s.2, o.from, lt, to o.at o.holds)
+
+  -- each guarded byte is used by some run
+  pub ccw_used : (b : ℕ) → IsCcwByte j b → (used : List Moment) × IsRun j used × UsesInCcw used b
+  ccw_used b u = let r = run_to u.place u.reached in (moment j proper.1 start (At u.place r.gathered) r.events ∷ r.run, r.is_run, inl (u.stands, u.from, u.below))
+
+  pub argument_used : (b : ℕ) → IsArgumentByte j b → (used : List Moment) × IsRun j used × UsesInArgument used b
+  argument_used b u = go u.takes
+    where
+      of_seek : IsSeekByte j u.place b → (used : List Moment) × IsRun j used × UsesInArgument used b
+      of_seek s =
+          let t = part_is_no_transfer (storage_of j) u.place.address (chain_begins_with_part (storage_of j) _ _ _ s.is_chain) in
+          let z = to_the_end u.place u.reached s.chain s.seeks (clear_check j u.place u.clear) t (clear_good j u.place u.clear t).known s.is_chain in
+          (z.used, z.is_used, z.gathers b s.has)
+
+      of_mask : IsMaskByte j u.place b → (used : List Moment) × IsRun j used × UsesInArgument used b
+      of_mask s =
+          let e = clear_check j u.place u.clear in
+          let t = mask_is_no_transfer (word_at j u.place) (and_parts (is_fresh u.place.entered) _ s.sets).1 in
+          let R = run_to u.place u.reached in
+          let en = ends_at u.place u.reached e t (clear_good j u.place u.clear t).known in
+          (moment j proper.1 start Ended en.es ∷ moment j proper.1 start (At u.place R.gathered) R.events ∷ R.run, (R.is_run, en.step), inl (subst (UsesIn en.es) s.at (mask_is_used en.es _ _ (en.masks s.sets (moves_byte j u.place e t s.sets)))))
+
+      go : IsSeekByte j u.place b ⊎ IsMaskByte j u.place b → (used : List Moment) × IsRun j used × UsesInArgument used b
+      go (inl s) = of_seek s
+      go (inr s) = of_mask s
+
+  shows : (p : Place) (m : IsReachable j p) (r : Reason) → Offends j p r → Shows j p m.0 r
+  shows p m r (inl f) = shows_fault p m r f
+  shows p m r (inr (clear, inl o)) = subst (Shows j p m.0) (sym o.0) (shows_store p m (clear p m) _ _ ccw_used o.1)
+  shows p m r (inr (clear, inr o)) = subst (Shows j p m.0) (sym o.0) (shows_store p m (clear p m) _ _ argument_used o.1)
+
+pub each_path_shows : EachPathShows
+each_path_shows j p ps r proper path offends = shows j proper p (ps, path) r offends
+
+pub no_false_alarm : NoFalseAlarm
+no_false_alarm j a r proper v =
+    let o = v.0 in
+    (o.place, o.address, (o.reached.0, o.reached.1, each_path_shows j o.place o.reached.0 r proper o.reached.1 o.offends))

@@ -1,0 +1,39 @@
+-- What the laws say of a job's verdict.
+use Rattle.std.proofs.Common.{◌≡◌, refl, subst}
+use Rattle.std.specs.BTreeMap as tree
+use Rattle.std.specs.Ordering.{nat_cmp}
+use Rattle.chan_walk.specs.declared.exploring.Walk.{Walk}
+use Rattle.chan_walk.specs.declared.job.Job.{Job}
+use Rattle.chan_walk.specs.declared.verdict.Verdict.{Verdict}
+use Rattle.chan_walk.specs.declared.verdict.Verdict.TheVariants.{Yes, No}
+use Rattle.chan_walk.specs.Alarm.{IsProper, NoFalseAlarm}
+use Rattle.chan_walk.specs.Answers.{HasAtMost, HasWitness, IsSound}
+use Rattle.chan_walk.specs.Headline.{YesIsSafe}
+use Rattle.chan_walk.specs.Job.{HasMask}
+use Rattle.chan_walk.specs.Look.{places_of_looks}
+use Rattle.chan_walk.specs.Marks.{ListsMarks, places_of}
+use Rattle.chan_walk.specs.Verdict.{IsVerdict}
+use Rattle.chan_walk.specs.Walk.{HasFound}
+use Rattle.chan_walk.proofs.Algorithms.InOrder.{listed_few, listed_reachable}
+
+pub covers : (j : Job) (v : Verdict) → HasMask j → YesIsSafe → IsVerdict j v → IsSound j v
+covers j v mask law h e = law j mask (subst (λ (w : Verdict). IsVerdict j w) e h)
+
+pub shown : (j : Job) (v : Verdict) → IsProper j → NoFalseAlarm → IsVerdict j v → HasWitness j v
+shown j Yes proper law h = tt
+shown j (No a r) proper law h = law j a r proper h
+
+-- where one verdict is yes, so is every other
+pub only_yes : (j : Job) (v : Verdict) → IsVerdict j v → IsVerdict j Yes → v ≡ Yes
+only_yes j Yes h y = refl
+only_yes j (No a r) h y = absurd (y h.0.place r h.0.reached h.0.offends)
+
+-- a walk finds no more places than the job's limit
+pub at_most : (j : Job) (w : Walk) → tree.IsOrdered nat_cmp w.marks → HasFound j w → HasAtMost j j.limit
+at_most j w o f =
+    let l : ListsMarks w.marks (places_of w.marks.entries) = record { ordered = o; listed = refl } in
+    record {
+      places = places_of w.marks.entries;
+      are = listed_reachable j j.limit w.marks (places_of_looks w.looks.items) (places_of w.marks.entries) f.at l f.agrees f.walked f.all;
+      few = listed_few j j.limit w.marks (places_of_looks w.looks.items) (places_of w.marks.entries) f.at l f.agrees f.walked;
+    }

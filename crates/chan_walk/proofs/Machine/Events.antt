@@ -1,0 +1,69 @@
+-- What the events of a step show, part by part.
+use Rattle.std.proofs.Common.{◌≡◌, ℕ, List, [], ◌∷◌, ◌++◌, Some, ◌⊎◌, inl, inr}
+use Rattle.chan_walk.specs.Alarm.{NoSeek}
+use Rattle.chan_walk.specs.Argument.{Has}
+use Rattle.chan_walk.specs.Machine.{Event, Command, Store, Fetch, Gather, Seek, SetMask}
+use Rattle.chan_walk.specs.Runs.{UsesIn}
+use Rattle.chan_walk.proofs.Theory.Lists.{has_cases}
+
+pub uses_cases : (xs ys : List Event) (b : ℕ) → UsesIn (xs ++ ys) b → UsesIn xs b ⊎ UsesIn ys b
+uses_cases [] ys b h = inr h
+uses_cases (Gather from ∷ xs) ys b (inl h) = inl (inl h)
+uses_cases (Gather from ∷ xs) ys b (inr h) = go (uses_cases xs ys b h)
+  where
+    go : UsesIn xs b ⊎ UsesIn ys b → (Has from b ⊎ UsesIn xs b) ⊎ UsesIn ys b
+    go (inl u) = inl (inr u)
+    go (inr u) = inr u
+uses_cases (Command code ∷ xs) ys b h = uses_cases xs ys b h
+uses_cases (Store a bytes ∷ xs) ys b h = uses_cases xs ys b h
+uses_cases (Fetch a n ∷ xs) ys b h = uses_cases xs ys b h
+uses_cases (Seek x ∷ xs) ys b h = uses_cases xs ys b h
+uses_cases (SetMask a x ∷ xs) ys b (inl h) = inl (inl h)
+uses_cases (SetMask a x ∷ xs) ys b (inr h) = go (uses_cases xs ys b h)
+  where
+    go : UsesIn xs b ⊎ UsesIn ys b → ((a ≡ b) ⊎ UsesIn xs b) ⊎ UsesIn ys b
+    go (inl u) = inl (inr u)
+    go (inr u) = inr u
+
+pub uses_left : (xs ys : List Event) (b : ℕ) → UsesIn xs b → UsesIn (xs ++ ys) b
+uses_left [] ys b h = elim h [ ]
+uses_left (Gather from ∷ xs) ys b (inl h) = inl h
+uses_left (Gather from ∷ xs) ys b (inr h) = inr (uses_left xs ys b h)
+uses_left (Command code ∷ xs) ys b h = uses_left xs ys b h
+uses_left (Store a bytes ∷ xs) ys b h = uses_left xs ys b h
+uses_left (Fetch a n ∷ xs) ys b h = uses_left xs ys b h
+uses_left (Seek x ∷ xs) ys b h = uses_left xs ys b h
+uses_left (SetMask a x ∷ xs) ys b (inl h) = inl h
+uses_left (SetMask a x ∷ xs) ys b (inr h) = inr (uses_left xs ys b h)
+
+pub uses_right : (xs ys : List Event) (b : ℕ) → UsesIn ys b → UsesIn (xs ++ ys) b
+uses_right [] ys b h = h
+uses_right (Gather from ∷ xs) ys b h = inr (uses_right xs ys b h)
+uses_right (Command code ∷ xs) ys b h = uses_right xs ys b h
+uses_right (Store a bytes ∷ xs) ys b h = uses_right xs ys b h
+uses_right (Fetch a n ∷ xs) ys b h = uses_right xs ys b h
+uses_right (Seek x ∷ xs) ys b h = uses_right xs ys b h
+uses_right (SetMask a x ∷ xs) ys b h = inr (uses_right xs ys b h)
+
+-- a mask byte that is taken is used
+pub mask_is_used : (es : List Event) (a x : ℕ) → Has es (SetMask a x) → UsesIn es a
+mask_is_used [] a x h = elim h [ ]
+mask_is_used (SetMask b y ∷ es) a x (inl h) = inl (cc)
+mask_is_used (SetMask b y ∷ es) a x (inr h) = inr (mask_is_used es a x h)
+mask_is_used (Command code ∷ es) a x (inl h) = absurd (cc)
+mask_is_used (Command code ∷ es) a x (inr h) = mask_is_used es a x h
+mask_is_used (Store b bytes ∷ es) a x (inl h) = absurd (cc)
+mask_is_used (Store b bytes ∷ es) a x (inr h) = mask_is_used es a x h
+mask_is_used (Fetch b n ∷ es) a x (inl h) = absurd (cc)
+mask_is_used (Fetch b n ∷ es) a x (inr h) = mask_is_used es a x h
+mask_is_used (Gather from ∷ es) a x (inl h) = absurd (cc)
+mask_is_used (Gather from ∷ es) a x (inr h) = inr (mask_is_used es a x h)
+mask_is_used (Seek z ∷ es) a x (inl h) = absurd (cc)
+mask_is_used (Seek z ∷ es) a x (inr h) = mask_is_used es a x h
+
+pub no_seek_append : (xs ys : List Event) → NoSeek xs → NoSeek ys → NoSeek (xs ++ ys)
+no_seek_append xs ys h k x u = go (has_cases xs ys (Seek (Some x)) u)
+  where
+    go : Has xs (Seek (Some x)) ⊎ Has ys (Seek (Some x)) → ⊥
+    go (inl u) = h x u
+    go (inr u) = k x u

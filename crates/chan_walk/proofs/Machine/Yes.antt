@@ -1,0 +1,222 @@
+-- Where the verdict is yes: guarded bytes never change, every place is reachable, every run is safe and the job is steady.
+use Rattle.std.proofs.Common.{◌≡◌, ℕ, ◌+◌, ◌<◌, ◌≤◌, Bool, true, false, if◌then◌else◌, List, [], ◌∷◌, length, Option, Some, None, is_none, refl, sym, ap, ◌∙◌, subst, inl, inr}
+use Rattle.std.specs.List.{AllByRecursion}
+use Rattle.std.proofs.lemmas.Bool.{both_ways, not-false}
+use Rattle.ccw_core.specs.Ccw.{byte, Fields, ccw, is_transfer}
+use Rattle.ccw_core.specs.Storage.{is_aligned, is_inside}
+use Rattle.ckd_core.specs.declared.command.Kind.TheVariants.{Outward}
+use Rattle.ckd_core.specs.Mask.{is_at_least}
+use Rattle.chan_walk.specs.declared.job.Job.{Job}
+use Rattle.chan_walk.specs.declared.place.Entry.{Entry}
+use Rattle.chan_walk.specs.declared.place.Entry.TheVariants.{Fresh, ChainIn, ChainOut, ChainSearch}
+use Rattle.chan_walk.specs.declared.place.Place.{Place}
+use Rattle.chan_walk.specs.declared.reason.Reason.TheVariants.{ChangesCcw, ChangesArgument}
+use Rattle.chan_walk.specs.declared.verdict.Verdict.TheVariants.{Yes}
+use Rattle.chan_walk.specs.Argument.{HasArgument}
+use Rattle.chan_walk.specs.Check.{check, check_of}
+use Rattle.chan_walk.specs.Fault.{kind_of, stores, is_known, begins_seek, allows, is_refused, IsClear}
+use Rattle.chan_walk.specs.Guarded.{IsGuarded}
+use Rattle.chan_walk.specs.Headline.{IsUnchecked, IsSafeMoment, IsSafeEvent, Holds, YesIsSafe, IsAtReachable, GathersPart, GuardedStays, StaysReachable, GathersArguments}
+use Rattle.chan_walk.specs.Job.{storage_of, HasMask}
+use Rattle.chan_walk.specs.Machine.{Gathered, Stage, At, Ended, Checked, Event, Step, checked, transferred, unknown, carried, StepFrom}
+use Rattle.chan_walk.specs.Place.{transferred_to, word_at}
+use Rattle.chan_walk.specs.Reachable.{IsReachable}
+use Rattle.chan_walk.specs.Runs.{Moment, IsRun, UsesAt, UsesIn, UsesInCcw, UsesInArgument, Uses}
+use Rattle.chan_walk.specs.Verdict.{IsVerdict}
+use Rattle.chan_walk.proofs.Theory.Checks.{check_stands}
+use Rattle.chan_walk.proofs.Theory.Commands.{seek_is_outward}
+use Rattle.chan_walk.proofs.Theory.Faults.{IsGood, stores_from, clear_check, clear_good, yes_clear}
+use Rattle.chan_walk.proofs.Theory.Follows.{Follows, by_transfer, succeeds}
+use Rattle.chan_walk.proofs.Machine.Gathering.{advance, transfer_on, begin}
+use Rattle.chan_walk.proofs.Machine.Invariant.{Under, IsKept, Same, Invariant, Coming, Comes, Here, Stepped, carried_ok}
+use Rattle.chan_walk.proofs.Theory.Masks.{strict_as_itself}
+use Rattle.chan_walk.proofs.Theory.Words.{same_ccw}
+
+-- a seek that begins goes out, as its table entry says
+pub fresh_out : (p : Place) (c : Fields) → begins_seek p c ≡ true → kind_of p.entered c ≡ Outward
+fresh_out p c h = go p.entered h
+  where
+    go : (e : Entry) → begins_seek (record p { entered = e }) c ≡ true → kind_of e c ≡ Outward
+    go Fresh h = seek_is_outward c.command h
+    go ChainIn h = absurd (cc)
+    go ChainOut h = absurd (cc)
+    go ChainSearch h = absurd (cc)
+
+module _ (j : Job) (v : IsVerdict j Yes) where
+  clear_at : (p : Place) → IsReachable j p → IsClear j p
+  clear_at = yes_clear j v
+
+  onward : (p q : Place) → IsReachable j p → Follows p (word_at j p) (kind_of p.entered (word_at j p)) q → IsReachable j q
+  onward p q r f = (p ∷ r.0, (r.1, clear_at p r, succeeds _ _ _ _ f))
+
+  apart_at : (p : Place) → IsReachable j p → stores p (word_at j p) ≡ true → (b : ℕ) → IsGuarded j b → (word_at j p).address ≤ b → b < (word_at j p).address + (word_at j p).count → ⊥
+  apart_at p r st b (inl u) le lt = v p ChangesCcw r (inr (clear_at, inl (refl, record { stores = st; at = b; from = le; below = lt; holds = u })))
+  apart_at p r st b (inr u) le lt = v p ChangesArgument r (inr (clear_at, inr (refl, record { stores = st; at = b; from = le; below = lt; holds = u })))
+
+  ccw_kept : (s : List ℕ) (p : Place) → Same j s → IsReachable j p → ccw s p.address ≡ word_at j p
+  ccw_kept s p same r =
+      let st = check_stands (storage_of j) p (clear_check j p (clear_at p r)) in
+      same_ccw s (storage_of j) p.address (λ b le lt. same b (inl (record { place = p; reached = r; stands = st; from = le; below = lt })))
+
+  here_at : (p : Place) (g : Gathered) → IsReachable j p → Under j p g → is_transfer (word_at j p) ≡ false → Here j p (word_at j p) g
+  here_at p g r u t = record {
+    x = f.0;
+    good = good;
+    follows = λ q w. onward p q r w;
+    apart = λ i k. apart_at p r (stores_from _ _ _ t i k);
+    seek = come (begins_seek p (word_at j p)) g u refl;
+    mask = λ e. inr (record { place = p; reached = r; clear = f; takes = inr (record { sets = e; at = refl }) });
+  }
+    where
+      f : IsClear j p
+      f = clear_at p r
+
+      good : IsGood j p (word_at j p) f.0
+      good = clear_good j p f t
+
+      old : (g : Gathered) → Under j p g → Comes j p (word_at j p) g
+      old None u = tt
+      old (Some x) u = record { l = u.1; sought = u.2; before = u.3.before; advance = λ m le. advance (storage_of j) u.1 p x m u.3 t le; outward = ap (λ e. kind_of e (word_at j p)) u.0 }
+
+      new : begins_seek p (word_at j p) ≡ true → (x : Option (List ℕ)) → HasArgument (storage_of j) p.address x → is_none x ≡ false → is_refused j x ≡ false → Coming j p (word_at j p) []
+      new e None h miss ref = absurd (cc)
+      new e (Some x) h miss ref = record {
+        l = h.0;
+        sought = record {
+          guarded = λ b k. record { place = p; reached = r; clear = f; takes = inl (record { seeks = e; chain = h.0; is_chain = h.1; has = k }) };
+          allowed = subst (λ z. allows j z ≡ true) h.2 (not-false _ ref);
+          seek = p;
+          reached = r;
+          seeks = e;
+          is_chain = h.1;
+        };
+        before = [];
+        advance = λ m le. advance (storage_of j) h.0 p [] m (begin (storage_of j) h.0 p h.1) t le;
+        outward = fresh_out p (word_at j p) e;
+      }
+
+      come : (b : Bool) (g : Gathered) → Under j p g → begins_seek p (word_at j p) ≡ b → Comes j p (word_at j p) (if b then Some [] else g)
+      come true g u e = new e f.0 f.1 (good.argued e) (good.allowed e)
+      come false g u e = old g u
+
+  step_ok : {s : List ℕ} {y f : ℕ} {p : Place} {g : Gathered} {es : List Event} {t : List ℕ} {y' f' : ℕ} {st : Stage} → Step s y f p g es t y' f' st → Invariant j s y f (At p g) → Stepped j t y' f' st es
+  step_ok {s = s} {p = p} (checked {r = r} e) k =
+      let c = ccw_kept s p k.same k.stage.0 in
+      let same : check s p ≡ check (storage_of j) p = ap (λ n. check_of n p (ccw s p.address)) k.same_length ∙ ap (λ z. check_of (length (storage_of j)) p z) c in
+      let n : check (storage_of j) p ≡ None = clear_check j p (clear_at p k.stage.0) in
+      absurd (cc)
+  step_ok {s = s} {y = y} {f = f} {p = p} {g = g} (transferred e t) k =
+      let c = ccw_kept s p k.same k.stage.0 in
+      let t' : is_transfer (word_at j p) ≡ true = ap is_transfer (sym c) ∙ t in
+      record {
+        kept = subst (λ z. Invariant j s y f (At (transferred_to z.address p.entered) g)) (sym c)
+            (record { same_length = k.same_length; same = k.same; inside = k.inside; strict = k.strict; stage = (onward p _ k.stage.0 (by_transfer t'), carry g t' k.stage.1) });
+        safe = tt;
+        used = λ b u. absurd u;
+      }
+    where
+      carry : (g : Gathered) → is_transfer (word_at j p) ≡ true → Under j p g → Under j (transferred_to (word_at j p).address p.entered) g
+      carry None t' u = tt
+      carry (Some x) t' u = (u.0, u.1, u.2, transfer_on (storage_of j) u.1 p x u.3 t')
+  step_ok {s = s} {p = p} {g = g} (unknown e t fr un) k =
+      let c = ccw_kept s p k.same k.stage.0 in
+      let t' : is_transfer (word_at j p) ≡ false = ap is_transfer (sym c) ∙ t in
+      let known = (here_at p g k.stage.0 k.stage.1 t').good.known fr in
+      absurd (both_ways _ un (ap (λ z. is_known z.command) c ∙ known))
+  step_ok {s = s} {p = p} {g = g} (carried e t known le mv sk hm fm gs) k =
+      let c = ccw_kept s p k.same k.stage.0 in
+      let t' : is_transfer (word_at j p) ≡ false = ap is_transfer (sym c) ∙ t in
+      carried_ok j p (ccw s p.address) g (subst (λ z. Here j p z g) (sym c) (here_at p g k.stage.0 k.stage.1 t')) k t le mv sk hm fm gs
+
+  from_ok : {s : List ℕ} {y f : ℕ} (at : Stage) {es : List Event} {t : List ℕ} {y' f' : ℕ} {st : Stage} → StepFrom s y f at es t y' f' st → Invariant j s y f at → Stepped j t y' f' st es
+  from_ok (At p g) w k = step_ok w k
+  from_ok Ended w k = absurd w
+  from_ok (Checked r) w k = absurd w
+
+  -- ---- a run
+
+  run_kept : (m : Moment) (ms : List Moment) → IsRun j (m ∷ ms) → Invariant j m.storage m.arm m.mask m.stage
+  run_kept m [] r = record {
+    same_length = ap length r.storage;
+    same = λ b g. ap (λ z. byte z b) r.storage;
+    inside = r.arm;
+    strict = λ h. subst (λ z. is_at_least z j.mask ≡ true) (sym r.mask) (strict_as_itself j.mask h);
+    stage = subst (λ z. IsKept j z) (sym r.stage) (([], refl), tt);
+  }
+  run_kept n (m ∷ ms) r = (from_ok m.stage r.1 (run_kept m ms r.0)).kept
+
+  -- what holds of a moment because it is kept holds of each
+  pub all_kept : (P : Moment → Type 0) → ((m : Moment) → Invariant j m.storage m.arm m.mask m.stage → P m) → (ms : List Moment) → IsRun j ms → AllByRecursion P ms
+  all_kept P f [] r = absurd r
+  all_kept P f (m ∷ []) r = (f m (run_kept m [] r), tt)
+  all_kept P f (n ∷ m ∷ ms) r = (f n (run_kept n (m ∷ ms) r), all_kept P f (m ∷ ms) r.0)
+
+  unchecked : (st : Stage) → IsKept j st → IsUnchecked st
+  unchecked (At p g) k = tt
+  unchecked Ended k = tt
+  unchecked (Checked r) k = k
+
+  runs_safe : HasMask j → (ms : List Moment) → IsRun j ms → AllByRecursion (IsSafeMoment j) ms
+  runs_safe h [] r = absurd r
+  runs_safe h (m ∷ []) r =
+      let k = run_kept m [] r in
+      (record { unchecked = unchecked m.stage k.stage; inside = k.inside; strict = k.strict h; events = subst (λ es. AllByRecursion (IsSafeEvent j) es) (sym r.events) tt }, tt)
+  runs_safe h (n ∷ m ∷ ms) r =
+      let k = run_kept n (m ∷ ms) r in
+      (record { unchecked = unchecked n.stage k.stage; inside = k.inside; strict = k.strict h; events = (from_ok m.stage r.1 (run_kept m ms r.0)).safe }, runs_safe h (m ∷ ms) r.0)
+
+  -- each byte that a run uses is guarded
+  used_at : (s : List ℕ) (st : Stage) (b : ℕ) → length s ≡ length (storage_of j) → IsKept j st → UsesAt s st b → IsGuarded j b
+  used_at s (At p g) b n k u = inl (record { place = p; reached = k.0; stands = subst (λ z. (is_aligned p.address ≡ true) × (is_inside z p.address ≡ true)) n u.0; from = u.1; below = u.2 })
+  used_at s Ended b n k u = absurd u
+  used_at s (Checked r) b n k u = absurd u
+
+  in_ccw_guarded : (ms : List Moment) (b : ℕ) → IsRun j ms → UsesInCcw ms b → IsGuarded j b
+  in_ccw_guarded [] b r u = absurd u
+  in_ccw_guarded (m ∷ []) b r (inl u) = let k = run_kept m [] r in used_at m.storage m.stage b k.same_length k.stage u
+  in_ccw_guarded (m ∷ []) b r (inr u) = absurd u
+  in_ccw_guarded (n ∷ m ∷ ms) b r (inl u) = let k = run_kept n (m ∷ ms) r in used_at n.storage n.stage b k.same_length k.stage u
+  in_ccw_guarded (n ∷ m ∷ ms) b r (inr u) = in_ccw_guarded (m ∷ ms) b r.0 u
+
+  no_use : (es : List Event) (b : ℕ) → es ≡ [] → UsesIn es b → ⊥
+  no_use es b e u = subst (λ z. UsesIn z b) e u
+
+  in_argument_guarded : (ms : List Moment) (b : ℕ) → IsRun j ms → UsesInArgument ms b → IsGuarded j b
+  in_argument_guarded [] b r u = absurd u
+  in_argument_guarded (m ∷ []) b r (inl u) = absurd (no_use m.events b r.events u)
+  in_argument_guarded (m ∷ []) b r (inr u) = absurd u
+  in_argument_guarded (n ∷ m ∷ ms) b r (inl u) = (from_ok m.stage r.1 (run_kept m ms r.0)).used b u
+  in_argument_guarded (n ∷ m ∷ ms) b r (inr u) = in_argument_guarded (m ∷ ms) b r.0 u
+
+  used_guarded : (ms : List Moment) (b : ℕ) → IsRun j ms → Uses ms b → IsGuarded j b
+  used_guarded ms b r (inl u) = in_ccw_guarded ms b r u
+  used_guarded ms b r (inr u) = in_argument_guarded ms b r u
+
+  at_reachable : (st : Stage) → IsKept j st → IsAtReachable j st
+  at_reachable (At p g) k = k.0
+  at_reachable Ended k = tt
+  at_reachable (Checked r) k = tt
+
+  part_of : (p : Place) (g : Gathered) → Under j p g → GathersPart j (At p g)
+  part_of p None u = tt
+  part_of p (Some x) u = record { seek = u.2.seek; reached = u.2.reached; seeks = u.2.seeks; chain = u.1; is_chain = u.2.is_chain; gathered = u.3; allowed = u.2.allowed }
+
+  gathers : (st : Stage) → IsKept j st → GathersPart j st
+  gathers (At p g) k = part_of p g k.1
+  gathers Ended k = tt
+  gathers (Checked r) k = tt
+
+  pub guarded_holds : (b : ℕ) → IsGuarded j b → (ms : List Moment) → IsRun j ms → AllByRecursion (Holds j b) ms
+  guarded_holds b g = all_kept _ (λ m k. k.same b g)
+
+pub guarded_stays : GuardedStays
+guarded_stays j v = all_kept j v _ (λ m k b g. k.same b g)
+
+pub stays_reachable : StaysReachable
+stays_reachable j v = all_kept j v _ (λ m k. at_reachable j v m.stage k.stage)
+
+pub gathers_arguments : GathersArguments
+gathers_arguments j v = all_kept j v _ (λ m k. gathers j v m.stage k.stage)
+
+pub yes_is_safe : YesIsSafe
+yes_is_safe j h v = (runs_safe j v h, λ used run b r u s. guarded_holds j v b (used_guarded j v used b r u) run s)

@@ -1,0 +1,13 @@
+pub mod Lists
+pub mod Commands
+pub mod Masks
+pub mod Areas
+pub mod Chains
+pub mod Checks
+pub mod CheckCases
+pub mod Faults
+pub mod Follows
+pub mod OwnFaults
+pub mod Order
+pub mod Words
+pub mod Causes

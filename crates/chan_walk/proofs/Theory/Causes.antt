@@ -1,0 +1,235 @@
+-- What it says of a place that it offends by a reason.
+use Rattle.std.proofs.Common.{◌≡◌, ℕ, ◌+◌, ◌<◌, ◌≤◌, Bool, true, false, not, ◌&&◌, ◌||◌, if◌then◌else◌, List, length, Option, Some, None, is_none, refl, sym, ap, ◌∙◌, subst, ◌⊎◌, inl, inr, arith}
+use Rattle.std.proofs.lemmas.Bool.{and_parts, and_from, both_ways, cases_Bool, not-false, not-true, or_cases, lt-ltb, cases_lt}
+use Rattle.ccw_core.specs.declared.areas.Area.{Area}
+use Rattle.ccw_core.specs.Areas.{covered, lies_in}
+use Rattle.ccw_core.specs.Ccw.{is_transfer}
+use Rattle.ccw_core.specs.Storage.{Stands, ccw_at}
+use Rattle.ccw_core.proofs.StorageLemmas.{ccw_at-where}
+use Rattle.ckd_core.specs.declared.track.Track.{Track}
+use Rattle.ckd_core.specs.Argument.{cylinder_of, has_no_bin, head_of, is_allowed, track_of}
+use Rattle.ckd_core.specs.Cylinders.{has_cylinder}
+use Rattle.chan_walk.specs.declared.job.Job.{Job}
+use Rattle.chan_walk.specs.declared.place.Place.{Place}
+use Rattle.chan_walk.specs.declared.reason.Reason.{Reason}
+use Rattle.chan_walk.specs.declared.reason.Reason.TheVariants.{Misaligned, OutsideStorage, TransferNotAllowed, InvalidCode, BadFormat, ZeroCount, DataOutside, NotInTable, Inhibited, StoreNotLent, FetchNotLent, ShortSeek, SeekOutside, ChangesCcw, ChangesArgument, WeakensMask}
+use Rattle.chan_walk.specs.Argument.{HasArgument}
+use Rattle.chan_walk.specs.Check.{check, check_of, first_reason, table_of_any, table_of_word}
+use Rattle.chan_walk.specs.Evidence.{FailsToSeek, IsArgumentIn, IsCcwIn, IsFirstGap, SeeksTo, data_at}
+use Rattle.chan_walk.specs.Fault.{HasFault, allows, begins_recalibrate, begins_seek, is_refused, table_of_own}
+use Rattle.chan_walk.specs.Guarded.{IsArgumentByte, IsCcwByte}
+use Rattle.chan_walk.specs.Job.{extents_of, fetch_of, heads, storage_of, store_of}
+use Rattle.chan_walk.specs.Machine.{home}
+use Rattle.chan_walk.specs.Place.{word_at}
+use Rattle.chan_walk.specs.Ranges.{end_of}
+use Rattle.chan_walk.specs.Reachable.{IsReachable}
+use Rattle.chan_walk.specs.Verdict.{AreClear, Offends, StoresOver}
+use Rattle.chan_walk.proofs.Theory.Areas.{allows_home, home_refused}
+use Rattle.chan_walk.proofs.Theory.Chains.{argument_unique}
+use Rattle.chan_walk.proofs.Theory.Checks.{Cases, check_stands, cond_none, each_case, first_case, table_case}
+use Rattle.chan_walk.proofs.Theory.Commands.{seek_no_recalibrate}
+use Rattle.chan_walk.proofs.Theory.Faults.{clear_check}
+use Rattle.chan_walk.proofs.Theory.OwnFaults.{data_in_storage}
+
+module _ (j : Job) (p : Place) where
+  abbrev s : List ℕ
+  s = storage_of j
+
+  -- the data of the CCW there lies in storage, and some byte of it in none of the areas
+  abbrev pub IsUncovered : List Area → Type 0
+  IsUncovered areas =
+      ((word_at j p).address + (word_at j p).count ≤ length s) × (covered areas (word_at j p).address (word_at j p).count ≡ false)
+
+  -- what each reason says of the place
+  abbrev pub Told : Reason → Type 0
+  Told Misaligned = Unit {0}
+  Told OutsideStorage = Unit {0}
+  Told StoreNotLent = Stands s p.address × IsUncovered (store_of j)
+  Told FetchNotLent = Stands s p.address × IsUncovered (fetch_of j)
+  Told ShortSeek = Stands s p.address × FailsToSeek j p ShortSeek
+  Told SeekOutside = Stands s p.address × FailsToSeek j p SeekOutside
+  Told ChangesCcw = Stands s p.address × AreClear j × StoresOver j p (IsCcwByte j)
+  Told ChangesArgument = Stands s p.address × AreClear j × StoresOver j p (IsArgumentByte j)
+  Told TransferNotAllowed = Stands s p.address × Unit {0}
+  Told InvalidCode = Stands s p.address × Unit {0}
+  Told BadFormat = Stands s p.address × Unit {0}
+  Told ZeroCount = Stands s p.address × Unit {0}
+  Told DataOutside = Stands s p.address × Unit {0}
+  Told NotInTable = Stands s p.address × Unit {0}
+  Told Inhibited = Stands s p.address × Unit {0}
+  Told WeakensMask = Stands s p.address × Unit {0}
+
+  any_stands : first_reason (table_of_any (length s) p (word_at j p)) ≡ None → Stands s p.address
+  any_stands n = let b = cond_none _ _ _ n in let d = cond_none _ _ _ b.1 in (not-false _ b.0, not-false _ d.0)
+
+  check_told : (r : Reason) → check s p ≡ Some r → Told r
+  unfolding check_of
+  check_told r h =
+      table_case Told _ (is_transfer (word_at j p)) (table_of_word (length s) p (word_at j p)) r
+      (first_case Told (table_of_any (length s) p (word_at j p)) r
+      ((λ _. tt), λ a. ((λ _. tt), λ b. ((λ _. ((not-false _ a, not-false _ b), tt)), λ _. tt))))
+      (λ n e. let st = any_stands n in each_case Told (table_of_word (length s) p (word_at j p)) ((st, tt), ((st, tt), ((st, tt), ((st, tt), tt))))) h
+
+  none_argument : (x : Option (List ℕ)) → HasArgument s p.address x → is_none x ≡ true → HasArgument s p.address None
+  none_argument None h e = h
+  none_argument (Some x) h e = absurd (cc)
+
+  refused_argument : (x : Option (List ℕ)) → HasArgument s p.address x → is_refused j x ≡ true → (y : List ℕ) × HasArgument s p.address (Some y) × (allows j y ≡ false)
+  refused_argument None h e = absurd (cc)
+  refused_argument (Some y) h e = (y, h, not-true _ e)
+
+  uncovered_told : (areas : List Area) (b : Bool) → check s p ≡ None → is_transfer (word_at j p) ≡ false → (b && not (covered areas (word_at j p).address (word_at j p).count)) ≡ true → IsUncovered areas
+  uncovered_told areas b n t e = (data_in_storage s p (word_at j p) n refl t, not-true _ (and_parts b _ e).1)
+
+  outside_told : (x : Option (List ℕ)) → HasArgument s p.address x
+      → ((begins_seek p (word_at j p) && is_refused j x) || (begins_recalibrate p (word_at j p) && not (has_cylinder (extents_of j) 0))) ≡ true → FailsToSeek j p SeekOutside
+  outside_told x h e = go (or_cases _ _ e)
+    where
+      go : ((begins_seek p (word_at j p) && is_refused j x) ≡ true) ⊎ ((begins_recalibrate p (word_at j p) && not (has_cylinder (extents_of j) 0)) ≡ true) → FailsToSeek j p SeekOutside
+      go (inl b) = let a = and_parts _ _ b in let y = refused_argument x h a.1 in (y.0, inl (a.0, y.1), y.2)
+      go (inr b) = let a = and_parts _ _ b in (home, inr (a.0, refl), home_refused j (not-true _ a.1))
+
+  own_told : (x : Option (List ℕ)) → HasArgument s p.address x → check s p ≡ None → is_transfer (word_at j p) ≡ false → Cases Told (table_of_own j p (word_at j p) x)
+  own_told x h n t =
+      let st = check_stands s p n in (
+        (λ _. (st, tt)),
+        λ _. (
+          (λ _. (st, tt)),
+          λ _. (
+            (λ e. (st, uncovered_told (store_of j) _ n t e)),
+            λ _. (
+              (λ e. (st, uncovered_told (fetch_of j) _ n t e)),
+              λ _. (
+                (λ e. let a = and_parts _ _ e in (st, (a.0, none_argument x h a.1))),
+                λ _. ((λ e. (st, outside_told x h e)), λ _. ((λ _. (st, tt)), λ _. tt)),
+              ),
+            ),
+          ),
+        ),
+      )
+
+  fault_told : (r : Reason) → HasFault j p (Some r) → Told r
+  fault_told r f = table_case Told (check s p) (is_transfer (word_at j p)) (table_of_own j p (word_at j p) f.0) r (check_told r) (λ n t. own_told f.0 f.1 n t) f.2
+
+  pub told : (r : Reason) → IsReachable j p → Offends j p r → Told r
+  told r reached (inl f) = fault_told r f
+  told r reached (inr (clear, inl (e, over))) = subst Told (sym e) (check_stands s p (clear_check j p (clear p reached)), clear, over)
+  told r reached (inr (clear, inr (e, over))) = subst Told (sym e) (check_stands s p (clear_check j p (clear p reached)), clear, over)
+
+  no_word : Stands s p.address → ccw_at s p.address ≡ None → ⊥
+  no_word st n = let e = sym n ∙ ccw_at-where s p.address st in cc
+
+  pub seek_told : (r : Reason) → (r ≡ ShortSeek) ⊎ (r ≡ SeekOutside) → Told r → FailsToSeek j p r
+  seek_told r (inl e) h = subst (FailsToSeek j p) (sym e) (subst Told e h).1
+  seek_told r (inr e) h = subst (FailsToSeek j p) (sym e) (subst Told e h).1
+
+  -- where no CCW stands, only two reasons are left
+  pub nothing_told : (r : Reason) → Told r → ccw_at s p.address ≡ None → (r ≡ Misaligned → ⊥) → OutsideStorage ≡ r
+  nothing_told Misaligned h n m = absurd (m refl)
+  nothing_told OutsideStorage h n m = refl
+  nothing_told StoreNotLent h n m = absurd (no_word h.0 n)
+  nothing_told FetchNotLent h n m = absurd (no_word h.0 n)
+  nothing_told ShortSeek h n m = absurd (no_word h.0 n)
+  nothing_told SeekOutside h n m = absurd (no_word h.0 n)
+  nothing_told ChangesCcw h n m = absurd (no_word h.0 n)
+  nothing_told ChangesArgument h n m = absurd (no_word h.0 n)
+  nothing_told TransferNotAllowed h n m = absurd (no_word h.0 n)
+  nothing_told InvalidCode h n m = absurd (no_word h.0 n)
+  nothing_told BadFormat h n m = absurd (no_word h.0 n)
+  nothing_told ZeroCount h n m = absurd (no_word h.0 n)
+  nothing_told DataOutside h n m = absurd (no_word h.0 n)
+  nothing_told NotInTable h n m = absurd (no_word h.0 n)
+  nothing_told Inhibited h n m = absurd (no_word h.0 n)
+  nothing_told WeakensMask h n m = absurd (no_word h.0 n)
+
+  -- ---- a seek that fails
+
+  no_both : begins_seek p (word_at j p) ≡ true → begins_recalibrate p (word_at j p) ≡ true → ⊥
+  no_both a b = both_ways _ (seek_no_recalibrate (word_at j p).command (and_parts _ _ a).1) (and_parts _ _ b).1
+
+  pub recalibrates_out : (r : Reason) → FailsToSeek j p r → begins_recalibrate p (word_at j p) ≡ true → (SeekOutside ≡ r) × (has_cylinder (extents_of j) 0 ≡ false)
+  recalibrates_out ShortSeek f b = absurd (no_both f.0 b)
+  recalibrates_out SeekOutside f b = (refl, go f.1)
+    where
+      go : SeeksTo j p f.0 → has_cylinder (extents_of j) 0 ≡ false
+      go (inl k) = absurd (no_both k.0 b)
+      go (inr k) = at (cases_Bool (has_cylinder (extents_of j) 0))
+        where
+          at : (has_cylinder (extents_of j) 0 ≡ true) ⊎ (has_cylinder (extents_of j) 0 ≡ false) → has_cylinder (extents_of j) 0 ≡ false
+          at (inl e) = absurd (both_ways (allows j f.0) f.2 (subst (λ x. allows j x ≡ true) (sym k.1) (allows_home j e)))
+          at (inr e) = e
+  recalibrates_out r f b = absurd f
+
+  pub sought_out : (r : Reason) (y : List ℕ) → FailsToSeek j p r → begins_recalibrate p (word_at j p) ≡ false → HasArgument s p.address (Some y) → (SeekOutside ≡ r) × (begins_seek p (word_at j p) ≡ true) × (allows j y ≡ false)
+  sought_out ShortSeek y f b h = absurd (f.1 h.0 h.1)
+  sought_out SeekOutside y f b h = go f.1
+    where
+      go : SeeksTo j p f.0 → (SeekOutside ≡ SeekOutside) × (begins_seek p (word_at j p) ≡ true) × (allows j y ≡ false)
+      go (inl k) =
+          let same : ◌≡◌ {A = Option (List ℕ)} (Some f.0) (Some y) = argument_unique s p.address (Some f.0) (Some y) k.1 h in
+          let is : f.0 ≡ y = cc in
+          (refl, k.0, subst (λ x. allows j x ≡ false) is f.2)
+      go (inr k) = absurd (both_ways _ b k.0)
+  sought_out r y f b h = absurd f
+
+  pub short_out : (r : Reason) → FailsToSeek j p r → begins_recalibrate p (word_at j p) ≡ false → HasArgument s p.address None → ShortSeek ≡ r
+  short_out ShortSeek f b h = refl
+  short_out SeekOutside f b h = go f.1
+    where
+      go : SeeksTo j p f.0 → ShortSeek ≡ SeekOutside
+      go (inl k) = absurd (h k.1.0 k.1.1)
+      go (inr k) = absurd (both_ways _ b k.0)
+  short_out r f b h = absurd f
+
+-- ---- what is wrong with an argument
+
+pub track_parts : (x : List ℕ) (t : Track) → Some t ≡ track_of x → (has_no_bin x ≡ true) × (t.cylinder ≡ cylinder_of x) × (t.head ≡ head_of x)
+track_parts x t e = go (has_no_bin x) refl e
+  where
+    go : (b : Bool) → has_no_bin x ≡ b → Some t ≡ (if b then Some (record { cylinder = cylinder_of x; head = head_of x }) else None) → (has_no_bin x ≡ true) × (t.cylinder ≡ cylinder_of x) × (t.head ≡ head_of x)
+    go true f d = let is : t ≡ record { cylinder = cylinder_of x; head = head_of x } = cc in (f, ap (λ (z : Track). z.cylinder) is, ap (λ (z : Track). z.head) is)
+    go false f d = absurd (cc)
+
+pub head_out : (j : Job) (x : List ℕ) → allows j x ≡ false → has_no_bin x ≡ true → has_cylinder (extents_of j) (cylinder_of x) ≡ true → heads j ≤ head_of x
+unfolding is_allowed
+head_out j x h b d = go (cases_lt (head_of x) (heads j))
+  where
+    go : (head_of x < heads j) ⊎ (heads j ≤ head_of x) → heads j ≤ head_of x
+    go (inl l) = absurd (both_ways _ h (and_from _ _ (and_from _ _ b d) (lt-ltb (head_of x) (heads j) l)))
+    go (inr l) = l
+
+-- ---- areas of which only what lies in storage counts
+
+same_byte : (xs ys : List Area) (b : ℕ) → covered xs b 1 ≡ covered ys b 1 → lies_in xs b ≡ lies_in ys b
+same_byte xs ys b e = sym (one (lies_in xs b)) ∙ e ∙ one (lies_in ys b)
+  where
+    one : (z : Bool) → (z && true) ≡ z
+    one true = refl
+    one false = refl
+
+pub gap_in_storage : (n : ℕ) (xs ys : List Area) (range gap : Area) → ((start len : ℕ) → start + len ≤ n → covered xs start len ≡ covered ys start len) → end_of range ≤ n → IsFirstGap xs range gap → IsFirstGap ys range gap
+gap_in_storage n xs ys range gap h within g =
+    let w = g.within in
+    let f = g.filled in
+    record {
+      from = g.from;
+      filled = g.filled;
+      within = g.within;
+      before = λ b k l. sym (same_byte xs ys b (h b 1 (omega arith))) ∙ g.before b k l;
+      inside = λ b k l. sym (same_byte xs ys b (h b 1 (omega arith))) ∙ g.inside b k l;
+      after = λ l. sym (same_byte xs ys (end_of gap) (h (end_of gap) 1 (omega arith))) ∙ g.after l;
+    }
+
+-- ---- what is stored over
+
+pub over_ccw : (j : Job) (p : Place) → StoresOver j p (IsCcwByte j) → (a : ℕ) × IsCcwIn j (data_at j p) a
+over_ccw j p o =
+    let h = o.holds in
+    let f = o.from in
+    let b = o.below in
+    let hf = h.from in
+    let hb = h.below in
+    (h.place.address, record { place = h.place; reached = h.reached; address = refl; stands = h.stands; from = omega arith; below = omega arith })
+
+pub over_argument : (j : Job) (p : Place) → StoresOver j p (IsArgumentByte j) → (b : ℕ) × IsArgumentIn j (data_at j p) b
+over_argument j p o = (o.at, record { from = o.from; below = o.below; argument = o.holds })

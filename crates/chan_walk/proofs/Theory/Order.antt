@@ -1,0 +1,58 @@
+-- The whole table of own faults: its first reason is the own fault, and its numbers increase.
+use Rattle.std.proofs.Common.{◌≡◌, ℕ, zero, suc, ◌+◌, ◌<◌, Bool, true, false, if◌then◌else◌, List, [], ◌∷◌, ◌++◌, length, Option, Some, None, refl, sym, ap, ◌∙◌, subst, arith, slice_index}
+use Rattle.std.specs.List.Sorted.{IsStrictlyIncreasing}
+use Rattle.std.specs.Option.{option_or}
+use Rattle.ccw_core.specs.Ccw.{Fields, is_transfer}
+use Rattle.chan_walk.specs.declared.reason.Reason.{Reason}
+use Rattle.chan_walk.specs.Check.{first_reason, check_of, table_of_any, table_of_word}
+use Rattle.chan_walk.specs.Fault.{table_of_own}
+use Rattle.chan_walk.specs.Job.{storage_of}
+use Rattle.chan_walk.specs.Order.{numbers_of, NumbersIncrease}
+use Rattle.chan_walk.specs.Place.{word_at}
+use Rattle.chan_walk.proofs.Theory.OwnFaults.{first_reason-append}
+
+-- each number is below the next
+abbrev Rises : List ℕ → Type 0
+Rises [] = Unit {0}
+Rises (n ∷ []) = Unit {0}
+Rises (n ∷ m ∷ ms) = (n < m) × Rises (m ∷ ms)
+
+increasing : (ns : List ℕ) → Rises ns → IsStrictlyIncreasing ns
+increasing [] h k l = absurd (omega arith)
+increasing (n ∷ []) h k l = absurd (omega arith)
+increasing (n ∷ m ∷ ms) h zero l = h.0
+increasing (n ∷ m ∷ ms) h (suc k) l =
+    let e : suc (k + 1) ≡ suc k + 1 = omega arith in
+    subst (λ i. slice_index (n ∷ m ∷ ms) (suc k) < slice_index (n ∷ m ∷ ms) i) e (increasing (m ∷ ms) h.1 k (omega arith))
+
+or_assoc : (a b c : Option Reason) → option_or (option_or a b) c ≡ option_or a (option_or b c)
+or_assoc None b c = refl
+or_assoc (Some r) b c = refl
+
+or_none : (a : Option Reason) → option_or a None ≡ a
+or_none None = refl
+or_none (Some r) = refl
+
+pub numbers_increase : NumbersIncrease
+unfolding check_of
+numbers_increase j p x = (same (is_transfer c), rises (is_transfer c))
+  where
+    c : Fields
+    c = word_at j p
+
+    any : List (Bool × Reason)
+    any = table_of_any (length (storage_of j)) p (word_at j p)
+
+    word : List (Bool × Reason)
+    word = table_of_word (length (storage_of j)) p (word_at j p)
+
+    own : List (Bool × Reason)
+    own = table_of_own j p (word_at j p) x
+
+    same : (b : Bool) → option_or (option_or (first_reason any) (if b then None else first_reason word)) (if b then None else first_reason own) ≡ first_reason (any ++ (if b then [] else word ++ own))
+    same true = or_none _ ∙ sym (first_reason-append any [])
+    same false = or_assoc (first_reason any) (first_reason word) (first_reason own) ∙ ap (option_or (first_reason any)) (sym (first_reason-append word own)) ∙ sym (first_reason-append any (word ++ own))
+
+    rises : (b : Bool) → IsStrictlyIncreasing (numbers_of (any ++ (if b then [] else word ++ own)))
+    rises true = increasing (numbers_of (any ++ [])) (omega arith, (omega arith, tt))
+    rises false = increasing (numbers_of (any ++ word ++ own)) (omega arith, (omega arith, (omega arith, (omega arith, (omega arith, (omega arith, (omega arith, (omega arith, (omega arith, (omega arith, (omega arith, (omega arith, (omega arith, tt)))))))))))))
