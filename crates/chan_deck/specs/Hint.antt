@@ -1,6 +1,7 @@
 -- What is said of the line at which a text is refused: the line as it stands, and what may stand
 -- in its place or what it has to fulfil.
-use Rattle.std.specs.Prelude.{ℕ, ◌-◌, ◌%◌, ◌≡◌, ◌≢◌, ◌==◌, ◌&&◌, nat_le, nat_lt, List, [], ◌∷◌, ◌++◌, length, take}
+use Rattle.std.specs.Prelude.{ℕ, ◌-◌, ◌%◌, ◌≡◌, ◌≢◌, ◌==◌, ◌&&◌, nat_le}
+use Rattle.std.specs.Prelude.{nat_lt, List, [], ◌∷◌, ◌++◌, length, take}
 use Rattle.std.specs.Prelude.{map, codes, if◌then◌else◌, Bool, true, false, Option, Some, None}
 use Rattle.std.specs.List.{filter, find, flat_map}
 use Rattle.std.specs.Borrow.{Bor}
@@ -126,7 +127,8 @@ put_address last = None
 -- an address above that of the put before, where there is one
 abbrev pub above_text : Option ℕ → List ℕ
 above_text None = codes "an address that is a multiple of 8"
-above_text (Some a) = codes "an address above " ++ address_text a ++ codes " that is a multiple of 8"
+above_text (Some a) =
+    codes "an address above " ++ address_text a ++ codes " that is a multiple of 8"
 
 abbrev pub is_past : Option ℕ → ℕ → Bool
 is_past None a = true

@@ -1,13 +1,12 @@
 //! What is said of the line at which a text is refused.
 
 ghost use Rattle.std.specs.Prelude.{◌≡◌, ◌++◌, ◌∷◌, ℕ, List, IfOk, OnOk, string_bytes};
-ghost use Rattle.std.specs.Prelude.{Option as Maybe};
-ghost use Rattle.std.specs.Prelude.{Some, codes};
+ghost use Rattle.std.specs.Prelude.{Option as Maybe, Some, codes};
 ghost use Rattle.std.specs.List.{flat_map};
 ghost use Rattle.chan_deck.specs.Digits.{AreValues};
 ghost use Rattle.chan_deck.specs.Hint as hint;
-ghost use Rattle.chan_deck.specs.Hint.{AreBehind, IsBehind, IsExpected, IsHint, IsSaidBy, IsSpot, condition_of};
-ghost use Rattle.chan_deck.specs.Hint.{forms_text, found_as, keyword_of, shown_byte};
+ghost use Rattle.chan_deck.specs.Hint.{AreBehind, IsBehind, IsExpected, IsHint, IsSaidBy, IsSpot};
+ghost use Rattle.chan_deck.specs.Hint.{condition_of, forms_text, found_as, keyword_of, shown_byte};
 ghost use Rattle.chan_deck.specs.Item.{Item, Says, put};
 ghost use Rattle.chan_deck.specs.declared.cause.Cause.TheVariants as causes;
 ghost use Rattle.chan_deck.specs.Refused.{AreSaid, is_second as second};

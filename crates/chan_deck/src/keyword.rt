@@ -1,6 +1,7 @@
 //! The forms of a deck's lines, by their keywords.
 
-ghost use Rattle.std.specs.Prelude.{◌≡◌, ◌==◌, ◌<◌, length, position, IfSome, Option as Maybe, Some};
+ghost use Rattle.std.specs.Prelude.{◌≡◌, ◌==◌, ◌<◌, length, position, IfSome};
+ghost use Rattle.std.specs.Prelude.{Option as Maybe, Some};
 ghost use Rattle.chan_deck.specs.Hint as hint;
 ghost use Rattle.chan_deck.specs.Hint.{IsSaidBy, example_of, keyword_of, pattern_of};
 ghost use Rattle.chan_deck.specs.Item.{Item};

@@ -11,8 +11,8 @@ use Rattle.chan_walk.specs.declared.job.Job.{Job}
 use Rattle.chan_walk.specs.declared.note.Notes.{Notes}
 use Rattle.chan_walk.specs.Explored.{HasMoreThan}
 use Rattle.chan_walk.specs.Job.{fetch_of, store_of}
-use Rattle.chan_walk.specs.Notes.{AreAddressesOf, AreUnused, IsFetchedFrom, IsStoredInto, ends_there}
-use Rattle.chan_walk.specs.Notes.{interrupts, reaches_past_storage}
+use Rattle.chan_walk.specs.Notes.{AreAddressesOf, AreUnused, IsFetchedFrom, IsStoredInto}
+use Rattle.chan_walk.specs.Notes.{ends_there, interrupts, reaches_past_storage}
 use Rattle.chan_run.specs.Run.{HasTooMany, IsJobOf}
 
 -- these are the notes on the job

@@ -164,7 +164,8 @@ pub record IsJobAnswered (front : List ℕ) (a : Action) (j : Job) (old new : Op
   pub written : Writes front a j verdict old new
 
 -- the job was verified, and a prefix of that was written
-pub record IsJobCutOff (front : List ℕ) (a : Action) (j : Job) (old new : Option (List ℕ)) : Type 0 where
+pub record IsJobCutOff (front : List ℕ) (a : Action) (j : Job)
+    (old new : Option (List ℕ)) : Type 0 where
   pub verdict : Verdict
   pub verified : IsVerified j verdict
   pub written : BeginsToWrite front a j verdict old new
@@ -205,7 +206,8 @@ IsReadFault old new fault = ⊥
 
 -- the input was read to its end, and this is the answer for its text
 pub record IsReadAnswer (front : List ℕ) (a : Action)
-    (old_in new_in old_out new_out : Option (List ℕ)) (answer : Result Status RunError) : Type 0 where
+    (old_in new_in old_out new_out : Option (List ℕ)) (answer : Result Status RunError)
+    : Type 0 where
   pub text : List ℕ
   pub input : IsInput old_in new_in text
   pub answered : IsTextAnswer front a text old_out new_out answer
