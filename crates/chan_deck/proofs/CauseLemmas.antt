@@ -8,7 +8,8 @@ use Rattle.ckd_core.specs.Mask.{is_mask}
 use Rattle.chan_deck.specs.Item.{Item, header, device, mask, start, limit, extent, fetch, store, storage, put, end, Says}
 use Rattle.chan_deck.specs.Image.{Image, items, puts, is_zero, extent_of, limit_line}
 use Rattle.chan_deck.specs.Refused.{last_of, is_end, is_second, has_ended, may_stand, may_follow, size_said, is_size, is_limit, is_above, is_place, Found, whole_line, part, Applies, Follows, IsCause, rank}
-use Rattle.chan_deck.specs.Reading.{Heading, State, Opening, Named, OnDevice, Masked, Started, Listing, Filling, Whole, step, stands, judged, pad, is_empty, no_form, Refuses}
+use Rattle.chan_deck.specs.Reading.{State, Opening, Named, OnDevice, Masked, Started, Listing, Filling, Whole, step, stands, judged, pad, is_empty, no_form, is_whole, Refuses}
+use Rattle.chan_deck.specs.declared.heading.Heading.{Heading}
 use Rattle.chan_deck.proofs.StepLemmas.{heading, lists, said, IsState, Ends, at_front, at_header, at_device, at_mask, at_start, at_second_start, at_limit, at_extent, at_fetch, at_store, at_storage, at_put, at_end, last_of-push}
 use Rattle.chan_deck.proofs.ItemLemmas.{says_one}
 use Rattle.chan_deck.specs.declared.version.Version.{Version}
@@ -17,10 +18,6 @@ use Rattle.chan_deck.specs.declared.cause.Cause.{Cause}
 use Rattle.chan_deck.specs.declared.cause.Cause.TheVariants as causes
 
 -- ---- what may stand where a reading ends
-
-abbrev pub is_whole : State → Bool
-is_whole (Whole d) = true
-is_whole _ = false
 
 ended_at : (s : State) (o : Option Item) → Ends s o → is_end o ≡ is_whole s
 ended_at _ _ (at_end d) = refl

@@ -8,13 +8,13 @@ use Rattle.chan_walk.proofs.Lists.{all_append}
 use Rattle.chan_deck.specs.Item.{Item, line, text, HasForm, Says}
 use Rattle.chan_deck.specs.Image.{Image, items, Spells}
 use Rattle.chan_deck.specs.Refused.{split, lines, onto_first, IsRefusedAt, Found, whole_line, part, found_in, found_behind, AreSaid, IsCause, IsRefused, rank}
-use Rattle.chan_deck.specs.Reading.{State, Opening, Whole, Stands, step, go_on, run, Refuses, IsRefusal}
+use Rattle.chan_deck.specs.Reading.{State, Opening, Whole, Stands, step, go_on, run, is_whole, Refuses, IsRefusal}
 use Rattle.chan_deck.specs.declared.error.DeckError.{DeckError}
 use Rattle.chan_deck.specs.declared.error.DeckError.TheVariants as errors
 use Rattle.chan_deck.proofs.StepLemmas.{said}
 use Rattle.chan_deck.proofs.DeckRuns.{run-append, reads_deck}
 use Rattle.chan_deck.proofs.FrontLemmas.{one_deck, is_state, says_said, lines_left, refused_at_line, refused_at_end, whole_front, length-said, split_deck, items_form, said_once, join}
-use Rattle.chan_deck.proofs.CauseLemmas.{is_whole, one_rank, line_cause, all_refused, end_cause, after_cause}
+use Rattle.chan_deck.proofs.CauseLemmas.{one_rank, line_cause, all_refused, end_cause, after_cause}
 use Rattle.chan_deck.specs.declared.cause.Cause.{Cause}
 use Rattle.chan_deck.specs.declared.cause.Cause.TheVariants as causes
 
