@@ -7,7 +7,6 @@ use Rattle.std.proofs.lemmas.Grind.{flat_map-append}
 use Rattle.std.proofs.lemmas.Bool.{eqb-true, cases_Bool}
 use Rattle.chan_walk.proofs.Lists.{all_append}
 use Rattle.chan_deck.proofs.Elements.{all_take, all_drop, all_map}
-use Rattle.ccw_core.specs.declared.areas.Area.{Area}
 use Rattle.ckd_core.specs.Cylinders.{IsExtent}
 use Rattle.chan_deck.specs.Item.{Item, header, device, mask, start, fetch, store, storage, put, end, line, text, HasForm, Says, IsByte, IsArea}
 use Rattle.chan_deck.specs.Image.{Image, IsDeck, HasLimit, header_of, limit_line, items, puts, is_zero, extent_of, spelling, Spells}

@@ -1,5 +1,5 @@
 -- What one line more does to where reading stands: it goes on, or the text is refused there, or it has spelled a deck.
-use Rattle.std.proofs.Common.{◌≡◌, ℕ, suc, ◌+◌, ◌-◌, ◌<◌, ◌≤◌, ◌⊎◌, Bool, true, false, cond, List, [], ◌∷◌, ◌++◌, length, take, drop, map, Option, Some, None, Result, Ok, refl, sym, ap, subst, ◌∙◌, append_assoc, arith, inl, inr, length-append}
+use Rattle.std.proofs.Common.{◌≡◌, ℕ, ◌+◌, ◌-◌, ◌<◌, ◌⊎◌, false, List, [], ◌∷◌, ◌++◌, length, take, drop, map, Option, Some, None, Result, Ok, refl, sym, ap, subst, ◌∙◌, append_assoc, arith, inl, inr, length-append}
 use Rattle.std.specs.Prelude.{◌==◌, position}
 use Rattle.std.proofs.lemmas.List.{append-nil, length-map, map-append}
 use Rattle.std.proofs.lemmas.Bool.{cases_lt}
@@ -7,14 +7,14 @@ use Rattle.std.proofs.Math.Seq.{take-append_seam, drop-append_seam}
 use Rattle.chan_walk.proofs.Lists.{all_append}
 use Rattle.chan_deck.specs.Item.{Item, line, text, HasForm, Says}
 use Rattle.chan_deck.specs.Image.{Image, items, Spells}
-use Rattle.chan_deck.specs.Refused.{split, lines, onto_first, IsRefusedAt, Found, whole_line, part, found_in, found_behind, AreSaid, IsCause, IsRefused, rank}
+use Rattle.chan_deck.specs.Refused.{split, lines, IsRefusedAt, Found, whole_line, part, found_in, found_behind, AreSaid, IsCause, IsRefused, rank}
 use Rattle.chan_deck.specs.Reading.{State, Opening, Whole, Stands, step, go_on, run, is_whole, Refuses, IsRefusal}
 use Rattle.chan_deck.specs.declared.error.DeckError.{DeckError}
 use Rattle.chan_deck.specs.declared.error.DeckError.TheVariants as errors
 use Rattle.chan_deck.proofs.LineFeeds.{some_line, no_line}
 use Rattle.chan_deck.proofs.StepLemmas.{said}
 use Rattle.chan_deck.proofs.DeckRuns.{run-append, reads_deck}
-use Rattle.chan_deck.proofs.FrontLemmas.{one_deck, is_state, says_said, lines_left, refused_at_line, refused_at_end, whole_front, no_front, split_deck, items_form, said_once, join}
+use Rattle.chan_deck.proofs.FrontLemmas.{one_deck, is_state, says_said, refused_at_line, refused_at_end, whole_front, no_front, split_deck, items_form, said_once, join}
 use Rattle.chan_deck.proofs.CauseLemmas.{one_rank, line_cause, all_refused, end_cause, after_cause}
 use Rattle.chan_deck.specs.declared.cause.Cause.{Cause}
 use Rattle.chan_deck.specs.declared.cause.Cause.TheVariants as causes

@@ -103,10 +103,7 @@ fn read_limit(cursor: &mut Cursor) -> Result<Limit, DeckError>
 }
 
 /// The lines from that of the device to that of the first extent.
-pub(crate) fn read_heading(
-    number: VersionNumber,
-    cursor: &mut Cursor,
-) -> Result<Heading, DeckError>
+pub(crate) fn read_heading(number: VersionNumber, cursor: &mut Cursor) -> Result<Heading, DeckError>
     ensures { Goes (Named number) cursor.old result (λ h. Listing h [] [] []) cursor.new }
 {
     let device = read_device(cursor)?;

@@ -85,16 +85,15 @@ impl<'a> Cursor<'a> {
         }
     }
 
-    /// The next whole line without its line feed.
+    /// The next whole line without its line feed. Inline, so that a loop over lines that owns its
+    /// cursor keeps it in registers.
+    #[inline(always)]
     pub(crate) fn next_line(&mut self) -> Result<&'a [u8], DeckError>
         ensures next { MatchResult result (λ l. IsNext self.old l.now self.new) (FailsAtEnd self.old) }
         ensures shorter { IfOk result (λ l. length self.new.rest.now < length self.old.rest.now) }
     {
         let Some((line, rest)) = next_line(self.rest) else {
-            return Err(At {
-                line: self.line + 1,
-                cause: Cause::Ended,
-            });
+            return Err(self.refused_next(Cause::Ended));
         };
         self.rest = rest;
         self.line += 1;
@@ -111,6 +110,16 @@ impl<'a> Cursor<'a> {
         }
     }
 
+    /// The refusal of the line behind it.
+    fn refused_next(&self, cause: Cause) -> DeckError
+        ensures { result ≡ errors.At (self.now.line + 1) cause }
+    {
+        At {
+            line: self.line + 1,
+            cause,
+        }
+    }
+
     /// Nothing follows the line that was read last, which ends a deck.
     pub(crate) fn end(&self) -> Result<(), DeckError>
         ensures { (t : List ℕ) (d : Image) → StandsAt t (Whole d) self.now
@@ -119,9 +128,6 @@ impl<'a> Cursor<'a> {
         if self.rest.is_empty() {
             return Ok(());
         }
-        Err(At {
-            line: self.line + 1,
-            cause: Cause::After,
-        })
+        Err(self.refused_next(Cause::After))
     }
 }

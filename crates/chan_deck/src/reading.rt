@@ -33,7 +33,7 @@ fn read_parts(alloc: Global, text: &[u8]) -> Result<Parts, DeckError>
     let heading = read_heading(number, &mut cursor)?;
     let (lists, size) = read_lists(alloc, &mut cursor)?;
     let mut storage = vec![in alloc; 0u8; size]?;
-    fill(storage.as_mut_slice(), &mut cursor)?;
+    fill(storage.as_mut_slice(), cursor)?;
     Ok(Parts {
         heading,
         lists,

@@ -23,11 +23,11 @@ pub(crate) fn write_at(storage: &mut [u8], at: usize, bytes: &[u8])
 
 /// Puts what follows the line of storage, up to the end of the deck, into storage, which is zero
 /// before.
-pub(crate) fn fill(storage: &mut [u8], cursor: &mut Cursor) -> Result<(), DeckError>
+pub(crate) fn fill(storage: &mut [u8], mut cursor: Cursor) -> Result<(), DeckError>
     requires zero { storage.old ≡ replicate (length storage.old) 0 }
     requires size { length storage.old ≤ 2 ^ 24 }
     ensures filled { (h : Heading) (es : List (ℕ × ℕ)) (fs ss : List Area) (t : List ℕ)
-        → StandsAt t (Filling h es fs ss (length storage.old) []) cursor.old → MatchResult result
+        → StandsAt t (Filling h es fs ss (length storage.old) []) cursor.entry → MatchResult result
         (λ done. Spells t (image_of h es fs ss storage.new)) (IsRefusal t) }
     ensures len { length storage.new ≡ length storage.old }
 {

@@ -20,4 +20,4 @@ pub returns-then-is_empty : goal.returns-then-is_empty
 returns-then-is_empty c = λ t d st. spells_whole t d _ c.args.self.now.rest.now st (eqb-true _ _ (sym c.is_empty.ensures ∙ c.if-is_empty.true))
 
 pub returns : goal.returns
-returns c = λ t d st. more_whole t d _ c.args.self.now.rest.now st (not_zero _ (sym c.is_empty.ensures ∙ c.if-is_empty.false))
+returns c = rw c.refused_next.ensures (λ t d st. more_whole t d _ c.args.self.now.rest.now st (not_zero _ (sym c.is_empty.ensures ∙ c.if-is_empty.false)))

@@ -3,7 +3,7 @@ use Rattle.chan_deck.proofs.RefusalLemmas.{takes, refuses_line, refuses_end}
 use Rattle.chan_deck.proofs.lines.Cursor.next_line.Goals as goal
 
 pub returns-in_default-clause-next : goal.returns-in_default-clause-next
-returns-in_default-clause-next c = λ s open_yet t st. refuses_end t s (c.args.self.now.line + 1) c.args.self.now.rest.now st c.in_default.ensures.none open_yet
+returns-in_default-clause-next c = rw c.refused_next.ensures (λ s open_yet t st. refuses_end t s (c.args.self.now.line + 1) c.args.self.now.rest.now st c.in_default.ensures.none open_yet)
 
 pub returns-clause-next : goal.returns-clause-next
 returns-clause-next c =
