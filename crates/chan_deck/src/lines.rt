@@ -89,7 +89,8 @@ impl<'a> Cursor<'a> {
     /// cursor keeps it in registers.
     #[inline(always)]
     pub(crate) fn next_line(&mut self) -> Result<&'a [u8], DeckError>
-        ensures next { MatchResult result (λ l. IsNext self.old l.now self.new) (FailsAtEnd self.old) }
+        ensures next { MatchResult result (λ l. IsNext self.old l.now self.new)
+            (FailsAtEnd self.old) }
         ensures shorter { IfOk result (λ l. length self.new.rest.now < length self.old.rest.now) }
     {
         let Some((line, rest)) = next_line(self.rest) else {
