@@ -8,7 +8,8 @@ use Rattle.ckd_core.specs.Mask.{is_mask}
 use Rattle.chan_deck.specs.Item.{Item, header, device, mask, start, limit, extent, fetch, store, storage, put, end, Says}
 use Rattle.chan_deck.specs.Image.{Image, items, puts, is_zero, extent_of, limit_line}
 use Rattle.chan_deck.specs.Refused.{last_of, is_end, is_second, has_ended, may_stand, may_follow, size_said, is_size, is_limit, is_above, is_place, Found, whole_line, part, Applies, Follows, IsCause, rank}
-use Rattle.chan_deck.specs.Reading.{Heading, State, Opening, Named, OnDevice, Masked, Started, Listing, Filling, Whole, step, stands, judged, pad, is_empty, no_form, Refuses}
+use Rattle.chan_deck.specs.Reading.{State, Opening, Named, OnDevice, Masked, Started, Listing, Filling, Whole, step, stands, judged, pad, is_empty, no_form, is_whole, Refuses}
+use Rattle.chan_deck.specs.declared.heading.Heading.{Heading}
 use Rattle.chan_deck.proofs.StepLemmas.{heading, lists, said, IsState, Ends, at_front, at_header, at_device, at_mask, at_start, at_second_start, at_limit, at_extent, at_fetch, at_store, at_storage, at_put, at_end, last_of-push}
 use Rattle.chan_deck.proofs.ItemLemmas.{says_one}
 use Rattle.chan_deck.specs.declared.version.Version.{Version}
@@ -17,10 +18,6 @@ use Rattle.chan_deck.specs.declared.cause.Cause.{Cause}
 use Rattle.chan_deck.specs.declared.cause.Cause.TheVariants as causes
 
 -- ---- what may stand where a reading ends
-
-abbrev pub is_whole : State → Bool
-is_whole (Whole d) = true
-is_whole _ = false
 
 ended_at : (s : State) (o : Option Item) → Ends s o → is_end o ≡ is_whole s
 ended_at _ _ (at_end d) = refl
@@ -150,17 +147,9 @@ past_limit : (v : Version) (js : List Item) → size_said (limit_line v ++ js) �
 past_limit One js = refl
 past_limit (Two n) js = refl
 
-over_extents : (es : List (ℕ × ℕ)) (js : List Item) → size_said (map extent_of es ++ js) ≡ size_said js
-over_extents [] js = refl
-over_extents (e ∷ es) js = over_extents es js
-
-over_fetches : (fs : List Area) (js : List Item) → size_said (map fetch fs ++ js) ≡ size_said js
-over_fetches [] js = refl
-over_fetches (f ∷ fs) js = over_fetches fs js
-
-over_stores : (ss : List Area) (js : List Item) → size_said (map store ss ++ js) ≡ size_said js
-over_stores [] js = refl
-over_stores (s ∷ ss) js = over_stores ss js
+past_all : {X : Type 0} (f : X → Item) → ((x : X) (js : List Item) → size_said (f x ∷ js) ≡ size_said js) → (xs : List X) (js : List Item) → size_said (map f xs ++ js) ≡ size_said js
+past_all f past [] js = refl
+past_all f past (x ∷ xs) js = past x (map f xs ++ js) ∙ past_all f past xs js
 
 size_filling : (h : Heading) (es : List (ℕ × ℕ)) (fs ss : List Area) (n : ℕ) (P : List Item) → size_said (lists h es fs ss ++ storage n ∷ P) ≡ n
 size_filling h es fs ss n P =
@@ -170,7 +159,8 @@ size_filling h es fs ss n P =
     let parts : lists h es fs ss ++ storage n ∷ P ≡ heading h ++ E =
     append_assoc (heading h ++ map extent_of es ++ map fetch fs) (map store ss) (storage n ∷ P)
     ∙ append_assoc (heading h ++ map extent_of es) (map fetch fs) S ∙ append_assoc (heading h) (map extent_of es) F in
-    ap size_said parts ∙ past_limit h.version E ∙ over_extents es F ∙ over_fetches fs S ∙ over_stores ss (storage n ∷ P)
+    ap size_said parts ∙ past_limit h.version E ∙ past_all extent_of (λ e js. refl) es F
+    ∙ past_all fetch (λ a js. refl) fs S ∙ past_all store (λ a js. refl) ss (storage n ∷ P)
 
 above_put : (b reach a : ℕ) → b + 8 ≡ reach → reach % 8 ≡ 0 → (a % 8 == 0 && nat_le reach a) ≡ (a % 8 == 0 && nat_lt b a)
 above_put b reach a e al = grind (arith, nat_tests)

@@ -10,8 +10,11 @@ use Rattle.ckd_core.specs.declared.device.Device.TheVariants.{D2311}
 use Rattle.ckd_core.specs.Cylinders.{IsExtent, AreExtents}
 use Rattle.chan_deck.specs.Item.{Item, header, device, mask, start, limit, extent, fetch, store, storage, put, end, HasForm}
 use Rattle.chan_deck.specs.Image.{Image, IsDeck, HasLimit, header_of, limit_line, items, puts, is_zero, extent_of}
-use Rattle.chan_deck.specs.Reading.{Heading, State, Opening, Named, OnDevice, Masked, Started, Listing, Filling, Whole, step, go_on, run, pad, image_of}
+use Rattle.chan_deck.specs.Reading.{State, Opening, Named, OnDevice, Masked, Started, Listing, Filling, Whole, step, go_on, run, pad, image_of}
+use Rattle.chan_deck.specs.declared.heading.Heading.{Heading}
+use Rattle.chan_deck.specs.Refused.{is_size}
 use Rattle.chan_deck.proofs.PutLemmas.{length_pad}
+use Rattle.chan_deck.proofs.LineRefusals.{good_size}
 use Rattle.chan_deck.proofs.StepLemmas.{said, IsState, step-says}
 use Rattle.ckd_core.specs.declared.device.Device.{Device}
 use Rattle.chan_deck.specs.declared.version.Version.{Version}
@@ -46,21 +49,18 @@ run-says s t (i ∷ js) is forms e =
 
 -- ---- lists
 
-snoc : {X : Type 0} (xs : List X) (x : X) (ys : List X) → (xs ++ x ∷ []) ++ ys ≡ xs ++ x ∷ ys
-snoc xs x ys = append_assoc xs (x ∷ []) ys
-
 over_extents : (h : Heading) (es xs : List (ℕ × ℕ)) → AllByRecursion IsExtent xs → run (Listing h es [] []) (map extent_of xs) ≡ Ok (Listing h (es ++ xs) [] [])
 over_extents h es [] all = rw append-nil refl
 over_extents h es (x ∷ xs) all =
-    rw (le-ltb x.1 x.0 all.0.0, le-ltb 202 x.1 all.0.1) (over_extents h (es ++ x ∷ []) xs all.1 ∙ ap (λ t. Ok (Listing h t [] [])) (snoc es x xs))
+    rw (le-ltb x.1 x.0 all.0.0, le-ltb 202 x.1 all.0.1) (over_extents h (es ++ x ∷ []) xs all.1 ∙ ap (λ t. Ok (Listing h t [] [])) (append_assoc es (x ∷ []) xs))
 
 over_fetches : (h : Heading) (e : ℕ × ℕ) (es : List (ℕ × ℕ)) (fs xs : List Area) → run (Listing h (e ∷ es) fs []) (map fetch xs) ≡ Ok (Listing h (e ∷ es) (fs ++ xs) [])
 over_fetches h e es fs [] = rw append-nil refl
-over_fetches h e es fs (x ∷ xs) = over_fetches h e es (fs ++ x ∷ []) xs ∙ ap (λ t. Ok (Listing h (e ∷ es) t [])) (snoc fs x xs)
+over_fetches h e es fs (x ∷ xs) = over_fetches h e es (fs ++ x ∷ []) xs ∙ ap (λ t. Ok (Listing h (e ∷ es) t [])) (append_assoc fs (x ∷ []) xs)
 
 over_stores : (h : Heading) (e : ℕ × ℕ) (es : List (ℕ × ℕ)) (fs ss xs : List Area) → run (Listing h (e ∷ es) fs ss) (map store xs) ≡ Ok (Listing h (e ∷ es) fs (ss ++ xs))
 over_stores h e es fs ss [] = rw append-nil refl
-over_stores h e es fs ss (x ∷ xs) = over_stores h e es fs (ss ++ x ∷ []) xs ∙ ap (λ t. Ok (Listing h (e ∷ es) fs t)) (snoc ss x xs)
+over_stores h e es fs ss (x ∷ xs) = over_stores h e es fs (ss ++ x ∷ []) xs ∙ ap (λ t. Ok (Listing h (e ∷ es) fs t)) (append_assoc ss (x ∷ []) xs)
 
 over_lists : (h : Heading) (es : List (ℕ × ℕ)) (fs ss : List Area) → AreExtents es → run (Listing h [] [] []) (map extent_of es ++ map fetch fs ++ map store ss) ≡ Ok (Listing h es fs ss)
 over_lists h [] fs ss are = absurd (omega (arith, are.0))
@@ -70,10 +70,6 @@ over_lists h (e ∷ es) fs ss are =
     ∙ ap (λ r. go_on r (λ t. run t (map store ss)))
     (run-append (Listing h [] [] []) xs (map fetch fs) ∙ ap (λ r. go_on r (λ t. run t (map fetch fs))) (over_extents h [] (e ∷ es) are.1) ∙ over_fetches h e es [] fs)
     ∙ over_stores h e es fs [] ss
-
-on_size : (h : Heading) (es : List (ℕ × ℕ)) (fs ss : List Area) (n : ℕ) → 0 < length es → n % 8 ≡ 0 → n ≤ 2 ^ 24 → step (Listing h es fs ss) (storage n) ≡ Ok (Filling h es fs ss n [])
-on_size h [] fs ss n some al le = absurd (omega arith)
-on_size h (e ∷ es) fs ss n some al le = rw (al, le-leb n (2 ^ 24) le) refl
 
 -- ---- puts
 
@@ -133,16 +129,12 @@ over_puts h es fs ss size (suc n) at front bytes low al len is =
 
 -- ---- the whole deck
 
+-- the lines of the heading lead to the lists
 by_version : (x : Version) (v : Device) (m a : ℕ) (more : List Item) → HasLimit x → is_mask m ≡ true
     → run Opening (header (header_of x) ∷ device v ∷ mask m ∷ start a ∷ limit_line x ++ more)
     ≡ run (Listing (record { version = x; device = v; mask = m; start = a }) [] [] []) more
 by_version One v m a more limited is = rw is refl
 by_version (Two n) v m a more limited is = rw (is, le-leb 1 n limited.0, le-leb n 65536 limited.1) refl
-
--- the lines of the heading lead to the lists
-over_heading : (h : Heading) (more : List Item) → HasLimit h.version → is_mask h.mask ≡ true
-    → run Opening (header (header_of h.version) ∷ device h.device ∷ mask h.mask ∷ start h.start ∷ limit_line h.version ++ more) ≡ run (Listing h [] [] []) more
-over_heading h more limited is = by_version h.version h.device h.mask h.start more limited is
 
 -- a deck's lines are read as that deck
 pub reads_deck : (d : Image) → IsDeck d → run Opening (items d) ≡ Ok (Whole d)
@@ -154,16 +146,17 @@ reads_deck d is =
     let F = map fetch d.fetch in
     let S = map store d.store in
     let filled = over_puts h d.extents d.fetch d.store size (size / 8) 0 [] d.storage (omega arith) refl (omega (arith, is.whole)) (omega (arith, is.whole)) in
+    let right : is_size size ≡ true = rw (is.whole, le-leb size (2 ^ 24) is.size) refl in
     let full : pad filled.0 size ≡ d.storage = filled.2 in
     let H = header (header_of d.version) ∷ device d.device ∷ mask d.mask ∷ start d.start ∷ limit_line d.version in
     let parts : items d ≡ H ++ ((E ++ F ++ S) ++ storage size ∷ P ++ end ∷ []) =
     ap (λ t. t ++ end ∷ []) (ap (λ t. t ++ storage size ∷ P) (ap (λ t. t ++ S) (append_assoc H E F) ∙ append_assoc H (E ++ F) S) ∙ append_assoc H (E ++ F ++ S) (storage size ∷ P))
     ∙ append_assoc H ((E ++ F ++ S) ++ storage size ∷ P) (end ∷ []) in
-    ap (λ t. run Opening t) parts ∙ over_heading h ((E ++ F ++ S) ++ storage size ∷ P ++ end ∷ []) is.limit is.mask.1
+    ap (λ t. run Opening t) parts ∙ by_version d.version d.device d.mask d.start ((E ++ F ++ S) ++ storage size ∷ P ++ end ∷ []) is.limit is.mask.1
     ∙ run-append (Listing h [] [] []) ((E ++ F ++ S) ++ storage size ∷ P) (end ∷ [])
     ∙ ap (λ r. go_on r (λ t. run t (end ∷ []))) (run-append (Listing h [] [] []) (E ++ F ++ S) (storage size ∷ P)
     ∙ ap (λ r. go_on r (λ t. run t (storage size ∷ P))) (over_lists h d.extents d.fetch d.store is.extents)
-    ∙ ap (λ r. go_on r (λ t. run t P)) (on_size h d.extents d.fetch d.store size is.extents.0 is.whole is.size)
+    ∙ ap (λ r. go_on r (λ t. run t P)) (good_size h d.fetch d.store d.extents size is.extents.0 right)
     ∙ filled.1)
     ∙ ap (λ b. Ok (Whole (image_of h d.extents d.fetch d.store b))) full
 

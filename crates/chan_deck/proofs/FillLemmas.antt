@@ -1,5 +1,5 @@
 -- Filling storage: the bytes behind the last put are zeros until a put writes there.
-use Rattle.std.proofs.Common.{◌≡◌, ℕ, ◌+◌, ◌-◌, ◌^◌, ◌<◌, ◌≤◌, Bool, true, false, cond, List, [], ◌∷◌, ◌++◌, length, take, drop, Result, Ok, Err, refl, sym, ap, ◌∙◌, arith, replicate, length-append, length-drop, ◌&&◌, inl}
+use Rattle.std.proofs.Common.{◌≡◌, ℕ, ◌+◌, ◌-◌, ◌^◌, ◌<◌, ◌≤◌, Bool, true, false, cond, List, ◌++◌, length, take, drop, Result, Ok, Err, refl, sym, ap, ◌∙◌, arith, replicate, length-append, length-drop, ◌&&◌, inl}
 use Rattle.std.specs.Prelude.{◌==◌, nat_le, ◌%◌}
 use Rattle.std.specs.Int.{w64, to_be_bytes, from_be_bytes}
 use Rattle.std.proofs.lemmas.Bool.{le-leb, leb-true, eqb-true, and_parts}
@@ -8,11 +8,10 @@ use Rattle.std.proofs.lemmas.List.{take-append-drop, length-take, take_at, drop_
 use Rattle.std.proofs.Math.Seq.{take-append-add}
 use Rattle.ccw_core.specs.declared.areas.Area.{Area}
 use Rattle.chan_deck.specs.Item.{put, end, Says}
-use Rattle.chan_deck.specs.Image.{Image, is_zero, Spells}
-use Rattle.chan_deck.specs.Refused.{split, IsRefused}
-use Rattle.chan_deck.specs.Reading.{Heading, Filling, Whole, Stands, Refuses, step, pad, image_of}
+use Rattle.chan_deck.specs.Image.{is_zero}
+use Rattle.chan_deck.specs.Reading.{Filling, Whole, Refuses, step, pad, image_of}
+use Rattle.chan_deck.specs.declared.heading.Heading.{Heading}
 use Rattle.chan_deck.proofs.DeckRuns.{put_step, zeros_is}
-use Rattle.chan_deck.proofs.RefusalLemmas.{takes, spells_deck, refuses_more}
 use Rattle.chan_deck.specs.declared.cause.Cause.{Cause}
 use Rattle.chan_deck.specs.declared.cause.Cause.TheVariants as causes
 
@@ -89,38 +88,22 @@ written S new word next a z low fits eight is =
     }
 
 -- a put that is taken
-pub takes_put : (t : List ℕ) (h : Heading) (es : List (ℕ × ℕ)) (fs ss : List Area)
-    (n a next : ℕ) (S new word rest l after : List ℕ)
-    → Stands t (Filling h es fs ss (length S) (take next S)) n rest
-    → split rest ≡ (l ∷ (split after).0, (split after).1) → Says l (put a word) → next ≤ a
-    → a % 8 ≡ 0 → a + 8 ≤ length S → is_zero word ≡ false → IsWritten S new word next a
-    → Stands t (Filling h es fs ss (length new) (take (a + 8) new)) (n + 1) after
-takes_put t h es fs ss n a next S new word rest l after st parts says low al fits z w =
-    let lenT : length (take next S) ≤ a = omega (arith, length-take next S) in
-    let goes : step (Filling h es fs ss (length S) (take next S)) (put a word) ≡ Ok (Filling h es fs ss (length new) (take (a + 8) new)) =
-    put_step h es fs ss (length S) a (take next S) word lenT al fits z
-    ∙ ap (λ k. Ok (Filling h es fs ss k (pad (take next S) a ++ word))) (sym w.len) ∙ ap (λ k. Ok (Filling h es fs ss (length new) k)) (sym w.front) in
-    takes t (Filling h es fs ss (length S) (take next S)) (Filling h es fs ss (length new) (take (a + 8) new)) n rest l after (put a word) st parts says goes
+pub put_goes : (h : Heading) (es : List (ℕ × ℕ)) (fs ss : List Area) (a next : ℕ)
+    (S new word : List ℕ)
+    → next ≤ a → a % 8 ≡ 0 → a + 8 ≤ length S → is_zero word ≡ false → IsWritten S new word next a
+    → step (Filling h es fs ss (length S) (take next S)) (put a word)
+    ≡ Ok (Filling h es fs ss (length new) (take (a + 8) new))
+put_goes h es fs ss a next S new word low al fits z w =
+    put_step h es fs ss (length S) a (take next S) word (omega (arith, length-take next S)) al fits z
+    ∙ ap (λ k. Ok (Filling h es fs ss k (pad (take next S) a ++ word))) (sym w.len) ∙ ap (λ k. Ok (Filling h es fs ss (length new) k)) (sym w.front)
 
-pub take_all : (S : List ℕ) (next : ℕ) → next ≤ length S → drop next S ≡ replicate (length S - next) 0 → pad (take next S) (length S) ≡ S
+take_all : (S : List ℕ) (next : ℕ) → next ≤ length S → drop next S ≡ replicate (length S - next) 0 → pad (take next S) (length S) ≡ S
 take_all S next h z =
     let lenT : length (take next S) ≡ next = omega (arith, length-take next S) in
     ap (λ k. take next S ++ replicate (length S - k) 0) lenT ∙ ap (λ t. take next S ++ t) (sym z) ∙ take-append-drop next S
 
--- the deck whose last line this is
-pub ends : (t : List ℕ) (h : Heading) (es : List (ℕ × ℕ)) (fs ss : List Area) (n next : ℕ)
-    (S rest l after : List ℕ)
-    → Stands t (Filling h es fs ss (length S) (take next S)) n rest
-    → split rest ≡ (l ∷ (split after).0, (split after).1) → Says l end → next ≤ length S
-    → drop next S ≡ replicate (length S - next) 0
-    → Stands t (Whole (image_of h es fs ss S)) (n + 1) after
-ends t h es fs ss n next S rest l after st parts says within zeros =
-    takes t (Filling h es fs ss (length S) (take next S)) (Whole (image_of h es fs ss S)) n rest l after end st parts says (ap (λ b. Ok (Whole (image_of h es fs ss b))) (take_all S next within zeros))
-
-pub spells_whole : (t : List ℕ) (d : Image) (n : ℕ) (after : List ℕ) → Stands t (Whole d) n after → length after ≡ 0 → Spells t d
-spells_whole t d n [] st len = spells_deck t d n st
-spells_whole t d n (b ∷ after) st len = absurd (omega arith)
-
-pub more_whole : (t : List ℕ) (d : Image) (n : ℕ) (after : List ℕ) → Stands t (Whole d) n after → 0 < length after → IsRefused t n causes.After
-more_whole t d n [] st len = absurd (omega arith)
-more_whole t d n (b ∷ after) st len = refuses_more t d n b after st
+-- the line `end` gives the deck with these bytes
+pub end_goes : (h : Heading) (es : List (ℕ × ℕ)) (fs ss : List Area) (next : ℕ) (S : List ℕ)
+    → next ≤ length S → drop next S ≡ replicate (length S - next) 0
+    → step (Filling h es fs ss (length S) (take next S)) end ≡ Ok (Whole (image_of h es fs ss S))
+end_goes h es fs ss next S within zeros = ap (λ b. Ok (Whole (image_of h es fs ss b))) (take_all S next within zeros)

@@ -2,11 +2,11 @@
 use Rattle.std.proofs.Common.{◌≡◌, ℕ, zero, suc, ◌+◌, ◌*◌, ◌/◌, ◌^◌, ◌<◌, ◌≤◌, Bool, true, false, cond, List, [], ◌∷◌, ◌++◌, length, take, drop, map, Result, Ok, Err, refl, sym, ap, subst, ◌∙◌, append_assoc, arith, inl, inr, length-append, length-drop}
 use Rattle.std.specs.Prelude.{◌==◌}
 use Rattle.std.specs.List.{AllByRecursion}
-use Rattle.std.proofs.lemmas.List.{append-nil, take-append-drop, take-append-le, length-take, map-append}
+use Rattle.std.proofs.lemmas.List.{append-nil, take-append-drop, take-append-le, length-take, length-map, map-append}
 use Rattle.std.proofs.lemmas.Grind.{flat_map-append}
 use Rattle.std.proofs.lemmas.Bool.{eqb-true, cases_Bool}
 use Rattle.chan_walk.proofs.Theory.Lists.{all_append}
-use Rattle.ccw_core.specs.declared.areas.Area.{Area}
+use Rattle.chan_deck.proofs.Elements.{all_take, all_drop, all_map}
 use Rattle.ckd_core.specs.Cylinders.{IsExtent}
 use Rattle.chan_deck.specs.Item.{Item, header, device, mask, start, fetch, store, storage, put, end, line, text, HasForm, Says, IsByte, IsArea}
 use Rattle.chan_deck.specs.Image.{Image, IsDeck, HasLimit, header_of, limit_line, items, puts, is_zero, extent_of, spelling, Spells}
@@ -71,18 +71,9 @@ join (b ∷ t) = join_at (b == 10) b t refl (join t)
 pub text-append : (a b : List Line) → text (a ++ b) ≡ text a ++ text b
 text-append a b = flat_map-append (λ l. l ++ 10 ∷ []) a b
 
-take_no_feed : (k : ℕ) (ls : List Line) → AllByRecursion HasNoFeed ls → AllByRecursion HasNoFeed (take k ls)
-take_no_feed zero ls h = tt
-take_no_feed (suc k) [] h = tt
-take_no_feed (suc k) (l ∷ ls) h = (h.0, take_no_feed k ls h.1)
-
 no_feeds_said : (is : List Item) → AllByRecursion HasNoFeed (map line is)
 no_feeds_said [] = tt
 no_feeds_said (i ∷ is) = (line_no_feed i, no_feeds_said is)
-
-pub length-said : (is : List Item) → length (map line is) ≡ length is
-length-said [] = refl
-length-said (i ∷ is) = ap suc (length-said is)
 
 take_past : {X : Type 0} (xs : List X) (y : X) (ys : List X) → take (length xs + 1) (xs ++ y ∷ ys) ≡ xs ++ y ∷ []
 take_past [] y ys = refl
@@ -92,40 +83,18 @@ take_past (x ∷ xs) y ys =
 
 -- ---- the lines of a deck
 
-front_bytes : (k : ℕ) (bytes : List ℕ) → AllByRecursion IsByte bytes → AllByRecursion IsByte (take k bytes)
-front_bytes zero bytes h = tt
-front_bytes (suc k) [] h = tt
-front_bytes (suc k) (b ∷ bytes) h = (h.0, front_bytes k bytes h.1)
-
-rest_bytes : (k : ℕ) (bytes : List ℕ) → AllByRecursion IsByte bytes → AllByRecursion IsByte (drop k bytes)
-rest_bytes zero bytes h = h
-rest_bytes (suc k) [] h = tt
-rest_bytes (suc k) (b ∷ bytes) h = rest_bytes k bytes h.1
-
 puts_form : (n at : ℕ) (bytes : List ℕ) → length bytes ≡ 8 * n → at + 8 * n ≤ 2 ^ 24 → AllByRecursion IsByte bytes → AllByRecursion HasForm (puts n at bytes)
 unfolding puts
 puts_form zero at bytes len fits h = tt
 puts_form (suc n) at bytes len fits h =
     let rest : length (drop 8 bytes) ≡ 8 * n = omega (arith, length-drop 8 bytes) in
     let eight : length (take 8 bytes) ≡ 8 = omega (arith, length-take 8 bytes) in
-    let more = puts_form n (at + 8) (drop 8 bytes) rest (omega arith) (rest_bytes 8 bytes h) in
+    let more = puts_form n (at + 8) (drop 8 bytes) rest (omega arith) (all_drop IsByte 8 bytes h) in
     let P = puts n (at + 8) (drop 8 bytes) in
     elim (cases_Bool (is_zero (take 8 bytes))) [
       | inl z ↦ subst (λ b. AllByRecursion HasForm (cond b P (put at (take 8 bytes) ∷ P))) (sym z) more
-      | inr z ↦ subst (λ b. AllByRecursion HasForm (cond b P (put at (take 8 bytes) ∷ P))) (sym z) ((omega arith, (eight, front_bytes 8 bytes h)), more)
+      | inr z ↦ subst (λ b. AllByRecursion HasForm (cond b P (put at (take 8 bytes) ∷ P))) (sym z) ((omega arith, (eight, all_take IsByte 8 bytes h)), more)
     ]
-
-extents_form : (es : List (ℕ × ℕ)) → AllByRecursion IsExtent es → AllByRecursion HasForm (map extent_of es)
-extents_form [] h = tt
-extents_form (e ∷ es) h = ((omega (arith, h.0.0, h.0.1), omega (arith, h.0.1)), extents_form es h.1)
-
-fetches_form : (fs : List Area) → AllByRecursion IsArea fs → AllByRecursion HasForm (map fetch fs)
-fetches_form [] h = tt
-fetches_form (f ∷ fs) h = (h.0, fetches_form fs h.1)
-
-stores_form : (ss : List Area) → AllByRecursion IsArea ss → AllByRecursion HasForm (map store ss)
-stores_form [] h = tt
-stores_form (s ∷ ss) h = (h.0, stores_form ss h.1)
 
 limit_form : (x : Version) → HasLimit x → AllByRecursion HasForm (limit_line x)
 limit_form One h = tt
@@ -143,9 +112,9 @@ items_form d is =
     let opened : AllByRecursion HasForm H = (tt, (tt, (is.mask.0, (is.start, limit_form d.version is.limit)))) in
     let size : n < 2 ^ 28 = omega (arith, is.size) in
     let filled : AllByRecursion HasForm (storage n ∷ P) = (size, puts_form (n / 8) 0 d.storage (omega (arith, is.whole)) (omega (arith, is.size, is.whole)) is.bytes) in
-    let with_extents = all_append HasForm H E opened (extents_form d.extents is.extents.1) in
-    let with_fetch = all_append HasForm (H ++ E) F with_extents (fetches_form d.fetch is.fetch) in
-    let with_store = all_append HasForm (H ++ E ++ F) S with_fetch (stores_form d.store is.store) in
+    let with_extents = all_append HasForm H E opened (all_map IsExtent HasForm extent_of (λ e h. (omega (arith, h.0, h.1), omega (arith, h.1))) d.extents is.extents.1) in
+    let with_fetch = all_append HasForm (H ++ E) F with_extents (all_map IsArea HasForm fetch (λ a h. h) d.fetch is.fetch) in
+    let with_store = all_append HasForm (H ++ E ++ F) S with_fetch (all_map IsArea HasForm store (λ a h. h) d.store is.store) in
     let with_puts = all_append HasForm (H ++ E ++ F ++ S) (storage n ∷ P) with_store filled in
     all_append HasForm (H ++ E ++ F ++ S ++ storage n ∷ P) (end ∷ []) with_puts (tt, tt)
 
@@ -213,7 +182,7 @@ fronts t s n rest st m h =
     let c = completes s (is_state t s n rest st) in
     let full = run-says s (Whole c.1) c.0 (is_state t s n rest st) c.2 c.3 in
     let its : items c.1 ≡ st.said ++ c.0 = full.1 ∙ ap (λ x. x ++ c.0) (says_said t s n rest st) in
-    let short : m ≤ length ls = omega (arith, length-said st.said, st.number) in
+    let short : m ≤ length ls = omega (arith, length-map st.said line, st.number) in
     let front : take m (lines t) ≡ take m ls = ap (λ (p : List Line × List ℕ). take m p.0) st.parts ∙ take-append-le m ls (split rest).0 short in
     let whole : text ls ≡ text (take m ls) ++ text (drop m ls) = ap text (sym (take-append-drop m ls)) ∙ text-append (take m ls) (drop m ls) in
     let spelled : spelling c.1 ≡ text ls ++ text (map line c.0) = ap (λ x. text (map line x)) its ∙ ap text (map-append line st.said c.0) ∙ text-append ls (map line c.0) in (
@@ -241,9 +210,9 @@ pub no_front : (t : List ℕ) (s : State) (n : ℕ) (rest l after : List ℕ) (c
     → ((i : Item) → Says l i → step s i ≡ Err c) → BeginsSomeDeck (first_lines n t) → ⊥
 no_front t s n rest l after c st e all f =
     let ls = map line st.said in
-    let n-is : n ≡ length ls + 1 = omega (arith, length-said st.said, st.number) in
+    let n-is : n ≡ length ls + 1 = omega (arith, length-map st.said line, st.number) in
     let first : take n (lines t) ≡ ls ++ l ∷ [] = ap (λ k. take k (lines t)) n-is ∙ ap (λ x. take (length ls + 1) x) (lines_left t s n rest l after st e) ∙ take_past ls l (split after).0 in
-    let d = front_lines (take n (lines t)) (take_no_feed n (lines t) (lines_no_feed t)) f in
+    let d = front_lines (take n (lines t)) (all_take HasNoFeed n (lines t) (lines_no_feed t)) f in
     let deck : map line (items d.0) ≡ ls ++ l ∷ d.1 = d.3 ∙ ap (λ x. x ++ d.1) first ∙ append_assoc ls (l ∷ []) d.1 in
     let same = same_front st.said (items d.0) l d.1 st.forms (items_form d.0 d.2) deck in
     let runs : go_on (run Opening st.said) (λ q. run q (same.0 ∷ same.1)) ≡ Ok (Whole d.0) =
@@ -273,7 +242,7 @@ refused_at_line t s n rest l after c st e all = record {
   here = λ le f. no_front t s n rest l after c st e all f;
   within =
       let len : length (lines t) ≡ length (map line st.said) + suc (length (split after).0) = ap length (lines_left t s n rest l after st e) ∙ length-append (map line st.said) (l ∷ (split after).0) in
-      omega (arith, len, length-said st.said, st.number);
+      omega (arith, len, length-map st.said line, st.number);
 }
 
 pub refused_at_end : (t : List ℕ) (s : State) (n : ℕ) (rest : List ℕ) → Stands t s n rest → split rest ≡ ([], rest) → IsRefusedAt t n
@@ -281,6 +250,6 @@ refused_at_end t s n rest st e =
     let len : length (lines t) ≡ length (map line st.said) = ap (λ (p : List Line × List ℕ). length p.0) st.parts ∙ ap (λ (p : List Line × List ℕ). length (map line st.said ++ p.0)) e ∙ ap length (append-nil (map line st.said)) in
     record {
       least = fronts t s n rest st;
-      here = λ le f. absurd (omega (arith, len, length-said st.said, st.number));
-      within = omega (arith, len, length-said st.said, st.number);
+      here = λ le f. absurd (omega (arith, len, length-map st.said line, st.number));
+      within = omega (arith, len, length-map st.said line, st.number);
     }

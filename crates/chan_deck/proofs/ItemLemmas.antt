@@ -1,5 +1,5 @@
 -- A line says one thing, and has no line feed in it.
-use Rattle.std.proofs.Common.{◌≡◌, ℕ, ◌+◌, ◌*◌, ◌/◌, ◌%◌, ◌^◌, ◌<◌, Bool, true, false, cond, List, [], ◌∷◌, ◌++◌, drop, get_or, refl, sym, ap, ◌∙◌, arith}
+use Rattle.std.proofs.Common.{◌≡◌, ℕ, ◌+◌, ◌*◌, ◌/◌, ◌%◌, ◌^◌, ◌<◌, Bool, true, false, cond, List, [], ◌∷◌, ◌++◌, get_or, refl, sym, ap, ◌∙◌, arith}
 use Rattle.std.specs.Prelude.{◌==◌, ◌&&◌, not, codes}
 use Rattle.std.specs.Int.{bytes_high_first}
 use Rattle.std.specs.List.{AllByRecursion}
@@ -12,6 +12,8 @@ use Rattle.ckd_core.specs.declared.device.Device.TheVariants.{D2311, D2314}
 use Rattle.chan_deck.specs.Item.{Item, header, device, mask, start, limit, extent, fetch, store, storage, put, end, line, HasForm, Says, IsByte, IsAddress, IsArea, device_digits, byte_digits, address_digits, size_digits, limit_digits, cylinder_digits, header_digit, area_digits}
 use Rattle.chan_deck.specs.declared.version.VersionNumber.{VersionNumber}
 use Rattle.chan_deck.specs.declared.version.VersionNumber.TheVariants as numbers
+use Rattle.chan_walk.proofs.Theory.Lists.{all_append}
+use Rattle.chan_deck.proofs.Elements.{all_drop}
 use Rattle.chan_deck.proofs.ByteNumbers.{bytes_three, bytes_four}
 use Rattle.chan_deck.proofs.UpperDigits.{encoded_pass, encoded_one, with_zero}
 use Rattle.chan_deck.proofs.FieldLemmas.{cancel, same_fields, length-address_digits}
@@ -22,8 +24,7 @@ abbrev pub HasNoFeed : List ℕ → Type 0
 HasNoFeed l = AllByRecursion (λ b. (b == 10) ≡ false) l
 
 no_feed-append : (xs ys : List ℕ) → HasNoFeed xs → HasNoFeed ys → HasNoFeed (xs ++ ys)
-no_feed-append [] ys h k = k
-no_feed-append (x ∷ xs) ys h k = (h.0, no_feed-append xs ys h.1 k)
+no_feed-append xs ys h k = all_append (λ b. (b == 10) ≡ false) xs ys h k
 
 abbrev no_feeds : List ℕ → Bool
 no_feeds [] = true
@@ -41,10 +42,6 @@ weaker (b ∷ l) h = (not-true (b == 10) h.0, weaker l h.1)
 
 upper_no_feed : (bytes : List ℕ) → HasNoFeed (encode_upper bytes)
 upper_no_feed bytes = weaker (encode_upper bytes) (encoded_pass (λ c. not (c == 10)) refl refl bytes)
-
-drop_no_feed : (l : List ℕ) → HasNoFeed l → HasNoFeed (drop 1 l)
-drop_no_feed [] h = tt
-drop_no_feed (b ∷ l) h = h.1
 
 above_feed : (c : ℕ) → 10 < c → (c == 10) ≡ false
 above_feed c h = grind (arith, nat_tests)
@@ -71,7 +68,7 @@ line_no_feed (extent first last) =
     (no_feed-append (cylinder_digits first) (32 ∷ cylinder_digits last) (cylinder_no_feed first) (refl, cylinder_no_feed last))
 line_no_feed (fetch a) = no_feed-append (codes "fetch ") (area_digits a) (from_test (codes "fetch ") refl) (area_no_feed a)
 line_no_feed (store a) = no_feed-append (codes "store ") (area_digits a) (from_test (codes "store ") refl) (area_no_feed a)
-line_no_feed (storage n) = no_feed-append (codes "storage ") (size_digits n) (from_test (codes "storage ") refl) (drop_no_feed (encode_upper (bytes_high_first 4 n)) (upper_no_feed (bytes_high_first 4 n)))
+line_no_feed (storage n) = no_feed-append (codes "storage ") (size_digits n) (from_test (codes "storage ") refl) (all_drop (λ b. (b == 10) ≡ false) 1 (encode_upper (bytes_high_first 4 n)) (upper_no_feed (bytes_high_first 4 n)))
 line_no_feed (put a word) =
     no_feed-append (codes "put ") (address_digits a ++ (codes " " ++ encode_upper word)) (from_test (codes "put ") refl)
     (no_feed-append (address_digits a) (32 ∷ encode_upper word) (upper_no_feed (bytes_high_first 3 a)) (refl, upper_no_feed word))

@@ -1,3 +1,4 @@
+pub mod Elements
 pub mod Results
 pub mod LineFeeds
 pub mod PutLemmas

@@ -5,7 +5,8 @@ use Rattle.ccw_core.specs.declared.areas.Area.{Area}
 use Rattle.ckd_core.specs.declared.device.Device.{Device}
 use Rattle.ckd_core.specs.Mask.{is_mask}
 use Rattle.chan_deck.specs.Item.{Item, header, device, mask, start, limit, extent, fetch, store, storage, put, end, Says}
-use Rattle.chan_deck.specs.Reading.{Heading, State, Opening, Named, OnDevice, Masked, Started, Listing, Filling, step, stands, on_storage, Refuses, row_item}
+use Rattle.chan_deck.specs.Reading.{State, Opening, Named, OnDevice, Masked, Started, Listing, Filling, step, stands, on_storage, Refuses, row_item}
+use Rattle.chan_deck.specs.declared.heading.Heading.{Heading}
 use Rattle.chan_walk.specs.Limit.{IsLimit}
 use Rattle.std.proofs.lemmas.Bool.{le-leb}
 use Rattle.chan_deck.proofs.StepLemmas.{limit_parts}

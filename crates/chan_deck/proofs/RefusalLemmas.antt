@@ -1,20 +1,21 @@
 -- What one line more does to where reading stands: it goes on, or the text is refused there, or it has spelled a deck.
-use Rattle.std.proofs.Common.{◌≡◌, ℕ, suc, ◌+◌, ◌-◌, ◌<◌, ◌≤◌, ◌⊎◌, Bool, true, false, cond, List, [], ◌∷◌, ◌++◌, length, take, drop, map, Result, Ok, refl, sym, ap, subst, ◌∙◌, append_assoc, arith, inl, inr, length-append}
-use Rattle.std.specs.Prelude.{◌==◌}
-use Rattle.std.proofs.lemmas.List.{append-nil, map-append}
+use Rattle.std.proofs.Common.{◌≡◌, ℕ, ◌+◌, ◌-◌, ◌<◌, ◌⊎◌, false, List, [], ◌∷◌, ◌++◌, length, take, drop, map, Option, Some, None, Result, Ok, refl, sym, ap, subst, ◌∙◌, append_assoc, arith, inl, inr, length-append}
+use Rattle.std.specs.Prelude.{◌==◌, position}
+use Rattle.std.proofs.lemmas.List.{append-nil, length-map, map-append}
 use Rattle.std.proofs.lemmas.Bool.{cases_lt}
 use Rattle.std.proofs.Math.Seq.{take-append_seam, drop-append_seam}
 use Rattle.chan_walk.proofs.Theory.Lists.{all_append}
 use Rattle.chan_deck.specs.Item.{Item, line, text, HasForm, Says}
 use Rattle.chan_deck.specs.Image.{Image, items, Spells}
-use Rattle.chan_deck.specs.Refused.{split, lines, onto_first, IsRefusedAt, Found, whole_line, part, found_in, found_behind, AreSaid, IsCause, IsRefused, rank}
-use Rattle.chan_deck.specs.Reading.{State, Opening, Whole, Stands, step, go_on, run, Refuses, IsRefusal}
+use Rattle.chan_deck.specs.Refused.{split, lines, IsRefusedAt, Found, whole_line, part, found_in, found_behind, AreSaid, IsCause, IsRefused, rank}
+use Rattle.chan_deck.specs.Reading.{State, Opening, Whole, Stands, step, go_on, run, is_whole, Refuses, IsRefusal}
 use Rattle.chan_deck.specs.declared.error.DeckError.{DeckError}
 use Rattle.chan_deck.specs.declared.error.DeckError.TheVariants as errors
+use Rattle.chan_deck.proofs.LineFeeds.{some_line, no_line}
 use Rattle.chan_deck.proofs.StepLemmas.{said}
 use Rattle.chan_deck.proofs.DeckRuns.{run-append, reads_deck}
-use Rattle.chan_deck.proofs.FrontLemmas.{one_deck, is_state, says_said, lines_left, refused_at_line, refused_at_end, whole_front, length-said, split_deck, items_form, said_once, join}
-use Rattle.chan_deck.proofs.CauseLemmas.{is_whole, one_rank, line_cause, all_refused, end_cause, after_cause}
+use Rattle.chan_deck.proofs.FrontLemmas.{one_deck, is_state, says_said, refused_at_line, refused_at_end, whole_front, no_front, split_deck, items_form, said_once, join}
+use Rattle.chan_deck.proofs.CauseLemmas.{one_rank, line_cause, all_refused, end_cause, after_cause}
 use Rattle.chan_deck.specs.declared.cause.Cause.{Cause}
 use Rattle.chan_deck.specs.declared.cause.Cause.TheVariants as causes
 
@@ -42,13 +43,13 @@ takes t s next n rest l after i st e says goes = record {
 behind_said : (t : List ℕ) (s : State) (n : ℕ) (rest : List ℕ) (st : Stands t s n rest) → found_behind (n - 1) t ≡ found_in (split rest).0 (split rest).1
 behind_said t s n rest st =
     let ls = map line st.said in
-    let k : n - 1 ≡ length ls = omega (arith, length-said st.said, st.number) in
+    let k : n - 1 ≡ length ls = omega (arith, length-map st.said line, st.number) in
     ap (λ j. found_in (drop j (lines t)) (split t).1) k ∙ ap (λ (p : List (List ℕ) × List ℕ). found_in (drop (length ls) p.0) p.1) st.parts ∙ ap (λ x. found_in x (split rest).1) (drop-append_seam ls (split rest).0)
 
 are_said : (t : List ℕ) (s : State) (n : ℕ) (rest : List ℕ) (st : Stands t s n rest) → AreSaid (n - 1) t st.said
 are_said t s n rest st =
     let ls = map line st.said in
-    let k : n - 1 ≡ length ls = omega (arith, length-said st.said, st.number) in
+    let k : n - 1 ≡ length ls = omega (arith, length-map st.said line, st.number) in
     (st.forms, sym (ap (λ j. take j (lines t)) k ∙ ap (λ (p : List (List ℕ) × List ℕ). take (length ls) p.0) st.parts ∙ take-append_seam ls (split rest).0))
 
 with_cause : (t : List ℕ) (s : State) (n : ℕ) (rest : List ℕ) (found : Found) (c : Cause)
@@ -64,13 +65,10 @@ with_cause t s n rest found c st e h = (
 -- a line that is refused
 pub refuses_line : (t : List ℕ) (s : State) (n : ℕ) (rest l after : List ℕ) (c : Cause) → Stands t s n rest → split rest ≡ (l ∷ (split after).0, (split after).1) → Refuses s l c → IsRefused t n c
 refuses_line t s n rest l after c st e refuses =
-    let at_line = refused_at_line t s n rest l after c st e (all_refused s l c refuses) in
-    let many : n ≤ length (lines t) =
-    let len : length (lines t) ≡ length (map line st.said) + suc (length (split after).0) = ap length (lines_left t s n rest l after st e) ∙ length-append (map line st.said) (l ∷ (split after).0) in
-    omega (arith, len, length-said st.said, st.number) in
+    let all = all_refused s l c refuses in
     record {
-      none = λ d spells. at_line.here many (whole_front t n d spells);
-      at_line = at_line;
+      none = λ d spells. no_front t s n rest l after c st e all (whole_front t n d spells);
+      at_line = refused_at_line t s n rest l after c st e all;
       for_cause = with_cause t s n rest (whole_line l) c st (ap (λ (p : List (List ℕ) × List ℕ). found_in p.0 p.1) e) (line_cause s l c (is_state t s n rest st) refuses);
     }
 
@@ -98,18 +96,12 @@ refuses_end t s n rest st e open_yet = record {
 abbrev pub StandsFirst : List ℕ → Type 0
 StandsFirst t = ((l : List ℕ) × (after : List ℕ) × (split t ≡ (l ∷ (split after).0, (split after).1))) ⊎ (split t ≡ ([], t))
 
-onto_first_line : (b : ℕ) (t l after : List ℕ) → split t ≡ (l ∷ (split after).0, (split after).1) → onto_first b (split t) ≡ ((b ∷ l) ∷ (split after).0, (split after).1)
-onto_first_line b t l after e = ap (λ p. onto_first b p) e
-
-first_at : (q : Bool) (b : ℕ) (t : List ℕ) → (b == 10) ≡ q → split (b ∷ t) ≡ cond q ([] ∷ (split t).0, (split t).1) (onto_first b (split t)) → StandsFirst t → StandsFirst (b ∷ t)
-first_at true b t h e rest = inl ([], t, e)
-first_at false b t h e (inl x) = inl (b ∷ x.0, x.1, e ∙ onto_first_line b t x.0 x.1 x.2)
-first_at false b t h e (inr x) = inr (e ∙ ap (λ p. onto_first b p) x)
+first_by : (t : List ℕ) (o : Option ℕ) → o ≡ position (λ b. b == 10) t → StandsFirst t
+first_by t (Some i) e = inl (take i t, drop (i + 1) t, some_line t i e)
+first_by t None e = inr (no_line t (sym e))
 
 pub stands_first : (t : List ℕ) → StandsFirst t
-unfolding split
-stands_first [] = inr refl
-stands_first (b ∷ t) = first_at (b == 10) b t refl refl (stands_first t)
+stands_first t = first_by t (position (λ b. b == 10) t) refl
 
 -- a byte follows `end`
 pub refuses_more : (t : List ℕ) (d : Image) (n b : ℕ) (rest : List ℕ) → Stands t (Whole d) n (b ∷ rest) → IsRefused t n causes.After

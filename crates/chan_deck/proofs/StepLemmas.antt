@@ -15,7 +15,8 @@ use Rattle.ckd_core.specs.Mask.{is_mask}
 use Rattle.chan_deck.specs.Item.{Item, header, device, mask, start, limit, extent, fetch, store, storage, put, end, HasForm, IsByte, IsAddress, IsArea}
 use Rattle.chan_deck.specs.Image.{Image, IsDeck, HasLimit, header_of, limit_line, items, puts, is_zero, extent_of}
 use Rattle.chan_deck.specs.Refused.{last_of, is_size, is_limit}
-use Rattle.chan_deck.specs.Reading.{Heading, State, Opening, Named, OnDevice, Masked, Started, Listing, Filling, Whole, step, pad, image_of, on_start, on_extent, on_storage, is_empty}
+use Rattle.chan_deck.specs.Reading.{State, Opening, Named, OnDevice, Masked, Started, Listing, Filling, Whole, step, pad, image_of, on_start, on_extent, on_storage, is_empty}
+use Rattle.chan_deck.specs.declared.heading.Heading.{Heading}
 use Rattle.chan_walk.specs.Limit.{IsLimit}
 use Rattle.chan_deck.specs.declared.version.Version.TheVariants.{One, Two}
 use Rattle.chan_deck.specs.declared.version.VersionNumber.{VersionNumber}

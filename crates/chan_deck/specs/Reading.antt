@@ -1,7 +1,7 @@
 -- Reading a deck line by line: what the lines so far have said, and what one line more does to it.
 use Rattle.std.specs.Prelude.{ℕ, ◌+◌, ◌-◌, ◌%◌, ◌≡◌, ◌==◌, ◌&&◌, ◌⊎◌, nat_lt, nat_le, not, Bool}
 use Rattle.std.specs.Prelude.{true, false, List, [], ◌∷◌, ◌++◌, length, replicate, map}
-use Rattle.std.specs.Prelude.{if◌then◌else◌, Result, Ok, Err}
+use Rattle.std.specs.Prelude.{if◌then◌else◌, Result, Ok, Err, MatchResult}
 use Rattle.std.specs.List.{AllByRecursion}
 use Rattle.ccw_core.specs.declared.areas.Area.{Area}
 use Rattle.ckd_core.specs.declared.device.Device.{Device}
@@ -12,22 +12,16 @@ use Rattle.chan_deck.specs.Image.{Image, is_zero}
 use Rattle.chan_deck.specs.Refused.{split, is_size, is_limit, IsRefused}
 use Rattle.chan_deck.specs.declared.version.VersionNumber.{VersionNumber}
 use Rattle.chan_deck.specs.declared.version.VersionNumber.TheVariants as numbers
-use Rattle.chan_deck.specs.declared.version.Version.{Version}
 use Rattle.chan_deck.specs.declared.version.Version.TheVariants.{One, Two}
 use Rattle.chan_deck.specs.declared.cause.Cause.{Cause}
 use Rattle.chan_deck.specs.declared.cause.Cause.TheVariants as causes
+use Rattle.chan_deck.specs.declared.heading.Heading.{Heading}
+use Rattle.chan_deck.specs.declared.lines.Cursor.{Cursor}
 use Rattle.chan_deck.specs.declared.rows.Lists.{Lists}
 use Rattle.chan_deck.specs.declared.rows.Row.{Row}
 use Rattle.chan_deck.specs.declared.rows.Row.TheVariants.{Extent, Fetch, Store}
 use Rattle.chan_deck.specs.declared.error.DeckError.{DeckError}
 use Rattle.chan_deck.specs.declared.error.DeckError.TheVariants as errors
-
--- the lines before the lists of a deck
-pub record Heading : Type 0 where
-  pub version : Version
-  pub device : Device
-  pub mask : ℕ
-  pub start : ℕ
 
 -- what the lines so far said; in Started a limit has to come, and in Filling storage is known as
 -- far as the last put reaches
@@ -163,18 +157,41 @@ Refuses s l c =
     ((i : Item) × Says l i × (step s i ≡ Err c))
     ⊎ (((i : Item) → Says l i → stands s i ≡ false) × (c ≡ no_form s))
 
--- wherever a reading stands so, it goes on to stand otherwise
-abbrev pub Leads : State → ℕ → List ℕ → State → ℕ → List ℕ → Type 0
-Leads s n rest next m after = (t : List ℕ) → Stands t s n rest → Stands t next m after
-
 -- the error is that of the text, or want of memory
 abbrev pub IsRefusal : List ℕ → DeckError → Type 0
 IsRefusal t (errors.At n c) = IsRefused t n c
 IsRefusal t errors.Memory = Unit {0}
 
--- wherever a reading stands so, the error is that of the text, or want of memory
-abbrev pub Fails : State → ℕ → List ℕ → DeckError → Type 0
-Fails s n rest e = (t : List ℕ) → Stands t s n rest → IsRefusal t e
+-- what was read is the state, and the cursor stands behind it
+abbrev pub StandsAt : List ℕ → State → Cursor → Type 0
+StandsAt t s c = Stands t s (c.line + 1) c.rest.now
+
+-- wherever reading stands so, it goes on to stand otherwise
+abbrev pub Leads : State → Cursor → State → Cursor → Type 0
+Leads s c next d = (t : List ℕ) → StandsAt t s c → StandsAt t next d
+
+-- wherever reading stands so, the error is that of the text, or want of memory
+abbrev pub Fails : State → Cursor → DeckError → Type 0
+Fails s c e = (t : List ℕ) → StandsAt t s c → IsRefusal t e
+
+-- reading goes on to what is made of what was read, or it fails
+abbrev pub Goes : {X : Type 0} → State → Cursor → Result X DeckError → (X → State) → Cursor → Type 0
+Goes s c result next d = MatchResult result (λ x. Leads s c (next x) d) (Fails s c)
+
+-- a deck is whole
+abbrev pub is_whole : State → Bool
+is_whole (Whole d) = true
+is_whole _ = false
+
+-- the line is what comes next in the text
+pub record IsNext (c : Cursor) (l : List ℕ) (d : Cursor) : Type 0 where
+  pub takes :
+      (s next : State) (i : Item) → Says l i → step s i ≡ Ok next → Leads s c next d
+  pub refuses : (s : State) (cause : Cause) → Refuses s l cause → Fails s c (errors.At d.line cause)
+
+-- the error is that of a text that ends here before a deck is whole
+abbrev pub FailsAtEnd : Cursor → DeckError → Type 0
+FailsAtEnd c e = (s : State) → is_whole s ≡ false → Fails s c e
 
 -- what the lists of a deck have so far, and the lines before them
 abbrev pub listing : Heading → Lists → State

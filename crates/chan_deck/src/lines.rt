@@ -1,8 +1,14 @@
 //! The lines of a text.
 
 ghost use Rattle.std.specs.Prelude.{◌≡◌, ◌+◌, ◌<◌, ◌==◌, length, position, IfSome, IfNone, [], ◌∷◌};
+ghost use Rattle.std.specs.Prelude.{◌^◌};
 ghost use Rattle.std.specs.List.{list_any};
+ghost use Rattle.chan_deck.specs.Digits.{AreValues, AreValues-IsProp};
 ghost use Rattle.chan_deck.specs.Refused.{split};
+
+use crate::cause::Cause;
+use crate::digits::DigitValues;
+use crate::error::DeckError::{self, At};
 
 /// The length of a line that puts a doubleword, as nearly all lines of a long deck do.
 pub(crate) const PUT_LINE: usize = 27;
@@ -44,4 +50,85 @@ pub(crate) fn next_line(text: &[u8]) -> Option<(&[u8], &[u8])>
     let (line, rest) = text.split_at(end);
     let (_, rest) = rest.split_at(1);
     Some((line, rest))
+}
+
+/// Where reading stands behind the header of a text.
+#[derive(Drop)]
+pub(crate) struct Cursor<'a> {
+    /// What is left of the text.
+    rest: &'a [u8],
+    /// The number of the line that was read last.
+    line: u64,
+    /// The value of each character as a digit.
+    pub(crate) values: &'a DigitValues,
+    ghost few: { line + length rest.now + 1 < 2 ^ 64 },
+    ghost sound: { AreValues values.now } by { AreValues-IsProp values.now },
+}
+
+impl<'a> Cursor<'a> {
+    ghost use Rattle.std.specs.Prelude.{ℕ, List, IfOk, MatchResult};
+    ghost use Rattle.chan_deck.specs.Image.{Image, Spells};
+    ghost use Rattle.chan_deck.specs.Reading.{FailsAtEnd, IsNext, IsRefusal, StandsAt, Whole};
+    ghost use Rattle.chan_deck.specs.declared.error.DeckError.TheVariants as errors;
+
+    /// A cursor behind the header.
+    pub(crate) fn new(rest: &'a [u8], values: &'a DigitValues) -> Cursor<'a>
+        requires few { length rest.now + 2 < 2 ^ 64 }
+        requires values { AreValues values.now }
+        ensures rest { result.rest.now ≡ rest.now }
+        ensures line { result.line ≡ 1 }
+    {
+        Cursor {
+            rest,
+            line: 1,
+            values,
+        }
+    }
+
+    /// The next whole line without its line feed. Inline, so that a loop over lines that owns its
+    /// cursor keeps it in registers.
+    #[inline(always)]
+    pub(crate) fn next_line(&mut self) -> Result<&'a [u8], DeckError>
+        ensures next { MatchResult result (λ l. IsNext self.old l.now self.new)
+            (FailsAtEnd self.old) }
+        ensures shorter { IfOk result (λ l. length self.new.rest.now < length self.old.rest.now) }
+    {
+        let Some((line, rest)) = next_line(self.rest) else {
+            return Err(self.refused_next(Cause::Ended));
+        };
+        self.rest = rest;
+        self.line += 1;
+        Ok(line)
+    }
+
+    /// The refusal of the line that was read last.
+    pub(crate) fn refused(&self, cause: Cause) -> DeckError
+        ensures { result ≡ errors.At self.now.line cause }
+    {
+        At {
+            line: self.line,
+            cause,
+        }
+    }
+
+    /// The refusal of the line behind it.
+    fn refused_next(&self, cause: Cause) -> DeckError
+        ensures { result ≡ errors.At (self.now.line + 1) cause }
+    {
+        At {
+            line: self.line + 1,
+            cause,
+        }
+    }
+
+    /// Nothing follows the line that was read last, which ends a deck.
+    pub(crate) fn end(&self) -> Result<(), DeckError>
+        ensures { (t : List ℕ) (d : Image) → StandsAt t (Whole d) self.now
+            → MatchResult result (λ done. Spells t d) (IsRefusal t) }
+    {
+        if self.rest.is_empty() {
+            return Ok(());
+        }
+        Err(self.refused_next(Cause::After))
+    }
 }

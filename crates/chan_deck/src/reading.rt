@@ -9,56 +9,33 @@ ghost use Rattle.chan_deck.specs.declared.cause.Cause.{Cause};
 use crate::deck::Deck;
 use crate::digits::digit_values;
 use crate::error::DeckError;
-use crate::heading::{read_device, read_header, read_mask, read_start, read_version};
+use crate::heading::{Heading, read_header, read_heading};
 use crate::lists::read_lists;
 use crate::rows::Lists;
 use crate::storage::fill;
-use crate::version::Version;
-use ckd_core::{Device, Extents, FileMask};
+use ckd_core::Extents;
 use std::alloc::Global;
 
 /// What the lines of a deck say.
 #[derive(Drop)]
 struct Parts {
-    version: Version,
-    device: Device,
-    mask: FileMask,
-    start: u32,
+    heading: Heading,
     lists: Lists,
     storage: Vec<u8>,
 }
 
 fn read_parts(alloc: Global, text: &[u8]) -> Result<Parts, DeckError>
-    ensures spelled { IfOk result (λ p. Spells text.now
-        (image_of
-        (record { version = p.version; device = p.device; mask = p.mask; start = p.start })
-        p.lists.extents.items p.lists.fetch.items p.lists.store.items p.storage.items)) }
-    ensures refused { IfErr result (IsRefusal text.now) }
+    ensures { MatchResult result (λ p. Spells text.now (image_of p.heading p.lists.extents.items
+        p.lists.fetch.items p.lists.store.items p.storage.items)) (IsRefusal text.now) }
 {
     let values = digit_values();
-    let (number, rest) = read_header(text)?;
-    let (device, rest) = read_device(rest)?;
-
-    // A match, since the borrow checker has no rule for `?` on what holds both a file mask, or a
-    // limit, and a borrowed text.
-    let (mask, rest) = match read_mask(rest, &values) {
-        Ok(found) => found,
-        Err(error) => return Err(error),
-    };
-    let (start, rest) = read_start(rest, &values)?;
-    let (version, rest, line) = match read_version(number, rest) {
-        Ok(found) => found,
-        Err(error) => return Err(error),
-    };
-    let mut lists = Lists::new(alloc);
-    let (size, rest, line) = read_lists(&mut lists, rest, line, &values)?;
+    let (number, mut cursor) = read_header(text, &values)?;
+    let heading = read_heading(number, &mut cursor)?;
+    let (lists, size) = read_lists(alloc, &mut cursor)?;
     let mut storage = vec![in alloc; 0u8; size]?;
-    fill(storage.as_mut_slice(), rest, line, &values)?;
+    fill(storage.as_mut_slice(), cursor)?;
     Ok(Parts {
-        version,
-        device,
-        mask,
-        start,
+        heading,
         lists,
         storage,
     })
@@ -82,10 +59,7 @@ pub fn read_deck(alloc: Global, text: &[u8]) -> Result<Deck, DeckError>
         (λ e. (e ≡ DeckError.Memory) ⊎ (e ≡ DeckError.At line cause)) }
 {
     let Parts {
-        version,
-        device,
-        mask,
-        start,
+        heading,
         lists,
         storage,
     } = read_parts(alloc, text)?;
@@ -98,10 +72,10 @@ pub fn read_deck(alloc: Global, text: &[u8]) -> Result<Deck, DeckError>
     // The pairs were judged at their lines, so only an allocation can fail.
     let extents = Extents::new(alloc, &extents).map_err(|_| DeckError::Memory)?;
     Ok(Deck {
-        version,
-        device,
-        mask,
-        start,
+        version: heading.version,
+        device: heading.device,
+        mask: heading.mask,
+        start: heading.start,
         extents,
         fetch,
         store,

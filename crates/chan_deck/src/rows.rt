@@ -3,14 +3,16 @@
 ghost use Rattle.std.specs.Prelude.{◌≡◌, ◌⊎◌, [], Ok, Err, MatchOption, IfErr, OnOk};
 ghost use Rattle.chan_deck.specs.Digits.{AreValues};
 ghost use Rattle.chan_deck.specs.Item.{Says};
-ghost use Rattle.chan_deck.specs.Reading.{Heading, listing, row_item, step};
+ghost use Rattle.chan_deck.specs.Reading.{listing, row_item, step};
 ghost use Rattle.chan_deck.specs.declared.cause.Cause.{Cause};
+ghost use Rattle.chan_deck.specs.declared.heading.Heading.{Heading};
 ghost use Rattle.chan_deck.specs.declared.rows.Row.{Row};
 
 use crate::cause::Cause;
 use crate::digits::DigitValues;
-use crate::error::DeckError::{self, At};
+use crate::error::DeckError;
 use crate::forms::{area_of, extent_of};
+use crate::lines::Cursor;
 use ccw_core::Area;
 use std::alloc::Global;
 
@@ -66,47 +68,37 @@ impl Lists {
         }
     }
 
-    /// Adds a row, which stands in this line. Extents come first, and areas for fetching before
-    /// those for storing.
-    pub(crate) fn add(&mut self, row: Row, line: u64) -> Result<(), DeckError>
+    /// Adds the row that the line read last spells. Extents come first, and areas for fetching
+    /// before those for storing.
+    pub(crate) fn add(&mut self, row: Row, cursor: &Cursor) -> Result<(), DeckError>
         ensures ok { OnOk result ((h : Heading)
             → step (listing h self.old) (row_item row) ≡ Ok (listing h self.new)) }
         ensures err { IfErr result (λ e. (e ≡ DeckError.Memory)
-            ⊎ ((cause : Cause) × (e ≡ DeckError.At line cause)
+            ⊎ ((cause : Cause) × (e ≡ DeckError.At cursor.now.line cause)
             × ((h : Heading) → step (listing h self.old) (row_item row) ≡ Err cause))) }
     {
-        let form = At {
-            line,
-            cause: Cause::Form,
-        };
         match row {
             Row::Extent(first, last) => {
                 if !self.fetch.is_empty() || !self.store.is_empty() {
-                    return Err(form);
+                    return Err(cursor.refused(Cause::Form));
                 }
                 if last < first {
-                    return Err(At {
-                        line,
-                        cause: Cause::ExtentBackwards,
-                    });
+                    return Err(cursor.refused(Cause::ExtentBackwards));
                 }
                 if last > LAST_CYLINDER {
-                    return Err(At {
-                        line,
-                        cause: Cause::ExtentPastDevice,
-                    });
+                    return Err(cursor.refused(Cause::ExtentPastDevice));
                 }
                 self.extents.push((first, last))?;
             }
             Row::Fetch(area) => {
                 if self.extents.is_empty() || !self.store.is_empty() {
-                    return Err(form);
+                    return Err(cursor.refused(Cause::Form));
                 }
                 self.fetch.push(area)?;
             }
             Row::Store(area) => {
                 if self.extents.is_empty() {
-                    return Err(form);
+                    return Err(cursor.refused(Cause::Form));
                 }
                 self.store.push(area)?;
             }

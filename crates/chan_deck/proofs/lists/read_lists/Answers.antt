@@ -5,64 +5,54 @@ use Rattle.std.proofs.lemmas.Result.{err_from_is_err_and}
 use Rattle.chan_deck.specs.Item.{storage}
 use Rattle.chan_deck.specs.Reading.{Filling, listing, row_item}
 use Rattle.chan_deck.proofs.StepLemmas.{not_zero}
-use Rattle.chan_deck.proofs.RefusalLemmas.{takes, refuses_line, refuses_end}
 use Rattle.chan_deck.proofs.LineRefusals.{not_list, early_storage, bad_size, good_size}
 use Rattle.chan_deck.specs.declared.cause.Cause.TheVariants as causes
 use Rattle.chan_deck.proofs.lists.read_lists.Goals as goal
 
-pub returns-in_err-add-clause-err : goal.returns-in_err-add-clause-err
-returns-in_err-add-clause-err c =
+pub returns-in_err-line-clause-goes : goal.returns-in_err-line-clause-goes
+returns-in_err-line-clause-goes c =
     let p = err_from_is_err_and c.from_residual.result c.from_residual.ensures.1 in
-    let parts = rw (c.in-Some.found-is, c.in-Some.after-is) at c.in-Some.ensures.some in
-    let says = rw c.in-Some.found-is at c.in-Some-row_of.ensures in
+    rw (p.1, p.2) (λ h t st. c.in_err-line.ensures.next (listing h c.loop-lists.lists) refl t (c.loop-lists.invariant h t st))
+
+pub loop-lists-preserved : goal.loop-lists-preserved
+loop-lists-preserved c =
+    let next = rw c.in_ok-line.line-is at c.in_ok-line.ensures.next in
+    λ h t st. next.takes (listing h c.loop-lists.lists) (listing h c.add.new.self) (row_item c.in-Some.row) c.in-Some.ensures (c.in_ok-add.ensures.ok h) t (c.loop-lists.invariant h t st)
+
+pub returns-in_err-add-clause-goes : goal.returns-in_err-add-clause-goes
+returns-in_err-add-clause-goes c =
+    let p = err_from_is_err_and c.from_residual-in_err-add.result c.from_residual-in_err-add.ensures.1 in
+    let next = rw c.in_ok-line.line-is at c.in_ok-line.ensures.next in
     rw (p.1, p.2) (λ h t st.
     elim c.in_err-add.ensures.err [
       | inl memory ↦ rw memory tt
-      | inr x ↦ rw x.1 (refuses_line t (listing h c.loop-found.lists) c.loop-found.line c.loop-found.rest.now c.in-Some.found.now c.in-Some.after.now x.0 (c.loop-found.invariant.told h t st) parts
-          (inl (row_item c.in-Some-row_of.row, says, x.2 h)))
+      | inr x ↦ rw x.1 (next.refuses (listing h c.loop-lists.lists) x.0 (inl (row_item c.in-Some.row, c.in-Some.ensures, x.2 h)) t (c.loop-lists.invariant h t st))
     ])
 
-pub returns-then-is_empty-clause-err : goal.returns-then-is_empty-clause-err
-returns-then-is_empty-clause-err c = λ h t st.
-    let parts = rw (c.in-Some.found-is, c.in-Some.after-is) at c.in-Some.ensures.some in
-    let says = rw c.in-Some.found-is at c.in-Some-storage_of.ensures in
-    let none : length c.loop-found.lists.extents.items ≡ 0 = omega (arith, c.loop-found.lists.extents.ok.0, eqb-true _ _ (sym c.is_empty.ensures ∙ c.if-is_empty.true)) in
-    refuses_line t (listing h c.loop-found.lists) c.loop-found.line c.loop-found.rest.now c.in-Some.found.now c.in-Some.after.now causes.Form (c.loop-found.invariant.told h t st) parts
-    (early_storage h c.loop-found.lists.fetch.items c.loop-found.lists.store.items c.loop-found.lists.extents.items c.in-Some.found.now c.in-Some-storage_of.n says (nil_from_length c.loop-found.lists.extents.items none))
+pub returns-then-is_empty-clause-goes : goal.returns-then-is_empty-clause-goes
+returns-then-is_empty-clause-goes c =
+    let next = rw c.in_ok-line.line-is at c.in_ok-line.ensures.next in
+    let none : length c.loop-lists.lists.extents.items ≡ 0 = omega (arith, c.loop-lists.lists.extents.ok.0, eqb-true _ _ (sym c.is_empty.ensures ∙ c.if-is_empty.true)) in
+    rw c.refused.ensures (λ h t st. next.refuses (listing h c.loop-lists.lists) causes.Form
+    (early_storage h c.loop-lists.lists.fetch.items c.loop-lists.lists.store.items c.loop-lists.lists.extents.items _ c.in-Some-storage_of.n c.in-Some-storage_of.ensures (nil_from_length c.loop-lists.lists.extents.items none)) t (c.loop-lists.invariant h t st))
 
-pub returns-then-not-is_size-clause-err : goal.returns-then-not-is_size-clause-err
-returns-then-not-is_size-clause-err c = λ h t st.
-    let parts = rw (c.in-Some.found-is, c.in-Some.after-is) at c.in-Some.ensures.some in
-    let says = rw c.in-Some.found-is at c.in-Some-storage_of.ensures in
-    let some : 0 < length c.loop-found.lists.extents.items = omega (arith, c.loop-found.lists.extents.ok.0, not_zero _ (sym c.is_empty.ensures ∙ c.if-is_empty.false)) in
-    refuses_line t (listing h c.loop-found.lists) c.loop-found.line c.loop-found.rest.now c.in-Some.found.now c.in-Some.after.now causes.Size (c.loop-found.invariant.told h t st) parts
-    (bad_size h c.loop-found.lists.fetch.items c.loop-found.lists.store.items c.loop-found.lists.extents.items c.in-Some.found.now c.in-Some-storage_of.n says some (sym c.is_size.ensures ∙ c.if-not-is_size.true))
+pub returns-then-not-is_size-clause-goes : goal.returns-then-not-is_size-clause-goes
+returns-then-not-is_size-clause-goes c =
+    let next = rw c.in_ok-line.line-is at c.in_ok-line.ensures.next in
+    let some : 0 < length c.loop-lists.lists.extents.items = omega (arith, c.loop-lists.lists.extents.ok.0, not_zero _ (sym c.is_empty.ensures ∙ c.if-is_empty.false)) in
+    rw c.refused-then-not-is_size.ensures (λ h t st. next.refuses (listing h c.loop-lists.lists) causes.Size
+    (bad_size h c.loop-lists.lists.fetch.items c.loop-lists.lists.store.items c.loop-lists.lists.extents.items _ c.in-Some-storage_of.n c.in-Some-storage_of.ensures some (sym c.is_size.ensures ∙ c.if-not-is_size.true)) t (c.loop-lists.invariant h t st))
 
-pub returns-in-Some-storage_of-clause-ok : goal.returns-in-Some-storage_of-clause-ok
-returns-in-Some-storage_of-clause-ok c = λ h t st.
-    let parts = rw (c.in-Some.found-is, c.in-Some.after-is) at c.in-Some.ensures.some in
-    let says = rw c.in-Some.found-is at c.in-Some-storage_of.ensures in
-    let some : 0 < length c.loop-found.lists.extents.items = omega (arith, c.loop-found.lists.extents.ok.0, not_zero _ (sym c.is_empty.ensures ∙ c.if-is_empty.false)) in
-    takes t (listing h c.loop-found.lists) (Filling h c.loop-found.lists.extents.items c.loop-found.lists.fetch.items c.loop-found.lists.store.items c.in-Some-storage_of.n []) c.loop-found.line c.loop-found.rest.now c.in-Some.found.now c.in-Some.after.now (storage c.in-Some-storage_of.n) (c.loop-found.invariant.told h t st) parts says
-    (good_size h c.loop-found.lists.fetch.items c.loop-found.lists.store.items c.loop-found.lists.extents.items c.in-Some-storage_of.n some (sym c.is_size.ensures ∙ c.if-not-is_size.false))
+pub returns-in-Some-storage_of-clause-goes : goal.returns-in-Some-storage_of-clause-goes
+returns-in-Some-storage_of-clause-goes c = λ h t st.
+    let next = rw c.in_ok-line.line-is at c.in_ok-line.ensures.next in
+    let some : 0 < length c.loop-lists.lists.extents.items = omega (arith, c.loop-lists.lists.extents.ok.0, not_zero _ (sym c.is_empty.ensures ∙ c.if-is_empty.false)) in
+    let n = c.in-Some-storage_of.n in
+    next.takes (listing h c.loop-lists.lists) (Filling h c.loop-lists.lists.extents.items c.loop-lists.lists.fetch.items c.loop-lists.lists.store.items n []) (storage n) c.in-Some-storage_of.ensures
+    (good_size h c.loop-lists.lists.fetch.items c.loop-lists.lists.store.items c.loop-lists.lists.extents.items n some (sym c.is_size.ensures ∙ c.if-not-is_size.false)) t (c.loop-lists.invariant h t st)
 
-pub returns-in_default-storage_of-clause-err : goal.returns-in_default-storage_of-clause-err
-returns-in_default-storage_of-clause-err c = λ h t st.
-    let parts = rw (c.in-Some.found-is, c.in-Some.after-is) at c.in-Some.ensures.some in
-    let row = rw c.in-Some.found-is at c.in_default-row_of.ensures in
-    let none = rw c.in-Some.found-is at c.in_default-storage_of.ensures in
-    refuses_line t (listing h c.loop-found.lists) c.loop-found.line c.loop-found.rest.now c.in-Some.found.now c.in-Some.after.now causes.Form (c.loop-found.invariant.told h t st) parts
-    (not_list h c.loop-found.lists.extents.items c.loop-found.lists.fetch.items c.loop-found.lists.store.items c.in-Some.found.now row none)
-
-pub loop-found-preserved : goal.loop-found-preserved
-loop-found-preserved c =
-    let parts = rw (c.in-Some.found-is, c.in-Some.after-is) at c.in-Some.ensures.some in
-    let shorter = rw (c.in-Some.found-is, c.in-Some.after-is) at c.in-Some.ensures.shorter in
-    let says = rw c.in-Some.found-is at c.in-Some-row_of.ensures in
-    record {
-      told = λ h t st. takes t (listing h c.loop-found.lists) (listing h c.add.new.self) c.loop-found.line c.loop-found.rest.now c.in-Some.found.now c.in-Some.after.now (row_item c.in-Some-row_of.row) (c.loop-found.invariant.told h t st) parts says (c.in_ok-add.ensures.ok h);
-      few = omega (arith, shorter);
-    }
-
-pub returns-clause-err : goal.returns-clause-err
-returns-clause-err c = λ h t st. refuses_end t (listing h c.loop-found.lists) c.loop-found.line c.loop-found.rest.now (c.loop-found.invariant.told h t st) c.in_default.ensures.none refl
+pub returns-in_default-storage_of-clause-goes : goal.returns-in_default-storage_of-clause-goes
+returns-in_default-storage_of-clause-goes c =
+    let next = rw c.in_ok-line.line-is at c.in_ok-line.ensures.next in
+    rw c.refused-in_default-storage_of.ensures (λ h t st. next.refuses (listing h c.loop-lists.lists) causes.Form
+    (not_list h c.loop-lists.lists.extents.items c.loop-lists.lists.fetch.items c.loop-lists.lists.store.items _ c.in_default.ensures c.in_default-storage_of.ensures) t (c.loop-lists.invariant h t st))

@@ -1,13 +1,11 @@
-use Rattle.std.proofs.Common.{◌<◌, ◌+◌, ◌^◌, [], length}
-use Rattle.chan_deck.specs.Reading.{Heading, Leads, Listing, listing}
+use Rattle.std.proofs.Common.{[], length}
+use Rattle.chan_deck.specs.Reading.{Leads, Listing, listing}
+use Rattle.chan_deck.specs.declared.heading.Heading.{Heading}
 use Rattle.chan_deck.proofs.lists.read_lists.Given as goal
 
--- reading stands at what is left, with the lists so far
-abbrev pub invariant-loop-found : goal.invariant-loop-found
-invariant-loop-found l = record {
-  told : (h : Heading) → Leads (Listing h [] [] []) l.fn.first l.fn.text (listing h l.lists) l.line l.rest;
-  few : l.line + length l.rest < 2 ^ 64;
-}
+-- the cursor stands behind the lists so far
+abbrev pub invariant-loop-lists : goal.invariant-loop-lists
+invariant-loop-lists l = (h : Heading) → Leads (Listing h [] [] []) l.fn.cursor (listing h l.lists) l.cursor
 
-abbrev pub decreases-loop-found : goal.decreases-loop-found
-decreases-loop-found l = length l.rest
+abbrev pub decreases-loop-lists : goal.decreases-loop-lists
+decreases-loop-lists l = length l.cursor.rest.now
