@@ -7,7 +7,7 @@ use Rattle.ccw_core.specs.declared.areas.Area.{Area}
 use Rattle.ckd_core.specs.Mask.{is_mask}
 use Rattle.chan_deck.specs.Item.{Item, header, device, mask, start, limit, extent, fetch, store, storage, put, end, Says}
 use Rattle.chan_deck.specs.Image.{Image, items, puts, is_zero, extent_of, limit_line}
-use Rattle.chan_deck.specs.Refused.{last_of, is_end, is_second, has_ended, may_stand, may_follow, size_said, is_size, is_limit, is_above, is_place, Found, whole_line, part, Applies, Follows, IsCause, rank}
+use Rattle.chan_deck.specs.Refused.{last_of, is_end, is_second, has_ended, may_stand, may_follow, size_said, is_size, is_limit, is_above, is_place, Found, whole_line, part, Applies, AppliesBehindEnd, IsCause, rank}
 use Rattle.chan_deck.specs.Reading.{State, Opening, Named, OnDevice, Masked, Started, Listing, Filling, Whole, step, stands, judged, pad, is_empty, no_form, is_whole, Refuses}
 use Rattle.chan_deck.specs.declared.heading.Heading.{Heading}
 use Rattle.chan_deck.proofs.StepLemmas.{heading, lists, said, IsState, Ends, at_front, at_header, at_device, at_mask, at_start, at_second_start, at_limit, at_extent, at_fetch, at_store, at_storage, at_put, at_end, last_of-push}
@@ -90,8 +90,8 @@ Earlier before found n = (other : Cause) → rank other < n → Applies before f
 
 is_cause : (before : List Item) (found : Found) (c : Cause) → has_ended before ≡ false → Applies before found c → Earlier before found (rank c) → IsCause before found c
 is_cause before found c e h earlier = record {
-  applies = subst (λ b. MatchBool b (Follows found c) (Applies before found c)) (sym e) h;
-  first = λ other lt k. earlier other lt (subst (λ b. MatchBool b (Follows found other) (Applies before found other)) e k);
+  applies = subst (λ b. MatchBool b (AppliesBehindEnd found c) (Applies before found c)) (sym e) h;
+  first = λ other lt k. earlier other lt (subst (λ b. MatchBool b (AppliesBehindEnd found other) (Applies before found other)) e k);
 }
 
 none_earlier : (before : List Item) (found : Found) → Earlier before found 1
@@ -283,20 +283,20 @@ told_cause s l i c is told f e = absurd cc
 -- ---- the cause of a line that may not stand
 
 -- behind `end` only the cause After applies
-follows_after : (found : Found) (c : Cause) → Follows found c → c ≡ causes.After
+follows_after : (found : Found) (c : Cause) → AppliesBehindEnd found c → c ≡ causes.After
 follows_after (whole_line l) causes.After h = refl
 follows_after (part (b ∷ rest)) causes.After h = refl
 follows_after found c h = absurd h
 
-pub after_cause : (d : Image) (found : Found) → Follows found causes.After → IsCause (items d) found causes.After
+pub after_cause : (d : Image) (found : Found) → AppliesBehindEnd found causes.After → IsCause (items d) found causes.After
 after_cause d found applies =
     let h : Heading = record { version = d.version; device = d.device; mask = d.mask; start = d.start } in
     let opened = lists h d.extents d.fetch d.store ++ storage (length d.storage) ∷ puts (length d.storage / 8) 0 d.storage in
     let ended : has_ended (items d) ≡ true = ap is_end (last_of-push opened end) in
     record {
-      applies = subst (λ b. MatchBool b (Follows found causes.After) (Applies (items d) found causes.After)) (sym ended) applies;
+      applies = subst (λ b. MatchBool b (AppliesBehindEnd found causes.After) (Applies (items d) found causes.After)) (sym ended) applies;
       first = λ other lt k.
-          let same = follows_after found other (subst (λ b. MatchBool b (Follows found other) (Applies (items d) found other)) ended k) in
+          let same = follows_after found other (subst (λ b. MatchBool b (AppliesBehindEnd found other) (Applies (items d) found other)) ended k) in
           absurd (omega (arith, ap rank same));
     }
 

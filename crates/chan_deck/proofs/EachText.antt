@@ -8,7 +8,7 @@ use Rattle.std.specs.Bool.{Decides}
 use Rattle.ckd_core.specs.declared.device.Device.TheVariants.{D2311, D2314}
 use Rattle.chan_deck.specs.Item.{Item, header, device, mask, start, limit, extent, fetch, store, storage, put, end, line, IsByte, Says}
 use Rattle.chan_deck.specs.Refused.{split, lines, IsJudged}
-use Rattle.chan_deck.specs.Reading.{State, Opening, Whole, Stands, step, no_form, Refuses}
+use Rattle.chan_deck.specs.Reading.{State, Opening, Whole, HasRead, step, no_form, Refuses}
 use Rattle.chan_deck.proofs.RefusalLemmas.{starts, takes, refuses_line, refuses_end, refuses_more, stands_first, spells_deck}
 use Rattle.chan_deck.specs.declared.version.VersionNumber.TheVariants as numbers
 use Rattle.chan_deck.specs.declared.cause.Cause.{Cause}
@@ -134,13 +134,13 @@ line_judged s l =
       | inr none ↦ inr (no_form s, inr (λ i says. absurd (none (i, says)), refl))
     ]
 
-end_judged : (t : List ℕ) (s : State) (n : ℕ) (rest : List ℕ) → Stands t s n rest → split rest ≡ ([], rest) → IsJudged t
+end_judged : (t : List ℕ) (s : State) (n : ℕ) (rest : List ℕ) → HasRead t s n rest → split rest ≡ ([], rest) → IsJudged t
 end_judged t (Whole d) n [] st e = inl (d, spells_deck t d n st)
 end_judged t (Whole d) n (b ∷ rest) st e = inr (n, causes.After, refuses_more t d n b rest st)
 end_judged t s n rest st e = inr (n, causes.Ended, refuses_end t s n rest st e refl)
 
 -- what is left of a text, k lines and perhaps a part, is read to its end or refused
-judged_from : (k : ℕ) (t : List ℕ) (s : State) (n : ℕ) (rest : List ℕ) → Stands t s n rest → length (lines rest) ≡ k → IsJudged t
+judged_from : (k : ℕ) (t : List ℕ) (s : State) (n : ℕ) (rest : List ℕ) → HasRead t s n rest → length (lines rest) ≡ k → IsJudged t
 judged_from zero t s n rest st len =
     elim (stands_first rest) [
       | inl x ↦ absurd (omega (arith, len, ap (λ (p : List (List ℕ) × List ℕ). length p.0) x.2))

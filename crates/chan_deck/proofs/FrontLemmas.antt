@@ -11,7 +11,7 @@ use Rattle.ckd_core.specs.Cylinders.{IsExtent}
 use Rattle.chan_deck.specs.Item.{Item, header, device, mask, start, fetch, store, storage, put, end, line, text, HasForm, Says, IsByte, IsArea}
 use Rattle.chan_deck.specs.Image.{Image, IsDeck, HasLimit, header_of, limit_line, items, puts, is_zero, extent_of, spelling, Spells}
 use Rattle.chan_deck.specs.Refused.{split, lines, first_lines, onto_first, BeginsSomeDeck, IsRefusedAt}
-use Rattle.chan_deck.specs.Reading.{State, Opening, Whole, Stands, step, go_on, run}
+use Rattle.chan_deck.specs.Reading.{State, Opening, Whole, HasRead, step, go_on, run}
 use Rattle.chan_deck.proofs.ItemLemmas.{HasNoFeed, line_no_feed, one_item}
 use Rattle.chan_deck.proofs.StepLemmas.{said, IsState, at_front}
 use Rattle.chan_deck.specs.declared.version.Version.{Version}
@@ -166,17 +166,17 @@ one_deck d e is js same =
 
 -- ---- where reading stands
 
-state_of : (t : List ℕ) (s : State) (n : ℕ) (rest : List ℕ) (st : Stands t s n rest) → IsState s × (said s ≡ st.said)
+state_of : (t : List ℕ) (s : State) (n : ℕ) (rest : List ℕ) (st : HasRead t s n rest) → IsState s × (said s ≡ st.said)
 state_of t s n rest st = run-says Opening s st.said (record { right = tt; ends = at_front }) st.forms st.runs
 
-pub is_state : (t : List ℕ) (s : State) (n : ℕ) (rest : List ℕ) (st : Stands t s n rest) → IsState s
+pub is_state : (t : List ℕ) (s : State) (n : ℕ) (rest : List ℕ) (st : HasRead t s n rest) → IsState s
 is_state t s n rest st = (state_of t s n rest st).0
 
-pub says_said : (t : List ℕ) (s : State) (n : ℕ) (rest : List ℕ) (st : Stands t s n rest) → said s ≡ st.said
+pub says_said : (t : List ℕ) (s : State) (n : ℕ) (rest : List ℕ) (st : HasRead t s n rest) → said s ≡ st.said
 says_said t s n rest st = (state_of t s n rest st).1
 
 -- the text of what has been read, of fewer lines too, is a front of a deck's
-pub fronts : (t : List ℕ) (s : State) (n : ℕ) (rest : List ℕ) → Stands t s n rest → (m : ℕ) → m < n → BeginsSomeDeck (first_lines m t)
+pub fronts : (t : List ℕ) (s : State) (n : ℕ) (rest : List ℕ) → HasRead t s n rest → (m : ℕ) → m < n → BeginsSomeDeck (first_lines m t)
 fronts t s n rest st m h =
     let ls = map line st.said in
     let c = completes s (is_state t s n rest st) in
@@ -199,14 +199,14 @@ not_ok : {A : Type 0} (r : Result State Cause) (s : State) (c : Cause) (f : Stat
 not_ok r s c f e g = absurd cc
 
 -- what comes first of what is left, where a line is
-pub lines_left : (t : List ℕ) (s : State) (n : ℕ) (rest l after : List ℕ) (st : Stands t s n rest)
+pub lines_left : (t : List ℕ) (s : State) (n : ℕ) (rest l after : List ℕ) (st : HasRead t s n rest)
     → split rest ≡ (l ∷ (split after).0, (split after).1)
     → lines t ≡ map line st.said ++ l ∷ (split after).0
 lines_left t s n rest l after st e = ap (λ (p : List Line × List ℕ). p.0) st.parts ∙ ap (λ (p : List Line × List ℕ). map line st.said ++ p.0) e
 
 -- a line that the state refuses, whatever it says, is on no front of a deck's text
 pub no_front : (t : List ℕ) (s : State) (n : ℕ) (rest l after : List ℕ) (c : Cause)
-    → Stands t s n rest → split rest ≡ (l ∷ (split after).0, (split after).1)
+    → HasRead t s n rest → split rest ≡ (l ∷ (split after).0, (split after).1)
     → ((i : Item) → Says l i → step s i ≡ Err c) → BeginsSomeDeck (first_lines n t) → ⊥
 no_front t s n rest l after c st e all f =
     let ls = map line st.said in
@@ -235,7 +235,7 @@ whole_front t n d sp = (
 -- ---- the line where a text is refused
 
 pub refused_at_line : (t : List ℕ) (s : State) (n : ℕ) (rest l after : List ℕ) (c : Cause)
-    → Stands t s n rest → split rest ≡ (l ∷ (split after).0, (split after).1)
+    → HasRead t s n rest → split rest ≡ (l ∷ (split after).0, (split after).1)
     → ((i : Item) → Says l i → step s i ≡ Err c) → IsRefusedAt t n
 refused_at_line t s n rest l after c st e all = record {
   least = fronts t s n rest st;
@@ -245,7 +245,7 @@ refused_at_line t s n rest l after c st e all = record {
       omega (arith, len, length-map st.said line, st.number);
 }
 
-pub refused_at_end : (t : List ℕ) (s : State) (n : ℕ) (rest : List ℕ) → Stands t s n rest → split rest ≡ ([], rest) → IsRefusedAt t n
+pub refused_at_end : (t : List ℕ) (s : State) (n : ℕ) (rest : List ℕ) → HasRead t s n rest → split rest ≡ ([], rest) → IsRefusedAt t n
 refused_at_end t s n rest st e =
     let len : length (lines t) ≡ length (map line st.said) = ap (λ (p : List Line × List ℕ). length p.0) st.parts ∙ ap (λ (p : List Line × List ℕ). length (map line st.said ++ p.0)) e ∙ ap length (append-nil (map line st.said)) in
     record {

@@ -8,7 +8,7 @@ use Rattle.chan_walk.proofs.Theory.Lists.{all_append}
 use Rattle.chan_deck.specs.Item.{Item, line, text, HasForm, Says}
 use Rattle.chan_deck.specs.Image.{Image, items, Spells}
 use Rattle.chan_deck.specs.Refused.{split, lines, IsRefusedAt, Found, whole_line, part, found_in, found_behind, AreSaid, IsCause, IsRefused, rank}
-use Rattle.chan_deck.specs.Reading.{State, Opening, Whole, Stands, step, go_on, run, is_whole, Refuses, IsRefusal}
+use Rattle.chan_deck.specs.Reading.{State, Opening, Whole, HasRead, step, go_on, run, is_whole, Refuses, IsRefusal}
 use Rattle.chan_deck.specs.declared.error.DeckError.{DeckError}
 use Rattle.chan_deck.specs.declared.error.DeckError.TheVariants as errors
 use Rattle.chan_deck.proofs.LineFeeds.{some_line, no_line}
@@ -20,13 +20,13 @@ use Rattle.chan_deck.specs.declared.cause.Cause.{Cause}
 use Rattle.chan_deck.specs.declared.cause.Cause.TheVariants as causes
 
 -- nothing is read yet
-pub starts : (t : List ℕ) → Stands t Opening 1 t
+pub starts : (t : List ℕ) → HasRead t Opening 1 t
 starts t = record { said = []; forms = tt; runs = refl; parts = refl; number = refl }
 
 -- a line that is taken
 pub takes : (t : List ℕ) (s next : State) (n : ℕ) (rest l after : List ℕ) (i : Item)
-    → Stands t s n rest → split rest ≡ (l ∷ (split after).0, (split after).1) → Says l i
-    → step s i ≡ Ok next → Stands t next (n + 1) after
+    → HasRead t s n rest → split rest ≡ (l ∷ (split after).0, (split after).1) → Says l i
+    → step s i ≡ Ok next → HasRead t next (n + 1) after
 takes t s next n rest l after i st e says goes = record {
   said = st.said ++ i ∷ [];
   forms = all_append HasForm st.said (i ∷ []) st.forms (says.0, tt);
@@ -40,20 +40,20 @@ takes t s next n rest l after i st e says goes = record {
 
 -- ---- refusals
 
-behind_said : (t : List ℕ) (s : State) (n : ℕ) (rest : List ℕ) (st : Stands t s n rest) → found_behind (n - 1) t ≡ found_in (split rest).0 (split rest).1
+behind_said : (t : List ℕ) (s : State) (n : ℕ) (rest : List ℕ) (st : HasRead t s n rest) → found_behind (n - 1) t ≡ found_in (split rest).0 (split rest).1
 behind_said t s n rest st =
     let ls = map line st.said in
     let k : n - 1 ≡ length ls = omega (arith, length-map st.said line, st.number) in
     ap (λ j. found_in (drop j (lines t)) (split t).1) k ∙ ap (λ (p : List (List ℕ) × List ℕ). found_in (drop (length ls) p.0) p.1) st.parts ∙ ap (λ x. found_in x (split rest).1) (drop-append_seam ls (split rest).0)
 
-are_said : (t : List ℕ) (s : State) (n : ℕ) (rest : List ℕ) (st : Stands t s n rest) → AreSaid (n - 1) t st.said
+are_said : (t : List ℕ) (s : State) (n : ℕ) (rest : List ℕ) (st : HasRead t s n rest) → AreSaid (n - 1) t st.said
 are_said t s n rest st =
     let ls = map line st.said in
     let k : n - 1 ≡ length ls = omega (arith, length-map st.said line, st.number) in
     (st.forms, sym (ap (λ j. take j (lines t)) k ∙ ap (λ (p : List (List ℕ) × List ℕ). take (length ls) p.0) st.parts ∙ take-append_seam ls (split rest).0))
 
 with_cause : (t : List ℕ) (s : State) (n : ℕ) (rest : List ℕ) (found : Found) (c : Cause)
-    (st : Stands t s n rest)
+    (st : HasRead t s n rest)
     → found_in (split rest).0 (split rest).1 ≡ found → IsCause (said s) found c
     → (before : List Item) × AreSaid (n - 1) t before × IsCause before (found_behind (n - 1) t) c
 with_cause t s n rest found c st e h = (
@@ -63,7 +63,7 @@ with_cause t s n rest found c st e h = (
 )
 
 -- a line that is refused
-pub refuses_line : (t : List ℕ) (s : State) (n : ℕ) (rest l after : List ℕ) (c : Cause) → Stands t s n rest → split rest ≡ (l ∷ (split after).0, (split after).1) → Refuses s l c → IsRefused t n c
+pub refuses_line : (t : List ℕ) (s : State) (n : ℕ) (rest l after : List ℕ) (c : Cause) → HasRead t s n rest → split rest ≡ (l ∷ (split after).0, (split after).1) → Refuses s l c → IsRefused t n c
 refuses_line t s n rest l after c st e refuses =
     let all = all_refused s l c refuses in
     record {
@@ -78,14 +78,14 @@ not_whole s d r e f g =
     absurd (cc (ap is_whole same, e))
 
 -- a deck whose lines these are has been read
-deck_read : (t : List ℕ) (s : State) (n : ℕ) (rest : List ℕ) (d : Image) (st : Stands t s n rest) → Spells t d → (split rest).0 ≡ [] → (run Opening st.said ≡ Ok (Whole d)) × ((split rest).1 ≡ [])
+deck_read : (t : List ℕ) (s : State) (n : ℕ) (rest : List ℕ) (d : Image) (st : HasRead t s n rest) → Spells t d → (split rest).0 ≡ [] → (run Opening st.said ≡ Ok (Whole d)) × ((split rest).1 ≡ [])
 deck_read t s n rest d st spells none =
     let same : (map line st.said ++ (split rest).0, (split rest).1) ≡ (map line (items d), []) = sym st.parts ∙ ap (λ x. split x) spells.1 ∙ split_deck d in
     let lines_same : map line st.said ≡ map line (items d) = sym (append-nil (map line st.said)) ∙ ap (λ x. map line st.said ++ x) (sym none) ∙ ap (λ (p : List (List ℕ) × List ℕ). p.0) same in
     (ap (λ x. run Opening x) (said_once st.said (items d) st.forms (items_form d spells.0) lines_same) ∙ reads_deck d spells.0, ap (λ (p : List (List ℕ) × List ℕ). p.1) same)
 
 -- the text ends before `end`
-pub refuses_end : (t : List ℕ) (s : State) (n : ℕ) (rest : List ℕ) → Stands t s n rest → split rest ≡ ([], rest) → is_whole s ≡ false → IsRefused t n causes.Ended
+pub refuses_end : (t : List ℕ) (s : State) (n : ℕ) (rest : List ℕ) → HasRead t s n rest → split rest ≡ ([], rest) → is_whole s ≡ false → IsRefused t n causes.Ended
 refuses_end t s n rest st e open_yet = record {
   none = λ d spells. not_whole s d (run Opening st.said) open_yet st.runs (deck_read t s n rest d st spells (ap (λ (p : List (List ℕ) × List ℕ). p.0) e)).0;
   at_line = refused_at_end t s n rest st e;
@@ -104,7 +104,7 @@ pub stands_first : (t : List ℕ) → StandsFirst t
 stands_first t = first_by t (position (λ b. b == 10) t) refl
 
 -- a byte follows `end`
-pub refuses_more : (t : List ℕ) (d : Image) (n b : ℕ) (rest : List ℕ) → Stands t (Whole d) n (b ∷ rest) → IsRefused t n causes.After
+pub refuses_more : (t : List ℕ) (d : Image) (n b : ℕ) (rest : List ℕ) → HasRead t (Whole d) n (b ∷ rest) → IsRefused t n causes.After
 refuses_more t d n b rest st =
     elim (stands_first (b ∷ rest)) [
       | inl x ↦ refuses_line t (Whole d) n (b ∷ rest) x.0 x.1 causes.After st x.2 (inr (λ i says. refl, refl))
@@ -119,7 +119,7 @@ refuses_more t d n b rest st =
 -- ---- decks
 
 -- the text has been read to its end
-pub spells_deck : (t : List ℕ) (d : Image) (n : ℕ) → Stands t (Whole d) n [] → Spells t d
+pub spells_deck : (t : List ℕ) (d : Image) (n : ℕ) → HasRead t (Whole d) n [] → Spells t d
 unfolding split
 spells_deck t d n st =
     let parts : split t ≡ (map line st.said, []) = st.parts ∙ ap (λ x. (x, [])) (append-nil (map line st.said)) in

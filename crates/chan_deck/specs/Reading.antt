@@ -143,7 +143,7 @@ run s [] = Ok s
 run s (i ∷ is) = go_on (step s i) (λ next. run next is)
 
 -- the text has been read up to line n, from which on rest is left, and what was read is the state
-pub record Stands (t : List ℕ) (s : State) (n : ℕ) (rest : List ℕ) : Type 0 where
+pub record HasRead (t : List ℕ) (s : State) (n : ℕ) (rest : List ℕ) : Type 0 where
   pub said : List Item
   pub forms : AllByRecursion HasForm said
   pub runs : run Opening said ≡ Ok s
@@ -163,20 +163,21 @@ IsRefusal t (errors.At n c) = IsRefused t n c
 IsRefusal t errors.Memory = Unit {0}
 
 -- what was read is the state, and the cursor stands behind it
-abbrev pub StandsAt : List ℕ → State → Cursor → Type 0
-StandsAt t s c = Stands t s (c.line + 1) c.rest.now
+abbrev pub HasReadTo : List ℕ → State → Cursor → Type 0
+HasReadTo t s c = HasRead t s (c.line + 1) c.rest.now
 
 -- wherever reading stands so, it goes on to stand otherwise
 abbrev pub Leads : State → Cursor → State → Cursor → Type 0
-Leads s c next d = (t : List ℕ) → StandsAt t s c → StandsAt t next d
+Leads s c next d = (t : List ℕ) → HasReadTo t s c → HasReadTo t next d
 
 -- wherever reading stands so, the error is that of the text, or want of memory
 abbrev pub Fails : State → Cursor → DeckError → Type 0
-Fails s c e = (t : List ℕ) → StandsAt t s c → IsRefusal t e
+Fails s c e = (t : List ℕ) → HasReadTo t s c → IsRefusal t e
 
 -- reading goes on to what is made of what was read, or it fails
-abbrev pub Goes : {X : Type 0} → State → Cursor → Result X DeckError → (X → State) → Cursor → Type 0
-Goes s c result next d = MatchResult result (λ x. Leads s c (next x) d) (Fails s c)
+abbrev pub LeadsOrFails : {X : Type 0} → State → Cursor → Result X DeckError → (X → State)
+    → Cursor → Type 0
+LeadsOrFails s c result next d = MatchResult result (λ x. Leads s c (next x) d) (Fails s c)
 
 -- a deck is whole
 abbrev pub is_whole : State → Bool
@@ -184,7 +185,7 @@ is_whole (Whole d) = true
 is_whole _ = false
 
 -- the line is what comes next in the text
-pub record IsNext (c : Cursor) (l : List ℕ) (d : Cursor) : Type 0 where
+pub record IsNextLine (c : Cursor) (l : List ℕ) (d : Cursor) : Type 0 where
   pub takes :
       (s next : State) (i : Item) → Says l i → step s i ≡ Ok next → Leads s c next d
   pub refuses : (s : State) (cause : Cause) → Refuses s l cause → Fails s c (errors.At d.line cause)

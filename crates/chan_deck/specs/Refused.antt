@@ -138,15 +138,15 @@ Applies before (whole_line l) Limit = (n : ℕ) × Says l (limit n) × (is_limit
 Applies before found cause = ⊥
 
 -- behind `end` the cause After alone applies, whatever stands there
-abbrev pub Follows : Found → Cause → Type 0
-Follows (whole_line l) After = Unit {0}
-Follows (part (b ∷ rest)) After = Unit {0}
-Follows found cause = ⊥
+abbrev pub AppliesBehindEnd : Found → Cause → Type 0
+AppliesBehindEnd (whole_line l) After = Unit {0}
+AppliesBehindEnd (part (b ∷ rest)) After = Unit {0}
+AppliesBehindEnd found cause = ⊥
 
 -- the cause applies to what is found behind these lines
 abbrev pub CountsAgainst : List Item → Found → Cause → Type 0
 CountsAgainst before found cause =
-    MatchBool (has_ended before) (Follows found cause) (Applies before found cause)
+    MatchBool (has_ended before) (AppliesBehindEnd found cause) (Applies before found cause)
 
 -- the place of a cause in the table
 abbrev pub rank : Cause → ℕ

@@ -3,8 +3,8 @@
 ghost use Rattle.std.specs.Prelude.{◌≡◌, ℕ, [], MatchResult};
 ghost use Rattle.ckd_core.specs.declared.device.Device.{Device};
 ghost use Rattle.chan_deck.specs.Digits.{AreValues};
-ghost use Rattle.chan_deck.specs.Reading.{Goes, IsRefusal, Listing, Masked, Named, OnDevice};
-ghost use Rattle.chan_deck.specs.Reading.{StandsAt, Started, on_start};
+ghost use Rattle.chan_deck.specs.Reading.{HasReadTo, IsRefusal, LeadsOrFails, Listing, Masked};
+ghost use Rattle.chan_deck.specs.Reading.{Named, OnDevice, Started, on_start};
 ghost use Rattle.chan_deck.specs.declared.version.Version.TheVariants.{Two};
 ghost use Rattle.chan_deck.specs.declared.version.VersionNumber.{VersionNumber};
 
@@ -32,7 +32,7 @@ pub(crate) fn read_header<'a>(
     values: &'a DigitValues,
 ) -> Result<(VersionNumber, Cursor<'a>), DeckError>
     requires { AreValues values.now }
-    ensures { MatchResult result (λ x. StandsAt text.now (Named x.0) x.1) (IsRefusal text.now) }
+    ensures { MatchResult result (λ x. HasReadTo text.now (Named x.0) x.1) (IsRefusal text.now) }
 {
     let Some((line, rest)) = next_line(text) else {
         return Err(At {
@@ -51,7 +51,7 @@ pub(crate) fn read_header<'a>(
 
 fn read_device(cursor: &mut Cursor) -> Result<Device, DeckError>
     ensures { (h : VersionNumber)
-        → Goes (Named h) cursor.old result (λ v. OnDevice h v) cursor.new }
+        → LeadsOrFails (Named h) cursor.old result (λ v. OnDevice h v) cursor.new }
 {
     let line = cursor.next_line()?;
     match device_of(line) {
@@ -62,7 +62,7 @@ fn read_device(cursor: &mut Cursor) -> Result<Device, DeckError>
 
 fn read_mask(cursor: &mut Cursor) -> Result<FileMask, DeckError>
     ensures { (h : VersionNumber) (v : Device)
-        → Goes (OnDevice h v) cursor.old result (λ m. Masked h v m) cursor.new }
+        → LeadsOrFails (OnDevice h v) cursor.old result (λ m. Masked h v m) cursor.new }
 {
     let line = cursor.next_line()?;
     let Some(byte) = mask_of(line, cursor.values) else {
@@ -77,7 +77,7 @@ fn read_mask(cursor: &mut Cursor) -> Result<FileMask, DeckError>
 /// The address of the first CCW.
 fn read_start(cursor: &mut Cursor) -> Result<u32, DeckError>
     ensures { (h : VersionNumber) (v : Device) (m : ℕ)
-        → Goes (Masked h v m) cursor.old result (λ a. on_start h v m a) cursor.new }
+        → LeadsOrFails (Masked h v m) cursor.old result (λ a. on_start h v m a) cursor.new }
 {
     let line = cursor.next_line()?;
     match start_of(line, cursor.values) {
@@ -88,7 +88,7 @@ fn read_start(cursor: &mut Cursor) -> Result<u32, DeckError>
 
 /// The limit on places, which version 2 has.
 fn read_limit(cursor: &mut Cursor) -> Result<Limit, DeckError>
-    ensures { (v : Device) (m a : ℕ) → Goes (Started v m a) cursor.old result
+    ensures { (v : Device) (m a : ℕ) → LeadsOrFails (Started v m a) cursor.old result
         (λ n. Listing (record { version = Two n; device = v; mask = m; start = a }) [] [] [])
         cursor.new }
 {
@@ -104,7 +104,7 @@ fn read_limit(cursor: &mut Cursor) -> Result<Limit, DeckError>
 
 /// The lines from that of the device to that of the first extent.
 pub(crate) fn read_heading(number: VersionNumber, cursor: &mut Cursor) -> Result<Heading, DeckError>
-    ensures { Goes (Named number) cursor.old result (λ h. Listing h [] [] []) cursor.new }
+    ensures { LeadsOrFails (Named number) cursor.old result (λ h. Listing h [] [] []) cursor.new }
 {
     let device = read_device(cursor)?;
     let mask = read_mask(cursor)?;

@@ -68,7 +68,7 @@ pub(crate) struct Cursor<'a> {
 impl<'a> Cursor<'a> {
     ghost use Rattle.std.specs.Prelude.{ℕ, List, IfOk, MatchResult};
     ghost use Rattle.chan_deck.specs.Image.{Image, Spells};
-    ghost use Rattle.chan_deck.specs.Reading.{FailsAtEnd, IsNext, IsRefusal, StandsAt, Whole};
+    ghost use Rattle.chan_deck.specs.Reading.{FailsAtEnd, IsNextLine, IsRefusal, HasReadTo, Whole};
     ghost use Rattle.chan_deck.specs.declared.error.DeckError.TheVariants as errors;
 
     /// A cursor behind the header.
@@ -89,7 +89,7 @@ impl<'a> Cursor<'a> {
     /// cursor keeps it in registers.
     #[inline(always)]
     pub(crate) fn next_line(&mut self) -> Result<&'a [u8], DeckError>
-        ensures next { MatchResult result (λ l. IsNext self.old l.now self.new)
+        ensures next { MatchResult result (λ l. IsNextLine self.old l.now self.new)
             (FailsAtEnd self.old) }
         ensures shorter { IfOk result (λ l. length self.new.rest.now < length self.old.rest.now) }
     {
@@ -123,7 +123,7 @@ impl<'a> Cursor<'a> {
 
     /// Nothing follows the line that was read last, which ends a deck.
     pub(crate) fn end(&self) -> Result<(), DeckError>
-        ensures { (t : List ℕ) (d : Image) → StandsAt t (Whole d) self.now
+        ensures { (t : List ℕ) (d : Image) → HasReadTo t (Whole d) self.now
             → MatchResult result (λ done. Spells t d) (IsRefusal t) }
     {
         if self.rest.is_empty() {

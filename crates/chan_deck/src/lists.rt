@@ -2,7 +2,7 @@
 
 ghost use Rattle.std.specs.Prelude.{◌≡◌, ◌≤◌, ◌^◌, [], IfOk};
 ghost use Rattle.chan_deck.specs.Refused.{is_size as size_test};
-ghost use Rattle.chan_deck.specs.Reading.{Filling, Goes, Listing};
+ghost use Rattle.chan_deck.specs.Reading.{Filling, LeadsOrFails, Listing};
 ghost use Rattle.chan_deck.specs.declared.heading.Heading.{Heading};
 
 use crate::cause::Cause;
@@ -24,7 +24,7 @@ fn is_size(n: u32) -> bool
 
 /// Reads the lists, and the number of bytes that the line of storage behind them says.
 pub(crate) fn read_lists(alloc: Global, cursor: &mut Cursor) -> Result<(Lists, usize), DeckError>
-    ensures goes { (h : Heading) → Goes (Listing h [] [] []) cursor.old result
+    ensures goes { (h : Heading) → LeadsOrFails (Listing h [] [] []) cursor.old result
         (λ x. Filling h x.0.extents.items x.0.fetch.items x.0.store.items x.1 []) cursor.new }
     ensures size { IfOk result (λ x. x.1 ≤ 2 ^ 24) }
 {

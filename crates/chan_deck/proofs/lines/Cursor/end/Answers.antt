@@ -2,17 +2,17 @@ use Rattle.std.proofs.Common.{◌≡◌, ◌<◌, ℕ, List, [], ◌∷◌, leng
 use Rattle.std.proofs.lemmas.Bool.{eqb-true}
 use Rattle.chan_deck.specs.Image.{Image, Spells}
 use Rattle.chan_deck.specs.Refused.{IsRefused}
-use Rattle.chan_deck.specs.Reading.{Stands, Whole}
+use Rattle.chan_deck.specs.Reading.{HasRead, Whole}
 use Rattle.chan_deck.specs.declared.cause.Cause.TheVariants as causes
 use Rattle.chan_deck.proofs.StepLemmas.{not_zero}
 use Rattle.chan_deck.proofs.RefusalLemmas.{spells_deck, refuses_more}
 use Rattle.chan_deck.proofs.lines.Cursor.end.Goals as goal
 
-spells_whole : (t : List ℕ) (d : Image) (n : ℕ) (rest : List ℕ) → Stands t (Whole d) n rest → length rest ≡ 0 → Spells t d
+spells_whole : (t : List ℕ) (d : Image) (n : ℕ) (rest : List ℕ) → HasRead t (Whole d) n rest → length rest ≡ 0 → Spells t d
 spells_whole t d n [] st len = spells_deck t d n st
 spells_whole t d n (b ∷ rest) st len = absurd (omega arith)
 
-more_whole : (t : List ℕ) (d : Image) (n : ℕ) (rest : List ℕ) → Stands t (Whole d) n rest → 0 < length rest → IsRefused t n causes.After
+more_whole : (t : List ℕ) (d : Image) (n : ℕ) (rest : List ℕ) → HasRead t (Whole d) n rest → 0 < length rest → IsRefused t n causes.After
 more_whole t d n [] st len = absurd (omega arith)
 more_whole t d n (b ∷ rest) st len = refuses_more t d n b rest st
 
