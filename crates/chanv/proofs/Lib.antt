@@ -1,8 +1,9 @@
+pub mod Names
 pub mod CommandSteps
-pub mod NamedCommands
-pub mod ShownWord
+pub mod SoundWalks
 pub mod TakenLines
 pub mod FileWords
-pub mod ImageWords
-pub mod OptionWords
+pub mod LevelWords
+pub mod Requests
 pub mod PlainLines
+pub mod ImageWords

@@ -1,8 +1,5 @@
-use Rattle.std.proofs.Common.{ap, ◌∙◌}
-use Rattle.std.proofs.lemmas.Result.{IfOk-weaker}
-use Rattle.clap.specs.Words.{App, with_subcommand}
-use Rattle.chanv.specs.CommandLine.{explain_line, with_tellers}
-use Rattle.chanv.specs.ImageLine.{image_line}
+use Rattle.chanv.proofs.Names.{◌∙◌, App, IfOk-weaker, ap, explain_line, image_line, with_subcommand}
+use Rattle.chanv.proofs.Names.{with_tellers}
 use Rattle.chanv.proofs.command_line.command.Goals as goal
 
 pub returns : goal.returns

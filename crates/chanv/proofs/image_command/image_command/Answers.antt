@@ -1,12 +1,7 @@
-use Rattle.std.proofs.Common.{◌≡◌, ◌∙◌, Bool, rules, ap, codes}
-use Rattle.std.proofs.lemmas.Result.{IfOk-weaker}
-use Rattle.clap.specs.Words.{new_app, with_rule}
-use Rattle.clap.specs.Simple.{app_of_fields}
-use Rattle.clap.specs.declared.builder.command.Command.{Command}
-use Rattle.clap.specs.declared.builder.command.Command.TheOpen.{Command-F}
-use Rattle.chanv.specs.CommandWords.{IsCommand, file_word}
-use Rattle.chanv.specs.ImageLine.{job_options}
+use Rattle.std.proofs.Common.{rules}
 use Rattle.chanv.proofs.CommandSteps.{IsWord, adds}
+use Rattle.chanv.proofs.Names.{◌∙◌, ◌≡◌, Bool, Command, Command-F, IfOk-weaker, IsCommand, ap}
+use Rattle.chanv.proofs.Names.{app_of_fields, codes, file_word, job_options, new_app, with_rule}
 use Rattle.chanv.proofs.image_command.image_command.Goals as goal
 
 abbrev has_globals : Command-F Command → Bool

@@ -1,7 +1,5 @@
-use Rattle.std.proofs.Common.{◌≡◌, ◌∙◌, codes}
-use Rattle.clap.proofs.WalkLemmas.{first_value-rows}
-use Rattle.clap.specs.Words.{found_of, rows_of}
 use Rattle.chanv.proofs.ImageWords.{one_text}
+use Rattle.chanv.proofs.Names.{◌∙◌, ◌≡◌, codes, first_value-rows, found_of, rows_of}
 use Rattle.chanv.proofs.image_command.image_request.Goals as goal
 
 pub returns : goal.returns

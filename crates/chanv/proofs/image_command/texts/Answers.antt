@@ -1,8 +1,6 @@
-use Rattle.std.proofs.Common.{◌≡◌, ◌∙◌, ◌++◌, ap, refl}
-use Rattle.clap.proofs.WalkLemmas.{raw_values-rows}
-use Rattle.clap.specs.Words.{found_of, rows_of}
-use Rattle.chanv.specs.CommandWords.{texts_of}
 use Rattle.chanv.proofs.ImageWords.{more_texts}
+use Rattle.chanv.proofs.Names.{◌++◌, ◌∙◌, ◌≡◌, ap, found_of, raw_values-rows, refl, rows_of}
+use Rattle.chanv.proofs.Names.{texts_of}
 use Rattle.chanv.proofs.image_command.texts.Goals as goal
 
 pub returns : goal.returns
