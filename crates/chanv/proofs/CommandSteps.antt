@@ -1,8 +1,8 @@
 -- A command to which words and commands are added.
-use Rattle.chanv.proofs.Names.{◌||◌, ◌∙◌, ◌≡◌, AddsArg, AddsSubcommand, App, Append, Arg, Bool}
-use Rattle.chanv.proofs.Names.{Command, IsCommand, Rule, Some, ap, app_of, ap₂, false, needed}
-use Rattle.chanv.proofs.Names.{out-Command, refl, repeated, rule_of, true, with_rule}
-use Rattle.chanv.proofs.Names.{with_subcommand}
+use Rattle.std.proofs.Common.{◌||◌, ◌∙◌, ◌≡◌, Bool, Some, ap, ap₂, false, refl, true}
+use Rattle.clap.specs.declared.builder.action.ArgAction.TheVariants.{Append}
+use Rattle.chanv.proofs.Names.{AddsArg, AddsSubcommand, App, Arg, Command, IsCommand, Rule, app_of}
+use Rattle.chanv.proofs.Names.{needed, out-Command, repeated, rule_of, with_rule, with_subcommand}
 
 -- the word has this rule, and holds for its own command alone
 abbrev pub IsWord : Rule → Arg → Type 0

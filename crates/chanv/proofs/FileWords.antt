@@ -1,16 +1,15 @@
--- The words after `verify`, where none of them is an option: nothing is wrong with them, and they
--- are its files.
+-- The words after a command: files, one word, or the options of `deck`.
+use Rattle.std.proofs.Common.{◌++◌, ◌∙◌, ◌∷◌, ◌≡◌, Bool, List, None, Some, [], ap, codes, false}
+use Rattle.std.proofs.Common.{inl, inr, refl, subst, sym, true}
 use Rattle.clap.proofs.OnLiterals.{clap_on_literals}
-use Rattle.clap.specs.Faults.{defaults_fault, walk_fault}
-use Rattle.clap.specs.Walk.{walked}
-use Rattle.chanv.proofs.SoundWalks.{sub_at}
-use Rattle.chanv.proofs.Names.{◌++◌, ◌∙◌, ◌∷◌, ◌≡◌, All, All-head, All-tail, CommandLine, IsFile}
-use Rattle.chanv.proofs.Names.{Kinds, List, None, Row, Shape, Some, Text, Walk, [], ap}
-use Rattle.chanv.proofs.Names.{append_assoc, bytes_eq, ccw_word, check_fault, codes, false}
-use Rattle.chanv.proofs.Names.{files_in, finished, fold, inl, inr, level_fault, long_of}
-use Rattle.chanv.proofs.Names.{nothing_held, or_else, positional, reading_by, refl, rows_at}
-use Rattle.chanv.proofs.Names.{settle_fault, settled, short_of, slice_index_or, starts_with_minus}
-use Rattle.chanv.proofs.Names.{strip_byte, subst, sym, turn_fault, walk_from}
+use Rattle.clap.specs.Faults.{level_fault, turn_fault, walk_fault}
+use Rattle.clap.specs.Walk.{Row, Text, Waiting, Walk, all_of, finished, first_of, idle}
+use Rattle.clap.specs.Walk.{nothing_held, positional, reading_by, walk_from, walked}
+use Rattle.clap.specs.declared.error.kind.ErrorKind.TheVariants.{UnknownArgument}
+use Rattle.chanv.proofs.TakenLines.{end_kinds, rule_at, sub_at}
+use Rattle.chanv.specs.CommandLine.{IsFile}
+use Rattle.chanv.proofs.Names.{All, All-head, All-tail, CommandLine, Rule, Shape, append_assoc}
+use Rattle.chanv.proofs.Names.{bytes_eq, files_in, fold, long_of, or_else, short_of}
 
 -- ---- a word that is no flag
 
@@ -19,30 +18,13 @@ abbrev pub IsValue : Text → Type 0
 IsValue word =
     (long_of word ≡ None) × (short_of word ≡ None) × (bytes_eq word (45 ∷ 45 ∷ []) ≡ false)
 
--- a text that begins with no hyphen is no flag
-no_strip : (text : Text) → starts_with_minus text ≡ false → strip_byte 45 text ≡ None
-no_strip [] plain = refl
-no_strip (x ∷ xs) plain = rw plain refl
-
--- nor is it `--`
-no_dashes : (text : Text) → starts_with_minus text ≡ false
-    → bytes_eq text (45 ∷ 45 ∷ []) ≡ false
-no_dashes [] plain = refl
-no_dashes (x ∷ xs) plain = rw plain refl
-
 -- what may stand for a file is a value
 pub is_value : (word : Text) → IsFile word → IsValue word
 is_value word (inl dash) = subst IsValue (sym dash) (refl, refl, refl)
-is_value word (inr plain) =
-    (rw (no_strip word plain) refl, rw (no_strip word plain) refl, no_dashes word plain)
+is_value [] (inr plain) = (refl, refl, refl)
+is_value (x ∷ xs) (inr plain) = (rw plain refl, rw plain refl, rw plain refl)
 
 -- ---- the words of one command
-
--- what is wrong where the words of a command have ended
-abbrev pub end_kinds : Shape → Walk → Kinds
-end_kinds s w = or_else (settle_fault s.rules s.args_override_self w.held)
-    (or_else (defaults_fault (settled s.rules w.held).rows s.rules)
-    (check_fault s (finished s.rules w.held) false))
 
 -- nothing is wrong with the words from here on, and what is found in the end has the property
 pub record Goes (s : Shape) (w : Walk) (words : List Text) (P : List Row → Type 0) : Type 0 where
@@ -63,10 +45,29 @@ turned s w next word rest P sound step goes =
       found = here.found;
     }
 
--- nothing is wrong with the words after a command, and the property holds of what is found
-pub record Gives (s : Shape) (words : List Text) (P : List Row → Type 0) : Type 0 where
-  pub sound : level_fault s [] nothing_held words false [] ≡ []
-  pub found : P (rows_at s words).1
+-- the same of all the words after a command
+abbrev pub Gives : Shape → List Text → (List Row → Type 0) → Type 0
+Gives s = Goes s (walk_from nothing_held)
+
+-- what is found for an argument that is given
+abbrev given : Rule → List Text → Row
+given rule values = record {
+  id = rule.id;
+  values = values;
+  count = None;
+  source = Some CommandLine;
+  reading = reading_by rule;
+}
+
+-- the walk behind an argument's value, which waits to be used
+abbrev behind_value : List Row → Text → Text → Waiting → Walk
+behind_value rows id word waiting = record {
+  held = record { rows = rows; pending = Some (id, word ∷ []); skip = 0 };
+  waiting = waiting;
+  position = 1;
+  is_trailing = false;
+  stopped = None;
+}
 
 -- ---- the words after `verify`
 
@@ -76,23 +77,11 @@ verify = sub_at 1
 -- what is found for files that are used
 abbrev rows_for : List Text → List Row
 rows_for [] = []
-rows_for (v ∷ vs) = record {
-  id = codes "FILE";
-  values = v ∷ vs;
-  count = None;
-  source = Some CommandLine;
-  reading = reading_by (slice_index_or verify.rules 0 ccw_word);
-} ∷ []
+rows_for (v ∷ vs) = given (rule_at verify 0) (v ∷ vs) ∷ []
 
 -- the walk behind these words, of which the last waits to be used
 abbrev behind : List Text → Text → Walk
-behind front last = record {
-  held = record { rows = rows_for front; pending = Some (codes "FILE", last ∷ []); skip = 0 };
-  waiting = positional;
-  position = 1;
-  is_trailing = false;
-  stopped = None;
-}
+behind front last = behind_value (rows_for front) (codes "FILE") last positional
 
 -- the first word leads behind it
 first : (word : Text) → IsValue word → (turn_fault verify [] (walk_from nothing_held) word ≡ [])
@@ -133,6 +122,76 @@ unfolding clap_on_literals
 files_are_found [] files = record { sound = refl; found = refl }
 files_are_found (file ∷ rest) files =
     let here = first file (is_value file (All-head IsFile file rest files)) in
-    let goes = turned verify (walk_from nothing_held) _ file rest (λ rows. files_in rows ≡ file ∷ rest) here.0 here.1
-    (ends [] file rest (All-tail IsFile file rest files)) in
-    record { sound = goes.sound; found = goes.found }
+    turned verify (walk_from nothing_held) _ file rest (λ rows. files_in rows ≡ file ∷ rest)
+    here.0 here.1 (ends [] file rest (All-tail IsFile file rest files))
+
+-- ---- one word
+
+-- a command of this name, as clap builds it, with one word of this id
+abbrev pub one_word : Text → Text → Bool → Shape
+one_word name id required = record (sub_at 2) {
+  name = name;
+  rules = record (rule_at (sub_at 2) 0) { id = id; required = required } ∷ rule_at (sub_at 2) 1 ∷ [];
+}
+
+-- a word is what is found for it
+pub word_is_found : (name id word : Text) (required : Bool) → bytes_eq id id ≡ true
+    → bytes_eq id (codes "help") ≡ false → bytes_eq (codes "help") id ≡ false → IsValue word
+    → Gives (one_word name id required) (word ∷ [])
+    (λ rows. rows ≡ given (record (rule_at (sub_at 2) 0) { id = id }) (word ∷ []) ∷ [])
+unfolding clap_on_literals
+word_is_found name id word true same other other-2 value = record {
+  sound = simp (value.0, value.1, value.2, same, other, other-2) refl;
+  found = simp (value.0, value.1, value.2, same, other, other-2) refl;
+}
+word_is_found name id word false same other other-2 value = record {
+  sound = simp (value.0, value.1, value.2, same, other, other-2) refl;
+  found = simp (value.0, value.1, value.2, same, other, other-2) refl;
+}
+
+-- a second word is a fault
+pub second_is_stray : (name id word more : Text) (rest : List Text) (required : Bool)
+    → IsValue word → IsValue more
+    → level_fault (one_word name id required) [] nothing_held (word ∷ more ∷ rest) false []
+    ≡ UnknownArgument ∷ []
+unfolding clap_on_literals
+second_is_stray name id word more rest required value value-2 =
+    simp (value.0, value.1, value.2, value-2.0, value-2.1, value-2.2) refl
+
+-- ---- the options of `deck`
+
+-- a start and an extent
+abbrev pub option_words : Text → Text → List Text
+option_words start extent = codes "--start" ∷ start ∷ codes "--extent" ∷ extent ∷ []
+
+-- only they are found
+abbrev pub HasTwo : Text → Text → List Row → Type 0
+HasTwo start extent rows =
+    (first_of (codes "device") rows ≡ None) × (first_of (codes "mask") rows ≡ None)
+    × (first_of (codes "start") rows ≡ Some start) × (first_of (codes "limit") rows ≡ None)
+    × (all_of (codes "extent") rows ≡ Some (extent ∷ [])) × (all_of (codes "fetch") rows ≡ None)
+    × (all_of (codes "store") rows ≡ None) × (first_of (codes "at") rows ≡ None)
+    × (first_of (codes "FILE") rows ≡ None)
+
+-- nothing is wrong with the extent, and both are found
+extent_goes : (start extent : Text) → IsValue extent
+    → Goes (sub_at 5) (behind_value [] (codes "start") start idle) (codes "--extent" ∷ extent ∷ [])
+    (HasTwo start extent)
+unfolding clap_on_literals
+extent_goes start extent value = turned (sub_at 5) _
+    (walked (sub_at 5).rules [] (behind_value [] (codes "start") start idle) (codes "--extent")) _ _ _ refl refl
+    (turned (sub_at 5) _ (behind_value (given (rule_at (sub_at 5) 2) (start ∷ []) ∷ []) (codes "extent") extent idle) extent [] _
+    (simp (value.0, value.1, value.2) refl) (simp (value.0, value.1, value.2) refl)
+    (record { sound = refl; found = (refl, refl, refl, refl, refl, refl, refl, refl, refl) }))
+
+-- nor with the start
+pub options_are_given : (start extent : Text) → IsValue start → IsValue extent
+    → Gives (sub_at 5) (option_words start extent) (HasTwo start extent)
+unfolding clap_on_literals
+options_are_given start extent value value-2 =
+    turned (sub_at 5) (walk_from nothing_held)
+    (walked (sub_at 5).rules [] (walk_from nothing_held) (codes "--start")) (codes "--start") _
+    (HasTwo start extent) refl refl
+    (turned (sub_at 5) _ (behind_value [] (codes "start") start idle) start _ _
+    (simp (value.0, value.1, value.2) refl) (simp (value.0, value.1, value.2) refl)
+    (extent_goes start extent value-2))

@@ -1,7 +1,9 @@
 -- What clap gives for the options of `deck` is what its rows have.
-use Rattle.chanv.proofs.Names.{◌∙◌, ◌≡◌, Bor, List, None, Option, Row, Some, Text, [], all_of, ap}
-use Rattle.chanv.proofs.Names.{codes, file_in, first_of, option_map, other_than_input, refl, sym}
-use Rattle.chanv.proofs.Names.{text_or, texts_in, texts_of, unwrap_or}
+use Rattle.std.proofs.Common.{◌∙◌, ◌≡◌, List, None, Option, Some, [], ap, codes, refl, sym}
+use Rattle.std.proofs.Common.{unwrap_or}
+use Rattle.clap.specs.Walk.{Row, Text, all_of, first_of}
+use Rattle.chanv.proofs.Names.{Bor, file_in, option_map, other_than_input, text_or, texts_in}
+use Rattle.chanv.proofs.Names.{texts_of}
 
 -- the text behind a reference, if there is one
 abbrev pub text_in : Option (Bor Text) → Option Text

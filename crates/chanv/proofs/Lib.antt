@@ -1,9 +1,6 @@
 pub mod Names
 pub mod CommandSteps
-pub mod SoundWalks
 pub mod TakenLines
 pub mod FileWords
-pub mod LevelWords
-pub mod Requests
 pub mod PlainLines
 pub mod ImageWords

@@ -1,9 +1,9 @@
-use Rattle.std.proofs.Common.{rules}
+use Rattle.std.proofs.Common.{◌∙◌, ◌≡◌, List, [], ap, map, rules, string_bytes, subst, sym, true}
+use Rattle.clap.specs.Walk.{Text}
 use Rattle.chanv.proofs.TakenLines.{taken_is_known}
-use Rattle.chanv.proofs.Names.{◌∙◌, ◌≡◌, App, ArgMatches, AsksFor, HasKind, HasMatchesOf, IsKnown}
-use Rattle.chanv.proofs.Names.{IsTaken, List, Text, [], ap, chanv, fault_of, is_simple}
-use Rattle.chanv.proofs.Names.{is_simple_and_free, map, string_bytes, subcommand_of}
-use Rattle.chanv.proofs.Names.{subcommand_rows_of, subst, sym, true}
+use Rattle.chanv.specs.CommandLine.{AsksFor, IsKnown, IsTaken, chanv}
+use Rattle.chanv.proofs.Names.{App, ArgMatches, HasKind, HasMatchesOf, fault_of, is_simple}
+use Rattle.chanv.proofs.Names.{is_simple_and_free, subcommand_of, subcommand_rows_of}
 use Rattle.chanv.proofs.command_line.asked.Goals as goal
 
 met_of : (a : App) (words : List Text) (m : ArgMatches) → a ≡ chanv → HasMatchesOf a words m → subcommand_rows_of m ≡ subcommand_of chanv words

@@ -1,5 +1,6 @@
-use Rattle.chanv.proofs.Names.{◌∙◌, App, IfOk-weaker, ap, explain_line, image_line, with_subcommand}
-use Rattle.chanv.proofs.Names.{with_tellers}
+use Rattle.std.proofs.Common.{◌∙◌, ap}
+use Rattle.chanv.specs.CommandLine.{explain_line, with_tellers}
+use Rattle.chanv.proofs.Names.{App, IfOk-weaker, image_line, with_subcommand}
 use Rattle.chanv.proofs.command_line.command.Goals as goal
 
 pub returns : goal.returns

@@ -1,8 +1,9 @@
 -- One file is standard input where it is `-`.
-use Rattle.std.proofs.Common.{arith}
-use Rattle.chanv.proofs.Names.{◌<◌, ◌↔◌, ◌∙◌, ◌∷◌, ◌≡◌, ◌≤◌, Bool, Bor, IsStandardInput, IsTrue}
-use Rattle.chanv.proofs.Names.{List, Text, [], ap, bytes_eq, bytes_eq-Decides, codes, inl, inr}
-use Rattle.chanv.proofs.Names.{length, slice_index_or, sym, texts_of}
+use Rattle.std.proofs.Common.{◌<◌, ◌↔◌, ◌∙◌, ◌∷◌, ◌≡◌, ◌≤◌, Bool, List, [], ap, arith, codes, inl}
+use Rattle.std.proofs.Common.{inr, length, sym}
+use Rattle.clap.specs.Walk.{Text}
+use Rattle.chanv.proofs.Names.{Bor, IsStandardInput, IsTrue, bytes_eq, bytes_eq-Decides}
+use Rattle.chanv.proofs.Names.{slice_index_or, texts_of}
 use Rattle.chanv.proofs.command_line.is_standard_input.Goals as goal
 
 -- one file that is standard input is `-`

@@ -1,8 +1,8 @@
 -- The line has `show`, and then `verify`.
-use Rattle.std.proofs.Common.{rules}
+use Rattle.std.proofs.Common.{◌∙◌, ◌≡◌, ap, rules}
 use Rattle.chanv.proofs.CommandSteps.{gains}
-use Rattle.chanv.proofs.Names.{◌∙◌, ◌≡◌, App, IfOk-weaker, ap, app_of, program_line, show_line}
-use Rattle.chanv.proofs.Names.{verify_line, with_subcommand}
+use Rattle.chanv.specs.CommandLine.{program_line, show_line, verify_line}
+use Rattle.chanv.proofs.Names.{App, IfOk-weaker, app_of, with_subcommand}
 use Rattle.chanv.proofs.command_line.judging.Goals as goal
 
 pub returns : goal.returns

@@ -1,11 +1,12 @@
 -- The request is what was met asks for; `show` was met with its word.
-use Rattle.std.proofs.Common.{rules}
+use Rattle.std.proofs.Common.{◌∙◌, ◌≡◌, Bool, List, None, Option, Some, [], ap, ap₂, codes, inl}
+use Rattle.std.proofs.Common.{inr, is_some, rules, subst, sym, unwrap_or}
+use Rattle.clap.specs.Walk.{Row, Text}
 use Rattle.chanv.proofs.ImageWords.{one_text}
-use Rattle.chanv.proofs.Requests.{no_own_name, own_name}
-use Rattle.chanv.proofs.Names.{◌∙◌, ◌≡◌, Bool, IsKnown, List, None, Option, Row, SaysImage, Some}
-use Rattle.chanv.proofs.Names.{Text, [], ap, ap₂, bytes_eq, ccw_met, codes, first_value-rows}
-use Rattle.chanv.proofs.Names.{found_of, inl, inr, is_some, name_met, option_map, rows_met, rows_of}
-use Rattle.chanv.proofs.Names.{subcommand_rows_of, subst, sym, text_or, true≢false, unwrap_or}
+use Rattle.chanv.proofs.PlainLines.{no_own_name, own_name}
+use Rattle.chanv.specs.CommandLine.{IsKnown, ccw_met, name_met, rows_met}
+use Rattle.chanv.proofs.Names.{SaysImage, bytes_eq, first_value-rows, found_of, option_map, rows_of}
+use Rattle.chanv.proofs.Names.{subcommand_rows_of, text_or, true≢false}
 use Rattle.chanv.proofs.command_line.request_of.Goals as goal
 
 -- the name is that of `show`

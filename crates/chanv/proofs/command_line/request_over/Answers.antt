@@ -1,7 +1,8 @@
 -- The request is to run over the files of the rows.
+use Rattle.std.proofs.Common.{◌++◌, ◌∙◌, ap, codes, false, refl, subst, sym, true}
 use Rattle.chanv.proofs.ImageWords.{more_texts}
-use Rattle.chanv.proofs.Names.{◌++◌, ◌∙◌, ◌≡◌, IsStandardInput, ap, codes, files_in, found_of}
-use Rattle.chanv.proofs.Names.{raw_values-rows, refl, rows_of, subst, sym, texts_of, true≢false}
+use Rattle.chanv.proofs.Names.{IsStandardInput, found_of, raw_values-rows, rows_of, texts_of}
+use Rattle.chanv.proofs.Names.{true≢false}
 use Rattle.chanv.proofs.command_line.request_over.Goals as goal
 
 pub returns-then-is_standard_input : goal.returns-then-is_standard_input

@@ -1,4 +1,6 @@
-use Rattle.chanv.proofs.Names.{◌∙◌, App, IfOk-weaker, ap, codes, deck_line, with_subcommand}
+use Rattle.std.proofs.Common.{◌∙◌, ap, codes}
+use Rattle.chanv.specs.CommandLine.{deck_line}
+use Rattle.chanv.proofs.Names.{App, IfOk-weaker, with_subcommand}
 use Rattle.chanv.proofs.command_line.with_tellers.Goals as goal
 
 pub returns : goal.returns

@@ -1,10 +1,9 @@
 -- The file is that of the rows.
-use Rattle.std.proofs.Common.{rules}
+use Rattle.std.proofs.Common.{◌∙◌, ◌≡◌, None, Some, codes, false, refl, rules, true}
 use Rattle.chanv.proofs.ImageWords.{file_is}
 use Rattle.chanv.proofs.image_command.file.Goals.{in_default-via-in-Some+else-ne}
 use Rattle.chanv.proofs.image_command.file.Goals.{in_default-via-in_default}
-use Rattle.chanv.proofs.Names.{◌∙◌, ◌≡◌, None, Some, bytes_eq, codes, false, first_value-rows}
-use Rattle.chanv.proofs.Names.{found_of, refl, rows_of, true}
+use Rattle.chanv.proofs.Names.{bytes_eq, first_value-rows, found_of, rows_of}
 use Rattle.chanv.proofs.image_command.file.Goals as goal
 
 pub returns-in-Some : goal.returns-in-Some

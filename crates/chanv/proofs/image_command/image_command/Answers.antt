@@ -1,7 +1,7 @@
-use Rattle.std.proofs.Common.{rules}
+use Rattle.std.proofs.Common.{◌∙◌, Bool, ap, codes, rules}
 use Rattle.chanv.proofs.CommandSteps.{IsWord, adds}
-use Rattle.chanv.proofs.Names.{◌∙◌, ◌≡◌, Bool, Command, Command-F, IfOk-weaker, IsCommand, ap}
-use Rattle.chanv.proofs.Names.{app_of_fields, codes, file_word, job_options, new_app, with_rule}
+use Rattle.chanv.proofs.Names.{Command, Command-F, IfOk-weaker, IsCommand, app_of_fields, file_word}
+use Rattle.chanv.proofs.Names.{job_options, new_app}
 use Rattle.chanv.proofs.image_command.image_command.Goals as goal
 
 abbrev has_globals : Command-F Command → Bool

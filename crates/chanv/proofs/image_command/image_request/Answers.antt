@@ -1,5 +1,6 @@
+use Rattle.std.proofs.Common.{◌∙◌, codes, unwrap_or}
 use Rattle.chanv.proofs.ImageWords.{one_text}
-use Rattle.chanv.proofs.Names.{◌∙◌, ◌≡◌, codes, first_value-rows, found_of, rows_of}
+use Rattle.chanv.proofs.Names.{first_value-rows, found_of, rows_of}
 use Rattle.chanv.proofs.image_command.image_request.Goals as goal
 
 pub returns : goal.returns

@@ -1,6 +1,6 @@
+use Rattle.std.proofs.Common.{◌++◌, ◌∙◌, ap, refl, unwrap_or}
 use Rattle.chanv.proofs.ImageWords.{more_texts}
-use Rattle.chanv.proofs.Names.{◌++◌, ◌∙◌, ◌≡◌, ap, found_of, raw_values-rows, refl, rows_of}
-use Rattle.chanv.proofs.Names.{texts_of}
+use Rattle.chanv.proofs.Names.{found_of, raw_values-rows, rows_of, texts_of}
 use Rattle.chanv.proofs.image_command.texts.Goals as goal
 
 pub returns : goal.returns
