@@ -28,7 +28,8 @@ is_value (x ∷ xs) (inr plain) = (rw plain refl, rw plain refl, rw plain refl)
 
 -- nothing is wrong with the words from here on, and what is found in the end has the property
 pub record Goes (s : Shape) (w : Walk) (words : List Text) (P : List Row → Type 0) : Type 0 where
-  pub sound : or_else (walk_fault s [] w words) (end_kinds s (fold (walked s.rules []) w words)) ≡ []
+  pub sound : or_else (walk_fault s [] w words) (end_kinds s (fold (walked s.rules []) w words))
+      ≡ []
   pub found : P (finished s.rules (fold (walked s.rules []) w words).held)
 
 -- the same from the word before, which leads here
@@ -131,7 +132,8 @@ files_are_found (file ∷ rest) files =
 abbrev pub one_word : Text → Text → Bool → Shape
 one_word name id required = record (sub_at 2) {
   name = name;
-  rules = record (rule_at (sub_at 2) 0) { id = id; required = required } ∷ rule_at (sub_at 2) 1 ∷ [];
+  rules = record (rule_at (sub_at 2) 0) { id = id; required = required } ∷ rule_at
+      (sub_at 2) 1 ∷ [];
 }
 
 -- a word is what is found for it
@@ -179,8 +181,10 @@ extent_goes : (start extent : Text) → IsValue extent
     (HasTwo start extent)
 unfolding clap_on_literals
 extent_goes start extent value = turned (sub_at 5) _
-    (walked (sub_at 5).rules [] (behind_value [] (codes "start") start idle) (codes "--extent")) _ _ _ refl refl
-    (turned (sub_at 5) _ (behind_value (given (rule_at (sub_at 5) 2) (start ∷ []) ∷ []) (codes "extent") extent idle) extent [] _
+    (walked (sub_at 5).rules [] (behind_value [] (codes "start") start idle)
+        (codes "--extent")) _ _ _ refl refl
+    (turned (sub_at 5) _ (behind_value (given (rule_at (sub_at 5) 2) (start ∷ []) ∷ [])
+        (codes "extent") extent idle) extent [] _
     (simp (value.0, value.1, value.2) refl) (simp (value.0, value.1, value.2) refl)
     (record { sound = refl; found = (refl, refl, refl, refl, refl, refl, refl, refl, refl) }))
 

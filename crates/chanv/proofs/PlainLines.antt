@@ -332,10 +332,19 @@ other_name text name other = go (bytes_eq name text) refl
 text_is_unknown : (p text : Text) (rest : List Text) → IsValue text → IsNoCommand text
     → fault_of chanv (p ∷ text ∷ rest) ≡ UnknownArgument ∷ InvalidSubcommand ∷ []
 unfolding clap_on_literals
-text_is_unknown p text rest value is = simp (value.0, value.1, value.2, other_name text _ is.0,
-    other_name text _ is.1, other_name text _ is.2, other_name text _ is.3,
-    other_name text _ is.4, other_name text _ is.5, other_name text _ is.6,
-    other_name text _ is.7) refl
+text_is_unknown p text rest value is = simp (
+  value.0,
+  value.1,
+  value.2,
+  other_name text _ is.0,
+  other_name text _ is.1,
+  other_name text _ is.2,
+  other_name text _ is.3,
+  other_name text _ is.4,
+  other_name text _ is.5,
+  other_name text _ is.6,
+  other_name text _ is.7,
+) refl
 
 -- ---- the answers
 
@@ -375,7 +384,8 @@ module _ (line : List Text) (answer : Request) (is : IsAnswerTo line answer) whe
       (λ rows found. runs_named (Some (name_of a, rows)) a (for_action a rows) files found other)
 
   -- the lines of an action that takes one file
-  module _ (a : Action) (named : IsNamed (name_of a) (one_word (name_of a) (codes "FILE") false)) where
+  module _ (a : Action) (named : IsNamed (name_of a) (one_word (name_of a)
+      (codes "FILE") false)) where
     told : (p : Text) → line ≡ p ∷ name_of a ∷ [] → RunsOrNoMemory a answer
     told = over_input a _ named [] [] (wants_none (name_of a)) (inl refl)
 
@@ -397,13 +407,25 @@ module _ (line : List Text) (answer : Request) (is : IsAnswerTo line answer) whe
   -- it is what the plain lines say
   pub plain : IsPlainAnswerTo line answer
   plain =
-      let verify : IsNamed (codes "verify") (sub_at 1) = record { met = refl; no_help = refl; finds = refl; called = refl } in
-      let list : IsNamed (codes "list") (one_word (codes "list") (codes "FILE") false) = record { met = refl; no_help = refl; finds = refl; called = refl } in
-      let why : IsNamed (codes "why") (one_word (codes "why") (codes "FILE") false) = record { met = refl; no_help = refl; finds = refl; called = refl } in
-      let graph : IsNamed (codes "graph") (one_word (codes "graph") (codes "FILE") false) = record { met = refl; no_help = refl; finds = refl; called = refl } in
-      let show : IsNamed (codes "show") (one_word (codes "show") (codes "CCW") true) = record { met = refl; no_help = refl; finds = refl; called = refl } in
-      let deck : IsNamed (codes "deck") (sub_at 5) = record { met = refl; no_help = refl; finds = refl; called = refl } in
-      let explain : IsNamed (codes "explain") (one_word (codes "explain") (codes "WORD") true) = record { met = refl; no_help = refl; finds = refl; called = refl } in
+      let verify : IsNamed (codes "verify") (sub_at 1) = record { met = refl; no_help = refl; finds
+          = refl; called = refl } in
+      let list : IsNamed (codes "list") (one_word (codes "list")
+          (codes "FILE") false) = record { met = refl; no_help = refl; finds = refl; called = refl
+          } in
+      let why : IsNamed (codes "why") (one_word (codes "why")
+          (codes "FILE") false) = record { met = refl; no_help = refl; finds = refl; called = refl
+          } in
+      let graph : IsNamed (codes "graph") (one_word (codes "graph")
+          (codes "FILE") false) = record { met = refl; no_help = refl; finds = refl; called = refl
+          } in
+      let show : IsNamed (codes "show") (one_word (codes "show")
+          (codes "CCW") true) = record { met = refl; no_help = refl; finds = refl; called = refl }
+          in
+      let deck : IsNamed (codes "deck") (sub_at 5) = record { met = refl; no_help = refl; finds =
+          refl; called = refl } in
+      let explain : IsNamed (codes "explain") (one_word (codes "explain")
+          (codes "WORD") true) = record { met = refl; no_help = refl; finds = refl; called = refl }
+          in
       record {
         alone = λ p e. answered line None (RunsOrNoMemory actions.Verify)
             (ap (fault_of chanv) e ∙ (alone_is_taken p).0)
@@ -457,9 +479,9 @@ module _ (line : List Text) (answer : Request) (is : IsAnswerTo line answer) whe
             elim says.1 [
               | inl is ↦ subst (λ x. Says x answer) is says.2
               | inr more ↦ elim more [
-                  | inl is ↦ subst (λ x. Says x answer) is says.2
-                  | inr none ↦ absurd none
-                ]
+                | inl is ↦ subst (λ x. Says x answer) is says.2
+                | inr none ↦ absurd none
+              ]
             ];
       }
 

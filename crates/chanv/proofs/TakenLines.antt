@@ -252,17 +252,33 @@ top_asks = record {
 }
 
 -- what a name other than `help` leads to is known
-named_is_known : (name : Text) (words : List Text) → other_fault app.top (Some name) name nothing_held ≡ []
+named_is_known : (name : Text) (words : List Text)
+    → other_fault app.top (Some name) name nothing_held ≡ []
     → entered_fault app (Some (name, words)) ≡ [] → IsKnown (entered app (Some (name, words)))
 named_is_known name words no_help = found_by
     (λ o. option_map_or (λ s. level_fault s [] nothing_held words false []) o [] ≡ []
     → IsKnown (option_map (λ s. rows_at s words) o)) (λ s. answers_to name (label_of s))
     (λ _. inl refl) app.subs (
       λ _ sound. inr (inr (inl (refl, has_word words sound))),
-      (λ _ _. inr (inl (actions.Verify, refl)), (λ _ _. inr (inl (actions.List, refl)),
-      (λ _ _. inr (inl (actions.Why, refl)), (λ _ _. inr (inl (actions.Graph, refl)),
-      (λ _ _. inr (inr (inr (inl refl))), (λ _ _. inr (inr (inr (inr refl))),
-      (λ is _. absurd (help is), tt))))))),
+      (
+        λ _ _. inr (inl (actions.Verify, refl)),
+        (
+          λ _ _. inr (inl (actions.List, refl)),
+          (
+            λ _ _. inr (inl (actions.Why, refl)),
+            (
+              λ _ _. inr (inl (actions.Graph, refl)),
+              (
+                λ _ _. inr (inr (inr (inl refl))),
+                (
+                  λ _ _. inr (inr (inr (inr refl))),
+                  (λ is _. absurd (help is), tt),
+                ),
+              ),
+            ),
+          ),
+        ),
+      ),
     )
   where
     help : answers_to name (label_of (sub_at 7)) ≡ true → ⊥

@@ -17,9 +17,10 @@ of_one : (files : List (Bor Text)) (d : Bor Text) (b : Bool) → 1 ≤ length fi
     → IsTrue b ↔ IsStandardInput (texts_of files)
 of_one [] d b some one is = absurd (omega (arith, some))
 of_one (file ∷ []) d b some one is =
-    let decides = bytes_eq-Decides file.now (codes "-") in
-    (λ h. inr (ap (λ t. t ∷ []) (decides.0 (sym is ∙ h))),
-    λ input. is ∙ decides.1 (is_hyphen file.now input))
+    let decides = bytes_eq-Decides file.now (codes "-") in (
+      λ h. inr (ap (λ t. t ∷ []) (decides.0 (sym is ∙ h))),
+      λ input. is ∙ decides.1 (is_hyphen file.now input),
+    )
 of_one (file ∷ next ∷ rest) d b some one is = absurd (omega (arith, one))
 
 pub returns-in-len1 : goal.returns-in-len1

@@ -46,13 +46,16 @@ returns-in-Some-get_str c =
     let word = first_value-rows (found_of c.in-Some-show-default.inner.now) (codes "CCW") in
     (name, ap ccw_met is ∙ sym word ∙ sym c.in-Some-get_str.ensures)
 
-pub returns-in_ok-image_request-in-Some-deck-default : goal.returns-in_ok-image_request-in-Some-deck-default
+pub returns-in_ok-image_request-in-Some-deck-default :
+    goal.returns-in_ok-image_request-in-Some-deck-default
 returns-in_ok-image_request-in-Some-deck-default c =
     let met = subcommand_rows_of c.args.matches.now in
     let name : name_met met ≡ Some (codes "deck") = search rules in
-    let is = met_is met _ _ name c.in-Some-deck-default.ensures.rows in
-    (name, subst (λ rs. SaysImage rs c.in_ok-image_request-in-Some-deck-default.field-0)
-    (sym (ap rows_met is)) c.in_ok-image_request-in-Some-deck-default.ensures)
+    let is = met_is met _ _ name c.in-Some-deck-default.ensures.rows in (
+      name,
+      subst (λ rs. SaysImage rs c.in_ok-image_request-in-Some-deck-default.field-0)
+          (sym (ap rows_met is)) c.in_ok-image_request-in-Some-deck-default.ensures,
+    )
 
 pub returns-in-Some-explain-default : goal.returns-in-Some-explain-default
 returns-in-Some-explain-default c =
@@ -60,6 +63,10 @@ returns-in-Some-explain-default c =
     let found = found_of c.in-Some-explain-default.inner.now in
     let name : name_met met ≡ Some (codes "explain") = search rules in
     let is = met_is met _ _ name c.in-Some-explain-default.ensures.rows in
-    let asked = c.get_str-in-Some-explain-default.ensures ∙ first_value-rows found (codes "WORD") in
-    (name, one_text c.get_str-in-Some-explain-default.result _ c.unwrap_or.result (codes "WORD")
-    (rows_of found) asked c.unwrap_or.ensures ∙ ap (text_or (codes "WORD") []) (sym (ap rows_met is)))
+    let asked = c.get_str-in-Some-explain-default.ensures
+        ∙ first_value-rows found (codes "WORD") in (
+      name,
+      one_text c.get_str-in-Some-explain-default.result _ c.unwrap_or.result (codes "WORD")
+          (rows_of found) asked c.unwrap_or.ensures
+              ∙ ap (text_or (codes "WORD") []) (sym (ap rows_met is)),
+    )
