@@ -1,177 +1,201 @@
--- The words after `verify`, where none of them is an option: nothing is wrong with them, and they are its files.
-use Rattle.std.proofs.Common.{◌≡◌, ◌∙◌, ◌++◌, ◌||◌, Bool, true, false, List, [], ◌∷◌, Some, None, ap, codes, inl, inr, refl, subst, sym}
-use Rattle.std.specs.Prelude.{fold, if◌then◌else◌, slice_index_or}
-use Rattle.std.specs.List.{All}
-use Rattle.std.specs.Str.{bytes_eq}
-use Rattle.std.specs.Str.Parse.{starts_with_minus}
-use Rattle.std.proofs.lemmas.List.{append_assoc}
-use Rattle.std.proofs.lemmas.List.Elements.{All-head, All-tail}
-use Rattle.clap.specs.Faults.{check_fault, default_fault, defaults_fault, given_default_fault, level_fault, settle_fault, turn_fault, walk_fault}
-use Rattle.clap.specs.Kinds.{Kinds, or_else}
-use Rattle.clap.specs.Lexer.{long_of, short_of, strip_byte}
-use Rattle.clap.specs.Simple.{rows_at}
-use Rattle.clap.specs.Walk.{Held, Row, Rule, Text, Walk, default_rows, finished, has_row, is_empty, nothing_held, positional, reading_by, settled, walk, walk_from, walked, with_default}
-use Rattle.clap.specs.declared.parser.matches.ValueSource.TheVariants.{CommandLine}
+-- The words after a command: files, one word, or the options of `deck`.
+use Rattle.std.proofs.Common.{◌++◌, ◌∙◌, ◌∷◌, ◌≡◌, Bool, List, None, Some, [], ap, codes, false}
+use Rattle.std.proofs.Common.{inl, inr, refl, subst, sym, true}
 use Rattle.clap.proofs.OnLiterals.{clap_on_literals}
-use Rattle.chanv.specs.CommandLine.{IsFile, ccw_word}
-use Rattle.chanv.specs.CommandWords.{files_in}
-use Rattle.chanv.proofs.NamedCommands.{sub_at}
-
--- a text that begins with no hyphen is no flag
-pub no_strip : (text : Text) → starts_with_minus text ≡ false → strip_byte 45 text ≡ None
-no_strip [] plain = refl
-no_strip (x ∷ xs) plain = rw plain refl
-
-pub no_dashes : (text : Text) → starts_with_minus text ≡ false → bytes_eq text (45 ∷ 45 ∷ []) ≡ false
-no_dashes [] plain = refl
-no_dashes (x ∷ xs) plain = rw plain refl
+use Rattle.clap.specs.Faults.{level_fault, turn_fault, walk_fault}
+use Rattle.clap.specs.Walk.{Row, Text, Waiting, Walk, all_of, finished, first_of, idle}
+use Rattle.clap.specs.Walk.{nothing_held, positional, reading_by, walk_from, walked}
+use Rattle.clap.specs.declared.error.kind.ErrorKind.TheVariants.{UnknownArgument}
+use Rattle.chanv.proofs.TakenLines.{end_kinds, rule_at, sub_at}
+use Rattle.chanv.specs.CommandLine.{IsFile}
+use Rattle.chanv.proofs.Names.{All, All-head, All-tail, CommandLine, Rule, Shape, append_assoc}
+use Rattle.chanv.proofs.Names.{bytes_eq, files_in, fold, long_of, or_else, short_of}
 
 -- ---- a word that is no flag
 
+-- the word is a value, where nothing waits for a command
 abbrev pub IsValue : Text → Type 0
-IsValue word = (long_of word ≡ None) × (short_of word ≡ None) × (bytes_eq word (45 ∷ 45 ∷ []) ≡ false)
+IsValue word =
+    (long_of word ≡ None) × (short_of word ≡ None) × (bytes_eq word (45 ∷ 45 ∷ []) ≡ false)
 
+-- what may stand for a file is a value
 pub is_value : (word : Text) → IsFile word → IsValue word
 is_value word (inl dash) = subst IsValue (sym dash) (refl, refl, refl)
-is_value word (inr plain) = (rw (no_strip word plain) refl, rw (no_strip word plain) refl, no_dashes word plain)
+is_value [] (inr plain) = (refl, refl, refl)
+is_value (x ∷ xs) (inr plain) = (rw plain refl, rw plain refl, rw plain refl)
 
--- ---- the walk over the words
+-- ---- the words of one command
 
-abbrev rules : List Rule
-rules = (sub_at 1).rules
+-- nothing is wrong with the words from here on, and what is found in the end has the property
+pub record Goes (s : Shape) (w : Walk) (words : List Text) (P : List Row → Type 0) : Type 0 where
+  pub sound : or_else (walk_fault s [] w words) (end_kinds s (fold (walked s.rules []) w words))
+      ≡ []
+  pub found : P (finished s.rules (fold (walked s.rules []) w words).held)
 
-abbrev file_rule : Rule
-file_rule = slice_index_or rules 0 ccw_word
+-- the same from the word before, which leads here
+pub turned : (s : Shape) (w next : Walk) (word : Text) (rest : List Text) (P : List Row → Type 0)
+    → turn_fault s [] w word ≡ [] → walked s.rules [] w word ≡ next → Goes s next rest P
+    → Goes s w (word ∷ rest) P
+unfolding walk_fault
+turned s w next word rest P sound step goes =
+    let here = subst (λ w. Goes s w rest P) (sym step) goes in
+    record {
+      sound = ap (λ k. or_else (or_else k (walk_fault s [] (walked s.rules [] w word) rest))
+          (end_kinds s (fold (walked s.rules []) (walked s.rules [] w word) rest))) sound
+          ∙ here.sound;
+      found = here.found;
+    }
 
-abbrev rows_for : List Text → List Row
-rows_for [] = []
-rows_for (v ∷ vs) = record { id = codes "FILE"; values = v ∷ vs; count = None; source = Some CommandLine; reading = reading_by file_rule } ∷ []
+-- the same of all the words after a command
+abbrev pub Gives : Shape → List Text → (List Row → Type 0) → Type 0
+Gives s = Goes s (walk_from nothing_held)
 
--- the walk behind these words, of which the last waits to be used
-abbrev behind : List Text → Text → Walk
-behind front last = record {
-  held = record { rows = rows_for front; pending = Some (codes "FILE", last ∷ []); skip = 0 };
-  waiting = positional;
+-- what is found for an argument that is given
+abbrev given : Rule → List Text → Row
+given rule values = record {
+  id = rule.id;
+  values = values;
+  count = None;
+  source = Some CommandLine;
+  reading = reading_by rule;
+}
+
+-- the walk behind an argument's value, which waits to be used
+abbrev behind_value : List Row → Text → Text → Waiting → Walk
+behind_value rows id word waiting = record {
+  held = record { rows = rows; pending = Some (id, word ∷ []); skip = 0 };
+  waiting = waiting;
   position = 1;
   is_trailing = false;
   stopped = None;
 }
 
-first_step : (word : Text) → IsValue word → walked rules [] (walk_from nothing_held) word ≡ behind [] word
+-- ---- the words after `verify`
+
+abbrev verify : Shape
+verify = sub_at 1
+
+-- what is found for files that are used
+abbrev rows_for : List Text → List Row
+rows_for [] = []
+rows_for (v ∷ vs) = given (rule_at verify 0) (v ∷ vs) ∷ []
+
+-- the walk behind these words, of which the last waits to be used
+abbrev behind : List Text → Text → Walk
+behind front last = behind_value (rows_for front) (codes "FILE") last positional
+
+-- the first word leads behind it
+first : (word : Text) → IsValue word → (turn_fault verify [] (walk_from nothing_held) word ≡ [])
+    × (walked verify.rules [] (walk_from nothing_held) word ≡ behind [] word)
 unfolding clap_on_literals
-first_step word value = simp (value.0, value.1, value.2) refl
+first word value =
+    (simp (value.0, value.1, value.2) refl, simp (value.0, value.1, value.2) refl)
 
-next_step : (front : List Text) (last word : Text) → IsValue word → walked rules [] (behind front last) word ≡ behind (front ++ last ∷ []) word
+-- and so does each word after it
+next : (front : List Text) (last word : Text) → IsValue word
+    → (turn_fault verify [] (behind front last) word ≡ [])
+    × (walked verify.rules [] (behind front last) word ≡ behind (front ++ last ∷ []) word)
 unfolding clap_on_literals
-next_step [] last word value = simp (value.0, value.1, value.2) refl
-next_step (v ∷ vs) last word value = simp (value.0, value.1, value.2) refl
+next [] last word value =
+    (simp (value.0, value.1, value.2) refl, simp (value.0, value.1, value.2) refl)
+next (v ∷ vs) last word value =
+    (simp (value.0, value.1, value.2) refl, simp (value.0, value.1, value.2) refl)
 
-first_is_sound : (word : Text) → IsValue word → turn_fault (sub_at 1) [] (walk_from nothing_held) word ≡ []
+-- the files go on to the end
+ends : (front : List Text) (last : Text) (rest : List Text) → All IsFile rest
+    → Goes verify (behind front last) rest (λ rows. files_in rows ≡ front ++ last ∷ rest)
 unfolding clap_on_literals
-first_is_sound word value = simp (value.0, value.1, value.2) refl
-
-next_is_sound : (front : List Text) (last word : Text) → IsValue word → turn_fault (sub_at 1) [] (behind front last) word ≡ []
-unfolding clap_on_literals
-next_is_sound front last word value = simp (value.0, value.1, value.2) refl
-
--- where the walk over all the words ends
-record Ends (w : Walk) (words : List Text) : Type 0 where
-  pub front : List Text
-  pub last : Text
-  pub is : w ≡ behind front last
-  pub whole : front ++ last ∷ [] ≡ words
-
-ends : (front : List Text) (last : Text) (rest : List Text) → All IsFile rest → Ends (fold (walked rules []) (behind front last) rest) (front ++ last ∷ rest)
-ends front last [] files = record { front = front; last = last; is = refl; whole = refl }
+ends [] last [] files = record { sound = refl; found = refl }
+ends (v ∷ vs) last [] files = record { sound = refl; found = refl }
 ends front last (word ∷ rest) files =
-    let next = ends (front ++ last ∷ []) word rest (All-tail IsFile word rest files) in
-    record {
-      front = next.front;
-      last = next.last;
-      is = ap (λ w. fold (walked rules []) w rest) (next_step front last word (is_value word (All-head IsFile word rest files))) ∙ next.is;
-      whole = next.whole ∙ append_assoc front (last ∷ []) (word ∷ rest);
-    }
+    let goes = ends (front ++ last ∷ []) word rest (All-tail IsFile word rest files) in
+    let here = next front last word (is_value word (All-head IsFile word rest files)) in
+    turned verify _ _ word rest (λ rows. files_in rows ≡ front ++ last ∷ word ∷ rest) here.0 here.1
+    (record {
+      sound = goes.sound;
+      found = goes.found ∙ append_assoc front (last ∷ []) (word ∷ rest);
+    })
 
-pub neither : (a b : Kinds) → a ≡ [] → b ≡ [] → or_else a b ≡ []
-neither a b none none-2 = rw none none-2
+-- nothing is wrong with files, and they are what is found as such
+pub files_are_found : (files : List Text) → All IsFile files
+    → Gives verify files (λ rows. files_in rows ≡ files)
+unfolding clap_on_literals
+files_are_found [] files = record { sound = refl; found = refl }
+files_are_found (file ∷ rest) files =
+    let here = first file (is_value file (All-head IsFile file rest files)) in
+    turned verify (walk_from nothing_held) _ file rest (λ rows. files_in rows ≡ file ∷ rest)
+    here.0 here.1 (ends [] file rest (All-tail IsFile file rest files))
 
-rest_is_sound : (front : List Text) (last : Text) (rest : List Text) → All IsFile rest → walk_fault (sub_at 1) [] (behind front last) rest ≡ []
-unfolding walk_fault
-rest_is_sound front last [] files = refl
-rest_is_sound front last (word ∷ rest) files =
-    let value = is_value word (All-head IsFile word rest files) in
-    neither _ _ (next_is_sound front last word value)
-    (ap (λ w. walk_fault (sub_at 1) [] w rest) (next_step front last word value)
-    ∙ rest_is_sound (front ++ last ∷ []) word rest (All-tail IsFile word rest files))
+-- ---- one word
 
--- ---- after the walk
+-- a command of this name, as clap builds it, with one word of this id
+abbrev pub one_word : Text → Text → Bool → Shape
+one_word name id required = record (sub_at 2) {
+  name = name;
+  rules = record (rule_at (sub_at 2) 0) { id = id; required = required } ∷ rule_at
+      (sub_at 2) 1 ∷ [];
+}
 
-same_rows : (a : Rule) → a.defaults ≡ [] → (rows : List Row) → with_default rows a ≡ rows
-same_rows a none rows = go (has_row a.id rows)
-  where
-    go : (b : Bool) → (if b then rows else default_rows a.id (reading_by a) a.defaults rows) ≡ rows
-    go true = refl
-    go false = rw none refl
+-- a word is what is found for it
+pub word_is_found : (name id word : Text) (required : Bool) → bytes_eq id id ≡ true
+    → bytes_eq id (codes "help") ≡ false → bytes_eq (codes "help") id ≡ false → IsValue word
+    → Gives (one_word name id required) (word ∷ [])
+    (λ rows. rows ≡ given (record (rule_at (sub_at 2) 0) { id = id }) (word ∷ []) ∷ [])
+unfolding clap_on_literals
+word_is_found name id word true same other other-2 value = record {
+  sound = simp (value.0, value.1, value.2, same, other, other-2) refl;
+  found = simp (value.0, value.1, value.2, same, other, other-2) refl;
+}
+word_is_found name id word false same other other-2 value = record {
+  sound = simp (value.0, value.1, value.2, same, other, other-2) refl;
+  found = simp (value.0, value.1, value.2, same, other, other-2) refl;
+}
 
-no_default : (a : Rule) → a.defaults ≡ [] → (rows : List Row) → default_fault rows a ≡ []
-no_default a none rows = go (has_row a.id rows)
-  where
-    go : (b : Bool) → (if b || is_empty a.defaults then [] else given_default_fault a a.defaults) ≡ []
-    go true = refl
-    go false = rw none refl
+-- a second word is a fault
+pub second_is_stray : (name id word more : Text) (rest : List Text) (required : Bool)
+    → IsValue word → IsValue more
+    → level_fault (one_word name id required) [] nothing_held (word ∷ more ∷ rest) false []
+    ≡ UnknownArgument ∷ []
+unfolding clap_on_literals
+second_is_stray name id word more rest required value value-2 =
+    simp (value.0, value.1, value.2, value-2.0, value-2.1, value-2.2) refl
 
-abbrev help_flag : Rule
-help_flag = slice_index_or rules 1 ccw_word
+-- ---- the options of `deck`
 
-no_defaults : (rows : List Row) → defaults_fault rows rules ≡ []
-unfolding defaults_fault
-no_defaults rows = neither _ _ (no_default file_rule refl rows) (neither _ _ (no_default help_flag refl (with_default rows file_rule)) refl)
+-- a start and an extent
+abbrev pub option_words : Text → Text → List Text
+option_words start extent = codes "--start" ∷ start ∷ codes "--extent" ∷ extent ∷ []
 
-finished_rows : (h : Held) → finished rules h ≡ (settled rules h).rows
-finished_rows h = same_rows help_flag refl _ ∙ same_rows file_rule refl _
+-- only they are found
+abbrev pub HasTwo : Text → Text → List Row → Type 0
+HasTwo start extent rows =
+    (first_of (codes "device") rows ≡ None) × (first_of (codes "mask") rows ≡ None)
+    × (first_of (codes "start") rows ≡ Some start) × (first_of (codes "limit") rows ≡ None)
+    × (all_of (codes "extent") rows ≡ Some (extent ∷ [])) × (all_of (codes "fetch") rows ≡ None)
+    × (all_of (codes "store") rows ≡ None) × (first_of (codes "at") rows ≡ None)
+    × (first_of (codes "FILE") rows ≡ None)
 
-used_rows : (front : List Text) (last : Text) → (settled rules (behind front last).held).rows ≡ rows_for (front ++ last ∷ [])
-used_rows [] last = refl
-used_rows (v ∷ vs) last = refl
+-- nothing is wrong with the extent, and both are found
+extent_goes : (start extent : Text) → IsValue extent
+    → Goes (sub_at 5) (behind_value [] (codes "start") start idle) (codes "--extent" ∷ extent ∷ [])
+    (HasTwo start extent)
+unfolding clap_on_literals
+extent_goes start extent value = turned (sub_at 5) _
+    (walked (sub_at 5).rules [] (behind_value [] (codes "start") start idle)
+        (codes "--extent")) _ _ _ refl refl
+    (turned (sub_at 5) _ (behind_value (given (rule_at (sub_at 5) 2) (start ∷ []) ∷ [])
+        (codes "extent") extent idle) extent [] _
+    (simp (value.0, value.1, value.2) refl) (simp (value.0, value.1, value.2) refl)
+    (record { sound = refl; found = (refl, refl, refl, refl, refl, refl, refl, refl, refl) }))
 
-files_of_rows : (files : List Text) → files_in (rows_for files) ≡ files
-files_of_rows [] = refl
-files_of_rows (v ∷ vs) = refl
-
-module _ (file : Text) (rest : List Text) (files : All IsFile (file ∷ rest)) where
-  value : IsValue file
-  value = is_value file (All-head IsFile file rest files)
-
-  more : All IsFile rest
-  more = All-tail IsFile file rest files
-
-  end : Ends (walk rules [] nothing_held (file ∷ rest)) (file ∷ rest)
-  end =
-      let tail = ends [] file rest more in
-      record {
-        front = tail.front;
-        last = tail.last;
-        is = ap (λ w. fold (walked rules []) w rest) (first_step file value) ∙ tail.is;
-        whole = tail.whole;
-      }
-
-  walk_is_sound : walk_fault (sub_at 1) [] (walk_from nothing_held) (file ∷ rest) ≡ []
-  unfolding walk_fault
-  walk_is_sound = neither _ _ (first_is_sound file value)
-      (ap (λ w. walk_fault (sub_at 1) [] w rest) (first_step file value) ∙ rest_is_sound [] file rest more)
-
-  end_is_sound : (w : Walk) (front : List Text) (last : Text) → w ≡ behind front last
-      → or_else (settle_fault rules (sub_at 1).args_override_self w.held)
-      (or_else (defaults_fault (settled rules w.held).rows rules) (check_fault (sub_at 1) (finished rules w.held) false)) ≡ []
-  end_is_sound w front last is = rw is (neither _ _ refl (neither _ _ (no_defaults _) refl))
-
-  -- nothing is wrong with the files
-  pub files_are_sound : level_fault (sub_at 1) [] nothing_held (file ∷ rest) false [] ≡ []
-  files_are_sound = neither _ _ walk_is_sound (end_is_sound _ end.front end.last end.is)
-
-  -- they are what is found as its files
-  pub files_are_found : files_in (rows_at (sub_at 1) (file ∷ rest)).1 ≡ file ∷ rest
-  files_are_found =
-      ap files_in (finished_rows (walk rules [] nothing_held (file ∷ rest)).held
-      ∙ ap (λ (w : Walk). (settled rules w.held).rows) end.is ∙ used_rows end.front end.last)
-      ∙ files_of_rows (end.front ++ end.last ∷ []) ∙ end.whole
+-- nor with the start
+pub options_are_given : (start extent : Text) → IsValue start → IsValue extent
+    → Gives (sub_at 5) (option_words start extent) (HasTwo start extent)
+unfolding clap_on_literals
+options_are_given start extent value value-2 =
+    turned (sub_at 5) (walk_from nothing_held)
+    (walked (sub_at 5).rules [] (walk_from nothing_held) (codes "--start")) (codes "--start") _
+    (HasTwo start extent) refl refl
+    (turned (sub_at 5) _ (behind_value [] (codes "start") start idle) start _ _
+    (simp (value.0, value.1, value.2) refl) (simp (value.0, value.1, value.2) refl)
+    (extent_goes start extent value-2))

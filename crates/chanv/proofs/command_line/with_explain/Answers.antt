@@ -1,9 +1,8 @@
-use Rattle.std.proofs.Common.{ap, ◌∙◌}
-use Rattle.std.proofs.lemmas.Result.{IfOk-weaker}
-use Rattle.clap.specs.Words.{App, app_of, with_subcommand}
+-- The line has the command that is added.
+use Rattle.chanv.proofs.CommandSteps.{gains}
+use Rattle.chanv.proofs.Names.{IfOk-weaker}
 use Rattle.chanv.proofs.command_line.with_explain.Goals as goal
 
 pub returns : goal.returns
-returns c =
-    let top = ap (λ (a : App). with_subcommand (app_of c.args.command) a.top) c.in_ok-explain.ensures.0 in
-    IfOk-weaker c.subcommand.result _ _ (λ r h. h.shape c.in_ok-explain.ensures.1 ∙ top) c.subcommand.ensures
+returns c = IfOk-weaker c.subcommand.result _ _ (λ r. gains _ _ r _ c.in_ok-explain.ensures)
+    c.subcommand.ensures

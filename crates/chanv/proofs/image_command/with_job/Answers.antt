@@ -1,5 +1,5 @@
-use Rattle.std.proofs.lemmas.Result.{IfOk-weaker}
 use Rattle.chanv.proofs.CommandSteps.{adds, needs}
+use Rattle.chanv.proofs.Names.{IfOk-weaker}
 use Rattle.chanv.proofs.image_command.with_job.Goals as goal
 
 pub returns : goal.returns
