@@ -182,9 +182,9 @@ extent_goes : (start extent : Text) → IsValue extent
 unfolding clap_on_literals
 extent_goes start extent value = turned (sub_at 5) _
     (walked (sub_at 5).rules [] (behind_value [] (codes "start") start idle)
-        (codes "--extent")) _ _ _ refl refl
+    (codes "--extent")) _ _ _ refl refl
     (turned (sub_at 5) _ (behind_value (given (rule_at (sub_at 5) 2) (start ∷ []) ∷ [])
-        (codes "extent") extent idle) extent [] _
+    (codes "extent") extent idle) extent [] _
     (simp (value.0, value.1, value.2) refl) (simp (value.0, value.1, value.2) refl)
     (record { sound = refl; found = (refl, refl, refl, refl, refl, refl, refl, refl, refl) }))
 

@@ -407,25 +407,47 @@ module _ (line : List Text) (answer : Request) (is : IsAnswerTo line answer) whe
   -- it is what the plain lines say
   pub plain : IsPlainAnswerTo line answer
   plain =
-      let verify : IsNamed (codes "verify") (sub_at 1) = record { met = refl; no_help = refl; finds
-          = refl; called = refl } in
+      let verify : IsNamed (codes "verify") (sub_at 1) = record {
+        met = refl;
+        no_help = refl;
+        finds
+            = refl;
+        called = refl;
+      } in
       let list : IsNamed (codes "list") (one_word (codes "list")
-          (codes "FILE") false) = record { met = refl; no_help = refl; finds = refl; called = refl
-          } in
+      (codes "FILE") false) = record {
+        met = refl;
+        no_help = refl;
+        finds = refl;
+        called = refl;
+      } in
       let why : IsNamed (codes "why") (one_word (codes "why")
-          (codes "FILE") false) = record { met = refl; no_help = refl; finds = refl; called = refl
-          } in
+      (codes "FILE") false) = record {
+        met = refl;
+        no_help = refl;
+        finds = refl;
+        called = refl;
+      } in
       let graph : IsNamed (codes "graph") (one_word (codes "graph")
-          (codes "FILE") false) = record { met = refl; no_help = refl; finds = refl; called = refl
-          } in
+      (codes "FILE") false) = record {
+        met = refl;
+        no_help = refl;
+        finds = refl;
+        called = refl;
+      } in
       let show : IsNamed (codes "show") (one_word (codes "show")
-          (codes "CCW") true) = record { met = refl; no_help = refl; finds = refl; called = refl }
-          in
-      let deck : IsNamed (codes "deck") (sub_at 5) = record { met = refl; no_help = refl; finds =
-          refl; called = refl } in
+      (codes "CCW") true) = record { met = refl; no_help = refl; finds = refl; called = refl }
+      in
+      let deck : IsNamed (codes "deck") (sub_at 5) = record {
+        met = refl;
+        no_help = refl;
+        finds =
+            refl;
+        called = refl;
+      } in
       let explain : IsNamed (codes "explain") (one_word (codes "explain")
-          (codes "WORD") true) = record { met = refl; no_help = refl; finds = refl; called = refl }
-          in
+      (codes "WORD") true) = record { met = refl; no_help = refl; finds = refl; called = refl }
+      in
       record {
         alone = λ p e. answered line None (RunsOrNoMemory actions.Verify)
             (ap (fault_of chanv) e ∙ (alone_is_taken p).0)

@@ -18,9 +18,9 @@ pub request_of-requires : goal.request_of-requires
 request_of-requires c =
     let words : List Text = map string_bytes c.args.words.now in
     let met = met_of _ words c.in_ok-matches.matches c.in_ok-command.ensures
-        c.in_ok-matches.ensures.matches in
+    c.in_ok-matches.ensures.matches in
     subst IsKnown (sym met) (taken_is_known words
-        (taken_of _ words c.in_ok-command.ensures c.in_ok-matches.ensures.kinds))
+    (taken_of _ words c.in_ok-command.ensures c.in_ok-matches.ensures.kinds))
 
 pub returns-clause-taken : goal.returns-clause-taken
 returns-clause-taken c = taken_of _ (map string_bytes c.args.words.now) c.in_ok-command.ensures
@@ -29,7 +29,7 @@ returns-clause-taken c = taken_of _ (map string_bytes c.args.words.now) c.in_ok-
 pub returns-clause-asked : goal.returns-clause-asked
 returns-clause-asked c =
     let met = met_of _ (map string_bytes c.args.words.now) c.in_ok-matches.matches
-        c.in_ok-command.ensures c.in_ok-matches.ensures.matches in
+    c.in_ok-command.ensures c.in_ok-matches.ensures.matches in
     subst (λ m. AsksFor m c.in_ok-request_of.field-0) met c.in_ok-request_of.ensures
 
 pub returns-in_err-matches-clause-err : goal.returns-in_err-matches-clause-err
@@ -38,5 +38,5 @@ returns-in_err-matches-clause-err c =
     let is = c.in_ok-command.ensures in
     let kind : HasKind (fault_of chanv words) c.in_err-matches.field-0.0 =
     subst (λ (x : App). HasKind (fault_of x words) c.in_err-matches.field-0.0) is
-        (c.in_err-matches.ensures.kinds (ap is_simple_and_free is)) in
+    (c.in_err-matches.ensures.kinds (ap is_simple_and_free is)) in
     search (kind, rules)

@@ -64,9 +64,9 @@ returns-in-Some-explain-default c =
     let name : name_met met ≡ Some (codes "explain") = search rules in
     let is = met_is met _ _ name c.in-Some-explain-default.ensures.rows in
     let asked = c.get_str-in-Some-explain-default.ensures
-        ∙ first_value-rows found (codes "WORD") in (
+    ∙ first_value-rows found (codes "WORD") in (
       name,
       one_text c.get_str-in-Some-explain-default.result _ c.unwrap_or.result (codes "WORD")
           (rows_of found) asked c.unwrap_or.ensures
-              ∙ ap (text_or (codes "WORD") []) (sym (ap rows_met is)),
+          ∙ ap (text_or (codes "WORD") []) (sym (ap rows_met is)),
     )

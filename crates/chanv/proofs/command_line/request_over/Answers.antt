@@ -9,7 +9,7 @@ pub returns-then-is_standard_input : goal.returns-then-is_standard_input
 returns-then-is_standard_input c =
     let found = found_of c.args.matches.now in
     let same = more_texts c.get_strs.result _ c.unwrap_or-files.result (codes "FILE")
-        (rows_of found)
+    (rows_of found)
     refl c.unwrap_or-files.ensures (c.get_strs.ensures ∙ raw_values-rows found (codes "FILE")) in
     (refl, subst IsStandardInput same (c.is_standard_input.ensures.0 c.if-is_standard_input.true))
 
@@ -17,7 +17,7 @@ pub returns : goal.returns
 returns c =
     let found = found_of c.args.matches.now in
     let same = more_texts c.get_strs.result _ c.unwrap_or-files.result (codes "FILE")
-        (rows_of found)
+    (rows_of found)
     refl c.unwrap_or-files.ensures (c.get_strs.ensures ∙ raw_values-rows found (codes "FILE")) in (
       refl,
       λ input. true≢false (sym (c.is_standard_input.ensures.1

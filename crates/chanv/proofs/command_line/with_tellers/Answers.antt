@@ -9,4 +9,4 @@ returns c =
     let with_graph = λ (a : App). with_subcommand a (deck_line (codes "graph")).top in
     let explaining = c.in_ok-command-2.ensures ∙ ap with_why c.in_ok-command.ensures in
     IfOk-weaker c.with_teller-3.result _ _ (λ r h. h
-        ∙ ap with_graph explaining) c.with_teller-3.ensures
+    ∙ ap with_graph explaining) c.with_teller-3.ensures

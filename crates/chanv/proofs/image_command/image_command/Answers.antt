@@ -13,8 +13,11 @@ returns c =
     let helped = ap app_of_fields c.after_help-command.ensures in
     let told-2 = ap has_globals c.about.ensures in
     let helped-2 = ap has_globals c.after_help-command.ensures in
-    let plain : IsCommand (new_app (codes "deck")) c.after_help-command.result = (helped ∙ told
-        ∙ c.new.ensures.app, helped-2 ∙ told-2 ∙ c.new.ensures.local) in
+    let plain : IsCommand (new_app (codes "deck")) c.after_help-command.result = (
+      helped ∙ told
+          ∙ c.new.ensures.app,
+      helped-2 ∙ told-2 ∙ c.new.ensures.local,
+    ) in
     let file : IsWord file_word c.help.result = search rules in
     let job = c.in_ok-command.ensures (new_app (codes "deck")) plain in
     let lending = c.in_ok-command-2.ensures (job_options (new_app (codes "deck"))) job in

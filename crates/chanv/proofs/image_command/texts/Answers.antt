@@ -8,7 +8,7 @@ returns c =
     let found = found_of c.args.matches.now in
     let name = c.args.name.now in
     let same = more_texts c.get_strs.result _ c.unwrap_or.result name
-        (rows_of found) refl c.unwrap_or.ensures (c.get_strs.ensures
-        ∙ raw_values-rows found name) in
+    (rows_of found) refl c.unwrap_or.ensures (c.get_strs.ensures
+    ∙ raw_values-rows found name) in
     ap texts_of c.in_ok-extend_from_slice.ensures.items
-        ∙ ap (λ xs. texts_of (xs ++ c.unwrap_or.result.now)) c.new-texts.ensures.items ∙ same
+    ∙ ap (λ xs. texts_of (xs ++ c.unwrap_or.result.now)) c.new-texts.ensures.items ∙ same

@@ -5,7 +5,7 @@ use Rattle.chanv.proofs.image_command.with_lending.Goals as goal
 pub returns : goal.returns
 returns c =
     let extent = repeats _ c.action.result _ c.action.ensures
-        (needs _ c.required.result _ c.required.ensures c.option-extent.ensures) in
+    (needs _ c.required.result _ c.required.ensures c.option-extent.ensures) in
     let fetch = repeats _ c.action-2.result _ c.action-2.ensures c.option-fetch.ensures in
     let store = repeats _ c.action-3.result _ c.action-3.ensures c.option-store.ensures in
     IfOk-weaker c.arg-4.result _ _ (λ r h line is.
