@@ -61,6 +61,7 @@ COMMANDS = [
     (["verify", FILE], b"", FILE.encode() + b": yes\n"),
     (["list", FILE], b"", LISTING),
     (["why"], CHANGES_ITSELF, EXPLANATION),
+    (["why", FILE], b"", b"yes\n"),
     (["graph"], SEARCH_LOOP, PICTURE),
     (["deck", *OF_IMAGE], IMAGE, CHANGES_ARGUMENT),
 ]
@@ -96,7 +97,7 @@ class Harness:
         """Refuses each growth of a run that answers `answer`; gives how many there are.
 
         One of `complaints` goes with want of memory. Only a listing or a picture may have begun by then.
-        An explanation may stand whole, with its status, and the complaint in place of the advice.
+        Where `why` says yes, the answer may stand, with its status, and the complaint in place of notes.
         """
         *seen, growths = self.run(words, given)
         answered = 1 if name == "chanv why" else 0
@@ -106,7 +107,7 @@ class Harness:
             for after in (False, True):
                 status, output, error, _ = self.run(words, given, refused, after)
                 right = status == 3 and begun.startswith(output) and error in complaints
-                if name == "chanv why" and status == 1:
+                if "why" in words and status == 0:
                     right = output == answer and error in complaints
                 which = f"growth {refused} refused" + (", and all after it" if after else "")
                 self.expect(f"{name}, {which}", right, (status, output, error))

@@ -47,11 +47,11 @@ status_of NoMemoryForCommandLine = 3
 status_of FlushFailed = 3
 status_of CannotOpen = 3
 
--- the text was judged, or it is no deck
-abbrev pub IsOnText : Outcome → Type 0
-IsOnText (Ran (Ok status)) = Unit {0}
-IsOnText (Ran (Err (runs.Deck line cause))) = Unit {0}
-IsOnText _ = ⊥
+-- there is advice on the text: the verdict is yes, or it is no deck
+abbrev pub HasAdvice : Outcome → Type 0
+HasAdvice (Ran (Ok statuses.Yes)) = Unit {0}
+HasAdvice (Ran (Err (runs.Deck line cause))) = Unit {0}
+HasAdvice _ = ⊥
 
 -- what an outcome's line begins with; an outcome that says nothing has no line
 abbrev pub program_of : Outcome → List ℕ

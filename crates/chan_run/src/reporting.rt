@@ -6,7 +6,7 @@ ghost use Rattle.std.specs.Io.KnownBytes.{Appends};
 ghost use Rattle.std.specs.Fmt.{decimal};
 ghost use Rattle.ccw_core.specs.Written.{AppendsPrefix};
 ghost use Rattle.chan_run.specs.Naming.{name_before, name_in};
-ghost use Rattle.chan_run.specs.Report.{IsOnText, IsWriteFailure, is_on_input, line_of, line_over};
+ghost use Rattle.chan_run.specs.Report.{HasAdvice, IsWriteFailure, is_on_input, line_of, line_over};
 ghost use Rattle.chan_run.specs.Report.{program_of, refusal_of, status_of, text_of, word_of};
 
 use crate::image::ImageError;
@@ -88,11 +88,14 @@ pub fn ends_run(outcome: Outcome) -> bool
     )
 }
 
-/// Whether there is advice on the text: it was judged, or it is no deck.
+/// Whether there is advice on the text: the verdict is yes, or it is no deck.
 pub fn has_advice(outcome: Outcome) -> bool
-    ensures { IsTrue result ↔ IsOnText outcome }
+    ensures { IsTrue result ↔ HasAdvice outcome }
 {
-    matches!(outcome, Outcome::Ran(Ok(_) | Err(RunError::Deck { .. })))
+    match outcome {
+        Outcome::Ran(Ok(Status::Yes)) | Outcome::Ran(Err(RunError::Deck { .. })) => true,
+        _ => false,
+    }
 }
 
 /// The exit status of a run over several inputs, from that of those before and that of one more:
