@@ -1,6 +1,6 @@
 //! The status and the line of each outcome.
 
-use super::{Outcome, ends_run, greater_status, report, report_named};
+use super::{Outcome, ends_run, exit_status, greater_status, has_advice, report, report_named};
 use crate::devices::Narrow;
 use crate::image::ImageError;
 use crate::meaning::MeaningError;
@@ -21,6 +21,7 @@ fn expect(rt: &impl Abort, alloc: Global, outcomes: &[(Outcome, u8, &str)]) {
     for (outcome, status, line) in outcomes {
         let mut to = Watched::new(Vec::new(alloc));
         assert_eq!(rt; report(*outcome, &mut to), *status);
+        assert_eq!(rt; exit_status(*outcome), *status);
         assert_eq!(rt; to.into_inner().as_slice(), line.as_bytes());
         let mut failing = Watched::new(Narrow {
             room: 1,
@@ -246,5 +247,20 @@ fn reports_over_an_input(rt: HostRuntime) {
 fn greatest_of_statuses(rt: HostRuntime) {
     for (so_far, status, greatest) in [(0, 0, 0), (0, 1, 1), (2, 1, 2), (2, 3, 3)] {
         assert_eq!(rt; greater_status(so_far, status), greatest);
+    }
+}
+
+#[test]
+fn outcomes_with_advice(rt: HostRuntime) {
+    for (outcome, is_so) in [
+        (Outcome::Ran(Ok(Status::Yes)), true),
+        (refused(7, Cause::Form), true),
+        (Outcome::Ran(Ok(Status::No)), false),
+        (Outcome::Ran(Err(RunError::TooManyPlaces)), false),
+        (Outcome::Ran(Err(RunError::Write)), false),
+        (Outcome::FlushFailed, false),
+        (Outcome::CannotOpen, false),
+    ] {
+        assert_eq!(rt; has_advice(outcome), is_so);
     }
 }
