@@ -153,8 +153,8 @@ fn opened(rt: &HostRuntime, action: Action, name: &str) -> Outcome {
     }
 }
 
-/// Runs over an input that may have a name, and reports what came of it. Behind the explanation of a
-/// yes, or in its place where the text is no deck, stands the advice on the text.
+/// Runs over an input that may have a name, and reports what came of it. Behind the explanation of
+/// a yes, or in its place where the text is no deck, stands the advice on the text.
 fn ran(rt: &HostRuntime, action: Action, name: Option<&str>, input: Input) -> Outcome {
     let text = match read_text(rt.alloc(), &mut Watched::new(input)) {
         Ok(text) => text,
