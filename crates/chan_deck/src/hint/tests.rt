@@ -232,7 +232,7 @@ fn expect_hints(rt: &impl Abort, alloc: Global, cases: &[Case]) -> Result<(), Fa
         let text = behind(alloc, *count, more)?;
         match read_deck(alloc, text.as_bytes()) {
             Err(DeckError::At { line, cause }) => {
-                assert_eq!(rt; line, *count as u64 + 1, "{more}");
+                assert_eq!(rt; line, (*count as u64).saturating_add(1), "{more}");
                 let found = hint_text(alloc, text.as_bytes(), line, cause)?;
                 assert_eq!(rt; found.as_slice(), hint.as_bytes(), "{more}");
             }
