@@ -12,10 +12,10 @@ ghost use Rattle.chanv_c.specs.Faults.{HasNoFault, IsRefused};
 
 use crate::asked::{CJob, make_ready};
 use crate::evidence::{CEvidence, NO_VALUES, cause_told};
-use crate::refusal::Refusal;
+use crate::refusal::{Refusal, no_answer};
 use crate::rows::{CPlace, write_path};
 use crate::verifying::CVerdict;
-use chan_walk::{Explanation, Job, Verdict, WalkError, explain};
+use chan_walk::{Explanation, Job, Verdict, explain};
 use std::alloc::Global;
 
 /// `struct chanv_explanation`.
@@ -142,15 +142,14 @@ fn explanation_of(alloc: Global, asked: &CJob<'_>) -> Result<Explanation, Refusa
 }
 
 /// The explanation of the verdict on a job that is the one that C asks about.
-fn explanation_on(alloc: Global, _asked: &CJob<'_>, job: &Job) -> Result<Explanation, Refusal>
-    requires asked { IsJobOf _asked.now job.now }
-    requires right { HasNoFault _asked.now }
-    ensures answer { IfOk result (IsExplanation _asked.now) }
-    ensures refusal { IfErr result (IsRefusal _asked.now) }
+fn explanation_on(alloc: Global, asked: &CJob<'_>, job: &Job) -> Result<Explanation, Refusal>
+    requires asked { IsJobOf asked.now job.now }
+    requires right { HasNoFault asked.now }
+    ensures answer { IfOk result (IsExplanation asked.now) }
+    ensures refusal { IfErr result (IsRefusal asked.now) }
 {
     match explain(alloc, job) {
         Ok(found) => Ok(found),
-        Err(WalkError::TooManyPlaces) => Err(Refusal::TooManyPlaces),
-        Err(WalkError::Memory) => Err(Refusal::Memory),
+        Err(error) => Err(no_answer(asked, job, error)),
     }
 }

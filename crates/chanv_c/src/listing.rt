@@ -6,9 +6,9 @@ ghost use Rattle.chanv_c.specs.Asked.{IsJobOf};
 ghost use Rattle.chanv_c.specs.Faults.{HasNoFault, IsRefused};
 
 use crate::asked::{CJob, make_ready};
-use crate::refusal::Refusal;
+use crate::refusal::{Refusal, no_answer};
 use crate::rows::{CPlace, write_rows};
-use chan_walk::{Explored, Job, WalkError, explore};
+use chan_walk::{Explored, Job, explore};
 use std::alloc::Global;
 
 /// Lists the places that the program can come to, each once, in order: 0 where `rows` took them
@@ -66,15 +66,14 @@ fn places_of(alloc: Global, asked: &CJob<'_>) -> Result<Explored, Refusal>
 }
 
 /// The reachable places of a job that is the one that C asks about.
-fn places_on(alloc: Global, _asked: &CJob<'_>, job: &Job) -> Result<Explored, Refusal>
-    requires asked { IsJobOf _asked.now job.now }
-    requires right { HasNoFault _asked.now }
-    ensures places { IfOk result (AreFound _asked.now) }
-    ensures refusal { IfErr result (IsRefusal _asked.now) }
+fn places_on(alloc: Global, asked: &CJob<'_>, job: &Job) -> Result<Explored, Refusal>
+    requires asked { IsJobOf asked.now job.now }
+    requires right { HasNoFault asked.now }
+    ensures places { IfOk result (AreFound asked.now) }
+    ensures refusal { IfErr result (IsRefusal asked.now) }
 {
     match explore(alloc, job) {
         Ok(found) => Ok(found),
-        Err(WalkError::TooManyPlaces) => Err(Refusal::TooManyPlaces),
-        Err(WalkError::Memory) => Err(Refusal::Memory),
+        Err(error) => Err(no_answer(asked, job, error)),
     }
 }

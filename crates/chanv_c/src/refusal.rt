@@ -1,8 +1,14 @@
 //! Why C gets no answer.
 
 ghost use Rattle.std.specs.Prelude.{◌≡◌};
-ghost use Rattle.chanv_c.specs.Answers.{refusal_code, refusal_extent};
-ghost use Rattle.chanv_c.specs.Faults.{fault_code, fault_extent};
+ghost use Rattle.chan_walk.specs.Explored.{HasMoreThan};
+ghost use Rattle.chan_walk.specs.declared.error.WalkError.TheVariants as walk;
+ghost use Rattle.chanv_c.specs.Answers.{IsRefusal, refusal_code, refusal_extent};
+ghost use Rattle.chanv_c.specs.Asked.{IsJobOf};
+ghost use Rattle.chanv_c.specs.Faults.{HasNoFault, fault_code, fault_extent};
+
+use crate::asked::CJob;
+use chan_walk::{Job, WalkError};
 
 /// What is wrong with a job as C gives it, in the order in which it counts.
 #[derive(Clone, Copy)]
@@ -81,5 +87,18 @@ impl Refusal {
             Refusal::Wrong(fault) => fault.extent(),
             _ => 0,
         }
+    }
+}
+
+/// Why a call over the job that C asks about gave no answer.
+pub(crate) fn no_answer(_asked: &CJob<'_>, _job: &Job, error: WalkError) -> Refusal
+    requires asked { IsJobOf _asked.now _job.now }
+    requires right { HasNoFault _asked.now }
+    requires many { error ≡ walk.TooManyPlaces → HasMoreThan _job.now _job.now.limit }
+    ensures { IsRefusal _asked.now result }
+{
+    match error {
+        WalkError::TooManyPlaces => Refusal::TooManyPlaces,
+        WalkError::Memory => Refusal::Memory,
     }
 }

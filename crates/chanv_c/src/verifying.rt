@@ -7,8 +7,8 @@ ghost use Rattle.chanv_c.specs.Asked.{IsJobOf};
 ghost use Rattle.chanv_c.specs.Faults.{HasNoFault, IsRefused};
 
 use crate::asked::{CJob, make_ready};
-use crate::refusal::Refusal;
-use chan_walk::{Job, Verdict, WalkError, verify};
+use crate::refusal::{Refusal, no_answer};
+use chan_walk::{Job, Verdict, verify};
 use std::alloc::Global;
 
 /// `struct chanv_verdict`.
@@ -80,15 +80,14 @@ fn verdict_of(alloc: Global, asked: &CJob<'_>) -> Result<Verdict, Refusal>
 }
 
 /// The verdict on a job that is the one that C asks about.
-fn verdict_on(alloc: Global, _asked: &CJob<'_>, job: &Job) -> Result<Verdict, Refusal>
-    requires asked { IsJobOf _asked.now job.now }
-    requires right { HasNoFault _asked.now }
-    ensures answer { IfOk result (IsJudged _asked.now) }
-    ensures refusal { IfErr result (IsRefusal _asked.now) }
+fn verdict_on(alloc: Global, asked: &CJob<'_>, job: &Job) -> Result<Verdict, Refusal>
+    requires asked { IsJobOf asked.now job.now }
+    requires right { HasNoFault asked.now }
+    ensures answer { IfOk result (IsJudged asked.now) }
+    ensures refusal { IfErr result (IsRefusal asked.now) }
 {
     match verify(alloc, job) {
         Ok(verdict) => Ok(verdict),
-        Err(WalkError::TooManyPlaces) => Err(Refusal::TooManyPlaces),
-        Err(WalkError::Memory) => Err(Refusal::Memory),
+        Err(error) => Err(no_answer(asked, job, error)),
     }
 }

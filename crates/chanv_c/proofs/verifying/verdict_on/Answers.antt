@@ -1,7 +1,6 @@
 -- What `verify` says of the job is said of what C asks about.
-use Rattle.std.proofs.Common.{Err, ap, subst}
+use Rattle.std.proofs.Common.{subst}
 use Rattle.chan_walk.specs.Answers.{HasAtMost}
-use Rattle.chan_walk.specs.Explored.{HasMoreThan}
 use Rattle.chanv_c.proofs.verifying.verdict_on.Goals as goal
 
 pub returns-in-Ok-clause-answer : goal.returns-in-Ok-clause-answer
@@ -14,14 +13,3 @@ returns-in-Ok-clause-answer c = record {
   exact = c.in-Ok.ensures.exact;
   few = subst (HasAtMost c.args.job.now) c.requires.asked.limit c.in-Ok.ensures.few;
 }
-
-pub returns-in-Err-TooManyPlaces-clause-refusal : goal.returns-in-Err-TooManyPlaces-clause-refusal
-returns-in-Err-TooManyPlaces-clause-refusal c =
-    let many = c.in-Err-TooManyPlaces.ensures.many (ap Err c.in-Err-TooManyPlaces.field-0-is) in (
-      record {
-        job = c.args.job.now;
-        asked = c.requires.asked;
-        many = subst (HasMoreThan c.args.job.now) c.requires.asked.limit many;
-      },
-      c.requires.right,
-    )
