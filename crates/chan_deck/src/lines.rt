@@ -1,7 +1,7 @@
 //! The lines of a text.
 
-ghost use Rattle.std.specs.Prelude.{◌≡◌, ◌+◌, ◌<◌, ◌==◌, length, position, IfSome, IfNone, [], ◌∷◌};
-ghost use Rattle.std.specs.Prelude.{◌^◌};
+ghost use Rattle.std.specs.Prelude.{◌≡◌, ◌+◌, ◌<◌, ◌==◌, ◌^◌, length, position, true, Some};
+ghost use Rattle.std.specs.Prelude.{IfSome, IfNone, [], ◌∷◌};
 ghost use Rattle.std.specs.List.{list_any};
 ghost use Rattle.chan_deck.specs.Digits.{AreValues, AreValues-IsProp};
 ghost use Rattle.chan_deck.specs.Refused.{split};
@@ -12,6 +12,9 @@ use crate::error::DeckError::{self, At};
 
 /// The length of a line that puts a doubleword, as nearly all lines of a long deck do.
 pub(crate) const PUT_LINE: usize = 27;
+
+/// The length of a line that lends an area.
+const AREA_LINE: usize = 19;
 
 /// Whether there is a line feed. It doesn't stop at the first, so that the few bytes of a line are
 /// compared at once.
@@ -25,16 +28,29 @@ fn has_line_feed(text: &[u8]) -> bool
     found
 }
 
-/// Where the next line feed is. It is looked for first where the line of a doubleword has it.
+/// Whether the first line feed is at `end`. Inline, so that the length of the line is a constant.
+#[inline(always)]
+fn ends_at(text: &[u8], end: usize) -> bool
+    ensures place { result ≡ true → position (λ b. b == 10) text.now ≡ Some end }
+    ensures within { result ≡ true → end < length text.now }
+{
+    if text.len() <= end {
+        return false;
+    }
+    let (line, rest) = text.split_at(end);
+    rest[0] == b'\n' && !has_line_feed(line)
+}
+
+/// Where the next line feed is. It is looked for first where the lines of long lists have it.
 fn line_end(text: &[u8]) -> Option<usize>
     ensures place { result ≡ position (λ b. b == 10) text.now }
     ensures within { IfSome result (λ i. i < length text.now) }
 {
-    if PUT_LINE < text.len() {
-        let (line, rest) = text.split_at(PUT_LINE);
-        if rest[0] == b'\n' && !has_line_feed(line) {
-            return Some(PUT_LINE);
-        }
+    if ends_at(text, PUT_LINE) {
+        return Some(PUT_LINE);
+    }
+    if ends_at(text, AREA_LINE) {
+        return Some(AREA_LINE);
     }
     text.iter().position(|b| *b == b'\n')
 }
