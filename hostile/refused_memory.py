@@ -6,8 +6,8 @@
 CHANV and ONE_CALL are the two built programs; without them, those in out/ of their crates. Each call
 is made over its worked case: once with every growth granted, which has to give the case's answer;
 and then with the first growth refused, the second, and so on up to the last, each alone and each
-with all that come after it, which has to give want of memory and no other answer. The C compiler
-`cc` is needed. The last line is 'N passed, M failed'; the status is 0 if all passed, else 1.
+with all that come after it, which has to give a report of a failed allocation and no other
+answer. The C compiler `cc` is needed. The last line is 'N passed, M failed'; the status is 0 if all passed, else 1.
 """
 
 import os
@@ -66,7 +66,7 @@ COMMANDS = [
     (["deck", *OF_IMAGE], IMAGE, CHANGES_ARGUMENT),
 ]
 
-# what goes with want of memory: the second once a file is read
+# what goes with a failed allocation: the second once a file is read
 COMPLAINTS = (OUT_OF_MEMORY, b"chanv: " + FILE.encode() + b": out of memory\n")
 
 
@@ -96,7 +96,8 @@ class Harness:
     def refuse_each(self, name, words, given, answer, complaints):
         """Refuses each growth of a run that answers `answer`; gives how many there are.
 
-        One of `complaints` goes with want of memory. Only a listing or a picture may have begun by then.
+        One of `complaints` goes with a failed allocation. Only a listing or a picture may have begun
+        by then.
         Where `why` says yes, the answer may stand, with its status, and the complaint in place of notes.
         """
         *seen, growths = self.run(words, given)

@@ -162,8 +162,8 @@ impl Ccw {
         CcwFlags::from_bits(self.flags)
     }
 
-    /// The word as text: `code address flags spare count group`, with one space between two parts
-    /// and no end of line. An error is want of memory.
+    /// The CCW as text: `code address flags spare count group`, with one space between two parts
+    /// and no end of line. An error means that an allocation failed.
     pub fn text(&self, alloc: Global) -> Result<String, AllocError>
         ensures { IfOk result (λ t. string_bytes t ≡ ccw_text self.now) }
     {

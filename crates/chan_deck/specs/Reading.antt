@@ -157,7 +157,7 @@ Refuses s l c =
     ((i : Item) × Says l i × (step s i ≡ Err c))
     ⊎ (((i : Item) → Says l i → stands s i ≡ false) × (c ≡ no_form s))
 
--- the error is that of the text, or want of memory
+-- the error is that of the text, or says that an allocation failed
 abbrev pub IsRefusal : List ℕ → DeckError → Type 0
 IsRefusal t (errors.At n c) = IsRefused t n c
 IsRefusal t errors.Memory = Unit {0}
@@ -170,7 +170,7 @@ HasReadTo t s c = HasRead t s (c.line + 1) c.rest.now
 abbrev pub Leads : State → Cursor → State → Cursor → Type 0
 Leads s c next d = (t : List ℕ) → HasReadTo t s c → HasReadTo t next d
 
--- wherever reading stands so, the error is that of the text, or want of memory
+-- wherever reading stands so, the error is that of the text, or says that an allocation failed
 abbrev pub Fails : State → Cursor → DeckError → Type 0
 Fails s c e = (t : List ℕ) → HasReadTo t s c → IsRefusal t e
 

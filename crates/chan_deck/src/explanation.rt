@@ -235,7 +235,7 @@ fn push_witness(
 
 /// The explanation of a verdict as text: its line; the path to an offending place, a row for each
 /// place, the last marked; the cause, with its values; the path to what is changed; and a line for
-/// each other address and reason that offends. An error is want of memory.
+/// each other address and reason that offends. An error means that an allocation failed.
 ///
 /// The rows show the CCWs that stand in the job's storage, whether or not the explanation is the
 /// job's.

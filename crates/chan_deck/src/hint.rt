@@ -278,7 +278,7 @@ fn expected_text(alloc: Global, spot: &Spot<'_>, cause: Cause) -> Result<String,
 
 /// The hint for a text that is refused at this line for this cause: a line `found ` with the line
 /// as it stands, and a line `expected ` with what may stand in its place, or the condition that it
-/// doesn't fulfil. An error is want of memory.
+/// doesn't fulfil. An error means that an allocation failed.
 ///
 /// Of the line 60 characters are shown at most; a byte that isn't printable ASCII is shown as `\x`
 /// and two digits. Where several forms may stand, their keywords are given, but the pattern of the

@@ -69,7 +69,7 @@ fn push_ccws(out: &mut String, what: &str, addresses: &[u32]) -> Result<(), Allo
 
 /// The notes on a job as text, a line each: the areas that reach past storage, those that no
 /// reachable CCW uses, the CCWs that ask for an interruption, and those at which the program ends
-/// though both chaining flags are on. An error is want of memory.
+/// though both chaining flags are on. An error means that an allocation failed.
 pub fn notes_text(alloc: Global, notes: &Notes) -> Result<String, AllocError>
     ensures { IfOk result (λ t. string_bytes t ≡ texts.notes notes.now) }
 {

@@ -96,7 +96,7 @@ impl fmt::Display for Range {
 }
 
 /// The line of a verdict with its end: `yes`, or `no`, the address and the reason's word. An error
-/// is want of memory.
+/// means that an allocation failed.
 pub fn verdict_text(alloc: Global, verdict: Verdict) -> Result<String, AllocError>
     ensures { IfOk result (λ t. string_bytes t ≡ text.verdict_line verdict) }
 {

@@ -283,8 +283,8 @@ pub(crate) fn text_of(
     Ok(out)
 }
 
-/// The text that spells the deck, which `read_deck` reads back as an equal deck. An error is want
-/// of memory.
+/// The text that spells the deck, which `read_deck` reads back as an equal deck. An error means
+/// that an allocation failed.
 pub fn write_deck(alloc: Global, deck: &Deck) -> Result<Vec<u8>, AllocError>
     ensures { IfOk result (λ text. Spells text.items deck.now) }
 {

@@ -240,7 +240,8 @@ abbrev pub IsNamedAnswer : List ℕ → Action → Option (List ℕ) → Option 
     → Option (List ℕ) → Result Status RunError → Type 0
 IsNamedAnswer name a = IsAnswerBehind (front_of (Some name) a) a
 
--- the answer comes before anything is written; want of memory does but for a listing or a picture
+-- the answer comes before anything is written; a failed allocation does so but for a listing or a
+-- picture
 abbrev pub IsEarly : Action → Result Status RunError → Type 0
 IsEarly a (Ok status) = ⊥
 IsEarly a (Err Write) = ⊥

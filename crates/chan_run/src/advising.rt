@@ -14,7 +14,7 @@ mod tests;
 
 /// What is said beside the answer on a text, as lines: where the text is no deck, the hint at the
 /// line that is refused; where it is one, the notes on its job, or nothing where too many places
-/// are reachable. An error is want of memory.
+/// are reachable. An error means that an allocation failed.
 ///
 /// The text is read anew, and the job's places are looked for anew.
 pub fn advice_on(alloc: Global, text: &[u8]) -> Result<Vec<u8>, AllocError>

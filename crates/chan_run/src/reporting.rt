@@ -62,7 +62,7 @@ pub fn report<W: Write>(outcome: Outcome, to: &mut Watched<W>) -> u8
 /// As `report`, of what came of an input that has a name.
 ///
 /// Where the line is on the input, the name, a colon and a space stand behind `chanv: `. A line on
-/// want of memory for the command line, on help or on a failed write names no input.
+/// a failed allocation for the command line, on help or on a failed write names no input.
 pub fn report_named<W: Write>(name: &str, outcome: Outcome, to: &mut Watched<W>) -> u8
     requires { to.old.failed ≡ false }
     ensures status { result ≡ status_of outcome }

@@ -140,25 +140,25 @@ IsAnswerTo words (Fault e) =
     × IsAmong (kind_of e) (fault_of chanv words)
 IsAnswerTo words NoMemory = Unit {0}
 
--- the answer is to show this word, or memory was wanting
+-- the answer is to show this word, or an allocation failed
 abbrev pub ShowsOrNoMemory : Text → Request → Type 0
 ShowsOrNoMemory text (Show word) = word.now ≡ text
 ShowsOrNoMemory text NoMemory = Unit {0}
 ShowsOrNoMemory text _ = ⊥
 
--- the answer is to say what this word means, or memory was wanting
+-- the answer is to say what this word means, or an allocation failed
 abbrev pub ExplainsOrNoMemory : Text → Request → Type 0
 ExplainsOrNoMemory text (Explain word) = word.now ≡ text
 ExplainsOrNoMemory text NoMemory = Unit {0}
 ExplainsOrNoMemory text _ = ⊥
 
--- the answer is this action over standard input, or memory was wanting
+-- the answer is this action over standard input, or an allocation failed
 abbrev pub RunsOrNoMemory : Action → Request → Type 0
 RunsOrNoMemory asked (Run action) = action ≡ asked
 RunsOrNoMemory asked NoMemory = Unit {0}
 RunsOrNoMemory asked _ = ⊥
 
--- the answer is this action over exactly these files, in order, or memory was wanting
+-- the answer is this action over exactly these files, in order, or an allocation failed
 abbrev pub RunsNamedOrNoMemory : Action → List Text → Request → Type 0
 RunsNamedOrNoMemory asked files (RunNamed action names) =
     (action ≡ asked) × (texts_of names.items ≡ files)
@@ -166,7 +166,7 @@ RunsNamedOrNoMemory asked files NoMemory = Unit {0}
 RunsNamedOrNoMemory asked files _ = ⊥
 
 -- the answer is to make a deck with this start and this extent, and else as usual, of standard
--- input, or memory was wanting
+-- input, or an allocation failed
 abbrev pub ImagesOrNoMemory : Text → Text → Request → Type 0
 ImagesOrNoMemory start extent (Image asked) =
     (asked.words.device.now ≡ codes "2314") × (asked.words.mask.now ≡ codes "00")
@@ -176,19 +176,19 @@ ImagesOrNoMemory start extent (Image asked) =
 ImagesOrNoMemory start extent NoMemory = Unit {0}
 ImagesOrNoMemory start extent _ = ⊥
 
--- the answer is help, or memory was wanting
+-- the answer is help, or an allocation failed
 abbrev pub HelpsOrNoMemory : Request → Type 0
 HelpsOrNoMemory (Help e) = Unit {0}
 HelpsOrNoMemory NoMemory = Unit {0}
 HelpsOrNoMemory _ = ⊥
 
--- the answer is the version, or memory was wanting
+-- the answer is the version, or an allocation failed
 abbrev pub VersionOrNoMemory : Request → Type 0
 VersionOrNoMemory (Version e) = Unit {0}
 VersionOrNoMemory NoMemory = Unit {0}
 VersionOrNoMemory _ = ⊥
 
--- the answer is a usage fault, or memory was wanting
+-- the answer is a usage fault, or an allocation failed
 abbrev pub FaultsOrNoMemory : Request → Type 0
 FaultsOrNoMemory (Fault e) = Unit {0}
 FaultsOrNoMemory NoMemory = Unit {0}

@@ -181,8 +181,8 @@ fn answered_text(rt: &HostRuntime, action: Action, name: Option<&str>, text: &[u
     Outcome::Ran(answer)
 }
 
-/// Writes the advice on a text on standard error. The exit status stays as it is, also where memory
-/// is wanting, which is then said.
+/// Writes the advice on a text on standard error. The exit status stays as it is, even where an
+/// allocation failed, which is then reported.
 fn advise(rt: &HostRuntime, text: &[u8]) {
     match advice_on(rt.alloc(), text) {
         Ok(advice) => {

@@ -79,8 +79,8 @@ impl Eq for Extents {
 impl Extents {
     /// Extents of these pairs of first and last cylinder.
     ///
-    /// The first pair from the left that is wrong is named, whether or not there is memory; of one
-    /// pair it is asked first whether it is backwards. The time is that of one pass over the pairs,
+    /// The first pair from the left that is wrong is named, whether or not there is memory;
+    /// `Backwards` takes precedence over `PastDevice`. The time is that of one pass over the pairs,
     /// the memory that of a copy of them.
     pub fn new(alloc: Global, pairs: &[(u16, u16)]) -> Result<Extents, ExtentError>
         ensures ok { IfOk result (λ extents. extents ≡ pairs.now) }
