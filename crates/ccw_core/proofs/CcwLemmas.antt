@@ -5,7 +5,7 @@ use Rattle.byteorder.specs.Numbers.{big_number-reads_back}
 use Rattle.ccw_core.specs.Ccw.{Fields, ccw, bytes_of}
 use Rattle.ccw_core.proofs.BigEndian.{big_bytes-two, big_bytes-three, eight}
 
--- the bytes of a word hold the word
+-- the bytes of a CCW hold the CCW
 pub ccw-bytes_of : (c : Fields) → c.address < 16777216 → c.count < 65536 → ccw (bytes_of c) 0 ≡ c
 unfolding ccw
 ccw-bytes_of c ha hc =
@@ -15,7 +15,7 @@ ccw-bytes_of c ha hc =
     let n : get_or (bytes_of c) 6 0 * 256 + get_or (bytes_of c) 7 0 ≡ c.count = omega (arith, count) in
     rw (a, n) refl
 
--- the word in eight bytes has these bytes
+-- the CCW in eight bytes has these bytes
 pub bytes_of-ccw : (bs : List ℕ) → length bs ≡ 8 → ((i : ℕ) → get_or bs i 0 < 256) → bytes_of (ccw bs 0) ≡ bs
 unfolding ccw
 bytes_of-ccw bs len fits =

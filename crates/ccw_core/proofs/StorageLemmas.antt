@@ -31,7 +31,7 @@ ccw_at-outside s a h = cond-false _ _ _ (and_right _ _ (is_inside-false (length 
 pub ccw_at-stands : (s : List ℕ) (a : ℕ) → a % 8 ≡ 0 → a + 8 ≤ length s → ccw_at s a ≡ Some (ccw s a)
 ccw_at-stands s a h k = cond-true _ _ _ (and_from _ _ (is_aligned-true a h) (is_inside-true (length s) a k))
 
--- the word in eight bytes taken out of storage is the word that stands there
+-- the CCW in eight bytes taken out of storage is the CCW that stands there
 pub ccw-part : (s : List ℕ) (a : ℕ) → ccw (take 8 (drop a s)) 0 ≡ ccw s a
 ccw-part s a = ccw-same (take 8 (drop a s)) s 0 a (λ i h. grind (arith, get_or-take, get_or-drop))
 

@@ -18,7 +18,7 @@ pub record Fields : Type 0 where
 abbrev pub byte : List ℕ → ℕ → ℕ
 byte storage address = slice_index storage address
 
--- the word in the eight bytes from a on: command code, three bytes of data address, flags, a spare
+-- the CCW in the eight bytes from a on: command code, three bytes of data address, flags, a spare
 -- byte, two bytes of count
 unfoldable pub ccw : List ℕ → ℕ → Fields
 ccw s a = record {
@@ -29,7 +29,7 @@ ccw s a = record {
   count = byte s (a + 6) * 256 + byte s (a + 7);
 }
 
--- the eight bytes of the word, numbers with their highest byte first
+-- the eight bytes of the CCW, numbers with their highest byte first
 abbrev pub bytes_of : Fields → List ℕ
 bytes_of c = (c.command ∷ big_bytes 3 c.address) ++ (c.flags ∷ c.spare ∷ big_bytes 2 c.count)
 

@@ -11,11 +11,11 @@ is_aligned a = a % 8 == 0
 unfoldable pub is_inside : ℕ → ℕ → Bool
 is_inside n a = nat_le (a + 8) n
 
--- a word stands at the address
+-- a CCW stands at the address
 abbrev pub Stands : List ℕ → ℕ → Type 0
 Stands s a = (is_aligned a ≡ true) × (is_inside (length s) a ≡ true)
 
--- the word at an address, where one stands
+-- the CCW at an address, where one stands
 abbrev pub ccw_at : List ℕ → ℕ → Option Fields
 ccw_at s a = if is_aligned a && is_inside (length s) a then Some (ccw s a) else None
 

@@ -53,7 +53,7 @@ impl Model for Ccw {
 }
 
 impl Ccw {
-    /// A word of these fields: `None` exactly where the address is 16,777,216 or more, since it has
+    /// A CCW of these fields: `None` exactly where the address is 16,777,216 or more, since it has
     /// 24 bits.
     pub fn new(command: u8, address: u32, flags: u8, spare: u8, count: u16) -> Option<Ccw>
         ensures found { IsSome result ↔ (address < 16777216) }
@@ -111,7 +111,7 @@ impl Ccw {
         self.count
     }
 
-    /// The word that eight bytes hold, numbers with their highest byte first. No bit is lost:
+    /// The CCW that eight bytes hold, numbers with their highest byte first. No bit is lost:
     /// `to_bytes` gives the same bytes.
     pub fn from_bytes(bytes: &[u8; 8]) -> Ccw
         ensures fields { result ≡ ccw bytes.now 0 }
@@ -126,7 +126,7 @@ impl Ccw {
         }
     }
 
-    /// The eight bytes of the word. `from_bytes` gives the same word.
+    /// The eight bytes of the CCW. `from_bytes` gives the same CCW.
     pub fn to_bytes(&self) -> [u8; 8]
         ensures bytes { result ≡ bytes_of self.now }
         ensures whole { ccw result 0 ≡ self.now }
@@ -145,7 +145,7 @@ impl Ccw {
         Group::of(self.command)
     }
 
-    /// Whether the word is a transfer in channel: the next word stands at its address field.
+    /// Whether the CCW is a transfer in channel: the next CCW stands at its address field.
     pub fn is_transfer(&self) -> bool
         ensures value { result ≡ is_transfer self.now }
         ensures group { IsTrue result ↔ (group_of self.now.command ≡ Transfer) }

@@ -5,8 +5,8 @@
 //!
 //! ```rust
 //! let storage = Storage::new(&[0x06, 0x00, 0x0A, 0x00, 0x20, 0x00, 0x00, 0x50])?;
-//! let word = storage.ccw_at(0).ok_or("a word stands at 0")?;
-//! assert_eq!(rt; word.text(rt.alloc())?.as_str(), "06 000A00 --L--0 00 0050 read");
+//! let ccw = storage.ccw_at(0).ok_or("a CCW stands at 0")?;
+//! assert_eq!(rt; ccw.text(rt.alloc())?.as_str(), "06 000A00 --L--0 00 0050 read");
 //! ```
 #![tactic(auto)]
 

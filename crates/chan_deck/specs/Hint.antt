@@ -1,5 +1,5 @@
 -- What is said of the line at which a text is refused: the line as it stands, and what may stand
--- in its place or what it has to fulfil.
+-- in its place or which condition it has to meet.
 use Rattle.std.specs.Prelude.{ℕ, ◌-◌, ◌%◌, ◌≡◌, ◌≢◌, ◌==◌, ◌&&◌, nat_le}
 use Rattle.std.specs.Prelude.{nat_lt, List, [], ◌∷◌, ◌++◌, length, take}
 use Rattle.std.specs.Prelude.{map, codes, if◌then◌else◌, Bool, true, false, Option, Some, None}
@@ -117,7 +117,7 @@ abbrev pub form_text : List Form → List ℕ → List ℕ
 form_text (f ∷ []) l = pattern_of f
 form_text fs l = pattern_or_keywords (begun_as fs l) fs
 
--- ---- what the line has to fulfil
+-- ---- the condition that the line has to meet
 
 -- the address of the put that a line may be
 abbrev pub put_address : Option Item → Option ℕ
@@ -134,13 +134,13 @@ abbrev pub is_past : Option ℕ → ℕ → Bool
 is_past None a = true
 is_past (Some b) a = nat_lt b a
 
--- what the address of a put doesn't fulfil, behind a put with an address or behind none
+-- the condition that the address of a put doesn't meet, behind a put with an address or behind none
 abbrev pub place_text : Option ℕ → ℕ → List ℕ
 place_text above a =
     if a % 8 == 0 && is_past above a then codes "an address at which storage has eight bytes"
     else above_text above
 
--- the condition that a line refused for the cause doesn't fulfil, whatever it says
+-- the condition that a line refused for the cause doesn't meet, whatever it says
 abbrev pub condition_of : Cause → List ℕ
 condition_of causes.Mask = codes "a mask with no bits on but C0 and 18"
 condition_of causes.ExtentBackwards = codes "a last cylinder that isn't below the first"

@@ -198,7 +198,8 @@ fn is_past(above: Option<u32>, address: u32) -> bool
     }
 }
 
-/// What the address of a put doesn't fulfil, behind a put with an address or behind none.
+/// The condition that the address of a put doesn't meet, behind a put with an address or behind
+/// none.
 fn place_text(alloc: Global, above: Option<u32>, address: u32) -> Result<String, AllocError>
     ensures { IfOk result (λ t. string_bytes t ≡ hint.place_text above address) }
 {
@@ -214,7 +215,7 @@ fn place_text(alloc: Global, above: Option<u32>, address: u32) -> Result<String,
     }
 }
 
-/// What a put at a spot doesn't fulfil by its address.
+/// The condition that a put at a spot doesn't meet by its address.
 fn expected_place(alloc: Global, spot: &Spot<'_>) -> Result<String, AllocError>
     ensures { IfOk result (λ t. (i : Maybe Item) (a : ℕ) (word : List ℕ) → IsSaidBy spot.now.last i
         → Says spot.now.found.now (put a word)
@@ -226,7 +227,7 @@ fn expected_place(alloc: Global, spot: &Spot<'_>) -> Result<String, AllocError>
     place_text(alloc, above, address)
 }
 
-/// The condition that a line refused for a cause doesn't fulfil, whatever it says.
+/// The condition that a line refused for a cause doesn't meet, whatever it says.
 fn condition(cause: Cause) -> &'static str
     ensures { result.now ≡ condition_of cause }
 {
@@ -278,7 +279,7 @@ fn expected_text(alloc: Global, spot: &Spot<'_>, cause: Cause) -> Result<String,
 
 /// The hint for a text that is refused at this line for this cause: a line `found ` with the line
 /// as it stands, and a line `expected ` with what may stand in its place, or the condition that it
-/// doesn't fulfil. An error means that an allocation failed.
+/// doesn't meet. An error means that an allocation failed.
 ///
 /// Of the line 60 characters are shown at most; a byte that isn't printable ASCII is shown as `\x`
 /// and two digits. Where several forms may stand, their keywords are given, but the pattern of the

@@ -153,8 +153,8 @@ pub(crate) fn standing_at(job: &Job, address: u32) -> (Option<Ccw>, Option<Comma
     }
 }
 
-/// The row of a place, with its end: `address way transfer mark ccw name`. An error is want of
-/// memory.
+/// The row of a place, with its end: `address way transfer mark ccw name`. An error means that an
+/// allocation failed.
 ///
 /// The place may have any address and need not be one that the job's program can come to. The CCW
 /// is the one that stands there in the job's storage; where none does, because the address isn't a

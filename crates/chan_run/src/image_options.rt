@@ -76,7 +76,7 @@ pub struct ImageOptions {
     pub ghost at_is_address: { IsAddress at },
 }
 
-/// An option that says nothing which it may say, with its text.
+/// An option whose text isn't accepted, with that text.
 #[derive(Clone, Copy, PartialEq, Eq, Debug)]
 pub struct OptionFault<'a> {
     /// Which option.
@@ -88,7 +88,7 @@ pub struct OptionFault<'a> {
 /// Why the texts of options weren't read.
 #[derive(Clone, Copy, PartialEq, Eq, Debug)]
 pub enum OptionError<'a> {
-    /// This option is the first that says nothing which it may say.
+    /// This option is the first whose text isn't accepted.
     Wrong(OptionFault<'a>),
     /// An allocation was refused.
     Memory,

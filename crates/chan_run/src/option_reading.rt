@@ -76,7 +76,7 @@ fn extents_of<'a>(alloc: Global, texts: &[&'a str]) -> Result<Extents, OptionErr
         return Err(wrong(ImageOption::Extent, ""));
     }
     let pairs = pairs_of(alloc, texts)?;
-    // each pair is right, so that only memory can be wanting
+    // each pair is right, so that only an allocation can fail
     Extents::new(alloc, pairs.as_slice()).map_err(|_| OptionError::Memory)
 }
 
@@ -115,7 +115,7 @@ fn wrong<'a>(option: ImageOption, text: &'a str) -> OptionError<'a>
 /// What the texts of the options say.
 ///
 /// The options are asked in the order of a deck's lines, that of the image's address last, and the
-/// first is named that says nothing which it may say: a device, a file mask, an address, a limit,
+/// first is named whose text isn't accepted: a device, a file mask, an address, a limit,
 /// an extent in order and on the device, an area. Where there is no extent, it is as if an empty
 /// text were given for one.
 pub fn options_of<'a>(

@@ -1,4 +1,4 @@
-//! Showing one channel command word.
+//! Showing one CCW.
 
 ghost use Rattle.std.specs.Prelude.{◌≡◌, ◌↔◌, ◌⊎◌, false, true, Err, IsErrOf, OnOk, IfOk, IsSome};
 ghost use Rattle.std.specs.Prelude.{IfSome, Ok, string_bytes};
@@ -16,7 +16,7 @@ use thiserror::Error;
 #[cfg(test)]
 mod tests;
 
-/// Why a word was not shown.
+/// Why a CCW was not shown.
 #[derive(Clone, Copy, PartialEq, Eq, Debug, Error)]
 pub enum ShowError {
     /// The text isn't sixteen hexadecimal digits.
@@ -30,7 +30,7 @@ pub enum ShowError {
     Write,
 }
 
-/// Writes the line that shows the word spelled by sixteen hexadecimal digits of either case: its
+/// Writes the line that shows the CCW spelled by sixteen hexadecimal digits of either case: its
 /// text and a line feed.
 ///
 /// `NotCcw` comes exactly where the text isn't that, and `Write` exactly where a write failed.

@@ -124,6 +124,6 @@ pub record IsSeenByte (l : Seen) (is_so : Bool) (b : ℕ) : Type 0 where
 abbrev pub IsSeenWith : (Place → Fields → Bool) → Seen → Type 0
 IsSeenWith test l = (c : Fields) × (l.ccw ≡ Some c) × (test l.place c ≡ true)
 
--- the new addresses are the old ones, a if it is so, and no others
+-- the new addresses are the old ones, a where the test is passed, and no others
 abbrev pub AddsAddress : Bool → ℕ → List ℕ → List ℕ → Type 0
 AddsAddress is_so a old new = (b : ℕ) → Has new b ↔ (Has old b ⊎ (IsTrue is_so × (a ≡ b)))

@@ -80,7 +80,7 @@ impl Lent {
     }
 }
 
-/// How the areas lent to a job are asked.
+/// How the areas lent to a job are searched.
 #[derive(Clone, Copy)]
 pub(crate) enum Lending<'a> {
     /// As they were given: each range goes through them.

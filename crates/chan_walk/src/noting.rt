@@ -124,7 +124,7 @@ fn stored(alloc: Global, looks: &[Look]) -> Result<Vec<Area>, AllocError>
     merge(alloc, ranges)
 }
 
-/// Adds the data range of the CCW at a place, if it is so that the CCW moves its data.
+/// Adds the data range of the CCW at a place, if the CCW moves its data.
 fn add_range(ranges: &mut Vec<Area>, look: &Look, is_so: bool) -> Result<(), AllocError>
     requires { All (EndsBelow (2 ^ 32)) ranges.old.items }
     ensures low { OnOk result (All (EndsBelow (2 ^ 32)) ranges.new.items) }
@@ -176,7 +176,7 @@ fn ending(alloc: Global, looks: &[Look]) -> Result<Vec<u32>, AllocError>
     Ok(each_once(addresses))
 }
 
-/// Adds the address of a place, if it is so that its CCW counts.
+/// Adds the address of a place, if its CCW counts.
 fn add_address(addresses: &mut Vec<u32>, look: &Look, is_so: bool) -> Result<(), AllocError>
     ensures { OnOk result (AddsAddress is_so look.now.place.address
         addresses.old.items addresses.new.items) }

@@ -134,7 +134,7 @@ fn changes_of(alloc: Global, guard: &Guard, looks: &[Look]) -> Result<Vec<Offenc
     Ok(changes)
 }
 
-/// Adds a change at a place, if it is so.
+/// Adds a change at a place, if there is one.
 fn add_change(
     changes: &mut Vec<Offence>,
     look: &Look,

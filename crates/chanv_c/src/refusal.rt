@@ -63,7 +63,7 @@ pub enum Refusal {
     TooManyPlaces,
     /// An allocation was refused.
     Memory,
-    /// The job is none.
+    /// What C gives is no job, for this fault.
     Wrong(JobFault),
 }
 

@@ -31,7 +31,7 @@ pub enum ExtentError {
     /// last cylinder is above 202.
     #[error("extent {0}: past the last cylinder of the device")]
     PastDevice(usize),
-    /// Each pair is right, and there was no memory for them.
+    /// Each pair is right, but an allocation failed.
     #[error("out of memory")]
     Memory,
 }
