@@ -9,7 +9,7 @@ use std::io::{Read, Write};
 use std::marker::Model;
 use thiserror::Error;
 
-/// A device failed: it answered an error, or took none of the bytes that it was given.
+/// A device failed: it returned an error, or took none of the bytes that it was given.
 #[derive(Clone, Copy, PartialEq, Eq, Debug, Error)]
 #[error("the device failed")]
 pub struct DeviceFault;
