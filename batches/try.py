@@ -1,7 +1,7 @@
 #!/usr/bin/env python3
 """Tries the further wrong bodies, batches/CRATE/NAME.edit, several with one check.
 
-usage: batches/try.py [CRATE..] [--jobs=N]     (no CRATE: each that has a folder here)
+usage: batches/try.py [CRATE..] [--jobs=N]     (no CRATE: each that has a folder here, lowest first)
 
 `rt ci` tries each edit of must-fail/ with a check of its own. Here stand those that turn another
 clause or branch of what has an edit there. They have the same form, the lines 'file:', 'old:'
@@ -10,13 +10,14 @@ but without the crate:
 
     function: extents::judge
 
-For each crate, `rt check` first proves it as it is, over the work kept in out/. Then a copy gets
-a wrong body in each of several functions, and is checked once. Each of these functions has to be
-refused for a goal of its own: one that the search left open, or one that its written answer shows
-no longer. It doesn't count that it calls what isn't proved, that a proof lost a name, or that a
-text isn't Rattle. An edit that such a thing hides is tried again without those that were refused
-beside it, and at last alone. What a caller owes rests on the contracts of what it calls and never
-on their bodies, so a function is refused here for its own body alone.
+For each crate, `rt check` first proves it as it is, over the work kept in out/. Then, beside the
+next crate's proof, a copy gets a wrong body in each of several functions, and is checked once. Each
+of these functions has to be refused for a goal of its own: one that the search left open, or one
+that its written answer shows no longer. It doesn't count that it calls what isn't proved, that a
+proof lost a name, or that a text isn't Rattle. An edit that such a thing hides is tried again
+without those that were refused beside it, and at last alone. What a caller owes rests on the
+contracts of what it calls and never on their bodies, so a function is refused here for its own body
+alone.
 
 It prints a line for each edit, with these goals, those of the second sort as (answered), and the
 processor time of each check. The last line is 'N refused, M failed', and the exit status is 1
@@ -24,9 +25,10 @@ where M isn't 0.
 """
 
 import collections
+import concurrent.futures
+import os
 import pathlib
 import re
-import resource
 import shutil
 import subprocess
 import sys
@@ -39,6 +41,8 @@ LOST = re.compile(
     "is not in scope|has no field|has no `|was not admitted|is no name|operand is missing"
     "|expected the end|cannot continue"
 )
+LINES = [it.partition(":") for it in (ROOT / "crates.txt").read_text().splitlines()]
+STANDS_ON = {it[0].split()[0]: set(it[2].split()) for it in LINES if it[0][:1] not in ("", "#")}
 FLAGS = [word for word in sys.argv[1:] if word.startswith("--")]
 NAMES = [word for word in sys.argv[1:] if not word.startswith("--")]
 
@@ -70,20 +74,34 @@ def applied(edit, text):
 
 def check(folder, what):
     """What `rt check` says of the crate in the folder."""
-    spent = lambda: sum(resource.getrusage(resource.RUSAGE_CHILDREN)[:2])
-    before, words = spent(), ["rt", "check", *FLAGS]
+    words = ["rt", "check", *FLAGS]
     how = {"stdout": subprocess.PIPE, "stderr": subprocess.STDOUT, "stdin": subprocess.DEVNULL}
-    ran = subprocess.run(words, cwd=folder, text=True, errors="replace", **how)
-    print(f"{folder.name}, {what}: checked in {spent() - before:.0f} s of a processor", flush=True)
-    return ran.stdout
+    with subprocess.Popen(words, cwd=folder, text=True, errors="replace", **how) as ran:
+        said = ran.stdout.read()
+        _, status, used = os.wait4(ran.pid, 0)
+        ran.returncode = os.waitstatus_to_exitcode(status)
+    spent = used.ru_utime + used.ru_stime
+    print(f"{folder.name}, {what}: checked in {spent:.0f} s of a processor", flush=True)
+    return said
+
+
+def below(crate):
+    """The crate and all crates of the repository on which it stands."""
+    found = {crate}
+    for name in STANDS_ON[crate] & STANDS_ON.keys():
+        found |= below(name)
+    return found
 
 
 def check_with(crate, texts, count):
     """What `rt check` says of a copy of the crate that has these texts in place of its own."""
+    needed = below(crate)
 
     def left_out(folder, names):
-        is_below = not folder.endswith(f"/{crate}/out")
-        return [it for it in names if it == "must-fail" or is_below and it == "incremental"]
+        # What another check may be writing now is out/ of a crate above.
+        above = {"out"} if pathlib.Path(folder).name not in needed else set()
+        old = set() if folder.endswith(f"/{crate}/out") else {"incremental"}
+        return [it for it in names if it in {"must-fail"} | above | old]
 
     with tempfile.TemporaryDirectory(prefix="batch-") as room:
         copy = pathlib.Path(room) / "crates"
@@ -131,17 +149,33 @@ def tried(crate, edits):
         yield from tried(crate, edits)
 
 
+def told(crate, proved):
+    """Tries the edits of a crate, says of each what came of it, and counts both sorts."""
+    edits = [read_edit(it) for it in sorted((HERE / crate).glob("*.edit"))]
+    if not proved:
+        print(f"{crate}: FAILED: it isn't proved as it is", flush=True)
+        return 0, max(1, len(edits))
+    lines, refused, failed = [], 0, 0
+    for edit, goals, why in tried(crate, edits):
+        refused, failed = refused + bool(goals), failed + (not goals)
+        end = f"refused: {edit.function}: {', '.join(goals)}" if goals else f"FAILED: {why}"
+        lines.append(f"{crate}/{edit.name}: {end}")
+    print("\n".join(lines), flush=True)
+    return refused, failed
+
+
+def has_edits(crate):
+    return (HERE / crate).is_dir()
+
+
 def main():
-    refused = failed = 0
-    for crate in NAMES or sorted(it.name for it in HERE.iterdir() if it.is_dir()):
-        edits = [read_edit(it) for it in sorted((HERE / crate).glob("*.edit"))]
-        if "\nlogic=proved" not in check(ROOT / "crates" / crate, "as it is"):
-            print(f"{crate}: FAILED: it isn't proved as it is")
-            failed, edits = failed + len(edits), []
-        for edit, goals, why in tried(crate, edits):
-            refused, failed = refused + bool(goals), failed + (not goals)
-            end = f"refused: {edit.function}: {', '.join(goals)}" if goals else f"FAILED: {why}"
-            print(f"{crate}/{edit.name}: {end}", flush=True)
+    lowest_first = sorted(filter(has_edits, STANDS_ON), key=lambda it: len(below(it)))
+    with concurrent.futures.ThreadPoolExecutor(max_workers=1) as beside:
+        counts = []
+        for crate in NAMES or lowest_first:
+            proved = "\nlogic=proved" in check(ROOT / "crates" / crate, "as it is")
+            counts.append(beside.submit(told, crate, proved))
+    refused, failed = map(sum, zip(*(it.result() for it in counts)))
     print(f"{refused} refused, {failed} failed")
     return 1 if failed or not refused else 0
 
