@@ -1,10 +1,9 @@
 -- The options of an image: the texts of one that may be given again, and the first that is wrong.
-use Rattle.std.proofs.Common.{◌≡◌, ◌⊎◌, ℕ, zero, suc, ◌+◌, ◌<◌, List, [], ◌∷◌, ◌++◌, length, take, slice_index_or, arith, ap, inl, inr, refl, length-append, Option, Some, None}
+use Rattle.std.proofs.Common.{◌≡◌, ◌⊎◌, ℕ, zero, suc, ◌<◌, List, [], ◌∷◌, ◌++◌, length, take, slice_index_or, arith, ap, inl, inr, refl, length-append, Option, Some, None}
 use Rattle.std.specs.List.{AllByRecursion, AllZip}
 use Rattle.ccw_core.specs.declared.areas.Area.{Area}
-use Rattle.chan_run.specs.Options.{SaysAddress, SaysArea, SaysCylinders, SaysDevice, SaysMask}
+use Rattle.chan_run.specs.Options.{SaysArea, SaysCylinders}
 use Rattle.chan_run.specs.Imaging.{IsFirstWrong, IsRight, NamesFirstWrong, SaysExtent, SaysLimitOrNone, each_given, extents_given, limit_given, texts_of}
-use Rattle.ckd_core.specs.declared.device.Device.{Device}
 use Rattle.chan_deck.specs.Item.{IsArea}
 use Rattle.chan_run.specs.declared.image_options.ImageWords.{ImageWords}
 use Rattle.chan_run.specs.declared.image_options.OptionError.{OptionError}
@@ -38,25 +37,49 @@ first_wrong Says option (t ∷ texts) (suc i) d [] lt right each none = absurd e
 first_wrong Says option (t ∷ texts) (suc i) d (y ∷ ys) lt right each none =
     inr (right t.now y each.0, first_wrong Says option texts i d ys (omega (arith, lt)) right each.1 none)
 
--- the first of some options is the first of more
-pub wrong_in_front : (front rest : List (ImageOption × List ℕ)) (wrong : ImageOption × List ℕ)
-    → IsFirstWrong front wrong → IsFirstWrong (front ++ rest) wrong
-wrong_in_front [] rest wrong first = absurd first
-wrong_in_front (x ∷ front) rest wrong (inl here) = inl here
-wrong_in_front (x ∷ front) rest wrong (inr after) =
-    inr (after.0, wrong_in_front front rest wrong after.1)
+-- the options of the device, the mask and the start
+abbrev pub first_given : ImageWords → List (ImageOption × List ℕ)
+first_given w =
+    (options.Device, w.device.now) ∷ (options.Mask, w.mask.now) ∷ (options.Start, w.start.now) ∷ []
 
--- and it comes behind options that are right
-pub wrong_behind : {B : Type 0} (Says : List ℕ → B → Type 0) (option : ImageOption)
-    (texts : List (Bor (List ℕ))) (xs : List B) (rest : List (ImageOption × List ℕ))
-    (wrong : ImageOption × List ℕ)
+-- each of the options is right
+abbrev pub AreRight : List (ImageOption × List ℕ) → Type 0
+AreRight = AllByRecursion IsRight
+
+-- what names the first wrong option names it also where more options follow
+pub named_before : (front rest : List (ImageOption × List ℕ)) (e : OptionError)
+    → NamesFirstWrong front e → NamesFirstWrong (front ++ rest) e
+named_before front rest Memory first = tt
+named_before [] rest (Wrong fault) first = absurd first
+named_before (x ∷ front) rest (Wrong fault) (inl here) = inl here
+named_before (x ∷ front) rest (Wrong fault) (inr after) =
+    inr (after.0, named_before front rest (Wrong fault) after.1)
+
+-- and where right ones stand before it
+pub named_behind : (front rest : List (ImageOption × List ℕ)) (e : OptionError) → AreRight front
+    → NamesFirstWrong rest e → NamesFirstWrong (front ++ rest) e
+named_behind front rest Memory right first = tt
+named_behind [] rest (Wrong fault) right first = first
+named_behind (x ∷ front) rest (Wrong fault) right first =
+    inr (right.0, named_behind front rest (Wrong fault) right.1 first)
+
+-- texts that say something are right
+pub each_right : {B : Type 0} (Says : List ℕ → B → Type 0) (option : ImageOption)
+    (texts : List (Bor (List ℕ))) (xs : List B)
     → ((text : List ℕ) (x : B) → Says text x → IsRight (option, text))
-    → AllZip Says (texts_of texts) xs → IsFirstWrong rest wrong
-    → IsFirstWrong (each_given option texts ++ rest) wrong
-wrong_behind Says option [] xs rest wrong right each first = first
-wrong_behind Says option (t ∷ texts) [] rest wrong right each first = absurd each
-wrong_behind Says option (t ∷ texts) (x ∷ xs) rest wrong right each first =
-    inr (right t.now x each.0, wrong_behind Says option texts xs rest wrong right each.1 first)
+    → AllZip Says (texts_of texts) xs → AreRight (each_given option texts)
+each_right Says option [] xs right each = tt
+each_right Says option (t ∷ texts) [] right each = absurd each
+each_right Says option (t ∷ texts) (x ∷ xs) right each =
+    (right t.now x each.0, each_right Says option texts xs right each.1)
+
+pub fetch_right : (texts : List (Bor (List ℕ))) (areas : List Area)
+    → AllZip SaysArea (texts_of texts) areas → AreRight (each_given options.Fetch texts)
+fetch_right texts areas = each_right SaysArea options.Fetch texts areas (λ text a said. (a, said))
+
+pub store_right : (texts : List (Bor (List ℕ))) (areas : List Area)
+    → AllZip SaysArea (texts_of texts) areas → AreRight (each_given options.Store texts)
+store_right texts areas = each_right SaysArea options.Store texts areas (λ text a said. (a, said))
 
 -- of the options of areas each is right exactly where it says an area
 pub area_is_right : (option : ImageOption) → (option ≡ options.Fetch) ⊎ (option ≡ options.Store)
@@ -78,53 +101,20 @@ no_extent [] none = inl (refl, λ right. no_cut right.1.0)
     no_cut (first, last, is, said, more) = absurd (omega (arith, ap length is, length-append first (45 ∷ last)))
 no_extent (t ∷ texts) none = absurd (omega (arith, none))
 
--- where there is an extent, each is given as it is
-pub some_extents : (texts : List (Bor (List ℕ))) → 0 < length texts
-    → each_given options.Extent texts ≡ extents_given texts
-some_extents [] some = absurd (omega (arith, some))
-some_extents (t ∷ texts) some = refl
+-- the limit that is said is right
+pub limit_right : (text : Option (Bor (List ℕ))) (limit : Option ℕ) → SaysLimitOrNone text limit
+    → AreRight (limit_given text)
+limit_right None limit said = tt
+limit_right (Some text) None said = absurd said
+limit_right (Some text) (Some n) said = ((n, said), tt)
 
--- what names the first of some options names the first of more
-pub wrong_of_more : (e : OptionError) (some more : List (ImageOption × List ℕ))
-    → ((wrong : ImageOption × List ℕ) → IsFirstWrong some wrong → IsFirstWrong more wrong)
-    → NamesFirstWrong some e → NamesFirstWrong more e
-wrong_of_more Memory some more leads first = tt
-wrong_of_more (Wrong fault) some more leads first = leads _ first
-
--- a fault behind the device, the mask and the start, which are right
-pub behind_start : (w : ImageWords) (d : Device) (m s : ℕ) → SaysDevice w.device.now d
-    → SaysMask w.mask.now m → SaysAddress w.start.now s
-    → (rest : List (ImageOption × List ℕ)) (wrong : ImageOption × List ℕ) → IsFirstWrong rest wrong
-    → IsFirstWrong ((options.Device, w.device.now) ∷ (options.Mask, w.mask.now)
-    ∷ (options.Start, w.start.now) ∷ rest) wrong
-behind_start w d m s device mask start rest wrong first =
-    inr ((d, device), inr ((m, mask), inr ((s, start), first)))
-
--- a fault behind the limit
-pub behind_limit : (text : Option (Bor (List ℕ))) (limit : Option ℕ) → SaysLimitOrNone text limit
-    → (rest : List (ImageOption × List ℕ)) (wrong : ImageOption × List ℕ) → IsFirstWrong rest wrong
-    → IsFirstWrong (limit_given text ++ rest) wrong
-behind_limit None limit said rest wrong first = first
-behind_limit (Some text) None said rest wrong first = absurd said
-behind_limit (Some text) (Some n) said rest wrong first = inr ((n, said), first)
-
--- a fault behind the extents, of which there are some
-pub behind_extents : (texts : List (Bor (List ℕ))) (pairs : List (ℕ × ℕ)) → 0 < length pairs
-    → AllZip SaysExtent (texts_of texts) pairs
-    → (rest : List (ImageOption × List ℕ)) (wrong : ImageOption × List ℕ) → IsFirstWrong rest wrong
-    → IsFirstWrong (extents_given texts ++ rest) wrong
-behind_extents [] [] some said rest wrong first = absurd (omega (arith, some))
-behind_extents [] (e ∷ pairs) some said rest wrong first = absurd said
-behind_extents (t ∷ texts) pairs some said rest wrong first =
-    wrong_behind SaysExtent options.Extent (t ∷ texts) pairs rest wrong (λ text e h. (e, h)) said first
-
--- a fault behind areas
-pub behind_areas : (option : ImageOption) → (option ≡ options.Fetch) ⊎ (option ≡ options.Store)
-    → (texts : List (Bor (List ℕ))) (areas : List Area) → AllZip SaysArea (texts_of texts) areas
-    → (rest : List (ImageOption × List ℕ)) (wrong : ImageOption × List ℕ) → IsFirstWrong rest wrong
-    → IsFirstWrong (each_given option texts ++ rest) wrong
-behind_areas option is texts areas said rest wrong first =
-    wrong_behind SaysArea option texts areas rest wrong (area_is_right option is) said first
+-- and so are the extents, of which there are some
+pub extents_right : (texts : List (Bor (List ℕ))) (pairs : List (ℕ × ℕ)) → 0 < length pairs
+    → AllZip SaysExtent (texts_of texts) pairs → AreRight (extents_given texts)
+extents_right [] [] some said = absurd (omega (arith, some))
+extents_right [] (e ∷ pairs) some said = absurd said
+extents_right (t ∷ texts) pairs some said =
+    each_right SaysExtent options.Extent (t ∷ texts) pairs (λ text e h. (e, h)) said
 
 -- what texts say of areas, are areas
 pub said_areas : (texts : List (Bor (List ℕ))) (areas : List Area)

@@ -1,5 +1,4 @@
 use Rattle.std.proofs.Common.{Err, ◌+◌, ◌≤◌, ◌^◌, ap, arith, length}
-use Rattle.std.proofs.lemmas.List.Elements.{recursion_from_All}
 use Rattle.chan_run.proofs.image.write_image.Goals as goal
 
 pub returns-in-Ok-write_parts-clause-answer : goal.returns-in-Ok-write_parts-clause-answer

@@ -1,4 +1,4 @@
-use Rattle.std.proofs.Common.{ap, inl, inr, refl, subst, sym, arith, rules, ◌+◌}
+use Rattle.std.proofs.Common.{arith, rules, ◌+◌}
 use Rattle.chan_run.specs.Options.{SaysArea}
 use Rattle.chan_run.proofs.ImageLemmas.{area_is_right, first_wrong, no_area, one_more}
 use Rattle.chan_run.proofs.option_reading.areas_of.Goals as goal

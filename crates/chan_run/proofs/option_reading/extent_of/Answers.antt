@@ -1,4 +1,4 @@
-use Rattle.std.proofs.Common.{◌≡◌, ◌≤◌, arith}
+use Rattle.std.proofs.Common.{arith}
 use Rattle.chan_run.proofs.OptionLemmas.{one_pair}
 use Rattle.chan_run.proofs.option_reading.extent_of.Goals as goal
 

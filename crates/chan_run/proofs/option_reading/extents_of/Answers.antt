@@ -1,4 +1,4 @@
-use Rattle.std.proofs.Common.{◌≡◌, ◌∙◌, length, arith, sym, rules}
+use Rattle.std.proofs.Common.{◌≡◌, ◌∙◌, length, sym}
 use Rattle.std.proofs.lemmas.Bool.{eqb-true}
 use Rattle.chan_run.proofs.ImageLemmas.{no_extent}
 use Rattle.chan_run.proofs.option_reading.extents_of.Goals as goal

@@ -1,4 +1,4 @@
-use Rattle.std.proofs.Common.{ap, inl, inr, refl, subst, sym, arith, rules, ◌+◌}
+use Rattle.std.proofs.Common.{arith, rules, ◌+◌}
 use Rattle.chan_run.specs.Imaging.{SaysExtent}
 use Rattle.chan_run.proofs.ImageLemmas.{first_wrong, one_more}
 use Rattle.chan_run.specs.declared.image_options.ImageOption.TheVariants as options

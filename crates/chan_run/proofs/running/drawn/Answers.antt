@@ -1,81 +1,27 @@
-use Rattle.std.proofs.Common.{List, ap, inr, subst, ◌∙◌}
-use Rattle.std.specs.Io.KnownBytes.{Appends}
-use Rattle.ccw_core.specs.Written.{AppendsPrefix}
-use Rattle.chan_walk.specs.declared.offence.Offence.{Offence}
+use Rattle.std.proofs.Common.{ap, inr, rules, ◌∙◌}
 use Rattle.chan_deck.specs.Graph.{graph}
-use Rattle.chan_run.specs.Run.{status_of_verdict}
-use Rattle.chan_run.proofs.Outputs.{IsSeen, begins_to_draw, draws, is_verified}
+use Rattle.chan_run.specs.Run.{IsPicture, IsVerified, status_of_verdict}
+use Rattle.chan_run.proofs.Outputs.{answered, cut_off, few_places}
 use Rattle.chan_run.proofs.running.drawn.Goals as goal
 
 pub returns-in-Ok-write_graph-clause-answer : goal.returns-in-Ok-write_graph-clause-answer
 returns-in-Ok-write_graph-clause-answer g c =
-    let j = c.args.job.now in
     let d = c.in-Ok.seen in
-    let os = c.in-Ok-offences.offences.items in
-    let found = c.in-Ok.ensures in
-    let seen : IsSeen j d = record {
-      verdict = found.verdict;
-      covers = found.safe;
-      shown = found.shown;
-      exact = found.exact;
-      places = found.places;
-      looks = found.looks;
-      few = found.few;
-    } in
-    record {
-      verdict = d.verdict;
-      verified = is_verified j d seen;
-      status = c.status_of.ensures ∙ ap status_of_verdict c.verdict.ensures;
-      written = draws j d os _ _ seen c.in-Ok-offences.ensures.all
-          (subst (λ (xs : List Offence). Appends (g.W.Write.contents c.args.to.now.device)
-          (g.W.Write.contents c.write_graph.new.to.device) (graph d.looks xs))
-          c.as_slice.ensures.value c.in-Ok-write_graph.ensures.ok);
-    }
+    let verified : IsVerified c.args.job.now d.verdict = search (rules, few_places) in
+    let picture : IsPicture c.args.job.now (graph d.looks c.in-Ok-offences.offences.items) = search rules in
+    answered _ _ _ d.verdict _ _ _ _ verified picture (c.status_of.ensures ∙ ap status_of_verdict c.verdict.ensures)
+    (rw c.as_slice.ensures.value at c.in-Ok-write_graph.ensures.ok)
 
 pub returns-in-Err-Write-clause-answer : goal.returns-in-Err-Write-clause-answer
 returns-in-Err-Write-clause-answer g c =
-    let j = c.args.job.now in
     let d = c.in-Ok.seen in
-    let os = c.in-Ok-offences.offences.items in
-    let found = c.in-Ok.ensures in
-    let seen : IsSeen j d = record {
-      verdict = found.verdict;
-      covers = found.safe;
-      shown = found.shown;
-      exact = found.exact;
-      places = found.places;
-      looks = found.looks;
-      few = found.few;
-    } in
-    record {
-      verdict = d.verdict;
-      verified = is_verified j d seen;
-      written = begins_to_draw j d os _ _ seen c.in-Ok-offences.ensures.all
-          (subst (λ (xs : List Offence). AppendsPrefix (g.W.Write.contents c.args.to.now.device)
-          (g.W.Write.contents c.write_graph.new.to.device) (graph d.looks xs))
-          c.as_slice.ensures.value c.write_graph.ensures.prefix);
-    }
+    let verified : IsVerified c.args.job.now d.verdict = search (rules, few_places) in
+    let picture : IsPicture c.args.job.now (graph d.looks c.in-Ok-offences.offences.items) = search rules in
+    cut_off _ _ _ d.verdict _ _ _ verified picture (rw c.as_slice.ensures.value at c.write_graph.ensures.prefix)
 
 pub returns-clause-answer : goal.returns-clause-answer
 returns-clause-answer g c =
-    let j = c.args.job.now in
     let d = c.in-Ok.seen in
-    let os = c.in-Ok-offences.offences.items in
-    let found = c.in-Ok.ensures in
-    let seen : IsSeen j d = record {
-      verdict = found.verdict;
-      covers = found.safe;
-      shown = found.shown;
-      exact = found.exact;
-      places = found.places;
-      looks = found.looks;
-      few = found.few;
-    } in
-    inr (record {
-      verdict = d.verdict;
-      verified = is_verified j d seen;
-      written = begins_to_draw j d os _ _ seen c.in-Ok-offences.ensures.all
-          (subst (λ (xs : List Offence). AppendsPrefix (g.W.Write.contents c.args.to.now.device)
-          (g.W.Write.contents c.write_graph.new.to.device) (graph d.looks xs))
-          c.as_slice.ensures.value c.write_graph.ensures.prefix);
-    })
+    let verified : IsVerified c.args.job.now d.verdict = search (rules, few_places) in
+    let picture : IsPicture c.args.job.now (graph d.looks c.in-Ok-offences.offences.items) = search rules in
+    inr (cut_off _ _ _ d.verdict _ _ _ verified picture (rw c.as_slice.ensures.value at c.write_graph.ensures.prefix))
