@@ -3,4 +3,3 @@ pub mod CommandSteps
 pub mod TakenLines
 pub mod FileWords
 pub mod PlainLines
-pub mod ImageWords

@@ -1,6 +1,7 @@
 -- What lines in plain words ask for.
 use Rattle.std.proofs.Common.{◌∙◌, ◌∷◌, ◌≡◌, Bool, List, None, Option, Some, [], ap, ap₂, codes}
-use Rattle.std.proofs.Common.{false, inl, inr, is_some, refl, subst, sym, true, unwrap_or}
+use Rattle.std.proofs.Common.{false, inl, inr, is_some, refl, rules, subst, sym, tests, true}
+use Rattle.std.proofs.Common.{unwrap_or}
 use Rattle.clap.proofs.OnLiterals.{clap_on_literals}
 use Rattle.clap.specs.Faults.{check_fault, defaults_fault, entered_fault, level_fault, settle_fault}
 use Rattle.clap.specs.Faults.{walk_fault}
@@ -322,11 +323,7 @@ names_another file plain (inr e) = true≢false
 
 -- another name
 other_name : (text name : Text) → text ≢ name → bytes_eq name text ≡ false
-other_name text name other = go (bytes_eq name text) refl
-  where
-    go : (b : Bool) → bytes_eq name text ≡ b → b ≡ false
-    go true same = absurd (other (sym ((bytes_eq-Decides name text).0 same)))
-    go false same = refl
+other_name text name other = search (rules, tests, bytes_eq-Decides)
 
 -- a text that is no command and no option is unknown
 text_is_unknown : (p text : Text) (rest : List Text) → IsValue text → IsNoCommand text
@@ -407,47 +404,13 @@ module _ (line : List Text) (answer : Request) (is : IsAnswerTo line answer) whe
   -- it is what the plain lines say
   pub plain : IsPlainAnswerTo line answer
   plain =
-      let verify : IsNamed (codes "verify") (sub_at 1) = record {
-        met = refl;
-        no_help = refl;
-        finds
-            = refl;
-        called = refl;
-      } in
-      let list : IsNamed (codes "list") (one_word (codes "list")
-      (codes "FILE") false) = record {
-        met = refl;
-        no_help = refl;
-        finds = refl;
-        called = refl;
-      } in
-      let why : IsNamed (codes "why") (one_word (codes "why")
-      (codes "FILE") false) = record {
-        met = refl;
-        no_help = refl;
-        finds = refl;
-        called = refl;
-      } in
-      let graph : IsNamed (codes "graph") (one_word (codes "graph")
-      (codes "FILE") false) = record {
-        met = refl;
-        no_help = refl;
-        finds = refl;
-        called = refl;
-      } in
-      let show : IsNamed (codes "show") (one_word (codes "show")
-      (codes "CCW") true) = record { met = refl; no_help = refl; finds = refl; called = refl }
-      in
-      let deck : IsNamed (codes "deck") (sub_at 5) = record {
-        met = refl;
-        no_help = refl;
-        finds =
-            refl;
-        called = refl;
-      } in
-      let explain : IsNamed (codes "explain") (one_word (codes "explain")
-      (codes "WORD") true) = record { met = refl; no_help = refl; finds = refl; called = refl }
-      in
+      let verify : IsNamed (codes "verify") (sub_at 1) = search rules in
+      let list : IsNamed (codes "list") (one_word (codes "list") (codes "FILE") false) = search rules in
+      let why : IsNamed (codes "why") (one_word (codes "why") (codes "FILE") false) = search rules in
+      let graph : IsNamed (codes "graph") (one_word (codes "graph") (codes "FILE") false) = search rules in
+      let show : IsNamed (codes "show") (one_word (codes "show") (codes "CCW") true) = search rules in
+      let deck : IsNamed (codes "deck") (sub_at 5) = search rules in
+      let explain : IsNamed (codes "explain") (one_word (codes "explain") (codes "WORD") true) = search rules in
       record {
         alone = λ p e. answered line None (RunsOrNoMemory actions.Verify)
             (ap (fault_of chanv) e ∙ (alone_is_taken p).0)

@@ -35,10 +35,19 @@ pub or_else_none : (a b : Kinds) → or_else a b ≡ [] → (a ≡ []) × (b ≡
 or_else_none [] b none = (refl, none)
 or_else_none (k ∷ ks) b none = absurd (cons≢nil none)
 
+-- one of two is true, and not the second
+or_false : (b : Bool) → (b || false) ≡ true → b ≡ true
+or_false true is = refl
+or_false false is = is
+
 -- the property holds of each element
 abbrev pub Each : {X : Type 0} → (X → Type 0) → List X → Type 0
 Each P [] = Unit {0}
 Each P (x ∷ xs) = P x × Each P xs
+
+-- two facts
+also : {A B : Type 0} → A → B → A × B
+also a b = (a, b)
 
 -- what holds of none, and of each element that passes the test, holds of what is found
 pub found_by : {X : Type 0} (P : Option X → Type 0) (test : X → Bool) → P None → (xs : List X)
@@ -258,37 +267,19 @@ named_is_known : (name : Text) (words : List Text)
 named_is_known name words no_help = found_by
     (λ o. option_map_or (λ s. level_fault s [] nothing_held words false []) o [] ≡ []
     → IsKnown (option_map (λ s. rows_at s words) o)) (λ s. answers_to name (label_of s))
-    (λ _. inl refl) app.subs (
-      λ _ sound. inr (inr (inl (refl, has_word words sound))),
-      (
-        λ _ _. inr (inl (actions.Verify, refl)),
-        (
-          λ _ _. inr (inl (actions.List, refl)),
-          (
-            λ _ _. inr (inl (actions.Why, refl)),
-            (
-              λ _ _. inr (inl (actions.Graph, refl)),
-              (
-                λ _ _. inr (inr (inr (inl refl))),
-                (
-                  λ _ _. inr (inr (inr (inr refl))),
-                  (λ is _. absurd (help is), tt),
-                ),
-              ),
-            ),
-          ),
-        ),
-      ),
-    )
+    (λ _. inl refl) app.subs
+    (also (λ _ sound. inr (inr (inl (refl, has_word words sound))))
+    (also (λ _ _. inr (inl (actions.Verify, refl)))
+    (also (λ _ _. inr (inl (actions.List, refl)))
+    (also (λ _ _. inr (inl (actions.Why, refl)))
+    (also (λ _ _. inr (inl (actions.Graph, refl)))
+    (also (λ _ _. inr (inr (inr (inl refl))))
+    (also (λ _ _. inr (inr (inr (inr refl))))
+    (also (λ is _. absurd (help is)) tt))))))))
   where
     help : answers_to name (label_of (sub_at 7)) ≡ true → ⊥
-    help is = go (bytes_eq (codes "help") name) refl is
-      where
-        go : (b : Bool) → bytes_eq (codes "help") name ≡ b → (b || false) ≡ true → ⊥
-        go true same is = cons≢nil
-            (subst (λ n. other_fault app.top (Some n) n nothing_held ≡ [])
-            (sym ((bytes_eq-Decides (codes "help") name).0 same)) no_help)
-        go false same is = true≢false (sym is)
+    help is = cons≢nil (subst (λ n. other_fault app.top (Some n) n nothing_held ≡ [])
+        (sym ((bytes_eq-Decides (codes "help") name).0 (or_false _ is))) no_help)
 
 -- where nothing is wrong with the words and below them, what they lead to is known
 abbrev LeadsToKnown : List Text → Walk → Type 0

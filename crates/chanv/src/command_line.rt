@@ -10,6 +10,7 @@ ghost use Rattle.chanv.specs.CommandLine.{show_line, verify_line, with_tellers};
 ghost use Rattle.chanv.specs.CommandWords.{IsCommand, IsStandardInput, files_in, texts_of};
 
 use crate::image_command::{ImageRequest, image_command, image_request};
+use crate::words_met::{text_met, text_or, texts_met};
 use chan_run::Action;
 use clap::error::ErrorKind;
 use clap::{Arg, ArgAction, ArgMatches, Command, Error};
@@ -211,7 +212,7 @@ fn request_of<'a>(alloc: Global, matches: &ArgMatches<'a>) -> Result<Request<'a>
     ensures { IfOk result (AsksFor (subcommand_rows_of matches.now)) }
 {
     match matches.subcommand() {
-        Some(("show", inner)) => match inner.get_str("CCW") {
+        Some(("show", inner)) => match text_met(inner, "CCW") {
             Some(word) => Ok(Request::Show(word)),
             // the word is required
             None => unreachable!(),
@@ -220,7 +221,7 @@ fn request_of<'a>(alloc: Global, matches: &ArgMatches<'a>) -> Result<Request<'a>
         Some(("why", inner)) => request_over(alloc, Action::Why, inner),
         Some(("graph", inner)) => request_over(alloc, Action::Graph, inner),
         Some(("deck", inner)) => Ok(Request::Image(image_request(alloc, inner)?)),
-        Some(("explain", inner)) => { Ok(Request::Explain(inner.get_str("WORD").unwrap_or(""))) }
+        Some(("explain", inner)) => Ok(Request::Explain(text_or(inner, "WORD", ""))),
         Some((_, inner)) => request_over(alloc, Action::Verify, inner),
         None => Ok(Request::Run(Action::Verify)),
     }
@@ -234,13 +235,11 @@ fn request_over<'a>(
 ) -> Result<Request<'a>, AllocError>
     ensures { IfOk result (RunsOver action (files_in (rows_of (found_of matches.now)))) }
 {
-    let files = matches.get_strs("FILE").unwrap_or(&[]);
-    if is_standard_input(files) {
+    let files = texts_met(alloc, matches, "FILE")?;
+    if is_standard_input(files.as_slice()) {
         return Ok(Request::Run(action));
     }
-    let mut names = Vec::new(alloc);
-    names.extend_from_slice(files)?;
-    Ok(Request::RunNamed(action, names))
+    Ok(Request::RunNamed(action, files))
 }
 
 /// Whether these files are standard input: there is none, or `-` alone.

@@ -2,10 +2,11 @@
 
 ghost use Rattle.std.specs.Prelude.{◌≡◌, false, IfOk, option_map};
 ghost use Rattle.clap.specs.Words.{App, found_of, rows_of, rule_of};
-ghost use Rattle.chanv.specs.CommandWords.{IsCommand, file_in, texts_of};
+ghost use Rattle.chanv.specs.CommandWords.{IsCommand, file_in};
 ghost use Rattle.chanv.specs.ImageLine.{SaysImage, image_line, job_options, lending_options};
-ghost use Rattle.chanv.specs.ImageLine.{option_word, texts_in};
+ghost use Rattle.chanv.specs.ImageLine.{option_word};
 
+use crate::words_met::{text_met, text_or, texts_met};
 use chan_run::ImageWords;
 use clap::{Arg, ArgAction, ArgMatches, Command};
 use std::alloc::{AllocError, Global};
@@ -101,25 +102,11 @@ pub(crate) fn image_command<'a>(alloc: Global) -> Result<Command<'a>, AllocError
     command.arg(Arg::new(alloc, "FILE").help(FILE))
 }
 
-/// The texts that clap met for an option.
-fn texts<'a>(
-    alloc: Global,
-    matches: &ArgMatches<'a>,
-    name: &str,
-) -> Result<Vec<&'a str>, AllocError>
-    ensures { IfOk result (λ texts. texts_of texts.items
-        ≡ texts_in name.now (rows_of (found_of matches.now))) }
-{
-    let mut texts = Vec::new(alloc);
-    texts.extend_from_slice(matches.get_strs(name).unwrap_or(&[]))?;
-    Ok(texts)
-}
-
 /// The file that clap met, unless it is standard input.
 fn file<'a>(matches: &ArgMatches<'a>) -> Option<&'a str>
     ensures { option_map (λ name. name.now) result ≡ file_in (rows_of (found_of matches.now)) }
 {
-    match matches.get_str("FILE") {
+    match text_met(matches, "FILE") {
         Some(name) if name != "-" => Some(name),
         _ => None,
     }
@@ -133,14 +120,14 @@ pub(crate) fn image_request<'a>(
     ensures { IfOk result (SaysImage (rows_of (found_of matches.now))) }
 {
     let words = ImageWords {
-        device: matches.get_str("device").unwrap_or("2314"),
-        mask: matches.get_str("mask").unwrap_or("00"),
-        start: matches.get_str("start").unwrap_or(""),
-        limit: matches.get_str("limit"),
-        extents: texts(alloc, matches, "extent")?,
-        fetch: texts(alloc, matches, "fetch")?,
-        store: texts(alloc, matches, "store")?,
-        at: matches.get_str("at").unwrap_or("0"),
+        device: text_or(matches, "device", "2314"),
+        mask: text_or(matches, "mask", "00"),
+        start: text_or(matches, "start", ""),
+        limit: text_met(matches, "limit"),
+        extents: texts_met(alloc, matches, "extent")?,
+        fetch: texts_met(alloc, matches, "fetch")?,
+        store: texts_met(alloc, matches, "store")?,
+        at: text_or(matches, "at", "0"),
     };
     Ok(ImageRequest {
         words,

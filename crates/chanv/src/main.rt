@@ -11,6 +11,7 @@
 
 mod command_line;
 mod image_command;
+mod words_met;
 
 use crate::command_line::{Request, read_request};
 use crate::image_command::ImageRequest;

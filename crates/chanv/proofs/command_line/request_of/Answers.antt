@@ -2,7 +2,6 @@
 use Rattle.std.proofs.Common.{◌∙◌, ◌≡◌, Bool, List, None, Option, Some, [], ap, ap₂, codes, inl}
 use Rattle.std.proofs.Common.{inr, is_some, rules, subst, sym, unwrap_or}
 use Rattle.clap.specs.Walk.{Row, Text}
-use Rattle.chanv.proofs.ImageWords.{one_text}
 use Rattle.chanv.proofs.PlainLines.{no_own_name, own_name}
 use Rattle.chanv.specs.CommandLine.{IsKnown, ccw_met, name_met, rows_met}
 use Rattle.chanv.proofs.Names.{SaysImage, bytes_eq, first_value-rows, found_of, option_map, rows_of}
@@ -35,16 +34,14 @@ unreachable-requires c =
     let met = subcommand_rows_of c.args.matches.now in
     let name : name_met met ≡ Some (codes "show") = search rules in
     let is = met_is met _ _ name c.in-Some-show-default.ensures.rows in
-    let word = first_value-rows (found_of c.in-Some-show-default.inner.now) (codes "CCW") in
-    no_word met name (ap ccw_met is ∙ sym word ∙ sym c.in-None-get_str.ensures) c.requires
+    no_word met name (ap ccw_met is ∙ sym c.in-None-text_met.ensures) c.requires
 
-pub returns-in-Some-get_str : goal.returns-in-Some-get_str
-returns-in-Some-get_str c =
+pub returns-in-Some-text_met : goal.returns-in-Some-text_met
+returns-in-Some-text_met c =
     let met = subcommand_rows_of c.args.matches.now in
     let name : name_met met ≡ Some (codes "show") = search rules in
     let is = met_is met _ _ name c.in-Some-show-default.ensures.rows in
-    let word = first_value-rows (found_of c.in-Some-show-default.inner.now) (codes "CCW") in
-    (name, ap ccw_met is ∙ sym word ∙ sym c.in-Some-get_str.ensures)
+    (name, ap ccw_met is ∙ sym c.in-Some-text_met.ensures)
 
 pub returns-in_ok-image_request-in-Some-deck-default :
     goal.returns-in_ok-image_request-in-Some-deck-default
@@ -60,13 +57,6 @@ returns-in_ok-image_request-in-Some-deck-default c =
 pub returns-in-Some-explain-default : goal.returns-in-Some-explain-default
 returns-in-Some-explain-default c =
     let met = subcommand_rows_of c.args.matches.now in
-    let found = found_of c.in-Some-explain-default.inner.now in
     let name : name_met met ≡ Some (codes "explain") = search rules in
     let is = met_is met _ _ name c.in-Some-explain-default.ensures.rows in
-    let asked = c.get_str-in-Some-explain-default.ensures
-    ∙ first_value-rows found (codes "WORD") in (
-      name,
-      one_text c.get_str-in-Some-explain-default.result _ c.unwrap_or.result (codes "WORD")
-          (rows_of found) asked c.unwrap_or.ensures
-          ∙ ap (text_or (codes "WORD") []) (sym (ap rows_met is)),
-    )
+    (name, c.text_or.ensures ∙ ap (text_or (codes "WORD") []) (sym (ap rows_met is)))
