@@ -27,18 +27,18 @@ is_value (x ∷ xs) (inr plain) = (rw plain refl, rw plain refl, rw plain refl)
 -- ---- the words of one command
 
 -- nothing is wrong with the words from here on, and what is found in the end has the property
-pub record Goes (s : Shape) (w : Walk) (words : List Text) (P : List Row → Type 0) : Type 0 where
+pub record LeadsTo (s : Shape) (w : Walk) (words : List Text) (P : List Row → Type 0) : Type 0 where
   pub sound : or_else (walk_fault s [] w words) (end_kinds s (fold (walked s.rules []) w words))
       ≡ []
   pub found : P (finished s.rules (fold (walked s.rules []) w words).held)
 
 -- the same from the word before, which leads here
 pub turned : (s : Shape) (w next : Walk) (word : Text) (rest : List Text) (P : List Row → Type 0)
-    → turn_fault s [] w word ≡ [] → walked s.rules [] w word ≡ next → Goes s next rest P
-    → Goes s w (word ∷ rest) P
+    → turn_fault s [] w word ≡ [] → walked s.rules [] w word ≡ next → LeadsTo s next rest P
+    → LeadsTo s w (word ∷ rest) P
 unfolding walk_fault
-turned s w next word rest P sound step goes =
-    let here = subst (λ w. Goes s w rest P) (sym step) goes in
+turned s w next word rest P sound step leads =
+    let here = subst (λ w. LeadsTo s w rest P) (sym step) leads in
     record {
       sound = ap (λ k. or_else (or_else k (walk_fault s [] (walked s.rules [] w word) rest))
           (end_kinds s (fold (walked s.rules []) (walked s.rules [] w word) rest))) sound
@@ -47,8 +47,8 @@ turned s w next word rest P sound step goes =
     }
 
 -- the same of all the words after a command
-abbrev pub Gives : Shape → List Text → (List Row → Type 0) → Type 0
-Gives s = Goes s (walk_from nothing_held)
+abbrev pub CommandLeadsTo : Shape → List Text → (List Row → Type 0) → Type 0
+CommandLeadsTo s = LeadsTo s (walk_from nothing_held)
 
 -- what is found for an argument that is given
 abbrev given : Rule → List Text → Row
@@ -103,22 +103,22 @@ next (v ∷ vs) last word value =
 
 -- the files go on to the end
 ends : (front : List Text) (last : Text) (rest : List Text) → All IsFile rest
-    → Goes verify (behind front last) rest (λ rows. files_in rows ≡ front ++ last ∷ rest)
+    → LeadsTo verify (behind front last) rest (λ rows. files_in rows ≡ front ++ last ∷ rest)
 unfolding clap_on_literals
 ends [] last [] files = record { sound = refl; found = refl }
 ends (v ∷ vs) last [] files = record { sound = refl; found = refl }
 ends front last (word ∷ rest) files =
-    let goes = ends (front ++ last ∷ []) word rest (All-tail IsFile word rest files) in
+    let leads = ends (front ++ last ∷ []) word rest (All-tail IsFile word rest files) in
     let here = next front last word (is_value word (All-head IsFile word rest files)) in
     turned verify _ _ word rest (λ rows. files_in rows ≡ front ++ last ∷ word ∷ rest) here.0 here.1
     (record {
-      sound = goes.sound;
-      found = goes.found ∙ append_assoc front (last ∷ []) (word ∷ rest);
+      sound = leads.sound;
+      found = leads.found ∙ append_assoc front (last ∷ []) (word ∷ rest);
     })
 
 -- nothing is wrong with files, and they are what is found as such
 pub files_are_found : (files : List Text) → All IsFile files
-    → Gives verify files (λ rows. files_in rows ≡ files)
+    → CommandLeadsTo verify files (λ rows. files_in rows ≡ files)
 unfolding clap_on_literals
 files_are_found [] files = record { sound = refl; found = refl }
 files_are_found (file ∷ rest) files =
@@ -139,7 +139,7 @@ one_word name id required = record (sub_at 2) {
 -- a word is what is found for it
 pub word_is_found : (name id word : Text) (required : Bool) → bytes_eq id id ≡ true
     → bytes_eq id (codes "help") ≡ false → bytes_eq (codes "help") id ≡ false → IsValue word
-    → Gives (one_word name id required) (word ∷ [])
+    → CommandLeadsTo (one_word name id required) (word ∷ [])
     (λ rows. rows ≡ given (record (rule_at (sub_at 2) 0) { id = id }) (word ∷ []) ∷ [])
 unfolding clap_on_literals
 word_is_found name id word true same other other-2 value = record {
@@ -176,11 +176,11 @@ HasTwo start extent rows =
     × (first_of (codes "FILE") rows ≡ None)
 
 -- nothing is wrong with the extent, and both are found
-extent_goes : (start extent : Text) → IsValue extent
-    → Goes (sub_at 5) (behind_value [] (codes "start") start idle) (codes "--extent" ∷ extent ∷ [])
+extent_leads : (start extent : Text) → IsValue extent
+    → LeadsTo (sub_at 5) (behind_value [] (codes "start") start idle) (codes "--extent" ∷ extent ∷ [])
     (HasTwo start extent)
 unfolding clap_on_literals
-extent_goes start extent value = turned (sub_at 5) _
+extent_leads start extent value = turned (sub_at 5) _
     (walked (sub_at 5).rules [] (behind_value [] (codes "start") start idle)
     (codes "--extent")) _ _ _ refl refl
     (turned (sub_at 5) _ (behind_value (given (rule_at (sub_at 5) 2) (start ∷ []) ∷ [])
@@ -190,7 +190,7 @@ extent_goes start extent value = turned (sub_at 5) _
 
 -- nor with the start
 pub options_are_given : (start extent : Text) → IsValue start → IsValue extent
-    → Gives (sub_at 5) (option_words start extent) (HasTwo start extent)
+    → CommandLeadsTo (sub_at 5) (option_words start extent) (HasTwo start extent)
 unfolding clap_on_literals
 options_are_given start extent value value-2 =
     turned (sub_at 5) (walk_from nothing_held)
@@ -198,4 +198,4 @@ options_are_given start extent value value-2 =
     (HasTwo start extent) refl refl
     (turned (sub_at 5) _ (behind_value [] (codes "start") start idle) start _ _
     (simp (value.0, value.1, value.2) refl) (simp (value.0, value.1, value.2) refl)
-    (extent_goes start extent value-2))
+    (extent_leads start extent value-2))

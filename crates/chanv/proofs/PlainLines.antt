@@ -1,17 +1,17 @@
 -- What lines in plain words ask for.
-use Rattle.std.proofs.Common.{◌∙◌, ◌∷◌, ◌≡◌, Bool, List, None, Option, Some, [], ap, ap₂, codes}
+use Rattle.std.proofs.Common.{◌∙◌, ◌∷◌, ◌≡◌, List, None, Option, Some, [], ap, ap₂, codes}
 use Rattle.std.proofs.Common.{false, inl, inr, is_some, refl, rules, subst, sym, tests, true}
 use Rattle.std.proofs.Common.{unwrap_or}
 use Rattle.clap.proofs.OnLiterals.{clap_on_literals}
 use Rattle.clap.specs.Faults.{check_fault, defaults_fault, entered_fault, level_fault, settle_fault}
 use Rattle.clap.specs.Faults.{walk_fault}
-use Rattle.clap.specs.Walk.{Row, Text, Walk, answers_to, finished, first_of, idle, is_empty}
+use Rattle.clap.specs.Walk.{Row, Text, Walk, answers_to, finished, first_of, idle}
 use Rattle.clap.specs.Walk.{nothing_held, settled, subcommand_met, walk, walk_from, walked}
 use Rattle.clap.specs.declared.error.kind.ErrorKind.TheVariants.{DisplayHelp, DisplayVersion}
 use Rattle.clap.specs.declared.error.kind.ErrorKind.TheVariants.{InvalidSubcommand}
 use Rattle.clap.specs.declared.error.kind.ErrorKind.TheVariants.{MissingRequiredArgument}
 use Rattle.clap.specs.declared.error.kind.ErrorKind.TheVariants.{UnknownArgument}
-use Rattle.chanv.proofs.FileWords.{Gives, HasTwo, IsValue, files_are_found, is_value, one_word}
+use Rattle.chanv.proofs.FileWords.{CommandLeadsTo, HasTwo, IsValue, files_are_found, is_value, one_word}
 use Rattle.chanv.proofs.FileWords.{option_words, options_are_given, second_is_stray, word_is_found}
 use Rattle.chanv.proofs.TakenLines.{cons≢nil, passed_on, sub_at}
 use Rattle.chanv.specs.CommandLine.{AsksFor, ExplainsOrNoMemory, FaultsOrNoMemory, HelpsOrNoMemory}
@@ -26,112 +26,99 @@ use Rattle.chanv.specs.declared.command_line.Request.TheVariants.{Version}
 use Rattle.chanv.proofs.Names.{if◌then◌else◌, ◌≢◌, Action, All-cons, All-nil, App, Bor, Error}
 use Rattle.chanv.proofs.Names.{ErrorKind, IsAmong, IsStandardInput, Kinds, Shape, built, bytes_eq}
 use Rattle.chanv.proofs.Names.{bytes_eq-Decides, entered, fault_of, files_in, find, fold, kind_of}
-use Rattle.chanv.proofs.Names.{label_of, list_any, names_of, option_map, option_map_or, or_else}
+use Rattle.chanv.proofs.Names.{label_of, names_of, option_map, option_map_or, or_else}
 use Rattle.chanv.proofs.Names.{other_than_input, rows_at, slice_index_or, starts_with_minus}
 use Rattle.chanv.proofs.Names.{stopped_fault, subcommand_of, texts_of, true≢false}
 use Rattle.chan_run.specs.declared.running.Action.TheVariants as actions
 
--- ---- which command a request is of
+-- ---- what a command and a request are for
 
--- the action of the command of this name
-abbrev action_named : Text → Action
-action_named name = if bytes_eq name (codes "list") then actions.List
-    else (if bytes_eq name (codes "why") then actions.Why
-    else (if bytes_eq name (codes "graph") then actions.Graph else actions.Verify))
+-- what a command of this name is for, or no command: an action, or else what its name says
+abbrev pub purpose : Option Text → Option Action × Text
+purpose None = (Some actions.Verify, [])
+purpose (Some name) = if bytes_eq name (codes "verify") then (Some actions.Verify, [])
+    else (if bytes_eq name (codes "list") then (Some actions.List, [])
+    else (if bytes_eq name (codes "why") then (Some actions.Why, [])
+    else (if bytes_eq name (codes "graph") then (Some actions.Graph, []) else (None, name))))
 
--- it is the one that has the name
-action_is : (a : Action) → action_named (name_of a) ≡ a
-action_is actions.Verify = refl
-action_is actions.List = refl
-action_is actions.Why = refl
-action_is actions.Graph = refl
+-- the command of an action is for it
+pub purpose_is : (a : Action) → purpose (Some (name_of a)) ≡ (Some a, [])
+purpose_is actions.Verify = refl
+purpose_is actions.List = refl
+purpose_is actions.Why = refl
+purpose_is actions.Graph = refl
 
--- the commands of two actions have two names
-same_action : (a b : Action) → name_of a ≡ name_of b → a ≡ b
-same_action a b same = sym (action_is a) ∙ ap action_named same ∙ action_is b
+-- so is what asks for the action
+for_action : (name : Option Text) (a : Action) → IsFor name a → purpose name ≡ (Some a, [])
+for_action None a is = ap (λ b. (Some b, [])) (sym is)
+for_action (Some name) a is = ap (λ n. purpose (Some n)) is ∙ purpose_is a
 
--- the name of a command that isn't an action's; nothing for an action's, and for none
-abbrev pub own_name : Option Text → Text
-own_name None = []
-own_name (Some name) = if list_any (bytes_eq name) (codes "verify" ∷ codes "list" ∷ codes "why"
-    ∷ codes "graph" ∷ []) then [] else name
+-- what a request is for
+abbrev purpose_asked : Request → Option Action × Text
+purpose_asked (Show word) = (None, codes "show")
+purpose_asked (Image q) = (None, codes "deck")
+purpose_asked (Explain word) = (None, codes "explain")
+purpose_asked (Run a) = (Some a, [])
+purpose_asked (RunNamed a names) = (Some a, [])
+purpose_asked _ = (None, codes "help")
 
--- no action's command has such a name
-pub no_own_name : (a : Action) → own_name (Some (name_of a)) ≡ []
-no_own_name actions.Verify = refl
-no_own_name actions.List = refl
-no_own_name actions.Why = refl
-no_own_name actions.Graph = refl
+-- it is what the command that was met is for
+same_purpose : (met : Option (Text × List Row)) (r : Request) → AsksFor met r
+    → purpose (name_met met) ≡ purpose_asked r
+same_purpose met (Show word) asks = ap purpose asks.0
+same_purpose met (Image q) asks = ap purpose asks.0
+same_purpose met (Explain word) asks = ap purpose asks.0
+same_purpose met (Run a) asks = for_action (name_met met) a asks.0
+same_purpose met (RunNamed a names) asks = for_action (name_met met) a asks.0
+same_purpose met r asks = absurd asks
 
--- nor has what asks for an action
-no_name_for : (name : Option Text) (a : Action) → IsFor name a → own_name name ≡ []
-no_name_for None a is = refl
-no_name_for (Some name) a is = ap (λ n. own_name (Some n)) is ∙ no_own_name a
+-- a command that is for an action isn't for what a name says
+pub no_action : (a : Action) (name : Text)
+    → ◌≡◌ {A = Option Action × Text} (Some a, []) (None, name) → ⊥
+no_action a name is = true≢false (ap (λ (p : Option Action × Text). is_some p.0) is)
 
--- the name of the command that a request is of, where that isn't an action's
-abbrev asker : Request → Text
-asker (Show word) = codes "show"
-asker (Image q) = codes "deck"
-asker (Explain word) = codes "explain"
-asker (Run a) = []
-asker (RunNamed a names) = []
-asker _ = codes "help"
-
--- it is the name that was met
-asked_by : (met : Option (Text × List Row)) (r : Request) → AsksFor met r
-    → own_name (name_met met) ≡ asker r
-asked_by met (Show word) asks = ap own_name asks.0
-asked_by met (Image q) asks = ap own_name asks.0
-asked_by met (Explain word) asks = ap own_name asks.0
-asked_by met (Run a) asks = no_name_for (name_met met) a asks.0
-asked_by met (RunNamed a names) asks = no_name_for (name_met met) a asks.0
-asked_by met r asks = absurd asks
+-- a request that is for what a name says asks by that name
+named_by : (met : Option (Text × List Row)) (r : Request) → AsksFor met r
+    → (purpose (name_met met)).1 ≡ (purpose_asked r).1
+named_by met r asks = ap (λ (p : Option Action × Text). p.1) (same_purpose met r asks)
 
 -- ---- what is met, and so asked for
 
--- only this action is asked for
-pub record IsOnlyFor (met : Option (Text × List Row)) (a : Action) : Type 0 where
-  pub unnamed : own_name (name_met met) ≡ []
-  pub same : (b : Action) → IsFor (name_met met) b → b ≡ a
+module _ (met : Option (Text × List Row)) (a : Action)
+    (only : purpose (name_met met) ≡ (Some a, [])) where
+  -- another action is asked for by nothing that was met
+  same : (b : Action) → purpose (name_met met) ≡ (Some b, []) → b ≡ a
+  same b is = ap (λ (p : Option Action × Text). unwrap_or p.0 b) (sym is ∙ only)
 
--- no command is for verifying
-pub for_none : IsOnlyFor None actions.Verify
-for_none = record { unnamed = refl; same = λ b is. is }
-
--- the command of an action is for it
-pub for_action : (a : Action) (rows : List Row) → IsOnlyFor (Some (name_of a, rows)) a
-for_action a rows = record { unnamed = no_own_name a; same = λ b is. same_action b a (sym is) }
-
-module _ (met : Option (Text × List Row)) (a : Action) (only : IsOnlyFor met a) where
   -- with standard input for its files it runs over that
   pub runs : IsStandardInput (files_met met) → (r : Request) → AsksFor met r → RunsOrNoMemory a r
-  runs input (Run b) asks = only.same b asks.0
+  runs input (Run b) asks = same b (same_purpose met (Run b) asks)
   runs input (RunNamed b names) asks = absurd (asks.1.1 input)
-  runs input r asks =
-      absurd (true≢false (ap (is_empty {X = _}) (sym only.unnamed ∙ asked_by met r asks)))
+  runs input r asks = absurd (no_action a _ (sym only ∙ same_purpose met r asks))
 
   -- and else over the files
   pub runs_named : (files : List Text) → files_met met ≡ files → ¬ IsStandardInput files
       → (r : Request) → AsksFor met r → RunsNamedOrNoMemory a files r
   runs_named files found other (Run b) asks =
       absurd (other (subst IsStandardInput found asks.1.1))
-  runs_named files found other (RunNamed b names) asks = (only.same b asks.0, asks.1.2 ∙ found)
+  runs_named files found other (RunNamed b names) asks =
+      (same b (same_purpose met (RunNamed b names) asks), asks.1.2 ∙ found)
   runs_named files found other r asks =
-      absurd (true≢false (ap (is_empty {X = _}) (sym only.unnamed ∙ asked_by met r asks)))
+      absurd (no_action a _ (sym only ∙ same_purpose met r asks))
 
 -- the word that `show` met is shown
 pub shows : (rows : List Row) (word : Text) → first_of (codes "CCW") rows ≡ Some word
     → (r : Request) → AsksFor (Some (codes "show", rows)) r → ShowsOrNoMemory word r
 shows rows word has (Show text) asks = ap (λ o. unwrap_or o []) (sym asks.1 ∙ has)
 shows rows word has r asks =
-    absurd (true≢false (ap (bytes_eq (codes "show")) (asked_by (Some (codes "show", rows)) r asks)))
+    absurd (true≢false (ap (bytes_eq (codes "show")) (named_by (Some (codes "show", rows)) r asks)))
 
 -- the word that `explain` met is explained
 pub explains : (rows : List Row) (word : Text) → first_of (codes "WORD") rows ≡ Some word
     → (r : Request) → AsksFor (Some (codes "explain", rows)) r → ExplainsOrNoMemory word r
 explains rows word has (Explain text) asks = asks.1 ∙ ap (λ o. unwrap_or o []) has
 explains rows word has r asks = absurd (true≢false
-    (ap (bytes_eq (codes "explain")) (asked_by (Some (codes "explain", rows)) r asks)))
+    (ap (bytes_eq (codes "explain")) (named_by (Some (codes "explain", rows)) r asks)))
 
 -- texts of which there is none are none
 no_texts : (ts : List (Bor Text)) → texts_of ts ≡ [] → ts ≡ []
@@ -159,7 +146,7 @@ images rows start extent has (Image q) asks =
       no_text q.file (said.file ∙ ap other_than_input has.8),
     )
 images rows start extent has r asks = absurd
-    (true≢false (ap (bytes_eq (codes "deck")) (asked_by (Some (codes "deck", rows)) r asks)))
+    (true≢false (ap (bytes_eq (codes "deck")) (named_by (Some (codes "deck", rows)) r asks)))
 
 -- an answer to words that are taken is what they ask for, or memory was wanting
 pub answered : (words : List Text) (met : Option (Text × List Row)) (P : Request → Type 0)
@@ -304,16 +291,16 @@ wants_words = (refl, refl, refl)
 
 -- nothing is wanted behind the name of an action that takes one file
 wants_none : (name : Text)
-    → Gives (one_word name (codes "FILE") false) [] (λ rows. files_in rows ≡ [])
+    → CommandLeadsTo (one_word name (codes "FILE") false) [] (λ rows. files_in rows ≡ [])
 unfolding clap_on_literals
 wants_none name = record { sound = refl; found = refl }
 
 -- a file there is what is found as such
-gives_file : (name file : Text) → IsFile file
-    → Gives (one_word name (codes "FILE") false) (file ∷ []) (λ rows. files_in rows ≡ file ∷ [])
-gives_file name file is =
-    let gives = word_is_found name (codes "FILE") file false refl refl refl (is_value file is) in
-    record { sound = gives.sound; found = ap files_in gives.found }
+file_is_given : (name file : Text) → IsFile file
+    → CommandLeadsTo (one_word name (codes "FILE") false) (file ∷ []) (λ rows. files_in rows ≡ file ∷ [])
+file_is_given name file is =
+    let leads = word_is_found name (codes "FILE") file false refl refl refl (is_value file is) in
+    record { sound = leads.sound; found = ap files_in leads.found }
 
 -- a file that begins with no hyphen isn't standard input
 names_another : (file : Text) → starts_with_minus file ≡ false → ¬ IsStandardInput (file ∷ [])
@@ -348,13 +335,13 @@ text_is_unknown p text rest value is = simp (
 module _ (line : List Text) (answer : Request) (is : IsAnswerTo line answer) where
   -- where nothing is wrong with what follows a command, the answer is what is found
   taken : {name : Text} (s : Shape) → IsNamed name s → (words : List Text) (Q : List Row → Type 0)
-      → Gives s words Q → (P : Request → Type 0) → P NoMemory
+      → CommandLeadsTo s words Q → (P : Request → Type 0) → P NoMemory
       → ((rows : List Row) → Q rows → (r : Request) → AsksFor (Some (name, rows)) r → P r)
       → (p : Text) → line ≡ p ∷ name ∷ words → P answer
-  taken {name} s named words Q gives P wanting asks p e = answered line _ P
-      (ap (fault_of chanv) e ∙ line_fault name s named words p ∙ gives.sound)
+  taken {name} s named words Q leads P wanting asks p e = answered line _ P
+      (ap (fault_of chanv) e ∙ line_fault name s named words p ∙ leads.sound)
       (ap (subcommand_of chanv) e ∙ line_meets name s named words p) wanting
-      (asks _ gives.found) answer is
+      (asks _ leads.found) answer is
 
   -- where something is, it is what that is answered with
   failed : {name : Text} (s : Shape) → IsNamed name s → (words : List Text) (k : ErrorKind)
@@ -365,20 +352,20 @@ module _ (line : List Text) (answer : Request) (is : IsAnswerTo line answer) whe
 
   -- an action with standard input for its files is over that
   over_input : (a : Action) (s : Shape) → IsNamed (name_of a) s → (words files : List Text)
-      → Gives s words (λ rows. files_in rows ≡ files) → IsStandardInput files
+      → CommandLeadsTo s words (λ rows. files_in rows ≡ files) → IsStandardInput files
       → (p : Text) → line ≡ p ∷ name_of a ∷ words → RunsOrNoMemory a answer
-  over_input a s named words files gives input = taken s named words
-      (λ rows. files_in rows ≡ files) gives (RunsOrNoMemory a) tt
-      (λ rows found. runs (Some (name_of a, rows)) a (for_action a rows)
+  over_input a s named words files leads input = taken s named words
+      (λ rows. files_in rows ≡ files) leads (RunsOrNoMemory a) tt
+      (λ rows found. runs (Some (name_of a, rows)) a (purpose_is a)
       (subst IsStandardInput (sym found) input))
 
   -- with other files it is over them
   over_files : (a : Action) (s : Shape) → IsNamed (name_of a) s → (files : List Text)
-      → Gives s files (λ rows. files_in rows ≡ files) → ¬ IsStandardInput files
+      → CommandLeadsTo s files (λ rows. files_in rows ≡ files) → ¬ IsStandardInput files
       → (p : Text) → line ≡ p ∷ name_of a ∷ files → RunsNamedOrNoMemory a files answer
-  over_files a s named files gives other = taken s named files
-      (λ rows. files_in rows ≡ files) gives (RunsNamedOrNoMemory a files) tt
-      (λ rows found. runs_named (Some (name_of a, rows)) a (for_action a rows) files found other)
+  over_files a s named files leads other = taken s named files
+      (λ rows. files_in rows ≡ files) leads (RunsNamedOrNoMemory a files) tt
+      (λ rows found. runs_named (Some (name_of a, rows)) a (purpose_is a) files found other)
 
   -- the lines of an action that takes one file
   module _ (a : Action) (named : IsNamed (name_of a) (one_word (name_of a)
@@ -388,12 +375,12 @@ module _ (line : List Text) (answer : Request) (is : IsAnswerTo line answer) whe
 
     told_input : (p : Text) → line ≡ p ∷ name_of a ∷ codes "-" ∷ [] → RunsOrNoMemory a answer
     told_input = over_input a _ named (codes "-" ∷ []) (codes "-" ∷ [])
-        (gives_file (name_of a) (codes "-") (inl refl)) (inr refl)
+        (file_is_given (name_of a) (codes "-") (inl refl)) (inr refl)
 
     told_file : (p file : Text) → starts_with_minus file ≡ false
         → line ≡ p ∷ name_of a ∷ file ∷ [] → RunsNamedOrNoMemory a (file ∷ []) answer
     told_file p file plain = over_files a _ named (file ∷ [])
-        (gives_file (name_of a) file (inr plain)) (names_another file plain) p
+        (file_is_given (name_of a) file (inr plain)) (names_another file plain) p
 
     told_more : (p file more : Text) (rest : List Text) → IsFile file → IsFile more
         → line ≡ p ∷ name_of a ∷ file ∷ more ∷ rest → FaultsOrNoMemory answer
@@ -415,7 +402,7 @@ module _ (line : List Text) (answer : Request) (is : IsAnswerTo line answer) whe
         alone = λ p e. answered line None (RunsOrNoMemory actions.Verify)
             (ap (fault_of chanv) e ∙ (alone_is_taken p).0)
             (ap (subcommand_of chanv) e ∙ (alone_is_taken p).1) tt
-            (runs None actions.Verify for_none (inl refl)) answer is;
+            (runs None actions.Verify refl (inl refl)) answer is;
         verify = over_input actions.Verify (sub_at 1) verify [] []
             (files_are_found [] (All-nil IsFile)) (inl refl);
         verify_input = over_input actions.Verify (sub_at 1) verify (codes "-" ∷ []) (codes "-" ∷ [])

@@ -18,7 +18,7 @@ use Rattle.chanv.proofs.Names.{if◌then◌else◌, App, ErrorKind, Kinds, Rule,
 use Rattle.chanv.proofs.Names.{append_assoc, argument_words, built, bytes_eq, bytes_eq-Decides}
 use Rattle.chanv.proofs.Names.{chars, entered, find, fold, help_shape, label_of, long_of, names_of}
 use Rattle.chanv.proofs.Names.{option_map, option_map_or, or_else, rows_at, short_of, slice_get}
-use Rattle.chanv.proofs.Names.{slice_index_or, subcommand_of, topic_rule, true≢false}
+use Rattle.chanv.proofs.Names.{slice_index_or, subcommand_of, topic_rule}
 use Rattle.chan_run.specs.declared.running.Action.TheVariants as actions
 
 -- the commands below `chanv`, as clap builds them, in turn: show, verify, list, why, graph, deck,

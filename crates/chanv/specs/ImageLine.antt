@@ -1,5 +1,5 @@
 -- The command that makes a deck of an image of storage: its words, and what they ask for.
-use Rattle.std.specs.Prelude.{◌≡◌, List, [], Option, Some, None, true, codes, option_map, unwrap_or}
+use Rattle.std.specs.Prelude.{◌≡◌, List, [], Some, true, codes, option_map, unwrap_or}
 use Rattle.clap.specs.Words.{App, Row, Rule, Text, all_of, first_of, new_app, new_rule, with_rule}
 use Rattle.clap.specs.declared.builder.action.ArgAction.TheVariants.{Append}
 use Rattle.chanv.specs.CommandWords.{file_in, file_word, texts_of}

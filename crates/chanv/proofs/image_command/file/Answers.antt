@@ -1,8 +1,8 @@
 -- The file is that of the rows.
-use Rattle.std.proofs.Common.{◌∙◌, ◌≡◌, None, Some, ap, codes, false, refl, rules, sym, true}
+use Rattle.std.proofs.Common.{◌≡◌, codes, false, refl, rules, true}
 use Rattle.chanv.proofs.image_command.file.Goals.{in_default-via-in-Some+else-ne}
 use Rattle.chanv.proofs.image_command.file.Goals.{in_default-via-in_default}
-use Rattle.chanv.proofs.Names.{bytes_eq, option_map, other_than_input}
+use Rattle.chanv.proofs.Names.{bytes_eq}
 use Rattle.chanv.proofs.image_command.file.Goals as goal
 
 pub returns-in-Some : goal.returns-in-Some
