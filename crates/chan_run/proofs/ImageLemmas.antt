@@ -73,19 +73,16 @@ each_right Says option (t ∷ texts) [] right each = absurd each
 each_right Says option (t ∷ texts) (x ∷ xs) right each =
     (right t.now x each.0, each_right Says option texts xs right each.1)
 
-pub fetch_right : (texts : List (Bor (List ℕ))) (areas : List Area)
-    → AllZip SaysArea (texts_of texts) areas → AreRight (each_given options.Fetch texts)
-fetch_right texts areas = each_right SaysArea options.Fetch texts areas (λ text a said. (a, said))
-
-pub store_right : (texts : List (Bor (List ℕ))) (areas : List Area)
-    → AllZip SaysArea (texts_of texts) areas → AreRight (each_given options.Store texts)
-store_right texts areas = each_right SaysArea options.Store texts areas (λ text a said. (a, said))
-
 -- of the options of areas each is right exactly where it says an area
 pub area_is_right : (option : ImageOption) → (option ≡ options.Fetch) ⊎ (option ≡ options.Store)
     → (text : List ℕ) (a : Area) → SaysArea text a → IsRight (option, text)
 area_is_right option (inl is) text a said = rw is (a, said)
 area_is_right option (inr is) text a said = rw is (a, said)
+
+pub areas_right : (option : ImageOption) → (option ≡ options.Fetch) ⊎ (option ≡ options.Store)
+    → (texts : List (Bor (List ℕ))) (areas : List Area) → AllZip SaysArea (texts_of texts) areas
+    → AreRight (each_given option texts)
+areas_right option is texts areas = each_right SaysArea option texts areas (area_is_right option is)
 
 pub no_area : (option : ImageOption) → (option ≡ options.Fetch) ⊎ (option ≡ options.Store)
     → (text : List ℕ) → ((a : Area) → SaysArea text a → ⊥) → IsRight (option, text) → ⊥

@@ -2,7 +2,7 @@ use Rattle.std.proofs.Common.{◌<◌, ap, arith, length, rules}
 use Rattle.std.proofs.lemmas.Result.{err_from_is_err_and}
 use Rattle.std.proofs.lemmas.List.Elements.{All-from_recursion}
 use Rattle.chan_run.specs.Imaging.{each_given, extents_given, limit_given}
-use Rattle.chan_run.proofs.ImageLemmas.{extents_right, fetch_right, first_given, limit_right, named_before, named_behind, said_areas, store_right}
+use Rattle.chan_run.proofs.ImageLemmas.{areas_right, extents_right, first_given, limit_right, named_before, named_behind, said_areas}
 use Rattle.chan_run.specs.declared.image_options.ImageOption.TheVariants as options
 use Rattle.chan_run.proofs.option_reading.options_of.Goals as goal
 
@@ -43,7 +43,7 @@ returns-in_err-store-clause-wrong c =
     (named_behind (first_given w) _ _ (search rules)
     (named_behind (limit_given w.limit) _ _ (search (rules, limit_right))
     (named_behind (extents_given w.extents.items) _ _ (search (rules, extents_right))
-    (named_behind (each_given options.Fetch w.fetch.items) _ _ (search (rules, fetch_right))
+    (named_behind (each_given options.Fetch w.fetch.items) _ _ (search (rules, areas_right))
     (named_before (each_given options.Store w.store.items) _ _ (rw c.deref-3.ensures.value at c.in_err-store.ensures.wrong))))))
 
 pub returns-in_err-at-clause-wrong : goal.returns-in_err-at-clause-wrong
@@ -55,8 +55,8 @@ returns-in_err-at-clause-wrong c =
     (named_behind (first_given w) _ _ (search rules)
     (named_behind (limit_given w.limit) _ _ (search (rules, limit_right))
     (named_behind (extents_given w.extents.items) _ _ (search (rules, extents_right))
-    (named_behind (each_given options.Fetch w.fetch.items) _ _ (search (rules, fetch_right))
-    (named_behind (each_given options.Store w.store.items) _ _ (search (rules, store_right)) c.in_err-at.ensures.wrong)))))
+    (named_behind (each_given options.Fetch w.fetch.items) _ _ (search (rules, areas_right))
+    (named_behind (each_given options.Store w.store.items) _ _ (search (rules, areas_right)) c.in_err-at.ensures.wrong)))))
 
 pub invariant_of-result : goal.invariant_of-result
 invariant_of-result c =
