@@ -19,6 +19,7 @@ pub mod WriteLemmas
 pub mod PartLemmas
 pub mod AddressLemmas
 pub mod SameLemmas
+pub mod Pieces
 pub mod ListingLemmas
 pub mod ExplanationLemmas
 pub mod GraphLemmas

@@ -2,7 +2,6 @@
 -- mark for each offence, and an edge to each place where it goes on.
 use Rattle.std.specs.Prelude.{◌≡◌, ℕ, Bool, true, false, List, [], ◌∷◌, ◌++◌, codes, Option, None}
 use Rattle.std.specs.Prelude.{Some, if◌then◌else◌}
-use Rattle.std.specs.Io.KnownBytes.{Appends}
 use Rattle.std.specs.List.{flat_map}
 use Rattle.ccw_core.specs.Ccw.{Fields, is_transfer}
 use Rattle.chan_walk.specs.declared.offence.Offence.{Offence}
@@ -76,11 +75,3 @@ ending = codes "}" ++ 10 ∷ []
 abbrev pub graph : List Seen → List Offence → List ℕ
 graph ls os =
     heading ++ flat_map node_line ls ++ flat_map mark_line os ++ flat_map edge_lines ls ++ ending
-
--- ---- in pieces
-
--- a front of the text was written, and the rest of it is held back
-pub record IsHeldBack (old new : Option (List ℕ)) (text held : List ℕ) : Type 0 where
-  pub sent : List ℕ
-  pub written : Appends old new sent
-  pub whole : sent ++ held ≡ text

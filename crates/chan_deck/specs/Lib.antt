@@ -8,6 +8,7 @@ pub mod Preamble
 pub mod Parts
 pub mod Same
 pub mod Texts
+pub mod Pieces
 pub mod Listing
 pub mod Explanation
 pub mod Graph

@@ -5,6 +5,7 @@ ghost use Rattle.std.specs.Io.KnownBytes.{Appends};
 ghost use Rattle.std.specs.List.{flat_map};
 ghost use Rattle.ccw_core.specs.Written.{AppendsPrefix};
 ghost use Rattle.chan_deck.specs.Graph as draw;
+ghost use Rattle.chan_deck.specs.Pieces.{IsHeldBack, Goes_on, Breaks_off};
 
 use crate::listing::{ListError, hand_over, name_of, transfer_word, way_word};
 use crate::texts::Address;
@@ -133,67 +134,129 @@ fn push_edges(out: &mut String, look: &Look) -> Result<(), AllocError>
     push_edge(out, " [style=dashed]", place, onward.skip)
 }
 
-/// Adds the line of a node for each look to the text that is held back, and writes that once it is
-/// long enough.
+/// Adds the line of a node to the text that is held back, and writes that once it is long enough.
+fn write_node<W: Write>(
+    piece: &mut String,
+    look: &Look,
+    to: &mut Watched<W>,
+) -> Result<(), ListError>
+    requires { to.old.failed ≡ false }
+    ensures ok { OnOk result (IsHeldBack (W.contents to.old.device) (W.contents to.new.device)
+        (string_bytes piece.old ++ draw.node_line look.now) (string_bytes piece.new)) }
+    ensures prefix { AppendsPrefix (W.contents to.old.device) (W.contents to.new.device)
+        (string_bytes piece.old ++ draw.node_line look.now) }
+    ensures write { IsErrOf result ListError.Write ↔ (to.new.failed ≡ true) }
+{
+    push_node(piece, look)?;
+    hand_over(piece, to)?;
+    Ok(())
+}
+
+/// Adds the line of a node for each look in this way.
 fn write_nodes<W: Write>(
     piece: &mut String,
     looks: &[Look],
     to: &mut Watched<W>,
 ) -> Result<(), ListError>
     requires { to.old.failed ≡ false }
-    ensures ok { OnOk result (draw.IsHeldBack
-        (W.contents to.old.device) (W.contents to.new.device)
-        (string_bytes piece.old ++ flat_map draw.node_line looks.now) (string_bytes piece.new)) }
-    ensures prefix { AppendsPrefix (W.contents to.old.device) (W.contents to.new.device)
-        (string_bytes piece.old ++ flat_map draw.node_line looks.now) }
+    ensures ok { OnOk result (Goes_on (W.contents to.old.device) (string_bytes piece.old)
+        (flat_map draw.node_line looks.now) (W.contents to.new.device) (string_bytes piece.new)) }
+    ensures prefix { Breaks_off (W.contents to.old.device) (string_bytes piece.old)
+        (flat_map draw.node_line looks.now) (W.contents to.new.device) }
     ensures write { IsErrOf result ListError.Write ↔ (to.new.failed ≡ true) }
 {
     for look in looks {
-        push_node(piece, look)?;
-        hand_over(piece, to)?;
+        write_node(piece, look, to)?;
     }
     Ok(())
 }
 
-/// Adds the line of a mark for each offence in the same way.
+/// Adds the line that marks the place of an offence in the same way.
+fn write_mark<W: Write>(
+    piece: &mut String,
+    offence: Offence,
+    to: &mut Watched<W>,
+) -> Result<(), ListError>
+    requires { to.old.failed ≡ false }
+    ensures ok { OnOk result (IsHeldBack (W.contents to.old.device) (W.contents to.new.device)
+        (string_bytes piece.old ++ draw.mark_line offence) (string_bytes piece.new)) }
+    ensures prefix { AppendsPrefix (W.contents to.old.device) (W.contents to.new.device)
+        (string_bytes piece.old ++ draw.mark_line offence) }
+    ensures write { IsErrOf result ListError.Write ↔ (to.new.failed ≡ true) }
+{
+    push_mark(piece, offence)?;
+    hand_over(piece, to)?;
+    Ok(())
+}
+
+/// Adds the line of a mark for each offence.
 fn write_marks<W: Write>(
     piece: &mut String,
     offences: &[Offence],
     to: &mut Watched<W>,
 ) -> Result<(), ListError>
     requires { to.old.failed ≡ false }
-    ensures ok { OnOk result (draw.IsHeldBack
-        (W.contents to.old.device) (W.contents to.new.device)
-        (string_bytes piece.old ++ flat_map draw.mark_line offences.now) (string_bytes piece.new)) }
-    ensures prefix { AppendsPrefix (W.contents to.old.device) (W.contents to.new.device)
-        (string_bytes piece.old ++ flat_map draw.mark_line offences.now) }
+    ensures ok { OnOk result (Goes_on (W.contents to.old.device) (string_bytes piece.old)
+        (flat_map draw.mark_line offences.now) (W.contents to.new.device) (string_bytes piece.new)) }
+    ensures prefix { Breaks_off (W.contents to.old.device) (string_bytes piece.old)
+        (flat_map draw.mark_line offences.now) (W.contents to.new.device) }
     ensures write { IsErrOf result ListError.Write ↔ (to.new.failed ≡ true) }
 {
     for offence in offences {
-        push_mark(piece, *offence)?;
-        hand_over(piece, to)?;
+        write_mark(piece, *offence, to)?;
     }
     Ok(())
 }
 
-/// Adds the lines of the edges from the place of each look in the same way.
+/// Adds the lines of the edges from a place in the same way.
+fn write_edges_from<W: Write>(
+    piece: &mut String,
+    look: &Look,
+    to: &mut Watched<W>,
+) -> Result<(), ListError>
+    requires { to.old.failed ≡ false }
+    ensures ok { OnOk result (IsHeldBack (W.contents to.old.device) (W.contents to.new.device)
+        (string_bytes piece.old ++ draw.edge_lines look.now) (string_bytes piece.new)) }
+    ensures prefix { AppendsPrefix (W.contents to.old.device) (W.contents to.new.device)
+        (string_bytes piece.old ++ draw.edge_lines look.now) }
+    ensures write { IsErrOf result ListError.Write ↔ (to.new.failed ≡ true) }
+{
+    push_edges(piece, look)?;
+    hand_over(piece, to)?;
+    Ok(())
+}
+
+/// Adds the lines of the edges from the place of each look.
 fn write_edges<W: Write>(
     piece: &mut String,
     looks: &[Look],
     to: &mut Watched<W>,
 ) -> Result<(), ListError>
     requires { to.old.failed ≡ false }
-    ensures ok { OnOk result (draw.IsHeldBack
-        (W.contents to.old.device) (W.contents to.new.device)
-        (string_bytes piece.old ++ flat_map draw.edge_lines looks.now) (string_bytes piece.new)) }
-    ensures prefix { AppendsPrefix (W.contents to.old.device) (W.contents to.new.device)
-        (string_bytes piece.old ++ flat_map draw.edge_lines looks.now) }
+    ensures ok { OnOk result (Goes_on (W.contents to.old.device) (string_bytes piece.old)
+        (flat_map draw.edge_lines looks.now) (W.contents to.new.device) (string_bytes piece.new)) }
+    ensures prefix { Breaks_off (W.contents to.old.device) (string_bytes piece.old)
+        (flat_map draw.edge_lines looks.now) (W.contents to.new.device) }
     ensures write { IsErrOf result ListError.Write ↔ (to.new.failed ≡ true) }
 {
     for look in looks {
-        push_edges(piece, look)?;
-        hand_over(piece, to)?;
+        write_edges_from(piece, look, to)?;
     }
+    Ok(())
+}
+
+/// Writes what is held back, and then the end of the picture.
+fn write_ending<W: Write>(piece: String, to: &mut Watched<W>) -> Result<(), ListError>
+    requires { to.old.failed ≡ false }
+    ensures ok { OnOk result (Appends (W.contents to.old.device) (W.contents to.new.device)
+        (string_bytes piece ++ draw.ending)) }
+    ensures prefix { AppendsPrefix (W.contents to.old.device) (W.contents to.new.device)
+        (string_bytes piece ++ draw.ending) }
+    ensures write { IsErrOf result ListError.Write ↔ (to.new.failed ≡ true) }
+{
+    let mut piece = piece;
+    piece.push_str(ENDING)?;
+    write_out(piece.as_bytes(), to)?;
     Ok(())
 }
 
@@ -225,7 +288,5 @@ pub fn write_graph<W: Write>(
     write_nodes(&mut piece, looks, to)?;
     write_marks(&mut piece, offences, to)?;
     write_edges(&mut piece, looks, to)?;
-    piece.push_str(ENDING)?;
-    write_out(piece.as_bytes(), to)?;
-    Ok(())
+    write_ending(piece, to)
 }

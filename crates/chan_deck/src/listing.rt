@@ -3,10 +3,12 @@
 ghost use Rattle.std.specs.Prelude.{◌≡◌, ◌↔◌, ◌++◌, false, true, option_map, string_bytes, List, ℕ};
 ghost use Rattle.std.specs.Prelude.{IfOk, IsErr, IsErrOf, OnOk};
 ghost use Rattle.ckd_core.specs.Entries.{entry_of};
+ghost use Rattle.std.specs.List.{flat_map};
 ghost use Rattle.std.specs.Io.KnownBytes.{Appends};
 ghost use Rattle.ccw_core.specs.Written.{AppendsPrefix};
 ghost use Rattle.ccw_core.specs.Storage.{ccw_at};
 ghost use Rattle.chan_deck.specs.Listing as list;
+ghost use Rattle.chan_deck.specs.Pieces.{IsHeldBack, Goes_on, Breaks_off};
 ghost use Rattle.chan_deck.specs.Texts.{verdict_line};
 ghost use Rattle.chan_walk.specs.Job.{storage_of};
 ghost use Rattle.chan_walk.specs.Look.{AreLooks, places_of_looks};
@@ -14,7 +16,7 @@ ghost use Rattle.chan_walk.specs.declared.job.Job.{Job};
 
 use crate::texts::{Address, verdict_text};
 use ccw_core::{Ccw, DeviceFault, Watched, write_out};
-use chan_walk::{Entry, Explored, Job, Judged, Place, Verdict};
+use chan_walk::{Entry, Explored, Job, Judged, Look, Place, Verdict};
 use ckd_core::{Command, lookup};
 use std::alloc::{AllocError, Global};
 use std::fmt::Write as _;
@@ -180,14 +182,14 @@ fn is_named(verdict: Verdict, address: u32) -> bool
 
 /// Writes a text out and empties it, once it is long enough. Each call leaves bytes behind that,
 /// after those that were written, are the text as it was.
+#[tactic(auto, using(crate::proofs::Pieces::all_held, crate::proofs::Pieces::all_written))]
 pub(crate) fn hand_over<W: Write>(
     piece: &mut String,
     to: &mut Watched<W>,
 ) -> Result<(), DeviceFault>
     requires { to.old.failed ≡ false }
-    ensures ok { OnOk result ((sent : List ℕ)
-        × Appends (W.contents to.old.device) (W.contents to.new.device) sent
-        × (sent ++ string_bytes piece.new ≡ string_bytes piece.old)) }
+    ensures ok { OnOk result (IsHeldBack (W.contents to.old.device) (W.contents to.new.device)
+        (string_bytes piece.old) (string_bytes piece.new)) }
     ensures prefix { AppendsPrefix (W.contents to.old.device) (W.contents to.new.device)
         (string_bytes piece.old) }
     ensures fault { IsErr result ↔ (to.new.failed ≡ true) }
@@ -211,16 +213,64 @@ fn write_row<W: Write>(
     to: &mut Watched<W>,
 ) -> Result<(), ListError>
     requires { to.old.failed ≡ false }
-    ensures ok { OnOk result ((sent : List ℕ)
-        × Appends (W.contents to.old.device) (W.contents to.new.device) sent
-        × (sent ++ string_bytes piece.new ≡ string_bytes piece.old
-        ++ list.row_with place ccw (option_map entry_of command) marked)) }
+    ensures ok { OnOk result (IsHeldBack (W.contents to.old.device) (W.contents to.new.device)
+        (string_bytes piece.old ++ list.row_with place ccw (option_map entry_of command) marked)
+        (string_bytes piece.new)) }
     ensures prefix { AppendsPrefix (W.contents to.old.device) (W.contents to.new.device)
         (string_bytes piece.old ++ list.row_with place ccw (option_map entry_of command) marked) }
     ensures write { IsErrOf result ListError.Write ↔ (to.new.failed ≡ true) }
 {
     push_row(alloc, piece, place, ccw, command, marked)?;
     hand_over(piece, to)?;
+    Ok(())
+}
+
+/// Adds the row of each place in this way, marked where the verdict names its address.
+fn write_places<W: Write>(
+    alloc: Global,
+    piece: &mut String,
+    job: &Job,
+    explored: &Explored,
+    verdict: Verdict,
+    to: &mut Watched<W>,
+) -> Result<(), ListError>
+    requires { to.old.failed ≡ false }
+    ensures ok { OnOk result (Goes_on (W.contents to.old.device) (string_bytes piece.old)
+        (list.rows (storage_of job.now) verdict explored.now)
+        (W.contents to.new.device) (string_bytes piece.new)) }
+    ensures prefix { Breaks_off (W.contents to.old.device) (string_bytes piece.old)
+        (list.rows (storage_of job.now) verdict explored.now) (W.contents to.new.device) }
+    ensures write { IsErrOf result ListError.Write ↔ (to.new.failed ≡ true) }
+{
+    for place in explored.places() {
+        let (ccw, command) = standing_at(job, place.address);
+        let marked = is_named(verdict, place.address);
+        write_row(alloc, piece, place, ccw, command, marked, to)?;
+    }
+    Ok(())
+}
+
+/// Adds the row of each look in the same way.
+fn write_looks<W: Write>(
+    alloc: Global,
+    piece: &mut String,
+    looks: &[Look],
+    named: Verdict,
+    to: &mut Watched<W>,
+) -> Result<(), ListError>
+    requires { to.old.failed ≡ false }
+    ensures ok { OnOk result (Goes_on (W.contents to.old.device) (string_bytes piece.old)
+        (flat_map (list.seen_row named) looks.now)
+        (W.contents to.new.device) (string_bytes piece.new)) }
+    ensures prefix { Breaks_off (W.contents to.old.device) (string_bytes piece.old)
+        (flat_map (list.seen_row named) looks.now) (W.contents to.new.device) }
+    ensures write { IsErrOf result ListError.Write ↔ (to.new.failed ≡ true) }
+{
+    for look in looks {
+        let place = look.place();
+        let marked = is_named(named, place.address);
+        write_row(alloc, piece, place, look.ccw(), look.command(), marked, to)?;
+    }
     Ok(())
 }
 
@@ -266,11 +316,7 @@ pub fn write_listing<W: Write>(
     ensures write { IsErrOf result ListError.Write ↔ (to.new.failed ≡ true) }
 {
     let mut piece = String::new(alloc);
-    for place in explored.places() {
-        let (ccw, command) = standing_at(job, place.address);
-        let marked = is_named(verdict, place.address);
-        write_row(alloc, &mut piece, place, ccw, command, marked, to)?;
-    }
+    write_places(alloc, &mut piece, job, explored, verdict, to)?;
     write_end(alloc, piece, verdict, to)
 }
 
@@ -298,18 +344,6 @@ pub fn write_judged<W: Write>(
 {
     let named = judged.verdict();
     let mut piece = String::new(alloc);
-    for look in judged.looks() {
-        let place = look.place();
-        let marked = is_named(named, place.address);
-        write_row(
-            alloc,
-            &mut piece,
-            place,
-            look.ccw(),
-            look.command(),
-            marked,
-            to,
-        )?;
-    }
+    write_looks(alloc, &mut piece, judged.looks(), named, to)?;
     write_end(alloc, piece, named, to)
 }
