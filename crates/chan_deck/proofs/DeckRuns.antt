@@ -2,7 +2,7 @@
 use Rattle.std.proofs.Common.{◌≡◌, ℕ, zero, suc, ◌+◌, ◌-◌, ◌*◌, ◌/◌, ◌%◌, ◌^◌, ◌<◌, ◌≤◌, true, false, cond, List, [], ◌∷◌, ◌++◌, length, take, drop, map, Result, Ok, Err, refl, sym, ap, subst, ◌∙◌, append_assoc, arith, inl, inr, replicate, length-append, length-drop, lit<}
 use Rattle.std.specs.Prelude.{◌==◌}
 use Rattle.std.specs.List.{AllByRecursion}
-use Rattle.std.proofs.lemmas.Bool.{le-leb, le-ltb, eqb-true, and_parts, cases_Bool}
+use Rattle.std.proofs.lemmas.Bool.{le-leb, le-ltb, eqb-true, and_parts, cond_both}
 use Rattle.std.proofs.lemmas.List.{append-nil, take-append-drop, replicate-append-replicate, length-take}
 use Rattle.chan_deck.proofs.Results.{same_ok}
 use Rattle.ccw_core.specs.declared.areas.Area.{Area}
@@ -110,22 +110,18 @@ over_puts h es fs ss size (suc n) at front bytes low al len is =
     let eight : length (take 8 bytes) ≡ 8 = omega (arith, length-take 8 bytes) in
     let rest : length (drop 8 bytes) ≡ 8 * n = omega (arith, length-drop 8 bytes) in
     let whole = take-append-drop 8 bytes in
-    elim (cases_Bool (is_zero (take 8 bytes))) [
-      | inl z ↦
-          let r = over_puts h es fs ss size n (at + 8) front (drop 8 bytes) (omega arith) (omega arith) rest (omega arith) in
-          let w : take 8 bytes ≡ replicate 8 0 = zeros_is (take 8 bytes) z ∙ ap (λ (k : ℕ). replicate k 0) eight in (
-            r.0,
-            ap (λ b. run (Filling h es fs ss size front) (cond b (puts n (at + 8) (drop 8 bytes)) (put at (take 8 bytes) ∷ puts n (at + 8) (drop 8 bytes)))) z ∙ r.1,
-            r.2 ∙ ap (λ t. t ++ drop 8 bytes) (pad_more front at 8 low) ∙ append_assoc (pad front at) (replicate 8 0) (drop 8 bytes)
-                ∙ ap (λ t. pad front at ++ (t ++ drop 8 bytes)) (sym w) ∙ ap (λ t. pad front at ++ t) whole,
-          )
-      | inr z ↦
-          let len1 : length (pad front at ++ take 8 bytes) ≡ at + 8 = length-append (pad front at) (take 8 bytes) ∙ ap (λ k. k + length (take 8 bytes)) (length_pad front at low) ∙ ap (λ k. at + k) eight in
-          let r = over_puts h es fs ss size n (at + 8) (pad front at ++ take 8 bytes) (drop 8 bytes) (omega arith) (omega arith) rest (omega arith) in
-          let one = put_step h es fs ss size at front (take 8 bytes) low al (omega arith) z in
-          let rest_puts = puts n (at + 8) (drop 8 bytes) in
-          (r.0, ap (λ b. run (Filling h es fs ss size front) (cond b rest_puts (put at (take 8 bytes) ∷ rest_puts))) z ∙ ap (λ q. go_on q (λ t. run t rest_puts)) one ∙ r.1, r.2 ∙ ap (λ t. t ++ drop 8 bytes) (pad_same (pad front at ++ take 8 bytes) (at + 8) len1) ∙ append_assoc (pad front at) (take 8 bytes) (drop 8 bytes) ∙ ap (λ t. pad front at ++ t) whole)
-    ]
+    let rest_puts = puts n (at + 8) (drop 8 bytes) in
+    cond_both (is_zero (take 8 bytes)) rest_puts (put at (take 8 bytes) ∷ rest_puts)
+    (λ is. (full : List ℕ) × (run (Filling h es fs ss size front) is ≡ Ok (Filling h es fs ss size full)) × (pad full size ≡ pad front at ++ bytes))
+    (λ z.
+    let r = over_puts h es fs ss size n (at + 8) front (drop 8 bytes) (omega arith) (omega arith) rest (omega arith) in
+    let zeros : replicate 8 0 ≡ take 8 bytes = ap (λ (k : ℕ). replicate k 0) (sym eight) ∙ sym (zeros_is (take 8 bytes) z) in
+    (r.0, r.1, r.2 ∙ rw (pad_more front at 8 low, zeros, append_assoc, whole) refl))
+    (λ z.
+    let len1 : length (pad front at ++ take 8 bytes) ≡ at + 8 = omega (arith, length-append (pad front at) (take 8 bytes), length_pad front at low) in
+    let r = over_puts h es fs ss size n (at + 8) (pad front at ++ take 8 bytes) (drop 8 bytes) (omega arith) (omega arith) rest (omega arith) in
+    let one = put_step h es fs ss size at front (take 8 bytes) low al (omega arith) z in
+    (r.0, ap (λ q. go_on q (λ t. run t rest_puts)) one ∙ r.1, r.2 ∙ rw (pad_same (pad front at ++ take 8 bytes) (at + 8) len1, append_assoc, whole) refl))
 
 -- ---- the whole deck
 

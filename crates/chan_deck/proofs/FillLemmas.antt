@@ -2,7 +2,7 @@
 use Rattle.std.proofs.Common.{◌≡◌, ℕ, ◌+◌, ◌-◌, ◌^◌, ◌<◌, ◌≤◌, Bool, true, false, cond, List, ◌++◌, length, take, drop, Result, Ok, Err, refl, sym, ap, ◌∙◌, arith, replicate, length-append, length-drop, ◌&&◌, inl}
 use Rattle.std.specs.Prelude.{◌==◌, nat_le, ◌%◌}
 use Rattle.std.specs.Int.{w64, to_be_bytes, from_be_bytes}
-use Rattle.std.proofs.lemmas.Bool.{le-leb, leb-true, eqb-true, and_parts}
+use Rattle.std.proofs.lemmas.Bool.{false_from_ne_true, le-leb, leb-true, eqb-true, and_parts}
 use Rattle.std.proofs.lemmas.Nat.{from_be_bytes-to_be_bytes_8}
 use Rattle.std.proofs.lemmas.List.{take-append-drop, length-take, take_at, drop_at, drop-replicate, take-replicate, drop-drop}
 use Rattle.std.proofs.Math.Seq.{take-append-add}
@@ -25,33 +25,24 @@ all_zero bytes len z =
 pub zero_word : (n : ℕ) → n ≡ 0 → is_zero (to_be_bytes w64 n) ≡ true
 zero_word n e = ap (λ k. is_zero (to_be_bytes w64 k)) e
 
-some_word_by : (b : Bool) (n : ℕ) → n < 2 ^ 64 → (n ≡ 0 → ⊥) → is_zero (to_be_bytes w64 n) ≡ b → b ≡ false
-some_word_by true n small some e = absurd (some (sym (from_be_bytes-to_be_bytes_8 n small) ∙ all_zero (to_be_bytes w64 n) refl e))
-some_word_by false n small some e = refl
-
 -- eight bytes are zero only where their number is
 pub some_word : (n : ℕ) → n < 2 ^ 64 → (n ≡ 0 → ⊥) → is_zero (to_be_bytes w64 n) ≡ false
-some_word n small some = some_word_by (is_zero (to_be_bytes w64 n)) n small some refl
+some_word n small some = false_from_ne_true (is_zero (to_be_bytes w64 n)) (λ e.
+    some (sym (from_be_bytes-to_be_bytes_8 n small) ∙ all_zero (to_be_bytes w64 n) refl e))
 
 -- ---- refusals
-
-refused_unless : {A : Type 0} (b : Bool) (r : Result A Cause) (c : Cause) → (b ≡ true → ⊥) → cond b r (Err c) ≡ Err c
-refused_unless true r c h = absurd (h refl)
-refused_unless false r c h = refl
 
 pub bad_place : (h : Heading) (es : List (ℕ × ℕ)) (fs ss : List Area) (size a : ℕ)
     (front w l : List ℕ)
     → Says l (put a w) → ((a % 8 ≡ 0) × (length front ≤ a) × (a + 8 ≤ size) → ⊥)
     → Refuses (Filling h es fs ss size front) l causes.PutAddress
 bad_place h es fs ss size a front w l says bad =
-    inl (
-      put a w,
-      says,
-      refused_unless (a % 8 == 0 && nat_le (length front) a && nat_le (a + 8) size) _ causes.PutAddress (λ t.
-          let x = and_parts (a % 8 == 0 && nat_le (length front) a) (nat_le (a + 8) size) t in
-          let y = and_parts (a % 8 == 0) (nat_le (length front) a) x.0 in
-          bad (eqb-true _ _ y.0, leb-true _ _ y.1, leb-true _ _ x.1)),
-    )
+    let place = a % 8 == 0 && nat_le (length front) a && nat_le (a + 8) size in
+    let wrong = false_from_ne_true place (λ t.
+    let x = and_parts (a % 8 == 0 && nat_le (length front) a) (nat_le (a + 8) size) t in
+    let y = and_parts (a % 8 == 0) (nat_le (length front) a) x.0 in
+    bad (eqb-true _ _ y.0, leb-true _ _ y.1, leb-true _ _ x.1)) in
+    inl (put a w, says, rw wrong refl)
 
 pub zero_put : (h : Heading) (es : List (ℕ × ℕ)) (fs ss : List Area) (size a : ℕ)
     (front w l : List ℕ)

@@ -4,7 +4,8 @@ use Rattle.std.specs.Prelude.{◌==◌}
 use Rattle.std.specs.List.{AllByRecursion}
 use Rattle.std.proofs.lemmas.List.{append-nil, take-append-drop, take-append-le, length-take, length-map, map-append}
 use Rattle.std.proofs.lemmas.Grind.{flat_map-append}
-use Rattle.std.proofs.lemmas.Bool.{eqb-true, cases_Bool}
+use Rattle.std.proofs.lemmas.Bool.{eqb-true, cond_both}
+use Rattle.std.proofs.Math.Seq.{take-append-add}
 use Rattle.chan_walk.proofs.Theory.Lists.{all_append}
 use Rattle.chan_deck.proofs.Elements.{all_take, all_drop, all_map}
 use Rattle.ckd_core.specs.Cylinders.{IsExtent}
@@ -40,33 +41,25 @@ onto_no_feed : (b : ℕ) (p : List Line × List ℕ) → (b == 10) ≡ false →
 onto_no_feed b ([], rest) h k = tt
 onto_no_feed b (l ∷ ls, rest) h k = ((h, k.0), k.1)
 
-lines_at : (q : Bool) (b : ℕ) (t : List ℕ) → (b == 10) ≡ q → AllByRecursion HasNoFeed (lines t) → AllByRecursion HasNoFeed (cond q ([] ∷ (split t).0, (split t).1) (onto_first b (split t))).0
-lines_at true b t h k = (tt, k)
-lines_at false b t h k = onto_no_feed b (split t) h k
-
 -- no line has a line feed in it
 pub lines_no_feed : (t : List ℕ) → AllByRecursion HasNoFeed (lines t)
 unfolding split
 lines_no_feed [] = tt
-lines_no_feed (b ∷ t) = lines_at (b == 10) b t refl (lines_no_feed t)
+lines_no_feed (b ∷ t) =
+    cond_both (b == 10) _ _ (λ (p : List Line × List ℕ). AllByRecursion HasNoFeed p.0) (λ _. (tt, lines_no_feed t)) (λ h. onto_no_feed b (split t) h (lines_no_feed t))
 
 onto_join : (b : ℕ) (p : List Line × List ℕ) → text (onto_first b p).0 ++ (onto_first b p).1 ≡ b ∷ (text p.0 ++ p.1)
 onto_join b ([], rest) = refl
 onto_join b (l ∷ ls, rest) = refl
 
-join_at : (q : Bool) (b : ℕ) (t : List ℕ) → (b == 10) ≡ q → text (split t).0 ++ (split t).1 ≡ t
-    → text (cond q ([] ∷ (split t).0, (split t).1) (onto_first b (split t))).0
-    ++ (cond q ([] ∷ (split t).0, (split t).1) (onto_first b (split t))).1 ≡ b ∷ t
-join_at true b t h k =
-    let ten : b ≡ 10 = eqb-true b 10 h in
-    ap (λ (x : List ℕ). 10 ∷ x) k ∙ ap (λ (x : ℕ). x ∷ t) (sym ten)
-join_at false b t h k = onto_join b (split t) ∙ ap (λ (x : List ℕ). b ∷ x) k
-
 -- the lines and what is left are the text
 pub join : (t : List ℕ) → text (split t).0 ++ (split t).1 ≡ t
 unfolding split
 join [] = refl
-join (b ∷ t) = join_at (b == 10) b t refl (join t)
+join (b ∷ t) =
+    cond_both (b == 10) _ _ (λ (p : List Line × List ℕ). text p.0 ++ p.1 ≡ b ∷ t)
+    (λ h. rw (join t, eqb-true b 10 h) refl)
+    (λ _. onto_join b (split t) ∙ ap (λ (x : List ℕ). b ∷ x) (join t))
 
 pub text-append : (a b : List Line) → text (a ++ b) ≡ text a ++ text b
 text-append a b = flat_map-append (λ l. l ++ 10 ∷ []) a b
@@ -74,12 +67,6 @@ text-append a b = flat_map-append (λ l. l ++ 10 ∷ []) a b
 no_feeds_said : (is : List Item) → AllByRecursion HasNoFeed (map line is)
 no_feeds_said [] = tt
 no_feeds_said (i ∷ is) = (line_no_feed i, no_feeds_said is)
-
-take_past : {X : Type 0} (xs : List X) (y : X) (ys : List X) → take (length xs + 1) (xs ++ y ∷ ys) ≡ xs ++ y ∷ []
-take_past [] y ys = refl
-take_past (x ∷ xs) y ys =
-    let k : suc (length xs) + 1 ≡ suc (length xs + 1) = omega arith in
-    rw k (ap (λ t. x ∷ t) (take_past xs y ys))
 
 -- ---- the lines of a deck
 
@@ -90,11 +77,7 @@ puts_form (suc n) at bytes len fits h =
     let rest : length (drop 8 bytes) ≡ 8 * n = omega (arith, length-drop 8 bytes) in
     let eight : length (take 8 bytes) ≡ 8 = omega (arith, length-take 8 bytes) in
     let more = puts_form n (at + 8) (drop 8 bytes) rest (omega arith) (all_drop IsByte 8 bytes h) in
-    let P = puts n (at + 8) (drop 8 bytes) in
-    elim (cases_Bool (is_zero (take 8 bytes))) [
-      | inl z ↦ subst (λ b. AllByRecursion HasForm (cond b P (put at (take 8 bytes) ∷ P))) (sym z) more
-      | inr z ↦ subst (λ b. AllByRecursion HasForm (cond b P (put at (take 8 bytes) ∷ P))) (sym z) ((omega arith, (eight, all_take IsByte 8 bytes h)), more)
-    ]
+    cond_both (is_zero (take 8 bytes)) _ _ (AllByRecursion HasForm) (λ _. more) (λ _. ((omega arith, (eight, all_take IsByte 8 bytes h)), more))
 
 limit_form : (x : Version) → HasLimit x → AllByRecursion HasForm (limit_line x)
 limit_form One h = tt
@@ -154,15 +137,12 @@ said_once (i ∷ is) (j ∷ js) hi hj e =
     let others : map line is ≡ map line js = cc in
     ap (λ x. x ∷ is) (one_item i j hi.0 hj.0 first) ∙ ap (λ (t : List Item). j ∷ t) (said_once is js hi.1 hj.1 others)
 
-one_whole : (x y : Image) (r : Result State Cause) → r ≡ Ok (Whole x) → r ≡ Ok (Whole y) → x ≡ y
-one_whole x y r e f = cc
-
 -- no text spells two decks
 pub one_deck : (d e : Image) → IsDeck d → IsDeck e → spelling d ≡ spelling e → d ≡ e
 one_deck d e is js same =
     let lines_same : map line (items d) ≡ map line (items e) = ap (λ (p : List Line × List ℕ). p.0) (sym (split_deck d) ∙ ap (λ x. split x) same ∙ split_deck e) in
     let items_same = said_once (items d) (items e) (items_form d is) (items_form e js) lines_same in
-    one_whole d e (run Opening (items d)) (reads_deck d is) (ap (λ x. run Opening x) items_same ∙ reads_deck e js)
+    cc (reads_deck d is, ap (λ x. run Opening x) items_same ∙ reads_deck e js)
 
 -- ---- where reading stands
 
@@ -211,7 +191,7 @@ pub no_front : (t : List ℕ) (s : State) (n : ℕ) (rest l after : List ℕ) (c
 no_front t s n rest l after c st e all f =
     let ls = map line st.said in
     let n-is : n ≡ length ls + 1 = omega (arith, length-map st.said line, st.number) in
-    let first : take n (lines t) ≡ ls ++ l ∷ [] = ap (λ k. take k (lines t)) n-is ∙ ap (λ x. take (length ls + 1) x) (lines_left t s n rest l after st e) ∙ take_past ls l (split after).0 in
+    let first : take n (lines t) ≡ ls ++ l ∷ [] = ap (λ k. take k (lines t)) n-is ∙ ap (λ x. take (length ls + 1) x) (lines_left t s n rest l after st e) ∙ take-append-add ls (l ∷ (split after).0) 1 in
     let d = front_lines (take n (lines t)) (all_take HasNoFeed n (lines t) (lines_no_feed t)) f in
     let deck : map line (items d.0) ≡ ls ++ l ∷ d.1 = d.3 ∙ ap (λ x. x ++ d.1) first ∙ append_assoc ls (l ∷ []) d.1 in
     let same = same_front st.said (items d.0) l d.1 st.forms (items_form d.0 d.2) deck in

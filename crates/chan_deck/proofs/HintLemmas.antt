@@ -1,9 +1,9 @@
 -- What a hint says of a line: the forms behind the line before it, and the bytes that are shown.
-use Rattle.std.proofs.Common.{◌≡◌, ℕ, ◌+◌, ◌-◌, ◌<◌, ◌≤◌, Bool, true, false, cond, List, [], ◌∷◌, ◌++◌, length, take, drop, map, Option, Some, None, Bor, refl, sym, ap, subst, ◌∙◌, arith, append_assoc, length-append, take_all, zero, suc, add-zero, slice_index, Result, Ok, Err, IfOk}
+use Rattle.std.proofs.Common.{◌≡◌, ℕ, ◌+◌, ◌-◌, ◌<◌, ◌≤◌, Bool, true, false, cond, List, [], ◌∷◌, ◌++◌, length, take, drop, map, Option, Some, None, Bor, refl, sym, ap, subst, ◌∙◌, arith, append_assoc, length-append, take_all, zero, suc, add-zero, slice_index, Result, Ok, Err, IfOk, inl, inr}
 use Rattle.std.specs.Prelude.{nat_le, position, ◌==◌}
-use Rattle.std.specs.List.{AllByRecursion, position_from}
-use Rattle.std.proofs.lemmas.Iterator.Adapters.{position_from-zero}
-use Rattle.std.proofs.lemmas.Bool.{le-leb, lt-leb}
+use Rattle.std.specs.List.{AllByRecursion, position_or_len}
+use Rattle.std.proofs.lemmas.Bool.Decides.{nat_tests}
+use Rattle.std.proofs.lemmas.Bool.{cases_Bool, le-leb, lt-leb}
 use Rattle.std.proofs.lemmas.List.{append-nil, append_cancel_left, drop_all, take-append-drop}
 use Rattle.std.proofs.Math.Seq.{drop-cons, take-append_seam}
 use Rattle.ckd_core.specs.declared.device.Device.TheVariants.{D2311, D2314}
@@ -17,6 +17,9 @@ use Rattle.chan_deck.specs.declared.version.VersionNumber.{VersionNumber}
 use Rattle.chan_deck.specs.declared.version.VersionNumber.TheVariants as numbers
 use Rattle.chan_deck.proofs.ItemLemmas.{says_one}
 
+some_is : {A : Type 0} {x y : A} → Some x ≡ Some y → x ≡ y
+some_is e = cc
+
 head_is : {A : Type 0} {x y : A} {xs ys : List A} → x ∷ xs ≡ y ∷ ys → x ≡ y
 head_is e = cc
 
@@ -28,39 +31,26 @@ tail_is e = cc
 abbrev space : ℕ → Bool
 space b = b == 32
 
--- what the first space at some place says of the first word, counted from k on
-abbrev Words : ℕ → List ℕ → Option ℕ → Type 0
-Words k l None = first_word l ≡ l
-Words k l (Some i) = (j : ℕ) × (i ≡ k + j) × (first_word l ≡ take j l)
-
-more : (k b : ℕ) (l : List ℕ) (o : Option ℕ) → (b == 32) ≡ false → Words (k + 1) l o → Words k (b ∷ l) o
+-- the first word is what stands before the first space
+word_is : (l : List ℕ) → first_word l ≡ take (position_or_len space l) l
 unfolding first_word
-more k b l None h s = ap (λ q. cond q [] (b ∷ first_word l)) h ∙ ap (λ w. b ∷ w) s
-more k b l (Some i) h s =
-    (suc s.0, omega (arith, s.1), ap (λ q. cond q [] (b ∷ first_word l)) h ∙ ap (λ w. b ∷ w) s.2)
-
-at : (q : Bool) (k b : ℕ) (l : List ℕ) → (b == 32) ≡ q → Words (k + 1) l (position_from space (k + 1) l)
-    → Words k (b ∷ l) (cond q (Some k) (position_from space (k + 1) l))
-unfolding first_word
-at true k b l h s = (0, sym (add-zero k), ap (λ q. cond q [] (b ∷ first_word l)) h)
-at false k b l h s = more k b l (position_from space (k + 1) l) h s
-
-from : (k : ℕ) (l : List ℕ) → Words k l (position_from space k l)
-unfolding first_word
-from k [] = refl
-from k (b ∷ l) = at (b == 32) k b l refl (from (k + 1) l)
-
-words : (l : List ℕ) (o : Option ℕ) → o ≡ position space l → Words 0 l o
-words l o e = subst (λ r. Words 0 l r) (sym (e ∙ position_from-zero space l)) (from 0 l)
+word_is [] = refl
+word_is (b ∷ l) = elim (cases_Bool (b == 32)) [
+  | inl here ↦ rw here refl
+  | inr other ↦
+      let next : 1 + position_or_len space l ≡ suc (position_or_len space l) = omega arith in
+      rw (other, next) (ap (λ w. b ∷ w) (word_is l))
+]
 
 pub word_before : (l : List ℕ) (i : ℕ) → Some i ≡ position (λ b. b == 32) l → take i l ≡ first_word l
 word_before l i e =
-    let w = words l (Some i) e in
-    let same : i ≡ w.0 = omega (arith, w.1) in
-    ap (λ j. take j l) same ∙ sym w.2
+    let first : i ≡ position_or_len space l = grind (arith, nat_tests, e) in
+    ap (λ j. take j l) first ∙ sym (word_is l)
 
 pub whole_word : (l : List ℕ) → None ≡ position (λ b. b == 32) l → l ≡ first_word l
-whole_word l e = sym (words l None e)
+whole_word l e =
+    let past : length l ≤ position_or_len space l = grind (arith, nat_tests, e) in
+    sym (word_is l ∙ take_all (position_or_len space l) l past)
 
 -- ---- forms
 
@@ -112,15 +102,12 @@ behind_item second end = refl
 begun : (l : List ℕ) (i : Item) → Says l i → begun_as all_forms l ≡ Some (form_of i)
 begun l i says = ap (λ x. begun_as all_forms x) says.1 ∙ begins i
 
-just_is : {A : Type 0} {x y : A} → Some x ≡ Some y → x ≡ y
-just_is e = cc
-
 pub behind_begun : (second : Bool) (l : Bor (List ℕ)) (last : Option Item) (f : Form)
     → IsSaidBy (Some l) last → Some f ≡ begun_as all_forms l.now
     → forms_behind second (Some (example_of f)) ≡ forms_behind second last
 behind_begun second l None f said e = absurd said
 behind_begun second l (Some i) f said e =
-    let same : f ≡ form_of i = just_is (e ∙ begun l.now i said) in
+    let same : f ≡ form_of i = some_is (e ∙ begun l.now i said) in
     ap (λ g. forms_behind second (Some (example_of g))) same ∙ behind_item second i
 
 pub not_begun : (l : Bor (List ℕ)) (last : Option Item) → IsSaidBy (Some l) last
@@ -130,25 +117,9 @@ not_begun l (Some i) said e =
     let same : None ≡ Some (form_of i) = e ∙ begun l.now i said in
     cc
 
-pub behind_nothing : (second : Bool) (last : Option Item) → IsSaidBy None last
-    → forms.Header ∷ [] ≡ forms_behind second last
-behind_nothing second None said = refl
-behind_nothing second (Some i) said = absurd said
-
--- the forms at a spot
-pub at_spot : (before : List Item) (spot : Spot) → IsBehind before spot
-    → forms_behind spot.is_second (last_of before) ≡ forms_behind (is_second before) (last_of before)
-at_spot [] spot h = refl
-at_spot (i ∷ before) spot h = ap (λ q. forms_behind q (last_of (i ∷ before))) (h.second (λ e. cc))
-
 pub put_said : (l : List ℕ) (i : Item) (a : ℕ) (w : List ℕ) → Says l (put a w) → Says l i
     → Some a ≡ put_address (Some i)
 put_said l i a w h says = ap (λ j. put_address (Some j)) (says_one l (put a w) i h says)
-
-pub no_put_said : (l : List ℕ) (i : Item) → ((a : ℕ) (w : List ℕ) → Says l (put a w) → ⊥) → Says l i
-    → None ≡ put_address (Some i)
-no_put_said l (put a w) none says = absurd (none a w says)
-no_put_said l _ none says = refl
 
 pub no_second : (l : List ℕ) (i : Item) (more : List Item) → ((h : VersionNumber) → Says l (header h) → ⊥)
     → Says l i → false ≡ is_second (i ∷ more)
@@ -165,9 +136,6 @@ pub record AreTaken (t : List ℕ) (n : ℕ) (last : Option (Bor (List ℕ))) (r
   pub parts : split t ≡ (done ++ (split rest).0, (split rest).1)
   pub is_last : IsLastOf done last
 
-pub none_taken : (t : List ℕ) → AreTaken t 0 None t
-none_taken t = record { done = []; count = refl; parts = refl; is_last = refl }
-
 pub one_taken : (t : List ℕ) (n : ℕ) (last : Option (Bor (List ℕ))) (rest after : List ℕ) (l : Bor (List ℕ))
     → AreTaken t n last rest → split rest ≡ (l.now ∷ (split after).0, (split after).1)
     → AreTaken t (n + 1) (Some l) after
@@ -179,26 +147,6 @@ one_taken t n last rest after l h e = record {
       ∙ ap (λ x. (x, (split after).1)) (sym (append_assoc h.done (l.now ∷ []) (split after).0));
   is_last = (h.done, refl);
 }
-
--- when as many lines were taken as are asked for, or no whole line is left, they are behind
-pub all_behind : (t : List ℕ) (n k : ℕ) (last : Option (Bor (List ℕ))) (rest : List ℕ)
-    → AreTaken t k last rest → take n (lines t) ≡ take k (lines t) → AreBehind t n last rest
-all_behind t n k last rest h same =
-    let ls : lines t ≡ h.done ++ (split rest).0 = ap (λ (p : List (List ℕ) × List ℕ). p.0) h.parts in
-    let is : take n (lines t) ≡ h.done =
-    same ∙ ap (λ x. take k x) ls ∙ ap (λ j. take j (h.done ++ (split rest).0)) (sym h.count) ∙ take-append_seam h.done (split rest).0 in
-    record {
-      is_last = subst (λ x. IsLastOf x last) (sym is) h.is_last;
-      left = h.parts ∙ ap (λ x. (x ++ (split rest).0, (split rest).1)) (sym is);
-    }
-
-pub none_left : (t : List ℕ) (n k : ℕ) (last : Option (Bor (List ℕ))) (rest : List ℕ)
-    → AreTaken t k last rest → k ≤ n → split rest ≡ ([], rest) → take n (lines t) ≡ take k (lines t)
-none_left t n k last rest h le e =
-    let ls : lines t ≡ h.done =
-    ap (λ (p : List (List ℕ) × List ℕ). p.0) h.parts ∙ ap (λ (p : List (List ℕ) × List ℕ). h.done ++ p.0) e ∙ append-nil h.done in
-    let len : length (lines t) ≡ k = ap (λ x. length x) ls ∙ h.count in
-    take_all n (lines t) (omega (arith, len)) ∙ sym (take_all k (lines t) (omega (arith, len)))
 
 -- what is behind so many lines
 found_left : (t : List ℕ) (n : ℕ) (last : Option (Bor (List ℕ))) (rest : List ℕ)
@@ -238,22 +186,6 @@ pub said_behind : (t : List ℕ) (n : ℕ) (last : Option (Bor (List ℕ))) (res
     → AreBehind t n last rest → AreSaid n t before → IsSaidBy last (last_of before)
 said_behind t n last rest before h said =
     last_said before last said.0 (subst (λ x. IsLastOf x last) (sym said.1) h.is_last)
-
--- the first line says the first thing
-pub first_said : (t l after : List ℕ) (n : ℕ) (i : Item) (before : List Item) → AreSaid n t (i ∷ before)
-    → split t ≡ (l ∷ (split after).0, (split after).1) → Says l i
-first_said t l after zero i before said e = absurd cc
-first_said t l after (suc n) i before said e =
-    let same : line i ∷ map line before ≡ l ∷ take n (split after).0 =
-    said.1 ∙ ap (λ (p : List (List ℕ) × List ℕ). take (suc n) p.0) e in
-    (said.0.0, sym (head_is same))
-
-pub none_said : (t : List ℕ) (n : ℕ) (i : Item) (before : List Item) → AreSaid n t (i ∷ before)
-    → split t ≡ ([], t) → ⊥
-none_said t zero i before said e = cc
-none_said t (suc n) i before said e =
-    let same : line i ∷ map line before ≡ [] = said.1 ∙ ap (λ (p : List (List ℕ) × List ℕ). take (suc n) p.0) e in
-    cc
 
 -- ---- bytes
 

@@ -1,63 +1,53 @@
 -- The first line feed of a text ends its first line.
-use Rattle.std.proofs.Common.{◌≡◌, ℕ, suc, ◌+◌, Bool, true, false, cond, List, [], ◌∷◌, ◌++◌, length, take, drop, slice_index, Option, Some, None, refl, sym, ap, subst, ◌∙◌, arith, add-zero}
-use Rattle.std.specs.Prelude.{◌==◌, ◌||◌, position}
-use Rattle.std.specs.List.{list_any, position_from}
-use Rattle.std.proofs.lemmas.Iterator.Adapters.{position_from-zero}
-use Rattle.chan_deck.specs.Refused.{split, onto_first}
+use Rattle.std.proofs.Common.{◌≡◌, ◌<◌, ◌≤◌, ℕ, suc, ◌+◌, Bool, false, List, [], ◌∷◌, ◌++◌, length, take, drop, slice_index, Some, None, refl, subst, arith, inl, inr}
+use Rattle.std.specs.Prelude.{◌==◌, position}
+use Rattle.std.specs.List.{list_any, position_or_len}
+use Rattle.std.proofs.lemmas.Bool.{cases_Bool}
+use Rattle.std.proofs.lemmas.Bool.Decides.{nat_tests}
+use Rattle.std.proofs.lemmas.Grind.{common_steps}
+use Rattle.chan_deck.specs.Refused.{split}
 
 abbrev feed : ℕ → Bool
 feed b = b == 10
 
-abbrev just : ℕ → Option ℕ
-just n = Some n
-
--- what the first line feed at place j says, counted from k on
-abbrev Splits : ℕ → List ℕ → Option ℕ → Type 0
-Splits k t None = split t ≡ ([], t)
-Splits k t (Some i) = (j : ℕ) × (i ≡ k + j) × (split t ≡ (take j t ∷ (split (drop (j + 1) t)).0, (split (drop (j + 1) t)).1))
-
-suc_more : (j : ℕ) → suc (j + 1) ≡ suc j + 1
-suc_more j = omega arith
-
-more : (k b : ℕ) (t : List ℕ) (o : Option ℕ) → (b == 10) ≡ false → Splits (k + 1) t o → Splits k (b ∷ t) o
+-- the first line feed ends the first line
+first_ends : (t : List ℕ) → position_or_len feed t < length t
+    → split t ≡ (take (position_or_len feed t) t ∷ (split (drop (position_or_len feed t + 1) t)).0, (split (drop (position_or_len feed t + 1) t)).1)
 unfolding split
-more k b t None h s = ap (λ q. cond q ([] ∷ (split t).0, (split t).1) (onto_first b (split t))) h ∙ ap (λ p. onto_first b p) s
-more k b t (Some i) h s = (suc s.0, omega (arith, s.1), ap (λ q. cond q ([] ∷ (split t).0, (split t).1) (onto_first b (split t))) h ∙ ap (λ p. onto_first b p) s.2 ∙ ap (λ x. (take (suc s.0) (b ∷ t) ∷ (split (drop x (b ∷ t))).0, (split (drop x (b ∷ t))).1)) (suc_more s.0))
+first_ends [] lt = absurd (omega arith)
+first_ends (b ∷ t) lt = elim (cases_Bool (b == 10)) [
+  | inl here ↦ rw here refl
+  | inr other ↦
+      let within = rw other at lt in
+      let n = position_or_len feed t in
+      let next : 1 + n ≡ suc n = omega arith in
+      let behind : suc n + 1 ≡ suc (n + 1) = omega arith in
+      rw (other, next, behind, first_ends t (omega (arith, within))) refl
+]
 
-at : (q : Bool) (k b : ℕ) (t : List ℕ) → (b == 10) ≡ q → Splits (k + 1) t (position_from feed (k + 1) t) → Splits k (b ∷ t) (cond q (Some k) (position_from feed (k + 1) t))
+none_ends : (t : List ℕ) → length t ≤ position_or_len feed t → split t ≡ ([], t)
 unfolding split
-at true k b t h s = (0, sym (add-zero k), ap (λ q. cond q ([] ∷ (split t).0, (split t).1) (onto_first b (split t))) h)
-at false k b t h s = more k b t (position_from feed (k + 1) t) h s
+none_ends [] le = refl
+none_ends (b ∷ t) le = elim (cases_Bool (b == 10)) [
+  | inl here ↦
+      let past = rw here at le in
+      absurd (omega (arith, past))
+  | inr other ↦
+      let past = rw other at le in
+      rw (other, none_ends t (omega (arith, past))) refl
+]
 
-from : (k : ℕ) (t : List ℕ) → Splits k t (position_from feed k t)
-unfolding split
-from k [] = refl
-from k (b ∷ t) = at (b == 10) k b t refl (from (k + 1) t)
-
-pub split_at : (t : List ℕ) → Splits 0 t (position feed t)
-split_at t = subst (λ o. Splits 0 t o) (sym (position_from-zero feed t)) (from 0 t)
-
-pub some_line : (t : List ℕ) (i : ℕ) → just i ≡ position (λ b. b == 10) t → split t ≡ (take i t ∷ (split (drop (i + 1) t)).0, (split (drop (i + 1) t)).1)
+pub some_line : (t : List ℕ) (i : ℕ) → Some i ≡ position (λ b. b == 10) t → split t ≡ (take i t ∷ (split (drop (i + 1) t)).0, (split (drop (i + 1) t)).1)
 some_line t i e =
-    let s = subst (λ o. Splits 0 t o) (sym e) (split_at t) in
-    let same : s.0 ≡ i = omega (arith, s.1) in
-    s.2 ∙ ap (λ j. (take j t ∷ (split (drop (j + 1) t)).0, (split (drop (j + 1) t)).1)) same
+    let first : position_or_len feed t ≡ i = grind (arith, nat_tests, e) in
+    let within : position_or_len feed t < length t = grind (arith, nat_tests, e) in
+    subst (λ j. split t ≡ (take j t ∷ (split (drop (j + 1) t)).0, (split (drop (j + 1) t)).1)) first (first_ends t within)
 
 pub no_line : (t : List ℕ) → position (λ b. b == 10) t ≡ None → split t ≡ ([], t)
-no_line t e = subst (λ o. Splits 0 t o) e (split_at t)
-
-after : (q : Bool) (k : ℕ) (front rest : List ℕ) → (q || list_any feed front) ≡ false
-    → (list_any feed front ≡ false → position_from feed (k + 1) (front ++ rest)
-    ≡ Some (k + 1 + length front))
-    → cond q (just k) (position_from feed (k + 1) (front ++ rest)) ≡ Some (k + suc (length front))
-after true k front rest none e = absurd cc
-after false k front rest none e = e none ∙ ap just (omega arith)
-
-behind : (k : ℕ) (front rest : List ℕ) → list_any feed front ≡ false → slice_index rest 0 ≡ 10 → position_from feed k (front ++ rest) ≡ Some (k + length front)
-behind k [] [] none e = absurd (omega (arith, e))
-behind k [] (b ∷ rest) none e = ap (λ c. cond (c == 10) (just k) (position_from feed (k + 1) rest)) e ∙ ap just (sym (add-zero k))
-behind k (b ∷ front) rest none e = after (b == 10) k front rest none (λ n. behind (k + 1) front rest n e)
+no_line t e = none_ends t (grind (arith, nat_tests, e))
 
 -- a line feed behind bytes without one is the first
 pub first_feed : (front rest : List ℕ) (n : ℕ) → length front ≡ n → list_any feed front ≡ false → slice_index rest 0 ≡ 10 → position feed (front ++ rest) ≡ Some n
-first_feed front rest n len none e = position_from-zero feed (front ++ rest) ∙ behind 0 front rest none e ∙ ap just (omega (arith, len))
+first_feed [] [] n len none e = absurd (omega (arith, e))
+first_feed [] (b ∷ rest) n len none e = grind (arith, common_steps, nat_tests, len, e)
+first_feed (b ∷ front) rest n len none e = grind (arith, common_steps, nat_tests, len, e, none, first_feed front rest (length front) refl)

@@ -132,28 +132,15 @@ spells_deck t d n st =
 
 one_cause : (before : List Item) (found : Found) (b c : Cause) → IsCause before found b → IsCause before found c → b ≡ c
 one_cause before found b c hb hc =
-    elim (cases_lt (rank b) (rank c)) [
-      | inl lower ↦ absurd (hc.first b lower hb.applies)
-      | inr other ↦
-          elim (cases_lt (rank c) (rank b)) [
-            | inl lower ↦ absurd (hb.first c lower hc.applies)
-            | inr equal ↦ one_rank b c (omega arith)
-          ]
-    ]
+    let no_less : rank b < rank c → ⊥ = λ lower. hc.first b lower hb.applies in
+    let no_more : rank c < rank b → ⊥ = λ lower. hb.first c lower hc.applies in
+    one_rank b c (omega arith)
 
 not_later : (t : List ℕ) (n m : ℕ) → IsRefusedAt t n → IsRefusedAt t m → n < m → ⊥
 not_later t n m hn hm lt = hn.here (omega (arith, hm.within)) (hm.least n lt)
 
 one_line : (t : List ℕ) (n m : ℕ) → IsRefusedAt t n → IsRefusedAt t m → n ≡ m
-one_line t n m hn hm =
-    elim (cases_lt n m) [
-      | inl before ↦ absurd (not_later t n m hn hm before)
-      | inr other ↦
-          elim (cases_lt m n) [
-            | inl before ↦ absurd (not_later t m n hm hn before)
-            | inr equal ↦ omega arith
-          ]
-    ]
+one_line t n m hn hm = omega (arith, not_later t n m hn hm, not_later t m n hm hn)
 
 for_cause_at : (t : List ℕ) (n : ℕ) (b c : Cause)
     → (before : List Item) × AreSaid (n - 1) t before × IsCause before (found_behind (n - 1) t) b

@@ -2,7 +2,7 @@ use Rattle.std.proofs.Common.{refl}
 use Rattle.chan_deck.specs.Item.{header}
 use Rattle.chan_deck.specs.Reading.{Opening, Named}
 use Rattle.chan_deck.proofs.RefusalLemmas.{starts, takes, refuses_line, refuses_end}
-use Rattle.chan_deck.proofs.LineRefusals.{not_header}
+use Rattle.chan_deck.proofs.LineRefusals.{formless}
 use Rattle.chan_deck.specs.declared.cause.Cause.TheVariants as causes
 use Rattle.chan_deck.proofs.heading.read_header.Goals as goal
 
@@ -19,4 +19,4 @@ pub returns-in-None : goal.returns-in-None
 returns-in-None c =
     let t = c.args.text.now in
     let parts = rw (c.in-Some.line-is, c.in-Some.rest-is) at c.in-Some.ensures.some in
-    refuses_line t Opening 1 t c.in-Some.line.now c.in-Some.rest.now causes.Header (starts t) parts (not_header c.in-Some.line.now c.in-None.ensures)
+    refuses_line t Opening 1 t c.in-Some.line.now c.in-Some.rest.now causes.Header (starts t) parts (formless Opening c.in-Some.line.now c.in-None.ensures)

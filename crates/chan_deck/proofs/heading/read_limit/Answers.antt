@@ -2,7 +2,7 @@ use Rattle.std.proofs.Common.{[], refl}
 use Rattle.std.proofs.lemmas.Result.{err_from_is_err_and}
 use Rattle.chan_deck.specs.Item.{limit}
 use Rattle.chan_deck.specs.Reading.{Started, Listing}
-use Rattle.chan_deck.proofs.LineRefusals.{not_limit, bad_limit, good_limit}
+use Rattle.chan_deck.proofs.LineRefusals.{formless, bad_limit, good_limit}
 use Rattle.chan_deck.specs.declared.version.Version.TheVariants.{Two}
 use Rattle.chan_deck.specs.declared.cause.Cause.TheVariants as causes
 use Rattle.chan_deck.proofs.heading.read_limit.Goals as goal
@@ -13,7 +13,7 @@ returns-in_err-line c =
     rw (p.1, p.2) (λ v m a. c.in_err-line.ensures.next (Started v m a) refl)
 
 pub returns-in_default : goal.returns-in_default
-returns-in_default c = rw c.refused.ensures (λ v m a. c.in_ok-line.ensures.next.refuses (Started v m a) causes.Form (not_limit v m a _ c.in_default.ensures))
+returns-in_default c = rw c.refused.ensures (λ v m a. c.in_ok-line.ensures.next.refuses (Started v m a) causes.Form (formless (Started v m a) _ c.in_default.ensures))
 
 pub returns-in-Some-new : goal.returns-in-Some-new
 returns-in-Some-new c = λ v m a.

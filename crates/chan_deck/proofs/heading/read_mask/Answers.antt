@@ -4,7 +4,7 @@ use Rattle.std.proofs.lemmas.Result.{err_from_is_err_and}
 use Rattle.ckd_core.specs.Mask.{is_mask}
 use Rattle.chan_deck.specs.Item.{mask}
 use Rattle.chan_deck.specs.Reading.{OnDevice, Masked}
-use Rattle.chan_deck.proofs.LineRefusals.{not_mask, bad_mask}
+use Rattle.chan_deck.proofs.LineRefusals.{formless, bad_mask}
 use Rattle.chan_deck.specs.declared.cause.Cause.TheVariants as causes
 use Rattle.chan_deck.proofs.heading.read_mask.Goals as goal
 
@@ -14,7 +14,7 @@ returns-in_err-line c =
     rw (p.1, p.2) (λ h v. c.in_err-line.ensures.next (OnDevice h v) refl)
 
 pub returns-in_default : goal.returns-in_default
-returns-in_default c = rw c.refused.ensures (λ h v. c.in_ok-line.ensures.next.refuses (OnDevice h v) causes.Form (not_mask h v _ c.in_default.ensures))
+returns-in_default c = rw c.refused.ensures (λ h v. c.in_ok-line.ensures.next.refuses (OnDevice h v) causes.Form (formless (OnDevice h v) _ c.in_default.ensures))
 
 pub returns-in-Some-new : goal.returns-in-Some-new
 returns-in-Some-new c = λ h v.

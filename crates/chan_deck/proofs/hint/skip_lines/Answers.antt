@@ -1,4 +1,4 @@
-use Rattle.chan_deck.proofs.HintLemmas.{all_behind, none_left, one_taken}
+use Rattle.chan_deck.proofs.HintLemmas.{one_taken}
 use Rattle.chan_deck.proofs.hint.skip_lines.Goals as goal
 
 pub loop-preserved : goal.loop-preserved

@@ -1,5 +1,5 @@
 use Rattle.std.proofs.Common.{sym, ◌∙◌}
-use Rattle.chan_deck.proofs.HintLemmas.{behind_begun, behind_nothing, not_begun}
+use Rattle.chan_deck.proofs.HintLemmas.{behind_begun, not_begun}
 use Rattle.chan_deck.proofs.keyword.forms_behind.Goals as goal
 
 pub returns-in-Some-begun_as : goal.returns-in-Some-begun_as

@@ -4,7 +4,7 @@ use Rattle.std.proofs.lemmas.List.{length-take}
 use Rattle.std.proofs.lemmas.Result.{err_from_is_err_and}
 use Rattle.chan_deck.specs.Item.{put, end}
 use Rattle.chan_deck.specs.Reading.{Filling, Whole, image_of}
-use Rattle.chan_deck.proofs.LineRefusals.{not_put}
+use Rattle.chan_deck.proofs.LineRefusals.{formless}
 use Rattle.chan_deck.proofs.FillLemmas.{zero_word, some_word, bad_place, zero_put, written, put_goes, end_goes}
 use Rattle.chan_deck.specs.declared.cause.Cause.TheVariants as causes
 use Rattle.chan_deck.proofs.storage.fill.Goals as goal
@@ -77,4 +77,4 @@ returns-else-is_end-clause-filled c =
     let front = take c.loop-line.next S in
     let next = rw c.in_ok-line.line-is at c.in_ok-line.ensures.next in
     rw c.refused-else-is_end.ensures (λ h es fs ss t st. next.refuses (Filling h es fs ss (length S) front) causes.Form
-    (not_put h es fs ss (length S) front _ c.in_default.ensures.line c.if-is_end.ensures) t (c.loop-line.invariant.told h es fs ss t st))
+    (formless (Filling h es fs ss (length S) front) _ (c.in_default.ensures.line, c.if-is_end.ensures)) t (c.loop-line.invariant.told h es fs ss t st))
