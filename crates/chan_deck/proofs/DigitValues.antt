@@ -1,48 +1,39 @@
 -- The values of digits, and words that are read by them.
-use Rattle.std.proofs.Common.{◌≡◌, ℕ, zero, suc, ◌+◌, ◌*◌, ◌/◌, ◌%◌, ◌<◌, List, [], ◌∷◌, ◌++◌, length, take, set, slice_index, get_or, Option, Some, None, Result, Ok, Err, true, false, refl, sym, ap, ap₂, subst, ◌∙◌, arith, inl, inr}
-use Rattle.std.specs.Bool.{OnTrue, OnFalse}
-use Rattle.std.specs.Prelude.{◌≢◌, is_err, is_ok, nat_le}
-use Rattle.std.specs.List.{AllByRecursion, list_any}
+use Rattle.std.proofs.Common.{◌≡◌, ℕ, zero, suc, ◌+◌, ◌*◌, ◌/◌, ◌%◌, ◌<◌, List, [], ◌∷◌, ◌++◌, length, take, set, slice_index, get_or, Option, Some, None, Result, Ok, Err, refl, sym, ap, ap₂, subst, ◌∙◌, arith, inl, inr, zero-add}
+use Rattle.std.specs.Prelude.{◌≢◌, is_err, MatchBool, MatchResult}
+use Rattle.std.specs.List.{AllByRecursion}
 use Rattle.std.proofs.lemmas.Bool.{cases_lt}
-use Rattle.std.proofs.lemmas.Bool.Decides.{nat_tests}
 use Rattle.std.proofs.lemmas.Grind.{get_or-set_at}
 use Rattle.std.proofs.lemmas.List.{append_assoc, get_or-set_other, take_more, take_more_set}
-use Rattle.hex.specs.Hex.{IsBytes, encode_upper, encode_with, upper_digits}
+use Rattle.hex.specs.Hex.{IsBytes, decode_pairs, decode_sized, encode_upper, encode_with, hex_digit_value, upper_digits}
+use Rattle.hex.specs.declared.error.FromHexError.{FromHexError}
+use Rattle.hex.specs.declared.error.FromHexError.TheVariants.{InvalidHexCharacter}
 use Rattle.chan_deck.specs.Digits.{IsPair, IsValue}
 use Rattle.chan_deck.specs.Item.{IsByte}
-use Rattle.chan_deck.proofs.UpperDigits.{bytes_at, leading_zero}
+use Rattle.chan_deck.proofs.UpperDigits.{bytes_at, is_value}
 
--- behind a zero, a digit spells its value
-pub behind_zero : (digit : ℕ) (bytes : List ℕ) → length bytes ≡ 1 → 48 ∷ digit ∷ [] ≡ encode_upper bytes → IsValue digit (Some (get_or bytes 0 0))
-unfolding encode_with
-behind_zero digit [] len e = absurd (omega (arith, len))
-behind_zero digit (v ∷ w ∷ bytes) len e = absurd (omega (arith, len))
-behind_zero digit (v ∷ []) len e =
-    let small = leading_zero v [] (digit ∷ []) e in
-    let low : v % 16 ≡ v = omega (arith, small) in
-    (small, ap (λ t. slice_index t 1) e ∙ ap (λ k. slice_index upper_digits k) low)
+-- what `hex` answers to a character behind a zero
+abbrev Decoded : ℕ → List ℕ → Result Unit FromHexError → Type 0
+Decoded c out r = MatchResult (decode_sized (48 ∷ c ∷ []) 1) (λ bytes. (r ≡ Ok tt) × (out ≡ bytes)) (λ e. r ≡ Err e)
 
-pub capital_behind_zero : (digit : ℕ) → digit < 97 → list_any (λ c. nat_le 97 c) (48 ∷ digit ∷ []) ≡ false
-capital_behind_zero digit lt =
-    let capital : nat_le 97 digit ≡ false = grind (arith, nat_tests) in
-    rw capital refl
+abbrev Answer : ℕ → List ℕ → Result Unit FromHexError → Option ℕ → Type 0
+Answer c out r None = r ≡ Err (InvalidHexCharacter c 1)
+Answer c out r (Some v) = (r ≡ Ok tt) × (out ≡ (0 * 16 + v) ∷ [])
 
--- and what isn't one spells nothing
-pub no_digit : (digit : ℕ) → ((other : List ℕ) → length other ≡ 1 → AllByRecursion IsByte other → 48 ∷ digit ∷ [] ≡ encode_upper other → ⊥) → IsValue digit None
-unfolding encode_with
-no_digit digit none = λ v lt e.
-    let high : v / 16 ≡ 0 = omega arith in
-    let low : v % 16 ≡ v = omega arith in
-    none (v ∷ []) refl (omega arith, tt) (rw (high, low, e) refl)
+answered : (c : ℕ) (out : List ℕ) (r : Result Unit FromHexError) (o : Option ℕ) → hex_digit_value c ≡ o → Decoded c out r → Answer c out r o
+unfolding decode_pairs
+answered c out r (Some v) e h = rw e at h
+answered c out r None e h = rw e at h
 
--- what is said of a decoding that failed, and of one that succeeded
-pub on_err : {A B : Type 0} (r : Result A B) (P : Type 0) → is_err r ≡ true → OnFalse (is_ok r) P → P
-on_err (Ok x) P e h = absurd cc
-on_err (Err x) P e h = h
+told_by : (c : ℕ) (out : List ℕ) (r : Result Unit FromHexError) (o : Option ℕ) → c < 97 → hex_digit_value c ≡ o → Answer c out r o
+    → MatchBool (is_err r) (IsValue c None) (IsValue c (Some (get_or out 0 0)))
+told_by c out r None lt e h = rw h (is_value c None lt e)
+told_by c out r (Some v) lt e h = rw (h.0, h.1, zero-add) (is_value c (Some v) lt e)
 
-pub on_ok : {A B : Type 0} (r : Result A B) (P : Type 0) → is_err r ≡ false → OnTrue (is_ok r) P → P
-on_ok (Ok x) P e h = h
-on_ok (Err x) P e h = absurd cc
+-- it tells the value that the character has as a digit
+pub value_told : (c : ℕ) (out : List ℕ) (r : Result Unit FromHexError) → c < 97 → Decoded c out r
+    → MatchBool (is_err r) (IsValue c None) (IsValue c (Some (get_or out 0 0)))
+value_told c out r lt h = told_by c out r (hex_digit_value c) lt refl (answered c out r (hex_digit_value c) refl h)
 
 abbrev digit : ℕ → ℕ
 digit v = slice_index upper_digits v

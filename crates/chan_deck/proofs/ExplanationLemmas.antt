@@ -74,27 +74,13 @@ lines_left os at d some lt =
     let both : drop (at - 1) os ≡ o ∷ p ∷ drop (suc at) os = drop-cons os (at - 1) d (omega arith) ∙ ap (λ n. o ∷ drop n os) next ∙ ap (λ t. o ∷ t) here in
     ap also_lines both ∙ ap (λ t. (if are_alike o p then [] else also_line p) ++ also_lines t) (sym here)
 
--- one line more
+-- one line more, or none for an offence that is like the one before it
 pub others_more : (os : List Offence) (at : ℕ) (d : Offence) (held more whole : List ℕ) → 0 < at → at < length os
-    → are_alike (get_or os (at - 1) d) (get_or os at d) ≡ false → more ≡ held ++ also_line (get_or os at d)
+    → more ≡ held ++ (if are_alike (get_or os (at - 1) d) (get_or os at d) then [] else also_line (get_or os at d))
     → held ++ also_lines (drop (at - 1) os) ≡ whole → more ++ also_lines (drop (at + 1 - 1) os) ≡ whole
-others_more os at d held more whole some lt apart told before =
-    let p = get_or os at d in
+others_more os at d held more whole some lt told before =
     let next : at + 1 - 1 ≡ at = omega arith in
-    let rest = also_lines (drop at os) in
-    ap (λ n. more ++ also_lines (drop n os)) next ∙ ap (λ t. t ++ rest) told ∙ append_assoc held (also_line p) rest
-    ∙ ap (λ (b : Bool). held ++ ((if b then [] else also_line p) ++ rest)) (sym apart) ∙ ap (λ t. held ++ t) (sym (lines_left os at d some lt)) ∙ before
-
--- none for an offence that is like the one before it
-pub others_same : (os : List Offence) (at : ℕ) (d : Offence) (held more whole : List ℕ) → 0 < at → at < length os
-    → are_alike (get_or os (at - 1) d) (get_or os at d) ≡ true → more ≡ held
-    → held ++ also_lines (drop (at - 1) os) ≡ whole → more ++ also_lines (drop (at + 1 - 1) os) ≡ whole
-others_same os at d held more whole some lt alike told before =
-    let p = get_or os at d in
-    let next : at + 1 - 1 ≡ at = omega arith in
-    let rest = also_lines (drop at os) in
-    ap (λ n. more ++ also_lines (drop n os)) next ∙ ap (λ t. t ++ rest) told
-    ∙ ap (λ (b : Bool). held ++ ((if b then [] else also_line p) ++ rest)) (sym alike) ∙ ap (λ t. held ++ t) (sym (lines_left os at d some lt)) ∙ before
+    rw (next, told, append_assoc, ← lines_left os at d some lt) before
 
 -- one offence has no other behind it
 no_line : (os : List Offence) → length os ≤ 1 → also_lines os ≡ []

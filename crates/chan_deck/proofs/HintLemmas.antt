@@ -71,33 +71,14 @@ form_of end = forms.End
 begins : (i : Item) → begun_as all_forms (line i) ≡ Some (form_of i)
 unfolding first_word
 begins (header numbers.One) = refl
-begins (header numbers.Two) = refl
 begins (device D2311) = refl
-begins (device D2314) = refl
-begins (mask m) = refl
-begins (start a) = refl
-begins (limit n) = refl
-begins (extent a b) = refl
-begins (fetch a) = refl
-begins (store a) = refl
-begins (storage n) = refl
-begins (put a w) = refl
-begins end = refl
+begins i = refl
 
 -- what may stand behind a line is a question of its form
 behind_item : (second : Bool) (i : Item)
     → forms_behind second (Some (example_of (form_of i))) ≡ forms_behind second (Some i)
 behind_item second (header h) = refl
-behind_item second (device d) = refl
-behind_item second (mask m) = refl
-behind_item second (start a) = refl
-behind_item second (limit n) = refl
-behind_item second (extent a b) = refl
-behind_item second (fetch a) = refl
-behind_item second (store a) = refl
-behind_item second (storage n) = refl
-behind_item second (put a w) = refl
-behind_item second end = refl
+behind_item second i = refl
 
 begun : (l : List ℕ) (i : Item) → Says l i → begun_as all_forms l ≡ Some (form_of i)
 begun l i says = ap (λ x. begun_as all_forms x) says.1 ∙ begins i

@@ -57,9 +57,7 @@ area_no_feed a = no_feed-append (address_digits a.start) (32 ∷ address_digits 
 
 pub line_no_feed : (i : Item) → HasNoFeed (line i)
 line_no_feed (header numbers.One) = from_test (line (header numbers.One)) refl
-line_no_feed (header numbers.Two) = from_test (line (header numbers.Two)) refl
 line_no_feed (device D2311) = from_test (line (device D2311)) refl
-line_no_feed (device D2314) = from_test (line (device D2314)) refl
 line_no_feed (mask m) = no_feed-append (codes "mask ") (byte_digits m) (from_test (codes "mask ") refl) (upper_no_feed (m ∷ []))
 line_no_feed (start a) = no_feed-append (codes "start ") (address_digits a) (from_test (codes "start ") refl) (upper_no_feed (bytes_high_first 3 a))
 line_no_feed (limit n) = no_feed-append (codes "limit ") (limit_digits n) (from_test (codes "limit ") refl) (limit_no_feed n)
@@ -72,7 +70,7 @@ line_no_feed (storage n) = no_feed-append (codes "storage ") (size_digits n) (fr
 line_no_feed (put a word) =
     no_feed-append (codes "put ") (address_digits a ++ (codes " " ++ encode_upper word)) (from_test (codes "put ") refl)
     (no_feed-append (address_digits a) (32 ∷ encode_upper word) (upper_no_feed (bytes_high_first 3 a)) (refl, upper_no_feed word))
-line_no_feed end = from_test (line end) refl
+line_no_feed i = from_test (line i) refl
 
 -- ---- one number for each field
 
@@ -168,27 +166,17 @@ tag_of l = cond (get_or l 0 0 == 115) (get_or l 2 0 * 1000 + get_or l 4 0) (get_
 
 pub one_item : (i j : Item) → HasForm i → HasForm j → line i ≡ line j → i ≡ j
 one_item (header g) (header h) hi hj e = ap header (one_header g h (cancel (codes "chanv deck ") _ _ e))
-one_item (header h) j hi hj e = apart (tag_of (line (header h))) (tag_of (line j)) refl (ap tag_of e)
 one_item (device c) (device d) hi hj e = ap device (one_device c d (cancel (codes "device ") _ _ e))
-one_item (device c) j hi hj e = apart (tag_of (line (device c))) (tag_of (line j)) refl (ap tag_of e)
 one_item (mask m) (mask n) hi hj e = ap mask (one_byte m n hi hj (cancel (codes "mask ") _ _ e))
-one_item (mask m) j hi hj e = apart (tag_of (line (mask m))) (tag_of (line j)) refl (ap tag_of e)
 one_item (start a) (start b) hi hj e = ap start (one_address a b hi hj (cancel (codes "start ") _ _ e))
-one_item (start a) j hi hj e = apart (tag_of (line (start a))) (tag_of (line j)) refl (ap tag_of e)
 one_item (limit m) (limit n) hi hj e = ap limit (one_limit m n (cancel (codes "limit ") _ _ e))
-one_item (limit m) j hi hj e = apart (tag_of (line (limit m))) (tag_of (line j)) refl (ap tag_of e)
 one_item (extent a b) (extent c d) hi hj e = one_extent a b c d e
-one_item (extent a b) j hi hj e = apart (tag_of (line (extent a b))) (tag_of (line j)) refl (ap tag_of e)
 one_item (fetch a) (fetch b) hi hj e = ap fetch (one_area a b hi hj (cancel (codes "fetch ") _ _ e))
-one_item (fetch a) j hi hj e = apart (tag_of (line (fetch a))) (tag_of (line j)) refl (ap tag_of e)
 one_item (store a) (store b) hi hj e = ap store (one_area a b hi hj (cancel (codes "store ") _ _ e))
-one_item (store a) j hi hj e = apart (tag_of (line (store a))) (tag_of (line j)) refl (ap tag_of e)
 one_item (storage m) (storage n) hi hj e = ap storage (one_size m n hi hj (cancel (codes "storage ") _ _ e))
-one_item (storage m) j hi hj e = apart (tag_of (line (storage m))) (tag_of (line j)) refl (ap tag_of e)
 one_item (put a v) (put b w) hi hj e = one_put a b v w hi hj e
-one_item (put a v) j hi hj e = apart (tag_of (line (put a v))) (tag_of (line j)) refl (ap tag_of e)
 one_item end end hi hj e = refl
-one_item end j hi hj e = apart (tag_of (line end)) (tag_of (line j)) refl (ap tag_of e)
+one_item i j hi hj e = apart (tag_of (line i)) (tag_of (line j)) refl (ap tag_of e)
 
 pub says_one : (l : List ℕ) (i j : Item) → Says l i → Says l j → i ≡ j
 says_one l i j hi hj = one_item i j hi.0 hj.0 (sym hi.1 ∙ hj.1)

@@ -1,5 +1,5 @@
 -- What is written, line by line.
-use Rattle.std.proofs.Common.{◌≡◌, ℕ, zero, suc, replicate, ◌%◌, length-append, ◌+◌, ◌-◌, ◌*◌, ◌/◌, ◌<◌, ◌≤◌, true, false, cond, List, [], ◌∷◌, ◌++◌, length, take, drop, map, get_or, refl, sym, ap, ◌∙◌, append_assoc, arith}
+use Rattle.std.proofs.Common.{◌≡◌, ℕ, zero, suc, replicate, ◌%◌, length-append, ◌+◌, ◌-◌, ◌*◌, ◌/◌, ◌<◌, ◌≤◌, Bool, true, false, cond, List, [], ◌∷◌, ◌++◌, length, take, drop, map, get_or, refl, sym, ap, ◌∙◌, append_assoc, arith}
 use Rattle.std.specs.List.{flat_map}
 use Rattle.std.proofs.lemmas.List.{take_more, drop-drop, map-append, append-nil, length-replicate}
 use Rattle.std.specs.Prelude.{codes}
@@ -8,17 +8,18 @@ use Rattle.chan_deck.specs.Item.{Item, header, device, mask, start, fetch, store
 use Rattle.chan_deck.specs.Image.{Image, extent_of, is_zero, puts, spelling, header_of, limit_line}
 use Rattle.chan_deck.proofs.FrontLemmas.{text-append}
 
--- one line more
-pub text_more : (is : List Item) (i : Item) → text (map line (is ++ i ∷ [])) ≡ text (map line is) ++ (line i ++ 10 ∷ [])
-text_more is i = ap text (map-append line is (i ∷ [])) ∙ text-append (map line is) (line i ∷ []) ∙ ap (λ t. text (map line is) ++ t) (append-nil (line i ++ 10 ∷ []))
+text_parts : (a b : List Item) → text (map line (a ++ b)) ≡ text (map line a) ++ text (map line b)
+text_parts a b = ap text (map-append line a b) ∙ text-append (map line a) (map line b)
 
-pub extents_more : (es : List (ℕ × ℕ)) (i : ℕ) → i < length es
-    → text (map line (map extent_of (take (i + 1) es)))
-    ≡ text (map line (map extent_of (take i es)))
-    ++ (line (extent_of (get_or es i (0, 0))) ++ 10 ∷ [])
-extents_more es i lt =
-    ap (λ xs. text (map line (map extent_of xs))) (take_more es i (0, 0) lt) ∙ ap (λ is. text (map line is)) (map-append extent_of (take i es) (get_or es i (0, 0) ∷ []))
-    ∙ text_more (map extent_of (take i es)) (extent_of (get_or es i (0, 0)))
+-- one extent more
+pub extents_more : (es : List (ℕ × ℕ)) (i : ℕ) (old out new : List ℕ) → i < length es
+    → out ≡ old ++ text (map line (map extent_of (take i es)))
+    → new ≡ out ++ (line (extent_of (get_or es i (0, 0))) ++ 10 ∷ [])
+    → new ≡ old ++ text (map line (map extent_of (take (i + 1) es)))
+extents_more es i old out new lt before one =
+    let e = get_or es i (0, 0) in
+    let more = text_parts (map extent_of (take i es)) (extent_of e ∷ []) in
+    rw (take_more es i (0, 0) lt, map-append extent_of (take i es) (e ∷ []), more, ← append_assoc, ← before, append-nil) one
 
 -- ---- puts
 
@@ -41,29 +42,21 @@ step N i a S lt =
     ∙ ap (λ b. cond (is_zero word) (puts (N - (i + 1)) b (drop 8 (drop (8 * i) S))) (here ∷ puts (N - (i + 1)) b (drop 8 (drop (8 * i) S)))) at
     ∙ ap (λ t. cond (is_zero word) (puts (N - (i + 1)) (a + 8 * (i + 1)) t) (here ∷ puts (N - (i + 1)) (a + 8 * (i + 1)) t)) (next_word i S)
 
--- a doubleword of zeros is passed over
-pub past_zeros : (N i a : ℕ) (S out goal_text : List ℕ) → i < N
-    → is_zero (take 8 (drop (8 * i) S)) ≡ true
-    → out ++ text (map line (puts (N - i) (a + 8 * i) (drop (8 * i) S))) ≡ goal_text
-    → out ++ text (map line (puts (N - (i + 1)) (a + 8 * (i + 1)) (drop (8 * (i + 1)) S)))
-    ≡ goal_text
-past_zeros N i a S out goal_text lt z told =
-    let rest = puts (N - (i + 1)) (a + 8 * (i + 1)) (drop (8 * (i + 1)) S) in
-    let e : puts (N - i) (a + 8 * i) (drop (8 * i) S) ≡ rest = step N i a S lt ∙ ap (λ b. cond b rest (put (a + 8 * i) (take 8 (drop (8 * i) S)) ∷ rest)) z in
-    ap (λ is. out ++ text (map line is)) (sym e) ∙ told
+put_text : (zeros : Bool) (i : Item) (is : List Item) → text (map line (cond zeros is (i ∷ is))) ≡ cond zeros [] (line i ++ 10 ∷ []) ++ text (map line is)
+put_text true i is = refl
+put_text false i is = refl
 
--- any other is put
-pub past_put : (N i a : ℕ) (S out new goal_text : List ℕ) → i < N
-    → is_zero (take 8 (drop (8 * i) S)) ≡ false
-    → new ≡ out ++ (line (put (a + 8 * i) (take 8 (drop (8 * i) S))) ++ 10 ∷ [])
-    → out ++ text (map line (puts (N - i) (a + 8 * i) (drop (8 * i) S))) ≡ goal_text
-    → new ++ text (map line (puts (N - (i + 1)) (a + 8 * (i + 1)) (drop (8 * (i + 1)) S)))
-    ≡ goal_text
-past_put N i a S out new goal_text lt z written told =
+-- a doubleword of zeros is passed over, and any other is put
+pub puts_more : (N i a : ℕ) (S out new whole : List ℕ) → i < N
+    → new ≡ out ++ cond (is_zero (take 8 (drop (8 * i) S))) [] (line (put (a + 8 * i) (take 8 (drop (8 * i) S))) ++ 10 ∷ [])
+    → out ++ text (map line (puts (N - i) (a + 8 * i) (drop (8 * i) S))) ≡ whole
+    → new ++ text (map line (puts (N - (i + 1)) (a + 8 * (i + 1)) (drop (8 * (i + 1)) S))) ≡ whole
+puts_more N i a S out new whole lt written told =
+    let word = take 8 (drop (8 * i) S) in
     let rest = puts (N - (i + 1)) (a + 8 * (i + 1)) (drop (8 * (i + 1)) S) in
-    let this = put (a + 8 * i) (take 8 (drop (8 * i) S)) in
-    let e : puts (N - i) (a + 8 * i) (drop (8 * i) S) ≡ this ∷ rest = step N i a S lt ∙ ap (λ b. cond b rest (this ∷ rest)) z in
-    ap (λ t. t ++ text (map line rest)) written ∙ append_assoc out (line this ++ 10 ∷ []) (text (map line rest)) ∙ ap (λ is. out ++ text (map line is)) (sym e) ∙ told
+    let more = ap (λ is. text (map line is)) (step N i a S lt) ∙ put_text (is_zero word) (put (a + 8 * i) word) rest in
+    ap (λ t. t ++ text (map line rest)) written ∙ append_assoc out (cond (is_zero word) [] (line (put (a + 8 * i) word) ++ 10 ∷ [])) (text (map line rest))
+    ∙ ap (λ t. out ++ t) (sym more) ∙ told
 
 pub no_puts_left : (N i a : ℕ) (S out : List ℕ) → N ≤ i
     → out ++ text (map line (puts (N - i) (a + 8 * i) (drop (8 * i) S))) ≡ out
@@ -88,11 +81,11 @@ past_front (suc k) n a S =
     ∙ ap (λ m. puts (suc (k + n)) a (replicate m 0 ++ S)) eight
     ∙ past_front k n (a + 8) S ∙ ap (λ b. puts n b S) at
 
-length_behind : (at : ℕ) (S : List ℕ) → length (replicate at 0 ++ S) ≡ at + length S
+pub length_behind : (at : ℕ) (S : List ℕ) → length (replicate at 0 ++ S) ≡ at + length S
 length_behind at S = length-append (replicate at 0) S ∙ ap (λ m. m + length S) (length-replicate at 0)
 
 -- storage that is zero up to an address has the puts of what follows
-puts_behind : (at : ℕ) (S : List ℕ) → at % 8 ≡ 0
+pub puts_behind : (at : ℕ) (S : List ℕ) → at % 8 ≡ 0
     → puts (length (replicate at 0 ++ S) / 8) 0 (replicate at 0 ++ S) ≡ puts (length S / 8) at S
 puts_behind at S whole =
     let k = at / 8 in
@@ -102,27 +95,11 @@ puts_behind at S whole =
     ap (λ m. puts m 0 (replicate at 0 ++ S)) words ∙ ap (λ m. puts (k + length S / 8) 0 (replicate m 0 ++ S)) front
     ∙ past_front k (length S / 8) 0 S ∙ ap (λ b. puts (length S / 8) b S) end
 
--- the line of storage and the puts of storage that is zero up to an address
-pub storage_behind : (at : ℕ) (S : List ℕ) → at % 8 ≡ 0
-    → storage (at + length S) ∷ puts (length S / 8) at S
-    ≡ storage (length (replicate at 0 ++ S))
-    ∷ puts (length (replicate at 0 ++ S) / 8) 0 (replicate at 0 ++ S)
-storage_behind at S whole =
-    ap (λ n. storage n ∷ puts (length S / 8) at S) (sym (length_behind at S))
-    ∙ ap (λ is. storage (length (replicate at 0 ++ S)) ∷ is) (sym (puts_behind at S whole))
-
 -- ---- the whole text
 
-pub fetch_text : (fs : List Area) → flat_map (λ a. (codes "fetch " ++ area_digits a) ++ 10 ∷ []) fs ≡ text (map line (map fetch fs))
-fetch_text [] = refl
-fetch_text (f ∷ fs) = ap (λ t. ((codes "fetch " ++ area_digits f) ++ 10 ∷ []) ++ t) (fetch_text fs)
-
-pub store_text : (ss : List Area) → flat_map (λ a. (codes "store " ++ area_digits a) ++ 10 ∷ []) ss ≡ text (map line (map store ss))
-store_text [] = refl
-store_text (s ∷ ss) = ap (λ t. ((codes "store " ++ area_digits s) ++ 10 ∷ []) ++ t) (store_text ss)
-
-text_parts : (a b : List Item) → text (map line (a ++ b)) ≡ text (map line a) ++ text (map line b)
-text_parts a b = ap text (map-append line a b) ∙ text-append (map line a) (map line b)
+pub area_text : (f : Area → Item) (areas : List Area) → flat_map (λ a. line (f a) ++ 10 ∷ []) areas ≡ text (map line (map f areas))
+area_text f [] = refl
+area_text f (a ∷ areas) = ap (λ t. (line (f a) ++ 10 ∷ []) ++ t) (area_text f areas)
 
 -- the text of a deck, part by part
 pub spelling_parts : (d : Image)

@@ -1,6 +1,7 @@
 //! The explanation of a verdict: what `chanv why` writes.
 
 ghost use Rattle.std.specs.Prelude.{◌≡◌, ◌↔◌, ◌++◌, false, true, string_bytes, IfOk, IsErrOf, OnOk};
+ghost use Rattle.std.specs.Prelude.{[], if◌then◌else◌};
 ghost use Rattle.std.specs.Io.KnownBytes.{Appends};
 ghost use Rattle.ccw_core.specs.Written.{AppendsPrefix};
 ghost use Rattle.chan_deck.specs.Explanation as texts;
@@ -199,15 +200,24 @@ fn push_also(out: &mut String, offence: Offence) -> Result<(), AllocError>
     write!(out, "also {address} {word}\n")
 }
 
+/// Adds the line of an offence behind another, if they aren't alike.
+fn push_next(out: &mut String, before: Offence, offence: Offence) -> Result<(), AllocError>
+    ensures { OnOk result (string_bytes out.new ≡ string_bytes out.old
+        ++ (if texts.are_alike before offence then [] else texts.also_line offence)) }
+{
+    if are_alike(before, offence) {
+        return Ok(());
+    }
+    push_also(out, offence)
+}
+
 /// Adds a line for each address and reason but the first.
 fn push_others(out: &mut String, offences: &[Offence]) -> Result<(), AllocError>
     ensures { OnOk result (string_bytes out.new
         ≡ string_bytes out.old ++ texts.also_lines offences.now) }
 {
     for at in 1..offences.len() {
-        if !are_alike(offences[at - 1], offences[at]) {
-            push_also(out, offences[at])?;
-        }
+        push_next(out, offences[at - 1], offences[at])?;
     }
     Ok(())
 }

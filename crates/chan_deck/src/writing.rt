@@ -1,7 +1,7 @@
 //! Writing a deck.
 
 ghost use Rattle.std.specs.Prelude.{◌≡◌, ◌+◌, ◌/◌, ◌%◌, ◌<◌, ◌≤◌, ◌^◌, true, [], ◌∷◌, ◌++◌, length};
-ghost use Rattle.std.specs.Prelude.{map, replicate, IfOk, OnOk};
+ghost use Rattle.std.specs.Prelude.{map, replicate, if◌then◌else◌, IfOk, OnOk};
 ghost use Rattle.std.specs.List.{flat_map, AllByRecursion};
 ghost use Rattle.hex.specs.Hex.{encode_upper};
 ghost use Rattle.ckd_core.specs.Cylinders.{AreExtents, IsExtent};
@@ -152,6 +152,17 @@ fn is_zero(bytes: &[u8]) -> bool
     true
 }
 
+/// A put for a doubleword, if it isn't zero.
+fn write_word(alloc: Global, out: &mut Vec<u8>, address: u32, word: &[u8]) -> Result<(), AllocError>
+    ensures { OnOk result (out.new.items ≡ out.old.items
+        ++ (if zeros word.now then [] else line (put address word.now) ++ 10 ∷ [])) }
+{
+    if is_zero(word) {
+        return Ok(());
+    }
+    write_put(alloc, out, address, word)
+}
+
 /// A put for each doubleword that isn't zero, of bytes that stand at an address.
 fn write_puts(alloc: Global, out: &mut Vec<u8>, at: u32, bytes: &[u8]) -> Result<(), AllocError>
     requires { at + length bytes.now ≤ 2 ^ 24 }
@@ -159,10 +170,8 @@ fn write_puts(alloc: Global, out: &mut Vec<u8>, at: u32, bytes: &[u8]) -> Result
         ≡ out.old.items ++ text (map line (puts (length bytes.now / 8) at bytes.now))) }
 {
     for i in 0..bytes.len() / 8 {
-        let word = &bytes[8 * i..8 * i + 8];
-        if !is_zero(word) {
-            write_put(alloc, out, at + (8 * i) as u32, word)?;
-        }
+        let address = at + (8 * i) as u32;
+        write_word(alloc, out, address, &bytes[8 * i..8 * i + 8])?;
     }
     Ok(())
 }
