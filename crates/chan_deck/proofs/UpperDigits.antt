@@ -1,6 +1,6 @@
 -- Upper-case hexadecimal digits: their values, and none is a small letter or a line feed.
 use Rattle.std.proofs.Common.{◌≡◌, ℕ, zero, suc, ◌+◌, ◌*◌, ◌/◌, ◌%◌, ◌<◌, Bool, true, false, cond, ◌&&◌, List, [], ◌∷◌, length, drop, slice_index, Option, Some, None, Result, Ok, Err, refl, sym, ap, subst, ◌∙◌, arith, inl, inr}
-use Rattle.std.specs.Prelude.{◌==◌, nat_lt, is_some}
+use Rattle.std.specs.Prelude.{◌==◌, nat_lt, is_some, not}
 use Rattle.std.specs.Bool.{OnTrue, OnFalse}
 use Rattle.std.specs.List.{AllByRecursion, list_any}
 use Rattle.std.proofs.lemmas.Bool.{eqb-true, ltb-true, cases_lt, and_parts, or_parts}
@@ -40,9 +40,6 @@ encoded_pass p h z (b ∷ bytes) = (passes p upper_digits h z (b / 16), (passes 
 
 -- ---- digits and their values
 
-abbrev digit : ℕ → ℕ
-digit v = cond (nat_lt v 10) (v + 48) (v + 55)
-
 abbrev all_below : (ℕ → Bool) → ℕ → Bool
 all_below p zero = true
 all_below p (suc n) = p n && all_below p n
@@ -58,20 +55,17 @@ below p (suc n) k h lt =
           subst (λ j. p j ≡ true) e parts.0
     ]
 
-table_digit : (v : ℕ) → v < 16 → slice_index upper_digits v ≡ digit v
-table_digit v lt = eqb-true _ _ (below (λ d. slice_index upper_digits d == digit d) 16 v refl lt)
-
-value_small : (c v : ℕ) → hex_digit_value c ≡ Some v → v < 16
-value_small c v h = grind (arith)
-
-value_digit : (c v : ℕ) → c < 97 → hex_digit_value c ≡ Some v → digit v ≡ c
-value_digit c v lt h = grind (arith, nat_tests)
+-- what `hex` says of a character's value is right by the table
+abbrev fits : ℕ → Option ℕ → Bool
+fits c None = true
+fits c (Some v) = nat_lt v 16 && c == slice_index upper_digits v
 
 -- the value that `hex` gives to a character that is no small letter
 pub is_value : (c : ℕ) (o : Option ℕ) → c < 97 → hex_digit_value c ≡ o → IsValue c o
 is_value c (Some v) lt h =
-    let small = value_small c v h in
-    (small, sym (table_digit v small ∙ value_digit c v lt h))
+    let right = ap (λ o. fits c o) (sym h) ∙ below (λ d. fits d (hex_digit_value d)) 97 c refl lt in
+    let parts = and_parts (nat_lt v 16) (c == slice_index upper_digits v) right in
+    (ltb-true _ _ parts.0, eqb-true _ _ parts.1)
 is_value c None lt h = λ v small e.
     let some = below (λ d. is_hex_digit (slice_index upper_digits d)) 16 v refl small in
     absurd (cc (some, ap is_hex_digit e, ap is_some h))
@@ -94,14 +88,9 @@ encoded_one x y hx hy e =
 
 -- ---- the first digit of four bytes
 
-first_zero : (k : ℕ) → k < 16 → digit k ≡ 48 → k ≡ 0
-first_zero k lt e = grind (arith, nat_tests)
-
 zero_digit : (k : ℕ) → slice_index upper_digits k ≡ 48 → k ≡ 0
-zero_digit k e = elim (cases_lt k 16) [
-  | inl lt ↦ first_zero k lt (sym (table_digit k lt) ∙ e)
-  | inr past ↦ absurd (omega (arith, e, get_or_past upper_digits k 0 past))
-]
+zero_digit zero e = refl
+zero_digit (suc k) e = absurd (cc (passes (λ c. not (c == 48)) (drop 1 upper_digits) refl refl k, ap (λ c. c == 48) e))
 
 -- a first digit of zero tells of a first byte below sixteen
 pub leading_zero : (b : ℕ) (rest s : List ℕ) → 48 ∷ s ≡ encode_upper (b ∷ rest) → b < 16

@@ -8,5 +8,5 @@ abbrev pub invariant-loop-look : goal.invariant-loop-look
 invariant-loop-look g l = record {
   sound : l.to.failed ≡ false;
   lines : Goes_on (g.W.Write.contents l.fn.to.device) (string_bytes l.fn.piece)
-      (flat_map (seen_row l.named) (take l.look-index l.looks)) (g.W.Write.contents l.to.device) (string_bytes l.piece);
+      (flat_map (seen_row l.fn.named) (take l.look-index l.looks)) (g.W.Write.contents l.to.device) (string_bytes l.piece);
 }

@@ -9,5 +9,5 @@ invariant-loop-place g l = record {
   all : l.yielded ++ l.place-iterator ≡ l.explored;
   sound : l.to.failed ≡ false;
   lines : Goes_on (g.W.Write.contents l.fn.to.device) (string_bytes l.fn.piece)
-      (rows (storage_of l.job) l.verdict l.yielded) (g.W.Write.contents l.to.device) (string_bytes l.piece);
+      (rows (storage_of l.job) l.fn.verdict l.yielded) (g.W.Write.contents l.to.device) (string_bytes l.piece);
 }
