@@ -1,5 +1,5 @@
 -- The cause for which a line is refused is the first of the table that applies.
-use Rattle.std.proofs.Common.{◌≡◌, ℕ, suc, ◌+◌, ◌/◌, ◌%◌, ◌<◌, ◌≤◌, ◌⊎◌, Bool, true, false, cond, ltb, List, [], ◌∷◌, ◌++◌, length, map, Result, Ok, Err, Option, MatchBool, refl, sym, ap, subst, ◌∙◌, append_assoc, arith, inl, inr, lit<}
+use Rattle.std.proofs.Common.{◌≡◌, ℕ, ◌+◌, ◌/◌, ◌%◌, ◌<◌, ◌≤◌, Bool, true, false, cond, ltb, List, [], ◌∷◌, ◌++◌, length, map, Result, Err, Option, MatchBool, refl, sym, ap, subst, ◌∙◌, append_assoc, arith, inl, inr, lit<}
 use Rattle.std.specs.Prelude.{◌≢◌, ◌==◌, ◌&&◌, nat_lt, nat_le}
 use Rattle.std.specs.Result.{IfErr}
 use Rattle.std.proofs.lemmas.Result.{IfErr-at_err}
@@ -13,7 +13,7 @@ use Rattle.chan_deck.specs.Image.{Image, items, puts, is_zero, extent_of, limit_
 use Rattle.chan_deck.specs.Refused.{last_of, is_end, is_second, has_ended, may_stand, may_follow, size_said, is_size, is_limit, is_above, is_place, Found, whole_line, part, Applies, AppliesBehindEnd, IsCause, rank}
 use Rattle.chan_deck.specs.Reading.{State, Opening, Named, OnDevice, Masked, Started, Listing, Filling, Whole, step, stands, judged, on_extent, on_put, is_empty, no_form, is_whole, Refuses}
 use Rattle.chan_deck.specs.declared.heading.Heading.{Heading}
-use Rattle.chan_deck.proofs.StepLemmas.{heading, lists, said, IsState, Ends, at_front, at_header, at_device, at_mask, at_start, at_second_start, at_limit, at_extent, at_fetch, at_store, at_storage, at_put, at_end, last_of-push}
+use Rattle.chan_deck.proofs.StepLemmas.{heading, lists, said, IsState, Ends, at_front, at_store, at_storage, at_put, at_end, last_of-push}
 use Rattle.chan_deck.proofs.ItemLemmas.{says_one}
 use Rattle.chan_deck.specs.declared.version.Version.{Version}
 use Rattle.chan_deck.specs.declared.version.Version.TheVariants.{One, Two}

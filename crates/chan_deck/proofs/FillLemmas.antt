@@ -1,5 +1,5 @@
 -- Filling storage: the bytes behind the last put are zeros until a put writes there.
-use Rattle.std.proofs.Common.{◌≡◌, ℕ, ◌+◌, ◌-◌, ◌^◌, ◌<◌, ◌≤◌, Bool, true, false, cond, List, ◌++◌, length, take, drop, Result, Ok, Err, refl, sym, ap, ◌∙◌, arith, replicate, length-append, length-drop, ◌&&◌, inl}
+use Rattle.std.proofs.Common.{◌≡◌, ℕ, ◌+◌, ◌-◌, ◌^◌, ◌<◌, ◌≤◌, true, false, List, ◌++◌, length, take, drop, Ok, refl, sym, ap, ◌∙◌, arith, replicate, length-append, length-drop, ◌&&◌, inl}
 use Rattle.std.specs.Prelude.{◌==◌, nat_le, ◌%◌}
 use Rattle.std.specs.Int.{w64, to_be_bytes, from_be_bytes}
 use Rattle.std.proofs.lemmas.Bool.{false_from_ne_true, le-leb, leb-true, eqb-true, and_parts}
@@ -12,7 +12,6 @@ use Rattle.chan_deck.specs.Image.{is_zero}
 use Rattle.chan_deck.specs.Reading.{Filling, Whole, Refuses, step, pad, image_of}
 use Rattle.chan_deck.specs.declared.heading.Heading.{Heading}
 use Rattle.chan_deck.proofs.DeckRuns.{put_step, zeros_is}
-use Rattle.chan_deck.specs.declared.cause.Cause.{Cause}
 use Rattle.chan_deck.specs.declared.cause.Cause.TheVariants as causes
 
 -- ---- eight bytes as a number

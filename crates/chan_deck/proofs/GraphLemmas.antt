@@ -1,5 +1,5 @@
 -- The picture, piece by piece.
-use Rattle.std.proofs.Common.{◌≡◌, ◌∷◌, [], ◌++◌, ◌∙◌, ap, sym, List, ℕ, Some, codes, append_assoc}
+use Rattle.std.proofs.Common.{◌≡◌, ◌∷◌, [], ◌++◌, ◌∙◌, ap, List, ℕ, Some, codes, append_assoc}
 use Rattle.chan_walk.specs.Reason.{word_of}
 use Rattle.chan_walk.specs.declared.offence.Offence.{Offence}
 use Rattle.chan_walk.specs.declared.place.Place.{Place}

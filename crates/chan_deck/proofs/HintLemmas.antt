@@ -1,18 +1,17 @@
 -- What a hint says of a line: the forms behind the line before it, and the bytes that are shown.
-use Rattle.std.proofs.Common.{◌≡◌, ℕ, ◌+◌, ◌-◌, ◌<◌, ◌≤◌, Bool, true, false, cond, List, [], ◌∷◌, ◌++◌, length, take, drop, map, Option, Some, None, Bor, refl, sym, ap, subst, ◌∙◌, arith, append_assoc, length-append, take_all, zero, suc, add-zero, slice_index, Result, Ok, Err, IfOk, inl, inr}
-use Rattle.std.specs.Prelude.{nat_le, position, ◌==◌}
+use Rattle.std.proofs.Common.{◌≡◌, ℕ, ◌+◌, ◌-◌, ◌<◌, ◌≤◌, Bool, false, List, [], ◌∷◌, ◌++◌, length, take, drop, map, Option, Some, None, Bor, refl, sym, ap, subst, ◌∙◌, arith, append_assoc, length-append, take_all, suc, slice_index, Result, Ok, Err, IfOk, inl, inr}
+use Rattle.std.specs.Prelude.{position, ◌==◌}
 use Rattle.std.specs.List.{AllByRecursion, position_or_len}
 use Rattle.std.proofs.lemmas.Bool.Decides.{nat_tests}
 use Rattle.std.proofs.lemmas.Bool.{cases_Bool, le-leb, lt-leb}
 use Rattle.std.proofs.lemmas.List.{append-nil, append_cancel_left, drop_all, take-append-drop}
-use Rattle.std.proofs.Math.Seq.{drop-cons, take-append_seam}
-use Rattle.ckd_core.specs.declared.device.Device.TheVariants.{D2311, D2314}
-use Rattle.chan_deck.specs.Hint.{AreBehind, IsLastOf, IsSaidBy, all_forms, begun_as, example_of, first_word, forms_behind, forms_text, IsBehind, put_address, shown, shown_byte}
+use Rattle.std.proofs.Math.Seq.{drop-cons}
+use Rattle.ckd_core.specs.declared.device.Device.TheVariants.{D2311}
+use Rattle.chan_deck.specs.Hint.{AreBehind, IsLastOf, IsSaidBy, all_forms, begun_as, example_of, first_word, forms_behind, put_address, shown, shown_byte}
 use Rattle.chan_deck.specs.Item.{Item, header, device, mask, start, limit, extent, fetch, store, storage, put, end, line, HasForm, Says}
 use Rattle.chan_deck.specs.Refused.{AreSaid, found_behind, found_in, is_second, last_of, lines, part, split, whole_line}
 use Rattle.chan_deck.specs.declared.keyword.Form.{Form}
 use Rattle.chan_deck.specs.declared.keyword.Form.TheVariants as forms
-use Rattle.chan_deck.specs.declared.hint.Spot.{Spot}
 use Rattle.chan_deck.specs.declared.version.VersionNumber.{VersionNumber}
 use Rattle.chan_deck.specs.declared.version.VersionNumber.TheVariants as numbers
 use Rattle.chan_deck.proofs.ItemLemmas.{says_one}

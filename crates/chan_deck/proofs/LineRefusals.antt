@@ -1,5 +1,5 @@
 -- A line that has none of the forms that may stand is refused for that.
-use Rattle.std.proofs.Common.{◌≡◌, ℕ, Bool, true, false, cond, List, [], ◌∷◌, length, Ok, Err, refl, ap, ◌∙◌, arith, inl, inr, ◌<◌}
+use Rattle.std.proofs.Common.{◌≡◌, ℕ, true, false, cond, List, [], ◌∷◌, length, Ok, Err, refl, ap, ◌∙◌, arith, inl, inr, ◌<◌}
 use Rattle.chan_deck.specs.Refused.{is_size, is_limit}
 use Rattle.ccw_core.specs.declared.areas.Area.{Area}
 use Rattle.ckd_core.specs.declared.device.Device.{Device}

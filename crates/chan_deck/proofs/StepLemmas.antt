@@ -1,6 +1,6 @@
 -- What has been said where reading stands, and that a step says one line more.
-use Rattle.std.proofs.Common.{◌≡◌, ℕ, zero, suc, ◌+◌, ◌-◌, ◌/◌, ◌%◌, ◌^◌, ◌<◌, ◌≤◌, Bool, true, false, cond, ltb, List, [], ◌∷◌, ◌++◌, length, map, Result, Ok, Option, Some, None, refl, sym, ap, subst, ◌∙◌, append_assoc, arith, replicate, length-append, lit<, ◌&&◌}
-use Rattle.std.specs.Prelude.{◌==◌, nat_le, not}
+use Rattle.std.proofs.Common.{◌≡◌, ℕ, zero, suc, ◌+◌, ◌-◌, ◌/◌, ◌%◌, ◌^◌, ◌<◌, ◌≤◌, true, false, ltb, List, [], ◌∷◌, ◌++◌, length, map, Result, Ok, Option, Some, None, refl, sym, ap, subst, ◌∙◌, append_assoc, arith, replicate, length-append, lit<, ◌&&◌}
+use Rattle.std.specs.Prelude.{◌==◌, nat_le}
 use Rattle.std.proofs.lemmas.Bool.Decides.{nat_tests}
 use Rattle.std.proofs.lemmas.Bool.{ltb-false, leb-true, eqb-true, and_parts, cond_both}
 use Rattle.std.proofs.lemmas.Result.{IfOk-at_ok}
@@ -9,7 +9,6 @@ use Rattle.chan_deck.proofs.PutLemmas.{length_pad, puts-padded, puts-put}
 use Rattle.std.proofs.lemmas.List.{map-append, append-nil}
 use Rattle.std.specs.List.{AllByRecursion}
 use Rattle.chan_walk.proofs.Theory.Lists.{all_append}
-use Rattle.chan_deck.proofs.Results.{same_ok}
 use Rattle.ccw_core.specs.declared.areas.Area.{Area}
 use Rattle.ckd_core.specs.declared.device.Device.{Device}
 use Rattle.ckd_core.specs.Cylinders.{IsExtent}
@@ -24,7 +23,6 @@ use Rattle.chan_deck.specs.declared.version.Version.TheVariants.{One, Two}
 use Rattle.chan_deck.specs.declared.version.VersionNumber.{VersionNumber}
 use Rattle.chan_deck.specs.declared.version.VersionNumber.TheVariants as numbers
 use Rattle.chan_deck.specs.declared.cause.Cause.{Cause}
-use Rattle.chan_deck.specs.declared.cause.Cause.TheVariants as causes
 
 -- ---- what has been said
 

@@ -1,15 +1,11 @@
 -- Upper-case hexadecimal digits: their values, and none is a small letter or a line feed.
-use Rattle.std.proofs.Common.{◌≡◌, ℕ, zero, suc, ◌+◌, ◌*◌, ◌/◌, ◌%◌, ◌<◌, Bool, true, false, cond, ◌&&◌, List, [], ◌∷◌, length, drop, slice_index, Option, Some, None, Result, Ok, Err, refl, sym, ap, subst, ◌∙◌, arith, inl, inr}
+use Rattle.std.proofs.Common.{◌≡◌, ℕ, zero, suc, ◌*◌, ◌/◌, ◌%◌, ◌<◌, Bool, true, ◌&&◌, List, [], ◌∷◌, length, drop, slice_index, Option, Some, None, refl, sym, ap, subst, ◌∙◌, arith, inl, inr}
 use Rattle.std.specs.Prelude.{◌==◌, nat_lt, is_some, not}
-use Rattle.std.specs.Bool.{OnTrue, OnFalse}
-use Rattle.std.specs.List.{AllByRecursion, list_any}
-use Rattle.std.proofs.lemmas.Bool.{eqb-true, ltb-true, cases_lt, and_parts, or_parts}
-use Rattle.std.proofs.lemmas.Bool.Decides.{nat_tests}
-use Rattle.std.proofs.lemmas.List.{get_or_past}
+use Rattle.std.specs.List.{AllByRecursion}
+use Rattle.std.proofs.lemmas.Bool.{eqb-true, ltb-true, cases_lt, and_parts}
 use Rattle.chan_deck.proofs.Results.{same_ok}
-use Rattle.hex.specs.Hex.{IsBytes, decode_of, decode_pairs, decode_sized, hex_digit_value, is_hex_digit, encode_upper, encode_with, pair_value, upper_digits, value_at, ◌>>=◌}
-use Rattle.hex.specs.declared.error.FromHexError.{FromHexError}
-use Rattle.hex.proofs.HexLemmas.{length-encode_with, decode_of-encode_upper, decode_of-even, decode_sized-ok, decode_sized-twice}
+use Rattle.hex.specs.Hex.{IsBytes, decode_of, hex_digit_value, is_hex_digit, encode_upper, encode_with, upper_digits}
+use Rattle.hex.proofs.HexLemmas.{length-encode_with, decode_of-encode_upper}
 use Rattle.chan_deck.specs.Digits.{IsValue}
 use Rattle.chan_deck.specs.Item.{IsByte}
 

@@ -2,9 +2,8 @@
 use Rattle.std.proofs.Common.{◌≡◌, ℕ, zero, suc, replicate, ◌%◌, length-append, ◌+◌, ◌-◌, ◌*◌, ◌/◌, ◌<◌, ◌≤◌, Bool, true, false, cond, List, [], ◌∷◌, ◌++◌, length, take, drop, map, get_or, refl, sym, ap, ◌∙◌, append_assoc, arith}
 use Rattle.std.specs.List.{flat_map}
 use Rattle.std.proofs.lemmas.List.{take_more, drop-drop, map-append, append-nil, length-replicate}
-use Rattle.std.specs.Prelude.{codes}
 use Rattle.ccw_core.specs.declared.areas.Area.{Area}
-use Rattle.chan_deck.specs.Item.{Item, header, device, mask, start, fetch, store, storage, put, end, line, text, area_digits}
+use Rattle.chan_deck.specs.Item.{Item, header, device, mask, start, fetch, store, storage, put, end, line, text}
 use Rattle.chan_deck.specs.Image.{Image, extent_of, is_zero, puts, spelling, header_of, limit_line}
 use Rattle.chan_deck.proofs.FrontLemmas.{text-append}
 

@@ -1,6 +1,6 @@
 -- The picture of a program in Graphviz's language: a node for each place that it can come to, a
 -- mark for each offence, and an edge to each place where it goes on.
-use Rattle.std.specs.Prelude.{◌≡◌, ℕ, Bool, true, false, List, [], ◌∷◌, ◌++◌, codes, Option, None}
+use Rattle.std.specs.Prelude.{ℕ, Bool, true, false, List, [], ◌∷◌, ◌++◌, codes, Option, None}
 use Rattle.std.specs.Prelude.{Some, if◌then◌else◌}
 use Rattle.std.specs.List.{flat_map}
 use Rattle.ccw_core.specs.Ccw.{Fields, is_transfer}

@@ -2,7 +2,7 @@
 -- in its place or which condition it has to meet.
 use Rattle.std.specs.Prelude.{ℕ, ◌-◌, ◌%◌, ◌≡◌, ◌≢◌, ◌==◌, ◌&&◌, nat_le}
 use Rattle.std.specs.Prelude.{nat_lt, List, [], ◌∷◌, ◌++◌, length, take}
-use Rattle.std.specs.Prelude.{map, codes, if◌then◌else◌, Bool, true, false, Option, Some, None}
+use Rattle.std.specs.Prelude.{codes, if◌then◌else◌, Bool, true, false, Option, Some, None}
 use Rattle.std.specs.List.{filter, find, flat_map}
 use Rattle.std.specs.Borrow.{Bor}
 use Rattle.std.specs.Str.{bytes_eq}

@@ -1,4 +1,4 @@
-use Rattle.std.proofs.Common.{◌≡◌, ◌++◌, ◌≤◌, drop, length}
+use Rattle.std.proofs.Common.{◌≡◌, ◌++◌, drop}
 use Rattle.chan_deck.specs.Hint.{shown}
 use Rattle.chan_deck.proofs.hint.push_shown.Given as goal
 

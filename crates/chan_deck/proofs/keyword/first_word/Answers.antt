@@ -1,4 +1,3 @@
-use Rattle.std.proofs.Common.{sym, ap, ◌∙◌}
 use Rattle.chan_deck.proofs.HintLemmas.{whole_word, word_before}
 use Rattle.chan_deck.proofs.keyword.first_word.Goals as goal
 

@@ -1,4 +1,4 @@
-use Rattle.std.proofs.Common.{sym, ◌∙◌}
+use Rattle.std.proofs.Common.{◌∙◌}
 use Rattle.chan_deck.proofs.HintLemmas.{behind_begun, not_begun}
 use Rattle.chan_deck.proofs.keyword.forms_behind.Goals as goal
 

@@ -1,7 +1,6 @@
-use Rattle.std.proofs.Common.{◌∷◌, [], ◌∙◌, ◌++◌, ap, sym, subst, append_assoc, append-nil, rules, string_bytes}
+use Rattle.std.proofs.Common.{◌∷◌, [], ◌∙◌, ◌++◌, ap, sym, append_assoc, append-nil, rules}
 use Rattle.chan_walk.specs.Job.{storage_of}
-use Rattle.chan_deck.specs.Listing.{row_of, rows}
-use Rattle.chan_deck.specs.Pieces.{Breaks_off}
+use Rattle.chan_deck.specs.Listing.{row_of}
 use Rattle.chan_deck.proofs.Pieces.{line_added, line_begun, lines_begun}
 use Rattle.chan_deck.proofs.listing.write_places.Goals as goal
 
