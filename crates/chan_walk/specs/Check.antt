@@ -20,16 +20,16 @@ first_reason [] = None
 first_reason (t ∷ ts) = if t.0 then Some t.1 else first_reason ts
 
 -- what is looked at in every CCW c at a place of n bytes of storage
-abbrev pub table_of_any : ℕ → Place → Fields → List (Bool × Reason)
-table_of_any n p c =
+abbrev pub table_of_every_ccw : ℕ → Place → Fields → List (Bool × Reason)
+table_of_every_ccw n p c =
     (not (is_aligned p.address), Misaligned) ∷
     (not (is_inside n p.address), OutsideStorage) ∷
     (is_transfer c && p.after_transfer, TransferNotAllowed) ∷ []
 
 -- what is looked at besides in a CCW that is no transfer; under data chaining its command code
 -- doesn't count
-abbrev pub table_of_word : ℕ → Place → Fields → List (Bool × Reason)
-table_of_word n p c =
+abbrev pub table_of_non_transfer : ℕ → Place → Fields → List (Bool × Reason)
+table_of_non_transfer n p c =
     (is_fresh p.entered && is_invalid c, InvalidCode) ∷
     (not (is_formed c), BadFormat) ∷
     (not (is_counted c), ZeroCount) ∷
@@ -38,8 +38,8 @@ table_of_word n p c =
 -- the program check of the CCW c at a place of n bytes of storage
 unfoldable pub check_of : ℕ → Place → Fields → Option Reason
 check_of n p c =
-    option_or (first_reason (table_of_any n p c))
-    (if is_transfer c then None else first_reason (table_of_word n p c))
+    option_or (first_reason (table_of_every_ccw n p c))
+    (if is_transfer c then None else first_reason (table_of_non_transfer n p c))
 
 -- the program check of a place, in storage as it is at that moment
 abbrev pub check : List ℕ → Place → Option Reason

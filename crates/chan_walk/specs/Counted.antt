@@ -14,7 +14,7 @@ use Rattle.chan_walk.specs.Fault.{begins_seek}
 use Rattle.chan_walk.specs.Guarded.{IsCcwByte, IsSeekByte, IsMaskByte, IsGuarded}
 use Rattle.chan_walk.specs.Headline.{EachMomentOfYes}
 use Rattle.chan_walk.specs.Job.{storage_of}
-use Rattle.chan_walk.specs.Place.{word_at}
+use Rattle.chan_walk.specs.Place.{ccw_of}
 use Rattle.chan_walk.specs.Reachable.{IsReachable}
 use Rattle.chan_walk.specs.Verdict.{IsVerdict}
 
@@ -28,7 +28,7 @@ pub data IsChained (s : List ℕ) (a : ℕ) : ℕ → Type 0 where
 pub record IsChainByte (j : Job) (b : ℕ) : Type 0 where
   pub seek : Place
   pub reached : IsReachable j seek
-  pub seeks : begins_seek seek (word_at j seek) ≡ true
+  pub seeks : begins_seek seek (ccw_of j seek) ≡ true
   pub at : ℕ
   pub chained : IsChained (storage_of j) seek.address at
   pub stands : Stands (storage_of j) at

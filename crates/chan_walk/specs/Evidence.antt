@@ -24,7 +24,7 @@ use Rattle.chan_walk.specs.Job.{extents_of, fetch_of, heads, storage_of, store_o
 use Rattle.chan_walk.specs.Machine.{home}
 use Rattle.chan_walk.specs.Offences.{Offending}
 use Rattle.chan_walk.specs.Paths.{ArePathWhere, IsPathWhere}
-use Rattle.chan_walk.specs.Place.{word_at}
+use Rattle.chan_walk.specs.Place.{ccw_of}
 use Rattle.chan_walk.specs.Ranges.{end_of}
 use Rattle.chan_walk.specs.Reachable.{IsReachable}
 
@@ -36,7 +36,7 @@ data_of c = record { start = c.address; len = c.count }
 
 -- that of the CCW at a place
 abbrev pub data_at : Job → Place → Area
-data_at j p = data_of (word_at j p)
+data_at j p = data_of (ccw_of j p)
 
 -- the first bytes in a row of some data that lie in no area
 pub record IsFirstGap (areas : List Area) (range gap : Area) : Type 0 where
@@ -59,14 +59,14 @@ bin_of x = slice_index x 0 * 256 + slice_index x 1
 -- where the seek or the Recalibrate that begins at p goes
 abbrev pub SeeksTo : Job → Place → List ℕ → Type 0
 SeeksTo j p x =
-    ((begins_seek p (word_at j p) ≡ true) × HasArgument (storage_of j) p.address (Some x))
-    ⊎ ((begins_recalibrate p (word_at j p) ≡ true) × (x ≡ home))
+    ((begins_seek p (ccw_of j p) ≡ true) × HasArgument (storage_of j) p.address (Some x))
+    ⊎ ((begins_recalibrate p (ccw_of j p) ≡ true) × (x ≡ home))
 
 -- what is wrong with the seek or the Recalibrate that begins at p: no argument, or one that the job
 -- doesn't allow
 abbrev pub FailsToSeek : Job → Place → Reason → Type 0
 FailsToSeek j p reasons.ShortSeek =
-    (begins_seek p (word_at j p) ≡ true) × HasArgument (storage_of j) p.address None
+    (begins_seek p (ccw_of j p) ≡ true) × HasArgument (storage_of j) p.address None
 FailsToSeek j p reasons.SeekOutside = (x : List ℕ) × SeeksTo j p x × (allows j x ≡ false)
 FailsToSeek j p _ = ⊥
 
@@ -112,7 +112,7 @@ IsPathToTaker j b taker before = IsPathWhere j (λ q. IsArgumentByteOf j q b) ta
 abbrev pub IsTakenAt : Job → ℕ → ℕ → Bool → Type 0
 IsTakenAt j b a sets =
     (taker : Place) × (before : List Place) × IsPathToTaker j b taker before
-    × (taker.address ≡ a) × (begins_set_mask taker (word_at j taker) ≡ sets)
+    × (taker.address ≡ a) × (begins_set_mask taker (ccw_of j taker) ≡ sets)
 
 -- ---- the evidence
 
@@ -141,12 +141,12 @@ IsCause j p (because.Misaligned a) = a ≡ p.address
 IsCause j p (because.OutsideStorage ccw n) =
     (ccw ≡ record { start = p.address; len = 8 }) × (n ≡ length (storage_of j))
 IsCause j p because.TransferNotAllowed = Unit {0}
-IsCause j p (because.InvalidCode code) = code ≡ (word_at j p).command
-IsCause j p (because.BadFormat bits) = bits ≡ (word_at j p).flags % 8
+IsCause j p (because.InvalidCode code) = code ≡ (ccw_of j p).command
+IsCause j p (because.BadFormat bits) = bits ≡ (ccw_of j p).flags % 8
 IsCause j p because.ZeroCount = Unit {0}
 IsCause j p (because.DataOutside range n) = (range ≡ data_at j p) × (n ≡ length (storage_of j))
-IsCause j p (because.NotInTable code) = code ≡ (word_at j p).command
-IsCause j p (because.Inhibited mask code) = (mask ≡ j.mask) × (code ≡ (word_at j p).command)
+IsCause j p (because.NotInTable code) = code ≡ (ccw_of j p).command
+IsCause j p (because.Inhibited mask code) = (mask ≡ j.mask) × (code ≡ (ccw_of j p).command)
 IsCause j p (because.StoreNotLent range gap) =
     (range ≡ data_at j p) × IsFirstGap (store_of j) range gap
 IsCause j p (because.FetchNotLent range gap) =
@@ -158,7 +158,7 @@ IsCause j p (because.ChangesCcw range ccw) =
 IsCause j p (because.ChangesArgument range b taker sets) =
     (range ≡ data_at j p) × IsLeastOf (IsArgumentIn j range) b × IsTakenAt j b taker sets
 IsCause j p (because.WeakensMask b mask) =
-    (b ≡ byte (storage_of j) (word_at j p).address) × (mask ≡ j.mask)
+    (b ≡ byte (storage_of j) (ccw_of j p).address) × (mask ≡ j.mask)
 
 -- it is the evidence for this offence
 abbrev pub IsEvidence : Job → Offence → Evidence → Type 0

@@ -21,7 +21,7 @@ use Rattle.chan_walk.specs.declared.reason.Reason.TheVariants.{WeakensMask}
 use Rattle.chan_walk.specs.Argument.{HasArgument}
 use Rattle.chan_walk.specs.Check.{first_reason, check}
 use Rattle.chan_walk.specs.Job.{storage_of, extents_of, fetch_of, store_of, heads}
-use Rattle.chan_walk.specs.Place.{is_fresh, word_at}
+use Rattle.chan_walk.specs.Place.{is_fresh, ccw_of}
 
 -- the kind of a command that was looked up; a code of no command moves nothing
 abbrev pub kind_of_command : Option Command → Kind
@@ -119,7 +119,7 @@ table_of_own j p c x =
 abbrev pub fault_with : Job → Place → Option (List ℕ) → Option Reason
 fault_with j p x =
     option_or (check (storage_of j) p)
-    (if is_transfer (word_at j p) then None else first_reason (table_of_own j p (word_at j p) x))
+    (if is_transfer (ccw_of j p) then None else first_reason (table_of_own j p (ccw_of j p) x))
 
 -- the own fault of a place, or that it has none
 abbrev pub HasFault : Job → Place → Option Reason → Type 0

@@ -6,7 +6,7 @@ use Rattle.chan_walk.specs.declared.place.Place.{Place}
 use Rattle.chan_walk.specs.Argument.{Has, IsChain, argument_addresses}
 use Rattle.chan_walk.specs.Fault.{begins_seek, begins_set_mask, IsClear}
 use Rattle.chan_walk.specs.Job.{storage_of}
-use Rattle.chan_walk.specs.Place.{word_at}
+use Rattle.chan_walk.specs.Place.{ccw_of}
 use Rattle.chan_walk.specs.Reachable.{IsReachable}
 
 -- the byte at b belongs to a reachable CCW
@@ -19,15 +19,15 @@ pub record IsCcwByte (j : Job) (b : ℕ) : Type 0 where
 
 -- a seek begins at p, and the byte at b is one of the six of its argument
 pub record IsSeekByte (j : Job) (p : Place) (b : ℕ) : Type 0 where
-  pub seeks : begins_seek p (word_at j p) ≡ true
+  pub seeks : begins_seek p (ccw_of j p) ≡ true
   pub chain : List ℕ
   pub is_chain : IsChain (storage_of j) 6 p.address chain
   pub has : Has (argument_addresses (storage_of j) chain) b
 
 -- Set File Mask begins at p, and the byte at b is the one that it sets
 pub record IsMaskByte (j : Job) (p : Place) (b : ℕ) : Type 0 where
-  pub sets : begins_set_mask p (word_at j p) ≡ true
-  pub at : (word_at j p).address ≡ b
+  pub sets : begins_set_mask p (ccw_of j p) ≡ true
+  pub at : (ccw_of j p).address ≡ b
 
 -- the byte at b is an argument of a reachable place that has no own fault: a seek's, or the one of
 -- Set File Mask

@@ -16,7 +16,7 @@ use Rattle.chan_walk.specs.Guarded.{IsGuarded}
 use Rattle.chan_walk.specs.Job.{storage_of, extents_of, fetch_of, store_of, HasMask}
 use Rattle.chan_walk.specs.Machine.{Stage, At, Ended, Checked, Event, Command, Store, Fetch, Gather}
 use Rattle.chan_walk.specs.Machine.{Seek, SetMask}
-use Rattle.chan_walk.specs.Place.{word_at}
+use Rattle.chan_walk.specs.Place.{ccw_of}
 use Rattle.chan_walk.specs.Reachable.{IsReachable}
 use Rattle.chan_walk.specs.Runs.{Moment, IsRun, Uses}
 use Rattle.chan_walk.specs.Verdict.{IsVerdict}
@@ -109,7 +109,7 @@ pub record IsGathered (s l : List ℕ) (p : Place) (x : List ℕ) : Type 0 where
 pub record IsPartOfSeek (j : Job) (p : Place) (x : List ℕ) : Type 0 where
   pub seek : Place
   pub reached : IsReachable j seek
-  pub seeks : begins_seek seek (word_at j seek) ≡ true
+  pub seeks : begins_seek seek (ccw_of j seek) ≡ true
   pub chain : List ℕ
   pub is_chain : IsChain (storage_of j) 6 seek.address chain
   pub gathered : IsGathered (storage_of j) chain p x

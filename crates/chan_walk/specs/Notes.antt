@@ -18,7 +18,7 @@ use Rattle.chan_walk.specs.Evidence.{data_at, data_of}
 use Rattle.chan_walk.specs.Fault.{fetches, kind_of, stores}
 use Rattle.chan_walk.specs.Job.{storage_of}
 use Rattle.chan_walk.specs.Look.{Seen}
-use Rattle.chan_walk.specs.Place.{is_fresh, word_at}
+use Rattle.chan_walk.specs.Place.{is_fresh, ccw_of}
 use Rattle.chan_walk.specs.Ranges.{end_of}
 use Rattle.chan_walk.specs.Reachable.{IsReachable}
 use Rattle.chan_walk.specs.Successors.{next_of, skip_of}
@@ -31,7 +31,7 @@ reaches_past_storage j a = nat_lt (length (storage_of j)) (end_of a)
 
 -- a CCW stands at p and, entered as p is, passes the test, whether or not p has an own fault
 abbrev pub Passes : (Place → Fields → Bool) → Job → Place → Type 0
-Passes test j p = Stands (storage_of j) p.address × (test p (word_at j p) ≡ true)
+Passes test j p = Stands (storage_of j) p.address × (test p (ccw_of j p) ≡ true)
 
 -- the byte at b is in the data range of a reachable CCW that passes the test
 pub record IsDataOf (test : Place → Fields → Bool) (j : Job) (b : ℕ) : Type 0 where

@@ -5,19 +5,19 @@ use Rattle.ccw_core.specs.Ccw.{Fields, is_transfer}
 use Rattle.chan_walk.specs.declared.job.Job.{Job}
 use Rattle.chan_walk.specs.declared.place.Place.{Place}
 use Rattle.chan_walk.specs.declared.reason.Reason.{Reason}
-use Rattle.chan_walk.specs.Check.{first_reason, table_of_any, table_of_word}
+use Rattle.chan_walk.specs.Check.{first_reason, table_of_every_ccw, table_of_non_transfer}
 use Rattle.chan_walk.specs.Fault.{table_of_own, fault_with}
 use Rattle.chan_walk.specs.Job.{storage_of}
-use Rattle.chan_walk.specs.Place.{word_at}
+use Rattle.chan_walk.specs.Place.{ccw_of}
 use Rattle.chan_walk.specs.Reason.{number_of}
 
 -- the whole table of own faults: all that is looked at in the CCW c at a place, where x is the
 -- argument of a seek there
 abbrev pub table_of_faults : Job → Place → Fields → Option (List ℕ) → List (Bool × Reason)
 table_of_faults j p c x =
-    table_of_any (length (storage_of j)) p c
+    table_of_every_ccw (length (storage_of j)) p c
     ++ (if is_transfer c then []
-    else table_of_word (length (storage_of j)) p c ++ table_of_own j p c x)
+    else table_of_non_transfer (length (storage_of j)) p c ++ table_of_own j p c x)
 
 -- the numbers of a table's reasons, in order
 abbrev pub numbers_of : List (Bool × Reason) → List ℕ
@@ -27,5 +27,5 @@ numbers_of ts = map (λ t. number_of t.1) ts
 -- it is the least that applies
 abbrev pub NumbersIncrease : Type 0
 NumbersIncrease = (j : Job) (p : Place) (x : Option (List ℕ)) →
-    (fault_with j p x ≡ first_reason (table_of_faults j p (word_at j p) x))
-    × IsStrictlyIncreasing (numbers_of (table_of_faults j p (word_at j p) x))
+    (fault_with j p x ≡ first_reason (table_of_faults j p (ccw_of j p) x))
+    × IsStrictlyIncreasing (numbers_of (table_of_faults j p (ccw_of j p) x))

@@ -4,17 +4,17 @@ use Rattle.std.specs.Prelude.{◌≡◌, ◌<◌, List, [], ◌∷◌, length, r
 use Rattle.chan_walk.specs.declared.job.Job.{Job}
 use Rattle.chan_walk.specs.declared.place.Place.{Place}
 use Rattle.chan_walk.specs.Fault.{kind_of}
-use Rattle.chan_walk.specs.Place.{word_at}
+use Rattle.chan_walk.specs.Place.{ccw_of}
 use Rattle.chan_walk.specs.Reachable.{IsPath, IsReachable}
 use Rattle.chan_walk.specs.Successors.{next_of, skip_of}
 
 -- q is the next place after p
 abbrev pub IsNext : Job → Place → Place → Type 0
-IsNext j p q = next_of p (word_at j p) (kind_of p.entered (word_at j p)) ≡ Some q
+IsNext j p q = next_of p (ccw_of j p) (kind_of p.entered (ccw_of j p)) ≡ Some q
 
 -- q is the place skipped to after p
 abbrev pub IsSkip : Job → Place → Place → Type 0
-IsSkip j p q = skip_of p (word_at j p) (kind_of p.entered (word_at j p)) ≡ Some q
+IsSkip j p q = skip_of p (ccw_of j p) (kind_of p.entered (ccw_of j p)) ≡ Some q
 
 -- of two lists of places, the newest first: at the first place where they part, the one goes on to
 -- next and the other to skip

@@ -30,5 +30,5 @@ abbrev pub first_place : Job → Place
 first_place j = transferred_to j.start Fresh
 
 -- the CCW at a place, in the initial storage
-abbrev pub word_at : Job → Place → Fields
-word_at j p = ccw (storage_of j) p.address
+abbrev pub ccw_of : Job → Place → Fields
+ccw_of j p = ccw (storage_of j) p.address

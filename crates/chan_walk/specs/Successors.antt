@@ -12,7 +12,7 @@ use Rattle.chan_walk.specs.declared.place.Place.{Place}
 use Rattle.chan_walk.specs.declared.reason.Reason.{Reason}
 use Rattle.chan_walk.specs.declared.successor.Next.{Next}
 use Rattle.chan_walk.specs.Fault.{HasFault, IsClear, kind_of}
-use Rattle.chan_walk.specs.Place.{straight_to, transferred_to, word_at}
+use Rattle.chan_walk.specs.Place.{straight_to, transferred_to, ccw_of}
 
 -- how data chaining enters the next CCW; an operation that moves no data never goes on by it
 abbrev pub chained : Kind → Option Entry
@@ -47,12 +47,12 @@ skip_of p c k =
 -- q is the next place after p, or the one skipped to
 abbrev pub Successor : Job → Place → Place → Type 0
 Successor j p q =
-    (next_of p (word_at j p) (kind_of p.entered (word_at j p)) ≡ Some q)
-    ⊎ (skip_of p (word_at j p) (kind_of p.entered (word_at j p)) ≡ Some q)
+    (next_of p (ccw_of j p) (kind_of p.entered (ccw_of j p)) ≡ Some q)
+    ⊎ (skip_of p (ccw_of j p) (kind_of p.entered (ccw_of j p)) ≡ Some q)
 
 -- the successors of p as an answer: the two of its CCW where p has no own fault, and none where it
 -- has one
 pub record AreSuccessors (j : Job) (p : Place) (n : Next) : Type 0 where
-  pub next : IsClear j p → n.next ≡ next_of p (word_at j p) (kind_of p.entered (word_at j p))
-  pub skip : IsClear j p → n.skip ≡ skip_of p (word_at j p) (kind_of p.entered (word_at j p))
+  pub next : IsClear j p → n.next ≡ next_of p (ccw_of j p) (kind_of p.entered (ccw_of j p))
+  pub skip : IsClear j p → n.skip ≡ skip_of p (ccw_of j p) (kind_of p.entered (ccw_of j p))
   pub faulty : (r : Reason) → HasFault j p (Some r) → (n.next ≡ None) × (n.skip ≡ None)

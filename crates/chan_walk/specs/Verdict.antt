@@ -8,7 +8,7 @@ use Rattle.chan_walk.specs.declared.verdict.Verdict.{Verdict}
 use Rattle.chan_walk.specs.declared.verdict.Verdict.TheVariants.{Yes, No}
 use Rattle.chan_walk.specs.Fault.{stores, HasFault, IsClear}
 use Rattle.chan_walk.specs.Guarded.{IsCcwByte, IsArgumentByte}
-use Rattle.chan_walk.specs.Place.{word_at}
+use Rattle.chan_walk.specs.Place.{ccw_of}
 use Rattle.chan_walk.specs.Reachable.{IsReachable}
 use Rattle.chan_walk.specs.Reason.{number_of}
 
@@ -18,10 +18,10 @@ AreClear j = (p : Place) → IsReachable j p → IsClear j p
 
 -- p stores, and its range has a byte for which P holds
 pub record StoresOver (j : Job) (p : Place) (P : ℕ → Type 0) : Type 0 where
-  pub stores : stores p (word_at j p) ≡ true
+  pub stores : stores p (ccw_of j p) ≡ true
   pub at : ℕ
-  pub from : (word_at j p).address ≤ at
-  pub below : at < (word_at j p).address + (word_at j p).count
+  pub from : (ccw_of j p).address ≤ at
+  pub below : at < (ccw_of j p).address + (ccw_of j p).count
   pub holds : P at
 
 -- p stores over a guarded byte, by this reason

@@ -9,7 +9,7 @@ ghost use Rattle.chan_walk.specs.Evidence.{IsLeastOrNone, IsSecondPath, IsTakenA
 ghost use Rattle.chan_walk.specs.Fault.{IsClear, begins_set_mask};
 ghost use Rattle.chan_walk.specs.Guard.{IsArgumentByteOf};
 ghost use Rattle.chan_walk.specs.Look.{AreLooks, IsLook, places_of_looks};
-ghost use Rattle.chan_walk.specs.Place.{word_at};
+ghost use Rattle.chan_walk.specs.Place.{ccw_of};
 ghost use Rattle.chan_walk.specs.Verdict.{AreClear};
 ghost use Rattle.chan_walk.specs.Walk.{HasFound, IsFirstWhere};
 ghost use Rattle.chan_walk.specs.declared.evidence.Evidence.TheVariants as because;
@@ -112,7 +112,7 @@ fn first_at(looks: &[Look], address: u32) -> Option<usize>
 /// Whether Set File Mask begins at a place that has no own fault.
 fn sets_mask(look: &Look) -> bool
     ensures { (j : Job) → IsLook j look.now → IsClear j look.now.place → result
-        ≡ begins_set_mask look.now.place (word_at j look.now.place) }
+        ≡ begins_set_mask look.now.place (ccw_of j look.now.place) }
 {
     match look.ccw() {
         Some(ccw) => sets_mask_at(look.place(), ccw),

@@ -2,7 +2,7 @@
 
 ghost use Rattle.std.specs.Prelude.{◌≡◌, ◌<◌, ◌^◌, ℕ, Some, None, true, false, option_map};
 ghost use Rattle.ccw_core.specs.Held.{bytes_held};
-ghost use Rattle.ccw_core.specs.Storage.{ccw_at as word_at};
+ghost use Rattle.ccw_core.specs.Storage.{ccw_at as stored_ccw};
 ghost use Rattle.ckd_core.specs.Entries.{entry_of};
 ghost use Rattle.chan_walk.specs.Fault.{begins_seek};
 ghost use Rattle.chan_walk.specs.Job.{storage_of};
@@ -17,7 +17,7 @@ use crate::lent::Lending;
 use crate::place::Place;
 use crate::reason::Reason;
 use crate::seek::{argument_addresses, bytes_at};
-use crate::successor::{Next, go_on};
+use crate::successor::{Next, next_after};
 use crate::visit::Visit;
 use ccw_core::{Ccw, Storage};
 use ckd_core::Command;
@@ -133,7 +133,7 @@ impl Look {
 /// What is seen of a place where no CCW stands.
 fn look_at_nothing(place: Place) -> Look
     ensures place { result.place ≡ place }
-    ensures look { (j : Job) → word_at (storage_of j) place.address ≡ None → IsLook j result }
+    ensures look { (j : Job) → stored_ccw (storage_of j) place.address ≡ None → IsLook j result }
 {
     Look {
         place,
@@ -176,7 +176,7 @@ fn mask_argument(visit: &Visit) -> Argument
 
 /// What is seen of a place where a CCW stands.
 fn look_at_word(job: &Job, lending: Lending, place: Place, word: Ccw) -> Look
-    requires stands { word_at (storage_of job.now) place.address ≡ Some word }
+    requires stands { stored_ccw (storage_of job.now) place.address ≡ Some word }
     requires lends { Lends job.now lending }
     ensures place { result.place ≡ place }
     ensures look { IsLook job.now result }
@@ -186,8 +186,8 @@ fn look_at_word(job: &Job, lending: Lending, place: Place, word: Ccw) -> Look
     let bytes = bytes_at(&job.storage, addresses);
     let fault = own_fault(job, lending, &visit, bytes);
     let (argument, next) = match (fault, addresses) {
-        (None, Some(addresses)) => (Argument::Seek(addresses), go_on(&visit)),
-        (None, None) => (mask_argument(&visit), go_on(&visit)),
+        (None, Some(addresses)) => (Argument::Seek(addresses), next_after(&visit)),
+        (None, None) => (mask_argument(&visit), next_after(&visit)),
         (Some(_), _) => (Argument::Absent, Next::nowhere()),
     };
     Look {

@@ -5,7 +5,7 @@ ghost use Rattle.std.specs.Prelude.{length, slice_index, IfSome, IfNone, IfOk, I
 ghost use Rattle.ccw_core.specs.Ccw.{byte, ccw, is_transfer, is_formed as formed};
 ghost use Rattle.ccw_core.specs.Ccw.{is_counted as counted, has_data_in as data_in};
 ghost use Rattle.ccw_core.specs.Held.{bytes_held};
-ghost use Rattle.ccw_core.specs.Storage.{ccw_at as word_at};
+ghost use Rattle.ccw_core.specs.Storage.{ccw_at as stored_ccw};
 ghost use Rattle.chan_walk.specs.Argument.{HasArgument};
 ghost use Rattle.chan_walk.specs.Evidence.{Gives};
 ghost use Rattle.chan_walk.specs.Onward as onward;
@@ -38,9 +38,9 @@ fn onward(storage: &Storage, address: u32) -> Option<Link>
     ensures found { IfSome result
         (λ link. link.address ≡ onward.onward (bytes_held storage.now) address) }
     ensures stands { IfSome result
-        (λ link. word_at (bytes_held storage.now) link.address ≡ Some link.ccw) }
+        (λ link. stored_ccw (bytes_held storage.now) link.address ≡ Some link.ccw) }
     ensures none { IfNone result
-        (word_at (bytes_held storage.now) (onward.onward (bytes_held storage.now) address) ≡ None) }
+        (stored_ccw (bytes_held storage.now) (onward.onward (bytes_held storage.now) address) ≡ None) }
 {
     let next = address + 8;
     let ccw = storage.ccw_at(next)?;
@@ -71,7 +71,7 @@ fn note(addresses: &mut [u32; 6], have: usize, from: u32, count: usize)
 /// `address`; or how many bytes its data chain gives, if they are fewer. At most five further CCWs
 /// and five transfers are looked at, each of them once.
 pub(crate) fn argument_addresses(storage: &Storage, address: u32, ccw: Ccw) -> Result<[u32; 6], u8>
-    requires { word_at (bytes_held storage.now) address ≡ Some ccw }
+    requires { stored_ccw (bytes_held storage.now) address ≡ Some ccw }
     ensures six { IfOk result (λ x. HasAddresses (bytes_held storage.now) address (Some x)) }
     ensures none { IfErr result (λ _. HasAddresses (bytes_held storage.now) address None) }
     ensures given { IfErr result (Gives (bytes_held storage.now) address) }

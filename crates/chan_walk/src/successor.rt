@@ -46,7 +46,7 @@ pub fn successors(job: &Job, place: Place) -> Next
 }
 
 /// Where a program goes on after a place that has no own fault.
-pub(crate) fn go_on(visit: &Visit) -> Next
+pub(crate) fn next_after(visit: &Visit) -> Next
     requires begun { IsBegun visit.now }
     requires low { visit.now.place.address < 2 ^ 25 }
     ensures next { result.next ≡ next_of visit.now.place visit.now.word

@@ -21,7 +21,7 @@ use Rattle.chan_walk.specs.Guard.{GuardAreas, Guards, IsArgumentByteOf}
 use Rattle.chan_walk.specs.Guarded.{IsArgumentByte, IsMaskByte, IsSeekByte}
 use Rattle.chan_walk.specs.Job.{storage_of}
 use Rattle.chan_walk.specs.Look.{IsLook, Seen, places_of_looks}
-use Rattle.chan_walk.specs.Place.{word_at}
+use Rattle.chan_walk.specs.Place.{ccw_of}
 use Rattle.chan_walk.specs.Ranges.{IsByteIn}
 use Rattle.chan_walk.specs.Walk.{HasFound, IsFirstWhere, IsPathAt}
 use Rattle.chan_walk.proofs.Algorithms.Backward.{within_looks}
@@ -207,7 +207,7 @@ module _ (j : Job) (w : Walk) (f : HasFound j w) where
   one_taker b (Some i) m n = refl
 
   pub taken_at : (b i a : ℕ) (sets : Bool) (l : Seen) → IsFirstWhere (λ q. IsArgumentByteOf j q b) (places_of_looks w.looks.items) (Some i) → i < length w.looks.items → l ≡ get_or w.looks.items i l
-      → a ≡ l.place.address → (IsClear j l.place → sets ≡ begins_set_mask l.place (word_at j l.place)) → IsTakenAt j b a sets
+      → a ≡ l.place.address → (IsClear j l.place → sets ≡ begins_set_mask l.place (ccw_of j l.place)) → IsTakenAt j b a sets
   taken_at b i a sets l n h e address is =
       let r = best_where j w f (λ q. IsArgumentByteOf j q b) i l.place n (place_at w.looks.items i l h e) in
       (l.place, r.0, r.1, sym address, sym (is (takes_clear j l.place b r.1.holds)))

@@ -19,7 +19,7 @@ use Rattle.chan_walk.specs.Counted.{IsChained, at_once, further, IsCounted, with
 use Rattle.chan_walk.specs.Fault.{kind_of, stores, begins_seek, begins_set_mask, command_faults, lent_faults, seek_faults, mask_faults, table_of_own, fault_with, HasFault, IsClear}
 use Rattle.chan_walk.specs.Guarded.{IsCcwByte, IsSeekByte, IsMaskByte, IsArgumentByte}
 use Rattle.chan_walk.specs.Job.{storage_of}
-use Rattle.chan_walk.specs.Place.{word_at}
+use Rattle.chan_walk.specs.Place.{ccw_of}
 use Rattle.chan_walk.specs.Reachable.{IsPath, IsReachable}
 use Rattle.chan_walk.specs.Successors.{next_of, skip_of}
 use Rattle.chan_walk.specs.Verdict.{AreClear, StoresOver, Offends, IsVerdict}
@@ -167,7 +167,7 @@ module _ (j : Job) (t : Storage) (h : IsSameIn (IsCounted j) j (with_storage j t
   abbrev u : List ℕ
   u = storage_of (with_storage j t)
 
-  word_same : (p : Place) → IsReachable j p → Stands s p.address → word_at j p ≡ word_at there p
+  word_same : (p : Place) → IsReachable j p → Stands s p.address → ccw_of j p ≡ ccw_of there p
   word_same p r st = same_ccw s u p.address (λ b le lt. sym (h.same b (inl (record { place = p; reached = r; stands = st; from = le; below = lt }))))
 
   check_same : (p : Place) → IsReachable j p → check s p ≡ check u p
@@ -175,7 +175,7 @@ module _ (j : Job) (t : Storage) (h : IsSameIn (IsCounted j) j (with_storage j t
 
   -- ---- the argument of a reachable seek
 
-  module _ (p : Place) (r : IsReachable j p) (b : begins_seek p (word_at j p) ≡ true) where
+  module _ (p : Place) (r : IsReachable j p) (b : begins_seek p (ccw_of j p) ≡ true) where
     abbrev Chained : ℕ → Type 0
     Chained a = IsChained s p.address a
 
@@ -202,8 +202,8 @@ module _ (j : Job) (t : Storage) (h : IsSameIn (IsCounted j) j (with_storage j t
 
   -- ---- own faults
 
-  mask_byte_same : (p : Place) → IsReachable j p → begins_set_mask p (word_at j p) ≡ true → byte s (word_at j p).address ≡ byte u (word_at j p).address
-  mask_byte_same p r b = sym (h.same (word_at j p).address (inr (inr (record { place = p; reached = r; takes = inr (record { sets = b; at = refl }) }))))
+  mask_byte_same : (p : Place) → IsReachable j p → begins_set_mask p (ccw_of j p) ≡ true → byte s (ccw_of j p).address ≡ byte u (ccw_of j p).address
+  mask_byte_same p r b = sym (h.same (ccw_of j p).address (inr (inr (record { place = p; reached = r; takes = inr (record { sets = b; at = refl }) }))))
 
   seeks_apart : (p : Place) (c : Fields) (x y : Option (List ℕ)) (b : Bool) → begins_seek p c ≡ b → (b ≡ true → x ≡ y) → seek_faults j p c x ≡ seek_faults there p c y
   seeks_apart p c x y true e f = ap (seek_faults j p c) (f refl)
@@ -213,10 +213,10 @@ module _ (j : Job) (t : Storage) (h : IsSameIn (IsCounted j) j (with_storage j t
   masks_apart p c true e f = ap (λ n. (begins_set_mask p c && not (is_at_least n j.mask), WeakensMask) ∷ []) (f refl)
   masks_apart p c false e f = rw e refl
 
-  table_same : (p : Place) → IsReachable j p → (x y : Option (List ℕ)) → HasArgument s p.address x → HasArgument u p.address y → table_of_own j p (word_at j p) x ≡ table_of_own there p (word_at j p) y
+  table_same : (p : Place) → IsReachable j p → (x y : Option (List ℕ)) → HasArgument s p.address x → HasArgument u p.address y → table_of_own j p (ccw_of j p) x ≡ table_of_own there p (ccw_of j p) y
   table_same p r x y a b =
-      ap (λ z. command_faults j p (word_at j p) ++ lent_faults j p (word_at j p) ++ z ++ mask_faults j p (word_at j p)) (seeks_apart p (word_at j p) x y _ refl (λ e. argument_unique u p.address x y (argument_to p r e x a) b))
-      ∙ ap (λ z. command_faults j p (word_at j p) ++ lent_faults j p (word_at j p) ++ seek_faults there p (word_at j p) y ++ z) (masks_apart p (word_at j p) _ refl (mask_byte_same p r))
+      ap (λ z. command_faults j p (ccw_of j p) ++ lent_faults j p (ccw_of j p) ++ z ++ mask_faults j p (ccw_of j p)) (seeks_apart p (ccw_of j p) x y _ refl (λ e. argument_unique u p.address x y (argument_to p r e x a) b))
+      ∙ ap (λ z. command_faults j p (ccw_of j p) ++ lent_faults j p (ccw_of j p) ++ seek_faults there p (ccw_of j p) y ++ z) (masks_apart p (ccw_of j p) _ refl (mask_byte_same p r))
 
   fault_same : (p : Place) → IsReachable j p → (x y : Option (List ℕ)) → HasArgument s p.address x → HasArgument u p.address y → fault_with j p x ≡ fault_with there p y
   fault_same p r x y a b = go (check s p) refl
@@ -224,11 +224,11 @@ module _ (j : Job) (t : Storage) (h : IsSameIn (IsCounted j) j (with_storage j t
       rest : Job → Fields → Option (List ℕ) → Option Reason
       rest k c z = if is_transfer c then None else first_reason (table_of_own k p c z)
 
-      go : (o : Option Reason) → check s p ≡ o → option_or (check s p) (rest j (word_at j p) x) ≡ option_or (check u p) (rest there (word_at there p) y)
-      go (Some q) e = ap (λ o. option_or o (rest j (word_at j p) x)) e ∙ sym (ap (λ o. option_or o (rest there (word_at there p) y)) (sym (check_same p r) ∙ e))
+      go : (o : Option Reason) → check s p ≡ o → option_or (check s p) (rest j (ccw_of j p) x) ≡ option_or (check u p) (rest there (ccw_of there p) y)
+      go (Some q) e = ap (λ o. option_or o (rest j (ccw_of j p) x)) e ∙ sym (ap (λ o. option_or o (rest there (ccw_of there p) y)) (sym (check_same p r) ∙ e))
       go None e =
-          ap (λ o. option_or o (rest j (word_at j p) x)) (check_same p r)
-          ∙ ap (λ ts. option_or (check u p) (if is_transfer (word_at j p) then None else first_reason ts)) (table_same p r x y a b)
+          ap (λ o. option_or o (rest j (ccw_of j p) x)) (check_same p r)
+          ∙ ap (λ ts. option_or (check u p) (if is_transfer (ccw_of j p) then None else first_reason ts)) (table_same p r x y a b)
           ∙ ap (λ c. option_or (check u p) (rest there c y)) (word_same p r (check_stands s p e))
 
   fault_to : (p : Place) → IsReachable j p → (q : Option Reason) → HasFault j p q → HasFault there p q
@@ -237,7 +237,7 @@ module _ (j : Job) (t : Storage) (h : IsSameIn (IsCounted j) j (with_storage j t
   fault_from : (p : Place) → IsReachable j p → (q : Option Reason) → HasFault there p q → HasFault j p q
   fault_from p r q f = let x = argument_exists s p.address in (x.0, x.1, fault_same p r x.0 f.0 x.1 f.1 ∙ f.2)
 
-  clear_word : (p : Place) → IsReachable j p → IsClear j p → word_at j p ≡ word_at there p
+  clear_word : (p : Place) → IsReachable j p → IsClear j p → ccw_of j p ≡ ccw_of there p
   clear_word p r f = word_same p r (check_stands s p (clear_check j p f))
 
   -- ---- reachable places
@@ -275,7 +275,7 @@ module _ (j : Job) (t : Storage) (h : IsSameIn (IsCounted j) j (with_storage j t
   argument_byte_to : (b : ℕ) → IsArgumentByte j b → IsArgumentByte there b
   argument_byte_to b g = record { place = g.place; reached = reach_to g.place g.reached; clear = fault_to g.place g.reached None g.clear; takes = go g.takes }
     where
-      word : word_at j g.place ≡ word_at there g.place
+      word : ccw_of j g.place ≡ ccw_of there g.place
       word = clear_word g.place g.reached g.clear
 
       go : IsSeekByte j g.place b ⊎ IsMaskByte j g.place b → IsSeekByte there g.place b ⊎ IsMaskByte there g.place b
@@ -293,19 +293,19 @@ module _ (j : Job) (t : Storage) (h : IsSameIn (IsCounted j) j (with_storage j t
       reached : IsReachable j g.place
       reached = reach_from g.place g.reached
 
-      word : word_at there g.place ≡ word_at j g.place
+      word : ccw_of there g.place ≡ ccw_of j g.place
       word = sym (clear_word g.place reached (fault_from g.place reached None g.clear))
 
       go : IsSeekByte there g.place b ⊎ IsMaskByte there g.place b → IsSeekByte j g.place b ⊎ IsMaskByte j g.place b
       go (inl k) =
-          let seeks : begins_seek g.place (word_at j g.place) ≡ true = subst (λ c. begins_seek g.place c ≡ true) word k.seeks in
+          let seeks : begins_seek g.place (ccw_of j g.place) ≡ true = subst (λ c. begins_seek g.place c ≡ true) word k.seeks in
           let chain = seek_chain_from g.place reached seeks k.chain k.is_chain in
           inl (record { seeks = seeks; chain = k.chain; is_chain = chain; has = subst (λ l. Has l b) (sym (seek_addresses g.place reached seeks k.chain chain)) k.has })
       go (inr k) = inr (record { sets = subst (λ c. begins_set_mask g.place c ≡ true) word k.sets; at = subst (λ (c : Fields). c.address ≡ b) word k.at })
 
   -- ---- what offends
 
-  over_to : (p : Place) → word_at j p ≡ word_at there p → (P Q : ℕ → Type 0) → ((b : ℕ) → P b → Q b) → StoresOver j p P → StoresOver there p Q
+  over_to : (p : Place) → ccw_of j p ≡ ccw_of there p → (P Q : ℕ → Type 0) → ((b : ℕ) → P b → Q b) → StoresOver j p P → StoresOver there p Q
   over_to p w P Q f o = record {
     stores = subst (λ c. stores p c ≡ true) w o.stores;
     at = o.at;
@@ -314,7 +314,7 @@ module _ (j : Job) (t : Storage) (h : IsSameIn (IsCounted j) j (with_storage j t
     holds = f o.at o.holds;
   }
 
-  over_from : (p : Place) → word_at j p ≡ word_at there p → (P Q : ℕ → Type 0) → ((b : ℕ) → P b → Q b) → StoresOver there p P → StoresOver j p Q
+  over_from : (p : Place) → ccw_of j p ≡ ccw_of there p → (P Q : ℕ → Type 0) → ((b : ℕ) → P b → Q b) → StoresOver there p P → StoresOver j p Q
   over_from p w P Q f o = record {
     stores = subst (λ c. stores p c ≡ true) (sym w) o.stores;
     at = o.at;

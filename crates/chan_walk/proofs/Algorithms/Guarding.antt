@@ -17,7 +17,7 @@ use Rattle.chan_walk.specs.Guard.{AddsBytes, IsCcwByteOf, IsSeekByteOf, IsArgume
 use Rattle.chan_walk.specs.Guarded.{IsCcwByte, IsSeekByte, IsMaskByte, IsArgumentByte}
 use Rattle.chan_walk.specs.Job.{storage_of}
 use Rattle.chan_walk.specs.Least.{AreReached}
-use Rattle.chan_walk.specs.Place.{word_at}
+use Rattle.chan_walk.specs.Place.{ccw_of}
 use Rattle.chan_walk.specs.Reachable.{IsReachable}
 use Rattle.chan_walk.specs.Ranges.{EndsBelow, HaveSameBytes}
 use Rattle.chan_walk.proofs.Theory.Chains.{chain_unique}
@@ -126,7 +126,7 @@ pub low_bytes : (xs : List ℕ) → ((i : ℕ) → get_or xs i 0 < 2 ^ 24) → A
 low_bytes xs h = All-map (EndsBelow (2 ^ 32)) byte_area xs (λ i d l. let k = h i in let e = get_any xs i d 0 l in omega arith)
 
 -- the argument at a place that begins a seek and has no own fault
-pub bytes_of_argument : (j : Job) (p : Place) (l x : List ℕ) → begins_seek p (word_at j p) ≡ true → IsClear j p → IsChain (storage_of j) 6 p.address l → x ≡ argument_addresses (storage_of j) l → (b : ℕ) → Has x b ↔ IsSeekByteOf j p b
+pub bytes_of_argument : (j : Job) (p : Place) (l x : List ℕ) → begins_seek p (ccw_of j p) ≡ true → IsClear j p → IsChain (storage_of j) 6 p.address l → x ≡ argument_addresses (storage_of j) l → (b : ℕ) → Has x b ↔ IsSeekByteOf j p b
 bytes_of_argument j p l x s f k e b = (
   (λ h. (f, record { seeks = s; chain = l; is_chain = k; has = subst (λ z. Has z b) e h })),
   λ h. subst (λ z. Has z b) (ap (argument_addresses (storage_of j)) (chain_unique (storage_of j) 6 p.address h.1.chain l h.1.is_chain k) ∙ sym e) h.1.has,

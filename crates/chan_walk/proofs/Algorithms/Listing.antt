@@ -25,7 +25,7 @@ use Rattle.chan_walk.specs.Job.{storage_of}
 use Rattle.chan_walk.specs.Least.{AreReached, IsOwn}
 use Rattle.chan_walk.specs.Look.{IsLook, Seen, place_of, places_of_looks}
 use Rattle.chan_walk.specs.Offences.{AddsOffences, AreAllOffences, AreOffences, FirstIsVerdict, HasOffences, Offending, StoresInto, offence_number}
-use Rattle.chan_walk.specs.Place.{word_at}
+use Rattle.chan_walk.specs.Place.{ccw_of}
 use Rattle.chan_walk.specs.Ranges.{Meets}
 use Rattle.chan_walk.specs.Reachable.{IsReachable}
 use Rattle.chan_walk.specs.Reason.{number_of}
@@ -258,18 +258,18 @@ stores_both j l b given areas P look clear e same h = ((λ t. to (h.0 t)), λ o.
 
     to : StoresInto l given → StoresOver j p P
     to s =
-        let word : s.ccw ≡ word_at j p = (ccw_at-some (storage_of j) p.address s.ccw (sym look.ccw ∙ s.seen)).2 in
+        let word : s.ccw ≡ ccw_of j p = (ccw_at-some (storage_of j) p.address s.ccw (sym look.ccw ∙ s.seen)).2 in
         let moves : stores p s.ccw ≡ true = sym (look.stores s.ccw s.seen) ∙ s.stores in
         over_from_meets j p s.ccw areas P s.ccw.address s.ccw.count same word moves refl refl (subst (λ z. Meets z s.ccw.address s.ccw.count) e s.meets)
 
     from : StoresOver j p P → StoresInto l given
     from o =
-        let seen : l.ccw ≡ Some (word_at j p) = look.ccw ∙ found in
+        let seen : l.ccw ≡ Some (ccw_of j p) = look.ccw ∙ found in
         record {
-          ccw = word_at j p;
+          ccw = ccw_of j p;
           seen = seen;
-          stores = look.stores (word_at j p) seen ∙ o.stores;
-          meets = subst (λ z. Meets z (word_at j p).address (word_at j p).count) (sym e) (meets_from_over j p (word_at j p) areas P (word_at j p).address (word_at j p).count same refl refl refl o);
+          stores = look.stores (ccw_of j p) seen ∙ o.stores;
+          meets = subst (λ z. Meets z (ccw_of j p).address (ccw_of j p).count) (sym e) (meets_from_over j p (ccw_of j p) areas P (ccw_of j p).address (ccw_of j p).count same refl refl refl o);
         }
 
 -- the two changes at a place

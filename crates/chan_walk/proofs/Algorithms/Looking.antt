@@ -16,7 +16,7 @@ use Rattle.chan_walk.specs.Fault.{begins_seek, begins_set_mask, kind_of, HasFaul
 use Rattle.chan_walk.specs.Guard.{IsArgumentByteOf, IsSeekByteOf}
 use Rattle.chan_walk.specs.Job.{storage_of}
 use Rattle.chan_walk.specs.Look.{AreLooks, IsLook, Seen, mask_addresses, place_of, places_of_looks}
-use Rattle.chan_walk.specs.Place.{word_at}
+use Rattle.chan_walk.specs.Place.{ccw_of}
 use Rattle.chan_walk.specs.Successors.{AreSuccessors, next_of, skip_of}
 use Rattle.chan_walk.specs.Tables.{HasAddresses}
 use Rattle.chan_walk.proofs.Theory.Chains.{first_address}
@@ -47,7 +47,7 @@ taken_faulty j p r f = no_bytes j p none
 
 -- the seek that begins at p with the CCW c has the argument o, and where none begins there is none
 pub record IsSought (j : Job) (p : Place) (c : Fields) (o : Option (List ℕ)) : Type 0 where
-  pub word : c ≡ word_at j p
+  pub word : c ≡ ccw_of j p
   pub seek : begins_seek p c ≡ true → HasAddresses (storage_of j) p.address o
   pub other : begins_seek p c ≡ false → o ≡ None
 
@@ -107,7 +107,7 @@ next_faulty j p r n f e g = record {
   faulty = λ t h. (e, g);
 }
 
-pub next_clear : (j : Job) (p : Place) (c : Fields) (n : Next) → c ≡ word_at j p → IsClear j p → n.next ≡ next_of p c (kind_of p.entered c) → n.skip ≡ skip_of p c (kind_of p.entered c) → AreSuccessors j p n
+pub next_clear : (j : Job) (p : Place) (c : Fields) (n : Next) → c ≡ ccw_of j p → IsClear j p → n.next ≡ next_of p c (kind_of p.entered c) → n.skip ≡ skip_of p c (kind_of p.entered c) → AreSuccessors j p n
 next_clear j p c n w clear e g = record {
   next = λ _. subst (λ d. n.next ≡ next_of p d (kind_of p.entered d)) w e;
   skip = λ _. subst (λ d. n.skip ≡ skip_of p d (kind_of p.entered d)) w g;

@@ -27,7 +27,7 @@ use Rattle.chan_walk.specs.Job.{storage_of}
 use Rattle.chan_walk.specs.Least.{AreReached}
 use Rattle.chan_walk.specs.Look.{IsLook, Seen}
 use Rattle.chan_walk.specs.Notes.{AddsAddress, AreAddressesOf, AreUnused, HoldData, IsDataOf, IsAddressOf, IsSeenByte, IsSeenWith, IsUsed, NothingFollows, Passes, is_idle}
-use Rattle.chan_walk.specs.Place.{is_fresh, word_at}
+use Rattle.chan_walk.specs.Place.{is_fresh, ccw_of}
 use Rattle.chan_walk.specs.Ranges.{end_of, Meets}
 use Rattle.chan_walk.proofs.Theory.Commands.{idle_is_no_transfer}
 use Rattle.chan_walk.proofs.Algorithms.Guarding.{HoldBytes}
@@ -110,10 +110,10 @@ abbrev pub HasData : (Place → Fields → Bool) → Job → Place → ℕ → T
 HasData test j p b = Passes test j p × ((data_at j p).start ≤ b) × (b < end_of (data_at j p))
 
 -- a CCW that was seen is the one at the place
-seen_word : (j : Job) (l : Seen) (c : Fields) → IsLook j l → l.ccw ≡ Some c → Stands (storage_of j) l.place.address × (c ≡ word_at j l.place)
+seen_word : (j : Job) (l : Seen) (c : Fields) → IsLook j l → l.ccw ≡ Some c → Stands (storage_of j) l.place.address × (c ≡ ccw_of j l.place)
 seen_word j l c look e = let r = ccw_at-some (storage_of j) l.place.address c (sym look.ccw ∙ e) in ((r.0, r.1), r.2)
 
-word_seen : (j : Job) (l : Seen) → IsLook j l → Stands (storage_of j) l.place.address → l.ccw ≡ Some (word_at j l.place)
+word_seen : (j : Job) (l : Seen) → IsLook j l → Stands (storage_of j) l.place.address → l.ccw ≡ Some (ccw_of j l.place)
 word_seen j l look s = look.ccw ∙ ccw_at-where (storage_of j) l.place.address s
 
 pub adds_data : (test : Place → Fields → Bool) (j : Job) (l : Seen) (so : Bool) (old new : List Area) → IsLook j l → ((c : Fields) → l.ccw ≡ Some c → so ≡ test l.place c) → AddsBytes old new (IsSeenByte l so) → AddsBytes old new (HasData test j l.place)
@@ -122,11 +122,11 @@ adds_data test j l so old new look same adds b = ((λ h. to ((adds b).0 h)), λ 
     shown : IsSeenByte l so b → HasData test j l.place b
     shown k =
         let w = seen_word j l k.ccw look k.seen in
-        let passes : test l.place (word_at j l.place) ≡ true = subst (λ (c : Fields). test l.place c ≡ true) w.1 (sym (same k.ccw k.seen) ∙ k.so) in
+        let passes : test l.place (ccw_of j l.place) ≡ true = subst (λ (c : Fields). test l.place c ≡ true) w.1 (sym (same k.ccw k.seen) ∙ k.so) in
         ((w.0, passes), subst (λ (c : Fields). (data_of c).start ≤ b) w.1 k.from, subst (λ (c : Fields). b < end_of (data_of c)) w.1 k.below)
 
     seen : HasData test j l.place b → IsSeenByte l so b
-    seen k = let e = word_seen j l look k.0.0 in record { ccw = word_at j l.place; seen = e; so = same (word_at j l.place) e ∙ k.0.1; from = k.1; below = k.2 }
+    seen k = let e = word_seen j l look k.0.0 in record { ccw = ccw_of j l.place; seen = e; so = same (ccw_of j l.place) e ∙ k.0.1; from = k.1; below = k.2 }
 
     to : (lies_in old b ≡ true) ⊎ IsSeenByte l so b → (lies_in old b ≡ true) ⊎ HasData test j l.place b
     to (inl h) = inl h
@@ -180,7 +180,7 @@ adds_address test j l so old new look same adds a = ((λ h. to ((adds a).0 h)), 
 
     from : Has old a ⊎ HasAddress test j l.place a → Has old a ⊎ (IsTrue so × (l.place.address ≡ a))
     from (inl h) = inl h
-    from (inr h) = inr (same.1 (word_at j l.place, word_seen j l look h.0.0, h.0.1), h.1)
+    from (inr h) = inr (same.1 (ccw_of j l.place, word_seen j l look h.0.0, h.0.1), h.1)
 
 -- over the reachable places, each once
 pub all_addresses : (test : Place → Fields → Bool) (j : Job) (some ps : List Place) (xs ys : List ℕ) → some ≡ ps → AreReached j ps → HoldAddresses (Has xs) (HasAddress test j) some → IsStrictlyIncreasing ys → ((a : ℕ) → Has ys a ↔ Has xs a) → AreAddressesOf test j ys

@@ -13,7 +13,7 @@ use Rattle.chan_walk.specs.declared.verdict.Verdict.TheVariants.{Yes, No}
 use Rattle.chan_walk.specs.Fault.{stores, HasFault, IsClear}
 use Rattle.chan_walk.specs.Guarded.{IsCcwByte, IsArgumentByte}
 use Rattle.chan_walk.specs.Least.{IsOwn, IsFirst, IsLeast}
-use Rattle.chan_walk.specs.Place.{word_at}
+use Rattle.chan_walk.specs.Place.{ccw_of}
 use Rattle.chan_walk.specs.Reachable.{IsReachable}
 use Rattle.chan_walk.specs.Reason.{number_of}
 use Rattle.chan_walk.specs.Verdict.{AreClear, StoresOver, Changes, Offends, ComesFirst, IsVerdict}
@@ -75,7 +75,7 @@ none_left Off Here (Some f) n h = absurd (n f refl)
 
 -- a store that meets an area of guarded bytes is a store over one
 pub over_from_meets : (j : Job) (p : Place) (c : Fields) (areas : List Area) (P : ℕ → Type 0) (start len : ℕ)
-    → ((b : ℕ) → (lies_in areas b ≡ true) ↔ P b) → c ≡ word_at j p → stores p c ≡ true → start ≡ c.address → len ≡ c.count
+    → ((b : ℕ) → (lies_in areas b ≡ true) ↔ P b) → c ≡ ccw_of j p → stores p c ≡ true → start ≡ c.address → len ≡ c.count
     → Meets areas start len → StoresOver j p P
 over_from_meets j p c areas P start len same e st s l m =
     let address = ap (λ (w : Fields). w.address) e in
@@ -91,7 +91,7 @@ over_from_meets j p c areas P start len same e st s l m =
     }
 
 pub meets_from_over : (j : Job) (p : Place) (c : Fields) (areas : List Area) (P : ℕ → Type 0) (start len : ℕ)
-    → ((b : ℕ) → (lies_in areas b ≡ true) ↔ P b) → c ≡ word_at j p → start ≡ c.address → len ≡ c.count
+    → ((b : ℕ) → (lies_in areas b ≡ true) ↔ P b) → c ≡ ccw_of j p → start ≡ c.address → len ≡ c.count
     → StoresOver j p P → Meets areas start len
 meets_from_over j p c areas P start len same e s l o =
     let address = ap (λ (w : Fields). w.address) e in

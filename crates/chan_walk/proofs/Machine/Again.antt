@@ -12,7 +12,7 @@ use Rattle.chan_walk.specs.Counted.{IsChained, at_once, further, IsCounted, YesB
 use Rattle.chan_walk.specs.Fault.{kind_of, begins_seek}
 use Rattle.chan_walk.specs.Guarded.{IsGuarded}
 use Rattle.chan_walk.specs.Job.{storage_of}
-use Rattle.chan_walk.specs.Place.{straight_to, transferred_to, word_at}
+use Rattle.chan_walk.specs.Place.{straight_to, transferred_to, ccw_of}
 use Rattle.chan_walk.specs.Reachable.{IsReachable}
 use Rattle.chan_walk.specs.Successors.{chained}
 use Rattle.chan_walk.specs.Verdict.{IsVerdict}
@@ -23,7 +23,7 @@ use Rattle.chan_walk.proofs.Theory.Follows.{Follows, by_transfer, by_data, succe
 use Rattle.chan_walk.proofs.Machine.Yes.{fresh_out, all_kept}
 
 module _ (j : Job) (v : IsVerdict j Yes) where
-  onward : (p q : Place) → IsReachable j p → Follows p (word_at j p) (kind_of p.entered (word_at j p)) q → IsReachable j q
+  onward : (p q : Place) → IsReachable j p → Follows p (ccw_of j p) (kind_of p.entered (ccw_of j p)) q → IsReachable j q
   onward p q r f = (p ∷ r.0, (r.1, yes_clear j v p r, succeeds _ _ _ _ f))
 
   -- a reachable place at the address, at which an operation that goes out begins or goes on
@@ -31,12 +31,12 @@ module _ (j : Job) (v : IsVerdict j Yes) where
     place : Place
     reached : IsReachable j place
     address : place.address ≡ a
-    outward : kind_of place.entered (word_at j place) ≡ Outward
+    outward : kind_of place.entered (ccw_of j place) ≡ Outward
 
   one_on : {from to : ℕ} → Out from → is_part (storage_of j) from ≡ true → chains_data (ccw (storage_of j) from) ≡ true → Leads (storage_of j) from to → Out to
   one_on {from = from} {to = to} here part cd lead = go lead
     where
-      other : is_transfer (word_at j here.place) ≡ false
+      other : is_transfer (ccw_of j here.place) ≡ false
       other = subst (λ n. is_transfer (ccw (storage_of j) n) ≡ false) (sym here.address) (part_is_no_transfer (storage_of j) from part)
 
       next : Place
@@ -48,8 +48,8 @@ module _ (j : Job) (v : IsVerdict j Yes) where
       go : Leads (storage_of j) from to → Out to
       go (inl e) = record { place = next; reached = reached; address = ap (λ n. n + 8) here.address ∙ sym e; outward = refl }
       go (inr e) =
-          let same : ccw (storage_of j) (from + 8) ≡ word_at j next = ap (λ n. ccw (storage_of j) (n + 8)) (sym here.address) in
-          let there : Place = transferred_to (word_at j next).address ChainOut in
+          let same : ccw (storage_of j) (from + 8) ≡ ccw_of j next = ap (λ n. ccw (storage_of j) (n + 8)) (sym here.address) in
+          let there : Place = transferred_to (ccw_of j next).address ChainOut in
           record {
             place = there;
             reached = onward next there reached (by_transfer (subst (λ c. is_transfer c ≡ true) same e.1));
@@ -58,8 +58,8 @@ module _ (j : Job) (v : IsVerdict j Yes) where
           }
 
   -- the data chain of a reachable seek is reachable
-  along : (seek : Place) → IsReachable j seek → begins_seek seek (word_at j seek) ≡ true → {a : ℕ} → IsChained (storage_of j) seek.address a → Out a
-  along seek r b at_once = record { place = seek; reached = r; address = refl; outward = fresh_out seek (word_at j seek) b }
+  along : (seek : Place) → IsReachable j seek → begins_seek seek (ccw_of j seek) ≡ true → {a : ℕ} → IsChained (storage_of j) seek.address a → Out a
+  along seek r b at_once = record { place = seek; reached = r; address = refl; outward = fresh_out seek (ccw_of j seek) b }
   along seek r b (further c part cd lead) = one_on (along seek r b c) part cd lead
 
   counted_is_guarded : (b : ℕ) → IsCounted j b → IsGuarded j b

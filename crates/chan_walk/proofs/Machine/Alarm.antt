@@ -15,12 +15,12 @@ use Rattle.chan_walk.specs.declared.reason.Reason.{Reason}
 use Rattle.chan_walk.specs.declared.reason.Reason.TheVariants.{StoreNotLent, FetchNotLent, ShortSeek, SeekOutside, WeakensMask}
 use Rattle.chan_walk.specs.Alarm.{IsProper, first_cylinder, ShowsInStep, StoresOn, ShowsCheck, Shows, EachPathShows, NoFalseAlarm}
 use Rattle.chan_walk.specs.Argument.{IsChain, HasArgument, argument}
-use Rattle.chan_walk.specs.Check.{table_of_any, table_of_word, check}
+use Rattle.chan_walk.specs.Check.{table_of_every_ccw, table_of_non_transfer, check}
 use Rattle.chan_walk.specs.Fault.{kind_of, goes_in, goes_out, stores, fetches, is_known, begins_seek, begins_recalibrate, begins_set_mask, allows, is_refused, table_of_own, HasFault, IsClear}
 use Rattle.chan_walk.specs.Guarded.{IsCcwByte, IsSeekByte, IsMaskByte, IsArgumentByte}
 use Rattle.chan_walk.specs.Job.{storage_of, extents_of, fetch_of, store_of}
 use Rattle.chan_walk.specs.Machine.{Stage, At, Ended, Event, home, ends, Step, checked, unknown}
-use Rattle.chan_walk.specs.Place.{is_fresh, word_at}
+use Rattle.chan_walk.specs.Place.{is_fresh, ccw_of}
 use Rattle.chan_walk.specs.Reachable.{IsReachable}
 use Rattle.chan_walk.specs.Runs.{Moment, IsRun, UsesIn, UsesInCcw, UsesInArgument}
 use Rattle.chan_walk.specs.Verdict.{StoresOver, Offends}
@@ -72,11 +72,11 @@ mask_out p c h = go p.entered h
     go ChainSearch h = absurd (cc)
 
 -- so that where it begins and no program check applies, it moves a byte
-moves_byte : (j : Job) (p : Place) → check (storage_of j) p ≡ None → is_transfer (word_at j p) ≡ false → begins_set_mask p (word_at j p) ≡ true → 0 < bytes_at j p
+moves_byte : (j : Job) (p : Place) → check (storage_of j) p ≡ None → is_transfer (ccw_of j p) ≡ false → begins_set_mask p (ccw_of j p) ≡ true → 0 < bytes_at j p
 unfolding is_counted
 moves_byte j p e t b =
-    let whole : bytes_at j p ≡ (word_at j p).count = ap (λ k. full_count k (word_at j p)) (mask_out p (word_at j p) b) in
-    let some : 0 < (word_at j p).count = ltb-true 0 _ (passed (storage_of j) p e t).counted in
+    let whole : bytes_at j p ≡ (ccw_of j p).count = ap (λ k. full_count k (ccw_of j p)) (mask_out p (ccw_of j p) b) in
+    let some : 0 < (ccw_of j p).count = ltb-true 0 _ (passed (storage_of j) p e t).counted in
     omega (arith, whole, some)
 
 module _ (j : Job) (proper : IsProper j) where
@@ -90,11 +90,11 @@ module _ (j : Job) (proper : IsProper j) where
   abbrev EndsAt : (p : Place) → IsReachable j p → Type 0
   EndsAt p m = Carried j start p (run_to p m).gathered (seek_at j start p (run_to p m).gathered (few_at j p (run_to p m).gathered (run_to p m).taking)).es [] Ended
 
-  ends_at : (p : Place) (m : IsReachable j p) → check (storage_of j) p ≡ None → is_transfer (word_at j p) ≡ false → Known j p → EndsAt p m
+  ends_at : (p : Place) (m : IsReachable j p) → check (storage_of j) p ≡ None → is_transfer (ccw_of j p) ≡ false → Known j p → EndsAt p m
   ends_at p m e t known = let r = run_to p m in carry_out j proper.1 start p r.gathered (few_at j p r.gathered r.taking) e t known tt ends
 
   -- the seek at p has the chain l
-  to_the_end : (p : Place) (m : IsReachable j p) (l : List ℕ) → begins_seek p (word_at j p) ≡ true → check (storage_of j) p ≡ None → is_transfer (word_at j p) ≡ false → Known j p → IsChain (storage_of j) 6 p.address l → Finished j proper.1 start p (run_to p m).gathered (run_to p m).events (run_to p m).run m.0 (run_to p m).places (run_to p m).quiet l
+  to_the_end : (p : Place) (m : IsReachable j p) (l : List ℕ) → begins_seek p (ccw_of j p) ≡ true → check (storage_of j) p ≡ None → is_transfer (ccw_of j p) ≡ false → Known j p → IsChain (storage_of j) 6 p.address l → Finished j proper.1 start p (run_to p m).gathered (run_to p m).events (run_to p m).run m.0 (run_to p m).places (run_to p m).quiet l
   to_the_end p m l b e t known k =
       let r = run_to p m in
       finish j proper.1 start p r.gathered r.events r.run m.0 r.places r.quiet 6 l p r.gathered []
@@ -102,13 +102,13 @@ module _ (j : Job) (proper : IsProper j) where
       (ready_fresh j proper.1 p r.gathered b e t known) (begin (storage_of j) l p k) (omega arith) (λ b h. absurd h)
 
   shows_check : (p : Place) (m : IsReachable j p) (r : Reason) → check (storage_of j) p ≡ Some r → Shows j p m.0 r
-  shows_check p m r h = check_case P (storage_of j) p r (each_case P (table_of_any n p c) (go, (go, (go, tt)))) (each_case P (table_of_word n p c) (go, (go, (go, (go, tt))))) h h
+  shows_check p m r h = check_case P (storage_of j) p r (each_case P (table_of_every_ccw n p c) (go, (go, (go, tt)))) (each_case P (table_of_non_transfer n p c) (go, (go, (go, (go, tt))))) h h
     where
       n : ℕ
       n = length (storage_of j)
 
       c : Fields
-      c = word_at j p
+      c = ccw_of j p
 
       P : Reason → Type 0
       P t = check (storage_of j) p ≡ Some t → Shows j p m.0 t
@@ -118,10 +118,10 @@ module _ (j : Job) (proper : IsProper j) where
 
   -- an own fault is shown
   pub shows_fault : (p : Place) (m : IsReachable j p) (r : Reason) → HasFault j p (Some r) → Shows j p m.0 r
-  shows_fault p m r f = table_case (Shows j p m.0) (check (storage_of j) p) (is_transfer (word_at j p)) (table_of_own j p (word_at j p) f.0) r (shows_check p m r) own f.2
+  shows_fault p m r f = table_case (Shows j p m.0) (check (storage_of j) p) (is_transfer (ccw_of j p)) (table_of_own j p (ccw_of j p) f.0) r (shows_check p m r) own f.2
     where
       c : Fields
-      c = word_at j p
+      c = ccw_of j p
 
       R : Runs j start p m.0
       R = run_to p m
@@ -196,7 +196,7 @@ module _ (j : Job) (proper : IsProper j) where
   -- a store over a byte for which P holds
   shows_store : (p : Place) (m : IsReachable j p) → IsClear j p → (P Q : ℕ → Type 0) → ((b : ℕ) → P b → Q b) → StoresOver j p P → ShowsInStep j p m.0 (λ es st. StoresOn Q es)
   shows_store p m f P Q to o =
-      let c = word_at j p in
+      let c = ccw_of j p in
       let s = stores_parts p c o.stores in
       let en = ends_at p m (clear_check j p f) s.0 (clear_good j p f s.0).known in
       let n : length (there j c) ≡ c.count = length-map-range_with_len (byte (storage_of j)) c.address c.count in
@@ -220,7 +220,7 @@ module _ (j : Job) (proper : IsProper j) where
       of_mask : IsMaskByte j u.place b → (used : List Moment) × IsRun j used × UsesInArgument used b
       of_mask s =
           let e = clear_check j u.place u.clear in
-          let t = mask_is_no_transfer (word_at j u.place) (and_parts (is_fresh u.place.entered) _ s.sets).1 in
+          let t = mask_is_no_transfer (ccw_of j u.place) (and_parts (is_fresh u.place.entered) _ s.sets).1 in
           let R = run_to u.place u.reached in
           let en = ends_at u.place u.reached e t (clear_good j u.place u.clear t).known in
           (moment j proper.1 start Ended en.es ∷ moment j proper.1 start (At u.place R.gathered) R.events ∷ R.run, (R.is_run, en.step), inl (subst (UsesIn en.es) s.at (mask_is_used en.es _ _ (en.masks s.sets (moves_byte j u.place e t s.sets)))))

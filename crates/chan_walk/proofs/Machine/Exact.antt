@@ -10,12 +10,12 @@ use Rattle.chan_walk.specs.declared.reason.Reason.{Reason}
 use Rattle.chan_walk.specs.declared.reason.Reason.TheVariants.{NotInTable, Inhibited, StoreNotLent, FetchNotLent, ShortSeek, SeekOutside, WeakensMask}
 use Rattle.chan_walk.specs.Alarm.{IsProper, ShowsInStep, ShowsInOperation, ShowsCheck, Shows, SafeIsYes, HeadlineAloneIsEnough}
 use Rattle.chan_walk.specs.Argument.{Has}
-use Rattle.chan_walk.specs.Check.{table_of_any, table_of_word}
+use Rattle.chan_walk.specs.Check.{table_of_every_ccw, table_of_non_transfer}
 use Rattle.chan_walk.specs.Fault.{begins_recalibrate, begins_set_mask, table_of_own, HasFault, IsClear}
 use Rattle.chan_walk.specs.Headline.{IsSafeEvent, IsUnchecked, IsSafeMoment, IsSteady, IsSafe}
 use Rattle.chan_walk.specs.Job.{storage_of}
 use Rattle.chan_walk.specs.Machine.{Stage, At, Ended, Checked, Event, Command, Store, Fetch, Seek, SetMask, IsStored, Moves, stored, ends, begun, Step, carried}
-use Rattle.chan_walk.specs.Place.{word_at}
+use Rattle.chan_walk.specs.Place.{ccw_of}
 use Rattle.chan_walk.specs.Reachable.{IsReachable}
 use Rattle.chan_walk.specs.Runs.{Moment, IsRun, Uses}
 use Rattle.chan_walk.specs.Verdict.{StoresOver}
@@ -72,9 +72,9 @@ module _ (j : Job) (safe : IsSafe j) (p : Place) (ps : List Place) where
   no_weaker s = let w = s.shows in both_ways _ w.4 (event_safe j s.next.events (SetMask w.1 w.2) (next_safe s).events w.3)
 
   fault_unshown : (r : Reason) → HasFault j p (Some r) → Unshown r
-  fault_unshown r f = table_case Unshown _ _ (table_of_own j p (word_at j p) f.0) r
-      (check_case Unshown (storage_of j) p r (each_case Unshown (table_of_any (length (storage_of j)) p (word_at j p)) (no_check, (no_check, (no_check, tt)))) (each_case Unshown (table_of_word (length (storage_of j)) p (word_at j p)) (no_check, (no_check, (no_check, (no_check, tt))))))
-      (λ e t. each_case Unshown (table_of_own j p (word_at j p) f.0) (no_unknown, (no_inhibited, (no_store, (no_fetch, (no_short, (no_outside, (no_weaker, tt))))))))
+  fault_unshown r f = table_case Unshown _ _ (table_of_own j p (ccw_of j p) f.0) r
+      (check_case Unshown (storage_of j) p r (each_case Unshown (table_of_every_ccw (length (storage_of j)) p (ccw_of j p)) (no_check, (no_check, (no_check, tt)))) (each_case Unshown (table_of_non_transfer (length (storage_of j)) p (ccw_of j p)) (no_check, (no_check, (no_check, (no_check, tt))))))
+      (λ e t. each_case Unshown (table_of_own j p (ccw_of j p) f.0) (no_unknown, (no_inhibited, (no_store, (no_fetch, (no_short, (no_outside, (no_weaker, tt))))))))
       f.2
 
 -- ---- a store that changes what it stores over
@@ -133,7 +133,7 @@ put_out (x ∷ xs) zero (suc n) (suc b) (inr h) = put_out xs zero n b (inr (omeg
 -- a store over what some run uses makes the job unsteady
 changes_not : (j : Job) (proper : IsProper j) → IsSteady j → (p : Place) → IsReachable j p → IsClear j p → (P : ℕ → Type 0) → ((b : ℕ) → P b → (used : List Moment) × IsRun j used × Uses used b) → StoresOver j p P → ⊥
 changes_not j proper steady p m f P to o =
-    let c = word_at j p in
+    let c = ccw_of j p in
     let k = kind_at j p in
     let a = stores_parts p c o.stores in
     let t = a.0 in

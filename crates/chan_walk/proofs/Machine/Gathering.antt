@@ -25,9 +25,9 @@ pub record Advance (s l : List ℕ) (p : Place) (c : Fields) (x : List ℕ) (m :
 
 module _ (s l : List ℕ) where
   -- at the CCW that is next in the chain
-  go_on : (p : Place) (x before : List ℕ) (a : ℕ) (rest : List ℕ) (m : ℕ) → p.address ≡ a → IsChain s (6 - length before) a rest → before ++ joined s rest ≡ joined s l → length before < 6 → x ≡ map (byte s) before → m ≤ (ccw s a).count → Advance s l p (ccw s a) x m before
-  go_on p x before a [] m at k all few read le = elim k.begins [ ]
-  go_on p x before a (d ∷ rest) m at k all few read le =
+  gather_rest : (p : Place) (x before : List ℕ) (a : ℕ) (rest : List ℕ) (m : ℕ) → p.address ≡ a → IsChain s (6 - length before) a rest → before ++ joined s rest ≡ joined s l → length before < 6 → x ≡ map (byte s) before → m ≤ (ccw s a).count → Advance s l p (ccw s a) x m before
+  gather_rest p x before a [] m at k all few read le = elim k.begins [ ]
+  gather_rest p x before a (d ∷ rest) m at k all few read le =
       record {
         covers = λ h. sym (exact (sym (length-map after (byte s)) ∙ ap length (sym bytes) ∙ h));
         within = λ b h. subst (λ z. Has z b) (sym front) (has_left after _ b (has_right before (taken c m x) b h));
@@ -124,7 +124,7 @@ module _ (s l : List ℕ) where
   pub advance : (p : Place) (x : List ℕ) (m : ℕ) (g : IsGathered s l p x) → is_transfer (ccw s p.address) ≡ false → m ≤ (ccw s p.address).count → Advance s l p (ccw s p.address) x m g.before
   advance p x m g t le =
       let e = at_next p x g t in
-      subst (λ a. Advance s l p (ccw s a) x m g.before) (sym e) (go_on p x g.before g.at g.rest m e g.chain g.all g.few g.read (subst (λ a. m ≤ (ccw s a).count) e le))
+      subst (λ a. Advance s l p (ccw s a) x m g.before) (sym e) (gather_rest p x g.before g.at g.rest m e g.chain g.all g.few g.read (subst (λ a. m ≤ (ccw s a).count) e le))
 
   -- a transfer leads to the chain's next CCW
   abbrev pub transfer_on : (p : Place) (x : List ℕ) → IsGathered s l p x → is_transfer (ccw s p.address) ≡ true → IsGathered s l (transferred_to (ccw s p.address).address p.entered) x

@@ -17,7 +17,7 @@ use Rattle.chan_walk.specs.Guarded.{IsArgumentByte, IsGuarded}
 use Rattle.chan_walk.specs.Headline.{IsGathered, IsSafeEvent}
 use Rattle.chan_walk.specs.Job.{storage_of, extents_of, fetch_of, store_of, HasMask}
 use Rattle.chan_walk.specs.Machine.{Gathered, Stage, At, Ended, Checked, Event, Command, Moves, idle, skipped, stored, written, searched, taken, with_taken, Seeks, none, part, stays, goes, under_way, Recalibration, no_home, home_stays, home_goes, SetsMask, no_mask, no_byte, mask_stays, mask_set, Continues, ends, on_data, on_command, on_skip, on_short, begun}
-use Rattle.chan_walk.specs.Place.{is_fresh, straight_to, word_at}
+use Rattle.chan_walk.specs.Place.{is_fresh, straight_to, ccw_of}
 use Rattle.chan_walk.specs.Reachable.{IsReachable}
 use Rattle.chan_walk.specs.Runs.{UsesIn}
 use Rattle.chan_walk.specs.Successors.{chained}
@@ -39,7 +39,7 @@ module _ (j : Job) where
     pub allowed : allows j (argument (storage_of j) l) ≡ true
     pub seek : Place
     pub reached : IsReachable j seek
-    pub seeks : begins_seek seek (word_at j seek) ≡ true
+    pub seeks : begins_seek seek (ccw_of j seek) ≡ true
     pub is_chain : IsChain (storage_of j) 6 seek.address l
 
   -- what is known at a place of a seek under way

@@ -16,7 +16,7 @@ use Rattle.chan_walk.specs.Fault.{kind_of, begins_seek, begins_recalibrate}
 use Rattle.chan_walk.specs.Headline.{ComesTo, IsGathered}
 use Rattle.chan_walk.specs.Job.{storage_of}
 use Rattle.chan_walk.specs.Machine.{Gathered, Stage, At, Ended, Checked, Event, Seek, taken, with_taken, under_way, Continues, ends, on_data, on_short, Step, checked, transferred}
-use Rattle.chan_walk.specs.Place.{is_fresh, straight_to, transferred_to, word_at}
+use Rattle.chan_walk.specs.Place.{is_fresh, straight_to, transferred_to, ccw_of}
 use Rattle.chan_walk.specs.Runs.{Moment, IsRun, UsesIn, UsesInArgument}
 use Rattle.chan_walk.specs.Successors.{chained}
 use Rattle.chan_walk.proofs.Theory.Chains.{part_is_no_transfer, part_counts, chain_begins_with_part, chain_cons}
@@ -34,39 +34,39 @@ module _ (j : Job) (bytes : AreBytes (storage_of j)) where
 
   -- at q a seek is under way with the bytes x, and the CCW there is carried out
   pub record Ready (q : Place) (g : Gathered) (x : List ℕ) : Type 0 where
-    pub under : under_way q (word_at j q) g ≡ Some x
+    pub under : under_way q (ccw_of j q) g ≡ Some x
     pub few : length x < 6
     pub pass : check (storage_of j) q ≡ None
-    pub no_transfer : is_transfer (word_at j q) ≡ false
+    pub no_transfer : is_transfer (ccw_of j q) ≡ false
     pub known : Known j q
     pub outward : kind_at j q ≡ Outward
-    pub no_home : begins_recalibrate q (word_at j q) ≡ false
+    pub no_home : begins_recalibrate q (ccw_of j q) ≡ false
 
   -- the bytes of the seek after q
   abbrev all_at : Place → List ℕ → List ℕ
-  all_at q x = with_taken (storage_of j) (word_at j q) (bytes_at j q) x
+  all_at q x = with_taken (storage_of j) (ccw_of j q) (bytes_at j q) x
 
   abbrev UsesAll : Place → List ℕ → List Event → Type 0
-  UsesAll q x es = (b : ℕ) → Has (taken (word_at j q) (bytes_at j q) x) b → UsesIn es b
+  UsesAll q x es = (b : ℕ) → Has (taken (ccw_of j q) (bytes_at j q) x) b → UsesIn es b
 
   record SeekStep (y : ℕ) (q : Place) (g : Gathered) (x : List ℕ) : Type 0 where
     full : length (all_at q x) ≡ 6 → (es : List Event) × Step (storage_of j) y j.mask q g es (storage_of j) y j.mask Ended × Has es (Seek (Some (all_at q x))) × UsesAll q x es
-    on : length (all_at q x) < 6 → chains_data (word_at j q) ≡ true → (es : List Event) × Step (storage_of j) y j.mask q g es (storage_of j) y j.mask (At (straight_to (q.address + 8) ChainOut) (Some (all_at q x))) × NoSeek es × UsesAll q x es
-    short : length (all_at q x) < 6 → chains_data (word_at j q) ≡ false → (es : List Event) × Step (storage_of j) y j.mask q g es (storage_of j) y j.mask Ended × Has es (Seek None) × NoSeek es
+    on : length (all_at q x) < 6 → chains_data (ccw_of j q) ≡ true → (es : List Event) × Step (storage_of j) y j.mask q g es (storage_of j) y j.mask (At (straight_to (q.address + 8) ChainOut) (Some (all_at q x))) × NoSeek es × UsesAll q x es
+    short : length (all_at q x) < 6 → chains_data (ccw_of j q) ≡ false → (es : List Event) × Step (storage_of j) y j.mask q g es (storage_of j) y j.mask Ended × Has es (Seek None) × NoSeek es
 
   seek_step : (y : ℕ) (q : Place) (g : Gathered) (x : List ℕ) → Ready q g x → SeekStep y q g x
   seek_step y q g x r = go (subst (λ z. Left j c m z sk.es sk.after) r.under sk.left)
     where
       c : Fields
-      c = word_at j q
+      c = ccw_of j q
 
       m : ℕ
       m = bytes_at j q
 
-      few : IsFew (under_way q (word_at j q) g)
+      few : IsFew (under_way q (ccw_of j q) g)
       few = subst (λ z. IsFew z) (sym r.under) r.few
 
-      sk : CanSeek j (word_at j q) (bytes_at j q) y (under_way q (word_at j q) g)
+      sk : CanSeek j (ccw_of j q) (bytes_at j q) y (under_way q (ccw_of j q) g)
       sk = seek_at j y q g few
 
       whole : m ≡ c.count
@@ -101,26 +101,26 @@ module _ (j : Job) (bytes : AreBytes (storage_of j)) where
         short = λ lt cd. let six = left.0 in absurd (omega (arith, six));
       }
 
-  ready_out : (q : Place) (x : List ℕ) → length x < 6 → q.entered ≡ ChainOut → check (storage_of j) q ≡ None → is_transfer (word_at j q) ≡ false → Ready q (Some x) x
+  ready_out : (q : Place) (x : List ℕ) → length x < 6 → q.entered ≡ ChainOut → check (storage_of j) q ≡ None → is_transfer (ccw_of j q) ≡ false → Ready q (Some x) x
   ready_out q x few o e t = record {
-    under = ap (λ z. under_way (record q { entered = z }) (word_at j q) (Some x)) o;
+    under = ap (λ z. under_way (record q { entered = z }) (ccw_of j q) (Some x)) o;
     few = few;
     pass = e;
     no_transfer = t;
     known = λ f. let n = ap is_fresh o in absurd (both_ways _ n f);
-    outward = ap (λ z. kind_of z (word_at j q)) o;
-    no_home = ap (λ z. begins_recalibrate (record q { entered = z }) (word_at j q)) o;
+    outward = ap (λ z. kind_of z (ccw_of j q)) o;
+    no_home = ap (λ z. begins_recalibrate (record q { entered = z }) (ccw_of j q)) o;
   }
 
-  pub ready_fresh : (p : Place) (g : Gathered) → begins_seek p (word_at j p) ≡ true → check (storage_of j) p ≡ None → is_transfer (word_at j p) ≡ false → Known j p → Ready p g []
+  pub ready_fresh : (p : Place) (g : Gathered) → begins_seek p (ccw_of j p) ≡ true → check (storage_of j) p ≡ None → is_transfer (ccw_of j p) ≡ false → Known j p → Ready p g []
   ready_fresh p g b e t known = record {
     under = ap (λ z. if z then Some [] else g) b;
     few = omega arith;
     pass = e;
     no_transfer = t;
     known = known;
-    outward = fresh_out p (word_at j p) b;
-    no_home = go (is_fresh p.entered) (recalibrates (word_at j p).command) (seek_no_recalibrate _ (and_parts _ _ b).1);
+    outward = fresh_out p (ccw_of j p) b;
+    no_home = go (is_fresh p.entered) (recalibrates (ccw_of j p).command) (seek_no_recalibrate _ (and_parts _ _ b).1);
   }
     where
       go : (f h : Bool) → h ≡ false → (f && h) ≡ false
@@ -178,13 +178,13 @@ module _ (j : Job) (bytes : AreBytes (storage_of j)) where
     finish (suc fuel) l q g x go r w le old = cases (cases_lt (length all) 6) (λ q' go' w' r' old'. finish fuel l q' (Some all) all go' r' w' (omega (arith, len, positive, whole, r.few)) old')
       where
         c : Fields
-        c = word_at j q
+        c = ccw_of j q
 
         m : ℕ
         m = bytes_at j q
 
         all : List ℕ
-        all = with_taken (storage_of j) (word_at j q) (bytes_at j q) x
+        all = with_taken (storage_of j) (ccw_of j q) (bytes_at j q) x
 
         whole : m ≡ c.count
         whole = ap (λ k. full_count k c) r.outward
@@ -231,7 +231,7 @@ module _ (j : Job) (bytes : AreBytes (storage_of j)) where
                 let part = subst (λ a. is_part (storage_of j) a ≡ true) (sym e) (chain_begins_with_part (storage_of j) _ _ _ w'.chain) in
                 rec next go' w' (ready_out next all lt refl (part_passes (storage_of j) next part refl) (part_is_no_transfer (storage_of j) next.address part)) old'
             lead w' go' old' (inr e) =
-                let q'' : Place = transferred_to (word_at j next).address ChainOut in
+                let q'' : Place = transferred_to (ccw_of j next).address ChainOut in
                 let go'' = push q'' (Some all) go' (transferred (transfer_passes (storage_of j) next e.1 e.2 e.0) e.2) (λ z h. h) refl in
                 let part = subst (λ a. is_part (storage_of j) a ≡ true) (sym e.3) (chain_begins_with_part (storage_of j) _ _ _ w'.chain) in
                 rec q'' go'' (transfer_on (storage_of j) l next all w' e.2) (ready_out q'' all lt refl (part_passes (storage_of j) q'' part refl) (part_is_no_transfer (storage_of j) q''.address part)) (λ b h. inr (old' b h))
@@ -249,18 +249,18 @@ module _ (j : Job) (bytes : AreBytes (storage_of j)) where
     abbrev StopsFrom : List ℕ → Type 0
     StopsFrom x = (q : Place) → Going q (Some x) → Ready q (Some x) x → ((l : List ℕ) → IsChain (storage_of j) (6 - length x) q.address l → ⊥) → ShowsInOperation j p ps Stops
 
-    pub stop : check (storage_of j) p ≡ None → begins_seek p (word_at j p) ≡ true → (fuel : ℕ) (q : Place) (g : Gathered) (x : List ℕ) → Going q g → Ready q g x → 6 - length x ≤ fuel → ((l : List ℕ) → IsChain (storage_of j) (6 - length x) q.address l → ⊥) → ShowsInOperation j p ps Stops
+    pub stop : check (storage_of j) p ≡ None → begins_seek p (ccw_of j p) ≡ true → (fuel : ℕ) (q : Place) (g : Gathered) (x : List ℕ) → Going q g → Ready q g x → 6 - length x ≤ fuel → ((l : List ℕ) → IsChain (storage_of j) (6 - length x) q.address l → ⊥) → ShowsInOperation j p ps Stops
     stop pass b zero q g x go r le no_chain = let few = r.few in absurd (omega arith)
     stop pass b (suc fuel) q g x go r le no_chain = cases (cases_lt (length all) 6) (cases_Bool (chains_data c)) (λ lt q' go' r' n. stop pass b fuel q' (Some all) all go' r' (omega (arith, len, positive, whole, r.few)) n)
       where
         c : Fields
-        c = word_at j q
+        c = ccw_of j q
 
         m : ℕ
         m = bytes_at j q
 
         all : List ℕ
-        all = with_taken (storage_of j) (word_at j q) (bytes_at j q) x
+        all = with_taken (storage_of j) (ccw_of j q) (bytes_at j q) x
 
         whole : m ≡ c.count
         whole = ap (λ k. full_count k c) r.outward
@@ -284,19 +284,19 @@ module _ (j : Job) (bytes : AreBytes (storage_of j)) where
         none_from : length all < 6 → chains_data c ≡ true → (a : ℕ) → Leads (storage_of j) q.address a → (l : List ℕ) → IsChain (storage_of j) (6 - length all) a l → ⊥
         none_from lt cd a to l k = no_chain (q.address ∷ l) (chain_cons (storage_of j) _ q.address a l part cd to (omega (arith, len, whole)) (subst (λ n. IsChain (storage_of j) n a l) (omega (arith, len, whole)) k))
 
-        at_next' : length all < 6 → chains_data c ≡ true → Going next (Some all) → StopsFrom all → (o : Option Reason) → check (storage_of j) next ≡ o → (is_transfer (word_at j next) ≡ true) ⊎ (is_transfer (word_at j next) ≡ false) → ShowsInOperation j p ps Stops
+        at_next' : length all < 6 → chains_data c ≡ true → Going next (Some all) → StopsFrom all → (o : Option Reason) → check (storage_of j) next ≡ o → (is_transfer (ccw_of j next) ≡ true) ⊎ (is_transfer (ccw_of j next) ≡ false) → ShowsInOperation j p ps Stops
         at_next' lt cd go' rec (Some t) e z = close go' (checked e) (pass, b, (λ z h. h), inr (t, refl))
         at_next' lt cd go' rec None e (inr t) = rec next go' (ready_out next all lt refl e t) (none_from lt cd next.address (inl refl))
         at_next' lt cd go' rec None e (inl t) =
-            let q'' : Place = transferred_to (word_at j next).address ChainOut in
+            let q'' : Place = transferred_to (ccw_of j next).address ChainOut in
             let go'' = push q'' (Some all) go' (transferred e t) (λ z h. h) refl in
             target go'' (check (storage_of j) q'') refl
           where
-            target : Going (transferred_to (word_at j next).address ChainOut) (Some all) → (o : Option Reason) → check (storage_of j) (transferred_to (word_at j next).address ChainOut) ≡ o → ShowsInOperation j p ps Stops
+            target : Going (transferred_to (ccw_of j next).address ChainOut) (Some all) → (o : Option Reason) → check (storage_of j) (transferred_to (ccw_of j next).address ChainOut) ≡ o → ShowsInOperation j p ps Stops
             target go'' (Some u) f = close go'' (checked f) (pass, b, (λ z h. h), inr (u, refl))
-            target go'' None f = rec _ go'' (ready_out _ all lt refl f (no_second_transfer (storage_of j) _ f refl)) (none_from lt cd (word_at j next).address (inr (check_stands (storage_of j) next e, t, refl)))
+            target go'' None f = rec _ go'' (ready_out _ all lt refl f (no_second_transfer (storage_of j) _ f refl)) (none_from lt cd (ccw_of j next).address (inr (check_stands (storage_of j) next e, t, refl)))
 
         cases : (length all < 6) ⊎ (6 ≤ length all) → (chains_data c ≡ true) ⊎ (chains_data c ≡ false) → (length all < 6 → StopsFrom all) → ShowsInOperation j p ps Stops
         cases (inr ge) z rec = absurd (no_chain (q.address ∷ []) (record { begins = refl; linked = part; short = omega (arith, r.few); enough = omega (arith, len, whole, r.few) }))
         cases (inl lt) (inr cd) rec = let s = st.short lt cd in close go s.1 (pass, b, s.3, inl s.2)
-        cases (inl lt) (inl cd) rec = let s = st.on lt cd in at_next' lt cd (push next (Some all) go s.1 s.2 refl) (rec lt) (check (storage_of j) next) refl (cases_Bool (is_transfer (word_at j next)))
+        cases (inl lt) (inl cd) rec = let s = st.on lt cd in at_next' lt cd (push next (Some all) go s.1 s.2 refl) (rec lt) (check (storage_of j) next) refl (cases_Bool (is_transfer (ccw_of j next)))

@@ -16,7 +16,7 @@ use Rattle.chan_walk.specs.Fault.{kind_of, begins_seek, IsClear}
 use Rattle.chan_walk.specs.Headline.{IsGathered}
 use Rattle.chan_walk.specs.Job.{storage_of, extents_of}
 use Rattle.chan_walk.specs.Machine.{Gathered, At, Event, under_way, Continues, on_data, on_command, on_skip, Step, transferred}
-use Rattle.chan_walk.specs.Place.{straight_to, transferred_to, word_at}
+use Rattle.chan_walk.specs.Place.{straight_to, transferred_to, ccw_of}
 use Rattle.chan_walk.specs.Reachable.{IsPath}
 use Rattle.chan_walk.specs.Runs.{Moment, IsRun}
 use Rattle.chan_walk.specs.Successors.{chained}
@@ -41,7 +41,7 @@ module _ (j : Job) where
   -- a seek under way at p, whose chain is known
   abbrev Comes : Place → Gathered → Type 0
   Comes p None = Unit {0}
-  Comes p (Some x) = (kind_at j p ≡ Outward) × (length x < 6) × (l : List ℕ) × (before : List ℕ) × ((m : ℕ) → m ≤ (word_at j p).count → Advance (storage_of j) l p (word_at j p) x m before)
+  Comes p (Some x) = (kind_at j p ≡ Outward) × (length x < 6) × (l : List ℕ) × (before : List ℕ) × ((m : ℕ) → m ≤ (ccw_of j p).count → Advance (storage_of j) l p (ccw_of j p) x m before)
 
   few_of : (p : Place) (g : Gathered) → Comes p g → IsFew g
   few_of p None h = tt
@@ -50,8 +50,8 @@ module _ (j : Job) where
   few_read : (p : Place) (x : List ℕ) (l : List ℕ) → IsGathered (storage_of j) l p x → length x < 6
   few_read p x l w = let few = w.few in let len = ap length w.read ∙ length-map w.before (byte (storage_of j)) in subst (λ n. n < 6) (sym len) few
 
-  pub few_at : (p : Place) (g : Gathered) → Taking p g → IsFew (under_way p (word_at j p) g)
-  few_at p g tk = go (begins_seek p (word_at j p)) g tk
+  pub few_at : (p : Place) (g : Gathered) → Taking p g → IsFew (under_way p (ccw_of j p) g)
+  few_at p g tk = go (begins_seek p (ccw_of j p)) g tk
     where
       old : (g : Gathered) → Taking p g → IsFew g
       old None tk = tt
@@ -61,42 +61,42 @@ module _ (j : Job) where
       go true g tk = omega arith
       go false g tk = old g tk
 
-  comes_at : (p : Place) (g : Gathered) → Taking p g → IsClear j p → is_transfer (word_at j p) ≡ false → Comes p (under_way p (word_at j p) g)
-  comes_at p g tk f t = come (begins_seek p (word_at j p)) refl g tk
+  comes_at : (p : Place) (g : Gathered) → Taking p g → IsClear j p → is_transfer (ccw_of j p) ≡ false → Comes p (under_way p (ccw_of j p) g)
+  comes_at p g tk f t = come (begins_seek p (ccw_of j p)) refl g tk
     where
-      good : IsGood j p (word_at j p) f.0
+      good : IsGood j p (ccw_of j p) f.0
       good = clear_good j p f t
 
       old : (g : Gathered) → Taking p g → Comes p g
       old None u = tt
-      old (Some x) u = (ap (λ e. kind_of e (word_at j p)) u.0, few_read p x u.1 u.2, u.1, u.2.before, λ m le. advance (storage_of j) u.1 p x m u.2 t le)
+      old (Some x) u = (ap (λ e. kind_of e (ccw_of j p)) u.0, few_read p x u.1 u.2, u.1, u.2.before, λ m le. advance (storage_of j) u.1 p x m u.2 t le)
 
-      new : begins_seek p (word_at j p) ≡ true → (x : Option (List ℕ)) → HasArgument (storage_of j) p.address x → is_none x ≡ false → Comes p (Some [])
+      new : begins_seek p (ccw_of j p) ≡ true → (x : Option (List ℕ)) → HasArgument (storage_of j) p.address x → is_none x ≡ false → Comes p (Some [])
       new e None h miss = absurd (cc)
-      new e (Some x) h miss = (fresh_out p (word_at j p) e, omega arith, h.0, [], λ m le. advance (storage_of j) h.0 p [] m (begin (storage_of j) h.0 p h.1) t le)
+      new e (Some x) h miss = (fresh_out p (ccw_of j p) e, omega arith, h.0, [], λ m le. advance (storage_of j) h.0 p [] m (begin (storage_of j) h.0 p h.1) t le)
 
-      come : (b : Bool) → begins_seek p (word_at j p) ≡ b → (g : Gathered) → Taking p g → Comes p (if b then Some [] else g)
+      come : (b : Bool) → begins_seek p (ccw_of j p) ≡ b → (g : Gathered) → Taking p g → Comes p (if b then Some [] else g)
       come true e g u = new e f.0 f.1 (good.argued e)
       come false e g u = old g u
 
   -- what a seek goes on with after p, if it does
   abbrev Onward : Place → Gathered → Type 0
   Onward p None = Unit {0}
-  Onward p (Some x) = (kind_at j p ≡ Outward) × (chains_data (word_at j p) ≡ true) × (l : List ℕ) × IsGathered (storage_of j) l (straight_to (p.address + 8) ChainOut) x
+  Onward p (Some x) = (kind_at j p ≡ Outward) × (chains_data (ccw_of j p) ≡ true) × (l : List ℕ) × IsGathered (storage_of j) l (straight_to (p.address + 8) ChainOut) x
 
-  onward_of : (p : Place) (g : Gathered) (es : List Event) (after : Gathered) → Comes p g → Left j (word_at j p) (bytes_at j p) g es after → Onward p after
+  onward_of : (p : Place) (g : Gathered) (es : List Event) (after : Gathered) → Comes p g → Left j (ccw_of j p) (bytes_at j p) g es after → Onward p after
   onward_of p None es after h left = subst (λ z. Onward p z) (sym left.0) tt
   onward_of p (Some x) es after h (inr left) = subst (λ z. Onward p z) (sym left.1) tt
   onward_of p (Some x) es after h (inl left) =
-      let whole : bytes_at j p ≡ (word_at j p).count = ap (λ k. full_count k (word_at j p)) h.0 in
-      let adv : Advance (storage_of j) h.2 p (word_at j p) x (bytes_at j p) h.3 = h.4 (bytes_at j p) (omega arith) in
+      let whole : bytes_at j p ≡ (ccw_of j p).count = ap (λ k. full_count k (ccw_of j p)) h.0 in
+      let adv : Advance (storage_of j) h.2 p (ccw_of j p) x (bytes_at j p) h.3 = h.4 (bytes_at j p) (omega arith) in
       subst (λ z. Onward p z) (sym left.1) (h.0, adv.chains left.0 whole, h.2, (adv.on left.0 whole).0)
 
   -- where data chaining is off, no seek goes on
-  none_left : (y : ℕ) (p : Place) (g : Gathered) (tk : Taking p g) (f : IsClear j p) (t : is_transfer (word_at j p) ≡ false) → chains_data (word_at j p) ≡ false → (seek_at j y p g (few_of p (under_way p (word_at j p) g) (comes_at p g tk f t))).after ≡ None
+  none_left : (y : ℕ) (p : Place) (g : Gathered) (tk : Taking p g) (f : IsClear j p) (t : is_transfer (ccw_of j p) ≡ false) → chains_data (ccw_of j p) ≡ false → (seek_at j y p g (few_of p (under_way p (ccw_of j p) g) (comes_at p g tk f t))).after ≡ None
   none_left y p g tk f t cd =
       let come = comes_at p g tk f t in
-      let sk = seek_at j y p g (few_of p (under_way p (word_at j p) g) come) in
+      let sk = seek_at j y p g (few_of p (under_way p (ccw_of j p) g) come) in
       go sk.after (onward_of p _ sk.es sk.after come sk.left)
     where
       go : (after : Gathered) → Onward p after → after ≡ None
@@ -110,21 +110,21 @@ module _ (j : Job) where
     quiet : AllByRecursion (IsQuiet j) es
     taking : Taking q after
 
-  can_step : AreBytes (storage_of j) → (y : ℕ) (p : Place) (g : Gathered) {q : Place} → Taking p g → IsClear j p → Follows p (word_at j p) (kind_at j p) q → CanStep y p g q
+  can_step : AreBytes (storage_of j) → (y : ℕ) (p : Place) (g : Gathered) {q : Place} → Taking p g → IsClear j p → Follows p (ccw_of j p) (kind_at j p) q → CanStep y p g q
   can_step bytes y p g tk f (by_transfer t) =
       record { es = []; after = g; step = transferred (clear_check j p f) t; quiet = tt; taking = carry g tk }
     where
-      carry : (g : Gathered) → Taking p g → Taking (transferred_to (word_at j p).address p.entered) g
+      carry : (g : Gathered) → Taking p g → Taking (transferred_to (ccw_of j p).address p.entered) g
       carry None u = tt
       carry (Some x) u = (u.0, u.1, transfer_on (storage_of j) u.1 p x u.2 t)
   can_step bytes y p g tk f (by_data {e = e} t cd ch) =
       let come = comes_at p g tk f t in
-      let few = few_of p (under_way p (word_at j p) g) come in
+      let few = few_of p (under_way p (ccw_of j p) g) come in
       let sk = seek_at j y p g few in
       let r = carry_out j bytes y p g few (clear_check j p f) t (clear_good j p f t).known tt (on_data cd ch (whole (kind_at j p) ch)) in
       record { es = r.es; after = sk.after; step = r.step; quiet = r.quiet; taking = carry sk.after (onward_of p _ sk.es sk.after come sk.left) }
     where
-      whole : (k : Kind) → chained k ≡ Some e → full_count k (word_at j p) ≡ (word_at j p).count
+      whole : (k : Kind) → chained k ≡ Some e → full_count k (ccw_of j p) ≡ (ccw_of j p).count
       whole Idle h = absurd (cc)
       whole Inward h = refl
       whole Outward h = refl
@@ -134,14 +134,14 @@ module _ (j : Job) where
       carry None u = tt
       carry (Some x) u = let same = chained_out (kind_at j p) u.0 ch in (same, u.2, subst (λ z. IsGathered (storage_of j) u.2 (straight_to (p.address + 8) z) x) (sym same) u.3)
   can_step bytes y p g tk f (by_command t cd cc') =
-      let few = few_of p (under_way p (word_at j p) g) (comes_at p g tk f t) in
+      let few = few_of p (under_way p (ccw_of j p) g) (comes_at p g tk f t) in
       let n = none_left y p g tk f t cd in
-      let r = carry_out j bytes y p g few (clear_check j p f) t (clear_good j p f t).known tt (subst (λ z. Continues p (word_at j p) (kind_at j p) (bytes_at j p) z [] (At (straight_to (p.address + 8) Fresh) None)) (sym n) (on_command cd cc')) in
+      let r = carry_out j bytes y p g few (clear_check j p f) t (clear_good j p f t).known tt (subst (λ z. Continues p (ccw_of j p) (kind_at j p) (bytes_at j p) z [] (At (straight_to (p.address + 8) Fresh) None)) (sym n) (on_command cd cc')) in
       record { es = r.es; after = None; step = r.step; quiet = r.quiet; taking = tt }
   can_step bytes y p g tk f (by_skip t cd cc' ks) =
-      let few = few_of p (under_way p (word_at j p) g) (comes_at p g tk f t) in
+      let few = few_of p (under_way p (ccw_of j p) g) (comes_at p g tk f t) in
       let n = none_left y p g tk f t cd in
-      let r = carry_out j bytes y p g few (clear_check j p f) t (clear_good j p f t).known tt (subst (λ z. Continues p (word_at j p) (kind_at j p) (bytes_at j p) z [] (At (straight_to (p.address + 16) Fresh) None)) (sym n) (on_skip cd cc' ks)) in
+      let r = carry_out j bytes y p g few (clear_check j p f) t (clear_good j p f t).known tt (subst (λ z. Continues p (ccw_of j p) (kind_at j p) (bytes_at j p) z [] (At (straight_to (p.address + 16) Fresh) None)) (sym n) (on_skip cd cc' ks)) in
       record { es = r.es; after = None; step = r.step; quiet = r.quiet; taking = tt }
 
   -- a path is a run
@@ -166,7 +166,7 @@ module _ (j : Job) where
   }
   path_runs bytes h q (p ∷ ps) e =
       let r = path_runs bytes h p ps e.0 in
-      let s = can_step bytes (first_cylinder (extents_of j)) p r.gathered r.taking e.1 (follows p (word_at j p) (kind_at j p) q e.2) in
+      let s = can_step bytes (first_cylinder (extents_of j)) p r.gathered r.taking e.1 (follows p (ccw_of j p) (kind_at j p) q e.2) in
       record {
         gathered = s.after;
         events = s.es;

@@ -15,7 +15,7 @@ use Rattle.chan_walk.specs.Check.{check}
 use Rattle.chan_walk.specs.Fault.{kind_of, goes_in, goes_out, is_known, begins_recalibrate, begins_set_mask}
 use Rattle.chan_walk.specs.Job.{storage_of}
 use Rattle.chan_walk.specs.Machine.{Gathered, Stage, Event, Command, Store, Fetch, Gather, Seek, SetMask, home, Moves, idle, skipped, stored, written, searched, taken, with_taken, Seeks, none, part, stays, under_way, Recalibration, no_home, home_stays, SetsMask, no_mask, no_byte, mask_stays, Continues, begun, Step, carried}
-use Rattle.chan_walk.specs.Place.{is_fresh, word_at}
+use Rattle.chan_walk.specs.Place.{is_fresh, ccw_of}
 use Rattle.chan_walk.specs.Runs.{UsesIn}
 use Rattle.chan_walk.proofs.Machine.Events.{uses_left, uses_right, no_seek_append}
 use Rattle.chan_walk.proofs.Theory.Lists.{all_append, has_left, has_right, byte-map-range}
@@ -53,18 +53,18 @@ length-with_taken s c m x = length-append x (map (byte s) (taken c m x)) ∙ ap 
 
 module _ (j : Job) where
   abbrev pub kind_at : Place → Kind
-  kind_at p = kind_of p.entered (word_at j p)
+  kind_at p = kind_of p.entered (ccw_of j p)
 
   -- how many bytes the CCW at p moves at most
   abbrev pub bytes_at : Place → ℕ
-  bytes_at p = full_count (kind_at p) (word_at j p)
+  bytes_at p = full_count (kind_at p) (ccw_of j p)
 
   -- what storage holds in the range of a CCW
   abbrev pub there : Fields → List ℕ
   there c = map (byte (storage_of j)) (range_with_len c.address c.count)
 
   abbrev pub Known : Place → Type 0
-  Known p = is_fresh p.entered ≡ true → is_known (word_at j p).command ≡ true
+  Known p = is_fresh p.entered ≡ true → is_known (ccw_of j p).command ≡ true
 
   -- ---- the data
 
@@ -179,25 +179,25 @@ module _ (j : Job) where
 
   -- ---- the whole step
 
-  pub seek_at : (y : ℕ) (p : Place) (g : Gathered) → IsFew (under_way p (word_at j p) g) → CanSeek (word_at j p) (bytes_at p) y (under_way p (word_at j p) g)
-  seek_at y p g few = can_seek (word_at j p) (bytes_at p) y (under_way p (word_at j p) g) few
+  pub seek_at : (y : ℕ) (p : Place) (g : Gathered) → IsFew (under_way p (ccw_of j p) g) → CanSeek (ccw_of j p) (bytes_at p) y (under_way p (ccw_of j p) g)
+  seek_at y p g few = can_seek (ccw_of j p) (bytes_at p) y (under_way p (ccw_of j p) g) few
 
   -- a step from p to st, at which sk is what becomes of the seek under way
   pub record Carried (y : ℕ) (p : Place) (g : Gathered) (sk went : List Event) (st : Stage) : Type 0 where
     pub es : List Event
     pub step : Step (storage_of j) y j.mask p g es (storage_of j) y j.mask st
     pub quiet : AllByRecursion (IsQuiet j) es
-    pub begins : is_fresh p.entered ≡ true → Has es (Command (word_at j p).command)
-    pub stores : goes_in (kind_at p) ≡ true → skips (word_at j p) ≡ false → Has es (Store (word_at j p).address (there (word_at j p)))
-    pub fetches : goes_out (kind_at p) ≡ true → Has es (Fetch (word_at j p).address (word_at j p).count)
+    pub begins : is_fresh p.entered ≡ true → Has es (Command (ccw_of j p).command)
+    pub stores : goes_in (kind_at p) ≡ true → skips (ccw_of j p) ≡ false → Has es (Store (ccw_of j p).address (there (ccw_of j p)))
+    pub fetches : goes_out (kind_at p) ≡ true → Has es (Fetch (ccw_of j p).address (ccw_of j p).count)
     pub sought : (e : Event) → Has sk e → Has es e
     pub uses : (b : ℕ) → UsesIn sk b → UsesIn es b
-    pub home : begins_recalibrate p (word_at j p) ≡ true → Has es (Seek (Some home))
-    pub masks : begins_set_mask p (word_at j p) ≡ true → 0 < bytes_at p → Has es (SetMask (word_at j p).address (byte (storage_of j) (word_at j p).address))
+    pub home : begins_recalibrate p (ccw_of j p) ≡ true → Has es (Seek (Some home))
+    pub masks : begins_set_mask p (ccw_of j p) ≡ true → 0 < bytes_at p → Has es (SetMask (ccw_of j p).address (byte (storage_of j) (ccw_of j p).address))
     pub last : (e : Event) → Has went e → Has es e
-    pub no_seek : begins_recalibrate p (word_at j p) ≡ false → NoSeek sk → NoSeek went → NoSeek es
+    pub no_seek : begins_recalibrate p (ccw_of j p) ≡ false → NoSeek sk → NoSeek went → NoSeek es
 
-  pub carry_out : AreBytes (storage_of j) → (y : ℕ) (p : Place) (g : Gathered) (few : IsFew (under_way p (word_at j p) g)) → check (storage_of j) p ≡ None → is_transfer (word_at j p) ≡ false → Known p → {went : List Event} {st : Stage} → AllByRecursion (IsQuiet j) went → Continues p (word_at j p) (kind_at p) (bytes_at p) (seek_at y p g few).after went st → Carried y p g (seek_at y p g few).es went st
+  pub carry_out : AreBytes (storage_of j) → (y : ℕ) (p : Place) (g : Gathered) (few : IsFew (under_way p (ccw_of j p) g)) → check (storage_of j) p ≡ None → is_transfer (ccw_of j p) ≡ false → Known p → {went : List Event} {st : Stage} → AllByRecursion (IsQuiet j) went → Continues p (ccw_of j p) (kind_at p) (bytes_at p) (seek_at y p g few).after went st → Carried y p g (seek_at y p g few).es went st
   carry_out bytes y p g few e t known {went = went} calm goes = record {
     es = begun p c ++ mv.es ++ sk.es ++ hm.es ++ fm.es ++ went;
     step = carried e t known (full_le (kind_at p) c) mv.moves sk.seeks hm.homes fm.sets goes;
@@ -214,7 +214,7 @@ module _ (j : Job) where
   }
     where
       c : Fields
-      c = word_at j p
+      c = ccw_of j p
 
       mv : CanMove c (kind_at p)
       mv = can_move bytes c (kind_at p)

@@ -19,7 +19,7 @@ use Rattle.chan_walk.specs.Guarded.{IsGuarded}
 use Rattle.chan_walk.specs.Headline.{IsUnchecked, IsSafeMoment, IsSafeEvent, Holds, YesIsSafe, IsAtReachable, GathersPart, GuardedStays, StaysReachable, GathersArguments}
 use Rattle.chan_walk.specs.Job.{storage_of, HasMask}
 use Rattle.chan_walk.specs.Machine.{Gathered, Stage, At, Ended, Checked, Event, Step, checked, transferred, unknown, carried, StepFrom}
-use Rattle.chan_walk.specs.Place.{transferred_to, word_at}
+use Rattle.chan_walk.specs.Place.{transferred_to, ccw_of}
 use Rattle.chan_walk.specs.Reachable.{IsReachable}
 use Rattle.chan_walk.specs.Runs.{Moment, IsRun, UsesAt, UsesIn, UsesInCcw, UsesInArgument, Uses}
 use Rattle.chan_walk.specs.Verdict.{IsVerdict}
@@ -46,39 +46,39 @@ module _ (j : Job) (v : IsVerdict j Yes) where
   clear_at : (p : Place) → IsReachable j p → IsClear j p
   clear_at = yes_clear j v
 
-  onward : (p q : Place) → IsReachable j p → Follows p (word_at j p) (kind_of p.entered (word_at j p)) q → IsReachable j q
+  onward : (p q : Place) → IsReachable j p → Follows p (ccw_of j p) (kind_of p.entered (ccw_of j p)) q → IsReachable j q
   onward p q r f = (p ∷ r.0, (r.1, clear_at p r, succeeds _ _ _ _ f))
 
-  apart_at : (p : Place) → IsReachable j p → stores p (word_at j p) ≡ true → (b : ℕ) → IsGuarded j b → (word_at j p).address ≤ b → b < (word_at j p).address + (word_at j p).count → ⊥
+  apart_at : (p : Place) → IsReachable j p → stores p (ccw_of j p) ≡ true → (b : ℕ) → IsGuarded j b → (ccw_of j p).address ≤ b → b < (ccw_of j p).address + (ccw_of j p).count → ⊥
   apart_at p r st b (inl u) le lt = v p ChangesCcw r (inr (clear_at, inl (refl, record { stores = st; at = b; from = le; below = lt; holds = u })))
   apart_at p r st b (inr u) le lt = v p ChangesArgument r (inr (clear_at, inr (refl, record { stores = st; at = b; from = le; below = lt; holds = u })))
 
-  ccw_kept : (s : List ℕ) (p : Place) → Same j s → IsReachable j p → ccw s p.address ≡ word_at j p
+  ccw_kept : (s : List ℕ) (p : Place) → Same j s → IsReachable j p → ccw s p.address ≡ ccw_of j p
   ccw_kept s p same r =
       let st = check_stands (storage_of j) p (clear_check j p (clear_at p r)) in
       same_ccw s (storage_of j) p.address (λ b le lt. same b (inl (record { place = p; reached = r; stands = st; from = le; below = lt })))
 
-  here_at : (p : Place) (g : Gathered) → IsReachable j p → Under j p g → is_transfer (word_at j p) ≡ false → Here j p (word_at j p) g
+  here_at : (p : Place) (g : Gathered) → IsReachable j p → Under j p g → is_transfer (ccw_of j p) ≡ false → Here j p (ccw_of j p) g
   here_at p g r u t = record {
     x = f.0;
     good = good;
     follows = λ q w. onward p q r w;
     apart = λ i k. apart_at p r (stores_from _ _ _ t i k);
-    seek = come (begins_seek p (word_at j p)) g u refl;
+    seek = come (begins_seek p (ccw_of j p)) g u refl;
     mask = λ e. inr (record { place = p; reached = r; clear = f; takes = inr (record { sets = e; at = refl }) });
   }
     where
       f : IsClear j p
       f = clear_at p r
 
-      good : IsGood j p (word_at j p) f.0
+      good : IsGood j p (ccw_of j p) f.0
       good = clear_good j p f t
 
-      old : (g : Gathered) → Under j p g → Comes j p (word_at j p) g
+      old : (g : Gathered) → Under j p g → Comes j p (ccw_of j p) g
       old None u = tt
-      old (Some x) u = record { l = u.1; sought = u.2; before = u.3.before; advance = λ m le. advance (storage_of j) u.1 p x m u.3 t le; outward = ap (λ e. kind_of e (word_at j p)) u.0 }
+      old (Some x) u = record { l = u.1; sought = u.2; before = u.3.before; advance = λ m le. advance (storage_of j) u.1 p x m u.3 t le; outward = ap (λ e. kind_of e (ccw_of j p)) u.0 }
 
-      new : begins_seek p (word_at j p) ≡ true → (x : Option (List ℕ)) → HasArgument (storage_of j) p.address x → is_none x ≡ false → is_refused j x ≡ false → Coming j p (word_at j p) []
+      new : begins_seek p (ccw_of j p) ≡ true → (x : Option (List ℕ)) → HasArgument (storage_of j) p.address x → is_none x ≡ false → is_refused j x ≡ false → Coming j p (ccw_of j p) []
       new e None h miss ref = absurd (cc)
       new e (Some x) h miss ref = record {
         l = h.0;
@@ -92,10 +92,10 @@ module _ (j : Job) (v : IsVerdict j Yes) where
         };
         before = [];
         advance = λ m le. advance (storage_of j) h.0 p [] m (begin (storage_of j) h.0 p h.1) t le;
-        outward = fresh_out p (word_at j p) e;
+        outward = fresh_out p (ccw_of j p) e;
       }
 
-      come : (b : Bool) (g : Gathered) → Under j p g → begins_seek p (word_at j p) ≡ b → Comes j p (word_at j p) (if b then Some [] else g)
+      come : (b : Bool) (g : Gathered) → Under j p g → begins_seek p (ccw_of j p) ≡ b → Comes j p (ccw_of j p) (if b then Some [] else g)
       come true g u e = new e f.0 f.1 (good.argued e) (good.allowed e)
       come false g u e = old g u
 
@@ -107,7 +107,7 @@ module _ (j : Job) (v : IsVerdict j Yes) where
       absurd (cc)
   step_ok {s = s} {y = y} {f = f} {p = p} {g = g} (transferred e t) k =
       let c = ccw_kept s p k.same k.stage.0 in
-      let t' : is_transfer (word_at j p) ≡ true = ap is_transfer (sym c) ∙ t in
+      let t' : is_transfer (ccw_of j p) ≡ true = ap is_transfer (sym c) ∙ t in
       record {
         kept = subst (λ z. Invariant j s y f (At (transferred_to z.address p.entered) g)) (sym c)
             (record { same_length = k.same_length; same = k.same; inside = k.inside; strict = k.strict; stage = (onward p _ k.stage.0 (by_transfer t'), carry g t' k.stage.1) });
@@ -115,17 +115,17 @@ module _ (j : Job) (v : IsVerdict j Yes) where
         used = λ b u. absurd u;
       }
     where
-      carry : (g : Gathered) → is_transfer (word_at j p) ≡ true → Under j p g → Under j (transferred_to (word_at j p).address p.entered) g
+      carry : (g : Gathered) → is_transfer (ccw_of j p) ≡ true → Under j p g → Under j (transferred_to (ccw_of j p).address p.entered) g
       carry None t' u = tt
       carry (Some x) t' u = (u.0, u.1, u.2, transfer_on (storage_of j) u.1 p x u.3 t')
   step_ok {s = s} {p = p} {g = g} (unknown e t fr un) k =
       let c = ccw_kept s p k.same k.stage.0 in
-      let t' : is_transfer (word_at j p) ≡ false = ap is_transfer (sym c) ∙ t in
+      let t' : is_transfer (ccw_of j p) ≡ false = ap is_transfer (sym c) ∙ t in
       let known = (here_at p g k.stage.0 k.stage.1 t').good.known fr in
       absurd (both_ways _ un (ap (λ z. is_known z.command) c ∙ known))
   step_ok {s = s} {p = p} {g = g} (carried e t known le mv sk hm fm gs) k =
       let c = ccw_kept s p k.same k.stage.0 in
-      let t' : is_transfer (word_at j p) ≡ false = ap is_transfer (sym c) ∙ t in
+      let t' : is_transfer (ccw_of j p) ≡ false = ap is_transfer (sym c) ∙ t in
       carried_ok j p (ccw s p.address) g (subst (λ z. Here j p z g) (sym c) (here_at p g k.stage.0 k.stage.1 t')) k t le mv sk hm fm gs
 
   from_ok : {s : List ℕ} {y f : ℕ} (at : Stage) {es : List Event} {t : List ℕ} {y' f' : ℕ} {st : Stage} → StepFrom s y f at es t y' f' st → Invariant j s y f at → Stepped j t y' f' st es

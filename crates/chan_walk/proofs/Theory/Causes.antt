@@ -14,13 +14,13 @@ use Rattle.chan_walk.specs.declared.place.Place.{Place}
 use Rattle.chan_walk.specs.declared.reason.Reason.{Reason}
 use Rattle.chan_walk.specs.declared.reason.Reason.TheVariants.{Misaligned, OutsideStorage, TransferNotAllowed, InvalidCode, BadFormat, ZeroCount, DataOutside, NotInTable, Inhibited, StoreNotLent, FetchNotLent, ShortSeek, SeekOutside, ChangesCcw, ChangesArgument, WeakensMask}
 use Rattle.chan_walk.specs.Argument.{HasArgument}
-use Rattle.chan_walk.specs.Check.{check, check_of, first_reason, table_of_any, table_of_word}
+use Rattle.chan_walk.specs.Check.{check, check_of, first_reason, table_of_every_ccw, table_of_non_transfer}
 use Rattle.chan_walk.specs.Evidence.{FailsToSeek, IsArgumentIn, IsCcwIn, IsFirstGap, SeeksTo, data_at}
 use Rattle.chan_walk.specs.Fault.{HasFault, allows, begins_recalibrate, begins_seek, is_refused, table_of_own}
 use Rattle.chan_walk.specs.Guarded.{IsArgumentByte, IsCcwByte}
 use Rattle.chan_walk.specs.Job.{extents_of, fetch_of, heads, storage_of, store_of}
 use Rattle.chan_walk.specs.Machine.{home}
-use Rattle.chan_walk.specs.Place.{word_at}
+use Rattle.chan_walk.specs.Place.{ccw_of}
 use Rattle.chan_walk.specs.Ranges.{end_of}
 use Rattle.chan_walk.specs.Reachable.{IsReachable}
 use Rattle.chan_walk.specs.Verdict.{AreClear, Offends, StoresOver}
@@ -38,7 +38,7 @@ module _ (j : Job) (p : Place) where
   -- the data of the CCW there lies in storage, and some byte of it in none of the areas
   abbrev pub IsUncovered : List Area → Type 0
   IsUncovered areas =
-      ((word_at j p).address + (word_at j p).count ≤ length s) × (covered areas (word_at j p).address (word_at j p).count ≡ false)
+      ((ccw_of j p).address + (ccw_of j p).count ≤ length s) × (covered areas (ccw_of j p).address (ccw_of j p).count ≡ false)
 
   -- what each reason says of the place
   abbrev pub Told : Reason → Type 0
@@ -59,16 +59,16 @@ module _ (j : Job) (p : Place) where
   Told Inhibited = Stands s p.address × Unit {0}
   Told WeakensMask = Stands s p.address × Unit {0}
 
-  any_stands : first_reason (table_of_any (length s) p (word_at j p)) ≡ None → Stands s p.address
+  any_stands : first_reason (table_of_every_ccw (length s) p (ccw_of j p)) ≡ None → Stands s p.address
   any_stands n = let b = cond_none _ _ _ n in let d = cond_none _ _ _ b.1 in (not-false _ b.0, not-false _ d.0)
 
   check_told : (r : Reason) → check s p ≡ Some r → Told r
   unfolding check_of
   check_told r h =
-      table_case Told _ (is_transfer (word_at j p)) (table_of_word (length s) p (word_at j p)) r
-      (first_case Told (table_of_any (length s) p (word_at j p)) r
+      table_case Told _ (is_transfer (ccw_of j p)) (table_of_non_transfer (length s) p (ccw_of j p)) r
+      (first_case Told (table_of_every_ccw (length s) p (ccw_of j p)) r
       ((λ _. tt), λ a. ((λ _. tt), λ b. ((λ _. ((not-false _ a, not-false _ b), tt)), λ _. tt))))
-      (λ n e. let st = any_stands n in each_case Told (table_of_word (length s) p (word_at j p)) ((st, tt), ((st, tt), ((st, tt), ((st, tt), tt))))) h
+      (λ n e. let st = any_stands n in each_case Told (table_of_non_transfer (length s) p (ccw_of j p)) ((st, tt), ((st, tt), ((st, tt), ((st, tt), tt))))) h
 
   none_argument : (x : Option (List ℕ)) → HasArgument s p.address x → is_none x ≡ true → HasArgument s p.address None
   none_argument None h e = h
@@ -78,18 +78,18 @@ module _ (j : Job) (p : Place) where
   refused_argument None h e = absurd (cc)
   refused_argument (Some y) h e = (y, h, not-true _ e)
 
-  uncovered_told : (areas : List Area) (b : Bool) → check s p ≡ None → is_transfer (word_at j p) ≡ false → (b && not (covered areas (word_at j p).address (word_at j p).count)) ≡ true → IsUncovered areas
-  uncovered_told areas b n t e = (data_in_storage s p (word_at j p) n refl t, not-true _ (and_parts b _ e).1)
+  uncovered_told : (areas : List Area) (b : Bool) → check s p ≡ None → is_transfer (ccw_of j p) ≡ false → (b && not (covered areas (ccw_of j p).address (ccw_of j p).count)) ≡ true → IsUncovered areas
+  uncovered_told areas b n t e = (data_in_storage s p (ccw_of j p) n refl t, not-true _ (and_parts b _ e).1)
 
   outside_told : (x : Option (List ℕ)) → HasArgument s p.address x
-      → ((begins_seek p (word_at j p) && is_refused j x) || (begins_recalibrate p (word_at j p) && not (has_cylinder (extents_of j) 0))) ≡ true → FailsToSeek j p SeekOutside
+      → ((begins_seek p (ccw_of j p) && is_refused j x) || (begins_recalibrate p (ccw_of j p) && not (has_cylinder (extents_of j) 0))) ≡ true → FailsToSeek j p SeekOutside
   outside_told x h e = go (or_cases _ _ e)
     where
-      go : ((begins_seek p (word_at j p) && is_refused j x) ≡ true) ⊎ ((begins_recalibrate p (word_at j p) && not (has_cylinder (extents_of j) 0)) ≡ true) → FailsToSeek j p SeekOutside
+      go : ((begins_seek p (ccw_of j p) && is_refused j x) ≡ true) ⊎ ((begins_recalibrate p (ccw_of j p) && not (has_cylinder (extents_of j) 0)) ≡ true) → FailsToSeek j p SeekOutside
       go (inl b) = let a = and_parts _ _ b in let y = refused_argument x h a.1 in (y.0, inl (a.0, y.1), y.2)
       go (inr b) = let a = and_parts _ _ b in (home, inr (a.0, refl), home_refused j (not-true _ a.1))
 
-  own_told : (x : Option (List ℕ)) → HasArgument s p.address x → check s p ≡ None → is_transfer (word_at j p) ≡ false → Cases Told (table_of_own j p (word_at j p) x)
+  own_told : (x : Option (List ℕ)) → HasArgument s p.address x → check s p ≡ None → is_transfer (ccw_of j p) ≡ false → Cases Told (table_of_own j p (ccw_of j p) x)
   own_told x h n t =
       let st = check_stands s p n in (
         (λ _. (st, tt)),
@@ -109,7 +109,7 @@ module _ (j : Job) (p : Place) where
       )
 
   fault_told : (r : Reason) → HasFault j p (Some r) → Told r
-  fault_told r f = table_case Told (check s p) (is_transfer (word_at j p)) (table_of_own j p (word_at j p) f.0) r (check_told r) (λ n t. own_told f.0 f.1 n t) f.2
+  fault_told r f = table_case Told (check s p) (is_transfer (ccw_of j p)) (table_of_own j p (ccw_of j p) f.0) r (check_told r) (λ n t. own_told f.0 f.1 n t) f.2
 
   pub told : (r : Reason) → IsReachable j p → Offends j p r → Told r
   told r reached (inl f) = fault_told r f
@@ -144,10 +144,10 @@ module _ (j : Job) (p : Place) where
 
   -- ---- a seek that fails
 
-  no_both : begins_seek p (word_at j p) ≡ true → begins_recalibrate p (word_at j p) ≡ true → ⊥
-  no_both a b = both_ways _ (seek_no_recalibrate (word_at j p).command (and_parts _ _ a).1) (and_parts _ _ b).1
+  no_both : begins_seek p (ccw_of j p) ≡ true → begins_recalibrate p (ccw_of j p) ≡ true → ⊥
+  no_both a b = both_ways _ (seek_no_recalibrate (ccw_of j p).command (and_parts _ _ a).1) (and_parts _ _ b).1
 
-  pub recalibrates_out : (r : Reason) → FailsToSeek j p r → begins_recalibrate p (word_at j p) ≡ true → (SeekOutside ≡ r) × (has_cylinder (extents_of j) 0 ≡ false)
+  pub recalibrates_out : (r : Reason) → FailsToSeek j p r → begins_recalibrate p (ccw_of j p) ≡ true → (SeekOutside ≡ r) × (has_cylinder (extents_of j) 0 ≡ false)
   recalibrates_out ShortSeek f b = absurd (no_both f.0 b)
   recalibrates_out SeekOutside f b = (refl, go f.1)
     where
@@ -160,11 +160,11 @@ module _ (j : Job) (p : Place) where
           at (inr e) = e
   recalibrates_out r f b = absurd f
 
-  pub sought_out : (r : Reason) (y : List ℕ) → FailsToSeek j p r → begins_recalibrate p (word_at j p) ≡ false → HasArgument s p.address (Some y) → (SeekOutside ≡ r) × (begins_seek p (word_at j p) ≡ true) × (allows j y ≡ false)
+  pub sought_out : (r : Reason) (y : List ℕ) → FailsToSeek j p r → begins_recalibrate p (ccw_of j p) ≡ false → HasArgument s p.address (Some y) → (SeekOutside ≡ r) × (begins_seek p (ccw_of j p) ≡ true) × (allows j y ≡ false)
   sought_out ShortSeek y f b h = absurd (f.1 h.0 h.1)
   sought_out SeekOutside y f b h = go f.1
     where
-      go : SeeksTo j p f.0 → (SeekOutside ≡ SeekOutside) × (begins_seek p (word_at j p) ≡ true) × (allows j y ≡ false)
+      go : SeeksTo j p f.0 → (SeekOutside ≡ SeekOutside) × (begins_seek p (ccw_of j p) ≡ true) × (allows j y ≡ false)
       go (inl k) =
           let same : ◌≡◌ {A = Option (List ℕ)} (Some f.0) (Some y) = argument_unique s p.address (Some f.0) (Some y) k.1 h in
           let is : f.0 ≡ y = cc in
@@ -172,7 +172,7 @@ module _ (j : Job) (p : Place) where
       go (inr k) = absurd (both_ways _ b k.0)
   sought_out r y f b h = absurd f
 
-  pub short_out : (r : Reason) → FailsToSeek j p r → begins_recalibrate p (word_at j p) ≡ false → HasArgument s p.address None → ShortSeek ≡ r
+  pub short_out : (r : Reason) → FailsToSeek j p r → begins_recalibrate p (ccw_of j p) ≡ false → HasArgument s p.address None → ShortSeek ≡ r
   short_out ShortSeek f b h = refl
   short_out SeekOutside f b h = go f.1
     where

@@ -8,7 +8,7 @@ use Rattle.ccw_core.proofs.StorageLemmas.{is_aligned-true, is_aligned-false, ccw
 use Rattle.chan_walk.specs.declared.place.Place.{Place}
 use Rattle.chan_walk.specs.declared.reason.Reason.TheVariants.{Misaligned, OutsideStorage, TransferNotAllowed}
 use Rattle.chan_walk.specs.Argument.{is_part}
-use Rattle.chan_walk.specs.Check.{first_reason, table_of_word, check_of, check}
+use Rattle.chan_walk.specs.Check.{first_reason, table_of_non_transfer, check_of, check}
 
 pub check-misaligned : (s : List ℕ) (p : Place) → (p.address % 8 ≡ 0 → ⊥) → check s p ≡ Some Misaligned
 unfolding check_of
@@ -23,13 +23,13 @@ check-outside s p h n =
 
 -- where a word stands, only its own bits are left to look at
 pub check-found : (s : List ℕ) (p : Place) (c : Fields) → ccw_at s p.address ≡ Some c
-    → check s p ≡ option_or (first_reason ((is_transfer c && p.after_transfer, TransferNotAllowed) ∷ [])) (if is_transfer c then None else first_reason (table_of_word (length s) p c))
+    → check s p ≡ option_or (first_reason ((is_transfer c && p.after_transfer, TransferNotAllowed) ∷ [])) (if is_transfer c then None else first_reason (table_of_non_transfer (length s) p c))
 unfolding check_of
 check-found s p c h =
     let f = ccw_at-some s p.address c h in
     let a : is_aligned p.address ≡ true = f.0 in
     let b : is_inside (length s) p.address ≡ true = f.1 in
-    subst (λ (w : Fields). check s p ≡ option_or (first_reason ((is_transfer w && p.after_transfer, TransferNotAllowed) ∷ [])) (if is_transfer w then None else first_reason (table_of_word (length s) p w)))
+    subst (λ (w : Fields). check s p ≡ option_or (first_reason ((is_transfer w && p.after_transfer, TransferNotAllowed) ∷ [])) (if is_transfer w then None else first_reason (table_of_non_transfer (length s) p w)))
     (sym f.2) (rw (a, b) refl)
 
 -- a word that was found gives bytes of an argument

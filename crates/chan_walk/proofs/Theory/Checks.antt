@@ -9,7 +9,7 @@ use Rattle.chan_walk.specs.declared.place.Place.{Place}
 use Rattle.chan_walk.specs.declared.reason.Reason.{Reason}
 use Rattle.chan_walk.specs.declared.reason.Reason.TheVariants.{TransferNotAllowed}
 use Rattle.chan_walk.specs.Argument.{is_part}
-use Rattle.chan_walk.specs.Check.{first_reason, table_of_any, table_of_word, check_of, check}
+use Rattle.chan_walk.specs.Check.{first_reason, table_of_every_ccw, table_of_non_transfer, check_of, check}
 use Rattle.chan_walk.specs.Place.{is_fresh}
 
 pub cond_none : (b : Bool) (r : Reason) (o : Option Reason) → cond b (Some r) o ≡ None → (b ≡ false) × (o ≡ None)
@@ -54,9 +54,9 @@ table_case P a z ts r f g h = go (or_some a (if z then None else first_reason ts
     go (inl h) = f h
     go (inr h) = rest z refl h.0 h.1
 
-pub check_case : (P : Reason → Type 0) (s : List ℕ) (p : Place) (r : Reason) → Cases P (table_of_any (length s) p (ccw s p.address)) → Cases P (table_of_word (length s) p (ccw s p.address)) → check s p ≡ Some r → P r
+pub check_case : (P : Reason → Type 0) (s : List ℕ) (p : Place) (r : Reason) → Cases P (table_of_every_ccw (length s) p (ccw s p.address)) → Cases P (table_of_non_transfer (length s) p (ccw s p.address)) → check s p ≡ Some r → P r
 unfolding check_of
-check_case P s p r a b h = table_case P _ (is_transfer (ccw s p.address)) (table_of_word (length s) p (ccw s p.address)) r (first_case P (table_of_any (length s) p (ccw s p.address)) r a) (λ n e. b) h
+check_case P s p r a b h = table_case P _ (is_transfer (ccw s p.address)) (table_of_non_transfer (length s) p (ccw s p.address)) r (first_case P (table_of_every_ccw (length s) p (ccw s p.address)) r a) (λ n e. b) h
 
 pub check_stands : (s : List ℕ) (p : Place) → check s p ≡ None → Stands s p.address
 unfolding check_of

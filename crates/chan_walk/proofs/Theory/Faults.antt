@@ -12,7 +12,7 @@ use Rattle.chan_walk.specs.declared.verdict.Verdict.TheVariants.{Yes}
 use Rattle.chan_walk.specs.Check.{check}
 use Rattle.chan_walk.specs.Fault.{kind_of, goes_in, goes_out, is_known, begins_seek, begins_recalibrate, begins_set_mask, is_refused, fault_with, HasFault, IsClear}
 use Rattle.chan_walk.specs.Job.{storage_of, extents_of, fetch_of, store_of}
-use Rattle.chan_walk.specs.Place.{is_fresh, word_at}
+use Rattle.chan_walk.specs.Place.{is_fresh, ccw_of}
 use Rattle.chan_walk.specs.Verdict.{IsVerdict, AreClear}
 use Rattle.chan_walk.proofs.Theory.Chains.{argument_exists, argument_unique}
 use Rattle.chan_walk.proofs.Theory.Checks.{cond_none, or_none}
@@ -50,7 +50,7 @@ fetches_from false false e f = absurd (cc)
 pub clear_check : (j : Job) (p : Place) → IsClear j p → check (storage_of j) p ≡ None
 clear_check j p f = (or_none _ _ f.2).0
 
-pub clear_good : (j : Job) (p : Place) (f : IsClear j p) → is_transfer (word_at j p) ≡ false → IsGood j p (word_at j p) f.0
+pub clear_good : (j : Job) (p : Place) (f : IsClear j p) → is_transfer (ccw_of j p) ≡ false → IsGood j p (ccw_of j p) f.0
 clear_good j p f t =
     let a = (or_none _ _ f.2).1 in
     let a0 = cond_none _ _ _ (sym (cond-false _ _ _ t) ∙ a) in

@@ -4,11 +4,11 @@ use Rattle.std.specs.List.Sorted.{IsStrictlyIncreasing}
 use Rattle.std.specs.Option.{option_or}
 use Rattle.ccw_core.specs.Ccw.{Fields, is_transfer}
 use Rattle.chan_walk.specs.declared.reason.Reason.{Reason}
-use Rattle.chan_walk.specs.Check.{first_reason, check_of, table_of_any, table_of_word}
+use Rattle.chan_walk.specs.Check.{first_reason, check_of, table_of_every_ccw, table_of_non_transfer}
 use Rattle.chan_walk.specs.Fault.{table_of_own}
 use Rattle.chan_walk.specs.Job.{storage_of}
 use Rattle.chan_walk.specs.Order.{numbers_of, NumbersIncrease}
-use Rattle.chan_walk.specs.Place.{word_at}
+use Rattle.chan_walk.specs.Place.{ccw_of}
 use Rattle.chan_walk.proofs.Theory.OwnFaults.{first_reason-append}
 
 -- each number is below the next
@@ -38,16 +38,16 @@ unfolding check_of
 numbers_increase j p x = (same (is_transfer c), rises (is_transfer c))
   where
     c : Fields
-    c = word_at j p
+    c = ccw_of j p
 
     any : List (Bool × Reason)
-    any = table_of_any (length (storage_of j)) p (word_at j p)
+    any = table_of_every_ccw (length (storage_of j)) p (ccw_of j p)
 
     word : List (Bool × Reason)
-    word = table_of_word (length (storage_of j)) p (word_at j p)
+    word = table_of_non_transfer (length (storage_of j)) p (ccw_of j p)
 
     own : List (Bool × Reason)
-    own = table_of_own j p (word_at j p) x
+    own = table_of_own j p (ccw_of j p) x
 
     same : (b : Bool) → option_or (option_or (first_reason any) (if b then None else first_reason word)) (if b then None else first_reason own) ≡ first_reason (any ++ (if b then [] else word ++ own))
     same true = or_none _ ∙ sym (first_reason-append any [])

@@ -10,7 +10,7 @@ use Rattle.chan_walk.specs.declared.reason.Reason.{Reason}
 use Rattle.chan_walk.specs.Check.{first_reason, check}
 use Rattle.chan_walk.specs.Fault.{begins_seek, begins_recalibrate, is_refused, command_faults, lent_faults, seek_faults, mask_faults, table_of_own, HasFault}
 use Rattle.chan_walk.specs.Job.{storage_of, extents_of}
-use Rattle.chan_walk.specs.Place.{word_at}
+use Rattle.chan_walk.specs.Place.{ccw_of}
 use Rattle.chan_walk.specs.Tables.{argument_faults, HasSeekFault}
 use Rattle.chan_walk.specs.declared.reason.Reason.TheVariants.{ShortSeek, SeekOutside}
 use Rattle.chan_walk.proofs.Theory.Chains.{argument_exists}
@@ -56,16 +56,16 @@ no_fault_of_other j p c x s home = rw (s, home) refl
 pub fault_of_check : (j : Job) (p : Place) (r : Reason) → check (storage_of j) p ≡ Some r → HasFault j p (Some r)
 fault_of_check j p r h =
     let a = argument_exists (storage_of j) p.address in
-    (a.0, a.1, ap (λ o. option_or o (if is_transfer (word_at j p) then None else first_reason (table_of_own j p (word_at j p) a.0))) h)
+    (a.0, a.1, ap (λ o. option_or o (if is_transfer (ccw_of j p) then None else first_reason (table_of_own j p (ccw_of j p) a.0))) h)
 
 -- a transfer that passes the check has no own fault
-pub no_fault_of_transfer : (j : Job) (p : Place) → check (storage_of j) p ≡ None → is_transfer (word_at j p) ≡ true → HasFault j p None
+pub no_fault_of_transfer : (j : Job) (p : Place) → check (storage_of j) p ≡ None → is_transfer (ccw_of j p) ≡ true → HasFault j p None
 no_fault_of_transfer j p h t =
     let a = argument_exists (storage_of j) p.address in
-    (a.0, a.1, ap (λ o. option_or o (if is_transfer (word_at j p) then None else first_reason (table_of_own j p (word_at j p) a.0))) h ∙ rw t refl)
+    (a.0, a.1, ap (λ o. option_or o (if is_transfer (ccw_of j p) then None else first_reason (table_of_own j p (ccw_of j p) a.0))) h ∙ rw t refl)
 
 -- the four parts of the table, one after another
-pub fault_of_parts : (j : Job) (p : Place) (c : Fields) (command lent seek mask : Option Reason) → c ≡ word_at j p → check (storage_of j) p ≡ None → is_transfer c ≡ false
+pub fault_of_parts : (j : Job) (p : Place) (c : Fields) (command lent seek mask : Option Reason) → c ≡ ccw_of j p → check (storage_of j) p ≡ None → is_transfer c ≡ false
     → command ≡ first_reason (command_faults j p c) → lent ≡ first_reason (lent_faults j p c) → HasSeekFault j p c seek
     → mask ≡ first_reason (mask_faults j p c)
     → HasFault j p (option_or (option_or (option_or command lent) seek) mask)

@@ -5,7 +5,7 @@ use Rattle.ccw_core.specs.Ccw.{Fields, byte}
 use Rattle.ccw_core.proofs.StorageLemmas.{ccw_at-some}
 use Rattle.chan_walk.specs.Evidence.{IsArgumentIn, IsCcwIn, IsEvidence, data_at, data_of}
 use Rattle.chan_walk.specs.Job.{fetch_of, storage_of, store_of}
-use Rattle.chan_walk.specs.Place.{word_at}
+use Rattle.chan_walk.specs.Place.{ccw_of}
 use Rattle.chan_walk.proofs.Theory.Causes.{Told, over_argument, over_ccw, seek_told, told}
 use Rattle.chan_walk.proofs.evidence.evidence_of_ccw.Goals as goal
 use Rattle.chan_walk.proofs.evidence.evidence_of_ccw.Goals.{in-Misaligned, in-OutsideStorage, in-TransferNotAllowed, in-InvalidCode, in-BadFormat, in-ZeroCount, in-DataOutside, in-NotInTable, in-Inhibited, in-StoreNotLent+in_ok-evidence-in-StoreNotLent, in-FetchNotLent+in_ok-evidence-in-FetchNotLent, in-ShortSeek, in-ChangesCcw, in-ChangesArgument+in_ok-evidence-in-ChangesArgument, in-WeakensMask}
@@ -79,7 +79,7 @@ returns c =
     let p = c.args.offence.place in
     let word = (ccw_at-some (storage_of j) p.address c.args.ccw c.requires.stands).2 in
     let area : c.data_of-data.result ≡ data_at j p = c.data_of-data.ensures ∙ ap data_of word in
-    let code : c.command-code.result ≡ (word_at j p).command = c.command-code.ensures ∙ ap (λ (w : Fields). w.command) word in
+    let code : c.command-code.result ≡ (ccw_of j p).command = c.command-code.ensures ∙ ap (λ (w : Fields). w.command) word in
     elim c.match-offence.branch [
       | in-Misaligned w ↦ subst (λ e. IsEvidence j c.args.offence e) (sym w.evidence-is) (sym w.in-Misaligned.is, refl)
       | in-OutsideStorage w ↦ subst (λ e. IsEvidence j c.args.offence e) (sym w.evidence-is) (sym w.in-OutsideStorage.is, (w.eight_bytes.ensures, c.len-length.ensures.value))

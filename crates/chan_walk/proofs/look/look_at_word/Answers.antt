@@ -8,7 +8,7 @@ use Rattle.chan_walk.specs.declared.successor.Next.{Next}
 use Rattle.chan_walk.specs.Fault.{HasFault, IsClear, stores}
 use Rattle.chan_walk.specs.Job.{storage_of}
 use Rattle.chan_walk.specs.Look.{addresses_of}
-use Rattle.chan_walk.specs.Place.{word_at}
+use Rattle.chan_walk.specs.Place.{ccw_of}
 use Rattle.chan_walk.specs.Successors.{AreSuccessors}
 use Rattle.chan_walk.specs.Visit.{begun}
 use Rattle.chan_walk.proofs.Algorithms.Looking.{IsSought, IsTaken, next_clear, next_faulty, stands_below, taken_faulty, taken_none, taken_whole}
@@ -18,13 +18,13 @@ use Rattle.chan_walk.proofs.look.look_at_word.Goals.{in-None-Some, in-None-None,
 pub own_fault-fault-requires-clause-argument : goal.own_fault-fault-requires-clause-argument
 own_fault-fault-requires-clause-argument c seeks = c.bytes_at-bytes.ensures c.new-visit.result.place.address (c.sought-addresses.ensures.seek seeks)
 
-pub go_on-requires-clause-low : goal.go_on-requires-clause-low
-go_on-requires-clause-low c =
+pub next_after-requires-clause-low : goal.next_after-requires-clause-low
+next_after-requires-clause-low c =
     let small : length (storage_of c.args.job.now) ≤ 2 ^ 24 = c.args.job.now.storage.small in
     subst (λ (p : Place). p.address < 2 ^ 25) (sym c.new-visit.ensures.place) (stands_below (storage_of c.args.job.now) c.args.place.address c.args.word small c.requires.stands)
 
-pub go_on-requires-in-None-None-clause-low : goal.go_on-requires-in-None-None-clause-low
-go_on-requires-in-None-None-clause-low c =
+pub next_after-requires-in-None-None-clause-low : goal.next_after-requires-in-None-None-clause-low
+next_after-requires-in-None-None-clause-low c =
     let small : length (storage_of c.args.job.now) ≤ 2 ^ 24 = c.args.job.now.storage.small in
     subst (λ (p : Place). p.address < 2 ^ 25) (sym c.new-visit.ensures.place) (stands_below (storage_of c.args.job.now) c.args.place.address c.args.word small c.requires.stands)
 
@@ -36,10 +36,10 @@ returns-clause-look c =
     let at : v.place ≡ p = c.new-visit.ensures.place in
     let is : v.word ≡ c.args.word = c.new-visit.ensures.word in
     let small : length (storage_of j) ≤ 2 ^ 24 = j.storage.small in
-    let word : c.args.word ≡ word_at j p = (ccw_at-some (storage_of j) p.address c.args.word c.requires.stands).2 in
+    let word : c.args.word ≡ ccw_of j p = (ccw_at-some (storage_of j) p.address c.args.word c.requires.stands).2 in
     let addresses = c.sought-addresses.result in
     let sought : IsSought j v.place v.word addresses = record {
-      word = is ∙ word ∙ ap (word_at j) (sym at);
+      word = is ∙ word ∙ ap (ccw_of j) (sym at);
       seek = c.sought-addresses.ensures.seek;
       other = c.sought-addresses.ensures.other;
     } in
@@ -51,13 +51,13 @@ returns-clause-look c =
           let f = clear w.in-None-Some.is-0 in
           subst P (sym w.argument-is) (
             taken_whole j v.place v.word addresses w.in-None-Some.addresses small f sought w.in-None-Some.is-1,
-            next_clear j v.place v.word w.go_on.result sought.word f w.go_on.ensures.next w.go_on.ensures.skip,
+            next_clear j v.place v.word w.next_after.result sought.word f w.next_after.ensures.next w.next_after.ensures.skip,
           )
       | in-None-None w ↦
           let f = clear w.in-None-None.is-0 in
           subst P (sym w.argument-is) (
             subst (IsTaken j v.place) (sym w.mask_argument.ensures.addresses) (taken_none j v.place v.word addresses w.mask_argument.ensures.low f sought w.in-None-None.is-1),
-            next_clear j v.place v.word w.go_on-in-None-None.result sought.word f w.go_on-in-None-None.ensures.next w.go_on-in-None-None.ensures.skip,
+            next_clear j v.place v.word w.next_after-in-None-None.result sought.word f w.next_after-in-None-None.ensures.next w.next_after-in-None-None.ensures.skip,
           )
       | in-Some-default w ↦
           let f = subst (λ (z : Option Reason). HasFault j v.place z) w.in-Some-default.is-0 c.own_fault-fault.ensures in
