@@ -1,5 +1,6 @@
 -- Following the chain of a seek, CCW by CCW.
-use Rattle.std.proofs.Common.{◌≡◌, ℕ, zero, suc, ◌+◌, ◌-◌, ◌<◌, ◌≤◌, true, false, List, [], ◌∷◌, ◌++◌, take, length, get_or, None, Some, Option, Result, Ok, Err, IfOk, IfErr, refl, sym, ap, ◌∙◌, subst, ◌⊎◌, inl, inr, arith, append_assoc, append-nil, length-append}
+use Rattle.std.proofs.Common.{◌≡◌, ℕ, zero, suc, ◌+◌, ◌-◌, ◌<◌, ◌≤◌, true, false, List, [], ◌∷◌, ◌++◌, take, length, get_or, None, Some, Option, Result, Ok, Err, IfOk, IfErr, refl, sym, ap, ◌∙◌, subst, ◌⊎◌, inl, inr, arith, append_assoc, append-nil, length-append, rules}
+use Rattle.std.proofs.lemmas.Grind.{common_steps}
 use Rattle.std.proofs.lemmas.List.{ext_get_or, get_or-append-add}
 use Rattle.std.specs.Result.{result_ok}
 use Rattle.std.specs.List.{range_with_len, AllByRecursion}
@@ -28,18 +29,7 @@ pub record IsFollowed (s : List ℕ) (a : ℕ) (taken : List ℕ) (have here : �
 
 pub chain_goes_on : (s : List ℕ) (n a : ℕ) (l : List ℕ) → (ccw s a).count < n → IsChain s n a l
     → (chains_data (ccw s a) ≡ true) × ((k : List ℕ) × IsChain s (n - (ccw s a).count) (onward s a) k)
-chain_goes_on s n a [] lt k = absurd k.begins
-chain_goes_on s n a (x ∷ []) lt k =
-    let e : total s (x ∷ []) ≡ (ccw s a).count = subst (λ m. (ccw s m).count + 0 ≡ (ccw s a).count) (sym k.begins) (omega arith) in
-    let f = k.enough in
-    absurd (omega arith)
-chain_goes_on s n a (x ∷ y ∷ l) lt k =
-    let b : x ≡ a = k.begins in
-    let tail = chain_tail s n a x y l k in
-    let lead = subst (λ m. Leads s m y) b k.linked.2 in
-    let e = onward_only s a y lead (chain_begins_with_part s _ y (y ∷ l) tail) in
-    let rest = subst (λ m. IsChain s (n - (ccw s m).count) y (y ∷ l)) b tail in
-    (subst (λ m. chains_data (ccw s m) ≡ true) b k.linked.1, (y ∷ l, subst (λ m. IsChain s (n - (ccw s a).count) m (y ∷ l)) e rest))
+chain_goes_on s n a l lt k = search (rules, chain_tail, onward_only, chain_begins_with_part)
 
 pub no_more : (s : List ℕ) (a : ℕ) (taken : List ℕ) (have here : ℕ) → IsFollowed s a taken have here → (ccw s here).count < 6 - have
     → chains_data (ccw s here) ≡ false → (l : List ℕ) → IsChain s 6 a l → ⊥
@@ -64,22 +54,13 @@ leads_nowhere s a taken have here w lt n k h =
 
 -- the addresses that were found, if they were
 pub found_or_none : (s : List ℕ) (a : ℕ) (r : Result (List ℕ) ℕ) (o : Option (List ℕ)) → o ≡ result_ok r → IfOk r (λ x. HasAddresses s a (Some x)) → IfErr r (λ _. HasAddresses s a None) → HasAddresses s a o
-found_or_none s a (Ok x) o e six none = subst (HasAddresses s a) (sym e) six
-found_or_none s a (Err n) o e six none = subst (HasAddresses s a) (sym e) none
+found_or_none s a r o e six none = search rules
 
 -- the addresses after n more from a
 note_more : (before taken taken' : List ℕ) (have from n : ℕ) → length before ≡ have → ((i : ℕ) → i < have → get_or taken i 0 ≡ get_or before i 0)
     → ((i : ℕ) → i < have → get_or taken' i 0 ≡ get_or taken i 0) → ((i : ℕ) → i < n → get_or taken' (have + i) 0 ≡ from + i)
     → (i : ℕ) → i < have + n → get_or taken' i 0 ≡ get_or (before ++ range_with_len from n) i 0
-note_more before taken taken' have from n c r b a i h = go (cases_lt i have)
-  where
-    go : (i < have) ⊎ (have ≤ i) → get_or taken' i 0 ≡ get_or (before ++ range_with_len from n) i 0
-    go (inl l) = b i l ∙ r i l ∙ sym (get_or-append before (range_with_len from n) 0 i (omega arith))
-    go (inr l) =
-        let k : i ≡ have + (i - have) = omega arith in
-        let k' : i ≡ length before + (i - have) = omega arith in
-        ap (λ z. get_or taken' z 0) k ∙ a (i - have) (omega arith)
-        ∙ sym (ap (λ z. get_or (before ++ range_with_len from n) z 0) k' ∙ get_or-append-add before (range_with_len from n) (i - have) 0 ∙ get_or-range_with_len from n (i - have) 0 (omega arith))
+note_more before taken taken' have from n c r b a i h = grind (arith, common_steps, cases_lt, get_or-append, get_or-append-add, get_or-range_with_len)
 
 pub followed_more : (s : List ℕ) (a : ℕ) (taken taken' : List ℕ) (have here : ℕ) → IsFollowed s a taken have here → is_part s here ≡ true
     → (ccw s here).count < 6 - have → chains_data (ccw s here) ≡ true → length taken' ≡ 6
@@ -130,13 +111,7 @@ pub record IsInRange (s : List ℕ) (a : ℕ) (c : Fields) : Type 0 where
 
 in_range : (s : List ℕ) (a : ℕ) → is_part s a ≡ true → IsInRange s a (ccw s a)
 unfolding is_part is_inside has_data_in
-in_range s a h =
-    let h5 = and_parts _ _ h in
-    let h4 = and_parts _ _ h5.0 in
-    let h3 = and_parts _ _ h4.0 in
-    let h2 = and_parts _ _ h3.0 in
-    let h1 = and_parts _ _ h2.0 in
-    record { inside = leb-true _ _ h1.1; data_in = leb-true _ _ h5.1; counts = part_counts s a h }
+in_range s a h = search (rules, and_parts, leb-true, part_counts)
 
 pub part_in_range : (s : List ℕ) (a : ℕ) (c : Fields) → ccw_at s a ≡ Some c → is_part s a ≡ true → IsInRange s a c
 part_in_range s a c h k = subst (IsInRange s a) (sym (ccw_at-some s a c h).2) (in_range s a k)
@@ -166,6 +141,4 @@ index_below n zero (x ∷ xs) p h = h.0
 index_below n (suc i) (x ∷ xs) p h = index_below n i xs p h.1
 
 pub argument_below : (s : List ℕ) (n a : ℕ) (l x : List ℕ) → IsChain s n a l → x ≡ argument_addresses s l → (i : ℕ) → get_or x i 0 < length s
-argument_below s n a l x k e i =
-    let fits = in_range s a (chain_begins_with_part s n a l k) in
-    subst (λ z. get_or z i 0 < length s) (sym e) (index_below (length s) i (take 6 (joined s l)) (omega (arith, fits.inside)) (take_below (length s) 6 (joined s l) (joined_below s l k.linked)))
+argument_below s n a l x k e i = grind (arith, common_steps, in_range, chain_begins_with_part, index_below, take_below, joined_below)

@@ -1,5 +1,5 @@
 -- How many bytes the data chain of a seek gives, CCW by CCW.
-use Rattle.std.proofs.Common.{◌≡◌, ℕ, ◌+◌, ◌-◌, ◌<◌, true, false, List, [], ◌∷◌, None, refl, sym, subst, arith}
+use Rattle.std.proofs.Common.{◌≡◌, ℕ, ◌+◌, ◌-◌, ◌<◌, true, false, List, [], ◌∷◌, None, refl, sym, subst, arith, rules}
 use Rattle.std.proofs.lemmas.Bool.{both_ways}
 use Rattle.ccw_core.specs.Ccw.{ccw, chains_data}
 use Rattle.ccw_core.specs.Storage.{ccw_at}
@@ -16,11 +16,7 @@ pub record IsGiven (s : List ℕ) (a have here : ℕ) : Type 0 where
   pub from : (m : ℕ) → 0 < m → (k : List ℕ) → IsChain s (have + m) a k → (l : List ℕ) × IsChain s m here l
 
 pub none_given : (s : List ℕ) (a : ℕ) → IsGiven s a 0 a
-none_given s a = record {
-  some = λ h. absurd (omega arith);
-  to = λ m h l k. let e : m ≡ 0 + m = omega arith in (l, subst (λ n. IsChain s n a l) e k);
-  from = λ m h l k. let e : 0 + m ≡ m = omega arith in (l, subst (λ n. IsChain s n a l) e k);
-}
+none_given s a = search rules
 
 module _ (s : List ℕ) (a have here : ℕ) (g : IsGiven s a have here) where
   -- where what stands here gives no bytes

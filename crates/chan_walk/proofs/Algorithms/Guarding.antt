@@ -1,5 +1,5 @@
 -- The areas of a guard while they are gathered, place by place.
-use Rattle.std.proofs.Common.{◌≡◌, ℕ, ◌+◌, ◌<◌, ◌≤◌, ◌^◌, true, ◌||◌, ◌++◌, List, [], ◌∷◌, map, length, get_or, Option, Some, None, is_some, refl, sym, ap, ◌∙◌, subst, ◌⊎◌, inl, inr, ◌↔◌, arith}
+use Rattle.std.proofs.Common.{◌≡◌, ℕ, ◌+◌, ◌<◌, ◌≤◌, ◌^◌, true, ◌||◌, ◌++◌, List, [], ◌∷◌, map, length, get_or, Option, Some, None, is_some, refl, sym, ap, ◌∙◌, subst, ◌⊎◌, inl, inr, ◌↔◌, arith, rules}
 use Rattle.std.specs.List.{All}
 use Rattle.std.proofs.lemmas.Bool.{or_cases, or_left, or_right, both_ways, leb-true}
 use Rattle.std.proofs.lemmas.List.Elements.{All-append, All-map}
@@ -36,79 +36,30 @@ low_none n areas e = subst (All (EndsBelow n)) (sym e) (λ i d l. absurd (omega 
 
 -- one more place
 pub hold_more : (P : Place → ℕ → Type 0) (ps : List Place) (p : Place) (old new : List Area) → HoldBytes P ps old → AddsBytes old new (P p) → HoldBytes P (ps ++ p ∷ []) new
-hold_more P ps p old new f g b = ((λ h. to ((g b).0 h)), λ h. (g b).1 (from h.0 h.2 (has_cases ps (p ∷ []) h.0 h.1)))
-  where
-    to : (lies_in old b ≡ true) ⊎ P p b → (q : Place) × Has (ps ++ p ∷ []) q × P q b
-    to (inl h) = let r = (f b).0 h in (r.0, has_left ps (p ∷ []) r.0 r.1, r.2)
-    to (inr h) = (p, has_right ps (p ∷ []) p (inl refl), h)
-
-    from : (q : Place) → P q b → Has ps q ⊎ Has (p ∷ []) q → (lies_in old b ≡ true) ⊎ P p b
-    from q h (inl k) = inl ((f b).1 (q, k, h))
-    from q h (inr (inl e)) = inr (subst (λ z. P z b) (sym e) h)
-    from q h (inr (inr k)) = absurd k
+hold_more P ps p old new f g b = search (rules, has_cases, has_left, has_right)
 
 -- at the end, in a list with the same bytes
 pub hold_same : (P : Place → ℕ → Type 0) (some ps : List Place) (areas merged : List Area) → some ≡ ps → HoldBytes P some areas → HaveSameBytes merged areas → HoldBytes P ps merged
-hold_same P some ps areas merged e f g b =
-    let h = subst (λ z. HoldBytes P z areas) e f in
-    ((λ k. (h b).0 (sym (g b) ∙ k)), λ k. g b ∙ (h b).1 k)
+hold_same P some ps areas merged e f g b = search rules
 
 -- over the reachable places
 pub ccw_bytes : (j : Job) (ps : List Place) (areas : List Area) → AreReached j ps → HoldBytes (IsCcwByteOf j) ps areas → (b : ℕ) → (lies_in areas b ≡ true) ↔ IsCcwByte j b
-ccw_bytes j ps areas r f b = (to, from)
-  where
-    to : lies_in areas b ≡ true → IsCcwByte j b
-    to h = let k = (f b).0 h in record { place = k.0; reached = r.1 k.0 k.1; stands = k.2.stands; from = k.2.from; below = k.2.below }
-
-    from : IsCcwByte j b → lies_in areas b ≡ true
-    from h = (f b).1 (h.place, r.0 h.place h.reached, record { stands = h.stands; from = h.from; below = h.below })
+ccw_bytes j ps areas r f b = search rules
 
 pub argument_bytes : (j : Job) (ps : List Place) (areas : List Area) → AreReached j ps → HoldBytes (IsArgumentByteOf j) ps areas → (b : ℕ) → (lies_in areas b ≡ true) ↔ IsArgumentByte j b
-argument_bytes j ps areas r f b = (to, from)
-  where
-    to : lies_in areas b ≡ true → IsArgumentByte j b
-    to h = let k = (f b).0 h in go k.0 (r.1 k.0 k.1) k.2
-      where
-        go : (p : Place) → IsReachable j p → IsArgumentByteOf j p b → IsArgumentByte j b
-        go p m (inl k) = record { place = p; reached = m; clear = k.0; takes = inl k.1 }
-        go p m (inr k) = record { place = p; reached = m; clear = k.0; takes = inr k.1 }
-
-    from : IsArgumentByte j b → lies_in areas b ≡ true
-    from h = (f b).1 (h.place, r.0 h.place h.reached, go h.takes)
-      where
-        go : IsSeekByte j h.place b ⊎ IsMaskByte j h.place b → IsArgumentByteOf j h.place b
-        go (inl k) = inl (h.clear, k)
-        go (inr k) = inr (h.clear, k)
+argument_bytes j ps areas r f b = search rules
 
 -- ---- at one place
 
 pub adds_areas : (old added new : List Area) (P : ℕ → Type 0) → new ≡ old ++ added → ((b : ℕ) → (lies_in added b ≡ true) ↔ P b) → AddsBytes old new P
-adds_areas old added new P e f b = ((λ h. to (or_cases (lies_in old b) (lies_in added b) (sym whole ∙ h))), from)
-  where
-    whole : lies_in new b ≡ (lies_in old b || lies_in added b)
-    whole = ap (λ z. lies_in z b) e ∙ lies_in-append old added b
-
-    to : (lies_in old b ≡ true) ⊎ (lies_in added b ≡ true) → (lies_in old b ≡ true) ⊎ P b
-    to (inl h) = inl h
-    to (inr h) = inr ((f b).0 h)
-
-    from : (lies_in old b ≡ true) ⊎ P b → lies_in new b ≡ true
-    from (inl h) = whole ∙ or_left (lies_in old b) (lies_in added b) h
-    from (inr h) = whole ∙ or_right (lies_in old b) (lies_in added b) ((f b).1 h)
+adds_areas old added new P e f b = search (rules, or_cases, lies_in-append, or_left, or_right)
 
 pub low_more : (old added new : List Area) (n : ℕ) → new ≡ old ++ added → All (EndsBelow n) old → All (EndsBelow n) added → All (EndsBelow n) new
 low_more old added new n e f g = subst (All (EndsBelow n)) (sym e) (All-append (EndsBelow n) old added f g)
 
 -- the eight bytes of a CCW
 pub bytes_of_ccw : (j : Job) (p : Place) → Stands (storage_of j) p.address → (b : ℕ) → (lies_in ((record { start = p.address; len = 8 }) ∷ []) b ≡ true) ↔ IsCcwByteOf j p b
-bytes_of_ccw j p s b = ((λ h. to (lies_in-cases area [] b h)), λ h. lies_in-first area [] b (h.from, h.below))
-  where
-    area : Area
-    area = record { start = p.address; len = 8 }
-
-    to : InArea area b ⊎ (lies_in [] b ≡ true) → IsCcwByteOf j p b
-    to (inl h) = record { stands = s; from = h.0; below = h.1 }
-    to (inr h) = absurd (both_ways (lies_in [] b) (lies_in-nil b) h)
+bytes_of_ccw j p s b = search (rules, lies_in-cases, lies_in-first, InArea, both_ways, lies_in-nil)
 
 pub lies_in-bytes : (xs : List ℕ) (b : ℕ) → (lies_in (map byte_area xs) b ≡ true) ↔ Has xs b
 lies_in-bytes [] b = ((λ h. absurd (both_ways (lies_in [] b) (lies_in-nil b) h)), λ h. absurd h)
@@ -133,8 +84,7 @@ bytes_of_argument j p l x s f k e b = (
 )
 
 pub stands_from : (s : List ℕ) (a : ℕ) (o : Option Fields) → o ≡ ccw_at s a → is_some o ≡ true → Stands s a
-stands_from s a None e h = absurd (cc)
-stands_from s a (Some c) e h = let k = ccw_at-some s a c (sym e) in (k.0, k.1)
+stands_from s a o e h = search (rules, ccw_at-some)
 
 pub stands_low : (s : List ℕ) (a : ℕ) → length s ≤ 2 ^ 24 → Stands s a → EndsBelow (2 ^ 32) (record { start = a; len = 8 })
 unfolding is_inside

@@ -1,5 +1,6 @@
 -- What is seen of a place at one look.
-use Rattle.std.proofs.Common.{◌≡◌, ℕ, zero, suc, ◌+◌, ◌<◌, ◌≤◌, ◌^◌, true, false, List, [], ◌∷◌, ◌++◌, length, get_or, take, slice_get, is_some, option_map, Option, Some, None, refl, sym, ap, ◌∙◌, subst, ◌⊎◌, inl, inr, ◌↔◌, arith}
+use Rattle.std.proofs.Common.{◌≡◌, ℕ, zero, suc, ◌+◌, ◌<◌, ◌≤◌, ◌^◌, true, false, List, [], ◌∷◌, ◌++◌, length, get_or, take, slice_get, is_some, option_map, Option, Some, None, refl, sym, ap, ◌∙◌, subst, ◌⊎◌, inl, inr, ◌↔◌, arith, rules}
+use Rattle.std.proofs.lemmas.Grind.{common_steps}
 use Rattle.std.proofs.lemmas.Bool.{both_ways, cases_Bool, cond-false, cond-true, leb-true}
 use Rattle.std.proofs.Math.Seq.{take-suc}
 use Rattle.std.proofs.lemmas.Option.{slice_get-map, slice_get_read}
@@ -52,34 +53,11 @@ pub record IsSought (j : Job) (p : Place) (c : Fields) (o : Option (List ℕ)) :
   pub other : begins_seek p c ≡ false → o ≡ None
 
 no_seek : (j : Job) (p : Place) (c : Fields) (o : Option (List ℕ)) → IsSought j p c o → o ≡ None → (b : ℕ) → IsSeekByteOf j p b → ⊥
-no_seek j p c o w e b h =
-    let seeks : begins_seek p c ≡ true = ap (begins_seek p) w.word ∙ h.1.seeks in
-    let none : HasAddresses (storage_of j) p.address None = subst (HasAddresses (storage_of j) p.address) e (w.seek seeks) in
-    none h.1.chain h.1.is_chain
+no_seek j p c o w e b h = search rules
 
 -- where no seek has an argument, the byte that is set is guarded, if Set File Mask begins there
 pub taken_none : (j : Job) (p : Place) (c : Fields) (o : Option (List ℕ)) → c.address < 2 ^ 24 → IsClear j p → IsSought j p c o → o ≡ None → IsTaken j p (mask_addresses p c)
-taken_none j p c o low clear w e = go (cases_Bool (begins_set_mask p c))
-  where
-    go : (begins_set_mask p c ≡ true) ⊎ (begins_set_mask p c ≡ false) → IsTaken j p (mask_addresses p c)
-    go (inl s) = subst (IsTaken j p) (sym (cond-true (begins_set_mask p c) (c.address ∷ []) [] s)) ((λ b. (to b, from b)), below)
-      where
-        to : (b : ℕ) → Has (c.address ∷ []) b → IsArgumentByteOf j p b
-        to b (inl same) = inr (clear, record { sets = ap (begins_set_mask p) (sym w.word) ∙ s; at = ap (λ (d : Fields). d.address) (sym w.word) ∙ same })
-        to b (inr h) = absurd h
-
-        from : (b : ℕ) → IsArgumentByteOf j p b → Has (c.address ∷ []) b
-        from b (inl h) = absurd (no_seek j p c o w e b h)
-        from b (inr h) = inl (ap (λ (d : Fields). d.address) w.word ∙ h.1.at)
-
-        below : (i : ℕ) → get_or (c.address ∷ []) i 0 < 2 ^ 24
-        below zero = low
-        below (suc i) = omega arith
-    go (inr n) = subst (IsTaken j p) (sym (cond-false (begins_set_mask p c) (c.address ∷ []) [] n)) (no_bytes j p none)
-      where
-        none : (b : ℕ) → IsArgumentByteOf j p b → ⊥
-        none b (inl h) = no_seek j p c o w e b h
-        none b (inr h) = both_ways (begins_set_mask p c) n (ap (begins_set_mask p) w.word ∙ h.1.sets)
+taken_none j p c o low clear w e = search (rules, cases_Bool, cond-true, no_seek, cond-false, no_bytes, both_ways)
 
 pub taken_whole : (j : Job) (p : Place) (c : Fields) (o : Option (List ℕ)) (x : List ℕ) → length (storage_of j) ≤ 2 ^ 24 → IsClear j p → IsSought j p c o → o ≡ Some x → IsTaken j p x
 taken_whole j p c o x small clear w e = go (cases_Bool (begins_seek p c))
@@ -117,18 +95,12 @@ next_clear j p c n w clear e g = record {
 -- a place where a CCW stands is low
 pub stands_below : (s : List ℕ) (a : ℕ) (c : Fields) → length s ≤ 2 ^ 24 → ccw_at s a ≡ Some c → a < 2 ^ 25
 unfolding is_inside
-stands_below s a c small h =
-    let inside : a + 8 ≤ length s = leb-true _ _ (ccw_at-some s a c h).1 in
-    omega arith
+stands_below s a c small h = search (rules, leb-true, ccw_at-some)
 
 -- ---- lists of looks
 
 pub looks_push : (j : Job) (l : Seen) (ls ms : List Seen) → ms ≡ ls ++ l ∷ [] → AreLooks j ls → IsLook j l → AreLooks j ms
-looks_push j l ls ms e a h m k = go ((has_push ls l m).0 (subst (λ z. Has z m) e k))
-  where
-    go : Has ls m ⊎ (l ≡ m) → IsLook j m
-    go (inl k) = a m k
-    go (inr d) = subst (IsLook j) d h
+looks_push j l ls ms e a h m k = search (rules, has_push)
 
 pub places_push : (l : Seen) (p : Place) (ls ms : List Seen) → ms ≡ ls ++ l ∷ [] → l.place ≡ p → places_of_looks ms ≡ places_of_looks ls ++ p ∷ []
 places_push l p ls ms e d = ap places_of_looks e ∙ map-append place_of ls (l ∷ []) ∙ ap (λ (q : Place). places_of_looks ls ++ q ∷ []) d
@@ -145,10 +117,7 @@ look_of j ls i l are h e = are l (has_at ls i l (slice_get_read ls (length ls) i
 
 -- one look more
 pub places_next : (ls : List Seen) (i : ℕ) (l : Seen) → i < length ls → l ≡ get_or ls i l → places_of_looks (take (i + 1) ls) ≡ places_of_looks (take i ls) ++ l.place ∷ []
-places_next ls i l h e =
-    let n : i + 1 ≡ suc i = omega arith in
-    ap (λ k. places_of_looks (take k ls)) n ∙ ap places_of_looks (take-suc ls i l h) ∙ map-append place_of (take i ls) (get_or ls i l ∷ [])
-    ∙ ap (λ (m : Seen). places_of_looks (take i ls) ++ m.place ∷ []) (sym e)
+places_next ls i l h e = grind (arith, common_steps, take-suc, map-append)
 
 -- where a CCW was seen, one stands
 pub seen_stands : (j : Job) (l : Seen) (o : Option Fields) → IsLook j l → o ≡ l.ccw → is_some o ≡ true → Stands (storage_of j) l.place.address

@@ -1,5 +1,5 @@
 -- Marks, and the places that they tell of.
-use Rattle.std.proofs.Common.{◌≡◌, ℕ, zero, suc, ◌+◌, ◌*◌, ◌/◌, ◌%◌, ◌^◌, ◌<◌, ◌==◌, Bool, true, false, List, [], ◌∷◌, ◌++◌, Some, refl, sym, ap, ◌∙◌, subst, ◌⊎◌, inl, inr, arith, w8}
+use Rattle.std.proofs.Common.{◌≡◌, ℕ, zero, suc, ◌+◌, ◌*◌, ◌/◌, ◌%◌, ◌^◌, ◌<◌, ◌==◌, Bool, true, false, List, [], ◌∷◌, ◌++◌, Some, refl, sym, ap, ◌∙◌, subst, ◌⊎◌, inl, inr, arith, w8, rules}
 use Rattle.std.specs.Int.{bit_at}
 use Rattle.std.specs.Int.RustNames.{bit_or}
 use Rattle.std.specs.Ordering.{nat_cmp}
@@ -20,93 +20,41 @@ use Rattle.chan_walk.proofs.Theory.Lists.{has_push}
 -- ---- places and the ways in which they are entered
 
 entry_small : (e : Entry) → entry_number e < 4
-entry_small Fresh = omega arith
-entry_small ChainIn = omega arith
-entry_small ChainOut = omega arith
-entry_small ChainSearch = omega arith
+entry_small e = search rules
 
 transfer_small : (t : Bool) → transfer_number t < 2
-transfer_small true = omega arith
-transfer_small false = omega arith
+transfer_small t = search rules
 
 pub way_small : (p : Place) → way_of p < 8
 way_small p = omega (arith, entry_small p.entered, transfer_small p.after_transfer)
 
 pub entry_number-entry_of : (n : ℕ) → n < 4 → entry_number (entry_of n) ≡ n
-entry_number-entry_of zero h = refl
-entry_number-entry_of (suc zero) h = refl
-entry_number-entry_of (suc (suc zero)) h = refl
-entry_number-entry_of (suc (suc (suc zero))) h = refl
-entry_number-entry_of (suc (suc (suc (suc n)))) h = absurd (omega arith)
+entry_number-entry_of n h = search rules
 
 transfer_number-test : (n : ℕ) → n < 2 → transfer_number (n == 1) ≡ n
-transfer_number-test zero h = refl
-transfer_number-test (suc zero) h = refl
-transfer_number-test (suc (suc n)) h = absurd (omega arith)
+transfer_number-test n h = search rules
 
 pub way_of-place_at : (a w : ℕ) → w < 8 → way_of (place_at a w) ≡ w
-way_of-place_at a w h =
-    let e = entry_number-entry_of (w / 2) (omega arith) in
-    let t = transfer_number-test (w % 2) (omega arith) in
-    omega (arith, e, t)
+way_of-place_at a w h = search (rules, entry_number-entry_of, transfer_number-test)
 
 pub place_at-way_of : (p : Place) → place_at p.address (way_of p) ≡ p
-place_at-way_of p = go p.address p.entered p.after_transfer
-  where
-    go : (a : ℕ) (e : Entry) (t : Bool) → place_at a (2 * entry_number e + transfer_number t) ≡ record { address = a; entered = e; after_transfer = t }
-    go a Fresh false = refl
-    go a Fresh true = refl
-    go a ChainIn false = refl
-    go a ChainIn true = refl
-    go a ChainOut false = refl
-    go a ChainOut true = refl
-    go a ChainSearch false = refl
-    go a ChainSearch true = refl
+place_at-way_of p = search rules
 
 pub same_place : (p q : Place) → p.address ≡ q.address → way_of p ≡ way_of q → p ≡ q
 same_place p q a w = sym (place_at-way_of p) ∙ ap (λ z. place_at z (way_of p)) a ∙ ap (place_at q.address) w ∙ place_at-way_of q
 
 -- places with one number are one place
 pub same_number : (p q : Place) → place_number p ≡ place_number q → p ≡ q
-same_number p q e =
-    let a = way_small p in
-    let b = way_small q in
-    same_place p q (omega arith) (omega arith)
+same_number p q e = search (rules, way_small, same_place)
 
 pub cases_place : (p q : Place) → (p ≡ q) ⊎ (p ≡ q → ⊥)
-cases_place p q = go (cases_eq (place_number p) (place_number q))
-  where
-    go : (place_number p ≡ place_number q) ⊎ (place_number p ≡ place_number q → ⊥) → (p ≡ q) ⊎ (p ≡ q → ⊥)
-    go (inl e) = inl (same_number p q e)
-    go (inr n) = inr (λ e. n (ap place_number e))
+cases_place p q = search (rules, cases_eq, same_number)
 
 -- ---- one mark more
 
 -- the bits at one address changed, by one bit
 marks_by : (m n : BTreeMap ℕ ℕ) (q : Place) → ((a : ℕ) → (a ≡ q.address → ⊥) → marks_of n a ≡ marks_of m a) → ((i : ℕ) → (i ≡ way_of q → ⊥) → bit_at (marks_of n q.address) i ≡ bit_at (marks_of m q.address) i) → bit_at (marks_of n q.address) (way_of q) ≡ 1 → Marks m n q
-marks_by m n q others bits same p = (to (cases_place p q), from)
-  where
-    at : p ≡ q → HasMark n p
-    at e = subst (HasMark n) (sym e) same
-
-    unmoved : (p ≡ q → ⊥) → bit_at (marks_of n p.address) (way_of p) ≡ bit_at (marks_of m p.address) (way_of p)
-    unmoved d = go (cases_eq p.address q.address)
-      where
-        go : (p.address ≡ q.address) ⊎ (p.address ≡ q.address → ⊥) → bit_at (marks_of n p.address) (way_of p) ≡ bit_at (marks_of m p.address) (way_of p)
-        go (inl e) = subst (λ z. bit_at (marks_of n z) (way_of p) ≡ bit_at (marks_of m z) (way_of p)) (sym e) (bits (way_of p) (λ f. d (same_place p q e f)))
-        go (inr e) = ap (λ z. bit_at z (way_of p)) (others p.address e)
-
-    to : (p ≡ q) ⊎ (p ≡ q → ⊥) → HasMark n p → HasMark m p ⊎ (q ≡ p)
-    to (inl e) h = inr (sym e)
-    to (inr d) h = inl (sym (unmoved d) ∙ h)
-
-    from : HasMark m p ⊎ (q ≡ p) → HasMark n p
-    from (inr e) = at (sym e)
-    from (inl h) = go (cases_place p q)
-      where
-        go : (p ≡ q) ⊎ (p ≡ q → ⊥) → HasMark n p
-        go (inl e) = at e
-        go (inr d) = unmoved d ∙ h
+marks_by m n q others bits same p = search (rules, cases_place, cases_eq, same_place)
 
 apart_keys : (a b : ℕ) → (b ≡ a → ⊥) → tree.is_at (nat_cmp a) b ≡ false
 apart_keys a b d = grind (arith, nat_tests)
@@ -118,12 +66,4 @@ mark_put m n q w v f e u = marks_by m n q (λ a d. ap or_none (u.2 a (apart_keys
     now = ap or_none u.1 ∙ e ∙ ap (λ z. bit_or (marks_of m q.address) (1 * 2 ^ z % 2 ^ 8)) f
 
 pub agrees_push : (m n : BTreeMap ℕ ℕ) (q : Place) (ps qs : List Place) → qs ≡ ps ++ q ∷ [] → Agrees m ps → Marks m n q → Agrees n qs
-agrees_push m n q ps qs e a k p = ((λ h. subst (λ z. Has z p) (sym e) ((has_push ps q p).1 (to ((k p).0 h)))), λ h. (k p).1 (from ((has_push ps q p).0 (subst (λ z. Has z p) e h))))
-  where
-    to : HasMark m p ⊎ (q ≡ p) → Has ps p ⊎ (q ≡ p)
-    to (inl h) = inl ((a p).0 h)
-    to (inr d) = inr d
-
-    from : Has ps p ⊎ (q ≡ p) → HasMark m p ⊎ (q ≡ p)
-    from (inl h) = inl ((a p).1 h)
-    from (inr d) = inr d
+agrees_push m n q ps qs e a k p = search (rules, has_push)

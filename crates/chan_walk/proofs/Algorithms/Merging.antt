@@ -1,5 +1,6 @@
 -- Bytes of areas, how they stay the same while areas are merged, and that there is one merged list for them.
-use Rattle.std.proofs.Common.{◌≡◌, ℕ, zero, suc, ◌+◌, ◌++◌, ◌<◌, ◌≤◌, true, ◌||◌, ◌&&◌, nat_le, nat_lt, List, [], ◌∷◌, length, get_or, take, refl, sym, ap, ◌∙◌, subst, ◌⊎◌, inl, inr, arith, append_assoc, IsPermutation}
+use Rattle.std.proofs.Common.{◌≡◌, ℕ, zero, suc, ◌+◌, ◌++◌, ◌<◌, ◌≤◌, true, ◌||◌, ◌&&◌, nat_le, nat_lt, List, [], ◌∷◌, length, get_or, take, refl, sym, ap, ◌∙◌, subst, ◌⊎◌, inl, inr, arith, append_assoc, IsPermutation, rules}
+use Rattle.std.proofs.lemmas.Grind.{common_steps}
 use Rattle.std.specs.Cmp.Derive.{one_truth}
 use Rattle.std.specs.List.{All}
 use Rattle.std.specs.List.Sorted.{IsNonDecreasingBy}
@@ -21,11 +22,7 @@ InArea a b = (a.start ≤ b) × (b < end_of a)
 
 pub lies_in-cases : (a : Area) (xs : List Area) (b : ℕ) → lies_in (a ∷ xs) b ≡ true → InArea a b ⊎ (lies_in xs b ≡ true)
 unfolding lies_in
-lies_in-cases a xs b h = go (or_cases (nat_le a.start b && nat_lt b (a.start + a.len)) (lies_in xs b) h)
-  where
-    go : ((nat_le a.start b && nat_lt b (a.start + a.len)) ≡ true) ⊎ (lies_in xs b ≡ true) → InArea a b ⊎ (lies_in xs b ≡ true)
-    go (inl e) = let p = and_parts (nat_le a.start b) (nat_lt b (a.start + a.len)) e in inl (leb-true a.start b p.0, ltb-true b (a.start + a.len) p.1)
-    go (inr e) = inr e
+lies_in-cases a xs b h = search (rules, or_cases, and_parts, leb-true, ltb-true)
 
 pub lies_in-first : (a : Area) (xs : List Area) (b : ℕ) → InArea a b → lies_in (a ∷ xs) b ≡ true
 unfolding lies_in
@@ -49,23 +46,7 @@ same_before xs ys zs b e = lies_in-append xs zs b ∙ ap (λ t. t || lies_in zs 
 
 -- one area for two
 pub one_for_two : (x y r : Area) (b : ℕ) → (InArea r b → InArea x b ⊎ InArea y b) → (InArea x b → InArea r b) → (InArea y b → InArea r b) → lies_in (r ∷ []) b ≡ lies_in (x ∷ y ∷ []) b
-one_for_two x y r b f g h = one_truth (lies_in (r ∷ []) b) (lies_in (x ∷ y ∷ []) b) (λ k. to (lies_in-cases r [] b k)) (λ k. lies_in-first r [] b (from (lies_in-cases x (y ∷ []) b k)))
-  where
-    both : InArea x b ⊎ InArea y b → lies_in (x ∷ y ∷ []) b ≡ true
-    both (inl k) = lies_in-first x (y ∷ []) b k
-    both (inr k) = lies_in-rest x (y ∷ []) b (lies_in-first y [] b k)
-
-    to : InArea r b ⊎ (lies_in [] b ≡ true) → lies_in (x ∷ y ∷ []) b ≡ true
-    to (inl k) = both (f k)
-    to (inr k) = absurd (both_ways (lies_in [] b) (lies_in-nil b) k)
-
-    second : InArea y b ⊎ (lies_in [] b ≡ true) → InArea r b
-    second (inl k) = h k
-    second (inr k) = absurd (both_ways (lies_in [] b) (lies_in-nil b) k)
-
-    from : InArea x b ⊎ (lies_in (y ∷ []) b ≡ true) → InArea r b
-    from (inl k) = g k
-    from (inr k) = second (lies_in-cases y [] b k)
+one_for_two x y r b f g h = search (rules, lies_in-cases, lies_in-first, lies_in-rest, both_ways, lies_in-nil)
 
 -- in another order
 pub bytes_moved : (xs ys : List Area) (b : ℕ) → IsPermutation xs ys → lies_in xs b ≡ lies_in ys b
@@ -76,18 +57,11 @@ bytes_moved xs ys b p = list_any-IsPermutation (λ x. nat_le x.start b && nat_lt
 
 -- the run has the area's bytes already
 pub run_stays : (xs : List Area) (run area : Area) → run.start ≤ area.start → (area.len ≡ 0) ⊎ (end_of area ≤ end_of run) → HaveSameBytes (xs ++ run ∷ []) (xs ++ run ∷ area ∷ [])
-run_stays xs run area order w b = same_after xs (run ∷ []) (run ∷ area ∷ []) b (one_for_two run area run b (λ k. inl k) (λ k. k) (λ k. within k w))
-  where
-    within : InArea area b → (area.len ≡ 0) ⊎ (end_of area ≤ end_of run) → InArea run b
-    within k (inl e) = let l = k.0 in let m = k.1 in absurd (omega arith)
-    within k (inr e) = (omega (arith, k.0), omega (arith, k.1))
+run_stays xs run area order w b = search (rules, same_after, one_for_two)
 
 -- the run is empty
 pub run_begins : (xs : List Area) (run area : Area) → run.len ≡ 0 → HaveSameBytes (xs ++ area ∷ []) (xs ++ run ∷ area ∷ [])
-run_begins xs run area e b = same_after xs (area ∷ []) (run ∷ area ∷ []) b (one_for_two run area area b (λ k. inr k) (λ k. none k) (λ k. k))
-  where
-    none : InArea run b → InArea area b
-    none k = let l = k.0 in let m = k.1 in absurd (omega arith)
+run_begins xs run area e b = search (rules, same_after, one_for_two)
 
 -- the run is done
 pub run_ends : (xs ys : List Area) (run area : Area) → ys ≡ xs ++ run ∷ [] → HaveSameBytes (ys ++ area ∷ []) (xs ++ run ∷ area ∷ [])
@@ -95,11 +69,7 @@ run_ends xs ys run area e b = ap (λ z. lies_in (z ++ area ∷ []) b) e ∙ ap (
 
 -- the run grows
 pub run_grows : (xs : List Area) (run area r : Area) → r.start ≡ run.start → end_of r ≡ end_of area → run.start ≤ area.start → area.start ≤ end_of run → end_of run ≤ end_of area → HaveSameBytes (xs ++ r ∷ []) (xs ++ run ∷ area ∷ [])
-run_grows xs run area r s e order near far b = same_after xs (r ∷ []) (run ∷ area ∷ []) b (one_for_two run area r b (λ k. split k (cases_lt b (end_of run))) (λ k. (omega (arith, k.0), omega (arith, k.1))) (λ k. (omega (arith, k.0), omega (arith, k.1))))
-  where
-    split : InArea r b → (b < end_of run) ⊎ (end_of run ≤ b) → InArea run b ⊎ InArea area b
-    split k (inl l) = inl (omega (arith, k.0), l)
-    split k (inr l) = inr (omega (arith, k.0), omega (arith, k.1))
+run_grows xs run area r s e order near far b = search (rules, same_after, one_for_two, cases_lt)
 
 -- ---- what is merged so far
 
@@ -112,8 +82,7 @@ all_rest : (P : Area → Type 0) (x : Area) (xs : List Area) → All P (x ∷ xs
 all_rest P x xs h i d l = h (suc i) d (omega arith)
 
 pub all_one : (P : Area → Type 0) (x : Area) → P x → All P (x ∷ [])
-all_one P x h zero d l = h
-all_one P x h (suc i) d l = absurd (omega arith)
+all_one P x h k d l = search rules
 
 pub merged_push : (xs : List Area) (a : Area) → IsMerged xs → All (EndsBelow a.start) xs → 0 < a.len → IsMerged (xs ++ a ∷ [])
 merged_push [] a m e p = (p, tt, tt)
@@ -127,10 +96,7 @@ pub runs_later : (xs : List Area) (run area : Area) → run.start ≤ area.start
 runs_later xs run area l r = record { merged = r.merged; before = λ i d k. let e = r.before i d k in omega arith }
 
 pub runs_push : (xs ys : List Area) (run area : Area) → ys ≡ xs ++ run ∷ [] → 0 < run.len → end_of run < area.start → AreRuns xs run → AreRuns ys area
-runs_push xs ys run area e p l r =
-    let order : run.start ≤ area.start = omega arith in
-    let before : All (EndsBelow area.start) (xs ++ run ∷ []) = All-append (EndsBelow area.start) xs (run ∷ []) (runs_later xs run area order r).before (all_one (EndsBelow area.start) run l) in
-    subst (λ z. AreRuns z area) (sym e) (record { merged = merged_push xs run r.merged r.before p; before = before })
+runs_push xs ys run area e p l r = grind (arith, common_steps, All-append, runs_later, all_one, merged_push)
 
 -- ---- over areas in order of start
 
@@ -162,15 +128,7 @@ bytes_end now all xs i b e f g = ap (λ z. lies_in z b) f ∙ g ∙ ap (λ n. li
 
 -- an empty run has no bytes
 pub bytes_empty : (xs : List Area) (run : Area) (b : ℕ) → run.len ≡ 0 → lies_in xs b ≡ lies_in (xs ++ run ∷ []) b
-bytes_empty xs run b e = one_truth (lies_in xs b) (lies_in (xs ++ run ∷ []) b) (λ k. lies_in-append xs (run ∷ []) b ∙ or_left (lies_in xs b) (lies_in (run ∷ []) b) k) (λ k. from (or_cases (lies_in xs b) (lies_in (run ∷ []) b) (sym (lies_in-append xs (run ∷ []) b) ∙ k)))
-  where
-    none : InArea run b ⊎ (lies_in [] b ≡ true) → lies_in xs b ≡ true
-    none (inl k) = let l = k.0 in let m = k.1 in absurd (omega arith)
-    none (inr k) = absurd (both_ways (lies_in [] b) (lies_in-nil b) k)
-
-    from : (lies_in xs b ≡ true) ⊎ (lies_in (run ∷ []) b ≡ true) → lies_in xs b ≡ true
-    from (inl k) = k
-    from (inr k) = none (lies_in-cases run [] b k)
+bytes_empty xs run b e = search (rules, lies_in-append, or_left, or_cases, both_ways, lies_in-nil, lies_in-cases)
 
 -- none so far
 pub bytes_first : (now : List Area) (run : Area) (xs : List Area) (b : ℕ) → now ≡ [] → run.len ≡ 0 → lies_in (take 0 xs) b ≡ lies_in (now ++ run ∷ []) b
@@ -189,38 +147,24 @@ bytes_above n (x ∷ xs) b h k = go (lies_in-cases x xs b k) (λ m. bytes_above 
 
 -- no byte of a merged list lies before its first area
 bytes_from : (x : Area) (xs : List Area) (b : ℕ) → IsMerged (x ∷ xs) → lies_in (x ∷ xs) b ≡ true → x.start ≤ b
-bytes_from x xs b m h = go (lies_in-cases x xs b h)
-  where
-    go : InArea x b ⊎ (lies_in xs b ≡ true) → x.start ≤ b
-    go (inl k) = k.0
-    go (inr k) = let l = bytes_above (end_of x) xs b m.1 k in omega arith
+bytes_from x xs b m h = search (rules, lies_in-cases, bytes_above)
 
 first_byte : (x : Area) (xs : List Area) → IsMerged (x ∷ xs) → lies_in (x ∷ xs) x.start ≡ true
 first_byte x xs m = let p = m.0 in lies_in-first x xs x.start (omega arith, omega arith)
 
 -- the byte after the first area lies in none
 after_first : (x : Area) (xs : List Area) → IsMerged (x ∷ xs) → lies_in (x ∷ xs) (end_of x) ≡ true → ⊥
-after_first x xs m h = go (lies_in-cases x xs (end_of x) h)
-  where
-    go : InArea x (end_of x) ⊎ (lies_in xs (end_of x) ≡ true) → ⊥
-    go (inl k) = let l = k.1 in omega arith
-    go (inr k) = let l = bytes_above (end_of x) xs (end_of x) m.1 k in omega arith
+after_first x xs m h = search (rules, lies_in-cases, bytes_above)
 
 same_starts : (x y : Area) (xs ys : List Area) → IsMerged (x ∷ xs) → IsMerged (y ∷ ys) → HaveSameBytes (x ∷ xs) (y ∷ ys) → x.start ≤ y.start
 same_starts x y xs ys m n s = bytes_from x xs y.start m (s y.start ∙ first_byte y ys n)
 
 -- the first area of one list doesn't end after that of the other
 same_ends : (x y : Area) (xs ys : List Area) → IsMerged (x ∷ xs) → IsMerged (y ∷ ys) → HaveSameBytes (x ∷ xs) (y ∷ ys) → x.start ≡ y.start → end_of x ≤ end_of y
-same_ends x y xs ys m n s e = go (cases_lt (end_of y) (end_of x))
-  where
-    go : (end_of y < end_of x) ⊎ (end_of x ≤ end_of y) → end_of x ≤ end_of y
-    go (inl l) = let p = n.0 in absurd (after_first y ys n (sym (s (end_of y)) ∙ lies_in-first x xs (end_of y) (omega arith, l)))
-    go (inr l) = l
+same_ends x y xs ys m n s e = search (rules, cases_lt, after_first, lies_in-first)
 
 same_area : (x y : Area) → x.start ≡ y.start → x.len ≡ y.len → x ≡ y
-same_area x y e f =
-    let of : ℕ → ℕ → Area = λ s n. record { start = s; len = n } in
-    ap (λ s. of s x.len) e ∙ ap (λ n. of y.start n) f
+same_area x y e f = search rules
 
 -- the rests have the same bytes
 rest_within : (x y : Area) (xs ys : List Area) (b : ℕ) → x ≡ y → IsMerged (x ∷ xs) → HaveSameBytes (x ∷ xs) (y ∷ ys) → lies_in xs b ≡ true → lies_in ys b ≡ true

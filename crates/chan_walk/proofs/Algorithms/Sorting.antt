@@ -1,5 +1,5 @@
 -- Looks put in order of place.
-use Rattle.std.proofs.Common.{◌≡◌, ℕ, ◌+◌, ◌<◌, List, [], ◌∷◌, map, length, get_or, Ordering, sym, ap, ◌∙◌, subst, ◌⊎◌, inl, inr, ◌↔◌, arith, eqb}
+use Rattle.std.proofs.Common.{◌≡◌, ℕ, ◌+◌, ◌<◌, List, [], ◌∷◌, map, length, get_or, Ordering, sym, ap, ◌∙◌, subst, ◌⊎◌, inl, inr, ◌↔◌, arith, eqb, rules}
 use Rattle.std.specs.List.{IsDistinct}
 use Rattle.std.specs.List.Sorted.{IsNonDecreasing, IsNonDecreasingBy, IsPermutation, IsSortedByKey, IsStrictlyIncreasing}
 use Rattle.std.specs.Ordering.{is_lt, nat_cmp}
@@ -38,22 +38,12 @@ non_decreasing (l ∷ ls) up i j d le lt =
     omega (arith, a, b, h)
 
 pub eqb_flips : (x y : ℕ) → eqb x y ≡ eqb y x
-eqb_flips x y = go (cases_eq x y)
-  where
-    go : (x ≡ y) ⊎ (x ≡ y → ⊥) → eqb x y ≡ eqb y x
-    go (inl e) = eq-eqb x y e ∙ sym (eq-eqb y x (sym e))
-    go (inr n) = ne_eqb x y n ∙ sym (ne_eqb y x (λ e. n (sym e)))
+eqb_flips x y = search (rules, cases_eq, eq-eqb, ne_eqb)
 
 -- sorted by place, and no place twice
 pub increasing : (cmp : Place → Place → Ordering) (ls ms : List Seen) → ((p q : Place) → cmp p q ≡ nat_cmp (place_number p) (place_number q))
     → IsSortedByKey place_of cmp ms → IsPermutation ls ms → AreApart (places_of_looks ls) → IsStrictlyIncreasing (map place_number (places_of_looks ms))
-increasing cmp ls ms same up moved apart =
-    let differ : IsDistinct eqb (map number ls) = subst (IsDistinct eqb) (numbers_of_places ls) (distinct (places_of_looks ls) apart) in
-    let still : IsDistinct eqb (map number ms) = IsDistinct-IsPermutation eqb eqb_flips (map number ls) (map number ms) (IsPermutation-map number ls ms moved) differ in
-    subst IsStrictlyIncreasing (sym (numbers_of_places ms)) (IsStrictlyIncreasing-from_distinct (map number ms) (non_decreasing ms (by_number cmp ms same up)) still)
+increasing cmp ls ms same up moved apart = search (rules, numbers_of_places, distinct, IsDistinct-IsPermutation, eqb_flips, IsPermutation-map, IsStrictlyIncreasing-from_distinct, non_decreasing, by_number)
 
 pub same_looks : (ls ms : List Seen) (l : Seen) → IsPermutation ls ms → Has ms l ↔ Has ls l
-same_looks ls ms l moved = (
-  (λ h. contains_has ls l (Contains-permutation ms ls l (IsPermutation-sym ls ms moved) (has_contains ms l h))),
-  λ h. contains_has ms l (Contains-permutation ls ms l moved (has_contains ls l h)),
-)
+same_looks ls ms l moved = search (rules, contains_has, Contains-permutation, IsPermutation-sym, has_contains)

@@ -1,5 +1,5 @@
 -- What begins at a place, by the command that was looked up.
-use Rattle.std.proofs.Common.{◌≡◌, Bool, true, false, ◌&&◌, if◌then◌else◌, Option, None, refl}
+use Rattle.std.proofs.Common.{◌≡◌, Bool, true, false, ◌&&◌, if◌then◌else◌, Option, None, refl, rules}
 use Rattle.ccw_core.specs.Ccw.{Fields}
 use Rattle.ckd_core.specs.declared.command.MaskClass.{MaskClass}
 use Rattle.ckd_core.specs.Table.{Entry as Command, class_is_seek, class_passes, class_recalibrates, class_sets_mask, is_seek, lookup, recalibrates, sets_mask}
@@ -10,8 +10,7 @@ use Rattle.chan_walk.specs.Visit.{begun}
 
 -- a test that only a fresh place can pass
 fresh_passes : (b : Bool) (test : MaskClass → Bool) (o : Option Command) → class_passes test (if b then o else None) ≡ (b && class_passes test o)
-fresh_passes true test o = refl
-fresh_passes false test o = refl
+fresh_passes b test o = search rules
 
 pub begins_seek-begun : (p : Place) (c : Fields) → class_passes class_is_seek (begun p c) ≡ begins_seek p c
 unfolding is_seek

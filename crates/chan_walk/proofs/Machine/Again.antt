@@ -1,5 +1,5 @@
 -- Where the verdict is yes, only guarded bytes count, and as these never change, it is yes again.
-use Rattle.std.proofs.Common.{◌≡◌, ℕ, ◌+◌, ◌<◌, ◌≤◌, true, false, ◌∷◌, length, refl, sym, ap, ◌∙◌, subst, inl, inr}
+use Rattle.std.proofs.Common.{◌≡◌, ℕ, ◌+◌, ◌<◌, ◌≤◌, true, false, ◌∷◌, length, refl, sym, ap, ◌∙◌, subst, inl, inr, rules}
 use Rattle.ccw_core.specs.Ccw.{byte, Fields, ccw, is_transfer, chains_data}
 use Rattle.ccw_core.specs.Storage.{Stands}
 use Rattle.ckd_core.specs.declared.command.Kind.TheVariants.{Outward}
@@ -63,17 +63,7 @@ module _ (j : Job) (v : IsVerdict j Yes) where
   along seek r b (further c part cd lead) = one_on (along seek r b c) part cd lead
 
   counted_is_guarded : (b : ℕ) → IsCounted j b → IsGuarded j b
-  counted_is_guarded b (inl g) = inl g
-  counted_is_guarded b (inr (inl g)) =
-      let o = along g.seek g.reached g.seeks g.chained in
-      inl (record {
-        place = o.place;
-        reached = o.reached;
-        stands = subst (λ n. Stands (storage_of j) n) (sym o.address) g.stands;
-        from = subst (λ n. n ≤ b) (sym o.address) g.from;
-        below = subst (λ n. b < n + 8) (sym o.address) g.below;
-      })
-  counted_is_guarded b (inr (inr g)) = inr (record { place = g.place; reached = g.reached; clear = yes_clear j v g.place g.reached; takes = g.takes })
+  counted_is_guarded b h = search (rules, along, yes_clear)
 
 pub yes_by_guarded : YesByGuarded
 yes_by_guarded j t v h = ((same_verdict j t (record { same_length = h.same_length; same = λ b c. h.same b (counted_is_guarded j v b c) })).1 Yes).0 v

@@ -1,5 +1,5 @@
 -- What the events of a step show, part by part.
-use Rattle.std.proofs.Common.{◌≡◌, ℕ, List, [], ◌∷◌, ◌++◌, Some, ◌⊎◌, inl, inr}
+use Rattle.std.proofs.Common.{◌≡◌, ℕ, List, [], ◌∷◌, ◌++◌, Some, ◌⊎◌, inl, inr, rules}
 use Rattle.chan_walk.specs.Alarm.{NoSeek}
 use Rattle.chan_walk.specs.Argument.{Has}
 use Rattle.chan_walk.specs.Machine.{Event, Command, Store, Fetch, Gather, Seek, SetMask}
@@ -62,8 +62,4 @@ mask_is_used (Seek z ∷ es) a x (inl h) = absurd (cc)
 mask_is_used (Seek z ∷ es) a x (inr h) = mask_is_used es a x h
 
 pub no_seek_append : (xs ys : List Event) → NoSeek xs → NoSeek ys → NoSeek (xs ++ ys)
-no_seek_append xs ys h k x u = go (has_cases xs ys (Seek (Some x)) u)
-  where
-    go : Has xs (Seek (Some x)) ⊎ Has ys (Seek (Some x)) → ⊥
-    go (inl u) = h x u
-    go (inr u) = k x u
+no_seek_append xs ys h k x u = search (rules, has_cases)

@@ -1,5 +1,5 @@
 -- Exactness: a job that is safe in every run and steady has the verdict yes.
-use Rattle.std.proofs.Common.{◌≡◌, ℕ, zero, suc, ◌+◌, ◌<◌, ◌≤◌, List, [], ◌∷◌, ◌++◌, map, length, Some, None, refl, sym, ap, ◌∙◌, subst, ◌⊎◌, inl, inr, arith}
+use Rattle.std.proofs.Common.{◌≡◌, ℕ, zero, suc, ◌+◌, ◌<◌, ◌≤◌, List, [], ◌∷◌, ◌++◌, map, length, Some, None, refl, sym, ap, ◌∙◌, subst, ◌⊎◌, inl, inr, arith, rules}
 use Rattle.std.specs.List.{AllByRecursion, range_with_len}
 use Rattle.std.proofs.lemmas.Bool.{both_ways}
 use Rattle.std.proofs.lemmas.List.FromFn.{length-map-range_with_len}
@@ -84,12 +84,10 @@ changed zero = 1
 changed (suc n) = 0
 
 changed_small : (n : ℕ) → changed n < 256
-changed_small zero = omega arith
-changed_small (suc n) = omega arith
+changed_small n = search rules
 
 changed_not : (n : ℕ) → changed n ≡ n → ⊥
-changed_not zero e = omega arith
-changed_not (suc n) e = omega arith
+changed_not n e = search rules
 
 all_small : (s xs : List ℕ) → AllByRecursion (λ b. b < 256) (map (λ a. changed (byte s a)) xs)
 all_small s [] = tt

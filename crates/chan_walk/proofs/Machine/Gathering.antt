@@ -1,5 +1,5 @@
 -- A seek that takes its argument while its chain runs.
-use Rattle.std.proofs.Common.{◌≡◌, ℕ, ◌+◌, ◌-◌, ◌<◌, ◌≤◌, min, true, false, List, [], ◌∷◌, ◌++◌, map, take, length, refl, sym, ap, ◌∙◌, subst, inl, inr, arith, append_assoc, length-append, append-nil}
+use Rattle.std.proofs.Common.{◌≡◌, ℕ, ◌+◌, ◌-◌, ◌<◌, ◌≤◌, min, true, false, List, [], ◌∷◌, ◌++◌, map, take, length, refl, sym, ap, ◌∙◌, subst, inl, inr, arith, append_assoc, length-append, append-nil, rules}
 use Rattle.std.specs.List.{range_with_len}
 use Rattle.std.proofs.lemmas.Bool.{both_ways}
 use Rattle.std.proofs.lemmas.List.{length-map, map-append}
@@ -115,16 +115,10 @@ module _ (s l : List ℕ) where
           )
 
   pub at_next : (p : Place) (x : List ℕ) (g : IsGathered s l p x) → is_transfer (ccw s p.address) ≡ false → p.address ≡ g.at
-  at_next p x g t = go g.leads
-    where
-      go : ComesTo s p g.at → p.address ≡ g.at
-      go (inl e) = e
-      go (inr e) = absurd (both_ways _ t e.2)
+  at_next p x g t = search (rules, both_ways)
 
   pub advance : (p : Place) (x : List ℕ) (m : ℕ) (g : IsGathered s l p x) → is_transfer (ccw s p.address) ≡ false → m ≤ (ccw s p.address).count → Advance s l p (ccw s p.address) x m g.before
-  advance p x m g t le =
-      let e = at_next p x g t in
-      subst (λ a. Advance s l p (ccw s a) x m g.before) (sym e) (gather_rest p x g.before g.at g.rest m e g.chain g.all g.few g.read (subst (λ a. m ≤ (ccw s a).count) e le))
+  advance p x m g t le = search (rules, at_next, gather_rest)
 
   -- a transfer leads to the chain's next CCW
   abbrev pub transfer_on : (p : Place) (x : List ℕ) → IsGathered s l p x → is_transfer (ccw s p.address) ≡ true → IsGathered s l (transferred_to (ccw s p.address).address p.entered) x

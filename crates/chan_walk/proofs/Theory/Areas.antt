@@ -1,5 +1,5 @@
 -- What covered ranges and allowed arguments say of each byte and cylinder.
-use Rattle.std.proofs.Common.{◌≡◌, ℕ, zero, suc, ◌+◌, ◌<◌, ◌≤◌, true, false, List, refl, subst, ◌⊎◌, inl, inr, arith}
+use Rattle.std.proofs.Common.{◌≡◌, ℕ, zero, suc, ◌+◌, ◌<◌, ◌≤◌, true, false, List, refl, subst, ◌⊎◌, inl, inr, arith, rules}
 use Rattle.std.proofs.lemmas.Bool.{cases_lt, and_parts, and_cases, and_from, lt-ltb}
 use Rattle.ccw_core.specs.declared.areas.Area.{Area}
 use Rattle.ccw_core.specs.Areas.{lies_in, covered}
@@ -30,8 +30,7 @@ uncovered areas a (suc n) h = go (and_cases (lies_in areas a) (covered areas (su
     go (inr e) f = let r = f e in (r.0, omega (arith, r.1), omega (arith, r.2), r.3)
 
 has_heads : (d : Device) → 0 < heads_of d
-has_heads D2311 = omega arith
-has_heads D2314 = omega arith
+has_heads d = search rules
 
 pub allows_cylinder : (j : Job) (x : List ℕ) → allows j x ≡ true → has_cylinder (extents_of j) (cylinder_of x) ≡ true
 unfolding is_allowed

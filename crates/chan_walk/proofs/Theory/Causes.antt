@@ -1,5 +1,6 @@
 -- What it says of a place that it offends by a reason.
-use Rattle.std.proofs.Common.{◌≡◌, ℕ, ◌+◌, ◌<◌, ◌≤◌, Bool, true, false, not, ◌&&◌, ◌||◌, if◌then◌else◌, List, length, Option, Some, None, is_none, refl, sym, ap, ◌∙◌, subst, ◌⊎◌, inl, inr, arith}
+use Rattle.std.proofs.Common.{◌≡◌, ℕ, ◌+◌, ◌<◌, ◌≤◌, Bool, true, false, not, ◌&&◌, ◌||◌, if◌then◌else◌, List, length, Option, Some, None, is_none, refl, sym, ap, ◌∙◌, subst, ◌⊎◌, inl, inr, arith, rules}
+use Rattle.std.proofs.lemmas.Grind.{common_steps}
 use Rattle.std.proofs.lemmas.Bool.{and_parts, and_from, both_ways, cases_Bool, not-false, not-true, or_cases, lt-ltb, cases_lt}
 use Rattle.ccw_core.specs.declared.areas.Area.{Area}
 use Rattle.ccw_core.specs.Areas.{covered, lies_in}
@@ -64,19 +65,13 @@ module _ (j : Job) (p : Place) where
 
   check_told : (r : Reason) → check s p ≡ Some r → Told r
   unfolding check_of
-  check_told r h =
-      table_case Told _ (is_transfer (ccw_of j p)) (table_of_non_transfer (length s) p (ccw_of j p)) r
-      (first_case Told (table_of_every_ccw (length s) p (ccw_of j p)) r
-      ((λ _. tt), λ a. ((λ _. tt), λ b. ((λ _. ((not-false _ a, not-false _ b), tt)), λ _. tt))))
-      (λ n e. let st = any_stands n in each_case Told (table_of_non_transfer (length s) p (ccw_of j p)) ((st, tt), ((st, tt), ((st, tt), ((st, tt), tt))))) h
+  check_told r h = grind (arith, common_steps, table_case, first_case, not-false, any_stands, each_case)
 
   none_argument : (x : Option (List ℕ)) → HasArgument s p.address x → is_none x ≡ true → HasArgument s p.address None
-  none_argument None h e = h
-  none_argument (Some x) h e = absurd (cc)
+  none_argument x h e = search rules
 
   refused_argument : (x : Option (List ℕ)) → HasArgument s p.address x → is_refused j x ≡ true → (y : List ℕ) × HasArgument s p.address (Some y) × (allows j y ≡ false)
-  refused_argument None h e = absurd (cc)
-  refused_argument (Some y) h e = (y, h, not-true _ e)
+  refused_argument x h e = search (rules, not-true)
 
   uncovered_told : (areas : List Area) (b : Bool) → check s p ≡ None → is_transfer (ccw_of j p) ≡ false → (b && not (covered areas (ccw_of j p).address (ccw_of j p).count)) ≡ true → IsUncovered areas
   uncovered_told areas b n t e = (data_in_storage s p (ccw_of j p) n refl t, not-true _ (and_parts b _ e).1)
@@ -120,27 +115,11 @@ module _ (j : Job) (p : Place) where
   no_word st n = let e = sym n ∙ ccw_at-where s p.address st in cc
 
   pub seek_told : (r : Reason) → (r ≡ ShortSeek) ⊎ (r ≡ SeekOutside) → Told r → FailsToSeek j p r
-  seek_told r (inl e) h = subst (FailsToSeek j p) (sym e) (subst Told e h).1
-  seek_told r (inr e) h = subst (FailsToSeek j p) (sym e) (subst Told e h).1
+  seek_told r k h = search rules
 
   -- where no CCW stands, only two reasons are left
   pub nothing_told : (r : Reason) → Told r → ccw_at s p.address ≡ None → (r ≡ Misaligned → ⊥) → OutsideStorage ≡ r
-  nothing_told Misaligned h n m = absurd (m refl)
-  nothing_told OutsideStorage h n m = refl
-  nothing_told StoreNotLent h n m = absurd (no_word h.0 n)
-  nothing_told FetchNotLent h n m = absurd (no_word h.0 n)
-  nothing_told ShortSeek h n m = absurd (no_word h.0 n)
-  nothing_told SeekOutside h n m = absurd (no_word h.0 n)
-  nothing_told ChangesCcw h n m = absurd (no_word h.0 n)
-  nothing_told ChangesArgument h n m = absurd (no_word h.0 n)
-  nothing_told TransferNotAllowed h n m = absurd (no_word h.0 n)
-  nothing_told InvalidCode h n m = absurd (no_word h.0 n)
-  nothing_told BadFormat h n m = absurd (no_word h.0 n)
-  nothing_told ZeroCount h n m = absurd (no_word h.0 n)
-  nothing_told DataOutside h n m = absurd (no_word h.0 n)
-  nothing_told NotInTable h n m = absurd (no_word h.0 n)
-  nothing_told Inhibited h n m = absurd (no_word h.0 n)
-  nothing_told WeakensMask h n m = absurd (no_word h.0 n)
+  nothing_told r h n m = search (rules, no_word)
 
   -- ---- a seek that fails
 
@@ -148,17 +127,7 @@ module _ (j : Job) (p : Place) where
   no_both a b = both_ways _ (seek_no_recalibrate (ccw_of j p).command (and_parts _ _ a).1) (and_parts _ _ b).1
 
   pub recalibrates_out : (r : Reason) → FailsToSeek j p r → begins_recalibrate p (ccw_of j p) ≡ true → (SeekOutside ≡ r) × (has_cylinder (extents_of j) 0 ≡ false)
-  recalibrates_out ShortSeek f b = absurd (no_both f.0 b)
-  recalibrates_out SeekOutside f b = (refl, go f.1)
-    where
-      go : SeeksTo j p f.0 → has_cylinder (extents_of j) 0 ≡ false
-      go (inl k) = absurd (no_both k.0 b)
-      go (inr k) = at (cases_Bool (has_cylinder (extents_of j) 0))
-        where
-          at : (has_cylinder (extents_of j) 0 ≡ true) ⊎ (has_cylinder (extents_of j) 0 ≡ false) → has_cylinder (extents_of j) 0 ≡ false
-          at (inl e) = absurd (both_ways (allows j f.0) f.2 (subst (λ x. allows j x ≡ true) (sym k.1) (allows_home j e)))
-          at (inr e) = e
-  recalibrates_out r f b = absurd f
+  recalibrates_out r f b = search (rules, no_both, cases_Bool, both_ways, allows_home)
 
   pub sought_out : (r : Reason) (y : List ℕ) → FailsToSeek j p r → begins_recalibrate p (ccw_of j p) ≡ false → HasArgument s p.address (Some y) → (SeekOutside ≡ r) × (begins_seek p (ccw_of j p) ≡ true) × (allows j y ≡ false)
   sought_out ShortSeek y f b h = absurd (f.1 h.0 h.1)
@@ -173,39 +142,21 @@ module _ (j : Job) (p : Place) where
   sought_out r y f b h = absurd f
 
   pub short_out : (r : Reason) → FailsToSeek j p r → begins_recalibrate p (ccw_of j p) ≡ false → HasArgument s p.address None → ShortSeek ≡ r
-  short_out ShortSeek f b h = refl
-  short_out SeekOutside f b h = go f.1
-    where
-      go : SeeksTo j p f.0 → ShortSeek ≡ SeekOutside
-      go (inl k) = absurd (h k.1.0 k.1.1)
-      go (inr k) = absurd (both_ways _ b k.0)
-  short_out r f b h = absurd f
+  short_out r f b h = search (rules, both_ways)
 
 -- ---- what is wrong with an argument
 
 pub track_parts : (x : List ℕ) (t : Track) → Some t ≡ track_of x → (has_no_bin x ≡ true) × (t.cylinder ≡ cylinder_of x) × (t.head ≡ head_of x)
-track_parts x t e = go (has_no_bin x) refl e
-  where
-    go : (b : Bool) → has_no_bin x ≡ b → Some t ≡ (if b then Some (record { cylinder = cylinder_of x; head = head_of x }) else None) → (has_no_bin x ≡ true) × (t.cylinder ≡ cylinder_of x) × (t.head ≡ head_of x)
-    go true f d = let is : t ≡ record { cylinder = cylinder_of x; head = head_of x } = cc in (f, ap (λ (z : Track). z.cylinder) is, ap (λ (z : Track). z.head) is)
-    go false f d = absurd (cc)
+track_parts x t e = search rules
 
 pub head_out : (j : Job) (x : List ℕ) → allows j x ≡ false → has_no_bin x ≡ true → has_cylinder (extents_of j) (cylinder_of x) ≡ true → heads j ≤ head_of x
 unfolding is_allowed
-head_out j x h b d = go (cases_lt (head_of x) (heads j))
-  where
-    go : (head_of x < heads j) ⊎ (heads j ≤ head_of x) → heads j ≤ head_of x
-    go (inl l) = absurd (both_ways _ h (and_from _ _ (and_from _ _ b d) (lt-ltb (head_of x) (heads j) l)))
-    go (inr l) = l
+head_out j x h b d = search (rules, cases_lt, both_ways, and_from, lt-ltb)
 
 -- ---- areas of which only what lies in storage counts
 
 same_byte : (xs ys : List Area) (b : ℕ) → covered xs b 1 ≡ covered ys b 1 → lies_in xs b ≡ lies_in ys b
-same_byte xs ys b e = sym (one (lies_in xs b)) ∙ e ∙ one (lies_in ys b)
-  where
-    one : (z : Bool) → (z && true) ≡ z
-    one true = refl
-    one false = refl
+same_byte xs ys b e = search rules
 
 pub gap_in_storage : (n : ℕ) (xs ys : List Area) (range gap : Area) → ((start len : ℕ) → start + len ≤ n → covered xs start len ≡ covered ys start len) → end_of range ≤ n → IsFirstGap xs range gap → IsFirstGap ys range gap
 gap_in_storage n xs ys range gap h within g =
@@ -223,13 +174,7 @@ gap_in_storage n xs ys range gap h within g =
 -- ---- what is stored over
 
 pub over_ccw : (j : Job) (p : Place) → StoresOver j p (IsCcwByte j) → (a : ℕ) × IsCcwIn j (data_at j p) a
-over_ccw j p o =
-    let h = o.holds in
-    let f = o.from in
-    let b = o.below in
-    let hf = h.from in
-    let hb = h.below in
-    (h.place.address, record { place = h.place; reached = h.reached; address = refl; stands = h.stands; from = omega arith; below = omega arith })
+over_ccw j p o = search rules
 
 pub over_argument : (j : Job) (p : Place) → StoresOver j p (IsArgumentByte j) → (b : ℕ) × IsArgumentIn j (data_at j p) b
 over_argument j p o = (o.at, record { from = o.from; below = o.below; argument = o.holds })

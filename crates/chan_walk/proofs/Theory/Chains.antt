@@ -1,5 +1,5 @@
 -- Chains of CCWs that give the bytes of an argument: there is one or there is none, and there is at most one.
-use Rattle.std.proofs.Common.{◌≡◌, ℕ, zero, suc, ◌+◌, ◌-◌, ◌<◌, ◌≤◌, Bool, true, false, cond, ◌&&◌, List, [], ◌∷◌, ◌++◌, length, take, Option, Some, None, refl, sym, ap, ◌∙◌, subst, ◌⊎◌, inl, inr, arith}
+use Rattle.std.proofs.Common.{◌≡◌, ℕ, zero, suc, ◌+◌, ◌-◌, ◌<◌, ◌≤◌, Bool, true, false, cond, ◌&&◌, List, [], ◌∷◌, ◌++◌, length, take, Option, Some, None, refl, sym, ap, ◌∙◌, subst, ◌⊎◌, inl, inr, arith, rules}
 use Rattle.std.specs.List.{range_with_len}
 use Rattle.std.proofs.lemmas.Bool.{cases_lt, cases_Bool, and_parts, and_from, both_ways, not-true, false_from_ne_true}
 use Rattle.ccw_core.specs.Ccw.{ccw, is_transfer, is_counted, chains_data}
@@ -9,66 +9,36 @@ use Rattle.chan_walk.specs.Argument.{Has, is_part, Leads, joined, total, AreLink
 
 pub part_is_no_transfer : (s : List ℕ) (a : ℕ) → is_part s a ≡ true → is_transfer (ccw s a) ≡ false
 unfolding is_part
-part_is_no_transfer s a h =
-    let h5 = (and_parts _ _ h).0 in
-    let h4 = (and_parts _ _ h5).0 in
-    let h3 = (and_parts _ _ h4).0 in
-    not-true _ (and_parts _ _ h3).1
+part_is_no_transfer s a h = search (rules, and_parts, not-true)
 
 pub part_counts : (s : List ℕ) (a : ℕ) → is_part s a ≡ true → 0 < (ccw s a).count
 unfolding is_part is_counted
-part_counts s a h =
-    let h5 = (and_parts _ _ h).0 in
-    let h4 = (and_parts _ _ h5).1 in
-    Rattle.std.proofs.lemmas.Bool.ltb-true 0 _ h4
+part_counts s a h = search (rules, and_parts)
 
 first_is_part : (s : List ℕ) (a : ℕ) (l : List ℕ) → BeginsAt a l → AreLinked s l → is_part s a ≡ true
-first_is_part s a [] b h = elim b [ ]
-first_is_part s a (x ∷ []) b h = subst (λ n. is_part s n ≡ true) b h
-first_is_part s a (x ∷ y ∷ l) b h = subst (λ n. is_part s n ≡ true) b h.0
+first_is_part s a l b h = search rules
 
 pub chain_begins_with_part : (s : List ℕ) (n a : ℕ) (l : List ℕ) → IsChain s n a l → is_part s a ≡ true
 chain_begins_with_part s n a l k = first_is_part s a l k.begins k.linked
 
 first_of_range : (a n : ℕ) (ys : List ℕ) → 0 < n → Has (take 6 (range_with_len a n ++ ys)) a
-first_of_range a zero ys h = absurd (omega arith)
-first_of_range a (suc n) ys h = inl refl
+first_of_range a n ys h = search rules
 
 -- the argument begins where the data of the first CCW does
 pub first_address : (s : List ℕ) (a : ℕ) (l : List ℕ) → IsChain s 6 a l → Has (argument_addresses s l) (ccw s a).address
-first_address s a [] k = elim k.begins [ ]
-first_address s a (d ∷ l) k =
-    let counts = part_counts s d (subst (λ n. is_part s n ≡ true) (sym k.begins) (chain_begins_with_part s 6 a (d ∷ l) k)) in
-    subst (λ n. Has (argument_addresses s (d ∷ l)) (ccw s n).address) k.begins (first_of_range (ccw s d).address (ccw s d).count (joined s l) counts)
+first_address s a l k = search (rules, part_counts, chain_begins_with_part, first_of_range)
 
 pub chain_tail : (s : List ℕ) (n a b d : ℕ) (l : List ℕ) → IsChain s n a (b ∷ d ∷ l) → IsChain s (n - (ccw s b).count) d (d ∷ l)
-chain_tail s n a b d l k =
-    let e = k.short in
-    let f = k.enough in
-    record { begins = refl; linked = k.linked.3; short = omega arith; enough = omega arith }
+chain_tail s n a b d l k = search rules
 
 pub chain_cons : (s : List ℕ) (n a b : ℕ) (l : List ℕ) → is_part s a ≡ true → chains_data (ccw s a) ≡ true → Leads s a b → (ccw s a).count < n → IsChain s (n - (ccw s a).count) b l → IsChain s n a (a ∷ l)
-chain_cons s n a b [] h cd to lt k = elim k.begins [ ]
-chain_cons s n a b (x ∷ l) h cd to lt k =
-    let e = k.short in
-    let f = k.enough in
-    let lead = subst (λ m. Leads s a m) (sym k.begins) to in
-    record { begins = refl; linked = (h, cd, lead, k.linked); short = omega arith; enough = omega arith }
+chain_cons s n a b l h cd to lt k = search rules
 
 pub onward_leads : (s : List ℕ) (a : ℕ) → Leads s a (onward s a)
-onward_leads s a = go (is_aligned (a + 8)) (is_inside (length s) (a + 8)) (is_transfer (ccw s (a + 8))) refl refl refl
-  where
-    go : (x y z : Bool) → is_aligned (a + 8) ≡ x → is_inside (length s) (a + 8) ≡ y → is_transfer (ccw s (a + 8)) ≡ z → Leads s a (cond (x && y && z) (ccw s (a + 8)).address (a + 8))
-    go true true true e f g = inr ((e, f), g, refl)
-    go true true false e f g = inl refl
-    go true false z e f g = inl refl
-    go false y z e f g = inl refl
+onward_leads s a = search rules
 
 pub onward_only : (s : List ℕ) (a b : ℕ) → Leads s a b → is_part s b ≡ true → b ≡ onward s a
-onward_only s a b (inl e) h =
-    let t : is_transfer (ccw s (a + 8)) ≡ false = subst (λ m. is_transfer (ccw s m) ≡ false) e (part_is_no_transfer s b h) in
-    e ∙ sym (Rattle.std.proofs.lemmas.Bool.cond-false _ _ _ (Rattle.std.proofs.lemmas.Bool.and_right (is_aligned (a + 8) && is_inside (length s) (a + 8)) _ t))
-onward_only s a b (inr e) h = e.2 ∙ sym (Rattle.std.proofs.lemmas.Bool.cond-true _ _ _ (and_from _ _ (and_from _ _ e.0.0 e.0.1) e.1))
+onward_only s a b k h = search (rules, part_is_no_transfer, and_from)
 
 -- there is a chain, or there is none
 pub chain_decides : (fuel : ℕ) (s : List ℕ) (n a : ℕ) → n ≤ fuel → 0 < n → ((l : List ℕ) × IsChain s n a l) ⊎ ((l : List ℕ) → IsChain s n a l → ⊥)

@@ -1,5 +1,5 @@
 -- The program check of a place, case by case.
-use Rattle.std.proofs.Common.{◌≡◌, ℕ, ◌%◌, true, false, not, ◌&&◌, if◌then◌else◌, List, [], ◌∷◌, length, Some, None, refl, sym, ◌∙◌, subst}
+use Rattle.std.proofs.Common.{◌≡◌, ℕ, ◌%◌, true, false, not, ◌&&◌, if◌then◌else◌, List, [], ◌∷◌, length, Some, None, refl, sym, ◌∙◌, subst, rules}
 use Rattle.std.specs.Bool.{then_some}
 use Rattle.std.specs.Option.{option_or}
 use Rattle.ccw_core.specs.Ccw.{Fields, is_transfer, is_formed, is_counted, has_data_in}
@@ -16,31 +16,19 @@ check-misaligned s p h = let a : is_aligned p.address ≡ false = is_aligned-fal
 
 pub check-outside : (s : List ℕ) (p : Place) → p.address % 8 ≡ 0 → ccw_at s p.address ≡ None → check s p ≡ Some OutsideStorage
 unfolding check_of
-check-outside s p h n =
-    let a : is_aligned p.address ≡ true = is_aligned-true p.address h in
-    let b : is_inside (length s) p.address ≡ false = rw a at (ccw_at-none s p.address n) in
-    rw (a, b) refl
+check-outside s p h n = search (rules, is_aligned-true, ccw_at-none)
 
 -- where a word stands, only its own bits are left to look at
 pub check-found : (s : List ℕ) (p : Place) (c : Fields) → ccw_at s p.address ≡ Some c
     → check s p ≡ option_or (first_reason ((is_transfer c && p.after_transfer, TransferNotAllowed) ∷ [])) (if is_transfer c then None else first_reason (table_of_non_transfer (length s) p c))
 unfolding check_of
-check-found s p c h =
-    let f = ccw_at-some s p.address c h in
-    let a : is_aligned p.address ≡ true = f.0 in
-    let b : is_inside (length s) p.address ≡ true = f.1 in
-    subst (λ (w : Fields). check s p ≡ option_or (first_reason ((is_transfer w && p.after_transfer, TransferNotAllowed) ∷ [])) (if is_transfer w then None else first_reason (table_of_non_transfer (length s) p w)))
-    (sym f.2) (rw (a, b) refl)
+check-found s p c h = search (rules, ccw_at-some)
 
 -- a word that was found gives bytes of an argument
 pub is_part-found : (s : List ℕ) (a : ℕ) (c : Fields) → ccw_at s a ≡ Some c
     → is_part s a ≡ (not (is_transfer c) && is_formed c && is_counted c && has_data_in (length s) c)
 unfolding is_part
-is_part-found s a c h =
-    let f = ccw_at-some s a c h in
-    let x : is_aligned a ≡ true = f.0 in
-    let y : is_inside (length s) a ≡ true = f.1 in
-    subst (λ (w : Fields). is_part s a ≡ (not (is_transfer w) && is_formed w && is_counted w && has_data_in (length s) w)) (sym f.2) (rw (x, y) refl)
+is_part-found s a c h = search (rules, ccw_at-some)
 
 pub is_part-none : (s : List ℕ) (a : ℕ) → ccw_at s a ≡ None → is_part s a ≡ false
 unfolding is_part

@@ -1,5 +1,5 @@
 -- What it says of a place that it meets a program check, or none.
-use Rattle.std.proofs.Common.{◌≡◌, ℕ, ◌+◌, ◌≤◌, Bool, true, false, cond, if◌then◌else◌, List, [], ◌∷◌, length, Option, Some, None, refl, sym, ◌∙◌, subst, ◌⊎◌, inl, inr}
+use Rattle.std.proofs.Common.{◌≡◌, ℕ, ◌+◌, ◌≤◌, Bool, true, false, cond, if◌then◌else◌, List, [], ◌∷◌, length, Option, Some, None, refl, sym, ◌∙◌, subst, ◌⊎◌, inl, inr, rules}
 use Rattle.std.specs.List.{AllByRecursion}
 use Rattle.std.specs.Option.{option_or}
 use Rattle.std.proofs.lemmas.Bool.{cases_Bool, and_parts, not-true, not-false, cond-false, leb-true}
@@ -13,16 +13,13 @@ use Rattle.chan_walk.specs.Check.{first_reason, table_of_every_ccw, table_of_non
 use Rattle.chan_walk.specs.Place.{is_fresh}
 
 pub cond_none : (b : Bool) (r : Reason) (o : Option Reason) → cond b (Some r) o ≡ None → (b ≡ false) × (o ≡ None)
-cond_none true r o h = absurd (cc)
-cond_none false r o h = (refl, h)
+cond_none b r o h = search rules
 
 pub or_none : (a b : Option Reason) → option_or a b ≡ None → (a ≡ None) × (b ≡ None)
-or_none None b h = (refl, h)
-or_none (Some r) b h = absurd (cc)
+or_none a b h = search rules
 
 or_some : (a b : Option Reason) (r : Reason) → option_or a b ≡ Some r → (a ≡ Some r) ⊎ ((a ≡ None) × (b ≡ Some r))
-or_some None b r h = inr (refl, h)
-or_some (Some t) b r h = inl h
+or_some a b r h = search rules
 
 -- for the first reason of a table P follows from its test, where the tests before it are false
 abbrev pub Cases : (Reason → Type 0) → List (Bool × Reason) → Type 0
@@ -44,15 +41,7 @@ each_case P (e ∷ es) h = (λ _. h.0, λ _. each_case P es h.1)
 
 -- a reason that holds over two tables, the second for a CCW that is no transfer
 pub table_case : (P : Reason → Type 0) (a : Option Reason) (z : Bool) (ts : List (Bool × Reason)) (r : Reason) → (a ≡ Some r → P r) → (a ≡ None → z ≡ false → Cases P ts) → option_or a (if z then None else first_reason ts) ≡ Some r → P r
-table_case P a z ts r f g h = go (or_some a (if z then None else first_reason ts) r h)
-  where
-    rest : (y : Bool) → z ≡ y → a ≡ None → (if y then None else first_reason ts) ≡ Some r → P r
-    rest true e n h = absurd (cc)
-    rest false e n h = first_case P ts r (g n e) h
-
-    go : (a ≡ Some r) ⊎ ((a ≡ None) × ((if z then None else first_reason ts) ≡ Some r)) → P r
-    go (inl h) = f h
-    go (inr h) = rest z refl h.0 h.1
+table_case P a z ts r f g h = search (rules, or_some, first_case)
 
 pub check_case : (P : Reason → Type 0) (s : List ℕ) (p : Place) (r : Reason) → Cases P (table_of_every_ccw (length s) p (ccw s p.address)) → Cases P (table_of_non_transfer (length s) p (ccw s p.address)) → check s p ≡ Some r → P r
 unfolding check_of
@@ -60,11 +49,7 @@ check_case P s p r a b h = table_case P _ (is_transfer (ccw s p.address)) (table
 
 pub check_stands : (s : List ℕ) (p : Place) → check s p ≡ None → Stands s p.address
 unfolding check_of
-check_stands s p h =
-    let a = (or_none _ _ h).0 in
-    let b = cond_none _ _ _ a in
-    let d = cond_none _ _ _ b.1 in
-    (not-false _ b.0, not-false _ d.0)
+check_stands s p h = search (rules, or_none, cond_none, not-false)
 
 -- a CCW that is no transfer and meets no program check
 pub record Passed (s : List ℕ) (p : Place) : Type 0 where
@@ -74,13 +59,7 @@ pub record Passed (s : List ℕ) (p : Place) : Type 0 where
 
 pub passed : (s : List ℕ) (p : Place) → check s p ≡ None → is_transfer (ccw s p.address) ≡ false → Passed s p
 unfolding check_of
-passed s p h t =
-    let a = or_none _ _ h in
-    let b = cond_none _ _ _ (sym (cond-false _ _ _ t) ∙ a.1) in
-    let b1 = cond_none _ _ _ b.1 in
-    let b2 = cond_none _ _ _ b1.1 in
-    let b3 = cond_none _ _ _ b2.1 in
-    record { formed = not-false _ b1.0; counted = not-false _ b2.0; data_in = not-false _ b3.0 }
+passed s p h t = search (rules, or_none, cond_none, cond-false, not-false)
 
 pub data_fits : (n : ℕ) (c : Fields) → has_data_in n c ≡ true → c.address + c.count ≤ n
 unfolding has_data_in
@@ -88,31 +67,11 @@ data_fits n c h = leb-true _ _ h
 
 pub passed_is_part : (s : List ℕ) (p : Place) → check s p ≡ None → is_transfer (ccw s p.address) ≡ false → is_part s p.address ≡ true
 unfolding is_part
-passed_is_part s p h t =
-    let st = check_stands s p h in
-    let a0 : is_aligned p.address ≡ true = st.0 in
-    let a1 : is_inside (length s) p.address ≡ true = st.1 in
-    let f = passed s p h t in
-    let a3 : is_formed (ccw s p.address) ≡ true = f.formed in
-    let a4 : is_counted (ccw s p.address) ≡ true = f.counted in
-    let a5 : has_data_in (length s) (ccw s p.address) ≡ true = f.data_in in
-    rw (a0, a1, t, a3, a4, a5) refl
+passed_is_part s p h t = search (rules, check_stands, passed)
 
 pub part_passes : (s : List ℕ) (p : Place) → is_part s p.address ≡ true → is_fresh p.entered ≡ false → check s p ≡ None
 unfolding is_part check_of
-part_passes s p h f =
-    let h5 = and_parts _ _ h in
-    let h4 = and_parts _ _ h5.0 in
-    let h3 = and_parts _ _ h4.0 in
-    let h2 = and_parts _ _ h3.0 in
-    let h1 = and_parts _ _ h2.0 in
-    let t : is_transfer (ccw s p.address) ≡ false = not-true _ h2.1 in
-    let a0 : is_aligned p.address ≡ true = h1.0 in
-    let a1 : is_inside (length s) p.address ≡ true = h1.1 in
-    let a3 : is_formed (ccw s p.address) ≡ true = h3.1 in
-    let a4 : is_counted (ccw s p.address) ≡ true = h4.1 in
-    let a5 : has_data_in (length s) (ccw s p.address) ≡ true = h5.1 in
-    rw (a0, a1, t, f, a3, a4, a5) refl
+part_passes s p h f = search (rules, and_parts, not-true)
 
 second_checked : (s : List ℕ) (p : Place) → Stands s p.address → p.after_transfer ≡ true → is_transfer (ccw s p.address) ≡ true → check s p ≡ Some TransferNotAllowed
 unfolding check_of
@@ -120,11 +79,7 @@ second_checked s p st b t = let a0 : is_aligned p.address ≡ true = st.0 in let
 
 -- a transfer never follows a transfer without a program check
 pub no_second_transfer : (s : List ℕ) (p : Place) → check s p ≡ None → p.after_transfer ≡ true → is_transfer (ccw s p.address) ≡ false
-no_second_transfer s p h b = go (cases_Bool (is_transfer (ccw s p.address)))
-  where
-    go : (is_transfer (ccw s p.address) ≡ true) ⊎ (is_transfer (ccw s p.address) ≡ false) → is_transfer (ccw s p.address) ≡ false
-    go (inl t) = let e = second_checked s p (check_stands s p h) b t in absurd (cc)
-    go (inr t) = t
+no_second_transfer s p h b = search (rules, cases_Bool, second_checked, check_stands)
 
 pub transfer_passes : (s : List ℕ) (p : Place) → Stands s p.address → is_transfer (ccw s p.address) ≡ true → p.after_transfer ≡ false → check s p ≡ None
 unfolding check_of

@@ -1,5 +1,5 @@
 -- Rules that the whole command table keeps.
-use Rattle.std.proofs.Common.{◌≡◌, ℕ, Bool, true, false, not, ◌&&◌, ◌||◌, ◌==◌, ◌%◌, List, [], ◌∷◌, Option, Some, None, refl, subst, ◌⊎◌, inl, inr}
+use Rattle.std.proofs.Common.{◌≡◌, ℕ, Bool, true, false, not, ◌&&◌, ◌||◌, ◌==◌, ◌%◌, List, [], ◌∷◌, Option, Some, None, refl, subst, ◌⊎◌, inl, inr, rules}
 use Rattle.std.specs.List.{list_all}
 use Rattle.std.proofs.lemmas.Bool.{and_parts, cond_both, not-true, or_cases, both_ways, eqb-true}
 use Rattle.ccw_core.specs.Ccw.{Fields, is_transfer}
@@ -27,10 +27,7 @@ is_outward Inward = false
 is_outward Search = false
 
 outward_from : (k : Kind) → is_outward k ≡ true → k ≡ Outward
-outward_from Outward h = refl
-outward_from Idle h = absurd (cc)
-outward_from Inward h = absurd (cc)
-outward_from Search h = absurd (cc)
+outward_from k h = search rules
 
 abbrev seeks_go_out : Command → Bool
 seeks_go_out e = not (class_is_seek e.class) || (is_outward e.kind && not (class_recalibrates e.class))
@@ -40,14 +37,7 @@ unfolding table
 table_keeps = refl
 
 rule_at : (o : Option Command) → Passes seeks_go_out o → class_passes class_is_seek o ≡ true → (kind_of_command o ≡ Outward) × (class_passes class_recalibrates o ≡ false)
-rule_at None h k = absurd (cc)
-rule_at (Some e) h k = go (or_cases (not (class_is_seek e.class)) (is_outward e.kind && not (class_recalibrates e.class)) h)
-  where
-    go : (not (class_is_seek e.class) ≡ true) ⊎ ((is_outward e.kind && not (class_recalibrates e.class)) ≡ true) → (e.kind ≡ Outward) × (class_recalibrates e.class ≡ false)
-    go (inl n) = absurd (both_ways (class_is_seek e.class) (not-true (class_is_seek e.class) n) k)
-    go (inr b) =
-        let a = and_parts (is_outward e.kind) (not (class_recalibrates e.class)) b in
-        (outward_from e.kind a.0, not-true (class_recalibrates e.class) a.1)
+rule_at o h k = search (rules, or_cases, both_ways, not-true, and_parts, outward_from)
 
 abbrev masks_go_out : Command → Bool
 masks_go_out e = not (class_sets_mask e.class) || is_outward e.kind
@@ -57,12 +47,7 @@ unfolding table
 masks_keep = refl
 
 mask_at : (o : Option Command) → Passes masks_go_out o → class_passes class_sets_mask o ≡ true → kind_of_command o ≡ Outward
-mask_at None h k = absurd (cc)
-mask_at (Some e) h k = go (or_cases (not (class_sets_mask e.class)) (is_outward e.kind) h)
-  where
-    go : (not (class_sets_mask e.class) ≡ true) ⊎ (is_outward e.kind ≡ true) → e.kind ≡ Outward
-    go (inl n) = absurd (both_ways (class_sets_mask e.class) (not-true (class_sets_mask e.class) n) k)
-    go (inr b) = outward_from e.kind b
+mask_at o h k = search (rules, or_cases, both_ways, not-true, outward_from)
 
 pub mask_is_outward : (code : ℕ) → sets_mask code ≡ true → kind_of_command (lookup code) ≡ Outward
 unfolding sets_mask lookup
@@ -81,12 +66,7 @@ unfolding table
 masks_apart = refl
 
 apart_at : (code : ℕ) (o : Option Command) → Passes masks_are_no_transfers o → Passes (λ e. e.code == code) o → class_passes class_sets_mask o ≡ true → (code % 16 == 8) ≡ false
-apart_at code None h same k = absurd (cc)
-apart_at code (Some e) h same k = go (or_cases (not (class_sets_mask e.class)) (not (e.code % 16 == 8)) h)
-  where
-    go : (not (class_sets_mask e.class) ≡ true) ⊎ (not (e.code % 16 == 8) ≡ true) → (code % 16 == 8) ≡ false
-    go (inl n) = absurd (both_ways (class_sets_mask e.class) (not-true (class_sets_mask e.class) n) k)
-    go (inr b) = subst (λ n. (n % 16 == 8) ≡ false) (eqb-true e.code code same) (not-true (e.code % 16 == 8) b)
+apart_at code o h same k = search (rules, or_cases, both_ways, not-true, eqb-true)
 
 pub mask_is_no_transfer : (c : Fields) → sets_mask c.command ≡ true → is_transfer c ≡ false
 unfolding sets_mask lookup is_transfer
@@ -101,10 +81,7 @@ unfolding is_seek recalibrates lookup
 seek_no_recalibrate code h = (rule_at (lookup code) (found_passes seeks_go_out code table table_keeps) h).1
 
 idle_from : (k : Kind) → moves_nothing k ≡ true → k ≡ Idle
-idle_from Idle h = refl
-idle_from Inward h = absurd (cc)
-idle_from Outward h = absurd (cc)
-idle_from Search h = absurd (cc)
+idle_from k h = search rules
 
 abbrev idle_are_no_transfers : Command → Bool
 idle_are_no_transfers e = not (moves_nothing e.kind) || not (e.code % 16 == 8)
@@ -114,12 +91,7 @@ unfolding table
 idle_apart = refl
 
 idle_at : (code : ℕ) (o : Option Command) → Passes idle_are_no_transfers o → Passes (λ e. e.code == code) o → is_idle o ≡ true → (kind_of_command o ≡ Idle) × ((code % 16 == 8) ≡ false)
-idle_at code None h same k = absurd (cc)
-idle_at code (Some e) h same k = (idle_from e.kind k, go (or_cases (not (moves_nothing e.kind)) (not (e.code % 16 == 8)) h))
-  where
-    go : (not (moves_nothing e.kind) ≡ true) ⊎ (not (e.code % 16 == 8) ≡ true) → (code % 16 == 8) ≡ false
-    go (inl n) = absurd (both_ways (moves_nothing e.kind) (not-true (moves_nothing e.kind) n) k)
-    go (inr b) = subst (λ n. (n % 16 == 8) ≡ false) (eqb-true e.code code same) (not-true (e.code % 16 == 8) b)
+idle_at code o h same k = search (rules, idle_from, or_cases, both_ways, not-true, eqb-true)
 
 pub idle_is_no_transfer : (c : Fields) → is_idle (lookup c.command) ≡ true → (kind_of_command (lookup c.command) ≡ Idle) × (is_transfer c ≡ false)
 unfolding lookup is_transfer

@@ -1,5 +1,5 @@
 -- What it says of a place that it has no own fault.
-use Rattle.std.proofs.Common.{◌≡◌, ℕ, Bool, true, false, not, ◌&&◌, List, Option, Some, None, is_none, refl, sym, ap, ◌∙◌, inl}
+use Rattle.std.proofs.Common.{◌≡◌, ℕ, Bool, true, false, not, ◌&&◌, List, Option, Some, None, is_none, refl, sym, ap, ◌∙◌, inl, rules}
 use Rattle.std.proofs.lemmas.Bool.{not-false, cond-false, or_parts}
 use Rattle.ccw_core.specs.Areas.{covered}
 use Rattle.ccw_core.specs.Ccw.{byte, Fields, is_transfer, skips}
@@ -19,8 +19,7 @@ use Rattle.chan_walk.proofs.Theory.Checks.{cond_none, or_none}
 
 -- where the first of two tests is true, a fault that doesn't apply says something of the second
 pub then_false : (a b : Bool) → (a && b) ≡ false → a ≡ true → b ≡ false
-then_false true b h e = h
-then_false false b h e = absurd (cc)
+then_false a b h e = search rules
 
 pub then_true : (a b : Bool) → (a && not b) ≡ false → a ≡ true → b ≡ true
 then_true a b h e = not-false b (then_false a (not b) h e)
@@ -37,40 +36,16 @@ pub record IsGood (j : Job) (p : Place) (c : Fields) (x : Option (List ℕ)) : T
   pub strict : begins_set_mask p c ≡ true → is_at_least (byte (storage_of j) c.address) j.mask ≡ true
 
 pub stores_from : (a b d : Bool) → a ≡ false → b ≡ true → d ≡ false → (not a && b && not d) ≡ true
-stores_from false true false e f g = refl
-stores_from true b d e f g = absurd (cc)
-stores_from false false d e f g = absurd (cc)
-stores_from false true true e f g = absurd (cc)
+stores_from a b d e f g = search rules
 
 fetches_from : (a b : Bool) → a ≡ false → b ≡ true → (not a && b) ≡ true
-fetches_from false true e f = refl
-fetches_from true b e f = absurd (cc)
-fetches_from false false e f = absurd (cc)
+fetches_from a b e f = search rules
 
 pub clear_check : (j : Job) (p : Place) → IsClear j p → check (storage_of j) p ≡ None
 clear_check j p f = (or_none _ _ f.2).0
 
 pub clear_good : (j : Job) (p : Place) (f : IsClear j p) → is_transfer (ccw_of j p) ≡ false → IsGood j p (ccw_of j p) f.0
-clear_good j p f t =
-    let a = (or_none _ _ f.2).1 in
-    let a0 = cond_none _ _ _ (sym (cond-false _ _ _ t) ∙ a) in
-    let a1 = cond_none _ _ _ a0.1 in
-    let a2 = cond_none _ _ _ a1.1 in
-    let a3 = cond_none _ _ _ a2.1 in
-    let a4 = cond_none _ _ _ a3.1 in
-    let a5 = cond_none _ _ _ a4.1 in
-    let a6 = or_parts _ _ a5.0 in
-    let a7 = cond_none _ _ _ a5.1 in
-    record {
-      known = then_true _ _ a0.0;
-      permitted = then_false _ _ a1.0;
-      store_lent = λ e f. then_true _ _ a2.0 (stores_from _ _ _ t e f);
-      fetch_lent = λ e. then_true _ _ a3.0 (fetches_from _ _ t e);
-      argued = then_false _ _ a4.0;
-      allowed = then_false _ _ a6.0;
-      home = then_true _ _ a6.1;
-      strict = then_true _ _ a7.0;
-    }
+clear_good j p f t = search (rules, or_none, cond_none, cond-false, or_parts, then_true, then_false, stores_from, fetches_from)
 
 pub fault_exists : (j : Job) (p : Place) → (r : Option Reason) × HasFault j p r
 fault_exists j p = let x = argument_exists (storage_of j) p.address in (fault_with j p x.0, (x.0, x.1, refl))

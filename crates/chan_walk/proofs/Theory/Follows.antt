@@ -1,5 +1,5 @@
 -- The table of successors as four cases.
-use Rattle.std.proofs.Common.{◌≡◌, ◌+◌, Bool, true, false, cond, not, ◌&&◌, Option, Some, None, refl, subst, ◌⊎◌, inl, inr}
+use Rattle.std.proofs.Common.{◌≡◌, ◌+◌, Bool, true, false, cond, not, ◌&&◌, Option, Some, None, refl, subst, ◌⊎◌, inl, inr, rules}
 use Rattle.std.specs.Option.{option_map}
 use Rattle.std.proofs.lemmas.Bool.{and_parts, not-true}
 use Rattle.ccw_core.specs.Ccw.{Fields, is_transfer, chains_data, chains_command}
@@ -17,10 +17,7 @@ pub data Follows (p : Place) (c : Fields) (k : Kind) : Place → Type 0 where
   by_skip : is_transfer c ≡ false → chains_data c ≡ false → chains_command c ≡ true → gives_modifier k ≡ true → Follows p c k (straight_to (p.address + 16) Fresh)
 
 pub succeeds : (p : Place) (c : Fields) (k : Kind) (q : Place) → Follows p c k q → (next_of p c k ≡ Some q) ⊎ (skip_of p c k ≡ Some q)
-succeeds p c k q (by_transfer t) = inl (rw t refl)
-succeeds p c k q (by_data t d e) = inl (rw (t, d, e) refl)
-succeeds p c k q (by_command t d m) = inl (rw (t, d, m) refl)
-succeeds p c k q (by_skip t d m g) = inr (rw (t, d, m, g) refl)
+succeeds p c k q h = search rules
 
 pub follows : (p : Place) (c : Fields) (k : Kind) (q : Place) → (next_of p c k ≡ Some q) ⊎ (skip_of p c k ≡ Some q) → Follows p c k q
 follows p c k q (inl h) = go (is_transfer c) (chains_data c) (chains_command c) (chained k) refl refl refl refl h

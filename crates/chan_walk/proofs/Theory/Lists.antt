@@ -1,5 +1,5 @@
 -- Lists of addresses, and what is an element of a list.
-use Rattle.std.proofs.Common.{◌≡◌, ℕ, zero, suc, ◌+◌, ◌-◌, ◌<◌, ◌≤◌, List, [], ◌∷◌, ◌++◌, map, take, length, get_or, Contains, Some, slice_get, refl, ap, ◌∙◌, ◌⊎◌, inl, inr, ◌↔◌, arith}
+use Rattle.std.proofs.Common.{◌≡◌, ℕ, zero, suc, ◌+◌, ◌-◌, ◌<◌, ◌≤◌, List, [], ◌∷◌, ◌++◌, map, take, length, get_or, Contains, Some, slice_get, refl, ap, ◌∙◌, ◌⊎◌, inl, inr, ◌↔◌, arith, rules}
 use Rattle.std.specs.List.{AllByRecursion, range_with_len}
 use Rattle.std.proofs.Math.Seq.{take-append-add}
 use Rattle.std.proofs.lemmas.List.FromFn.{get_or-map-range_with_len}
@@ -30,16 +30,7 @@ has_cases (x ∷ xs) ys b (inr h) = go (has_cases xs ys b h)
 
 -- one element more
 pub has_push : {X : Type 0} (ps : List X) (q p : X) → Has (ps ++ q ∷ []) p ↔ (Has ps p ⊎ (q ≡ p))
-has_push ps q p = ((λ h. to (has_cases ps (q ∷ []) p h)), from)
-  where
-    to : Has ps p ⊎ Has (q ∷ []) p → Has ps p ⊎ (q ≡ p)
-    to (inl h) = inl h
-    to (inr (inl e)) = inr e
-    to (inr (inr h)) = absurd h
-
-    from : Has ps p ⊎ (q ≡ p) → Has (ps ++ q ∷ []) p
-    from (inl h) = has_left ps (q ∷ []) p h
-    from (inr e) = has_right ps (q ∷ []) p (inl e)
+has_push ps q p = search (rules, has_cases, has_left, has_right)
 
 -- elements by their index
 pub has_at : {X : Type 0} (xs : List X) (k : ℕ) (x : X) → slice_get xs k ≡ Some x → Has xs x

@@ -1,12 +1,11 @@
 -- A file mask is at least as strict as itself.
-use Rattle.std.proofs.Common.{◌≡◌, ℕ, Bool, true, false, not, ◌||◌, get_or, refl}
+use Rattle.std.proofs.Common.{◌≡◌, ℕ, Bool, true, false, not, ◌||◌, get_or, refl, rules}
 use Rattle.std.proofs.lemmas.Bool.{and_from}
 use Rattle.std.proofs.lemmas.List.Sums.{list_all-from_AllPass}
 use Rattle.ckd_core.specs.Mask.{is_mask, is_at_least, inhibits_class, inhibits_too, inhibitable}
 
 itself : (b : Bool) → (not b || b) ≡ true
-itself true = refl
-itself false = refl
+itself b = search rules
 
 pub strict_as_itself : (f : ℕ) → is_mask f ≡ true → is_at_least f f ≡ true
 unfolding is_at_least

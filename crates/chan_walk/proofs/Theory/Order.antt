@@ -1,5 +1,5 @@
 -- The whole table of own faults: its first reason is the own fault, and its numbers increase.
-use Rattle.std.proofs.Common.{◌≡◌, ℕ, zero, suc, ◌+◌, ◌<◌, Bool, true, false, if◌then◌else◌, List, [], ◌∷◌, ◌++◌, length, Option, Some, None, refl, sym, ap, ◌∙◌, subst, arith, slice_index}
+use Rattle.std.proofs.Common.{◌≡◌, ℕ, zero, suc, ◌+◌, ◌<◌, Bool, true, false, if◌then◌else◌, List, [], ◌∷◌, ◌++◌, length, Option, Some, None, refl, sym, ap, ◌∙◌, subst, arith, slice_index, rules}
 use Rattle.std.specs.List.Sorted.{IsStrictlyIncreasing}
 use Rattle.std.specs.Option.{option_or}
 use Rattle.ccw_core.specs.Ccw.{Fields, is_transfer}
@@ -26,12 +26,10 @@ increasing (n ∷ m ∷ ms) h (suc k) l =
     subst (λ i. slice_index (n ∷ m ∷ ms) (suc k) < slice_index (n ∷ m ∷ ms) i) e (increasing (m ∷ ms) h.1 k (omega arith))
 
 or_assoc : (a b c : Option Reason) → option_or (option_or a b) c ≡ option_or a (option_or b c)
-or_assoc None b c = refl
-or_assoc (Some r) b c = refl
+or_assoc a b c = search rules
 
 or_none : (a : Option Reason) → option_or a None ≡ a
-or_none None = refl
-or_none (Some r) = refl
+or_none a = search rules
 
 pub numbers_increase : NumbersIncrease
 unfolding check_of

@@ -1,5 +1,5 @@
 -- The own fault of a place, put together from its parts.
-use Rattle.std.proofs.Common.{◌≡◌, Bool, true, false, ◌&&◌, ◌||◌, if◌then◌else◌, List, [], ◌∷◌, ◌++◌, Option, Some, None, is_none, ℕ, ◌+◌, ◌<◌, ◌≤◌, length, refl, sym, ap, ◌∙◌, subst, arith}
+use Rattle.std.proofs.Common.{◌≡◌, Bool, true, false, ◌&&◌, ◌||◌, if◌then◌else◌, List, [], ◌∷◌, ◌++◌, Option, Some, None, is_none, ℕ, ◌+◌, ◌<◌, ◌≤◌, length, refl, sym, ap, ◌∙◌, subst, arith, rules}
 use Rattle.std.specs.Option.{option_or}
 use Rattle.ccw_core.specs.Ccw.{Fields, ccw, has_data_in, is_counted, is_transfer}
 use Rattle.std.proofs.lemmas.Bool.{and_parts, and_right, cond-false, leb-true, ltb-true}
@@ -26,16 +26,12 @@ first_reason-append (x ∷ xs) ys =
     ]
 
 or_nothing : (a b : Bool) (t r : Reason) → first_reason ((a, t) ∷ (b || false, r) ∷ []) ≡ first_reason ((a, t) ∷ (b, r) ∷ [])
-or_nothing a true t r = refl
-or_nothing a false t r = refl
+or_nothing a b t r = search rules
 
 -- at a seek only its argument counts
 pub fault_of_seek : (j : Job) (p : Place) (c : Fields) (x : Option (List ℕ)) → begins_seek p c ≡ true
     → first_reason (seek_faults j p c x) ≡ first_reason (argument_faults j x)
-fault_of_seek j p c x s =
-    let parts = and_parts _ _ s in
-    let home : begins_recalibrate p c ≡ false = and_right _ _ (seek_no_recalibrate c.command parts.1) in
-    rw (s, home) (or_nothing (is_none x) (is_refused j x) ShortSeek SeekOutside)
+fault_of_seek j p c x s = search (rules, and_parts, and_right, seek_no_recalibrate, or_nothing)
 
 -- at Recalibrate only cylinder 0 counts
 pub fault_of_recalibrate : (j : Job) (p : Place) (c : Fields) (x : Option (List ℕ)) → begins_seek p c ≡ false → begins_recalibrate p c ≡ true
@@ -44,8 +40,7 @@ fault_of_recalibrate j p c x s home h = rw (s, home, h) refl
 
 pub no_fault_of_recalibrate : (j : Job) (p : Place) (c : Fields) (x : Option (List ℕ)) → begins_seek p c ≡ false
     → has_cylinder (extents_of j) 0 ≡ true → first_reason (seek_faults j p c x) ≡ None
-no_fault_of_recalibrate j p c x s h =
-    rw (s, h) (elim (begins_recalibrate p c) as (λ b. first_reason ((b && false, SeekOutside) ∷ []) ≡ None) [ true ↦ refl | false ↦ refl ])
+no_fault_of_recalibrate j p c x s h = search rules
 
 -- elsewhere nothing counts
 pub no_fault_of_other : (j : Job) (p : Place) (c : Fields) (x : Option (List ℕ)) → begins_seek p c ≡ false → begins_recalibrate p c ≡ false
