@@ -1,5 +1,5 @@
 -- Over another storage that is the same in the bytes that count, everything that the verdict asks is the same.
-use Rattle.std.proofs.Common.{◌≡◌, ℕ, ◌+◌, ◌<◌, ◌≤◌, Bool, true, false, not, ◌&&◌, if◌then◌else◌, List, [], ◌∷◌, ◌++◌, length, map, take, Option, Some, None, refl, sym, ap, ◌∙◌, subst, ◌⊎◌, inl, inr}
+use Rattle.std.proofs.Common.{◌≡◌, ℕ, ◌+◌, ◌<◌, ◌≤◌, Bool, true, false, not, ◌&&◌, if◌then◌else◌, List, [], ◌∷◌, ◌++◌, length, map, take, Option, Some, None, refl, sym, ap, ◌∙◌, subst, ◌⊎◌, ◌↔◌, inl, inr}
 use Rattle.std.specs.List.{AllByRecursion, range_with_len}
 use Rattle.std.specs.Option.{option_or}
 use Rattle.std.proofs.lemmas.Bool.{and_parts}
@@ -19,7 +19,7 @@ use Rattle.chan_walk.specs.Counted.{IsChained, at_once, further, IsCounted, with
 use Rattle.chan_walk.specs.Fault.{kind_of, stores, begins_seek, begins_set_mask, command_faults, lent_faults, seek_faults, mask_faults, table_of_own, fault_with, HasFault, IsClear}
 use Rattle.chan_walk.specs.Guarded.{IsCcwByte, IsSeekByte, IsMaskByte, IsArgumentByte}
 use Rattle.chan_walk.specs.Job.{storage_of}
-use Rattle.chan_walk.specs.Place.{ccw_of}
+use Rattle.chan_walk.specs.Place.{ccw_of, first_place}
 use Rattle.chan_walk.specs.Reachable.{IsPath, IsReachable}
 use Rattle.chan_walk.specs.Successors.{next_of, skip_of}
 use Rattle.chan_walk.specs.Verdict.{AreClear, StoresOver, Offends, IsVerdict}
@@ -94,17 +94,6 @@ module _ (s t : List ℕ) (len : length t ≡ length s) (C : ℕ → Type 0) (wo
       let w = word x here (part_stands x h.0) in
       (sym (part_same x here) ∙ h.0, subst (λ z. chains_data z ≡ true) w h.1, lead_to x y here h.0 h.1 h.2, linked_to (y ∷ l) y refl (on x y here h.0 h.1 h.2) h.3)
 
-  linked_from : (l : List ℕ) (a : ℕ) → BeginsAt a l → C a → AreLinked t l → AreLinked s l
-  linked_from [] a b c h = tt
-  linked_from (x ∷ []) a b c h = part_same x (subst C (sym b) c) ∙ h
-  linked_from (x ∷ y ∷ l) a b c h =
-      let here = subst C (sym b) c in
-      let part : is_part s x ≡ true = part_same x here ∙ h.0 in
-      let w = word x here (part_stands x part) in
-      let cd : chains_data (ccw s x) ≡ true = subst (λ z. chains_data z ≡ true) (sym w) h.1 in
-      let lead = lead_from x y here part cd h.2 in
-      (part, cd, lead, linked_from (y ∷ l) y refl (on x y here part cd lead) h.3)
-
   abbrev SameWords : List ℕ → Type 0
   SameWords l = AllByRecursion (λ x. ccw s x ≡ ccw t x) l
 
@@ -141,21 +130,39 @@ module _ (s t : List ℕ) (len : length t ≡ length s) (C : ℕ → Type 0) (wo
         enough = subst (λ m. n ≤ m) (total_same l w) k.enough;
       }
 
-  pub chain_from : (n a : ℕ) (l : List ℕ) → C a → IsChain t n a l → IsChain s n a l
-  chain_from n a l c k =
-      let linked = linked_from l a k.begins c k.linked in
-      let w = words_same l a k.begins c linked in
-      record {
-        begins = k.begins;
-        linked = linked;
-        short = subst (λ m. m < n) (sym (total_same (but_last l) (words_but_last l w))) k.short;
-        enough = subst (λ m. n ≤ m) (sym (total_same l w)) k.enough;
-      }
-
   pub addresses_same : (a : ℕ) (l : List ℕ) → C a → IsChain s 6 a l → argument_addresses s l ≡ argument_addresses t l
   addresses_same a l c k = ap (take 6) (joined_same l (chain_words 6 a l c k))
 
+-- and back
+pub chain_from : (s t : List ℕ) (len : length t ≡ length s) (C : ℕ → Type 0) → ((b : ℕ) → C b → Stands s b → ccw s b ≡ ccw t b)
+    → ((b d : ℕ) → C b → is_part s b ≡ true → chains_data (ccw s b) ≡ true → Leads s b d → C d) → (n a : ℕ) (l : List ℕ) → C a → IsChain t n a l → IsChain s n a l
+chain_from s t len C word on n a l c k = chain_to t s (sym len) C back follows n a l c k
+  where
+    back : (b : ℕ) → C b → Stands t b → ccw t b ≡ ccw s b
+    back b c st = sym (word b c (stands_there t s b (sym len) st))
+
+    follows : (b d : ℕ) → C b → is_part t b ≡ true → chains_data (ccw t b) ≡ true → Leads t b d → C d
+    follows b d c part cd lead =
+        let there : is_part s b ≡ true = part_same s t len C word on b c ∙ part in
+        let chained : chains_data (ccw s b) ≡ true = ap chains_data (word b c (part_stands s t len C word on b there)) ∙ cd in
+        on b d c there chained (lead_from s t len C word on b d c there chained lead)
+
 -- ---- the job over another storage
+
+-- what the verdict asks of the place is the same in both jobs
+record AreSame (j k : Job) (p : Place) : Type 0 where
+  stands : Stands (storage_of j) p.address ↔ Stands (storage_of k) p.address
+  fault : (r : Option Reason) → HasFault j p r ↔ HasFault k p r
+  word : IsClear j p → ccw_of j p ≡ ccw_of k p
+  takes : IsClear j p → (b : ℕ) → (IsSeekByte j p b ⊎ IsMaskByte j p b) ↔ (IsSeekByte k p b ⊎ IsMaskByte k p b)
+
+flipped : (j k : Job) (p : Place) → AreSame j k p → AreSame k j p
+flipped j k p h = record {
+  stands = (h.stands.1, h.stands.0);
+  fault = λ r. ((h.fault r).1, (h.fault r).0);
+  word = λ f. sym (h.word ((h.fault None).1 f));
+  takes = λ f b. let t = h.takes ((h.fault None).1 f) b in (t.1, t.0);
+}
 
 module _ (j : Job) (t : Storage) (h : IsSameIn (IsCounted j) j (with_storage j t)) where
   abbrev there : Job
@@ -231,128 +238,104 @@ module _ (j : Job) (t : Storage) (h : IsSameIn (IsCounted j) j (with_storage j t
           ∙ ap (λ ts. option_or (check u p) (if is_transfer (ccw_of j p) then None else first_reason ts)) (table_same p r x y a b)
           ∙ ap (λ c. option_or (check u p) (rest there c y)) (word_same p r (check_stands s p e))
 
-  fault_to : (p : Place) → IsReachable j p → (q : Option Reason) → HasFault j p q → HasFault there p q
-  fault_to p r q f = let y = argument_exists u p.address in (y.0, y.1, sym (fault_same p r f.0 y.0 f.1 y.1) ∙ f.2)
-
-  fault_from : (p : Place) → IsReachable j p → (q : Option Reason) → HasFault there p q → HasFault j p q
-  fault_from p r q f = let x = argument_exists s p.address in (x.0, x.1, fault_same p r x.0 f.0 x.1 f.1 ∙ f.2)
-
-  clear_word : (p : Place) → IsReachable j p → IsClear j p → ccw_of j p ≡ ccw_of there p
-  clear_word p r f = word_same p r (check_stands s p (clear_check j p f))
-
-  -- ---- reachable places
-
-  abbrev Leads_on : Place → Place → Fields → Type 0
-  Leads_on p q c = (next_of p c (kind_of p.entered c) ≡ Some q) ⊎ (skip_of p c (kind_of p.entered c) ≡ Some q)
-
-  path_to : (ps : List Place) → IsPath j ps → IsPath there ps
-  path_to [] e = e
-  path_to (p ∷ []) e = e
-  path_to (q ∷ p ∷ ps) e = (path_to (p ∷ ps) e.0, fault_to p (ps, e.0) None e.1, subst (Leads_on p q) (clear_word p (ps, e.0) e.1) e.2)
-
-  path_from : (ps : List Place) → IsPath there ps → IsPath j ps
-  path_from [] e = e
-  path_from (p ∷ []) e = e
-  path_from (q ∷ p ∷ ps) e =
-      let before = path_from (p ∷ ps) e.0 in
-      let clear = fault_from p (ps, before) None e.1 in
-      (before, clear, subst (Leads_on p q) (sym (clear_word p (ps, before) clear)) e.2)
-
-  reach_to : (p : Place) → IsReachable j p → IsReachable there p
-  reach_to p r = (r.0, path_to (p ∷ r.0) r.1)
-
-  reach_from : (p : Place) → IsReachable there p → IsReachable j p
-  reach_from p r = (r.0, path_from (p ∷ r.0) r.1)
-
-  -- ---- guarded bytes
-
-  ccw_byte_to : (b : ℕ) → IsCcwByte j b → IsCcwByte there b
-  ccw_byte_to b g = record { place = g.place; reached = reach_to g.place g.reached; stands = stands_there s u g.place.address h.same_length g.stands; from = g.from; below = g.below }
-
-  ccw_byte_from : (b : ℕ) → IsCcwByte there b → IsCcwByte j b
-  ccw_byte_from b g = record { place = g.place; reached = reach_from g.place g.reached; stands = stands_there u s g.place.address (sym h.same_length) g.stands; from = g.from; below = g.below }
-
-  argument_byte_to : (b : ℕ) → IsArgumentByte j b → IsArgumentByte there b
-  argument_byte_to b g = record { place = g.place; reached = reach_to g.place g.reached; clear = fault_to g.place g.reached None g.clear; takes = go g.takes }
+  takes_same : (p : Place) → IsReachable j p → IsClear j p → (b : ℕ) → (IsSeekByte j p b ⊎ IsMaskByte j p b) ↔ (IsSeekByte there p b ⊎ IsMaskByte there p b)
+  takes_same p r clear b = (to, from)
     where
-      word : ccw_of j g.place ≡ ccw_of there g.place
-      word = clear_word g.place g.reached g.clear
+      word : ccw_of j p ≡ ccw_of there p
+      word = word_same p r (check_stands s p (clear_check j p clear))
 
-      go : IsSeekByte j g.place b ⊎ IsMaskByte j g.place b → IsSeekByte there g.place b ⊎ IsMaskByte there g.place b
-      go (inl k) = inl (record {
-        seeks = subst (λ c. begins_seek g.place c ≡ true) word k.seeks;
+      to : IsSeekByte j p b ⊎ IsMaskByte j p b → IsSeekByte there p b ⊎ IsMaskByte there p b
+      to (inl k) = inl (record {
+        seeks = subst (λ c. begins_seek p c ≡ true) word k.seeks;
         chain = k.chain;
-        is_chain = seek_chain_to g.place g.reached k.seeks k.chain k.is_chain;
-        has = subst (λ l. Has l b) (seek_addresses g.place g.reached k.seeks k.chain k.is_chain) k.has;
+        is_chain = seek_chain_to p r k.seeks k.chain k.is_chain;
+        has = subst (λ l. Has l b) (seek_addresses p r k.seeks k.chain k.is_chain) k.has;
       })
-      go (inr k) = inr (record { sets = subst (λ c. begins_set_mask g.place c ≡ true) word k.sets; at = subst (λ (c : Fields). c.address ≡ b) word k.at })
+      to (inr k) = inr (record { sets = subst (λ c. begins_set_mask p c ≡ true) word k.sets; at = subst (λ (c : Fields). c.address ≡ b) word k.at })
 
-  argument_byte_from : (b : ℕ) → IsArgumentByte there b → IsArgumentByte j b
-  argument_byte_from b g = record { place = g.place; reached = reach_from g.place g.reached; clear = fault_from g.place (reach_from g.place g.reached) None g.clear; takes = go g.takes }
-    where
-      reached : IsReachable j g.place
-      reached = reach_from g.place g.reached
+      from : IsSeekByte there p b ⊎ IsMaskByte there p b → IsSeekByte j p b ⊎ IsMaskByte j p b
+      from (inl k) =
+          let seeks : begins_seek p (ccw_of j p) ≡ true = subst (λ c. begins_seek p c ≡ true) (sym word) k.seeks in
+          let chain = seek_chain_from p r seeks k.chain k.is_chain in
+          inl (record { seeks = seeks; chain = k.chain; is_chain = chain; has = subst (λ l. Has l b) (sym (seek_addresses p r seeks k.chain chain)) k.has })
+      from (inr k) = inr (record { sets = subst (λ c. begins_set_mask p c ≡ true) (sym word) k.sets; at = subst (λ (c : Fields). c.address ≡ b) (sym word) k.at })
 
-      word : ccw_of there g.place ≡ ccw_of j g.place
-      word = sym (clear_word g.place reached (fault_from g.place reached None g.clear))
-
-      go : IsSeekByte there g.place b ⊎ IsMaskByte there g.place b → IsSeekByte j g.place b ⊎ IsMaskByte j g.place b
-      go (inl k) =
-          let seeks : begins_seek g.place (ccw_of j g.place) ≡ true = subst (λ c. begins_seek g.place c ≡ true) word k.seeks in
-          let chain = seek_chain_from g.place reached seeks k.chain k.is_chain in
-          inl (record { seeks = seeks; chain = k.chain; is_chain = chain; has = subst (λ l. Has l b) (sym (seek_addresses g.place reached seeks k.chain chain)) k.has })
-      go (inr k) = inr (record { sets = subst (λ c. begins_set_mask g.place c ≡ true) word k.sets; at = subst (λ (c : Fields). c.address ≡ b) word k.at })
-
-  -- ---- what offends
-
-  over_to : (p : Place) → ccw_of j p ≡ ccw_of there p → (P Q : ℕ → Type 0) → ((b : ℕ) → P b → Q b) → StoresOver j p P → StoresOver there p Q
-  over_to p w P Q f o = record {
-    stores = subst (λ c. stores p c ≡ true) w o.stores;
-    at = o.at;
-    from = subst (λ (c : Fields). c.address ≤ o.at) w o.from;
-    below = subst (λ (c : Fields). o.at < c.address + c.count) w o.below;
-    holds = f o.at o.holds;
+  same_at : (p : Place) → IsReachable j p → AreSame j there p
+  same_at p r = record {
+    stands = (stands_there s u p.address h.same_length, stands_there u s p.address (sym h.same_length));
+    fault = λ q. (
+      (λ f. let y = argument_exists u p.address in (y.0, y.1, sym (fault_same p r f.0 y.0 f.1 y.1) ∙ f.2)),
+      λ f. let x = argument_exists s p.address in (x.0, x.1, fault_same p r x.0 f.0 x.1 f.1 ∙ f.2),
+    );
+    word = λ f. word_same p r (check_stands s p (clear_check j p f));
+    takes = takes_same p r;
   }
 
-  over_from : (p : Place) → ccw_of j p ≡ ccw_of there p → (P Q : ℕ → Type 0) → ((b : ℕ) → P b → Q b) → StoresOver there p P → StoresOver j p Q
-  over_from p w P Q f o = record {
-    stores = subst (λ c. stores p c ≡ true) (sym w) o.stores;
-    at = o.at;
-    from = subst (λ (c : Fields). c.address ≤ o.at) (sym w) o.from;
-    below = subst (λ (c : Fields). o.at < c.address + c.count) (sym w) o.below;
-    holds = f o.at o.holds;
-  }
+-- ---- two jobs that are the same at reachable places
 
-  clear_to : AreClear j → AreClear there
-  clear_to f p r = let m = reach_from p r in fault_to p m None (f p m)
+abbrev Leads_on : Place → Place → Fields → Type 0
+Leads_on p q c = (next_of p c (kind_of p.entered c) ≡ Some q) ⊎ (skip_of p c (kind_of p.entered c) ≡ Some q)
 
-  clear_from : AreClear there → AreClear j
-  clear_from f p r = fault_from p r None (f p (reach_to p r))
+path_over : (j k : Job) → first_place j ≡ first_place k → ((p : Place) → IsReachable j p → IsReachable k p → AreSame j k p) → (ps : List Place) → IsPath j ps → IsPath k ps
+path_over j k first same [] e = e
+path_over j k first same (p ∷ []) e = e ∙ first
+path_over j k first same (q ∷ p ∷ ps) e =
+    let before = path_over j k first same (p ∷ ps) e.0 in
+    let here = same p (ps, e.0) (ps, before) in
+    (before, (here.fault None).0 e.1, subst (Leads_on p q) (here.word e.1) e.2)
 
-  offends_to : (p : Place) (q : Reason) → IsReachable j p → Offends j p q → Offends there p q
-  offends_to p q r (inl f) = inl (fault_to p r (Some q) f)
-  offends_to p q r (inr (clear, inl o)) = inr (clear_to clear, inl (o.0, over_to p (clear_word p r (clear p r)) _ _ ccw_byte_to o.1))
-  offends_to p q r (inr (clear, inr o)) = inr (clear_to clear, inr (o.0, over_to p (clear_word p r (clear p r)) _ _ argument_byte_to o.1))
+reach_over : (j k : Job) → first_place j ≡ first_place k → ((p : Place) → IsReachable j p → IsReachable k p → AreSame j k p) → (p : Place) → IsReachable j p → IsReachable k p
+reach_over j k first same p r = (r.0, path_over j k first same (p ∷ r.0) r.1)
 
-  offends_from : (p : Place) (q : Reason) → IsReachable j p → Offends there p q → Offends j p q
-  offends_from p q r (inl f) = inl (fault_from p r (Some q) f)
-  offends_from p q r (inr (clear, inl o)) = inr (clear_from clear, inl (o.0, over_from p (clear_word p r (clear_from clear p r)) _ _ ccw_byte_from o.1))
-  offends_from p q r (inr (clear, inr o)) = inr (clear_from clear, inr (o.0, over_from p (clear_word p r (clear_from clear p r)) _ _ argument_byte_from o.1))
+module _ (j k : Job) (same : (p : Place) → IsReachable j p → AreSame j k p) (on : (p : Place) → IsReachable j p → IsReachable k p) (back : (p : Place) → IsReachable k p → IsReachable j p) where
+  ccw_byte_over : (b : ℕ) → IsCcwByte j b → IsCcwByte k b
+  ccw_byte_over b g = record { place = g.place; reached = on g.place g.reached; stands = (same g.place g.reached).stands.0 g.stands; from = g.from; below = g.below }
 
-  verdict_to : (v : Verdict) → IsVerdict j v → IsVerdict there v
-  verdict_to Yes v = λ p q r o. let m = reach_from p r in v p q m (offends_from p q m o)
-  verdict_to (No a q) v = (
-    record { place = v.0.place; reached = reach_to v.0.place v.0.reached; address = v.0.address; offends = offends_to v.0.place q v.0.reached v.0.offends },
-    λ p x r o. let m = reach_from p r in v.1 p x m (offends_from p x m o),
+  argument_byte_over : (b : ℕ) → IsArgumentByte j b → IsArgumentByte k b
+  argument_byte_over b g =
+      let here = same g.place g.reached in
+      record { place = g.place; reached = on g.place g.reached; clear = (here.fault None).0 g.clear; takes = (here.takes g.clear b).0 g.takes }
+
+  stores_over : (p : Place) → IsReachable j p → IsClear j p → (P Q : ℕ → Type 0) → ((b : ℕ) → P b → Q b) → StoresOver j p P → StoresOver k p Q
+  stores_over p r clear P Q f o =
+      let word = (same p r).word clear in
+      record {
+        stores = subst (λ c. stores p c ≡ true) word o.stores;
+        at = o.at;
+        from = subst (λ (c : Fields). c.address ≤ o.at) word o.from;
+        below = subst (λ (c : Fields). o.at < c.address + c.count) word o.below;
+        holds = f o.at o.holds;
+      }
+
+  clear_over : AreClear j → AreClear k
+  clear_over f p r = let m = back p r in ((same p m).fault None).0 (f p m)
+
+  offends_over : (p : Place) (q : Reason) → IsReachable j p → Offends j p q → Offends k p q
+  offends_over p q r (inl f) = inl (((same p r).fault (Some q)).0 f)
+  offends_over p q r (inr (clear, inl o)) = inr (clear_over clear, inl (o.0, stores_over p r (clear p r) _ _ ccw_byte_over o.1))
+  offends_over p q r (inr (clear, inr o)) = inr (clear_over clear, inr (o.0, stores_over p r (clear p r) _ _ argument_byte_over o.1))
+
+  verdict_over : ((p : Place) (q : Reason) → IsReachable k p → Offends k p q → Offends j p q) → (v : Verdict) → IsVerdict j v → IsVerdict k v
+  verdict_over offends Yes v = λ p q r o. v p q (back p r) (offends p q r o)
+  verdict_over offends (No a q) v = (
+    record { place = v.0.place; reached = on v.0.place v.0.reached; address = v.0.address; offends = offends_over v.0.place q v.0.reached v.0.offends },
+    λ p x r o. v.1 p x (back p r) (offends p x r o),
   )
 
-  verdict_from : (v : Verdict) → IsVerdict there v → IsVerdict j v
-  verdict_from Yes v = λ p q r o. v p q (reach_to p r) (offends_to p q r o)
-  verdict_from (No a q) v =
-      let m = reach_from v.0.place v.0.reached in (
-        record { place = v.0.place; reached = m; address = v.0.address; offends = offends_from v.0.place q m v.0.offends },
-        λ p x r o. v.1 p x (reach_to p r) (offends_to p x r o),
-      )
-
 pub same_verdict : SameVerdict
-same_verdict j t h = ((λ p. (reach_to j t h p, reach_from j t h p)), λ v. (verdict_to j t h v, verdict_from j t h v))
+same_verdict j t h = ((λ p. (to p, from p)), λ v. (verdict_over j k same to from (offends_over k j other from to) v, verdict_over k j other from to (offends_over j k same to from) v))
+  where
+    k : Job
+    k = with_storage j t
+
+    same : (p : Place) → IsReachable j p → AreSame j k p
+    same = same_at j t h
+
+    to : (p : Place) → IsReachable j p → IsReachable k p
+    to = reach_over j k refl (λ p r _. same p r)
+
+    from : (p : Place) → IsReachable k p → IsReachable j p
+    from = reach_over k j refl (λ p _ r. flipped j k p (same p r))
+
+    other : (p : Place) → IsReachable k p → AreSame k j p
+    other p r = flipped j k p (same p (from p r))
