@@ -35,9 +35,6 @@ pub record IsWayBack (j : Job) (ps : List Place) (to at : ℕ) (path : List Plac
   pub there : slice_get ps at ≡ Some current
   pub goes : (rest : List Place) → IsBest j ps at current rest → Ends j ps to (front ++ current ∷ rest)
 
-pub back_first : (j : Job) (ps : List Place) (to : ℕ) (p : Place) (path : List Place) → slice_get ps to ≡ Some p → path ≡ p ∷ [] → IsWayBack j ps to to path
-back_first j ps to p path e d = record { current = p; front = []; is = d; there = e; goes = λ rest b. record { last = p; before = rest; is = refl; best = b } }
-
 module _ (j : Job) (w : Walk) (f : HasFound j w) where
   abbrev ps : List Place
   ps = places_of_looks w.looks.items
@@ -108,15 +105,3 @@ within_looks ls p k e = omega (arith, number_of_places ls, get_within (places_of
 
 pub unreached : (j : Job) (w : Walk) → HasFound j w → (p : Place) → (Has (places_of_looks w.looks.items) p → ⊥) → IsReachable j p → ⊥
 unreached j w f p n r = n (all_found j j.limit (places_of_looks w.looks.items) f.at f.walked f.all p r)
-
--- the path to the index of a place is the path to the place
-pub path_to_place : (j : Job) (w : Walk) → HasFound j w → (k : ℕ) (p : Place) (path : List Place) → slice_get (places_of_looks w.looks.items) k ≡ Some p → IsPathAt j (places_of_looks w.looks.items) k path → ArePathWhere j (λ q. q ≡ p) path
-path_to_place j w f k p path e a =
-    let same : ◌≡◌ {A = Option Place} (Some a.last) (Some p) = sym a.best.here ∙ e in
-    let is : a.last ≡ p = cc in
-    record {
-      last = a.last;
-      before = a.before;
-      is = a.is;
-      path = record { path = a.best.path; holds = is; first = λ q qs path d. a.best.first k q qs (omega arith) (e ∙ ap Some (sym d)) path };
-    }

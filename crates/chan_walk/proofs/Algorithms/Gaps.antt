@@ -31,16 +31,7 @@ module _ (xs : List Area) (r : Area) (u : covered xs r.start r.len ≡ false) wh
   pub start_after : (a : Area) → IsNext xs r.start a → a.start ≤ r.start → IsGapStart xs r (end_of a)
   start_after a n s = search (rules, ends_early)
 
-  pub start_here : lies_in xs r.start ≡ false → IsGapStart xs r r.start
-  start_here o = record { from = omega arith; below = some_byte; before = λ b f l. absurd (omega arith); out = o }
-
 -- ---- where it ends
-
-pub end_at_next : (xs : List Area) (a end : ℕ) (n : Area) → a < end → lies_in xs a ≡ false → IsNext xs a n → IsGapEnd xs a end (min n.start end)
-end_at_next xs a end n l o next = search (rules, cases_lt, both_ways)
-
-pub end_of_range : (xs : List Area) (a end : ℕ) → a < end → ((b : ℕ) → a ≤ b → lies_in xs b ≡ false) → IsGapEnd xs a end end
-end_of_range xs a end l n = record { filled = l; within = omega arith; inside = λ b f h. n b f; after = λ h. absurd (omega arith) }
 
 pub gap : (xs : List Area) (r : Area) (a n : ℕ) → IsGapStart xs r a → IsGapEnd xs a (end_of r) n → IsFirstGap xs r (record { start = a; len = n - a })
 gap xs r a n s e = search rules

@@ -15,9 +15,6 @@ pub record IsGiven (s : List ℕ) (a have here : ℕ) : Type 0 where
   pub to : (m : ℕ) → 0 < m → (l : List ℕ) → IsChain s m here l → (k : List ℕ) × IsChain s (have + m) a k
   pub from : (m : ℕ) → 0 < m → (k : List ℕ) → IsChain s (have + m) a k → (l : List ℕ) × IsChain s m here l
 
-pub none_given : (s : List ℕ) (a : ℕ) → IsGiven s a 0 a
-none_given s a = search rules
-
 module _ (s : List ℕ) (a have here : ℕ) (g : IsGiven s a have here) where
   -- where what stands here gives no bytes
   pub given_no_part : is_part s here ≡ false → Gives s a have

@@ -59,7 +59,7 @@ low_more old added new n e f g = subst (All (EndsBelow n)) (sym e) (All-append (
 
 -- the eight bytes of a CCW
 pub bytes_of_ccw : (j : Job) (p : Place) → Stands (storage_of j) p.address → (b : ℕ) → (lies_in ((record { start = p.address; len = 8 }) ∷ []) b ≡ true) ↔ IsCcwByteOf j p b
-bytes_of_ccw j p s b = search (rules, lies_in-cases, lies_in-first, InArea, both_ways, lies_in-nil)
+bytes_of_ccw j p s b = search (rules, lies_in-cases, lies_in-first, both_ways, lies_in-nil)
 
 pub lies_in-bytes : (xs : List ℕ) (b : ℕ) → (lies_in (map byte_area xs) b ≡ true) ↔ Has xs b
 lies_in-bytes [] b = ((λ h. absurd (both_ways (lies_in [] b) (lies_in-nil b) h)), λ h. absurd h)

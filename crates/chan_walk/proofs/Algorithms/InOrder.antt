@@ -1,5 +1,6 @@
 -- The marked places, written out in order.
-use Rattle.std.proofs.Common.{◌≡◌, ℕ, zero, suc, ◌+◌, ◌-◌, ◌*◌, ◌<◌, ◌≤◌, ◌==◌, true, false, Bool, List, [], ◌∷◌, ◌++◌, append_assoc, append-nil, map, length, Option, Some, None, refl, sym, ap, ◌∙◌, subst, ◌⊎◌, inl, inr, ◌↔◌, arith, eqb, Less}
+use Rattle.std.proofs.Common.{◌≡◌, ℕ, zero, suc, ◌+◌, ◌-◌, ◌*◌, ◌<◌, ◌≤◌, ◌==◌, true, false, Bool, List, [], ◌∷◌, ◌++◌, append_assoc, append-nil, map, length, Option, Some, None, refl, sym, ap, ◌∙◌, subst, ◌⊎◌, inl, inr, ◌↔◌, arith, eqb, Less, rules}
+use Rattle.std.proofs.lemmas.Grind.{common_steps}
 use Rattle.std.specs.List.{AllByRecursion, IsDistinct, list_any}
 use Rattle.std.specs.List.Sorted.{IsStrictlySortedBy}
 use Rattle.std.specs.Int.{bit_at}
@@ -127,11 +128,7 @@ record IsAt (a m : ℕ) (p : Place) : Type 0 where
   set : bit_at m (way_of p) ≡ 1
 
 at_one : (a m : ℕ) (p : Place) → Has (places_at a m) p → IsAt a m p
-at_one a m p h =
-    let w = way_in a m 0 8 p h in
-    let b : w.way < 8 = omega (arith, w.below) in
-    let e : way_of p ≡ w.way = ap way_of w.is ∙ way_of-place_at a w.way b in
-    record { there = ap (λ z. z.address) w.is; set = ap (bit_at m) e ∙ w.set }
+at_one a m p h = grind (arith, common_steps, way_in, way_of-place_at)
 
 one_at : (a m : ℕ) (p : Place) → IsAt a m p → Has (places_at a m) p
 one_at a m p w = subst (Has (places_at a m)) (ap (λ z. place_at z (way_of p)) (sym w.there) ∙ place_at-way_of p) (in_ways a m 0 8 (way_of p) (omega arith) (way_small p) w.set)
@@ -249,9 +246,7 @@ fewer ps qs a f =
     omega (arith, length-map ps place_number, length-map qs place_number)
 
 pub listed_few : (j : Job) (n : ℕ) (m : BTreeMap ℕ ℕ) (ps qs : List Place) (i : ℕ) → ListsMarks m qs → Agrees m ps → IsWalked j n ps i → length qs ≤ n
-listed_few j n m ps qs i l a w =
-    let f = fewer (places_of m.entries) ps (apart_sorted (places_of m.entries) (sorted_places m.entries l.ordered)) (λ p h. (a p).0 ((mark_is_place m p l.ordered).1 h)) in
-    omega (arith, w.few, ap length l.listed)
+listed_few j n m ps qs i l a w = search (rules, fewer, apart_sorted, sorted_places, mark_is_place)
 
 -- ---- writing out the places of one address
 
@@ -273,6 +268,4 @@ ways_skip a m i ps rs l b h =
 
 pub ways_done : (a m i : ℕ) (ps rs : List Place) → 8 ≤ i → ps ++ ways a m i (8 - i) ≡ rs → ps ≡ rs
 unfolding ways
-ways_done a m i ps rs l h =
-    let n : 8 - i ≡ 0 = omega arith in
-    sym (append-nil ps) ∙ ap (λ z. ps ++ ways a m i z) (sym n) ∙ h
+ways_done a m i ps rs l h = search (rules, append-nil)

@@ -1,5 +1,6 @@
 -- The first of a job's offences is the verdict.
-use Rattle.std.proofs.Common.{◌≡◌, Bool, IsTrue, true, false, eqb, ◌==◌, if◌then◌else◌, min, ℕ, ◌<◌, ◌≤◌, List, [], ◌∷◌, ◌++◌, append_assoc, append-nil, map, take, drop, length, get_or, slice_get, Option, Some, None, refl, sym, ap, ◌∙◌, subst, ◌⊎◌, inl, inr, ◌↔◌, arith, Less}
+use Rattle.std.proofs.Common.{◌≡◌, Bool, IsTrue, true, false, eqb, ◌==◌, if◌then◌else◌, min, ℕ, ◌<◌, ◌≤◌, List, [], ◌∷◌, ◌++◌, append_assoc, append-nil, map, take, drop, length, get_or, slice_get, Option, Some, None, refl, sym, ap, ◌∙◌, subst, ◌⊎◌, inl, inr, ◌↔◌, arith, Less, rules}
+use Rattle.std.proofs.lemmas.Grind.{common_steps}
 use Rattle.std.specs.List.Sorted.{IsNonDecreasing, IsNonDecreasingBy, IsPermutation, IsStrictlyIncreasing, IsStrictlySortedBy}
 use Rattle.std.specs.List.{AllByRecursion, IsDistinct}
 use Rattle.std.specs.Ordering.{nat_cmp}
@@ -42,22 +43,7 @@ use Rattle.chan_walk.proofs.Algorithms.Verdicts.{change_of, clear_all, meets_fro
 use Rattle.chan_walk.proofs.Algorithms.Walking.{at_has, slice_get-append}
 
 number_small : (r : Reason) → number_of r < 32
-number_small Misaligned = omega arith
-number_small OutsideStorage = omega arith
-number_small TransferNotAllowed = omega arith
-number_small InvalidCode = omega arith
-number_small BadFormat = omega arith
-number_small ZeroCount = omega arith
-number_small DataOutside = omega arith
-number_small NotInTable = omega arith
-number_small Inhibited = omega arith
-number_small StoreNotLent = omega arith
-number_small FetchNotLent = omega arith
-number_small ShortSeek = omega arith
-number_small SeekOutside = omega arith
-number_small ChangesCcw = omega arith
-number_small ChangesArgument = omega arith
-number_small WeakensMask = omega arith
+number_small r = search rules
 
 -- each of the rest has a greater number than the first
 above_first : (n : ℕ) (os : List Offence) → AllByRecursion (λ y. nat_cmp n y ≡ Less) (map offence_number os) → (o : Offence) → Has os o → n < offence_number o
@@ -73,16 +59,7 @@ all_above o os up t h =
 
 -- a lesser number comes first
 comes_first : (o t : Offence) → offence_number o < offence_number t → ComesFirst o.place.address o.reason t.place.address t.reason
-comes_first o t l = go (cases_lt o.place.address t.place.address)
-  where
-    go : (o.place.address < t.place.address) ⊎ (t.place.address ≤ o.place.address) → ComesFirst o.place.address o.reason t.place.address t.reason
-    go (inl h) = inl h
-    go (inr h) =
-        let a = number_small o.reason in
-        let b = number_small t.reason in
-        let w = way_small o.place in
-        let v = way_small t.place in
-        inr (omega arith, omega arith)
+comes_first o t l = search (rules, cases_lt, number_small, way_small)
 
 pub first_is_verdict : FirstIsVerdict
 first_is_verdict j [] are = λ p r m o. are.each (record { place = p; reason = r }) (m, o)
@@ -105,36 +82,13 @@ abbrev reason_of : ℕ → Reason
 reason_of n = if n == 1 then Misaligned else if n == 2 then OutsideStorage else if n == 3 then TransferNotAllowed else if n == 4 then InvalidCode else if n == 5 then BadFormat else if n == 6 then ZeroCount else if n == 7 then DataOutside else if n == 8 then NotInTable else if n == 9 then Inhibited else if n == 10 then StoreNotLent else if n == 11 then FetchNotLent else if n == 12 then ShortSeek else if n == 13 then SeekOutside else if n == 14 then ChangesCcw else if n == 15 then ChangesArgument else WeakensMask
 
 reason_of-number : (r : Reason) → reason_of (number_of r) ≡ r
-reason_of-number Misaligned = refl
-reason_of-number OutsideStorage = refl
-reason_of-number TransferNotAllowed = refl
-reason_of-number InvalidCode = refl
-reason_of-number BadFormat = refl
-reason_of-number ZeroCount = refl
-reason_of-number DataOutside = refl
-reason_of-number NotInTable = refl
-reason_of-number Inhibited = refl
-reason_of-number StoreNotLent = refl
-reason_of-number FetchNotLent = refl
-reason_of-number ShortSeek = refl
-reason_of-number SeekOutside = refl
-reason_of-number ChangesCcw = refl
-reason_of-number ChangesArgument = refl
-reason_of-number WeakensMask = refl
+reason_of-number r = search rules
 
 same_reason : (r t : Reason) → number_of r ≡ number_of t → r ≡ t
 same_reason r t e = sym (reason_of-number r) ∙ ap reason_of e ∙ reason_of-number t
 
 pub same_offence : (o t : Offence) → offence_number o ≡ offence_number t → o ≡ t
-same_offence o t e =
-    let a = number_small o.reason in
-    let b = number_small t.reason in
-    let w = way_small o.place in
-    let v = way_small t.place in
-    let address : o.place.address ≡ t.place.address = omega arith in
-    let number : number_of o.reason ≡ number_of t.reason = omega arith in
-    let place = same_place o.place t.place address (omega arith) in
-    ap (λ (p : Place). record { place = p; reason = o.reason }) place ∙ ap (λ (r : Reason). record { place = t.place; reason = r }) (same_reason o.reason t.reason number)
+same_offence o t e = search (rules, number_small, way_small, same_place, same_reason)
 
 distinct : (os : List Offence) → AreApart os → IsDistinct eqb (map offence_number os)
 unfolding IsDistinct
@@ -158,16 +112,10 @@ non_decreasing (o ∷ os) up i j d le lt =
     omega (arith, a, b, h)
 
 pub increasing : (os ts : List Offence) → IsNonDecreasingBy offence_number ts → IsPermutation os ts → AreApart os → IsStrictlyIncreasing (map offence_number ts)
-increasing os ts up moved apart =
-    let differ = distinct os apart in
-    let still : IsDistinct eqb (map offence_number ts) = IsDistinct-IsPermutation eqb eqb_flips (map offence_number os) (map offence_number ts) (IsPermutation-map offence_number os ts moved) differ in
-    IsStrictlyIncreasing-from_distinct (map offence_number ts) (non_decreasing ts up) still
+increasing os ts up moved apart = search (rules, distinct, IsDistinct-IsPermutation, eqb_flips, IsPermutation-map, IsStrictlyIncreasing-from_distinct, non_decreasing)
 
 pub same_offences : (os ts : List Offence) (o : Offence) → IsPermutation os ts → Has ts o ↔ Has os o
-same_offences os ts o moved = (
-  (λ h. contains_has os o (Contains-permutation ts os o (IsPermutation-sym os ts moved) (has_contains ts o h))),
-  λ h. contains_has ts o (Contains-permutation os ts o moved (has_contains os o h)),
-)
+same_offences os ts o moved = search (rules, contains_has, Contains-permutation, IsPermutation-sym, has_contains)
 
 -- ---- place by place
 
@@ -188,50 +136,19 @@ pub adds_none : (Off : Place → Reason → Type 0) (p : Place) (os ts : List Of
 adds_none Off p os ts e n = record { more = []; is = e ∙ sym (append-nil os); exactly = λ o. ((λ h. absurd h), λ h. absurd (n o.reason h.1)); apart = tt }
 
 pub adds_one : (Off : Place → Reason → Type 0) (p : Place) (r : Reason) (os ts : List Offence) → ts ≡ os ++ offence p r ∷ [] → Off p r → ((t : Reason) → Off p t → r ≡ t) → AddsOffences Off p os ts
-adds_one Off p r os ts e off only = record { more = offence p r ∷ []; is = e; exactly = λ o. (to o, from o); apart = ((λ h. h), tt) }
-  where
-    to : (o : Offence) → Has (offence p r ∷ []) o → (o.place ≡ p) × Off p o.reason
-    to o (inl d) = (sym (ap (λ (z : Offence). z.place) d), subst (Off p) (ap (λ (z : Offence). z.reason) d) off)
-    to o (inr h) = absurd h
-
-    from : (o : Offence) → (o.place ≡ p) × Off p o.reason → Has (offence p r ∷ []) o
-    from o h = inl (ap (λ (z : Place). record { place = z; reason = r }) (sym h.0) ∙ ap (λ (z : Reason). record { place = o.place; reason = z }) (only o.reason h.1))
+adds_one Off p r os ts e off only = search rules
 
 -- in two ways that share no reason
 pub adds_both : (One Other Off : Place → Reason → Type 0) (p : Place) (os ts us : List Offence) → AddsOffences One p os ts → AddsOffences Other p ts us
     → ((r : Reason) → Off p r ↔ (One p r ⊎ Other p r)) → ((r : Reason) → One p r → Other p r → ⊥) → AddsOffences Off p os us
-adds_both One Other Off p os ts us a b either never = record {
-  more = a.more ++ b.more;
-  is = b.is ∙ ap (λ z. z ++ b.more) a.is ∙ append_assoc os a.more b.more;
-  exactly = λ o. ((λ h. to o (has_cases a.more b.more o h)), λ h. from o h.0 ((either o.reason).0 h.1));
-  apart = apart_append a.more b.more a.apart b.apart (λ o h k. never o.reason ((a.exactly o).0 h).1 ((b.exactly o).0 k).1);
-}
-  where
-    to : (o : Offence) → Has a.more o ⊎ Has b.more o → (o.place ≡ p) × Off p o.reason
-    to o (inl h) = let r = (a.exactly o).0 h in (r.0, (either o.reason).1 (inl r.1))
-    to o (inr h) = let r = (b.exactly o).0 h in (r.0, (either o.reason).1 (inr r.1))
-
-    from : (o : Offence) → o.place ≡ p → One p o.reason ⊎ Other p o.reason → Has (a.more ++ b.more) o
-    from o e (inl h) = has_left a.more b.more o ((a.exactly o).1 (e, h))
-    from o e (inr h) = has_right a.more b.more o ((b.exactly o).1 (e, h))
+adds_both One Other Off p os ts us a b either never = search (rules, append_assoc, has_cases, apart_append, has_left, has_right)
 
 -- one place more
 pub offences_none : (Off : Place → Reason → Type 0) (os : List Offence) → os ≡ [] → HasOffences Off [] os
 offences_none Off os e = subst (HasOffences Off []) (sym e) (record { exactly = λ o. ((λ h. absurd h), λ h. absurd h.0); apart = tt })
 
 pub offences_more : (Off : Place → Reason → Type 0) (ps : List Place) (p : Place) (os ts : List Offence) → (Has ps p → ⊥) → HasOffences Off ps os → AddsOffences Off p os ts → HasOffences Off (ps ++ p ∷ []) ts
-offences_more Off ps p os ts new h a = subst (HasOffences Off (ps ++ p ∷ [])) (sym a.is) (record {
-  exactly = λ o. ((λ k. to o (has_cases os a.more o k)), λ k. from o ((has_push ps p o.place).0 k.0) k.1);
-  apart = apart_append os a.more h.apart a.apart (λ o k l. new (subst (Has ps) ((a.exactly o).0 l).0 ((h.exactly o).0 k).0));
-})
-  where
-    to : (o : Offence) → Has os o ⊎ Has a.more o → Has (ps ++ p ∷ []) o.place × Off o.place o.reason
-    to o (inl k) = let r = (h.exactly o).0 k in ((has_push ps p o.place).1 (inl r.0), r.1)
-    to o (inr k) = let r = (a.exactly o).0 k in ((has_push ps p o.place).1 (inr (sym r.0)), subst (λ (z : Place). Off z o.reason) (sym r.0) r.1)
-
-    from : (o : Offence) → Has ps o.place ⊎ (p ≡ o.place) → Off o.place o.reason → Has (os ++ a.more) o
-    from o (inl k) off = has_left os a.more o ((h.exactly o).1 (k, off))
-    from o (inr e) off = has_right os a.more o ((a.exactly o).1 (sym e, subst (λ (z : Place). Off z o.reason) (sym e) off))
+offences_more Off ps p os ts new h a = search (rules, has_cases, has_push, apart_append, has_left, has_right)
 
 -- the place of the next look is new
 pub new_place : (ls : List Seen) (i : ℕ) (l : Seen) → AreApart (places_of_looks ls) → i < length ls → l ≡ get_or ls i l → Has (places_of_looks (take i ls)) l.place → ⊥
@@ -248,45 +165,12 @@ new_place ls i l apart within e h =
 
 -- the CCW that was seen stores into the areas where it stores over one of their bytes
 pub stores_both : (j : Job) (l : Seen) (b : Bool) (given areas : List Area) (P : ℕ → Type 0) → IsLook j l → IsClear j l.place → given ≡ areas → ((a : ℕ) → (lies_in areas a ≡ true) ↔ P a) → IsTrue b ↔ StoresInto l given → IsTrue b ↔ StoresOver j l.place P
-stores_both j l b given areas P look clear e same h = ((λ t. to (h.0 t)), λ o. h.1 (from o))
-  where
-    p : Place
-    p = l.place
-
-    found : ccw_at (storage_of j) p.address ≡ Some (ccw (storage_of j) p.address)
-    found = ccw_at-where (storage_of j) p.address (check_stands (storage_of j) p (clear_check j p clear))
-
-    to : StoresInto l given → StoresOver j p P
-    to s =
-        let word : s.ccw ≡ ccw_of j p = (ccw_at-some (storage_of j) p.address s.ccw (sym look.ccw ∙ s.seen)).2 in
-        let moves : stores p s.ccw ≡ true = sym (look.stores s.ccw s.seen) ∙ s.stores in
-        over_from_meets j p s.ccw areas P s.ccw.address s.ccw.count same word moves refl refl (subst (λ z. Meets z s.ccw.address s.ccw.count) e s.meets)
-
-    from : StoresOver j p P → StoresInto l given
-    from o =
-        let seen : l.ccw ≡ Some (ccw_of j p) = look.ccw ∙ found in
-        record {
-          ccw = ccw_of j p;
-          seen = seen;
-          stores = look.stores (ccw_of j p) seen ∙ o.stores;
-          meets = subst (λ z. Meets z (ccw_of j p).address (ccw_of j p).count) (sym e) (meets_from_over j p (ccw_of j p) areas P (ccw_of j p).address (ccw_of j p).count same refl refl refl o);
-        }
+stores_both j l b given areas P look clear e same h = search (rules, ccw_at-where, check_stands, clear_check, ccw_at-some, over_from_meets, meets_from_over)
 
 -- the two changes at a place
 pub adds_changes : (j : Job) (p : Place) (a b : Bool) (os ts us : List Offence) → IsTrue a ↔ StoresOver j p (IsCcwByte j) → IsTrue b ↔ StoresOver j p (IsArgumentByte j)
     → AddsOffences (λ _ t. (t ≡ ChangesCcw) × IsTrue a) p os ts → AddsOffences (λ _ t. (t ≡ ChangesArgument) × IsTrue b) p ts us → AddsOffences (Changes j) p os us
-adds_changes j p a b os ts us f g one other = adds_both (λ _ t. (t ≡ ChangesCcw) × IsTrue a) (λ _ t. (t ≡ ChangesArgument) × IsTrue b) (Changes j) p os ts us one other (λ r. (to r, from r)) never
-  where
-    to : (r : Reason) → Changes j p r → ((r ≡ ChangesCcw) × IsTrue a) ⊎ ((r ≡ ChangesArgument) × IsTrue b)
-    to r (inl h) = inl (h.0, f.1 h.1)
-    to r (inr h) = inr (h.0, g.1 h.1)
-
-    from : (r : Reason) → ((r ≡ ChangesCcw) × IsTrue a) ⊎ ((r ≡ ChangesArgument) × IsTrue b) → Changes j p r
-    from r (inl h) = inl (h.0, f.0 h.1)
-    from r (inr h) = inr (h.0, g.0 h.1)
-
-    never : (r : Reason) → (r ≡ ChangesCcw) × IsTrue a → (r ≡ ChangesArgument) × IsTrue b → ⊥
-    never r h k = let e : ◌≡◌ {A = ℕ} 14 15 = ap number_of (sym h.0 ∙ k.0) in absurd (omega arith)
+adds_changes j p a b os ts us f g one other = search (rules, adds_both)
 
 -- ---- all of them
 
@@ -325,13 +209,8 @@ some_offence [] n b l e f = absurd (both_ways (n == 0) (sym e ∙ f) (eq-eqb n 0
 some_offence (o ∷ os) n b l e f = (o, inl refl)
 
 pub no_offence : (os : List Offence) (n : ℕ) (b : Bool) → n ≡ length os → b ≡ (n == 0) → b ≡ true → os ≡ []
-no_offence [] n b l e f = refl
-no_offence (o ∷ os) n b l e f = let z = eqb-true n 0 (sym e ∙ f) in absurd (omega (arith, l, z))
+no_offence os n b l e f = grind (arith, common_steps, eqb-true)
 
 -- the same offences in order
 pub put_in_order : (j : Job) (os ts : List Offence) → AreAllOffences j os → IsStrictlyIncreasing (map offence_number ts) → ((o : Offence) → Has ts o ↔ Has os o) → AreOffences j ts
-put_in_order j os ts all up same = record {
-  ordered = up;
-  each = λ o h. (same o).1 ((all.exactly o).1 h);
-  only = λ o h. (all.exactly o).0 ((same o).0 h);
-}
+put_in_order j os ts all up same = search rules

@@ -1,5 +1,6 @@
 -- Notes: areas lent in vain, and the addresses of CCWs that pass a test.
-use Rattle.std.proofs.Common.{◌≡◌, ℕ, zero, suc, ◌+◌, ◌<◌, ◌≤◌, Bool, true, false, not, ◌&&◌, ◌||◌, cond, IsTrue, List, [], ◌∷◌, ◌++◌, append-nil, length, get_or, take, Some, refl, sym, ap, ◌∙◌, subst, ◌⊎◌, inl, inr, ◌↔◌, arith, eqb}
+use Rattle.std.proofs.Common.{◌≡◌, ℕ, zero, suc, ◌+◌, ◌<◌, ◌≤◌, Bool, true, false, not, ◌&&◌, ◌||◌, cond, IsTrue, List, [], ◌∷◌, ◌++◌, append-nil, length, get_or, take, Some, refl, sym, ap, ◌∙◌, subst, ◌⊎◌, inl, inr, ◌↔◌, arith, eqb, rules}
+use Rattle.std.proofs.lemmas.Grind.{common_steps}
 use Rattle.std.specs.List.{dedup, filter}
 use Rattle.std.specs.List.Sorted.{IsPermutation, IsStrictlyIncreasing}
 use Rattle.std.proofs.lemmas.Bool.{and_parts, both_ways, or_cases, or_left, or_right, cases_lt}
@@ -62,11 +63,7 @@ pub any_if : (areas : List Area) (a n : ℕ) (b : Bool) → IsTrue b ↔ Meets a
 any_if areas a n b h e = let m = h.0 e in any_at areas a n m.at m.from m.below m.lies
 
 pub any_unless : (areas : List Area) (a n : ℕ) (b : Bool) → IsTrue b ↔ Meets areas a n → b ≡ false → meets_any areas a n ≡ false
-any_unless areas a n b h e = go (meets_any areas a n) refl
-  where
-    go : (t : Bool) → meets_any areas a n ≡ t → t ≡ false
-    go true k = absurd (both_ways b e (h.1 (any_meets areas a n k)))
-    go false k = refl
+any_unless areas a n b h e = search (rules, both_ways, any_meets)
 
 -- the test that leaves the unused areas
 abbrev pub misses : List Area → Area → Bool
@@ -84,24 +81,15 @@ are_unused used areas unused e = record {
 
 -- the bytes of the merged list are those of the data of CCWs
 pub unused_data : (test : Place → Fields → Bool) (j : Job) (given used areas unused : List Area) → given ≡ used → HoldData test j used → AreUnused (λ b. lies_in given b ≡ true) areas unused → AreUnused (IsDataOf test j) areas unused
-unused_data test j given used areas unused e f h = record {
-  is_used = h.is_used;
-  right = λ a. ((λ t. let u = (h.right a).0 t in (u.0, u.1, u.2, (same u.0).0 u.3)), λ u. (h.right a).1 (u.0, u.1, u.2, (same u.0).1 u.3));
-  are = h.are;
-}
-  where
-    same : (b : ℕ) → (lies_in given b ≡ true) ↔ IsDataOf test j b
-    same b = subst (λ (z : List Area). (lies_in z b ≡ true) ↔ IsDataOf test j b) (sym e) (f b)
+unused_data test j given used areas unused e f h = search rules
 
 -- ---- a filter, one area more
 
 pub filter_keeps : (p : Area → Bool) (xs : List Area) (i : ℕ) (d : Area) (old new : List Area) → i < length xs → p (get_or xs i d) ≡ true → old ≡ filter p (take i xs) → new ≡ old ++ get_or xs i d ∷ [] → new ≡ filter p (take (i + 1) xs)
-filter_keeps p xs i d old new l k h n =
-    n ∙ ap (λ z. z ++ get_or xs i d ∷ []) h ∙ ap (λ t. filter p (take i xs) ++ cond t (get_or xs i d ∷ []) []) (sym k) ∙ sym (filter_more p xs i d l)
+filter_keeps p xs i d old new l k h n = grind (arith, common_steps, filter_more)
 
 pub filter_drops : (p : Area → Bool) (xs : List Area) (i : ℕ) (d : Area) (old : List Area) → i < length xs → p (get_or xs i d) ≡ false → old ≡ filter p (take i xs) → old ≡ filter p (take (i + 1) xs)
-filter_drops p xs i d old l k h =
-    h ∙ sym (append-nil (filter p (take i xs))) ∙ ap (λ t. filter p (take i xs) ++ cond t (get_or xs i d ∷ []) []) (sym k) ∙ sym (filter_more p xs i d l)
+filter_drops p xs i d old l k h = grind (arith, common_steps, append-nil, filter_more)
 
 -- ---- data, place by place
 
@@ -117,31 +105,11 @@ word_seen : (j : Job) (l : Seen) → IsLook j l → Stands (storage_of j) l.plac
 word_seen j l look s = look.ccw ∙ ccw_at-where (storage_of j) l.place.address s
 
 pub adds_data : (test : Place → Fields → Bool) (j : Job) (l : Seen) (so : Bool) (old new : List Area) → IsLook j l → ((c : Fields) → l.ccw ≡ Some c → so ≡ test l.place c) → AddsBytes old new (IsSeenByte l so) → AddsBytes old new (HasData test j l.place)
-adds_data test j l so old new look same adds b = ((λ h. to ((adds b).0 h)), λ h. (adds b).1 (from h))
-  where
-    shown : IsSeenByte l so b → HasData test j l.place b
-    shown k =
-        let w = seen_word j l k.ccw look k.seen in
-        let passes : test l.place (ccw_of j l.place) ≡ true = subst (λ (c : Fields). test l.place c ≡ true) w.1 (sym (same k.ccw k.seen) ∙ k.so) in
-        ((w.0, passes), subst (λ (c : Fields). (data_of c).start ≤ b) w.1 k.from, subst (λ (c : Fields). b < end_of (data_of c)) w.1 k.below)
-
-    seen : HasData test j l.place b → IsSeenByte l so b
-    seen k = let e = word_seen j l look k.0.0 in record { ccw = ccw_of j l.place; seen = e; so = same (ccw_of j l.place) e ∙ k.0.1; from = k.1; below = k.2 }
-
-    to : (lies_in old b ≡ true) ⊎ IsSeenByte l so b → (lies_in old b ≡ true) ⊎ HasData test j l.place b
-    to (inl h) = inl h
-    to (inr h) = inr (shown h)
-
-    from : (lies_in old b ≡ true) ⊎ HasData test j l.place b → (lies_in old b ≡ true) ⊎ IsSeenByte l so b
-    from (inl h) = inl h
-    from (inr h) = inr (seen h)
+adds_data test j l so old new look same adds b = search (rules, seen_word, word_seen)
 
 -- over the reachable places
 pub all_data : (test : Place → Fields → Bool) (j : Job) (ps : List Place) (areas : List Area) → AreReached j ps → HoldBytes (HasData test j) ps areas → HoldData test j areas
-all_data test j ps areas r f b = (to, λ h. (f b).1 (h.place, r.0 h.place h.reached, (h.passes, h.from, h.below)))
-  where
-    to : lies_in areas b ≡ true → IsDataOf test j b
-    to h = let k = (f b).0 h in record { place = k.0; reached = r.1 k.0 k.1; passes = k.2.0; from = k.2.1; below = k.2.2 }
+all_data test j ps areas r f b = search rules
 
 -- ---- addresses, place by place
 
@@ -157,43 +125,14 @@ pub addresses_none : (P : Place → ℕ → Type 0) (xs : List ℕ) → xs ≡ [
 addresses_none P xs e a = ((λ h. absurd (subst (λ z. Has z a) e h)), λ h. absurd h.1)
 
 pub addresses_more : (P : Place → ℕ → Type 0) (ps : List Place) (p : Place) (old new : List ℕ) → HoldAddresses (Has old) P ps → ((a : ℕ) → Has new a ↔ (Has old a ⊎ P p a)) → HoldAddresses (Has new) P (ps ++ p ∷ [])
-addresses_more P ps p old new f g a = ((λ h. to ((g a).0 h)), λ h. (g a).1 (from h.0 h.2 (has_cases ps (p ∷ []) h.0 h.1)))
-  where
-    to : Has old a ⊎ P p a → (q : Place) × Has (ps ++ p ∷ []) q × P q a
-    to (inl h) = let r = (f a).0 h in (r.0, has_left ps (p ∷ []) r.0 r.1, r.2)
-    to (inr h) = (p, has_right ps (p ∷ []) p (inl refl), h)
-
-    from : (q : Place) → P q a → Has ps q ⊎ Has (p ∷ []) q → Has old a ⊎ P p a
-    from q h (inl k) = inl ((f a).1 (q, k, h))
-    from q h (inr (inl e)) = inr (subst (λ (z : Place). P z a) (sym e) h)
-    from q h (inr (inr k)) = absurd k
+addresses_more P ps p old new f g a = search (rules, has_cases, has_left, has_right)
 
 pub adds_address : (test : Place → Fields → Bool) (j : Job) (l : Seen) (so : Bool) (old new : List ℕ) → IsLook j l → IsTrue so ↔ IsSeenWith test l → AddsAddress so l.place.address old new → (a : ℕ) → Has new a ↔ (Has old a ⊎ HasAddress test j l.place a)
-adds_address test j l so old new look same adds a = ((λ h. to ((adds a).0 h)), λ h. (adds a).1 (from h))
-  where
-    to : Has old a ⊎ (IsTrue so × (l.place.address ≡ a)) → Has old a ⊎ HasAddress test j l.place a
-    to (inl h) = inl h
-    to (inr h) =
-        let s = same.0 h.0 in
-        let w = seen_word j l s.0 look s.1 in
-        inr ((w.0, subst (λ (c : Fields). test l.place c ≡ true) w.1 s.2), h.1)
-
-    from : Has old a ⊎ HasAddress test j l.place a → Has old a ⊎ (IsTrue so × (l.place.address ≡ a))
-    from (inl h) = inl h
-    from (inr h) = inr (same.1 (ccw_of j l.place, word_seen j l look h.0.0, h.0.1), h.1)
+adds_address test j l so old new look same adds a = search (rules, seen_word, word_seen)
 
 -- over the reachable places, each once
 pub all_addresses : (test : Place → Fields → Bool) (j : Job) (some ps : List Place) (xs ys : List ℕ) → some ≡ ps → AreReached j ps → HoldAddresses (Has xs) (HasAddress test j) some → IsStrictlyIncreasing ys → ((a : ℕ) → Has ys a ↔ Has xs a) → AreAddressesOf test j ys
-all_addresses test j some ps xs ys e r f up same = record {
-  rising = up;
-  exactly = λ a. ((λ h. to a ((f a).0 ((same a).0 h))), λ h. (same a).1 ((f a).1 (from a h)));
-}
-  where
-    to : (a : ℕ) → (p : Place) × Has some p × HasAddress test j p a → IsAddressOf test j a
-    to a k = record { place = k.0; reached = r.1 k.0 (subst (λ (z : List Place). Has z k.0) e k.1); passes = k.2.0; address = k.2.1 }
-
-    from : (a : ℕ) → IsAddressOf test j a → (p : Place) × Has some p × HasAddress test j p a
-    from a k = (k.place, subst (λ (z : List Place). Has z k.place) (sym e) (r.0 k.place k.reached), (k.passes, k.address))
+all_addresses test j some ps xs ys e r f up same = search rules
 
 -- sorted, and each once
 pub same_once : (xs ys : List ℕ) (a : ℕ) → IsPermutation xs ys → Has (dedup eqb ys) a ↔ Has xs a
@@ -206,48 +145,16 @@ same_once xs ys a moved = (
 
 -- the bytes of the data range of the CCW that was seen
 pub seen_bytes : (l : Seen) (so : Bool) (c : Fields) → l.ccw ≡ Some c → so ≡ true → (b : ℕ) → (lies_in (data_of c ∷ []) b ≡ true) ↔ IsSeenByte l so b
-seen_bytes l so c e s b = ((λ h. to (lies_in-cases (data_of c) [] b h)), from)
-  where
-    to : InArea (data_of c) b ⊎ (lies_in [] b ≡ true) → IsSeenByte l so b
-    to (inl h) = record { ccw = c; seen = e; so = s; from = h.0; below = h.1 }
-    to (inr h) = absurd (both_ways (lies_in [] b) (lies_in-nil b) h)
-
-    from : IsSeenByte l so b → lies_in (data_of c ∷ []) b ≡ true
-    from h =
-        let same : h.ccw ≡ c = same_Some h.ccw c (sym h.seen ∙ e) in
-        lies_in-first (data_of c) [] b (subst (λ (d : Fields). d.address ≤ b) same h.from, subst (λ (d : Fields). b < end_of (data_of d)) same h.below)
+seen_bytes l so c e s b = search (rules, lies_in-cases, both_ways, lies_in-nil, same_Some, lies_in-first)
 
 -- one address more
 pub address_added : (so : Bool) (here a : ℕ) (old new : List ℕ) → so ≡ true → here ≡ a → new ≡ old ++ here ∷ [] → AddsAddress so a old new
-address_added so here a old new s e n b = ((λ h. to ((has_push old here b).0 (subst (λ z. Has z b) n h))), λ h. subst (λ z. Has z b) (sym n) ((has_push old here b).1 (from h)))
-  where
-    to : Has old b ⊎ (here ≡ b) → Has old b ⊎ (IsTrue so × (a ≡ b))
-    to (inl h) = inl h
-    to (inr h) = inr (s, sym e ∙ h)
-
-    from : Has old b ⊎ (IsTrue so × (a ≡ b)) → Has old b ⊎ (here ≡ b)
-    from (inl h) = inl h
-    from (inr h) = inr (e ∙ h.1)
+address_added so here a old new s e n b = search (rules, has_push)
 
 -- ---- where a program ends
 
 fresh_kind : (e : Entry) (c : Fields) → is_fresh e ≡ true → kind_of e c ≡ kind_of_command (lookup c.command)
-fresh_kind Fresh c h = refl
-fresh_kind ChainIn c h = absurd (cc)
-fresh_kind ChainOut c h = absurd (cc)
-fresh_kind ChainSearch c h = absurd (cc)
+fresh_kind e c h = search rules
 
 pub nothing_follows : NothingFollows
-nothing_follows p c h = (rw (idle.1, parts.1, kind) refl, rw (idle.1, parts.1) refl)
-  where
-    parts : ((is_fresh p.entered && is_idle (lookup c.command)) ≡ true) × (chains_data c ≡ true)
-    parts = and_parts (is_fresh p.entered && is_idle (lookup c.command)) (chains_data c) (and_parts (is_fresh p.entered && is_idle (lookup c.command) && chains_data c) (chains_command c) h).0
-
-    begins : (is_fresh p.entered ≡ true) × (is_idle (lookup c.command) ≡ true)
-    begins = and_parts (is_fresh p.entered) (is_idle (lookup c.command)) parts.0
-
-    idle : (kind_of_command (lookup c.command) ≡ Idle) × (is_transfer c ≡ false)
-    idle = idle_is_no_transfer c begins.1
-
-    kind : kind_of p.entered c ≡ Idle
-    kind = fresh_kind p.entered c begins.0 ∙ idle.0
+nothing_follows p c h = search (rules, and_parts, idle_is_no_transfer, fresh_kind)

@@ -1,5 +1,5 @@
 -- Binary search in merged areas.
-use Rattle.std.proofs.Common.{◌≡◌, ℕ, zero, suc, ◌+◌, ◌<◌, ◌≤◌, true, false, leb, max, List, [], ◌∷◌, length, get_or, Option, Some, None, sym, ap, subst, ◌⊎◌, inl, inr, ◌↔◌, arith, Bor, MatchOption, option_copied}
+use Rattle.std.proofs.Common.{◌≡◌, ℕ, zero, suc, ◌+◌, ◌<◌, ◌≤◌, true, false, leb, max, List, [], ◌∷◌, length, get_or, Option, Some, None, sym, ap, subst, ◌⊎◌, inl, inr, ◌↔◌, arith, Bor, MatchOption, option_copied, rules}
 use Rattle.std.specs.List.{HoldsAt}
 use Rattle.std.specs.List.Sorted.{IsNonDecreasingBy, IsPartitionPoint}
 use Rattle.std.proofs.lemmas.Bool.{cases_lt, leb-true, leb-false, both_ways, false_from_ne_true}
@@ -37,11 +37,7 @@ area_at (x ∷ xs) d b h = go (lies_in-cases x xs b h) (λ m. area_at xs d b m)
     go (inr m) f = let r = f m in (suc r.0, omega (arith, r.1), r.2)
 
 pub merged_ends : (xs : List Area) → IsMerged xs → IsNonDecreasingBy end_of xs
-merged_ends xs m i j d l h = go (cases_lt i j)
-  where
-    go : (i < j) ⊎ (j ≤ i) → end_of (get_or xs i d) ≤ end_of (get_or xs j d)
-    go (inl k) = let e = merged_order xs i j d m k h in omega arith
-    go (inr k) = let e : i ≡ j = omega arith in let f = ap (λ n. end_of (get_or xs n d)) e in omega arith
+merged_ends xs m i j d l h = search (rules, cases_lt, merged_order)
 
 -- ---- the place that the search finds
 
@@ -51,11 +47,7 @@ IsCut xs n at = IsPartitionPoint (λ y. leb (end_of y) n ≡ true) (λ y. leb (e
 
 -- an area with a byte from n on doesn't stand before it
 not_before : (xs : List Area) (n at k b : ℕ) (d : Area) → IsCut xs n at → at ≤ length xs → n ≤ b → k < length xs → InArea (get_or xs k d) b → at ≤ k
-not_before xs n at k b d cut w le l h = go (cases_lt k at)
-  where
-    go : (k < at) ⊎ (at ≤ k) → at ≤ k
-    go (inl e) = let f = leb-true _ _ (cut.0 k d (omega arith) e) in absurd (omega (arith, h.1))
-    go (inr e) = e
+not_before xs n at k b d cut w le l h = search (rules, cases_lt, leb-true)
 
 pub found_none : (xs : List Area) (n at : ℕ) → IsCut xs n at → at ≤ length xs → length xs ≤ at → (b : ℕ) → n ≤ b → lies_in xs b ≡ false
 found_none xs n at cut w l b le = false_from_ne_true (lies_in xs b) (λ h. let z : Area = record { start = 0; len = 0 } in let r = area_at xs z b h in let k = not_before xs n at r.0 b z cut w le r.1 r.2 in omega (arith, r.1))

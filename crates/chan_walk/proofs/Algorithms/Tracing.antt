@@ -1,5 +1,5 @@
 -- From which place each place was found: the path back is the shortest, and the one that goes to next.
-use Rattle.std.proofs.Common.{◌≡◌, ℕ, zero, suc, ◌+◌, ◌<◌, ◌≤◌, List, [], ◌∷◌, ◌++◌, length, slice_index, Option, Some, None, refl, sym, ap, ◌∙◌, subst, ◌⊎◌, inl, inr, arith, length-append}
+use Rattle.std.proofs.Common.{◌≡◌, ℕ, zero, suc, ◌+◌, ◌<◌, ◌≤◌, List, [], ◌∷◌, ◌++◌, length, slice_index, Option, Some, None, refl, sym, ap, ◌∙◌, subst, ◌⊎◌, inl, inr, arith, length-append, rules}
 use Rattle.std.specs.List.{slice_get}
 use Rattle.std.proofs.lemmas.Bool.{cases_lt}
 use Rattle.chan_walk.specs.declared.job.Job.{Job}
@@ -301,27 +301,11 @@ module _ (j : Job) (p : Place) (n : Next) (i : ℕ) (are : AreSuccessors j p n) 
   pub traced_on : (l : ℕ) (ps qs rs : List Place) (fs gs hs : List ℕ) → IsTraced j ps fs i i → slice_get ps i ≡ Some p → Adds l n.next i ps qs fs gs → Adds l n.skip i qs rs gs hs → IsTraced j rs hs (i + 1) (i + 1)
   traced_on l ps qs rs fs gs hs t there a b = both_traced rs hs (skip_found l qs rs gs hs (next_found l ps qs fs gs t there n.next refl a) n.skip refl b)
 
--- the first place alone
-pub traced_first : (j : Job) (n from : ℕ) (ps : List Place) (gs : List ℕ) → Adds n (Some (first_place j)) from [] ps [] gs → IsTraced j ps gs 0 0
-traced_first j n from ps gs (inl a) = absurd a.0
-traced_first j n from ps gs (inr a) = subst (λ z. IsTraced j z gs 0 0) (sym a.1) (subst (λ z. IsTraced j (first_place j ∷ []) z 0 0) (sym a.3) (record {
-  each = refl;
-  begins = refl;
-  from = λ k h l. absurd (omega arith);
-  rising = λ k l h o b. absurd (omega arith);
-  siblings = λ k l h o b e. absurd (omega arith);
-  found = λ k p q h e f. absurd (omega arith);
-}))
-
 -- ---- the path back
 
 module _ (j : Job) (ps : List Place) (fs : List ℕ) (i : ℕ) (t : IsTraced j ps fs i i) (all : length ps ≤ i) (apart : AreApart ps) (found : (p : Place) → IsReachable j p → Has ps p) where
   pub best_first : IsBest j ps 0 (first_place j) []
-  best_first = record { here = t.begins; path = refl; first = λ l q qs h e f. first q qs f }
-    where
-      first : (q : Place) (qs : List Place) → IsPath j (q ∷ qs) → IsFirstOf j (first_place j ∷ []) (q ∷ qs)
-      first q [] f = inr (refl, inl (ap (λ z. z ∷ []) (sym f)))
-      first q (x ∷ qs) f = inl (omega arith)
+  best_first = search rules
 
   pub best_next : (k : ℕ) (c p : Place) (rest : List Place) → 0 < k → slice_get ps k ≡ Some c → IsBest j ps (slice_index fs k) p rest → IsBest j ps k c (p ∷ rest)
   best_next k c p rest pos here b = record { here = here; path = (b.path, follows.0, follows.1); first = λ l q qs h e f. first l q qs h e f }

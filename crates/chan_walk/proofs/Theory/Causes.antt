@@ -141,9 +141,6 @@ module _ (j : Job) (p : Place) where
       go (inr k) = absurd (both_ways _ b k.0)
   sought_out r y f b h = absurd f
 
-  pub short_out : (r : Reason) → FailsToSeek j p r → begins_recalibrate p (ccw_of j p) ≡ false → HasArgument s p.address None → ShortSeek ≡ r
-  short_out r f b h = search (rules, both_ways)
-
 -- ---- what is wrong with an argument
 
 pub track_parts : (x : List ℕ) (t : Track) → Some t ≡ track_of x → (has_no_bin x ≡ true) × (t.cylinder ≡ cylinder_of x) × (t.head ≡ head_of x)
