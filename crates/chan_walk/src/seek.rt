@@ -2,11 +2,12 @@
 
 ghost use Rattle.std.specs.Prelude.{◌≡◌, ◌&&◌, not, ◌+◌, ◌<◌, ◌≤◌, ◌^◌, ℕ, List, true, false};
 ghost use Rattle.std.specs.Prelude.{length, slice_index, IfSome, IfNone, IfOk, IfErr, Some, None};
-ghost use Rattle.ccw_core.specs.Ccw.{byte, ccw, is_transfer, is_formed as formed};
+ghost use Rattle.ccw_core.specs.Ccw.{byte, ccw as word_at, chains_data as chained, is_transfer};
 ghost use Rattle.ccw_core.specs.Ccw.{is_counted as counted, has_data_in as data_in};
+ghost use Rattle.ccw_core.specs.Ccw.{is_formed as formed};
 ghost use Rattle.ccw_core.specs.Held.{bytes_held};
 ghost use Rattle.ccw_core.specs.Storage.{ccw_at as stored_ccw};
-ghost use Rattle.chan_walk.specs.Argument.{HasArgument};
+ghost use Rattle.chan_walk.specs.Argument.{HasArgument, is_part};
 ghost use Rattle.chan_walk.specs.Evidence.{Gives};
 ghost use Rattle.chan_walk.specs.Onward as onward;
 ghost use Rattle.chan_walk.specs.Tables.{HasAddresses};
@@ -17,6 +18,13 @@ use ccw_core::{Ccw, Storage};
 #[cfg(test)]
 mod tests;
 
+/// A CCW of the chain, and the address at which it stands.
+#[derive(Clone, Copy)]
+struct Link {
+    address: u32,
+    ccw: Ccw,
+}
+
 /// A CCW can give bytes of an argument.
 fn gives_bytes(storage: &Storage, word: &Ccw) -> bool
     ensures { result ≡ (not (is_transfer word.now) && formed word.now && counted word.now
@@ -25,11 +33,37 @@ fn gives_bytes(storage: &Storage, word: &Ccw) -> bool
     !word.is_transfer() && is_formed(word) && is_counted(word) && has_data_in(storage, word)
 }
 
-/// A CCW of the chain, and the address at which it stands.
-#[derive(Clone, Copy)]
-struct Link {
-    address: u32,
-    ccw: Ccw,
+/// What a CCW gives of an argument: so many bytes in a row, and whether the chain goes on behind it.
+struct Part {
+    from: u32,
+    count: usize,
+    chains: bool,
+}
+
+/// What the CCW at an address gives of an argument, if it can give any of it.
+#[tactic(auto, using(crate::proofs::Theory::CheckCases::found_is_part, crate::proofs::Algorithms::Following::part_in_range))]
+fn part_at(storage: &Storage, address: u32, ccw: Ccw) -> Option<Part>
+    requires { stored_ccw (bytes_held storage.now) address ≡ Some ccw }
+    ensures part { IfSome result (λ _. is_part (bytes_held storage.now) address ≡ true) }
+    ensures inside { IfSome result (λ _. address < 2 ^ 25) }
+    ensures range { IfSome result (λ part. part.from + part.count ≤ 2 ^ 24) }
+    ensures some { IfSome result (λ part. 0 < part.count) }
+    ensures from { IfSome result
+        (λ part. part.from ≡ (word_at (bytes_held storage.now) address).address) }
+    ensures count { IfSome result
+        (λ part. part.count ≡ (word_at (bytes_held storage.now) address).count) }
+    ensures chains { IfSome result
+        (λ part. part.chains ≡ chained (word_at (bytes_held storage.now) address)) }
+    ensures none { IfNone result (is_part (bytes_held storage.now) address ≡ false) }
+{
+    if !gives_bytes(storage, &ccw) {
+        return None;
+    }
+    Some(Part {
+        from: ccw.address(),
+        count: usize::from(ccw.count()),
+        chains: chains_data(&ccw),
+    })
 }
 
 /// The CCW to which data chaining leads from the one at an address, where one stands there.
@@ -80,17 +114,22 @@ pub(crate) fn argument_addresses(storage: &Storage, address: u32, ccw: Ccw) -> R
     let mut have: usize = 0;
     let mut here = Link { address, ccw };
     loop {
-        if !gives_bytes(storage, &here.ccw) {
+        let Some(
+            Part {
+                from,
+                count,
+                chains,
+            },
+        ) = part_at(storage, here.address, here.ccw)
+        else {
             return Err(have as u8);
-        }
-        let from = here.ccw.address();
-        let count = usize::from(here.ccw.count());
+        };
         let room = 6 - have;
         if count >= room {
             note(&mut addresses, have, from, room);
             return Ok(addresses);
         }
-        if !chains_data(&here.ccw) {
+        if !chains {
             return Err((have + count) as u8);
         }
         note(&mut addresses, have, from, count);

@@ -1,5 +1,5 @@
 -- Reading a path backwards, from a place to the one that it was found from.
-use Rattle.std.proofs.Common.{◌≡◌, Bool, true, false, eqb, ◌&&◌, ℕ, ◌+◌, ◌<◌, ◌≤◌, List, [], ◌∷◌, ◌++◌, append_assoc, length, get_or, reverse, slice_index, Option, Some, refl, sym, ap, ◌∙◌, subst, ◌⊎◌, inl, inr, arith}
+use Rattle.std.proofs.Common.{◌≡◌, Bool, true, eqb, ◌&&◌, ℕ, ◌+◌, ◌<◌, ◌≤◌, List, [], ◌∷◌, ◌++◌, append_assoc, length, get_or, reverse, slice_index, Option, Some, refl, sym, ap, ◌∙◌, subst, arith, rules}
 use Rattle.std.specs.List.{slice_get}
 use Rattle.std.proofs.lemmas.Bool.{and_from, cases_lt, eq-eqb}
 use denote.Enum.Bare.{sameb}
@@ -7,12 +7,10 @@ use mathlib.Core.Bool.{beq}
 use Rattle.chan_walk.specs.declared.exploring.Walk.{Walk}
 use Rattle.chan_walk.specs.declared.job.Job.{Job}
 use Rattle.chan_walk.specs.declared.place.Entry.{Entry}
-use Rattle.chan_walk.specs.declared.place.Entry.TheVariants.{Fresh, ChainIn, ChainOut, ChainSearch}
 use Rattle.chan_walk.specs.declared.place.Place.{Place}
 use Rattle.chan_walk.specs.contracts.place.Entry.{the_type}
 use Rattle.chan_walk.specs.Argument.{Has}
 use Rattle.chan_walk.specs.Look.{Seen, places_of_looks}
-use Rattle.chan_walk.specs.Paths.{ArePathWhere}
 use Rattle.chan_walk.specs.Place.{first_place}
 use Rattle.chan_walk.specs.Reachable.{IsReachable}
 use Rattle.chan_walk.specs.Walk.{HasFound, IsBest, IsPathAt}
@@ -74,28 +72,16 @@ abbrev pub are_same : Place → Place → Bool
 are_same p q = eqb p.address q.address && (sameb the_type p.entered q.entered && beq p.after_transfer q.after_transfer)
 
 same_entry : (e : Entry) → sameb the_type e e ≡ true
-same_entry Fresh = refl
-same_entry ChainIn = refl
-same_entry ChainOut = refl
-same_entry ChainSearch = refl
+same_entry e = search rules
 
 same_flag : (b : Bool) → beq b b ≡ true
-same_flag true = refl
-same_flag false = refl
+same_flag b = search rules
 
 pub same_place : (p q : Place) → p ≡ q → are_same p q ≡ true
 same_place p q e = subst (λ (z : Place). are_same p z ≡ true) e (and_from _ _ (eq-eqb p.address p.address refl) (and_from _ _ (same_entry p.entered) (same_flag p.after_transfer)))
 
 pub more_differ : (ls : List Seen) (p : Place) (i : ℕ) (l : Seen) → i < length ls → l ≡ get_or ls i l → (l.place ≡ p → ⊥) → ((k : ℕ) → k < i → slice_get (places_of_looks ls) k ≡ Some p → ⊥) → (k : ℕ) → k < i + 1 → slice_get (places_of_looks ls) k ≡ Some p → ⊥
-more_differ ls p i l h e n old k lt d = go (cases_lt k i)
-  where
-    go : (k < i) ⊎ (i ≤ k) → ⊥
-    go (inl b) = old k b d
-    go (inr b) =
-        let at : k ≡ i = omega arith in
-        let same : ◌≡◌ {A = Option Place} (Some p) (Some l.place) = sym d ∙ ap (slice_get (places_of_looks ls)) at ∙ place_at ls i l h e in
-        let is : p ≡ l.place = cc in
-        n (sym is)
+more_differ ls p i l h e n old k lt d = search (rules, cases_lt, place_at)
 
 pub none_there : (ls : List Seen) (p : Place) (i : ℕ) → length ls ≤ i → ((k : ℕ) → k < i → slice_get (places_of_looks ls) k ≡ Some p → ⊥) → Has (places_of_looks ls) p → ⊥
 none_there ls p i h n m = let a = at_has (places_of_looks ls) p m in n a.0 (omega (arith, a.1, number_of_places ls)) a.2

@@ -1,5 +1,5 @@
 -- What a store changes, among the places that were looked at.
-use Rattle.std.proofs.Common.{◌≡◌, ℕ, zero, suc, ◌+◌, ◌<◌, ◌≤◌, Bool, true, ◌||◌, nat_eq, List, [], ◌∷◌, length, get_or, slice_get, Option, Some, None, IsSome, IsTrue, refl, sym, ap, ◌∙◌, subst, ◌⊎◌, inl, inr, ◌↔◌, arith}
+use Rattle.std.proofs.Common.{◌≡◌, ℕ, zero, suc, ◌+◌, ◌<◌, ◌≤◌, Bool, true, ◌||◌, nat_eq, List, [], ◌∷◌, length, get_or, slice_get, Option, Some, None, IsSome, IsTrue, refl, sym, ap, ◌∙◌, subst, ◌⊎◌, inl, inr, ◌↔◌, arith, rules}
 use Rattle.std.specs.List.{list_any}
 use Rattle.std.proofs.lemmas.Bool.{cases_lt, eq-eqb, eqb-true, or_cases}
 use Rattle.std.proofs.Math.Bool.{or-true}
@@ -13,12 +13,12 @@ use Rattle.chan_walk.specs.declared.job.Job.{Job}
 use Rattle.chan_walk.specs.declared.place.Place.{Place}
 use Rattle.chan_walk.specs.Argument.{Has}
 use Rattle.ccw_core.specs.Ccw.{Fields}
-use Rattle.ccw_core.specs.Storage.{Stands, ccw_at}
+use Rattle.ccw_core.specs.Storage.{Stands}
 use Rattle.chan_walk.specs.Changed.{HasByteOf, HasCcwIn, IsCcwOf, IsFirstChanged, IsLesserOf}
 use Rattle.chan_walk.specs.Evidence.{IsArgumentIn, IsCause, IsCcwIn, IsLeastOf, IsLeastOrNone, IsSecondPath, IsTakenAt}
 use Rattle.chan_walk.specs.Fault.{IsClear, begins_set_mask}
 use Rattle.chan_walk.specs.Guard.{GuardAreas, Guards, IsArgumentByteOf}
-use Rattle.chan_walk.specs.Guarded.{IsArgumentByte, IsMaskByte, IsSeekByte}
+use Rattle.chan_walk.specs.Guarded.{IsArgumentByte}
 use Rattle.chan_walk.specs.Job.{storage_of}
 use Rattle.chan_walk.specs.Look.{IsLook, Seen, places_of_looks}
 use Rattle.chan_walk.specs.Place.{ccw_of}
@@ -38,15 +38,7 @@ module _ (ls : List Seen) (r : Area) (i : ℕ) (l : Seen) (h : i < length ls) (e
 
   -- it is the last look, or an earlier one
   last_or_earlier : (a : ℕ) → HasCcwIn ls r (i + 1) a → ((l.place.address ≡ a) × IsCcwOf l r) ⊎ HasCcwIn ls r i a
-  last_or_earlier a m = go (cases_lt m.at i)
-    where
-      go : (m.at < i) ⊎ (i ≤ m.at) → ((l.place.address ≡ a) × IsCcwOf l r) ⊎ HasCcwIn ls r i a
-      go (inl b) = inr (record { at = m.at; look = m.look; below = b; there = m.there; address = m.address; in_range = m.in_range })
-      go (inr b) =
-          let is : m.at ≡ i = let c = m.below in omega arith in
-          let same : ◌≡◌ {A = Option Seen} (Some m.look) (Some l) = sym m.there ∙ ap (slice_get ls) is ∙ get_there ls i l h ∙ ap Some (sym e) in
-          let look : m.look ≡ l = cc in
-          inl (subst (λ (z : Seen). (z.place.address ≡ a) × IsCcwOf z r) look (m.address, m.in_range))
+  last_or_earlier a m = search (rules, cases_lt, get_there)
 
   -- where it isn't the last look nothing changes
   pub least_skip : (best : Option ℕ) → (IsCcwOf l r → ⊥) → IsLeastOrNone (HasCcwIn ls r i) best → IsLeastOrNone (HasCcwIn ls r (i + 1)) best
@@ -91,16 +83,10 @@ get_within (x ∷ ls) zero l e = omega arith
 get_within (x ∷ ls) (suc k) l e = let r = get_within ls k l e in omega arith
 
 read_there : (ls : List Seen) (k : ℕ) (l : Seen) → slice_get ls k ≡ Some l → l ≡ get_or ls k l
-read_there ls k l e =
-    let same : ◌≡◌ {A = Option Seen} (Some l) (Some (get_or ls k l)) = sym e ∙ get_there ls k l (get_within ls k l e) in
-    cc
+read_there ls k l e = search (rules, get_there, get_within)
 
 stands_seen : (j : Job) (l : Seen) → IsLook j l → IsSome l.ccw → Stands (storage_of j) l.place.address
-stands_seen j l h s = go l.ccw h.ccw s
-  where
-    go : (c : Option Fields) → c ≡ ccw_at (storage_of j) l.place.address → IsSome c → Stands (storage_of j) l.place.address
-    go None e s = absurd (cc)
-    go (Some c) e s = let f = ccw_at-some (storage_of j) l.place.address c (sym e) in (f.0, f.1)
+stands_seen j l h s = search (rules, ccw_at-some)
 
 seen_stands : (j : Job) (l : Seen) → IsLook j l → Stands (storage_of j) l.place.address → IsSome l.ccw
 seen_stands j l h s = subst (λ (c : Option Fields). IsSome c) (sym (h.ccw ∙ ccw_at-where (storage_of j) l.place.address s)) refl
@@ -176,15 +162,10 @@ any_has xs ys b t s e = ((λ h. subst (λ z. Has z b) s (any_to xs b (sym e ∙ 
 -- ---- the place that takes an argument
 
 takes_clear : (j : Job) (q : Place) (b : ℕ) → IsArgumentByteOf j q b → IsClear j q
-takes_clear j q b (inl h) = h.0
-takes_clear j q b (inr h) = h.0
+takes_clear j q b h = search rules
 
 takes_of : (j : Job) (b : ℕ) (m : IsArgumentByte j b) → IsArgumentByteOf j m.place b
-takes_of j b m = go m.takes
-  where
-    go : IsSeekByte j m.place b ⊎ IsMaskByte j m.place b → IsArgumentByteOf j m.place b
-    go (inl h) = inl (m.clear, h)
-    go (inr h) = inr (m.clear, h)
+takes_of j b m = search rules
 
 -- the guarded bytes of arguments are those in the guard's areas
 module _ (j : Job) (areas : List Area) (g : (b : ℕ) → (lies_in areas b ≡ true) ↔ IsArgumentByte j b) (r : Area) where

@@ -1,22 +1,20 @@
 -- Over another storage that is the same in the bytes that count, everything that the verdict asks is the same.
-use Rattle.std.proofs.Common.{◌≡◌, ℕ, ◌+◌, ◌<◌, ◌≤◌, Bool, true, false, not, ◌&&◌, if◌then◌else◌, List, [], ◌∷◌, ◌++◌, length, map, take, Option, Some, None, refl, sym, ap, ◌∙◌, subst, ◌⊎◌, ◌↔◌, inl, inr}
+use Rattle.std.proofs.Common.{◌≡◌, ℕ, ◌+◌, ◌<◌, ◌≤◌, Bool, true, false, not, ◌&&◌, if◌then◌else◌, List, [], ◌∷◌, ◌++◌, length, map, take, Option, Some, None, refl, sym, ap, ◌∙◌, subst, ◌⊎◌, ◌↔◌, inl, inr, rules}
 use Rattle.std.specs.List.{AllByRecursion, range_with_len}
 use Rattle.std.specs.Option.{option_or}
 use Rattle.std.proofs.lemmas.Bool.{and_parts}
 use Rattle.ccw_core.specs.declared.storage.Storage.{Storage}
 use Rattle.ccw_core.specs.Ccw.{byte, Fields, ccw, is_transfer, is_formed, is_counted, has_data_in, chains_data}
 use Rattle.ccw_core.specs.Storage.{Stands, is_aligned, is_inside}
-use Rattle.ckd_core.specs.Mask.{is_at_least}
 use Rattle.chan_walk.specs.declared.job.Job.{Job}
 use Rattle.chan_walk.specs.declared.place.Place.{Place}
 use Rattle.chan_walk.specs.declared.reason.Reason.{Reason}
-use Rattle.chan_walk.specs.declared.reason.Reason.TheVariants.{WeakensMask}
 use Rattle.chan_walk.specs.declared.verdict.Verdict.{Verdict}
 use Rattle.chan_walk.specs.declared.verdict.Verdict.TheVariants.{Yes, No}
 use Rattle.chan_walk.specs.Argument.{Has, is_part, Leads, data_of, joined, total, but_last, AreLinked, BeginsAt, IsChain, argument_addresses, argument, HasArgument}
 use Rattle.chan_walk.specs.Check.{first_reason, check_of, check}
 use Rattle.chan_walk.specs.Counted.{IsChained, at_once, further, IsCounted, with_storage, IsSameIn, SameVerdict}
-use Rattle.chan_walk.specs.Fault.{kind_of, stores, begins_seek, begins_set_mask, command_faults, lent_faults, seek_faults, mask_faults, table_of_own, fault_with, HasFault, IsClear}
+use Rattle.chan_walk.specs.Fault.{kind_of, begins_seek, begins_set_mask, command_faults, lent_faults, seek_faults, mask_faults, table_of_own, fault_with, HasFault, IsClear}
 use Rattle.chan_walk.specs.Guarded.{IsCcwByte, IsSeekByte, IsMaskByte, IsArgumentByte}
 use Rattle.chan_walk.specs.Job.{storage_of}
 use Rattle.chan_walk.specs.Place.{ccw_of, first_place}
@@ -48,9 +46,7 @@ abbrev part_of : ℕ → ℕ → Fields → Bool
 part_of n a c = is_aligned a && is_inside n a && not (is_transfer c) && is_formed c && is_counted c && has_data_in n c
 
 part_apart : (n x : ℕ) (c d : Fields) (a b : Bool) → is_aligned x ≡ a → is_inside n x ≡ b → (a ≡ true → b ≡ true → c ≡ d) → part_of n x c ≡ part_of n x d
-part_apart n x c d true true e f h = ap (part_of n x) (h refl refl)
-part_apart n x c d true false e f h = rw (e, f) refl
-part_apart n x c d false b e f h = rw e refl
+part_apart n x c d a b e f h = search rules
 
 part_by_word : (s t : List ℕ) (a : ℕ) → length t ≡ length s → (Stands s a → ccw s a ≡ ccw t a) → is_part s a ≡ is_part t a
 unfolding is_part
@@ -74,17 +70,10 @@ module _ (s t : List ℕ) (len : length t ≡ length s) (C : ℕ → Type 0) (wo
   part_stands b h = let a = and_parts _ _ (and_parts _ _ (and_parts _ _ (and_parts _ _ (and_parts _ _ h).0).0).0).0 in (a.0, a.1)
 
   lead_to : (b d : ℕ) → C b → is_part s b ≡ true → chains_data (ccw s b) ≡ true → Leads s b d → Leads t b d
-  lead_to b d c part cd (inl e) = inl e
-  lead_to b d c part cd (inr e) =
-      let w = word (b + 8) (on b (b + 8) c part cd (inl refl)) e.0 in
-      inr (stands_there s t (b + 8) len e.0, subst (λ z. is_transfer z ≡ true) w e.1, subst (λ z. d ≡ z.address) w e.2)
+  lead_to b d c part cd h = search (rules, stands_there)
 
   lead_from : (b d : ℕ) → C b → is_part s b ≡ true → chains_data (ccw s b) ≡ true → Leads t b d → Leads s b d
-  lead_from b d c part cd (inl e) = inl e
-  lead_from b d c part cd (inr e) =
-      let st = stands_there t s (b + 8) (sym len) e.0 in
-      let w = word (b + 8) (on b (b + 8) c part cd (inl refl)) st in
-      inr (st, subst (λ z. is_transfer z ≡ true) (sym w) e.1, subst (λ z. d ≡ z.address) (sym w) e.2)
+  lead_from b d c part cd h = search (rules, stands_there)
 
   linked_to : (l : List ℕ) (a : ℕ) → BeginsAt a l → C a → AreLinked s l → AreLinked t l
   linked_to [] a b c h = tt
@@ -213,12 +202,10 @@ module _ (j : Job) (t : Storage) (h : IsSameIn (IsCounted j) j (with_storage j t
   mask_byte_same p r b = sym (h.same (ccw_of j p).address (inr (inr (record { place = p; reached = r; takes = inr (record { sets = b; at = refl }) }))))
 
   seeks_apart : (p : Place) (c : Fields) (x y : Option (List ℕ)) (b : Bool) → begins_seek p c ≡ b → (b ≡ true → x ≡ y) → seek_faults j p c x ≡ seek_faults there p c y
-  seeks_apart p c x y true e f = ap (seek_faults j p c) (f refl)
-  seeks_apart p c x y false e f = rw e refl
+  seeks_apart p c x y b e f = search rules
 
   masks_apart : (p : Place) (c : Fields) (b : Bool) → begins_set_mask p c ≡ b → (b ≡ true → byte s c.address ≡ byte u c.address) → mask_faults j p c ≡ mask_faults there p c
-  masks_apart p c true e f = ap (λ n. (begins_set_mask p c && not (is_at_least n j.mask), WeakensMask) ∷ []) (f refl)
-  masks_apart p c false e f = rw e refl
+  masks_apart p c b e f = search rules
 
   table_same : (p : Place) → IsReachable j p → (x y : Option (List ℕ)) → HasArgument s p.address x → HasArgument u p.address y → table_of_own j p (ccw_of j p) x ≡ table_of_own there p (ccw_of j p) y
   table_same p r x y a b =
@@ -297,15 +284,7 @@ module _ (j k : Job) (same : (p : Place) → IsReachable j p → AreSame j k p) 
       record { place = g.place; reached = on g.place g.reached; clear = (here.fault None).0 g.clear; takes = (here.takes g.clear b).0 g.takes }
 
   stores_over : (p : Place) → IsReachable j p → IsClear j p → (P Q : ℕ → Type 0) → ((b : ℕ) → P b → Q b) → StoresOver j p P → StoresOver k p Q
-  stores_over p r clear P Q f o =
-      let word = (same p r).word clear in
-      record {
-        stores = subst (λ c. stores p c ≡ true) word o.stores;
-        at = o.at;
-        from = subst (λ (c : Fields). c.address ≤ o.at) word o.from;
-        below = subst (λ (c : Fields). o.at < c.address + c.count) word o.below;
-        holds = f o.at o.holds;
-      }
+  stores_over p r clear P Q f o = search rules
 
   clear_over : AreClear j → AreClear k
   clear_over f p r = let m = back p r in ((same p m).fault None).0 (f p m)

@@ -1,5 +1,5 @@
 -- The path to a place that offends by the verdict's reason.
-use Rattle.std.proofs.Common.{◌≡◌, ℕ, suc, ◌+◌, ◌<◌, ◌≤◌, List, [], ◌∷◌, length, get_or, slice_get, Option, Some, None, IsSome, Bool, true, false, refl, sym, ap, ◌∙◌, subst, ◌⊎◌, inl, inr, ◌↔◌, arith}
+use Rattle.std.proofs.Common.{◌≡◌, ℕ, suc, ◌+◌, ◌<◌, ◌≤◌, List, [], ◌∷◌, length, get_or, slice_get, Option, Some, None, IsSome, Bool, true, false, refl, sym, ap, ◌∙◌, subst, inl, inr, ◌↔◌, arith, rules}
 use Rattle.std.proofs.lemmas.Bool.{cases_lt}
 use Rattle.chan_walk.specs.declared.evidence.Evidence.{Evidence}
 use Rattle.chan_walk.specs.declared.exploring.Walk.{Walk}
@@ -111,15 +111,7 @@ number_there os k n d h e = has_number os k (get_or os k d) n (get_there os k d 
 
 pub more_numbers : (os : List Offence) (i n : ℕ) (d : Offence) → i < length os → (offence_number (get_or os i d) ≡ n → ⊥) → ((k : ℕ) (o : Offence) → k < i → slice_get os k ≡ Some o → offence_number o ≡ n → ⊥)
     → (k : ℕ) (o : Offence) → k < i + 1 → slice_get os k ≡ Some o → offence_number o ≡ n → ⊥
-more_numbers os i n d h unlike old k o lt e f = go (cases_lt k i)
-  where
-    go : (k < i) ⊎ (i ≤ k) → ⊥
-    go (inl b) = old k o b e f
-    go (inr b) =
-        let at : k ≡ i = omega arith in
-        let same : ◌≡◌ {A = Option Offence} (Some o) (Some (get_or os i d)) = sym e ∙ ap (slice_get os) at ∙ get_there os i d h in
-        let is : o ≡ get_or os i d = cc in
-        unlike (sym (ap offence_number is) ∙ f)
+more_numbers os i n d h unlike old k o lt e f = search (rules, cases_lt, get_there)
 
 -- what a walk found, as the places that were looked at
 pub reached_looks : (j : Job) (w : Walk) (ls : List Seen) → HasFound j w → ls ≡ w.looks.items → AreLooks j ls × AreReached j (places_of_looks ls)

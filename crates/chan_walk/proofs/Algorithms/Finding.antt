@@ -1,5 +1,5 @@
 -- The first of the places looked at that answers to a question, and the path to it.
-use Rattle.std.proofs.Common.{◌≡◌, ℕ, zero, suc, ◌+◌, ◌<◌, ◌≤◌, List, [], ◌∷◌, length, get_or, slice_get, slice_index, Option, Some, None, sym, ap, ◌∙◌, subst, ◌⊎◌, inl, inr, arith}
+use Rattle.std.proofs.Common.{◌≡◌, ℕ, zero, suc, ◌+◌, ◌<◌, ◌≤◌, List, [], ◌∷◌, length, get_or, slice_get, slice_index, Option, Some, None, sym, ◌∙◌, subst, ◌⊎◌, inl, inr, arith, rules}
 use Rattle.std.proofs.lemmas.Bool.{cases_lt}
 use Rattle.chan_walk.specs.declared.exploring.Walk.{Walk}
 use Rattle.chan_walk.specs.declared.job.Job.{Job}
@@ -20,15 +20,7 @@ abbrev pub NoneBefore : (Place → Type 0) → List Place → ℕ → Type 0
 NoneBefore P ps i = (k : ℕ) (p : Place) → k < i → slice_get ps k ≡ Some p → P p → ⊥
 
 pub none_more : (P : Place → Type 0) (ls : List Seen) (i : ℕ) (l : Seen) → i < length ls → l ≡ get_or ls i l → (P l.place → ⊥) → NoneBefore P (places_of_looks ls) i → NoneBefore P (places_of_looks ls) (i + 1)
-none_more P ls i l h e n old k p lt d holds = go (cases_lt k i)
-  where
-    go : (k < i) ⊎ (i ≤ k) → ⊥
-    go (inl b) = old k p b d holds
-    go (inr b) =
-        let at : k ≡ i = omega arith in
-        let same : ◌≡◌ {A = Option Place} (Some p) (Some l.place) = sym d ∙ ap (slice_get (places_of_looks ls)) at ∙ place_at ls i l h e in
-        let is : p ≡ l.place = cc in
-        n (subst P is holds)
+none_more P ls i l h e n old k p lt d holds = search (rules, cases_lt, place_at)
 
 pub none_at_all : (P : Place → Type 0) (ls : List Seen) (i : ℕ) → length ls ≤ i → NoneBefore P (places_of_looks ls) i → IsFirstWhere P (places_of_looks ls) None
 none_at_all P ls i h n k p e holds = n k p (omega (arith, number_of_places ls, get_within (places_of_looks ls) k p e)) e holds

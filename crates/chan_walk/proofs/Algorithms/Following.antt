@@ -1,5 +1,5 @@
 -- Following the chain of a seek, CCW by CCW.
-use Rattle.std.proofs.Common.{◌≡◌, ℕ, zero, suc, ◌+◌, ◌-◌, ◌<◌, ◌≤◌, true, false, List, [], ◌∷◌, ◌++◌, take, length, get_or, None, Some, Option, Result, Ok, Err, IfOk, IfErr, refl, sym, ap, ◌∙◌, subst, ◌⊎◌, inl, inr, arith, append_assoc, append-nil, length-append, rules}
+use Rattle.std.proofs.Common.{◌≡◌, ℕ, zero, suc, ◌+◌, ◌-◌, ◌<◌, ◌≤◌, true, false, List, [], ◌∷◌, ◌++◌, take, length, get_or, None, Some, Option, Result, IfOk, IfErr, refl, sym, ap, ◌∙◌, subst, arith, append_assoc, append-nil, length-append, rules}
 use Rattle.std.proofs.lemmas.Grind.{common_steps}
 use Rattle.std.proofs.lemmas.List.{ext_get_or, get_or-append-add}
 use Rattle.std.specs.Result.{result_ok}
@@ -10,7 +10,7 @@ use Rattle.std.proofs.lemmas.List.FromFn.{get_or-range_with_len, length-range_wi
 use Rattle.ccw_core.specs.Ccw.{Fields, ccw, has_data_in, chains_data}
 use Rattle.ccw_core.specs.Storage.{ccw_at, is_inside}
 use Rattle.ccw_core.proofs.StorageLemmas.{ccw_at-some}
-use Rattle.chan_walk.specs.Argument.{is_part, Leads, AreLinked, IsChain, argument_addresses, joined, data_of, total}
+use Rattle.chan_walk.specs.Argument.{is_part, AreLinked, IsChain, argument_addresses, joined, data_of}
 use Rattle.chan_walk.specs.Onward.{onward}
 use Rattle.chan_walk.specs.Tables.{HasAddresses}
 use Rattle.chan_walk.proofs.Theory.Chains.{chain_cons, chain_tail, chain_begins_with_part, onward_leads, onward_only, part_counts}
@@ -38,11 +38,6 @@ no_more s a taken have here w lt e k h = let l = w.from k h in both_ways _ e (ch
 -- no chain begins where no CCW stands
 pub begins_nowhere : (s : List ℕ) (n a : ℕ) → ccw_at s a ≡ None → (l : List ℕ) → IsChain s n a l → ⊥
 begins_nowhere s n a e l k = both_ways _ (is_part-none s a e) (chain_begins_with_part s n a l k)
-
--- there is no chain where what stands here gives no bytes
-pub leads_to_no_part : (s : List ℕ) (a : ℕ) (taken : List ℕ) (have here : ℕ) → IsFollowed s a taken have here → is_part s here ≡ false
-    → (l : List ℕ) → IsChain s 6 a l → ⊥
-leads_to_no_part s a taken have here w n k h = let l = w.from k h in both_ways _ n (chain_begins_with_part s _ here l.0 l.1)
 
 -- nor where data chaining leads to no CCW
 pub leads_nowhere : (s : List ℕ) (a : ℕ) (taken : List ℕ) (have here : ℕ) → IsFollowed s a taken have here → (ccw s here).count < 6 - have

@@ -1,20 +1,19 @@
 -- The first bytes of a range that lie in no area of a merged list.
-use Rattle.std.proofs.Common.{◌≡◌, ℕ, ◌+◌, ◌-◌, ◌<◌, ◌≤◌, true, false, max, min, List, sym, subst, ◌⊎◌, inl, inr, arith, rules}
+use Rattle.std.proofs.Common.{◌≡◌, ℕ, ◌+◌, ◌-◌, ◌<◌, ◌≤◌, false, max, List, rules}
 use Rattle.std.proofs.lemmas.Bool.{cases_lt, both_ways}
 use Rattle.ccw_core.specs.declared.areas.Area.{Area}
 use Rattle.ccw_core.specs.Areas.{lies_in, covered}
 use Rattle.chan_walk.specs.Evidence.{IsFirstGap, IsLeastOf}
 use Rattle.chan_walk.specs.Ranges.{IsByteIn, IsGapEnd, IsGapStart, IsNext, end_of}
-use Rattle.chan_walk.proofs.Theory.Areas.{uncovered}
 use Rattle.chan_walk.proofs.Algorithms.Searching.{covered_next}
 
 -- the first byte of a range in an area is the first of the area found, or the range's own first
 pub first_of_next : (xs : List Area) (start len n : ℕ) (a : Area) → IsNext xs start a → n ≡ max a.start start → n < start + len → IsLeastOf (IsByteIn xs start len) n
-first_of_next xs start len n a next e l = search (rules, cases_lt, both_ways)
+first_of_next xs start len n a next e l = search rules
 
 -- past it there is none
 pub none_from_next : (xs : List Area) (start len n : ℕ) (a : Area) → IsNext xs start a → n ≡ max a.start start → start + len ≤ n → (m : ℕ) → IsByteIn xs start len m → ⊥
-none_from_next xs start len n a next e l m h = search (rules, cases_lt, both_ways)
+none_from_next xs start len n a next e l m h = search rules
 
 pub none_from_start : (xs : List Area) (start len : ℕ) → ((b : ℕ) → start ≤ b → lies_in xs b ≡ false) → (m : ℕ) → IsByteIn xs start len m → ⊥
 none_from_start xs start len n m h = both_ways (lies_in xs m) (n m h.0) h.2
@@ -22,9 +21,6 @@ none_from_start xs start len n m h = both_ways (lies_in xs m) (n m h.0) h.2
 -- ---- where the gap starts
 
 module _ (xs : List Area) (r : Area) (u : covered xs r.start r.len ≡ false) where
-  some_byte : r.start < end_of r
-  some_byte = let b = uncovered xs r.start r.len u in omega (arith, b.1, b.2)
-
   pub ends_early : (a : Area) → IsNext xs r.start a → a.start ≤ r.start → end_of a < end_of r
   ends_early a n s = search (rules, cases_lt, both_ways, covered_next)
 

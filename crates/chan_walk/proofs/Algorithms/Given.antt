@@ -1,5 +1,5 @@
 -- How many bytes the data chain of a seek gives, CCW by CCW.
-use Rattle.std.proofs.Common.{◌≡◌, ℕ, ◌+◌, ◌-◌, ◌<◌, true, false, List, [], ◌∷◌, None, refl, sym, subst, arith, rules}
+use Rattle.std.proofs.Common.{◌≡◌, ℕ, ◌+◌, ◌-◌, ◌<◌, true, false, List, [], ◌∷◌, None, refl, sym, subst, arith}
 use Rattle.std.proofs.lemmas.Bool.{both_ways}
 use Rattle.ccw_core.specs.Ccw.{ccw, chains_data}
 use Rattle.ccw_core.specs.Storage.{ccw_at}

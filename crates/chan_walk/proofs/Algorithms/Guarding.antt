@@ -1,5 +1,5 @@
 -- The areas of a guard while they are gathered, place by place.
-use Rattle.std.proofs.Common.{◌≡◌, ℕ, ◌+◌, ◌<◌, ◌≤◌, ◌^◌, true, ◌||◌, ◌++◌, List, [], ◌∷◌, map, length, get_or, Option, Some, None, is_some, refl, sym, ap, ◌∙◌, subst, ◌⊎◌, inl, inr, ◌↔◌, arith, rules}
+use Rattle.std.proofs.Common.{◌≡◌, ℕ, ◌+◌, ◌<◌, ◌≤◌, ◌^◌, true, ◌++◌, List, [], ◌∷◌, map, length, get_or, Option, is_some, sym, ap, ◌∙◌, subst, ◌↔◌, arith, rules}
 use Rattle.std.specs.List.{All}
 use Rattle.std.proofs.lemmas.Bool.{or_cases, or_left, or_right, both_ways, leb-true}
 use Rattle.std.proofs.lemmas.List.Elements.{All-append, All-map}
@@ -8,21 +8,19 @@ use Rattle.ccw_core.specs.Areas.{lies_in}
 use Rattle.ccw_core.specs.Ccw.{Fields}
 use Rattle.ccw_core.specs.Storage.{Stands, ccw_at, is_inside}
 use Rattle.ccw_core.proofs.Covering.{lies_in-nil}
-use Rattle.ccw_core.proofs.StorageLemmas.{ccw_at-some}
 use Rattle.chan_walk.specs.declared.job.Job.{Job}
 use Rattle.chan_walk.specs.declared.place.Place.{Place}
 use Rattle.chan_walk.specs.Argument.{Has, IsChain, argument_addresses}
 use Rattle.chan_walk.specs.Fault.{begins_seek, IsClear}
 use Rattle.chan_walk.specs.Guard.{AddsBytes, IsCcwByteOf, IsSeekByteOf, IsArgumentByteOf, byte_area}
-use Rattle.chan_walk.specs.Guarded.{IsCcwByte, IsSeekByte, IsMaskByte, IsArgumentByte}
+use Rattle.chan_walk.specs.Guarded.{IsCcwByte, IsArgumentByte}
 use Rattle.chan_walk.specs.Job.{storage_of}
 use Rattle.chan_walk.specs.Least.{AreReached}
 use Rattle.chan_walk.specs.Place.{ccw_of}
-use Rattle.chan_walk.specs.Reachable.{IsReachable}
 use Rattle.chan_walk.specs.Ranges.{EndsBelow, HaveSameBytes}
 use Rattle.chan_walk.proofs.Theory.Chains.{chain_unique}
 use Rattle.chan_walk.proofs.Theory.Lists.{has_left, has_right, has_cases}
-use Rattle.chan_walk.proofs.Algorithms.Merging.{InArea, lies_in-append, lies_in-cases, lies_in-first, lies_in-rest, get_any}
+use Rattle.chan_walk.proofs.Algorithms.Merging.{lies_in-append, lies_in-cases, lies_in-first, lies_in-rest, get_any}
 
 -- the areas have exactly the bytes that are P's at some place of the list
 abbrev pub HoldBytes : (Place → ℕ → Type 0) → List Place → List Area → Type 0
@@ -63,15 +61,7 @@ bytes_of_ccw j p s b = search (rules, lies_in-cases, lies_in-first, both_ways, l
 
 pub lies_in-bytes : (xs : List ℕ) (b : ℕ) → (lies_in (map byte_area xs) b ≡ true) ↔ Has xs b
 lies_in-bytes [] b = ((λ h. absurd (both_ways (lies_in [] b) (lies_in-nil b) h)), λ h. absurd h)
-lies_in-bytes (x ∷ xs) b = let rest = lies_in-bytes xs b in ((λ h. to rest.0 (lies_in-cases (byte_area x) (map byte_area xs) b h)), λ h. from rest.1 h)
-  where
-    to : (lies_in (map byte_area xs) b ≡ true → Has xs b) → InArea (byte_area x) b ⊎ (lies_in (map byte_area xs) b ≡ true) → Has (x ∷ xs) b
-    to f (inl h) = inl (omega (arith, h.0, h.1))
-    to f (inr h) = inr (f h)
-
-    from : (Has xs b → lies_in (map byte_area xs) b ≡ true) → Has (x ∷ xs) b → lies_in (map byte_area (x ∷ xs)) b ≡ true
-    from f (inl e) = lies_in-first (byte_area x) (map byte_area xs) b (omega arith, omega arith)
-    from f (inr h) = lies_in-rest (byte_area x) (map byte_area xs) b (f h)
+lies_in-bytes (x ∷ xs) b = search (rules, lies_in-cases, lies_in-first, lies_in-rest, lies_in-bytes xs b)
 
 pub low_bytes : (xs : List ℕ) → ((i : ℕ) → get_or xs i 0 < 2 ^ 24) → All (EndsBelow (2 ^ 32)) (map byte_area xs)
 low_bytes xs h = All-map (EndsBelow (2 ^ 32)) byte_area xs (λ i d l. let k = h i in let e = get_any xs i d 0 l in omega arith)
@@ -84,7 +74,7 @@ bytes_of_argument j p l x s f k e b = (
 )
 
 pub stands_from : (s : List ℕ) (a : ℕ) (o : Option Fields) → o ≡ ccw_at s a → is_some o ≡ true → Stands s a
-stands_from s a o e h = search (rules, ccw_at-some)
+stands_from s a o e h = search rules
 
 pub stands_low : (s : List ℕ) (a : ℕ) → length s ≤ 2 ^ 24 → Stands s a → EndsBelow (2 ^ 32) (record { start = a; len = 8 })
 unfolding is_inside

@@ -1,5 +1,5 @@
 -- The marked places, written out in order.
-use Rattle.std.proofs.Common.{◌≡◌, ℕ, zero, suc, ◌+◌, ◌-◌, ◌*◌, ◌<◌, ◌≤◌, ◌==◌, true, false, Bool, List, [], ◌∷◌, ◌++◌, append_assoc, append-nil, map, length, Option, Some, None, refl, sym, ap, ◌∙◌, subst, ◌⊎◌, inl, inr, ◌↔◌, arith, eqb, Less, rules}
+use Rattle.std.proofs.Common.{◌≡◌, ℕ, zero, suc, ◌+◌, ◌-◌, ◌*◌, ◌<◌, ◌≤◌, ◌==◌, true, false, Bool, List, [], ◌∷◌, ◌++◌, append_assoc, map, length, Option, Some, None, refl, sym, ap, ◌∙◌, subst, ◌⊎◌, inl, inr, ◌↔◌, arith, eqb, Less, rules}
 use Rattle.std.proofs.lemmas.Grind.{common_steps}
 use Rattle.std.specs.List.{AllByRecursion, IsDistinct, list_any}
 use Rattle.std.specs.List.Sorted.{IsStrictlySortedBy}
@@ -82,23 +82,12 @@ later_way a m i n p w = let f = w.from in let b = w.below in record { way = w.wa
 way_in : (a m i n : ℕ) (p : Place) → Has (ways a m i n) p → IsWay a m i n p
 unfolding ways
 way_in a m i zero p h = absurd h
-way_in a m i (suc n) p h = go (bit_at m i == 1) refl (way_in a m (suc i) n p) h
-  where
-    go : (t : Bool) → (bit_at m i == 1) ≡ t → (Has (ways a m (suc i) n) p → IsWay a m (suc i) n p) → Has (put t (place_at a i) (ways a m (suc i) n)) p → IsWay a m i (suc n) p
-    go true e f (inl d) = record { way = i; from = omega arith; below = omega arith; is = sym d; set = eqb-true _ _ e }
-    go true e f (inr k) = later_way a m i n p (f k)
-    go false e f k = later_way a m i n p (f k)
+way_in a m i (suc n) p h = search (rules, eqb-true, later_way, way_in a m (suc i) n p)
 
 in_ways : (a m i n k : ℕ) → i ≤ k → k < i + n → bit_at m k ≡ 1 → Has (ways a m i n) (place_at a k)
 unfolding ways
 in_ways a m i zero k l h s = absurd (omega arith)
-in_ways a m i (suc n) k l h s = go (bit_at m i == 1) refl (cases_eq k i) (λ d. in_ways a m (suc i) n k (omega arith) (omega arith) s)
-  where
-    go : (t : Bool) → (bit_at m i == 1) ≡ t → (k ≡ i) ⊎ (k ≡ i → ⊥) → ((k ≡ i → ⊥) → Has (ways a m (suc i) n) (place_at a k)) → Has (put t (place_at a i) (ways a m (suc i) n)) (place_at a k)
-    go true e (inl d) f = inl (ap (place_at a) (sym d))
-    go true e (inr d) f = inr (f d)
-    go false e (inl d) f = absurd (both_ways _ e (eq-eqb _ _ (subst (λ z. bit_at m z ≡ 1) d s)))
-    go false e (inr d) f = f d
+in_ways a m i (suc n) k l h s = search (rules, cases_eq, both_ways, eq-eqb, in_ways a m (suc i) n k)
 
 -- the number of the place at a that is entered in the way w
 number_at : (a w : ℕ) → w < 8 → place_number (place_at a w) ≡ 8 * a + w
@@ -143,17 +132,11 @@ record IsTold (es : List (ℕ × ℕ)) (p : Place) : Type 0 where
 
 told : (es : List (ℕ × ℕ)) (p : Place) → Has (places_of es) p → IsTold es p
 told [] p h = absurd h
-told (e ∷ es) p h = go (has_cases (places_at e.0 e.1) (places_of es) p h) (told es p)
-  where
-    go : Has (places_at e.0 e.1) p ⊎ Has (places_of es) p → (Has (places_of es) p → IsTold es p) → IsTold (e ∷ es) p
-    go (inl k) f = let w = at_one e.0 e.1 p k in record { marks = e.1; entry = inl (ap (λ z. (z, e.1)) (sym w.there)); set = w.set }
-    go (inr k) f = let w = f k in record { marks = w.marks; entry = inr w.entry; set = w.set }
+told (e ∷ es) p h = search (rules, has_cases, at_one, told es p)
 
 tells : (es : List (ℕ × ℕ)) (p : Place) (m : ℕ) → Has es (p.address, m) → bit_at m (way_of p) ≡ 1 → Has (places_of es) p
 tells [] p m h s = absurd h
-tells (e ∷ es) p m (inl d) s =
-    let P : ℕ × ℕ → Type 0 = λ z. Has (places_at z.0 z.1) p in
-    has_left (places_at e.0 e.1) (places_of es) p (subst P (sym d) (one_at p.address m p (record { there = refl; set = s })))
+tells (e ∷ es) p m (inl d) s = search (rules, has_left, one_at)
 tells (e ∷ es) p m (inr h) s = has_right (places_at e.0 e.1) (places_of es) p (tells es p m h s)
 
 key_above : (a : ℕ) (es : List (ℕ × ℕ)) (b v : ℕ) → AllByRecursion (λ y. nat_cmp a y ≡ Less) (keys_of es) → Has es (b, v) → a < b
@@ -228,11 +211,7 @@ distinct (p ∷ ps) a = (all ps a.0, distinct ps a.1)
 
 has_number : (k : ℕ) (ps : List Place) → list_any (λ y. eqb k y) (map place_number ps) ≡ true → (p : Place) × Has ps p × (place_number p ≡ k)
 has_number k [] h = absurd (cc)
-has_number k (p ∷ ps) h = go (has_number k ps) (or_cases _ _ h)
-  where
-    go : (list_any (λ y. eqb k y) (map place_number ps) ≡ true → (q : Place) × Has ps q × (place_number q ≡ k)) → (eqb k (place_number p) ≡ true) ⊎ (list_any (λ y. eqb k y) (map place_number ps) ≡ true) → (q : Place) × Has (p ∷ ps) q × (place_number q ≡ k)
-    go f (inl e) = (p, inl refl, sym (eqb-true k (place_number p) e))
-    go f (inr e) = let r = f e in (r.0, inr r.1, r.2)
+has_number k (p ∷ ps) h = search (rules, or_cases, eqb-true, has_number k ps)
 
 number_has : (k : ℕ) (ps : List Place) (p : Place) → Has ps p → place_number p ≡ k → list_any (λ y. eqb k y) (map place_number ps) ≡ true
 number_has k [] p h e = absurd h
@@ -268,4 +247,4 @@ ways_skip a m i ps rs l b h =
 
 pub ways_done : (a m i : ℕ) (ps rs : List Place) → 8 ≤ i → ps ++ ways a m i (8 - i) ≡ rs → ps ≡ rs
 unfolding ways
-ways_done a m i ps rs l h = search (rules, append-nil)
+ways_done a m i ps rs l h = search rules

@@ -1,5 +1,5 @@
 -- Finding the least pair of address and reason, place by place.
-use Rattle.std.proofs.Common.{◌≡◌, ℕ, suc, ◌+◌, ◌<◌, ◌≤◌, List, [], ◌∷◌, length, slice_get, Option, Some, None, refl, sym, ap, ◌∙◌, subst, ◌⊎◌, inl, inr, arith}
+use Rattle.std.proofs.Common.{◌≡◌, ℕ, suc, ◌+◌, ◌<◌, ◌≤◌, List, [], ◌∷◌, length, slice_get, Option, Some, None, sym, ap, ◌∙◌, subst, ◌⊎◌, inl, inr, arith, rules}
 use Rattle.std.proofs.lemmas.Bool.{cases_lt}
 use Rattle.chan_walk.specs.declared.job.Job.{Job}
 use Rattle.chan_walk.specs.declared.judging.Finding.{Finding}
@@ -15,10 +15,7 @@ use Rattle.chan_walk.proofs.Theory.Faults.{fault_unique}
 use Rattle.chan_walk.proofs.Theory.Lists.{has_at}
 
 pub comes_first-trans : (a b d : ℕ) (r t u : Reason) → ComesFirst a r b t → ComesFirst b t d u → ComesFirst a r d u
-comes_first-trans a b d r t u (inl x) (inl y) = inl (omega arith)
-comes_first-trans a b d r t u (inl x) (inr y) = let e = y.0 in inl (omega arith)
-comes_first-trans a b d r t u (inr x) (inl y) = let e = x.0 in inl (omega arith)
-comes_first-trans a b d r t u (inr x) (inr y) = let e = x.0 in let f = y.0 in let l = x.1 in let k = y.1 in inr (omega arith, omega arith)
+comes_first-trans a b d r t u h k = search rules
 
 module _ (Off : Place → Reason → Type 0) where
   -- the same places, said in two ways
@@ -38,31 +35,7 @@ module _ (Off : Place → Reason → Type 0) where
   -- one place more
   pub least_added : (Here : Place → Type 0) (best : Option Finding) (p : Place) (reason : Option Reason) (now : Option Finding)
       → IsFirst Off p reason → IsLesser best p reason now → IsLeast Off Here best → IsLeast Off (λ q. Here q ⊎ (p ≡ q)) now
-  least_added Here None p None now first e h = subst (IsLeast Off (λ q. Here q ⊎ (p ≡ q))) (sym e) (λ q t m o. go q t m o)
-    where
-      go : (q : Place) (t : Reason) → Here q ⊎ (p ≡ q) → Off q t → ⊥
-      go q t (inl m) o = h q t m o
-      go q t (inr e) o = first t (subst (λ (z : Place). Off z t) (sym e) o)
-  least_added Here (Some b) p None now first e h = subst (IsLeast Off (λ q. Here q ⊎ (p ≡ q))) (sym e) ((h.0.0, inl h.0.1, h.0.2, h.0.3), λ q t m o. go q t m o)
-    where
-      go : (q : Place) (t : Reason) → Here q ⊎ (p ≡ q) → Off q t → ComesFirst b.address b.reason q.address t
-      go q t (inl m) o = h.1 q t m o
-      go q t (inr e) o = absurd (first t (subst (λ (z : Place). Off z t) (sym e) o))
-  least_added Here None p (Some r) now first l h = subst (IsLeast Off (λ q. Here q ⊎ (p ≡ q))) (sym l.1) ((p, inr refl, sym l.2, subst (Off p) (sym l.3) first.0), λ q t m o. go q t m o)
-    where
-      go : (q : Place) (t : Reason) → Here q ⊎ (p ≡ q) → Off q t → ComesFirst l.0.address l.0.reason q.address t
-      go q t (inl m) o = absurd (h q t m o)
-      go q t (inr e) o = moved l.0 p r q.address t l.2 l.3 (by_new p q r t first e o)
-  least_added Here (Some b) p (Some r) now first (inl l) h = subst (IsLeast Off (λ q. Here q ⊎ (p ≡ q))) (sym l.0) ((h.0.0, inl h.0.1, h.0.2, h.0.3), λ q t m o. go q t m o)
-    where
-      go : (q : Place) (t : Reason) → Here q ⊎ (p ≡ q) → Off q t → ComesFirst b.address b.reason q.address t
-      go q t (inl m) o = h.1 q t m o
-      go q t (inr e) o = comes_first-trans b.address p.address q.address b.reason r t l.1 (by_new p q r t first e o)
-  least_added Here (Some b) p (Some r) now first (inr l) h = subst (IsLeast Off (λ q. Here q ⊎ (p ≡ q))) (sym l.1) ((p, inr refl, sym l.2, subst (Off p) (sym l.3) first.0), λ q t m o. go q t m o)
-    where
-      go : (q : Place) (t : Reason) → Here q ⊎ (p ≡ q) → Off q t → ComesFirst l.0.address l.0.reason q.address t
-      go q t (inl m) o = comes_first-trans l.0.address b.address q.address l.0.reason b.reason t l.4 (h.1 q t m o)
-      go q t (inr e) o = moved l.0 p r q.address t l.2 l.3 (by_new p q r t first e o)
+  least_added Here best p reason now first e h = search (rules, moved, by_new, comes_first-trans)
 
   -- after the place at i
   pub least_next : (ps : List Place) (i : ℕ) (best : Option Finding) (p : Place) (reason : Option Reason) (now : Option Finding)
@@ -93,9 +66,7 @@ at_has (q ∷ ps) p (inr h) = let b = at_has ps p h in let l = b.below in record
 -- when all places were looked at
 pub least_all : (Off : Place → Reason → Type 0) (j : Job) (ps : List Place) (i : ℕ) (best : Option Finding) → i ≡ length ps → AreReached j ps
     → IsLeast Off (Below ps i) best → IsLeast Off (IsReachable j) best
-least_all Off j ps i best e h l =
-    least_same Off (Below ps i) (IsReachable j) best
-    (λ p m. subst (λ n. Below ps n p) (sym e) (at_has ps p (h.0 p m))) (λ p b. h.1 p (has_at ps b.at p b.is)) l
+least_all Off j ps i best e h l = search (rules, least_same, at_has, has_at)
 
 -- a place has one own fault at the most
 pub first_own : (j : Job) (p : Place) (o : Option Reason) → HasFault j p o → IsFirst (IsOwn j) p o

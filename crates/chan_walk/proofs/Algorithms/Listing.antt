@@ -1,33 +1,28 @@
 -- The first of a job's offences is the verdict.
-use Rattle.std.proofs.Common.{◌≡◌, Bool, IsTrue, true, false, eqb, ◌==◌, if◌then◌else◌, min, ℕ, ◌<◌, ◌≤◌, List, [], ◌∷◌, ◌++◌, append_assoc, append-nil, map, take, drop, length, get_or, slice_get, Option, Some, None, refl, sym, ap, ◌∙◌, subst, ◌⊎◌, inl, inr, ◌↔◌, arith, Less, rules}
+use Rattle.std.proofs.Common.{◌≡◌, Bool, IsTrue, true, false, eqb, ◌==◌, min, ℕ, ◌<◌, ◌≤◌, List, [], ◌∷◌, ◌++◌, append_assoc, append-nil, map, take, drop, length, get_or, slice_get, Option, Some, None, refl, sym, ap, ◌∙◌, subst, ◌⊎◌, inl, inr, ◌↔◌, arith, Less, rules}
 use Rattle.std.proofs.lemmas.Grind.{common_steps}
 use Rattle.std.specs.List.Sorted.{IsNonDecreasing, IsNonDecreasingBy, IsPermutation, IsStrictlyIncreasing, IsStrictlySortedBy}
 use Rattle.std.specs.List.{AllByRecursion, IsDistinct}
 use Rattle.std.specs.Ordering.{nat_cmp}
-use Rattle.std.proofs.lemmas.Bool.{both_ways, cases_lt, eq-eqb, eqb-true, ne_eqb}
+use Rattle.std.proofs.lemmas.Bool.{both_ways, eq-eqb, eqb-true, ne_eqb}
 use Rattle.std.proofs.lemmas.List.{get_or-map, length-map, length-take, map-append, take-append-drop}
 use Rattle.std.proofs.lemmas.List.Sorted.{Contains-permutation, IsPermutation-map, IsPermutation-sym}
 use Rattle.std.proofs.lemmas.Map.Keys.{IsDistinct-IsPermutation, IsStrictlyIncreasing-from_distinct, sorted_from_strictly_increasing}
 use Rattle.ccw_core.specs.declared.areas.Area.{Area}
 use Rattle.ccw_core.specs.Areas.{lies_in}
-use Rattle.ccw_core.specs.Ccw.{ccw}
-use Rattle.ccw_core.specs.Storage.{ccw_at}
 use Rattle.ccw_core.proofs.StorageLemmas.{ccw_at-some, ccw_at-where}
 use Rattle.chan_walk.specs.declared.job.Job.{Job}
 use Rattle.chan_walk.specs.declared.offence.Offence.{Offence}
 use Rattle.chan_walk.specs.declared.place.Place.{Place}
 use Rattle.chan_walk.specs.declared.reason.Reason.{Reason}
-use Rattle.chan_walk.specs.declared.reason.Reason.TheVariants.{Misaligned, OutsideStorage, TransferNotAllowed, InvalidCode, BadFormat, ZeroCount, DataOutside, NotInTable, Inhibited, StoreNotLent, FetchNotLent, ShortSeek, SeekOutside, ChangesCcw, ChangesArgument, WeakensMask}
+use Rattle.chan_walk.specs.declared.reason.Reason.TheVariants.{ChangesCcw, ChangesArgument}
 use Rattle.chan_walk.specs.Argument.{Has}
 use Rattle.chan_walk.specs.Explored.{AreApart}
-use Rattle.chan_walk.specs.Fault.{HasFault, IsClear, stores}
+use Rattle.chan_walk.specs.Fault.{HasFault, IsClear}
 use Rattle.chan_walk.specs.Guarded.{IsArgumentByte, IsCcwByte}
-use Rattle.chan_walk.specs.Job.{storage_of}
 use Rattle.chan_walk.specs.Least.{AreReached, IsOwn}
 use Rattle.chan_walk.specs.Look.{IsLook, Seen, place_of, places_of_looks}
 use Rattle.chan_walk.specs.Offences.{AddsOffences, AreAllOffences, AreOffences, FirstIsVerdict, HasOffences, Offending, StoresInto, offence_number}
-use Rattle.chan_walk.specs.Place.{ccw_of}
-use Rattle.chan_walk.specs.Ranges.{Meets}
 use Rattle.chan_walk.specs.Reachable.{IsReachable}
 use Rattle.chan_walk.specs.Reason.{number_of}
 use Rattle.chan_walk.specs.Verdict.{Changes, ComesFirst, Offends, StoresOver}
@@ -36,14 +31,10 @@ use Rattle.chan_walk.proofs.Theory.Faults.{clear_check, fault_unique}
 use Rattle.chan_walk.proofs.Algorithms.InOrder.{cmp_less}
 use Rattle.chan_walk.proofs.Theory.Lists.{contains_has, has_cases, has_contains, has_left, has_push, has_right}
 use Rattle.chan_walk.proofs.Algorithms.Looking.{number_of_places, place_at}
-use Rattle.chan_walk.proofs.Algorithms.Marks.{same_place, way_small}
 use Rattle.chan_walk.proofs.Algorithms.Sorting.{eqb_flips}
 use Rattle.chan_walk.proofs.Algorithms.Tracing.{same_index}
 use Rattle.chan_walk.proofs.Algorithms.Verdicts.{change_of, clear_all, meets_from_over, not_clear, over_from_meets}
 use Rattle.chan_walk.proofs.Algorithms.Walking.{at_has, slice_get-append}
-
-number_small : (r : Reason) → number_of r < 32
-number_small r = search rules
 
 -- each of the rest has a greater number than the first
 above_first : (n : ℕ) (os : List Offence) → AllByRecursion (λ y. nat_cmp n y ≡ Less) (map offence_number os) → (o : Offence) → Has os o → n < offence_number o
@@ -59,7 +50,7 @@ all_above o os up t h =
 
 -- a lesser number comes first
 comes_first : (o t : Offence) → offence_number o < offence_number t → ComesFirst o.place.address o.reason t.place.address t.reason
-comes_first o t l = search (rules, cases_lt, number_small, way_small)
+comes_first o t l = search rules
 
 pub first_is_verdict : FirstIsVerdict
 first_is_verdict j [] are = λ p r m o. are.each (record { place = p; reason = r }) (m, o)
@@ -77,18 +68,8 @@ first_is_verdict j (o ∷ os) are = (record { place = o.place; reached = here.0;
 
 -- ---- offences with one number are one offence
 
--- the reason of a number
-abbrev reason_of : ℕ → Reason
-reason_of n = if n == 1 then Misaligned else if n == 2 then OutsideStorage else if n == 3 then TransferNotAllowed else if n == 4 then InvalidCode else if n == 5 then BadFormat else if n == 6 then ZeroCount else if n == 7 then DataOutside else if n == 8 then NotInTable else if n == 9 then Inhibited else if n == 10 then StoreNotLent else if n == 11 then FetchNotLent else if n == 12 then ShortSeek else if n == 13 then SeekOutside else if n == 14 then ChangesCcw else if n == 15 then ChangesArgument else WeakensMask
-
-reason_of-number : (r : Reason) → reason_of (number_of r) ≡ r
-reason_of-number r = search rules
-
-same_reason : (r t : Reason) → number_of r ≡ number_of t → r ≡ t
-same_reason r t e = sym (reason_of-number r) ∙ ap reason_of e ∙ reason_of-number t
-
 pub same_offence : (o t : Offence) → offence_number o ≡ offence_number t → o ≡ t
-same_offence o t e = search (rules, number_small, way_small, same_place, same_reason)
+same_offence o t e = search rules
 
 distinct : (os : List Offence) → AreApart os → IsDistinct eqb (map offence_number os)
 unfolding IsDistinct
@@ -121,11 +102,7 @@ same_offences os ts o moved = search (rules, contains_has, Contains-permutation,
 
 apart_append : {X : Type 0} (xs ys : List X) → AreApart xs → AreApart ys → ((x : X) → Has xs x → Has ys x → ⊥) → AreApart (xs ++ ys)
 apart_append [] ys a b n = b
-apart_append (x ∷ xs) ys a b n = ((λ h. go (has_cases xs ys x h)), apart_append xs ys a.1 b (λ z h k. n z (inr h) k))
-  where
-    go : Has xs x ⊎ Has ys x → ⊥
-    go (inl h) = a.0 h
-    go (inr h) = n x (inl refl) h
+apart_append (x ∷ xs) ys a b n = search (rules, has_cases, apart_append xs ys a.1 b)
 
 -- an offence by its place and its reason
 abbrev pub offence : Place → Reason → Offence

@@ -1,19 +1,18 @@
 -- What is seen of a place at one look.
-use Rattle.std.proofs.Common.{◌≡◌, ℕ, zero, suc, ◌+◌, ◌<◌, ◌≤◌, ◌^◌, true, false, List, [], ◌∷◌, ◌++◌, length, get_or, take, slice_get, is_some, option_map, Option, Some, None, refl, sym, ap, ◌∙◌, subst, ◌⊎◌, inl, inr, ◌↔◌, arith, rules}
+use Rattle.std.proofs.Common.{◌≡◌, ℕ, ◌+◌, ◌<◌, ◌≤◌, ◌^◌, true, false, List, [], ◌∷◌, ◌++◌, length, get_or, take, slice_get, is_some, option_map, Option, Some, None, refl, sym, ap, ◌∙◌, subst, ◌⊎◌, inl, inr, ◌↔◌, arith, rules}
 use Rattle.std.proofs.lemmas.Grind.{common_steps}
-use Rattle.std.proofs.lemmas.Bool.{both_ways, cases_Bool, cond-false, cond-true, leb-true}
+use Rattle.std.proofs.lemmas.Bool.{cases_Bool}
 use Rattle.std.proofs.Math.Seq.{take-suc}
 use Rattle.std.proofs.lemmas.Option.{slice_get-map, slice_get_read}
 use Rattle.std.proofs.lemmas.List.{length-map, map-append, take_all}
 use Rattle.ccw_core.specs.Ccw.{Fields}
 use Rattle.ccw_core.specs.Storage.{Stands, ccw_at, is_inside}
-use Rattle.ccw_core.proofs.StorageLemmas.{ccw_at-some}
 use Rattle.chan_walk.specs.declared.job.Job.{Job}
 use Rattle.chan_walk.specs.declared.place.Place.{Place}
 use Rattle.chan_walk.specs.declared.reason.Reason.{Reason}
 use Rattle.chan_walk.specs.declared.successor.Next.{Next}
-use Rattle.chan_walk.specs.Argument.{Has, argument_addresses}
-use Rattle.chan_walk.specs.Fault.{begins_seek, begins_set_mask, kind_of, HasFault, IsClear}
+use Rattle.chan_walk.specs.Argument.{Has}
+use Rattle.chan_walk.specs.Fault.{begins_seek, kind_of, HasFault, IsClear}
 use Rattle.chan_walk.specs.Guard.{IsArgumentByteOf, IsSeekByteOf}
 use Rattle.chan_walk.specs.Job.{storage_of}
 use Rattle.chan_walk.specs.Look.{AreLooks, IsLook, Seen, mask_addresses, place_of, places_of_looks}
@@ -57,7 +56,7 @@ no_seek j p c o w e b h = search rules
 
 -- where no seek has an argument, the byte that is set is guarded, if Set File Mask begins there
 pub taken_none : (j : Job) (p : Place) (c : Fields) (o : Option (List ℕ)) → c.address < 2 ^ 24 → IsClear j p → IsSought j p c o → o ≡ None → IsTaken j p (mask_addresses p c)
-taken_none j p c o low clear w e = search (rules, cases_Bool, cond-true, no_seek, cond-false, no_bytes, both_ways)
+taken_none j p c o low clear w e = search rules
 
 pub taken_whole : (j : Job) (p : Place) (c : Fields) (o : Option (List ℕ)) (x : List ℕ) → length (storage_of j) ≤ 2 ^ 24 → IsClear j p → IsSought j p c o → o ≡ Some x → IsTaken j p x
 taken_whole j p c o x small clear w e = go (cases_Bool (begins_seek p c))
@@ -72,8 +71,7 @@ taken_whole j p c o x small clear w e = go (cases_Bool (begins_seek p c))
         bytes = bytes_of_argument j p h.0 x (ap (begins_seek p) (sym w.word) ∙ s) clear h.1 h.2
 
         from : (b : ℕ) → IsArgumentByteOf j p b → Has x b
-        from b (inl k) = (bytes b).1 k
-        from b (inr k) = subst (λ z. Has z b) (sym h.2) (subst (Has (argument_addresses (storage_of j) h.0)) k.1.at (first_address (storage_of j) p.address h.0 h.1))
+        from b h = search (rules, bytes, h, first_address)
     go (inr s) = let n = w.other s in absurd (cc)
 
 -- ---- where the program goes on
@@ -95,7 +93,7 @@ next_clear j p c n w clear e g = record {
 -- a place where a CCW stands is low
 pub stands_below : (s : List ℕ) (a : ℕ) (c : Fields) → length s ≤ 2 ^ 24 → ccw_at s a ≡ Some c → a < 2 ^ 25
 unfolding is_inside
-stands_below s a c small h = search (rules, leb-true, ccw_at-some)
+stands_below s a c small h = search rules
 
 -- ---- lists of looks
 

@@ -1,19 +1,16 @@
 -- Marks, and the places that they tell of.
-use Rattle.std.proofs.Common.{◌≡◌, ℕ, zero, suc, ◌+◌, ◌*◌, ◌/◌, ◌%◌, ◌^◌, ◌<◌, ◌==◌, Bool, true, false, List, [], ◌∷◌, ◌++◌, Some, refl, sym, ap, ◌∙◌, subst, ◌⊎◌, inl, inr, arith, w8, rules}
+use Rattle.std.proofs.Common.{◌≡◌, ℕ, ◌*◌, ◌%◌, ◌^◌, ◌<◌, Bool, false, List, [], ◌∷◌, ◌++◌, Some, sym, ap, ◌∙◌, arith, w8, rules}
 use Rattle.std.specs.Int.{bit_at}
 use Rattle.std.specs.Int.RustNames.{bit_or}
 use Rattle.std.specs.Ordering.{nat_cmp}
 use Rattle.std.specs.BTreeMap.{BTreeMap}
 use Rattle.std.specs.BTreeMap as tree
-use Rattle.std.proofs.lemmas.Bool.{cases_eq}
 use Rattle.std.proofs.lemmas.Bool.Decides.{nat_tests}
 use Rattle.std.proofs.lemmas.Nat.Bits.{bit_at_set_same, bit_at_set_other}
 use Rattle.chan_walk.specs.declared.place.Entry.{Entry}
-use Rattle.chan_walk.specs.declared.place.Entry.TheVariants.{Fresh, ChainIn, ChainOut, ChainSearch}
 use Rattle.chan_walk.specs.declared.place.Place.{Place}
-use Rattle.chan_walk.specs.Argument.{Has}
 use Rattle.chan_walk.specs.Explored.{entry_number, transfer_number, way_of, place_number}
-use Rattle.chan_walk.specs.Marks.{entry_of, place_at, or_none, marks_of, HasMark}
+use Rattle.chan_walk.specs.Marks.{place_at, or_none, marks_of}
 use Rattle.chan_walk.specs.Walk.{Agrees, Marks}
 use Rattle.chan_walk.proofs.Theory.Lists.{has_push}
 
@@ -28,14 +25,8 @@ transfer_small t = search rules
 pub way_small : (p : Place) → way_of p < 8
 way_small p = omega (arith, entry_small p.entered, transfer_small p.after_transfer)
 
-pub entry_number-entry_of : (n : ℕ) → n < 4 → entry_number (entry_of n) ≡ n
-entry_number-entry_of n h = search rules
-
-transfer_number-test : (n : ℕ) → n < 2 → transfer_number (n == 1) ≡ n
-transfer_number-test n h = search rules
-
 pub way_of-place_at : (a w : ℕ) → w < 8 → way_of (place_at a w) ≡ w
-way_of-place_at a w h = search (rules, entry_number-entry_of, transfer_number-test)
+way_of-place_at a w h = search rules
 
 pub place_at-way_of : (p : Place) → place_at p.address (way_of p) ≡ p
 place_at-way_of p = search rules
@@ -45,16 +36,13 @@ same_place p q a w = sym (place_at-way_of p) ∙ ap (λ z. place_at z (way_of p)
 
 -- places with one number are one place
 pub same_number : (p q : Place) → place_number p ≡ place_number q → p ≡ q
-same_number p q e = search (rules, way_small, same_place)
-
-pub cases_place : (p q : Place) → (p ≡ q) ⊎ (p ≡ q → ⊥)
-cases_place p q = search (rules, cases_eq, same_number)
+same_number p q e = search rules
 
 -- ---- one mark more
 
 -- the bits at one address changed, by one bit
 marks_by : (m n : BTreeMap ℕ ℕ) (q : Place) → ((a : ℕ) → (a ≡ q.address → ⊥) → marks_of n a ≡ marks_of m a) → ((i : ℕ) → (i ≡ way_of q → ⊥) → bit_at (marks_of n q.address) i ≡ bit_at (marks_of m q.address) i) → bit_at (marks_of n q.address) (way_of q) ≡ 1 → Marks m n q
-marks_by m n q others bits same p = search (rules, cases_place, cases_eq, same_place)
+marks_by m n q others bits same p = search rules
 
 apart_keys : (a b : ℕ) → (b ≡ a → ⊥) → tree.is_at (nat_cmp a) b ≡ false
 apart_keys a b d = grind (arith, nat_tests)

@@ -1,10 +1,10 @@
 -- Bytes of areas, how they stay the same while areas are merged, and that there is one merged list for them.
-use Rattle.std.proofs.Common.{◌≡◌, ℕ, zero, suc, ◌+◌, ◌++◌, ◌<◌, ◌≤◌, true, ◌||◌, ◌&&◌, nat_le, nat_lt, List, [], ◌∷◌, length, get_or, take, refl, sym, ap, ◌∙◌, subst, ◌⊎◌, inl, inr, arith, append_assoc, IsPermutation, rules}
+use Rattle.std.proofs.Common.{◌≡◌, ℕ, zero, suc, ◌+◌, ◌++◌, ◌<◌, ◌≤◌, true, ◌||◌, ◌&&◌, nat_le, nat_lt, List, [], ◌∷◌, length, get_or, take, refl, sym, ap, ◌∙◌, subst, ◌⊎◌, arith, append_assoc, IsPermutation, rules}
 use Rattle.std.proofs.lemmas.Grind.{common_steps}
 use Rattle.std.specs.Cmp.Derive.{one_truth}
 use Rattle.std.specs.List.{All}
 use Rattle.std.specs.List.Sorted.{IsNonDecreasingBy}
-use Rattle.std.proofs.lemmas.Bool.{cases_lt, or_cases, or_left, or_right, and_parts, and_from, le-leb, lt-ltb, leb-true, ltb-true, both_ways}
+use Rattle.std.proofs.lemmas.Bool.{cases_lt, or_cases, or_left, or_right, and_from, le-leb, lt-ltb, both_ways}
 use Rattle.std.proofs.lemmas.List.{take_more}
 use Rattle.std.proofs.lemmas.List.Elements.{All-append}
 use Rattle.std.proofs.lemmas.List.Folds.{list_any-append}
@@ -22,7 +22,7 @@ InArea a b = (a.start ≤ b) × (b < end_of a)
 
 pub lies_in-cases : (a : Area) (xs : List Area) (b : ℕ) → lies_in (a ∷ xs) b ≡ true → InArea a b ⊎ (lies_in xs b ≡ true)
 unfolding lies_in
-lies_in-cases a xs b h = search (rules, or_cases, and_parts, leb-true, ltb-true)
+lies_in-cases a xs b h = search rules
 
 pub lies_in-first : (a : Area) (xs : List Area) (b : ℕ) → InArea a b → lies_in (a ∷ xs) b ≡ true
 unfolding lies_in
@@ -139,11 +139,7 @@ bytes_first now run xs b e f = ap (λ z. lies_in z b) (sym e) ∙ bytes_empty no
 -- each byte of areas that begin above n lies above n
 pub bytes_above : (n : ℕ) (xs : List Area) (b : ℕ) → BeginAbove n xs → lies_in xs b ≡ true → n < b
 bytes_above n [] b h k = absurd (both_ways (lies_in [] b) (lies_in-nil b) k)
-bytes_above n (x ∷ xs) b h k = go (lies_in-cases x xs b k) (λ m. bytes_above n xs b h.1 m)
-  where
-    go : InArea x b ⊎ (lies_in xs b ≡ true) → (lies_in xs b ≡ true → n < b) → n < b
-    go (inl m) f = omega (arith, m.0, h.0)
-    go (inr m) f = f m
+bytes_above n (x ∷ xs) b h k = search (rules, lies_in-cases, bytes_above n xs b h.1)
 
 -- no byte of a merged list lies before its first area
 bytes_from : (x : Area) (xs : List Area) (b : ℕ) → IsMerged (x ∷ xs) → lies_in (x ∷ xs) b ≡ true → x.start ≤ b
@@ -171,8 +167,7 @@ rest_within : (x y : Area) (xs ys : List Area) (b : ℕ) → x ≡ y → IsMerge
 rest_within x y xs ys b e m s k = go (lies_in-cases y ys b (sym (s b) ∙ lies_in-rest x xs b k))
   where
     go : InArea y b ⊎ (lies_in ys b ≡ true) → lies_in ys b ≡ true
-    go (inl h) = let l = bytes_above (end_of x) xs b m.1 k in let f = ap end_of e in absurd (omega (arith, h.1))
-    go (inr h) = h
+    go h = search (rules, bytes_above)
 
 pub merged_is_unique : MergedIsUnique
 merged_is_unique [] [] m n s = refl

@@ -1,5 +1,5 @@
 -- Notes: areas lent in vain, and the addresses of CCWs that pass a test.
-use Rattle.std.proofs.Common.{◌≡◌, ℕ, zero, suc, ◌+◌, ◌<◌, ◌≤◌, Bool, true, false, not, ◌&&◌, ◌||◌, cond, IsTrue, List, [], ◌∷◌, ◌++◌, append-nil, length, get_or, take, Some, refl, sym, ap, ◌∙◌, subst, ◌⊎◌, inl, inr, ◌↔◌, arith, eqb, rules}
+use Rattle.std.proofs.Common.{◌≡◌, ℕ, zero, suc, ◌+◌, ◌<◌, ◌≤◌, Bool, true, false, not, ◌||◌, IsTrue, List, [], ◌∷◌, ◌++◌, append-nil, length, get_or, take, Some, ◌∙◌, subst, ◌⊎◌, ◌↔◌, arith, eqb, rules}
 use Rattle.std.proofs.lemmas.Grind.{common_steps}
 use Rattle.std.specs.List.{dedup, filter}
 use Rattle.std.specs.List.Sorted.{IsPermutation, IsStrictlyIncreasing}
@@ -10,15 +10,13 @@ use Rattle.std.proofs.lemmas.List.Kept.{Contains-dedup_nat, Contains-from_dedup}
 use Rattle.std.proofs.lemmas.List.Sorted.{Contains-permutation, IsPermutation-sym}
 use Rattle.ccw_core.specs.declared.areas.Area.{Area}
 use Rattle.ccw_core.specs.Areas.{lies_in}
-use Rattle.ccw_core.specs.Ccw.{Fields, chains_command, chains_data, is_transfer}
+use Rattle.ccw_core.specs.Ccw.{Fields}
 use Rattle.ccw_core.specs.Storage.{Stands}
 use Rattle.ccw_core.proofs.Covering.{lies_in-nil}
-use Rattle.ccw_core.proofs.StorageLemmas.{ccw_at-some, ccw_at-where}
-use Rattle.ckd_core.specs.declared.command.Kind.TheVariants.{Idle}
+use Rattle.ccw_core.proofs.StorageLemmas.{ccw_at-where}
 use Rattle.ckd_core.specs.Table.{lookup}
 use Rattle.chan_walk.specs.declared.job.Job.{Job}
 use Rattle.chan_walk.specs.declared.place.Entry.{Entry}
-use Rattle.chan_walk.specs.declared.place.Entry.TheVariants.{Fresh, ChainIn, ChainOut, ChainSearch}
 use Rattle.chan_walk.specs.declared.place.Place.{Place}
 use Rattle.chan_walk.specs.Argument.{Has}
 use Rattle.chan_walk.specs.Evidence.{data_at, data_of}
@@ -27,13 +25,13 @@ use Rattle.chan_walk.specs.Guard.{AddsBytes}
 use Rattle.chan_walk.specs.Job.{storage_of}
 use Rattle.chan_walk.specs.Least.{AreReached}
 use Rattle.chan_walk.specs.Look.{IsLook, Seen}
-use Rattle.chan_walk.specs.Notes.{AddsAddress, AreAddressesOf, AreUnused, HoldData, IsDataOf, IsAddressOf, IsSeenByte, IsSeenWith, IsUsed, NothingFollows, Passes, is_idle}
+use Rattle.chan_walk.specs.Notes.{AddsAddress, AreAddressesOf, AreUnused, HoldData, IsDataOf, IsSeenByte, IsSeenWith, IsUsed, NothingFollows, Passes}
 use Rattle.chan_walk.specs.Place.{is_fresh, ccw_of}
 use Rattle.chan_walk.specs.Ranges.{end_of, Meets}
 use Rattle.chan_walk.proofs.Theory.Commands.{idle_is_no_transfer}
 use Rattle.chan_walk.proofs.Algorithms.Guarding.{HoldBytes}
 use Rattle.chan_walk.proofs.Theory.Lists.{contains_has, has_cases, has_contains, has_left, has_push, has_right}
-use Rattle.chan_walk.proofs.Algorithms.Merging.{InArea, lies_in-cases, lies_in-first}
+use Rattle.chan_walk.proofs.Algorithms.Merging.{lies_in-cases, lies_in-first}
 
 -- ---- areas that are used, by a test
 
@@ -44,19 +42,11 @@ meets_any areas a (suc n) = lies_in areas a || meets_any areas (suc a) n
 
 any_meets : (areas : List Area) (a n : ℕ) → meets_any areas a n ≡ true → Meets areas a n
 any_meets areas a zero h = absurd (cc)
-any_meets areas a (suc n) h = go (or_cases (lies_in areas a) (meets_any areas (suc a) n) h) (λ k. any_meets areas (suc a) n k)
-  where
-    go : (lies_in areas a ≡ true) ⊎ (meets_any areas (suc a) n ≡ true) → (meets_any areas (suc a) n ≡ true → Meets areas (suc a) n) → Meets areas a (suc n)
-    go (inl k) f = record { at = a; from = omega arith; below = omega arith; lies = k }
-    go (inr k) f = let m = f k in record { at = m.at; from = omega (arith, m.from); below = omega (arith, m.below); lies = m.lies }
+any_meets areas a (suc n) h = search (rules, or_cases, any_meets areas (suc a) n)
 
 any_at : (areas : List Area) (a n b : ℕ) → a ≤ b → b < a + n → lies_in areas b ≡ true → meets_any areas a n ≡ true
 any_at areas a zero b l h k = absurd (omega arith)
-any_at areas a (suc n) b l h k = go (cases_lt a b) (λ m. any_at areas (suc a) n b m (omega arith) k)
-  where
-    go : (a < b) ⊎ (b ≤ a) → (a < b → meets_any areas (suc a) n ≡ true) → (lies_in areas a || meets_any areas (suc a) n) ≡ true
-    go (inl m) f = or_right (lies_in areas a) (meets_any areas (suc a) n) (f m)
-    go (inr m) f = let e : b ≡ a = omega arith in or_left (lies_in areas a) (meets_any areas (suc a) n) (subst (λ z. lies_in areas z ≡ true) e k)
+any_at areas a (suc n) b l h k = search (rules, cases_lt, or_right, or_left, any_at areas (suc a) n b)
 
 -- it is so where a call of `meets` says so, and not where it doesn't
 pub any_if : (areas : List Area) (a n : ℕ) (b : Bool) → IsTrue b ↔ Meets areas a n → b ≡ true → meets_any areas a n ≡ true
@@ -97,15 +87,11 @@ filter_drops p xs i d old l k h = grind (arith, common_steps, append-nil, filter
 abbrev pub HasData : (Place → Fields → Bool) → Job → Place → ℕ → Type 0
 HasData test j p b = Passes test j p × ((data_at j p).start ≤ b) × (b < end_of (data_at j p))
 
--- a CCW that was seen is the one at the place
-seen_word : (j : Job) (l : Seen) (c : Fields) → IsLook j l → l.ccw ≡ Some c → Stands (storage_of j) l.place.address × (c ≡ ccw_of j l.place)
-seen_word j l c look e = let r = ccw_at-some (storage_of j) l.place.address c (sym look.ccw ∙ e) in ((r.0, r.1), r.2)
-
 word_seen : (j : Job) (l : Seen) → IsLook j l → Stands (storage_of j) l.place.address → l.ccw ≡ Some (ccw_of j l.place)
 word_seen j l look s = look.ccw ∙ ccw_at-where (storage_of j) l.place.address s
 
 pub adds_data : (test : Place → Fields → Bool) (j : Job) (l : Seen) (so : Bool) (old new : List Area) → IsLook j l → ((c : Fields) → l.ccw ≡ Some c → so ≡ test l.place c) → AddsBytes old new (IsSeenByte l so) → AddsBytes old new (HasData test j l.place)
-adds_data test j l so old new look same adds b = search (rules, seen_word, word_seen)
+adds_data test j l so old new look same adds b = search rules
 
 -- over the reachable places
 pub all_data : (test : Place → Fields → Bool) (j : Job) (ps : List Place) (areas : List Area) → AreReached j ps → HoldBytes (HasData test j) ps areas → HoldData test j areas
@@ -128,7 +114,7 @@ pub addresses_more : (P : Place → ℕ → Type 0) (ps : List Place) (p : Place
 addresses_more P ps p old new f g a = search (rules, has_cases, has_left, has_right)
 
 pub adds_address : (test : Place → Fields → Bool) (j : Job) (l : Seen) (so : Bool) (old new : List ℕ) → IsLook j l → IsTrue so ↔ IsSeenWith test l → AddsAddress so l.place.address old new → (a : ℕ) → Has new a ↔ (Has old a ⊎ HasAddress test j l.place a)
-adds_address test j l so old new look same adds a = search (rules, seen_word, word_seen)
+adds_address test j l so old new look same adds a = search rules
 
 -- over the reachable places, each once
 pub all_addresses : (test : Place → Fields → Bool) (j : Job) (some ps : List Place) (xs ys : List ℕ) → some ≡ ps → AreReached j ps → HoldAddresses (Has xs) (HasAddress test j) some → IsStrictlyIncreasing ys → ((a : ℕ) → Has ys a ↔ Has xs a) → AreAddressesOf test j ys

@@ -1,8 +1,8 @@
 -- Binary search in merged areas.
-use Rattle.std.proofs.Common.{◌≡◌, ℕ, zero, suc, ◌+◌, ◌<◌, ◌≤◌, true, false, leb, max, List, [], ◌∷◌, length, get_or, Option, Some, None, sym, ap, subst, ◌⊎◌, inl, inr, ◌↔◌, arith, Bor, MatchOption, option_copied, rules}
+use Rattle.std.proofs.Common.{◌≡◌, ℕ, zero, suc, ◌+◌, ◌<◌, ◌≤◌, true, false, leb, max, List, [], ◌∷◌, length, get_or, Option, Some, None, sym, subst, ◌⊎◌, inl, inr, ◌↔◌, arith, Bor, MatchOption, option_copied, rules}
 use Rattle.std.specs.List.{HoldsAt}
 use Rattle.std.specs.List.Sorted.{IsNonDecreasingBy, IsPartitionPoint}
-use Rattle.std.proofs.lemmas.Bool.{cases_lt, leb-true, leb-false, both_ways, false_from_ne_true}
+use Rattle.std.proofs.lemmas.Bool.{cases_lt, leb-false, both_ways, false_from_ne_true}
 use Rattle.ccw_core.specs.declared.areas.Area.{Area}
 use Rattle.ccw_core.specs.Areas.{lies_in, covered}
 use Rattle.ccw_core.proofs.Covering.{lies_in-at, lies_in-nil, covered-true, covered-false}
@@ -47,7 +47,7 @@ IsCut xs n at = IsPartitionPoint (λ y. leb (end_of y) n ≡ true) (λ y. leb (e
 
 -- an area with a byte from n on doesn't stand before it
 not_before : (xs : List Area) (n at k b : ℕ) (d : Area) → IsCut xs n at → at ≤ length xs → n ≤ b → k < length xs → InArea (get_or xs k d) b → at ≤ k
-not_before xs n at k b d cut w le l h = search (rules, cases_lt, leb-true)
+not_before xs n at k b d cut w le l h = search rules
 
 pub found_none : (xs : List Area) (n at : ℕ) → IsCut xs n at → at ≤ length xs → length xs ≤ at → (b : ℕ) → n ≤ b → lies_in xs b ≡ false
 found_none xs n at cut w l b le = false_from_ne_true (lies_in xs b) (λ h. let z : Area = record { start = 0; len = 0 } in let r = area_at xs z b h in let k = not_before xs n at r.0 b z cut w le r.1 r.2 in omega (arith, r.1))
@@ -62,16 +62,10 @@ found_some xs n at d m cut l = record {
 }
   where
     earlier : (k b : ℕ) → at ≤ k → k < length xs → InArea (get_or xs k d) b → b < (get_or xs at d).start → ⊥
-    earlier k b le lt h bl = go (cases_lt at k)
-      where
-        go : (at < k) ⊎ (k ≤ at) → ⊥
-        go (inl e) = let o = merged_order xs at k d m e lt in omega (arith, h.0)
-        go (inr e) = let s : k ≡ at = omega arith in let f = ap (λ n. (get_or xs n d).start) s in omega (arith, h.0)
+    earlier k b le lt h bl = search (rules, cases_lt, merged_order)
 
     next : (k : ℕ) → k < length xs → InArea (get_or xs k d) (end_of (get_or xs at d)) → (at < k) ⊎ (k ≤ at) → (k < at) ⊎ (at ≤ k) → ⊥
-    next k lt h (inl e) f = let o = merged_order xs at k d m e lt in omega (arith, h.0)
-    next k lt h (inr e) (inl f) = let o = merged_order xs k at d m f l in omega (arith, h.1)
-    next k lt h (inr e) (inr f) = let s : k ≡ at = omega arith in let g = ap (λ n. end_of (get_or xs n d)) s in omega (arith, h.1)
+    next k lt h g f = search (rules, merged_order)
 
 -- the area at that place, where there is one
 pub found : (xs : List Area) (n at : ℕ) (o : Option (Bor Area)) → IsMerged xs → IsCut xs n at → at ≤ length xs → MatchOption o (length xs ≤ at) (λ x. (at < length xs) × HoldsAt (λ y. x.now ≡ y) xs at) → IsNextArea xs n (option_copied o)
@@ -90,11 +84,7 @@ meets_next xs start len a p n = (to, from)
     late k l = let lt = k.below in both_ways (lies_in xs k.at) (n.before k.at k.from (omega arith)) k.lies
 
     from : Meets xs start len → a.start < start + len
-    from k = go (cases_lt a.start (start + len))
-      where
-        go : (a.start < start + len) ⊎ (start + len ≤ a.start) → a.start < start + len
-        go (inl l) = l
-        go (inr l) = absurd (late k l)
+    from k = search (rules, cases_lt, late)
 
 pub covered_next : (xs : List Area) (start len : ℕ) (a : Area) → IsNext xs start a → a.start ≤ start → start + len ≤ end_of a → covered xs start len ≡ true
 covered_next xs start len a n s e = covered-true xs start len (λ b l h. n.inside b (omega arith) (omega arith))

@@ -1,9 +1,7 @@
 -- Looks put in order of place.
-use Rattle.std.proofs.Common.{◌≡◌, ℕ, ◌+◌, ◌<◌, List, [], ◌∷◌, map, length, get_or, Ordering, sym, ap, ◌∙◌, subst, ◌⊎◌, inl, inr, ◌↔◌, arith, eqb, rules}
-use Rattle.std.specs.List.{IsDistinct}
+use Rattle.std.proofs.Common.{◌≡◌, ℕ, ◌+◌, ◌<◌, List, [], ◌∷◌, map, length, get_or, Ordering, sym, ap, ◌∙◌, ◌↔◌, arith, eqb, rules}
 use Rattle.std.specs.List.Sorted.{IsNonDecreasing, IsNonDecreasingBy, IsPermutation, IsSortedByKey, IsStrictlyIncreasing}
 use Rattle.std.specs.Ordering.{is_lt, nat_cmp}
-use Rattle.std.proofs.lemmas.Bool.{cases_eq, eq-eqb, ne_eqb}
 use Rattle.std.proofs.lemmas.List.{length-map, get_or-map}
 use Rattle.std.proofs.lemmas.List.Sorted.{IsNonDecreasingBy-from_sort, IsPermutation-map, IsPermutation-sym, Contains-permutation}
 use Rattle.std.proofs.lemmas.Map.Keys.{IsDistinct-IsPermutation, IsStrictlyIncreasing-from_distinct}
@@ -38,7 +36,7 @@ non_decreasing (l ∷ ls) up i j d le lt =
     omega (arith, a, b, h)
 
 pub eqb_flips : (x y : ℕ) → eqb x y ≡ eqb y x
-eqb_flips x y = search (rules, cases_eq, eq-eqb, ne_eqb)
+eqb_flips x y = search rules
 
 -- sorted by place, and no place twice
 pub increasing : (cmp : Place → Place → Ordering) (ls ms : List Seen) → ((p q : Place) → cmp p q ≡ nat_cmp (place_number p) (place_number q))

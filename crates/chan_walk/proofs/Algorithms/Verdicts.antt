@@ -1,5 +1,5 @@
 -- The verdict, put together from the least own fault and the least change.
-use Rattle.std.proofs.Common.{◌≡◌, ℕ, ◌≤◌, true, List, ◌↔◌, Option, Some, None, refl, sym, ap, subst, inl, inr, arith}
+use Rattle.std.proofs.Common.{◌≡◌, ℕ, true, List, ◌↔◌, Option, Some, None, inl, inr, rules}
 use Rattle.ccw_core.specs.Areas.{lies_in}
 use Rattle.ccw_core.specs.Ccw.{Fields}
 use Rattle.ccw_core.specs.declared.areas.Area.{Area}
@@ -15,7 +15,6 @@ use Rattle.chan_walk.specs.Guarded.{IsCcwByte, IsArgumentByte}
 use Rattle.chan_walk.specs.Least.{IsOwn, IsFirst, IsLeast}
 use Rattle.chan_walk.specs.Place.{ccw_of}
 use Rattle.chan_walk.specs.Reachable.{IsReachable}
-use Rattle.chan_walk.specs.Reason.{number_of}
 use Rattle.chan_walk.specs.Verdict.{AreClear, StoresOver, Changes, Offends, ComesFirst, IsVerdict}
 use Rattle.chan_walk.proofs.Theory.Faults.{fault_exists, fault_unique}
 
@@ -51,51 +50,25 @@ verdict_yes j none h p t r o = h p t r (change_of j none p t r o)
 
 -- the first reason by which a place changes what is guarded
 pub first_ccw : (j : Job) (p : Place) → StoresOver j p (IsCcwByte j) → IsFirst (Changes j) p (Some ChangesCcw)
-first_ccw j p over = (inl (refl, over), λ t o. go t o)
-  where
-    go : (t : Reason) → Changes j p t → 14 ≤ number_of t
-    go t (inl o) = subst (λ z. 14 ≤ number_of z) (sym o.0) (omega arith)
-    go t (inr o) = subst (λ z. 14 ≤ number_of z) (sym o.0) (omega arith)
+first_ccw j p over = search rules
 
 pub first_argument : (j : Job) (p : Place) → (StoresOver j p (IsCcwByte j) → ⊥) → StoresOver j p (IsArgumentByte j) → IsFirst (Changes j) p (Some ChangesArgument)
-first_argument j p never over = (inr (refl, over), λ t o. go t o)
-  where
-    go : (t : Reason) → Changes j p t → 15 ≤ number_of t
-    go t (inl o) = absurd (never o.1)
-    go t (inr o) = subst (λ z. 15 ≤ number_of z) (sym o.0) (omega arith)
+first_argument j p never over = search rules
 
 pub first_none : (j : Job) (p : Place) → (StoresOver j p (IsCcwByte j) → ⊥) → (StoresOver j p (IsArgumentByte j) → ⊥) → IsFirst (Changes j) p None
-first_none j p never none t (inl o) = never o.1
-first_none j p never none t (inr o) = none o.1
+first_none j p never none t h = search rules
 
 -- what was not found is not there
 pub none_left : (Off : Place → Reason → Type 0) (Here : Place → Type 0) (o : Option Finding) → ((f : Finding) → o ≡ Some f → ⊥) → IsLeast Off Here o → IsLeast Off Here None
-none_left Off Here None n h = h
-none_left Off Here (Some f) n h = absurd (n f refl)
+none_left Off Here o n h = search rules
 
 -- a store that meets an area of guarded bytes is a store over one
 pub over_from_meets : (j : Job) (p : Place) (c : Fields) (areas : List Area) (P : ℕ → Type 0) (start len : ℕ)
     → ((b : ℕ) → (lies_in areas b ≡ true) ↔ P b) → c ≡ ccw_of j p → stores p c ≡ true → start ≡ c.address → len ≡ c.count
     → Meets areas start len → StoresOver j p P
-over_from_meets j p c areas P start len same e st s l m =
-    let address = ap (λ (w : Fields). w.address) e in
-    let count = ap (λ (w : Fields). w.count) e in
-    let from = m.from in
-    let below = m.below in
-    record {
-      stores = subst (λ (w : Fields). stores p w ≡ true) e st;
-      at = m.at;
-      from = omega arith;
-      below = omega arith;
-      holds = (same m.at).0 m.lies;
-    }
+over_from_meets j p c areas P start len same e st s l m = search rules
 
 pub meets_from_over : (j : Job) (p : Place) (c : Fields) (areas : List Area) (P : ℕ → Type 0) (start len : ℕ)
     → ((b : ℕ) → (lies_in areas b ≡ true) ↔ P b) → c ≡ ccw_of j p → start ≡ c.address → len ≡ c.count
     → StoresOver j p P → Meets areas start len
-meets_from_over j p c areas P start len same e s l o =
-    let address = ap (λ (w : Fields). w.address) e in
-    let count = ap (λ (w : Fields). w.count) e in
-    let from = o.from in
-    let below = o.below in
-    record { at = o.at; from = omega arith; below = omega arith; lies = (same o.at).1 o.holds }
+meets_from_over j p c areas P start len same e s l o = search rules

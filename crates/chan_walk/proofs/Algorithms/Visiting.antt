@@ -1,5 +1,5 @@
 -- What begins at a place, by the command that was looked up.
-use Rattle.std.proofs.Common.{◌≡◌, Bool, true, false, ◌&&◌, if◌then◌else◌, Option, None, refl, rules}
+use Rattle.std.proofs.Common.{◌≡◌, Bool, true, ◌&&◌, if◌then◌else◌, Option, None, refl, rules}
 use Rattle.ccw_core.specs.Ccw.{Fields}
 use Rattle.ckd_core.specs.declared.command.MaskClass.{MaskClass}
 use Rattle.ckd_core.specs.Table.{Entry as Command, class_is_seek, class_passes, class_recalibrates, class_sets_mask, is_seek, lookup, recalibrates, sets_mask}

@@ -1,5 +1,5 @@
 -- A walk finds what is reachable, and nothing else.
-use Rattle.std.proofs.Common.{◌≡◌, ℕ, zero, suc, ◌+◌, ◌<◌, ◌≤◌, List, [], ◌∷◌, ◌++◌, length, Option, Some, None, option_map, refl, sym, ap, ◌∙◌, subst, ◌⊎◌, inl, inr, ◌↔◌, arith, length-append}
+use Rattle.std.proofs.Common.{◌≡◌, ℕ, zero, suc, ◌+◌, ◌<◌, ◌≤◌, List, [], ◌∷◌, ◌++◌, length, Option, Some, None, option_map, refl, sym, ap, ◌∙◌, subst, ◌⊎◌, inl, inr, ◌↔◌, arith, length-append, rules}
 use Rattle.std.specs.List.{slice_get}
 use Rattle.std.proofs.lemmas.Bool.{cases_lt}
 use Rattle.std.proofs.lemmas.Option.{slice_get-map}
@@ -51,20 +51,10 @@ record Grows (j : Job) (n : ℕ) (o : Option Place) (ps qs : List Place) (i : �
   longer : length ps ≤ length qs
 
 only_push : (j : Job) (q : Place) (ps : List Place) → IsReachable j q → ((p : Place) → Has ps p → IsReachable j p) → (p : Place) → Has (ps ++ q ∷ []) p → IsReachable j p
-only_push j q ps r f p h = go ((has_push ps q p).0 h)
-  where
-    go : Has ps p ⊎ (q ≡ p) → IsReachable j p
-    go (inl k) = f p k
-    go (inr e) = subst (IsReachable j) e r
+only_push j q ps r f p h = search (rules, has_push)
 
 stays : (j : Job) (n : ℕ) (q : Place) (ps : List Place) (i : ℕ) → Has ps q → IsWalked j n ps i → Grows j n (Some q) ps ps i
-stays j n q ps i h w = record {
-  walked = w;
-  keeps = λ p k. k;
-  has = λ p e. let same : q ≡ p = cc in subst (Has ps) same h;
-  same = λ k l. refl;
-  longer = omega arith;
-}
+stays j n q ps i h w = search rules
 
 grows : (j : Job) (n : ℕ) (q : Place) (ps : List Place) (i : ℕ) → IsReachable j q → (Has ps q → ⊥) → length ps < n → IsWalked j n ps i → Grows j n (Some q) ps (ps ++ q ∷ []) i
 grows j n q ps i r d l w = record {
@@ -135,11 +125,7 @@ are_next j ls i l n are e same = subst (AreSuccessors j l.place) (sym same) (are
 
 -- what follows the place of a look is what the look shows
 pub leads_from_look : (j : Job) (ls : List Seen) (i : ℕ) (l : Seen) (n : Next) → AreLooks j ls → slice_get ls i ≡ Some l → n ≡ l.next → Leads j (places_of_looks ls) i n
-leads_from_look j ls i l n are e same = record {
-  from = l.place;
-  there = place_there ls i l e;
-  each = follows_exactly j l.place n (are_next j ls i l n are e same);
-}
+leads_from_look j ls i l n are e same = search (rules, place_there, follows_exactly, are_next)
 
 from_next : (j : Job) (l : ℕ) (n : Next) (ps : List Place) (i : ℕ) → IsWalked j l ps i → Leads j ps i n → (q : Place) → n.next ≡ Some q → IsReachable j q
 from_next j l n ps i w s q e = reaches j s.from q (w.only s.from (has_at ps i s.from s.there)) ((s.each q).0 (inl e))
@@ -190,8 +176,7 @@ walked_on j l n from ps qs rs fs gs hs i w h s a b = record {
 
 -- the first place alone
 only_first : (j : Job) (p : Place) → Has (first_place j ∷ []) p → IsReachable j p
-only_first j p (inl e) = ([], sym e)
-only_first j p (inr h) = absurd h
+only_first j p h = search rules
 
 pub first_overflows : (j : Job) (n : ℕ) (p : Place) (ps : List Place) → ps ≡ [] → Overflows n (Some p) ps → HasMoreThan j n
 first_overflows j n p ps e a = record {

@@ -1,5 +1,5 @@
 -- No false alarm: from each reason to a run that shows it.
-use Rattle.std.proofs.Common.{◌≡◌, ℕ, ◌+◌, ◌<◌, true, false, not, ◌&&◌, List, [], ◌∷◌, length, Option, Some, None, is_none, refl, sym, ap, subst, ◌⊎◌, inl, inr, arith}
+use Rattle.std.proofs.Common.{◌≡◌, ℕ, ◌+◌, ◌<◌, true, false, not, ◌&&◌, List, [], ◌∷◌, length, Option, Some, None, is_none, refl, sym, ap, subst, ◌⊎◌, inl, inr, arith, rules}
 use Rattle.std.proofs.lemmas.Bool.{and_parts, or_cases, not-true, ltb-true}
 use Rattle.std.proofs.lemmas.List.FromFn.{length-map-range_with_len}
 use Rattle.ccw_core.specs.Areas.{covered}
@@ -8,8 +8,6 @@ use Rattle.ckd_core.specs.declared.command.Kind.TheVariants.{Outward}
 use Rattle.ckd_core.specs.Cylinders.{has_cylinder}
 use Rattle.ckd_core.specs.Mask.{inhibits, is_at_least}
 use Rattle.chan_walk.specs.declared.job.Job.{Job}
-use Rattle.chan_walk.specs.declared.place.Entry.{Entry}
-use Rattle.chan_walk.specs.declared.place.Entry.TheVariants.{Fresh, ChainIn, ChainOut, ChainSearch}
 use Rattle.chan_walk.specs.declared.place.Place.{Place}
 use Rattle.chan_walk.specs.declared.reason.Reason.{Reason}
 use Rattle.chan_walk.specs.declared.reason.Reason.TheVariants.{StoreNotLent, FetchNotLent, ShortSeek, SeekOutside, WeakensMask}
@@ -48,28 +46,17 @@ show_next {j = j} {y = y} {p = p} {es = es} {st = st} r step shows = record {
 
 -- a place that stores, and not into an area; its parts
 pub stores_parts : (p : Place) (c : Fields) → stores p c ≡ true → (is_transfer c ≡ false) × (goes_in (kind_of p.entered c) ≡ true) × (skips c ≡ false)
-stores_parts p c h =
-    let a = and_parts (not (is_transfer c) && goes_in (kind_of p.entered c)) (not (skips c)) h in
-    let b = and_parts (not (is_transfer c)) (goes_in (kind_of p.entered c)) a.0 in
-    (not-true (is_transfer c) b.0, b.1, not-true (skips c) a.1)
+stores_parts p c h = search (rules, and_parts, not-true)
 
 missing : (s : List ℕ) (a : ℕ) (x : Option (List ℕ)) → HasArgument s a x → is_none x ≡ true → (l : List ℕ) → IsChain s 6 a l → ⊥
-missing s a None h e = h
-missing s a (Some x) h e = absurd (cc)
+missing s a x h e = search rules
 
 refused : (j : Job) (a : ℕ) (x : Option (List ℕ)) → HasArgument (storage_of j) a x → is_refused j x ≡ true → (l : List ℕ) × IsChain (storage_of j) 6 a l × (allows j (argument (storage_of j) l) ≡ false)
-refused j a None h e = absurd (cc)
-refused j a (Some x) h e = (h.0, h.1, subst (λ z. allows j z ≡ false) h.2 (not-true _ e))
+refused j a x h e = search (rules, not-true)
 
 -- Set File Mask goes out, as its table entry says
 mask_out : (p : Place) (c : Fields) → begins_set_mask p c ≡ true → kind_of p.entered c ≡ Outward
-mask_out p c h = go p.entered h
-  where
-    go : (e : Entry) → begins_set_mask (record p { entered = e }) c ≡ true → kind_of e c ≡ Outward
-    go Fresh h = mask_is_outward c.command h
-    go ChainIn h = absurd (cc)
-    go ChainOut h = absurd (cc)
-    go ChainSearch h = absurd (cc)
+mask_out p c h = search (rules, mask_is_outward)
 
 -- so that where it begins and no program check applies, it moves a byte
 moves_byte : (j : Job) (p : Place) → check (storage_of j) p ≡ None → is_transfer (ccw_of j p) ≡ false → begins_set_mask p (ccw_of j p) ≡ true → 0 < bytes_at j p

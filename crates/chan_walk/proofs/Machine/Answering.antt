@@ -1,5 +1,5 @@
 -- What the laws say of a job's verdict.
-use Rattle.std.proofs.Common.{◌≡◌, refl, subst}
+use Rattle.std.proofs.Common.{◌≡◌, refl, subst, rules}
 use Rattle.std.specs.BTreeMap as tree
 use Rattle.std.specs.Ordering.{nat_cmp}
 use Rattle.chan_walk.specs.declared.exploring.Walk.{Walk}
@@ -20,8 +20,7 @@ pub covers : (j : Job) (v : Verdict) → HasMask j → YesIsSafe → IsVerdict j
 covers j v mask law h e = law j mask (subst (λ (w : Verdict). IsVerdict j w) e h)
 
 pub shown : (j : Job) (v : Verdict) → IsProper j → NoFalseAlarm → IsVerdict j v → HasWitness j v
-shown j Yes proper law h = tt
-shown j (No a r) proper law h = law j a r proper h
+shown j v proper law h = search rules
 
 -- where one verdict is yes, so is every other
 pub only_yes : (j : Job) (v : Verdict) → IsVerdict j v → IsVerdict j Yes → v ≡ Yes

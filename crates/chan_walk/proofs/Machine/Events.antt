@@ -1,5 +1,5 @@
 -- What the events of a step show, part by part.
-use Rattle.std.proofs.Common.{◌≡◌, ℕ, List, [], ◌∷◌, ◌++◌, Some, ◌⊎◌, inl, inr, rules}
+use Rattle.std.proofs.Common.{ℕ, List, [], ◌∷◌, ◌++◌, ◌⊎◌, inl, inr, rules}
 use Rattle.chan_walk.specs.Alarm.{NoSeek}
 use Rattle.chan_walk.specs.Argument.{Has}
 use Rattle.chan_walk.specs.Machine.{Event, Command, Store, Fetch, Gather, Seek, SetMask}
@@ -9,21 +9,13 @@ use Rattle.chan_walk.proofs.Theory.Lists.{has_cases}
 pub uses_cases : (xs ys : List Event) (b : ℕ) → UsesIn (xs ++ ys) b → UsesIn xs b ⊎ UsesIn ys b
 uses_cases [] ys b h = inr h
 uses_cases (Gather from ∷ xs) ys b (inl h) = inl (inl h)
-uses_cases (Gather from ∷ xs) ys b (inr h) = go (uses_cases xs ys b h)
-  where
-    go : UsesIn xs b ⊎ UsesIn ys b → (Has from b ⊎ UsesIn xs b) ⊎ UsesIn ys b
-    go (inl u) = inl (inr u)
-    go (inr u) = inr u
+uses_cases (Gather from ∷ xs) ys b (inr h) = search (rules, uses_cases xs ys b h)
 uses_cases (Command code ∷ xs) ys b h = uses_cases xs ys b h
 uses_cases (Store a bytes ∷ xs) ys b h = uses_cases xs ys b h
 uses_cases (Fetch a n ∷ xs) ys b h = uses_cases xs ys b h
 uses_cases (Seek x ∷ xs) ys b h = uses_cases xs ys b h
 uses_cases (SetMask a x ∷ xs) ys b (inl h) = inl (inl h)
-uses_cases (SetMask a x ∷ xs) ys b (inr h) = go (uses_cases xs ys b h)
-  where
-    go : UsesIn xs b ⊎ UsesIn ys b → ((a ≡ b) ⊎ UsesIn xs b) ⊎ UsesIn ys b
-    go (inl u) = inl (inr u)
-    go (inr u) = inr u
+uses_cases (SetMask a x ∷ xs) ys b (inr h) = search (rules, uses_cases xs ys b h)
 
 pub uses_left : (xs ys : List Event) (b : ℕ) → UsesIn xs b → UsesIn (xs ++ ys) b
 uses_left [] ys b h = elim h [ ]

@@ -5,10 +5,9 @@ use Rattle.std.proofs.lemmas.Bool.{both_ways}
 use Rattle.std.proofs.lemmas.List.{length-map, map-append}
 use Rattle.std.proofs.lemmas.List.FromFn.{length-range_with_len}
 use Rattle.ccw_core.specs.Ccw.{byte, Fields, ccw, is_transfer, chains_data}
-use Rattle.ccw_core.specs.Storage.{Stands}
 use Rattle.chan_walk.specs.declared.place.Entry.TheVariants.{ChainOut}
 use Rattle.chan_walk.specs.declared.place.Place.{Place}
-use Rattle.chan_walk.specs.Argument.{Has, is_part, Leads, data_of, joined, total, IsChain, argument_addresses, argument}
+use Rattle.chan_walk.specs.Argument.{Has, is_part, Leads, data_of, joined, IsChain, argument_addresses, argument}
 use Rattle.chan_walk.specs.Headline.{ComesTo, IsGathered}
 use Rattle.chan_walk.specs.Machine.{taken, with_taken}
 use Rattle.chan_walk.specs.Place.{straight_to, transferred_to}
@@ -71,28 +70,19 @@ module _ (s l : List ℕ) where
       front = ap (take 6) (sym prefix) ∙ take_front after tail at_most
 
       exact : length after ≡ 6 → after ≡ argument_addresses s l
-      exact h =
-          let e : 6 - length after ≡ 0 = omega arith in
-          sym (front ∙ ap (λ n. after ++ take n tail) e ∙ append-nil after)
+      exact h = search (rules, after, front, tail, append-nil)
 
       less : length (with_taken s c m x) < 6 → length after < 6
       less h = subst (λ n. n < 6) (ap length bytes ∙ length-map after (byte s)) h
 
       not_last : IsChain s (6 - length before) a (d ∷ []) → length (with_taken s c m x) < 6 → m ≡ c.count → ⊥
-      not_last k h e =
-          let w = less h in
-          let f : total s (d ∷ []) ≡ c.count = subst (λ n. (ccw s n).count + 0 ≡ c.count) (sym k.begins) (omega arith) in
-          let g = k.enough in
-          omega (arith, ln, lx)
+      not_last k h e = search (rules, less, c, ln, lx)
 
       must : (rest : List ℕ) → IsChain s (6 - length before) a (d ∷ rest) → length (with_taken s c m x) < 6 → m ≡ c.count → chains_data c ≡ true
-      must [] k h e = absurd (not_last k h e)
-      must (y ∷ z) k h e = subst (λ n. chains_data (ccw s n) ≡ true) k.begins k.linked.1
+      must rest k h e = search (rules, not_last)
 
       lead : (y : ℕ) → Leads s a y → ComesTo s (straight_to (p.address + 8) ChainOut) y
-      lead y (inl e) = inl (ap (λ n. n + 8) at ∙ sym e)
-      lead y (inr e) =
-          inr (refl, subst (λ n. Stands s (n + 8)) (sym at) e.0, subst (λ n. is_transfer (ccw s (n + 8)) ≡ true) (sym at) e.1, subst (λ n. (ccw s (n + 8)).address ≡ y) (sym at) (sym e.2))
+      lead y h = search rules
 
       further : (rest : List ℕ) → IsChain s (6 - length before) a (d ∷ rest) → before ++ joined s (d ∷ rest) ≡ joined s l → length (with_taken s c m x) < 6 → m ≡ c.count → (w : IsGathered s l (straight_to (p.address + 8) ChainOut) (with_taken s c m x)) × (w.before ≡ after)
       further [] k all h e = absurd (not_last k h e)
@@ -115,7 +105,7 @@ module _ (s l : List ℕ) where
           )
 
   pub at_next : (p : Place) (x : List ℕ) (g : IsGathered s l p x) → is_transfer (ccw s p.address) ≡ false → p.address ≡ g.at
-  at_next p x g t = search (rules, both_ways)
+  at_next p x g t = search rules
 
   pub advance : (p : Place) (x : List ℕ) (m : ℕ) (g : IsGathered s l p x) → is_transfer (ccw s p.address) ≡ false → m ≤ (ccw s p.address).count → Advance s l p (ccw s p.address) x m g.before
   advance p x m g t le = search (rules, at_next, gather_rest)

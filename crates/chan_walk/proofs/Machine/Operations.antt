@@ -1,10 +1,9 @@
 -- The operation of a seek, carried on to its end: to a whole argument, or to what stops it before.
-use Rattle.std.proofs.Common.{◌≡◌, ℕ, zero, suc, ◌+◌, ◌-◌, ◌<◌, ◌≤◌, min, Bool, true, false, ◌&&◌, if◌then◌else◌, List, [], ◌∷◌, ◌++◌, length, Option, Some, None, refl, sym, ap, subst, ◌⊎◌, inl, inr, arith}
+use Rattle.std.proofs.Common.{◌≡◌, ℕ, zero, suc, ◌+◌, ◌-◌, ◌<◌, ◌≤◌, min, true, false, List, [], ◌∷◌, ◌++◌, length, Option, Some, None, refl, sym, ap, subst, ◌⊎◌, inl, inr, arith, rules}
 use Rattle.std.specs.List.{AllByRecursion}
 use Rattle.std.proofs.lemmas.Bool.{cases_lt, cases_Bool, and_parts, both_ways}
 use Rattle.ccw_core.specs.Ccw.{Fields, ccw, is_transfer, chains_data}
 use Rattle.ckd_core.specs.declared.command.Kind.TheVariants.{Outward}
-use Rattle.ckd_core.specs.Table.{recalibrates}
 use Rattle.chan_walk.specs.declared.job.Job.{Job}
 use Rattle.chan_walk.specs.declared.place.Entry.TheVariants.{ChainOut}
 use Rattle.chan_walk.specs.declared.place.Place.{Place}
@@ -12,7 +11,7 @@ use Rattle.chan_walk.specs.declared.reason.Reason.{Reason}
 use Rattle.chan_walk.specs.Alarm.{AreBytes, IsQuiet, IsQuietMoment, ArePlaces, NoSeek, StaysInOperation, ShowsInOperation}
 use Rattle.chan_walk.specs.Argument.{Has, is_part, Leads, IsChain, argument_addresses, argument}
 use Rattle.chan_walk.specs.Check.{check}
-use Rattle.chan_walk.specs.Fault.{kind_of, begins_seek, begins_recalibrate}
+use Rattle.chan_walk.specs.Fault.{begins_seek, begins_recalibrate}
 use Rattle.chan_walk.specs.Headline.{ComesTo, IsGathered}
 use Rattle.chan_walk.specs.Job.{storage_of}
 use Rattle.chan_walk.specs.Machine.{Gathered, Stage, At, Ended, Checked, Event, Seek, taken, with_taken, under_way, Continues, ends, on_data, on_short, Step, checked, transferred}
@@ -102,30 +101,10 @@ module _ (j : Job) (bytes : AreBytes (storage_of j)) where
       }
 
   ready_out : (q : Place) (x : List ℕ) → length x < 6 → q.entered ≡ ChainOut → check (storage_of j) q ≡ None → is_transfer (ccw_of j q) ≡ false → Ready q (Some x) x
-  ready_out q x few o e t = record {
-    under = ap (λ z. under_way (record q { entered = z }) (ccw_of j q) (Some x)) o;
-    few = few;
-    pass = e;
-    no_transfer = t;
-    known = λ f. let n = ap is_fresh o in absurd (both_ways _ n f);
-    outward = ap (λ z. kind_of z (ccw_of j q)) o;
-    no_home = ap (λ z. begins_recalibrate (record q { entered = z }) (ccw_of j q)) o;
-  }
+  ready_out q x few o e t = search (rules, both_ways)
 
   pub ready_fresh : (p : Place) (g : Gathered) → begins_seek p (ccw_of j p) ≡ true → check (storage_of j) p ≡ None → is_transfer (ccw_of j p) ≡ false → Known j p → Ready p g []
-  ready_fresh p g b e t known = record {
-    under = ap (λ z. if z then Some [] else g) b;
-    few = omega arith;
-    pass = e;
-    no_transfer = t;
-    known = known;
-    outward = fresh_out p (ccw_of j p) b;
-    no_home = go (is_fresh p.entered) (recalibrates (ccw_of j p).command) (seek_no_recalibrate _ (and_parts _ _ b).1);
-  }
-    where
-      go : (f h : Bool) → h ≡ false → (f && h) ≡ false
-      go true h e = e
-      go false h e = refl
+  ready_fresh p g b e t known = search (rules, fresh_out, seek_no_recalibrate, and_parts)
 
   -- ---- from a moment at p on
 

@@ -1,5 +1,5 @@
 -- Each path is the places of a run that changes nothing.
-use Rattle.std.proofs.Common.{◌≡◌, ℕ, ◌+◌, ◌<◌, ◌≤◌, Bool, true, false, if◌then◌else◌, List, [], ◌∷◌, length, Option, Some, None, is_none, refl, sym, ap, ◌∙◌, subst, inl, inr, arith}
+use Rattle.std.proofs.Common.{◌≡◌, ℕ, ◌+◌, ◌<◌, ◌≤◌, Bool, true, false, if◌then◌else◌, List, [], ◌∷◌, length, Option, Some, None, is_none, refl, sym, ap, ◌∙◌, subst, arith, rules}
 use Rattle.std.specs.List.{AllByRecursion}
 use Rattle.std.proofs.lemmas.Bool.{and_from, or_left, le-leb, both_ways}
 use Rattle.std.proofs.lemmas.List.{length-map}
@@ -29,8 +29,7 @@ use Rattle.chan_walk.proofs.Machine.Yes.{fresh_out}
 
 first_inside : (es : List (ℕ × ℕ)) → AreExtents es → has_cylinder es (first_cylinder es) ≡ true
 unfolding has_cylinder
-first_inside [] h = absurd (omega (arith, h.0))
-first_inside (e ∷ es) h = or_left _ _ (and_from _ _ (le-leb e.0 e.0 (omega arith)) (le-leb e.0 e.1 h.1.0.0))
+first_inside es h = search (rules, or_left, and_from, le-leb)
 
 module _ (j : Job) where
   -- a seek came to p with these bytes, or none is under way
@@ -44,8 +43,7 @@ module _ (j : Job) where
   Comes p (Some x) = (kind_at j p ≡ Outward) × (length x < 6) × (l : List ℕ) × (before : List ℕ) × ((m : ℕ) → m ≤ (ccw_of j p).count → Advance (storage_of j) l p (ccw_of j p) x m before)
 
   few_of : (p : Place) (g : Gathered) → Comes p g → IsFew g
-  few_of p None h = tt
-  few_of p (Some x) h = h.1
+  few_of p g h = search rules
 
   few_read : (p : Place) (x : List ℕ) (l : List ℕ) → IsGathered (storage_of j) l p x → length x < 6
   few_read p x l w = let few = w.few in let len = ap length w.read ∙ length-map w.before (byte (storage_of j)) in subst (λ n. n < 6) (sym len) few
@@ -85,23 +83,11 @@ module _ (j : Job) where
   Onward p (Some x) = (kind_at j p ≡ Outward) × (chains_data (ccw_of j p) ≡ true) × (l : List ℕ) × IsGathered (storage_of j) l (straight_to (p.address + 8) ChainOut) x
 
   onward_of : (p : Place) (g : Gathered) (es : List Event) (after : Gathered) → Comes p g → Left j (ccw_of j p) (bytes_at j p) g es after → Onward p after
-  onward_of p None es after h left = subst (λ z. Onward p z) (sym left.0) tt
-  onward_of p (Some x) es after h (inr left) = subst (λ z. Onward p z) (sym left.1) tt
-  onward_of p (Some x) es after h (inl left) =
-      let whole : bytes_at j p ≡ (ccw_of j p).count = ap (λ k. full_count k (ccw_of j p)) h.0 in
-      let adv : Advance (storage_of j) h.2 p (ccw_of j p) x (bytes_at j p) h.3 = h.4 (bytes_at j p) (omega arith) in
-      subst (λ z. Onward p z) (sym left.1) (h.0, adv.chains left.0 whole, h.2, (adv.on left.0 whole).0)
+  onward_of p g es after h left = search (rules, bytes_at, full_count, Advance)
 
   -- where data chaining is off, no seek goes on
   none_left : (y : ℕ) (p : Place) (g : Gathered) (tk : Taking p g) (f : IsClear j p) (t : is_transfer (ccw_of j p) ≡ false) → chains_data (ccw_of j p) ≡ false → (seek_at j y p g (few_of p (under_way p (ccw_of j p) g) (comes_at p g tk f t))).after ≡ None
-  none_left y p g tk f t cd =
-      let come = comes_at p g tk f t in
-      let sk = seek_at j y p g (few_of p (under_way p (ccw_of j p) g) come) in
-      go sk.after (onward_of p _ sk.es sk.after come sk.left)
-    where
-      go : (after : Gathered) → Onward p after → after ≡ None
-      go None u = refl
-      go (Some x) u = absurd (both_ways _ cd u.1)
+  none_left y p g tk f t cd = search (rules, comes_at, seek_at, few_of, onward_of, both_ways)
 
   record CanStep (y : ℕ) (p : Place) (g : Gathered) (q : Place) : Type 0 where
     es : List Event

@@ -1,5 +1,5 @@
 -- A step that carries a CCW out with all its bytes, stores only what was there, and leaves the arm where it stands.
-use Rattle.std.proofs.Common.{◌≡◌, ℕ, zero, suc, ◌+◌, ◌-◌, ◌<◌, ◌≤◌, min, Bool, true, false, if◌then◌else◌, List, [], ◌∷◌, ◌++◌, map, length, Some, None, refl, sym, ap, ◌∙◌, ◌⊎◌, inl, inr, arith, length-append}
+use Rattle.std.proofs.Common.{◌≡◌, ℕ, zero, suc, ◌+◌, ◌-◌, ◌<◌, ◌≤◌, min, Bool, true, false, if◌then◌else◌, List, [], ◌∷◌, ◌++◌, map, length, Some, None, refl, sym, ap, ◌∙◌, ◌⊎◌, inl, inr, arith, length-append, rules}
 use Rattle.std.specs.List.{AllByRecursion, range_with_len}
 use Rattle.std.proofs.lemmas.Bool.{cases_lt, cases_Bool, both_ways}
 use Rattle.std.proofs.lemmas.List.{length-map}
@@ -28,16 +28,10 @@ full_count Outward c = c.count
 full_count Search c = c.count
 
 full_le : (k : Kind) (c : Fields) → full_count k c ≤ c.count
-full_le Idle c = omega arith
-full_le Inward c = omega arith
-full_le Outward c = omega arith
-full_le Search c = omega arith
+full_le k c = search rules
 
 pub inward_from : (k : Kind) → goes_in k ≡ true → k ≡ Inward
-inward_from Inward h = refl
-inward_from Idle h = absurd (cc)
-inward_from Outward h = absurd (cc)
-inward_from Search h = absurd (cc)
+inward_from k h = search rules
 
 -- a seek that has fewer than six bytes
 abbrev pub IsFew : Gathered → Type 0
@@ -80,12 +74,10 @@ module _ (j : Job) where
   no_event x h = h
 
   no_fetch : (a n : ℕ) → NoSeek (Fetch a n ∷ [])
-  no_fetch a n x (inl h) = cc
-  no_fetch a n x (inr h) = h
+  no_fetch a n x h = search rules
 
   no_store : (a : ℕ) (bs : List ℕ) → NoSeek (Store a bs ∷ [])
-  no_store a bs x (inl h) = cc
-  no_store a bs x (inr h) = h
+  no_store a bs x h = search rules
 
   pub can_move : AreBytes (storage_of j) → (c : Fields) (k : Kind) → CanMove c k
   can_move bytes c Idle = record { es = []; moves = idle refl; quiet = tt; no_seek = no_event; stores = λ e f. absurd (cc); fetches = λ e. absurd (cc) }
@@ -130,8 +122,7 @@ module _ (j : Job) where
     pub uses : UsesTaken c m g es
 
   no_gather : (from : List ℕ) → NoSeek (Gather from ∷ [])
-  no_gather from x (inl h) = cc
-  no_gather from x (inr h) = h
+  no_gather from x h = search rules
 
   can_seek : (c : Fields) (m y : ℕ) (g : Gathered) → IsFew g → CanSeek c m y g
   can_seek c m y None h = record { es = []; after = None; seeks = none; quiet = tt; left = (refl, no_event); uses = tt }
@@ -169,8 +160,7 @@ module _ (j : Job) where
     pub no_seek : NoSeek es
 
   no_taken : (a x : ℕ) → NoSeek (SetMask a x ∷ [])
-  no_taken a x z (inl h) = cc
-  no_taken a x z (inr h) = h
+  no_taken a x z h = search rules
 
   pub can_mask : (c : Fields) (m f : ℕ) (b : Bool) → CanMask c m f b
   can_mask c m f false = record { es = []; sets = no_mask; quiet = tt; takes = λ e. absurd (cc); no_seek = no_event }

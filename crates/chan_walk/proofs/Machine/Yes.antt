@@ -1,14 +1,11 @@
 -- Where the verdict is yes: guarded bytes never change, every place is reachable, every run is safe and the job is steady.
-use Rattle.std.proofs.Common.{◌≡◌, ℕ, ◌+◌, ◌<◌, ◌≤◌, Bool, true, false, if◌then◌else◌, List, [], ◌∷◌, length, Option, Some, None, is_none, refl, sym, ap, ◌∙◌, subst, inl, inr}
+use Rattle.std.proofs.Common.{◌≡◌, ℕ, ◌+◌, ◌<◌, ◌≤◌, Bool, true, false, if◌then◌else◌, List, [], ◌∷◌, length, Option, Some, None, is_none, refl, sym, ap, ◌∙◌, subst, inl, inr, rules}
 use Rattle.std.specs.List.{AllByRecursion}
 use Rattle.std.proofs.lemmas.Bool.{both_ways, not-false}
 use Rattle.ccw_core.specs.Ccw.{byte, Fields, ccw, is_transfer}
-use Rattle.ccw_core.specs.Storage.{is_aligned, is_inside}
 use Rattle.ckd_core.specs.declared.command.Kind.TheVariants.{Outward}
 use Rattle.ckd_core.specs.Mask.{is_at_least}
 use Rattle.chan_walk.specs.declared.job.Job.{Job}
-use Rattle.chan_walk.specs.declared.place.Entry.{Entry}
-use Rattle.chan_walk.specs.declared.place.Entry.TheVariants.{Fresh, ChainIn, ChainOut, ChainSearch}
 use Rattle.chan_walk.specs.declared.place.Place.{Place}
 use Rattle.chan_walk.specs.declared.reason.Reason.TheVariants.{ChangesCcw, ChangesArgument}
 use Rattle.chan_walk.specs.declared.verdict.Verdict.TheVariants.{Yes}
@@ -18,7 +15,7 @@ use Rattle.chan_walk.specs.Fault.{kind_of, stores, is_known, begins_seek, allows
 use Rattle.chan_walk.specs.Guarded.{IsGuarded}
 use Rattle.chan_walk.specs.Headline.{IsUnchecked, IsSafeMoment, IsSafeEvent, Holds, YesIsSafe, IsAtReachable, GathersPart, GuardedStays, StaysReachable, GathersArguments}
 use Rattle.chan_walk.specs.Job.{storage_of, HasMask}
-use Rattle.chan_walk.specs.Machine.{Gathered, Stage, At, Ended, Checked, Event, Step, checked, transferred, unknown, carried, StepFrom}
+use Rattle.chan_walk.specs.Machine.{Gathered, Stage, At, Event, Step, checked, transferred, unknown, carried, StepFrom}
 use Rattle.chan_walk.specs.Place.{transferred_to, ccw_of}
 use Rattle.chan_walk.specs.Reachable.{IsReachable}
 use Rattle.chan_walk.specs.Runs.{Moment, IsRun, UsesAt, UsesIn, UsesInCcw, UsesInArgument, Uses}
@@ -34,13 +31,7 @@ use Rattle.chan_walk.proofs.Theory.Words.{same_ccw}
 
 -- a seek that begins goes out, as its table entry says
 pub fresh_out : (p : Place) (c : Fields) → begins_seek p c ≡ true → kind_of p.entered c ≡ Outward
-fresh_out p c h = go p.entered h
-  where
-    go : (e : Entry) → begins_seek (record p { entered = e }) c ≡ true → kind_of e c ≡ Outward
-    go Fresh h = seek_is_outward c.command h
-    go ChainIn h = absurd (cc)
-    go ChainOut h = absurd (cc)
-    go ChainSearch h = absurd (cc)
+fresh_out p c h = search (rules, seek_is_outward)
 
 module _ (j : Job) (v : IsVerdict j Yes) where
   clear_at : (p : Place) → IsReachable j p → IsClear j p
@@ -129,9 +120,7 @@ module _ (j : Job) (v : IsVerdict j Yes) where
       carried_ok j p (ccw s p.address) g (subst (λ z. Here j p z g) (sym c) (here_at p g k.stage.0 k.stage.1 t')) k t le mv sk hm fm gs
 
   from_ok : {s : List ℕ} {y f : ℕ} (at : Stage) {es : List Event} {t : List ℕ} {y' f' : ℕ} {st : Stage} → StepFrom s y f at es t y' f' st → Invariant j s y f at → Stepped j t y' f' st es
-  from_ok (At p g) w k = step_ok w k
-  from_ok Ended w k = absurd w
-  from_ok (Checked r) w k = absurd w
+  from_ok at w k = search (rules, step_ok)
 
   -- ---- a run
 
@@ -152,9 +141,7 @@ module _ (j : Job) (v : IsVerdict j Yes) where
   all_kept P f (n ∷ m ∷ ms) r = (f n (run_kept n (m ∷ ms) r), all_kept P f (m ∷ ms) r.0)
 
   unchecked : (st : Stage) → IsKept j st → IsUnchecked st
-  unchecked (At p g) k = tt
-  unchecked Ended k = tt
-  unchecked (Checked r) k = k
+  unchecked st k = search rules
 
   runs_safe : HasMask j → (ms : List Moment) → IsRun j ms → AllByRecursion (IsSafeMoment j) ms
   runs_safe h [] r = absurd r
@@ -167,9 +154,7 @@ module _ (j : Job) (v : IsVerdict j Yes) where
 
   -- each byte that a run uses is guarded
   used_at : (s : List ℕ) (st : Stage) (b : ℕ) → length s ≡ length (storage_of j) → IsKept j st → UsesAt s st b → IsGuarded j b
-  used_at s (At p g) b n k u = inl (record { place = p; reached = k.0; stands = subst (λ z. (is_aligned p.address ≡ true) × (is_inside z p.address ≡ true)) n u.0; from = u.1; below = u.2 })
-  used_at s Ended b n k u = absurd u
-  used_at s (Checked r) b n k u = absurd u
+  used_at s st b n k u = search rules
 
   in_ccw_guarded : (ms : List Moment) (b : ℕ) → IsRun j ms → UsesInCcw ms b → IsGuarded j b
   in_ccw_guarded [] b r u = absurd u
@@ -189,22 +174,16 @@ module _ (j : Job) (v : IsVerdict j Yes) where
   in_argument_guarded (n ∷ m ∷ ms) b r (inr u) = in_argument_guarded (m ∷ ms) b r.0 u
 
   used_guarded : (ms : List Moment) (b : ℕ) → IsRun j ms → Uses ms b → IsGuarded j b
-  used_guarded ms b r (inl u) = in_ccw_guarded ms b r u
-  used_guarded ms b r (inr u) = in_argument_guarded ms b r u
+  used_guarded ms b r h = search (rules, in_ccw_guarded, in_argument_guarded)
 
   at_reachable : (st : Stage) → IsKept j st → IsAtReachable j st
-  at_reachable (At p g) k = k.0
-  at_reachable Ended k = tt
-  at_reachable (Checked r) k = tt
+  at_reachable st k = search rules
 
   part_of : (p : Place) (g : Gathered) → Under j p g → GathersPart j (At p g)
-  part_of p None u = tt
-  part_of p (Some x) u = record { seek = u.2.seek; reached = u.2.reached; seeks = u.2.seeks; chain = u.1; is_chain = u.2.is_chain; gathered = u.3; allowed = u.2.allowed }
+  part_of p g u = search rules
 
   gathers : (st : Stage) → IsKept j st → GathersPart j st
-  gathers (At p g) k = part_of p g k.1
-  gathers Ended k = tt
-  gathers (Checked r) k = tt
+  gathers st k = search (rules, part_of)
 
   pub guarded_holds : (b : ℕ) → IsGuarded j b → (ms : List Moment) → IsRun j ms → AllByRecursion (Holds j b) ms
   guarded_holds b g = all_kept _ (λ m k. k.same b g)

@@ -1,10 +1,9 @@
 -- What covered ranges and allowed arguments say of each byte and cylinder.
-use Rattle.std.proofs.Common.{◌≡◌, ℕ, zero, suc, ◌+◌, ◌<◌, ◌≤◌, true, false, List, refl, subst, ◌⊎◌, inl, inr, arith, rules}
+use Rattle.std.proofs.Common.{◌≡◌, ℕ, zero, suc, ◌+◌, ◌<◌, ◌≤◌, true, false, List, refl, arith, rules}
 use Rattle.std.proofs.lemmas.Bool.{cases_lt, and_parts, and_cases, and_from, lt-ltb}
 use Rattle.ccw_core.specs.declared.areas.Area.{Area}
 use Rattle.ccw_core.specs.Areas.{lies_in, covered}
 use Rattle.ckd_core.specs.declared.device.Device.{Device}
-use Rattle.ckd_core.specs.declared.device.Device.TheVariants.{D2311, D2314}
 use Rattle.ckd_core.specs.Argument.{is_allowed, cylinder_of}
 use Rattle.ckd_core.specs.Cylinders.{has_cylinder}
 use Rattle.ckd_core.specs.Geometry.{heads_of}
@@ -15,19 +14,11 @@ use Rattle.chan_walk.specs.Machine.{home}
 
 pub covered_at : (areas : List Area) (a n b : ℕ) → covered areas a n ≡ true → a ≤ b → b < a + n → lies_in areas b ≡ true
 covered_at areas a zero b h le lt = absurd (omega arith)
-covered_at areas a (suc n) b h le lt = go (cases_lt a b) (λ l. covered_at areas (suc a) n b (and_parts (lies_in areas a) (covered areas (suc a) n) h).1 l (omega arith))
-  where
-    go : (a < b) ⊎ (b ≤ a) → (a < b → lies_in areas b ≡ true) → lies_in areas b ≡ true
-    go (inl l) rec = rec l
-    go (inr l) rec = let e : a ≡ b = omega arith in subst (λ x. lies_in areas x ≡ true) e (and_parts (lies_in areas a) (covered areas (suc a) n) h).0
+covered_at areas a (suc n) b h le lt = search (rules, cases_lt, and_parts, covered_at areas (suc a) n b)
 
 pub uncovered : (areas : List Area) (a n : ℕ) → covered areas a n ≡ false → (b : ℕ) × (a ≤ b) × (b < a + n) × (lies_in areas b ≡ false)
 uncovered areas a zero h = absurd (cc)
-uncovered areas a (suc n) h = go (and_cases (lies_in areas a) (covered areas (suc a) n) h) (λ e. uncovered areas (suc a) n e)
-  where
-    go : (lies_in areas a ≡ false) ⊎ (covered areas (suc a) n ≡ false) → (covered areas (suc a) n ≡ false → (b : ℕ) × (suc a ≤ b) × (b < suc a + n) × (lies_in areas b ≡ false)) → (b : ℕ) × (a ≤ b) × (b < a + suc n) × (lies_in areas b ≡ false)
-    go (inl e) f = (a, omega arith, omega arith, e)
-    go (inr e) f = let r = f e in (r.0, omega (arith, r.1), omega (arith, r.2), r.3)
+uncovered areas a (suc n) h = search (rules, and_cases, uncovered areas (suc a) n)
 
 has_heads : (d : Device) → 0 < heads_of d
 has_heads d = search rules

@@ -1,7 +1,7 @@
 -- What it says of a place that it offends by a reason.
-use Rattle.std.proofs.Common.{◌≡◌, ℕ, ◌+◌, ◌<◌, ◌≤◌, Bool, true, false, not, ◌&&◌, ◌||◌, if◌then◌else◌, List, length, Option, Some, None, is_none, refl, sym, ap, ◌∙◌, subst, ◌⊎◌, inl, inr, arith, rules}
+use Rattle.std.proofs.Common.{◌≡◌, ℕ, ◌+◌, ◌≤◌, Bool, true, false, not, ◌&&◌, ◌||◌, List, length, Option, Some, None, is_none, refl, sym, ◌∙◌, subst, ◌⊎◌, inl, inr, arith, rules}
 use Rattle.std.proofs.lemmas.Grind.{common_steps}
-use Rattle.std.proofs.lemmas.Bool.{and_parts, and_from, both_ways, cases_Bool, not-false, not-true, or_cases, lt-ltb, cases_lt}
+use Rattle.std.proofs.lemmas.Bool.{and_parts, both_ways, cases_Bool, not-false, not-true, or_cases}
 use Rattle.ccw_core.specs.declared.areas.Area.{Area}
 use Rattle.ccw_core.specs.Areas.{covered, lies_in}
 use Rattle.ccw_core.specs.Ccw.{is_transfer}
@@ -15,7 +15,7 @@ use Rattle.chan_walk.specs.declared.place.Place.{Place}
 use Rattle.chan_walk.specs.declared.reason.Reason.{Reason}
 use Rattle.chan_walk.specs.declared.reason.Reason.TheVariants.{Misaligned, OutsideStorage, TransferNotAllowed, InvalidCode, BadFormat, ZeroCount, DataOutside, NotInTable, Inhibited, StoreNotLent, FetchNotLent, ShortSeek, SeekOutside, ChangesCcw, ChangesArgument, WeakensMask}
 use Rattle.chan_walk.specs.Argument.{HasArgument}
-use Rattle.chan_walk.specs.Check.{check, check_of, first_reason, table_of_every_ccw, table_of_non_transfer}
+use Rattle.chan_walk.specs.Check.{check, check_of, first_reason, table_of_every_ccw}
 use Rattle.chan_walk.specs.Evidence.{FailsToSeek, IsArgumentIn, IsCcwIn, IsFirstGap, SeeksTo, data_at}
 use Rattle.chan_walk.specs.Fault.{HasFault, allows, begins_recalibrate, begins_seek, is_refused, table_of_own}
 use Rattle.chan_walk.specs.Guarded.{IsArgumentByte, IsCcwByte}
@@ -71,7 +71,7 @@ module _ (j : Job) (p : Place) where
   none_argument x h e = search rules
 
   refused_argument : (x : Option (List ℕ)) → HasArgument s p.address x → is_refused j x ≡ true → (y : List ℕ) × HasArgument s p.address (Some y) × (allows j y ≡ false)
-  refused_argument x h e = search (rules, not-true)
+  refused_argument x h e = search rules
 
   uncovered_told : (areas : List Area) (b : Bool) → check s p ≡ None → is_transfer (ccw_of j p) ≡ false → (b && not (covered areas (ccw_of j p).address (ccw_of j p).count)) ≡ true → IsUncovered areas
   uncovered_told areas b n t e = (data_in_storage s p (ccw_of j p) n refl t, not-true _ (and_parts b _ e).1)
@@ -119,7 +119,7 @@ module _ (j : Job) (p : Place) where
 
   -- where no CCW stands, only two reasons are left
   pub nothing_told : (r : Reason) → Told r → ccw_at s p.address ≡ None → (r ≡ Misaligned → ⊥) → OutsideStorage ≡ r
-  nothing_told r h n m = search (rules, no_word)
+  nothing_told r h n m = search rules
 
   -- ---- a seek that fails
 
@@ -148,7 +148,7 @@ track_parts x t e = search rules
 
 pub head_out : (j : Job) (x : List ℕ) → allows j x ≡ false → has_no_bin x ≡ true → has_cylinder (extents_of j) (cylinder_of x) ≡ true → heads j ≤ head_of x
 unfolding is_allowed
-head_out j x h b d = search (rules, cases_lt, both_ways, and_from, lt-ltb)
+head_out j x h b d = search rules
 
 -- ---- areas of which only what lies in storage counts
 

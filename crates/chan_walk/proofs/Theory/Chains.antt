@@ -1,19 +1,18 @@
 -- Chains of CCWs that give the bytes of an argument: there is one or there is none, and there is at most one.
-use Rattle.std.proofs.Common.{◌≡◌, ℕ, zero, suc, ◌+◌, ◌-◌, ◌<◌, ◌≤◌, Bool, true, false, cond, ◌&&◌, List, [], ◌∷◌, ◌++◌, length, take, Option, Some, None, refl, sym, ap, ◌∙◌, subst, ◌⊎◌, inl, inr, arith, rules}
+use Rattle.std.proofs.Common.{◌≡◌, ℕ, zero, suc, ◌-◌, ◌<◌, ◌≤◌, true, false, List, [], ◌∷◌, ◌++◌, take, Option, Some, None, refl, sym, ap, ◌∙◌, subst, ◌⊎◌, inl, inr, arith, rules}
 use Rattle.std.specs.List.{range_with_len}
-use Rattle.std.proofs.lemmas.Bool.{cases_lt, cases_Bool, and_parts, and_from, both_ways, not-true, false_from_ne_true}
+use Rattle.std.proofs.lemmas.Bool.{cases_lt, cases_Bool, and_from, both_ways}
 use Rattle.ccw_core.specs.Ccw.{ccw, is_transfer, is_counted, chains_data}
-use Rattle.ccw_core.specs.Storage.{is_aligned, is_inside}
 use Rattle.chan_walk.specs.Onward.{onward}
-use Rattle.chan_walk.specs.Argument.{Has, is_part, Leads, joined, total, AreLinked, BeginsAt, IsChain, HasArgument, argument_addresses, argument}
+use Rattle.chan_walk.specs.Argument.{Has, is_part, Leads, AreLinked, BeginsAt, IsChain, HasArgument, argument_addresses, argument}
 
 pub part_is_no_transfer : (s : List ℕ) (a : ℕ) → is_part s a ≡ true → is_transfer (ccw s a) ≡ false
 unfolding is_part
-part_is_no_transfer s a h = search (rules, and_parts, not-true)
+part_is_no_transfer s a h = search rules
 
 pub part_counts : (s : List ℕ) (a : ℕ) → is_part s a ≡ true → 0 < (ccw s a).count
 unfolding is_part is_counted
-part_counts s a h = search (rules, and_parts)
+part_counts s a h = search rules
 
 first_is_part : (s : List ℕ) (a : ℕ) (l : List ℕ) → BeginsAt a l → AreLinked s l → is_part s a ≡ true
 first_is_part s a l b h = search rules
@@ -50,26 +49,10 @@ chain_decides (suc fuel) s n a h p = go (cases_Bool (is_part s a)) (cases_lt (cc
     more cd part lt (inr r) = inr (λ l k. none l k)
       where
         none : (l : List ℕ) → IsChain s n a l → ⊥
-        none [] k = k.begins
-        none (x ∷ []) k =
-            let e : total s (x ∷ []) ≡ (ccw s a).count = subst (λ m. (ccw s m).count + 0 ≡ (ccw s a).count) (sym k.begins) (omega arith) in
-            let f = k.enough in
-            omega arith
-        none (x ∷ y ∷ l) k =
-            let b : x ≡ a = k.begins in
-            let tail = chain_tail s n a x y l k in
-            let lead = subst (λ m. Leads s m y) b k.linked.2 in
-            let e = onward_only s a y lead (chain_begins_with_part s _ y (y ∷ l) tail) in
-            let tail' = subst (λ m. IsChain s (n - (ccw s m).count) y (y ∷ l)) b tail in
-            r (y ∷ l) (subst (λ m. IsChain s (n - (ccw s a).count) m (y ∷ l)) e tail')
+        none l k = search (rules, chain_tail, onward_only, chain_begins_with_part)
 
     short : is_part s a ≡ true → (ccw s a).count < n → chains_data (ccw s a) ≡ false → (l : List ℕ) → IsChain s n a l → ⊥
-    short part lt cd [] k = k.begins
-    short part lt cd (x ∷ []) k =
-        let e : total s (x ∷ []) ≡ (ccw s a).count = subst (λ m. (ccw s m).count + 0 ≡ (ccw s a).count) (sym k.begins) (omega arith) in
-        let f = k.enough in
-        omega arith
-    short part lt cd (x ∷ y ∷ l) k = both_ways _ cd (subst (λ m. chains_data (ccw s m) ≡ true) k.begins k.linked.1)
+    short part lt cd l k = search (rules, both_ways)
 
     go : (is_part s a ≡ true) ⊎ (is_part s a ≡ false) → ((ccw s a).count < n) ⊎ (n ≤ (ccw s a).count) → (chains_data (ccw s a) ≡ true) ⊎ (chains_data (ccw s a) ≡ false) → (0 < (ccw s a).count → (ccw s a).count < n → ((l : List ℕ) × IsChain s (n - (ccw s a).count) (onward s a) l) ⊎ ((l : List ℕ) → IsChain s (n - (ccw s a).count) (onward s a) l → ⊥)) → ((l : List ℕ) × IsChain s n a l) ⊎ ((l : List ℕ) → IsChain s n a l → ⊥)
     go (inr is) lt cd rec = inr (λ l k. both_ways _ is (chain_begins_with_part s n a l k))
@@ -90,16 +73,8 @@ pub chain_unique : (s : List ℕ) (n a : ℕ) (l m : List ℕ) → IsChain s n a
 chain_unique s n a [] m k h = elim k.begins [ ]
 chain_unique s n a (x ∷ l) [] k h = elim h.begins [ ]
 chain_unique s n a (x ∷ []) (y ∷ []) k h = let e : x ≡ y = k.begins ∙ sym h.begins in ap (λ z. z ∷ []) e
-chain_unique s n a (x ∷ []) (y ∷ z ∷ m) k h =
-    let e : (ccw s y).count ≡ (ccw s x).count = ap (λ b. (ccw s b).count) (h.begins ∙ sym k.begins) in
-    let f = k.enough in
-    let g = h.short in
-    absurd (omega (arith, e))
-chain_unique s n a (x ∷ d ∷ l) (y ∷ []) k h =
-    let e : (ccw s y).count ≡ (ccw s x).count = ap (λ b. (ccw s b).count) (h.begins ∙ sym k.begins) in
-    let f = h.enough in
-    let g = k.short in
-    absurd (omega (arith, e))
+chain_unique s n a (x ∷ []) (y ∷ z ∷ m) k h = search rules
+chain_unique s n a (x ∷ d ∷ l) (y ∷ []) k h = search rules
 chain_unique s n a (x ∷ d ∷ l) (y ∷ z ∷ m) k h =
     let e : y ≡ x = h.begins ∙ sym k.begins in
     let left = chain_tail s n a x d l k in

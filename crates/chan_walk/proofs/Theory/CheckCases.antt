@@ -1,5 +1,5 @@
 -- The program check of a place, case by case.
-use Rattle.std.proofs.Common.{◌≡◌, ℕ, ◌%◌, true, false, not, ◌&&◌, if◌then◌else◌, List, [], ◌∷◌, length, Some, None, refl, sym, ◌∙◌, subst, rules}
+use Rattle.std.proofs.Common.{◌≡◌, ℕ, ◌%◌, true, false, not, ◌&&◌, if◌then◌else◌, List, [], ◌∷◌, length, Some, None, refl, ◌∙◌, rules}
 use Rattle.std.specs.Bool.{then_some}
 use Rattle.std.specs.Option.{option_or}
 use Rattle.ccw_core.specs.Ccw.{Fields, is_transfer, is_formed, is_counted, has_data_in}
@@ -22,13 +22,13 @@ check-outside s p h n = search (rules, is_aligned-true, ccw_at-none)
 pub check-found : (s : List ℕ) (p : Place) (c : Fields) → ccw_at s p.address ≡ Some c
     → check s p ≡ option_or (first_reason ((is_transfer c && p.after_transfer, TransferNotAllowed) ∷ [])) (if is_transfer c then None else first_reason (table_of_non_transfer (length s) p c))
 unfolding check_of
-check-found s p c h = search (rules, ccw_at-some)
+check-found s p c h = search rules
 
 -- a word that was found gives bytes of an argument
-pub is_part-found : (s : List ℕ) (a : ℕ) (c : Fields) → ccw_at s a ≡ Some c
+pub found_is_part : (s : List ℕ) (a : ℕ) (c : Fields) → ccw_at s a ≡ Some c
     → is_part s a ≡ (not (is_transfer c) && is_formed c && is_counted c && has_data_in (length s) c)
 unfolding is_part
-is_part-found s a c h = search (rules, ccw_at-some)
+found_is_part s a c h = search (rules, ccw_at-some)
 
 pub is_part-none : (s : List ℕ) (a : ℕ) → ccw_at s a ≡ None → is_part s a ≡ false
 unfolding is_part

@@ -1,8 +1,8 @@
 -- What it says of a place that it meets a program check, or none.
-use Rattle.std.proofs.Common.{◌≡◌, ℕ, ◌+◌, ◌≤◌, Bool, true, false, cond, if◌then◌else◌, List, [], ◌∷◌, length, Option, Some, None, refl, sym, ◌∙◌, subst, ◌⊎◌, inl, inr, rules}
+use Rattle.std.proofs.Common.{◌≡◌, ℕ, ◌+◌, ◌≤◌, Bool, true, false, cond, if◌then◌else◌, List, [], ◌∷◌, length, Option, Some, None, refl, ◌⊎◌, rules}
 use Rattle.std.specs.List.{AllByRecursion}
 use Rattle.std.specs.Option.{option_or}
-use Rattle.std.proofs.lemmas.Bool.{cases_Bool, and_parts, not-true, not-false, cond-false, leb-true}
+use Rattle.std.proofs.lemmas.Bool.{cases_Bool, leb-true}
 use Rattle.ccw_core.specs.Ccw.{Fields, ccw, is_transfer, is_formed, is_counted, has_data_in}
 use Rattle.ccw_core.specs.Storage.{Stands, is_aligned, is_inside}
 use Rattle.chan_walk.specs.declared.place.Place.{Place}
@@ -28,11 +28,7 @@ Cases P (e ∷ es) = (e.0 ≡ true → P e.1) × (e.0 ≡ false → Cases P es)
 
 pub first_case : (P : Reason → Type 0) (ts : List (Bool × Reason)) (r : Reason) → Cases P ts → first_reason ts ≡ Some r → P r
 first_case P [] r c h = absurd (cc)
-first_case P (e ∷ es) r c h = go e.0 refl h (λ f k. first_case P es r (c.1 f) k)
-  where
-    go : (b : Bool) → e.0 ≡ b → cond b (Some e.1) (first_reason es) ≡ Some r → (e.0 ≡ false → first_reason es ≡ Some r → P r) → P r
-    go true f h rest = let same : e.1 ≡ r = cc in subst P same (c.0 f)
-    go false f h rest = rest f h
+first_case P (e ∷ es) r c h = search (rules, first_case P es r)
 
 -- where P doesn't depend on the tests
 pub each_case : (P : Reason → Type 0) (ts : List (Bool × Reason)) → AllByRecursion (λ e. P e.1) ts → Cases P ts
@@ -49,7 +45,7 @@ check_case P s p r a b h = table_case P _ (is_transfer (ccw s p.address)) (table
 
 pub check_stands : (s : List ℕ) (p : Place) → check s p ≡ None → Stands s p.address
 unfolding check_of
-check_stands s p h = search (rules, or_none, cond_none, not-false)
+check_stands s p h = search rules
 
 -- a CCW that is no transfer and meets no program check
 pub record Passed (s : List ℕ) (p : Place) : Type 0 where
@@ -59,7 +55,7 @@ pub record Passed (s : List ℕ) (p : Place) : Type 0 where
 
 pub passed : (s : List ℕ) (p : Place) → check s p ≡ None → is_transfer (ccw s p.address) ≡ false → Passed s p
 unfolding check_of
-passed s p h t = search (rules, or_none, cond_none, cond-false, not-false)
+passed s p h t = search rules
 
 pub data_fits : (n : ℕ) (c : Fields) → has_data_in n c ≡ true → c.address + c.count ≤ n
 unfolding has_data_in
@@ -71,7 +67,7 @@ passed_is_part s p h t = search (rules, check_stands, passed)
 
 pub part_passes : (s : List ℕ) (p : Place) → is_part s p.address ≡ true → is_fresh p.entered ≡ false → check s p ≡ None
 unfolding is_part check_of
-part_passes s p h f = search (rules, and_parts, not-true)
+part_passes s p h f = search rules
 
 second_checked : (s : List ℕ) (p : Place) → Stands s p.address → p.after_transfer ≡ true → is_transfer (ccw s p.address) ≡ true → check s p ≡ Some TransferNotAllowed
 unfolding check_of

@@ -1,7 +1,7 @@
 -- Rules that the whole command table keeps.
-use Rattle.std.proofs.Common.{◌≡◌, ℕ, Bool, true, false, not, ◌&&◌, ◌||◌, ◌==◌, ◌%◌, List, [], ◌∷◌, Option, Some, None, refl, subst, ◌⊎◌, inl, inr, rules}
+use Rattle.std.proofs.Common.{◌≡◌, ℕ, Bool, true, false, not, ◌&&◌, ◌||◌, ◌==◌, ◌%◌, List, [], ◌∷◌, Option, Some, None, refl, rules}
 use Rattle.std.specs.List.{list_all}
-use Rattle.std.proofs.lemmas.Bool.{and_parts, cond_both, not-true, or_cases, both_ways, eqb-true}
+use Rattle.std.proofs.lemmas.Bool.{and_parts, cond_both}
 use Rattle.ccw_core.specs.Ccw.{Fields, is_transfer}
 use Rattle.ckd_core.specs.declared.command.Kind.{Kind}
 use Rattle.ckd_core.specs.declared.command.Kind.TheVariants.{Idle, Inward, Outward, Search}
@@ -16,18 +16,13 @@ Passes test (Some e) = test e ≡ true
 
 found_passes : (test : Command → Bool) (code : ℕ) (es : List Command) → list_all test es ≡ true → Passes test (find_code code es)
 found_passes test code [] h = tt
-found_passes test code (e ∷ es) h =
-    let a = and_parts (test e) (list_all test es) h in
-    cond_both (e.code == code) (Some e) (find_code code es) (Passes test) (λ _. a.0) (λ _. found_passes test code es a.1)
+found_passes test code (e ∷ es) h = search (rules, and_parts, cond_both, found_passes test code es)
 
 abbrev is_outward : Kind → Bool
 is_outward Outward = true
 is_outward Idle = false
 is_outward Inward = false
 is_outward Search = false
-
-outward_from : (k : Kind) → is_outward k ≡ true → k ≡ Outward
-outward_from k h = search rules
 
 abbrev seeks_go_out : Command → Bool
 seeks_go_out e = not (class_is_seek e.class) || (is_outward e.kind && not (class_recalibrates e.class))
@@ -37,7 +32,7 @@ unfolding table
 table_keeps = refl
 
 rule_at : (o : Option Command) → Passes seeks_go_out o → class_passes class_is_seek o ≡ true → (kind_of_command o ≡ Outward) × (class_passes class_recalibrates o ≡ false)
-rule_at o h k = search (rules, or_cases, both_ways, not-true, and_parts, outward_from)
+rule_at o h k = search rules
 
 abbrev masks_go_out : Command → Bool
 masks_go_out e = not (class_sets_mask e.class) || is_outward e.kind
@@ -47,7 +42,7 @@ unfolding table
 masks_keep = refl
 
 mask_at : (o : Option Command) → Passes masks_go_out o → class_passes class_sets_mask o ≡ true → kind_of_command o ≡ Outward
-mask_at o h k = search (rules, or_cases, both_ways, not-true, outward_from)
+mask_at o h k = search rules
 
 pub mask_is_outward : (code : ℕ) → sets_mask code ≡ true → kind_of_command (lookup code) ≡ Outward
 unfolding sets_mask lookup
@@ -66,7 +61,7 @@ unfolding table
 masks_apart = refl
 
 apart_at : (code : ℕ) (o : Option Command) → Passes masks_are_no_transfers o → Passes (λ e. e.code == code) o → class_passes class_sets_mask o ≡ true → (code % 16 == 8) ≡ false
-apart_at code o h same k = search (rules, or_cases, both_ways, not-true, eqb-true)
+apart_at code o h same k = search rules
 
 pub mask_is_no_transfer : (c : Fields) → sets_mask c.command ≡ true → is_transfer c ≡ false
 unfolding sets_mask lookup is_transfer
@@ -80,9 +75,6 @@ pub seek_no_recalibrate : (code : ℕ) → is_seek code ≡ true → recalibrate
 unfolding is_seek recalibrates lookup
 seek_no_recalibrate code h = (rule_at (lookup code) (found_passes seeks_go_out code table table_keeps) h).1
 
-idle_from : (k : Kind) → moves_nothing k ≡ true → k ≡ Idle
-idle_from k h = search rules
-
 abbrev idle_are_no_transfers : Command → Bool
 idle_are_no_transfers e = not (moves_nothing e.kind) || not (e.code % 16 == 8)
 
@@ -91,7 +83,7 @@ unfolding table
 idle_apart = refl
 
 idle_at : (code : ℕ) (o : Option Command) → Passes idle_are_no_transfers o → Passes (λ e. e.code == code) o → is_idle o ≡ true → (kind_of_command o ≡ Idle) × ((code % 16 == 8) ≡ false)
-idle_at code o h same k = search (rules, idle_from, or_cases, both_ways, not-true, eqb-true)
+idle_at code o h same k = search rules
 
 pub idle_is_no_transfer : (c : Fields) → is_idle (lookup c.command) ≡ true → (kind_of_command (lookup c.command) ≡ Idle) × (is_transfer c ≡ false)
 unfolding lookup is_transfer

@@ -22,11 +22,7 @@ has_right (x ∷ xs) ys b h = inr (has_right xs ys b h)
 pub has_cases : {X : Type 0} (xs ys : List X) (b : X) → Has (xs ++ ys) b → Has xs b ⊎ Has ys b
 has_cases [] ys b h = inr h
 has_cases (x ∷ xs) ys b (inl h) = inl (inl h)
-has_cases (x ∷ xs) ys b (inr h) = go (has_cases xs ys b h)
-  where
-    go : Has xs b ⊎ Has ys b → Has (x ∷ xs) b ⊎ Has ys b
-    go (inl k) = inl (inr k)
-    go (inr k) = inr k
+has_cases (x ∷ xs) ys b (inr h) = search (rules, has_cases xs ys b h)
 
 -- one element more
 pub has_push : {X : Type 0} (ps : List X) (q p : X) → Has (ps ++ q ∷ []) p ↔ (Has ps p ⊎ (q ≡ p))
@@ -58,10 +54,7 @@ contains_has {X = X} es e c = go es c.0 c.1 c.2
     go (x ∷ es) (suc k) l d = inr (go es k (omega arith) d)
 
 pub range_split : (a n k : ℕ) → range_with_len a (n + k) ≡ range_with_len a n ++ range_with_len (a + n) k
-range_split a zero k =
-    let e : 0 + k ≡ k = omega arith in
-    let f : a ≡ a + 0 = omega arith in
-    ap (range_with_len a) e ∙ ap (λ b. range_with_len b k) f
+range_split a zero k = search rules
 range_split a (suc n) k =
     let e : suc n + k ≡ suc (n + k) = omega arith in
     let f : a + 1 + n ≡ a + suc n = omega arith in

@@ -1,5 +1,5 @@
 -- A file mask is at least as strict as itself.
-use Rattle.std.proofs.Common.{◌≡◌, ℕ, Bool, true, false, not, ◌||◌, get_or, refl, rules}
+use Rattle.std.proofs.Common.{◌≡◌, ℕ, Bool, true, not, ◌||◌, get_or, rules}
 use Rattle.std.proofs.lemmas.Bool.{and_from}
 use Rattle.std.proofs.lemmas.List.Sums.{list_all-from_AllPass}
 use Rattle.ckd_core.specs.Mask.{is_mask, is_at_least, inhibits_class, inhibits_too, inhibitable}

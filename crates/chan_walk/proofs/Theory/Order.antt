@@ -1,5 +1,5 @@
 -- The whole table of own faults: its first reason is the own fault, and its numbers increase.
-use Rattle.std.proofs.Common.{◌≡◌, ℕ, zero, suc, ◌+◌, ◌<◌, Bool, true, false, if◌then◌else◌, List, [], ◌∷◌, ◌++◌, length, Option, Some, None, refl, sym, ap, ◌∙◌, subst, arith, slice_index, rules}
+use Rattle.std.proofs.Common.{◌≡◌, ℕ, zero, suc, ◌<◌, Bool, if◌then◌else◌, List, [], ◌∷◌, ◌++◌, length, Option, None, arith, rules}
 use Rattle.std.specs.List.Sorted.{IsStrictlyIncreasing}
 use Rattle.std.specs.Option.{option_or}
 use Rattle.ccw_core.specs.Ccw.{Fields, is_transfer}
@@ -21,9 +21,7 @@ increasing : (ns : List ℕ) → Rises ns → IsStrictlyIncreasing ns
 increasing [] h k l = absurd (omega arith)
 increasing (n ∷ []) h k l = absurd (omega arith)
 increasing (n ∷ m ∷ ms) h zero l = h.0
-increasing (n ∷ m ∷ ms) h (suc k) l =
-    let e : suc (k + 1) ≡ suc k + 1 = omega arith in
-    subst (λ i. slice_index (n ∷ m ∷ ms) (suc k) < slice_index (n ∷ m ∷ ms) i) e (increasing (m ∷ ms) h.1 k (omega arith))
+increasing (n ∷ m ∷ ms) h (suc k) l = search (rules, increasing (m ∷ ms) h.1 k)
 
 or_assoc : (a b c : Option Reason) → option_or (option_or a b) c ≡ option_or a (option_or b c)
 or_assoc a b c = search rules
@@ -48,9 +46,7 @@ numbers_increase j p x = (same (is_transfer c), rises (is_transfer c))
     own = table_of_own j p (ccw_of j p) x
 
     same : (b : Bool) → option_or (option_or (first_reason any) (if b then None else first_reason word)) (if b then None else first_reason own) ≡ first_reason (any ++ (if b then [] else word ++ own))
-    same true = or_none _ ∙ sym (first_reason-append any [])
-    same false = or_assoc (first_reason any) (first_reason word) (first_reason own) ∙ ap (option_or (first_reason any)) (sym (first_reason-append word own)) ∙ sym (first_reason-append any (word ++ own))
+    same b = search (rules, or_none, first_reason-append, any, or_assoc, word, own)
 
     rises : (b : Bool) → IsStrictlyIncreasing (numbers_of (any ++ (if b then [] else word ++ own)))
-    rises true = increasing (numbers_of (any ++ [])) (omega arith, (omega arith, tt))
-    rises false = increasing (numbers_of (any ++ word ++ own)) (omega arith, (omega arith, (omega arith, (omega arith, (omega arith, (omega arith, (omega arith, (omega arith, (omega arith, (omega arith, (omega arith, (omega arith, (omega arith, tt)))))))))))))
+    rises b = search (rules, increasing, any, word, own)

@@ -1,5 +1,5 @@
 -- The own fault of a place, put together from its parts.
-use Rattle.std.proofs.Common.{◌≡◌, Bool, true, false, ◌&&◌, ◌||◌, if◌then◌else◌, List, [], ◌∷◌, ◌++◌, Option, Some, None, is_none, ℕ, ◌+◌, ◌<◌, ◌≤◌, length, refl, sym, ap, ◌∙◌, subst, arith, rules}
+use Rattle.std.proofs.Common.{◌≡◌, Bool, true, false, ◌||◌, if◌then◌else◌, List, [], ◌∷◌, ◌++◌, Option, Some, None, ℕ, ◌+◌, ◌<◌, ◌≤◌, length, refl, sym, ap, ◌∙◌, subst, arith, rules}
 use Rattle.std.specs.Option.{option_or}
 use Rattle.ccw_core.specs.Ccw.{Fields, ccw, has_data_in, is_counted, is_transfer}
 use Rattle.std.proofs.lemmas.Bool.{and_parts, and_right, cond-false, leb-true, ltb-true}
@@ -8,22 +8,18 @@ use Rattle.chan_walk.specs.declared.job.Job.{Job}
 use Rattle.chan_walk.specs.declared.place.Place.{Place}
 use Rattle.chan_walk.specs.declared.reason.Reason.{Reason}
 use Rattle.chan_walk.specs.Check.{first_reason, check}
-use Rattle.chan_walk.specs.Fault.{begins_seek, begins_recalibrate, is_refused, command_faults, lent_faults, seek_faults, mask_faults, table_of_own, HasFault}
+use Rattle.chan_walk.specs.Fault.{begins_seek, begins_recalibrate, command_faults, lent_faults, seek_faults, mask_faults, table_of_own, HasFault}
 use Rattle.chan_walk.specs.Job.{storage_of, extents_of}
 use Rattle.chan_walk.specs.Place.{ccw_of}
 use Rattle.chan_walk.specs.Tables.{argument_faults, HasSeekFault}
-use Rattle.chan_walk.specs.declared.reason.Reason.TheVariants.{ShortSeek, SeekOutside}
+use Rattle.chan_walk.specs.declared.reason.Reason.TheVariants.{SeekOutside}
 use Rattle.chan_walk.proofs.Theory.Chains.{argument_exists}
 use Rattle.chan_walk.proofs.Theory.Checks.{passed}
 use Rattle.chan_walk.proofs.Theory.Commands.{seek_no_recalibrate}
 
 pub first_reason-append : (xs ys : List (Bool × Reason)) → first_reason (xs ++ ys) ≡ option_or (first_reason xs) (first_reason ys)
 first_reason-append [] ys = refl
-first_reason-append (x ∷ xs) ys =
-    elim x.0 as (λ b. (if b then Some x.1 else first_reason (xs ++ ys)) ≡ option_or (if b then Some x.1 else first_reason xs) (first_reason ys)) [
-      | true ↦ refl
-      | false ↦ first_reason-append xs ys
-    ]
+first_reason-append (x ∷ xs) ys = search (rules, first_reason-append xs ys)
 
 or_nothing : (a b : Bool) (t r : Reason) → first_reason ((a, t) ∷ (b || false, r) ∷ []) ≡ first_reason ((a, t) ∷ (b, r) ∷ [])
 or_nothing a b t r = search rules
@@ -76,12 +72,7 @@ fault_of_parts j p c command lent seek mask e h t f g k n =
     (k.0, k.1, subst (λ w. option_or (check (storage_of j) p) (if is_transfer w then None else first_reason (table_of_own j p w k.0)) ≡ option_or (option_or (option_or command lent) seek) mask) e whole)
   where
     three : first_reason (command_faults j p c ++ lent_faults j p c ++ seek_faults j p c k.0) ≡ option_or (option_or command lent) seek
-    three =
-        first_reason-append (command_faults j p c ++ lent_faults j p c) (seek_faults j p c k.0)
-        ∙ ap (λ o. option_or o (first_reason (seek_faults j p c k.0))) (first_reason-append (command_faults j p c) (lent_faults j p c))
-        ∙ ap (λ o. option_or (option_or o (first_reason (lent_faults j p c))) (first_reason (seek_faults j p c k.0))) (sym f)
-        ∙ ap (λ o. option_or (option_or command o) (first_reason (seek_faults j p c k.0))) (sym g)
-        ∙ ap (λ o. option_or (option_or command lent) o) k.2
+    three = search (rules, first_reason-append)
 
 -- the data range of a word that passed the channel's checks lies in storage
 pub data_in_storage : (s : List ℕ) (p : Place) (c : Fields) → check s p ≡ None → c ≡ ccw s p.address → is_transfer c ≡ false → c.address + c.count ≤ length s

@@ -1,5 +1,5 @@
 -- The channel command word in two storages.
-use Rattle.std.proofs.Common.{◌≡◌, ℕ, ◌+◌, ◌<◌, ◌≤◌, List, arith, rules}
+use Rattle.std.proofs.Common.{◌≡◌, ℕ, ◌+◌, ◌<◌, ◌≤◌, List, rules}
 use Rattle.ccw_core.specs.Ccw.{byte, ccw}
 
 -- where the eight bytes are the same, so is the word

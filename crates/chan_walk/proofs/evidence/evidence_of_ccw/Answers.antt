@@ -1,4 +1,4 @@
-use Rattle.std.proofs.Common.{◌≡◌, ◌+◌, ◌%◌, ◌≤◌, false, length, refl, sym, ap, ◌∙◌, subst}
+use Rattle.std.proofs.Common.{◌≡◌, ◌+◌, ◌%◌, ◌≤◌, false, length, refl, sym, ap, ◌∙◌, subst, rules}
 use Rattle.ccw_core.specs.declared.areas.Area.{Area}
 use Rattle.ccw_core.specs.Areas.{covered}
 use Rattle.ccw_core.specs.Ccw.{Fields, byte}
@@ -47,10 +47,7 @@ not_lent_for_fetching-requires-clause-uncovered c =
     subst (λ (r : Area). covered (fetch_of j) r.start r.len ≡ false) (sym area) (subst (Told j p) c.in-FetchNotLent.is all).1.1
 
 pub evidence_of_seek-evidence-requires-clause-fails : goal.evidence_of_seek-evidence-requires-clause-fails
-evidence_of_seek-evidence-requires-clause-fails c =
-    let j = c.args.job.now in
-    let p = c.args.offence.place in
-    seek_told j p c.args.offence.reason c.in-ShortSeek.is (told j p c.args.offence.reason c.requires.offends.0 c.requires.offends.1)
+evidence_of_seek-evidence-requires-clause-fails c = search (rules, seek_told, told)
 
 pub changed_ccw-evidence-requires : goal.changed_ccw-evidence-requires
 changed_ccw-evidence-requires c =

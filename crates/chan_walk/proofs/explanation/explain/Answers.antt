@@ -1,8 +1,7 @@
-use Rattle.std.proofs.Common.{◌≡◌, true, List, sym, subst}
+use Rattle.std.proofs.Common.{◌≡◌, true, List, sym, subst, rules}
 use Rattle.ckd_core.specs.Cylinders.{AreExtents}
 use Rattle.ckd_core.specs.Mask.{is_mask}
 use Rattle.chan_walk.specs.declared.offence.Offence.{Offence}
-use Rattle.chan_walk.specs.Explained.{IsEvidenceOf, IsPathOf}
 use Rattle.chan_walk.specs.Offences.{AreOffences, first_verdict}
 use Rattle.chan_walk.proofs.Machine.Answering.{at_most, covers, only_yes, shown}
 use Rattle.chan_walk.proofs.Algorithms.Explaining.{reached_looks, witness}
@@ -27,29 +26,19 @@ pub returns-clause-verdict : goal.returns-clause-verdict
 returns-clause-verdict c = c.first_is_verdict.ensures c.args.job.now c.in_ok-offences.offences.items (returns-clause-offences c)
 
 pub returns-clause-path : goal.returns-clause-path
-returns-clause-path c =
-    subst (λ (os : List Offence). IsPathOf c.args.job.now (first_verdict os) c.in_ok-witness.witness.path.items) c.as_slice-2.ensures.value c.in_ok-witness.ensures.path
+returns-clause-path c = search rules
 
 pub returns-clause-evidence : goal.returns-clause-evidence
-returns-clause-evidence c =
-    subst (λ (os : List Offence). IsEvidenceOf c.args.job.now (first_verdict os) c.in_ok-witness.witness.path.items c.in_ok-witness.witness.evidence) c.as_slice-2.ensures.value c.in_ok-witness.ensures.evidence
+returns-clause-evidence c = search rules
 
 pub returns-clause-shown : goal.returns-clause-shown
-returns-clause-shown c =
-    let extents = subst AreExtents c.pairs-extents.ensures.value c.pairs-extents.ensures.right in
-    let mask = subst (λ n. is_mask n ≡ true) c.byte-mask.ensures.value c.byte-mask.ensures.mask in
-    witness c.args.job.now c.in_ok-offences.offences.items c.in_ok-witness.witness.path.items (extents, c.args.job.now.storage.fits, mask) c.each_path_shows.ensures (returns-clause-path c)
+returns-clause-shown c = search (rules, witness, returns-clause-path)
 
 pub returns-clause-safe : goal.returns-clause-safe
-returns-clause-safe c =
-    let mask = subst (λ n. is_mask n ≡ true) c.byte-mask.ensures.value c.byte-mask.ensures.mask in
-    covers c.args.job.now (first_verdict c.in_ok-offences.offences.items) mask c.yes_is_safe.ensures (returns-clause-verdict c)
+returns-clause-safe c = search (rules, covers, returns-clause-verdict)
 
 pub returns-clause-witness : goal.returns-clause-witness
-returns-clause-witness c =
-    let extents = subst AreExtents c.pairs-extents.ensures.value c.pairs-extents.ensures.right in
-    let mask = subst (λ n. is_mask n ≡ true) c.byte-mask.ensures.value c.byte-mask.ensures.mask in
-    shown c.args.job.now (first_verdict c.in_ok-offences.offences.items) (extents, c.args.job.now.storage.fits, mask) c.no_false_alarm.ensures (returns-clause-verdict c)
+returns-clause-witness c = search (rules, shown, returns-clause-verdict)
 
 pub returns-clause-exact : goal.returns-clause-exact
 returns-clause-exact c safe steady =

@@ -1,4 +1,4 @@
-use Rattle.std.proofs.Common.{◌≡◌, false, refl, sym, ap, ◌∙◌, List, ℕ, Option}
+use Rattle.std.proofs.Common.{◌≡◌, false, ap, ◌∙◌, List, ℕ, Option, rules}
 use Rattle.std.specs.Option.{option_map_or}
 use Rattle.ckd_core.specs.Argument.{is_allowed_track, track_of}
 use Rattle.ckd_core.specs.declared.track.Track.{Track}
@@ -13,18 +13,10 @@ by_track : (j : Job) (x : List ℕ) (t : Option Track) → track_of x ≡ t → 
 by_track j x t e = is_allowed-track_of (extents_of j) (heads j) x ∙ ap (λ (t : Option Track). option_map_or (is_allowed_track (extents_of j) (heads j)) t false) e
 
 pub returns-in-Some-from_argument : goal.returns-in-Some-from_argument
-returns-in-Some-from_argument c =
-    let named = by_track c.args.job.now c.in-Some.argument _ (sym c.from_argument.ensures.value ∙ c.in-Some-from_argument.is) in
-    let allowed = named ∙ sym c.allowed.ensures ∙ c.if-allowed.true in
-    rw (c.in-Some.is, allowed) refl
+returns-in-Some-from_argument c = search (rules, by_track)
 
 pub returns-in_default-from_argument : goal.returns-in_default-from_argument
-returns-in_default-from_argument c =
-    let named = by_track c.args.job.now c.in-Some.argument _ (sym c.from_argument.ensures.value ∙ c.in-Some-from_argument.is) in
-    let refused = named ∙ sym c.allowed.ensures ∙ c.if-allowed.false in
-    rw (c.in-Some.is, refused) refl
+returns-in_default-from_argument c = search (rules, by_track)
 
 pub returns-in_default-from_argument-2 : goal.returns-in_default-from_argument-2
-returns-in_default-from_argument-2 c =
-    let refused = by_track c.args.job.now c.in-Some.argument _ (sym c.from_argument.ensures.value ∙ c.in_default-from_argument.is) in
-    rw (c.in-Some.is, refused) refl
+returns-in_default-from_argument-2 c = search (rules, by_track)

@@ -1,4 +1,4 @@
-use Rattle.std.proofs.Common.{◌≡◌, ◌&&◌, true, false, length, refl, sym, ◌∙◌}
+use Rattle.std.proofs.Common.{◌≡◌, ◌&&◌, true, false, length, refl, sym, ◌∙◌, rules}
 use Rattle.ccw_core.specs.Ccw.{is_transfer, is_invalid, is_formed, is_counted, has_data_in}
 use Rattle.ccw_core.specs.Held.{bytes_held}
 use Rattle.chan_walk.specs.Place.{is_fresh}
@@ -6,9 +6,7 @@ use Rattle.chan_walk.proofs.Theory.CheckCases.{check-found, check-transfer}
 use Rattle.chan_walk.proofs.fault.checked.Goals as goal
 
 pub returns-then-is_transfer : goal.returns-then-is_transfer
-returns-then-is_transfer c =
-    let t : is_transfer c.args.visit.now.word ≡ true = sym c.is_transfer.ensures.value ∙ c.if-is_transfer.true in
-    c.then_some.ensures ∙ sym (check-transfer _ c.args.visit.now.place _ c.requires.stands t)
+returns-then-is_transfer c = search (rules, check-transfer)
 
 pub returns-then-begins_invalid : goal.returns-then-begins_invalid
 returns-then-begins_invalid c =

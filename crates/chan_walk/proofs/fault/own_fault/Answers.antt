@@ -1,7 +1,6 @@
-use Rattle.std.proofs.Common.{Option, ap, sym, ◌∙◌, subst}
+use Rattle.std.proofs.Common.{Option, ap, sym, ◌∙◌, subst, rules}
 use Rattle.chan_walk.specs.declared.reason.Reason.{Reason}
 use Rattle.std.specs.Option.{option_or}
-use Rattle.ccw_core.specs.Ccw.{is_transfer}
 use Rattle.ccw_core.proofs.StorageLemmas.{ccw_at-some}
 use Rattle.chan_walk.specs.Fault.{HasFault}
 use Rattle.chan_walk.specs.Job.{storage_of}
@@ -12,22 +11,13 @@ pub returns-in-Some : goal.returns-in-Some
 returns-in-Some c = fault_of_check c.args.job.now c.args.visit.now.place c.in-Some.reason (sym c.in-Some.ensures)
 
 pub returns-then-is_transfer : goal.returns-then-is_transfer
-returns-then-is_transfer c =
-    let word = (ccw_at-some (storage_of c.args.job.now) c.args.visit.now.place.address c.args.visit.now.word c.requires.visit.stands).2 in
-    no_fault_of_transfer c.args.job.now c.args.visit.now.place (sym c.in_default.ensures)
-    (ap is_transfer (sym word) ∙ sym c.is_transfer.ensures.value ∙ c.if-is_transfer.true)
+returns-then-is_transfer c = search (rules, ccw_at-some, no_fault_of_transfer)
 
 pub lent_fault-requires-clause-inside : goal.lent_fault-requires-clause-inside
-lent_fault-requires-clause-inside c =
-    let word = (ccw_at-some (storage_of c.args.job.now) c.args.visit.now.place.address c.args.visit.now.word c.requires.visit.stands).2 in
-    let other = sym c.is_transfer.ensures.value ∙ c.if-is_transfer.false in
-    data_in_storage (storage_of c.args.job.now) c.args.visit.now.place c.args.visit.now.word (sym c.in_default.ensures) word other
+lent_fault-requires-clause-inside c = search (rules, ccw_at-some, data_in_storage)
 
 pub mask_fault-requires-clause-inside : goal.mask_fault-requires-clause-inside
-mask_fault-requires-clause-inside c =
-    let word = (ccw_at-some (storage_of c.args.job.now) c.args.visit.now.place.address c.args.visit.now.word c.requires.visit.stands).2 in
-    let other = sym c.is_transfer.ensures.value ∙ c.if-is_transfer.false in
-    data_begins_in_storage (storage_of c.args.job.now) c.args.visit.now.place c.args.visit.now.word (sym c.in_default.ensures) word other
+mask_fault-requires-clause-inside c = search (rules, ccw_at-some, data_begins_in_storage)
 
 pub returns : goal.returns
 returns c =

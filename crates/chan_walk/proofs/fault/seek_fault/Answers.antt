@@ -1,4 +1,4 @@
-use Rattle.std.proofs.Common.{sym, ◌∙◌}
+use Rattle.std.proofs.Common.{sym, ◌∙◌, rules}
 use Rattle.chan_walk.specs.Job.{storage_of}
 use Rattle.chan_walk.proofs.Theory.Chains.{argument_exists}
 use Rattle.chan_walk.proofs.Theory.OwnFaults.{fault_of_seek, fault_of_recalibrate, no_fault_of_recalibrate, no_fault_of_other}
@@ -6,8 +6,7 @@ use Rattle.chan_walk.proofs.fault.seek_fault.Goals as goal
 use Rattle.chan_walk.proofs.fault.seek_fault.Goals.{else-begins_recalibrate-via-then-begins_recalibrate+else-not-has, else-begins_recalibrate-via-else-begins_recalibrate}
 
 pub returns-then-begins_seek : goal.returns-then-begins_seek
-returns-then-begins_seek c =
-    (c.args.argument, c.requires.argument (sym c.begins_seek.ensures ∙ c.if-begins_seek.true), fault_of_seek c.args.job.now c.args.visit.now.place c.args.visit.now.word c.args.argument (sym c.begins_seek.ensures ∙ c.if-begins_seek.true) ∙ sym c.argument_fault.ensures)
+returns-then-begins_seek c = search (rules, fault_of_seek)
 
 pub returns-then-not-has : goal.returns-then-not-has
 returns-then-not-has c =

@@ -1,12 +1,11 @@
-use Rattle.std.proofs.Common.{sym, subst}
+use Rattle.std.proofs.Common.{sym, subst, rules}
 use Rattle.chan_walk.specs.declared.verdict.Verdict.{Verdict}
 use Rattle.chan_walk.specs.Verdict.{IsVerdict}
 use Rattle.chan_walk.proofs.Algorithms.Verdicts.{clear_all, verdict_of_change, verdict_of_fault, verdict_yes}
 use Rattle.chan_walk.proofs.judging.verdict_of.Goals as goal
 
 pub returns-in-Some : goal.returns-in-Some
-returns-in-Some c j are reached =
-    subst (λ (v : Verdict). IsVerdict j v) (sym c.verdict.ensures) (verdict_of_fault j c.in-Some.found (c.in-Some.ensures j are reached))
+returns-in-Some c j are reached = search (rules, verdict_of_fault)
 
 pub returns-in-Some-least_change : goal.returns-in-Some-least_change
 returns-in-Some-least_change c j are reached =

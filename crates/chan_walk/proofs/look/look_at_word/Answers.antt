@@ -1,4 +1,4 @@
-use Rattle.std.proofs.Common.{◌≡◌, ◌≤◌, ◌<◌, ◌^◌, Option, None, length, sym, ap, ◌∙◌, subst}
+use Rattle.std.proofs.Common.{◌≡◌, ◌≤◌, ◌^◌, Option, None, length, sym, ap, ◌∙◌, subst, rules}
 use Rattle.std.proofs.lemmas.Option.{same_Some}
 use Rattle.ccw_core.proofs.StorageLemmas.{ccw_at-some}
 use Rattle.chan_walk.specs.declared.look.Argument.{Argument}
@@ -19,14 +19,10 @@ pub own_fault-fault-requires-clause-argument : goal.own_fault-fault-requires-cla
 own_fault-fault-requires-clause-argument c seeks = c.bytes_at-bytes.ensures c.new-visit.result.place.address (c.sought-addresses.ensures.seek seeks)
 
 pub next_after-requires-clause-low : goal.next_after-requires-clause-low
-next_after-requires-clause-low c =
-    let small : length (storage_of c.args.job.now) ≤ 2 ^ 24 = c.args.job.now.storage.small in
-    subst (λ (p : Place). p.address < 2 ^ 25) (sym c.new-visit.ensures.place) (stands_below (storage_of c.args.job.now) c.args.place.address c.args.word small c.requires.stands)
+next_after-requires-clause-low c = search (rules, stands_below)
 
 pub next_after-requires-in-None-None-clause-low : goal.next_after-requires-in-None-None-clause-low
-next_after-requires-in-None-None-clause-low c =
-    let small : length (storage_of c.args.job.now) ≤ 2 ^ 24 = c.args.job.now.storage.small in
-    subst (λ (p : Place). p.address < 2 ^ 25) (sym c.new-visit.ensures.place) (stands_below (storage_of c.args.job.now) c.args.place.address c.args.word small c.requires.stands)
+next_after-requires-in-None-None-clause-low c = search (rules, stands_below)
 
 pub returns-clause-look : goal.returns-clause-look
 returns-clause-look c =

@@ -1,4 +1,4 @@
-use Rattle.std.proofs.Common.{◌<◌, ◌^◌, List, length, take, sym, subst, arith}
+use Rattle.std.proofs.Common.{◌<◌, List, length, take, sym, subst, arith, rules}
 use Rattle.std.proofs.lemmas.Result.{IfOk-weaker}
 use Rattle.chan_walk.specs.declared.place.Place.{Place}
 use Rattle.chan_walk.specs.Fault.{fetches}
@@ -9,10 +9,7 @@ use Rattle.chan_walk.proofs.Algorithms.Noted.{HasData, adds_data, all_data}
 use Rattle.chan_walk.proofs.noting.fetched.Goals as goal
 
 pub loop-look-init : goal.loop-look-init
-loop-look-init c = record {
-  low = low_none (2 ^ 32) c.new-ranges.result.items c.new-ranges.ensures.items;
-  bytes = λ j are. hold_none (HasData fetches j) c.new-ranges.result.items c.new-ranges.ensures.items;
-}
+loop-look-init c = search (rules, low_none, hold_none, HasData)
 
 pub loop-look-preserved : goal.loop-look-preserved
 loop-look-preserved c =

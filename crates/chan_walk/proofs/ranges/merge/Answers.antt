@@ -1,10 +1,9 @@
-use Rattle.std.proofs.Common.{rules, subst, sym, ap, ◌∙◌, ◌^◌}
+use Rattle.std.proofs.Common.{rules, subst, sym, ◌^◌}
 use Rattle.std.specs.List.{All}
 use Rattle.std.specs.List.Sorted.{IsNonDecreasingBy}
 use Rattle.std.proofs.lemmas.List.Sorted.{IsNonDecreasingBy-from_sort_by_key, All-permutation}
 use Rattle.std.proofs.lemmas.Result.{IfOk-weaker}
-use Rattle.ccw_core.specs.Areas.{lies_in}
-use Rattle.chan_walk.specs.Ranges.{start_of, EndsBelow, HaveSameBytes}
+use Rattle.chan_walk.specs.Ranges.{start_of, EndsBelow}
 use Rattle.chan_walk.proofs.Algorithms.Merging.{bytes_moved}
 use Rattle.chan_walk.proofs.ranges.merge.Goals as goal
 
@@ -15,7 +14,4 @@ pub merge_sorted-requires-clause-low : goal.merge_sorted-requires-clause-low
 merge_sorted-requires-clause-low c = subst (All (EndsBelow (2 ^ 32))) (sym c.as_slice.ensures.value) (All-permutation (EndsBelow (2 ^ 32)) c.args.areas.items c.sort_unstable_by_key.new.self.items c.sort_unstable_by_key.ensures.permutation c.requires)
 
 pub returns-clause-bytes : goal.returns-clause-bytes
-returns-clause-bytes c =
-    IfOk-weaker c.merge_sorted.result (λ v. HaveSameBytes v.items c.as_slice.result.now) (λ v. HaveSameBytes v.items c.args.areas.items)
-    (λ v h b. h b ∙ ap (λ z. lies_in z b) c.as_slice.ensures.value ∙ sym (bytes_moved c.args.areas.items c.sort_unstable_by_key.new.self.items b c.sort_unstable_by_key.ensures.permutation))
-    c.merge_sorted.ensures.bytes
+returns-clause-bytes c = search (rules, IfOk-weaker, bytes_moved)

@@ -1,31 +1,16 @@
-use Rattle.std.proofs.Common.{◌++◌, [], ◌∷◌, ◌∙◌, arith, rules, slice_index_or, refl, sym, subst}
-use Rattle.ccw_core.specs.declared.areas.Area.{Area}
+use Rattle.std.proofs.Common.{◌++◌, [], ◌∷◌, ◌∙◌, arith, rules, refl, sym, subst}
 use Rattle.chan_walk.specs.Ranges.{IsMerged}
 use Rattle.chan_walk.proofs.Algorithms.Merging.{runs_first, bytes_first, get_any, order_next, bytes_next, bytes_end, bytes_empty, merged_push}
 use Rattle.chan_walk.proofs.ranges.merge_sorted.Goals as goal
 
 pub loop-area-init : goal.loop-area-init
-loop-area-init c =
-    record {
-      runs = runs_first c.new-merged.result.items _ (search rules);
-      low = omega arith;
-      order = λ k d l h. omega arith;
-      bytes = λ b. sym (bytes_first c.new-merged.result.items _ c.args.areas.now b (search rules) refl);
-    }
+loop-area-init c = search (rules, runs_first, bytes_first)
 
 pub join-requires-clause-fits : goal.join-requires-clause-fits
 join-requires-clause-fits c = c.requires.low c.loop-area.area-index _ (omega arith)
 
 pub loop-area-preserved : goal.loop-area-preserved
-loop-area-preserved c =
-    let z : Area = record { start = 0; len = 0 } in
-    let area : Area = slice_index_or c.args.areas.now c.loop-area.area-index z in
-    record {
-      runs = c.in_ok-run.ensures.runs;
-      low = c.in_ok-run.ensures.low;
-      order = λ k d l h. order_next c.args.areas.now c.loop-area.area-index k _ z d c.requires.sorted c.in_ok-run.ensures.order l h;
-      bytes = λ b. bytes_next c.loop-area.merged.items c.join.new.merged.items c.args.areas.now c.loop-area.run c.in_ok-run.run' area c.loop-area.area-index b (omega arith) (get_any c.args.areas.now c.loop-area.area-index area z (omega arith)) (c.loop-area.invariant.bytes b) (c.in_ok-run.ensures.bytes b);
-    }
+loop-area-preserved c = search (rules, order_next, bytes_next, get_any)
 
 pub returns-then-run-eq0-clause-bytes : goal.returns-then-run-eq0-clause-bytes
 returns-then-run-eq0-clause-bytes c b = bytes_empty c.loop-area.merged.items c.loop-area.run b (omega arith) ∙ bytes_end (c.loop-area.merged.items ++ c.loop-area.run ∷ []) _ c.args.areas.now c.loop-area.area-index b (omega arith) refl (c.loop-area.invariant.bytes b)

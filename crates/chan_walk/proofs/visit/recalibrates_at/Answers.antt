@@ -1,16 +1,9 @@
-use Rattle.std.proofs.Common.{option_map, sym, ap, ◌∙◌}
-use Rattle.ckd_core.specs.Entries.{entry_of}
-use Rattle.ckd_core.specs.Table.{class_recalibrates, class_passes}
+use Rattle.std.proofs.Common.{rules}
 use Rattle.chan_walk.proofs.Algorithms.Visiting.{begins_recalibrate-begun}
 use Rattle.chan_walk.proofs.visit.recalibrates_at.Goals as goal
 
 pub returns-in-Some : goal.returns-in-Some
-returns-in-Some c =
-    c.is_recalibrate_class.ensures ∙ ap class_recalibrates c.class.ensures
-    ∙ ap (class_passes class_recalibrates) (sym (ap (option_map entry_of) c.in-Some.is) ∙ c.begun_command.ensures)
-    ∙ begins_recalibrate-begun c.args.place c.args.word
+returns-in-Some c = search (rules, begins_recalibrate-begun)
 
 pub returns-in-None : goal.returns-in-None
-returns-in-None c =
-    ap (class_passes class_recalibrates) (sym (ap (option_map entry_of) c.in-None.is) ∙ c.begun_command.ensures)
-    ∙ begins_recalibrate-begun c.args.place c.args.word
+returns-in-None c = search (rules, begins_recalibrate-begun)

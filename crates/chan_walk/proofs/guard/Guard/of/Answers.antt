@@ -1,4 +1,4 @@
-use Rattle.std.proofs.Common.{◌≡◌, ◌<◌, ◌^◌, List, length, take, sym, subst, arith}
+use Rattle.std.proofs.Common.{◌≡◌, ◌<◌, List, length, take, sym, subst, arith, rules}
 use Rattle.chan_walk.specs.declared.place.Place.{Place}
 use Rattle.chan_walk.specs.Guard.{IsCcwByteOf, IsArgumentByteOf}
 use Rattle.chan_walk.specs.Look.{places_of_looks}
@@ -7,12 +7,7 @@ use Rattle.chan_walk.proofs.Algorithms.Looking.{look_of, places_next, places_tak
 use Rattle.chan_walk.proofs.guard.Guard.of.Goals as goal
 
 pub loop-look-init : goal.loop-look-init
-loop-look-init c = record {
-  ccws = λ j are. hold_none (IsCcwByteOf j) c.new-ccws.result.items c.new-ccws.ensures.items;
-  ccws_low = low_none (2 ^ 32) c.new-ccws.result.items c.new-ccws.ensures.items;
-  arguments = λ j are. hold_none (IsArgumentByteOf j) c.new-arguments.result.items c.new-arguments.ensures.items;
-  arguments_low = low_none (2 ^ 32) c.new-arguments.result.items c.new-arguments.ensures.items;
-}
+loop-look-init c = search (rules, hold_none, low_none)
 
 pub add_ccw-requires-clause-look : goal.add_ccw-requires-clause-look
 add_ccw-requires-clause-look c = (c.requires.0, look_of c.requires.0 c.args.looks.now c.loop-look.look-index c.look-item.result c.requires.1 (omega arith) c.look-item.is)
