@@ -33,7 +33,7 @@ fn gives_bytes(storage: &Storage, word: &Ccw) -> bool
     !word.is_transfer() && is_formed(word) && is_counted(word) && has_data_in(storage, word)
 }
 
-/// What a CCW gives of an argument: so many bytes in a row, and whether the chain goes on behind it.
+/// What a CCW gives of an argument: bytes in a row, and whether the chain goes on behind them.
 struct Part {
     from: u32,
     count: usize,
@@ -41,7 +41,7 @@ struct Part {
 }
 
 /// What the CCW at an address gives of an argument, if it can give any of it.
-#[tactic(auto, using(crate::proofs::Theory::CheckCases::found_is_part, crate::proofs::Algorithms::Following::part_in_range))]
+#[tactic(auto, using(crate::proofs::Algorithms::Following::found_parts))]
 fn part_at(storage: &Storage, address: u32, ccw: Ccw) -> Option<Part>
     requires { stored_ccw (bytes_held storage.now) address ≡ Some ccw }
     ensures part { IfSome result (λ _. is_part (bytes_held storage.now) address ≡ true) }

@@ -45,11 +45,7 @@ module _ (ls : List Seen) (r : Area) (i : ℕ) (l : Seen) (h : i < length ls) (e
   least_skip best none old = go best old
     where
       earlier : (a : ℕ) → HasCcwIn ls r (i + 1) a → HasCcwIn ls r i a
-      earlier a m = at (last_or_earlier a m)
-        where
-          at : ((l.place.address ≡ a) × IsCcwOf l r) ⊎ HasCcwIn ls r i a → HasCcwIn ls r i a
-          at (inl b) = absurd (none b.1)
-          at (inr b) = b
+      earlier a m = search (rules, last_or_earlier)
 
       go : (best : Option ℕ) → IsLeastOrNone (HasCcwIn ls r i) best → IsLeastOrNone (HasCcwIn ls r (i + 1)) best
       go None n = λ a m. n a (earlier a m)
@@ -74,8 +70,7 @@ module _ (ls : List Seen) (r : Area) (i : ℕ) (l : Seen) (h : i < length ls) (e
       go (Some c) is old = (held (cases_lt c l.place.address), bound (omega arith) (λ a m. let d = old.1 a m in omega arith))
         where
           held : (c < l.place.address) ⊎ (l.place.address ≤ c) → HasCcwIn ls r (i + 1) n
-          held (inl k) = let e : c ≡ n = omega arith in subst (HasCcwIn ls r (i + 1)) e (later c old.0)
-          held (inr k) = let e : l.place.address ≡ n = omega arith in subst (HasCcwIn ls r (i + 1)) e here
+          held h = search (rules, later, here)
 
 get_within : (ls : List Seen) (k : ℕ) (l : Seen) → slice_get ls k ≡ Some l → k < length ls
 get_within [] k l e = absurd (cc)
@@ -86,17 +81,14 @@ read_there : (ls : List Seen) (k : ℕ) (l : Seen) → slice_get ls k ≡ Some l
 read_there ls k l e = search (rules, get_there, get_within)
 
 stands_seen : (j : Job) (l : Seen) → IsLook j l → IsSome l.ccw → Stands (storage_of j) l.place.address
-stands_seen j l h s = search (rules, ccw_at-some)
+stands_seen j l h s = search rules
 
 seen_stands : (j : Job) (l : Seen) → IsLook j l → Stands (storage_of j) l.place.address → IsSome l.ccw
 seen_stands j l h s = subst (λ (c : Option Fields). IsSome c) (sym (h.ccw ∙ ccw_at-where (storage_of j) l.place.address s)) refl
 
 look_at : (ls : List Seen) (k : ℕ) (p : Place) → k < length ls → slice_get (places_of_looks ls) k ≡ Some p → (l : Seen) × (slice_get ls k ≡ Some l) × (l.place ≡ p)
 look_at [] k p h e = absurd (omega arith)
-look_at (x ∷ ls) zero p h e = (x, refl, the_place e)
-  where
-    the_place : ◌≡◌ {A = Option Place} (Some x.place) (Some p) → x.place ≡ p
-    the_place d = cc
+look_at (x ∷ ls) zero p h e = search rules
 look_at (x ∷ ls) (suc k) p h e = look_at ls k p (omega arith) e
 
 module _ (j : Job) (w : Walk) (f : HasFound j w) (r : Area) where
@@ -145,11 +137,7 @@ module _ (j : Job) (w : Walk) (f : HasFound j w) (r : Area) where
 
 any_to : (xs : List ℕ) (b : ℕ) → list_any (λ y. nat_eq y b) xs ≡ true → Has xs b
 any_to [] b h = absurd (cc)
-any_to (x ∷ xs) b h = go (or_cases _ _ h) (λ k. any_to xs b k)
-  where
-    go : (nat_eq x b ≡ true) ⊎ (list_any (λ y. nat_eq y b) xs ≡ true) → (list_any (λ y. nat_eq y b) xs ≡ true → Has xs b) → Has (x ∷ xs) b
-    go (inl e) f = inl (eqb-true x b e)
-    go (inr e) f = inr (f e)
+any_to (x ∷ xs) b h = search (rules, or_cases, eqb-true, any_to xs b)
 
 any_from : (xs : List ℕ) (b : ℕ) → Has xs b → list_any (λ y. nat_eq y b) xs ≡ true
 any_from [] b h = absurd h

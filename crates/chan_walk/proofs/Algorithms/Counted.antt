@@ -70,18 +70,15 @@ module _ (s t : List ℕ) (len : length t ≡ length s) (C : ℕ → Type 0) (wo
   part_stands b h = let a = and_parts _ _ (and_parts _ _ (and_parts _ _ (and_parts _ _ (and_parts _ _ h).0).0).0).0 in (a.0, a.1)
 
   lead_to : (b d : ℕ) → C b → is_part s b ≡ true → chains_data (ccw s b) ≡ true → Leads s b d → Leads t b d
-  lead_to b d c part cd h = search (rules, stands_there)
+  lead_to b d c part cd h = search rules
 
   lead_from : (b d : ℕ) → C b → is_part s b ≡ true → chains_data (ccw s b) ≡ true → Leads t b d → Leads s b d
-  lead_from b d c part cd h = search (rules, stands_there)
+  lead_from b d c part cd h = search rules
 
   linked_to : (l : List ℕ) (a : ℕ) → BeginsAt a l → C a → AreLinked s l → AreLinked t l
   linked_to [] a b c h = tt
   linked_to (x ∷ []) a b c h = sym (part_same x (subst C (sym b) c)) ∙ h
-  linked_to (x ∷ y ∷ l) a b c h =
-      let here = subst C (sym b) c in
-      let w = word x here (part_stands x h.0) in
-      (sym (part_same x here) ∙ h.0, subst (λ z. chains_data z ≡ true) w h.1, lead_to x y here h.0 h.1 h.2, linked_to (y ∷ l) y refl (on x y here h.0 h.1 h.2) h.3)
+  linked_to (x ∷ y ∷ l) a b c h = search (rules, part_stands, part_same, lead_to, linked_to (y ∷ l) y)
 
   abbrev SameWords : List ℕ → Type 0
   SameWords l = AllByRecursion (λ x. ccw s x ≡ ccw t x) l
@@ -89,9 +86,7 @@ module _ (s t : List ℕ) (len : length t ≡ length s) (C : ℕ → Type 0) (wo
   words_same : (l : List ℕ) (a : ℕ) → BeginsAt a l → C a → AreLinked s l → SameWords l
   words_same [] a b c h = tt
   words_same (x ∷ []) a b c h = (word x (subst C (sym b) c) (part_stands x h), tt)
-  words_same (x ∷ y ∷ l) a b c h =
-      let here = subst C (sym b) c in
-      (word x here (part_stands x h.0), words_same (y ∷ l) y refl (on x y here h.0 h.1 h.2) h.3)
+  words_same (x ∷ y ∷ l) a b c h = search (rules, part_stands, words_same (y ∷ l) y)
 
   total_same : (l : List ℕ) → SameWords l → total s l ≡ total t l
   total_same [] h = refl

@@ -42,10 +42,7 @@ module _ (j : Job) (w : Walk) (f : HasFound j w) where
   -- each place found has a path that is the best
   best_at : (n k : ℕ) (p : Place) → k < n → slice_get ps k ≡ Some p → (before : List Place) × IsBest j ps k p before
   best_at zero k p h e = absurd (omega arith)
-  best_at (suc n) zero p h e =
-      let same : ◌≡◌ {A = Option Place} (Some (first_place j)) (Some p) = sym f.traced.begins ∙ e in
-      let is : first_place j ≡ p = cc in
-      ([], subst (λ z. IsBest j ps 0 z []) is (best_first j ps w.found_from.items f.at f.traced f.all f.walked.apart (all_found j j.limit ps f.at f.walked f.all)))
+  best_at (suc n) zero p h e = search (rules, best_first, all_found)
   best_at (suc n) (suc k) p h e =
       let r = f.traced.from (suc k) (omega arith) (get_within ps (suc k) p e) in
       let b = best_at n (slice_index w.found_from.items (suc k)) r.parent (omega (arith, r.earlier)) r.there in

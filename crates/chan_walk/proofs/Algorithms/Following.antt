@@ -14,7 +14,7 @@ use Rattle.chan_walk.specs.Argument.{is_part, AreLinked, IsChain, argument_addre
 use Rattle.chan_walk.specs.Onward.{onward}
 use Rattle.chan_walk.specs.Tables.{HasAddresses}
 use Rattle.chan_walk.proofs.Theory.Chains.{chain_cons, chain_tail, chain_begins_with_part, onward_leads, onward_only, part_counts}
-use Rattle.chan_walk.proofs.Theory.CheckCases.{is_part-none}
+use Rattle.chan_walk.proofs.Theory.CheckCases.{found_is_part, is_part-none}
 use Rattle.chan_walk.proofs.Theory.Lists.{all_append, range_split, take_front}
 
 -- the addresses taken so far are those of the chain in front of here, and six less these are still to come
@@ -110,6 +110,9 @@ in_range s a h = search (rules, and_parts, leb-true, part_counts)
 
 pub part_in_range : (s : List ℕ) (a : ℕ) (c : Fields) → ccw_at s a ≡ Some c → is_part s a ≡ true → IsInRange s a c
 part_in_range s a c h k = subst (IsInRange s a) (sym (ccw_at-some s a c h).2) (in_range s a k)
+
+-- what is known of a word that was found
+pub ruleset found_parts = (found_is_part, part_in_range)
 
 -- ---- the bytes of an argument lie in storage
 

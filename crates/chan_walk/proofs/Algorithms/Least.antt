@@ -35,7 +35,7 @@ module _ (Off : Place → Reason → Type 0) where
   -- one place more
   pub least_added : (Here : Place → Type 0) (best : Option Finding) (p : Place) (reason : Option Reason) (now : Option Finding)
       → IsFirst Off p reason → IsLesser best p reason now → IsLeast Off Here best → IsLeast Off (λ q. Here q ⊎ (p ≡ q)) now
-  least_added Here best p reason now first e h = search (rules, moved, by_new, comes_first-trans)
+  least_added Here best p reason now first e h = search rules
 
   -- after the place at i
   pub least_next : (ps : List Place) (i : ℕ) (best : Option Finding) (p : Place) (reason : Option Reason) (now : Option Finding)
@@ -55,8 +55,7 @@ module _ (Off : Place → Reason → Type 0) where
       to q b = at q b (cases_lt b.at i)
 
       from : (q : Place) → Below ps i q ⊎ (p ≡ q) → Below ps (i + 1) q
-      from q (inl b) = let l = b.below in record { at = b.at; below = omega arith; is = b.is }
-      from q (inr d) = record { at = i; below = omega arith; is = e ∙ ap Some d }
+      from q h = search rules
 
 pub at_has : (ps : List Place) (p : Place) → Has ps p → Below ps (length ps) p
 at_has [] p h = absurd h

@@ -34,11 +34,7 @@ at_has (q ∷ ps) p (inr h) = let r = at_has ps p h in (suc r.0, omega (arith, r
 
 apart_push : (q : Place) (ps : List Place) → AreApart ps → (Has ps q → ⊥) → AreApart (ps ++ q ∷ [])
 apart_push q [] a n = ((λ h. h), tt)
-apart_push q (p ∷ ps) a n = ((λ h. go ((has_push ps q p).0 h)), apart_push q ps a.1 (λ h. n (inr h)))
-  where
-    go : Has ps p ⊎ (q ≡ p) → ⊥
-    go (inl h) = a.0 h
-    go (inr e) = n (inl (sym e))
+apart_push q (p ∷ ps) a n = search (rules, has_push, apart_push q ps a.1)
 
 -- ---- one place more
 
@@ -161,8 +157,7 @@ walked_on j l n from ps qs rs fs gs hs i w h s a b = record {
     same = z.same i (omega (arith, y.longer)) ∙ y.same i h
 
     among : (q : Place) → IsAmong n q → Has rs q
-    among q (inl e) = z.keeps q (y.has q e)
-    among q (inr e) = z.has q e
+    among q h = search (rules, z, y)
 
     close : (k : ℕ) (p q : Place) → (k < i) ⊎ (i ≤ k) → k < i + 1 → slice_get rs k ≡ Some p → Follows j p q → Has rs q
     close k p q (inl v) u e f = z.walked.closed k p q v e f

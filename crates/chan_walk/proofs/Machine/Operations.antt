@@ -81,8 +81,7 @@ module _ (j : Job) (bytes : AreBytes (storage_of j)) where
       no_event z h = h
 
       no_none : NoSeek (Seek None ∷ [])
-      no_none z (inl h) = cc
-      no_none z (inr h) = h
+      no_none z h = search rules
 
       go : Left j c m (Some x) sk.es sk.after → SeekStep y q g x
       go (inl left) = record {
@@ -101,7 +100,7 @@ module _ (j : Job) (bytes : AreBytes (storage_of j)) where
       }
 
   ready_out : (q : Place) (x : List ℕ) → length x < 6 → q.entered ≡ ChainOut → check (storage_of j) q ≡ None → is_transfer (ccw_of j q) ≡ false → Ready q (Some x) x
-  ready_out q x few o e t = search (rules, both_ways)
+  ready_out q x few o e t = search rules
 
   pub ready_fresh : (p : Place) (g : Gathered) → begins_seek p (ccw_of j p) ≡ true → check (storage_of j) p ≡ None → is_transfer (ccw_of j p) ≡ false → Known j p → Ready p g []
   ready_fresh p g b e t known = search (rules, fresh_out, seek_no_recalibrate, and_parts)

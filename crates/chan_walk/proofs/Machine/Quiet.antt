@@ -228,14 +228,10 @@ module _ (j : Job) where
       from_moved z h = from_sought z (has_left (begun p c ++ mv.es) sk.es z h)
 
       calm_begun : (f : Bool) → AllByRecursion (IsQuiet j) (if f then Command c.command ∷ [] else [])
-      calm_begun true = (tt, tt)
-      calm_begun false = tt
+      calm_begun f = search rules
 
       has_begun : (f : Bool) → f ≡ true → Has (if f then Command c.command ∷ [] else []) (Command c.command)
-      has_begun true e = inl refl
-      has_begun false e = absurd (cc)
+      has_begun f e = search rules
 
       no_begun : (f : Bool) → NoSeek (if f then Command c.command ∷ [] else [])
-      no_begun true z (inl h) = cc
-      no_begun true z (inr h) = h
-      no_begun false z h = h
+      no_begun f z h = search rules
