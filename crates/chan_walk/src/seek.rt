@@ -34,6 +34,7 @@ fn gives_bytes(storage: &Storage, word: &Ccw) -> bool
 }
 
 /// What a CCW gives of an argument: bytes in a row, and whether the chain goes on behind them.
+#[derive(Clone, Copy)]
 struct Part {
     from: u32,
     count: usize,
@@ -114,16 +115,10 @@ pub(crate) fn argument_addresses(storage: &Storage, address: u32, ccw: Ccw) -> R
     let mut have: usize = 0;
     let mut here = Link { address, ccw };
     loop {
-        let Some(
-            Part {
-                from,
-                count,
-                chains,
-            },
-        ) = part_at(storage, here.address, here.ccw)
-        else {
+        let Some(part) = part_at(storage, here.address, here.ccw) else {
             return Err(have as u8);
         };
+        let (from, count, chains) = (part.from, part.count, part.chains);
         let room = 6 - have;
         if count >= room {
             note(&mut addresses, have, from, room);

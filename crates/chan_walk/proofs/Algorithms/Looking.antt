@@ -11,7 +11,7 @@ use Rattle.chan_walk.specs.declared.job.Job.{Job}
 use Rattle.chan_walk.specs.declared.place.Place.{Place}
 use Rattle.chan_walk.specs.declared.reason.Reason.{Reason}
 use Rattle.chan_walk.specs.declared.successor.Next.{Next}
-use Rattle.chan_walk.specs.Argument.{Has}
+use Rattle.chan_walk.specs.Argument.{Has, argument_addresses}
 use Rattle.chan_walk.specs.Fault.{begins_seek, kind_of, HasFault, IsClear}
 use Rattle.chan_walk.specs.Guard.{IsArgumentByteOf, IsSeekByteOf}
 use Rattle.chan_walk.specs.Job.{storage_of}
@@ -71,7 +71,8 @@ taken_whole j p c o x small clear w e = go (cases_Bool (begins_seek p c))
         bytes = bytes_of_argument j p h.0 x (ap (begins_seek p) (sym w.word) ∙ s) clear h.1 h.2
 
         from : (b : ℕ) → IsArgumentByteOf j p b → Has x b
-        from b h = search (rules, bytes, h, first_address)
+        from b (inl k) = (bytes b).1 k
+        from b (inr k) = subst (λ z. Has z b) (sym h.2) (subst (Has (argument_addresses (storage_of j) h.0)) k.1.at (first_address (storage_of j) p.address h.0 h.1))
     go (inr s) = let n = w.other s in absurd (cc)
 
 -- ---- where the program goes on

@@ -5,38 +5,38 @@ use Rattle.chan_walk.proofs.Algorithms.Given.{given_more, given_no_part, given_n
 use Rattle.chan_walk.proofs.seek.argument_addresses.Goals as goal
 
 pub returns-in_default-clause-given : goal.returns-in_default-clause-given
-returns-in_default-clause-given c = given_no_part _ _ _ _ c.loop-from.invariant.given c.in_default.ensures.none
+returns-in_default-clause-given c = given_no_part _ _ _ _ c.loop-part.invariant.given c.in_default.ensures.none
 
 pub returns-then-count-room-clause-six : goal.returns-then-count-room-clause-six
 returns-then-count-room-clause-six c =
     let s = bytes_held c.args.storage.now in
     let part = c.in-Some.ensures in
     let found =
-    followed_whole s c.args.address c.loop-from.addresses c.note.new.addresses c.loop-from.have c.loop-from.here.address c.loop-from.invariant.followed part.part
+    followed_whole s c.args.address c.loop-part.addresses c.note.new.addresses c.loop-part.have c.loop-part.here.address c.loop-part.invariant.followed part.part
     (omega (arith, part.count)) c.note.ensures.size c.note.ensures.before (simp part.from at c.note.ensures.added)
     in
     (found.0, found.1, found.2, argument_below s 6 c.args.address found.0 c.note.new.addresses found.1 found.2)
 
 pub returns-then-not-chains-clause-none : goal.returns-then-not-chains-clause-none
-returns-then-not-chains-clause-none c = no_more _ _ _ _ _ c.loop-from.invariant.followed (omega (arith, c.in-Some.ensures.count)) (sym c.in-Some.ensures.chains ∙ c.if-not-chains.true)
+returns-then-not-chains-clause-none c = no_more _ _ _ _ _ c.loop-part.invariant.followed (omega (arith, c.in-Some.ensures.count)) (sym c.in-Some.ensures.chains ∙ c.if-not-chains.true)
 
 pub returns-then-not-chains-clause-given : goal.returns-then-not-chains-clause-given
-returns-then-not-chains-clause-given c = rw c.in-Some.ensures.count (given_unchained _ _ _ _ c.loop-from.invariant.given c.in-Some.ensures.part (sym c.in-Some.ensures.chains ∙ c.if-not-chains.true))
+returns-then-not-chains-clause-given c = rw c.in-Some.ensures.count (given_unchained _ _ _ _ c.loop-part.invariant.given c.in-Some.ensures.part (sym c.in-Some.ensures.chains ∙ c.if-not-chains.true))
 
 pub returns-in-None-clause-none : goal.returns-in-None-clause-none
-returns-in-None-clause-none c = leads_nowhere _ _ _ _ _ c.loop-from.invariant.followed (omega (arith, c.in-Some.ensures.count)) c.in-None.ensures.none
+returns-in-None-clause-none c = leads_nowhere _ _ _ _ _ c.loop-part.invariant.followed (omega (arith, c.in-Some.ensures.count)) c.in-None.ensures.none
 
 pub returns-in-None-clause-given : goal.returns-in-None-clause-given
-returns-in-None-clause-given c = rw c.in-Some.ensures.count (given_nowhere _ _ _ _ c.loop-from.invariant.given c.in-Some.ensures.part c.in-None.ensures.none)
+returns-in-None-clause-given c = rw c.in-Some.ensures.count (given_nowhere _ _ _ _ c.loop-part.invariant.given c.in-Some.ensures.part c.in-None.ensures.none)
 
-pub loop-from-preserved : goal.loop-from-preserved
-loop-from-preserved c =
+pub loop-part-preserved : goal.loop-part-preserved
+loop-part-preserved c =
     let part = c.in-Some.ensures in
     let chained = sym part.chains ∙ c.if-not-chains.false in
     record {
       followed = rw (c.in-Some-onward.ensures.found, part.count)
-          (followed_more _ _ c.loop-from.addresses _ _ _ c.loop-from.invariant.followed part.part (omega (arith, part.count)) chained
-          c.note-in-loop-from.ensures.size c.note-in-loop-from.ensures.before (simp (part.count, part.from) at c.note-in-loop-from.ensures.added));
-      given = rw (c.in-Some-onward.ensures.found, part.count) (given_more _ _ _ _ c.loop-from.invariant.given part.part chained);
+          (followed_more _ _ c.loop-part.addresses _ _ _ c.loop-part.invariant.followed part.part (omega (arith, part.count)) chained
+          c.note-in-loop-part.ensures.size c.note-in-loop-part.ensures.before (simp (part.count, part.from) at c.note-in-loop-part.ensures.added));
+      given = rw (c.in-Some-onward.ensures.found, part.count) (given_more _ _ _ _ c.loop-part.invariant.given part.part chained);
       stands = c.in-Some-onward.ensures.stands;
     }

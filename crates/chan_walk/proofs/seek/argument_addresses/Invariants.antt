@@ -5,12 +5,12 @@ use Rattle.chan_walk.proofs.Algorithms.Following.{IsFollowed}
 use Rattle.chan_walk.proofs.Algorithms.Given.{IsGiven}
 use Rattle.chan_walk.proofs.seek.argument_addresses.Given as goal
 
-abbrev pub invariant-loop-from : goal.invariant-loop-from
-invariant-loop-from l = record {
+abbrev pub invariant-loop-part : goal.invariant-loop-part
+invariant-loop-part l = record {
   followed : IsFollowed (bytes_held l.storage) l.address l.addresses l.have l.here.address;
   given : IsGiven (bytes_held l.storage) l.address l.have l.here.address;
   stands : ccw_at (bytes_held l.storage) l.here.address ≡ Some l.here.ccw;
 }
 
-abbrev pub decreases-loop-from : goal.decreases-loop-from
-decreases-loop-from l = 6 - l.have
+abbrev pub decreases-loop-part : goal.decreases-loop-part
+decreases-loop-part l = 6 - l.have
