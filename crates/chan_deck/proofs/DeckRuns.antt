@@ -10,7 +10,7 @@ use Rattle.ckd_core.specs.declared.device.Device.TheVariants.{D2311}
 use Rattle.ckd_core.specs.Cylinders.{IsExtent, AreExtents}
 use Rattle.chan_deck.specs.Item.{Item, header, device, mask, start, limit, extent, fetch, store, storage, put, end, HasForm}
 use Rattle.chan_deck.specs.Image.{Image, IsDeck, HasLimit, header_of, limit_line, items, puts, is_zero, extent_of}
-use Rattle.chan_deck.specs.Reading.{State, Opening, Named, OnDevice, Masked, Started, Listing, Filling, Whole, step, go_on, run, pad, image_of}
+use Rattle.chan_deck.specs.Reading.{State, Opening, Named, OnDevice, Masked, Started, Listing, Filling, Whole, step, and_then, run, pad, image_of}
 use Rattle.chan_deck.specs.declared.heading.Heading.{Heading}
 use Rattle.chan_deck.specs.Refused.{is_size}
 use Rattle.chan_deck.proofs.PutLemmas.{length_pad}
@@ -25,24 +25,24 @@ use Rattle.chan_deck.specs.declared.cause.Cause.{Cause}
 
 -- ---- runs
 
-after : (r : Result State Cause) (f g : State → Result State Cause) (k : State → Result State Cause) → ((t : State) → g t ≡ go_on (f t) k) → go_on r g ≡ go_on (go_on r f) k
+after : (r : Result State Cause) (f g : State → Result State Cause) (k : State → Result State Cause) → ((t : State) → g t ≡ and_then (f t) k) → and_then r g ≡ and_then (and_then r f) k
 after (Ok s) f g k h = h s
 after (Err c) f g k h = refl
 
 -- a run of two parts
-pub run-append : (s : State) (is js : List Item) → run s (is ++ js) ≡ go_on (run s is) (λ t. run t js)
+pub run-append : (s : State) (is js : List Item) → run s (is ++ js) ≡ and_then (run s is) (λ t. run t js)
 run-append s [] js = refl
 run-append s (i ∷ is) js = after (step s i) (λ t. run t is) (λ t. run t (is ++ js)) (λ t. run t js) (λ t. run-append t is js)
 
-pub go_on_ok : (r : Result State Cause) (f : State → Result State Cause) (t : State) → go_on r f ≡ Ok t → (s : State) × (r ≡ Ok s) × (f s ≡ Ok t)
-go_on_ok (Ok s) f t e = (s, refl, e)
-go_on_ok (Err c) f t e = absurd cc
+pub and_then_ok : (r : Result State Cause) (f : State → Result State Cause) (t : State) → and_then r f ≡ Ok t → (s : State) × (r ≡ Ok s) × (f s ≡ Ok t)
+and_then_ok (Ok s) f t e = (s, refl, e)
+and_then_ok (Err c) f t e = absurd cc
 
 -- a run leads to a state, and says its lines more
 pub run-says : (s t : State) (js : List Item) → IsState s → AllByRecursion HasForm js → run s js ≡ Ok t → IsState t × (said t ≡ said s ++ js)
 run-says s t [] is forms e = subst (λ x. IsState x × (said x ≡ said s ++ [])) (same_ok s t e) (is, sym (append-nil (said s)))
 run-says s t (i ∷ js) is forms e =
-    let r = go_on_ok (step s i) (λ q. run q js) t e in
+    let r = and_then_ok (step s i) (λ q. run q js) t e in
     let one = step-says s r.0 i is forms.0 r.1 in
     let more = run-says r.0 t js one.0 forms.1 r.2 in
     (more.0, more.1 ∙ ap (λ x. x ++ js) one.1 ∙ append_assoc (said s) (i ∷ []) js)
@@ -67,8 +67,8 @@ over_lists h [] fs ss are = absurd (omega (arith, are.0))
 over_lists h (e ∷ es) fs ss are =
     let xs = map extent_of (e ∷ es) in
     run-append (Listing h [] [] []) (xs ++ map fetch fs) (map store ss)
-    ∙ ap (λ r. go_on r (λ t. run t (map store ss)))
-    (run-append (Listing h [] [] []) xs (map fetch fs) ∙ ap (λ r. go_on r (λ t. run t (map fetch fs))) (over_extents h [] (e ∷ es) are.1) ∙ over_fetches h e es [] fs)
+    ∙ ap (λ r. and_then r (λ t. run t (map store ss)))
+    (run-append (Listing h [] [] []) xs (map fetch fs) ∙ ap (λ r. and_then r (λ t. run t (map fetch fs))) (over_extents h [] (e ∷ es) are.1) ∙ over_fetches h e es [] fs)
     ∙ over_stores h e es fs [] ss
 
 -- ---- puts
@@ -121,7 +121,7 @@ over_puts h es fs ss size (suc n) at front bytes low al len is =
     let len1 : length (pad front at ++ take 8 bytes) ≡ at + 8 = omega (arith, length-append (pad front at) (take 8 bytes), length_pad front at low) in
     let r = over_puts h es fs ss size n (at + 8) (pad front at ++ take 8 bytes) (drop 8 bytes) (omega arith) (omega arith) rest (omega arith) in
     let one = put_step h es fs ss size at front (take 8 bytes) low al (omega arith) z in
-    (r.0, ap (λ q. go_on q (λ t. run t rest_puts)) one ∙ r.1, r.2 ∙ rw (pad_same (pad front at ++ take 8 bytes) (at + 8) len1, append_assoc, whole) refl))
+    (r.0, ap (λ q. and_then q (λ t. run t rest_puts)) one ∙ r.1, r.2 ∙ rw (pad_same (pad front at ++ take 8 bytes) (at + 8) len1, append_assoc, whole) refl))
 
 -- ---- the whole deck
 
@@ -150,9 +150,9 @@ reads_deck d is =
     ∙ append_assoc H ((E ++ F ++ S) ++ storage size ∷ P) (end ∷ []) in
     ap (λ t. run Opening t) parts ∙ by_version d.version d.device d.mask d.start ((E ++ F ++ S) ++ storage size ∷ P ++ end ∷ []) is.limit is.mask.1
     ∙ run-append (Listing h [] [] []) ((E ++ F ++ S) ++ storage size ∷ P) (end ∷ [])
-    ∙ ap (λ r. go_on r (λ t. run t (end ∷ []))) (run-append (Listing h [] [] []) (E ++ F ++ S) (storage size ∷ P)
-    ∙ ap (λ r. go_on r (λ t. run t (storage size ∷ P))) (over_lists h d.extents d.fetch d.store is.extents)
-    ∙ ap (λ r. go_on r (λ t. run t P)) (good_size h d.fetch d.store d.extents size is.extents.0 right)
+    ∙ ap (λ r. and_then r (λ t. run t (end ∷ []))) (run-append (Listing h [] [] []) (E ++ F ++ S) (storage size ∷ P)
+    ∙ ap (λ r. and_then r (λ t. run t (storage size ∷ P))) (over_lists h d.extents d.fetch d.store is.extents)
+    ∙ ap (λ r. and_then r (λ t. run t P)) (good_size h d.fetch d.store d.extents size is.extents.0 right)
     ∙ filled.1)
     ∙ ap (λ b. Ok (Whole (image_of h d.extents d.fetch d.store b))) full
 

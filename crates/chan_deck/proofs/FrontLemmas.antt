@@ -12,7 +12,7 @@ use Rattle.ckd_core.specs.Cylinders.{IsExtent}
 use Rattle.chan_deck.specs.Item.{Item, header, device, mask, start, fetch, store, storage, end, line, text, HasForm, Says, IsByte, IsArea}
 use Rattle.chan_deck.specs.Image.{Image, IsDeck, HasLimit, header_of, limit_line, items, puts, is_zero, extent_of, spelling, Spells}
 use Rattle.chan_deck.specs.Refused.{split, lines, first_lines, onto_first, BeginsSomeDeck, IsRefusedAt}
-use Rattle.chan_deck.specs.Reading.{State, Opening, Whole, HasRead, step, go_on, run}
+use Rattle.chan_deck.specs.Reading.{State, Opening, Whole, HasRead, step, and_then, run}
 use Rattle.chan_deck.proofs.ItemLemmas.{HasNoFeed, line_no_feed, one_item}
 use Rattle.chan_deck.proofs.StepLemmas.{said, IsState, at_front}
 use Rattle.chan_deck.specs.declared.version.Version.{Version}
@@ -175,7 +175,7 @@ fronts t s n rest st m h =
       ),
     )
 
-not_ok : {A : Type 0} (r : Result State Cause) (s : State) (c : Cause) (f : State → Result State Cause) → r ≡ Err c → go_on r f ≡ Ok s → A
+not_ok : {A : Type 0} (r : Result State Cause) (s : State) (c : Cause) (f : State → Result State Cause) → r ≡ Err c → and_then r f ≡ Ok s → A
 not_ok r s c f e g = absurd cc
 
 -- what comes first of what is left, where a line is
@@ -195,9 +195,9 @@ no_front t s n rest l after c st e all f =
     let d = front_lines (take n (lines t)) (all_take HasNoFeed n (lines t) (lines_no_feed t)) f in
     let deck : map line (items d.0) ≡ ls ++ l ∷ d.1 = d.3 ∙ ap (λ x. x ++ d.1) first ∙ append_assoc ls (l ∷ []) d.1 in
     let same = same_front st.said (items d.0) l d.1 st.forms (items_form d.0 d.2) deck in
-    let runs : go_on (run Opening st.said) (λ q. run q (same.0 ∷ same.1)) ≡ Ok (Whole d.0) =
+    let runs : and_then (run Opening st.said) (λ q. run q (same.0 ∷ same.1)) ≡ Ok (Whole d.0) =
     sym (run-append Opening st.said (same.0 ∷ same.1)) ∙ ap (λ x. run Opening x) (sym same.3) ∙ reads_deck d.0 d.2 in
-    let goes : go_on (step s same.0) (λ q. run q same.1) ≡ Ok (Whole d.0) = ap (λ r. go_on r (λ q. run q (same.0 ∷ same.1))) (sym st.runs) ∙ runs in
+    let goes : and_then (step s same.0) (λ q. run q same.1) ≡ Ok (Whole d.0) = ap (λ r. and_then r (λ q. run q (same.0 ∷ same.1))) (sym st.runs) ∙ runs in
     not_ok (step s same.0) (Whole d.0) c (λ q. run q same.1) (all same.0 same.2) goes
 
 -- the first lines of a deck's text are a front

@@ -5,15 +5,15 @@ use Rattle.ccw_core.specs.declared.areas.Area.{Area}
 use Rattle.ckd_core.specs.declared.device.Device.{Device}
 use Rattle.ckd_core.specs.Mask.{is_mask}
 use Rattle.chan_deck.specs.Item.{Item, header, device, mask, start, limit, extent, fetch, store, storage, put, end, Says}
-use Rattle.chan_deck.specs.Reading.{State, Opening, Named, OnDevice, Masked, Started, Listing, Filling, Whole, step, stands, no_form, on_storage, Refuses, row_item}
+use Rattle.chan_deck.specs.Reading.{State, Opening, Named, OnDevice, Masked, Started, Listing, Filling, Whole, step, stands, no_form, on_storage, Refuses, item_of_line}
 use Rattle.chan_deck.specs.declared.heading.Heading.{Heading}
 use Rattle.chan_walk.specs.Limit.{IsLimit}
 use Rattle.std.proofs.lemmas.Bool.{false_from_ne_true, le-leb}
 use Rattle.chan_deck.proofs.StepLemmas.{limit_parts}
 use Rattle.chan_deck.specs.declared.version.VersionNumber.{VersionNumber}
 use Rattle.chan_deck.specs.declared.version.Version.TheVariants.{Two}
-use Rattle.chan_deck.specs.declared.rows.Row.{Row}
-use Rattle.chan_deck.specs.declared.rows.Row.TheVariants.{Extent, Fetch, Store}
+use Rattle.chan_deck.specs.declared.list_lines.ListLine.{ListLine}
+use Rattle.chan_deck.specs.declared.list_lines.ListLine.TheVariants.{Extent, Fetch, Store}
 use Rattle.chan_deck.specs.declared.cause.Cause.TheVariants as causes
 
 -- the line has none of the forms that may stand
@@ -23,7 +23,7 @@ HasNoForm (Named h) l = (d : Device) → Says l (device d) → ⊥
 HasNoForm (OnDevice h v) l = (m : ℕ) → Says l (mask m) → ⊥
 HasNoForm (Masked h v m) l = (a : ℕ) → Says l (start a) → ⊥
 HasNoForm (Started v m a) l = (n : ℕ) → Says l (limit n) → ⊥
-HasNoForm (Listing h es fs ss) l = ((r : Row) → Says l (row_item r) → ⊥) × ((n : ℕ) → Says l (storage n) → ⊥)
+HasNoForm (Listing h es fs ss) l = ((r : ListLine) → Says l (item_of_line r) → ⊥) × ((n : ℕ) → Says l (storage n) → ⊥)
 HasNoForm (Filling h es fs ss n bytes) l = ((a : ℕ) (w : List ℕ) → Says l (put a w) → ⊥) × (Says l end → ⊥)
 HasNoForm (Whole d) l = Unit {0}
 
@@ -45,7 +45,7 @@ pub formless : (s : State) (l : List ℕ) → HasNoForm s l → Refuses s l (no_
 formless s l none = inr (none_stands s l none, refl)
 
 pub not_list : (h : Heading) (es : List (ℕ × ℕ)) (fs ss : List Area) (l : List ℕ)
-    → ((r : Row) → Says l (row_item r) → ⊥) → ((n : ℕ) → Says l (storage n) → ⊥)
+    → ((r : ListLine) → Says l (item_of_line r) → ⊥) → ((n : ℕ) → Says l (storage n) → ⊥)
     → Refuses (Listing h es fs ss) l causes.Form
 not_list h es fs ss l row none = formless (Listing h es fs ss) l (row, none)
 

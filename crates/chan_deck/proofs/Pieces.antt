@@ -8,7 +8,7 @@ use Rattle.std.specs.List.{flat_map}
 use Rattle.std.proofs.KnownBytes.{Appends-nil, Appends-trans}
 use Rattle.ccw_core.proofs.Prefixes.{prefix_of_more, prefix_after}
 use Rattle.ccw_core.specs.Written.{AppendsPrefix}
-use Rattle.chan_deck.specs.Pieces.{IsHeldBack, Goes_on, Breaks_off}
+use Rattle.chan_deck.specs.Pieces.{IsHeldBack, GoesOn, BreaksOff}
 
 -- a text of which nothing was written
 pub all_held : {a : Option (List ℕ)} {text held : List ℕ} → held ≡ text → IsHeldBack a a text held
@@ -47,8 +47,8 @@ written_more a b c {text} {held} more is written =
 -- one line more
 pub line_added : {X : Type 0} (f : X → List ℕ) (done : List X) (x : X)
     {old mid new : Option (List ℕ)} {before held left : List ℕ}
-    → Goes_on old before (flat_map f done) mid held → IsHeldBack mid new (held ++ f x) left
-    → Goes_on old before (flat_map f (done ++ x ∷ [])) new left
+    → GoesOn old before (flat_map f done) mid held → IsHeldBack mid new (held ++ f x) left
+    → GoesOn old before (flat_map f (done ++ x ∷ [])) new left
 line_added f done x lines line = record {
   behind = λ a text h.
       rw (flat_map-append f done (x ∷ []), append-nil (f x), ← append_assoc) (held_more (f x) (lines.behind a text h) line);
@@ -57,8 +57,8 @@ line_added f done x lines line = record {
 -- a line was written in part
 pub line_begun : {X : Type 0} (f : X → List ℕ) (done : List X) (x : X) (rest : List X)
     {old mid new : Option (List ℕ)} {before held : List ℕ}
-    → Goes_on old before (flat_map f done) mid held → AppendsPrefix mid new (held ++ f x)
-    → Breaks_off old before (flat_map f (done ++ x ∷ rest)) new
+    → GoesOn old before (flat_map f done) mid held → AppendsPrefix mid new (held ++ f x)
+    → BreaksOff old before (flat_map f (done ++ x ∷ rest)) new
 line_begun f done x rest {new = new} lines line = record {
   behind = λ a text h.
       rw (flat_map-append f done (x ∷ rest), ← append_assoc, ← append_assoc)
@@ -69,21 +69,21 @@ line_begun f done x rest {new = new} lines line = record {
 pub next_added : {X : Type 0} (f : X → List ℕ) (xs : List X) (i : ℕ) (x d : X)
     {old mid new : Option (List ℕ)} {before held left : List ℕ}
     → i < length xs → x ≡ get_or xs i d
-    → Goes_on old before (flat_map f (take i xs)) mid held → IsHeldBack mid new (held ++ f x) left
-    → Goes_on old before (flat_map f (take (i + 1) xs)) new left
+    → GoesOn old before (flat_map f (take i xs)) mid held → IsHeldBack mid new (held ++ f x) left
+    → GoesOn old before (flat_map f (take (i + 1) xs)) new left
 next_added f xs i x d lt is lines line = rw (add-one, take-suc xs i d lt, ← is) (line_added f (take i xs) x lines line)
 
 pub next_begun : {X : Type 0} (f : X → List ℕ) (xs : List X) (i : ℕ) (x d : X)
     {old mid new : Option (List ℕ)} {before held : List ℕ}
     → i < length xs → x ≡ get_or xs i d
-    → Goes_on old before (flat_map f (take i xs)) mid held → AppendsPrefix mid new (held ++ f x)
-    → Breaks_off old before (flat_map f xs) new
+    → GoesOn old before (flat_map f (take i xs)) mid held → AppendsPrefix mid new (held ++ f x)
+    → BreaksOff old before (flat_map f xs) new
 next_begun f xs i x d {old} {new = new} {before = before} lt is lines line =
     let parts : take i xs ++ (x ∷ drop (suc i) xs) ≡ xs = rw (is, ← drop-cons xs i d lt) (take-append-drop i xs) in
-    subst (λ ys. Breaks_off old before (flat_map f ys) new) parts (line_begun f (take i xs) x (drop (suc i) xs) lines line)
+    subst (λ ys. BreaksOff old before (flat_map f ys) new) parts (line_begun f (take i xs) x (drop (suc i) xs) lines line)
 
 -- all lines were added, and perhaps not all of them were written
-pub lines_begun : {old new : Option (List ℕ)} {before more left : List ℕ} → Goes_on old before more new left → Breaks_off old before more new
+pub lines_begun : {old new : Option (List ℕ)} {before more left : List ℕ} → GoesOn old before more new left → BreaksOff old before more new
 lines_begun {new = new} {left = left} lines = record {
   behind = λ a text h.
       let is = lines.behind a text h in

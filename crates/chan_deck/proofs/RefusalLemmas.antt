@@ -7,7 +7,7 @@ use Rattle.chan_walk.proofs.Theory.Lists.{all_append}
 use Rattle.chan_deck.specs.Item.{Item, line, text, HasForm, Says}
 use Rattle.chan_deck.specs.Image.{Image, items, Spells}
 use Rattle.chan_deck.specs.Refused.{split, lines, IsRefusedAt, Found, whole_line, part, found_in, found_behind, AreSaid, IsCause, IsRefused, rank}
-use Rattle.chan_deck.specs.Reading.{State, Opening, Whole, HasRead, step, go_on, run, is_whole, Refuses, IsRefusal}
+use Rattle.chan_deck.specs.Reading.{State, Opening, Whole, HasRead, step, and_then, run, is_whole, Refuses, IsRefusal}
 use Rattle.chan_deck.specs.declared.error.DeckError.{DeckError}
 use Rattle.chan_deck.specs.declared.error.DeckError.TheVariants as errors
 use Rattle.chan_deck.proofs.LineFeeds.{some_line, no_line}
@@ -29,7 +29,7 @@ pub takes : (t : List ℕ) (s next : State) (n : ℕ) (rest l after : List ℕ) 
 takes t s next n rest l after i st e says goes = record {
   said = st.said ++ i ∷ [];
   forms = all_append HasForm st.said (i ∷ []) st.forms (says.0, tt);
-  runs = run-append Opening st.said (i ∷ []) ∙ ap (λ r. go_on r (λ q. run q (i ∷ []))) st.runs ∙ ap (λ r. go_on r (λ q. Ok q)) goes;
+  runs = run-append Opening st.said (i ∷ []) ∙ ap (λ r. and_then r (λ q. run q (i ∷ []))) st.runs ∙ ap (λ r. and_then r (λ q. Ok q)) goes;
   parts =
       let more : map line st.said ++ l ∷ (split after).0 ≡ map line (st.said ++ i ∷ []) ++ (split after).0 =
       ap (λ x. map line st.said ++ x ∷ (split after).0) says.1 ∙ sym (append_assoc (map line st.said) (line i ∷ []) (split after).0) ∙ ap (λ x. x ++ (split after).0) (sym (map-append line st.said (i ∷ []))) in

@@ -10,13 +10,13 @@ pub record IsHeldBack (old new : Option (List ℕ)) (text held : List ℕ) : Typ
   pub whole : sent ++ held ≡ text
 
 -- whatever text was written in pieces, it is now with this behind it
-pub record Goes_on (old : Option (List ℕ)) (held more : List ℕ) (new : Option (List ℕ))
+pub record GoesOn (old : Option (List ℕ)) (held more : List ℕ) (new : Option (List ℕ))
     (left : List ℕ) : Type 0 where
   pub behind : (a : Option (List ℕ)) (text : List ℕ)
       → IsHeldBack a old text held → IsHeldBack a new (text ++ more) left
 
 -- whatever text was written in pieces, a prefix of it with this behind it was written
-pub record Breaks_off (old : Option (List ℕ)) (held more : List ℕ) (new : Option (List ℕ))
+pub record BreaksOff (old : Option (List ℕ)) (held more : List ℕ) (new : Option (List ℕ))
     : Type 0 where
   pub behind : (a : Option (List ℕ)) (text : List ℕ)
       → IsHeldBack a old text held → AppendsPrefix a new (text ++ more)

@@ -17,9 +17,9 @@ use Rattle.chan_deck.specs.declared.cause.Cause.{Cause}
 use Rattle.chan_deck.specs.declared.cause.Cause.TheVariants as causes
 use Rattle.chan_deck.specs.declared.heading.Heading.{Heading}
 use Rattle.chan_deck.specs.declared.lines.Cursor.{Cursor}
-use Rattle.chan_deck.specs.declared.rows.Lists.{Lists}
-use Rattle.chan_deck.specs.declared.rows.Row.{Row}
-use Rattle.chan_deck.specs.declared.rows.Row.TheVariants.{Extent, Fetch, Store}
+use Rattle.chan_deck.specs.declared.list_lines.Lists.{Lists}
+use Rattle.chan_deck.specs.declared.list_lines.ListLine.{ListLine}
+use Rattle.chan_deck.specs.declared.list_lines.ListLine.TheVariants.{Extent, Fetch, Store}
 use Rattle.chan_deck.specs.declared.error.DeckError.{DeckError}
 use Rattle.chan_deck.specs.declared.error.DeckError.TheVariants as errors
 
@@ -133,14 +133,14 @@ abbrev pub step : State → Item → Result State Cause
 step s i = if stands s i then judged s i else Err (no_form s)
 
 -- goes on behind a line that was taken, and not behind one that was refused
-abbrev pub go_on : Result State Cause → (State → Result State Cause) → Result State Cause
-go_on (Ok s) more = more s
-go_on (Err c) more = Err c
+abbrev pub and_then : Result State Cause → (State → Result State Cause) → Result State Cause
+and_then (Ok s) more = more s
+and_then (Err c) more = Err c
 
 -- what some lines do, one after another
 abbrev pub run : State → List Item → Result State Cause
 run s [] = Ok s
-run s (i ∷ is) = go_on (step s i) (λ next. run next is)
+run s (i ∷ is) = and_then (step s i) (λ next. run next is)
 
 -- the text has been read up to line n, from which on rest is left, and what was read is the state
 pub record HasRead (t : List ℕ) (s : State) (n : ℕ) (rest : List ℕ) : Type 0 where
@@ -195,11 +195,11 @@ abbrev pub FailsAtEnd : Cursor → DeckError → Type 0
 FailsAtEnd c e = (s : State) → is_whole s ≡ false → Fails s c e
 
 -- what the lists of a deck have so far, and the lines before them
-abbrev pub listing : Heading → Lists → State
-listing h x = Listing h x.extents.items x.fetch.items x.store.items
+abbrev pub with_lists : Heading → Lists → State
+with_lists h x = Listing h x.extents.items x.fetch.items x.store.items
 
--- what a row of the lists says
-abbrev pub row_item : Row → Item
-row_item (Extent first last) = extent first last
-row_item (Fetch a) = fetch a
-row_item (Store a) = store a
+-- what a line of the lists says
+abbrev pub item_of_line : ListLine → Item
+item_of_line (Extent first last) = extent first last
+item_of_line (Fetch a) = fetch a
+item_of_line (Store a) = store a

@@ -5,7 +5,7 @@ ghost use Rattle.std.specs.Io.KnownBytes.{Appends};
 ghost use Rattle.std.specs.List.{flat_map};
 ghost use Rattle.ccw_core.specs.Written.{AppendsPrefix};
 ghost use Rattle.chan_deck.specs.Graph as draw;
-ghost use Rattle.chan_deck.specs.Pieces.{IsHeldBack, Goes_on, Breaks_off};
+ghost use Rattle.chan_deck.specs.Pieces.{IsHeldBack, GoesOn, BreaksOff};
 
 use crate::listing::{ListError, hand_over, name_of, transfer_word, way_word};
 use crate::texts::Address;
@@ -159,9 +159,9 @@ fn write_nodes<W: Write>(
     to: &mut Watched<W>,
 ) -> Result<(), ListError>
     requires { to.old.failed ≡ false }
-    ensures ok { OnOk result (Goes_on (W.contents to.old.device) (string_bytes piece.old)
+    ensures ok { OnOk result (GoesOn (W.contents to.old.device) (string_bytes piece.old)
         (flat_map draw.node_line looks.now) (W.contents to.new.device) (string_bytes piece.new)) }
-    ensures prefix { Breaks_off (W.contents to.old.device) (string_bytes piece.old)
+    ensures prefix { BreaksOff (W.contents to.old.device) (string_bytes piece.old)
         (flat_map draw.node_line looks.now) (W.contents to.new.device) }
     ensures write { IsErrOf result ListError.Write ↔ (to.new.failed ≡ true) }
 {
@@ -196,9 +196,9 @@ fn write_marks<W: Write>(
     to: &mut Watched<W>,
 ) -> Result<(), ListError>
     requires { to.old.failed ≡ false }
-    ensures ok { OnOk result (Goes_on (W.contents to.old.device) (string_bytes piece.old)
+    ensures ok { OnOk result (GoesOn (W.contents to.old.device) (string_bytes piece.old)
         (flat_map draw.mark_line offences.now) (W.contents to.new.device) (string_bytes piece.new)) }
-    ensures prefix { Breaks_off (W.contents to.old.device) (string_bytes piece.old)
+    ensures prefix { BreaksOff (W.contents to.old.device) (string_bytes piece.old)
         (flat_map draw.mark_line offences.now) (W.contents to.new.device) }
     ensures write { IsErrOf result ListError.Write ↔ (to.new.failed ≡ true) }
 {
@@ -233,9 +233,9 @@ fn write_edges<W: Write>(
     to: &mut Watched<W>,
 ) -> Result<(), ListError>
     requires { to.old.failed ≡ false }
-    ensures ok { OnOk result (Goes_on (W.contents to.old.device) (string_bytes piece.old)
+    ensures ok { OnOk result (GoesOn (W.contents to.old.device) (string_bytes piece.old)
         (flat_map draw.edge_lines looks.now) (W.contents to.new.device) (string_bytes piece.new)) }
-    ensures prefix { Breaks_off (W.contents to.old.device) (string_bytes piece.old)
+    ensures prefix { BreaksOff (W.contents to.old.device) (string_bytes piece.old)
         (flat_map draw.edge_lines looks.now) (W.contents to.new.device) }
     ensures write { IsErrOf result ListError.Write ↔ (to.new.failed ≡ true) }
 {

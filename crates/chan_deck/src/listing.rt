@@ -8,7 +8,7 @@ ghost use Rattle.std.specs.Io.KnownBytes.{Appends};
 ghost use Rattle.ccw_core.specs.Written.{AppendsPrefix};
 ghost use Rattle.ccw_core.specs.Storage.{ccw_at};
 ghost use Rattle.chan_deck.specs.Listing as list;
-ghost use Rattle.chan_deck.specs.Pieces.{IsHeldBack, Goes_on, Breaks_off};
+ghost use Rattle.chan_deck.specs.Pieces.{IsHeldBack, GoesOn, BreaksOff};
 ghost use Rattle.chan_deck.specs.Texts.{verdict_line};
 ghost use Rattle.chan_walk.specs.Job.{storage_of};
 ghost use Rattle.chan_walk.specs.Look.{AreLooks, places_of_looks};
@@ -235,10 +235,10 @@ fn write_places<W: Write>(
     to: &mut Watched<W>,
 ) -> Result<(), ListError>
     requires { to.old.failed ≡ false }
-    ensures ok { OnOk result (Goes_on (W.contents to.old.device) (string_bytes piece.old)
+    ensures ok { OnOk result (GoesOn (W.contents to.old.device) (string_bytes piece.old)
         (list.rows (storage_of job.now) verdict explored.now)
         (W.contents to.new.device) (string_bytes piece.new)) }
-    ensures prefix { Breaks_off (W.contents to.old.device) (string_bytes piece.old)
+    ensures prefix { BreaksOff (W.contents to.old.device) (string_bytes piece.old)
         (list.rows (storage_of job.now) verdict explored.now) (W.contents to.new.device) }
     ensures write { IsErrOf result ListError.Write ↔ (to.new.failed ≡ true) }
 {
@@ -259,10 +259,10 @@ fn write_looks<W: Write>(
     to: &mut Watched<W>,
 ) -> Result<(), ListError>
     requires { to.old.failed ≡ false }
-    ensures ok { OnOk result (Goes_on (W.contents to.old.device) (string_bytes piece.old)
+    ensures ok { OnOk result (GoesOn (W.contents to.old.device) (string_bytes piece.old)
         (flat_map (list.seen_row named) looks.now)
         (W.contents to.new.device) (string_bytes piece.new)) }
-    ensures prefix { Breaks_off (W.contents to.old.device) (string_bytes piece.old)
+    ensures prefix { BreaksOff (W.contents to.old.device) (string_bytes piece.old)
         (flat_map (list.seen_row named) looks.now) (W.contents to.new.device) }
     ensures write { IsErrOf result ListError.Write ↔ (to.new.failed ≡ true) }
 {

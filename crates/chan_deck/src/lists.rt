@@ -9,7 +9,7 @@ use crate::cause::Cause;
 use crate::error::DeckError;
 use crate::forms::storage_of;
 use crate::lines::Cursor;
-use crate::rows::{Lists, row_of};
+use crate::list_lines::{Lists, list_line_of};
 use std::alloc::Global;
 
 /// The most bytes that storage may have: addresses have 24 bits.
@@ -31,8 +31,8 @@ pub(crate) fn read_lists(alloc: Global, cursor: &mut Cursor) -> Result<(Lists, u
     let mut lists = Lists::new(alloc);
     loop {
         let line = cursor.next_line()?;
-        if let Some(row) = row_of(line, cursor.values) {
-            lists.add(row, cursor)?;
+        if let Some(listed) = list_line_of(line, cursor.values) {
+            lists.add(listed, cursor)?;
         } else if let Some(n) = storage_of(line, cursor.values) {
             if lists.extents.is_empty() {
                 return Err(cursor.refused(Cause::Form));

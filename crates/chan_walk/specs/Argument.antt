@@ -27,13 +27,13 @@ Leads s a b =
     × (b ≡ (ccw s (a + 8)).address))
 
 -- the data addresses of the CCW at a
-abbrev pub data_of : List ℕ → ℕ → List ℕ
-data_of s a = range_with_len (ccw s a).address (ccw s a).count
+abbrev pub data_addresses : List ℕ → ℕ → List ℕ
+data_addresses s a = range_with_len (ccw s a).address (ccw s a).count
 
 -- the data addresses of the CCWs at the addresses of a list, joined
 abbrev pub joined : List ℕ → List ℕ → List ℕ
 joined s [] = []
-joined s (a ∷ l) = data_of s a ++ joined s l
+joined s (a ∷ l) = data_addresses s a ++ joined s l
 
 -- how many they are
 abbrev pub total : List ℕ → List ℕ → ℕ

@@ -116,8 +116,8 @@ pub data Continues (p : Place) (c : Fields) (k : Kind) (m : ℕ) : Gathered → 
       → Continues p c k m (Some x) (Seek None ∷ []) Ended
 
 -- the event that a command begins, where an operation does
-abbrev pub begun : Place → Fields → List Event
-begun p c = if is_fresh p.entered then Command c.command ∷ [] else []
+abbrev pub command_event : Place → Fields → List Event
+command_event p c = if is_fresh p.entered then Command c.command ∷ [] else []
 
 -- one step at the place p, with storage s, the arm at cylinder y and the mask f in force: a program
 -- check stops the program; a transfer is taken; a command that isn't in the table ends the program;
@@ -145,7 +145,7 @@ pub data Step (s : List ℕ) (y f : ℕ) (p : Place) (g : Gathered)
       SetsMask (ccw s p.address) m s f (begins_set_mask p (ccw s p.address)) set f' →
       Continues p (ccw s p.address) (kind_of p.entered (ccw s p.address)) m g' went stage →
       Step s y f p g
-      (begun p (ccw s p.address) ++ moved ++ sought ++ homed ++ set ++ went) t y'' f' stage
+      (command_event p (ccw s p.address) ++ moved ++ sought ++ homed ++ set ++ went) t y'' f' stage
 
 -- one step from a stage; a program that has ended or was checked makes none
 abbrev pub StepFrom : List ℕ → ℕ → ℕ → Stage → List Event → List ℕ → ℕ → ℕ → Stage → Type 0

@@ -48,7 +48,7 @@ pub record AreRuns (areas : List Area) (run : Area) : Type 0 where
 
 -- the first area of a merged list that ends above n: all that it says of the bytes from n on, up to
 -- the one after the area
-pub record IsNext (areas : List Area) (n : ℕ) (a : Area) : Type 0 where
+pub record IsFirstAbove (areas : List Area) (n : ℕ) (a : Area) : Type 0 where
   pub ends : n < end_of a
   pub filled : 0 < a.len
   pub before : (b : ℕ) → n ≤ b → b < a.start → lies_in areas b ≡ false
@@ -58,7 +58,7 @@ pub record IsNext (areas : List Area) (n : ℕ) (a : Area) : Type 0 where
 -- the same, or that no byte from n on lies in an area
 abbrev pub IsNextArea : List Area → ℕ → Option Area → Type 0
 IsNextArea areas n None = (b : ℕ) → n ≤ b → lies_in areas b ≡ false
-IsNextArea areas n (Some a) = IsNext areas n a
+IsNextArea areas n (Some a) = IsFirstAbove areas n a
 
 -- a is the first byte of the range that lies in no area
 pub record IsGapStart (areas : List Area) (range : Area) (a : ℕ) : Type 0 where

@@ -15,6 +15,7 @@ ghost use Rattle.chan_walk.specs.Place.{is_fresh};
 ghost use Rattle.chan_walk.specs.Tables.{HasSeekFault, argument_faults};
 ghost use Rattle.chan_walk.specs.Visit.{IsBegun, IsVisit};
 
+use crate::bits::{has_data_in, is_counted, is_formed, is_invalid};
 use crate::job::Job;
 use crate::lent::Lending;
 use crate::look::look_at;
@@ -22,7 +23,6 @@ use crate::place::Place;
 use crate::reason::Reason;
 use crate::set_mask::mask_fault;
 use crate::visit::Visit;
-use crate::word::{has_data_in, is_counted, is_formed, is_invalid};
 use ccw_core::Storage;
 use ckd_core::{Track, allowed};
 

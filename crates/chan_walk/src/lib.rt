@@ -10,6 +10,7 @@
 //! ```
 #![tactic(auto)]
 
+mod bits;
 mod changed;
 mod error;
 mod evidence;
@@ -39,7 +40,6 @@ mod successor;
 mod verdict;
 mod visit;
 mod ways;
-mod word;
 
 pub use crate::error::WalkError;
 pub use crate::evidence::{Evidence, Outside, evidence_for};

@@ -19,6 +19,7 @@ ghost use Rattle.chan_walk.specs.Notes.{NothingFollows, reaches_past_storage};
 ghost use Rattle.chan_walk.specs.Ranges.{EndsBelow, IsMerged};
 ghost use Rattle.chan_walk.specs.declared.job.Job.{Job};
 
+use crate::bits::{asks_interruption, chains_command, chains_data};
 use crate::error::WalkError;
 use crate::exploring::walk_all;
 use crate::job::Job;
@@ -26,7 +27,6 @@ use crate::look::Look;
 use crate::note::Notes;
 use crate::ranges::{meets, merge};
 use crate::visit::fetches_at;
-use crate::word::{asks_interruption, chains_command, chains_data};
 use ccw_core::Area;
 use ckd_core::Kind;
 use std::alloc::{AllocError, Global};

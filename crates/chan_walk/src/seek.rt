@@ -2,7 +2,7 @@
 
 ghost use Rattle.std.specs.Prelude.{◌≡◌, ◌&&◌, not, ◌+◌, ◌<◌, ◌≤◌, ◌^◌, ℕ, List, true, false};
 ghost use Rattle.std.specs.Prelude.{length, slice_index, IfSome, IfNone, IfOk, IfErr, Some, None};
-ghost use Rattle.ccw_core.specs.Ccw.{byte, ccw as word_at, chains_data as chained, is_transfer};
+ghost use Rattle.ccw_core.specs.Ccw.{byte, ccw as held_ccw, chains_data as chained, is_transfer};
 ghost use Rattle.ccw_core.specs.Ccw.{is_counted as counted, has_data_in as data_in};
 ghost use Rattle.ccw_core.specs.Ccw.{is_formed as formed};
 ghost use Rattle.ccw_core.specs.Held.{bytes_held};
@@ -12,7 +12,7 @@ ghost use Rattle.chan_walk.specs.Evidence.{Gives};
 ghost use Rattle.chan_walk.specs.Onward as onward;
 ghost use Rattle.chan_walk.specs.Tables.{HasAddresses};
 
-use crate::word::{chains_data, has_data_in, is_counted, is_formed};
+use crate::bits::{chains_data, has_data_in, is_counted, is_formed};
 use ccw_core::{Ccw, Storage};
 
 #[cfg(test)]
@@ -50,11 +50,11 @@ fn part_at(storage: &Storage, address: u32, ccw: Ccw) -> Option<Part>
     ensures range { IfSome result (λ part. part.from + part.count ≤ 2 ^ 24) }
     ensures some { IfSome result (λ part. 0 < part.count) }
     ensures from { IfSome result
-        (λ part. part.from ≡ (word_at (bytes_held storage.now) address).address) }
+        (λ part. part.from ≡ (held_ccw (bytes_held storage.now) address).address) }
     ensures count { IfSome result
-        (λ part. part.count ≡ (word_at (bytes_held storage.now) address).count) }
+        (λ part. part.count ≡ (held_ccw (bytes_held storage.now) address).count) }
     ensures chains { IfSome result
-        (λ part. part.chains ≡ chained (word_at (bytes_held storage.now) address)) }
+        (λ part. part.chains ≡ chained (held_ccw (bytes_held storage.now) address)) }
     ensures none { IfNone result (is_part (bytes_held storage.now) address ≡ false) }
 {
     if !gives_bytes(storage, &ccw) {

@@ -6,12 +6,12 @@ ghost use Rattle.chan_walk.specs.Successors as chain;
 ghost use Rattle.chan_walk.specs.Successors.{AreSuccessors, next_of, skip_of};
 ghost use Rattle.chan_walk.specs.Visit.{IsBegun};
 
+use crate::bits::{chains_command, chains_data};
 use crate::job::Job;
 use crate::lent::Lending;
 use crate::look::look_at;
 use crate::place::{Entry, Place};
 use crate::visit::Visit;
-use crate::word::{chains_command, chains_data};
 use ckd_core::Kind;
 
 /// The places after a place.

@@ -6,8 +6,8 @@ ghost use Rattle.ckd_core.specs.Table as table;
 ghost use Rattle.chan_walk.specs.Fault as fault;
 ghost use Rattle.chan_walk.specs.Visit.{IsBegun, begun, kind_by};
 
+use crate::bits::skips;
 use crate::place::{Entry, Place};
-use crate::word::skips;
 use ccw_core::Ccw;
 use ckd_core::{Command, Kind, MaskClass, lookup};
 

@@ -11,7 +11,7 @@ use Rattle.chan_walk.specs.declared.place.Place.{Place}
 use Rattle.chan_walk.specs.declared.reason.Reason.{Reason}
 use Rattle.chan_walk.specs.declared.verdict.Verdict.{Verdict}
 use Rattle.chan_walk.specs.declared.verdict.Verdict.TheVariants.{Yes, No}
-use Rattle.chan_walk.specs.Argument.{Has, is_part, Leads, data_of, joined, total, but_last, AreLinked, BeginsAt, IsChain, argument_addresses, argument, HasArgument}
+use Rattle.chan_walk.specs.Argument.{Has, is_part, Leads, data_addresses, joined, total, but_last, AreLinked, BeginsAt, IsChain, argument_addresses, argument, HasArgument}
 use Rattle.chan_walk.specs.Check.{first_reason, check_of, check}
 use Rattle.chan_walk.specs.Counted.{IsChained, at_once, further, IsCounted, with_storage, IsSameIn, SameVerdict}
 use Rattle.chan_walk.specs.Fault.{kind_of, begins_seek, begins_set_mask, command_faults, lent_faults, seek_faults, mask_faults, table_of_own, fault_with, HasFault, IsClear}
@@ -94,7 +94,7 @@ module _ (s t : List ℕ) (len : length t ≡ length s) (C : ℕ → Type 0) (wo
 
   joined_same : (l : List ℕ) → SameWords l → joined s l ≡ joined t l
   joined_same [] h = refl
-  joined_same (x ∷ l) h = ap (λ z. range_with_len z.address z.count ++ joined s l) h.0 ∙ ap (λ n. data_of t x ++ n) (joined_same l h.1)
+  joined_same (x ∷ l) h = ap (λ z. range_with_len z.address z.count ++ joined s l) h.0 ∙ ap (λ n. data_addresses t x ++ n) (joined_same l h.1)
 
   words_but_last : (l : List ℕ) → SameWords l → SameWords (but_last l)
   words_but_last [] h = tt

@@ -10,7 +10,7 @@ use Rattle.std.proofs.lemmas.List.FromFn.{get_or-range_with_len, length-range_wi
 use Rattle.ccw_core.specs.Ccw.{Fields, ccw, has_data_in, chains_data}
 use Rattle.ccw_core.specs.Storage.{ccw_at, is_inside}
 use Rattle.ccw_core.proofs.StorageLemmas.{ccw_at-some}
-use Rattle.chan_walk.specs.Argument.{is_part, AreLinked, IsChain, argument_addresses, joined, data_of}
+use Rattle.chan_walk.specs.Argument.{is_part, AreLinked, IsChain, argument_addresses, joined, data_addresses}
 use Rattle.chan_walk.specs.Onward.{onward}
 use Rattle.chan_walk.specs.Tables.{HasAddresses}
 use Rattle.chan_walk.proofs.Theory.Chains.{chain_cons, chain_tail, chain_begins_with_part, onward_leads, onward_only, part_counts}
@@ -68,12 +68,12 @@ followed_more s a taken taken' have here w part lt cd n b ad =
     record {
       size = n;
       few = omega arith;
-      before = w.before ++ data_of s here;
-      count = length-append w.before (data_of s here) ∙ ap (λ z. z + length (data_of s here)) c ∙ ap (λ z. have + z) (length-range_with_len (ccw s here).address (ccw s here).count);
+      before = w.before ++ data_addresses s here;
+      count = length-append w.before (data_addresses s here) ∙ ap (λ z. z + length (data_addresses s here)) c ∙ ap (λ z. have + z) (length-range_with_len (ccw s here).address (ccw s here).count);
       noted = note_more w.before taken taken' have (ccw s here).address (ccw s here).count c w.noted b ad;
       to = λ l k.
           let t = w.to (here ∷ l) (chain_cons s (6 - have) here (onward s here) l part cd (onward_leads s here) lt (subst (λ z. IsChain s z (onward s here) l) (sym d) k)) in
-          (t.0, t.1, t.2 ∙ sym (append_assoc w.before (data_of s here) (joined s l)));
+          (t.0, t.1, t.2 ∙ sym (append_assoc w.before (data_addresses s here) (joined s l)));
       from = λ k h. let l = w.from k h in let r = (chain_goes_on s (6 - have) here l.0 lt l.1).1 in (r.0, subst (λ z. IsChain s z (onward s here) r.0) d r.1);
     }
 
@@ -88,11 +88,11 @@ followed_whole s a taken taken' have here w part le n b ad =
     let t = w.to (here ∷ []) (record { begins = refl; linked = part; short = omega arith; enough = omega arith }) in
     let room = 6 - have in
     let cut : (ccw s here).count ≡ room + ((ccw s here).count - room) = omega arith in
-    let split : data_of s here ≡ range_with_len from room ++ range_with_len (from + room) ((ccw s here).count - room) = ap (range_with_len from) cut ∙ range_split from room ((ccw s here).count - room) in
+    let split : data_addresses s here ≡ range_with_len from room ++ range_with_len (from + room) ((ccw s here).count - room) = ap (range_with_len from) cut ∙ range_split from room ((ccw s here).count - room) in
     let front = w.before ++ range_with_len from room in
     let rest = range_with_len (from + room) ((ccw s here).count - room) in
     let len : length front ≡ 6 = length-append w.before (range_with_len from room) ∙ ap (λ z. length w.before + z) (length-range_with_len from room) ∙ omega arith in
-    let whole : joined s t.0 ≡ front ++ rest = t.2 ∙ ap (λ z. w.before ++ z) (append-nil (data_of s here) ∙ split) ∙ sym (append_assoc w.before (range_with_len from room) rest) in
+    let whole : joined s t.0 ≡ front ++ rest = t.2 ∙ ap (λ z. w.before ++ z) (append-nil (data_addresses s here) ∙ split) ∙ sym (append_assoc w.before (range_with_len from room) rest) in
     let none : 6 - length front ≡ 0 = omega arith in
     let args : argument_addresses s t.0 ≡ front = ap (take 6) whole ∙ take_front front rest (omega arith) ∙ ap (λ z. front ++ take z rest) none ∙ append-nil front in
     let same : taken' ≡ front = ext_get_or 0 taken' front (n ∙ sym len) (λ i h. note_more w.before taken taken' have from room c w.noted b ad i (omega arith)) in
@@ -120,13 +120,13 @@ range_below : (a k n : ℕ) → a + k ≤ n → AllByRecursion (λ b. b < n) (ra
 range_below a zero n h = tt
 range_below a (suc k) n h = (omega arith, range_below (a + 1) k n (omega arith))
 
-data_below : (s : List ℕ) (a : ℕ) → is_part s a ≡ true → AllByRecursion (λ b. b < length s) (data_of s a)
+data_below : (s : List ℕ) (a : ℕ) → is_part s a ≡ true → AllByRecursion (λ b. b < length s) (data_addresses s a)
 data_below s a h = range_below (ccw s a).address (ccw s a).count (length s) (in_range s a h).data_in
 
 joined_below : (s l : List ℕ) → AreLinked s l → AllByRecursion (λ b. b < length s) (joined s l)
 joined_below s [] h = tt
-joined_below s (a ∷ []) h = all_append (λ b. b < length s) (data_of s a) [] (data_below s a h) tt
-joined_below s (a ∷ b ∷ l) h = all_append (λ b. b < length s) (data_of s a) (joined s (b ∷ l)) (data_below s a h.0) (joined_below s (b ∷ l) h.3)
+joined_below s (a ∷ []) h = all_append (λ b. b < length s) (data_addresses s a) [] (data_below s a h) tt
+joined_below s (a ∷ b ∷ l) h = all_append (λ b. b < length s) (data_addresses s a) (joined s (b ∷ l)) (data_below s a h.0) (joined_below s (b ∷ l) h.3)
 
 take_below : (n k : ℕ) (xs : List ℕ) → AllByRecursion (λ b. b < n) xs → AllByRecursion (λ b. b < n) (take k xs)
 take_below n zero xs h = tt

@@ -6,7 +6,7 @@ use Rattle.std.proofs.lemmas.Bool.{cases_lt, leb-false, both_ways, false_from_ne
 use Rattle.ccw_core.specs.declared.areas.Area.{Area}
 use Rattle.ccw_core.specs.Areas.{lies_in, covered}
 use Rattle.ccw_core.proofs.Covering.{lies_in-at, lies_in-nil, covered-true, covered-false}
-use Rattle.chan_walk.specs.Ranges.{end_of, BeginAbove, IsMerged, IsNext, IsNextArea, Meets}
+use Rattle.chan_walk.specs.Ranges.{end_of, BeginAbove, IsMerged, IsFirstAbove, IsNextArea, Meets}
 use Rattle.chan_walk.proofs.Algorithms.Merging.{InArea, lies_in-cases}
 
 -- ---- merged areas by their places in the list
@@ -52,7 +52,7 @@ not_before xs n at k b d cut w le l h = search rules
 pub found_none : (xs : List Area) (n at : ℕ) → IsCut xs n at → at ≤ length xs → length xs ≤ at → (b : ℕ) → n ≤ b → lies_in xs b ≡ false
 found_none xs n at cut w l b le = false_from_ne_true (lies_in xs b) (λ h. let z : Area = record { start = 0; len = 0 } in let r = area_at xs z b h in let k = not_before xs n at r.0 b z cut w le r.1 r.2 in omega (arith, r.1))
 
-pub found_some : (xs : List Area) (n at : ℕ) (d : Area) → IsMerged xs → IsCut xs n at → at < length xs → IsNext xs n (get_or xs at d)
+pub found_some : (xs : List Area) (n at : ℕ) (d : Area) → IsMerged xs → IsCut xs n at → at < length xs → IsFirstAbove xs n (get_or xs at d)
 found_some xs n at d m cut l = record {
   ends = let f = leb-false _ _ (cut.1 at d (omega arith) l) in omega arith;
   filled = merged_len xs at d m l;
@@ -70,11 +70,11 @@ found_some xs n at d m cut l = record {
 -- the area at that place, where there is one
 pub found : (xs : List Area) (n at : ℕ) (o : Option (Bor Area)) → IsMerged xs → IsCut xs n at → at ≤ length xs → MatchOption o (length xs ≤ at) (λ x. (at < length xs) × HoldsAt (λ y. x.now ≡ y) xs at) → IsNextArea xs n (option_copied o)
 found xs n at None m cut w h = found_none xs n at cut w h
-found xs n at (Some x) m cut w h = subst (λ a. IsNext xs n a) (sym (h.1 x.now)) (found_some xs n at x.now m cut h.0)
+found xs n at (Some x) m cut w h = subst (λ a. IsFirstAbove xs n a) (sym (h.1 x.now)) (found_some xs n at x.now m cut h.0)
 
 -- ---- what the area found says of a range
 
-pub meets_next : (xs : List Area) (start len : ℕ) (a : Area) → 0 < len → IsNext xs start a → (a.start < start + len) ↔ Meets xs start len
+pub meets_next : (xs : List Area) (start len : ℕ) (a : Area) → 0 < len → IsFirstAbove xs start a → (a.start < start + len) ↔ Meets xs start len
 meets_next xs start len a p n = (to, from)
   where
     to : a.start < start + len → Meets xs start len
@@ -86,8 +86,8 @@ meets_next xs start len a p n = (to, from)
     from : Meets xs start len → a.start < start + len
     from k = search (rules, cases_lt, late)
 
-pub covered_next : (xs : List Area) (start len : ℕ) (a : Area) → IsNext xs start a → a.start ≤ start → start + len ≤ end_of a → covered xs start len ≡ true
+pub covered_next : (xs : List Area) (start len : ℕ) (a : Area) → IsFirstAbove xs start a → a.start ≤ start → start + len ≤ end_of a → covered xs start len ≡ true
 covered_next xs start len a n s e = covered-true xs start len (λ b l h. n.inside b (omega arith) (omega arith))
 
-pub uncovered_end : (xs : List Area) (start len : ℕ) (a : Area) → IsNext xs start a → end_of a < start + len → covered xs start len ≡ false
+pub uncovered_end : (xs : List Area) (start len : ℕ) (a : Area) → IsFirstAbove xs start a → end_of a < start + len → covered xs start len ≡ false
 uncovered_end xs start len a n e = let s = n.ends in covered-false xs start len (end_of a) (omega arith) e n.after

@@ -14,7 +14,7 @@ use Rattle.chan_walk.specs.Check.{table_of_every_ccw, table_of_non_transfer}
 use Rattle.chan_walk.specs.Fault.{begins_recalibrate, begins_set_mask, table_of_own, HasFault, IsClear}
 use Rattle.chan_walk.specs.Headline.{IsSafeEvent, IsUnchecked, IsSafeMoment, IsSteady, IsSafe}
 use Rattle.chan_walk.specs.Job.{storage_of}
-use Rattle.chan_walk.specs.Machine.{Stage, At, Ended, Checked, Event, Command, Store, Fetch, Seek, SetMask, IsStored, Moves, stored, ends, begun, Step, carried}
+use Rattle.chan_walk.specs.Machine.{Stage, At, Ended, Checked, Event, Command, Store, Fetch, Seek, SetMask, IsStored, Moves, stored, ends, command_event, Step, carried}
 use Rattle.chan_walk.specs.Place.{ccw_of}
 use Rattle.chan_walk.specs.Reachable.{IsReachable}
 use Rattle.chan_walk.specs.Runs.{Moment, IsRun, Uses}
@@ -153,7 +153,7 @@ changes_not j proper steady p m f P to o =
     let sk = seek_at j y p R.gathered (few_at j p R.gathered R.taking) in
     let hm = can_home j y (begins_recalibrate p c) in
     let fm = can_mask j c (bytes_at j p) j.mask (begins_set_mask p c) in
-    let es = begun p c ++ (Store c.address there ∷ []) ++ sk.es ++ hm.es ++ fm.es ++ [] in
+    let es = command_event p c ++ (Store c.address there ∷ []) ++ sk.es ++ hm.es ++ fm.es ++ [] in
     let step : Step (storage_of j) y j.mask p R.gathered es s y j.mask Ended = carried e t (clear_good j p f t).known (omega (arith, whole)) mv sk.seeks hm.homes fm.sets ends in
     let last : Moment = record { storage = s; arm = y; mask = j.mask; stage = Ended; events = es } in
     let run : List Moment = last ∷ record { storage = storage_of j; arm = y; mask = j.mask; stage = At p R.gathered; events = R.events } ∷ R.run in

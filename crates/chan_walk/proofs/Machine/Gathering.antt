@@ -7,7 +7,7 @@ use Rattle.std.proofs.lemmas.List.FromFn.{length-range_with_len}
 use Rattle.ccw_core.specs.Ccw.{byte, Fields, ccw, is_transfer, chains_data}
 use Rattle.chan_walk.specs.declared.place.Entry.TheVariants.{ChainOut}
 use Rattle.chan_walk.specs.declared.place.Place.{Place}
-use Rattle.chan_walk.specs.Argument.{Has, is_part, Leads, data_of, joined, IsChain, argument_addresses, argument}
+use Rattle.chan_walk.specs.Argument.{Has, is_part, Leads, data_addresses, joined, IsChain, argument_addresses, argument}
 use Rattle.chan_walk.specs.Headline.{ComesTo, IsGathered}
 use Rattle.chan_walk.specs.Machine.{taken, with_taken}
 use Rattle.chan_walk.specs.Place.{straight_to, transferred_to}
@@ -59,8 +59,8 @@ module _ (s l : List ℕ) where
       prefix : after ++ tail ≡ joined s l
       prefix =
           let e : c.count ≡ min m (6 - length x) + (c.count - min m (6 - length x)) = omega arith in
-          let f : data_of s a ≡ taken c m x ++ range_with_len (c.address + min m (6 - length x)) (c.count - min m (6 - length x)) = ap (range_with_len c.address) e ∙ range_split c.address (min m (6 - length x)) (c.count - min m (6 - length x)) in
-          let g : data_of s d ≡ data_of s a = ap (data_of s) k.begins in
+          let f : data_addresses s a ≡ taken c m x ++ range_with_len (c.address + min m (6 - length x)) (c.count - min m (6 - length x)) = ap (range_with_len c.address) e ∙ range_split c.address (min m (6 - length x)) (c.count - min m (6 - length x)) in
+          let g : data_addresses s d ≡ data_addresses s a = ap (data_addresses s) k.begins in
           append_assoc before (taken c m x) tail
           ∙ ap (λ z. before ++ z) (sym (append_assoc (taken c m x) _ (joined s rest)))
           ∙ ap (λ z. before ++ (z ++ joined s rest)) (sym (g ∙ f))
@@ -89,7 +89,7 @@ module _ (s l : List ℕ) where
       further (y ∷ z) k all h e =
           let w = less h in
           let whole : min m (6 - length x) ≡ c.count = omega (arith, ln, lx) in
-          let same : taken c m x ≡ data_of s d = ap (range_with_len c.address) whole ∙ ap (data_of s) (sym k.begins) in
+          let same : taken c m x ≡ data_addresses s d = ap (range_with_len c.address) whole ∙ ap (data_addresses s) (sym k.begins) in
           let n : 6 - length before - (ccw s d).count ≡ 6 - length after = subst (λ b. 6 - length before - (ccw s b).count ≡ 6 - length after) (sym k.begins) (omega (arith, ln, lx)) in (
             record {
               before = after;

@@ -16,7 +16,7 @@ use Rattle.chan_walk.specs.Fault.{kind_of, goes_in, goes_out, is_known, begins_s
 use Rattle.chan_walk.specs.Guarded.{IsArgumentByte, IsGuarded}
 use Rattle.chan_walk.specs.Headline.{IsGathered, IsSafeEvent}
 use Rattle.chan_walk.specs.Job.{storage_of, extents_of, fetch_of, store_of, HasMask}
-use Rattle.chan_walk.specs.Machine.{Gathered, Stage, At, Ended, Checked, Event, Command, Moves, idle, skipped, stored, written, searched, taken, with_taken, Seeks, none, part, stays, goes, under_way, Recalibration, no_home, home_stays, home_goes, SetsMask, no_mask, no_byte, mask_stays, mask_set, Continues, ends, on_data, on_command, on_skip, on_short, begun}
+use Rattle.chan_walk.specs.Machine.{Gathered, Stage, At, Ended, Checked, Event, Command, Moves, idle, skipped, stored, written, searched, taken, with_taken, Seeks, none, part, stays, goes, under_way, Recalibration, no_home, home_stays, home_goes, SetsMask, no_mask, no_byte, mask_stays, mask_set, Continues, ends, on_data, on_command, on_skip, on_short, command_event}
 use Rattle.chan_walk.specs.Place.{is_fresh, straight_to, ccw_of}
 use Rattle.chan_walk.specs.Reachable.{IsReachable}
 use Rattle.chan_walk.specs.Runs.{UsesIn}
@@ -215,7 +215,7 @@ module _ (j : Job) where
     pub safe : AllByRecursion (IsSafeEvent j) es
     pub used : (b : ℕ) → UsesIn es b → IsGuarded j b
 
-  pub carried_ok : (p : Place) (c : Fields) (g : Gathered) {s t : List ℕ} {y y' y'' f f' : ℕ} {g' : Gathered} {moved sought homed set went : List Event} {stage : Stage} {m : ℕ} → Here p c g → Invariant s y f (At p g) → is_transfer c ≡ false → m ≤ c.count → Moves c m s (kind_of p.entered c) moved t → Seeks c m s y (under_way p c g) sought y' g' → Recalibration y' (begins_recalibrate p c) homed y'' → SetsMask c m s f (begins_set_mask p c) set f' → Continues p c (kind_of p.entered c) m g' went stage → Stepped t y'' f' stage (begun p c ++ moved ++ sought ++ homed ++ set ++ went)
+  pub carried_ok : (p : Place) (c : Fields) (g : Gathered) {s t : List ℕ} {y y' y'' f f' : ℕ} {g' : Gathered} {moved sought homed set went : List Event} {stage : Stage} {m : ℕ} → Here p c g → Invariant s y f (At p g) → is_transfer c ≡ false → m ≤ c.count → Moves c m s (kind_of p.entered c) moved t → Seeks c m s y (under_way p c g) sought y' g' → Recalibration y' (begins_recalibrate p c) homed y'' → SetsMask c m s f (begins_set_mask p c) set f' → Continues p c (kind_of p.entered c) m g' went stage → Stepped t y'' f' stage (command_event p c ++ moved ++ sought ++ homed ++ set ++ went)
   carried_ok p c g {s = s} {y = y} {y' = y'} {f = f} {moved = moved} {sought = sought} {homed = homed} {set = set} {went = went} {m = m} here k t le mv sk hm fm gs =
       let a = moves_ok p c here.x m s mv refl le here.good here.apart k.same_length k.same in
       let b = seeks_ok p c m s y sk here.seek le k.same k.inside in
@@ -224,8 +224,8 @@ module _ (j : Job) where
       let e = goes_ok p c _ m gs refl t here.follows b.after in
       record {
         kept = record { same_length = a.same_length; same = a.same; inside = d.inside; strict = q.strict; stage = e.stage };
-        safe = all_append _ (begun p c ++ moved ++ sought ++ homed ++ set) went (all_append _ (begun p c ++ moved ++ sought ++ homed) set (all_append _ (begun p c ++ moved ++ sought) homed (all_append _ (begun p c ++ moved) sought (all_append _ (begun p c) moved (begun_ok (is_fresh p.entered) here.good.known here.good.permitted) a.safe) b.safe) d.safe) q.safe) e.safe;
-        used = λ z u. used5 z a.unused b.used d.unused q.used e.unused (uses_cases (begun p c ++ moved ++ sought ++ homed ++ set) went z u);
+        safe = all_append _ (command_event p c ++ moved ++ sought ++ homed ++ set) went (all_append _ (command_event p c ++ moved ++ sought ++ homed) set (all_append _ (command_event p c ++ moved ++ sought) homed (all_append _ (command_event p c ++ moved) sought (all_append _ (command_event p c) moved (begun_ok (is_fresh p.entered) here.good.known here.good.permitted) a.safe) b.safe) d.safe) q.safe) e.safe;
+        used = λ z u. used5 z a.unused b.used d.unused q.used e.unused (uses_cases (command_event p c ++ moved ++ sought ++ homed ++ set) went z u);
       }
     where
       begun_ok : (f : Bool) → (f ≡ true → is_known c.command ≡ true) → (f ≡ true → inhibits j.mask c.command ≡ false) → AllByRecursion (IsSafeEvent j) (if f then Command c.command ∷ [] else [])
@@ -236,22 +236,22 @@ module _ (j : Job) where
       used0 true z u = u
       used0 false z u = u
 
-      used1 : (z : ℕ) → ((b : ℕ) → UsesIn moved b → ⊥) → UsesIn (begun p c) z ⊎ UsesIn moved z → ⊥
+      used1 : (z : ℕ) → ((b : ℕ) → UsesIn moved b → ⊥) → UsesIn (command_event p c) z ⊎ UsesIn moved z → ⊥
       used1 z a (inl u) = used0 (is_fresh p.entered) z u
       used1 z a (inr u) = a z u
 
-      used2 : (z : ℕ) → ((b : ℕ) → UsesIn moved b → ⊥) → ((b : ℕ) → UsesIn sought b → IsGuarded j b) → UsesIn (begun p c ++ moved) z ⊎ UsesIn sought z → IsGuarded j z
-      used2 z a b (inl u) = absurd (used1 z a (uses_cases (begun p c) moved z u))
+      used2 : (z : ℕ) → ((b : ℕ) → UsesIn moved b → ⊥) → ((b : ℕ) → UsesIn sought b → IsGuarded j b) → UsesIn (command_event p c ++ moved) z ⊎ UsesIn sought z → IsGuarded j z
+      used2 z a b (inl u) = absurd (used1 z a (uses_cases (command_event p c) moved z u))
       used2 z a b (inr u) = b z u
 
-      used3 : (z : ℕ) → ((b : ℕ) → UsesIn moved b → ⊥) → ((b : ℕ) → UsesIn sought b → IsGuarded j b) → ((b : ℕ) → UsesIn homed b → ⊥) → UsesIn (begun p c ++ moved ++ sought) z ⊎ UsesIn homed z → IsGuarded j z
-      used3 z a b d (inl u) = used2 z a b (uses_cases (begun p c ++ moved) sought z u)
+      used3 : (z : ℕ) → ((b : ℕ) → UsesIn moved b → ⊥) → ((b : ℕ) → UsesIn sought b → IsGuarded j b) → ((b : ℕ) → UsesIn homed b → ⊥) → UsesIn (command_event p c ++ moved ++ sought) z ⊎ UsesIn homed z → IsGuarded j z
+      used3 z a b d (inl u) = used2 z a b (uses_cases (command_event p c ++ moved) sought z u)
       used3 z a b d (inr u) = absurd (d z u)
 
-      used4 : (z : ℕ) → ((b : ℕ) → UsesIn moved b → ⊥) → ((b : ℕ) → UsesIn sought b → IsGuarded j b) → ((b : ℕ) → UsesIn homed b → ⊥) → ((b : ℕ) → UsesIn set b → IsGuarded j b) → UsesIn (begun p c ++ moved ++ sought ++ homed) z ⊎ UsesIn set z → IsGuarded j z
-      used4 z a b d q (inl u) = used3 z a b d (uses_cases (begun p c ++ moved ++ sought) homed z u)
+      used4 : (z : ℕ) → ((b : ℕ) → UsesIn moved b → ⊥) → ((b : ℕ) → UsesIn sought b → IsGuarded j b) → ((b : ℕ) → UsesIn homed b → ⊥) → ((b : ℕ) → UsesIn set b → IsGuarded j b) → UsesIn (command_event p c ++ moved ++ sought ++ homed) z ⊎ UsesIn set z → IsGuarded j z
+      used4 z a b d q (inl u) = used3 z a b d (uses_cases (command_event p c ++ moved ++ sought) homed z u)
       used4 z a b d q (inr u) = q z u
 
-      used5 : (z : ℕ) → ((b : ℕ) → UsesIn moved b → ⊥) → ((b : ℕ) → UsesIn sought b → IsGuarded j b) → ((b : ℕ) → UsesIn homed b → ⊥) → ((b : ℕ) → UsesIn set b → IsGuarded j b) → ((b : ℕ) → UsesIn went b → ⊥) → UsesIn (begun p c ++ moved ++ sought ++ homed ++ set) z ⊎ UsesIn went z → IsGuarded j z
-      used5 z a b d q e (inl u) = used4 z a b d q (uses_cases (begun p c ++ moved ++ sought ++ homed) set z u)
+      used5 : (z : ℕ) → ((b : ℕ) → UsesIn moved b → ⊥) → ((b : ℕ) → UsesIn sought b → IsGuarded j b) → ((b : ℕ) → UsesIn homed b → ⊥) → ((b : ℕ) → UsesIn set b → IsGuarded j b) → ((b : ℕ) → UsesIn went b → ⊥) → UsesIn (command_event p c ++ moved ++ sought ++ homed ++ set) z ⊎ UsesIn went z → IsGuarded j z
+      used5 z a b d q e (inl u) = used4 z a b d q (uses_cases (command_event p c ++ moved ++ sought ++ homed) set z u)
       used5 z a b d q e (inr u) = absurd (e z u)

@@ -14,7 +14,7 @@ use Rattle.chan_walk.specs.Argument.{Has}
 use Rattle.chan_walk.specs.Check.{check}
 use Rattle.chan_walk.specs.Fault.{kind_of, goes_in, goes_out, is_known, begins_recalibrate, begins_set_mask}
 use Rattle.chan_walk.specs.Job.{storage_of}
-use Rattle.chan_walk.specs.Machine.{Gathered, Stage, Event, Command, Store, Fetch, Gather, Seek, SetMask, home, Moves, idle, skipped, stored, written, searched, taken, with_taken, Seeks, none, part, stays, under_way, Recalibration, no_home, home_stays, SetsMask, no_mask, no_byte, mask_stays, Continues, begun, Step, carried}
+use Rattle.chan_walk.specs.Machine.{Gathered, Stage, Event, Command, Store, Fetch, Gather, Seek, SetMask, home, Moves, idle, skipped, stored, written, searched, taken, with_taken, Seeks, none, part, stays, under_way, Recalibration, no_home, home_stays, SetsMask, no_mask, no_byte, mask_stays, Continues, command_event, Step, carried}
 use Rattle.chan_walk.specs.Place.{is_fresh, ccw_of}
 use Rattle.chan_walk.specs.Runs.{UsesIn}
 use Rattle.chan_walk.proofs.Machine.Events.{uses_left, uses_right, no_seek_append}
@@ -189,18 +189,18 @@ module _ (j : Job) where
 
   pub carry_out : AreBytes (storage_of j) → (y : ℕ) (p : Place) (g : Gathered) (few : IsFew (under_way p (ccw_of j p) g)) → check (storage_of j) p ≡ None → is_transfer (ccw_of j p) ≡ false → Known p → {went : List Event} {st : Stage} → AllByRecursion (IsQuiet j) went → Continues p (ccw_of j p) (kind_at p) (bytes_at p) (seek_at y p g few).after went st → Carried y p g (seek_at y p g few).es went st
   carry_out bytes y p g few e t known {went = went} calm goes = record {
-    es = begun p c ++ mv.es ++ sk.es ++ hm.es ++ fm.es ++ went;
+    es = command_event p c ++ mv.es ++ sk.es ++ hm.es ++ fm.es ++ went;
     step = carried e t known (full_le (kind_at p) c) mv.moves sk.seeks hm.homes fm.sets goes;
-    quiet = all_append _ (begun p c ++ mv.es ++ sk.es ++ hm.es ++ fm.es) went (all_append _ (begun p c ++ mv.es ++ sk.es ++ hm.es) fm.es (all_append _ (begun p c ++ mv.es ++ sk.es) hm.es (all_append _ (begun p c ++ mv.es) sk.es (all_append _ (begun p c) mv.es (calm_begun (is_fresh p.entered)) mv.quiet) sk.quiet) hm.quiet) fm.quiet) calm;
-    begins = λ f. from_moved _ (has_left (begun p c) mv.es _ (has_begun (is_fresh p.entered) f));
-    stores = λ f h. from_moved _ (has_right (begun p c) mv.es _ (mv.stores (inward_from (kind_at p) f) h));
-    fetches = λ f. from_moved _ (has_right (begun p c) mv.es _ (mv.fetches f));
-    sought = λ z h. from_sought z (has_right (begun p c ++ mv.es) sk.es z h);
-    uses = λ b u. uses_left (begun p c ++ mv.es ++ sk.es ++ hm.es ++ fm.es) went b (uses_left (begun p c ++ mv.es ++ sk.es ++ hm.es) fm.es b (uses_left (begun p c ++ mv.es ++ sk.es) hm.es b (uses_right (begun p c ++ mv.es) sk.es b u)));
-    home = λ f. from_homed _ (has_right (begun p c ++ mv.es ++ sk.es) hm.es _ (hm.home f));
-    masks = λ f l. has_left (begun p c ++ mv.es ++ sk.es ++ hm.es ++ fm.es) went _ (has_right (begun p c ++ mv.es ++ sk.es ++ hm.es) fm.es _ (fm.takes f l));
-    last = λ z h. has_right (begun p c ++ mv.es ++ sk.es ++ hm.es ++ fm.es) went z h;
-    no_seek = λ h a b. no_seek_append (begun p c ++ mv.es ++ sk.es ++ hm.es ++ fm.es) went (no_seek_append (begun p c ++ mv.es ++ sk.es ++ hm.es) fm.es (no_seek_append (begun p c ++ mv.es ++ sk.es) hm.es (no_seek_append (begun p c ++ mv.es) sk.es (no_seek_append (begun p c) mv.es (no_begun (is_fresh p.entered)) mv.no_seek) a) (hm.no_seek h)) fm.no_seek) b;
+    quiet = all_append _ (command_event p c ++ mv.es ++ sk.es ++ hm.es ++ fm.es) went (all_append _ (command_event p c ++ mv.es ++ sk.es ++ hm.es) fm.es (all_append _ (command_event p c ++ mv.es ++ sk.es) hm.es (all_append _ (command_event p c ++ mv.es) sk.es (all_append _ (command_event p c) mv.es (calm_begun (is_fresh p.entered)) mv.quiet) sk.quiet) hm.quiet) fm.quiet) calm;
+    begins = λ f. from_moved _ (has_left (command_event p c) mv.es _ (has_begun (is_fresh p.entered) f));
+    stores = λ f h. from_moved _ (has_right (command_event p c) mv.es _ (mv.stores (inward_from (kind_at p) f) h));
+    fetches = λ f. from_moved _ (has_right (command_event p c) mv.es _ (mv.fetches f));
+    sought = λ z h. from_sought z (has_right (command_event p c ++ mv.es) sk.es z h);
+    uses = λ b u. uses_left (command_event p c ++ mv.es ++ sk.es ++ hm.es ++ fm.es) went b (uses_left (command_event p c ++ mv.es ++ sk.es ++ hm.es) fm.es b (uses_left (command_event p c ++ mv.es ++ sk.es) hm.es b (uses_right (command_event p c ++ mv.es) sk.es b u)));
+    home = λ f. from_homed _ (has_right (command_event p c ++ mv.es ++ sk.es) hm.es _ (hm.home f));
+    masks = λ f l. has_left (command_event p c ++ mv.es ++ sk.es ++ hm.es ++ fm.es) went _ (has_right (command_event p c ++ mv.es ++ sk.es ++ hm.es) fm.es _ (fm.takes f l));
+    last = λ z h. has_right (command_event p c ++ mv.es ++ sk.es ++ hm.es ++ fm.es) went z h;
+    no_seek = λ h a b. no_seek_append (command_event p c ++ mv.es ++ sk.es ++ hm.es ++ fm.es) went (no_seek_append (command_event p c ++ mv.es ++ sk.es ++ hm.es) fm.es (no_seek_append (command_event p c ++ mv.es ++ sk.es) hm.es (no_seek_append (command_event p c ++ mv.es) sk.es (no_seek_append (command_event p c) mv.es (no_begun (is_fresh p.entered)) mv.no_seek) a) (hm.no_seek h)) fm.no_seek) b;
   }
     where
       c : Fields
@@ -218,14 +218,14 @@ module _ (j : Job) where
       fm : CanMask c (bytes_at p) j.mask (begins_set_mask p c)
       fm = can_mask c (bytes_at p) j.mask (begins_set_mask p c)
 
-      from_homed : (z : Event) → Has (begun p c ++ mv.es ++ sk.es ++ hm.es) z → Has (begun p c ++ mv.es ++ sk.es ++ hm.es ++ fm.es ++ went) z
-      from_homed z h = has_left (begun p c ++ mv.es ++ sk.es ++ hm.es ++ fm.es) went z (has_left (begun p c ++ mv.es ++ sk.es ++ hm.es) fm.es z h)
+      from_homed : (z : Event) → Has (command_event p c ++ mv.es ++ sk.es ++ hm.es) z → Has (command_event p c ++ mv.es ++ sk.es ++ hm.es ++ fm.es ++ went) z
+      from_homed z h = has_left (command_event p c ++ mv.es ++ sk.es ++ hm.es ++ fm.es) went z (has_left (command_event p c ++ mv.es ++ sk.es ++ hm.es) fm.es z h)
 
-      from_sought : (z : Event) → Has (begun p c ++ mv.es ++ sk.es) z → Has (begun p c ++ mv.es ++ sk.es ++ hm.es ++ fm.es ++ went) z
-      from_sought z h = from_homed z (has_left (begun p c ++ mv.es ++ sk.es) hm.es z h)
+      from_sought : (z : Event) → Has (command_event p c ++ mv.es ++ sk.es) z → Has (command_event p c ++ mv.es ++ sk.es ++ hm.es ++ fm.es ++ went) z
+      from_sought z h = from_homed z (has_left (command_event p c ++ mv.es ++ sk.es) hm.es z h)
 
-      from_moved : (z : Event) → Has (begun p c ++ mv.es) z → Has (begun p c ++ mv.es ++ sk.es ++ hm.es ++ fm.es ++ went) z
-      from_moved z h = from_sought z (has_left (begun p c ++ mv.es) sk.es z h)
+      from_moved : (z : Event) → Has (command_event p c ++ mv.es) z → Has (command_event p c ++ mv.es ++ sk.es ++ hm.es ++ fm.es ++ went) z
+      from_moved z h = from_sought z (has_left (command_event p c ++ mv.es) sk.es z h)
 
       calm_begun : (f : Bool) → AllByRecursion (IsQuiet j) (if f then Command c.command ∷ [] else [])
       calm_begun f = search rules

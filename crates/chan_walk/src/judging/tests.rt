@@ -1,6 +1,7 @@
 //! The worked cases, each with the verdict that follows from the rules.
 
 use super::verify;
+use crate::bits::skips;
 use crate::error::WalkError;
 use crate::explored::Explored;
 use crate::exploring::explore;
@@ -13,7 +14,6 @@ use crate::place::{Entry, Place};
 use crate::reason::Reason;
 use crate::seek::argument_addresses;
 use crate::verdict::Verdict;
-use crate::word::skips;
 use cases::{
     FORMATS, GUARDED, MASKS, SEARCHES, SEEKS, SET_MASKS, STORAGE, TRANSFERS, TWO_FAULTS, USUAL,
 };

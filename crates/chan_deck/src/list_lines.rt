@@ -1,12 +1,12 @@
-//! The rows of a deck's lists.
+//! The lines of a deck's lists.
 
 ghost use Rattle.std.specs.Prelude.{◌≡◌, ◌⊎◌, [], Ok, Err, MatchOption, IfErr, OnOk};
 ghost use Rattle.chan_deck.specs.Digits.{AreValues};
 ghost use Rattle.chan_deck.specs.Item.{Says};
-ghost use Rattle.chan_deck.specs.Reading.{listing, row_item, step};
+ghost use Rattle.chan_deck.specs.Reading.{with_lists, item_of_line, step};
 ghost use Rattle.chan_deck.specs.declared.cause.Cause.{Cause};
 ghost use Rattle.chan_deck.specs.declared.heading.Heading.{Heading};
-ghost use Rattle.chan_deck.specs.declared.rows.Row.{Row};
+ghost use Rattle.chan_deck.specs.declared.list_lines.ListLine.{ListLine};
 
 use crate::cause::Cause;
 use crate::digits::DigitValues;
@@ -27,9 +27,9 @@ pub(crate) struct Lists {
     pub(crate) store: Vec<Area>,
 }
 
-/// A row of the lists.
+/// A line of the lists.
 #[derive(Clone, Copy)]
-pub(crate) enum Row {
+pub(crate) enum ListLine {
     /// First and last cylinder of an extent.
     Extent(u16, u16),
     /// An area lent for fetching.
@@ -38,21 +38,21 @@ pub(crate) enum Row {
     Store(Area),
 }
 
-/// The row that a line spells, if it spells one.
-pub(crate) fn row_of(line: &[u8], values: &DigitValues) -> Option<Row>
+/// What a line spells, if it is one of the lists.
+pub(crate) fn list_line_of(line: &[u8], values: &DigitValues) -> Option<ListLine>
     requires { AreValues values.now }
     ensures { MatchOption result
-        ((r : Row) → Says line.now (row_item r) → ⊥)
-        (λ r. Says line.now (row_item r)) }
+        ((r : ListLine) → Says line.now (item_of_line r) → ⊥)
+        (λ r. Says line.now (item_of_line r)) }
 {
     if let Some((first, last)) = extent_of(line) {
-        return Some(Row::Extent(first, last));
+        return Some(ListLine::Extent(first, last));
     }
     if let Some(area) = area_of(line, b"fetch ", values) {
-        return Some(Row::Fetch(area));
+        return Some(ListLine::Fetch(area));
     }
     let area = area_of(line, b"store ", values)?;
-    Some(Row::Store(area))
+    Some(ListLine::Store(area))
 }
 
 impl Lists {
@@ -68,17 +68,17 @@ impl Lists {
         }
     }
 
-    /// Adds the row that the line read last spells. Extents come first, and areas for fetching
+    /// Adds what the line read last spells. Extents come first, and areas for fetching
     /// before those for storing.
-    pub(crate) fn add(&mut self, row: Row, cursor: &Cursor) -> Result<(), DeckError>
+    pub(crate) fn add(&mut self, line: ListLine, cursor: &Cursor) -> Result<(), DeckError>
         ensures ok { OnOk result ((h : Heading)
-            → step (listing h self.old) (row_item row) ≡ Ok (listing h self.new)) }
+            → step (with_lists h self.old) (item_of_line line) ≡ Ok (with_lists h self.new)) }
         ensures err { IfErr result (λ e. (e ≡ DeckError.Memory)
             ⊎ ((cause : Cause) × (e ≡ DeckError.At cursor.now.line cause)
-            × ((h : Heading) → step (listing h self.old) (row_item row) ≡ Err cause))) }
+            × ((h : Heading) → step (with_lists h self.old) (item_of_line line) ≡ Err cause))) }
     {
-        match row {
-            Row::Extent(first, last) => {
+        match line {
+            ListLine::Extent(first, last) => {
                 if !self.fetch.is_empty() || !self.store.is_empty() {
                     return Err(cursor.refused(Cause::Form));
                 }
@@ -90,13 +90,13 @@ impl Lists {
                 }
                 self.extents.push((first, last))?;
             }
-            Row::Fetch(area) => {
+            ListLine::Fetch(area) => {
                 if self.extents.is_empty() || !self.store.is_empty() {
                     return Err(cursor.refused(Cause::Form));
                 }
                 self.fetch.push(area)?;
             }
-            Row::Store(area) => {
+            ListLine::Store(area) => {
                 if self.extents.is_empty() {
                     return Err(cursor.refused(Cause::Form));
                 }

@@ -1,14 +1,14 @@
 use Rattle.std.proofs.Common.{ℕ, List}
 use Rattle.ccw_core.specs.declared.areas.Area.{Area}
 use Rattle.chan_deck.specs.Item.{Says, extent, fetch, store}
-use Rattle.chan_deck.specs.Reading.{row_item}
-use Rattle.chan_deck.specs.declared.rows.Row.{Row}
-use Rattle.chan_deck.specs.declared.rows.Row.TheVariants.{Extent, Fetch, Store}
+use Rattle.chan_deck.specs.Reading.{item_of_line}
+use Rattle.chan_deck.specs.declared.list_lines.ListLine.{ListLine}
+use Rattle.chan_deck.specs.declared.list_lines.ListLine.TheVariants.{Extent, Fetch, Store}
 use Rattle.chan_deck.proofs.FieldLemmas.{on_none}
-use Rattle.chan_deck.proofs.rows.row_of.Goals as goal
+use Rattle.chan_deck.proofs.list_lines.list_line_of.Goals as goal
 
 no_row : (l : List ℕ) → ((first last : ℕ) → Says l (extent first last) → ⊥) → ((a : Area) → Says l (fetch a) → ⊥) → ((a : Area) → Says l (store a) → ⊥)
-    → (r : Row) → Says l (row_item r) → ⊥
+    → (r : ListLine) → Says l (item_of_line r) → ⊥
 no_row l e f s (Extent first last) h = e first last h
 no_row l e f s (Fetch a) h = f a h
 no_row l e f s (Store a) h = s a h

@@ -1,7 +1,7 @@
 //! What the bits of a CCW ask for, and whether the channel accepts it.
 
 ghost use Rattle.std.specs.Prelude.{◌≡◌, length};
-ghost use Rattle.ccw_core.specs.Ccw as word;
+ghost use Rattle.ccw_core.specs.Ccw as specs;
 ghost use Rattle.ccw_core.specs.Held.{bytes_held};
 ghost use Rattle.chan_walk.specs.Notes as noted;
 
@@ -11,7 +11,7 @@ use ccw_core::{Ccw, CcwFlags, Group, Storage};
 /// Chain data: the operation goes on with the next CCW.
 #[tactic(auto, unfolding(ccw_core::specs::Ccw::chains_data))]
 pub(crate) fn chains_data(ccw: &Ccw) -> bool
-    ensures { result ≡ word.chains_data ccw.now }
+    ensures { result ≡ specs.chains_data ccw.now }
 {
     ccw.flags() & CcwFlags::CD.bits() != 0
 }
@@ -19,7 +19,7 @@ pub(crate) fn chains_data(ccw: &Ccw) -> bool
 /// Chain command: the next CCW begins an operation of its own.
 #[tactic(auto, unfolding(ccw_core::specs::Ccw::chains_command))]
 pub(crate) fn chains_command(ccw: &Ccw) -> bool
-    ensures { result ≡ word.chains_command ccw.now }
+    ensures { result ≡ specs.chains_command ccw.now }
 {
     ccw.flags() & CcwFlags::CC.bits() != 0
 }
@@ -27,7 +27,7 @@ pub(crate) fn chains_command(ccw: &Ccw) -> bool
 /// Skip: nothing is stored.
 #[tactic(auto, unfolding(ccw_core::specs::Ccw::skips))]
 pub(crate) fn skips(ccw: &Ccw) -> bool
-    ensures { result ≡ word.skips ccw.now }
+    ensures { result ≡ specs.skips ccw.now }
 {
     ccw.flags() & CcwFlags::SKIP.bits() != 0
 }
@@ -42,7 +42,7 @@ pub(crate) fn asks_interruption(ccw: &Ccw) -> bool
 
 /// The three low flag bits, which have to be zero, are zero.
 pub(crate) fn is_formed(ccw: &Ccw) -> bool
-    ensures { result ≡ word.is_formed ccw.now }
+    ensures { result ≡ specs.is_formed ccw.now }
 {
     ccw.known_flags().is_some()
 }
@@ -50,7 +50,7 @@ pub(crate) fn is_formed(ccw: &Ccw) -> bool
 /// The command code is no command's.
 #[tactic(auto, unfolding(ccw_core::specs::Ccw::is_invalid))]
 pub(crate) fn is_invalid(ccw: &Ccw) -> bool
-    ensures { result ≡ word.is_invalid ccw.now }
+    ensures { result ≡ specs.is_invalid ccw.now }
 {
     ccw.group() == Group::Invalid
 }
@@ -58,7 +58,7 @@ pub(crate) fn is_invalid(ccw: &Ccw) -> bool
 /// The count, which may not be zero, is not zero.
 #[tactic(auto, unfolding(ccw_core::specs::Ccw::is_counted))]
 pub(crate) fn is_counted(ccw: &Ccw) -> bool
-    ensures { result ≡ word.is_counted ccw.now }
+    ensures { result ≡ specs.is_counted ccw.now }
 {
     ccw.count() > 0
 }
@@ -66,7 +66,7 @@ pub(crate) fn is_counted(ccw: &Ccw) -> bool
 /// The whole data range lies in storage.
 #[tactic(auto, unfolding(ccw_core::specs::Ccw::has_data_in))]
 pub(crate) fn has_data_in(storage: &Storage, ccw: &Ccw) -> bool
-    ensures { result ≡ word.has_data_in (length (bytes_held storage.now)) ccw.now }
+    ensures { result ≡ specs.has_data_in (length (bytes_held storage.now)) ccw.now }
 {
     ccw.address() + u32::from(ccw.count()) <= storage.len()
 }
