@@ -1,12 +1,11 @@
 -- The first of the places looked at that answers to a question, and the path to it.
-use Rattle.std.proofs.Common.{◌≡◌, ℕ, zero, suc, ◌+◌, ◌<◌, ◌≤◌, List, [], ◌∷◌, length, get_or, slice_get, slice_index, Option, Some, None, sym, ◌∙◌, subst, ◌⊎◌, inl, inr, arith, rules}
+use Rattle.std.proofs.Common.{◌≡◌, ℕ, zero, suc, ◌+◌, ◌<◌, ◌≤◌, List, ◌∷◌, length, get_or, slice_get, slice_index, Option, Some, None, sym, ◌∙◌, subst, ◌⊎◌, inl, inr, arith, rules}
 use Rattle.std.proofs.lemmas.Bool.{cases_lt}
 use Rattle.chan_walk.specs.declared.exploring.Walk.{Walk}
 use Rattle.chan_walk.specs.declared.job.Job.{Job}
 use Rattle.chan_walk.specs.declared.place.Place.{Place}
 use Rattle.chan_walk.specs.Look.{Seen, places_of_looks}
 use Rattle.chan_walk.specs.Paths.{ArePathWhere, IsPathWhere}
-use Rattle.chan_walk.specs.Place.{first_place}
 use Rattle.chan_walk.specs.Reachable.{IsReachable}
 use Rattle.chan_walk.specs.Walk.{HasFound, IsBest, IsFirstWhere, IsPathAt}
 use Rattle.chan_walk.proofs.Algorithms.Looking.{number_of_places, place_at}

@@ -14,19 +14,12 @@ use Rattle.chan_walk.specs.Verdict.{ComesFirst}
 use Rattle.chan_walk.proofs.Theory.Faults.{fault_unique}
 use Rattle.chan_walk.proofs.Theory.Lists.{has_at}
 
-pub comes_first-trans : (a b d : ℕ) (r t u : Reason) → ComesFirst a r b t → ComesFirst b t d u → ComesFirst a r d u
-comes_first-trans a b d r t u h k = search rules
-
 module _ (Off : Place → Reason → Type 0) where
   -- the same places, said in two ways
   pub least_same : (Here There : Place → Type 0) (best : Option Finding) → ((p : Place) → There p → Here p) → ((p : Place) → Here p → There p)
       → IsLeast Off Here best → IsLeast Off There best
   least_same Here There None to from h = λ p t m o. h p t (to p m) o
   least_same Here There (Some f) to from h = ((h.0.0, from h.0.0 h.0.1, h.0.2, h.0.3), λ p t m o. h.1 p t (to p m) o)
-
-  -- at the place itself the first reason counts
-  by_new : (p q : Place) (r t : Reason) → IsFirst Off p (Some r) → p ≡ q → Off q t → ComesFirst p.address r q.address t
-  by_new p q r t first e o = inr (ap (λ (z : Place). z.address) e, first.1 t (subst (λ (z : Place). Off z t) (sym e) o))
 
   -- what was found at p comes first wherever p's first reason does
   moved : (f : Finding) (p : Place) (r : Reason) (b : ℕ) (t : Reason) → f.address ≡ p.address → f.reason ≡ r → ComesFirst p.address r b t → ComesFirst f.address f.reason b t

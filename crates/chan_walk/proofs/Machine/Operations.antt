@@ -1,7 +1,7 @@
 -- The operation of a seek, carried on to its end: to a whole argument, or to what stops it before.
 use Rattle.std.proofs.Common.{◌≡◌, ℕ, zero, suc, ◌+◌, ◌-◌, ◌<◌, ◌≤◌, min, true, false, List, [], ◌∷◌, ◌++◌, length, Option, Some, None, refl, sym, ap, subst, ◌⊎◌, inl, inr, arith, rules}
 use Rattle.std.specs.List.{AllByRecursion}
-use Rattle.std.proofs.lemmas.Bool.{cases_lt, cases_Bool, and_parts, both_ways}
+use Rattle.std.proofs.lemmas.Bool.{cases_lt, cases_Bool, and_parts}
 use Rattle.ccw_core.specs.Ccw.{Fields, ccw, is_transfer, chains_data}
 use Rattle.ckd_core.specs.declared.command.Kind.TheVariants.{Outward}
 use Rattle.chan_walk.specs.declared.job.Job.{Job}
