@@ -2,7 +2,7 @@
 
 ghost use Rattle.std.specs.Prelude.{◌≡◌, ◌+◌, ◌≤◌, false, length, IfOk, None, Some};
 ghost use Rattle.ccw_core.specs.Areas.{covered};
-ghost use Rattle.ccw_core.specs.Storage.{ccw_at as stored_ccw};
+ghost use Rattle.ccw_core.specs.Storage.{ccw_at as ccw_in};
 ghost use Rattle.ccw_core.specs.declared.areas.Area as areas;
 ghost use Rattle.chan_walk.specs.Evidence as specs;
 ghost use Rattle.chan_walk.specs.Evidence.{FailsToSeek, IsEvidence, IsEvidenceOrNone, IsFirstGap};
@@ -181,7 +181,7 @@ pub(crate) fn evidence_at(
 
 /// The evidence for an offence where no CCW stands.
 fn evidence_of_nothing(job: &Job, offence: Offence) -> Evidence
-    requires nothing { stored_ccw (storage_of job.now) offence.place.address ≡ None }
+    requires nothing { ccw_in (storage_of job.now) offence.place.address ≡ None }
     requires offends { Offending job.now offence }
     ensures { IsEvidence job.now offence result }
 {
@@ -203,7 +203,7 @@ fn evidence_of_ccw(
     offence: Offence,
     ccw: Ccw,
 ) -> Result<Evidence, AllocError>
-    requires stands { stored_ccw (storage_of job.now) offence.place.address ≡ Some ccw }
+    requires stands { ccw_in (storage_of job.now) offence.place.address ≡ Some ccw }
     requires found { HasFound job.now walk.now }
     requires offends { Offending job.now offence }
     ensures { IfOk result (IsEvidence job.now offence) }
@@ -289,7 +289,7 @@ fn not_lent_for_fetching(alloc: Global, job: &Job, range: Area) -> Result<Eviden
 
 /// What is wrong with the argument of the seek, or with cylinder 0 where a Recalibrate begins.
 fn evidence_of_seek(job: &Job, offence: Offence, ccw: Ccw) -> Evidence
-    requires stands { stored_ccw (storage_of job.now) offence.place.address ≡ Some ccw }
+    requires stands { ccw_in (storage_of job.now) offence.place.address ≡ Some ccw }
     requires fails { FailsToSeek job.now offence.place offence.reason }
     ensures { IsEvidence job.now offence result }
 {

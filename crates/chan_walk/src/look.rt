@@ -2,7 +2,7 @@
 
 ghost use Rattle.std.specs.Prelude.{◌≡◌, ◌<◌, ◌^◌, ℕ, Some, None, true, false, option_map};
 ghost use Rattle.ccw_core.specs.Held.{bytes_held};
-ghost use Rattle.ccw_core.specs.Storage.{ccw_at as stored_ccw};
+ghost use Rattle.ccw_core.specs.Storage.{ccw_at as ccw_in};
 ghost use Rattle.ckd_core.specs.Entries.{entry_of};
 ghost use Rattle.chan_walk.specs.Fault.{begins_seek};
 ghost use Rattle.chan_walk.specs.Job.{storage_of};
@@ -133,7 +133,7 @@ impl Look {
 /// What is seen of a place where no CCW stands.
 fn look_at_nothing(place: Place) -> Look
     ensures place { result.place ≡ place }
-    ensures look { (j : Job) → stored_ccw (storage_of j) place.address ≡ None → IsLook j result }
+    ensures look { (j : Job) → ccw_in (storage_of j) place.address ≡ None → IsLook j result }
 {
     Look {
         place,
@@ -176,7 +176,7 @@ fn mask_argument(visit: &Visit) -> Argument
 
 /// What is seen of a place where a CCW stands.
 fn look_at_word(job: &Job, lending: Lending, place: Place, word: Ccw) -> Look
-    requires stands { stored_ccw (storage_of job.now) place.address ≡ Some word }
+    requires stands { ccw_in (storage_of job.now) place.address ≡ Some word }
     requires lends { Lends job.now lending }
     ensures place { result.place ≡ place }
     ensures look { IsLook job.now result }

@@ -6,7 +6,7 @@ ghost use Rattle.ccw_core.specs.Ccw.{byte, ccw as held_ccw, chains_data as chain
 ghost use Rattle.ccw_core.specs.Ccw.{is_counted as counted, has_data_in as data_in};
 ghost use Rattle.ccw_core.specs.Ccw.{is_formed as formed};
 ghost use Rattle.ccw_core.specs.Held.{bytes_held};
-ghost use Rattle.ccw_core.specs.Storage.{ccw_at as stored_ccw};
+ghost use Rattle.ccw_core.specs.Storage.{ccw_at as ccw_in};
 ghost use Rattle.chan_walk.specs.Argument.{HasArgument, is_part};
 ghost use Rattle.chan_walk.specs.Evidence.{Gives};
 ghost use Rattle.chan_walk.specs.Onward as onward;
@@ -44,7 +44,7 @@ struct Part {
 /// What the CCW at an address gives of an argument, if it can give any of it.
 #[tactic(auto, using(crate::proofs::Algorithms::Following::found_parts))]
 fn part_at(storage: &Storage, address: u32, ccw: Ccw) -> Option<Part>
-    requires { stored_ccw (bytes_held storage.now) address ≡ Some ccw }
+    requires { ccw_in (bytes_held storage.now) address ≡ Some ccw }
     ensures part { IfSome result (λ _. is_part (bytes_held storage.now) address ≡ true) }
     ensures inside { IfSome result (λ _. address < 2 ^ 25) }
     ensures range { IfSome result (λ part. part.from + part.count ≤ 2 ^ 24) }
@@ -73,9 +73,9 @@ fn onward(storage: &Storage, address: u32) -> Option<Link>
     ensures found { IfSome result
         (λ link. link.address ≡ onward.onward (bytes_held storage.now) address) }
     ensures stands { IfSome result
-        (λ link. stored_ccw (bytes_held storage.now) link.address ≡ Some link.ccw) }
+        (λ link. ccw_in (bytes_held storage.now) link.address ≡ Some link.ccw) }
     ensures none { IfNone result
-        (stored_ccw (bytes_held storage.now) (onward.onward (bytes_held storage.now) address) ≡ None) }
+        (ccw_in (bytes_held storage.now) (onward.onward (bytes_held storage.now) address) ≡ None) }
 {
     let next = address + 8;
     let ccw = storage.ccw_at(next)?;
@@ -106,7 +106,7 @@ fn note(addresses: &mut [u32; 6], have: usize, from: u32, count: usize)
 /// `address`; or how many bytes its data chain gives, if they are fewer. At most five further CCWs
 /// and five transfers are looked at, each of them once.
 pub(crate) fn argument_addresses(storage: &Storage, address: u32, ccw: Ccw) -> Result<[u32; 6], u8>
-    requires { stored_ccw (bytes_held storage.now) address ≡ Some ccw }
+    requires { ccw_in (bytes_held storage.now) address ≡ Some ccw }
     ensures six { IfOk result (λ x. HasAddresses (bytes_held storage.now) address (Some x)) }
     ensures none { IfErr result (λ _. HasAddresses (bytes_held storage.now) address None) }
     ensures given { IfErr result (Gives (bytes_held storage.now) address) }
