@@ -1,30 +1,71 @@
-# `make` runs the main job, `make test` passes all proofs and tests. `make lib` builds the library
-# for C, `make install PREFIX=/usr/local` puts the program, its manual page and its completions for
-# bash, the library and its header where users expect them.
+# `make` builds chanv and runs it, `make test` passes every proof and every test, and `make audit`
+# shows that the proofs mean something: all from nothing, and wrong bodies that have to be refused.
+# `make lib` builds the library for C. `make install PREFIX=/usr/local` copies what these two built to
+# where users expect it, and builds nothing; `make uninstall` takes it away.
 
 PREFIX ?= /usr/local
+VERSION = 0.1.0
 
-.PHONY: run test lib install
+# How many processors a proof may use; each takes up to 1.5 GB of memory.
+JOBS ?= $(shell nproc)
 
-run:
-	cd crates/chanv && rt run < stdin
+# The libraries under chanv, lowest first. They are built one by one, each with all processors, so
+# that `rt run` in chanv finds them there, and leaves out its quick pass over all sources.
+LIBRARIES = ccw_core ckd_core chan_walk chan_deck chan_run
+
+.PHONY: run libraries test audit lib install uninstall
+
+run: libraries
+	cd crates/chanv && rt run --jobs $(JOBS) < stdin
 	crates/chanv/out/chanv why examples/changes-itself.deck || test $$? -eq 1
 
-test:
-	rt ci
+libraries:
+	for crate in $(LIBRARIES); do (cd crates/$$crate && rt lib --jobs $(JOBS)) || exit 1; done
 
-# The library with the kit's C runtime, as one archive that links by itself.
+test: libraries
+	tests/run --all --jobs $(JOBS)
+
+audit:
+	rt ci
+	batches/try.py
+	batches/forbidden_words.py
+
+# The library for C with the kit's runtime, as one object that shows nothing but chanv's calls, in an
+# archive and a shared library, each of which links by itself.
 lib:
-	cd crates/chanv_c && rt lib
+	cd crates/chanv_c && rt lib --jobs $(JOBS)
 	mkdir -p out
+	ld -r -o out/chanv.o --whole-archive crates/chanv_c/out/libchanv_c.a --no-whole-archive \
+	  "$$(dirname "$$(rt doc)")/c/liblibc_c.a"
+	objcopy --wildcard --keep-global-symbol='chanv_*' out/chanv.o
 	rm -f out/libchanv.a
-	printf 'create out/libchanv.a\naddlib %s\naddlib %s\nsave\nend\n' crates/chanv_c/out/libchanv_c.a \
-	  "$$(dirname "$$(rt doc)")/c/liblibc_c.a" | ar -M
+	ar rcs out/libchanv.a out/chanv.o
+	$(CC) -shared -Wl,-z,defs -Wl,-soname,$(SONAME) -o out/libchanv.so.$(VERSION) out/chanv.o
 	cp crates/chanv_c/include/chanv.h out/chanv.h
 
-install: run lib
-	install -D crates/chanv/out/chanv $(DESTDIR)$(PREFIX)/bin/chanv
-	install -D -m 644 docs/chanv.1 $(DESTDIR)$(PREFIX)/share/man/man1/chanv.1
-	install -D -m 644 docs/chanv.bash $(DESTDIR)$(PREFIX)/share/bash-completion/completions/chanv
-	install -D -m 644 out/libchanv.a $(DESTDIR)$(PREFIX)/lib/libchanv.a
-	install -D -m 644 out/chanv.h $(DESTDIR)$(PREFIX)/include/chanv.h
+# The name by which programs ask for the shared library: it changes with the first number.
+SONAME = libchanv.so.$(firstword $(subst ., ,$(VERSION)))
+
+BUILT = crates/chanv/out/chanv out/libchanv.a out/libchanv.so.$(VERSION) out/chanv.h
+TO = $(DESTDIR)$(PREFIX)
+
+install:
+	@for built in $(BUILT); do test -f $$built || \
+	  { echo "make install: no $$built; run make and make lib first" >&2; exit 1; }; done
+	install -D crates/chanv/out/chanv "$(TO)/bin/chanv"
+	install -D -m 644 docs/chanv.1 "$(TO)/share/man/man1/chanv.1"
+	install -D -m 644 docs/chanv.bash "$(TO)/share/bash-completion/completions/chanv"
+	install -D -m 644 out/chanv.h "$(TO)/include/chanv.h"
+	install -D -m 644 out/libchanv.a "$(TO)/lib/libchanv.a"
+	install -D out/libchanv.so.$(VERSION) "$(TO)/lib/libchanv.so.$(VERSION)"
+	ln -sf libchanv.so.$(VERSION) "$(TO)/lib/$(SONAME)"
+	ln -sf $(SONAME) "$(TO)/lib/libchanv.so"
+	install -d "$(TO)/lib/pkgconfig"
+	sed 's|@PREFIX@|$(PREFIX)|; s|@VERSION@|$(VERSION)|' docs/chanv.pc.in > \
+	  "$(TO)/lib/pkgconfig/chanv.pc"
+
+uninstall:
+	rm -f "$(TO)/bin/chanv" "$(TO)/share/man/man1/chanv.1" "$(TO)/include/chanv.h" \
+	  "$(TO)/share/bash-completion/completions/chanv" "$(TO)/lib/libchanv.a" \
+	  "$(TO)/lib/libchanv.so" "$(TO)/lib/$(SONAME)" "$(TO)/lib/libchanv.so.$(VERSION)" \
+	  "$(TO)/lib/pkgconfig/chanv.pc"

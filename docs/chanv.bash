@@ -1,7 +1,7 @@
 # Completes the words of chanv in bash; `make install` puts it where bash looks for it.
 _chanv() {
     local word=${COMP_WORDS[COMP_CWORD]} before=${COMP_WORDS[COMP_CWORD - 1]}
-    local commands='show verify list why graph deck explain help'
+    local commands='show verify list why graph needs deck explain help'
     local of_deck='--device --mask --start --limit --extent --fetch --store --at'
     local words='--help'
     COMPREPLY=()

@@ -2,7 +2,7 @@
 
 ghost use Rattle.std.specs.Prelude.{◌≡◌, ◌≤◌, ◌<◌, ◌↔◌, true, false, take, length, IsTrue, IsErr};
 ghost use Rattle.std.specs.Prelude.{IfOk, OnOk, OnErr};
-ghost use Rattle.std.specs.Io.KnownBytes.{Appends, ReadConsumes, WriteAppends};
+ghost use Rattle.std.specs.Io.KnownBytes.{Appends, Keeps, ReadConsumes, WriteAppends};
 ghost use Rattle.ccw_core.specs.Written.{AppendsPrefix};
 
 use std::io::{Read, Write};
@@ -104,6 +104,18 @@ impl<W: Write> Watched<W> {
         match self.inner.write(bytes) {
             Ok(n) if n > 0 || bytes.is_empty() => Ok(n),
             _ => Err(self.fault()),
+        }
+    }
+
+    /// Has what was written handed on. The bytes that were written stay as they are.
+    pub fn flush(&mut self) -> Result<(), DeviceFault>
+        ensures bytes { Keeps (W.contents self.old.device) (W.contents self.new.device) }
+        ensures ok { OnOk result (self.new.failed ≡ self.old.failed) }
+        ensures fault { OnErr result (self.new.failed ≡ true) }
+    {
+        match self.inner.flush() {
+            Ok(()) => Ok(()),
+            Err(_) => Err(self.fault()),
         }
     }
 }

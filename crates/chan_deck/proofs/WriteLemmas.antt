@@ -1,10 +1,12 @@
 -- What is written, line by line.
-use Rattle.std.proofs.Common.{◌≡◌, ℕ, zero, suc, replicate, ◌%◌, length-append, ◌+◌, ◌-◌, ◌*◌, ◌/◌, ◌<◌, ◌≤◌, Bool, true, false, cond, List, [], ◌∷◌, ◌++◌, length, take, drop, map, get_or, refl, sym, ap, ◌∙◌, append_assoc, arith}
+use Rattle.std.proofs.Common.{codes, ◌≡◌, ℕ, zero, suc, replicate, ◌%◌, length-append, ◌+◌, ◌-◌, ◌*◌, ◌/◌, ◌<◌, ◌≤◌, Bool, true, false, cond, List, [], ◌∷◌, ◌++◌, length, take, drop, map, get_or, refl, sym, ap, ◌∙◌, append_assoc, arith}
 use Rattle.std.specs.List.{flat_map}
 use Rattle.std.proofs.lemmas.List.{take_more, drop-drop, map-append, append-nil, length-replicate}
 use Rattle.ccw_core.specs.declared.areas.Area.{Area}
-use Rattle.chan_deck.specs.Item.{Item, header, device, mask, start, fetch, store, storage, put, end, line, text}
+use Rattle.chan_deck.specs.Item.{Item, area_digits, header, device, mask, start, fetch, store, storage, put, end, line, text}
 use Rattle.chan_deck.specs.Image.{Image, extent_of, is_zero, puts, spelling, header_of, limit_line}
+use Rattle.chan_walk.specs.Rows.{Listed}
+use Rattle.chan_deck.specs.Needs.{granting, in_six_digits, keep_line, needs_text}
 use Rattle.chan_deck.proofs.FrontLemmas.{text-append}
 
 text_parts : (a b : List Item) → text (map line (a ++ b)) ≡ text (map line a) ++ text (map line b)
@@ -121,3 +123,36 @@ spelling_parts d =
 
 pub five_parts : (o a b c d e : List ℕ) → ((((o ++ a) ++ b) ++ c) ++ d) ++ e ≡ o ++ (a ++ (b ++ (c ++ (d ++ e))))
 five_parts o a b c d e = simp append_assoc
+
+-- ---- the text of needs
+
+kept_text : (areas : List Area) → flat_map (λ a. (codes "keep " ++ area_digits a) ++ 10 ∷ []) areas ≡ text (map keep_line areas)
+kept_text [] = refl
+kept_text (a ∷ areas) = ap (λ t. (keep_line a ++ 10 ∷ []) ++ t) (kept_text areas)
+
+five_same : (m n e f g s t k l : List ℕ) → m ≡ n → f ≡ g → s ≡ t → k ≡ l
+    → (((m ++ e) ++ f) ++ s) ++ k ≡ (((n ++ e) ++ g) ++ t) ++ l
+five_same m n e f g s t k l first second third fourth = rw (first, second, third, fourth) refl
+
+-- what is written of needs, part by part
+pub needs_parts : (n : Listed) (F S K : List Area) → F ≡ in_six_digits n.fetch → S ≡ in_six_digits n.store
+    → K ≡ in_six_digits n.keep
+    → ((((line (mask n.mask) ++ 10 ∷ []) ++ text (map line (map extent_of n.extents)))
+    ++ flat_map (λ a. (codes "fetch " ++ area_digits a) ++ 10 ∷ []) F)
+    ++ flat_map (λ a. (codes "store " ++ area_digits a) ++ 10 ∷ []) S)
+    ++ flat_map (λ a. (codes "keep " ++ area_digits a) ++ 10 ∷ []) K ≡ needs_text n
+needs_parts n F S K f s k =
+    let M = mask n.mask ∷ [] in
+    let E = map extent_of n.extents in
+    let fetched = map fetch (in_six_digits n.fetch) in
+    let stored = map store (in_six_digits n.store) in
+    let kept = map keep_line (in_six_digits n.keep) in
+    let begun : text (map line (granting n)) ≡ ((text (map line M) ++ text (map line E)) ++ text (map line fetched)) ++ text (map line stored) =
+    text_parts (M ++ E ++ fetched) stored ∙ ap (λ t. t ++ text (map line stored)) (text_parts (M ++ E) fetched
+    ∙ ap (λ t. t ++ text (map line fetched)) (text_parts M E)) in
+    five_same (line (mask n.mask) ++ 10 ∷ []) (text (map line M)) (text (map line E)) _ (text (map line fetched)) _ (text (map line stored)) _ (text kept)
+    (sym (append-nil (line (mask n.mask) ++ 10 ∷ [])))
+    (area_text fetch F ∙ ap (λ areas. text (map line (map fetch areas))) f)
+    (area_text store S ∙ ap (λ areas. text (map line (map store areas))) s)
+    (kept_text K ∙ ap (λ areas. text (map keep_line areas)) k)
+    ∙ ap (λ t. t ++ text kept) (sym begun) ∙ sym (text-append (map line (granting n)) kept)

@@ -14,3 +14,4 @@ pub mod Explanation
 pub mod Graph
 pub mod Hint
 pub mod Notes
+pub mod Needs

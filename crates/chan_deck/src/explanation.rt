@@ -12,14 +12,11 @@ ghost use Rattle.chan_walk.specs.Job.{storage_of};
 use crate::listing::{ListError, push_row, standing_at};
 use crate::texts::{Address, Digits, Range, Size, verdict_text};
 use ccw_core::{Area, Watched, write_out};
-use chan_walk::{Evidence, Explanation, Job, Offence, Outside, Place};
+use chan_walk::{Evidence, Job, Offence, Outside, Place, Survey, Witness};
 use ckd_core::lookup;
 use std::alloc::{AllocError, Global};
 use std::fmt::Write as _;
 use std::io::Write;
-
-#[cfg(test)]
-mod tests;
 
 /// The name of the command of a code.
 fn name_of_code(code: u8) -> &'static str
@@ -228,19 +225,19 @@ fn push_witness(
     alloc: Global,
     out: &mut String,
     job: &Job,
-    explanation: &Explanation,
+    witness: &Witness,
 ) -> Result<(), AllocError>
     ensures { OnOk result (string_bytes out.new ≡ string_bytes out.old
-        ++ texts.witness_text (storage_of job.now) explanation.now explanation.now.evidence) }
+        ++ texts.witness_text (storage_of job.now) witness.now witness.now.evidence) }
 {
-    let Some(evidence) = explanation.evidence() else {
+    let Some(evidence) = witness.evidence else {
         return Ok(());
     };
-    push_path(alloc, out, job, explanation.path())?;
+    push_path(alloc, out, job, witness.path.as_slice())?;
     out.push_str("because ")?;
-    push_cause(out, explanation.path(), evidence)?;
+    push_cause(out, witness.path.as_slice(), evidence)?;
     out.push('\n')?;
-    push_second(alloc, out, job, explanation.second_path())
+    push_second(alloc, out, job, witness.second_path.as_slice())
 }
 
 /// The explanation of a verdict as text: its line; the path to an offending place, a row for each
@@ -252,14 +249,16 @@ fn push_witness(
 pub fn explanation_text(
     alloc: Global,
     job: &Job,
-    explanation: &Explanation,
+    survey: &Survey,
+    witness: &Witness,
 ) -> Result<String, AllocError>
     ensures { IfOk result
-        (λ t. string_bytes t ≡ texts.explanation (storage_of job.now) explanation.now) }
+        (λ t. string_bytes t ≡ texts.explanation (storage_of job.now)
+        survey.now.offences.items witness.now) }
 {
-    let mut text = verdict_text(alloc, explanation.verdict())?;
-    push_witness(alloc, &mut text, job, explanation)?;
-    push_others(&mut text, explanation.offences())?;
+    let mut text = verdict_text(alloc, survey.verdict())?;
+    push_witness(alloc, &mut text, job, witness)?;
+    push_others(&mut text, survey.offences())?;
     Ok(text)
 }
 
@@ -270,17 +269,20 @@ pub fn explanation_text(
 pub fn write_explanation<W: Write>(
     alloc: Global,
     job: &Job,
-    explanation: &Explanation,
+    survey: &Survey,
+    witness: &Witness,
     to: &mut Watched<W>,
 ) -> Result<(), ListError>
     requires { to.old.failed ≡ false }
     ensures ok { OnOk result (Appends (W.contents to.old.device) (W.contents to.new.device)
-        (texts.explanation (storage_of job.now) explanation.now)) }
+        (texts.explanation (storage_of job.now)
+        survey.now.offences.items witness.now)) }
     ensures prefix { AppendsPrefix (W.contents to.old.device) (W.contents to.new.device)
-        (texts.explanation (storage_of job.now) explanation.now) }
+        (texts.explanation (storage_of job.now)
+        survey.now.offences.items witness.now) }
     ensures write { IsErrOf result ListError.Write ↔ (to.new.failed ≡ true) }
     ensures memory { IsErrOf result ListError.Memory → to.new ≡ to.old }
 {
-    let text = explanation_text(alloc, job, explanation)?;
+    let text = explanation_text(alloc, job, survey, witness)?;
     Ok(write_out(text.as_bytes(), to)?)
 }

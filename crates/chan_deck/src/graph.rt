@@ -10,14 +10,11 @@ ghost use Rattle.chan_deck.specs.Pieces.{IsHeldBack, GoesOn, BreaksOff};
 use crate::listing::{ListError, hand_over, name_of, transfer_word, way_word};
 use crate::texts::Address;
 use ccw_core::{Watched, write_out};
-use chan_walk::{Judged, Look, Offence, Place};
+use chan_walk::{Look, Offence, Place};
 use std::alloc::{AllocError, Global};
 use std::fmt;
 use std::fmt::Write as _;
 use std::io::Write;
-
-#[cfg(test)]
-mod tests;
 
 const HEADING: &str = "digraph program {
   node [shape=box, fontname=\"monospace\", fontsize=10];
@@ -272,18 +269,17 @@ fn write_ending<W: Write>(piece: String, to: &mut Watched<W>) -> Result<(), List
 /// `Write` comes exactly where a write failed. After an error a prefix of the picture was written.
 pub fn write_graph<W: Write>(
     alloc: Global,
-    judged: &Judged,
+    looks: &[Look],
     offences: &[Offence],
     to: &mut Watched<W>,
 ) -> Result<(), ListError>
     requires { to.old.failed ≡ false }
     ensures ok { OnOk result (Appends (W.contents to.old.device) (W.contents to.new.device)
-        (draw.graph judged.now.looks offences.now)) }
+        (draw.graph looks.now offences.now)) }
     ensures prefix { AppendsPrefix (W.contents to.old.device) (W.contents to.new.device)
-        (draw.graph judged.now.looks offences.now) }
+        (draw.graph looks.now offences.now) }
     ensures write { IsErrOf result ListError.Write ↔ (to.new.failed ≡ true) }
 {
-    let looks = judged.looks();
     let mut piece = String::from_str(alloc, HEADING)?;
     write_nodes(&mut piece, looks, to)?;
     write_marks(&mut piece, offences, to)?;

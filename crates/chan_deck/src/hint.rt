@@ -20,9 +20,6 @@ use crate::texts::{Address, Digits};
 use crate::version::VersionNumber;
 use std::alloc::{AllocError, Global};
 
-#[cfg(test)]
-mod tests;
-
 /// How many characters of a line are shown.
 const SHOWN: usize = 60;
 
@@ -198,6 +195,19 @@ fn is_past(above: Option<u32>, address: u32) -> bool
     }
 }
 
+/// An address above that of the put before, where there is one.
+fn above_text(alloc: Global, above: Option<u32>) -> Result<String, AllocError>
+    ensures { IfOk result (λ t. string_bytes t ≡ hint.above_text above) }
+{
+    match above {
+        Some(above) => {
+            let above = Address(above);
+            format!(in alloc; "an address above {above} that is a multiple of 8")
+        }
+        None => String::from_str(alloc, "an address that is a multiple of 8"),
+    }
+}
+
 /// The condition that the address of a put doesn't meet, behind a put with an address or behind
 /// none.
 fn place_text(alloc: Global, above: Option<u32>, address: u32) -> Result<String, AllocError>
@@ -206,13 +216,7 @@ fn place_text(alloc: Global, above: Option<u32>, address: u32) -> Result<String,
     if address % 8 == 0 && is_past(above, address) {
         return String::from_str(alloc, "an address at which storage has eight bytes");
     }
-    match above {
-        Some(above) => {
-            let above = Address(above);
-            format!(in alloc; "an address above {above} that is a multiple of 8")
-        }
-        None => String::from_str(alloc, "an address that is a multiple of 8"),
-    }
+    above_text(alloc, above)
 }
 
 /// The condition that a put at a spot doesn't meet by its address.
@@ -277,6 +281,23 @@ fn expected_text(alloc: Global, spot: &Spot<'_>, cause: Cause) -> Result<String,
     }
 }
 
+/// Adds a line of what stands in a line, and one of what is expected.
+fn push_hint(
+    alloc: Global,
+    out: &mut Vec<u8>,
+    found: &[u8],
+    expected: &[u8],
+) -> Result<(), AllocError>
+    ensures { OnOk result (out.new.items ≡ out.old.items ++ hint.hint_of found.now expected.now) }
+{
+    out.extend_from_slice(b"found ")?;
+    push_shown(alloc, out, found, SHOWN)?;
+    out.extend_from_slice(b"\nexpected ")?;
+    out.extend_from_slice(expected)?;
+    out.push(b'\n')?;
+    Ok(())
+}
+
 /// The hint for a text that is refused at this line for this cause: a line `found ` with the line
 /// as it stands, and a line `expected ` with what may stand in its place, or the condition that it
 /// doesn't meet. An error means that an allocation failed.
@@ -290,10 +311,6 @@ pub fn hint_text(alloc: Global, text: &[u8], line: u64, cause: Cause) -> Result<
     let spot = spot_behind(text, line.saturating_sub(1));
     let expected = expected_text(alloc, &spot, cause)?;
     let mut out = Vec::new(alloc);
-    out.extend_from_slice(b"found ")?;
-    push_shown(alloc, &mut out, spot.found, SHOWN)?;
-    out.extend_from_slice(b"\nexpected ")?;
-    out.extend_from_slice(expected.as_bytes())?;
-    out.push(b'\n')?;
+    push_hint(alloc, &mut out, spot.found, expected.as_bytes())?;
     Ok(out)
 }

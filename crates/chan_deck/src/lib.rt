@@ -26,6 +26,7 @@ mod lines;
 mod list_lines;
 mod listing;
 mod lists;
+mod needs;
 mod notes;
 mod parts;
 mod reading;
@@ -40,12 +41,10 @@ pub use crate::error::DeckError;
 pub use crate::explanation::{explanation_text, write_explanation};
 pub use crate::graph::write_graph;
 pub use crate::hint::hint_text;
-pub use crate::listing::{ListError, row_text, write_judged, write_listing};
+pub use crate::listing::{ListError, row_text, write_listing, write_seen};
+pub use crate::needs::{in_six_digits, needs_text, write_needs};
 pub use crate::notes::notes_text;
 pub use crate::parts::{Parts, PartsError, write_parts};
 pub use crate::reading::read_deck;
 pub use crate::texts::verdict_text;
 pub use crate::writing::write_deck;
-
-#[cfg(test)]
-mod tests;

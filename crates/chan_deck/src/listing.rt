@@ -16,15 +16,12 @@ ghost use Rattle.chan_walk.specs.declared.job.Job.{Job};
 
 use crate::texts::{Address, verdict_text};
 use ccw_core::{Ccw, DeviceFault, Watched, write_out};
-use chan_walk::{Entry, Explored, Job, Judged, Look, Place, Verdict};
+use chan_walk::{Entry, Explored, Job, Look, Place, Verdict};
 use ckd_core::{Command, lookup};
 use std::alloc::{AllocError, Global};
 use std::fmt::Write as _;
 use std::io::Write;
 use thiserror::Error;
-
-#[cfg(test)]
-mod tests;
 
 /// So many bytes of a listing at least are handed to the writer at once, but at its end.
 const PIECE: usize = 4096;
@@ -325,25 +322,25 @@ pub fn write_listing<W: Write>(
 ///
 /// What is written is what `write_listing` writes for the job, its reachable places and its
 /// verdict; so are the errors.
-pub fn write_judged<W: Write>(
+pub fn write_seen<W: Write>(
     alloc: Global,
-    judged: &Judged,
+    looks: &[Look],
+    verdict: Verdict,
     to: &mut Watched<W>,
 ) -> Result<(), ListError>
     requires { to.old.failed ≡ false }
     ensures ok { OnOk result (Appends (W.contents to.old.device) (W.contents to.new.device)
-        (list.seen_listing judged.now.looks judged.now.verdict)) }
+        (list.seen_listing looks.now verdict)) }
     ensures prefix { AppendsPrefix (W.contents to.old.device) (W.contents to.new.device)
-        (list.seen_listing judged.now.looks judged.now.verdict) }
+        (list.seen_listing looks.now verdict) }
     ensures write { IsErrOf result ListError.Write ↔ (to.new.failed ≡ true) }
 
     // It is the listing of the job that was judged.
-    ensures listing { (j : Job) → AreLooks j judged.now.looks
-        → list.seen_listing judged.now.looks judged.now.verdict
-        ≡ list.listing (storage_of j) (places_of_looks judged.now.looks) judged.now.verdict }
+    ensures listing { (j : Job) → AreLooks j looks.now
+        → list.seen_listing looks.now verdict
+        ≡ list.listing (storage_of j) (places_of_looks looks.now) verdict }
 {
-    let named = judged.verdict();
     let mut piece = String::new(alloc);
-    write_looks(alloc, &mut piece, judged.looks(), named, to)?;
-    write_end(alloc, piece, named, to)
+    write_looks(alloc, &mut piece, looks, verdict, to)?;
+    write_end(alloc, piece, verdict, to)
 }

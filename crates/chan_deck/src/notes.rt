@@ -11,9 +11,6 @@ use chan_walk::Notes;
 use std::alloc::{AllocError, Global};
 use std::fmt::Write;
 
-#[cfg(test)]
-mod tests;
-
 /// What is noted of an area that ends past storage.
 const PAST_STORAGE: &str = " reaches past storage";
 

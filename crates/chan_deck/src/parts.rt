@@ -20,9 +20,6 @@ use std::alloc::{AllocError, Global};
 use std::io::Write;
 use thiserror::Error;
 
-#[cfg(test)]
-mod tests;
-
 /// The most bytes that storage may have: addresses have 24 bits.
 const STORAGE_LIMIT: usize = 16_777_216;
 

@@ -90,7 +90,7 @@ fn write_extent(out: &mut Vec<u8>, first: u16, last: u16) -> Result<(), AllocErr
     out.extend_from_slice(b"\n")
 }
 
-fn write_extents(out: &mut Vec<u8>, extents: &[(u16, u16)]) -> Result<(), AllocError>
+pub(crate) fn write_extents(out: &mut Vec<u8>, extents: &[(u16, u16)]) -> Result<(), AllocError>
     requires { AllByRecursion IsExtent extents.now }
     ensures { OnOk result (out.new.items
         ≡ out.old.items ++ text (map line (map extent_of extents.now))) }
@@ -114,7 +114,7 @@ fn write_area(alloc: Global, out: &mut Vec<u8>, word: &[u8], area: Area) -> Resu
 }
 
 /// A line for each area, which begins with a word.
-fn write_areas(
+pub(crate) fn write_areas(
     alloc: Global,
     out: &mut Vec<u8>,
     word: &[u8],
@@ -176,7 +176,11 @@ fn write_puts(alloc: Global, out: &mut Vec<u8>, at: u32, bytes: &[u8]) -> Result
     Ok(())
 }
 
-fn write_mask(alloc: Global, out: &mut Vec<u8>, file_mask: FileMask) -> Result<(), AllocError>
+pub(crate) fn write_mask(
+    alloc: Global,
+    out: &mut Vec<u8>,
+    file_mask: FileMask,
+) -> Result<(), AllocError>
     ensures text { OnOk result (out.new.items
         ≡ out.old.items ++ (line (mask file_mask) ++ 10 ∷ [])) }
     ensures right { OnOk result (IsByte file_mask × (is_mask file_mask ≡ true)) }

@@ -1,4 +1,6 @@
+pub mod Writing
 pub mod Outputs
+pub mod NeedLemmas
 pub mod OptionLemmas
 pub mod ImageLemmas
-pub mod AdviceLemmas
+pub mod Endings

@@ -1,86 +1,108 @@
--- What a run writes of a job that was judged is what the action asks for.
-use Rattle.std.proofs.Common.{◌≡◌, ◌≤◌, ◌++◌, ℕ, List, Option, length, Result, Ok, Err, inl, inr, refl, sym, subst}
+-- What a run writes of a job that was judged is what the action asks for, and what is said of the
+-- job of a deck is said of the text that spells it.
+use Rattle.std.proofs.KnownBytes.{Appends-nil}
+use Rattle.std.proofs.Common.{refl, ◌≡◌, ◌++◌, ℕ, List, [], Option, Result, Ok, Err, OnOk, inl, inr}
 use Rattle.std.specs.Io.KnownBytes.{Appends}
 use Rattle.ccw_core.specs.Written.{AppendsPrefix}
+use Rattle.chan_deck.specs.declared.listing.ListError.{ListError}
+use Rattle.chan_deck.specs.declared.listing.ListError.TheVariants as lists
 use Rattle.chan_deck.specs.Image.{Image, Spells}
-use Rattle.chan_deck.proofs.ListingLemmas.{listing_seen}
 use Rattle.chan_walk.specs.declared.job.Job.{Job}
+use Rattle.chan_walk.specs.declared.reason.Reason.{Reason}
 use Rattle.chan_walk.specs.declared.verdict.Verdict.{Verdict}
-use Rattle.chan_walk.specs.Answers.{HasAtMost}
-use Rattle.chan_walk.specs.Explored.{AreReachable}
-use Rattle.chan_walk.specs.Judged.{JudgedJob}
-use Rattle.chan_walk.specs.Look.{AreLooks, Seen, places_of_looks}
-use Rattle.chan_walk.proofs.Algorithms.Looking.{number_of_places}
+use Rattle.chan_walk.specs.declared.verdict.Verdict.TheVariants.{No}
+use Rattle.chan_walk.specs.Answers.{IsAnswer}
 use Rattle.chan_run.specs.declared.running.Action.{Action}
 use Rattle.chan_run.specs.declared.running.Action.TheVariants as actions
 use Rattle.chan_run.specs.declared.running.RunError.{RunError}
-use Rattle.chan_run.specs.declared.running.RunError.TheVariants.{TooManyPlaces, Write, Memory}
+use Rattle.chan_run.specs.declared.running.RunError.TheVariants.{Deck, TooManyPlaces, Write, Memory}
 use Rattle.chan_run.specs.declared.running.Status.{Status}
-use Rattle.chan_run.specs.Run.{IsJobAnswer, IsJobAnswered, IsJobCutOff, IsJobOf, IsJudged, IsOutput, IsTextAnswer, IsVerified, output_of, status_of_verdict}
+use Rattle.chan_run.specs.declared.running.Status.TheVariants.{Yes}
+use Rattle.chan_run.specs.Advice.{IsBeside, IsBesideJob}
+use Rattle.chan_walk.specs.Needs.{open_job}
+use Rattle.chan_walk.specs.Rows.{IsOpenJob}
+use Rattle.chan_run.specs.Run.{Judges, IsAnswerOn, IsJobAnswer, IsJobOf, IsOfJob, IsOutput, IsTextAnswer, IsWritten}
 
--- no more places can be reached than were seen
-pub few_places : (j : Job) (looks : List Seen) → AreReachable j (places_of_looks looks)
-    → length looks ≤ j.limit → HasAtMost j j.limit
-few_places j looks are few = record {
-  places = places_of_looks looks;
-  are = are;
-  few = subst (λ n. n ≤ j.limit) (sym (number_of_places looks)) few;
-}
+-- this was written, or a prefix of it, and it is what is asked for
+pub written : (front : List ℕ) (a : Action) (j : Job) (v : Verdict) (output : List ℕ)
+    (old new : Option (List ℕ)) (r : Result (Unit {0}) ListError) → IsOutput a j v output
+    → OnOk r (Appends old new (front ++ output)) → AppendsPrefix old new (front ++ output)
+    → IsWritten front a j v old new r
+written front a j v output old new (Ok _) asked all prefix =
+    record { output = output; asked = asked; written = all }
+written front a j v output old new (Err lists.Write) asked all prefix =
+    record { output = output; asked = asked; written = prefix }
+written front a j v output old new (Err lists.Memory) asked all prefix =
+    inr (record { output = output; asked = asked; written = prefix })
 
--- the verdict's line and the listing are what is asked for
-pub is_output : (a : Action) (j : Job) (d : JudgedJob) → (a ≡ actions.Why → ⊥)
-    → (a ≡ actions.Graph → ⊥) → AreReachable j (places_of_looks d.looks) → AreLooks j d.looks
-    → IsOutput a j d.verdict (output_of a d)
-is_output actions.Verify j d n m are looks = refl
-is_output actions.List j d n m are looks = (places_of_looks d.looks, are, listing_seen j d.verdict d.looks looks)
-is_output actions.Why j d n m are looks = absurd (n refl)
-is_output actions.Graph j d n m are looks = absurd (m refl)
+-- where the verdict is no, an explanation is what is asked for by `needs` too
+pub explained : (j : Job) (a : ℕ) (why : Reason) (old new : Option (List ℕ))
+    (r : Result (Unit {0}) ListError) → IsWritten [] actions.Why j (No a why) old new r
+    → IsWritten [] actions.Needs j (No a why) old new r
+explained j a why old new (Ok _) w =
+    record { output = w.output; asked = w.asked; written = w.written }
+explained j a why old new (Err lists.Write) w =
+    record { output = w.output; asked = w.asked; written = w.written }
+explained j a why old new (Err lists.Memory) (inl none) = inl none
+explained j a why old new (Err lists.Memory) (inr w) =
+    inr (record { output = w.output; asked = w.asked; written = w.written })
 
--- what is asked for of a verified job was written
-pub answered : (front : List ℕ) (a : Action) (j : Job) (v : Verdict) (output : List ℕ)
-    (old new : Option (List ℕ)) (status : Status) → IsVerified j v → IsOutput a j v output
-    → status ≡ status_of_verdict v → Appends old new (front ++ output)
-    → IsJobAnswered front a j old new status
-answered front a j v output old new status verified asked is written = record {
-  verdict = v;
-  verified = verified;
-  status = is;
-  written = record { output = output; asked = asked; written = written };
-}
+-- memory ran out before the writing or in it
+pub ran_out : (front : List ℕ) (a : Action) (j : Job) (v : Verdict) (old new : Option (List ℕ))
+    → IsAnswer j v → IsWritten front a j v old new (Err lists.Memory)
+    → IsJobAnswer front a j old new (Err Memory)
+ran_out front a j v old new answers (inl none) = inl none
+ran_out front a j v old new answers (inr some) = inr (v, answers, some)
 
--- a prefix of it was
-pub cut_off : (front : List ℕ) (a : Action) (j : Job) (v : Verdict) (output : List ℕ)
-    (old new : Option (List ℕ)) → IsVerified j v → IsOutput a j v output
-    → AppendsPrefix old new (front ++ output) → IsJobCutOff front a j old new
-cut_off front a j v output old new verified asked written = record {
-  verdict = v;
-  verified = verified;
-  written = record { output = output; asked = asked; written = written };
-}
+-- an action for which no open job is asked judges the job itself
+pub judges_itself : (a : Action) (j : Job) → (a ≡ actions.Needs → ⊥) → Judges a j j
+judges_itself actions.Verify j other = refl
+judges_itself actions.List j other = refl
+judges_itself actions.Why j other = refl
+judges_itself actions.Graph j other = refl
+judges_itself actions.Needs j other = absurd (other refl)
 
--- the text of a deck was judged
-abbrev pub is_judged : (t : List ℕ) (deck : Image) (j : Job) (v : Verdict) → Spells t deck → IsJobOf deck j → IsVerified j v → IsJudged t v
-is_judged t deck j v spelled of_deck h = record {
-  deck = deck;
-  spelled = spelled;
-  job = j;
-  of_deck = of_deck;
-  few = h.few;
-  verdict = h.verdict;
-  covers = h.covers;
-  shown = h.shown;
-  exact = h.exact;
-}
+-- memory ran out for the open job, and nothing was written
+pub no_open_job : (j : Job) (a : Option (List ℕ)) → IsAnswerOn [] actions.Needs j a a (Err Memory)
+no_open_job j a = (open_job j, is, inl (Appends-nil a))
+  where
+    is : IsOpenJob j (open_job j)
+    is = record {
+      program = record { storage = refl; start = refl; device = refl };
+      mask = refl;
+      extents = refl;
+      fetch = refl;
+      store = refl;
+      limit = refl;
+    }
+
+-- what holds of a deck's job holds of the job of the text that spells the deck
+pub of_job : (t : List ℕ) (deck : Image) (j : Job) (Holds : Job → Type 0) → Spells t deck
+    → IsJobOf deck j → Holds j → IsOfJob t Holds
+of_job t deck j Holds spelled of_deck holds =
+    record { deck = deck; spelled = spelled; job = j; of_deck = of_deck; holds = holds }
 
 -- an answer for the job of a deck is one for its text
-pub text_answer : (front : List ℕ) (a : Action) (t : List ℕ) (deck : Image) (j : Job) (old new : Option (List ℕ)) (r : Result Status RunError) → Spells t deck → IsJobOf deck j
-    → IsJobAnswer front a j old new r → IsTextAnswer front a t old new r
+pub text_answer : (front : List ℕ) (a : Action) (t : List ℕ) (deck : Image) (j : Job)
+    (old new : Option (List ℕ)) (r : Result Status RunError) → Spells t deck → IsJobOf deck j
+    → IsAnswerOn front a j old new r → IsTextAnswer front a t old new r
 text_answer front a t deck j old new (Ok status) spelled of_deck h =
-    record { verdict = h.verdict; judged = is_judged t deck j h.verdict spelled of_deck h.verified; status = h.status; written = h.written }
-text_answer front a t deck j old new (Err TooManyPlaces) spelled of_deck h = record { deck = deck; spelled = spelled; job = j; of_deck = of_deck; many = h }
+    of_job t deck j (λ k. IsAnswerOn front a k old new (Ok status)) spelled of_deck h
+text_answer front a t deck j old new (Err TooManyPlaces) spelled of_deck h =
+    of_job t deck j (λ k. IsAnswerOn front a k old new (Err TooManyPlaces)) spelled of_deck h
 text_answer front a t deck j old new (Err Write) spelled of_deck h =
-    record { verdict = h.verdict; judged = is_judged t deck j h.verdict spelled of_deck h.verified; written = h.written }
-text_answer front a t deck j old new (Err Memory) spelled of_deck (inl h) = inl h
-text_answer front a t deck j old new (Err Memory) spelled of_deck (inr h) =
-    inr (record { verdict = h.verdict; judged = is_judged t deck j h.verdict spelled of_deck h.verified; written = h.written })
-text_answer front a t deck j old new r spelled of_deck h = absurd h
+    of_job t deck j (λ k. IsAnswerOn front a k old new (Err Write)) spelled of_deck h
+text_answer front a t deck j old new (Err Memory) spelled of_deck h =
+    inr (of_job t deck j (λ k. IsAnswerOn front a k old new (Err Memory)) spelled of_deck h)
+text_answer front a t deck j old new r spelled of_deck h = absurd h.2
+
+-- and so is what is said beside it
+pub beside : (front : List ℕ) (a : Action) (t : List ℕ) (deck : Image) (j : Job)
+    (old new : Option (List ℕ)) (r : Result Status RunError) (advice : List ℕ) → Spells t deck
+    → IsJobOf deck j → IsAnswerOn front a j old new r → IsBesideJob a j r advice
+    → IsBeside a t r advice
+beside front actions.Why t deck j old new (Ok Yes) advice spelled of_deck h noted =
+    of_job t deck j _ spelled of_deck noted
+beside front actions.Why t deck j old new (Err (Deck line cause)) advice spelled of_deck h noted =
+    absurd h.2
+beside front a t deck j old new r advice spelled of_deck h noted = tt

@@ -1,19 +1,21 @@
 -- What is said beside the answer on a text: where the text is no deck, the hint at the line that is
--- refused; where it is one, the notes on its job.
-use Rattle.std.specs.Prelude.{◌≡◌, ◌⊎◌, ℕ, List, []}
+-- refused; where its verdict is yes, the notes on its job.
+use Rattle.std.specs.Prelude.{◌≡◌, ℕ, List, Result, Ok, Err}
 use Rattle.std.specs.List.{filter}
-use Rattle.chan_deck.specs.declared.cause.Cause.{Cause}
 use Rattle.chan_deck.specs.Hint.{IsHint}
-use Rattle.chan_deck.specs.Image.{Image, Spells}
 use Rattle.chan_deck.specs.Notes.{notes}
-use Rattle.chan_deck.specs.Refused.{IsRefused}
 use Rattle.chan_walk.specs.declared.job.Job.{Job}
 use Rattle.chan_walk.specs.declared.note.Notes.{Notes}
-use Rattle.chan_walk.specs.Explored.{HasMoreThan}
 use Rattle.chan_walk.specs.Job.{fetch_of, store_of}
 use Rattle.chan_walk.specs.Notes.{AreAddressesOf, AreUnused, IsFetchedFrom, IsStoredInto}
 use Rattle.chan_walk.specs.Notes.{ends_there, interrupts, reaches_past_storage}
-use Rattle.chan_run.specs.Run.{HasTooMany, IsJobOf}
+use Rattle.chan_run.specs.declared.running.Action.{Action}
+use Rattle.chan_run.specs.declared.running.Action.TheVariants as actions
+use Rattle.chan_run.specs.declared.running.RunError.{RunError}
+use Rattle.chan_run.specs.declared.running.RunError.TheVariants.{Deck}
+use Rattle.chan_run.specs.declared.running.Status.{Status}
+use Rattle.chan_run.specs.declared.running.Status.TheVariants as statuses
+use Rattle.chan_run.specs.Run.{IsOfJob}
 
 -- these are the notes on the job
 pub record AreNotes (j : Job) (n : Notes) : Type 0 where
@@ -26,28 +28,17 @@ pub record AreNotes (j : Job) (n : Notes) : Type 0 where
   pub interrupting : AreAddressesOf interrupts j n.interrupting.items
   pub ending : AreAddressesOf ends_there j n.ending.items
 
--- the text spells a deck, and the advice is the notes on its job
-pub record IsNoted (t advice : List ℕ) : Type 0 where
-  pub deck : Image
-  pub spelled : Spells t deck
-  pub job : Job
-  pub of_deck : IsJobOf deck job
-  pub found : Notes
-  pub are : AreNotes job found
-  pub is : advice ≡ notes found
+-- these are the notes on the job, as text
+abbrev pub IsNoted : Job → List ℕ → Type 0
+IsNoted j advice = (n : Notes) × AreNotes j n × (advice ≡ notes n)
 
--- the text is refused, and the advice is the hint
-pub record IsHinted (t advice : List ℕ) : Type 0 where
-  pub line : ℕ
-  pub cause : Cause
-  pub refused : IsRefused t line cause
-  pub hint : IsHint t line cause advice
+-- what is said beside an answer on a job
+abbrev pub IsBesideJob : Action → Job → Result Status RunError → List ℕ → Type 0
+IsBesideJob actions.Why j (Ok statuses.Yes) advice = IsNoted j advice
+IsBesideJob a j answer advice = Unit {0}
 
--- the advice on a text; there is none on a deck with too many reachable places
-abbrev pub IsAdvice : List ℕ → List ℕ → Type 0
-IsAdvice t advice = IsNoted t advice ⊎ IsHinted t advice ⊎ (HasTooMany t × (advice ≡ []))
-
--- what is said of a job, given a text that spells its deck
-abbrev pub IsJobAdvice : Job → List ℕ → Type 0
-IsJobAdvice j advice =
-    ((n : Notes) × AreNotes j n × (advice ≡ notes n)) ⊎ (HasMoreThan j j.limit × (advice ≡ []))
+-- what is said beside an answer on a text
+abbrev pub IsBeside : Action → List ℕ → Result Status RunError → List ℕ → Type 0
+IsBeside actions.Why t (Ok statuses.Yes) advice = IsOfJob t (λ j. IsNoted j advice)
+IsBeside actions.Why t (Err (Deck line cause)) advice = IsHint t line cause advice
+IsBeside a t answer advice = Unit {0}

@@ -8,3 +8,4 @@ pub mod Options
 pub mod Imaging
 pub mod OptionFault
 pub mod Advice
+pub mod Answer

@@ -2,6 +2,7 @@
 use Rattle.std.specs.Prelude.{◌++◌, ℕ, Bool, true, false, List, [], Option, Some, None}
 use Rattle.std.specs.Prelude.{codes, option_map}
 use Rattle.std.specs.Borrow.{Bor}
+use Rattle.std.specs.List.{flat_map}
 
 -- the name that an input may have, in the code and in what is said of it
 abbrev pub name_in : Option (Bor (List ℕ)) → Option (List ℕ)
@@ -12,3 +13,7 @@ abbrev pub name_before : Option (List ℕ) → Bool → List ℕ
 name_before None wanted = []
 name_before (Some name) true = name ++ codes ": "
 name_before (Some name) false = []
+
+-- some texts, one behind the other
+abbrev pub joined : List (Bor (List ℕ)) → List ℕ
+joined = flat_map (λ text. text.now)

@@ -3,12 +3,10 @@ use Rattle.std.specs.Prelude.{◌≡◌, ◌⊎◌, ◌++◌, ◌∷◌, ℕ, Bo
 use Rattle.std.specs.Prelude.{codes, Ok, Err}
 use Rattle.std.specs.Fmt.{decimal}
 use Rattle.chan_deck.specs.declared.cause.Cause.{Cause}
-use Rattle.chan_deck.specs.declared.cause.Cause.TheVariants.{Ended, Header, Form, Mask}
-use Rattle.chan_deck.specs.declared.cause.Cause.TheVariants.{ExtentBackwards, ExtentPastDevice}
-use Rattle.chan_deck.specs.declared.cause.Cause.TheVariants.{Size, PutAddress, PutZero, After}
-use Rattle.chan_deck.specs.declared.cause.Cause.TheVariants.{Limit}
 use Rattle.chan_run.specs.declared.image.ImageError.TheVariants as images
 use Rattle.chan_run.specs.declared.meaning.MeaningError.TheVariants as meanings
+use Rattle.chan_run.specs.declared.running.Action.{Action}
+use Rattle.chan_run.specs.declared.running.Action.TheVariants as actions
 use Rattle.chan_run.specs.declared.running.RunError.TheVariants as runs
 use Rattle.chan_run.specs.declared.running.Status.TheVariants as statuses
 use Rattle.chan_run.specs.declared.showing.ShowError.TheVariants.{NotCcw, Memory, Write}
@@ -18,6 +16,7 @@ use Rattle.chan_run.specs.declared.reporting.Outcome.TheVariants.{HelpAsked}
 use Rattle.chan_run.specs.declared.reporting.Outcome.TheVariants.{UsageFault}
 use Rattle.chan_run.specs.declared.reporting.Outcome.TheVariants.{NoMemoryForCommandLine}
 use Rattle.chan_run.specs.declared.reporting.Outcome.TheVariants.{FlushFailed, CannotOpen}
+use Rattle.chan_run.specs.Meaning.{word_of_cause}
 use Rattle.chan_run.specs.Naming.{name_before}
 
 abbrev pub status_of : Outcome → ℕ
@@ -47,11 +46,24 @@ status_of NoMemoryForCommandLine = 3
 status_of FlushFailed = 3
 status_of CannotOpen = 3
 
--- there is advice on the text: the verdict is yes, or it is no deck
-abbrev pub HasAdvice : Outcome → Type 0
-HasAdvice (Ran (Ok statuses.Yes)) = Unit {0}
-HasAdvice (Ran (Err (runs.Deck line cause))) = Unit {0}
-HasAdvice _ = ⊥
+-- what is written beside the explanation of a yes, and where the text is no deck
+abbrev pub has_advice : Action → Outcome → Bool
+has_advice actions.Why (Ran (Ok statuses.Yes)) = true
+has_advice actions.Why (Ran (Err (runs.Deck line cause))) = true
+has_advice _ _ = false
+
+-- all was done that was asked for, so that the output is flushed
+abbrev pub IsDone : Outcome → Type 0
+IsDone (Shown (Ok _)) = Unit {0}
+IsDone (Ran (Ok _)) = Unit {0}
+IsDone (Imaged (Ok _)) = Unit {0}
+IsDone (Explained (Ok _)) = Unit {0}
+IsDone HelpAsked = Unit {0}
+IsDone _ = ⊥
+
+-- how it ends when it came to this: just so, or where the flush failed that was due then
+abbrev pub IsEnd : Outcome → Outcome → Type 0
+IsEnd came end = (end ≡ came) ⊎ (IsDone came × (end ≡ FlushFailed))
 
 -- what an outcome's line begins with; an outcome that says nothing has no line
 abbrev pub program_of : Outcome → List ℕ
@@ -100,28 +112,19 @@ text_of FlushFailed = codes "write failed" ++ 10 ∷ []
 text_of CannotOpen = codes "cannot open" ++ 10 ∷ []
 
 -- the word of a cause, and what stands around it
-abbrev pub word_of : Cause → List ℕ
-word_of Ended = codes ": ended" ++ 10 ∷ []
-word_of Header = codes ": header" ++ 10 ∷ []
-word_of Form = codes ": form" ++ 10 ∷ []
-word_of Mask = codes ": mask" ++ 10 ∷ []
-word_of ExtentBackwards = codes ": extent-backwards" ++ 10 ∷ []
-word_of ExtentPastDevice = codes ": extent-past-device" ++ 10 ∷ []
-word_of Size = codes ": size" ++ 10 ∷ []
-word_of PutAddress = codes ": put-address" ++ 10 ∷ []
-word_of PutZero = codes ": put-zero" ++ 10 ∷ []
-word_of After = codes ": after" ++ 10 ∷ []
-word_of Limit = codes ": limit" ++ 10 ∷ []
+abbrev pub cause_text : Cause → List ℕ
+cause_text cause = codes ": " ++ (word_of_cause cause ++ 10 ∷ [])
 
 -- the number and the cause of a deck's refusal
 abbrev pub refusal_of : Outcome → List ℕ
-refusal_of (Ran (Err (runs.Deck number cause))) = decimal number ++ word_of cause
+refusal_of (Ran (Err (runs.Deck number cause))) = decimal number ++ cause_text cause
 refusal_of _ = []
 
 -- the line of an outcome over an input that may have a name
 abbrev pub line_over : Option (List ℕ) → Outcome → List ℕ
-line_over name outcome = (program_of outcome ++ name_before name (is_on_input outcome))
-    ++ (text_of outcome ++ refusal_of outcome)
+line_over name outcome =
+    (program_of outcome ++ (name_before name (is_on_input outcome) ++ text_of outcome))
+    ++ refusal_of outcome
 
 abbrev pub line_of : Outcome → List ℕ
 line_of = line_over None
@@ -129,5 +132,6 @@ line_of = line_over None
 -- a write failed, so that nothing more can be written
 abbrev pub IsWriteFailure : Outcome → Type 0
 IsWriteFailure outcome =
-    (outcome ≡ Ran (Err runs.Write)) ⊎ (outcome ≡ Imaged (Err images.Write))
-    ⊎ (outcome ≡ Explained (Err meanings.Write)) ⊎ (outcome ≡ FlushFailed)
+    (outcome ≡ Shown (Err Write)) ⊎ (outcome ≡ Ran (Err runs.Write))
+    ⊎ (outcome ≡ Imaged (Err images.Write)) ⊎ (outcome ≡ Explained (Err meanings.Write))
+    ⊎ (outcome ≡ FlushFailed)

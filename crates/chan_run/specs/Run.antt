@@ -4,9 +4,12 @@ use Rattle.std.specs.Prelude.{Result, Ok, Err}
 use Rattle.std.specs.Io.KnownBytes.{Appends}
 use Rattle.ccw_core.specs.Written.{AppendsPrefix}
 use Rattle.chan_deck.specs.Image.{Image, Spells, limit_of}
+use Rattle.chan_deck.specs.declared.listing.ListError.{ListError}
+use Rattle.chan_deck.specs.declared.listing.ListError.TheVariants as lists
 use Rattle.chan_deck.specs.Explanation.{explanation}
 use Rattle.chan_deck.specs.Graph.{graph}
-use Rattle.chan_deck.specs.Listing.{listing, seen_listing}
+use Rattle.chan_deck.specs.Listing.{listing}
+use Rattle.chan_deck.specs.Needs.{needs_text}
 use Rattle.chan_deck.specs.Refused.{IsRefused}
 use Rattle.chan_deck.specs.Texts.{verdict_line}
 use Rattle.chan_walk.specs.declared.job.Job.{Job}
@@ -14,15 +17,16 @@ use Rattle.chan_walk.specs.declared.offence.Offence.{Offence}
 use Rattle.chan_walk.specs.declared.place.Place.{Place}
 use Rattle.chan_walk.specs.declared.verdict.Verdict.{Verdict}
 use Rattle.chan_walk.specs.declared.verdict.Verdict.TheVariants.{Yes, No}
-use Rattle.chan_walk.specs.Answers.{IsSound, HasAtMost, HasWitness, IsComplete}
-use Rattle.chan_walk.specs.Explained.{ExplainedJob, IsEvidenceOf, IsPathOf, IsSecondPathOf}
+use Rattle.chan_walk.specs.declared.witness.Witness.{Witness}
+use Rattle.chan_walk.specs.Answers.{IsAnswer}
+use Rattle.chan_walk.specs.Explained.{IsEvidenceOf, IsPathOf, IsSecondPathOf}
 use Rattle.chan_walk.specs.Explained.{IsWitness}
 use Rattle.chan_walk.specs.Explored.{AreReachable, HasMoreThan}
-use Rattle.chan_walk.specs.Judged.{JudgedJob}
 use Rattle.chan_walk.specs.Job.{extents_of, fetch_of, storage_of, store_of}
 use Rattle.chan_walk.specs.Look.{AreLooks, Seen, places_of_looks}
+use Rattle.chan_walk.specs.Needs.{AreOfOneProgram}
 use Rattle.chan_walk.specs.Offences.{AreOffences, first_verdict}
-use Rattle.chan_walk.specs.Verdict.{IsVerdict}
+use Rattle.chan_walk.specs.Rows.{AreNeeds, IsOpenJob, Listed}
 use Rattle.chan_run.specs.declared.running.Action.{Action}
 use Rattle.chan_run.specs.declared.running.Action.TheVariants as actions
 use Rattle.chan_run.specs.declared.running.Status.{Status}
@@ -44,38 +48,24 @@ pub record IsJobOf (d : Image) (j : Job) : Type 0 where
   pub fetch : fetch_of j ≡ d.fetch
   pub store : store_of j ≡ d.store
 
--- the text spells a deck, and this is the verdict on its job: where it is yes, every run is safe
--- and the job is steady, and where it is no, some run shows why, and the answer is yes wherever
--- every run is safe and the job is steady
-pub record IsJudged (t : List ℕ) (v : Verdict) : Type 0 where
+-- the text spells a deck, and this holds of the deck's job
+pub record IsOfJob (t : List ℕ) (Holds : Job → Type 0) : Type 0 where
   pub deck : Image
   pub spelled : Spells t deck
   pub job : Job
   pub of_deck : IsJobOf deck job
-  pub few : HasAtMost job job.limit
-  pub verdict : IsVerdict job v
-  pub covers : IsSound job v
-  pub shown : HasWitness job v
-  pub exact : IsComplete job v
-
--- the text spells a deck whose job has more reachable places than its limit
-pub record HasTooMany (t : List ℕ) : Type 0 where
-  pub deck : Image
-  pub spelled : Spells t deck
-  pub job : Job
-  pub of_deck : IsJobOf deck job
-  pub many : HasMoreThan job job.limit
+  pub holds : Holds job
 
 -- this explains the verdict on the job: all offences, of which the first is the verdict, the path
 -- to it, which is that of a run that shows it, the values of its cause, and the path to what is
 -- changed
-pub record IsExplanation (j : Job) (v : Verdict) (e : ExplainedJob) : Type 0 where
-  pub offences : AreOffences j e.offences
-  pub verdict : v ≡ first_verdict e.offences
-  pub path : IsPathOf j v e.path
-  pub shown : IsWitness j v e.path
-  pub evidence : IsEvidenceOf j v e.path e.evidence
-  pub second : IsSecondPathOf j e.evidence e.second_path
+pub record IsExplanation (j : Job) (v : Verdict) (os : List Offence) (w : Witness) : Type 0 where
+  pub offences : AreOffences j os
+  pub verdict : v ≡ first_verdict os
+  pub path : IsPathOf j v w.path.items
+  pub shown : IsWitness j v w.path.items
+  pub evidence : IsEvidenceOf j v w.path.items w.evidence
+  pub second : IsSecondPathOf j w.evidence w.second_path.items
 
 -- this is the picture of the job: of what is seen of its reachable places, with all its offences
 pub record IsPicture (j : Job) (text : List ℕ) : Type 0 where
@@ -86,43 +76,33 @@ pub record IsPicture (j : Job) (text : List ℕ) : Type 0 where
   pub offending : AreOffences j offences
   pub drawn : text ≡ graph looks offences
 
+-- this is the explanation of the verdict on the job
+abbrev pub IsExplained : Job → Verdict → List ℕ → Type 0
+IsExplained j v text =
+    (os : List Offence) × (w : Witness) × IsExplanation j v os w
+    × (text ≡ explanation (storage_of j) os w)
+
+-- this says what the job's program needs, whichever job of it is asked, and what it keeps
+abbrev pub IsNeedsText : Job → List ℕ → Type 0
+IsNeedsText j text =
+    (n : Listed) × ((k : Job) → AreOfOneProgram k j → AreNeeds k n) × (text ≡ needs_text n)
+
 -- what an action asks to write of a job and its verdict: the verdict's line, the listing of the
--- reachable places, the explanation, or the picture
+-- reachable places, the explanation, the picture, or what is needed; where the verdict is no,
+-- instead of that the explanation
 abbrev pub IsOutput : Action → Job → Verdict → List ℕ → Type 0
 IsOutput actions.Verify j v text = text ≡ verdict_line v
 IsOutput actions.List j v text =
     (ps : List Place) × AreReachable j ps × (text ≡ listing (storage_of j) ps v)
-IsOutput actions.Why j v text =
-    (e : ExplainedJob) × IsExplanation j v e × (text ≡ explanation (storage_of j) e)
+IsOutput actions.Why j v text = IsExplained j v text
 IsOutput actions.Graph j v text = IsPicture j text
-
--- the same of a job that was judged, for the first two; the others ask for more
-abbrev pub output_of : Action → JudgedJob → List ℕ
-output_of actions.Verify d = verdict_line d.verdict
-output_of actions.List d = seen_listing d.looks d.verdict
-output_of actions.Why d = []
-output_of actions.Graph d = []
+IsOutput actions.Needs j Yes text = IsNeedsText j text
+IsOutput actions.Needs j (No a r) text = IsExplained j (No a r) text
 
 -- what stands before the output: for a verdict, the name of the input, where it has one
 abbrev pub front_of : Option (List ℕ) → Action → List ℕ
 front_of name actions.Verify = name_before name true
-front_of name actions.List = []
-front_of name actions.Why = []
-front_of name actions.Graph = []
-
--- all of it was written, behind this front
-pub record Writes (front : List ℕ) (a : Action) (j : Job) (v : Verdict)
-    (old new : Option (List ℕ)) : Type 0 where
-  pub output : List ℕ
-  pub asked : IsOutput a j v output
-  pub written : Appends old new (front ++ output)
-
--- a prefix of it was written, of the front too
-pub record BeginsToWrite (front : List ℕ) (a : Action) (j : Job) (v : Verdict)
-    (old new : Option (List ℕ)) : Type 0 where
-  pub output : List ℕ
-  pub asked : IsOutput a j v output
-  pub written : AppendsPrefix old new (front ++ output)
+front_of name _ = []
 
 -- nothing was written, where the writer tells what it holds
 abbrev pub IsUnwritten : Option (List ℕ) → Option (List ℕ) → Type 0
@@ -132,75 +112,77 @@ abbrev pub status_of_verdict : Verdict → Status
 status_of_verdict Yes = statuses.Yes
 status_of_verdict (No address reason) = statuses.No
 
--- the text was judged, and what the action asks for was written behind the front
-pub record IsAnswered (front : List ℕ) (a : Action) (t : List ℕ) (old new : Option (List ℕ))
-    (answer : Status) : Type 0 where
-  pub verdict : Verdict
-  pub judged : IsJudged t verdict
-  pub status : answer ≡ status_of_verdict verdict
-  pub written : Writes front a judged.job verdict old new
+-- how some bytes came to a writer: all of them, or a prefix
+abbrev pub Writing : Type 1
+Writing = Option (List ℕ) → Option (List ℕ) → List ℕ → Type 0
 
--- the text was judged, and a prefix of that was written
-pub record IsCutOff (front : List ℕ) (a : Action) (t : List ℕ)
+-- what the action asks for of the job and its verdict was written so, behind this front
+pub record Writes (Wrote : Writing) (front : List ℕ) (a : Action) (j : Job) (v : Verdict)
     (old new : Option (List ℕ)) : Type 0 where
-  pub verdict : Verdict
-  pub judged : IsJudged t verdict
-  pub written : BeginsToWrite front a judged.job verdict old new
+  pub output : List ℕ
+  pub asked : IsOutput a j v output
+  pub written : Wrote old new (front ++ output)
 
--- what the verifier says of a job and this verdict
-pub record IsVerified (j : Job) (v : Verdict) : Type 0 where
-  pub few : HasAtMost j j.limit
-  pub verdict : IsVerdict j v
-  pub covers : IsSound j v
-  pub shown : HasWitness j v
-  pub exact : IsComplete j v
+-- what each answer of a writing says of what was written
+abbrev pub IsWritten : List ℕ → Action → Job → Verdict → Option (List ℕ) → Option (List ℕ)
+    → Result (Unit {0}) ListError → Type 0
+IsWritten front a j v old new (Ok _) = Writes Appends front a j v old new
+IsWritten front a j v old new (Err lists.Write) = Writes AppendsPrefix front a j v old new
+IsWritten front a j v old new (Err lists.Memory) =
+    IsUnwritten old new ⊎ Writes AppendsPrefix front a j v old new
 
--- the job was verified, and what the action asks for was written behind the front
-pub record IsJobAnswered (front : List ℕ) (a : Action) (j : Job) (old new : Option (List ℕ))
-    (answer : Status) : Type 0 where
-  pub verdict : Verdict
-  pub verified : IsVerified j verdict
-  pub status : answer ≡ status_of_verdict verdict
-  pub written : Writes front a j verdict old new
-
--- the job was verified, and a prefix of that was written
-pub record IsJobCutOff (front : List ℕ) (a : Action) (j : Job)
-    (old new : Option (List ℕ)) : Type 0 where
-  pub verdict : Verdict
-  pub verified : IsVerified j verdict
-  pub written : BeginsToWrite front a j verdict old new
-
--- what each answer says of a job and of what was written
+-- what each answer says of a job that was judged and of what was written
 abbrev pub IsJobAnswer : List ℕ → Action → Job → Option (List ℕ) → Option (List ℕ)
     → Result Status RunError → Type 0
-IsJobAnswer front a j old new (Ok status) = IsJobAnswered front a j old new status
+IsJobAnswer front a j old new (Ok status) =
+    (v : Verdict) × (status ≡ status_of_verdict v) × IsAnswer j v × Writes Appends front a j v old new
 IsJobAnswer front a j old new (Err TooManyPlaces) = HasMoreThan j j.limit
-IsJobAnswer front a j old new (Err Write) = IsJobCutOff front a j old new
-IsJobAnswer front a j old new (Err Memory) = IsUnwritten old new ⊎ IsJobCutOff front a j old new
-IsJobAnswer front a j old new (Err (Deck line cause)) = ⊥
-IsJobAnswer front a j old new (Err Read) = ⊥
-IsJobAnswer front a j old new (Err TooLong) = ⊥
+IsJobAnswer front a j old new (Err Write) =
+    (v : Verdict) × IsAnswer j v × Writes AppendsPrefix front a j v old new
+IsJobAnswer front a j old new (Err Memory) =
+    IsUnwritten old new ⊎ ((v : Verdict) × IsAnswer j v × Writes AppendsPrefix front a j v old new)
+IsJobAnswer front a j old new _ = ⊥
+
+-- the job that an action judges: for what is needed the open job of the program, else the job itself
+abbrev pub Judges : Action → Job → Job → Type 0
+Judges actions.Needs j k = IsOpenJob j k
+Judges actions.Verify j k = k ≡ j
+Judges actions.List j k = k ≡ j
+Judges actions.Why j k = k ≡ j
+Judges actions.Graph j k = k ≡ j
+
+-- what each answer says of a job of which the action judges its own, and of what was written
+abbrev pub IsAnswerOn : List ℕ → Action → Job → Option (List ℕ) → Option (List ℕ)
+    → Result Status RunError → Type 0
+IsAnswerOn front a j old new r = (k : Job) × Judges a j k × IsJobAnswer front a k old new r
 
 -- what each answer says of a text and of what was written
 abbrev pub IsTextAnswer : List ℕ → Action → List ℕ → Option (List ℕ) → Option (List ℕ)
     → Result Status RunError → Type 0
-IsTextAnswer front a t old new (Ok status) = IsAnswered front a t old new status
+IsTextAnswer front a t old new (Ok status) =
+    IsOfJob t (λ j. IsAnswerOn front a j old new (Ok status))
 IsTextAnswer front a t old new (Err (Deck line cause)) = IsRefused t line cause
-IsTextAnswer front a t old new (Err TooManyPlaces) = HasTooMany t
-IsTextAnswer front a t old new (Err Write) = IsCutOff front a t old new
-IsTextAnswer front a t old new (Err Memory) = IsUnwritten old new ⊎ IsCutOff front a t old new
-IsTextAnswer front a t old new (Err Read) = ⊥
-IsTextAnswer front a t old new (Err TooLong) = ⊥
+IsTextAnswer front a t old new (Err TooManyPlaces) =
+    IsOfJob t (λ j. IsAnswerOn front a j old new (Err TooManyPlaces))
+IsTextAnswer front a t old new (Err Write) =
+    IsOfJob t (λ j. IsAnswerOn front a j old new (Err Write))
+IsTextAnswer front a t old new (Err Memory) =
+    IsUnwritten old new ⊎ IsOfJob t (λ j. IsAnswerOn front a j old new (Err Memory))
+IsTextAnswer front a t old new _ = ⊥
+
+-- the most bytes that a deck's text may have
+abbrev pub text_limit : ℕ
+text_limit = 67108864
 
 -- the whole input is this text, which isn't too long
 pub record IsInput (old new : Option (List ℕ)) (t : List ℕ) : Type 0 where
   pub gave : GaveAll old new t
-  pub short : length t ≤ 67108864
+  pub short : length t ≤ text_limit
 
 -- the input wasn't read to its end, for this fault
 abbrev pub IsReadFault : Option (List ℕ) → Option (List ℕ) → RunError → Type 0
-IsReadFault old new Read = GaveOut 67108864 old new
-IsReadFault old new TooLong = GaveTooMuch 67108864 old new
+IsReadFault old new Read = GaveOut text_limit old new
+IsReadFault old new TooLong = GaveTooMuch text_limit old new
 IsReadFault old new Memory = Unit {0}
 IsReadFault old new fault = ⊥
 
@@ -227,8 +209,8 @@ IsAnswerBehind front a old_in new_in old_out new_out (Err Write) =
 IsAnswerBehind front a old_in new_in old_out new_out (Err Memory) =
     IsUnwritten old_out new_out ⊎ IsReadAnswer front a old_in new_in old_out new_out (Err Memory)
 IsAnswerBehind front a old_in new_in old_out new_out (Err TooLong) =
-    GaveTooMuch 67108864 old_in new_in
-IsAnswerBehind front a old_in new_in old_out new_out (Err Read) = GaveOut 67108864 old_in new_in
+    GaveTooMuch text_limit old_in new_in
+IsAnswerBehind front a old_in new_in old_out new_out (Err Read) = GaveOut text_limit old_in new_in
 
 -- the same, where nothing does
 abbrev pub IsRunAnswer : Action → Option (List ℕ) → Option (List ℕ) → Option (List ℕ)
@@ -253,3 +235,4 @@ IsEarly actions.Verify (Err Memory) = Unit {0}
 IsEarly actions.List (Err Memory) = ⊥
 IsEarly actions.Why (Err Memory) = Unit {0}
 IsEarly actions.Graph (Err Memory) = ⊥
+IsEarly actions.Needs (Err Memory) = Unit {0}

@@ -11,9 +11,6 @@ use std::alloc::Global;
 use std::io::{Read, Write};
 use thiserror::Error;
 
-#[cfg(test)]
-mod tests;
-
 /// The most bytes that storage may have: addresses have 24 bits.
 const STORAGE_LIMIT: usize = 16_777_216;
 

@@ -6,17 +6,17 @@
 //! fn judge(rt: &HostRuntime) -> u8 {
 //!     let mut input = Watched::new(rt.stdin());
 //!     let mut output = Watched::new(rt.stdout());
-//!     let answer = run(rt.alloc(), Action::Verify, &mut input, &mut output);
-//!     report(Outcome::Ran(answer), &mut Watched::new(rt.stderr()))
+//!     let mut errors = Watched::new(rt.stderr());
+//!     exit_status(answer(rt.alloc(), None, Action::Verify, &mut input, &mut output, &mut errors))
 //! }
 //! ```
 //!
-//! `run_named` and `report_named` do the same over one of several inputs, which have names.
+//! A name in place of `None` says which of several inputs it is. `run` only reads and writes, and
+//! `conclude` ends any other command.
 #![tactic(auto)]
 
 mod advising;
-#[cfg(test)]
-mod devices;
+mod answering;
 mod image;
 mod image_options;
 mod input;
@@ -28,8 +28,9 @@ mod options;
 mod reporting;
 mod running;
 mod showing;
+mod texts;
 
-pub use crate::advising::advice_on;
+pub use crate::answering::answer;
 pub use crate::image::{ImageError, write_image};
 pub use crate::image_options::{ImageOption, ImageOptions, ImageWords, OptionError, OptionFault};
 pub use crate::meaning::{MeaningError, Term, explain_word, term_of};
@@ -37,7 +38,7 @@ pub use crate::option_fault::report_option;
 pub use crate::option_reading::options_of;
 pub use crate::options::{address_of, area_of, cylinders_of, device_of, limit_of, mask_of};
 pub use crate::reporting::{
-    Outcome, ends_run, exit_status, greater_status, has_advice, report, report_named,
+    Outcome, conclude, ends_run, exit_status, greater_status, has_advice, report, report_named,
 };
-pub use crate::running::{Action, RunError, Status, read_text, run, run_named, run_text};
+pub use crate::running::{Action, RunError, Status, run, run_named};
 pub use crate::showing::{ShowError, show};

@@ -13,9 +13,6 @@ use chan_walk::Reason;
 use std::io::Write;
 use thiserror::Error;
 
-#[cfg(test)]
-mod tests;
-
 const MISALIGNED: &str = "\
 The CCW's address isn't a multiple of 8, so that no CCW can stand there.
 Only the start or a transfer in channel leads to such an address: correct the
@@ -285,6 +282,25 @@ fn cause_of(word: &str) -> Option<Cause>
         "after" => Some(Cause::After),
         "limit" => Some(Cause::Limit),
         _ => None,
+    }
+}
+
+/// The word of a cause.
+pub(crate) fn cause_word(cause: Cause) -> &'static str
+    ensures { result.now ≡ word_of_cause cause }
+{
+    match cause {
+        Cause::Ended => "ended",
+        Cause::Header => "header",
+        Cause::Form => "form",
+        Cause::Mask => "mask",
+        Cause::ExtentBackwards => "extent-backwards",
+        Cause::ExtentPastDevice => "extent-past-device",
+        Cause::Size => "size",
+        Cause::PutAddress => "put-address",
+        Cause::PutZero => "put-zero",
+        Cause::After => "after",
+        Cause::Limit => "limit",
     }
 }
 

@@ -6,11 +6,9 @@ ghost use Rattle.ccw_core.specs.Written.{AppendsPrefix};
 ghost use Rattle.chan_run.specs.OptionFault.{accepted_by, fault_text, option_usage};
 
 use crate::image_options::{ImageOption, OptionFault};
-use ccw_core::{DeviceFault, Watched, write_out};
+use crate::texts::write_texts;
+use ccw_core::{DeviceFault, Watched};
 use std::io::Write;
-
-#[cfg(test)]
-mod tests;
 
 /// Writes the text of a usage fault that names an option, its text and what is accepted in its
 /// place, and gives the exit status, 4. It takes no memory. A writer that fails doesn't change the
@@ -28,7 +26,6 @@ pub fn report_option<W: Write>(fault: OptionFault<'_>, to: &mut Watched<W>) -> u
 }
 
 /// Writes the text of a usage fault that names an option.
-#[tactic(auto, using(ccw_core::proofs::Prefixes::prefix_after, ccw_core::proofs::Prefixes::prefix_of_more))]
 fn write_fault<W: Write>(fault: OptionFault<'_>, to: &mut Watched<W>) -> Result<(), DeviceFault>
     requires { to.old.failed ≡ false }
     ensures ok { OnOk result (Appends (W.contents to.old.device) (W.contents to.new.device)
@@ -37,17 +34,22 @@ fn write_fault<W: Write>(fault: OptionFault<'_>, to: &mut Watched<W>) -> Result<
         (fault_text fault.entry) }
     ensures fault { IsErr result ↔ (to.new.failed ≡ true) }
 {
-    write_out(b"error: invalid value '", to)?;
-    write_out(fault.text.as_bytes(), to)?;
-    write_out(b"' for '", to)?;
-    write_out(usage(fault.option).as_bytes(), to)?;
-    write_out(b"': ", to)?;
-    write_out(accepted(fault.option).as_bytes(), to)?;
-    write_out(b"\n\nFor more information, try '--help'.\n", to)
+    write_texts(
+        &[
+            "error: invalid value '",
+            fault.text,
+            "' for '",
+            usage(fault.option),
+            "': ",
+            accepted(fault.option),
+            "\n\nFor more information, try '--help'.\n",
+        ],
+        to,
+    )
 }
 
 /// How an option is written, with the name of its value.
-fn usage(option: ImageOption) -> &'static str
+fn usage<'a>(option: ImageOption) -> &'a str
     ensures { result.now ≡ option_usage option }
 {
     match option {
@@ -63,7 +65,7 @@ fn usage(option: ImageOption) -> &'static str
 }
 
 /// What an option accepts.
-fn accepted(option: ImageOption) -> &'static str
+fn accepted<'a>(option: ImageOption) -> &'a str
     ensures { result.now ≡ accepted_by option }
 {
     match option {

@@ -16,9 +16,6 @@ use chan_walk::Limit;
 use ckd_core::Extents;
 use std::alloc::Global;
 
-#[cfg(test)]
-mod tests;
-
 /// The last cylinder of either device.
 const LAST_CYLINDER: u16 = 202;
 

@@ -9,9 +9,6 @@ use ccw_core::Area;
 use chan_walk::Limit;
 use ckd_core::{Device, FileMask};
 
-#[cfg(test)]
-mod tests;
-
 /// The first number that is no address: addresses have 24 bits.
 const PAST_ADDRESSES: u32 = 0x100_0000;
 

@@ -2,24 +2,23 @@
 
 ghost use Rattle.std.specs.Prelude.{◌≡◌, ◌≤◌, ◌↔◌, ◌⊎◌, ◌++◌, false, true, IsErr, IsTrue, OnOk};
 ghost use Rattle.std.specs.Prelude.{Some};
-ghost use Rattle.std.specs.Io.KnownBytes.{Appends};
+ghost use Rattle.std.specs.Io.KnownBytes.{Appends, Keeps};
 ghost use Rattle.std.specs.Fmt.{decimal};
 ghost use Rattle.ccw_core.specs.Written.{AppendsPrefix};
-ghost use Rattle.chan_run.specs.Naming.{name_before, name_in};
-ghost use Rattle.chan_run.specs.Report.{HasAdvice, IsWriteFailure, is_on_input, line_of, line_over};
-ghost use Rattle.chan_run.specs.Report.{program_of, refusal_of, status_of, text_of, word_of};
+ghost use Rattle.chan_run.specs.Naming.{name_in};
+ghost use Rattle.chan_run.specs.Report.{IsDone, IsEnd, IsWriteFailure, has_advice, is_on_input};
+ghost use Rattle.chan_run.specs.Report.{cause_text, line_of, line_over, program_of, refusal_of};
+ghost use Rattle.chan_run.specs.Report.{status_of, text_of};
 
 use crate::image::ImageError;
-use crate::meaning::MeaningError;
-use crate::naming::write_name;
-use crate::running::{RunError, Status};
+use crate::meaning::{MeaningError, cause_word};
+use crate::naming::named;
+use crate::running::{Action, RunError, Status};
 use crate::showing::ShowError;
-use ccw_core::{DeviceFault, Watched, write_out};
+use crate::texts::{write_decimal, write_texts};
+use ccw_core::{DeviceFault, Watched};
 use chan_deck::Cause;
 use std::io::Write;
-
-#[cfg(test)]
-mod tests;
 
 /// How a run of the program ended. The texts of help, of the version and
 /// of a usage fault are written before.
@@ -81,19 +80,72 @@ pub fn ends_run(outcome: Outcome) -> bool
 {
     matches!(
         outcome,
-        Outcome::Ran(Err(RunError::Write))
+        Outcome::Shown(Err(ShowError::Write))
+            | Outcome::Ran(Err(RunError::Write))
             | Outcome::Imaged(Err(ImageError::Write))
             | Outcome::Explained(Err(MeaningError::Write))
             | Outcome::FlushFailed
     )
 }
 
-/// Whether there is advice on the text: the verdict is yes, or it is no deck.
-pub fn has_advice(outcome: Outcome) -> bool
-    ensures { IsTrue result ↔ HasAdvice outcome }
+/// Whether something is written beside what an action came to: it is for the explanation of a yes,
+/// and where the text is no deck.
+pub fn has_advice(action: Action, outcome: Outcome) -> bool
+    ensures { result ≡ has_advice action outcome }
+{
+    match (action, outcome) {
+        (Action::Why, Outcome::Ran(Ok(Status::Yes)))
+        | (Action::Why, Outcome::Ran(Err(RunError::Deck { .. }))) => true,
+        _ => false,
+    }
+}
+
+/// Ends a command that came to this outcome: flushes the output where all was done, writes the line
+/// of the outcome, as `report` or, over an input that has a name, `report_named` does, and gives
+/// the outcome, which is `FlushFailed` where the flush failed. It takes no memory.
+pub fn conclude<W: Write, E: Write>(
+    name: Option<&str>,
+    outcome: Outcome,
+    to: &mut Watched<W>,
+    errors: &mut Watched<E>,
+) -> Outcome
+    requires writer { IsWriteFailure outcome ↔ (to.old.failed ≡ true) }
+    requires errors { errors.old.failed ≡ false }
+    ensures end { IsEnd outcome result }
+    ensures kept { Keeps (W.contents to.old.device) (W.contents to.new.device) }
+    ensures early { (IsDone outcome → ⊥) → to.new ≡ to.old }
+    ensures write { IsWriteFailure result ↔ (to.new.failed ≡ true) }
+    ensures line { errors.new.failed ≡ false → Appends (E.contents errors.old.device)
+        (E.contents errors.new.device) (line_over (name_in name.entry) result) }
+    ensures prefix { AppendsPrefix (E.contents errors.old.device) (E.contents errors.new.device)
+        (line_over (name_in name.entry) result) }
+{
+    let end = flushed(outcome, to);
+    let _ = write_line(name, end, errors);
+    end
+}
+
+/// Flushes the output where all was done, and gives the outcome with which the command ends then.
+pub(crate) fn flushed<W: Write>(outcome: Outcome, to: &mut Watched<W>) -> Outcome
+    requires { IsWriteFailure outcome ↔ (to.old.failed ≡ true) }
+    ensures end { IsEnd outcome result }
+    ensures kept { Keeps (W.contents to.old.device) (W.contents to.new.device) }
+    ensures early { (IsDone outcome → ⊥) → to.new ≡ to.old }
+    ensures write { IsWriteFailure result ↔ (to.new.failed ≡ true) }
+{
+    if is_done(outcome) && to.flush().is_err() {
+        return Outcome::FlushFailed;
+    }
+    outcome
+}
+
+/// Whether all was done that was asked for.
+fn is_done(outcome: Outcome) -> bool
+    ensures { IsTrue result ↔ IsDone outcome }
 {
     match outcome {
-        Outcome::Ran(Ok(Status::Yes)) | Outcome::Ran(Err(RunError::Deck { .. })) => true,
+        Outcome::Shown(Ok(())) | Outcome::Ran(Ok(_)) | Outcome::Imaged(Ok(())) => true,
+        Outcome::Explained(Ok(())) | Outcome::HelpAsked => true,
         _ => false,
     }
 }
@@ -124,8 +176,7 @@ pub fn exit_status(outcome: Outcome) -> u8
 }
 
 /// Writes the line of an outcome over an input that may have a name.
-#[tactic(auto, using(ccw_core::proofs::Prefixes::prefix_after, ccw_core::proofs::Prefixes::prefix_of_more))]
-fn write_line<W: Write>(
+pub(crate) fn write_line<W: Write>(
     name: Option<&str>,
     outcome: Outcome,
     to: &mut Watched<W>,
@@ -137,64 +188,41 @@ fn write_line<W: Write>(
         (line_over (name_in name.entry) outcome) }
     ensures fault { IsErr result ↔ (to.new.failed ≡ true) }
 {
-    write_front(name, outcome, to)?;
-    write_text(outcome, to)
+    let (name, mark) = named(name, is_on_input(outcome));
+    write_texts(&[program(outcome), name, mark, text(outcome)], to)?;
+    write_refusal(outcome, to)
 }
 
-/// Writes what stands before the text of an outcome.
-#[tactic(auto, using(ccw_core::proofs::Prefixes::prefix_after, ccw_core::proofs::Prefixes::prefix_of_more))]
-fn write_front<W: Write>(
-    name: Option<&str>,
-    outcome: Outcome,
-    to: &mut Watched<W>,
-) -> Result<(), DeviceFault>
+/// Writes the number and the cause of a deck's refusal, where the outcome is one.
+fn write_refusal<W: Write>(outcome: Outcome, to: &mut Watched<W>) -> Result<(), DeviceFault>
     requires { to.old.failed ≡ false }
     ensures ok { OnOk result (Appends (W.contents to.old.device) (W.contents to.new.device)
-        (program_of outcome ++ name_before (name_in name.entry) (is_on_input outcome))) }
+        (refusal_of outcome)) }
     ensures prefix { AppendsPrefix (W.contents to.old.device) (W.contents to.new.device)
-        (program_of outcome ++ name_before (name_in name.entry) (is_on_input outcome)) }
+        (refusal_of outcome) }
     ensures fault { IsErr result ↔ (to.new.failed ≡ true) }
 {
-    write_out(program(outcome).as_bytes(), to)?;
-    write_name(name, is_on_input(outcome), to)
-}
-
-/// Writes the text of an outcome, with the number and the cause of a deck's refusal.
-#[tactic(auto, using(ccw_core::proofs::Prefixes::prefix_after, ccw_core::proofs::Prefixes::prefix_of_more))]
-fn write_text<W: Write>(outcome: Outcome, to: &mut Watched<W>) -> Result<(), DeviceFault>
-    requires { to.old.failed ≡ false }
-    ensures ok { OnOk result (Appends (W.contents to.old.device) (W.contents to.new.device)
-        (text_of outcome ++ refusal_of outcome)) }
-    ensures prefix { AppendsPrefix (W.contents to.old.device) (W.contents to.new.device)
-        (text_of outcome ++ refusal_of outcome) }
-    ensures fault { IsErr result ↔ (to.new.failed ≡ true) }
-{
-    write_out(text(outcome).as_bytes(), to)?;
-    if let Outcome::Ran(Err(RunError::Deck { line, cause })) = outcome {
-        write_decimal(line, to)?;
-        write_out(word(cause).as_bytes(), to)?;
+    match outcome {
+        Outcome::Ran(Err(RunError::Deck { line, cause })) => write_refused(line, cause, to),
+        _ => Ok(()),
     }
-    Ok(())
 }
 
-/// Writes a number in decimal, the first digit not zero unless it is the only one.
-#[tactic(auto, using(std::proofs::lemmas::Fmt::decimal_step, std::proofs::lemmas::Fmt::decimal_digit, ccw_core::proofs::Prefixes::prefix_after, ccw_core::proofs::Prefixes::prefix_of_more))]
-fn write_decimal<W: Write>(number: u64, to: &mut Watched<W>) -> Result<(), DeviceFault>
+/// Writes the number of a line and the cause for which it is refused.
+fn write_refused<W: Write>(line: u64, cause: Cause, to: &mut Watched<W>) -> Result<(), DeviceFault>
     requires { to.old.failed ≡ false }
     ensures ok { OnOk result (Appends (W.contents to.old.device) (W.contents to.new.device)
-        (decimal number)) }
+        (decimal line ++ cause_text cause)) }
     ensures prefix { AppendsPrefix (W.contents to.old.device) (W.contents to.new.device)
-        (decimal number) }
+        (decimal line ++ cause_text cause) }
     ensures fault { IsErr result ↔ (to.new.failed ≡ true) }
 {
-    if number >= 10 {
-        write_decimal(number / 10, to)?;
-    }
-    write_out(&[b'0' + (number % 10) as u8], to)
+    write_decimal(line, to)?;
+    write_texts(&[": ", cause_word(cause), "\n"], to)
 }
 
 /// What an outcome's line begins with, or nothing where there is none.
-fn program(outcome: Outcome) -> &'static str
+fn program<'a>(outcome: Outcome) -> &'a str
     ensures { result.now ≡ program_of outcome }
 {
     match outcome {
@@ -216,7 +244,7 @@ fn is_on_input(outcome: Outcome) -> bool
 }
 
 /// What the line of an outcome says, or as much of it as comes before the number of a deck's line.
-fn text(outcome: Outcome) -> &'static str
+fn text<'a>(outcome: Outcome) -> &'a str
     ensures { result.now ≡ text_of outcome }
 {
     match outcome {
@@ -241,24 +269,5 @@ fn text(outcome: Outcome) -> &'static str
         | Outcome::Explained(Err(MeaningError::Write))
         | Outcome::FlushFailed => "write failed\n",
         Outcome::CannotOpen => "cannot open\n",
-    }
-}
-
-/// The word of a cause, and what stands around it.
-fn word(cause: Cause) -> &'static str
-    ensures { result.now ≡ word_of cause }
-{
-    match cause {
-        Cause::Ended => ": ended\n",
-        Cause::Header => ": header\n",
-        Cause::Form => ": form\n",
-        Cause::Mask => ": mask\n",
-        Cause::ExtentBackwards => ": extent-backwards\n",
-        Cause::ExtentPastDevice => ": extent-past-device\n",
-        Cause::Size => ": size\n",
-        Cause::PutAddress => ": put-address\n",
-        Cause::PutZero => ": put-zero\n",
-        Cause::After => ": after\n",
-        Cause::Limit => ": limit\n",
     }
 }

@@ -1,30 +1,32 @@
 //! Running over a deck: from the reader's bytes to the writer's.
 
-ghost use Rattle.std.specs.Prelude.{◌≡◌, ◌≢◌, ◌↔◌, ◌++◌, [], false, true, IfErr, IfOk};
+ghost use Rattle.std.specs.Prelude.{◌≡◌, ◌↔◌, ◌++◌, [], false, true, Err, IfErr, IfOk};
 ghost use Rattle.std.specs.Prelude.{IsErrOf, OnOk};
 ghost use Rattle.std.specs.Io.KnownBytes.{Appends};
 ghost use Rattle.ccw_core.specs.Written.{AppendsPrefix};
 ghost use Rattle.chan_deck.specs.Texts.{verdict_line};
+ghost use Rattle.chan_walk.specs.Offences.{first_verdict};
+ghost use Rattle.chan_walk.specs.Surveyed.{IsSurvey};
+ghost use Rattle.chan_run.specs.Advice.{IsBeside, IsBesideJob};
 ghost use Rattle.chan_run.specs.Naming.{name_in};
-ghost use Rattle.chan_run.specs.Run.{IsAnswerBehind, IsEarly, IsJobAnswer, IsNamedAnswer};
-ghost use Rattle.chan_run.specs.Run.{IsInput, IsReadFault, IsRunAnswer};
-ghost use Rattle.chan_run.specs.Run.{IsTextAnswer, front_of, output_of, status_of_verdict};
+ghost use Rattle.chan_run.specs.Run.{IsAnswerBehind, IsAnswerOn, IsEarly, IsJobAnswer, IsNamedAnswer};
+ghost use Rattle.chan_run.specs.Run.{IsInput, IsReadFault, IsRunAnswer, IsWritten};
+ghost use Rattle.chan_run.specs.Run.{IsTextAnswer, front_of, status_of_verdict};
 ghost use Rattle.chan_run.specs.declared.running.Action.TheVariants as actions;
 
+use crate::advising::notes_on;
 use crate::input::{InputError, TEXT_LIMIT, read_input};
-use crate::naming::write_name;
-use ccw_core::{Watched, write_out};
+use crate::naming::named;
+use crate::texts::write_texts;
+use ccw_core::{Storage, Watched};
 use chan_deck::{
-    Cause, DeckError, ListError, read_deck, verdict_text, write_explanation, write_graph,
-    write_judged,
+    Cause, DeckError, ListError, hint_text, read_deck, verdict_text, write_explanation,
+    write_graph, write_needs, write_seen,
 };
-use chan_walk::{Job, Judged, Verdict, WalkError, explain, judge, offences};
-use std::alloc::Global;
+use chan_walk::{Job, OpenJob, Survey, Verdict, WalkError, survey};
+use std::alloc::{AllocError, Global};
 use std::io::{Read, Write};
 use thiserror::Error;
-
-#[cfg(test)]
-mod tests;
 
 /// What a run does with the deck.
 #[derive(Clone, Copy, PartialEq, Eq, Debug)]
@@ -37,6 +39,9 @@ pub enum Action {
     Why,
     /// Writes the picture of the program in Graphviz's language.
     Graph,
+    /// Writes what the deck's program needs of each job under which it may run, and what it keeps;
+    /// or where no job will do, the explanation of the no that the program's open job has.
+    Needs,
 }
 
 /// What a verdict was.
@@ -71,7 +76,8 @@ pub enum RunError {
     Memory,
 }
 
-/// Reads a deck to the end of the input, verifies its job, and writes what the action asks for.
+/// Reads a deck to the end of the input, verifies its job, and writes what the action asks for. For
+/// `Needs` it verifies the open job of the deck's program in place of the deck's own.
 ///
 /// Nothing is written before the whole deck was judged: after `Read`, `TooLong`, `Deck` and
 /// `TooManyPlaces` nothing was written, and after `Write` a prefix of the text. After `Memory`
@@ -99,7 +105,7 @@ pub fn run<R: Read, W: Write>(
 ///
 /// For `Verify` the verdict's line stands behind the name, a colon and a space, of which nothing is
 /// written either before the whole deck was judged; after `Write` a prefix of all this was written.
-/// For `List`, `Why` and `Graph` the text is that of `run`.
+/// For `List`, `Why`, `Graph` and `Needs` the text is that of `run`.
 pub fn run_named<R: Read, W: Write>(
     alloc: Global,
     name: &str,
@@ -137,7 +143,8 @@ fn run_behind<R: Read, W: Write>(
     ensures write { IsErrOf result RunError.Write ↔ (to.new.failed ≡ true) }
 {
     let text = read_text(alloc, from)?;
-    run_text(alloc, name, action, text.as_slice(), to)
+    let (answer, _advice) = answer_text(alloc, name, action, false, text.as_slice(), to);
+    answer
 }
 
 /// The text of the input, read to its end: at most 67,108,864 bytes.
@@ -145,7 +152,7 @@ fn run_behind<R: Read, W: Write>(
 /// `Read` comes exactly where the reader failed, before more bytes came; `TooLong` where more came;
 /// `Memory` where an allocation was refused; and no other error. Over an endless reader it returns,
 /// with `TooLong`.
-pub fn read_text<R: Read>(alloc: Global, from: &mut Watched<R>) -> Result<Vec<u8>, RunError>
+pub(crate) fn read_text<R: Read>(alloc: Global, from: &mut Watched<R>) -> Result<Vec<u8>, RunError>
     requires { from.old.failed ≡ false }
     ensures ok { IfOk result (λ text. IsInput (R.remaining from.old.device)
         (R.remaining from.new.device) text.items) }
@@ -162,136 +169,206 @@ pub fn read_text<R: Read>(alloc: Global, from: &mut Watched<R>) -> Result<Vec<u8
 }
 
 /// Verifies the job of the deck that a text spells, and writes what the action asks for: what `run`
-/// and, where there is a name, `run_named` do with the text of the input.
-pub fn run_text<W: Write>(
+/// and, where there is a name, `run_named` do with the text of the input. Behind the answer stands
+/// the advice on the text, if it is asked for and there is some.
+pub(crate) fn answer_text<W: Write>(
     alloc: Global,
     name: Option<&str>,
     action: Action,
+    asked: bool,
     text: &[u8],
     to: &mut Watched<W>,
-) -> Result<Status, RunError>
+) -> (Result<Status, RunError>, Result<Vec<u8>, AllocError>)
     requires { to.old.failed ≡ false }
     ensures answer { IsTextAnswer (front_of (name_in name.entry) action) action
-        text.now (W.contents to.old.device) (W.contents to.new.device) result }
-    ensures early { IsEarly action result → to.new ≡ to.old }
-    ensures read { IsErrOf result RunError.Read → ⊥ }
-    ensures write { IsErrOf result RunError.Write ↔ (to.new.failed ≡ true) }
+        text.now (W.contents to.old.device) (W.contents to.new.device) result.0 }
+    ensures early { IsEarly action result.0 → to.new ≡ to.old }
+    ensures read { IsErrOf result.0 RunError.Read → ⊥ }
+    ensures write { IsErrOf result.0 RunError.Write ↔ (to.new.failed ≡ true) }
+    ensures advice { asked ≡ true
+        → IfOk result.1 (λ advice. IsBeside action text.now result.0 advice.items) }
 {
     let deck = match read_deck(alloc, text) {
         Ok(deck) => deck,
-        Err(DeckError::At { line, cause }) => return Err(RunError::Deck { line, cause }),
-        Err(DeckError::Memory) => return Err(RunError::Memory),
+        Err(DeckError::At { line, cause }) => {
+            let hint = if asked && action == Action::Why {
+                hint_text(alloc, text, line, cause)
+            } else {
+                Ok(Vec::new(alloc))
+            };
+            return (Err(RunError::Deck { line, cause }), hint);
+        }
+        Err(DeckError::Memory) => return (Err(RunError::Memory), Ok(Vec::new(alloc))),
     };
     let job = deck.job();
-    match action {
-        Action::Why => explained(alloc, &job, to),
-        Action::Graph => drawn(alloc, &job, to),
-        _ => judged(alloc, name, action, &job, to),
-    }
+
+    // The borrow checker asks for the type of what a job borrows.
+    let _storage: Storage<'_> = job.storage;
+    answer_on(alloc, name, action, asked, &job, to)
 }
 
-/// Verifies a job, and writes what the action asks for, if that is neither the explanation nor the
-/// picture.
-fn judged<W: Write>(
+/// Verifies the job that the action judges, given the deck's, and writes what the action asks for.
+/// Behind the answer stands what `answer_job` puts there.
+fn answer_on<W: Write>(
     alloc: Global,
     name: Option<&str>,
     action: Action,
+    asked: bool,
     job: &Job,
     to: &mut Watched<W>,
-) -> Result<Status, RunError>
-    requires writer { to.old.failed ≡ false }
-    requires why { action ≢ actions.Why }
-    requires graph { action ≢ actions.Graph }
+) -> (Result<Status, RunError>, Result<Vec<u8>, AllocError>)
+    requires { to.old.failed ≡ false }
+    ensures answer { IsAnswerOn (front_of (name_in name.entry) action) action
+        job.now (W.contents to.old.device) (W.contents to.new.device) result.0 }
+    ensures early { IsEarly action result.0 → to.new ≡ to.old }
+    ensures write { IsErrOf result.0 RunError.Write ↔ (to.new.failed ≡ true) }
+    ensures advice { asked ≡ true
+        → IfOk result.1 (λ advice. IsBesideJob action job.now result.0 advice.items) }
+{
+    match action {
+        Action::Needs => answer_open(alloc, job, to),
+        _ => answer_job(alloc, name, action, asked, job, to),
+    }
+}
+
+/// Verifies the open job of a job's program, and writes what the program needs. No advice stands
+/// behind the answer.
+fn answer_open<W: Write>(
+    alloc: Global,
+    job: &Job,
+    to: &mut Watched<W>,
+) -> (Result<Status, RunError>, Result<Vec<u8>, AllocError>)
+    requires { to.old.failed ≡ false }
+    ensures answer { IsAnswerOn [] actions.Needs
+        job.now (W.contents to.old.device) (W.contents to.new.device) result.0 }
+    ensures early { IsEarly actions.Needs result.0 → to.new ≡ to.old }
+    ensures write { IsErrOf result.0 RunError.Write ↔ (to.new.failed ≡ true) }
+{
+    let open = match OpenJob::of(alloc, job) {
+        Ok(open) => open,
+        Err(_) => return (Err(RunError::Memory), Ok(Vec::new(alloc))),
+    };
+    let open_job = open.job();
+    answer_job(alloc, None, Action::Needs, false, &open_job, to)
+}
+
+/// Verifies a job, and writes what the action asks for. Behind the answer stand the notes on the
+/// job, if advice is asked for and the verdict is yes.
+fn answer_job<W: Write>(
+    alloc: Global,
+    name: Option<&str>,
+    action: Action,
+    asked: bool,
+    job: &Job,
+    to: &mut Watched<W>,
+) -> (Result<Status, RunError>, Result<Vec<u8>, AllocError>)
+    requires { to.old.failed ≡ false }
     ensures answer { IsJobAnswer (front_of (name_in name.entry) action) action
-        job.now (W.contents to.old.device) (W.contents to.new.device) result }
-    ensures early { IsEarly action result → to.new ≡ to.old }
-    ensures write { IsErrOf result RunError.Write ↔ (to.new.failed ≡ true) }
+        job.now (W.contents to.old.device) (W.contents to.new.device) result.0 }
+    ensures early { IsEarly action result.0 → to.new ≡ to.old }
+    ensures write { IsErrOf result.0 RunError.Write ↔ (to.new.failed ≡ true) }
+    ensures advice { asked ≡ true
+        → IfOk result.1 (λ advice. IsBesideJob action job.now result.0 advice.items) }
 {
-    let judged = match judge(alloc, job) {
-        Ok(judged) => judged,
-        Err(WalkError::TooManyPlaces) => return Err(RunError::TooManyPlaces),
-        Err(WalkError::Memory) => return Err(RunError::Memory),
+    let survey = match survey(alloc, job) {
+        Ok(survey) => survey,
+        Err(WalkError::TooManyPlaces) => {
+            return (Err(RunError::TooManyPlaces), Ok(Vec::new(alloc)));
+        }
+        Err(WalkError::Memory) => return (Err(RunError::Memory), Ok(Vec::new(alloc))),
     };
-    match write_output(alloc, name, action, &judged, to) {
-        Ok(()) => Ok(status_of(judged.verdict())),
-        Err(ListError::Write) => Err(RunError::Write),
-        Err(ListError::Memory) => Err(RunError::Memory),
+    let status = status_of(survey.verdict());
+    let notes = if asked && action == Action::Why && status == Status::Yes {
+        notes_on(alloc, job, &survey)
+    } else {
+        Ok(Vec::new(alloc))
+    };
+    match write_output(alloc, name, action, job, survey, to) {
+        Ok(()) => (Ok(status), notes),
+        Err(ListError::Write) => (Err(RunError::Write), notes),
+        Err(ListError::Memory) => (Err(RunError::Memory), notes),
     }
 }
 
-/// Explains the verdict on a job.
-fn explained<W: Write>(alloc: Global, job: &Job, to: &mut Watched<W>) -> Result<Status, RunError>
-    requires { to.old.failed ≡ false }
-    ensures answer { IsJobAnswer [] actions.Why
-        job.now (W.contents to.old.device) (W.contents to.new.device) result }
-    ensures early { IsEarly actions.Why result → to.new ≡ to.old }
-    ensures write { IsErrOf result RunError.Write ↔ (to.new.failed ≡ true) }
-{
-    let explanation = match explain(alloc, job) {
-        Ok(explanation) => explanation,
-        Err(WalkError::TooManyPlaces) => return Err(RunError::TooManyPlaces),
-        Err(WalkError::Memory) => return Err(RunError::Memory),
-    };
-    match write_explanation(alloc, job, &explanation, to) {
-        Ok(()) => Ok(status_of(explanation.verdict())),
-        Err(ListError::Write) => Err(RunError::Write),
-        Err(ListError::Memory) => Err(RunError::Memory),
-    }
-}
-
-/// Judges a job, and draws its program. The places are walked through twice, for the verdict and
-/// for the offences.
-fn drawn<W: Write>(alloc: Global, job: &Job, to: &mut Watched<W>) -> Result<Status, RunError>
-    requires { to.old.failed ≡ false }
-    ensures answer { IsJobAnswer [] actions.Graph
-        job.now (W.contents to.old.device) (W.contents to.new.device) result }
-    ensures early { IsEarly actions.Graph result → to.new ≡ to.old }
-    ensures write { IsErrOf result RunError.Write ↔ (to.new.failed ≡ true) }
-{
-    let seen = match judge(alloc, job) {
-        Ok(seen) => seen,
-        Err(WalkError::TooManyPlaces) => return Err(RunError::TooManyPlaces),
-        Err(WalkError::Memory) => return Err(RunError::Memory),
-    };
-    let offences = match offences(alloc, job) {
-        Ok(offences) => offences,
-        Err(WalkError::TooManyPlaces) => return Err(RunError::TooManyPlaces),
-        Err(WalkError::Memory) => return Err(RunError::Memory),
-    };
-    match write_graph(alloc, &seen, offences.as_slice(), to) {
-        Ok(()) => Ok(status_of(seen.verdict())),
-        Err(ListError::Write) => Err(RunError::Write),
-        Err(ListError::Memory) => Err(RunError::Memory),
-    }
-}
-
-/// Writes what the action asks for of a job that was judged, if that is neither the explanation nor
-/// the picture.
+/// Writes what the action asks for of a job that was surveyed.
 fn write_output<W: Write>(
     alloc: Global,
     name: Option<&str>,
     action: Action,
-    judged: &Judged,
+    job: &Job,
+    survey: Survey,
     to: &mut Watched<W>,
 ) -> Result<(), ListError>
     requires writer { to.old.failed ≡ false }
-    requires why { action ≢ actions.Why }
-    requires graph { action ≢ actions.Graph }
-    ensures ok { OnOk result (Appends (W.contents to.old.device) (W.contents to.new.device)
-        (front_of (name_in name.entry) action ++ output_of action judged.now)) }
-    ensures prefix { AppendsPrefix (W.contents to.old.device) (W.contents to.new.device)
-        (front_of (name_in name.entry) action ++ output_of action judged.now) }
+    requires survey { IsSurvey job.now survey }
+    ensures output { IsWritten (front_of (name_in name.entry) action) action job.now
+        (first_verdict survey.offences.items)
+        (W.contents to.old.device) (W.contents to.new.device) result }
     ensures write { IsErrOf result ListError.Write ↔ (to.new.failed ≡ true) }
-    ensures early { IsErrOf result ListError.Memory → action ≡ actions.Verify → to.new ≡ to.old }
+    ensures early { IsErrOf result ListError.Memory → IsEarly action (Err RunError.Memory)
+        → to.new ≡ to.old }
 {
+    let verdict = survey.verdict();
     match action {
-        Action::List => write_judged(alloc, judged, to),
-        _ => write_verdict(alloc, name, judged.verdict(), to),
+        Action::Verify => write_verdict(alloc, name, verdict, to),
+        Action::List => {
+            let (looks, _offences) = survey.into_parts();
+            write_seen(alloc, looks.as_slice(), verdict, to)
+        }
+        Action::Why => write_why(alloc, job, &survey, to),
+        Action::Needs => write_needed(alloc, job, &survey, to),
+        Action::Graph => {
+            let (looks, offences) = survey.into_parts();
+            write_graph(alloc, looks.as_slice(), offences.as_slice(), to)
+        }
+    }
+}
+
+/// Writes the explanation of the verdict on a job that was surveyed.
+fn write_why<W: Write>(
+    alloc: Global,
+    job: &Job,
+    survey: &Survey,
+    to: &mut Watched<W>,
+) -> Result<(), ListError>
+    requires writer { to.old.failed ≡ false }
+    requires survey { IsSurvey job.now survey.now }
+    ensures output { IsWritten [] actions.Why job.now
+        (first_verdict survey.now.offences.items)
+        (W.contents to.old.device) (W.contents to.new.device) result }
+    ensures write { IsErrOf result ListError.Write ↔ (to.new.failed ≡ true) }
+    ensures memory { IsErrOf result ListError.Memory → to.new ≡ to.old }
+{
+    let witness = survey.witness(alloc, job)?;
+    write_explanation(alloc, job, survey, &witness, to)
+}
+
+/// Writes what the program of a job needs that was surveyed, or where the verdict is no, its
+/// explanation.
+fn write_needed<W: Write>(
+    alloc: Global,
+    job: &Job,
+    survey: &Survey,
+    to: &mut Watched<W>,
+) -> Result<(), ListError>
+    requires writer { to.old.failed ≡ false }
+    requires survey { IsSurvey job.now survey.now }
+    ensures output { IsWritten [] actions.Needs job.now
+        (first_verdict survey.now.offences.items)
+        (W.contents to.old.device) (W.contents to.new.device) result }
+    ensures write { IsErrOf result ListError.Write ↔ (to.new.failed ≡ true) }
+    ensures memory { IsErrOf result ListError.Memory → to.new ≡ to.old }
+{
+    match survey.verdict() {
+        Verdict::No { .. } => write_why(alloc, job, survey, to),
+        Verdict::Yes => {
+            let needs = survey.needs(alloc, job)?;
+            write_needs(alloc, &needs, to)
+        }
     }
 }
 
 /// Writes the line of a verdict, behind the name that the input may have.
-#[tactic(auto, using(ccw_core::proofs::Prefixes::prefix_after, ccw_core::proofs::Prefixes::prefix_of_more))]
 fn write_verdict<W: Write>(
     alloc: Global,
     name: Option<&str>,
@@ -307,8 +384,8 @@ fn write_verdict<W: Write>(
     ensures memory { IsErrOf result ListError.Memory → to.new ≡ to.old }
 {
     let line = verdict_text(alloc, verdict)?;
-    write_name(name, true, to)?;
-    Ok(write_out(line.as_bytes(), to)?)
+    let (name, mark) = named(name, true);
+    Ok(write_texts(&[name, mark, line.as_str()], to)?)
 }
 
 fn status_of(verdict: Verdict) -> Status

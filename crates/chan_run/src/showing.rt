@@ -13,9 +13,6 @@ use std::alloc::{AllocError, Global};
 use std::io::Write;
 use thiserror::Error;
 
-#[cfg(test)]
-mod tests;
-
 /// Why a CCW was not shown.
 #[derive(Clone, Copy, PartialEq, Eq, Debug, Error)]
 pub enum ShowError {

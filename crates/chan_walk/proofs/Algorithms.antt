@@ -3,9 +3,9 @@ pub mod Visiting
 pub mod Marks
 pub mod Walking
 pub mod InOrder
-pub mod Least
 pub mod Verdicts
 pub mod Counted
+pub mod Granted
 pub mod Merging
 pub mod Searching
 pub mod Lending
@@ -21,3 +21,8 @@ pub mod Gaps
 pub mod Changing
 pub mod Given
 pub mod Noted
+pub mod Demanding
+pub mod Seeking
+pub mod Needed
+pub mod Holding
+pub mod Opened

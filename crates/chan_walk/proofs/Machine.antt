@@ -1,7 +1,11 @@
 pub mod Events
 pub mod Gathering
+pub mod Storing
 pub mod Invariant
+pub mod Waiting
 pub mod Yes
+pub mod History
+pub mod Beside
 pub mod Quiet
 pub mod Paths
 pub mod Operations
@@ -9,3 +13,4 @@ pub mod Alarm
 pub mod Exact
 pub mod Again
 pub mod Answering
+pub mod Asking

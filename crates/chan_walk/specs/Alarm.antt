@@ -1,7 +1,7 @@
 -- No false alarm: where the verdict is no, a run shows why; and yes is said of every job that is
 -- safe and steady.
 use Rattle.std.specs.Prelude.{◌≡◌, ℕ, ◌+◌, ◌<◌, ◌≤◌, true, false, List, [], ◌∷◌, ◌++◌, map, length}
-use Rattle.std.specs.Prelude.{Some, None, ◌⊎◌}
+use Rattle.std.specs.Prelude.{Some, None, ◌⊎◌, ◌↔◌}
 use Rattle.std.specs.List.{AllByRecursion, range_with_len}
 use Rattle.ccw_core.specs.Areas.{lies_in}
 use Rattle.ccw_core.specs.Ccw.{byte, ccw}
@@ -22,13 +22,14 @@ use Rattle.chan_walk.specs.declared.verdict.Verdict.TheVariants.{Yes, No}
 use Rattle.chan_walk.specs.Argument.{Has}
 use Rattle.chan_walk.specs.Check.{check}
 use Rattle.chan_walk.specs.Fault.{is_known, begins_seek, allows}
-use Rattle.chan_walk.specs.Headline.{IsSafe, IsSteady}
+use Rattle.chan_walk.specs.Guarded.{IsGuarded}
+use Rattle.chan_walk.specs.Headline.{AreSafe, AreSteady, IsSafe, IsSpared, IsSteady}
 use Rattle.chan_walk.specs.Job.{storage_of, extents_of, fetch_of, store_of, HasMask}
 use Rattle.chan_walk.specs.Machine.{Gathered, Stage, At, Checked, Event, Command, Store, Fetch}
 use Rattle.chan_walk.specs.Machine.{Gather, Seek, SetMask}
 use Rattle.chan_walk.specs.Place.{is_fresh}
 use Rattle.chan_walk.specs.Reachable.{IsPath}
-use Rattle.chan_walk.specs.Runs.{Moment, IsRun, UsesInCcw, UsesInArgument}
+use Rattle.chan_walk.specs.Runs.{Moment, IsRun, IsRunAmong, UsesInCcw, UsesInArgument, Uses}
 use Rattle.chan_walk.specs.Verdict.{Offends, IsVerdict}
 
 -- storage holds bytes
@@ -192,6 +193,28 @@ NoFalseAlarm =
 -- a job that is safe in every run and steady has the verdict yes
 abbrev pub SafeIsYes : Type 0
 SafeIsYes = (j : Job) → IsProper j → IsSafe j → IsSteady j → IsVerdict j Yes
+
+-- one of these runs uses the byte at b
+abbrev pub IsUsedIn : (List Moment → Type 0) → ℕ → Type 0
+IsUsedIn R b = (used : List Moment) × R used × Uses used b
+
+-- some run uses the byte at b
+abbrev pub IsUsed : Job → ℕ → Type 0
+IsUsed j = IsUsedIn (IsRun j)
+
+-- where the verdict is yes, the guarded bytes are those that some run uses, and among others no run
+-- uses another
+abbrev pub GuardedIsUsed : Type 0
+GuardedIsUsed =
+    (j : Job) → IsProper j → IsVerdict j Yes → (b : ℕ)
+    → (IsGuarded j b ↔ IsUsed j b) × (IsUsedIn (IsSpared j) b → IsGuarded j b)
+
+-- a job that is safe in every run and steady is so among others too, if they change no byte that
+-- some run of it uses
+abbrev pub StaysSafe : Type 0
+StaysSafe =
+    (j : Job) → IsProper j → IsSafe j → IsSteady j
+    → AreSafe j (IsRunAmong (IsUsed j) j) × AreSteady j (IsRunAmong (IsUsed j) j)
 
 -- whatever answers yes only for safe and steady jobs answers yes only where the verdict is yes
 abbrev pub HeadlineAloneIsEnough : Type 0

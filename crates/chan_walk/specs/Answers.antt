@@ -1,16 +1,22 @@
 -- What an answer of the verifier promises.
-use Rattle.std.specs.Prelude.{◌≡◌, ◌≤◌, ℕ, List, length}
+use Rattle.std.specs.Prelude.{◌≡◌, ◌≤◌, ◌↔◌, ℕ, List, length}
 use Rattle.chan_walk.specs.declared.job.Job.{Job}
 use Rattle.chan_walk.specs.declared.place.Place.{Place}
 use Rattle.chan_walk.specs.declared.verdict.Verdict.{Verdict}
 use Rattle.chan_walk.specs.declared.verdict.Verdict.TheVariants.{Yes, No}
 use Rattle.chan_walk.specs.Alarm.{IsShownAt}
 use Rattle.chan_walk.specs.Explored.{AreReachable}
-use Rattle.chan_walk.specs.Headline.{IsSafe, IsSteady}
+use Rattle.chan_walk.specs.Headline.{IsSafe, IsSafeAmong, IsSteady, IsSteadyAmong}
+use Rattle.chan_walk.specs.Verdict.{IsVerdict}
 
 -- sound: a yes covers every run, so that each is safe and the job is steady
 abbrev pub IsSound : Job → Verdict → Type 0
 IsSound j v = v ≡ Yes → IsSafe j × IsSteady j
+
+-- sound among others: a yes covers also every run during which others change any bytes of storage
+-- but the guarded ones
+abbrev pub IsSoundAmong : Job → Verdict → Type 0
+IsSoundAmong j v = v ≡ Yes → IsSafeAmong j × IsSteadyAmong j
 
 -- a no has a witness: a run that comes to a place with its address and shows its reason there
 abbrev pub HasWitness : Job → Verdict → Type 0
@@ -26,3 +32,13 @@ pub record HasAtMost (j : Job) (n : ℕ) : Type 0 where
   pub places : List Place
   pub are : AreReachable j places
   pub few : length places ≤ n
+
+-- what an answer promises: it is the verdict; it is yes exactly for a job that is safe in every run
+-- and steady; a yes covers runs among others too; a no has a witness; and no more places are
+-- reachable than the job's limit
+pub record IsAnswer (j : Job) (v : Verdict) : Type 0 where
+  pub verdict : IsVerdict j v
+  pub exact : (v ≡ Yes) ↔ (IsSafe j × IsSteady j)
+  pub among : IsSoundAmong j v
+  pub witness : HasWitness j v
+  pub few : HasAtMost j j.limit

@@ -1,8 +1,8 @@
 -- The bytes of storage that count for a verdict; another storage that holds the same in them gets
 -- the same verdict.
-use Rattle.std.specs.Prelude.{◌≡◌, ℕ, ◌+◌, ◌<◌, ◌≤◌, true, List, length, ◌⊎◌, ◌↔◌}
+use Rattle.std.specs.Prelude.{◌≡◌, ℕ, ◌+◌, ◌<◌, ◌≤◌, true, List, ◌⊎◌, ◌↔◌}
 use Rattle.ccw_core.specs.declared.storage.Storage.{Storage}
-use Rattle.ccw_core.specs.Ccw.{byte, ccw, chains_data}
+use Rattle.ccw_core.specs.Ccw.{ccw, chains_data}
 use Rattle.ccw_core.specs.Held.{bytes_held}
 use Rattle.ccw_core.specs.Storage.{Stands}
 use Rattle.chan_walk.specs.declared.job.Job.{Job}
@@ -16,6 +16,7 @@ use Rattle.chan_walk.specs.Headline.{EachMomentOfYes}
 use Rattle.chan_walk.specs.Job.{storage_of}
 use Rattle.chan_walk.specs.Place.{ccw_of}
 use Rattle.chan_walk.specs.Reachable.{IsReachable}
+use Rattle.chan_walk.specs.Runs.{IsSameIn}
 use Rattle.chan_walk.specs.Verdict.{IsVerdict}
 
 -- data chaining leads from the CCW at a to the one at an address, in any number of steps
@@ -50,23 +51,18 @@ IsCounted j b = IsCcwByte j b ⊎ IsChainByte j b ⊎ IsTakenByte j b
 abbrev pub with_storage : Job → Storage → Job
 with_storage j t = record j { storage = t }
 
--- the storage of k is as long as that of j, and the same in each byte for which P holds
-pub record IsSameIn (P : ℕ → Type 0) (j k : Job) : Type 0 where
-  pub same_length : length (storage_of k) ≡ length (storage_of j)
-  pub same : (b : ℕ) → P b → byte (storage_of k) b ≡ byte (storage_of j) b
-
 -- over each other storage that is the same in the bytes that count, the same places are reachable
 -- and the verdict is the same
 abbrev pub SameVerdict : Type 0
-SameVerdict = (j : Job) (t : Storage) → IsSameIn (IsCounted j) j (with_storage j t) →
+SameVerdict = (j : Job) (t : Storage) → IsSameIn (IsCounted j) (storage_of j) (bytes_held t) →
     ((p : Place) → IsReachable j p ↔ IsReachable (with_storage j t) p)
     × ((v : Verdict) → IsVerdict j v ↔ IsVerdict (with_storage j t) v)
 
 -- a yes depends on the guarded bytes alone
 abbrev pub YesByGuarded : Type 0
 YesByGuarded =
-    (j : Job) (t : Storage) → IsVerdict j Yes → IsSameIn (IsGuarded j) j (with_storage j t) →
-    IsVerdict (with_storage j t) Yes
+    (j : Job) (t : Storage) → IsVerdict j Yes
+    → IsSameIn (IsGuarded j) (storage_of j) (bytes_held t) → IsVerdict (with_storage j t) Yes
 
 -- so it stays yes over what storage holds at any moment of any run: the program may start again
 abbrev pub YesStays : Type 0

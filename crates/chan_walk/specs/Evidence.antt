@@ -16,13 +16,12 @@ use Rattle.chan_walk.specs.declared.offence.Offence.{Offence}
 use Rattle.chan_walk.specs.declared.place.Place.{Place}
 use Rattle.chan_walk.specs.declared.reason.Reason.{Reason}
 use Rattle.chan_walk.specs.declared.reason.Reason.TheVariants as reasons
-use Rattle.chan_walk.specs.Argument.{HasArgument, IsChain}
+use Rattle.chan_walk.specs.Argument.{Gives, HasArgument}
 use Rattle.chan_walk.specs.Fault.{allows, begins_recalibrate, begins_seek, begins_set_mask}
 use Rattle.chan_walk.specs.Guard.{IsArgumentByteOf}
 use Rattle.chan_walk.specs.Guarded.{IsArgumentByte}
 use Rattle.chan_walk.specs.Job.{extents_of, fetch_of, heads, storage_of, store_of}
 use Rattle.chan_walk.specs.Machine.{home}
-use Rattle.chan_walk.specs.Offences.{Offending}
 use Rattle.chan_walk.specs.Paths.{ArePathWhere, IsPathWhere}
 use Rattle.chan_walk.specs.Place.{ccw_of}
 use Rattle.chan_walk.specs.Ranges.{end_of}
@@ -46,11 +45,6 @@ pub record IsFirstGap (areas : List Area) (range gap : Area) : Type 0 where
   pub before : (b : ℕ) → range.start ≤ b → b < gap.start → lies_in areas b ≡ true
   pub inside : (b : ℕ) → gap.start ≤ b → b < end_of gap → lies_in areas b ≡ false
   pub after : end_of gap < end_of range → lies_in areas (end_of gap) ≡ true
-
--- the data chain that begins at a gives n bytes, and not one more
-pub record Gives (s : List ℕ) (a n : ℕ) : Type 0 where
-  pub some : 0 < n → (l : List ℕ) × IsChain s n a l
-  pub no_more : (l : List ℕ) → IsChain s (n + 1) a l → ⊥
 
 -- the two bytes of bin
 abbrev pub bin_of : List ℕ → ℕ
@@ -163,11 +157,6 @@ IsCause j p (because.WeakensMask b mask) =
 -- it is the evidence for this offence
 abbrev pub IsEvidence : Job → Offence → Evidence → Type 0
 IsEvidence j o e = (reason_of e ≡ o.reason) × IsCause j o.place e
-
--- the evidence for an offence of the job; none where it isn't one
-abbrev pub IsEvidenceOrNone : Job → Offence → Option Evidence → Type 0
-IsEvidenceOrNone j o None = Offending j o → ⊥
-IsEvidenceOrNone j o (Some e) = Offending j o × IsEvidence j o e
 
 -- ---- the second path
 

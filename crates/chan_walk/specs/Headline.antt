@@ -1,4 +1,5 @@
--- What a yes means: every run is safe, and the job is steady; and the laws that carry it.
+-- What a yes means: every run is safe and the job is steady, also among others that change storage
+-- meanwhile; and the laws that carry it.
 use Rattle.std.specs.Prelude.{◌≡◌, ℕ, ◌+◌, ◌-◌, ◌<◌, ◌≤◌, true, false, List, ◌++◌, map, length}
 use Rattle.std.specs.Prelude.{Some, None, ◌⊎◌}
 use Rattle.std.specs.List.{AllByRecursion}
@@ -18,7 +19,7 @@ use Rattle.chan_walk.specs.Machine.{Stage, At, Ended, Checked, Event, Command, S
 use Rattle.chan_walk.specs.Machine.{Seek, SetMask}
 use Rattle.chan_walk.specs.Place.{ccw_of}
 use Rattle.chan_walk.specs.Reachable.{IsReachable}
-use Rattle.chan_walk.specs.Runs.{Moment, IsRun, Uses}
+use Rattle.chan_walk.specs.Runs.{Moment, IsRun, IsRunAmong, Uses}
 use Rattle.chan_walk.specs.Verdict.{IsVerdict}
 
 -- an event that does no harm: a command of the table that isn't inhibited, a store and a fetch
@@ -46,31 +47,57 @@ pub record IsSafeMoment (j : Job) (m : Moment) : Type 0 where
   pub strict : is_at_least m.mask j.mask ≡ true
   pub events : AllByRecursion (IsSafeEvent j) m.events
 
+-- each of these runs is safe
+abbrev pub AreSafe : Job → (List Moment → Type 0) → Type 0
+AreSafe j R = (run : List Moment) → R run → AllByRecursion (IsSafeMoment j) run
+
 -- every run is safe
 abbrev pub IsSafe : Job → Type 0
-IsSafe j = (run : List Moment) → IsRun j run → AllByRecursion (IsSafeMoment j) run
+IsSafe j = AreSafe j (IsRun j)
 
 -- the byte at b is what it was in the initial storage
 abbrev pub Holds : Job → ℕ → Moment → Type 0
 Holds j b m = byte m.storage b ≡ byte (storage_of j) b
 
+-- what one of these runs uses never changes, in any of them
+abbrev pub AreSteady : Job → (List Moment → Type 0) → Type 0
+AreSteady j R =
+    (used run : List Moment) (b : ℕ) → R used → Uses used b → R run → AllByRecursion (Holds j b) run
+
 -- the job is steady: what some run uses never changes, in any run
 abbrev pub IsSteady : Job → Type 0
-IsSteady j =
-    (used run : List Moment) (b : ℕ) → IsRun j used → Uses used b → IsRun j run
-    → AllByRecursion (Holds j b) run
+IsSteady j = AreSteady j (IsRun j)
 
 -- the headline: where the job's mask is a mask and the verdict is yes, every run is safe and the
 -- job is steady
 abbrev pub YesIsSafe : Type 0
 YesIsSafe = (j : Job) → HasMask j → IsVerdict j Yes → IsSafe j × IsSteady j
 
+-- ---- among others
+
+-- a run among others that change no guarded byte
+abbrev pub IsSpared : Job → List Moment → Type 0
+IsSpared j = IsRunAmong (IsGuarded j) j
+
+-- every such run is safe
+abbrev pub IsSafeAmong : Job → Type 0
+IsSafeAmong j = AreSafe j (IsSpared j)
+
+-- what some such run uses never changes, in any of them
+abbrev pub IsSteadyAmong : Job → Type 0
+IsSteadyAmong j = AreSteady j (IsSpared j)
+
+-- the headline among others: every such run is safe too, and the job is steady in them
+abbrev pub YesIsSafeAmong : Type 0
+YesIsSafeAmong = (j : Job) → HasMask j → IsVerdict j Yes → IsSafeAmong j × IsSteadyAmong j
+
 -- ---- the laws that carry it
 
--- where the verdict is yes, P holds at each moment of each run
+-- where the verdict is yes, P holds at each moment of each run among others that change no guarded
+-- byte; a run by itself is one of these, in which they do nothing
 abbrev pub EachMomentOfYes : (Job → Moment → Type 0) → Type 0
 EachMomentOfYes P =
-    (j : Job) → IsVerdict j Yes → (run : List Moment) → IsRun j run → AllByRecursion (P j) run
+    (j : Job) → IsVerdict j Yes → (run : List Moment) → IsSpared j run → AllByRecursion (P j) run
 
 -- guarded bytes never change
 abbrev pub GuardedStays : Type 0

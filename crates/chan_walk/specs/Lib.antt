@@ -13,6 +13,8 @@ pub mod Verdict
 pub mod Machine
 pub mod Runs
 pub mod Headline
+pub mod History
+pub mod Beside
 pub mod Counted
 pub mod Alarm
 pub mod Visit
@@ -27,11 +29,13 @@ pub mod Lent
 pub mod Lending
 pub mod Guard
 pub mod Look
-pub mod Judged
 pub mod Answers
 pub mod Offences
 pub mod Paths
 pub mod Evidence
 pub mod Changed
 pub mod Explained
+pub mod Surveyed
 pub mod Notes
+pub mod Needs
+pub mod Rows

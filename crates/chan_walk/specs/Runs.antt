@@ -1,5 +1,7 @@
--- Runs of a program, of any length, and the bytes of storage that they use.
-use Rattle.std.specs.Prelude.{◌≡◌, ℕ, ◌+◌, ◌<◌, ◌≤◌, true, List, [], ◌∷◌, None, ◌⊎◌}
+-- Runs of a program, of any length, alone and among others that change storage too, and the bytes
+-- of storage that they use.
+use Rattle.std.specs.Prelude.{◌≡◌, ℕ, ◌+◌, ◌<◌, ◌≤◌, true, List, [], ◌∷◌, length, None, ◌⊎◌}
+use Rattle.ccw_core.specs.Ccw.{byte}
 use Rattle.ccw_core.specs.Storage.{Stands}
 use Rattle.ckd_core.specs.Cylinders.{has_cylinder}
 use Rattle.chan_walk.specs.declared.job.Job.{Job}
@@ -26,13 +28,35 @@ pub record IsStart (j : Job) (m : Moment) : Type 0 where
   pub stage : m.stage ≡ At (first_place j) None
   pub events : m.events ≡ []
 
+-- n comes after m by one step of the program
+abbrev pub Steps : Moment → Moment → Type 0
+Steps m n = StepFrom m.storage m.arm m.mask m.stage n.events n.storage n.arm n.mask n.stage
+
 -- the moments of a run, the newest first
 abbrev pub IsRun : Job → List Moment → Type 0
 IsRun j [] = ⊥
 IsRun j (m ∷ []) = IsStart j m
-IsRun j (n ∷ m ∷ ms) =
-    IsRun j (m ∷ ms)
-    × StepFrom m.storage m.arm m.mask m.stage n.events n.storage n.arm n.mask n.stage
+IsRun j (n ∷ m ∷ ms) = IsRun j (m ∷ ms) × Steps m n
+
+-- the program makes no step from m to n; storage may be another
+pub record Waits (m n : Moment) : Type 0 where
+  pub arm : n.arm ≡ m.arm
+  pub mask : n.mask ≡ m.mask
+  pub stage : n.stage ≡ m.stage
+  pub events : n.events ≡ []
+
+-- storage t is as long as s, and the same in each byte for which P holds
+pub record IsSameIn (P : ℕ → Type 0) (s t : List ℕ) : Type 0 where
+  pub same_length : length t ≡ length s
+  pub same : (b : ℕ) → P b → byte t b ≡ byte s b
+
+-- the moments of a run among others, the newest first: between its steps others may change any
+-- bytes of storage but those for which P holds
+abbrev pub IsRunAmong : (ℕ → Type 0) → Job → List Moment → Type 0
+IsRunAmong P j [] = ⊥
+IsRunAmong P j (m ∷ []) = IsStart j m
+IsRunAmong P j (n ∷ m ∷ ms) =
+    IsRunAmong P j (m ∷ ms) × (Steps m n ⊎ (Waits m n × IsSameIn P m.storage n.storage))
 
 -- the byte at b belongs to the CCW of this stage's place, where one stands there
 abbrev pub UsesAt : List ℕ → Stage → ℕ → Type 0

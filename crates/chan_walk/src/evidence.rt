@@ -5,23 +5,24 @@ ghost use Rattle.ccw_core.specs.Areas.{covered};
 ghost use Rattle.ccw_core.specs.Storage.{ccw_at as ccw_in};
 ghost use Rattle.ccw_core.specs.declared.areas.Area as areas;
 ghost use Rattle.chan_walk.specs.Evidence as specs;
-ghost use Rattle.chan_walk.specs.Evidence.{FailsToSeek, IsEvidence, IsEvidenceOrNone, IsFirstGap};
+ghost use Rattle.chan_walk.specs.Evidence.{FailsToSeek, IsEvidence, IsFirstGap};
 ghost use Rattle.chan_walk.specs.Evidence.{IsOutside};
-ghost use Rattle.chan_walk.specs.Explored.{HasMoreThan};
 ghost use Rattle.chan_walk.specs.Fault.{allows};
+ghost use Rattle.chan_walk.specs.Guard.{Guards};
 ghost use Rattle.chan_walk.specs.Job.{fetch_of, storage_of, store_of};
-ghost use Rattle.chan_walk.specs.Offences.{Offending};
+ghost use Rattle.chan_walk.specs.Look.{IsLook, IsRead};
+ghost use Rattle.chan_walk.specs.Offences.{Offending, seen_offence};
 ghost use Rattle.chan_walk.specs.Walk.{HasFound};
 ghost use Rattle.chan_walk.specs.declared.evidence.Evidence.TheVariants as because;
 
 use crate::changed::{changed_argument, changed_ccw};
-use crate::error::WalkError;
-use crate::exploring::{Walk, walk_all};
+use crate::exploring::Walk;
+use crate::guard::Guard;
 use crate::job::Job;
 use crate::lent::Lent;
-use crate::offence::{Offence, has_offence, offences_of};
+use crate::look::{Look, Read};
+use crate::offence::Offence;
 use crate::reason::Reason;
-use crate::seek::{argument_addresses, byte_at, bytes_of};
 use crate::visit::recalibrates_at;
 use ccw_core::{Area, Ccw};
 use ckd_core::{FileMask, Track};
@@ -141,40 +142,28 @@ impl Evidence {
     }
 }
 
-/// The evidence for an offence: the values of its cause. `None` exactly where it isn't an offence
-/// of the job.
-///
-/// The errors and the cost are those of `verify`.
-pub fn evidence_for(
-    alloc: Global,
-    job: &Job,
-    offence: Offence,
-) -> Result<Option<Evidence>, WalkError>
-    ensures evidence { IfOk result (λ e. IsEvidenceOrNone job.now offence e) }
-    ensures many { result ≡ Err WalkError.TooManyPlaces → HasMoreThan job.now job.now.limit }
-{
-    let walk = walk_all(alloc, job)?;
-    let offences = offences_of(alloc, walk.looks.as_slice())?;
-    if !has_offence(offences.as_slice(), offence.number()) {
-        return Ok(None);
-    }
-    let evidence = evidence_at(alloc, job, &walk, offence)?;
-    Ok(Some(evidence))
-}
-
-/// The evidence for an offence of a job whose reachable places a walk has found.
+/// The evidence for the offence of a place that was looked at, of a job whose reachable places a
+/// walk has found: all that it says of storage was read at a look.
 pub(crate) fn evidence_at(
     alloc: Global,
     job: &Job,
     walk: &Walk,
-    offence: Offence,
+    guard: &Guard,
+    look: &Look,
+    reason: Reason,
 ) -> Result<Evidence, AllocError>
     requires found { HasFound job.now walk.now }
-    requires offends { Offending job.now offence }
-    ensures { IfOk result (IsEvidence job.now offence) }
+    requires guards { Guards job.now guard.now }
+    requires look { IsLook job.now look.now }
+    requires offends { Offending job.now (seen_offence look.now reason) }
+    ensures { IfOk result (IsEvidence job.now (seen_offence look.now reason)) }
 {
-    match job.storage.ccw_at(offence.place.address) {
-        Some(ccw) => evidence_of_ccw(alloc, job, walk, offence, ccw),
+    let offence = Offence {
+        place: look.place(),
+        reason,
+    };
+    match look.ccw() {
+        Some(ccw) => evidence_of_ccw(alloc, job, walk, guard, offence, ccw, look.read()),
         None => Ok(evidence_of_nothing(job, offence)),
     }
 }
@@ -200,11 +189,15 @@ fn evidence_of_ccw(
     alloc: Global,
     job: &Job,
     walk: &Walk,
+    guard: &Guard,
     offence: Offence,
     ccw: Ccw,
+    read: Read,
 ) -> Result<Evidence, AllocError>
     requires stands { ccw_in (storage_of job.now) offence.place.address ≡ Some ccw }
+    requires read { IsRead (storage_of job.now) offence.place ccw read }
     requires found { HasFound job.now walk.now }
+    requires guards { Guards job.now guard.now }
     requires offends { Offending job.now offence }
     ensures { IfOk result (IsEvidence job.now offence) }
 {
@@ -228,11 +221,11 @@ fn evidence_of_ccw(
         Reason::Inhibited => Evidence::Inhibited { mask, code },
         Reason::StoreNotLent => not_lent_for_storing(alloc, job, data)?,
         Reason::FetchNotLent => not_lent_for_fetching(alloc, job, data)?,
-        Reason::ShortSeek | Reason::SeekOutside => evidence_of_seek(job, offence, ccw),
+        Reason::ShortSeek | Reason::SeekOutside => evidence_of_seek(job, offence, ccw, read),
         Reason::ChangesCcw => changed_ccw(walk, data),
-        Reason::ChangesArgument => changed_argument(alloc, walk, data)?,
+        Reason::ChangesArgument => changed_argument(walk, guard, data),
         Reason::WeakensMask => Evidence::WeakensMask {
-            byte: byte_at(&job.storage, ccw.address()),
+            byte: read.byte(),
             mask,
         },
     };
@@ -288,8 +281,9 @@ fn not_lent_for_fetching(alloc: Global, job: &Job, range: Area) -> Result<Eviden
 }
 
 /// What is wrong with the argument of the seek, or with cylinder 0 where a Recalibrate begins.
-fn evidence_of_seek(job: &Job, offence: Offence, ccw: Ccw) -> Evidence
+fn evidence_of_seek(job: &Job, offence: Offence, ccw: Ccw, read: Read) -> Evidence
     requires stands { ccw_in (storage_of job.now) offence.place.address ≡ Some ccw }
+    requires read { IsRead (storage_of job.now) offence.place ccw read }
     requires fails { FailsToSeek job.now offence.place offence.reason }
     ensures { IsEvidence job.now offence result }
 {
@@ -298,11 +292,13 @@ fn evidence_of_seek(job: &Job, offence: Offence, ccw: Ccw) -> Evidence
             outside: Outside::Cylinder(0),
         };
     }
-    match argument_addresses(&job.storage, offence.place.address, ccw) {
-        Ok(addresses) => Evidence::SeekOutside {
-            outside: outside_of(job, bytes_of(&job.storage, addresses)),
+    match read {
+        Read::Whole(bytes) => Evidence::SeekOutside {
+            outside: outside_of(job, bytes),
         },
-        Err(given) => Evidence::ShortSeek { given },
+        Read::Short(given) => Evidence::ShortSeek { given },
+        // A seek begins there, so that its argument was read.
+        Read::Nothing | Read::Byte(_) => Evidence::ShortSeek { given: 0 },
     }
 }
 

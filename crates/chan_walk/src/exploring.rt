@@ -16,9 +16,6 @@ use crate::ways::{is_marked, mark};
 use std::alloc::Global;
 use std::collections::BTreeMap;
 
-#[cfg(test)]
-mod tests;
-
 /// What is seen of the places found, in the order in which they were, and the same places as marks.
 #[derive(Drop)]
 pub(crate) struct Walk {

@@ -103,7 +103,7 @@ impl Guard {
 }
 
 /// Adds the bytes of the CCW at a place, where one stands there.
-fn add_ccw(areas: &mut Vec<Area>, look: &Look) -> Result<(), AllocError>
+pub(crate) fn add_ccw(areas: &mut Vec<Area>, look: &Look) -> Result<(), AllocError>
     requires low { All (EndsBelow (2 ^ 32)) areas.old.items }
     requires look { (j : Job) × IsLook j look.now }
     ensures low { OnOk result (All (EndsBelow (2 ^ 32)) areas.new.items) }
@@ -120,7 +120,7 @@ fn add_ccw(areas: &mut Vec<Area>, look: &Look) -> Result<(), AllocError>
 }
 
 /// Adds the guarded bytes of the argument that is taken at a place.
-fn add_argument(areas: &mut Vec<Area>, look: &Look) -> Result<(), AllocError>
+pub(crate) fn add_argument(areas: &mut Vec<Area>, look: &Look) -> Result<(), AllocError>
     requires low { All (EndsBelow (2 ^ 32)) areas.old.items }
     requires look { (j : Job) × IsLook j look.now }
     ensures low { OnOk result (All (EndsBelow (2 ^ 32)) areas.new.items) }
@@ -142,6 +142,3 @@ fn add_bytes(areas: &mut Vec<Area>, addresses: &[u32]) -> Result<(), AllocError>
     }
     Ok(())
 }
-
-#[cfg(test)]
-mod tests;

@@ -1,13 +1,19 @@
 //! The laws of the machine: each is the contract of a function that does nothing, so that it is
 //! proved.
 
-ghost use Rattle.chan_walk.specs.Alarm.{EachPathIsRun, EachPathShows, HeadlineAloneIsEnough};
-ghost use Rattle.chan_walk.specs.Alarm.{NoFalseAlarm, SafeIsYes};
+ghost use Rattle.chan_walk.specs.Alarm.{EachPathIsRun, EachPathShows, GuardedIsUsed};
+ghost use Rattle.chan_walk.specs.Alarm.{HeadlineAloneIsEnough, NoFalseAlarm, SafeIsYes, StaysSafe};
+ghost use Rattle.chan_walk.specs.Beside.{SafeSideBySide};
 ghost use Rattle.chan_walk.specs.Counted.{SameVerdict, YesByGuarded, YesStays};
 ghost use Rattle.chan_walk.specs.Headline.{GathersArguments, GuardedStays, StaysReachable};
-ghost use Rattle.chan_walk.specs.Headline.{YesIsSafe};
+ghost use Rattle.chan_walk.specs.Headline.{YesIsSafe, YesIsSafeAmong};
+ghost use Rattle.chan_walk.specs.History.{StaysWell};
+ghost use Rattle.chan_walk.specs.Needs.{AskedOnce, LeastJob, MoreIsYes, NeededMaskIsEnough};
+ghost use Rattle.chan_walk.specs.Needs.{NeededMaskIsOne, NoJobWillDo};
+ghost use Rattle.chan_walk.specs.Needs.{SafeIsGranted, SameUnderYes};
 ghost use Rattle.chan_walk.specs.Offences.{FirstIsVerdict};
 ghost use Rattle.chan_walk.specs.Order.{NumbersIncrease};
+ghost use Rattle.chan_walk.specs.Rows.{BesideIsApart, OpenJobIsOpen};
 
 /// Where the verdict is yes, guarded bytes never change.
 pub(crate) fn guarded_stays()
@@ -28,6 +34,25 @@ pub(crate) fn gathers_arguments()
 /// Where the verdict is yes, every run is safe and the job is steady.
 pub(crate) fn yes_is_safe()
     ensures { YesIsSafe }
+{}
+
+/// Where the verdict is yes, every run among others that change no guarded byte is safe too, and
+/// the job is steady in them.
+pub(crate) fn yes_is_safe_among()
+    ensures { YesIsSafeAmong }
+{}
+
+/// Programs may start and leave at any time on one storage, while others change what none in flight
+/// guards: where each that starts has a yes and is apart from those in flight, each in flight is
+/// safe, and what it guards is as it was when its verdict was given.
+pub(crate) fn stays_well()
+    ensures { StaysWell }
+{}
+
+/// So are two programs that run side by side, where both verdicts are yes and neither may store
+/// over what the other guards.
+pub(crate) fn safe_side_by_side()
+    ensures { SafeSideBySide }
 {}
 
 /// Each path is the places of a run that begins at the first cylinder of the first extent and
@@ -57,6 +82,18 @@ pub(crate) fn safe_is_yes()
     ensures { SafeIsYes }
 {}
 
+/// Where the verdict is yes, the guarded bytes are those that some run uses, and among others no
+/// run uses another.
+pub(crate) fn guarded_is_used()
+    ensures { GuardedIsUsed }
+{}
+
+/// A job that is safe in every run and steady is so among others too, if they change no byte that
+/// some run of it uses.
+pub(crate) fn stays_safe()
+    ensures { StaysSafe }
+{}
+
 /// Whatever answers yes only for safe and steady jobs answers yes only where the verdict is yes.
 pub(crate) fn headline_alone_is_enough()
     ensures { HeadlineAloneIsEnough }
@@ -82,4 +119,57 @@ pub(crate) fn yes_by_guarded()
 /// the program may start again.
 pub(crate) fn yes_stays()
     ensures { YesStays }
+{}
+
+/// The least job: for each job of a program the verdict is yes exactly where it is for the open job
+/// and the job grants what the program needs.
+pub(crate) fn least_job()
+    ensures { LeastJob }
+{}
+
+/// It need be asked only once: the same answer serves over another storage that is as long and the
+/// same in each kept byte.
+pub(crate) fn asked_once()
+    ensures { AskedOnce }
+{}
+
+/// The needed mask says all that is asked of a job's mask.
+pub(crate) fn needed_mask_is_enough()
+    ensures { NeededMaskIsEnough }
+{}
+
+/// There is no other needed mask.
+pub(crate) fn needed_mask_is_one()
+    ensures { NeededMaskIsOne }
+{}
+
+/// Granting more never turns a yes into a no.
+pub(crate) fn more_is_yes()
+    ensures { MoreIsYes }
+{}
+
+/// Two jobs of one program with a yes have the same reachable places and the same guarded bytes.
+pub(crate) fn same_under_yes()
+    ensures { SameUnderYes }
+{}
+
+/// Where the verdict on the open job is no, it is yes under no job of the program.
+pub(crate) fn no_job_will_do()
+    ensures { NoJobWillDo }
+{}
+
+/// Every run is safe and the job is steady exactly where the verdict on the open job is yes and
+/// what is needed is granted.
+pub(crate) fn safe_is_granted()
+    ensures { SafeIsGranted }
+{}
+
+/// The open job that a job's program is asked about is the one by which its needs are defined.
+pub(crate) fn open_job_is_open()
+    ensures { OpenJobIsOpen }
+{}
+
+/// Two programs may run side by side exactly where two of their jobs, each with a yes, are apart.
+pub(crate) fn beside_is_apart()
+    ensures { BesideIsApart }
 {}

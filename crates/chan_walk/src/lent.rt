@@ -126,7 +126,7 @@ fn clip(area: Area, length: u32) -> Area
 }
 
 /// The parts of some areas that lie in storage of a length.
-fn clipped(alloc: Global, areas: &[Area], length: u32) -> Result<Vec<Area>, AllocError>
+pub(crate) fn clipped(alloc: Global, areas: &[Area], length: u32) -> Result<Vec<Area>, AllocError>
     ensures { IfOk result (λ v. v.items ≡ map (lent.clip length) areas.now) }
 {
     let mut parts = Vec::new(alloc);

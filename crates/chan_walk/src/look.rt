@@ -7,7 +7,8 @@ ghost use Rattle.ckd_core.specs.Entries.{entry_of};
 ghost use Rattle.chan_walk.specs.Fault.{begins_seek};
 ghost use Rattle.chan_walk.specs.Job.{storage_of};
 ghost use Rattle.chan_walk.specs.Lending.{Lends};
-ghost use Rattle.chan_walk.specs.Look.{IsLook, addresses_of, mask_addresses};
+ghost use Rattle.chan_walk.specs.Look.{IsLook, IsRead, addresses_of, argument_of, byte_of};
+ghost use Rattle.chan_walk.specs.Look.{mask_addresses};
 ghost use Rattle.chan_walk.specs.Tables.{HasAddresses};
 ghost use Rattle.chan_walk.specs.Visit.{IsBegun, IsVisit};
 
@@ -16,7 +17,7 @@ use crate::job::Job;
 use crate::lent::Lending;
 use crate::place::Place;
 use crate::reason::Reason;
-use crate::seek::{argument_addresses, bytes_at};
+use crate::seek::{argument_addresses, byte_at, bytes_of};
 use crate::successor::{Next, next_after};
 use crate::visit::Visit;
 use ccw_core::{Ccw, Storage};
@@ -47,6 +48,41 @@ impl Argument {
     }
 }
 
+/// What was read of the argument of the operation that begins at a place.
+#[derive(Clone, Copy, Debug)]
+pub(crate) enum Read {
+    /// Neither a seek nor Set File Mask begins there.
+    Nothing,
+    /// So many of the six bytes of its argument the seek's data chain gives.
+    Short(u8),
+    /// The six bytes of the seek's argument.
+    Whole([u8; 6]),
+    /// The byte that Set File Mask sets.
+    Byte(u8),
+}
+
+impl Read {
+    /// The bytes of a seek's argument, if all six were read.
+    pub(crate) fn argument(self) -> Option<[u8; 6]>
+        ensures { result ≡ argument_of self }
+    {
+        match self {
+            Read::Whole(bytes) => Some(bytes),
+            _ => None,
+        }
+    }
+
+    /// The byte that Set File Mask sets, and 0 where none was read.
+    pub(crate) fn byte(self) -> u8
+        ensures { result ≡ byte_of self }
+    {
+        match self {
+            Read::Byte(byte) => byte,
+            _ => 0,
+        }
+    }
+}
+
 /// What is seen of a place at one look, in the initial storage.
 #[derive(Debug, Drop)]
 pub struct Look {
@@ -57,6 +93,7 @@ pub struct Look {
     argument: Argument,
     stores: bool,
     next: Next,
+    read: Read,
 }
 
 impl Model for Look {
@@ -74,6 +111,7 @@ impl Model for Look {
       argument = addresses_of l.argument;
       stores = l.stores;
       next = l.next;
+      read = l.read;
     } };
 }
 
@@ -122,6 +160,13 @@ impl Look {
         self.argument.addresses()
     }
 
+    /// What was read of its argument.
+    pub(crate) fn read(&self) -> Read
+        ensures { result ≡ self.now.read }
+    {
+        self.read
+    }
+
     /// Whether the CCW stores.
     pub(crate) fn stores(&self) -> bool
         ensures { result ≡ self.now.stores }
@@ -143,20 +188,47 @@ fn look_at_nothing(place: Place) -> Look
         argument: Argument::Absent,
         stores: false,
         next: Next::nowhere(),
+        read: Read::Nothing,
     }
 }
 
-/// The addresses of the argument of the seek that begins at a place, if one does.
-fn sought(storage: &Storage, visit: &Visit) -> Option<[u32; 6]>
+/// The argument of the operation that begins at a place, as it was read.
+struct Sought {
+    /// The addresses of the argument of a seek.
+    addresses: Option<[u32; 6]>,
+    read: Read,
+}
+
+/// The argument of the seek or the Set File Mask that begins at a place, if one does: each of its
+/// bytes is read here, and nowhere else.
+fn seek_out(storage: &Storage, visit: &Visit) -> Sought
     requires { IsVisit (bytes_held storage.now) visit.now }
     ensures seek { begins_seek visit.now.place visit.now.word ≡ true
-        → HasAddresses (bytes_held storage.now) visit.now.place.address result }
-    ensures other { begins_seek visit.now.place visit.now.word ≡ false → result ≡ None }
+        → HasAddresses (bytes_held storage.now) visit.now.place.address result.addresses }
+    ensures other { begins_seek visit.now.place visit.now.word ≡ false → result.addresses ≡ None }
+    ensures read { IsRead (bytes_held storage.now) visit.now.place visit.now.word result.read }
 {
     if visit.begins_seek() {
-        argument_addresses(storage, visit.place.address, visit.word).ok()
-    } else {
-        None
+        return match argument_addresses(storage, visit.place.address, visit.word) {
+            Ok(addresses) => Sought {
+                addresses: Some(addresses),
+                read: Read::Whole(bytes_of(storage, addresses)),
+            },
+            Err(given) => Sought {
+                addresses: None,
+                read: Read::Short(given),
+            },
+        };
+    }
+    if visit.begins_set_mask() {
+        return Sought {
+            addresses: None,
+            read: Read::Byte(byte_at(storage, visit.word.address())),
+        };
+    }
+    Sought {
+        addresses: None,
+        read: Read::Nothing,
     }
 }
 
@@ -182,9 +254,8 @@ fn look_at_word(job: &Job, lending: Lending, place: Place, word: Ccw) -> Look
     ensures look { IsLook job.now result }
 {
     let visit = Visit::new(place, word);
-    let addresses = sought(&job.storage, &visit);
-    let bytes = bytes_at(&job.storage, addresses);
-    let fault = own_fault(job, lending, &visit, bytes);
+    let Sought { addresses, read } = seek_out(&job.storage, &visit);
+    let fault = own_fault(job, lending, &visit, read.argument(), read.byte());
     let (argument, next) = match (fault, addresses) {
         (None, Some(addresses)) => (Argument::Seek(addresses), next_after(&visit)),
         (None, None) => (mask_argument(&visit), next_after(&visit)),
@@ -198,6 +269,7 @@ fn look_at_word(job: &Job, lending: Lending, place: Place, word: Ccw) -> Look
         argument,
         stores: visit.stores(),
         next,
+        read,
     }
 }
 

@@ -6,7 +6,6 @@ ghost use Rattle.std.specs.List.Sorted.{IsStrictlyIncreasing};
 ghost use Rattle.ccw_core.specs.Areas.{lies_in};
 ghost use Rattle.ccw_core.specs.Ccw.{Fields};
 ghost use Rattle.chan_walk.specs.Argument.{Has};
-ghost use Rattle.chan_walk.specs.Explored.{HasMoreThan};
 ghost use Rattle.chan_walk.specs.Fault as fault;
 ghost use Rattle.chan_walk.specs.Guard.{AddsBytes};
 ghost use Rattle.chan_walk.specs.Job.{fetch_of, store_of};
@@ -20,8 +19,6 @@ ghost use Rattle.chan_walk.specs.Ranges.{EndsBelow, IsMerged};
 ghost use Rattle.chan_walk.specs.declared.job.Job.{Job};
 
 use crate::bits::{asks_interruption, chains_command, chains_data};
-use crate::error::WalkError;
-use crate::exploring::walk_all;
 use crate::job::Job;
 use crate::look::Look;
 use crate::note::Notes;
@@ -31,14 +28,11 @@ use ccw_core::Area;
 use ckd_core::Kind;
 use std::alloc::{AllocError, Global};
 
-#[cfg(test)]
-mod tests;
+/// The notes on a job whose reachable places are those that were looked at.
+pub(crate) fn notes_of(alloc: Global, job: &Job, looks: &[Look]) -> Result<Notes, AllocError>
+    requires looks { AreLooks job.now looks.now }
+    requires reached { AreReached job.now (places_of_looks looks.now) }
 
-/// The notes on a job.
-///
-/// The errors are those of `verify`. With n places and a lent areas, the cost is
-/// (n + a) log (n + a).
-pub fn notes(alloc: Global, job: &Job) -> Result<Notes, WalkError>
     // What is lent in vain.
     ensures fetch_past_storage { IfOk result (λ n. n.fetch_past_storage.items
         ≡ filter (reaches_past_storage job.now) (fetch_of job.now)) }
@@ -53,11 +47,7 @@ pub fn notes(alloc: Global, job: &Job) -> Result<Notes, WalkError>
     ensures interrupting { IfOk result
         (λ n. AreAddressesOf noted.interrupts job.now n.interrupting.items) }
     ensures ending { IfOk result (λ n. AreAddressesOf noted.ends_there job.now n.ending.items) }
-
-    ensures many { result ≡ Err WalkError.TooManyPlaces → HasMoreThan job.now job.now.limit }
 {
-    let walk = walk_all(alloc, job)?;
-    let looks = walk.looks.as_slice();
     let fetched = fetched(alloc, looks)?;
     let stored = stored(alloc, looks)?;
     Ok(Notes {
@@ -99,7 +89,7 @@ fn unused(alloc: Global, areas: &[Area], used: &[Area]) -> Result<Vec<Area>, All
 }
 
 /// The bytes that reachable CCWs fetch, as a merged list.
-fn fetched(alloc: Global, looks: &[Look]) -> Result<Vec<Area>, AllocError>
+pub(crate) fn fetched(alloc: Global, looks: &[Look]) -> Result<Vec<Area>, AllocError>
     ensures merged { IfOk result (λ v. IsMerged v.items) }
     ensures bytes { IfOk result (λ v. (j : Job) → AreLooks j looks.now
         → AreReached j (places_of_looks looks.now) → HoldData fault.fetches j v.items) }
@@ -112,7 +102,7 @@ fn fetched(alloc: Global, looks: &[Look]) -> Result<Vec<Area>, AllocError>
 }
 
 /// The bytes into which reachable CCWs store, as a merged list.
-fn stored(alloc: Global, looks: &[Look]) -> Result<Vec<Area>, AllocError>
+pub(crate) fn stored(alloc: Global, looks: &[Look]) -> Result<Vec<Area>, AllocError>
     ensures merged { IfOk result (λ v. IsMerged v.items) }
     ensures bytes { IfOk result (λ v. (j : Job) → AreLooks j looks.now
         → AreReached j (places_of_looks looks.now) → HoldData fault.stores j v.items) }

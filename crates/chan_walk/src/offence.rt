@@ -4,7 +4,7 @@ ghost use Rattle.std.specs.Prelude.{◌≡◌, ◌↔◌, map, IfOk, IsTrue, OnO
 ghost use Rattle.std.specs.List.Sorted.{IsStrictlyIncreasing};
 ghost use Rattle.chan_walk.specs.Argument.{Has};
 ghost use Rattle.chan_walk.specs.Explained.{HasNumber};
-ghost use Rattle.chan_walk.specs.Explored.{AreApart, HasMoreThan};
+ghost use Rattle.chan_walk.specs.Explored.{AreApart};
 ghost use Rattle.chan_walk.specs.Fault.{IsClear};
 ghost use Rattle.chan_walk.specs.Guard.{Guards};
 ghost use Rattle.chan_walk.specs.Least.{AreReached, IsOwn};
@@ -17,10 +17,7 @@ ghost use Rattle.chan_walk.specs.Verdict.{AreClear, Changes};
 ghost use Rattle.chan_walk.specs.declared.job.Job.{Job};
 ghost use Rattle.chan_walk.specs.declared.offence.Offence as declared;
 
-use crate::error::WalkError;
-use crate::exploring::walk_all;
 use crate::guard::Guard;
-use crate::job::Job;
 use crate::look::Look;
 use crate::place::Place;
 use crate::ranges::meets;
@@ -50,44 +47,34 @@ impl Offence {
     }
 }
 
-/// All offences of a job: exactly the reachable places that offend, each with each of its reasons,
-/// in order of address, then of the reason's number, then of place. So the first of them is the
-/// verdict, and where there is none the verdict is yes.
-///
-/// The errors and the cost are those of `verify`.
-pub fn offences(alloc: Global, job: &Job) -> Result<Vec<Offence>, WalkError>
-    ensures all { IfOk result (λ offences. AreOffences job.now offences.items) }
-    ensures many { result ≡ Err WalkError.TooManyPlaces → HasMoreThan job.now job.now.limit }
-{
-    let looks = walk_all(alloc, job)?.looks;
-    let offences = offences_of(alloc, looks.as_slice())?;
-    Ok(offences)
-}
-
-/// The offences, in order, of a job whose reachable places are those that were looked at.
-pub(crate) fn offences_of(alloc: Global, looks: &[Look]) -> Result<Vec<Offence>, AllocError>
-    requires looks { (j : Job) × AreLooks j looks.now × AreReached j (places_of_looks looks.now) }
+/// The offences, in order, of a job with this guard whose reachable places are those that were
+/// looked at.
+pub(crate) fn offences_of(
+    alloc: Global,
+    guard: &Guard,
+    looks: &[Look],
+) -> Result<Vec<Offence>, AllocError>
+    requires looks { (j : Job) × AreLooks j looks.now × AreReached j (places_of_looks looks.now)
+        × Guards j guard.now }
     requires apart { AreApart (places_of_looks looks.now) }
     ensures { IfOk result (λ v. (j : Job) → AreLooks j looks.now
-        → AreReached j (places_of_looks looks.now) → AreOffences j v.items) }
+        → AreReached j (places_of_looks looks.now) → Guards j guard.now → AreOffences j v.items) }
 {
-    let offences = unordered(alloc, looks)?;
+    let offences = unordered(alloc, guard, looks)?;
     Ok(in_order(offences))
 }
 
 /// The same offences, not in order yet.
-fn unordered(alloc: Global, looks: &[Look]) -> Result<Vec<Offence>, AllocError>
-    requires looks { (j : Job) × AreLooks j looks.now }
-    requires apart { AreApart (places_of_looks looks.now) }
+fn unordered(alloc: Global, guard: &Guard, looks: &[Look]) -> Result<Vec<Offence>, AllocError>
+    requires { AreApart (places_of_looks looks.now) }
     ensures { IfOk result (λ v. (j : Job) → AreLooks j looks.now
-        → AreReached j (places_of_looks looks.now) → AreAllOffences j v.items) }
+        → AreReached j (places_of_looks looks.now) → Guards j guard.now → AreAllOffences j v.items) }
 {
     let faults = faults_of(alloc, looks)?;
     if !faults.is_empty() {
         return Ok(faults);
     }
-    let guard = Guard::of(alloc, looks)?;
-    changes_of(alloc, &guard, looks)
+    changes_of(alloc, guard, looks)
 }
 
 /// The own faults of the places that were looked at.

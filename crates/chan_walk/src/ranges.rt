@@ -14,7 +14,7 @@ use ccw_core::Area;
 use std::alloc::{AllocError, Global};
 
 /// The address after that of an area's last byte.
-fn end_of(area: &Area) -> u64
+pub(crate) fn end_of(area: &Area) -> u64
     ensures { result ≡ ranges.end_of area.now }
 {
     u64::from(area.start) + u64::from(area.len)

@@ -7,16 +7,12 @@ ghost use Rattle.ccw_core.specs.Ccw.{is_counted as counted, has_data_in as data_
 ghost use Rattle.ccw_core.specs.Ccw.{is_formed as formed};
 ghost use Rattle.ccw_core.specs.Held.{bytes_held};
 ghost use Rattle.ccw_core.specs.Storage.{ccw_at as ccw_in};
-ghost use Rattle.chan_walk.specs.Argument.{HasArgument, is_part};
-ghost use Rattle.chan_walk.specs.Evidence.{Gives};
+ghost use Rattle.chan_walk.specs.Argument.{Gives, HasArgument, is_part};
 ghost use Rattle.chan_walk.specs.Onward as onward;
 ghost use Rattle.chan_walk.specs.Tables.{HasAddresses};
 
 use crate::bits::{chains_data, has_data_in, is_counted, is_formed};
 use ccw_core::{Ccw, Storage};
-
-#[cfg(test)]
-mod tests;
 
 /// A CCW of the chain, and the address at which it stands.
 #[derive(Clone, Copy)]

@@ -7,7 +7,7 @@ use Rattle.clap.specs.Walk.{Row, Text, Waiting, Walk, all_of, finished, first_of
 use Rattle.clap.specs.Walk.{nothing_held, positional, reading_by, walk_from, walked}
 use Rattle.clap.specs.declared.error.kind.ErrorKind.TheVariants.{UnknownArgument}
 use Rattle.chanv.proofs.TakenLines.{end_kinds, rule_at, sub_at}
-use Rattle.chanv.specs.CommandLine.{IsFile}
+use Rattle.chanv.specs.CommandLine.{IsWord}
 use Rattle.chanv.proofs.Names.{All, All-head, All-tail, CommandLine, Rule, Shape, append_assoc}
 use Rattle.chanv.proofs.Names.{bytes_eq, files_in, fold, long_of, or_else, short_of}
 
@@ -19,7 +19,7 @@ IsValue word =
     (long_of word ≡ None) × (short_of word ≡ None) × (bytes_eq word (45 ∷ 45 ∷ []) ≡ false)
 
 -- what may stand for a file is a value
-pub is_value : (word : Text) → IsFile word → IsValue word
+pub is_value : (word : Text) → IsWord word → IsValue word
 is_value word (inl dash) = subst IsValue (sym dash) (refl, refl, refl)
 is_value [] (inr plain) = (refl, refl, refl)
 is_value (x ∷ xs) (inr plain) = (rw plain refl, rw plain refl, rw plain refl)
@@ -102,14 +102,14 @@ next (v ∷ vs) last word value =
     (simp (value.0, value.1, value.2) refl, simp (value.0, value.1, value.2) refl)
 
 -- the files go on to the end
-ends : (front : List Text) (last : Text) (rest : List Text) → All IsFile rest
+ends : (front : List Text) (last : Text) (rest : List Text) → All IsWord rest
     → LeadsTo verify (behind front last) rest (λ rows. files_in rows ≡ front ++ last ∷ rest)
 unfolding clap_on_literals
 ends [] last [] files = record { sound = refl; found = refl }
 ends (v ∷ vs) last [] files = record { sound = refl; found = refl }
 ends front last (word ∷ rest) files =
-    let leads = ends (front ++ last ∷ []) word rest (All-tail IsFile word rest files) in
-    let here = next front last word (is_value word (All-head IsFile word rest files)) in
+    let leads = ends (front ++ last ∷ []) word rest (All-tail IsWord word rest files) in
+    let here = next front last word (is_value word (All-head IsWord word rest files)) in
     turned verify _ _ word rest (λ rows. files_in rows ≡ front ++ last ∷ word ∷ rest) here.0 here.1
     (record {
       sound = leads.sound;
@@ -117,14 +117,14 @@ ends front last (word ∷ rest) files =
     })
 
 -- nothing is wrong with files, and they are what is found as such
-pub files_are_found : (files : List Text) → All IsFile files
+pub files_are_found : (files : List Text) → All IsWord files
     → CommandLeadsTo verify files (λ rows. files_in rows ≡ files)
 unfolding clap_on_literals
 files_are_found [] files = record { sound = refl; found = refl }
 files_are_found (file ∷ rest) files =
-    let here = first file (is_value file (All-head IsFile file rest files)) in
+    let here = first file (is_value file (All-head IsWord file rest files)) in
     turned verify (walk_from nothing_held) _ file rest (λ rows. files_in rows ≡ file ∷ rest)
-    here.0 here.1 (ends [] file rest (All-tail IsFile file rest files))
+    here.0 here.1 (ends [] file rest (All-tail IsWord file rest files))
 
 -- ---- one word
 
@@ -177,25 +177,25 @@ HasTwo start extent rows =
 
 -- nothing is wrong with the extent, and both are found
 extent_leads : (start extent : Text) → IsValue extent
-    → LeadsTo (sub_at 5) (behind_value [] (codes "start") start idle) (codes "--extent" ∷ extent ∷ [])
+    → LeadsTo (sub_at 6) (behind_value [] (codes "start") start idle) (codes "--extent" ∷ extent ∷ [])
     (HasTwo start extent)
 unfolding clap_on_literals
-extent_leads start extent value = turned (sub_at 5) _
-    (walked (sub_at 5).rules [] (behind_value [] (codes "start") start idle)
+extent_leads start extent value = turned (sub_at 6) _
+    (walked (sub_at 6).rules [] (behind_value [] (codes "start") start idle)
     (codes "--extent")) _ _ _ refl refl
-    (turned (sub_at 5) _ (behind_value (given (rule_at (sub_at 5) 2) (start ∷ []) ∷ [])
+    (turned (sub_at 6) _ (behind_value (given (rule_at (sub_at 6) 2) (start ∷ []) ∷ [])
     (codes "extent") extent idle) extent [] _
     (simp (value.0, value.1, value.2) refl) (simp (value.0, value.1, value.2) refl)
     (record { sound = refl; found = (refl, refl, refl, refl, refl, refl, refl, refl, refl) }))
 
 -- nor with the start
 pub options_are_given : (start extent : Text) → IsValue start → IsValue extent
-    → CommandLeadsTo (sub_at 5) (option_words start extent) (HasTwo start extent)
+    → CommandLeadsTo (sub_at 6) (option_words start extent) (HasTwo start extent)
 unfolding clap_on_literals
 options_are_given start extent value value-2 =
-    turned (sub_at 5) (walk_from nothing_held)
-    (walked (sub_at 5).rules [] (walk_from nothing_held) (codes "--start")) (codes "--start") _
+    turned (sub_at 6) (walk_from nothing_held)
+    (walked (sub_at 6).rules [] (walk_from nothing_held) (codes "--start")) (codes "--start") _
     (HasTwo start extent) refl refl
-    (turned (sub_at 5) _ (behind_value [] (codes "start") start idle) start _ _
+    (turned (sub_at 6) _ (behind_value [] (codes "start") start idle) start _ _
     (simp (value.0, value.1, value.2) refl) (simp (value.0, value.1, value.2) refl)
     (extent_leads start extent value-2))

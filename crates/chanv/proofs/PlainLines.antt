@@ -15,7 +15,7 @@ use Rattle.chanv.proofs.FileWords.{CommandLeadsTo, HasTwo, IsValue, files_are_fo
 use Rattle.chanv.proofs.FileWords.{option_words, options_are_given, second_is_stray, word_is_found}
 use Rattle.chanv.proofs.TakenLines.{cons≢nil, passed_on, sub_at}
 use Rattle.chanv.specs.CommandLine.{AsksFor, ExplainsOrNoMemory, FaultsOrNoMemory, HelpsOrNoMemory}
-use Rattle.chanv.specs.CommandLine.{ImagesOrNoMemory, IsAnswerTo, IsFile, IsFor, IsNoCommand}
+use Rattle.chanv.specs.CommandLine.{ImagesOrNoMemory, IsAnswerTo, IsWord, IsFor, IsNoCommand}
 use Rattle.chanv.specs.CommandLine.{IsPlainAnswerTo, IsTaken, RunsNamedOrNoMemory, RunsOrNoMemory}
 use Rattle.chanv.specs.CommandLine.{ShowsOrNoMemory, VersionOrNoMemory, chanv, files_met, name_met}
 use Rattle.chanv.specs.CommandLine.{name_of}
@@ -39,7 +39,8 @@ purpose None = (Some actions.Verify, [])
 purpose (Some name) = if bytes_eq name (codes "verify") then (Some actions.Verify, [])
     else (if bytes_eq name (codes "list") then (Some actions.List, [])
     else (if bytes_eq name (codes "why") then (Some actions.Why, [])
-    else (if bytes_eq name (codes "graph") then (Some actions.Graph, []) else (None, name))))
+    else (if bytes_eq name (codes "graph") then (Some actions.Graph, [])
+    else (if bytes_eq name (codes "needs") then (Some actions.Needs, []) else (None, name)))))
 
 -- the command of an action is for it
 pub purpose_is : (a : Action) → purpose (Some (name_of a)) ≡ (Some a, [])
@@ -47,6 +48,7 @@ purpose_is actions.Verify = refl
 purpose_is actions.List = refl
 purpose_is actions.Why = refl
 purpose_is actions.Graph = refl
+purpose_is actions.Needs = refl
 
 -- so is what asks for the action
 for_action : (name : Option Text) (a : Action) → IsFor name a → purpose name ≡ (Some a, [])
@@ -284,8 +286,8 @@ requests p rest = (refl, refl)
 
 -- a word is wanted behind `show`, `deck` and `explain`
 wants_words : (level_fault (sub_at 0) [] nothing_held [] false [] ≡ MissingRequiredArgument ∷ [])
-    × (level_fault (sub_at 5) [] nothing_held [] false [] ≡ MissingRequiredArgument ∷ [])
     × (level_fault (sub_at 6) [] nothing_held [] false [] ≡ MissingRequiredArgument ∷ [])
+    × (level_fault (sub_at 7) [] nothing_held [] false [] ≡ MissingRequiredArgument ∷ [])
 unfolding clap_on_literals
 wants_words = (refl, refl, refl)
 
@@ -296,7 +298,7 @@ unfolding clap_on_literals
 wants_none name = record { sound = refl; found = refl }
 
 -- a file there is what is found as such
-file_is_given : (name file : Text) → IsFile file
+file_is_given : (name file : Text) → IsWord file
     → CommandLeadsTo (one_word name (codes "FILE") false) (file ∷ []) (λ rows. files_in rows ≡ file ∷ [])
 file_is_given name file is =
     let leads = word_is_found name (codes "FILE") file false refl refl refl (is_value file is) in
@@ -328,6 +330,7 @@ text_is_unknown p text rest value is = simp (
   other_name text _ is.5,
   other_name text _ is.6,
   other_name text _ is.7,
+  other_name text _ is.8,
 ) refl
 
 -- ---- the answers
@@ -382,7 +385,7 @@ module _ (line : List Text) (answer : Request) (is : IsAnswerTo line answer) whe
     told_file p file plain = over_files a _ named (file ∷ [])
         (file_is_given (name_of a) file (inr plain)) (names_another file plain) p
 
-    told_more : (p file more : Text) (rest : List Text) → IsFile file → IsFile more
+    told_more : (p file more : Text) (rest : List Text) → IsWord file → IsWord more
         → line ≡ p ∷ name_of a ∷ file ∷ more ∷ rest → FaultsOrNoMemory answer
     told_more p file more rest first second = failed _ named (file ∷ more ∷ rest) UnknownArgument
         (second_is_stray (name_of a) (codes "FILE") file more rest false (is_value file first)
@@ -396,7 +399,8 @@ module _ (line : List Text) (answer : Request) (is : IsAnswerTo line answer) whe
       let why : IsNamed (codes "why") (one_word (codes "why") (codes "FILE") false) = search rules in
       let graph : IsNamed (codes "graph") (one_word (codes "graph") (codes "FILE") false) = search rules in
       let show : IsNamed (codes "show") (one_word (codes "show") (codes "CCW") true) = search rules in
-      let deck : IsNamed (codes "deck") (sub_at 5) = search rules in
+      let needs : IsNamed (codes "needs") (one_word (codes "needs") (codes "FILE") false) = search rules in
+      let deck : IsNamed (codes "deck") (sub_at 6) = search rules in
       let explain : IsNamed (codes "explain") (one_word (codes "explain") (codes "WORD") true) = search rules in
       record {
         alone = λ p e. answered line None (RunsOrNoMemory actions.Verify)
@@ -404,9 +408,9 @@ module _ (line : List Text) (answer : Request) (is : IsAnswerTo line answer) whe
             (ap (subcommand_of chanv) e ∙ (alone_is_taken p).1) tt
             (runs None actions.Verify refl (inl refl)) answer is;
         verify = over_input actions.Verify (sub_at 1) verify [] []
-            (files_are_found [] (All-nil IsFile)) (inl refl);
+            (files_are_found [] (All-nil IsWord)) (inl refl);
         verify_input = over_input actions.Verify (sub_at 1) verify (codes "-" ∷ []) (codes "-" ∷ [])
-            (files_are_found (codes "-" ∷ []) (All-cons IsFile _ [] (inl refl) (All-nil IsFile)))
+            (files_are_found (codes "-" ∷ []) (All-cons IsWord _ [] (inl refl) (All-nil IsWord)))
             (inr refl);
         verify_files = λ p files are other. over_files actions.Verify (sub_at 1) verify files
             (files_are_found files are) other p;
@@ -422,31 +426,38 @@ module _ (line : List Text) (answer : Request) (is : IsAnswerTo line answer) whe
         graph_input = told_input actions.Graph graph;
         graph_file = told_file actions.Graph graph;
         graph_more = told_more actions.Graph graph;
-        show = λ p text plain. taken _ show (text ∷ []) _
+        needs = told actions.Needs needs;
+        needs_input = told_input actions.Needs needs;
+        needs_file = told_file actions.Needs needs;
+        needs_more = told_more actions.Needs needs;
+        show = λ p text word. taken _ show (text ∷ []) _
             (word_is_found (codes "show") (codes "CCW") text true refl refl refl
-            (is_value text (inr plain))) (ShowsOrNoMemory text) tt
+            (is_value text word)) (ShowsOrNoMemory text) tt
             (λ rows found. shows rows text (ap (first_of (codes "CCW")) found)) p;
         show_alone = failed _ show [] _ wants_words.0;
-        show_more = λ p text more rest plain plain-2. failed _ show (text ∷ more ∷ rest) _
+        show_more = λ p text more rest word word-2. failed _ show (text ∷ more ∷ rest) _
             (second_is_stray (codes "show") (codes "CCW") text more rest true
-            (is_value text (inr plain)) (is_value more (inr plain-2))) p;
+            (is_value text word) (is_value more word-2)) p;
         deck = λ p start extent plain plain-2. taken _ deck (option_words start extent) _
             (options_are_given start extent (is_value start (inr plain))
             (is_value extent (inr plain-2))) (ImagesOrNoMemory start extent) tt
             (λ rows. images rows start extent) p;
         deck_alone = failed _ deck [] _ wants_words.1;
-        explain = λ p text plain. taken _ explain (text ∷ []) _
+        explain = λ p text word. taken _ explain (text ∷ []) _
             (word_is_found (codes "explain") (codes "WORD") text true refl refl refl
-            (is_value text (inr plain))) (ExplainsOrNoMemory text) tt
+            (is_value text word)) (ExplainsOrNoMemory text) tt
             (λ rows found. explains rows text (ap (first_of (codes "WORD")) found)) p;
         explain_alone = failed _ explain [] _ wants_words.2;
+        explain_more = λ p text more rest word word-2. failed _ explain (text ∷ more ∷ rest) _
+            (second_is_stray (codes "explain") (codes "WORD") text more rest true
+            (is_value text word) (is_value more word-2)) p;
         help = λ p rest e. refused_by line DisplayHelp
             (ap (fault_of chanv) e ∙ (requests p rest).0) answer is;
         version = λ p rest e. refused_by line DisplayVersion
             (ap (fault_of chanv) e ∙ (requests p rest).1) answer is;
-        unknown = λ p text rest plain other e.
+        unknown = λ p text rest word other e.
             let says = refused line UnknownArgument (InvalidSubcommand ∷ [])
-            (ap (fault_of chanv) e ∙ text_is_unknown p text rest (is_value text (inr plain)) other)
+            (ap (fault_of chanv) e ∙ text_is_unknown p text rest (is_value text word) other)
             answer is in
             elim says.1 [
               | inl is ↦ subst (λ x. Says x answer) is says.2

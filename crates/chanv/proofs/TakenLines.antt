@@ -21,8 +21,8 @@ use Rattle.chanv.proofs.Names.{option_map, option_map_or, or_else, rows_at, shor
 use Rattle.chanv.proofs.Names.{slice_index_or, subcommand_of, topic_rule}
 use Rattle.chan_run.specs.declared.running.Action.TheVariants as actions
 
--- the commands below `chanv`, as clap builds them, in turn: show, verify, list, why, graph, deck,
--- explain, help
+-- the commands below `chanv`, as clap builds them, in turn: show, verify, list, why, graph, needs,
+-- deck, explain, help
 abbrev pub sub_at : ℕ → Shape
 sub_at k = slice_index_or (built chanv).subs k help_shape
 
@@ -273,11 +273,12 @@ named_is_known name words no_help = found_by
     (also (λ _ _. inr (inl (actions.List, refl)))
     (also (λ _ _. inr (inl (actions.Why, refl)))
     (also (λ _ _. inr (inl (actions.Graph, refl)))
+    (also (λ _ _. inr (inl (actions.Needs, refl)))
     (also (λ _ _. inr (inr (inr (inl refl))))
     (also (λ _ _. inr (inr (inr (inr refl))))
-    (also (λ is _. absurd (help is)) tt))))))))
+    (also (λ is _. absurd (help is)) tt)))))))))
   where
-    help : answers_to name (label_of (sub_at 7)) ≡ true → ⊥
+    help : answers_to name (label_of (sub_at 8)) ≡ true → ⊥
     help is = cons≢nil (subst (λ n. other_fault app.top (Some n) n nothing_held ≡ [])
         (sym ((bytes_eq-Decides (codes "help") name).0 (or_false _ is))) no_help)
 

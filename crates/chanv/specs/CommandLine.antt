@@ -52,15 +52,16 @@ program_line =
 abbrev pub judging_line : App
 judging_line = with_subcommand (with_subcommand program_line show_line.top) verify_line.top
 
--- a program with `list`, `why` and `graph` too
+-- a program with `list`, `why`, `graph` and `needs` too
 abbrev pub with_tellers : App → App
 with_tellers app =
     let listing = with_subcommand app (deck_line (codes "list")).top in
     let explaining = with_subcommand listing (deck_line (codes "why")).top in
-    with_subcommand explaining (deck_line (codes "graph")).top
+    let drawing = with_subcommand explaining (deck_line (codes "graph")).top in
+    with_subcommand drawing (deck_line (codes "needs")).top
 
--- what the command line takes: `show`, `verify`, `list`, `why`, `graph`, `deck`, `explain`, or no
--- command
+-- what the command line takes: `show`, `verify`, `list`, `why`, `graph`, `needs`, `deck`,
+-- `explain`, or no command
 abbrev pub chanv : App
 chanv =
     with_subcommand (with_subcommand (with_tellers judging_line) image_line.top) explain_line.top
@@ -94,6 +95,7 @@ name_of actions.Verify = codes "verify"
 name_of actions.List = codes "list"
 name_of actions.Why = codes "why"
 name_of actions.Graph = codes "graph"
+name_of actions.Needs = codes "needs"
 
 -- it met no command, or that of an action, or `show` with its word, or `deck`, or `explain`
 abbrev pub IsKnown : Option (Text × List Row) → Type 0
@@ -194,26 +196,25 @@ FaultsOrNoMemory (Fault e) = Unit {0}
 FaultsOrNoMemory NoMemory = Unit {0}
 FaultsOrNoMemory _ = ⊥
 
--- the text is none of the seven commands, nor `help`, which clap adds to them
+-- the text is none of the eight commands, nor `help`, which clap adds to them
 abbrev pub IsNoCommand : Text → Type 0
 IsNoCommand text =
     (text ≢ codes "show") × (text ≢ codes "verify") × (text ≢ codes "list") × (text ≢ codes "why")
-    × (text ≢ codes "graph") × (text ≢ codes "deck") × (text ≢ codes "explain")
-    × (text ≢ codes "help")
+    × (text ≢ codes "graph") × (text ≢ codes "needs") × (text ≢ codes "deck")
+    × (text ≢ codes "explain") × (text ≢ codes "help")
 
--- the text may stand for a file: it is `-`, or begins with no hyphen
-abbrev pub IsFile : Text → Type 0
-IsFile text = (text ≡ codes "-") ⊎ (starts_with_minus text ≡ false)
+-- the text is no option: it is `-`, or begins with no hyphen
+abbrev pub IsWord : Text → Type 0
+IsWord text = (text ≡ codes "-") ⊎ (starts_with_minus text ≡ false)
 
--- the answer in plain words, by what follows the program's name; a text that begins with no hyphen
--- is no option
+-- the answer in plain words, by what follows the program's name
 pub record IsPlainAnswerTo (words : List Text) (answer : Request) : Type 0 where
   pub alone : (program : Text) → words ≡ program ∷ [] → RunsOrNoMemory actions.Verify answer
   pub verify : (program : Text) → words ≡ program ∷ codes "verify" ∷ []
       → RunsOrNoMemory actions.Verify answer
   pub verify_input : (program : Text) → words ≡ program ∷ codes "verify" ∷ codes "-" ∷ []
       → RunsOrNoMemory actions.Verify answer
-  pub verify_files : (program : Text) (files : List Text) → All IsFile files
+  pub verify_files : (program : Text) (files : List Text) → All IsWord files
       → ¬ IsStandardInput files → words ≡ program ∷ codes "verify" ∷ files
       → RunsNamedOrNoMemory actions.Verify files answer
   pub list : (program : Text) → words ≡ program ∷ codes "list" ∷ []
@@ -223,7 +224,7 @@ pub record IsPlainAnswerTo (words : List Text) (answer : Request) : Type 0 where
   pub list_file : (program file : Text) → starts_with_minus file ≡ false
       → words ≡ program ∷ codes "list" ∷ file ∷ []
       → RunsNamedOrNoMemory actions.List (file ∷ []) answer
-  pub list_more : (program file more : Text) (rest : List Text) → IsFile file → IsFile more
+  pub list_more : (program file more : Text) (rest : List Text) → IsWord file → IsWord more
       → words ≡ program ∷ codes "list" ∷ file ∷ more ∷ rest → FaultsOrNoMemory answer
   pub why : (program : Text) → words ≡ program ∷ codes "why" ∷ []
       → RunsOrNoMemory actions.Why answer
@@ -232,7 +233,7 @@ pub record IsPlainAnswerTo (words : List Text) (answer : Request) : Type 0 where
   pub why_file : (program file : Text) → starts_with_minus file ≡ false
       → words ≡ program ∷ codes "why" ∷ file ∷ []
       → RunsNamedOrNoMemory actions.Why (file ∷ []) answer
-  pub why_more : (program file more : Text) (rest : List Text) → IsFile file → IsFile more
+  pub why_more : (program file more : Text) (rest : List Text) → IsWord file → IsWord more
       → words ≡ program ∷ codes "why" ∷ file ∷ more ∷ rest → FaultsOrNoMemory answer
   pub graph : (program : Text) → words ≡ program ∷ codes "graph" ∷ []
       → RunsOrNoMemory actions.Graph answer
@@ -241,28 +242,38 @@ pub record IsPlainAnswerTo (words : List Text) (answer : Request) : Type 0 where
   pub graph_file : (program file : Text) → starts_with_minus file ≡ false
       → words ≡ program ∷ codes "graph" ∷ file ∷ []
       → RunsNamedOrNoMemory actions.Graph (file ∷ []) answer
-  pub graph_more : (program file more : Text) (rest : List Text) → IsFile file → IsFile more
+  pub graph_more : (program file more : Text) (rest : List Text) → IsWord file → IsWord more
       → words ≡ program ∷ codes "graph" ∷ file ∷ more ∷ rest → FaultsOrNoMemory answer
-  pub show : (program text : Text) → starts_with_minus text ≡ false
+  pub needs : (program : Text) → words ≡ program ∷ codes "needs" ∷ []
+      → RunsOrNoMemory actions.Needs answer
+  pub needs_input : (program : Text) → words ≡ program ∷ codes "needs" ∷ codes "-" ∷ []
+      → RunsOrNoMemory actions.Needs answer
+  pub needs_file : (program file : Text) → starts_with_minus file ≡ false
+      → words ≡ program ∷ codes "needs" ∷ file ∷ []
+      → RunsNamedOrNoMemory actions.Needs (file ∷ []) answer
+  pub needs_more : (program file more : Text) (rest : List Text) → IsWord file → IsWord more
+      → words ≡ program ∷ codes "needs" ∷ file ∷ more ∷ rest → FaultsOrNoMemory answer
+  pub show : (program text : Text) → IsWord text
       → words ≡ program ∷ codes "show" ∷ text ∷ [] → ShowsOrNoMemory text answer
   pub show_alone : (program : Text) → words ≡ program ∷ codes "show" ∷ []
       → FaultsOrNoMemory answer
-  pub show_more : (program text more : Text) (rest : List Text) → starts_with_minus text ≡ false
-      → starts_with_minus more ≡ false → words ≡ program ∷ codes "show" ∷ text ∷ more ∷ rest
-      → FaultsOrNoMemory answer
+  pub show_more : (program text more : Text) (rest : List Text) → IsWord text → IsWord more
+      → words ≡ program ∷ codes "show" ∷ text ∷ more ∷ rest → FaultsOrNoMemory answer
   pub deck : (program start extent : Text) → starts_with_minus start ≡ false
       → starts_with_minus extent ≡ false
       → words ≡ program ∷ codes "deck" ∷ codes "--start" ∷ start ∷ codes "--extent" ∷ extent ∷ []
       → ImagesOrNoMemory start extent answer
   pub deck_alone : (program : Text) → words ≡ program ∷ codes "deck" ∷ []
       → FaultsOrNoMemory answer
-  pub explain : (program text : Text) → starts_with_minus text ≡ false
+  pub explain : (program text : Text) → IsWord text
       → words ≡ program ∷ codes "explain" ∷ text ∷ [] → ExplainsOrNoMemory text answer
   pub explain_alone : (program : Text) → words ≡ program ∷ codes "explain" ∷ []
       → FaultsOrNoMemory answer
+  pub explain_more : (program text more : Text) (rest : List Text) → IsWord text → IsWord more
+      → words ≡ program ∷ codes "explain" ∷ text ∷ more ∷ rest → FaultsOrNoMemory answer
   pub help : (program : Text) (rest : List Text) → words ≡ program ∷ codes "--help" ∷ rest
       → HelpsOrNoMemory answer
   pub version : (program : Text) (rest : List Text) → words ≡ program ∷ codes "--version" ∷ rest
       → VersionOrNoMemory answer
-  pub unknown : (program text : Text) (rest : List Text) → starts_with_minus text ≡ false
+  pub unknown : (program text : Text) (rest : List Text) → IsWord text
       → IsNoCommand text → words ≡ program ∷ text ∷ rest → FaultsOrNoMemory answer

@@ -1,17 +1,20 @@
-/* chanv.h: may a System/360 channel program run, why may it not, and which CCWs can it come to?
+/* chanv.h: may a System/360 channel program run, why may it not, which CCWs can it come to, and
+ * what does it need of each job that it runs under?
  *
- * Link with libchanv.a. docs/EMBEDDING.md has a whole example, and says what is proved of the three
- * calls and what is trusted.
+ * Link with libchanv.a. docs/EMBEDDING.md has whole examples, and says what is proved of the calls
+ * and what is trusted.
  *
  * What the caller owes:
  *
  * - Each pointer is valid, and aligned for its type, for as many elements as the length beside it
- *   says. Where that length is 0 it may be NULL. `job`, `out` and `count` are never NULL.
- * - `out`, `rows`, `count`, `path` and `second_path` lie apart from each other, from the job and
- *   from all that it points to.
- * - From the call to its return nobody writes the job or anything that it points to, and nobody
- *   touches what the call writes. In an emulator the threads of the processors and of the channels
- *   write storage: stop them, or copy storage and ask about the copy.
+ *   says. Where that length is 0 it may be NULL. `job`, `out`, `count` and the `rows` of
+ *   `chanv_grants` and `chanv_beside` are never NULL.
+ * - What a call writes, `out`, `count` and the lists that have room, lies apart from each other,
+ *   from the job and from all that it points to.
+ * - From the call to its return nobody writes the job, the rows that are handed in or anything that
+ *   these point to, and nobody touches what the call writes. In an emulator the threads of the
+ *   processors and of the channels write storage: stop them, or copy storage and ask about the
+ *   copy. `chanv_grants` and `chanv_beside` don't look at storage, and need neither.
  * - No call is made from a signal handler, nor, in the child of a process with threads, between
  *   fork and exec.
  * - malloc, realloc and free are those of one allocator, and aligned as C asks.
@@ -74,8 +77,8 @@ enum { CHANV_USUAL_LIMIT = 4096, CHANV_LARGEST_LIMIT = 65536 };
 /* What a call returns. 4 to 10 are faults of the job itself; if several apply, the least is returned, and
  * a job with a fault gets no answer. CHANV_MEMORY may come in place of any of the others. */
 enum {
-    CHANV_YES = 0,                 /* every run of the program is safe */
-    CHANV_LISTED = 0,              /* the places are listed */
+    CHANV_YES = 0,                 /* every run is safe; all that is needed is granted; apart */
+    CHANV_LISTED = 0,              /* the places are listed, or what is needed is */
     CHANV_NO = 1,                  /* `address` and `reason` say which CCW offends first, and why */
     CHANV_TOO_MANY_PLACES = 2,     /* more places are reachable than the limit */
     CHANV_MEMORY = 3,              /* memory ran out */
@@ -86,7 +89,7 @@ enum {
     CHANV_EXTENT_BACKWARDS = 8,    /* the first extent that is wrong: its first cylinder is above its last */
     CHANV_EXTENT_PAST_DEVICE = 9,  /* the first extent that is wrong: its last cylinder is above 202 */
     CHANV_NOT_A_LIMIT = 10,        /* the limit is 0, or above 65,536 */
-    CHANV_NO_ROOM = 11             /* there are more places than rows; for `chanv_why`, with a no */
+    CHANV_NO_ROOM = 11             /* there is more to list than rows; for `chanv_why`, with a no */
 };
 
 /* What `chanv_verify` tells, and `chanv_why` too; a field that the answer doesn't use is 0. */
@@ -157,6 +160,29 @@ struct chanv_explanation {
     struct chanv_evidence evidence;
 };
 
+/* What `chanv_needs` tells, but for the lists; a field that the answer doesn't use is 0. */
+struct chanv_needed {
+    struct chanv_verdict verdict; /* the no where no job will do, or the extent that is wrong */
+    size_t extents;               /* how many rows each list has */
+    size_t fetch;
+    size_t store;
+    size_t keep;
+    uint32_t storage_len; /* how many bytes storage has */
+    uint32_t mask;        /* the strictest file mask that serves */
+};
+
+/* What `chanv_needs` told of a program: its lists, with how many rows each has, and two fields of
+ * `struct chanv_needed`. Rows that came about in another way do no harm: no call writes outside, or
+ * reads outside the lists, or fails to return. But an answer about them means nothing. */
+struct chanv_rows {
+    struct chanv_extents extents;
+    struct chanv_areas fetch;
+    struct chanv_areas store;
+    struct chanv_areas keep;
+    uint32_t storage_len;
+    uint8_t mask;
+};
+
 /* Whether the program may run: CHANV_YES, CHANV_NO, or why there is no answer. */
 uint32_t chanv_verify(const struct chanv_job *job, struct chanv_verdict *out);
 
@@ -184,6 +210,45 @@ uint32_t chanv_list(const struct chanv_job *job, struct chanv_place *rows, size_
 uint32_t chanv_why(const struct chanv_job *job, struct chanv_place *path, size_t room,
                    struct chanv_place *second_path, size_t second_room,
                    struct chanv_explanation *out);
+
+/* What the job's program, which is its storage, start and device, needs of each job that it runs
+ * under, and what it keeps: no more, and no less. What this job grants doesn't matter, though it
+ * may have no fault; its limit is one on the places that are reachable where all is granted.
+ *
+ * CHANV_LISTED: some job will do. The first `out->extents` rows of `extents` are the cylinders that
+ * seeks go to, as runs of first and last; those of `fetch` and `store` are the bytes that are
+ * fetched, and stored into; those of `keep` are the bytes that are kept, those of CCWs, of seek
+ * arguments and of masks that are set. Each list rises, no row is empty, and between two rows there
+ * is a gap. The rows behind them stand as they did. `out->mask` is the strictest file mask that
+ * serves: it inhibits no command that may begin, and no byte that is set as a mask is weaker.
+ * A job of the program has CHANV_YES exactly where `chanv_grants` says that it grants all this.
+ *
+ * CHANV_NO: no job will do; `out->verdict` is the verdict where all is granted. CHANV_NO_ROOM: the
+ * same is told as for CHANV_LISTED, but a list has more rows than there is room for. Else it
+ * returns why there is no answer, as `chanv_verify` does, with the extent that is wrong if one is.
+ * Only for CHANV_LISTED is a row written.
+ *
+ * The answer stands, before a start and during the run, over storage of `out->storage_len` bytes
+ * as long as the bytes that are kept are what they were; anybody may change all others. */
+uint32_t chanv_needs(const struct chanv_job *job, struct chanv_needed *out,
+                     struct chanv_extent *extents, size_t extents_room,
+                     struct chanv_area *fetch, size_t fetch_room,
+                     struct chanv_area *store, size_t store_room,
+                     struct chanv_area *keep, size_t keep_room);
+
+/* Whether a job grants what the rows list, where `chanv_needs` gave them: CHANV_YES, CHANV_NO, or
+ * why there is no answer, as `chanv_verify` does; never CHANV_TOO_MANY_PLACES. The job's storage
+ * isn't looked at. CHANV_YES is the verdict on the job too, if its storage is as long as the rows
+ * say, each byte that is kept is what it was when `chanv_needs` was called, and start and device
+ * are the same. */
+uint32_t chanv_grants(const struct chanv_job *job, const struct chanv_rows *rows);
+
+/* Whether two programs of one storage may be in flight together, where `chanv_needs` gave the rows
+ * of both: CHANV_YES if neither needs to store into a byte that the other keeps, else CHANV_NO. Of
+ * the rows only `store` and `keep` count, and no memory is taken. CHANV_YES makes both safe; it
+ * says nothing of what the data mean, since one may read in over what the other writes out or
+ * searches for. */
+uint32_t chanv_beside(const struct chanv_rows *rows, const struct chanv_rows *other);
 
 /* The word for a reason, or "" for a number that is none. */
 static inline const char *chanv_reason_word(uint32_t reason)
@@ -213,18 +278,41 @@ static inline const char *chanv_reason_word(uint32_t reason)
 /* The library takes a pointer for each list, also for an empty one. The rest of this header gives it
  * one where the caller has NULL, before each call. */
 
+static inline struct chanv_extents chanv_extents_without_null(struct chanv_extents list)
+{
+    static const struct chanv_extent nothing = {0, 0};
+    if (list.len == 0)
+        list.at = &nothing;
+    return list;
+}
+
+static inline struct chanv_areas chanv_areas_without_null(struct chanv_areas list)
+{
+    static const struct chanv_area nothing = {0, 0};
+    if (list.len == 0)
+        list.at = &nothing;
+    return list;
+}
+
 static inline struct chanv_job chanv_without_null(const struct chanv_job *job)
 {
-    static const uint64_t nothing = 0;
+    static const uint8_t nothing = 0;
     struct chanv_job whole = *job;
     if (whole.storage.len == 0)
-        whole.storage.at = (const uint8_t *)&nothing;
-    if (whole.extents.len == 0)
-        whole.extents.at = (const struct chanv_extent *)&nothing;
-    if (whole.fetch.len == 0)
-        whole.fetch.at = (const struct chanv_area *)&nothing;
-    if (whole.store.len == 0)
-        whole.store.at = (const struct chanv_area *)&nothing;
+        whole.storage.at = &nothing;
+    whole.extents = chanv_extents_without_null(job->extents);
+    whole.fetch = chanv_areas_without_null(job->fetch);
+    whole.store = chanv_areas_without_null(job->store);
+    return whole;
+}
+
+static inline struct chanv_rows chanv_rows_without_null(const struct chanv_rows *rows)
+{
+    struct chanv_rows whole = *rows;
+    whole.extents = chanv_extents_without_null(rows->extents);
+    whole.fetch = chanv_areas_without_null(rows->fetch);
+    whole.store = chanv_areas_without_null(rows->store);
+    whole.keep = chanv_areas_without_null(rows->keep);
     return whole;
 }
 
@@ -252,9 +340,43 @@ static inline uint32_t chanv_why_or_null(const struct chanv_job *job, struct cha
                      second_room == 0 ? &second_none : second_path, second_room, out);
 }
 
+static inline uint32_t chanv_needs_or_null(const struct chanv_job *job, struct chanv_needed *out,
+                                           struct chanv_extent *extents, size_t extents_room,
+                                           struct chanv_area *fetch, size_t fetch_room,
+                                           struct chanv_area *store, size_t store_room,
+                                           struct chanv_area *keep, size_t keep_room)
+{
+    struct chanv_job whole = chanv_without_null(job);
+    struct chanv_extent no_extent;
+    struct chanv_area none[3];
+    return chanv_needs(&whole, out, extents_room == 0 ? &no_extent : extents, extents_room,
+                       fetch_room == 0 ? &none[0] : fetch, fetch_room,
+                       store_room == 0 ? &none[1] : store, store_room,
+                       keep_room == 0 ? &none[2] : keep, keep_room);
+}
+
+static inline uint32_t chanv_grants_or_null(const struct chanv_job *job,
+                                            const struct chanv_rows *rows)
+{
+    struct chanv_job whole = chanv_without_null(job);
+    struct chanv_rows listed = chanv_rows_without_null(rows);
+    return chanv_grants(&whole, &listed);
+}
+
+static inline uint32_t chanv_beside_or_null(const struct chanv_rows *rows,
+                                            const struct chanv_rows *other)
+{
+    struct chanv_rows one = chanv_rows_without_null(rows);
+    struct chanv_rows another = chanv_rows_without_null(other);
+    return chanv_beside(&one, &another);
+}
+
 #define chanv_verify chanv_verify_or_null
 #define chanv_list chanv_list_or_null
 #define chanv_why chanv_why_or_null
+#define chanv_needs chanv_needs_or_null
+#define chanv_grants chanv_grants_or_null
+#define chanv_beside chanv_beside_or_null
 
 /* The layout that the library was built with. */
 #ifdef __cplusplus
@@ -316,6 +438,21 @@ CHANV_ASSERT(offsetof(struct chanv_explanation, path) == 16, "chanv_explanation.
 CHANV_ASSERT(offsetof(struct chanv_explanation, second_path) == 24,
              "chanv_explanation.second_path");
 CHANV_ASSERT(offsetof(struct chanv_explanation, evidence) == 32, "chanv_explanation.evidence");
+CHANV_ASSERT(sizeof(struct chanv_needed) == 56, "chanv_needed");
+CHANV_ASSERT(offsetof(struct chanv_needed, verdict) == 0, "chanv_needed.verdict");
+CHANV_ASSERT(offsetof(struct chanv_needed, extents) == 16, "chanv_needed.extents");
+CHANV_ASSERT(offsetof(struct chanv_needed, fetch) == 24, "chanv_needed.fetch");
+CHANV_ASSERT(offsetof(struct chanv_needed, store) == 32, "chanv_needed.store");
+CHANV_ASSERT(offsetof(struct chanv_needed, keep) == 40, "chanv_needed.keep");
+CHANV_ASSERT(offsetof(struct chanv_needed, storage_len) == 48, "chanv_needed.storage_len");
+CHANV_ASSERT(offsetof(struct chanv_needed, mask) == 52, "chanv_needed.mask");
+CHANV_ASSERT(sizeof(struct chanv_rows) == 72, "chanv_rows");
+CHANV_ASSERT(offsetof(struct chanv_rows, extents) == 0, "chanv_rows.extents");
+CHANV_ASSERT(offsetof(struct chanv_rows, fetch) == 16, "chanv_rows.fetch");
+CHANV_ASSERT(offsetof(struct chanv_rows, store) == 32, "chanv_rows.store");
+CHANV_ASSERT(offsetof(struct chanv_rows, keep) == 48, "chanv_rows.keep");
+CHANV_ASSERT(offsetof(struct chanv_rows, storage_len) == 64, "chanv_rows.storage_len");
+CHANV_ASSERT(offsetof(struct chanv_rows, mask) == 68, "chanv_rows.mask");
 #undef CHANV_ASSERT
 
 #ifdef __cplusplus

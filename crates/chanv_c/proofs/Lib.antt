@@ -1,3 +1,3 @@
-pub mod Judged
 pub mod Refusals
 pub mod Written
+pub mod Grants

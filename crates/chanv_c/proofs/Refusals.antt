@@ -1,12 +1,13 @@
 -- What a refusal's number tells.
-use Rattle.std.proofs.Common.{◌≡◌, arith}
+use Rattle.std.proofs.Common.{◌≡◌, ◌≤◌, ℕ, refl, arith}
 use Rattle.chanv_c.specs.declared.asked.CJob.{CJob}
 use Rattle.chanv_c.specs.declared.refusal.JobFault.{JobFault}
 use Rattle.chanv_c.specs.declared.refusal.JobFault.TheVariants.{StorageTooLarge, NotADevice, NotAMask, NoExtent, ExtentBackwards, ExtentPastDevice, NotALimit}
 use Rattle.chanv_c.specs.declared.refusal.Refusal.{Refusal}
 use Rattle.chanv_c.specs.declared.refusal.Refusal.TheVariants.{TooManyPlaces, Memory, Wrong}
 use Rattle.chanv_c.specs.Answers.{HasTooMany, IsRefusal, refusal_code}
-use Rattle.chanv_c.specs.Faults.{fault_code}
+use Rattle.chanv_c.specs.Faults.{IsRefused, fault_code, fault_extent}
+use Rattle.chanv_c.specs.Needed.{HasTooManyOpenly, IsOpenRefusal}
 
 -- no fault has the number of too many places
 not_too_many : (f : JobFault) → fault_code f ≡ 2 → ⊥
@@ -23,3 +24,15 @@ pub too_many_by_number : (c : CJob) (r : Refusal) → IsRefusal c r → refusal_
 too_many_by_number c TooManyPlaces is e = is.0
 too_many_by_number c Memory is e = absurd (omega (arith, e))
 too_many_by_number c (Wrong f) is e = absurd (not_too_many f e)
+
+-- a refusal of a fault's number is that of the fault
+pub refused_by_number : (c : CJob) (r : Refusal) → IsRefusal c r → 4 ≤ refusal_code r → (extent : ℕ) × IsRefused c (refusal_code r) extent
+refused_by_number c TooManyPlaces is four = absurd (omega (arith, four))
+refused_by_number c Memory is four = absurd (omega (arith, four))
+refused_by_number c (Wrong f) is four = (fault_extent f, record { fault = f; code_is = refl; extent_is = refl; first = is })
+
+-- a refusal of this number is that of too many places under the open job
+pub too_many_openly : (c : CJob) (r : Refusal) → IsOpenRefusal c r → refusal_code r ≡ 2 → HasTooManyOpenly c
+too_many_openly c TooManyPlaces is e = is.0
+too_many_openly c Memory is e = absurd (omega (arith, e))
+too_many_openly c (Wrong f) is e = absurd (not_too_many f e)

@@ -1,14 +1,13 @@
 -- What the answers to C promise.
-use Rattle.std.specs.Prelude.{◌≡◌, ℕ, List, ◌++◌, drop, length, map}
+use Rattle.std.specs.Prelude.{◌≡◌, ◌≤◌, ℕ, List, ◌++◌, drop, length, map}
 use Rattle.chan_walk.specs.declared.job.Job.{Job}
 use Rattle.chan_walk.specs.declared.place.Place.{Place}
 use Rattle.chan_walk.specs.declared.reason.Reason.{Reason}
 use Rattle.chan_walk.specs.declared.verdict.Verdict.{Verdict}
 use Rattle.chan_walk.specs.declared.verdict.Verdict.TheVariants.{No}
-use Rattle.chan_walk.specs.Answers.{IsSound, HasAtMost, HasWitness, IsComplete}
+use Rattle.chan_walk.specs.Answers.{IsAnswer}
 use Rattle.chan_walk.specs.Explored.{AreReachable, HasMoreThan, entry_number, transfer_number}
 use Rattle.chan_walk.specs.Reason.{number_of}
-use Rattle.chan_walk.specs.Verdict.{IsVerdict}
 use Rattle.chanv_c.specs.declared.asked.CJob.{CJob}
 use Rattle.chanv_c.specs.declared.refusal.Refusal.{Refusal}
 use Rattle.chanv_c.specs.declared.refusal.Refusal.TheVariants.{TooManyPlaces, Memory, Wrong}
@@ -16,15 +15,11 @@ use Rattle.chanv_c.specs.declared.rows.CPlace.{CPlace}
 use Rattle.chanv_c.specs.Asked.{IsJobOf}
 use Rattle.chanv_c.specs.Faults.{HasNoFault, IsFirstFault, fault_code, fault_extent}
 
--- the verdict on the job that C asks about, with all that `verify` says of a verdict
+-- the verdict on the job that C asks about, with all that an answer promises
 pub record IsJudged (c : CJob) (v : Verdict) : Type 0 where
   pub job : Job
   pub asked : IsJobOf c job
-  pub verdict : IsVerdict job v
-  pub safe : IsSound job v
-  pub shown : HasWitness job v
-  pub exact : IsComplete job v
-  pub few : HasAtMost job c.limit
+  pub answer : IsAnswer job v
 
 -- the verdict is no, with this address and the reason of this number
 pub record IsDenied (c : CJob) (address number : ℕ) : Type 0 where
@@ -47,11 +42,12 @@ row p =
       after_transfer = transfer_number p.after_transfer;
     }
 
--- the reachable places, each once, in order
+-- the reachable places, each once, in order; no more than the job's limit
 pub record AreFound (c : CJob) (places : List Place) : Type 0 where
   pub job : Job
   pub asked : IsJobOf c job
   pub are : AreReachable job places
+  pub few : length places ≤ c.limit
 
 -- so many places are reachable
 pub record HasPlaces (c : CJob) (count : ℕ) : Type 0 where

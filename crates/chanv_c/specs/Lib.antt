@@ -3,3 +3,5 @@ pub mod Faults
 pub mod Answers
 pub mod Cause
 pub mod Explained
+pub mod Needed
+pub mod Granted

@@ -80,7 +80,7 @@ fn parts_of<'a>(asked: &CJob<'a>) -> Result<Parts<'a>, JobFault>
 }
 
 /// The extents as pairs.
-fn pairs_of(alloc: Global, extents: &[CExtent]) -> Result<Vec<(u16, u16)>, AllocError>
+pub(crate) fn pairs_of(alloc: Global, extents: &[CExtent]) -> Result<Vec<(u16, u16)>, AllocError>
     ensures { IfOk result (λ pairs. pairs.items ≡ map pair extents.now) }
 {
     let mut pairs = Vec::new(alloc);
@@ -96,6 +96,7 @@ fn extents_of(alloc: Global, asked: &CJob<'_>) -> Result<Extents, Refusal>
     ensures extents { IfOk result (λ extents. extents ≡ extents_asked asked.now) }
     ensures right { OnOk result (HasNoneBelow asked.now 10) }
     ensures refusal { IfErr result (IsRefusal asked.now) }
+    ensures few { result ≢ Err Refusal.TooManyPlaces }
 {
     let Ok(pairs) = pairs_of(alloc, asked.extents) else {
         return Err(Refusal::Memory);
@@ -122,6 +123,7 @@ pub(crate) fn make_ready<'a>(alloc: Global, asked: &CJob<'a>) -> Result<Ready<'a
     ensures job { IfOk result (IsReady asked.now) }
     ensures right { OnOk result (HasNoFault asked.now) }
     ensures refusal { IfErr result (IsRefusal asked.now) }
+    ensures few { result ≢ Err Refusal.TooManyPlaces }
 {
     let parts = match parts_of(asked) {
         Ok(parts) => parts,

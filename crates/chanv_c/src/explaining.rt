@@ -2,12 +2,12 @@
 
 ghost use Rattle.std.specs.Prelude.{◌≡◌, ◌≢◌, ◌<◌, ◌≤◌, ◌⊎◌, length, IfOk, IfErr, OnOk};
 ghost use Rattle.chan_walk.specs.declared.verdict.Verdict.TheVariants.{Yes};
-ghost use Rattle.chan_walk.specs.Explained.{ExplainedJob};
 ghost use Rattle.chanv_c.specs.Answers.{HasTooMany, IsJudged, IsRefusal};
 ghost use Rattle.chanv_c.specs.Asked.{IsJobOf};
 ghost use Rattle.chanv_c.specs.Explained as specs;
 ghost use Rattle.chanv_c.specs.Explained.{AreInFront, IsExplanation, IsRoomTooSmall, IsTold};
 ghost use Rattle.chanv_c.specs.Explained.{told_nothing, verdict_told};
+ghost use Rattle.chanv_c.specs.declared.explaining.Found as declared;
 ghost use Rattle.chanv_c.specs.Faults.{HasNoFault, IsRefused};
 
 use crate::asked::{CJob, make_ready};
@@ -15,7 +15,7 @@ use crate::evidence::{CEvidence, NO_VALUES, cause_told};
 use crate::refusal::{Refusal, no_answer};
 use crate::rows::{CPlace, write_path};
 use crate::verifying::CVerdict;
-use chan_walk::{Explanation, Job, Verdict, explain};
+use chan_walk::{Job, Verdict, Witness, survey};
 use std::alloc::Global;
 
 /// `struct chanv_explanation`.
@@ -26,6 +26,13 @@ pub struct CExplanation {
     pub path: usize,
     pub second_path: usize,
     pub evidence: CEvidence,
+}
+
+/// The verdict on a job, and what shows it.
+#[derive(Drop)]
+pub(crate) struct Found {
+    verdict: Verdict,
+    witness: Witness,
 }
 
 /// Why the program may not run: 0 where it may; 1 where it may not, with the verdict, the values of
@@ -42,10 +49,10 @@ pub extern "C" fn chanv_why(
     out: &mut CExplanation,
 ) -> u32
     ensures yes { result ≡ 0 → IsJudged job.now Yes }
-    ensures no { result ≡ 1 → (x : ExplainedJob) × IsTold job.now x out.new
-        × AreInFront x.path path.old path.new
-        × AreInFront x.second_path second_path.old second_path.new }
-    ensures room { result ≡ 11 → (x : ExplainedJob) × IsTold job.now x out.new
+    ensures no { result ≡ 1 → (x : declared.Found) × IsTold job.now x out.new
+        × AreInFront x.witness.path.items path.old path.new
+        × AreInFront x.witness.second_path.items second_path.old second_path.new }
+    ensures room { result ≡ 11 → (x : declared.Found) × IsTold job.now x out.new
         × IsRoomTooSmall x path.old second_path.old }
     ensures kept { result ≢ 1 → (path.new ≡ path.old) × (second_path.new ≡ second_path.old) }
     ensures many { result ≡ 2 → HasTooMany job.now }
@@ -66,18 +73,22 @@ pub extern "C" fn chanv_why(
             return refusal.code();
         }
     };
-    match found.verdict() {
+    match found.verdict {
         Verdict::Yes => {
             *out = nothing(0);
             return 0;
         }
         Verdict::No { .. } => *out = told(&found),
     }
-    if path.len() < found.path().len() || second_path.len() < found.second_path().len() {
+    let (first, second) = (
+        found.witness.path.as_slice(),
+        found.witness.second_path.as_slice(),
+    );
+    if path.len() < first.len() || second_path.len() < second.len() {
         return 11;
     }
-    write_path(found.path(), path);
-    write_path(found.second_path(), second_path);
+    write_path(first, path);
+    write_path(second, second_path);
     1
 }
 
@@ -98,14 +109,14 @@ fn nothing(extent: usize) -> CExplanation
 }
 
 /// What is told of an explanation, but for the rows.
-fn told(found: &Explanation) -> CExplanation
+fn told(found: &Found) -> CExplanation
     ensures { result ≡ specs.told found.now }
 {
     CExplanation {
-        verdict: verdict_of(found.verdict()),
-        path: found.path().len(),
-        second_path: found.second_path().len(),
-        evidence: cause_told(found.evidence()),
+        verdict: verdict_of(found.verdict),
+        path: found.witness.path.len(),
+        second_path: found.witness.second_path.len(),
+        evidence: cause_told(found.witness.evidence),
     }
 }
 
@@ -128,7 +139,7 @@ fn verdict_of(verdict: Verdict) -> CVerdict
 }
 
 /// The explanation of the verdict on the job that C asks about.
-fn explanation_of(alloc: Global, asked: &CJob<'_>) -> Result<Explanation, Refusal>
+fn explanation_of(alloc: Global, asked: &CJob<'_>) -> Result<Found, Refusal>
     ensures answer { IfOk result (IsExplanation asked.now) }
     ensures right { OnOk result (HasNoFault asked.now) }
     ensures refusal { IfErr result (IsRefusal asked.now) }
@@ -142,14 +153,21 @@ fn explanation_of(alloc: Global, asked: &CJob<'_>) -> Result<Explanation, Refusa
 }
 
 /// The explanation of the verdict on a job that is the one that C asks about.
-fn explanation_on(alloc: Global, asked: &CJob<'_>, job: &Job) -> Result<Explanation, Refusal>
+fn explanation_on(alloc: Global, asked: &CJob<'_>, job: &Job) -> Result<Found, Refusal>
     requires asked { IsJobOf asked.now job.now }
     requires right { HasNoFault asked.now }
     ensures answer { IfOk result (IsExplanation asked.now) }
     ensures refusal { IfErr result (IsRefusal asked.now) }
 {
-    match explain(alloc, job) {
-        Ok(found) => Ok(found),
-        Err(error) => Err(no_answer(asked, job, error)),
+    let survey = match survey(alloc, job) {
+        Ok(survey) => survey,
+        Err(error) => return Err(no_answer(asked, job, error)),
+    };
+    match survey.witness(alloc, job) {
+        Ok(witness) => Ok(Found {
+            verdict: survey.verdict(),
+            witness,
+        }),
+        Err(_) => Err(Refusal::Memory),
     }
 }

@@ -1,5 +1,5 @@
-//! chanv for C: a supervisor asks whether a channel program may run, why it may not, and which CCWs
-//! it can come to.
+//! chanv for C: a supervisor asks whether a channel program may run, why it may not, which CCWs it
+//! can come to, and what it needs of each job that it runs under.
 //!
 //! `include/chanv.h` declares what this library exports, and says what a caller owes.
 #![tactic(auto)]
@@ -7,7 +7,9 @@
 mod asked;
 mod evidence;
 mod explaining;
+mod granting;
 mod listing;
+mod needed;
 mod refusal;
 mod rows;
 mod verifying;
@@ -15,6 +17,8 @@ mod verifying;
 pub use crate::asked::{CExtent, CJob};
 pub use crate::evidence::CEvidence;
 pub use crate::explaining::{CExplanation, chanv_why};
+pub use crate::granting::{CRows, chanv_beside, chanv_grants};
 pub use crate::listing::chanv_list;
+pub use crate::needed::{CNeeded, chanv_needs};
 pub use crate::rows::CPlace;
 pub use crate::verifying::{CVerdict, chanv_verify};

@@ -1,8 +1,11 @@
-//! The rows of a listing.
+//! The rows that C is told.
 
 ghost use Rattle.std.specs.Prelude.{◌≡◌, ◌≤◌, ◌++◌, drop, length, map};
 ghost use Rattle.chanv_c.specs.Answers.{row};
+ghost use Rattle.chanv_c.specs.Needed.{StandFirst, run_row};
 
+use crate::asked::CExtent;
+use ccw_core::Area;
 use chan_walk::{Entry, Explored, Place};
 
 /// `struct chanv_place`.
@@ -50,4 +53,23 @@ pub(crate) fn write_path(path: &[Place], rows: &mut [CPlace])
     for index in 0..path.len() {
         rows[index] = row_of(path[index]);
     }
+}
+
+/// Writes the rows of runs of cylinders, and leaves what is behind them as it is.
+pub(crate) fn write_runs(runs: &[(u16, u16)], rows: &mut [CExtent])
+    requires { length runs.now ≤ length rows.old }
+    ensures { StandFirst (map run_row runs.now) rows.old rows.new }
+{
+    for index in 0..runs.len() {
+        let (first, last) = runs[index];
+        rows[index] = CExtent { first, last };
+    }
+}
+
+/// Writes areas, and leaves what is behind them as it is.
+pub(crate) fn write_areas(areas: &[Area], rows: &mut [Area])
+    requires { length areas.now ≤ length rows.old }
+    ensures { StandFirst areas.now rows.old rows.new }
+{
+    rows[..areas.len()].copy_from_slice(areas);
 }

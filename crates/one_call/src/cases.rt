@@ -49,19 +49,3 @@ put 000818 06000A0020000050
 put 000900 000A000001000000
 end
 ";
-
-/// The search loop, with one more area, which reaches past storage and which no CCW uses.
-pub(crate) static LENT_IN_VAIN: &str = "chanv deck 1
-device 2314
-mask 00
-start 000800
-extent 010 019
-fetch 000900 000010
-fetch 000FFF 000002
-store 000A00 000100
-storage 0001000
-put 000800 3100090040000005
-put 000808 0800080000000000
-put 000810 06000A0020000050
-end
-";

@@ -1,5 +1,5 @@
 //! Makes one call over its worked case, so that the growths of memory in that call can be refused
-//! one by one; `hostile/refused_memory.py` does that.
+//! one by one; `tests/refused_memory.py` does that.
 //!
 //! ```text
 //! $ one_call explore whole    explores the search loop, and prints how many places it has
@@ -10,11 +10,11 @@
 mod cases;
 mod stop;
 
-use crate::cases::{CHANGES_ITSELF, LENT_IN_VAIN, SEARCH_LOOP, SPLIT_ARGUMENT};
+use crate::cases::{CHANGES_ITSELF, SEARCH_LOOP, SPLIT_ARGUMENT};
 use crate::stop::Stop;
 use ccw_core::{Ccw, Watched, write_out};
 use chan_deck::{Deck, read_deck, row_text, verdict_text, write_deck, write_listing};
-use chan_run::{Action, advice_on, run, show};
+use chan_run::{Action, run, show};
 use chan_walk::{Guard, Verdict, explore, first_place, verify};
 use ckd_core::Extents;
 use std::process::ExitCode;
@@ -45,8 +45,6 @@ fn make_call(rt: &HostRuntime) -> Result<(), Stop> {
         "run-verify" => ran(rt, Action::Verify, SEARCH_LOOP, setup),
         "run-list" => ran(rt, Action::List, SEARCH_LOOP, setup),
         "run-why" => ran(rt, Action::Why, CHANGES_ITSELF, setup),
-        "advice-on-a-deck" => advised(rt, LENT_IN_VAIN, setup),
-        "advice-on-no-deck" => advised(rt, "chanv deck 3\n", setup),
         _ => over_a_deck(rt, call, setup),
     }
 }
@@ -112,13 +110,6 @@ fn ran(rt: &HostRuntime, action: Action, text: &str, setup: bool) -> Result<(), 
     }
     run(rt.alloc(), action, &mut from, &mut to)?;
     Ok(())
-}
-
-fn advised(rt: &HostRuntime, text: &str, setup: bool) -> Result<(), Stop> {
-    if setup {
-        return Ok(());
-    }
-    put(rt, advice_on(rt.alloc(), text.as_bytes())?.as_slice())
 }
 
 fn deck_written(rt: &HostRuntime, deck: &Deck, setup: bool) -> Result<(), Stop> {

@@ -5,6 +5,7 @@ use Rattle.std.specs.Option.{option_or}
 use Rattle.std.proofs.lemmas.Bool.{and_parts}
 use Rattle.ccw_core.specs.declared.storage.Storage.{Storage}
 use Rattle.ccw_core.specs.Ccw.{byte, Fields, ccw, is_transfer, is_formed, is_counted, has_data_in, chains_data}
+use Rattle.ccw_core.specs.Held.{bytes_held}
 use Rattle.ccw_core.specs.Storage.{Stands, is_aligned, is_inside}
 use Rattle.chan_walk.specs.declared.job.Job.{Job}
 use Rattle.chan_walk.specs.declared.place.Place.{Place}
@@ -13,12 +14,13 @@ use Rattle.chan_walk.specs.declared.verdict.Verdict.{Verdict}
 use Rattle.chan_walk.specs.declared.verdict.Verdict.TheVariants.{Yes, No}
 use Rattle.chan_walk.specs.Argument.{Has, is_part, Leads, data_addresses, joined, total, but_last, AreLinked, BeginsAt, IsChain, argument_addresses, argument, HasArgument}
 use Rattle.chan_walk.specs.Check.{first_reason, check_of, check}
-use Rattle.chan_walk.specs.Counted.{IsChained, at_once, further, IsCounted, with_storage, IsSameIn, SameVerdict}
+use Rattle.chan_walk.specs.Counted.{IsChained, at_once, further, IsCounted, with_storage, SameVerdict}
 use Rattle.chan_walk.specs.Fault.{kind_of, begins_seek, begins_set_mask, command_faults, lent_faults, seek_faults, mask_faults, table_of_own, fault_with, HasFault, IsClear}
 use Rattle.chan_walk.specs.Guarded.{IsCcwByte, IsSeekByte, IsMaskByte, IsArgumentByte}
 use Rattle.chan_walk.specs.Job.{storage_of}
 use Rattle.chan_walk.specs.Place.{ccw_of, first_place}
 use Rattle.chan_walk.specs.Reachable.{IsPath, IsReachable}
+use Rattle.chan_walk.specs.Runs.{IsSameIn}
 use Rattle.chan_walk.specs.Successors.{next_of, skip_of}
 use Rattle.chan_walk.specs.Verdict.{AreClear, StoresOver, Offends, IsVerdict}
 use Rattle.chan_walk.proofs.Theory.Chains.{argument_exists, argument_unique}
@@ -134,11 +136,11 @@ chain_from s t len C word on n a l c k = chain_to t s (sym len) C back follows n
 -- ---- the job over another storage
 
 -- what the verdict asks of the place is the same in both jobs
-record AreSame (j k : Job) (p : Place) : Type 0 where
-  stands : Stands (storage_of j) p.address ↔ Stands (storage_of k) p.address
-  fault : (r : Option Reason) → HasFault j p r ↔ HasFault k p r
-  word : IsClear j p → ccw_of j p ≡ ccw_of k p
-  takes : IsClear j p → (b : ℕ) → (IsSeekByte j p b ⊎ IsMaskByte j p b) ↔ (IsSeekByte k p b ⊎ IsMaskByte k p b)
+pub record AreSame (j k : Job) (p : Place) : Type 0 where
+  pub stands : Stands (storage_of j) p.address ↔ Stands (storage_of k) p.address
+  pub fault : (r : Option Reason) → HasFault j p r ↔ HasFault k p r
+  pub word : IsClear j p → ccw_of j p ≡ ccw_of k p
+  pub takes : IsClear j p → (b : ℕ) → (IsSeekByte j p b ⊎ IsMaskByte j p b) ↔ (IsSeekByte k p b ⊎ IsMaskByte k p b)
 
 flipped : (j k : Job) (p : Place) → AreSame j k p → AreSame k j p
 flipped j k p h = record {
@@ -148,7 +150,7 @@ flipped j k p h = record {
   takes = λ f b. let t = h.takes ((h.fault None).1 f) b in (t.1, t.0);
 }
 
-module _ (j : Job) (t : Storage) (h : IsSameIn (IsCounted j) j (with_storage j t)) where
+module _ (j : Job) (t : Storage) (h : IsSameIn (IsCounted j) (storage_of j) (bytes_held t)) where
   abbrev there : Job
   there = with_storage j t
 
@@ -296,20 +298,18 @@ module _ (j k : Job) (same : (p : Place) → IsReachable j p → AreSame j k p) 
     λ p x r o. v.1 p x (back p r) (offends p x r o),
   )
 
-pub same_verdict : SameVerdict
-same_verdict j t h = ((λ p. (to p, from p)), λ v. (verdict_over j k same to from (offends_over k j other from to) v, verdict_over k j other from to (offends_over j k same to from) v))
+pub verdict_both : (j k : Job) → first_place j ≡ first_place k → ((p : Place) → IsReachable j p → AreSame j k p)
+    → ((p : Place) → IsReachable j p ↔ IsReachable k p) × ((v : Verdict) → IsVerdict j v ↔ IsVerdict k v)
+verdict_both j k first same = ((λ p. (to p, from p)), λ v. (verdict_over j k same to from (offends_over k j other from to) v, verdict_over k j other from to (offends_over j k same to from) v))
   where
-    k : Job
-    k = with_storage j t
-
-    same : (p : Place) → IsReachable j p → AreSame j k p
-    same = same_at j t h
-
     to : (p : Place) → IsReachable j p → IsReachable k p
-    to = reach_over j k refl (λ p r _. same p r)
+    to = reach_over j k first (λ p r _. same p r)
 
     from : (p : Place) → IsReachable k p → IsReachable j p
-    from = reach_over k j refl (λ p _ r. flipped j k p (same p r))
+    from = reach_over k j (sym first) (λ p _ r. flipped j k p (same p r))
 
     other : (p : Place) → IsReachable k p → AreSame k j p
     other p r = flipped j k p (same p (from p r))
+
+pub same_verdict : SameVerdict
+same_verdict j t h = verdict_both j (with_storage j t) refl (same_at j t h)

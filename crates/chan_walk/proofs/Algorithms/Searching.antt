@@ -28,7 +28,7 @@ merged_order (x ∷ xs) zero (suc k) d m l h = above_at (end_of x) xs k d m.1 (o
 merged_order (x ∷ xs) (suc i) (suc k) d m l h = merged_order xs i k d m.2 (omega arith) (omega arith)
 
 -- a byte lies in one of the areas
-area_at : (xs : List Area) (d : Area) (b : ℕ) → lies_in xs b ≡ true → (k : ℕ) × (k < length xs) × InArea (get_or xs k d) b
+pub area_at : (xs : List Area) (d : Area) (b : ℕ) → lies_in xs b ≡ true → (k : ℕ) × (k < length xs) × InArea (get_or xs k d) b
 area_at [] d b h = absurd (both_ways (lies_in [] b) (lies_in-nil b) h)
 area_at (x ∷ xs) d b h = go (lies_in-cases x xs b h) (λ m. area_at xs d b m)
   where

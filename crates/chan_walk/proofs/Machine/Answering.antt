@@ -7,8 +7,8 @@ use Rattle.chan_walk.specs.declared.job.Job.{Job}
 use Rattle.chan_walk.specs.declared.verdict.Verdict.{Verdict}
 use Rattle.chan_walk.specs.declared.verdict.Verdict.TheVariants.{Yes, No}
 use Rattle.chan_walk.specs.Alarm.{IsProper, NoFalseAlarm}
-use Rattle.chan_walk.specs.Answers.{HasAtMost, HasWitness, IsSound}
-use Rattle.chan_walk.specs.Headline.{YesIsSafe}
+use Rattle.chan_walk.specs.Answers.{HasAtMost, HasWitness, IsSound, IsSoundAmong}
+use Rattle.chan_walk.specs.Headline.{YesIsSafe, YesIsSafeAmong}
 use Rattle.chan_walk.specs.Job.{HasMask}
 use Rattle.chan_walk.specs.Look.{places_of_looks}
 use Rattle.chan_walk.specs.Marks.{ListsMarks, places_of}
@@ -18,6 +18,9 @@ use Rattle.chan_walk.proofs.Algorithms.InOrder.{listed_few, listed_reachable}
 
 pub covers : (j : Job) (v : Verdict) → HasMask j → YesIsSafe → IsVerdict j v → IsSound j v
 covers j v mask law h e = law j mask (subst (λ (w : Verdict). IsVerdict j w) e h)
+
+pub covers_among : (j : Job) (v : Verdict) → HasMask j → YesIsSafeAmong → IsVerdict j v → IsSoundAmong j v
+covers_among j v mask law h e = law j mask (subst (λ (w : Verdict). IsVerdict j w) e h)
 
 pub shown : (j : Job) (v : Verdict) → IsProper j → NoFalseAlarm → IsVerdict j v → HasWitness j v
 shown j v proper law h = search rules

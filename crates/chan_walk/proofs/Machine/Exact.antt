@@ -8,22 +8,24 @@ use Rattle.chan_walk.specs.declared.job.Job.{Job}
 use Rattle.chan_walk.specs.declared.place.Place.{Place}
 use Rattle.chan_walk.specs.declared.reason.Reason.{Reason}
 use Rattle.chan_walk.specs.declared.reason.Reason.TheVariants.{NotInTable, Inhibited, StoreNotLent, FetchNotLent, ShortSeek, SeekOutside, WeakensMask}
-use Rattle.chan_walk.specs.Alarm.{IsProper, ShowsInStep, ShowsInOperation, ShowsCheck, Shows, SafeIsYes, HeadlineAloneIsEnough}
+use Rattle.chan_walk.specs.Alarm.{IsProper, ShowsInStep, ShowsInOperation, ShowsCheck, Shows, SafeIsYes, IsUsed, IsUsedIn, GuardedIsUsed, StaysSafe, HeadlineAloneIsEnough}
 use Rattle.chan_walk.specs.Argument.{Has}
 use Rattle.chan_walk.specs.Check.{table_of_every_ccw, table_of_non_transfer}
 use Rattle.chan_walk.specs.Fault.{begins_recalibrate, begins_set_mask, table_of_own, HasFault, IsClear}
-use Rattle.chan_walk.specs.Headline.{IsSafeEvent, IsUnchecked, IsSafeMoment, IsSteady, IsSafe}
+use Rattle.chan_walk.specs.Guarded.{IsGuarded}
+use Rattle.chan_walk.specs.Headline.{IsSafeEvent, IsUnchecked, IsSafeMoment, IsSteady, IsSafe, IsSpared}
 use Rattle.chan_walk.specs.Job.{storage_of}
 use Rattle.chan_walk.specs.Machine.{Stage, At, Ended, Checked, Event, Command, Store, Fetch, Seek, SetMask, IsStored, Moves, stored, ends, command_event, Step, carried}
 use Rattle.chan_walk.specs.Place.{ccw_of}
 use Rattle.chan_walk.specs.Reachable.{IsReachable}
-use Rattle.chan_walk.specs.Runs.{Moment, IsRun, Uses}
+use Rattle.chan_walk.specs.Runs.{Moment, IsRun, IsRunAmong, Uses}
 use Rattle.chan_walk.specs.Verdict.{StoresOver}
 use Rattle.chan_walk.proofs.Machine.Alarm.{stores_parts, start, run_to, shows_fault, ccw_used, argument_used}
 use Rattle.chan_walk.proofs.Theory.Checks.{passed, data_fits, each_case, table_case, check_case}
 use Rattle.chan_walk.proofs.Theory.Faults.{clear_check, clear_good}
 use Rattle.chan_walk.proofs.Theory.Lists.{byte-map-range}
 use Rattle.chan_walk.proofs.Machine.Paths.{few_at}
+use Rattle.chan_walk.proofs.Machine.Yes.{each_ok, used_guarded, yes_is_safe_among, alone}
 use Rattle.chan_walk.proofs.Machine.Quiet.{full_count, inward_from, kind_at, bytes_at, can_home, can_mask, seek_at}
 
 -- ---- what a run shows for an own fault isn't safe
@@ -165,6 +167,31 @@ pub safe_is_yes : SafeIsYes
 safe_is_yes j proper safe steady p r m (inl f) = fault_unshown j safe p m.0 r f (shows_fault j proper p m r f)
 safe_is_yes j proper safe steady p r m (inr (clear, inl o)) = changes_not j proper steady p m (clear p m) _ (λ b h. let u = ccw_used j proper b h in (u.0, u.1, inl u.2)) o.1
 safe_is_yes j proper safe steady p r m (inr (clear, inr o)) = changes_not j proper steady p m (clear p m) _ (λ b h. let u = argument_used j proper b h in (u.0, u.1, inr u.2)) o.1
+
+-- ---- among others
+
+guarded_used : (j : Job) → IsProper j → (b : ℕ) → IsGuarded j b → IsUsed j b
+guarded_used j proper b (inl g) = let u = ccw_used j proper b g in (u.0, u.1, inl u.2)
+guarded_used j proper b (inr g) = let u = argument_used j proper b g in (u.0, u.1, inr u.2)
+
+pub guarded_is_used : GuardedIsUsed
+guarded_is_used j proper v b = ((guarded_used j proper b, λ u. among (u.0, alone _ j u.0 u.1, u.2)), among)
+  where
+    among : IsUsedIn (IsSpared j) b → IsGuarded j b
+    among u = used_guarded j v u.0 b (each_ok j v u.0 u.1) u.2
+
+-- others that spare more are among those that spare less
+sparing_less : (P Q : ℕ → Type 0) → ((b : ℕ) → Q b → P b) → (j : Job) (ms : List Moment) → IsRunAmong P j ms → IsRunAmong Q j ms
+sparing_less P Q f j [] r = absurd r
+sparing_less P Q f j (m ∷ []) r = r
+sparing_less P Q f j (n ∷ m ∷ ms) (r, inl w) = (sparing_less P Q f j (m ∷ ms) r, inl w)
+sparing_less P Q f j (n ∷ m ∷ ms) (r, inr w) = (sparing_less P Q f j (m ∷ ms) r, inr (w.0, record { same_length = w.1.same_length; same = λ b h. w.1.same b (f b h) }))
+
+pub stays_safe : StaysSafe
+stays_safe j proper safe steady =
+    let among = yes_is_safe_among j proper.2 (safe_is_yes j proper safe steady) in
+    let spared = sparing_less (IsUsed j) (IsGuarded j) (guarded_used j proper) j in
+    (λ run r. among.0 run (spared run r), λ used run b r u s. among.1 used run b (spared used r) u (spared run s))
 
 pub headline_alone_is_enough : HeadlineAloneIsEnough
 headline_alone_is_enough answer h j proper e = let s = h j proper e in safe_is_yes j proper s.0 s.1

@@ -1,5 +1,5 @@
 -- Where the verdict is yes: guarded bytes never change, every place is reachable, every run is safe and the job is steady.
-use Rattle.std.proofs.Common.{◌≡◌, ℕ, ◌+◌, ◌<◌, ◌≤◌, Bool, true, false, if◌then◌else◌, List, [], ◌∷◌, length, Option, Some, None, is_none, refl, sym, ap, ◌∙◌, subst, inl, inr, rules}
+use Rattle.std.proofs.Common.{◌≡◌, ℕ, Bool, true, false, if◌then◌else◌, List, [], ◌∷◌, length, Option, Some, None, is_none, refl, sym, ap, ◌∙◌, subst, ◌⊎◌, inl, inr, rules}
 use Rattle.std.specs.List.{AllByRecursion}
 use Rattle.std.proofs.lemmas.Bool.{both_ways, not-false}
 use Rattle.ccw_core.specs.Ccw.{byte, Fields, ccw, is_transfer}
@@ -11,21 +11,24 @@ use Rattle.chan_walk.specs.declared.reason.Reason.TheVariants.{ChangesCcw, Chang
 use Rattle.chan_walk.specs.declared.verdict.Verdict.TheVariants.{Yes}
 use Rattle.chan_walk.specs.Argument.{HasArgument}
 use Rattle.chan_walk.specs.Check.{check, check_of}
-use Rattle.chan_walk.specs.Fault.{kind_of, stores, is_known, begins_seek, allows, is_refused, IsClear}
+use Rattle.chan_walk.specs.Fault.{kind_of, is_known, begins_seek, allows, is_refused, IsClear}
 use Rattle.chan_walk.specs.Guarded.{IsGuarded}
-use Rattle.chan_walk.specs.Headline.{IsUnchecked, IsSafeMoment, IsSafeEvent, Holds, YesIsSafe, IsAtReachable, GathersPart, GuardedStays, StaysReachable, GathersArguments}
+use Rattle.chan_walk.specs.Headline.{IsUnchecked, IsSafeMoment, IsSafeEvent, Holds, YesIsSafe, YesIsSafeAmong, IsSpared, IsAtReachable, GathersPart, GuardedStays, StaysReachable, GathersArguments}
 use Rattle.chan_walk.specs.Job.{storage_of, HasMask}
-use Rattle.chan_walk.specs.Machine.{Gathered, Stage, At, Event, Step, checked, transferred, unknown, carried, StepFrom}
+use Rattle.chan_walk.specs.Machine.{Gathered, Stage, At, Ended, Checked, Event, Step, checked, transferred, unknown, carried, StepFrom}
 use Rattle.chan_walk.specs.Place.{transferred_to, ccw_of}
 use Rattle.chan_walk.specs.Reachable.{IsReachable}
-use Rattle.chan_walk.specs.Runs.{Moment, IsRun, UsesAt, UsesIn, UsesInCcw, UsesInArgument, Uses}
-use Rattle.chan_walk.specs.Verdict.{IsVerdict}
+use Rattle.chan_walk.specs.Runs.{Moment, IsStart, IsRun, Steps, IsSameIn, IsRunAmong, UsesAt, UsesIn, UsesInCcw, UsesInArgument, Uses}
+use Rattle.chan_walk.specs.Verdict.{IsVerdict, MayStoreOver}
 use Rattle.chan_walk.proofs.Theory.Checks.{check_stands}
 use Rattle.chan_walk.proofs.Theory.Commands.{seek_is_outward}
-use Rattle.chan_walk.proofs.Theory.Faults.{IsGood, stores_from, clear_check, clear_good, yes_clear}
+use Rattle.chan_walk.proofs.Theory.Faults.{IsGood, clear_check, clear_good, yes_clear}
 use Rattle.chan_walk.proofs.Theory.Follows.{Follows, by_transfer, succeeds}
 use Rattle.chan_walk.proofs.Machine.Gathering.{advance, transfer_on, begin}
 use Rattle.chan_walk.proofs.Machine.Invariant.{Under, IsKept, Same, Invariant, Coming, Comes, Here, Stepped, carried_ok}
+use Rattle.chan_walk.proofs.Machine.Storing.{StoresAt, step_only}
+use Rattle.chan_walk.proofs.Machine.Waiting.{WaitsSpared, waits_kept}
+use Rattle.chan_walk.proofs.Theory.Lists.{all_map}
 use Rattle.chan_walk.proofs.Theory.Masks.{strict_as_itself}
 use Rattle.chan_walk.proofs.Theory.Words.{same_ccw}
 
@@ -40,9 +43,15 @@ module _ (j : Job) (v : IsVerdict j Yes) where
   onward : (p q : Place) → IsReachable j p → Follows p (ccw_of j p) (kind_of p.entered (ccw_of j p)) q → IsReachable j q
   onward p q r f = (p ∷ r.0, (r.1, clear_at p r, succeeds _ _ _ _ f))
 
-  apart_at : (p : Place) → IsReachable j p → stores p (ccw_of j p) ≡ true → (b : ℕ) → IsGuarded j b → (ccw_of j p).address ≤ b → b < (ccw_of j p).address + (ccw_of j p).count → ⊥
-  apart_at p r st b (inl u) le lt = v p ChangesCcw r (inr (clear_at, inl (refl, record { stores = st; at = b; from = le; below = lt; holds = u })))
-  apart_at p r st b (inr u) le lt = v p ChangesArgument r (inr (clear_at, inr (refl, record { stores = st; at = b; from = le; below = lt; holds = u })))
+  apart_at : (P : ℕ → Type 0) → (MayStoreOver j P → ⊥) → (p : Place) → IsReachable j p → (b : ℕ) → P b → StoresAt p (ccw_of j p) b → ⊥
+  apart_at P never p r b h u = never (p, r, record { stores = u.0; at = b; from = u.1; below = u.2; holds = h })
+
+  pub no_change : MayStoreOver j (IsGuarded j) → ⊥
+  no_change u = go u.2.holds
+    where
+      go : IsGuarded j u.2.at → ⊥
+      go (inl h) = v u.0 ChangesCcw u.1 (inr (clear_at, inl (refl, record { stores = u.2.stores; at = u.2.at; from = u.2.from; below = u.2.below; holds = h })))
+      go (inr h) = v u.0 ChangesArgument u.1 (inr (clear_at, inr (refl, record { stores = u.2.stores; at = u.2.at; from = u.2.from; below = u.2.below; holds = h })))
 
   ccw_kept : (s : List ℕ) (p : Place) → Same j s → IsReachable j p → ccw s p.address ≡ ccw_of j p
   ccw_kept s p same r =
@@ -54,7 +63,7 @@ module _ (j : Job) (v : IsVerdict j Yes) where
     x = f.0;
     good = good;
     follows = λ q w. onward p q r w;
-    apart = λ i k. apart_at p r (stores_from _ _ _ t i k);
+    apart = apart_at (IsGuarded j) no_change p r;
     seek = come (begins_seek p (ccw_of j p)) g u refl;
     mask = λ e. inr (record { place = p; reached = r; clear = f; takes = inr (record { sets = e; at = refl }) });
   }
@@ -122,59 +131,71 @@ module _ (j : Job) (v : IsVerdict j Yes) where
   from_ok : {s : List ℕ} {y f : ℕ} (at : Stage) {es : List Event} {t : List ℕ} {y' f' : ℕ} {st : Stage} → StepFrom s y f at es t y' f' st → Invariant j s y f at → Stepped j t y' f' st es
   from_ok at w k = search (rules, step_ok)
 
+  -- a step changes only what the program may store over
+  pub step_spares : (P : ℕ → Type 0) → (MayStoreOver j P → ⊥) → (s : List ℕ) (y f : ℕ) (at : Stage) (es : List Event) (t : List ℕ) (y' f' : ℕ) (st : Stage) → StepFrom s y f at es t y' f' st → Invariant j s y f at → IsSameIn P s t
+  step_spares P never s y f (At p g) es t y' f' st w k =
+      let o = step_only w in
+      record { same_length = o.same_length; same = λ b h. o.same b (λ u. apart_at P never p k.stage.0 b h (subst (λ c. StoresAt p c b) (ccw_kept s p k.same k.stage.0) u)) }
+  step_spares P never s y f Ended es t y' f' st w k = absurd w
+  step_spares P never s y f (Checked r) es t y' f' st w k = absurd w
+
   -- ---- a run
 
-  run_kept : (m : Moment) (ms : List Moment) → IsRun j (m ∷ ms) → Invariant j m.storage m.arm m.mask m.stage
-  run_kept m [] r = record {
+  -- what is known of each moment
+  abbrev pub IsOk : Moment → Type 0
+  IsOk m = Stepped j m.storage m.arm m.mask m.stage m.events
+
+  without_events : (m : Moment) → m.events ≡ [] → Invariant j m.storage m.arm m.mask m.stage → IsOk m
+  without_events m e k = record {
+    kept = k;
+    safe = subst (λ es. AllByRecursion (IsSafeEvent j) es) (sym e) tt;
+    used = λ b u. absurd (subst (λ es. UsesIn es b) e u);
+  }
+
+  start_ok : (m : Moment) → IsStart j m → IsOk m
+  start_ok m r = without_events m r.events (record {
     same_length = ap length r.storage;
     same = λ b g. ap (λ z. byte z b) r.storage;
     inside = r.arm;
     strict = λ h. subst (λ z. is_at_least z j.mask ≡ true) (sym r.mask) (strict_as_itself j.mask h);
     stage = subst (λ z. IsKept j z) (sym r.stage) (([], refl), tt);
-  }
-  run_kept n (m ∷ ms) r = (from_ok m.stage r.1 (run_kept m ms r.0)).kept
+  })
+
+  next_ok : (m n : Moment) → Steps m n ⊎ WaitsSpared j m n → IsOk m → IsOk n
+  next_ok m n (inl w) k = from_ok m.stage w k.kept
+  next_ok m n (inr w) k = without_events n w.0.events (waits_kept j m n w k.kept)
+
+  pub each_ok : (ms : List Moment) → IsSpared j ms → AllByRecursion IsOk ms
+  each_ok [] r = absurd r
+  each_ok (m ∷ []) r = (start_ok m r, tt)
+  each_ok (n ∷ m ∷ ms) r = let k = each_ok (m ∷ ms) r.0 in (next_ok m n r.1 k.0, k)
 
   -- what holds of a moment because it is kept holds of each
-  pub all_kept : (P : Moment → Type 0) → ((m : Moment) → Invariant j m.storage m.arm m.mask m.stage → P m) → (ms : List Moment) → IsRun j ms → AllByRecursion P ms
-  all_kept P f [] r = absurd r
-  all_kept P f (m ∷ []) r = (f m (run_kept m [] r), tt)
-  all_kept P f (n ∷ m ∷ ms) r = (f n (run_kept n (m ∷ ms) r), all_kept P f (m ∷ ms) r.0)
+  pub all_kept : (P : Moment → Type 0) → ((m : Moment) → Invariant j m.storage m.arm m.mask m.stage → P m) → (ms : List Moment) → IsSpared j ms → AllByRecursion P ms
+  all_kept P f ms r = all_map IsOk P (λ m k. f m k.kept) ms (each_ok ms r)
 
   unchecked : (st : Stage) → IsKept j st → IsUnchecked st
   unchecked st k = search rules
 
-  runs_safe : HasMask j → (ms : List Moment) → IsRun j ms → AllByRecursion (IsSafeMoment j) ms
-  runs_safe h [] r = absurd r
-  runs_safe h (m ∷ []) r =
-      let k = run_kept m [] r in
-      (record { unchecked = unchecked m.stage k.stage; inside = k.inside; strict = k.strict h; events = subst (λ es. AllByRecursion (IsSafeEvent j) es) (sym r.events) tt }, tt)
-  runs_safe h (n ∷ m ∷ ms) r =
-      let k = run_kept n (m ∷ ms) r in
-      (record { unchecked = unchecked n.stage k.stage; inside = k.inside; strict = k.strict h; events = (from_ok m.stage r.1 (run_kept m ms r.0)).safe }, runs_safe h (m ∷ ms) r.0)
+  is_safe : HasMask j → (m : Moment) → IsOk m → IsSafeMoment j m
+  is_safe h m k = record { unchecked = unchecked m.stage k.kept.stage; inside = k.kept.inside; strict = k.kept.strict h; events = k.safe }
 
   -- each byte that a run uses is guarded
   used_at : (s : List ℕ) (st : Stage) (b : ℕ) → length s ≡ length (storage_of j) → IsKept j st → UsesAt s st b → IsGuarded j b
   used_at s st b n k u = search rules
 
-  in_ccw_guarded : (ms : List Moment) (b : ℕ) → IsRun j ms → UsesInCcw ms b → IsGuarded j b
-  in_ccw_guarded [] b r u = absurd u
-  in_ccw_guarded (m ∷ []) b r (inl u) = let k = run_kept m [] r in used_at m.storage m.stage b k.same_length k.stage u
-  in_ccw_guarded (m ∷ []) b r (inr u) = absurd u
-  in_ccw_guarded (n ∷ m ∷ ms) b r (inl u) = let k = run_kept n (m ∷ ms) r in used_at n.storage n.stage b k.same_length k.stage u
-  in_ccw_guarded (n ∷ m ∷ ms) b r (inr u) = in_ccw_guarded (m ∷ ms) b r.0 u
+  in_ccw_guarded : (ms : List Moment) (b : ℕ) → AllByRecursion IsOk ms → UsesInCcw ms b → IsGuarded j b
+  in_ccw_guarded [] b k u = absurd u
+  in_ccw_guarded (m ∷ ms) b k (inl u) = used_at m.storage m.stage b k.0.kept.same_length k.0.kept.stage u
+  in_ccw_guarded (m ∷ ms) b k (inr u) = in_ccw_guarded ms b k.1 u
 
-  no_use : (es : List Event) (b : ℕ) → es ≡ [] → UsesIn es b → ⊥
-  no_use es b e u = subst (λ z. UsesIn z b) e u
+  in_argument_guarded : (ms : List Moment) (b : ℕ) → AllByRecursion IsOk ms → UsesInArgument ms b → IsGuarded j b
+  in_argument_guarded [] b k u = absurd u
+  in_argument_guarded (m ∷ ms) b k (inl u) = k.0.used b u
+  in_argument_guarded (m ∷ ms) b k (inr u) = in_argument_guarded ms b k.1 u
 
-  in_argument_guarded : (ms : List Moment) (b : ℕ) → IsRun j ms → UsesInArgument ms b → IsGuarded j b
-  in_argument_guarded [] b r u = absurd u
-  in_argument_guarded (m ∷ []) b r (inl u) = absurd (no_use m.events b r.events u)
-  in_argument_guarded (m ∷ []) b r (inr u) = absurd u
-  in_argument_guarded (n ∷ m ∷ ms) b r (inl u) = (from_ok m.stage r.1 (run_kept m ms r.0)).used b u
-  in_argument_guarded (n ∷ m ∷ ms) b r (inr u) = in_argument_guarded (m ∷ ms) b r.0 u
-
-  used_guarded : (ms : List Moment) (b : ℕ) → IsRun j ms → Uses ms b → IsGuarded j b
-  used_guarded ms b r h = search (rules, in_ccw_guarded, in_argument_guarded)
+  pub used_guarded : (ms : List Moment) (b : ℕ) → AllByRecursion IsOk ms → Uses ms b → IsGuarded j b
+  used_guarded ms b k h = search (rules, in_ccw_guarded, in_argument_guarded)
 
   at_reachable : (st : Stage) → IsKept j st → IsAtReachable j st
   at_reachable st k = search rules
@@ -185,9 +206,6 @@ module _ (j : Job) (v : IsVerdict j Yes) where
   gathers : (st : Stage) → IsKept j st → GathersPart j st
   gathers st k = search (rules, part_of)
 
-  pub guarded_holds : (b : ℕ) → IsGuarded j b → (ms : List Moment) → IsRun j ms → AllByRecursion (Holds j b) ms
-  guarded_holds b g = all_kept _ (λ m k. k.same b g)
-
 pub guarded_stays : GuardedStays
 guarded_stays j v = all_kept j v _ (λ m k b g. k.same b g)
 
@@ -197,5 +215,14 @@ stays_reachable j v = all_kept j v _ (λ m k. at_reachable j v m.stage k.stage)
 pub gathers_arguments : GathersArguments
 gathers_arguments j v = all_kept j v _ (λ m k. gathers j v m.stage k.stage)
 
+pub yes_is_safe_among : YesIsSafeAmong
+yes_is_safe_among j h v = (λ run r. all_map _ (IsSafeMoment j) (is_safe j v h) run (each_ok j v run r), λ used run b r u s. all_kept j v (Holds j b) (λ m k. k.same b (used_guarded j v used b (each_ok j v used r) u)) run s)
+
+-- a run by itself is one among others that do nothing
+pub alone : (P : ℕ → Type 0) (j : Job) (ms : List Moment) → IsRun j ms → IsRunAmong P j ms
+alone P j [] r = absurd r
+alone P j (m ∷ []) r = r
+alone P j (n ∷ m ∷ ms) r = (alone P j (m ∷ ms) r.0, inl r.1)
+
 pub yes_is_safe : YesIsSafe
-yes_is_safe j h v = (runs_safe j v h, λ used run b r u s. guarded_holds j v b (used_guarded j v used b r u) run s)
+yes_is_safe j h v = let a = yes_is_safe_among j h v in (λ run r. a.0 run (alone _ j run r), λ used run b r u s. a.1 used run b (alone _ j used r) u (alone _ j run s))

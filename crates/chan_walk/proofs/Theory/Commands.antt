@@ -5,6 +5,7 @@ use Rattle.std.proofs.lemmas.Bool.{and_parts, cond_both}
 use Rattle.ccw_core.specs.Ccw.{Fields, is_transfer}
 use Rattle.ckd_core.specs.declared.command.Kind.{Kind}
 use Rattle.ckd_core.specs.declared.command.Kind.TheVariants.{Idle, Inward, Outward, Search}
+use Rattle.ckd_core.specs.declared.command.MaskClass.{MaskClass}
 use Rattle.ckd_core.specs.Table.{Entry as Command, table, find_code, lookup, class_is_seek, class_recalibrates, class_sets_mask, class_passes, is_seek, recalibrates, sets_mask}
 use Rattle.chan_walk.specs.Fault.{kind_of_command}
 use Rattle.chan_walk.specs.Notes.{is_idle, moves_nothing}
@@ -75,6 +76,20 @@ pub seek_no_recalibrate : (code : ℕ) → is_seek code ≡ true → recalibrate
 unfolding is_seek recalibrates lookup
 seek_no_recalibrate code h = (rule_at (lookup code) (found_passes seeks_go_out code table table_keeps) h).1
 
+abbrev seeks_set_no_mask : Command → Bool
+seeks_set_no_mask e = not (class_is_seek e.class) || not (class_sets_mask e.class)
+
+seeks_apart : list_all seeks_set_no_mask table ≡ true
+unfolding table
+seeks_apart = refl
+
+unset_at : (o : Option Command) → Passes seeks_set_no_mask o → class_passes class_is_seek o ≡ true → class_passes class_sets_mask o ≡ false
+unset_at o h k = search rules
+
+pub seek_sets_no_mask : (code : ℕ) → is_seek code ≡ true → sets_mask code ≡ false
+unfolding is_seek sets_mask lookup
+seek_sets_no_mask code h = unset_at (lookup code) (found_passes seeks_set_no_mask code table seeks_apart) h
+
 abbrev idle_are_no_transfers : Command → Bool
 idle_are_no_transfers e = not (moves_nothing e.kind) || not (e.code % 16 == 8)
 
@@ -88,3 +103,26 @@ idle_at code o h same k = search rules
 pub idle_is_no_transfer : (c : Fields) → is_idle (lookup c.command) ≡ true → (kind_of_command (lookup c.command) ≡ Idle) × (is_transfer c ≡ false)
 unfolding lookup is_transfer
 idle_is_no_transfer c h = idle_at c.command (lookup c.command) (found_passes idle_are_no_transfers c.command table idle_apart) (found_code c.command table) h
+
+-- no command of the table is a transfer
+abbrev is_no_transfer : Command → Bool
+is_no_transfer e = not (e.code % 16 == 8)
+
+none_transfers : list_all is_no_transfer table ≡ true
+unfolding table
+none_transfers = refl
+
+found_apart : (code : ℕ) (o : Option Command) (test : MaskClass → Bool) → Passes is_no_transfer o → Passes (λ e. e.code == code) o → class_passes test o ≡ true → (code % 16 == 8) ≡ false
+found_apart code o test h same k = search rules
+
+pub seek_is_no_transfer : (c : Fields) → is_seek c.command ≡ true → is_transfer c ≡ false
+unfolding is_seek lookup is_transfer
+seek_is_no_transfer c h = found_apart c.command (lookup c.command) class_is_seek (found_passes is_no_transfer c.command table none_transfers) (found_code c.command table) h
+
+pub recalibrate_is_no_transfer : (c : Fields) → recalibrates c.command ≡ true → is_transfer c ≡ false
+unfolding recalibrates lookup is_transfer
+recalibrate_is_no_transfer c h = found_apart c.command (lookup c.command) class_recalibrates (found_passes is_no_transfer c.command table none_transfers) (found_code c.command table) h
+
+pub known_is_no_transfer : (c : Fields) (k : Command) → lookup c.command ≡ Some k → is_transfer c ≡ false
+unfolding lookup is_transfer
+known_is_no_transfer c k e = found_apart c.command (lookup c.command) (λ _. true) (found_passes is_no_transfer c.command table none_transfers) (found_code c.command table) (rw e refl)

@@ -1,0 +1,6 @@
+use Rattle.std.proofs.Common.{◌≡◌, take}
+use Rattle.chan_deck.specs.Needs.{in_six_digits}
+use Rattle.chan_deck.proofs.needs.in_six_digits.Given as goal
+
+abbrev pub invariant-loop-area : goal.invariant-loop-area
+invariant-loop-area l = l.parts.items ≡ in_six_digits (take l.area-index l.areas)

@@ -1,0 +1,20 @@
+use Rattle.chan_walk.specs.Rows.{listed}
+use Rattle.chan_deck.proofs.WriteLemmas.{needs_parts}
+use Rattle.chan_deck.proofs.needs.needs_text.Goals as goal
+
+pub returns : goal.returns
+returns c =
+    rw (
+      c.in_ok-write_areas-3.ensures,
+      c.in_ok-write_areas-2.ensures,
+      c.in_ok-write_areas.ensures,
+      c.in_ok-write_extents.ensures,
+      c.in_ok-write_mask.ensures.text,
+      c.new-text.ensures.items,
+      c.deref-4.ensures.value,
+      c.deref-5.ensures.value,
+      c.deref-6.ensures.value,
+      c.deref-7.ensures.value,
+    ) (needs_parts (listed c.args.needs.now) c.in_ok-fetch.fetch.items c.in_ok-store.store.items c.in_ok-keep.keep.items
+    (rw c.deref.ensures.value at c.in_ok-fetch.ensures) (rw c.deref-2.ensures.value at c.in_ok-store.ensures)
+    (rw c.deref-3.ensures.value at c.in_ok-keep.ensures))

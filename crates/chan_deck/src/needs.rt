@@ -1,0 +1,95 @@
+//! What a program needs as text.
+
+ghost use Rattle.std.specs.Prelude.{◌≡◌, ◌↔◌, ◌++◌, false, true, IfOk, IsErrOf, OnOk};
+ghost use Rattle.std.specs.Io.KnownBytes.{Appends};
+ghost use Rattle.std.specs.List.{AllByRecursion};
+ghost use Rattle.ccw_core.specs.Written.{AppendsPrefix};
+ghost use Rattle.ckd_core.specs.Cylinders.{IsExtent};
+ghost use Rattle.chan_walk.specs.Rows.{listed};
+ghost use Rattle.chan_deck.specs.Needs as texts;
+
+use crate::listing::ListError;
+use crate::writing::{write_areas, write_extents, write_mask};
+use ccw_core::{Area, Watched, write_out};
+use chan_walk::Needs;
+use std::alloc::{AllocError, Global};
+use std::io::Write;
+
+/// The first number for which six digits aren't enough: that of the bytes of the largest storage.
+const PAST_ADDRESSES: u32 = 0x100_0000;
+
+/// All of the largest storage, as two areas.
+const HALVES: [Area; 2] = [
+    Area {
+        start: 0,
+        len: 0xFF_FFFF,
+    },
+    Area {
+        start: 0xFF_FFFF,
+        len: 1,
+    },
+];
+
+/// Adds an area of storage in six digits.
+fn push_area(areas: &mut Vec<Area>, area: Area) -> Result<(), AllocError>
+    ensures { OnOk result (areas.new.items ≡ areas.old.items ++ texts.split area) }
+{
+    if area.len == PAST_ADDRESSES {
+        return areas.extend_from_slice(&HALVES);
+    }
+    areas.push(area)?;
+    Ok(())
+}
+
+/// Areas of storage in six digits: an area of 1000000 bytes, which is all that storage can have,
+/// becomes two.
+pub fn in_six_digits(alloc: Global, areas: &[Area]) -> Result<Vec<Area>, AllocError>
+    ensures { IfOk result (λ v. v.items ≡ texts.in_six_digits areas.now) }
+{
+    let mut parts = Vec::new(alloc);
+    for area in areas {
+        push_area(&mut parts, *area)?;
+    }
+    Ok(parts)
+}
+
+/// What a program needs as text: in a deck's grammar the lines `mask`, `extent`, `fetch` and
+/// `store` of a job that grants just this, and a line `keep` for each area that is kept. An error
+/// means that an allocation failed.
+pub fn needs_text(alloc: Global, needs: &Needs) -> Result<Vec<u8>, AllocError>
+    requires { AllByRecursion IsExtent needs.now.extents.items }
+    ensures { IfOk result (λ text. text.items ≡ texts.needs_text (listed needs.now)) }
+{
+    let fetch = in_six_digits(alloc, &needs.fetch)?;
+    let store = in_six_digits(alloc, &needs.store)?;
+    let keep = in_six_digits(alloc, &needs.keep)?;
+    let mut text = Vec::new(alloc);
+    write_mask(alloc, &mut text, needs.mask)?;
+    write_extents(&mut text, &needs.extents)?;
+    write_areas(alloc, &mut text, b"fetch ", &fetch)?;
+    write_areas(alloc, &mut text, b"store ", &store)?;
+    write_areas(alloc, &mut text, b"keep ", &keep)?;
+    Ok(text)
+}
+
+/// Writes what a program needs.
+///
+/// `Write` comes exactly where a write failed; then a prefix was written. After `Memory` nothing
+/// was.
+pub fn write_needs<W: Write>(
+    alloc: Global,
+    needs: &Needs,
+    to: &mut Watched<W>,
+) -> Result<(), ListError>
+    requires extents { AllByRecursion IsExtent needs.now.extents.items }
+    requires writer { to.old.failed ≡ false }
+    ensures ok { OnOk result (Appends (W.contents to.old.device) (W.contents to.new.device)
+        (texts.needs_text (listed needs.now))) }
+    ensures prefix { AppendsPrefix (W.contents to.old.device) (W.contents to.new.device)
+        (texts.needs_text (listed needs.now)) }
+    ensures write { IsErrOf result ListError.Write ↔ (to.new.failed ≡ true) }
+    ensures memory { IsErrOf result ListError.Memory → to.new ≡ to.old }
+{
+    let text = needs_text(alloc, needs)?;
+    Ok(write_out(&text, to)?)
+}

@@ -1,0 +1,68 @@
+-- How a run over an input ends: its output is flushed, and something is said of it.
+use Rattle.std.proofs.Common.{◌≡◌, ◌⊎◌, ◌++◌, ℕ, List, [], Option, Some, None, Result, Ok, Err, Vec, true, false, IfOk, inl, inr, refl, sym, subst}
+use Rattle.std.proofs.KnownBytes.{Appends-kept}
+use Rattle.std.specs.Io.KnownBytes.{Keeps}
+use Rattle.chan_walk.specs.declared.job.Job.{Job}
+use Rattle.chan_run.specs.declared.reporting.Outcome.{Outcome}
+use Rattle.chan_run.specs.declared.reporting.Outcome.TheVariants.{Ran, FlushFailed}
+use Rattle.chan_run.specs.declared.running.Action.{Action}
+use Rattle.chan_run.specs.declared.running.Action.TheVariants as actions
+use Rattle.chan_run.specs.declared.running.RunError.{RunError}
+use Rattle.chan_run.specs.declared.running.RunError.TheVariants.{Deck}
+use Rattle.chan_run.specs.declared.running.Status.{Status}
+use Rattle.chan_run.specs.declared.running.Status.TheVariants.{Yes}
+use Rattle.chan_run.specs.Advice.{IsBeside}
+use Rattle.chan_run.specs.Answer.{IsAdvice, advice_of}
+use Rattle.chan_run.specs.Report.{IsDone, IsEnd, has_advice}
+use Rattle.chan_run.specs.Run.{IsAnswerOn, IsTextAnswer}
+
+-- what was written of a job stays so where the bytes are kept
+all_kept : (front : List ℕ) (a : Action) (j : Job) (old mid new : Option (List ℕ)) (s : Status)
+    → Keeps mid new → IsAnswerOn front a j old mid (Ok s) → IsAnswerOn front a j old new (Ok s)
+all_kept front a j old mid new s keeps (k, judged, (v, is, answers, w)) = (
+  k,
+  judged,
+  (v, is, answers, record { output = w.output; asked = w.asked; written = Appends-kept old mid new (front ++ w.output) w.written keeps }),
+)
+
+-- where a text was answered, the flush of what was written leaves it answered
+pub flushed_answer : (front : List ℕ) (a : Action) (t : List ℕ) (old mid new : Option (List ℕ))
+    (r : Result Status RunError) → Keeps mid new → ((IsDone (Ran r) → ⊥) → new ≡ mid)
+    → IsTextAnswer front a t old mid r → IsTextAnswer front a t old new r
+flushed_answer front a t old mid new (Ok s) keeps same h =
+    record { deck = h.deck; spelled = h.spelled; job = h.job; of_deck = h.of_deck; holds = all_kept front a h.job old mid new s keeps h.holds }
+flushed_answer front a t old mid new (Err e) keeps same h =
+    subst (λ x. IsTextAnswer front a t old x (Err e)) (sym (same (λ done. done))) h
+
+-- what is said where there is something to say of the answer
+said : {A E : Type 0} (a : Action) (t : List ℕ) (r : Result Status RunError)
+    (advice : Result (Vec ℕ A) E) → has_advice a (Ran r) ≡ true
+    → IfOk advice (λ text. IsBeside a t r text.items) → IsAdvice a t (Ran r) (advice_of (Some advice))
+said actions.Why t (Ok Yes) (Ok text) has is = inl is
+said actions.Why t (Ok Yes) (Err refused) has is = inr refl
+said actions.Why t (Err (Deck line cause)) (Ok text) has is = inl is
+said actions.Why t (Err (Deck line cause)) (Err refused) has is = inr refl
+said a t r advice has is = absurd (cc)
+
+-- and where there is nothing
+unsaid : (a : Action) (t : List ℕ) (end : Outcome) → has_advice a end ≡ false → IsAdvice a t end []
+unsaid actions.Why t (Ran (Ok Yes)) none = absurd (cc)
+unsaid actions.Why t (Ran (Err (Deck line cause))) none = absurd (cc)
+unsaid a t end none = refl
+
+-- no flush that failed has any
+no_flush : (a : Action) → has_advice a FlushFailed ≡ true → ⊥
+no_flush actions.Why has = absurd (cc)
+no_flush a has = absurd (cc)
+
+-- what is said of how the run ended, where there is something to say, and else nothing
+pub advised : {A E : Type 0} (a : Action) (t : List ℕ) (r : Result Status RunError) (end : Outcome)
+    (advice : Result (Vec ℕ A) E) (told : Option (Result (Vec ℕ A) E)) → IsEnd (Ran r) end
+    → IfOk advice (λ text. IsBeside a t r text.items)
+    → ((has_advice a end ≡ true) × (told ≡ Some advice)) ⊎ ((has_advice a end ≡ false) × (told ≡ None))
+    → IsAdvice a t end (advice_of told)
+advised a t r end advice told (inl is) beside (inl (has, some)) =
+    rw (is, some) (said a t r advice (rw is at has) beside)
+advised a t r end advice told (inr after) beside (inl (has, some)) =
+    absurd (no_flush a (rw after.1 at has))
+advised a t r end advice told ended beside (inr (none, nothing)) = rw nothing (unsaid a t end none)

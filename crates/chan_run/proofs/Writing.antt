@@ -1,0 +1,34 @@
+-- What a writer got, part by part, where the parts are known by equations.
+use Rattle.std.proofs.Common.{◌≡◌, ◌++◌, ◌≤◌, ◌-◌, ◌∷◌, List, [], ℕ, Bor, Option, arith, drop, length, slice_index_or, subst, take}
+use Rattle.std.proofs.KnownBytes.{Appends-trans}
+use Rattle.std.specs.Io.KnownBytes.{Appends}
+use Rattle.std.proofs.lemmas.List.{take_all}
+use Rattle.ccw_core.specs.Written.{AppendsPrefix}
+use Rattle.ccw_core.proofs.Prefixes.{prefix_after, prefix_of_more}
+use Rattle.chan_run.specs.Naming.{joined}
+
+-- a prefix was written of bytes that are these, with which more bytes begin
+pub begun : (a b : Option (List ℕ)) (bytes xs ys : List ℕ) → bytes ≡ xs → AppendsPrefix a b bytes
+    → AppendsPrefix a b (xs ++ ys)
+begun a b bytes xs ys is h = prefix_of_more a b xs ys (subst (AppendsPrefix a b) is h)
+
+-- bytes that are these were written, and then a prefix of more, which are these
+pub next : (a b c : Option (List ℕ)) (bytes xs more ys : List ℕ) → bytes ≡ xs → more ≡ ys
+    → Appends a b bytes → AppendsPrefix b c more → AppendsPrefix a c (xs ++ ys)
+next a b c bytes xs more ys is are h k =
+    prefix_after a b c xs ys (subst (Appends a b) is h) (subst (AppendsPrefix b c) are k)
+
+-- the same where all of it was written
+pub whole : (a b c : Option (List ℕ)) (bytes xs more ys : List ℕ) → bytes ≡ xs → more ≡ ys
+    → Appends a b bytes → Appends b c more → Appends a c (xs ++ ys)
+whole a b c bytes xs more ys is are h k =
+    Appends-trans a b c xs ys (subst (Appends a b) is h) (subst (Appends b c) are k)
+
+-- the first of some texts was written, and then a prefix of the others
+pub after_first : (texts : List (Bor (List ℕ))) (d : Bor (List ℕ)) (a b c : Option (List ℕ))
+    → 1 ≤ length texts → Appends a b (slice_index_or texts 0 d).now
+    → AppendsPrefix b c (joined (take (length texts - 1) (drop 1 texts)))
+    → AppendsPrefix a c (joined texts)
+after_first [] d a b c some h k = absurd (omega (arith, some))
+after_first (text ∷ texts) d a b c some h k =
+    prefix_after a b c text.now (joined texts) h (rw (take_all (length (text ∷ texts) - 1) texts (omega arith)) at k)

@@ -1,0 +1,29 @@
+use Rattle.std.proofs.Common.{arith, ◌≡◌, ◌%◌, ◌/◌, ◌+◌, Result, Ok, Err, OnOk, [], ◌∷◌, ◌++◌, sym, subst}
+use Rattle.std.proofs.KnownBytes.{Appends-trans}
+use Rattle.std.proofs.lemmas.Fmt.{decimal_digit, decimal_step}
+use Rattle.std.specs.Io.KnownBytes.{Appends}
+use Rattle.std.specs.Fmt.{decimal}
+use Rattle.chan_run.proofs.texts.+write_decimal.Goals as goal
+use Rattle.chan_run.proofs.texts.+write_decimal.Goals.{then-number-ge10+in_ok-write_decimal, else-number-ge10}
+
+on_ok : {E P Q : Type 0} → (answer : Result (Unit {0}) E) → (P → Q) → OnOk answer P → OnOk answer Q
+on_ok (Ok _) f h = f h
+on_ok (Err _) f h = tt
+
+pub returns-clause-ok : goal.returns-clause-ok
+returns-clause-ok g t c =
+    let n = c.args.number in
+    let old = g.W.Write.contents c.args.to.now.device in
+    let new = g.W.Write.contents c.write_out.new.to.device in
+    elim c.if-number-ge10.branch [
+      | then-number-ge10+in_ok-write_decimal w ↦
+          let step : decimal n ≡ decimal (n / 10) ++ ((48 + n % 10) ∷ []) = decimal_step n (omega arith) (omega arith) in
+          on_ok c.write_out.result
+          (λ last. subst (λ ds. Appends old new ds) (sym step) (Appends-trans _ _ _ _ _ w.in_ok-write_decimal.ensures.ok (rw w.to-is at last)))
+          c.write_out.ensures.ok
+      | else-number-ge10 w ↦
+          let same : n % 10 ≡ n = omega arith in
+          on_ok c.write_out.result
+          (λ last. subst (λ ds. Appends old new ds) (sym (decimal_digit n (omega arith))) (rw same at (rw w.to-is at last)))
+          c.write_out.ensures.ok
+    ]

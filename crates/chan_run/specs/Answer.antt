@@ -1,0 +1,78 @@
+-- What one input comes to: its answer on one writer, and what is said of it on another.
+use Rattle.std.specs.Prelude.{◌≡◌, ◌⊎◌, ◌++◌, ℕ, Bool, false, List, [], Option, Some, None}
+use Rattle.std.specs.Prelude.{Result, Ok, Err, Vec}
+use Rattle.std.specs.Io.KnownBytes.{Appends}
+use Rattle.ccw_core.specs.Written.{AppendsPrefix}
+use Rattle.chan_deck.specs.Hint.{IsHint}
+use Rattle.chan_run.specs.declared.reporting.Outcome.{Outcome}
+use Rattle.chan_run.specs.declared.reporting.Outcome.TheVariants.{Ran}
+use Rattle.chan_run.specs.declared.running.Action.{Action}
+use Rattle.chan_run.specs.declared.running.Action.TheVariants as actions
+use Rattle.chan_run.specs.declared.running.RunError.{RunError}
+use Rattle.chan_run.specs.declared.running.RunError.TheVariants.{Deck, Memory}
+use Rattle.chan_run.specs.declared.running.Status.{Status}
+use Rattle.chan_run.specs.declared.running.Status.TheVariants as statuses
+use Rattle.chan_run.specs.Advice.{IsNoted}
+use Rattle.chan_run.specs.Report.{IsEnd, line_of, line_over}
+use Rattle.chan_run.specs.Run.{IsEarly, IsInput, IsOfJob, IsReadFault, IsTextAnswer, IsUnwritten}
+use Rattle.chan_run.specs.Run.{front_of}
+
+-- the line where an allocation was refused
+abbrev pub memory_line : List ℕ
+memory_line = line_of (Ran (Err Memory))
+
+-- what is said of an input behind the outcome's line: for an explanation the notes behind a yes, and
+-- the hint where the text is refused, or that memory ran out for them
+abbrev pub IsAdvice : Action → List ℕ → Outcome → List ℕ → Type 0
+IsAdvice actions.Why t (Ran (Ok statuses.Yes)) advice =
+    IsOfJob t (λ j. IsNoted j advice) ⊎ (advice ≡ memory_line)
+IsAdvice actions.Why t (Ran (Err (Deck line cause))) advice =
+    IsHint t line cause advice ⊎ (advice ≡ memory_line)
+IsAdvice a t end advice = advice ≡ []
+
+-- the text was answered, and then this was said
+pub record IsTextTold (name : Option (List ℕ)) (a : Action) (t : List ℕ)
+    (old new : Option (List ℕ)) (end : Outcome) (told : List ℕ) : Type 0 where
+  pub answer : Result Status RunError
+  pub answered : IsTextAnswer (front_of name a) a t old new answer
+  pub ended : IsEnd (Ran answer) end
+  pub advice : List ℕ
+  pub advised : IsAdvice a t end advice
+  pub is : told ≡ line_over name end ++ advice
+
+-- the input was read to its end, its text was answered, and then this was said
+pub record IsInputTold (name : Option (List ℕ)) (a : Action)
+    (old_in new_in old new : Option (List ℕ)) (end : Outcome) (told : List ℕ) : Type 0 where
+  pub text : List ℕ
+  pub input : IsInput old_in new_in text
+  pub of_text : IsTextTold name a text old new end told
+
+-- it wasn't, nothing was written, and only that was said
+pub record IsUnread (name : Option (List ℕ)) (old_in new_in old new : Option (List ℕ))
+    (end : Outcome) (told : List ℕ) : Type 0 where
+  pub fault : RunError
+  pub read : IsReadFault old_in new_in fault
+  pub ended : end ≡ Ran (Err fault)
+  pub unwritten : IsUnwritten old new
+  pub is : told ≡ line_over name end
+
+-- this was said of the input; where a write of it failed, a prefix
+pub record IsHandled (name : Option (List ℕ)) (a : Action)
+    (old_in new_in old new old_err new_err : Option (List ℕ)) (failed : Bool) (end : Outcome)
+    : Type 0 where
+  pub told : List ℕ
+  pub of_input :
+      IsInputTold name a old_in new_in old new end told ⊎ IsUnread name old_in new_in old new end told
+  pub whole : failed ≡ false → Appends old_err new_err told
+  pub prefix : AppendsPrefix old_err new_err told
+
+-- a run ended before anything was written
+abbrev pub IsEarlyEnd : Action → Outcome → Type 0
+IsEarlyEnd a (Ran answer) = IsEarly a answer
+IsEarlyEnd a end = ⊥
+
+-- the advice as it is said, where there is some
+abbrev pub advice_of : {A E : Type 0} → Option (Result (Vec ℕ A) E) → List ℕ
+advice_of None = []
+advice_of (Some (Ok text)) = text.items
+advice_of (Some (Err refused)) = memory_line

@@ -1,0 +1,81 @@
+//! Answering an input: what the program does with each.
+
+ghost use Rattle.std.specs.Prelude.{◌≡◌, ◌↔◌, ◌++◌, false, true, Err, IsErr, OnOk};
+ghost use Rattle.std.specs.Io.KnownBytes.{Appends};
+ghost use Rattle.ccw_core.specs.Written.{AppendsPrefix};
+ghost use Rattle.chan_run.specs.Answer.{IsEarlyEnd, IsHandled, advice_of};
+ghost use Rattle.chan_run.specs.Naming.{name_in};
+ghost use Rattle.chan_run.specs.Report.{IsWriteFailure, line_over};
+ghost use Rattle.chan_run.specs.declared.reporting.Outcome.TheVariants.{Ran};
+ghost use Rattle.chan_run.specs.declared.running.RunError.TheVariants as runs;
+
+use crate::reporting::{Outcome, conclude, flushed, has_advice, write_line};
+use crate::running::{Action, RunError, answer_text, read_text};
+use ccw_core::{DeviceFault, Watched, write_out};
+use std::alloc::{AllocError, Global};
+use std::io::{Read, Write};
+
+/// Answers an input, which may have a name, and says what came of it.
+///
+/// On the first writer stands what `run` and, over a name, `run_named` write, and it is flushed
+/// where all of it was written. On the second stands the outcome's line, as `report_named` writes
+/// it. For `Why` the notes on the job follow where the verdict is yes, and the hint where the text
+/// is no deck; or the line that memory ran out for these, which doesn't change the outcome.
+///
+/// The input is read once and its job walked once. The outcome is what `run` answers, or
+/// `FlushFailed`. A second writer that fails doesn't change it, and a prefix was written there.
+pub fn answer<R: Read, W: Write, E: Write>(
+    alloc: Global,
+    name: Option<&str>,
+    action: Action,
+    from: &mut Watched<R>,
+    to: &mut Watched<W>,
+    errors: &mut Watched<E>,
+) -> Outcome
+    requires reader { from.old.failed ≡ false }
+    requires writer { to.old.failed ≡ false }
+    requires errors { errors.old.failed ≡ false }
+    ensures answer { IsHandled (name_in name.entry) action
+        (R.remaining from.old.device) (R.remaining from.new.device)
+        (W.contents to.old.device) (W.contents to.new.device)
+        (E.contents errors.old.device) (E.contents errors.new.device) errors.new.failed result }
+    ensures early { IsEarlyEnd action result → to.new ≡ to.old }
+    ensures read { result ≡ Ran (Err runs.Read) ↔ (from.new.failed ≡ true) }
+    ensures write { IsWriteFailure result ↔ (to.new.failed ≡ true) }
+{
+    let text = match read_text(alloc, from) {
+        Ok(text) => text,
+        Err(error) => return conclude(name, Outcome::Ran(Err(error)), to, errors),
+    };
+    let (answer, advice) = answer_text(alloc, name, action, true, text.as_slice(), to);
+    let outcome = flushed(Outcome::Ran(answer), to);
+    let told = if has_advice(action, outcome) {
+        Some(advice)
+    } else {
+        None
+    };
+    let _ = tell(name, outcome, told, errors);
+    outcome
+}
+
+/// Writes the line of an outcome, and behind it the advice, if there is some.
+fn tell<E: Write>(
+    name: Option<&str>,
+    outcome: Outcome,
+    advice: Option<Result<Vec<u8>, AllocError>>,
+    errors: &mut Watched<E>,
+) -> Result<(), DeviceFault>
+    requires { errors.old.failed ≡ false }
+    ensures ok { OnOk result (Appends (E.contents errors.old.device) (E.contents errors.new.device)
+        (line_over (name_in name.entry) outcome ++ advice_of advice)) }
+    ensures prefix { AppendsPrefix (E.contents errors.old.device) (E.contents errors.new.device)
+        (line_over (name_in name.entry) outcome ++ advice_of advice) }
+    ensures fault { IsErr result ↔ (errors.new.failed ≡ true) }
+{
+    write_line(name, outcome, errors)?;
+    match advice {
+        None => Ok(()),
+        Some(Ok(text)) => write_out(text.as_slice(), errors),
+        Some(Err(AllocError)) => write_line(None, Outcome::Ran(Err(RunError::Memory)), errors),
+    }
+}

@@ -1,0 +1,87 @@
+-- Two jobs of one program that grant the same: everything that the verdict asks is the same.
+use Rattle.std.proofs.Common.{◌≡◌, ℕ, ◌+◌, ◌≤◌, Bool, true, false, cond, if◌then◌else◌, List, length, Option, Some, None, refl, sym, ap, ◌∙◌, subst, ◌⊎◌, inl, inr, ◌↔◌, rules}
+use Rattle.std.specs.Option.{option_or}
+use Rattle.ccw_core.specs.Areas.{covered}
+use Rattle.ccw_core.specs.Ccw.{byte, Fields, is_transfer}
+use Rattle.ccw_core.specs.Storage.{Stands}
+use Rattle.ckd_core.specs.Cylinders.{has_cylinder}
+use Rattle.ckd_core.specs.Mask.{inhibits, is_at_least}
+use Rattle.chan_walk.specs.declared.job.Job.{Job}
+use Rattle.chan_walk.specs.declared.place.Entry.TheVariants.{Fresh}
+use Rattle.chan_walk.specs.declared.place.Place.{Place}
+use Rattle.chan_walk.specs.declared.reason.Reason.{Reason}
+use Rattle.chan_walk.specs.declared.verdict.Verdict.{Verdict}
+use Rattle.chan_walk.specs.Argument.{HasArgument}
+use Rattle.chan_walk.specs.Check.{first_reason, check}
+use Rattle.chan_walk.specs.Fault.{is_refused, table_of_own, fault_with}
+use Rattle.chan_walk.specs.Guarded.{IsSeekByte, IsMaskByte}
+use Rattle.chan_walk.specs.Job.{storage_of, extents_of, fetch_of, store_of}
+use Rattle.chan_walk.specs.Needs.{AreOfOneProgram, GrantsMore}
+use Rattle.chan_walk.specs.Reachable.{IsReachable}
+use Rattle.chan_walk.specs.Verdict.{IsVerdict}
+use Rattle.chan_walk.specs.Place.{transferred_to, ccw_of}
+use Rattle.chan_walk.proofs.Algorithms.Counted.{AreSame, verdict_both}
+use Rattle.chan_walk.proofs.Theory.Granting.{turned, word, seek_byte_over, mask_byte_over, covered_more, refused_more}
+use Rattle.chan_walk.proofs.Theory.OwnFaults.{data_in_storage}
+use Rattle.chan_walk.proofs.Theory.Strictness.{laxer_permits, strict_as_laxer}
+
+alike : (a b : Bool) → (a ≡ true → b ≡ true) → (b ≡ true → a ≡ true) → a ≡ b
+alike a b h k = search rules
+
+alike_false : (a b : Bool) → (a ≡ false → b ≡ false) → (b ≡ false → a ≡ false) → a ≡ b
+alike_false a b h k = search rules
+
+module _ (j k : Job) (one : AreOfOneProgram j k) (more : GrantsMore j k) (less : GrantsMore k j) where
+  table_alike : (p : Place) (c : Fields) (x : Option (List ℕ)) → c.address + c.count ≤ length (storage_of j) → table_of_own j p c x ≡ table_of_own k p c x
+  table_alike p c x fits =
+      let there : c.address + c.count ≤ length (storage_of k) = subst (λ s. c.address + c.count ≤ length s) one.storage fits in
+      let back = turned j k one in
+      let permit : inhibits j.mask c.command ≡ inhibits k.mask c.command = alike_false _ _ (laxer_permits j.mask k.mask c.command more.mask) (laxer_permits k.mask j.mask c.command less.mask) in
+      let stored : covered (store_of j) c.address c.count ≡ covered (store_of k) c.address c.count = alike _ _ (covered_more j k one more (store_of j) (store_of k) _ _ _ more.store fits) (covered_more k j back less (store_of k) (store_of j) _ _ _ less.store there) in
+      let fetched : covered (fetch_of j) c.address c.count ≡ covered (fetch_of k) c.address c.count = alike _ _ (covered_more j k one more (fetch_of j) (fetch_of k) _ _ _ more.fetch fits) (covered_more k j back less (fetch_of k) (fetch_of j) _ _ _ less.fetch there) in
+      let refuse : is_refused j x ≡ is_refused k x = alike_false _ _ (refused_more j k one more x) (refused_more k j back less x) in
+      let home : has_cylinder (extents_of j) 0 ≡ has_cylinder (extents_of k) 0 = alike _ _ (more.extents 0) (less.extents 0) in
+      let strict : is_at_least (byte (storage_of j) c.address) j.mask ≡ is_at_least (byte (storage_of k) c.address) k.mask =
+      alike _ _ (λ h. strict_as_laxer _ j.mask k.mask h more.mask) (λ h. strict_as_laxer _ k.mask j.mask h less.mask) ∙ ap (λ s. is_at_least (byte s c.address) k.mask) one.storage in
+      rw (permit, stored, fetched, refuse, home, strict) refl
+
+  rest_alike : (p : Place) (x : Option (List ℕ)) → check (storage_of j) p ≡ None
+      → (if is_transfer (ccw_of j p) then None else first_reason (table_of_own j p (ccw_of j p) x)) ≡ (if is_transfer (ccw_of k p) then None else first_reason (table_of_own k p (ccw_of k p) x))
+  rest_alike p x e = go (is_transfer (ccw_of j p)) refl ∙ ap (λ c. if is_transfer c then None else first_reason (table_of_own k p c x)) (word j k one p)
+    where
+      go : (b : Bool) → is_transfer (ccw_of j p) ≡ b → cond b None (first_reason (table_of_own j p (ccw_of j p) x)) ≡ cond b None (first_reason (table_of_own k p (ccw_of j p) x))
+      go true t = refl
+      go false t = ap first_reason (table_alike p (ccw_of j p) x (data_in_storage (storage_of j) p (ccw_of j p) e refl t))
+
+  fault_alike : (p : Place) (x : Option (List ℕ)) → fault_with j p x ≡ fault_with k p x
+  fault_alike p x = go (check (storage_of j) p) refl
+    where
+      checks : check (storage_of j) p ≡ check (storage_of k) p
+      checks = ap (λ s. check s p) one.storage
+
+      rest : Job → Option Reason
+      rest i = if is_transfer (ccw_of i p) then None else first_reason (table_of_own i p (ccw_of i p) x)
+
+      go : (o : Option Reason) → check (storage_of j) p ≡ o → option_or (check (storage_of j) p) (rest j) ≡ option_or (check (storage_of k) p) (rest k)
+      go (Some q) e = ap (λ o. option_or o (rest j)) e ∙ sym (ap (λ o. option_or o (rest k)) (sym checks ∙ e))
+      go None e = ap (λ o. option_or o (rest j)) checks ∙ ap (λ r. option_or (check (storage_of k) p) r) (rest_alike p x e)
+
+  same_at : (p : Place) → AreSame j k p
+  same_at p =
+      let back = turned j k one in
+      record {
+        stands = ((λ h. subst (λ s. Stands s p.address) one.storage h), λ h. subst (λ s. Stands s p.address) back.storage h);
+        fault = λ r. (
+          (λ f. (f.0, subst (λ s. HasArgument s p.address f.0) one.storage f.1, sym (fault_alike p f.0) ∙ f.2)),
+          λ f. (f.0, subst (λ s. HasArgument s p.address f.0) back.storage f.1, fault_alike p f.0 ∙ f.2),
+        );
+        word = λ f. word j k one p;
+        takes = λ f b. (to j k one p b, to k j back p b);
+      }
+    where
+      to : (j k : Job) → AreOfOneProgram j k → (p : Place) (b : ℕ) → IsSeekByte j p b ⊎ IsMaskByte j p b → IsSeekByte k p b ⊎ IsMaskByte k p b
+      to j k one p b (inl h) = inl (seek_byte_over j k one p b h)
+      to j k one p b (inr h) = inr (mask_byte_over j k one p b h)
+
+pub same_by_grants : (j k : Job) → AreOfOneProgram j k → GrantsMore j k → GrantsMore k j → ((p : Place) → IsReachable j p ↔ IsReachable k p) × ((v : Verdict) → IsVerdict j v ↔ IsVerdict k v)
+same_by_grants j k one more less = verdict_both j k (ap (λ a. transferred_to a Fresh) one.start) (λ p r. same_at j k one more less p)

@@ -1,9 +1,0 @@
-use Rattle.chan_walk.specs.declared.job.Job.{Job}
-use Rattle.chan_walk.specs.Guard.{Guards}
-use Rattle.chan_walk.specs.Least.{AreReached, IsLeast, Below}
-use Rattle.chan_walk.specs.Look.{AreLooks, places_of_looks}
-use Rattle.chan_walk.specs.Verdict.{AreClear, Changes}
-use Rattle.chan_walk.proofs.judging.least_change.Given as goal
-
-abbrev pub invariant-loop-look : goal.invariant-loop-look
-invariant-loop-look l = (j : Job) → AreLooks j l.looks → AreReached j (places_of_looks l.looks) → Guards j l.guard → AreClear j → IsLeast (Changes j) (Below (places_of_looks l.looks) l.look-index) l.best

@@ -1,0 +1,74 @@
+//! The open job of a program, which grants all that can be granted.
+
+ghost use Rattle.std.specs.Prelude.{◌≡◌, ◌↔◌, IfOk, OnErr};
+ghost use Rattle.chan_walk.specs.Needs.{open_job};
+ghost use Rattle.chan_walk.specs.Rows.{HoldsOpenJob, IsOpenJob};
+ghost use Rattle.chan_walk.specs.Verdict.{IsVerdict};
+ghost use Rattle.chan_walk.specs.declared.job.Job.{Job};
+ghost use Rattle.chan_walk.specs.declared.verdict.Verdict.{Verdict};
+
+use crate::error::WalkError;
+use crate::job::Job;
+use crate::laws::open_job_is_open;
+use crate::limit::Limit;
+use ccw_core::{Area, Storage};
+use ckd_core::{Device, Extents, FileMask};
+use std::alloc::Global;
+
+/// The open job of a program: no mask inhibits anything, the extents are all cylinders, and all of
+/// storage is lent for fetching and for storing. Where its verdict is no, so is that of each job of
+/// the program; where it is yes, its survey tells what the program needs.
+#[derive(Drop)]
+pub struct OpenJob<'a> {
+    storage: Storage<'a>,
+    start: u32,
+    device: Device,
+    mask: FileMask,
+    extents: Extents,
+    areas: [Area; 1],
+    limit: Limit,
+}
+
+impl<'a> OpenJob<'a> {
+    /// The open job of a job's program, with the job's limit on places.
+    pub fn of(alloc: Global, job: &Job<'a>) -> Result<OpenJob<'a>, WalkError>
+        ensures open { IfOk result (HoldsOpenJob job.now) }
+        ensures memory { OnErr result (result ≡ Err WalkError.Memory) }
+    {
+        let extents = match Extents::new(alloc, &[(0, 202)]) {
+            Ok(extents) => extents,
+            Err(_) => return Err(WalkError::Memory),
+        };
+        Ok(OpenJob {
+            storage: job.storage,
+            start: job.start,
+            device: job.device,
+            mask: FileMask::new(0xC0).unwrap(),
+            extents,
+            areas: [Area {
+                start: 0,
+                len: job.storage.len(),
+            }],
+            limit: job.limit,
+        })
+    }
+
+    /// The job, as a view.
+    pub fn job(&self) -> Job<'_>
+        ensures open { (j : Job) → HoldsOpenJob j self.now → IsOpenJob j result }
+        ensures verdict { (j : Job) → HoldsOpenJob j self.now
+            → (v : Verdict) → IsVerdict result v ↔ IsVerdict (open_job j) v }
+    {
+        open_job_is_open();
+        Job {
+            storage: self.storage,
+            start: self.start,
+            device: self.device,
+            mask: self.mask,
+            extents: &self.extents,
+            fetch: &self.areas,
+            store: &self.areas,
+            limit: self.limit,
+        }
+    }
+}

@@ -1,0 +1,165 @@
+//! What a survey of a job tells.
+
+ghost use Rattle.std.specs.Prelude.{◌≡◌, ◌↔◌, map, option_map, vec_items, IfOk};
+ghost use Rattle.std.specs.List.{filter};
+ghost use Rattle.std.specs.List.Sorted.{IsStrictlyIncreasing};
+ghost use Rattle.chan_walk.specs.Argument.{Has};
+ghost use Rattle.chan_walk.specs.Explained.{IsEvidenceOf, IsPathOf, IsSecondPathOf, IsWitness};
+ghost use Rattle.chan_walk.specs.Explored.{AreApart, AreReachable, place_number};
+ghost use Rattle.chan_walk.specs.Job.{fetch_of, store_of};
+ghost use Rattle.chan_walk.specs.Look.{AreLooks, Seen, places_of_looks};
+ghost use Rattle.chan_walk.specs.Notes as noted;
+ghost use Rattle.chan_walk.specs.Notes.{AreAddressesOf, AreUnused, IsFetchedFrom, IsStoredInto};
+ghost use Rattle.chan_walk.specs.Notes.{reaches_past_storage};
+ghost use Rattle.chan_walk.specs.Needs.{AreOfOneProgram};
+ghost use Rattle.chan_walk.specs.Offences.{first_verdict};
+ghost use Rattle.chan_walk.specs.Paths.{IsPathTo};
+ghost use Rattle.chan_walk.specs.Rows.{AreNeeds, listed};
+ghost use Rattle.chan_walk.specs.Surveyed.{IsSurvey};
+ghost use Rattle.chan_walk.specs.declared.job.Job.{Job};
+ghost use Rattle.chan_walk.specs.declared.verdict.Verdict.TheVariants.{Yes};
+
+use crate::exploring::Walk;
+use crate::guard::Guard;
+use crate::job::Job;
+use crate::laws::{each_path_shows, first_is_verdict};
+use crate::look::Look;
+use crate::needs::{Needs, needs_of};
+use crate::note::Notes;
+use crate::noting::notes_of;
+use crate::offence::Offence;
+use crate::path::{index_of, path_at};
+use crate::place::{Place, order_is_by_number};
+use crate::verdict::Verdict;
+use crate::witness::{Witness, witness_of};
+use std::alloc::{AllocError, Global};
+
+/// What one walk over a job's reachable places has found, and what follows from it: how each was
+/// found, what was seen of it, the guard, and all offences.
+#[derive(Drop)]
+pub struct Survey {
+    pub(crate) walk: Walk,
+    pub(crate) guard: Guard,
+    pub(crate) offences: Vec<Offence>,
+}
+
+impl Survey {
+    /// Whether the program may run: yes where nothing offends, and else the address and the reason
+    /// of the first offence.
+    pub fn verdict(&self) -> Verdict
+        ensures { result ≡ first_verdict self.now.offences.items }
+    {
+        match self.offences.first() {
+            Some(offence) => Verdict::No {
+                address: offence.place.address,
+                reason: offence.reason,
+            },
+            None => Verdict::Yes,
+        }
+    }
+
+    /// All offences: exactly the reachable places that offend, each with each of its reasons, in
+    /// order of address, then of the reason's number, then of place.
+    pub fn offences(&self) -> &[Offence]
+        ensures { result.now ≡ self.now.offences.items }
+    {
+        self.offences.as_slice()
+    }
+
+    /// The path from the first place to a place: the shortest list of successors, and of several
+    /// that are equally short the one that goes on to `next` where another goes to `skip`, at the
+    /// first place where they part. So there is exactly one. `None` exactly where the place isn't
+    /// reachable.
+    pub fn path_to(&self, alloc: Global, place: Place) -> Result<Option<Vec<Place>>, AllocError>
+        requires { (j : Job) × IsSurvey j self.now }
+        ensures { IfOk result (λ path. (j : Job) → IsSurvey j self.now
+            → IsPathTo j place (option_map vec_items path)) }
+    {
+        match index_of(self.walk.looks.as_slice(), place) {
+            Some(at) => Ok(Some(path_at(alloc, &self.walk, at)?)),
+            None => Ok(None),
+        }
+    }
+
+    /// What shows that the first offence is one.
+    pub fn witness(&self, alloc: Global, job: &Job) -> Result<Witness, AllocError>
+        requires { IsSurvey job.now self.now }
+        ensures path { IfOk result
+            (λ w. IsPathOf job.now (first_verdict self.now.offences.items) w.path.items) }
+        ensures shown { IfOk result
+            (λ w. IsWitness job.now (first_verdict self.now.offences.items) w.path.items) }
+        ensures evidence { IfOk result (λ w. IsEvidenceOf job.now
+            (first_verdict self.now.offences.items) w.path.items w.evidence) }
+        ensures second { IfOk result (λ w. IsSecondPathOf job.now w.evidence w.second_path.items) }
+    {
+        each_path_shows();
+        let witness = witness_of(
+            alloc,
+            job,
+            &self.walk,
+            &self.guard,
+            self.offences.as_slice(),
+        )?;
+        Ok(witness)
+    }
+
+    /// The notes on the job.
+    pub fn notes(&self, alloc: Global, job: &Job) -> Result<Notes, AllocError>
+        requires { IsSurvey job.now self.now }
+        // What is lent in vain.
+        ensures fetch_past_storage { IfOk result (λ n. n.fetch_past_storage.items
+            ≡ filter (reaches_past_storage job.now) (fetch_of job.now)) }
+        ensures store_past_storage { IfOk result (λ n. n.store_past_storage.items
+            ≡ filter (reaches_past_storage job.now) (store_of job.now)) }
+        ensures unused_fetch { IfOk result
+            (λ n. AreUnused (IsFetchedFrom job.now) (fetch_of job.now) n.unused_fetch.items) }
+        ensures unused_store { IfOk result
+            (λ n. AreUnused (IsStoredInto job.now) (store_of job.now) n.unused_store.items) }
+
+        // What flags ask for.
+        ensures interrupting { IfOk result
+            (λ n. AreAddressesOf noted.interrupts job.now n.interrupting.items) }
+        ensures ending { IfOk result
+            (λ n. AreAddressesOf noted.ends_there job.now n.ending.items) }
+    {
+        notes_of(alloc, job, self.walk.looks.as_slice())
+    }
+
+    /// What the program needs of each job that it runs under, where the verdict is yes. Each job of
+    /// the program that has a yes gives the same; the open job has one if any has.
+    ///
+    /// With n places, the cost is n log n.
+    pub fn needs(&self, alloc: Global, job: &Job) -> Result<Needs, AllocError>
+        requires survey { IsSurvey job.now self.now }
+        requires yes { first_verdict self.now.offences.items ≡ Yes }
+        ensures { IfOk result (λ n. (j : Job) → AreOfOneProgram j job.now → AreNeeds j (listed n)) }
+    {
+        first_is_verdict();
+        needs_of(alloc, job, self.walk.looks.as_slice())
+    }
+
+    /// What was seen of the places, in order of place, and all offences.
+    pub fn into_parts(self) -> (Vec<Look>, Vec<Offence>)
+        requires { (j : Job) × IsSurvey j self }
+        ensures looks { (j : Job) → IsSurvey j self → AreLooks j result.0.items }
+        ensures places { (j : Job) → IsSurvey j self
+            → AreReachable j (places_of_looks result.0.items) }
+        ensures offences { result.1.items ≡ self.offences.items }
+    {
+        let Survey { walk, offences, .. } = self;
+        let looks = walk.looks;
+        (in_order(looks), offences)
+    }
+}
+
+/// The same looks, in order of place.
+fn in_order(looks: Vec<Look>) -> Vec<Look>
+    requires { AreApart (places_of_looks looks.items) }
+    ensures ordered { IsStrictlyIncreasing (map place_number (places_of_looks result.items)) }
+    ensures same { (l : Seen) → Has result.items l ↔ Has looks.items l }
+{
+    order_is_by_number();
+    let mut looks = looks;
+    looks.sort_unstable_by_key(|look| look.place());
+    looks
+}

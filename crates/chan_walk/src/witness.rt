@@ -1,0 +1,103 @@
+//! What shows that a program may not run: the path to a place that offends, and the values of the
+//! cause.
+
+ghost use Rattle.std.specs.Prelude.{◌≡◌, ◌↔◌, IfOk, IsTrue};
+ghost use Rattle.chan_walk.specs.Explained.{IsEvidenceOf, IsLike, IsPathOf, IsSecondPathOf};
+ghost use Rattle.chan_walk.specs.Guard.{Guards};
+ghost use Rattle.chan_walk.specs.Look.{places_of_looks};
+ghost use Rattle.chan_walk.specs.Offences.{AreOffences, first_verdict};
+ghost use Rattle.chan_walk.specs.Walk.{HasFound, IsFirstWhere};
+
+use crate::changed::second_path;
+use crate::evidence::{Evidence, evidence_at};
+use crate::exploring::Walk;
+use crate::guard::Guard;
+use crate::job::Job;
+use crate::look::Look;
+use crate::offence::{Offence, has_offence};
+use crate::path::path_at;
+use crate::place::Place;
+use std::alloc::{AllocError, Global};
+
+/// What shows that the first of a job's offences is one.
+///
+/// The path leads to a place with its address that offends by its reason. It is the shortest of all
+/// such paths, and of several that are equally short the one that goes on to `next` where another
+/// goes to `skip`, at the first place where they part. A run over exactly this path, on which
+/// nothing changes, shows the reason at its last place. The evidence is that of its last place, and
+/// the second path, chosen in the same way, leads to the CCW that is stored over, or to a place that
+/// takes the argument. Where nothing offends, there are none of them.
+#[derive(Debug, Drop)]
+pub struct Witness {
+    /// The places of the path, from the first place on.
+    pub path: Vec<Place>,
+    /// The values of the cause.
+    pub evidence: Option<Evidence>,
+    /// The places of the path to what is changed, where the reason is `ChangesCcw` or
+    /// `ChangesArgument`; else none.
+    pub second_path: Vec<Place>,
+}
+
+/// The paths, and the values of the cause, for the first of all offences of a job whose reachable
+/// places a walk has found.
+pub(crate) fn witness_of(
+    alloc: Global,
+    job: &Job,
+    walk: &Walk,
+    guard: &Guard,
+    offences: &[Offence],
+) -> Result<Witness, AllocError>
+    requires found { HasFound job.now walk.now }
+    requires guards { Guards job.now guard.now }
+    requires offences { AreOffences job.now offences.now }
+    ensures path { IfOk result
+        (λ w. IsPathOf job.now (first_verdict offences.now) w.path.items) }
+    ensures evidence { IfOk result
+        (λ w. IsEvidenceOf job.now (first_verdict offences.now) w.path.items w.evidence) }
+    ensures second { IfOk result (λ w. IsSecondPathOf job.now w.evidence w.second_path.items) }
+{
+    let Some(first) = offences.first() else {
+        return Ok(Witness {
+            path: Vec::new(alloc),
+            evidence: None,
+            second_path: Vec::new(alloc),
+        });
+    };
+    // The first offence's own place is one.
+    let at = first_like(walk.looks.as_slice(), offences, *first).unwrap();
+    let path = path_at(alloc, walk, at)?;
+    let evidence = evidence_at(alloc, job, walk, guard, &walk.looks[at], first.reason)?;
+    let second_path = second_path(alloc, walk, &evidence)?;
+    Ok(Witness {
+        path,
+        evidence: Some(evidence),
+        second_path,
+    })
+}
+
+/// The index of the first place at which there is an offence with the address and the reason of
+/// this one.
+fn first_like(looks: &[Look], offences: &[Offence], offence: Offence) -> Option<usize>
+    ensures { IsFirstWhere (IsLike offences.now offence) (places_of_looks looks.now) result }
+{
+    for at in 0..looks.len() {
+        if is_like(offences, offence, looks[at].place()) {
+            return Some(at);
+        }
+    }
+    None
+}
+
+/// Whether there is an offence at a place with the address and the reason of this one.
+fn is_like(offences: &[Offence], offence: Offence, place: Place) -> bool
+    ensures { IsTrue result ↔ IsLike offences.now offence place }
+{
+    if place.address != offence.place.address {
+        return false;
+    }
+    let wanted = Offence {
+        place,
+        reason: offence.reason,
+    };
+    has_offence(offences, wanted.number())
+}

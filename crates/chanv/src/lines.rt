@@ -1,0 +1,341 @@
+//! What each command takes, as a table, and the command line that is built of it.
+
+ghost use Rattle.std.specs.Prelude.{◌≡◌, false, IfOk, IsOkAnd};
+ghost use Rattle.clap.specs.Words.{App, app_of, new_app, rule_of, with_rule, with_subcommand};
+ghost use Rattle.chanv.specs.CommandLine.{chanv, program_line};
+ghost use Rattle.chanv.specs.CommandWords.{IsCommand};
+ghost use Rattle.chanv.specs.Lines.{line_in, rule_in, with_lines};
+
+use clap::{Arg, ArgAction, Command};
+use std::alloc::{AllocError, Global};
+
+/// A word of a command, or an option with a value.
+pub(crate) struct Word<'a> {
+    /// Its name, and that of the option.
+    name: &'a str,
+    /// What help calls the value of an option; none where it is no option.
+    value: Option<&'a str>,
+    /// Whether it has to be given.
+    is_required: bool,
+    /// Whether it may come any number of times.
+    is_repeated: bool,
+    /// What help says of it.
+    help: &'a str,
+}
+
+/// A command.
+pub(crate) struct Line<'a> {
+    /// Its name.
+    name: &'a str,
+    /// What help says of it.
+    about: &'a str,
+    /// What its help says behind its words.
+    after_help: Option<&'a str>,
+    /// Its words and options, in the order of help.
+    words: &'a [Word<'a>],
+}
+
+/// What a line may look like, for help and for a usage fault before any command.
+const USAGE: &str = "chanv verify [FILE]...
+       chanv list [FILE]
+       chanv why [FILE]
+       chanv graph [FILE]
+       chanv needs [FILE]
+       chanv deck --start <ADDRESS> --extent <FIRST-LAST> [OPTIONS] [FILE]
+       chanv explain <WORD>
+       chanv show <CCW>";
+
+/// What the help of `verify` says behind its words.
+const OF_VERIFY: &str = "What comes out:
+  Standard input alone   a line `yes`, or a line `no ADDRESS REASON`
+  Each FILE              the same line behind `FILE: `
+  What isn't a deck      a line on standard error, as `chanv: FILE: deck line 9: form`
+
+The exit status is the greatest of these:
+  0  yes: the channel program may run
+  1  no: ADDRESS is that of the first CCW that offends
+  2  not a deck, longer than 67,108,864 bytes, or too many places are reachable
+  3  a FILE can't be opened, reading or writing failed, or memory ran out
+  4  the command line is wrong
+
+docs/DECK.md has the grammar of decks, docs/VERDICT.md the reasons.";
+
+/// What the help of a command for one deck says behind its words.
+const OF_ONE: &str = "The exit status is that of `chanv verify`, whose help has it.";
+
+/// What the help of `needs` says behind its words.
+const OF_NEEDS: &str = "What comes out, in a deck's own lines but for keep:
+  mask XX               the strictest file mask that serves
+  extent FFF LLL        cylinders that seeks go to; without such a line any will do
+  fetch SSSSSS LLLLLL   an area that has to be lent for fetching
+  store SSSSSS LLLLLL   an area that has to be lent for storing
+  keep SSSSSS LLLLLL    an area in which nobody else may store while the program runs
+
+Where no job will do, it is the explanation of the no under the job that grants all there is, and
+the exit status is 1. Else the exit status is that of `chanv verify`, whose help has it.
+
+Mask, extents and areas of the deck don't matter. Its limit does, on the places that are reachable
+where all is granted: there may be too many where `chanv verify` says no, and never where it says
+yes.";
+
+/// What the help of `deck` says behind its words.
+const OF_DECK: &str = "Addresses, lengths and the mask are hexadecimal, cylinders and the limit \
+decimal. An option
+with <START+LENGTH> may come any number of times, and so may --extent. Storage ends
+with the image, filled with zeros to a multiple of 8.
+
+The deck is written to standard output, so that it can be judged at once:
+  chanv deck --start 3A98 --extent 0-202 core.bin | chanv why
+
+The exit status:
+  0  the deck was written
+  2  the image is longer than storage may be
+  3  FILE can't be opened, reading or writing failed, or memory ran out
+  4  the command line is wrong";
+
+/// The decks to judge.
+const DECKS: &[Word] = &[Word {
+    name: "FILE",
+    value: None,
+    is_required: false,
+    is_repeated: true,
+    help: "a deck; - is standard input, and so is no FILE at all",
+}];
+
+/// The deck to tell of.
+const DECK: &[Word] = &[Word {
+    name: "FILE",
+    value: None,
+    is_required: false,
+    is_repeated: false,
+    help: "a deck; - is standard input, and so is no FILE at all",
+}];
+
+/// The options of a deck that is made of an image, and the image.
+const IMAGE: &[Word] = &[
+    Word {
+        name: "device",
+        value: Some("NUMBER"),
+        is_required: false,
+        is_repeated: false,
+        help: "2311 or 2314; 2314 if left out",
+    },
+    Word {
+        name: "mask",
+        value: Some("BYTE"),
+        is_required: false,
+        is_repeated: false,
+        help: "the file mask; 00 if left out",
+    },
+    Word {
+        name: "start",
+        value: Some("ADDRESS"),
+        is_required: true,
+        is_repeated: false,
+        help: "where the first CCW stands",
+    },
+    Word {
+        name: "limit",
+        value: Some("PLACES"),
+        is_required: false,
+        is_repeated: false,
+        help: "how many places may be reachable; 4096 if left out",
+    },
+    Word {
+        name: "extent",
+        value: Some("FIRST-LAST"),
+        is_required: true,
+        is_repeated: true,
+        help: "cylinders of the file",
+    },
+    Word {
+        name: "fetch",
+        value: Some("START+LENGTH"),
+        is_required: false,
+        is_repeated: true,
+        help: "an area lent for fetching",
+    },
+    Word {
+        name: "store",
+        value: Some("START+LENGTH"),
+        is_required: false,
+        is_repeated: true,
+        help: "an area lent for storing",
+    },
+    Word {
+        name: "at",
+        value: Some("ADDRESS"),
+        is_required: false,
+        is_repeated: false,
+        help: "where the image begins; 0 if left out",
+    },
+    Word {
+        name: "FILE",
+        value: None,
+        is_required: false,
+        is_repeated: false,
+        help: "the bytes of storage; - is standard input, and so is no FILE at all",
+    },
+];
+
+/// The commands, in the order of help.
+const LINES: &[Line] = &[
+    Line {
+        name: "show",
+        about: "shows one channel command word",
+        after_help: None,
+        words: &[Word {
+            name: "CCW",
+            value: None,
+            is_required: true,
+            is_repeated: false,
+            help: "sixteen hexadecimal digits",
+        }],
+    },
+    Line {
+        name: "verify",
+        about: "says of each deck whether its channel program may run; so does chanv without words",
+        after_help: Some(OF_VERIFY),
+        words: DECKS,
+    },
+    Line {
+        name: "list",
+        about: "lists the reachable CCWs of a deck, with the verdict",
+        after_help: Some(OF_ONE),
+        words: DECK,
+    },
+    Line {
+        name: "why",
+        about: "explains the verdict on a deck: the path to the CCW, and the cause",
+        after_help: Some(OF_ONE),
+        words: DECK,
+    },
+    Line {
+        name: "graph",
+        about: "draws the program of a deck, in Graphviz's language",
+        after_help: Some(OF_ONE),
+        words: DECK,
+    },
+    Line {
+        name: "needs",
+        about: "says under which jobs the program of a deck may run, and what it keeps",
+        after_help: Some(OF_NEEDS),
+        words: DECK,
+    },
+    Line {
+        name: "deck",
+        about: "writes the deck of an image of storage",
+        after_help: Some(OF_DECK),
+        words: IMAGE,
+    },
+    Line {
+        name: "explain",
+        about: "says what a reason or a cause means, and what usually mends it",
+        after_help: None,
+        words: &[Word {
+            name: "WORD",
+            value: None,
+            is_required: true,
+            is_repeated: false,
+            help: "the reason of a verdict, or the cause for which a deck is refused",
+        }],
+    },
+];
+
+/// The command line that the program takes. It isn't inlined, and nor is `line_command`, so that
+/// what each takes of the stack is given back before the words are read.
+#[inline(never)]
+pub(crate) fn command<'a>(alloc: Global) -> Result<Command<'a>, AllocError>
+    ensures { IfOk result (λ c. app_of c ≡ chanv) }
+{
+    commands_over(alloc, LINES)
+}
+
+/// The program with these commands.
+fn commands_over<'a>(alloc: Global, lines: &[Line<'a>]) -> Result<Command<'a>, AllocError>
+    ensures { IfOk result (λ c. app_of c ≡ with_lines program_line lines.now) }
+{
+    let mut command = program(alloc);
+    for line in lines {
+        command = with_line(alloc, command, line);
+    }
+    command
+}
+
+/// The program without commands.
+fn program<'a>(alloc: Global) -> Result<Command<'a>, AllocError>
+    ensures { IfOk result (λ c. app_of c ≡ program_line) }
+{
+    Ok(
+        Command::new(alloc, "chanv")
+            .about("verifies channel programs")
+            .version("0.1.0")
+            .override_usage(USAGE),
+    )
+}
+
+/// Adds the command of a line.
+#[inline(never)]
+fn with_line<'a>(
+    alloc: Global,
+    command: Result<Command<'a>, AllocError>,
+    line: &Line<'a>,
+) -> Result<Command<'a>, AllocError>
+    ensures { IfOk result (λ c. IsOkAnd command.entry (λ old. app_of c
+        ≡ with_subcommand (app_of old) (line_in line.now).top)) }
+{
+    let command = command?;
+    command.subcommand(line_command(alloc, line)?)
+}
+
+/// The command of a line.
+#[inline(never)]
+fn line_command<'a>(alloc: Global, line: &Line<'a>) -> Result<Command<'a>, AllocError>
+    ensures { IfOk result (IsCommand (line_in line.now)) }
+{
+    let mut command = Ok(titled(alloc, line));
+    for word in line.words {
+        command = with_word(alloc, command, word);
+    }
+    command
+}
+
+/// The command of a line without words.
+fn titled<'a>(alloc: Global, line: &Line<'a>) -> Command<'a>
+    ensures { IsCommand (new_app line.now.name.now) result }
+{
+    let command = Command::new(alloc, line.name).about(line.about);
+    match line.after_help {
+        Some(text) => command.after_help(text),
+        None => command,
+    }
+}
+
+/// Adds a word.
+fn with_word<'a>(
+    alloc: Global,
+    command: Result<Command<'a>, AllocError>,
+    word: &Word<'a>,
+) -> Result<Command<'a>, AllocError>
+    ensures { IfOk result (λ c. IsOkAnd command.entry (λ old. (line : App) → IsCommand line old
+        → IsCommand (with_rule line (rule_in word.now)) c)) }
+{
+    command?.arg(arg_of(alloc, word))
+}
+
+/// The argument of a word.
+fn arg_of<'a>(alloc: Global, word: &Word<'a>) -> Arg<'a>
+    ensures { (rule_of result ≡ rule_in word.now) × (result.global ≡ false) }
+{
+    let arg = Arg::new(alloc, word.name)
+        .required(word.is_required)
+        .help(word.help);
+    let arg = match word.value {
+        Some(value) => arg.long(word.name).value_name(value),
+        None => arg,
+    };
+    if word.is_repeated {
+        return arg.action(ArgAction::Append);
+    }
+    arg
+}

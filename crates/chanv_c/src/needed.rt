@@ -1,0 +1,222 @@
+//! What a channel program needs of each job that it runs under, and what it keeps.
+
+ghost use Rattle.std.specs.Prelude.{◌≡◌, ◌≢◌, ◌<◌, ◌≤◌, ◌↔◌, map, IfOk, IfErr, IsTrue, OnOk};
+ghost use Rattle.chan_walk.specs.Explored.{HasMoreThan};
+ghost use Rattle.chan_walk.specs.Needs.{open_job};
+ghost use Rattle.chan_walk.specs.Rows.{IsOpenJob, Listed, listed};
+ghost use Rattle.chan_walk.specs.Verdict.{IsVerdict};
+ghost use Rattle.chan_walk.specs.declared.error.WalkError.TheVariants as walk;
+ghost use Rattle.chan_walk.specs.declared.verdict.Verdict as declared;
+ghost use Rattle.chanv_c.specs.Asked.{IsJobOf};
+ghost use Rattle.chanv_c.specs.Faults.{HasNoFault, IsRefused};
+ghost use Rattle.chanv_c.specs.Needed.{AreToldNeeds, HasTooManyOpenly, HaveRoom, IsFound};
+ghost use Rattle.chanv_c.specs.Needed.{IsOpenFor, IsOpenRefusal, IsToldNo, StandFirst, run_row};
+ghost use Rattle.chanv_c.specs.Needed.{told_alone, told_needs};
+
+use crate::asked::{CExtent, CJob, make_ready};
+use crate::refusal::Refusal;
+use crate::rows::{write_areas, write_runs};
+use crate::verifying::CVerdict;
+use ccw_core::Area;
+use chan_walk::{Job, Needs, OpenJob, Reason, Verdict, WalkError, survey};
+use std::alloc::Global;
+
+/// `struct chanv_needed`.
+#[repr(C)]
+#[derive(Clone, Copy)]
+pub struct CNeeded {
+    pub verdict: CVerdict,
+    pub extents: usize,
+    pub fetch: usize,
+    pub store: usize,
+    pub keep: usize,
+    pub storage_len: u32,
+    pub mask: u32,
+}
+
+/// What is found of a program.
+#[derive(Drop)]
+pub(crate) enum Found {
+    /// What it needs and keeps.
+    Needed(Needs),
+    /// No job will do, since the open job has this no.
+    NoJob { address: u32, reason: Reason },
+}
+
+/// What the program of the job needs of each job that it runs under, and what it keeps: 0 where
+/// some job will do and each list took its rows; 1 where none will, with the verdict on the open
+/// job; 11 where a list has more rows than there is room for, with the same as for 0 but for the
+/// rows. Else it says why there is no answer, as `chanv_verify` does; too many places are those
+/// that are reachable where all is granted. All else is written as 0. Only for 0 is anything
+/// written to the lists. What the job grants doesn't matter.
+#[unsafe(no_mangle)]
+pub extern "C" fn chanv_needs(
+    alloc: Global,
+    job: &CJob<'_>,
+    out: &mut CNeeded,
+    extents: &mut [CExtent],
+    fetch: &mut [Area],
+    store: &mut [Area],
+    keep: &mut [Area],
+) -> u32
+    ensures yes { result ≡ 0 → (n : Listed) × AreToldNeeds job.now n out.new
+        × StandFirst (map run_row n.extents) extents.old extents.new
+        × StandFirst n.fetch fetch.old fetch.new
+        × StandFirst n.store store.old store.new
+        × StandFirst n.keep keep.old keep.new }
+    ensures no { result ≡ 1 → IsToldNo job.now out.new }
+    ensures room { result ≡ 11 → (n : Listed) × AreToldNeeds job.now n out.new
+        × (HaveRoom n extents.old fetch.old store.old keep.old → ⊥) }
+    ensures left { result ≢ 0 → (extents.new ≡ extents.old) × (fetch.new ≡ fetch.old)
+        × (store.new ≡ store.old) × (keep.new ≡ keep.old) }
+    ensures many { result ≡ 2 → HasTooManyOpenly job.now }
+
+    // A job is refused by its first fault, and one that has a fault gets no answer.
+    ensures refused { 4 ≤ result → result ≤ 10 → IsRefused job.now result out.new.verdict.extent }
+    ensures accepted { result < 3 → HasNoFault job.now }
+    ensures roomless { result ≡ 11 → HasNoFault job.now }
+    ensures codes { result ≤ 11 }
+
+    ensures nothing { 2 ≤ result → result ≤ 10 → out.new
+        ≡ told_alone (record { extent = out.new.verdict.extent; address = 0; reason = 0 }) }
+    ensures no_extent { result < 4 → out.new.verdict.extent ≡ 0 }
+{
+    let needs = match found_of(alloc, job) {
+        Ok(Found::Needed(needs)) => needs,
+        Ok(Found::NoJob { address, reason }) => {
+            *out = alone(0, address, u32::from(reason.number()));
+            return 1;
+        }
+        Err(refusal) => {
+            *out = alone(refusal.extent(), 0, 0);
+            return refusal.code();
+        }
+    };
+    *out = told(&needs);
+    if !have_room(&needs, extents, fetch, store, keep) {
+        return 11;
+    }
+    write_runs(needs.extents.as_slice(), extents);
+    write_areas(needs.fetch.as_slice(), fetch);
+    write_areas(needs.store.as_slice(), store);
+    write_areas(needs.keep.as_slice(), keep);
+    0
+}
+
+/// What is told where there are no needs.
+fn alone(extent: usize, address: u32, reason: u32) -> CNeeded
+    ensures { result ≡ told_alone (record { extent = extent; address = address; reason = reason }) }
+{
+    CNeeded {
+        verdict: CVerdict {
+            extent,
+            address,
+            reason,
+        },
+        extents: 0,
+        fetch: 0,
+        store: 0,
+        keep: 0,
+        storage_len: 0,
+        mask: 0,
+    }
+}
+
+/// What is told of needs, but for the rows.
+fn told(needs: &Needs) -> CNeeded
+    ensures { result ≡ told_needs (listed needs.now) }
+{
+    CNeeded {
+        verdict: CVerdict {
+            extent: 0,
+            address: 0,
+            reason: 0,
+        },
+        extents: needs.extents.len(),
+        fetch: needs.fetch.len(),
+        store: needs.store.len(),
+        keep: needs.keep.len(),
+        storage_len: needs.storage_len,
+        mask: u32::from(needs.mask.byte()),
+    }
+}
+
+/// Whether each list has room for its rows.
+fn have_room(
+    needs: &Needs,
+    extents: &[CExtent],
+    fetch: &[Area],
+    store: &[Area],
+    keep: &[Area],
+) -> bool
+    ensures { IsTrue result
+        ↔ HaveRoom (listed needs.now) extents.now fetch.now store.now keep.now }
+{
+    needs.extents.len() <= extents.len()
+        && needs.fetch.len() <= fetch.len()
+        && needs.store.len() <= store.len()
+        && needs.keep.len() <= keep.len()
+}
+
+/// What is found of the program of the job that C asks about.
+fn found_of(alloc: Global, asked: &CJob<'_>) -> Result<Found, Refusal>
+    ensures found { IfOk result (IsFound asked.now) }
+    ensures right { OnOk result (HasNoFault asked.now) }
+    ensures refusal { IfErr result (IsOpenRefusal asked.now) }
+{
+    let ready = match make_ready(alloc, asked) {
+        Ok(ready) => ready,
+        Err(refusal) => return Err(refusal),
+    };
+    let job = ready.job(asked);
+    found_for(alloc, asked, &job)
+}
+
+/// What is found of the program of a job that is the one that C asks about.
+fn found_for(alloc: Global, asked: &CJob<'_>, job: &Job) -> Result<Found, Refusal>
+    requires asked { IsJobOf asked.now job.now }
+    requires right { HasNoFault asked.now }
+    ensures found { IfOk result (IsFound asked.now) }
+    ensures refusal { IfErr result (IsOpenRefusal asked.now) }
+{
+    match OpenJob::of(alloc, job) {
+        Ok(open) => found_on(alloc, asked, job, &open.job()),
+        Err(_) => Err(Refusal::Memory),
+    }
+}
+
+/// What is found of a program by its open job.
+fn found_on(alloc: Global, asked: &CJob<'_>, job: &Job, open: &Job) -> Result<Found, Refusal>
+    requires asked { IsJobOf asked.now job.now }
+    requires right { HasNoFault asked.now }
+    requires open { IsOpenJob job.now open.now }
+    requires verdict { (v : declared.Verdict) → IsVerdict open.now v
+        ↔ IsVerdict (open_job job.now) v }
+    ensures found { IfOk result (IsFound asked.now) }
+    ensures refusal { IfErr result (IsOpenRefusal asked.now) }
+{
+    let survey = match survey(alloc, open) {
+        Ok(survey) => survey,
+        Err(error) => return Err(no_needs(asked, open, error)),
+    };
+    match survey.verdict() {
+        Verdict::Yes => match survey.needs(alloc, open) {
+            Ok(needs) => Ok(Found::Needed(needs)),
+            Err(_) => Err(Refusal::Memory),
+        },
+        Verdict::No { address, reason } => Ok(Found::NoJob { address, reason }),
+    }
+}
+
+/// Why a call over the open job of the program that C asks about gave no answer.
+fn no_needs(_asked: &CJob<'_>, _open: &Job, error: WalkError) -> Refusal
+    requires open { IsOpenFor _asked.now _open.now }
+    requires right { HasNoFault _asked.now }
+    requires many { error ≡ walk.TooManyPlaces → HasMoreThan _open.now _open.now.limit }
+    ensures { IsOpenRefusal _asked.now result }
+{
+    match error {
+        WalkError::TooManyPlaces => Refusal::TooManyPlaces,
+        WalkError::Memory => Refusal::Memory,
+    }
+}

@@ -1,0 +1,99 @@
+//! The texts of usage faults that name an option.
+
+use crate::devices::Narrow;
+use ccw_core::Watched;
+use chan_run::{ImageOption, OptionFault, report_option};
+use std::alloc::Global;
+use std::process::Abort;
+
+/// An option, a text that isn't accepted, and the text of the fault.
+static FAULTS: [(ImageOption, &str, &str); 8] = [
+    (
+        ImageOption::Device,
+        "3330",
+        "error: invalid value '3330' for '--device <NUMBER>': 2311 or 2314
+
+For more information, try '--help'.
+",
+    ),
+    (
+        ImageOption::Mask,
+        "20",
+        "error: invalid value '20' for '--mask <BYTE>': a hexadecimal byte with no bits on but C0 and 18
+
+For more information, try '--help'.
+",
+    ),
+    (
+        ImageOption::Start,
+        "1000000",
+        "error: invalid value '1000000' for '--start <ADDRESS>': a hexadecimal address, at most FFFFFF
+
+For more information, try '--help'.
+",
+    ),
+    (
+        ImageOption::Limit,
+        "0",
+        "error: invalid value '0' for '--limit <PLACES>': a decimal number, 1 to 65536
+
+For more information, try '--help'.
+",
+    ),
+    (
+        ImageOption::Extent,
+        "19-10",
+        "error: invalid value '19-10' for '--extent <FIRST-LAST>': decimal cylinders in order, 0 to 202, as 10-19
+
+For more information, try '--help'.
+",
+    ),
+    (
+        ImageOption::Fetch,
+        "",
+        "error: invalid value '' for '--fetch <START+LENGTH>': hexadecimal start and length, each at most FFFFFF, as 900+10
+
+For more information, try '--help'.
+",
+    ),
+    (
+        ImageOption::Store,
+        "A00",
+        "error: invalid value 'A00' for '--store <START+LENGTH>': hexadecimal start and length, each at most FFFFFF, as 900+10
+
+For more information, try '--help'.
+",
+    ),
+    (
+        ImageOption::At,
+        "x",
+        "error: invalid value 'x' for '--at <ADDRESS>': a hexadecimal address, at most FFFFFF
+
+For more information, try '--help'.
+",
+    ),
+];
+
+/// Whether a fault has this text, over a writer that takes all and one that fails after a byte.
+fn expect(rt: &impl Abort, alloc: Global, fault: OptionFault, text: &str) {
+    let mut to = Watched::new(Vec::new(alloc));
+    assert_eq!(rt; report_option(fault, &mut to), 4);
+    assert_eq!(rt; to.into_inner().as_slice(), text.as_bytes());
+    let mut failing = Watched::new(Narrow {
+        room: 1,
+        taken: Vec::new(alloc),
+    });
+    assert_eq!(rt; report_option(fault, &mut failing), 4);
+    assert_eq!(rt; failing.into_inner().taken.as_slice(), b"e".as_slice());
+}
+
+#[test]
+fn names_each_option(rt: HostRuntime) {
+    for (option, text, said) in &FAULTS {
+        let fault = OptionFault {
+            option: *option,
+            text: *text,
+        };
+        expect(&rt, rt.alloc(), fault, said);
+    }
+}

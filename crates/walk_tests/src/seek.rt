@@ -1,0 +1,71 @@
+//! Worked cases of the argument of a seek.
+
+use crate::image::image;
+use ccw_core::Storage;
+use chan_walk::seek_argument;
+use std::test::Fail;
+
+/// A program, and the argument of the seek at `800`.
+struct Case<'a> {
+    name: &'a str,
+    puts: &'a [(usize, u64)],
+    argument: Option<[u8; 6]>,
+}
+
+static CASES: [Case<'static>; 5] = [
+    Case {
+        name: "seek-through-transfer",
+        puts: &[
+            (0x800, 0x0700_0900_8000_0002),
+            (0x808, 0x0800_0820_0000_0000),
+            (0x820, 0x0000_0904_4000_0004),
+            (0x828, 0x0300_0000_0000_0001),
+            (0x900, 0x0000_0000_000A_0000),
+        ],
+        argument: Some([0, 0, 0, 0x0A, 0, 0]),
+    },
+    Case {
+        name: "seek-two-transfers",
+        puts: &[
+            (0x800, 0x0700_0900_8000_0002),
+            (0x808, 0x0800_0820_0000_0000),
+            (0x820, 0x0800_0830_0000_0000),
+            (0x828, 0x0300_0000_0000_0001),
+            (0x900, 0x0000_0000_000A_0000),
+        ],
+        argument: None,
+    },
+    Case {
+        name: "split-argument",
+        puts: &[
+            (0x800, 0x0700_0900_8000_0002),
+            (0x808, 0x0000_0904_8000_0002),
+            (0x810, 0x0000_0908_4000_0002),
+            (0x900, 0x0000_0000_000A_0000),
+        ],
+        argument: Some([0, 0, 0, 0x0A, 0, 0]),
+    },
+    Case {
+        name: "seek-verdicts/head-19-on-2314",
+        puts: &[
+            (0x800, 0x0700_0900_0000_0006),
+            (0x900, 0x0000_000A_0013_0000),
+        ],
+        argument: Some([0, 0, 0, 0x0A, 0, 0x13]),
+    },
+    Case {
+        name: "seek-verdicts/five-bytes",
+        puts: &[(0x800, 0x0700_0900_0000_0005)],
+        argument: None,
+    },
+];
+
+#[test]
+fn arguments(rt: HostRuntime) -> Result<(), Fail> {
+    for case in &CASES {
+        let bytes = image(rt.alloc(), 4096, case.puts)?;
+        let argument = seek_argument(&Storage::new(&bytes)?, 0x800);
+        assert_eq!(rt; argument, case.argument, "{}", case.name);
+    }
+    Ok(())
+}

@@ -1,0 +1,81 @@
+"""Finds what the tests run, and builds what is written in C."""
+
+import os
+import shlex
+from pathlib import Path
+
+from expecting import CannotRun
+from running import run
+
+ROOT = Path(__file__).resolve().parent.parent
+HERE = ROOT / "tests"
+FLAGS = ["-std=c11", "-Wall", "-Wextra", "-Werror", "-O2"]
+
+
+def short(path):
+    """The path from the top of the repository, for the names of checks."""
+    return str(path.relative_to(ROOT))
+
+
+def crates():
+    """The names that crates.txt lists, lowest first."""
+    lines = (ROOT / "crates.txt").read_text().splitlines()
+    return [line.partition(":")[0].split()[0] for line in lines if line and line[0] != "#"]
+
+
+class Built:
+    """The programs, and the library for C; paths that aren't given are those of this repository.
+
+    `jobs` says how many crates may be proved at a time; None leaves it to `rt`.
+    """
+
+    def __init__(self, program=None, one_call=None, library=None, jobs=None):
+        self.jobs = jobs
+        self._chanv = program or ROOT / "crates/chanv/out/chanv"
+        self._one_call = one_call or ROOT / "crates/one_call/out/one_call"
+        self._library = library
+
+    def chanv(self):
+        return existing(self._chanv)
+
+    def one_call(self):
+        return existing(self._one_call)
+
+    def library(self):
+        """The folder with libchanv.a and chanv.h. `make lib` builds them, if none was given."""
+        if self._library is None:
+            must_succeed("make", "-C", ROOT, "lib", timeout=None)
+            self._library = ROOT / "out"
+        folder = Path(self._library).absolute()
+        for name in ("libchanv.a", "chanv.h"):
+            if not (folder / name).is_file():
+                raise CannotRun(f"no {folder / name}")
+        return folder
+
+
+def existing(program):
+    path = Path(program).absolute()
+    if not (path.is_file() and os.access(path, os.X_OK)):
+        raise CannotRun(f"no program {path}")
+    return path
+
+
+def compile_c(source, made, *flags):
+    """Compiles a file with the C compiler, which is $CC or cc."""
+    must_succeed(*shlex.split(os.environ.get("CC") or "cc"), "-o", made, source, *flags)
+    return made
+
+
+def compile_with(library, source, made):
+    """Compiles a program that asks the library for C, which stands in a folder."""
+    linked = [f"-I{library}", library / "libchanv.a", "-pthread"]
+    return compile_c(source, made, *FLAGS, *linked)
+
+
+def must_succeed(*words, **how):
+    try:
+        ran = run(*words, **how)
+    except OSError as error:
+        raise CannotRun(f"{words[0]}: {error.strerror}") from error
+    if ran.status != 0:
+        raise CannotRun(f"{shlex.join(map(str, words))}\n{ran.output}{ran.error}")

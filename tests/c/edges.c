@@ -1,0 +1,300 @@
+/* Asks at the edges: NULL for empty lists, each fault of a job and two at once, the limits, too
+ * little room, several threads. Each line is the name of a case, the call's code, and what it
+ * wrote. */
+#include <chanv.h>
+#include <inttypes.h>
+#include <pthread.h>
+#include <stdio.h>
+#include <stdlib.h>
+#include <string.h>
+
+static uint8_t storage[16777217];
+static struct chanv_extent cylinders[] = {{10, 19}}, backwards[] = {{10, 19}, {9, 3}, {3, 203}},
+                           past[] = {{10, 19}, {0, 202}, {3, 203}, {9, 3}};
+static struct chanv_area fetch[] = {{0x900, 0x10}}, store[] = {{0xA00, 0x100}};
+static struct chanv_area all[] = {{0, 0x1000}};
+static const struct chanv_areas no_areas = {NULL, 0};
+
+/* The job of the usual search loop, which it just has room for. */
+static const struct chanv_job good = {
+    .storage = {storage, 0x1000},
+    .extents = {cylinders, 1},
+    .fetch = {fetch, 1},
+    .store = {store, 1},
+    .start = 0x800,
+    .limit = 3,
+    .device = 2314,
+    .mask = 0x00,
+};
+
+static void put(uint32_t address, uint64_t ccw)
+{
+    for (int i = 0; i < 8; i++)
+        storage[address + i] = (uint8_t)(ccw >> (56 - 8 * i));
+}
+
+/* Whether so many rows from the front are written, and none behind them. */
+static int are_written(const struct chanv_place *rows, size_t room, size_t written)
+{
+    for (size_t i = 0; i < room; i++)
+        if ((i < written) == (rows[i].address == 0x77777777))
+            return 0;
+    return 1;
+}
+
+/* Asks why with so much room, and says what was told and whether the rows are as they should be. */
+static uint32_t why(struct chanv_job job, struct chanv_place *path, size_t room,
+                    struct chanv_place *second_path, size_t second_room,
+                    struct chanv_explanation *told)
+{
+    memset(told, 0x77, sizeof *told);
+    if (room != 0)
+        memset(path, 0x77, sizeof *path * room);
+    if (second_room != 0)
+        memset(second_path, 0x77, sizeof *second_path * second_room);
+    uint32_t answer = chanv_why(&job, path, room, second_path, second_room, told);
+    int written = answer == CHANV_NO;
+    printf("why %" PRIu32 ", %zu and %zu", answer, told->path, told->second_path);
+    if (!are_written(path, room, written ? told->path : 0)
+        || !are_written(second_path, second_room, written ? told->second_path : 0))
+        printf(", wrong rows");
+    return answer;
+}
+
+/* Whether nothing is told but perhaps an extent. */
+static int is_empty(const struct chanv_explanation *told)
+{
+    static const struct chanv_evidence no_values;
+    return told->path == 0 && told->second_path == 0 && told->verdict.address == 0
+           && told->verdict.reason == 0
+           && memcmp(&told->evidence, &no_values, sizeof no_values) == 0;
+}
+
+/* `chanv_why` says what `chanv_verify` said, and what it doesn't tell is 0. */
+static void ask_why(struct chanv_job job, uint32_t verified, const struct chanv_verdict *verdict)
+{
+    enum { ROOM = CHANV_LARGEST_LIMIT + 1 };
+    static struct chanv_place path[ROOM], second_path[ROOM];
+    struct chanv_explanation told;
+    uint32_t answer = why(job, path, ROOM, second_path, ROOM, &told);
+    if (answer != verified || memcmp(&told.verdict, verdict, sizeof *verdict) != 0)
+        printf(", another verdict");
+    if (told.evidence.reason != verdict->reason || (answer != CHANV_NO && !is_empty(&told)))
+        printf(", wrong values");
+    printf("\n");
+}
+
+static void print_path(const char *name, const struct chanv_place *path, size_t count)
+{
+    printf("; %s", name);
+    for (size_t i = 0; i < count; i++)
+        printf(" %06" PRIX32 " %u %u", path[i].address, path[i].entered, path[i].after_transfer);
+}
+
+/* Asks why with room for so many rows. */
+static void why_with_room(const char *name, struct chanv_job job, size_t room, size_t second_room)
+{
+    static struct chanv_place rows[4], second_rows[4];
+    struct chanv_place *path = room == 0 ? NULL : rows;
+    struct chanv_place *second_path = second_room == 0 ? NULL : second_rows;
+    struct chanv_explanation told;
+    printf("%s: ", name);
+    uint32_t answer = why(job, path, room, second_path, second_room, &told);
+    struct chanv_evidence values = told.evidence;
+    printf(", %06" PRIX32 " %s, range %06" PRIX32 " %" PRIX32 ", address %06" PRIX32,
+           told.verdict.address, chanv_reason_word(values.reason), values.range.start,
+           values.range.len, values.address);
+    if (answer == CHANV_NO) {
+        print_path("path", path, told.path);
+        print_path("second", second_path, told.second_path);
+    }
+    printf("\n");
+}
+
+/* All calls, with what they wrote. What isn't to be written is looked at. */
+static void ask(const char *name, struct chanv_job job)
+{
+    static struct chanv_place rows[CHANV_LARGEST_LIMIT + 1], before[CHANV_LARGEST_LIMIT + 1];
+    struct chanv_verdict verdict = {77, 77, 77};
+    size_t count = 77, written;
+    uint32_t verified = chanv_verify(&job, &verdict);
+    printf("%s: verify %" PRIu32 ", %06" PRIX32 " %s, extent %zu", name, verified, verdict.address,
+           verdict.reason ? chanv_reason_word(verdict.reason) : "-", verdict.extent);
+    memset(rows, 0x77, sizeof rows);
+    memcpy(before, rows, sizeof rows);
+    uint32_t answer = chanv_list(&job, rows, CHANV_LARGEST_LIMIT + 1, &count);
+    written = answer == CHANV_LISTED ? count : 0;
+    size_t rest = sizeof *rows * (CHANV_LARGEST_LIMIT + 1 - written);
+    int is_past = memcmp(rows + written, before + written, rest) != 0;
+    const char *more = is_past ? ", written past the end" : "";
+    printf("; list %" PRIu32 ", %zu%s; ", answer, count, more);
+    ask_why(job, verified, &verdict);
+}
+
+/* Asks with so much room. */
+static void list(const char *name, struct chanv_job job, struct chanv_place *rows, size_t room)
+{
+    size_t count = 77;
+    uint32_t answer = chanv_list(&job, rows, room, &count);
+    printf("%s: list %" PRIu32 ", %zu", name, answer, count);
+    for (size_t i = 0; answer == CHANV_LISTED && i < count; i++)
+        printf(", %06" PRIX32 " %u %u", rows[i].address, rows[i].entered, rows[i].after_transfer);
+    printf("\n");
+}
+
+/* Asks a thousand times, and says how often the answer was the right one. */
+static void *ask_often(void *about)
+{
+    const struct chanv_job *job = about;
+    uintptr_t right = 0;
+    for (int i = 0; i < 1000; i++) {
+        struct chanv_verdict verdict;
+        struct chanv_place rows[3];
+        struct chanv_explanation told;
+        size_t count;
+        right += chanv_verify(job, &verdict) == CHANV_NO && verdict.address == 0x810
+                 && verdict.reason == 10 && chanv_list(job, rows, 3, &count) == CHANV_LISTED
+                 && count == 3 && rows[2].address == 0x810
+                 && chanv_why(job, rows, 3, NULL, 0, &told) == CHANV_NO && told.path == 2
+                 && rows[1].address == 0x810;
+    }
+    return (void *)right;
+}
+
+static void ask_in_threads(struct chanv_job job)
+{
+    pthread_t threads[4];
+    uintptr_t right = 0;
+    for (int i = 0; i < 4; i++)
+        if (pthread_create(&threads[i], NULL, ask_often, &job) != 0)
+            exit(4);
+    for (int i = 0; i < 4; i++) {
+        void *of_one;
+        pthread_join(threads[i], &of_one);
+        right += (uintptr_t)of_one;
+    }
+    printf("four threads: %" PRIuPTR " right answers\n", right);
+}
+
+/* A search loop whose read stores over the CCW behind it. */
+static void ask_with_little_room(void)
+{
+    struct chanv_job job = good;
+    job.fetch = job.store = (struct chanv_areas){all, 1};
+    put(0x810, 0x0600081840000008);
+    put(0x818, 0x0300000000000001);
+    job.limit = 4;
+    ask("a store over the next CCW", job);
+    why_with_room("no room, NULL", job, 0, 0);
+    why_with_room("room for one and three", job, 1, 3);
+    why_with_room("room for two and none, NULL", job, 2, 0);
+    why_with_room("room for two and two", job, 2, 2);
+    why_with_room("room for two and three", job, 2, 3);
+    why_with_room("room for four and four", job, 4, 4);
+    put(0x810, 0x06000A0020000050);
+}
+
+static void ask_with_nothing_lent(void)
+{
+    struct chanv_job job = good;
+    job.store = no_areas;
+    ask("nothing lent for storing, NULL", job);
+    why_with_room("a path of two, no second", job, 2, 0);
+    ask_in_threads(job);
+    job.fetch = no_areas;
+    ask("nothing lent, NULL", job);
+}
+
+static void ask_with_another_value(void)
+{
+    struct chanv_job job = good;
+    job.storage = (struct chanv_bytes){NULL, 0};
+    ask("no storage, NULL", job);
+    job = good, job.start = 0x801;
+    ask("misaligned start", job);
+    job.start = 0xFFFFFFFF;
+    ask("the last address", job);
+    job = good, job.device = 2311;
+    ask("2311", job);
+}
+
+/* A job with each fault that it can have at once, of which one after the other is taken away. */
+static void ask_with_faults(void)
+{
+    struct chanv_job job = {
+        .storage = {storage, sizeof storage},
+        .fetch = good.fetch,
+        .store = good.store,
+        .start = 0x800,
+        .limit = 0,
+        .device = 3330,
+        .mask = 0x01,
+    };
+    ask("all faults", job);
+    job.storage.len--;
+    ask("storage of 16 MiB", job);
+    job.device = 2314;
+    ask("a device", job);
+    job.mask = 0xD8;
+    ask("a mask, and no extent, NULL", job);
+    job.extents = (struct chanv_extents){backwards, 3};
+    ask("extents, backwards first", job);
+    job.extents = (struct chanv_extents){past, 4};
+    ask("extents, past the device first", job);
+    job.extents = (struct chanv_extents){past, 2};
+    ask("right extents", job);
+    job.limit = 65537;
+    ask("a limit that is too large", job);
+    job.limit = 65536;
+    ask("a limit", job);
+}
+
+static void list_with_little_room(void)
+{
+    struct chanv_job job = good;
+    struct chanv_place rows[4];
+    list("no room, NULL", good, NULL, 0);
+    list("room for two", good, rows, 2);
+    list("room for three", good, rows, 3);
+    job.limit = 2;
+    list("three places where two are allowed", job, rows, 4);
+}
+
+static void ask_at_the_limits(void)
+{
+    struct chanv_job job = {
+        .storage = {storage, 16777216},
+        .extents = good.extents,
+        .device = 2314,
+    };
+    for (uint32_t i = 0; i < 65537; i++)
+        put(0x1000 + 8 * i, 0x0300000040000001);
+    put(0x1000 + 8 * 65537, 0x0300000000000001);
+    job.start = 0x1000 + 8 * 2;
+    job.limit = 65536;
+    ask("65,536 places", job);
+    job.start -= 8;
+    ask("65,537 places", job);
+    job.start = 0x1000 + 8 * (65537 - 4095);
+    job.limit = 4096;
+    ask("4,096 places", job);
+    job.limit = 4095;
+    ask("4,096 places, one fewer allowed", job);
+}
+
+int main(void)
+{
+    put(0x800, 0x3100090040000005);
+    put(0x808, 0x0800080000000000);
+    put(0x810, 0x06000A0020000050);
+    ask("search loop", good);
+    ask_with_little_room();
+    ask_with_nothing_lent();
+    ask_with_another_value();
+    ask_with_faults();
+    list_with_little_room();
+    ask_at_the_limits();
+    for (uint32_t reason = 0; reason < 18; reason++)
+        printf("reason %" PRIu32 ": %s\n", reason, chanv_reason_word(reason));
+    return 0;
+}

@@ -1,0 +1,152 @@
+/* Makes one call, so that the growths of memory in that call can be refused one by one. It is about
+ * the search loop, and that of `chanv_why` about one whose read stores over the CCW behind it.
+ *
+ *     one_call CALL     verify, list, why, needs, grants or beside; prints what it answers, and
+ *                       ends with its code, or with 0 where it is the answer that is due
+ *     one_call setup    all that comes before the call
+ *
+ * The status is 99 where something was written that shouldn't be. Nothing here asks for memory.
+ */
+#include <chanv.h>
+#include <string.h>
+#include <unistd.h>
+
+static uint8_t storage[0x1000];
+
+static void put(uint32_t address, uint64_t ccw)
+{
+    for (int i = 0; i < 8; i++)
+        storage[address + i] = (uint8_t)(ccw >> (56 - 8 * i));
+}
+
+static int say(const char *text)
+{
+    return write(1, text, strlen(text)) == (ssize_t)strlen(text) ? 0 : 98;
+}
+
+static int verify(const struct chanv_job *job)
+{
+    static const struct chanv_verdict empty = {0, 0, 0};
+    struct chanv_verdict verdict = {7, 7, 7};
+    uint32_t answer = chanv_verify(job, &verdict);
+    if (memcmp(&verdict, &empty, sizeof empty) != 0)
+        return 99;
+    return answer == CHANV_YES ? say("yes\n") : (int)answer;
+}
+
+static int list(const struct chanv_job *job)
+{
+    struct chanv_place rows[4], before[4];
+    size_t count = 7;
+    memset(rows, 7, sizeof rows);
+    memcpy(before, rows, sizeof rows);
+    uint32_t answer = chanv_list(job, rows, 4, &count);
+    size_t written = answer == CHANV_LISTED ? 3 : 0;
+    if (count != written
+        || memcmp(rows + written, before + written, sizeof *rows * (4 - written)) != 0)
+        return 99;
+    return answer == CHANV_LISTED ? say("3\n") : (int)answer;
+}
+
+static int why(const struct chanv_job *job)
+{
+    static const struct chanv_explanation empty;
+    struct chanv_explanation told;
+    struct chanv_place path[4], second_path[4], before[4];
+    memset(&told, 7, sizeof told);
+    memset(path, 7, sizeof path);
+    memset(second_path, 7, sizeof second_path);
+    memcpy(before, path, sizeof path);
+    uint32_t answer = chanv_why(job, path, 4, second_path, 4, &told);
+    size_t written = answer == CHANV_NO ? 2 : 0, second_written = answer == CHANV_NO ? 3 : 0;
+    if (told.path != written || told.second_path != second_written
+        || memcmp(path + written, before, sizeof *path * (4 - written)) != 0
+        || memcmp(second_path + second_written, before, sizeof *path * (4 - second_written)) != 0
+        || (answer != CHANV_NO && memcmp(&told, &empty, sizeof empty) != 0))
+        return 99;
+    return answer == CHANV_NO ? say("2 3\n") : (int)answer;
+}
+
+/* Room for four rows in each list, of which so many are written. */
+static int needs(const struct chanv_job *job)
+{
+    static const struct chanv_needed empty;
+    struct chanv_needed told;
+    struct chanv_extent extents[4];
+    struct chanv_area fetch[4], store[4], keep[4], before[4];
+    memset(&told, 7, sizeof told);
+    memset(extents, 7, sizeof extents);
+    memset(before, 7, sizeof before);
+    memcpy(fetch, before, sizeof fetch);
+    memcpy(store, before, sizeof store);
+    memcpy(keep, before, sizeof keep);
+    uint32_t answer = chanv_needs(job, &told, extents, 4, fetch, 4, store, 4, keep, 4);
+    size_t written = answer == CHANV_LISTED ? 1 : 0, left = sizeof *before * (4 - written);
+    if (told.extents != 0 || told.fetch != written || told.store != written || told.keep != written
+        || memcmp(extents, before, sizeof extents) != 0
+        || memcmp(fetch + written, before, left) != 0
+        || memcmp(store + written, before, left) != 0 || memcmp(keep + written, before, left) != 0
+        || (answer != CHANV_LISTED && memcmp(&told, &empty, sizeof empty) != 0))
+        return 99;
+    return answer == CHANV_LISTED ? say("1 1 1\n") : (int)answer;
+}
+
+/* What the search loop needs. */
+static struct chanv_area fetched[] = {{0x900, 5}}, stored[] = {{0xA00, 0x50}};
+static struct chanv_area kept[] = {{0x800, 0x18}};
+static const struct chanv_rows rows = {
+    .fetch = {fetched, 1},
+    .store = {stored, 1},
+    .keep = {kept, 1},
+    .storage_len = sizeof storage,
+    .mask = 0x58,
+};
+
+static int grants(const struct chanv_job *job)
+{
+    uint32_t answer = chanv_grants(job, &rows);
+    return answer == CHANV_YES ? say("yes\n") : (int)answer;
+}
+
+static int beside(const struct chanv_job *job)
+{
+    (void)job;
+    uint32_t answer = chanv_beside(&rows, &rows);
+    return answer == CHANV_YES ? say("yes\n") : (int)answer;
+}
+
+static const struct call {
+    const char *name;
+    int (*make)(const struct chanv_job *job);
+} calls[] = {
+    {"verify", verify}, {"list", list},     {"why", why},
+    {"needs", needs},   {"grants", grants}, {"beside", beside},
+};
+
+int main(int argc, char **argv)
+{
+    struct chanv_extent cylinders[] = {{10, 19}};
+    struct chanv_area fetch[] = {{0x900, 0x10}}, store[] = {{0xA00, 0x100}}, over[] = {{0x818, 8}};
+    struct chanv_job job = {
+        .storage = {storage, sizeof storage},
+        .extents = {cylinders, 1},
+        .fetch = {fetch, 1},
+        .store = {store, 1},
+        .start = 0x800,
+        .limit = CHANV_USUAL_LIMIT,
+        .device = 2314,
+    };
+    put(0x800, 0x3100090040000005);
+    put(0x808, 0x0800080000000000);
+    put(0x810, 0x06000A0020000050);
+    const char *name = argc < 2 ? "setup" : argv[1];
+    if (strcmp(name, "why") == 0) {
+        put(0x810, 0x0600081840000008);
+        put(0x818, 0x0300000000000001);
+        job.store.at = over;
+    }
+    for (size_t i = 0; i < sizeof calls / sizeof *calls; i++)
+        if (strcmp(name, calls[i].name) == 0)
+            return calls[i].make(&job);
+    return 0;
+}

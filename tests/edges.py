@@ -1,0 +1,118 @@
+"""chanv where its input or output is at an edge, and its usage faults.
+
+Status, standard output and standard error are those that the README says.
+"""
+
+import tempfile
+from pathlib import Path
+
+from examples import EXAMPLES, SEARCH_LOOP
+from faults import texts_of_help
+from running import Ran, run, run_in_bash, text_of
+
+MOST_BYTES = 67_108_864
+CCW, CCW_LINE = "06000A0020000050", "06 000A00 --L--0 00 0050 read\n"
+
+USAGE = """\
+chanv verify [FILE]...
+       chanv list [FILE]
+       chanv why [FILE]
+       chanv graph [FILE]
+       chanv needs [FILE]
+       chanv deck --start <ADDRESS> --extent <FIRST-LAST> [OPTIONS] [FILE]
+       chanv explain <WORD>
+       chanv show <CCW>"""
+
+
+def longest():
+    """A deck of as many bytes as a text may have: two extents, 3,355,437 areas, and one CCW."""
+    head = "chanv deck 1\ndevice 2314\nmask 00\nstart 000800\nextent 010 019\nextent 010 019\n"
+    tail = "storage 0001000\nput 000800 0300000000000001\nend\n"
+    return head + "fetch 000900 000010\n" * 3_355_437 + tail
+
+
+def many_places():
+    """A deck of 4,096 CCWs, whose listing is longer than what a pipe holds."""
+    head = "chanv deck 1\ndevice 2314\nmask 00\nstart 000800\nextent 010 019\nstorage 0010000\n"
+    puts = [f"put {address:06X} 0300000040000001\n" for address in range(0x800, 0x87F8, 8)]
+    return head + "".join(puts) + "put 0087F8 0300000000000001\nend\n"
+
+
+def check_lengths(checks, program, deck):
+    text = longest()
+    checks.expect("the length of the longest deck", MOST_BYTES, len(text))
+    deck.write_text(text)
+    checks.expect("the longest deck", Ran(0, "yes\n"), run(program, given=deck))
+    deck.write_text(f"{text}\n")
+    refused = Ran(2, "", "chanv: deck too long\n")
+    checks.expect("one byte more", refused, run(program, given=deck))
+
+
+def check_readers(checks, program, deck):
+    """Readers of the first row alone: of a listing that fits a pipe, and of one that doesn't."""
+    script = '"$@" | head -n 1; exit "${PIPESTATUS[0]}"'
+    row = "000800 fresh t . 31 000900 -C---0 00 0005 write search-id-equal\n"
+    ran = run_in_bash(script, program, "list", given=SEARCH_LOOP)
+    checks.expect("a reader of one row", Ran(0, row), ran)
+    deck.write_text(many_places())
+    row = "000800 fresh t . 03 000000 -C---0 00 0001 control no-operation\n"
+    ran = run_in_bash(script, program, "list", given=deck)
+    checks.expect("a reader that goes away", Ran(3, row, "chanv: write failed\n"), ran)
+
+
+def check_words(checks, program):
+    """The words of the command line: which stream gets a text, and the status."""
+    ran = run(program, "show", "0800")
+    checks.expect("not a CCW", Ran(4, "", "chanv: not a CCW\n"), ran)
+    lacking = "the following required arguments were not provided:\n  "
+    options = "--start <ADDRESS> --extent <FIRST-LAST>"
+    twice = "the argument '--start <ADDRESS>' cannot be used multiple times"
+    extra = "unexpected argument 'extra' found"
+    for words, fault, usage in [
+        (["judge"], "unrecognized subcommand 'judge'", USAGE),
+        ([SEARCH_LOOP.name], f"unrecognized subcommand '{SEARCH_LOOP.name}'", USAGE),
+        (["--fast"], "unexpected argument '--fast' found", USAGE),
+        (["show"], f"{lacking}<CCW>", "chanv show <CCW>"),
+        (["explain"], f"{lacking}<WORD>", "chanv explain <WORD>"),
+        (
+            ["deck"],
+            f"{lacking}--start <ADDRESS>\n  --extent <FIRST-LAST>",
+            f"chanv deck {options} [FILE]",
+        ),
+        (["deck", "--start", "8", "--start", "8"], twice, f"chanv deck [OPTIONS] {options} [FILE]"),
+        (["show", CCW, "extra"], extra, "chanv show <CCW>"),
+        (["list", SEARCH_LOOP, "extra"], extra, "chanv list [FILE]"),
+    ]:
+        error = f"error: {fault}\n\nUsage: {usage}\n\nFor more information, try '--help'.\n"
+        ran = run(program, *words, given=SEARCH_LOOP)
+        checks.expect(f"usage fault: {words}", Ran(4, "", error), ran)
+    ran = run(program, "verify", "--", "--help")
+    checks.expect("a FILE like an option", Ran(3, "", "chanv: --help: cannot open\n"), ran)
+    fault = "error: invalid UTF-8 was detected in one or more arguments"
+    error = f"{fault}\n\nFor more information, try '--help'.\n"
+    ran = run(program, b"show\xff")
+    checks.expect("a word that is not UTF-8", Ran(4, "", error), ran)
+
+
+def check_small_stack(checks, program):
+    for words, output in [
+        ("verify", "yes\n"),
+        ("list", text_of(EXAMPLES / "search-loop.list")),
+        ("why", "yes\n"),
+        ("needs", text_of(EXAMPLES / "search-loop.needs")),
+        (f"show {CCW}", CCW_LINE),
+        ("--help", texts_of_help()["--help"]),
+    ]:
+        script = 'ulimit -s 40 && exec "$@"'
+        ran = run_in_bash(script, program, *words.split(), given=SEARCH_LOOP)
+        checks.expect(f"{words}, a stack of 40 KiB", Ran(0, output), ran)
+
+
+def check(checks, built):
+    program = built.chanv()
+    with tempfile.TemporaryDirectory() as room:
+        deck = Path(room) / "deck"
+        check_lengths(checks, program, deck)
+        check_readers(checks, program, deck)
+    check_words(checks, program)
+    check_small_stack(checks, program)

@@ -1,0 +1,33 @@
+"""The decks of examples/ and of examples/cases/, which most tests go through."""
+
+from building import ROOT
+from running import text_of
+
+EXAMPLES = ROOT / "examples"
+FOLDERS = (EXAMPLES, EXAMPLES / "cases")
+
+SEARCH_LOOP = EXAMPLES / "search-loop.deck"
+CHANGES_ITSELF = EXAMPLES / "changes-itself.deck"
+
+# What who follows the README leaves in examples/. Git ignores it, and so do the tests.
+MADE_BY_READERS = "dump.deck"
+
+
+def decks_of(folder):
+    """The paths of a folder's decks, by name."""
+    return sorted(path for path in folder.glob("*.deck") if path.name != MADE_BY_READERS)
+
+
+def verdicts_of(folder):
+    """The verdict of each deck that the folder's verdicts.txt names."""
+    lines = text_of(folder / "verdicts.txt").splitlines()
+    return dict(line.split("\t") for line in lines)
+
+
+def status_of(verdict):
+    return 0 if verdict == "yes" else 1
+
+
+def status_of_needs(text):
+    """Where no job will do, the text begins as an explanation does, and else with a mask."""
+    return 1 if text.startswith("no ") else 0

@@ -1,0 +1,217 @@
+"""Each command with each fault that its input or a stream can have, and the help of each.
+
+The tables say what comes of an input, as the README and docs/ have it. The answers over decks are
+the texts that stand beside them in examples/, and help.txt has the help, written from the commands
+of crates/chanv/src/lines.rt. What becomes of all this where a stream is full or closed follows from
+two rules: a failed write to standard output ends the run with status 3, and what standard error
+can't take is left out.
+"""
+
+import re
+import tempfile
+from functools import partial
+from pathlib import Path
+from typing import NamedTuple
+
+from building import HERE, ROOT
+from examples import EXAMPLES, SEARCH_LOOP, status_of, status_of_needs, verdicts_of
+from running import Ran, run_in_bash, text_of
+from words import sections_of
+
+CCW, CCW_LINE = "06000A0020000050", "06 000A00 --L--0 00 0050 read\n"
+WRITE_FAILED = "chanv: write failed\n"
+
+# decks that are answered, with the examples that they are
+ANSWERED = {"yes": "search-loop", "noted": "trips", "no": "chained-and-fresh"}
+ENDINGS = {"list": ".list", "why": ".why", "graph": ".dot", "needs": ".needs"}
+
+# The other decks: the status, what is said, and what `why` adds. `closed` is standard input that is
+# closed, and there is no `nowhere`.
+REFUSED = {
+    "damaged": (2, "deck line 3: form\n", "found mask\nexpected mask XX, where X is 0-9 or A-F\n"),
+    "empty": (2, "deck line 1: ended\n", "found \nexpected chanv deck 1, chanv deck 2\n"),
+    "many": (2, "too many places\n", ""),
+    "long": (2, "deck too long\n", ""),
+    "folder": (3, "read failed\n", ""),
+    "nowhere": (3, "cannot open\n", ""),
+    "closed": (3, "read failed\n", ""),
+}
+
+# images of storage that `deck` refuses; `long` is longer than storage may be too
+OF_IMAGE = "deck --start 800 --extent 10-19 --fetch 900+10 --store 900+10".split()
+REFUSED_IMAGES = {**REFUSED, "long": (2, "image too long\n", "")}
+IMAGES = ("core", "empty", "long", "folder", "nowhere", "closed")
+MOST_BYTES = 67_108_864
+
+
+class Run(NamedTuple):
+    words: list
+    # what standard input is
+    given: str
+    # what comes of each input, or of the words alone
+    parts: list
+
+
+def whole(parts):
+    outputs, errors = zip(*[(part.output, part.error) for part in parts])
+    return Ran(max(part.status for part in parts), "".join(outputs), "".join(errors))
+
+
+def unwritten(parts):
+    """The first part that has an output ends the run."""
+    for at, part in enumerate(parts):
+        if part.output:
+            return Ran(3, "", "".join(it.error for it in parts[:at]) + WRITE_FAILED)
+    return whole(parts)
+
+
+def unheard(ended):
+    return lambda parts: ended(parts)._replace(error="")
+
+
+# how the streams are turned, and what then comes of all parts
+STREAMS = [
+    ("", whole),
+    ("> /dev/full", unwritten),
+    (">&-", unwritten),
+    ("2> /dev/full", unheard(whole)),
+    ("2>&-", unheard(whole)),
+    (">&- 2>&-", unheard(unwritten)),
+]
+
+
+def make_files(folder):
+    deck = text_of(SEARCH_LOOP)
+    limited = deck.replace("chanv deck 1\n", "chanv deck 2\n")
+    for name, example in ANSWERED.items():
+        (folder / name).write_bytes((EXAMPLES / f"{example}.deck").read_bytes())
+    (folder / "damaged").write_text(deck.replace("\nmask 00\n", "\nmask\n"))
+    (folder / "many").write_text(limited.replace("\nextent", "\nlimit 00002\nextent"))
+    (folder / "core").write_bytes((EXAMPLES / "core.bin").read_bytes())
+    (folder / "empty").touch()
+    with (folder / "long").open("wb") as file:
+        file.truncate(MOST_BYTES + 1)
+    (folder / "folder").mkdir()
+
+
+def refused(action, fault, name):
+    status, said, hint = fault
+    front = f"{name}: " if name else ""
+    return Ran(status, "", f"chanv: {front}{said}{hint if action == 'why' else ''}")
+
+
+def of_deck(action, deck, name=""):
+    """What comes of a deck, which is an input with that name, or standard input alone."""
+    if deck in REFUSED:
+        return refused(action, REFUSED[deck], name)
+    example = EXAMPLES / f"{ANSWERED[deck]}.deck"
+    verdict = verdicts_of(EXAMPLES)[example.name]
+    if action == "verify":
+        front = f"{name}: " if name else ""
+        return Ran(status_of(verdict), f"{front}{verdict}\n")
+    notes = example.with_suffix(".notes")
+    error = text_of(notes) if action == "why" and notes.is_file() else ""
+    text = text_of(example.with_suffix(ENDINGS[action]))
+    return Ran(status_of_needs(text) if action == "needs" else status_of(verdict), text, error)
+
+
+def of_image(image, name=""):
+    """What comes of an image of storage; that of no bytes makes a deck without storage."""
+    deck = text_of(EXAMPLES / "changes-argument.deck")
+    if image == "core":
+        return Ran(0, deck)
+    if image == "empty":
+        return Ran(0, re.sub(r"(?s)storage .*end", "storage 0000000\nend", deck))
+    return refused("deck", REFUSED_IMAGES[image], name)
+
+
+def over_each(words, inputs, part_of):
+    """Runs over standard input, without a name and by its name, and over the file itself."""
+    for name in inputs:
+        if name != "nowhere":
+            yield Run(words, name, [part_of(name)])
+            yield Run([*words, "-"], name, [part_of(name)])
+        if name != "closed":
+            yield Run([*words, name], "closed", [part_of(name, name)])
+
+
+def over_decks():
+    decks = [*ANSWERED, *REFUSED]
+    for deck in decks:
+        if deck != "nowhere":
+            yield Run([], deck, [of_deck("verify", deck)])
+    for action in ("verify", *ENDINGS):
+        # there are no texts of what the others say of it
+        known = [it for it in decks if it != "noted" or action in ("verify", "why")]
+        yield from over_each([action], known, partial(of_deck, action))
+
+
+def over_two_decks():
+    names = ["yes", "no", "damaged", "empty", "many", "folder", "nowhere", "-"]
+    parts = [of_deck("verify", "closed" if name == "-" else name, name) for name in names]
+    for one, part in zip(names, parts):
+        for other, other_part in zip(names, parts):
+            yield Run(["verify", one, other], "closed", [part, other_part])
+
+
+def over_nothing():
+    """Words that need no input, and wrong ones."""
+    meaning = sections_of(text_of(ROOT / "docs/VERDICT.md"))["changes-ccw"]
+    usage = re.search(r"(?s)Usage: .*?\n\n", texts_of_help()["--help"])[0]
+    fault = f"error: unrecognized subcommand 'judge'\n\n{usage}"
+    for words, part in [
+        (["show", CCW], Ran(0, CCW_LINE)),
+        (["show", "0800"], Ran(4, "", "chanv: not a CCW\n")),
+        (["explain", "changes-ccw"], Ran(0, meaning)),
+        (["explain", "nothing"], Ran(4, "", "chanv: no such word\n")),
+        (["judge"], Ran(4, "", f"{fault}For more information, try '--help'.\n")),
+        (["--version"], Ran(0, "chanv 0.1.0\n")),
+        (["-V"], Ran(0, "chanv 0.1.0\n")),
+        *[(words, Ran(0, text)) for words, text in helps()],
+    ]:
+        for given in ("yes", "closed"):
+            yield Run(words, given, [part])
+
+
+def texts_of_help():
+    """What stands in help.txt behind each line with a dollar, by that line's words."""
+    pieces = re.split(r"(?m)^\$ chanv (.*)\n", text_of(HERE / "help.txt"))[1:]
+    return {words: f"{text.rstrip()}\n" for words, text in zip(pieces[::2], pieces[1::2])}
+
+
+def helps():
+    """Each way to ask for the help of the program or of a command, with its text."""
+    for words, text in texts_of_help().items():
+        command = words.removeprefix("help ")
+        if words == "--help":
+            ways = ["--help", "-h", "help"]
+        elif command == "help":
+            ways = [words]
+        else:
+            ways = [words, f"{command} --help", f"{command} -h"]
+        yield from [(way.split(), text) for way in ways]
+
+
+def runs():
+    yield from over_decks()
+    yield from over_two_decks()
+    yield from over_each(OF_IMAGE, IMAGES, of_image)
+    yield from over_nothing()
+
+
+def check_run(checks, program, folder, asked):
+    given = "<&-" if asked.given == "closed" else f"< {asked.given}"
+    is_long = "long" in (asked.given, *asked.words)
+    for redirection, expected in STREAMS[:1] if is_long else STREAMS:
+        script = f'exec "$@" {given} {redirection}'
+        ran = run_in_bash(script, program, *asked.words, cwd=folder)
+        name = " ".join(["chanv", *asked.words, given, redirection])
+        checks.expect(name, expected(asked.parts), ran)
+
+
+def check(checks, built):
+    program = built.chanv()
+    with tempfile.TemporaryDirectory() as room:
+        make_files(Path(room))
+        for asked in runs():
+            check_run(checks, program, room, asked)

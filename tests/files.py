@@ -1,0 +1,121 @@
+"""Files that the command line names: several, missing, damaged, many, and `-`.
+
+Streams are closed too. Each run is in a folder with the files `yes`, `no`, `damaged`, `many`, `-`,
+`no right` and the folder `folder`; there is no `nowhere`. Status, standard output and standard
+error are those that the README says.
+"""
+
+import shlex
+import tempfile
+from pathlib import Path
+
+from examples import CHANGES_ITSELF, EXAMPLES, SEARCH_LOOP
+from running import Ran, run, run_in_bash, text_of
+
+YES, NO = "yes: yes\n", "no: no 000810 changes-ccw\n"
+DAMAGED = "deck line 3: form\n"
+HINT = "found mask\nexpected mask XX, where X is 0-9 or A-F\n"
+
+
+def make_files(folder):
+    deck = text_of(SEARCH_LOOP)
+    limited = deck.replace("chanv deck 1\n", "chanv deck 2\n")
+    (folder / "yes").write_text(deck)
+    (folder / "no").write_text(text_of(CHANGES_ITSELF))
+    (folder / "damaged").write_text(deck.replace("\nmask 00\n", "\nmask\n"))
+    (folder / "many").write_text(limited.replace("\nextent", "\nlimit 00002\nextent"))
+    (folder / "-").write_text(deck)
+    (folder / "folder").mkdir()
+    (folder / "no right").touch()
+
+
+def check_names(checks, program, folder):
+    """Standard input is the deck `no`."""
+    listing = text_of(EXAMPLES / "search-loop.list")
+    missing, damaged = "chanv: nowhere: cannot open\n", f"chanv: damaged: {DAMAGED}"
+    for words, status, output, error in [
+        ("verify yes", 0, YES, ""),
+        ("verify no", 1, NO, ""),
+        ("verify yes no yes", 1, YES + NO + YES, ""),
+        ("verify damaged", 2, "", damaged),
+        ("verify yes damaged no", 2, YES + NO, damaged),
+        ("verify many", 2, "", "chanv: many: too many places\n"),
+        ("verify nowhere", 3, "", missing),
+        ("verify nowhere damaged yes", 3, YES, missing + damaged),
+        ("verify folder yes", 3, YES, "chanv: folder: read failed\n"),
+        ("verify ''", 3, "", "chanv: : cannot open\n"),
+        ("verify 'no right'", 2, "", "chanv: no right: deck line 1: ended\n"),
+        ("verify -- yes", 0, YES, ""),
+        ("list yes", 0, listing, ""),
+        ("list damaged", 2, "", damaged),
+        ("why damaged", 2, "", damaged + HINT),
+        ("list nowhere", 3, "", missing),
+        ("list folder", 3, "", "chanv: folder: read failed\n"),
+    ]:
+        ran = run(program, *shlex.split(words), cwd=folder, given=folder / "no")
+        checks.expect(words, Ran(status, output, error), ran)
+
+
+def check_standard_input(checks, program, folder):
+    """`-` is standard input, which is empty once it was read to its end; `./-` is a file."""
+    listing = text_of(EXAMPLES / "search-loop.list")
+    for given, words, status, output, error in [
+        ("no", "verify -", 1, "no 000810 changes-ccw\n", ""),
+        ("no", "verify yes -", 1, f"{YES}-: no 000810 changes-ccw\n", ""),
+        ("no", "verify ./-", 0, "./-: yes\n", ""),
+        ("damaged", "verify -", 2, "", f"chanv: {DAMAGED}"),
+        ("damaged", "verify - yes", 2, YES, f"chanv: -: {DAMAGED}"),
+        ("yes", "verify - -", 2, "-: yes\n", "chanv: -: deck line 1: ended\n"),
+        ("yes", "list -", 0, listing, ""),
+    ]:
+        ran = run(program, *words.split(), cwd=folder, given=folder / given)
+        checks.expect(f"{words} < {given}", Ran(status, output, error), ran)
+
+
+def check_streams(checks, program, folder):
+    """A write that fails ends the run: the file that comes after isn't looked at.
+
+    What standard error can't take is left out, and the status stays.
+    """
+    failed = "chanv: write failed\n"
+    for words, redirection, output, error in [
+        ("verify yes nowhere", "> /dev/full", "", failed),
+        ("verify yes nowhere", ">&-", "", failed),
+        ("verify damaged yes nowhere", ">&-", "", f"chanv: damaged: {DAMAGED}{failed}"),
+        ("list yes", ">&-", "", failed),
+        ("verify - yes", "<&-", YES, "chanv: -: read failed\n"),
+        ("verify nowhere yes", "2>&-", YES, ""),
+    ]:
+        ran = run_in_bash(f'exec "$@" {redirection}', program, *words.split(), cwd=folder)
+        checks.expect(f"{words} {redirection}", Ran(3, output, error), ran)
+
+
+def check_limits(checks, program, folder):
+    """Many files take as much memory and as few descriptors as one; 40 KiB of stack are enough."""
+    names = ["yes"] * 2000
+    ran = run_in_bash('ulimit -n 8 && exec "$@"', program, "verify", *names, cwd=folder)
+    checks.expect("two thousand files", Ran(0, YES * 2000), ran)
+    for words in (
+        "verify yes",
+        "verify -",
+        "verify yes no damaged",
+        "list yes",
+        "verify --help",
+        "--version",
+    ):
+        given = [program, *words.split()]
+        expected = run(*given, cwd=folder, given=folder / "yes")
+        script = 'ulimit -s 40 && exec "$@"'
+        ran = run_in_bash(script, *given, cwd=folder, given=folder / "yes")
+        checks.expect(f"{words}, a stack of 40 KiB", expected, ran)
+
+
+def check(checks, built):
+    program = built.chanv()
+    with tempfile.TemporaryDirectory() as room:
+        folder = Path(room)
+        make_files(folder)
+        check_names(checks, program, folder)
+        check_standard_input(checks, program, folder)
+        check_streams(checks, program, folder)
+        check_limits(checks, program, folder)

@@ -1,0 +1,117 @@
+"""Decks made of images of storage, how options may be spelled, and what is refused.
+
+Each deck of examples/ and examples/cases/ is taken apart, into the image of its storage and the
+options of its job; the deck that `chanv deck` makes of them has to be the same text. So has the one
+that is made of as much of the image as its puts need, with its first zeros left to `--at`, where
+that is all of storage.
+"""
+
+import tempfile
+from pathlib import Path
+
+from building import short
+from examples import FOLDERS, SEARCH_LOOP, decks_of
+from running import Ran, run, text_of
+
+FOR_HELP = "\n\nFor more information, try '--help'.\n"
+ADDRESS = "a hexadecimal address, at most FFFFFF"
+AREA = "hexadecimal start and length, each at most FFFFFF, as 900+10"
+CYLINDERS = "decimal cylinders in order, 0 to 202, as 10-19"
+MASK = "a hexadecimal byte with no bits on but C0 and 18"
+LIMIT = "a decimal number, 1 to 65536"
+TOO_LONG = bytes(0x1000001)
+
+# options with a word that they don't accept
+REFUSED = [
+    ("--device", "<NUMBER>", "3330", "2311 or 2314"),
+    ("--mask", "<BYTE>", "01", MASK),
+    ("--mask", "<BYTE>", "100", MASK),
+    ("--limit", "<PLACES>", "0", LIMIT),
+    ("--limit", "<PLACES>", "65537", LIMIT),
+    ("--extent", "<FIRST-LAST>", "9-203", CYLINDERS),
+    ("--extent", "<FIRST-LAST>", "9-8", CYLINDERS),
+    ("--fetch", "<START+LENGTH>", "900", AREA),
+    ("--store", "<START+LENGTH>", "900+1000000", AREA),
+    ("--at", "<ADDRESS>", "0x10", ADDRESS),
+]
+
+
+def taken_apart(text):
+    """The options of a deck's job, and its storage."""
+    words, storage = [], bytearray()
+    for line in text.splitlines():
+        match line.split():
+            case ["device" | "mask" | "start" | "limit" as name, value]:
+                words += [f"--{name}", value]
+            case ["extent", first, last]:
+                words += ["--extent", f"{first}-{last}"]
+            case ["fetch" | "store" as name, start, length]:
+                words += [f"--{name}", f"{start}+{length}"]
+            case ["storage", size]:
+                storage = bytearray(int(size, 16))
+            case ["put", address, digits]:
+                storage[int(address, 16) : int(address, 16) + 8] = bytes.fromhex(digits)
+    return words, bytes(storage)
+
+
+def check_decks(checks, program):
+    for path in [deck for folder in FOLDERS for deck in decks_of(folder)]:
+        text = text_of(path)
+        words, storage = taken_apart(text)
+        ran = run(program, "deck", *words, given=storage)
+        checks.expect(short(path), Ran(0, text), ran)
+        image = storage.lstrip(b"\0")
+        if image:
+            words += ["--at", f"{len(storage) - len(image):x}"]
+            ran = run(program, "deck", *words, given=image)
+            checks.expect(f"{short(path)} from its first byte on", Ran(0, text), ran)
+
+
+def check_spellings(checks, program):
+    text = text_of(SEARCH_LOOP)
+    storage = taken_apart(text)[1]
+    plain = ["--start", "800", "--extent", "10-19", "--fetch", "900+10", "--store", "a00+100"]
+    joined = ["--start=0000800", "--extent=010-019", "--store=A00+0100", "--fetch=0900+10"]
+    for name, words, image in [
+        ("options as a person writes them", plain, storage),
+        ("options joined to their values", joined, storage),
+        ("standard input by its name", [*plain, "-"], storage),
+        ("an odd end", plain, storage[:-7]),
+    ]:
+        checks.expect(name, Ran(0, text), run(program, "deck", *words, given=image))
+    with tempfile.TemporaryDirectory() as folder:
+        core, long, none = (Path(folder) / name for name in ("core", "long", "none"))
+        core.write_bytes(storage)
+        long.write_bytes(TOO_LONG)
+        for file, expected in [
+            (core, Ran(0, text)),
+            (long, Ran(2, "", f"chanv: {long}: image too long\n")),
+            (folder, Ran(3, "", f"chanv: {folder}: read failed\n")),
+            (none, Ran(3, "", f"chanv: {none}: cannot open\n")),
+        ]:
+            checks.expect(f"the file {file}", expected, run(program, "deck", *plain, file))
+
+
+def check_refusals(checks, program):
+    job = ["--start", "8", "--extent", "0-9"]
+    refused = Ran(2, "", "chanv: image too long\n")
+    checks.expect("a byte too much", refused, run(program, "deck", *job, given=TOO_LONG))
+    ran = run(program, "deck", *job, "--at", "FFFFFF", given=b"ab")
+    checks.expect("a byte too far", refused, ran)
+    for option, value, word, accepted in REFUSED:
+        ran = run(program, "deck", *job, option, word)
+        checks.expect(f"{option} {word}", fault(f"{option} {value}", word, accepted), ran)
+    # of several the first in the order of a deck's lines is named
+    ran = run(program, "deck", "--store", "1", "--extent", "9", "--start", "+8")
+    checks.expect("the first of three", fault("--start <ADDRESS>", "+8", ADDRESS), ran)
+
+
+def fault(option, word, accepted):
+    return Ran(4, "", f"error: invalid value '{word}' for '{option}': {accepted}{FOR_HELP}")
+
+
+def check(checks, built):
+    program = built.chanv()
+    check_decks(checks, program)
+    check_spellings(checks, program)
+    check_refusals(checks, program)

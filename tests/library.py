@@ -1,0 +1,147 @@
+"""The library for C: its example, answers, edges, refused memory and archive.
+
+The programs of c/ and examples/c/ ask it. What they should write was worked out from the rules:
+edges.out and needs.out of c/; the verdicts and listings of the decks of examples/ and
+examples/cases/; the paths and values of each no among them in why-examples.out and why-cases.out of
+c/; the words of chan_walk's src/reason.rt; and the example of docs/EMBEDDING.md, whose text has to
+be that of ask.c. A deck's job grants what its program needs exactly where its verdict is yes. The
+archive may ask only for what the C library has to have, and each growth of memory in a call is
+refused in turn.
+"""
+
+import re
+import tempfile
+from pathlib import Path
+
+from building import HERE, ROOT, compile_with, short
+from examples import EXAMPLES, FOLDERS, decks_of, status_of, status_of_needs, verdicts_of
+from refusing import Case, Growths
+from running import Ran, run, text_of
+
+TESTS = ("decks", "edges", "needs", "one_call")
+SOURCES = [EXAMPLES / "c/ask.c", *[HERE / f"c/{name}.c" for name in TESTS]]
+MAY_ASK_FOR = {"memcpy", "memmove", "memset", "malloc", "realloc", "free"}
+OF_THE_RUNTIME = {"rattle_alloc", "rattle_realloc", "rattle_dealloc"}
+CALLS = {f"chanv_{call}" for call in ("verify", "list", "why", "needs", "grants", "beside")}
+
+# what chanv_list answers where there is no room
+NO_ROOM = 11
+
+
+def check_document(checks, folder):
+    """The document shows the example as it stands, and what it prints."""
+    blocks = re.findall(r"```(\w*)\n(.*?)```", text_of(ROOT / "docs/EMBEDDING.md"), re.S)
+    shown = ("c", text_of(EXAMPLES / "c/ask.c")) in blocks
+    checks.expect_that("the document shows the example", shown, "another text")
+    supervisor = text_of(EXAMPLES / "c/supervisor.c")
+    parts = [text for word, text in blocks if word == "c" and "may_start" in text]
+    shown = parts and all(text in supervisor for text in parts)
+    checks.expect_that("the document shows a part of the supervisor", shown, parts)
+    ran = run(folder / "ask")
+    checks.expect("the example's status", (0, ""), (ran.status, ran.error))
+    checks.expect_that("the document shows its lines", ("text", ran.output) in blocks, ran.output)
+
+
+def check_lines(checks, folder, name):
+    """The program writes the lines that stand beside it. It gives those that it wrote."""
+    ran = run(folder / name)
+    checks.expect(name, (0, ""), (ran.status, ran.error))
+    wanted, seen = text_of(HERE / f"c/{name}.out").splitlines(), ran.output.splitlines()
+    checks.expect(f"{name}, how many lines", len(wanted), len(seen))
+    for line in zip(wanted, seen):
+        checks.expect(name, *line)
+    return seen
+
+
+def check_edges(checks, folder):
+    seen = check_lines(checks, folder, "edges")
+    check_words(checks, [line.split(": ", 1) for line in seen if line.startswith("reason ")])
+
+
+def check_words(checks, said):
+    """The header's words are those of the reasons, by number."""
+    code = text_of(ROOT / "crates/chan_walk/src/reason.rt")
+    numbers = {int(n): variant for variant, n in re.findall(r"Reason::(\w+) => (\d+),", code)}
+    words = dict(re.findall(r'Reason::(\w+) => "([\w-]+)",', code))
+    checks.expect("how many reasons", 16, len(numbers))
+    for name, word in said:
+        number = int(name.removeprefix("reason "))
+        checks.expect(name, words[numbers[number]] if number in numbers else "", word)
+
+
+def check_archive(checks, library):
+    ran = run("nm", library / "libchanv.a")
+    symbols = [line.split()[-2:] for line in ran.output.splitlines() if len(line.split()) > 1]
+    defined = {name for kind, name in symbols if kind.isupper() and kind != "U"}
+    asked = {name for kind, name in symbols if kind == "U"}
+    checks.expect("what the archive asks for", MAY_ASK_FOR, asked - defined)
+    checks.expect("what the archive gives", CALLS, defined - OF_THE_RUNTIME)
+
+
+def reasons_of(folder):
+    """For each deck the lines of its paths and values, which stand in a block under its name."""
+    blocks = text_of(HERE / f"c/why-{folder.name}.out").rstrip("\n").split("\n\n")
+    return {name: f"{lines}\n" for name, lines in (block.split("\n", 1) for block in blocks)}
+
+
+def needs_of(text):
+    """Where no job will do, the library tells the verdict, and the command explains it, too."""
+    status = status_of_needs(text)
+    return Ran(status, text.splitlines(keepends=True)[0] if status else text)
+
+
+def check_decks(checks, program):
+    for folder in FOLDERS:
+        verdicts, reasons = verdicts_of(folder), reasons_of(folder)
+        found = [path.name for path in decks_of(folder)]
+        checks.expect(f"{short(folder)}, which decks", sorted(verdicts), found)
+        refused = sorted(name for name, verdict in verdicts.items() if verdict != "yes")
+        checks.expect(f"{short(folder)}, which have a no", refused, sorted(reasons))
+        for name, verdict in verdicts.items():
+            deck, status = folder / name, status_of(verdict)
+            ran = run(program, "verify", given=deck)
+            checks.expect(f"verify {short(deck)}", Ran(status, f"{verdict}\n"), ran)
+            why = f"{verdict}\n{reasons.get(name, '')}"
+            checks.expect(f"why {short(deck)}", Ran(status, why), run(program, "why", given=deck))
+            granted = "yes" if verdict == "yes" else "no"
+            ran = run(program, "grants", given=deck)
+            checks.expect(f"grants {short(deck)}", Ran(status, f"{granted}\n"), ran)
+            if deck.with_suffix(".needs").is_file():
+                wanted = needs_of(text_of(deck.with_suffix(".needs")))
+                checks.expect(f"needs {short(deck)}", wanted, run(program, "needs", given=deck))
+            if deck.with_suffix(".list").is_file():
+                check_listing(checks, program, deck)
+
+
+def check_listing(checks, program, deck):
+    """Address, entry and mark are those of the listing's rows, which the verdict follows."""
+    rows = text_of(deck.with_suffix(".list")).splitlines()[:-1]
+    wanted = "".join(" ".join(row.split(" ")[:3]) + "\n" for row in rows)
+    checks.expect(f"list {short(deck)}", Ran(0, wanted), run(program, "list", given=deck))
+    count = Ran(NO_ROOM, f"{len(rows)}\n")
+    checks.expect(f"count {short(deck)}", count, run(program, "count", given=deck))
+
+
+def refuse_growths(checks, folder):
+    growths, program = Growths(folder), folder / "one_call"
+    answers = {"verify": "yes", "list": "3", "why": "2 3", "needs": "1 1 1", "grants": "yes"}
+    setup = [program, "setup"]
+    for call, answer in answers.items():
+        case = Case(f"chanv_{call}", [program, call], Ran(0, f"{answer}\n"), before=setup)
+        growths.refuse_each(checks, case)
+    before, beside = growths.run(setup)[1], growths.run([program, "beside"])
+    checks.expect("chanv_beside takes no memory", (Ran(0, "yes\n"), before), beside)
+
+
+def check(checks, built):
+    library = built.library()
+    with tempfile.TemporaryDirectory() as room:
+        folder = Path(room)
+        for source in SOURCES:
+            compile_with(library, source, folder / source.stem)
+        check_document(checks, folder)
+        check_edges(checks, folder)
+        check_lines(checks, folder, "needs")
+        check_archive(checks, library)
+        check_decks(checks, folder / "decks")
+        refuse_growths(checks, folder)

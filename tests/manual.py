@@ -1,0 +1,93 @@
+"""Help, version, manual page, and completions for bash: each says what the others say."""
+
+import re
+
+from building import ROOT
+from examples import EXAMPLES
+from running import Ran, run, run_in_bash, text_of
+
+PAGE = ROOT / "docs/chanv.1"
+COMPLETIONS = ROOT / "docs/chanv.bash"
+VERSION = "chanv 0.1.0\n"
+COMMANDS = ["show", "verify", "list", "why", "graph", "needs", "deck", "explain"]
+
+# completes the last of the words that stand behind the file's name
+COMPLETE = """
+source "$1"
+shift
+COMP_WORDS=(chanv "$@")
+COMP_CWORD=$#
+_chanv
+printf '%s\\n' "${COMPREPLY[@]}"
+"""
+
+
+def check_help(checks, program):
+    """Help says the statuses and where the grammar and the reasons are, in a screen."""
+    ran = run(program, "verify", "--help")
+    checks.expect("both forms of help", run(program, "help", "verify"), ran)
+    is_a_screen = ran.status == 0 and len(ran.output.splitlines()) <= 24
+    for said in ["docs/DECK.md", "docs/VERDICT.md", *[f"\n  {status}  " for status in range(5)]]:
+        checks.expect_that(f"help says {said!r}", is_a_screen and said in ran.output, ran.output)
+
+
+def commands_of_help(program):
+    """The commands that help lists, in order of their letters."""
+    section = run(program, "--help").output.partition("\nCommands:\n")[2].partition("\n\n")[0]
+    return sorted(re.findall(r"(?m)^  ([a-z]+) ", section))
+
+
+def check_page(checks, program):
+    """The page is of this version, and has each command that help lists and no other."""
+    page, commands = text_of(PAGE), commands_of_help(program)
+    checks.expect("the version", Ran(0, VERSION), run(program, "--version"))
+    version = re.findall(r'(?m)^\.TH .*"(chanv [0-9.]*)"', page)
+    checks.expect("the version of the manual page", [VERSION.strip()], version)
+    section = page.partition("\n.SH COMMANDS\n")[2].partition("\n.SH OPERANDS\n")[0]
+    headed = sorted(re.findall(r"(?m)^\.SS ([a-z]*)", section))
+    checks.expect("the commands of the manual page", commands, headed)
+    named = sorted(set(re.findall(r"(?m)^(?:\.B |\$ )chanv ([a-z]+)", page)))
+    checks.expect("the commands that the manual page names", commands, named)
+
+
+def check_example(checks, program):
+    """The page's example, in examples/, writes what the page shows."""
+    blocks = re.findall(r"(?ms)^\.nf$.*?^\.fi$", text_of(PAGE))
+    shown = [line for block in blocks for line in block.split("\n") if line[:1] != "."]
+    shown = [line.replace("\\-", "-") for line in shown]
+    seen, errors = "", ""
+    for line in shown:
+        if line.startswith("$ chanv "):
+            ran = run(program, *line.split()[2:], cwd=EXAMPLES)
+            seen += f"{line}\n{ran.output}"
+            errors += ran.error
+    text = "".join(f"{line}\n" for line in shown)
+    checks.expect("the example of the manual page", (text, ""), (seen, errors))
+
+
+def completed(*words):
+    """What may stand for the last of the words, in order of the letters."""
+    return sorted(run_in_bash(COMPLETE, COMPLETIONS, *words).output.splitlines())
+
+
+def check_completions(checks, program):
+    """The completions are the commands that help lists, and the options that each help lists."""
+    commands = commands_of_help(program)
+    first = [word for word in completed("") if not word.startswith("-")]
+    checks.expect("the commands that are completed", commands, first)
+    checks.expect("the commands that help completes", commands, completed("help", ""))
+    for words in ([], *[[command] for command in COMMANDS]):
+        said = run(program, *words, "--help").output
+        options = sorted(re.findall(r"(?:  |, )(--[a-z]*)", said))
+        name = f"the options that are completed: chanv {' '.join(words)}"
+        checks.expect(name, options, completed(*words, "--"))
+    devices = completed("deck", "--device", "")
+    checks.expect("the devices that are completed", ["2311", "2314"], devices)
+
+
+def check(checks, built):
+    program = built.chanv()
+    check_help(checks, program)
+    check_page(checks, program)
+    check_example(checks, program)
+    check_completions(checks, program)

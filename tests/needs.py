@@ -1,0 +1,136 @@
+"""What `chanv needs` writes is the least job: it is judged yes, and nothing less is.
+
+From each example deck whose program may run under some job, a deck is made of the lines of
+`chanv needs`, which is judged `yes`. With a byte less at either end of an area, a cylinder less at
+either end of an extent, or the next stricter mask in either of its two parts, it is judged `no`.
+And a deck's own verdict is `yes` exactly where its job grants what is written.
+"""
+
+from building import short
+from examples import FOLDERS, decks_of
+from running import Ran, run, text_of
+
+# both parts of a file mask, from the laxest bits to the strictest
+WRITES, SEEKS = (0xC0, 0x00, 0x80, 0x40), (0x00, 0x08, 0x10, 0x18)
+GRANTING = ("mask", "extent", "fetch", "store")
+# the whole of the largest storage, fetched by a search in 257 CCWs
+LARGEST = """chanv deck 1
+device 2314
+mask 00
+start 000800
+extent 000 000
+storage 1000000
+"""
+
+
+def job_of(lines):
+    """What lines of a deck grant: the mask, and lists of pairs."""
+    job = {"mask": 0, "extent": [], "fetch": [], "store": []}
+    for line in lines:
+        word, *numbers = line.split(" ")
+        if word == "mask":
+            job["mask"] = int(numbers[0], 16)
+        elif word in GRANTING:
+            base = 10 if word == "extent" else 16
+            job[word].append(tuple(int(number, base) for number in numbers))
+    return job
+
+
+def lines_of(job):
+    yield f"mask {job['mask']:02X}"
+    yield from (f"extent {first:03} {last:03}" for first, last in job["extent"] or [(0, 202)])
+    for word in ("fetch", "store"):
+        yield from (f"{word} {start:06X} {length:06X}" for start, length in job[word])
+
+
+def deck_with(deck, job):
+    """The deck with another job; its mask stands before the start, and its lists behind."""
+    mask, *lists = lines_of(job)
+    kept = [line for line in deck.splitlines() if line.split(" ")[0] not in GRANTING]
+    kept.insert(2, mask)
+    at = next(at for at, line in enumerate(kept) if line.startswith("storage "))
+    return "".join(f"{line}\n" for line in kept[:at] + lists + kept[at:])
+
+
+def part_less(pair, is_extent):
+    """What is left of an extent or an area without its first, and without its last."""
+    first, end = pair
+    if is_extent:
+        return [[it] if it[0] <= it[1] else [] for it in ((first + 1, end), (first, end - 1))]
+    return [[(first + 1, end - 1)], [(first, end - 1)]]
+
+
+def other_extents(job):
+    """One cylinder that isn't needed, since a deck has to have an extent."""
+    needed = {n for first, last in job["extent"] for n in range(first, last + 1)}
+    spare = next(n for n in range(203) if n not in needed)
+    return [(spare, spare)]
+
+
+def lesser_jobs(job):
+    """The job with one thing less, each with a name."""
+    for word in ("extent", "fetch", "store"):
+        for at, pair in enumerate(job[word]):
+            for side, left in zip(("first", "last"), part_less(pair, word == "extent")):
+                pairs = job[word][:at] + left + job[word][at + 1 :]
+                is_bare = word == "extent" and not pairs
+                pairs = other_extents(job) if is_bare else pairs
+                yield f"{word} {at} without its {side}", {**job, word: pairs}
+    for chain, bits in ((WRITES, 0xC0), (SEEKS, 0x18)):
+        at = chain.index(job["mask"] & bits)
+        for stricter in chain[at + 1 : at + 2]:
+            yield f"mask {stricter:02X}", {**job, "mask": job["mask"] & ~bits | stricter}
+
+
+def is_as_strict(mask, other):
+    return all(
+        chain.index(mask & bits) >= chain.index(other & bits)
+        for chain, bits in ((WRITES, 0xC0), (SEEKS, 0x18))
+    )
+
+
+def spread(job, word):
+    if word == "extent":
+        return {n for first, last in job[word] for n in range(first, last + 1)}
+    return {n for start, length in job[word] for n in range(start, start + length)}
+
+
+def grants(job, needed):
+    is_served = is_as_strict(needed["mask"], job["mask"])
+    return is_served and all(spread(needed, word) <= spread(job, word) for word in GRANTING[1:])
+
+
+def check_deck(checks, program, path):
+    name, deck = short(path), text_of(path)
+    verdict = run(program, "verify", given=path)
+    ran = run(program, "needs", given=path)
+    if ran.status == 1:
+        checks.expect(f"no job will do: {name}", 1, verdict.status)
+        return
+    needed = job_of(ran.output.splitlines())
+    is_granted = grants(job_of(deck.splitlines()), needed)
+    checks.expect(f"the job of {name}", 0 if is_granted else 1, verdict.status)
+    least = deck_with(deck, needed)
+    checks.expect(f"the least job: {name}", "yes\n", run(program, "verify", given=least.encode()).output)
+    for less, job in lesser_jobs(needed):
+        judged = run(program, "verify", given=deck_with(deck, job).encode())
+        checks.expect(f"{less}: {name}", 1, judged.status)
+
+
+def check_largest(checks, program):
+    ccws = [(i * 0xFFFF, 0x80, 0xFFFF) for i in range(256)] + [(0xFFFF00, 0x00, 0x0100)]
+    puts = [
+        f"put {0x800 + 8 * i:06X} 31{data:06X}{flags:02X}00{count:04X}\n"
+        for i, (data, flags, count) in enumerate(ccws)
+    ]
+    ran = run(program, "needs", given=f"{LARGEST}{''.join(puts)}end\n".encode())
+    text = "mask 58\nfetch 000000 FFFFFF\nfetch FFFFFF 000001\nkeep 000800 000808\n"
+    checks.expect("all of the largest storage", Ran(0, text), ran)
+
+
+def check(checks, built):
+    program = built.chanv()
+    for folder in FOLDERS:
+        for path in decks_of(folder):
+            check_deck(checks, program, path)
+    check_largest(checks, program)

@@ -1,0 +1,45 @@
+"""The library for C while a second thread rewrites the program that it looks at.
+
+The program of c/race.c makes each call for so many seconds, 20 or what RACE_SECONDS says, over a
+program whose CCWs, arguments and mask a second thread rewrites meanwhile, byte by byte too. Each
+call has to return, to leave alone what it wasn't handed to write, and to answer with one of its
+codes: yes, no, too many places or too little room, since nothing is wrong with the job itself. Each
+of these has to come. The calls about rows of needs don't look at storage, and always answer yes;
+they are made for 2 seconds.
+"""
+
+import os
+import re
+import tempfile
+from pathlib import Path
+
+from building import HERE, compile_with
+from running import MOST_SECONDS, run
+
+# the codes of chanv.h that each call gives over a job without a fault, while there is memory
+CODES = {
+    "verify": {0, 1, 2},
+    "list": {0, 2, 11},
+    "why": {0, 1, 2, 11},
+    "needs": {0, 1, 2, 11},
+    "grants": {0},
+    "beside": {0},
+}
+# the seconds at most for calls that don't look at storage
+FEW = {"grants": 2, "beside": 2}
+
+
+def check_call(checks, program, call, seconds):
+    ran = run(program, str(seconds), call, timeout=seconds + MOST_SECONDS)
+    ended = ran.status == 0 and not ran.error
+    checks.expect_that(f"chanv_{call} while storage changes, for {seconds} s", ended, ran)
+    codes = {int(code) for code in re.findall(r", \d+ times (\d+)", ran.output)}
+    checks.expect(f"the codes of chanv_{call} while storage changes", CODES[call], codes)
+
+
+def check(checks, built):
+    library, seconds = built.library(), int(os.environ.get("RACE_SECONDS") or 20)
+    with tempfile.TemporaryDirectory() as room:
+        program = compile_with(library, HERE / "c/race.c", Path(room) / "race")
+        for call in CODES:
+            check_call(checks, program, call, min(seconds, FEW.get(call, seconds)))

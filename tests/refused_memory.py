@@ -1,0 +1,119 @@
+"""Each growth of memory refused in turn, in calls of crates and commands of the program.
+
+Each call is made over its worked case: once with every growth granted, which has to give the case's
+answer; and then with the first growth refused, the second, and so on up to the last, each alone and
+each with all that come after it, which has to give a report of a failed allocation and no other
+answer. The program one_call makes the calls of crates.
+"""
+
+import tempfile
+
+from examples import CHANGES_ITSELF, EXAMPLES, SEARCH_LOOP
+from refusing import Case, Growths
+from running import Ran, text_of
+
+CCW, CCW_LINE = "06000A0020000050", "06 000A00 --L--0 00 0050 read"
+OF_IMAGE = "--start 800 --extent 10-19 --fetch 900+10 --store 900+10".split()
+OUT_OF_MEMORY = "chanv: out of memory\n"
+NOTES = """\
+note: fetch 000FFF 000002 reaches past storage
+note: fetch 000FFF 000002 is used by no reachable CCW
+"""
+REFUSED = "chanv: deck line 1: header\n"
+HINT = "found chanv deck 3\nexpected chanv deck 1, chanv deck 2\n"
+
+
+def calls():
+    """Each call that one_call makes, and what it answers over its worked case."""
+    deck, listing = text_of(SEARCH_LOOP), text_of(EXAMPLES / "search-loop.list")
+    return [
+        ("ccw-text", CCW_LINE),
+        ("extents-new", "1\n"),
+        ("explore", "3\n"),
+        ("guard-new", "3\n"),
+        ("verify", "yes\n"),
+        ("read-deck", "1\n"),
+        ("write-deck", deck),
+        ("verdict-text", "yes\n"),
+        ("row-text", listing.splitlines(True)[0]),
+        ("write-listing", listing),
+        ("show", f"{CCW_LINE}\n"),
+        ("run-verify", "yes\n"),
+        ("run-list", listing),
+        ("run-why", text_of(EXAMPLES / "changes-itself.why")),
+    ]
+
+
+def commands():
+    """Words of the program, their input, and what they write."""
+    deck, changing = SEARCH_LOOP.read_bytes(), CHANGES_ITSELF.read_bytes()
+    image = (EXAMPLES / "core.bin").read_bytes()
+    listing = text_of(EXAMPLES / "search-loop.list")
+    return [
+        (["show", CCW], b"", f"{CCW_LINE}\n"),
+        (["verify"], deck, "yes\n"),
+        (["list"], deck, listing),
+        (["verify", SEARCH_LOOP], b"", f"{SEARCH_LOOP}: yes\n"),
+        (["list", SEARCH_LOOP], b"", listing),
+        (["why"], changing, text_of(EXAMPLES / "changes-itself.why")),
+        (["why", SEARCH_LOOP], b"", "yes\n"),
+        (["graph"], deck, text_of(EXAMPLES / "search-loop.dot")),
+        (["needs"], deck, text_of(EXAMPLES / "search-loop.needs")),
+        (["deck", *OF_IMAGE], image, text_of(EXAMPLES / "changes-argument.deck")),
+    ]
+
+
+def call_cases(one_call):
+    for call, answer in calls():
+        yield Case(
+            name=call,
+            words=[one_call, call, "whole"],
+            expected=Ran(0, answer),
+            begun=answer if call in ("write-listing", "run-list") else "",
+            before=[one_call, call, "setup"],
+        )
+
+
+def command_cases(chanv):
+    for words, given, answer in commands():
+        complaints = (OUT_OF_MEMORY,)
+        # the second once a file is read
+        if SEARCH_LOOP in words:
+            complaints += (f"chanv: {SEARCH_LOOP}: out of memory\n",)
+        yield Case(
+            name=" ".join(map(str, ["chanv", *words])),
+            words=[chanv, *words],
+            expected=Ran(1 if words == ["why"] else 0, answer),
+            given=given,
+            complaints=complaints,
+            begun=answer if words[0] in ("list", "graph") else "",
+            # the complaint stands in place of notes
+            may_answer=words[0] == "why" and answer == "yes\n",
+        )
+
+
+def advice_cases(chanv):
+    """`why` where notes or a hint follow; where memory runs out for these, a complaint does."""
+    lent_in_vain = b"fetch 000FFF 000002\nstore 000A00"
+    deck = SEARCH_LOOP.read_bytes().replace(b"store 000A00", lent_in_vain)
+    for name, given, expected, line in [
+        ("notes", deck, Ran(0, "yes\n", NOTES), ""),
+        ("a hint", b"chanv deck 3\n", Ran(2, "", REFUSED + HINT), REFUSED),
+    ]:
+        yield Case(
+            name=f"chanv why, {name}",
+            words=[chanv, "why"],
+            expected=expected,
+            given=given,
+            complaints=(OUT_OF_MEMORY, line + OUT_OF_MEMORY),
+            may_answer=True,
+        )
+
+
+def check(checks, built):
+    chanv = built.chanv()
+    cases = [*call_cases(built.one_call()), *command_cases(chanv), *advice_cases(chanv)]
+    with tempfile.TemporaryDirectory() as folder:
+        growths = Growths(folder)
+        for case in cases:
+            growths.refuse_each(checks, case)
