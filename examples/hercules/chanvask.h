@@ -136,17 +136,27 @@ static inline int chanvask_bring(DEVBLK *dev, U32 address)
     return 1;
 }
 
-/* Brings the block of a CCW, and those of six bytes of data: an argument, or a mask. */
-static inline int chanvask_bring_ccw(DEVBLK *dev, U32 address)
+/* Brings the blocks of a CCW and of the data chain that it begins, with those of six bytes of data
+ * of each: there an argument or a mask may be. An argument has six CCWs at most, and between each
+ * two a transfer. */
+static inline int chanvask_bring_chain(DEVBLK *dev, U32 address)
 {
-    int more = chanvask_bring(dev, address);
-    U32 data;
+    int more = 0, left;
 
-    if (address % 8 != 0 || address >= CHANVASK_STORAGE)
-        return 0; /* no CCW */
-    data = fetch_fw(dev->chanvask->copy + address) & 0xFFFFFF;
-    more |= chanvask_bring(dev, data);
-    return more | chanvask_bring(dev, data + 5);
+    for (left = 11; left > 0 && address % 8 == 0 && address < CHANVASK_STORAGE; left--) {
+        const BYTE *ccw = dev->chanvask->copy + address;
+        U32 data;
+        more |= chanvask_bring(dev, address);
+        data = fetch_fw(ccw) & 0xFFFFFF;
+        more |= chanvask_bring(dev, data) | chanvask_bring(dev, data + 5);
+        if ((ccw[0] & 0x0F) == 0x08)
+            address = data;
+        else if (ccw[4] & 0x80)
+            address += 8;
+        else
+            break;
+    }
+    return more;
 }
 
 /* The job that grants all there is, over the copy, into which all was brought that counts: the
@@ -176,7 +186,7 @@ static inline struct chanv_job chanvask_look(DEVBLK *dev, U32 start)
         if (chanv_list(&job, ask->places, CHANV_USUAL_LIMIT, &count) != CHANV_LISTED)
             break;
         for (more = 0, i = 0; i < count; i++)
-            more |= chanvask_bring_ccw(dev, ask->places[i].address);
+            more |= chanvask_bring_chain(dev, ask->places[i].address);
     }
     if (more)
         memcpy(ask->copy, dev->mainstor, job.storage.len);
@@ -292,40 +302,45 @@ static inline void chanvask_log_path(DEVBLK *dev, const struct chanv_place *path
     }
 }
 
-/* Asks anew why the program may not run, and logs that. Returns the answer: if it is yes, the
- * program was only too large to be remembered. */
+static inline void chanvask_log_no(DEVBLK *dev, U32 start, const struct chanv_explanation *why,
+                                   const struct chanv_place *path,
+                                   const struct chanv_place *second_path)
+{
+    struct chanv_area gap = why->evidence.gap;
+
+    logmsg(_("HHCCV002W %4.4X: chanv no %6.6X %s, start %6.6X%s\n"), dev->devnum,
+           why->verdict.address, chanv_reason_word(why->verdict.reason), start,
+           dev->chanvask->refuse ? ", not started" : "");
+    if (path != NULL)
+        chanvask_log_path(dev, path, why->path);
+    if (path != NULL && why->second_path > 0) {
+        logmsg(_("HHCCV003I %4.4X: reached by\n"), dev->devnum);
+        chanvask_log_path(dev, second_path, why->second_path);
+    }
+    if (gap.len > 0)
+        logmsg(_("HHCCV003I %4.4X: not lent: %6.6X-%6.6X\n"), dev->devnum, gap.start,
+               gap.start + gap.len - 1);
+}
+
+/* Asks anew why the program may not run, logs that, and remembers which CCW offends. Where the
+ * answer is yes it was only too large to be remembered. */
 static inline U32 chanvask_why(DEVBLK *dev, U32 start)
 {
     static const struct chanv_area all = {0, CHANVASK_STORAGE};
-    struct CHANVASK *ask = dev->chanvask;
-    struct chanv_place path[CHANVASK_PATH], second[CHANVASK_PATH];
+    struct chanv_place path[CHANVASK_PATH], second_path[CHANVASK_PATH];
     struct chanv_explanation why;
     struct chanv_job job = chanvask_look(dev, start);
     U32 answer;
 
     chanvask_grant(dev, &job, (struct chanv_areas){&all, 1}, (struct chanv_areas){&all, 1});
-    answer = chanv_why(&job, path, CHANVASK_PATH, second, CHANVASK_PATH, &why);
-    if (answer == CHANV_YES)
-        return answer;
-    ask->address = start;
-    if (answer != CHANV_NO && answer != CHANV_NO_ROOM) {
+    answer = chanv_why(&job, path, CHANVASK_PATH, second_path, CHANVASK_PATH, &why);
+    dev->chanvask->address = start;
+    if (answer == CHANV_NO || answer == CHANV_NO_ROOM) { /* no room is a no, with no row written */
+        dev->chanvask->address = why.verdict.address;
+        chanvask_log_no(dev, start, &why, answer == CHANV_NO ? path : NULL, second_path);
+    } else if (answer != CHANV_YES)
         logmsg(_("HHCCV004E %4.4X: chanv has no answer, code %u, start %6.6X\n"), dev->devnum,
                answer, start);
-        return answer;
-    }
-    ask->address = why.verdict.address;
-    logmsg(_("HHCCV002W %4.4X: chanv no %6.6X %s, start %6.6X%s\n"), dev->devnum,
-           why.verdict.address, chanv_reason_word(why.verdict.reason), start,
-           ask->refuse ? ", not started" : "");
-    if (answer == CHANV_NO)
-        chanvask_log_path(dev, path, why.path);
-    if (answer == CHANV_NO && why.second_path > 0) {
-        logmsg(_("HHCCV003I %4.4X: reached by\n"), dev->devnum);
-        chanvask_log_path(dev, second, why.second_path);
-    }
-    if (why.evidence.gap.len > 0)
-        logmsg(_("HHCCV003I %4.4X: not lent: %6.6X-%6.6X\n"), dev->devnum, why.evidence.gap.start,
-               why.evidence.gap.start + why.evidence.gap.len - 1);
     return answer;
 }
 

@@ -60,7 +60,7 @@ caws:   .long   (key << 28) + good
         .long   0
 times:  .long   rounds
 
-        .org    0x800                   # seek to cylinder 10, find track 0, and read its record zero
+        .org    0x800                   # seek to cylinder 10, head 0, and read record zero
 good:   ccw     0x07, ten, chain, 6
         ccw     0x39, ten + 2, chain, 4
         ccw     0x08, good + 8, 0, 0

@@ -5,8 +5,8 @@
 #     try.sh TARBALL [LIBRARY [WORK]]
 #
 # TARBALL is hercules_3.13.orig.tar.gz, LIBRARY the folder with chanv.h and libchanv.a (what `make
-# lib` leaves in out/, if left out), WORK a folder that keeps the build for the next time. The status
-# is 0 if all is as it should be, 1 if not, and 2 if something couldn't be built.
+# lib` leaves in out/, if left out), WORK a folder that keeps the build for the next time. The
+# status is 0 if all is as it should be, 1 if not, and 2 if something couldn't be built.
 set -u
 here=$(cd "$(dirname "$0")" && pwd)
 [ $# -ge 1 ] || { sed -n '2,/^set/s/^# \{0,1\}//p' "$0" >&2; exit 2; }
