@@ -46,23 +46,35 @@ pub by_store : (p : Parts) (b : Bool) → IsAddress p.start → AllByRecursion I
 by_store p true start fetch e = (start, fetch, areas_decided p.store.now true e)
 by_store p false start fetch e = λ right. areas_decided p.store.now false e right.2
 
--- what stands before the doublewords of an image, and these, are its storage
-pub doublewords_are : (at : ℕ) (image bytes : List ℕ)
-    → bytes ≡ (take (at % 8) (zeros (next_multiple_of (at % 8 + length image) 8)) ++ image)
-    ++ drop (at % 8 + length image) (zeros (next_multiple_of (at % 8 + length image) 8))
-    → zeros (8 * (at / 8)) ++ bytes ≡ storage_with at image
-doublewords_are at image bytes e =
-    let b = at % 8 in
+-- an image that was put into zeros, with what stands before and behind it
+pub storage_is : (at : ℕ) (image bytes : List ℕ)
+    → bytes ≡ (take at (zeros (next_multiple_of (at + length image) 8)) ++ image)
+    ++ drop (at + length image) (zeros (next_multiple_of (at + length image) 8))
+    → bytes ≡ storage_with at image
+storage_is at image bytes e =
     let n = length image in
-    let len = next_multiple_of (b + n) 8 in
-    let rest = len - (b + n) in
-    let before : take b (zeros len) ≡ zeros b = take-replicate b len 0 (omega arith) in
-    let behind : drop (b + n) (zeros len) ≡ zeros rest = drop-replicate (b + n) len 0 in
-    let front : zeros (8 * (at / 8)) ++ zeros b ≡ zeros at = replicate-append-replicate (8 * (at / 8)) b 0 ∙ ap (λ (m : ℕ). zeros m) (omega arith) in
+    let len = next_multiple_of (at + n) 8 in
+    let rest = len - (at + n) in
+    let before : take at (zeros len) ≡ zeros at = take-replicate at len 0 (omega arith) in
+    let behind : drop (at + n) (zeros len) ≡ zeros rest = drop-replicate (at + n) len 0 in
     let all : length (zeros at ++ image) ≡ at + n = length-append (zeros at) image ∙ ap (λ m. m + n) (length-replicate at 0) in
     let end : rest ≡ next_multiple_of (length (zeros at ++ image)) 8 - length (zeros at ++ image) = omega (arith, all) in
-    ap (λ t. zeros (8 * (at / 8)) ++ t) (e ∙ ap (λ t. (t ++ image) ++ drop (b + n) (zeros len)) before ∙ ap (λ t. (zeros b ++ image) ++ t) behind)
-    ∙ sym (append_assoc (zeros (8 * (at / 8))) (zeros b ++ image) (zeros rest))
+    e ∙ ap (λ t. (t ++ image) ++ drop (at + n) (zeros len)) before ∙ ap (λ t. (zeros at ++ image) ++ t) behind
+    ∙ ap (λ m. (zeros at ++ image) ++ zeros m) end
+
+-- what stands before the doublewords of an image, and these, are its storage
+pub doublewords_are : (at : ℕ) (image : List ℕ)
+    → zeros (8 * (at / 8)) ++ storage_with (at % 8) image ≡ storage_with at image
+doublewords_are at image =
+    let b = at % 8 in
+    let n = length image in
+    let inner = length (zeros b ++ image) in
+    let rest = next_multiple_of inner 8 - inner in
+    let front : zeros (8 * (at / 8)) ++ zeros b ≡ zeros at = replicate-append-replicate (8 * (at / 8)) b 0 ∙ ap (λ (m : ℕ). zeros m) (omega arith) in
+    let part : inner ≡ b + n = length-append (zeros b) image ∙ ap (λ m. m + n) (length-replicate b 0) in
+    let all : length (zeros at ++ image) ≡ at + n = length-append (zeros at) image ∙ ap (λ m. m + n) (length-replicate at 0) in
+    let end : rest ≡ next_multiple_of (length (zeros at ++ image)) 8 - length (zeros at ++ image) = omega (arith, all, part) in
+    sym (append_assoc (zeros (8 * (at / 8))) (zeros b ++ image) (zeros rest))
     ∙ ap (λ t. t ++ zeros rest) (sym (append_assoc (zeros (8 * (at / 8))) (zeros b) image) ∙ ap (λ t. t ++ image) front)
     ∙ ap (λ m. (zeros at ++ image) ++ zeros m) end
 
@@ -107,3 +119,27 @@ pub from_facts : {T E A B C : Type 0} {P Q : T → Type 0} (r : Result T E) → 
     → OnOk r B → OnOk r C → ((x : T) → P x → A → B → C → Q x) → IfOk r Q
 from_facts (Ok x) p a b c f = f x p a b c
 from_facts (Err e) p a b c f = tt
+
+-- with zeros before them, the doublewords of an image are its storage, and they end where it does
+pub behind_zeros : {T E : Type 0} (items : T → List ℕ) (at : ℕ) (image : List ℕ) (r : Result T E)
+    → IfOk r (λ t. items t ≡ storage_with (at % 8) image)
+    → IfOk r (λ t. zeros (8 * (at / 8)) ++ items t ≡ storage_with at image)
+behind_zeros items at image (Ok t) e = ap (λ bytes. zeros (8 * (at / 8)) ++ bytes) e ∙ doublewords_are at image
+behind_zeros items at image (Err x) e = tt
+
+pub end_in_storage : {T E : Type 0} (items : T → List ℕ) (at : ℕ) (image : List ℕ) (r : Result T E)
+    → at + length image ≤ 2 ^ 24 → IfOk r (λ t. items t ≡ storage_with (at % 8) image)
+    → IfOk r (λ t. 8 * (at / 8) + length (items t) ≤ 2 ^ 24)
+end_in_storage items at image (Ok t) short e =
+    doublewords_fit at (length image) (length (items t)) short (ap length e ∙ length_storage (at % 8) image)
+end_in_storage items at image (Err x) short e = tt
+
+-- what holds holds where a value came
+pub on_ok : {T E A : Type 0} (r : Result T E) → A → OnOk r A
+on_ok (Ok t) a = a
+on_ok (Err e) a = tt
+
+-- storage in which an image ends isn't too large
+pub storage_fits : (at : ℕ) (image storage : List ℕ) → storage ≡ storage_with at image
+    → at + length image ≤ 2 ^ 24 → length storage ≤ 2 ^ 24
+storage_fits at image storage is short = omega (arith, ap length is ∙ length_storage at image, short)

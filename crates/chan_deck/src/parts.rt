@@ -113,6 +113,19 @@ fn has_addresses(parts: &Parts<'_>) -> bool
     parts.start < PAST_ADDRESSES && are_areas(parts.fetch) && are_areas(parts.store)
 }
 
+/// Storage in which an image begins at an address. It is zero before the image, and behind it up to
+/// a multiple of 8, at which it ends.
+pub fn place_image(alloc: Global, at: usize, image: &[u8]) -> Result<Vec<u8>, AllocError>
+    requires { at + length image.now ≤ 2 ^ 24 }
+    ensures bytes { IfOk result (λ storage. storage.items ≡ storage_with at image.now) }
+    ensures size { IfOk result (λ storage. length storage.items ≤ 2 ^ 24) }
+{
+    let len = (at + image.len()).next_multiple_of(8);
+    let mut storage = vec![in alloc; 0u8; len]?;
+    write_at(storage.as_mut_slice(), at, image);
+    Ok(storage)
+}
+
 /// The doublewords in which an image lies that begins at an address, zero where it has no byte.
 fn doublewords(alloc: Global, at: usize, image: &[u8]) -> Result<Vec<u8>, AllocError>
     requires { at + length image.now ≤ 2 ^ 24 }
@@ -121,11 +134,7 @@ fn doublewords(alloc: Global, at: usize, image: &[u8]) -> Result<Vec<u8>, AllocE
     ensures size { IfOk result (λ bytes. 8 * (at / 8) + length bytes.items ≤ 2 ^ 24) }
     ensures image { OnOk result (AllByRecursion IsByte image.now) }
 {
-    let before = at % 8;
-    let len = (before + image.len()).next_multiple_of(8);
-    let mut bytes = vec![in alloc; 0u8; len]?;
-    write_at(bytes.as_mut_slice(), before, image);
-    Ok(bytes)
+    place_image(alloc, at % 8, image)
 }
 
 /// The version of a deck that says this limit, or none.
