@@ -1,5 +1,4 @@
-use Rattle.std.proofs.Common.{◌∙◌, ◌≡◌, ◌++◌, ap}
-use Rattle.std.specs.Int.{bytes_high_first}
+use Rattle.std.proofs.Common.{◌∙◌, ap}
 use Rattle.hex.specs.Hex.{encode_upper}
 use Rattle.chan_deck.proofs.AreaDigits.{area_told, halves, has_six}
 use Rattle.chan_deck.proofs.writing.push_area_digits.Goals as goal
