@@ -1,7 +1,7 @@
 """The library for C: its example, answers, edges, refused memory and archive.
 
 The programs of c/ and examples/c/ ask it. What they should write was worked out from the rules:
-edges.out and needs.out of c/; the verdicts and listings of the decks of examples/ and
+edges.out, needs.out and nulls.out of c/; the verdicts and listings of the decks of examples/ and
 examples/cases/; the paths and values of each no among them in why-examples.out and why-cases.out of
 c/; the words of chan_walk's src/reason.rt; and the example of docs/EMBEDDING.md, whose text has to
 be that of ask.c. A deck's job grants what its program needs exactly where its verdict is yes. The
@@ -18,7 +18,7 @@ from examples import EXAMPLES, FOLDERS, decks_of, status_of, status_of_needs, ve
 from refusing import Case, Growths
 from running import Ran, run, text_of
 
-TESTS = ("decks", "edges", "needs", "one_call")
+TESTS = ("decks", "edges", "needs", "nulls", "one_call")
 SOURCES = [EXAMPLES / "c/ask.c", *[HERE / f"c/{name}.c" for name in TESTS]]
 MAY_ASK_FOR = {"memcpy", "memmove", "memset", "malloc", "realloc", "free"}
 OF_THE_RUNTIME = {"rattle_alloc", "rattle_realloc", "rattle_dealloc"}
@@ -142,6 +142,7 @@ def check(checks, built):
         check_document(checks, folder)
         check_edges(checks, folder)
         check_lines(checks, folder, "needs")
+        check_lines(checks, folder, "nulls")
         check_archive(checks, library)
         check_decks(checks, folder / "decks")
         refuse_growths(checks, folder)
