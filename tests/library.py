@@ -13,8 +13,9 @@ import re
 import tempfile
 from pathlib import Path
 
-from building import HERE, ROOT, compile_with, short
+from building import HERE, ROOT, c_compiler, compile_c, compile_with, short, version_of
 from examples import EXAMPLES, FOLDERS, decks_of, status_of, status_of_needs, verdicts_of
+from expecting import say
 from refusing import Case, Growths
 from running import Ran, run, text_of
 
@@ -22,7 +23,11 @@ TESTS = ("decks", "edges", "needs", "nulls", "one_call")
 SOURCES = [EXAMPLES / "c/ask.c", *[HERE / f"c/{name}.c" for name in TESTS]]
 MAY_ASK_FOR = {"memcpy", "memmove", "memset", "malloc", "realloc", "free"}
 OF_THE_RUNTIME = {"rattle_alloc", "rattle_realloc", "rattle_dealloc"}
-CALLS = {f"chanv_{call}" for call in ("verify", "list", "why", "needs", "grants", "beside")}
+NAMES = ("verify", "list", "why", "needs", "grants", "beside", "version")
+CALLS = {f"chanv_{call}" for call in NAMES}
+# warnings that a program's own build may ask for
+WARNINGS = ["-Wall", "-Wextra", "-Wpedantic", "-Wconversion", "-Wsign-conversion", "-Werror"]
+IN_CPP = ["-x", "c++", "-std=c++11", "-Wold-style-cast"]
 
 # what chanv_list answers where there is no room
 NO_ROOM = 11
@@ -67,6 +72,27 @@ def check_words(checks, said):
     for name, word in said:
         number = int(name.removeprefix("reason "))
         checks.expect(name, words[numbers[number]] if number in numbers else "", word)
+
+
+def check_layout(checks, library, folder):
+    """The header's structs are laid out as the library has them, and its version is one."""
+    source = HERE / "c/layout.c"
+    built = compile_c(source, folder / "layout", f"-I{library}", *WARNINGS, library / "libchanv.a")
+    ran, version = run(built), version_of(library / "chanv.h")
+    checks.expect("the header's version", Ran(0, f"{version} {version} {version}\n"), ran)
+    made = re.findall(r"(?m)^VERSION = (.*)$", text_of(ROOT / "Makefile"))
+    checks.expect("the version of what is installed", [version], made)
+
+
+def check_warnings(checks, library):
+    """A build that asks for many warnings gets none, neither of the header nor of the example."""
+    look = [*c_compiler(), "-fsyntax-only", f"-I{library}", *WARNINGS]
+    ran = run(*look, "-std=c11", EXAMPLES / "c/ask.c")
+    checks.expect("warnings of the example", Ran(0), ran)
+    if run(*look, *IN_CPP, "/dev/null").status != 0:
+        say("library: no compiler of C++, so the header wasn't looked at in C++")
+        return
+    checks.expect("warnings of the header in C++", Ran(0), run(*look, *IN_CPP, HERE / "c/layout.c"))
 
 
 def check_archive(checks, library):
@@ -143,6 +169,8 @@ def check(checks, built):
         check_edges(checks, folder)
         check_lines(checks, folder, "needs")
         check_lines(checks, folder, "nulls")
+        check_layout(checks, library, folder)
+        check_warnings(checks, library)
         check_archive(checks, library)
         check_decks(checks, folder / "decks")
         refuse_growths(checks, folder)

@@ -229,6 +229,7 @@ static void ask_with_faults(void)
         .limit = 0,
         .device = 3330,
         .mask = 0x01,
+        .reserved = {0, 0, 0, (uint64_t)1 << 63},
     };
     ask("all faults", job);
     job.storage.len--;
@@ -246,7 +247,14 @@ static void ask_with_faults(void)
     job.limit = 65537;
     ask("a limit that is too large", job);
     job.limit = 65536;
-    ask("a limit", job);
+    ask("a limit, and what is reserved", job);
+    for (int i = 0; i < 4; i++) {
+        memset(job.reserved, 0, sizeof job.reserved);
+        job.reserved[i] = 1;
+        ask("one reserved word", job);
+    }
+    memset(job.reserved, 0, sizeof job.reserved);
+    ask("no fault", job);
 }
 
 static void list_with_little_room(void)

@@ -33,6 +33,8 @@ pub struct CJob<'a> {
     pub limit: u32,
     pub device: u16,
     pub mask: u8,
+    /// What a later version gives a meaning, which isn't that of 0.
+    pub reserved: [u64; 4],
 }
 
 /// The list, and in the place of one without elements an empty one of our own: its pointer may be
@@ -145,6 +147,9 @@ pub(crate) fn make_ready<'a>(alloc: Global, asked: &CJob<'a>) -> Result<Ready<'a
     let Some(limit) = Limit::new(asked.limit) else {
         return Err(Refusal::Wrong(JobFault::NotALimit));
     };
+    if asked.reserved != [0; 4] {
+        return Err(Refusal::Wrong(JobFault::ReservedNotZero));
+    }
     Ok(Ready {
         parts,
         extents,

@@ -42,7 +42,7 @@ pub extern "C" fn chanv_grants(alloc: Global, job: &CJob<'_>, rows: &CRows<'_>) 
     // A job is refused by its first fault, and one that has a fault gets no answer.
     ensures refused { 4 ≤ result → (extent : ℕ) × IsRefused job.now result extent }
     ensures accepted { result ≤ 1 → HasNoFault job.now }
-    ensures codes { (result ≤ 10) × (result ≢ 2) }
+    ensures codes { (result ≤ 12) × (result ≢ 2) × (result ≢ 11) }
 {
     match granted(alloc, job, rows) {
         Ok(true) => 0,

@@ -13,6 +13,7 @@ mod needed;
 mod refusal;
 mod rows;
 mod verifying;
+mod version;
 
 pub use crate::asked::{CExtent, CJob};
 pub use crate::evidence::CEvidence;
@@ -22,3 +23,4 @@ pub use crate::listing::chanv_list;
 pub use crate::needed::{CNeeded, chanv_needs};
 pub use crate::rows::CPlace;
 pub use crate::verifying::{CVerdict, chanv_verify};
+pub use crate::version::chanv_version;
