@@ -77,7 +77,7 @@ def version_of(header):
 
 def compile_with(library, source, made):
     """Compiles a program that asks the library for C, which stands in a folder."""
-    linked = [f"-I{library}", library / "libchanv.a", "-pthread"]
+    linked = [f"-I{library}", f"-I{ROOT / 'examples/c'}", library / "libchanv.a", "-pthread"]
     return compile_c(source, made, *FLAGS, *linked)
 
 

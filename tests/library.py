@@ -38,10 +38,10 @@ def check_document(checks, folder):
     blocks = re.findall(r"```(\w*)\n(.*?)```", text_of(ROOT / "docs/EMBEDDING.md"), re.S)
     shown = ("c", text_of(EXAMPLES / "c/ask.c")) in blocks
     checks.expect_that("the document shows the example", shown, "another text")
-    supervisor = text_of(EXAMPLES / "c/supervisor.c")
-    parts = [text for word, text in blocks if word == "c" and "may_start" in text]
-    shown = parts and all(text in supervisor for text in parts)
-    checks.expect_that("the document shows a part of the supervisor", shown, parts)
+    for name, word in (("supervisor", "may_start"), ("emulator", "ask_once")):
+        parts = [text for language, text in blocks if language == "c" and word in text]
+        shown = parts and all(text in text_of(EXAMPLES / f"c/{name}.c") for text in parts)
+        checks.expect_that(f"the document shows a part of the {name}", shown, parts)
     ran = run(folder / "ask")
     checks.expect("the example's status", (0, ""), (ran.status, ran.error))
     checks.expect_that("the document shows its lines", ("text", ran.output) in blocks, ran.output)

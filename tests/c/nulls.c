@@ -1,6 +1,6 @@
 /* Hands in NULL beside a length of 0, for each list of each call by itself and for all of a call at
- * once. Each line is a call, the list, and the code, and says so where the code or anything that was
- * told differs from that of the call with another pointer in NULL's place. */
+ * once. Each line is a call, the list, and the code, and says so where anything that was told
+ * differs from what the call tells with another pointer in NULL's place. */
 #include <chanv.h>
 #include <inttypes.h>
 #include <stdio.h>
@@ -11,8 +11,8 @@ enum { ROOM = 4, MOST_LISTS = 4, ALL = MOST_LISTS };
 static uint8_t storage[0x1000];
 static struct chanv_extent some[] = {{10, 19}}, each[] = {{0, 202}};
 static struct chanv_area fetch[] = {{0x900, 0x10}}, store[] = {{0xA00, 0x100}};
-static struct chanv_area argument[] = {{0x900, 5}}, record[] = {{0xA00, 0x50}}, loop[] = {{0x800, 24}};
-static struct chanv_area all[] = {{0, sizeof storage}};
+static struct chanv_area argument[] = {{0x900, 5}}, record[] = {{0xA00, 0x50}};
+static struct chanv_area loop[] = {{0x800, 24}}, all[] = {{0, sizeof storage}};
 
 /* All that one call may write, and its code. */
 struct told {
@@ -125,7 +125,8 @@ static void why_into(struct told *told, struct emptied emptied)
     struct chanv_job job = job_of((struct emptied){3, 0});
     void *path = (void *)pointer(told->places[0], emptied, 0);
     void *second = (void *)pointer(told->places[1], emptied, 1);
-    told->code = chanv_why(&job, path, room(emptied, 0), second, room(emptied, 1), &told->explanation);
+    told->code =
+        chanv_why(&job, path, room(emptied, 0), second, room(emptied, 1), &told->explanation);
 }
 
 static void needs_into(struct told *told, struct emptied emptied)
@@ -135,7 +136,8 @@ static void needs_into(struct told *told, struct emptied emptied)
     for (int i = 0; i < 3; i++)
         lists[i] = (void *)pointer(told->areas[i], emptied, i + 1);
     told->code = chanv_needs(&job, &told->needed, cylinders, room(emptied, 0), lists[0],
-                             room(emptied, 1), lists[1], room(emptied, 2), lists[2], room(emptied, 3));
+                             room(emptied, 1), lists[1], room(emptied, 2), lists[2],
+                             room(emptied, 3));
 }
 
 /* Rows that need and keep all there is, but for the lists that are empty. */

@@ -1,8 +1,8 @@
 /* chanv.h: may a System/360 channel program run, why may it not, which CCWs can it come to, and
  * what does it need of each job that it runs under?
  *
- * Link with libchanv.a. docs/EMBEDDING.md has whole examples, and says what is proved of the calls
- * and what is trusted.
+ * Link with -lchanv. docs/EMBEDDING.md has whole examples, and says what is proved of the calls and
+ * what is trusted, what a call costs, and what isn't judged.
  *
  * What the caller owes:
  *
@@ -12,9 +12,10 @@
  * - What a call writes, `out`, `count` and the lists that have room, lies apart from each other,
  *   from the job and from all that it points to.
  * - From the call to its return nobody writes the job, the rows that are handed in or anything that
- *   these point to, and nobody touches what the call writes. In an emulator the threads of the
- *   processors and of the channels write storage: stop them, or copy storage and ask about the
- *   copy. `chanv_grants` and `chanv_beside` don't look at storage, and need neither.
+ *   these point to, and nobody touches what the call writes. If storage is written meanwhile, the
+ *   answer means nothing at all; that the call returns nevertheless, with one of its codes, and
+ *   writes nothing else, is tested and not proved. The document says what an emulator does whose
+ *   threads write storage. `chanv_grants` and `chanv_beside` don't look at storage.
  * - No call is made from a signal handler, nor, in the child of a process with threads, between
  *   fork and exec.
  * - malloc, realloc and free are those of one allocator, and aligned as C asks.
