@@ -177,6 +177,13 @@ static uint32_t why(const struct work *work)
     return chanv_why(work->job, work->places, MOST_PLACES, second_places, MOST_PLACES, &told);
 }
 
+static uint32_t text(const struct work *work)
+{
+    static char buffer[8 << 20];
+    size_t length;
+    return chanv_text(work->job, buffer, sizeof buffer, &length);
+}
+
 static struct chanv_needed needed;
 
 static uint32_t what_is_needed(const struct work *work)
@@ -199,7 +206,7 @@ static const struct call {
     const char *name;
     uint32_t (*make)(const struct work *work);
 } calls[] = {
-    {"verify", verify}, {"list", list},     {"why", why},
+    {"verify", verify},        {"list", list},     {"why", why},       {"text", text},
     {"needs", what_is_needed}, {"grants", grants}, {"beside", beside},
 };
 

@@ -23,7 +23,7 @@ TESTS = ("decks", "edges", "needs", "nulls", "one_call")
 SOURCES = [EXAMPLES / "c/ask.c", *[HERE / f"c/{name}.c" for name in TESTS]]
 MAY_ASK_FOR = {"memcpy", "memmove", "memset", "malloc", "realloc", "free"}
 OF_THE_RUNTIME = {"rattle_alloc", "rattle_realloc", "rattle_dealloc"}
-NAMES = ("verify", "list", "why", "needs", "grants", "beside", "version")
+NAMES = ("verify", "list", "why", "text", "needs", "grants", "beside", "version")
 CALLS = {f"chanv_{call}" for call in NAMES}
 # warnings that a program's own build may ask for
 WARNINGS = ["-Wall", "-Wextra", "-Wpedantic", "-Wconversion", "-Wsign-conversion", "-Werror"]
@@ -137,6 +137,14 @@ def check_decks(checks, program):
                 checks.expect(f"needs {short(deck)}", wanted, run(program, "needs", given=deck))
             if deck.with_suffix(".list").is_file():
                 check_listing(checks, program, deck)
+            if deck.with_suffix(".why").is_file() or verdict == "yes":
+                check_text(checks, program, deck, status)
+
+
+def check_text(checks, program, deck, status):
+    """The text is what `chanv why` prints, which of a yes is its line alone."""
+    wanted = text_of(deck.with_suffix(".why")) if deck.with_suffix(".why").is_file() else "yes\n"
+    checks.expect(f"text {short(deck)}", Ran(status, wanted), run(program, "text", given=deck))
 
 
 def check_listing(checks, program, deck):
@@ -151,6 +159,7 @@ def check_listing(checks, program, deck):
 def refuse_growths(checks, folder):
     growths, program = Growths(folder), folder / "one_call"
     answers = {"verify": "yes", "list": "3", "why": "2 3", "needs": "1 1 1", "grants": "yes"}
+    answers["text"] = "no"
     setup = [program, "setup"]
     for call, answer in answers.items():
         case = Case(f"chanv_{call}", [program, call], Ran(0, f"{answer}\n"), before=setup)

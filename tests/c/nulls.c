@@ -24,6 +24,7 @@ struct told {
     struct chanv_place places[2][ROOM];
     struct chanv_extent extents[ROOM];
     struct chanv_area areas[3][ROOM];
+    char text[1024];
 };
 
 /* Which list is empty, and whether its pointer is NULL. */
@@ -85,6 +86,12 @@ static void why(struct told *told, struct emptied emptied)
     told->code = chanv_why(&job, told->places[0], ROOM, told->places[1], ROOM, &told->explanation);
 }
 
+static void text(struct told *told, struct emptied emptied)
+{
+    struct chanv_job job = job_of(emptied);
+    told->code = chanv_text(&job, told->text, sizeof told->text, &told->count);
+}
+
 static void needs(struct told *told, struct emptied emptied)
 {
     struct chanv_job job = job_of(emptied);
@@ -127,6 +134,14 @@ static void why_into(struct told *told, struct emptied emptied)
     void *second = (void *)pointer(told->places[1], emptied, 1);
     told->code =
         chanv_why(&job, path, room(emptied, 0), second, room(emptied, 1), &told->explanation);
+}
+
+static void text_into(struct told *told, struct emptied emptied)
+{
+    struct chanv_job job = job_of(nothing);
+    char *buffer = (char *)pointer(told->text, emptied, 0);
+    size_t room_for = is_empty(emptied, 0) ? 0 : sizeof told->text;
+    told->code = chanv_text(&job, buffer, room_for, &told->count);
 }
 
 static void needs_into(struct told *told, struct emptied emptied)
@@ -188,6 +203,7 @@ static void beside_alike(struct told *told, struct emptied emptied)
 static const char *const of_job[] = {"storage", "extents", "fetch", "store"};
 static const char *const of_rows[] = {"extents", "fetch", "store", "keep"};
 static const char *const of_list[] = {"rows"}, *const of_why[] = {"path", "second path"};
+static const char *const of_text[] = {"buffer"};
 
 static const struct call {
     const char *name;
@@ -198,10 +214,12 @@ static const struct call {
     {"verify", verify, of_job, 4},
     {"list", list, of_job, 4},
     {"why", why, of_job, 4},
+    {"text", text, of_job, 4},
     {"needs", needs, of_job, 4},
     {"grants", grants, of_job, 4},
     {"list into", list_into, of_list, 1},
     {"why into", why_into, of_why, 2},
+    {"text into", text_into, of_text, 1},
     {"needs into", needs_into, of_rows, 4},
     {"grants rows", grants_rows, of_rows, 4},
     {"rows beside all", beside_all, of_rows, 4},

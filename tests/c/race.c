@@ -2,8 +2,8 @@
  * may. What a call answers then means nothing. But it has to return, with one of the codes that the
  * header gives it, and may write only what it was handed for that.
  *
- *     race SECONDS CALL..     each CALL is verify, list, why, needs, grants, beside or emulator,
- *                             and is made for so many seconds
+ *     race SECONDS CALL..     each CALL is verify, list, why, text, needs, grants, beside or
+ *                             emulator, and is made for so many seconds
  *
  * The last is `ask` of examples/c/emulator.c, whose answer is about its copy. So what it says of
  * the needs has to agree with the verdict on the copy, at any time after.
@@ -24,7 +24,7 @@
 #include <time.h>
 
 enum { STORAGE = 0x1000, PAST_STORAGE = 0x100, FENCE = 128, CODES = 12 };
-enum { LISTS = 4, MOST_ROWS = 32 };
+enum { LISTS = 4, MOST_ROWS = 32, MOST_BYTES = 2048 };
 enum { PROGRAM = 0x800, PROGRAM_END = 0x868, DATA = 0x900, DATA_END = 0x938 };
 
 /* Eight bytes of storage: a CCW, or what a CCW points to. */
@@ -187,7 +187,7 @@ static void *rewrite(void *nothing)
 
 /* Bytes that a call is handed to write, from FENCE on, among bytes that it has to leave alone. */
 struct fenced {
-    alignas(16) uint8_t bytes[FENCE + sizeof(struct chanv_place) * MOST_ROWS + FENCE];
+    alignas(16) uint8_t bytes[FENCE + MOST_BYTES + FENCE];
     size_t handed;
 };
 
@@ -268,6 +268,17 @@ static uint32_t why(size_t room)
     uint32_t code = chanv_why(&job, rows, room, second_rows, second_room, told);
     if (code == CHANV_NO && (told->path > room || told->second_path > second_room))
         fail("a path of more places than rows", code);
+    return code;
+}
+
+/* Some 64 bytes take a row of the text. */
+static uint32_t text(size_t room)
+{
+    size_t *length = hand(&outcome, sizeof *length), bytes = MOST_BYTES / MOST_ROWS * room;
+    char *buffer = hand_last(0, bytes);
+    uint32_t code = chanv_text(&job, buffer, bytes, length);
+    if (code <= CHANV_NO && *length > bytes)
+        fail("a longer text than there is room for", code);
     return code;
 }
 
@@ -363,6 +374,7 @@ static const struct call {
     {"verify", verify, CHANV_NO_ROOM},
     {"list", list, CHANV_NO},
     {"why", why, CODES},
+    {"text", text, CODES},
     {"needs", needs, CODES},
     {"grants", grants, CHANV_TOO_MANY_PLACES},
     {"beside", beside, CHANV_TOO_MANY_PLACES},

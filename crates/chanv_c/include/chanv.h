@@ -7,10 +7,10 @@
  * What the caller owes:
  *
  * - Each pointer is valid, and aligned for its type, for as many elements as the length beside it
- *   says. Where that length is 0 it may be NULL. `job`, `out`, `count` and the `rows` of
+ *   says. Where that length is 0 it may be NULL. `job`, `out`, `count`, `length` and the `rows` of
  *   `chanv_grants` and `chanv_beside` are never NULL.
- * - What a call writes, `out`, `count` and the lists that have room, lies apart from each other,
- *   from the job and from all that it points to.
+ * - What a call writes, `out`, `count`, `length` and the lists that have room, lies apart from each
+ *   other, from the job and from all that it points to.
  * - From the call to its return nobody writes the job, the rows that are handed in or anything that
  *   these point to, and nobody touches what the call writes. If storage is written meanwhile, the
  *   answer means nothing at all; that the call returns nevertheless, with one of its codes, and
@@ -97,7 +97,7 @@ enum {
     CHANV_EXTENT_BACKWARDS = 8,   /* the first wrong extent has its first cylinder above its last */
     CHANV_EXTENT_PAST_DEVICE = 9, /* the first wrong extent has its last cylinder above 202 */
     CHANV_NOT_A_LIMIT = 10,       /* the limit is 0, or above 65,536 */
-    CHANV_NO_ROOM = 11,           /* there is more to list than rows; for `chanv_why`, with a no */
+    CHANV_NO_ROOM = 11,           /* there is more to write than room; for `chanv_why`, with a no */
     CHANV_RESERVED_NOT_ZERO = 12  /* `reserved` isn't 0: the job has fields of a later version */
 };
 
@@ -220,6 +220,13 @@ uint32_t chanv_list(const struct chanv_job *job, struct chanv_place *rows, size_
 uint32_t chanv_why(const struct chanv_job *job, struct chanv_place *path, size_t room,
                    struct chanv_place *second_path, size_t second_room,
                    struct chanv_explanation *out);
+
+/* Writes the text that explains the verdict on the job, as `chanv why` prints it, with no 0 behind
+ * it. CHANV_YES, CHANV_NO: the first `*length` bytes of `buffer` are the text, and those behind
+ * them stand as they did. CHANV_NO_ROOM: it would have `*length` bytes, which are more than `room`.
+ * Else it returns why there is no answer, as `chanv_verify` does, and `*length` is 0. Only for
+ * CHANV_YES and CHANV_NO is a byte of `buffer` written. */
+uint32_t chanv_text(const struct chanv_job *job, char *buffer, size_t room, size_t *length);
 
 /* What the job's program, which is its storage, start and device, needs of each job that it runs
  * under, and what it keeps: no more, and no less. What this job grants doesn't matter, though it

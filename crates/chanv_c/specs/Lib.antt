@@ -6,3 +6,4 @@ pub mod Explained
 pub mod Needed
 pub mod Granted
 pub mod Version
+pub mod Telling

@@ -12,6 +12,7 @@ mod listing;
 mod needed;
 mod refusal;
 mod rows;
+mod telling;
 mod verifying;
 mod version;
 
@@ -22,5 +23,6 @@ pub use crate::granting::{CRows, chanv_beside, chanv_grants};
 pub use crate::listing::chanv_list;
 pub use crate::needed::{CNeeded, chanv_needs};
 pub use crate::rows::CPlace;
+pub use crate::telling::chanv_text;
 pub use crate::verifying::{CVerdict, chanv_verify};
 pub use crate::version::chanv_version;
