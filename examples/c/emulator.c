@@ -27,8 +27,8 @@ static int lies_in(struct chanv_area area, size_t length)
 
 /* Asks what the job's program needs while storage is written: twice, and the second answer counts.
  * The first, over storage, means nothing; it only says what to copy. The second is about the copy,
- * which nobody writes, and it holds wherever storage has the bytes that are kept. The room for the
- * copy is `calloc(job->storage.len, 1)`, or that of an older program. */
+ * which nobody writes, and it holds for any storage as long that has the bytes which are kept. The
+ * room for the copy is `calloc(job->storage.len, 1)`, or that of an older program. */
 static uint32_t ask(struct asked *asked, const struct chanv_job *job)
 {
     struct chanv_job still = *job;

@@ -75,7 +75,7 @@ struct chanv_job {
     uint32_t start;               /* the address of the first CCW */
     uint32_t limit;               /* how many places may be reachable, 1 to 65,536 */
     uint16_t device;              /* 2311 or 2314 */
-    uint8_t mask;                 /* the file mask that the supervisor set */
+    uint8_t mask;                 /* the file mask that is in force at the start */
     uint64_t reserved[4];         /* 0, in the place of fields that a later version may have */
 };
 
