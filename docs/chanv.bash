@@ -2,7 +2,7 @@
 _chanv() {
     local word=${COMP_WORDS[COMP_CWORD]} before=${COMP_WORDS[COMP_CWORD - 1]}
     local commands='show verify list why graph needs deck explain help'
-    local of_deck='--device --mask --start --limit --extent --fetch --store --at'
+    local of_deck='--device --mask --start --limit --extent --fetch --store --least --at'
     local words='--help'
     COMPREPLY=()
     if ((COMP_CWORD == 1)); then

@@ -6,7 +6,7 @@
 
 The table is cases.rt below src/judging/ of the crate that has the tests of `verify`, which go
 through it. A case NAME/PART is the deck NAME-PART. Decks that the table doesn't have stay as they
-are: their lines of verdicts.txt stand in OTHERS.
+are: their lines of verdicts.txt stand in OTHERS. And the tests that docs/CASES.md names are there.
 """
 
 import re
@@ -21,6 +21,7 @@ from running import text_of  # noqa: E402
 TABLE = "crates/*/src/judging/**/cases.rt"
 FOLDER = EXAMPLES / "cases"
 VERDICTS = FOLDER / "verdicts.txt"
+PAGE = ROOT / "docs/CASES.md"
 
 # decks of their own, for what the table has no row
 OTHERS = {"no-areas-and-no-words": "no 000800 invalid-code"}
@@ -115,7 +116,26 @@ def write():
     VERDICTS.write_text(verdicts)
 
 
+def tests_named():
+    """The tests that the page names, each with its crate, behind which they stand."""
+    for cell in re.findall(r"(?m)^\|.*\| (.*) \|$", text_of(PAGE)):
+        for part in cell.split(";"):
+            crate, *names = re.findall(r"`(\w+)`", part) or [""]
+            if crate and (ROOT / "crates" / crate).is_dir():
+                yield from ((crate, name) for name in names)
+
+
+def tests_of(crate):
+    sources = (ROOT / "crates" / crate / "src").rglob("*.rt")
+    test = r"#\[test\]\n(?:#\[.*\]\n)*fn (\w+)"
+    return {name for source in sources for name in re.findall(test, text_of(source))}
+
+
 def check(checks, _built):
+    named = list(tests_named())
+    checks.expect_that("docs/CASES.md names tests", named, named)
+    for crate, name in named:
+        checks.expect_that(f"{crate} has the test {name}", name in tests_of(crate), name)
     texts, _, verdicts = wanted()
     for name, text in texts.items():
         path = FOLDER / f"{name}.deck"

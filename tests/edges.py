@@ -19,6 +19,7 @@ chanv verify [FILE]...
        chanv why [FILE]
        chanv graph [FILE]
        chanv needs [FILE]
+       chanv deck --start <ADDRESS> --least [OPTIONS] [FILE]
        chanv deck --start <ADDRESS> --extent <FIRST-LAST> [OPTIONS] [FILE]
        chanv explain <WORD>
        chanv show <CCW>"""
@@ -65,7 +66,7 @@ def check_words(checks, program):
     ran = run(program, "show", "0800")
     checks.expect("not a CCW", Ran(4, "", "chanv: not a CCW\n"), ran)
     lacking = "the following required arguments were not provided:\n  "
-    options = "--start <ADDRESS> --extent <FIRST-LAST>"
+    options = "--start <ADDRESS>"
     twice = "the argument '--start <ADDRESS>' cannot be used multiple times"
     extra = "unexpected argument 'extra' found"
     for words, fault, usage in [
@@ -74,11 +75,7 @@ def check_words(checks, program):
         (["--fast"], "unexpected argument '--fast' found", USAGE),
         (["show"], f"{lacking}<CCW>", "chanv show <CCW>"),
         (["explain"], f"{lacking}<WORD>", "chanv explain <WORD>"),
-        (
-            ["deck"],
-            f"{lacking}--start <ADDRESS>\n  --extent <FIRST-LAST>",
-            f"chanv deck {options} [FILE]",
-        ),
+        (["deck"], f"{lacking}--start <ADDRESS>", f"chanv deck {options} [FILE]"),
         (["deck", "--start", "8", "--start", "8"], twice, f"chanv deck [OPTIONS] {options} [FILE]"),
         (["show", CCW, "extra"], extra, "chanv show <CCW>"),
         (["list", SEARCH_LOOP, "extra"], extra, "chanv list [FILE]"),

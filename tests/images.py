@@ -10,7 +10,7 @@ import tempfile
 from pathlib import Path
 
 from building import short
-from examples import FOLDERS, SEARCH_LOOP, decks_of
+from examples import EXAMPLES, FOLDERS, SEARCH_LOOP, decks_of
 from running import Ran, run, text_of
 
 FOR_HELP = "\n\nFor more information, try '--help'.\n"
@@ -20,6 +20,18 @@ CYLINDERS = "decimal cylinders in order, 0 to 202, as 10-19"
 MASK = "a hexadecimal byte with no bits on but C0 and 18"
 LIMIT = "a decimal number, 1 to 65536"
 TOO_LONG = bytes(0x1000001)
+
+# what can't stand beside the least job, as given and in a fault's text, and what has to be there
+BESIDE_LEAST = [
+    ("--mask=00", "--mask <BYTE>"),
+    ("--extent=0-202", "--extent <FIRST-LAST>"),
+    ("--fetch=900+10", "--fetch <START+LENGTH>"),
+    ("--store=900+10", "--store <START+LENGTH>"),
+]
+EITHER = "  <--extent <FIRST-LAST>|--least>"
+
+# an image whose program changes an argument of its own
+CORE = EXAMPLES / "core.bin"
 
 # options with a word that they don't accept
 REFUSED = [
@@ -106,6 +118,22 @@ def check_refusals(checks, program):
     checks.expect("the first of three", fault("--start <ADDRESS>", "+8", ADDRESS), ran)
 
 
+def check_least(checks, program):
+    """The least job stands alone, and says where there is none."""
+    least = ["deck", "--start", "800", "--least"]
+    for option, usage in BESIDE_LEAST:
+        said = f"error: the argument '--least' cannot be used with '{usage}'{FOR_HELP}"
+        checks.expect(f"--least {option}", Ran(4, "", said), run(program, *least, option))
+    said = f"error: the following required arguments were not provided:\n{EITHER}{FOR_HELP}"
+    checks.expect("neither", Ran(4, "", said), run(program, *least[:-1]))
+    storage = taken_apart(text_of(SEARCH_LOOP))[1]
+    many = Ran(2, "", "chanv: too many places\n")
+    checks.expect("few places", many, run(program, *least, "--limit", "2", given=storage))
+    said = f"chanv: {CORE}: no job will do: no 000818 changes-argument\n"
+    checks.expect("no job will do", Ran(1, "", said), run(program, *least, CORE))
+    checks.expect("no image", Ran(3, "", "chanv: none: cannot open\n"), run(program, *least, "none"))
+
+
 def fault(option, word, accepted):
     return Ran(4, "", f"error: invalid value '{word}' for '{option}': {accepted}{FOR_HELP}")
 
@@ -115,3 +143,4 @@ def check(checks, built):
     check_decks(checks, program)
     check_spellings(checks, program)
     check_refusals(checks, program)
+    check_least(checks, program)

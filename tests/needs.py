@@ -3,11 +3,13 @@
 From each example deck whose program may run under some job, a deck is made of the lines of
 `chanv needs`, which is judged `yes`. With a byte less at either end of an area, a cylinder less at
 either end of an extent, or the next stricter mask in either of its two parts, it is judged `no`.
-And a deck's own verdict is `yes` exactly where its job grants what is written.
+A deck's own verdict is `yes` exactly where its job grants what is written. And that deck is what
+`chanv deck --least` makes of the program's storage; where no job will do, it says so.
 """
 
 from building import short
 from examples import FOLDERS, decks_of
+from images import taken_apart
 from running import Ran, run, text_of
 
 # both parts of a file mask, from the laxest bits to the strictest
@@ -100,17 +102,29 @@ def grants(job, needed):
     return is_served and all(spread(needed, word) <= spread(job, word) for word in GRANTING[1:])
 
 
+def made_of_image(program, deck):
+    """What `chanv deck --least` makes of a deck's storage, with no more of its job than it says."""
+    words, storage = taken_apart(deck)
+    pairs = zip(words[::2], words[1::2])
+    kept = [f"{name}={said}" for name, said in pairs if name[2:] not in GRANTING]
+    return run(program, "deck", "--least", *kept, given=storage)
+
+
 def check_deck(checks, program, path):
     name, deck = short(path), text_of(path)
     verdict = run(program, "verify", given=path)
     ran = run(program, "needs", given=path)
+    made = made_of_image(program, deck)
     if ran.status == 1:
         checks.expect(f"no job will do: {name}", 1, verdict.status)
+        refused = f"chanv: no job will do: {ran.output.splitlines()[0]}\n"
+        checks.expect(f"deck --least: {name}", Ran(1, "", refused), made)
         return
     needed = job_of(ran.output.splitlines())
     is_granted = grants(job_of(deck.splitlines()), needed)
     checks.expect(f"the job of {name}", 0 if is_granted else 1, verdict.status)
     least = deck_with(deck, needed)
+    checks.expect(f"deck --least: {name}", Ran(0, least), made)
     checks.expect(f"the least job: {name}", "yes\n", run(program, "verify", given=least.encode()).output)
     for less, job in lesser_jobs(needed):
         judged = run(program, "verify", given=deck_with(deck, job).encode())

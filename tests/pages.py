@@ -1,7 +1,8 @@
 """The examples of the pages: each command that one shows writes what stands behind it.
 
 A page's blocks are carried out one after the other, in a copy of examples/ beside which a reader
-stands; `cd` leads on. A command that asks Graphviz is left out, by its name, where there is none.
+stands, or in the page's own folder there; `cd` leads on. A command that asks Graphviz is left out,
+by its name, where there is none.
 """
 
 import re
@@ -29,8 +30,15 @@ def shown_by(page):
             yield lines[at][2:], "".join(f"{line}\n" for line in lines[at + 1 : end])
 
 
-def check_page(checks, page, chanv, room):
-    standing = room / "examples" if page.parent.name == "examples" else room
+def check_page(checks, page, chanv):
+    with tempfile.TemporaryDirectory() as room:
+        shutil.copytree(ROOT / "examples", Path(room) / "examples")
+        carry_out(checks, page, chanv, Path(room))
+
+
+def carry_out(checks, page, chanv, room):
+    beside = room / page.parent.relative_to(ROOT)
+    standing = beside if beside.is_dir() else room
     for command, shown in shown_by(page):
         if " dot " in command and not shutil.which("dot"):
             say(f"pages: no dot, so not tried: {command}")
@@ -42,8 +50,5 @@ def check_page(checks, page, chanv, room):
 
 
 def check(checks, built):
-    chanv = built.chanv()
     for page in PAGES:
-        with tempfile.TemporaryDirectory() as room:
-            shutil.copytree(ROOT / "examples", Path(room) / "examples")
-            check_page(checks, page, chanv, Path(room))
+        check_page(checks, page, built.chanv())

@@ -7,7 +7,7 @@
 The tables are made of the sources of the crates, and of the edits in must-fail/ and batches/. Each
 edit has to fit: its old texts stand once in their files, and there is a function, a constant or a
 definition that it turns. Each public function has a wrong body, of its own or of what it comes to.
-And the functions are there that the page names in its table of laws.
+And docs/MACHINE.md names in its table of laws functions that are there, all of laws.rt among them.
 """
 
 import re
@@ -21,7 +21,7 @@ from building import ROOT, crates, short  # noqa: E402
 from running import text_of  # noqa: E402
 from sources import CRATES, items, uses  # noqa: E402
 
-PAGE = ROOT / "docs/PROOF.md"
+PAGE, LAWS = ROOT / "docs/PROOF.md", ROOT / "docs/MACHINE.md"
 BEGIN = "<!-- tests/proof_table.py --write writes what follows -->\n\n"
 END = "<!-- up to here -->\n"
 
@@ -171,14 +171,16 @@ def check_functions(checks, crate):
         checks.expect_that(name, edits or item.path() == HAS_NONE, edits)
 
 
-def check_laws(checks, page, some):
-    section = page.partition("\n## Law by law\n")[2].partition("\n## ")[0]
-    cells = re.findall(r"(?m)^\| [^|]* \| (`[^|]*) \|", section)
-    names = [name for cell in cells for name in re.findall(r"`(\w+)`", cell)]
+def check_laws(checks, some):
+    section = text_of(LAWS).partition("\n## The laws\n")[2].partition("\n## ")[0]
+    cells = re.findall(r"(?m)^\| (`[^|]*) \|", section)
+    names = {name for cell in cells for name in re.findall(r"`(\w+)`", cell)}
     there = {item.name for crate in some for item in crate.items}
-    checks.expect_that("the page names laws", names, names)
-    for name in names:
+    laws = {item.name for crate in some for item in crate.items if item.file == "src/laws.rt"}
+    checks.expect_that("there are laws", laws, laws)
+    for name in sorted(names | laws):
         checks.expect_that(f"the law {name} is there", name in there, name)
+        checks.expect_that(f"the page names the law {name}", name in names, name)
 
 
 def check(checks, _built):
@@ -186,7 +188,7 @@ def check(checks, _built):
     for crate in some:
         check_edits(checks, crate)
         check_functions(checks, crate)
-    check_laws(checks, page, some)
+    check_laws(checks, some)
     checks.expect("the tables of docs/PROOF.md", tables(some), parts_of(page)[1])
 
 

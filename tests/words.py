@@ -1,23 +1,63 @@
-"""The pages that say what words mean say what `chanv explain` writes.
+"""The pages that say what words mean say what `chanv` writes of them.
 
 Each word of the table of reasons in docs/VERDICT.md, and of the table of causes in docs/DECK.md,
 has a section on its page, and that is what `chanv explain` writes of it. A word that isn't in them
-is refused.
+is refused. And `chanv why` gives the cause of each example deck's no in a form that the section of
+its reason has in docs/VERDICT.md, where each reason has an example.
 """
 
 import re
 
-from building import ROOT
+from building import ROOT, short
+from examples import FOLDERS, verdicts_of
 from running import Ran, run, text_of
 
+VERDICT = "VERDICT.md"
 # how a row of the page's table begins
-PAGES = {"VERDICT.md": r"\| \d+ \| `([a-z-]+)` \|", "DECK.md": r"\| `[A-Z]\w*` \| `([a-z-]+)` \|"}
+PAGES = {VERDICT: r"\| \d+ \| `([a-z-]+)` \|", "DECK.md": r"\| `[A-Z]\w*` \| `([a-z-]+)` \|"}
+
+# what stands for a value in the form of a cause
+VALUES = {
+    "DATA": r"[0-9A-F]{6,8}-[0-9A-F]{6,8}",
+    "A-B": r"[0-9A-F]{6,8}-[0-9A-F]{6,8}",
+    "ADDRESS": r"[0-9A-F]{6,8}",
+    "BYTE": r"[0-9A-F]{6}",
+    "HHHH": r"[0-9A-F]{4}",
+    "HH": r"[0-9A-F]{2}",
+    "NAME": r"[a-z-]+",
+    "N": r"[0-9A-F]+",
+    "M": r"\d+",
+}
+VALUE = re.compile(r"\b(?:" + "|".join(VALUES) + r")\b")
 
 
 def sections_of(page):
     """What stands under each heading that is one word, without its indent."""
     found = re.findall(r"(?m)^### `([a-z-]+)`\n\n((?:    .*\n)+)", page)
     return {word: re.sub(r"(?m)^    ", "", text) for word, text in found}
+
+
+def causes_of(page):
+    """The forms of each reason's cause, as patterns."""
+    for word, said in re.findall(r"(?ms)^### `([a-z-]+)`$(.*?)(?=^### |\Z)", page):
+        forms = re.findall(r"`(because [^`]+)`", " ".join(said.split()))
+        forms += [form.replace(" argument ", " mask byte ") for form in forms if "BYTE" in form]
+        yield word, [VALUE.sub(lambda found: VALUES[found[0]], form) for form in forms]
+
+
+def check_causes(checks, program, causes):
+    shown = set()
+    for folder in FOLDERS:
+        for name, verdict in verdicts_of(folder).items():
+            if verdict == "yes":
+                continue
+            word, forms = verdict.split(" ")[2], causes.get(verdict.split(" ")[2], [])
+            lines = run(program, "why", given=folder / name).output.splitlines()
+            causing = [line for line in lines if line.startswith("because ")]
+            has_form = any(re.fullmatch(form, line) for form in forms for line in causing)
+            checks.expect_that(f"the cause of {short(folder / name)}", has_form, causing)
+            shown.add(word)
+    checks.expect("the reasons that an example has", sorted(causes), sorted(shown))
 
 
 def check(checks, built):
@@ -32,3 +72,4 @@ def check(checks, built):
     for word in ("", "changes", "changes-ccw ", "Changes-ccw", "deck"):
         refused = Ran(4, "", "chanv: no such word\n")
         checks.expect(f"'{word}'", refused, run(program, "explain", word))
+    check_causes(checks, program, dict(causes_of(text_of(ROOT / "docs" / VERDICT))))

@@ -22,7 +22,7 @@ abbrev pub unused : List ℕ
 unused = codes " is used by no reachable CCW"
 
 abbrev pub interrupts : List ℕ
-interrupts = codes " interrupts: what the processor may change then is not judged"
+interrupts = codes " interrupts: the processor may change any byte but those that chanv needs keeps"
 
 abbrev pub ends_there : List ℕ
 ends_there = codes " ends the program: chain data counts, and it moves no data"

@@ -18,7 +18,7 @@ const PAST_STORAGE: &str = " reaches past storage";
 const UNUSED: &str = " is used by no reachable CCW";
 
 /// What is noted of a CCW with the flag for a program-controlled interruption.
-const INTERRUPTS: &str = " interrupts: what the processor may change then is not judged";
+const INTERRUPTS: &str = " interrupts: the processor may change any byte but those that chanv needs keeps";
 
 /// What is noted of a CCW that moves no data and has both chaining flags on.
 const ENDS_THERE: &str = " ends the program: chain data counts, and it moves no data";

@@ -102,14 +102,25 @@ pub(crate) fn write_extents(out: &mut Vec<u8>, extents: &[(u16, u16)]) -> Result
     Ok(())
 }
 
+/// Start and length of an area, with a space between them. Both take their digits from one text.
+fn push_area_digits(alloc: Global, out: &mut Vec<u8>, area: Area) -> Result<(), AllocError>
+    ensures { OnOk result (out.new.items ≡ out.old.items ++ area_digits area) }
+{
+    let [_, a, b, c] = area.start.to_be_bytes();
+    let [_, d, e, f] = area.len.to_be_bytes();
+    let digits = hex::encode_upper(alloc, [a, b, c, d, e, f])?;
+    let (start, len) = digits.as_bytes().split_at(6);
+    out.extend_from_slice(start)?;
+    out.extend_from_slice(b" ")?;
+    out.extend_from_slice(len)
+}
+
 fn write_area(alloc: Global, out: &mut Vec<u8>, word: &[u8], area: Area) -> Result<(), AllocError>
     ensures { OnOk result (out.new.items
         ≡ out.old.items ++ ((word.now ++ area_digits area) ++ 10 ∷ [])) }
 {
     out.extend_from_slice(word)?;
-    push_address(alloc, out, area.start)?;
-    out.extend_from_slice(b" ")?;
-    push_address(alloc, out, area.len)?;
+    push_area_digits(alloc, out, area)?;
     out.extend_from_slice(b"\n")
 }
 

@@ -1,5 +1,5 @@
 -- How a run over an input ends: its output is flushed, and something is said of it.
-use Rattle.std.proofs.Common.{◌≡◌, ◌⊎◌, ◌++◌, ℕ, List, [], Option, Some, None, Result, Ok, Err, Vec, true, false, IfOk, inl, inr, refl, sym, subst}
+use Rattle.std.proofs.Common.{◌≡◌, ◌⊎◌, ◌++◌, ℕ, List, [], Option, Some, None, Result, Ok, Err, Vec, true, false, IfOk, IsErr, OnOk, ◌↔◌, ◌∙◌, ap, append_assoc, append-nil, inl, inr, refl, sym, subst}
 use Rattle.std.proofs.KnownBytes.{Appends-kept}
 use Rattle.std.specs.Io.KnownBytes.{Keeps}
 use Rattle.chan_walk.specs.declared.job.Job.{Job}
@@ -66,3 +66,18 @@ advised a t r end advice told (inl is) beside (inl (has, some)) =
 advised a t r end advice told (inr after) beside (inl (has, some)) =
     absurd (no_flush a (rw after.1 at has))
 advised a t r end advice told ended beside (inr (none, nothing)) = rw nothing (unsaid a t end none)
+
+-- ---- an image of storage
+
+-- what is said where no job will do
+pub no_job_told : (front name mark text line named verdict : List ℕ) → name ++ mark ≡ named → line ≡ verdict
+    → front ++ (name ++ (mark ++ (text ++ (line ++ [])))) ≡ front ++ (named ++ (text ++ verdict))
+no_job_told front name mark text line named verdict is_named is_line =
+    ap (λ t. front ++ t) (sym (append_assoc name mark (text ++ (line ++ []))) ∙ ap (λ t. t ++ (text ++ (line ++ []))) is_named
+    ∙ ap (λ t. named ++ (text ++ t)) (append-nil line ∙ is_line))
+
+-- what was done where no write failed
+pub written_if_sound : {A : Type 0} {E : Type 0} (r : Result (Unit {0}) E) (failed : _) → OnOk r A
+    → IsErr r ↔ (failed ≡ true) → failed ≡ false → A
+written_if_sound (Ok _) failed all fault sound = all
+written_if_sound (Err e) failed all fault sound = let bad : true ≡ false = sym (fault.0 refl) ∙ sound in absurd cc

@@ -1,6 +1,7 @@
 pub mod Writing
 pub mod Outputs
 pub mod NeedLemmas
+pub mod LeastLemmas
 pub mod OptionLemmas
 pub mod ImageLemmas
 pub mod Endings

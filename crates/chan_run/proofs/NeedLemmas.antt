@@ -1,7 +1,7 @@
 -- What is needed lies on the device.
-use Rattle.std.proofs.Common.{◌≡◌, ℕ, ◌≤◌, ◌<◌, ◌||◌, ◌&&◌, nat_le, true, false, List, [], ◌∷◌, ◌⊎◌, inl, inr, refl, arith}
+use Rattle.std.proofs.Common.{◌≡◌, ℕ, ◌≤◌, ◌<◌, ◌||◌, nat_le, true, false, List, [], ◌∷◌, ◌⊎◌, inl, inr, refl, arith}
 use Rattle.std.specs.List.{AllByRecursion}
-use Rattle.std.proofs.lemmas.Bool.{and_from, both_ways, cases_lt, le-leb}
+use Rattle.std.proofs.lemmas.Bool.{both_ways, cases_lt, le-leb}
 use Rattle.ckd_core.specs.Cylinders.{has_cylinder, IsExtent}
 use Rattle.ckd_core.proofs.CylinderLemmas.{has_cylinder-past}
 use Rattle.chan_walk.specs.declared.job.Job.{Job}

@@ -1,11 +1,17 @@
 -- What one input comes to: its answer on one writer, and what is said of it on another.
-use Rattle.std.specs.Prelude.{◌≡◌, ◌⊎◌, ◌++◌, ℕ, Bool, false, List, [], Option, Some, None}
-use Rattle.std.specs.Prelude.{Result, Ok, Err, Vec}
+use Rattle.std.specs.Prelude.{◌≡◌, ◌⊎◌, ◌++◌, ℕ, Bool, true, false, List, [], Option, Some, None}
+use Rattle.std.specs.Prelude.{codes, Result, Ok, Err, Vec}
 use Rattle.std.specs.Io.KnownBytes.{Appends}
 use Rattle.ccw_core.specs.Written.{AppendsPrefix}
 use Rattle.chan_deck.specs.Hint.{IsHint}
+use Rattle.chan_deck.specs.Texts.{verdict_line}
+use Rattle.chan_walk.specs.declared.verdict.Verdict.TheVariants.{No}
+use Rattle.chan_run.specs.declared.image.ImageError.{ImageError}
+use Rattle.chan_run.specs.declared.image.ImageError.TheVariants as images
+use Rattle.chan_run.specs.declared.image.ImageError.TheVariants.{NoJob}
+use Rattle.chan_run.specs.declared.image_options.ImageOptions.{ImageOptions}
 use Rattle.chan_run.specs.declared.reporting.Outcome.{Outcome}
-use Rattle.chan_run.specs.declared.reporting.Outcome.TheVariants.{Ran}
+use Rattle.chan_run.specs.declared.reporting.Outcome.TheVariants.{Imaged, Ran}
 use Rattle.chan_run.specs.declared.running.Action.{Action}
 use Rattle.chan_run.specs.declared.running.Action.TheVariants as actions
 use Rattle.chan_run.specs.declared.running.RunError.{RunError}
@@ -13,6 +19,8 @@ use Rattle.chan_run.specs.declared.running.RunError.TheVariants.{Deck, Memory}
 use Rattle.chan_run.specs.declared.running.Status.{Status}
 use Rattle.chan_run.specs.declared.running.Status.TheVariants as statuses
 use Rattle.chan_run.specs.Advice.{IsNoted}
+use Rattle.chan_run.specs.Imaging.{IsImageAnswer}
+use Rattle.chan_run.specs.Naming.{name_before}
 use Rattle.chan_run.specs.Report.{IsEnd, line_of, line_over}
 use Rattle.chan_run.specs.Run.{IsEarly, IsInput, IsOfJob, IsReadFault, IsTextAnswer, IsUnwritten}
 use Rattle.chan_run.specs.Run.{front_of}
@@ -76,3 +84,29 @@ abbrev pub advice_of : {A E : Type 0} → Option (Result (Vec ℕ A) E) → List
 advice_of None = []
 advice_of (Some (Ok text)) = text.items
 advice_of (Some (Err refused)) = memory_line
+
+-- ---- an image of storage
+
+-- what is said of an image: the outcome's line, or the verdict for which no job will do
+abbrev pub image_line : Option (List ℕ) → Outcome → List ℕ
+image_line name (Imaged (Err (NoJob a r))) =
+    codes "chanv: " ++ (name_before name true ++ (codes "no job will do: " ++ verdict_line (No a r)))
+image_line name end = line_over name end
+
+-- how it ends when the answer is this: just so, with a failed flush, or without memory for the line
+-- that no job will do
+abbrev pub IsImageEnd : Result (Unit {0}) ImageError → Outcome → Type 0
+IsImageEnd (Err (NoJob a r)) end =
+    (end ≡ Imaged (Err (NoJob a r))) ⊎ (end ≡ Imaged (Err images.Memory))
+IsImageEnd answer end = IsEnd (Imaged answer) end
+
+-- the input was read, its deck was written, and this was said of it; where a write of it failed, a
+-- prefix
+pub record IsImageHandled (name : Option (List ℕ)) (o : ImageOptions)
+    (old_in new_in old new old_err new_err : Option (List ℕ)) (failed : Bool) (end : Outcome)
+    : Type 0 where
+  pub answer : Result (Unit {0}) ImageError
+  pub answered : IsImageAnswer o old_in new_in old new answer
+  pub ended : IsImageEnd answer end
+  pub whole : failed ≡ false → Appends old_err new_err (image_line name end)
+  pub prefix : AppendsPrefix old_err new_err (image_line name end)

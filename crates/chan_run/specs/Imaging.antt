@@ -1,6 +1,6 @@
 -- The options with which a deck is made of an image of storage, and what is written of them.
 use Rattle.std.specs.Prelude.{ℕ, ◌+◌, ◌≤◌, ◌^◌, ◌≡◌, ◌⊎◌, List, [], ◌∷◌, ◌++◌, length, map}
-use Rattle.std.specs.Prelude.{Option, Some, None, Result, Ok, Err}
+use Rattle.std.specs.Prelude.{Bool, true, false, Option, Some, None, Result, Ok, Err}
 use Rattle.std.specs.Borrow.{Bor}
 use Rattle.std.specs.Io.KnownBytes.{Appends}
 use Rattle.std.specs.List.{AllZip}
@@ -8,11 +8,20 @@ use Rattle.ccw_core.specs.declared.areas.Area.{Area}
 use Rattle.ccw_core.specs.Written.{AppendsPrefix}
 use Rattle.ckd_core.specs.Cylinders.{IsExtent}
 use Rattle.ckd_core.specs.declared.device.Device.{Device}
-use Rattle.chan_deck.specs.Image.{Image, IsDeck, spelling}
+use Rattle.chan_deck.specs.Image.{Image, IsDeck, limit_of, spelling}
+use Rattle.chan_deck.specs.Needs.{in_six_digits}
 use Rattle.chan_deck.specs.Parts.{storage_with, version_with}
+use Rattle.chan_walk.specs.declared.job.Job.{Job}
+use Rattle.chan_walk.specs.declared.verdict.Verdict.TheVariants.{Yes, No}
+use Rattle.chan_walk.specs.Answers.{IsAnswer}
+use Rattle.chan_walk.specs.Explored.{HasMoreThan}
+use Rattle.chan_walk.specs.Job.{storage_of}
+use Rattle.chan_walk.specs.Rows.{AreNeeds, IsOpenJob, Listed}
+use Rattle.chan_walk.specs.Verdict.{IsVerdict}
 use Rattle.chan_run.specs.Input.{GaveAll, GaveOut, GaveTooMuch}
 use Rattle.chan_run.specs.Options.{SaysAddress, SaysArea, SaysCylinders, SaysDevice, SaysLimit}
 use Rattle.chan_run.specs.Options.{SaysMask}
+use Rattle.chan_run.specs.Run.{IsJobOf}
 use Rattle.chan_run.specs.declared.image.ImageError.{ImageError}
 use Rattle.chan_run.specs.declared.image.ImageError.TheVariants as faults
 use Rattle.chan_run.specs.declared.image_options.ImageOption.{ImageOption}
@@ -45,6 +54,7 @@ pub record SaysOptions (w : ImageWords) (o : ImageOptions) : Type 0 where
   pub fetch : AllZip SaysArea (texts_of w.fetch.items) o.fetch.items
   pub store : AllZip SaysArea (texts_of w.store.items) o.store.items
   pub at : SaysAddress w.at.now o.at
+  pub least : o.is_least ≡ w.is_least
 
 -- the text says something that this option may say
 abbrev pub IsRight : ImageOption × List ℕ → Type 0
@@ -105,22 +115,88 @@ deck_of o image =
       storage = storage_with o.at image;
     }
 
+-- the job is of the program that the options find in an image, with their limit
+pub record IsProgramIn (o : ImageOptions) (image : List ℕ) (j : Job) : Type 0 where
+  pub storage : storage_of j ≡ storage_with o.at image
+  pub start : j.start ≡ o.start
+  pub device : j.device ≡ o.device
+  pub limit : j.limit ≡ limit_of (version_with o.limit)
+
+-- this holds of that program's open job
+pub record IsOfOpenJob (o : ImageOptions) (image : List ℕ) (Holds : Job → Type 0) : Type 0 where
+  pub job : Job
+  pub of_program : IsProgramIn o image job
+  pub opened : Job
+  pub is_open : IsOpenJob job opened
+  pub holds : Holds opened
+
+-- the extents that grant some runs of cylinders: a deck has one extent or more
+abbrev pub extents_for : List (ℕ × ℕ) → List (ℕ × ℕ)
+extents_for [] = (0, 202) ∷ []
+extents_for (run ∷ runs) = run ∷ runs
+
+-- the deck that the options and an image make, but for its job, which grants just what is needed
+abbrev pub least_deck : ImageOptions → List ℕ → Listed → Image
+least_deck o image n = record (deck_of o image) {
+  mask = n.mask;
+  extents = extents_for n.extents;
+  fetch = in_six_digits n.fetch;
+  store = in_six_digits n.store;
+}
+
+-- so the deck is, and the verdict on its job is yes
+pub record IsLeastDeck (o : ImageOptions) (image : List ℕ) (d : Image) : Type 0 where
+  pub needed : Listed
+  pub needs : (j : Job) → IsProgramIn o image j → AreNeeds j needed
+  pub is : d ≡ least_deck o image needed
+  pub yes : (j : Job) → IsJobOf d j → IsVerdict j Yes
+
+-- the deck that is asked for: its job is what the options say, or the least
+abbrev pub IsAskedDeck : Bool → ImageOptions → List ℕ → Image → Type 0
+IsAskedDeck false o image d = d ≡ deck_of o image
+IsAskedDeck true o image d = IsLeastDeck o image d
+
 -- the whole input is an image that ends in storage
 pub record IsImage (o : ImageOptions) (old new : Option (List ℕ)) (image : List ℕ) : Type 0 where
   pub gave : GaveAll old new image
   pub short : o.at + length image ≤ 2 ^ 24
 
+-- why nothing is needed of a job: none will do, too many places are reachable, or memory ran out
+abbrev pub HasNoNeeds : ImageOptions → List ℕ → ImageError → Type 0
+HasNoNeeds o image (faults.NoJob a r) = IsOfOpenJob o image (λ k. IsAnswer k (No a r))
+HasNoNeeds o image faults.TooManyPlaces = IsOfOpenJob o image (λ k. HasMoreThan k k.limit)
+HasNoNeeds o image faults.Memory = Unit {0}
+HasNoNeeds o image _ = ⊥
+
+-- what each answer says of an image and the output
+abbrev pub IsDeckAnswer : ImageOptions → List ℕ → Option (List ℕ) → Option (List ℕ)
+    → Result (Unit {0}) ImageError → Type 0
+IsDeckAnswer o image old new (Ok _) =
+    (d : Image) × IsAskedDeck o.is_least o image d × IsDeck d × Appends old new (spelling d)
+IsDeckAnswer o image old new (Err faults.Write) =
+    (d : Image) × IsAskedDeck o.is_least o image d × AppendsPrefix old new (spelling d)
+IsDeckAnswer o image old new (Err faults.Memory) = Unit {0}
+IsDeckAnswer o image old new (Err fault) = (o.is_least ≡ true) × HasNoNeeds o image fault
+
+-- the input was read to its end, and this is the answer for its image
+pub record IsReadImage (o : ImageOptions) (old_in new_in old new : Option (List ℕ))
+    (answer : Result (Unit {0}) ImageError) : Type 0 where
+  pub image : List ℕ
+  pub input : IsImage o old_in new_in image
+  pub answered : IsDeckAnswer o image old new answer
+
 -- what each answer says of the input and the output
 abbrev pub IsImageAnswer : ImageOptions → Option (List ℕ) → Option (List ℕ) → Option (List ℕ)
     → Option (List ℕ) → Result (Unit {0}) ImageError → Type 0
-IsImageAnswer o old_in new_in old_out new_out (Ok _) =
-    (image : List ℕ) × IsImage o old_in new_in image × IsDeck (deck_of o image)
-    × Appends old_out new_out (spelling (deck_of o image))
-IsImageAnswer o old_in new_in old_out new_out (Err faults.Write) =
-    (image : List ℕ) × IsImage o old_in new_in image
-    × AppendsPrefix old_out new_out (spelling (deck_of o image))
-IsImageAnswer o old_in new_in old_out new_out (Err faults.TooLong) =
+IsImageAnswer o old_in new_in old new (Err faults.TooLong) =
     (room : ℕ) × (o.at + room ≡ 2 ^ 24) × GaveTooMuch room old_in new_in
-IsImageAnswer o old_in new_in old_out new_out (Err faults.Read) =
+IsImageAnswer o old_in new_in old new (Err faults.Read) =
     (room : ℕ) × (o.at + room ≡ 2 ^ 24) × GaveOut room old_in new_in
-IsImageAnswer o old_in new_in old_out new_out (Err faults.Memory) = Unit {0}
+IsImageAnswer o old_in new_in old new (Err faults.Memory) = Unit {0}
+IsImageAnswer o old_in new_in old new answer = IsReadImage o old_in new_in old new answer
+
+-- the answer comes before anything is written
+abbrev pub IsEarly : Result (Unit {0}) ImageError → Type 0
+IsEarly (Ok _) = ⊥
+IsEarly (Err faults.Write) = ⊥
+IsEarly (Err _) = Unit {0}

@@ -1,5 +1,7 @@
--- The text of a usage fault that names an option, in the wording of the command line's library.
+-- The texts of usage faults that name an option, in the wording of the command line's library.
 use Rattle.std.specs.Prelude.{◌++◌, ◌∷◌, ℕ, List, [], codes}
+use Rattle.chan_run.specs.declared.image_options.GrantFault.{GrantFault}
+use Rattle.chan_run.specs.declared.image_options.GrantFault.TheVariants.{BesideLeast, NoExtent}
 use Rattle.chan_run.specs.declared.image_options.ImageOption.{ImageOption}
 use Rattle.chan_run.specs.declared.image_options.ImageOption.TheVariants as options
 use Rattle.chan_run.specs.declared.image_options.OptionFault.{OptionFault}
@@ -32,3 +34,17 @@ fault_text fault =
     codes "error: invalid value '" ++ (fault.text.now ++ (codes "' for '"
     ++ (option_usage fault.option ++ (codes "': " ++ (accepted_by fault.option
     ++ (10 ∷ 10 ∷ codes "For more information, try '--help'." ++ 10 ∷ []))))))
+
+-- an option, so written, can't stand beside the least job
+abbrev pub beside_text : List ℕ → List ℕ
+beside_text usage =
+    codes "error: the argument '--least' cannot be used with '" ++ (usage
+    ++ (codes "'" ++ 10 ∷ 10 ∷ codes "For more information, try '--help'." ++ 10 ∷ []))
+
+-- the option that stands beside the least job, or that there is neither an extent nor that
+abbrev pub grant_fault_text : GrantFault → List ℕ
+grant_fault_text (BesideLeast option) = beside_text (option_usage option)
+grant_fault_text NoExtent =
+    codes "error: the following required arguments were not provided:"
+    ++ 10 ∷ codes "  <--extent <FIRST-LAST>|--least>"
+    ++ 10 ∷ 10 ∷ codes "For more information, try '--help'." ++ 10 ∷ []

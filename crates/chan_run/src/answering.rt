@@ -3,15 +3,22 @@
 ghost use Rattle.std.specs.Prelude.{◌≡◌, ◌↔◌, ◌++◌, false, true, Err, IsErr, OnOk};
 ghost use Rattle.std.specs.Io.KnownBytes.{Appends};
 ghost use Rattle.ccw_core.specs.Written.{AppendsPrefix};
-ghost use Rattle.chan_run.specs.Answer.{IsEarlyEnd, IsHandled, advice_of};
+ghost use Rattle.chan_run.specs.Answer.{IsEarlyEnd, IsHandled, IsImageHandled, advice_of};
 ghost use Rattle.chan_run.specs.Naming.{name_in};
 ghost use Rattle.chan_run.specs.Report.{IsWriteFailure, line_over};
-ghost use Rattle.chan_run.specs.declared.reporting.Outcome.TheVariants.{Ran};
+ghost use Rattle.chan_run.specs.declared.image.ImageError.TheVariants as images;
+ghost use Rattle.chan_run.specs.declared.reporting.Outcome.TheVariants.{Imaged, Ran};
 ghost use Rattle.chan_run.specs.declared.running.RunError.TheVariants as runs;
 
+use crate::image::{ImageError, write_image};
+use crate::image_options::ImageOptions;
+use crate::naming::named;
 use crate::reporting::{Outcome, conclude, flushed, has_advice, write_line};
 use crate::running::{Action, RunError, answer_text, read_text};
+use crate::texts::write_texts;
 use ccw_core::{DeviceFault, Watched, write_out};
+use chan_deck::verdict_text;
+use chan_walk::Verdict;
 use std::alloc::{AllocError, Global};
 use std::io::{Read, Write};
 
@@ -78,4 +85,46 @@ fn tell<E: Write>(
         Some(Ok(text)) => write_out(text.as_slice(), errors),
         Some(Err(AllocError)) => write_line(None, Outcome::Ran(Err(RunError::Memory)), errors),
     }
+}
+
+/// Makes a deck of an image of storage that may have a name, and says what came of it.
+///
+/// On the first writer stands what `write_image` writes, and it is flushed where all of it was
+/// written. On the second stands the outcome's line, as `report_named` writes it; where the least
+/// job was asked for and no job will do, it is `no job will do: ` and the verdict's line.
+///
+/// The outcome is what `write_image` answers, or `FlushFailed`, or that memory ran out for the
+/// verdict's line. A second writer that fails doesn't change it, and a prefix was written there.
+pub fn answer_image<R: Read, W: Write, E: Write>(
+    alloc: Global,
+    name: Option<&str>,
+    options: &ImageOptions,
+    from: &mut Watched<R>,
+    to: &mut Watched<W>,
+    errors: &mut Watched<E>,
+) -> Outcome
+    requires reader { from.old.failed ≡ false }
+    requires writer { to.old.failed ≡ false }
+    requires errors { errors.old.failed ≡ false }
+    ensures answer { IsImageHandled (name_in name.entry) options.now
+        (R.remaining from.old.device) (R.remaining from.new.device)
+        (W.contents to.old.device) (W.contents to.new.device)
+        (E.contents errors.old.device) (E.contents errors.new.device) errors.new.failed result }
+    ensures read { result ≡ Imaged (Err images.Read) ↔ (from.new.failed ≡ true) }
+    ensures write { IsWriteFailure result ↔ (to.new.failed ≡ true) }
+{
+    let answer = write_image(alloc, options, from, to);
+    let Err(ImageError::NoJob { address, reason }) = answer else {
+        return conclude(name, Outcome::Imaged(answer), to, errors);
+    };
+    let verdict = Verdict::No { address, reason };
+    let Ok(line) = verdict_text(alloc, verdict) else {
+        return conclude(name, Outcome::Imaged(Err(ImageError::Memory)), to, errors);
+    };
+    let (name, mark) = named(name, true);
+    let _ = write_texts(
+        &["chanv: ", name, mark, "no job will do: ", line.as_str()],
+        errors,
+    );
+    Outcome::Imaged(Err(ImageError::NoJob { address, reason }))
 }

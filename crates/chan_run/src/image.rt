@@ -1,13 +1,20 @@
 //! Making a deck of an image of storage: from the reader's bytes to the writer's.
 
-ghost use Rattle.std.specs.Prelude.{◌≡◌, ◌↔◌, ◌⊎◌, false, true, Err, IsErrOf};
-ghost use Rattle.chan_run.specs.Imaging.{IsImageAnswer};
+ghost use Rattle.std.specs.Prelude.{◌≡◌, ◌↔◌, ◌⊎◌, ◌+◌, ◌≤◌, ◌^◌, false, true, length, Err, IfErr};
+ghost use Rattle.std.specs.Prelude.{IsErrOf, OnOk};
+ghost use Rattle.std.specs.Io.KnownBytes.{Appends};
+ghost use Rattle.ccw_core.specs.Written.{AppendsPrefix};
+ghost use Rattle.chan_deck.specs.Image.{IsDeck, spelling};
+ghost use Rattle.chan_deck.specs.Parts.{HasAddresses, image_of};
+ghost use Rattle.chan_run.specs.Imaging.{IsDeckAnswer, IsEarly, IsImageAnswer};
 
 use crate::image_options::ImageOptions;
 use crate::input::{InputError, read_input};
+use crate::least::write_least;
 use ccw_core::Watched;
 use chan_deck::{Parts, PartsError, write_parts};
-use std::alloc::Global;
+use chan_walk::Reason;
+use std::alloc::{AllocError, Global};
 use std::io::{Read, Write};
 use thiserror::Error;
 
@@ -23,6 +30,13 @@ pub enum ImageError {
     /// More bytes came than storage has from the image's address on.
     #[error("image too long")]
     TooLong,
+    /// The least job was asked for, and more places are reachable under the program's open job than
+    /// the limit.
+    #[error("too many places")]
+    TooManyPlaces,
+    /// The least job was asked for, and no job will do: this is the verdict on the open job.
+    #[error("no job will do")]
+    NoJob { address: u32, reason: Reason },
     /// A write failed.
     #[error("write failed")]
     Write,
@@ -31,11 +45,23 @@ pub enum ImageError {
     Memory,
 }
 
+impl From<AllocError> for ImageError {
+    ghost use Rattle.std.specs.Prelude.{◌≡◌};
+    ghost use Rattle.chan_run.specs.declared.image.ImageError.TheVariants.{Memory};
+
+    ghost from_gives = { λ _ e. e ≡ Memory };
+
+    fn from(_error: AllocError) -> ImageError {
+        ImageError::Memory
+    }
+}
+
 /// Reads an image of storage to the end of the input, and writes the deck that it makes with the
-/// options: the deck's one text.
+/// options: the deck's one text. Its job is what the options say, or where they ask for it the
+/// least job of the program, under which the verdict is yes.
 ///
 /// Storage has 16,777,216 bytes at most. Nothing is written before the whole image was read: after
-/// `Read`, `TooLong` and `Memory` nothing was written, and after `Write` a prefix of the text.
+/// each error but `Write` nothing was written, and after that a prefix of the text.
 /// `Read` and `Write` come exactly where the device failed, and `Read` only before too many bytes
 /// came. Over an endless reader it returns, with `TooLong`.
 pub fn write_image<R: Read, W: Write>(
@@ -49,8 +75,7 @@ pub fn write_image<R: Read, W: Write>(
     ensures answer { IsImageAnswer options.now
         (R.remaining from.old.device) (R.remaining from.new.device)
         (W.contents to.old.device) (W.contents to.new.device) result }
-    ensures early { (result ≡ Err ImageError.Read) ⊎ (result ≡ Err ImageError.TooLong)
-        ⊎ (result ≡ Err ImageError.Memory) → to.new ≡ to.old }
+    ensures early { IsEarly result → to.new ≡ to.old }
     ensures read { IsErrOf result ImageError.Read ↔ (from.new.failed ≡ true) }
     ensures write { IsErrOf result ImageError.Write ↔ (to.new.failed ≡ true) }
 {
@@ -60,6 +85,28 @@ pub fn write_image<R: Read, W: Write>(
         Err(InputError::TooLong) => return Err(ImageError::TooLong),
         Err(InputError::Memory) => return Err(ImageError::Memory),
     };
+    if options.is_least {
+        write_least(alloc, options, image.as_slice(), to)
+    } else {
+        write_said(alloc, options, image.as_slice(), to)
+    }
+}
+
+/// Writes the deck that an image makes with the job that the options say.
+fn write_said<W: Write>(
+    alloc: Global,
+    options: &ImageOptions,
+    image: &[u8],
+    to: &mut Watched<W>,
+) -> Result<(), ImageError>
+    requires short { options.now.at + length image.now ≤ 2 ^ 24 }
+    requires said { options.now.is_least ≡ false }
+    requires writer { to.old.failed ≡ false }
+    ensures answer { IsDeckAnswer options.now image.now
+        (W.contents to.old.device) (W.contents to.new.device) result }
+    ensures early { IsEarly result → to.new ≡ to.old }
+    ensures write { IsErrOf result ImageError.Write ↔ (to.new.failed ≡ true) }
+{
     let parts = Parts {
         limit: options.limit,
         device: options.device,
@@ -69,15 +116,36 @@ pub fn write_image<R: Read, W: Write>(
         fetch: &options.fetch,
         store: &options.store,
         at: options.at,
-        image: &image,
+        image,
     };
-    match write_parts(alloc, &parts, to) {
+    write_right(alloc, &parts, to)
+}
+
+/// Writes the deck that parts make which have a text.
+pub(crate) fn write_right<W: Write>(
+    alloc: Global,
+    parts: &Parts<'_>,
+    to: &mut Watched<W>,
+) -> Result<(), ImageError>
+    requires short { parts.now.at + length parts.now.image.now ≤ 2 ^ 24 }
+    requires addresses { HasAddresses parts.now }
+    requires writer { to.old.failed ≡ false }
+    ensures deck { OnOk result (IsDeck (image_of parts.now)) }
+    ensures ok { OnOk result (Appends (W.contents to.old.device) (W.contents to.new.device)
+        (spelling (image_of parts.now))) }
+    ensures prefix { AppendsPrefix (W.contents to.old.device) (W.contents to.new.device)
+        (spelling (image_of parts.now)) }
+    ensures err { IfErr result (λ e. (e ≡ ImageError.Write) ⊎ (e ≡ ImageError.Memory)) }
+    ensures write { IsErrOf result ImageError.Write ↔ (to.new.failed ≡ true) }
+    ensures memory { IsErrOf result ImageError.Memory → to.new ≡ to.old }
+{
+    match write_parts(alloc, parts, to) {
         Ok(()) => Ok(()),
         Err(PartsError::Write) => Err(ImageError::Write),
         Err(PartsError::Memory) => Err(ImageError::Memory),
-        // the image was read only as far as storage goes
+        // the image ends in storage
         Err(PartsError::TooLong) => unreachable!(),
-        // each number of the options has six digits
+        // each number has six digits
         Err(PartsError::Address) => unreachable!(),
     }
 }

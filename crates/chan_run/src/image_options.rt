@@ -48,6 +48,8 @@ pub struct ImageWords<'a> {
     pub store: Vec<&'a str>,
     /// As `address_of` reads it.
     pub at: &'a str,
+    /// Whether the deck grants what the program needs, in place of mask, extents and areas.
+    pub is_least: bool,
 }
 
 /// What the options say: the job of the deck, and where the image stands.
@@ -70,6 +72,9 @@ pub struct ImageOptions {
     pub store: Vec<Area>,
     /// The address at which the image begins, at most `FFFFFF`.
     pub at: u32,
+    /// Whether the deck grants what the program needs, in place of mask, extents and areas. These
+    /// don't matter then.
+    pub is_least: bool,
     pub ghost start_is_address: { IsAddress start },
     pub ghost fetch_are_areas: { All IsArea fetch.items },
     pub ghost store_are_areas: { All IsArea store.items },
@@ -83,6 +88,15 @@ pub struct OptionFault<'a> {
     pub option: ImageOption,
     /// What was given for it.
     pub text: &'a str,
+}
+
+/// Why options don't say one job.
+#[derive(Clone, Copy, PartialEq, Eq, Debug)]
+pub enum GrantFault {
+    /// This option stands beside `--least`, which grants in its place.
+    BesideLeast(ImageOption),
+    /// There is neither an extent nor `--least`.
+    NoExtent,
 }
 
 /// Why the texts of options weren't read.

@@ -20,6 +20,7 @@ mod answering;
 mod image;
 mod image_options;
 mod input;
+mod least;
 mod meaning;
 mod naming;
 mod option_fault;
@@ -30,11 +31,13 @@ mod running;
 mod showing;
 mod texts;
 
-pub use crate::answering::answer;
+pub use crate::answering::{answer, answer_image};
 pub use crate::image::{ImageError, write_image};
-pub use crate::image_options::{ImageOption, ImageOptions, ImageWords, OptionError, OptionFault};
+pub use crate::image_options::{
+    GrantFault, ImageOption, ImageOptions, ImageWords, OptionError, OptionFault,
+};
 pub use crate::meaning::{MeaningError, Term, explain_word, term_of};
-pub use crate::option_fault::report_option;
+pub use crate::option_fault::{report_grants, report_option};
 pub use crate::option_reading::options_of;
 pub use crate::options::{address_of, area_of, cylinders_of, device_of, limit_of, mask_of};
 pub use crate::reporting::{

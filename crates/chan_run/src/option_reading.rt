@@ -139,5 +139,6 @@ pub fn options_of<'a>(
         fetch,
         store,
         at,
+        is_least: words.is_least,
     })
 }

@@ -20,8 +20,8 @@ use ccw_core::{DeviceFault, Watched};
 use chan_deck::Cause;
 use std::io::Write;
 
-/// How a run of the program ended. The texts of help, of the version and
-/// of a usage fault are written before.
+/// How a run of the program ended. The texts of help, of the version, of a usage fault and on a
+/// program that no job will do for are written before.
 #[derive(Clone, Copy, PartialEq, Eq, Debug)]
 pub enum Outcome {
     /// What `show` answered.
@@ -168,7 +168,8 @@ pub fn exit_status(outcome: Outcome) -> u8
         Outcome::Ran(Ok(Status::Yes)) | Outcome::Explained(Ok(())) => 0,
         Outcome::Ran(Ok(Status::No)) => 1,
         Outcome::Ran(Err(RunError::TooLong | RunError::Deck { .. } | RunError::TooManyPlaces)) => 2,
-        Outcome::Imaged(Err(ImageError::TooLong)) => 2,
+        Outcome::Imaged(Err(ImageError::TooLong | ImageError::TooManyPlaces)) => 2,
+        Outcome::Imaged(Err(ImageError::NoJob { .. })) => 1,
         Outcome::Shown(Err(ShowError::NotCcw)) | Outcome::UsageFault => 4,
         Outcome::Explained(Err(MeaningError::Unknown)) => 4,
         _ => 3,
@@ -228,6 +229,7 @@ fn program<'a>(outcome: Outcome) -> &'a str
     match outcome {
         Outcome::Shown(Ok(())) | Outcome::Ran(Ok(_)) | Outcome::Imaged(Ok(())) => "",
         Outcome::Explained(Ok(())) | Outcome::HelpAsked | Outcome::UsageFault => "",
+        Outcome::Imaged(Err(ImageError::NoJob { .. })) => "",
         _ => "chanv: ",
     }
 }
@@ -237,7 +239,8 @@ fn is_on_input(outcome: Outcome) -> bool
     ensures { result ≡ is_on_input outcome }
 {
     match outcome {
-        Outcome::Ran(Err(RunError::Write)) | Outcome::Imaged(Err(ImageError::Write)) => false,
+        Outcome::Ran(Err(RunError::Write)) => false,
+        Outcome::Imaged(Err(ImageError::Write | ImageError::NoJob { .. })) => false,
         Outcome::Ran(Err(_)) | Outcome::Imaged(Err(_)) | Outcome::CannotOpen => true,
         _ => false,
     }
@@ -250,6 +253,7 @@ fn text<'a>(outcome: Outcome) -> &'a str
     match outcome {
         Outcome::Shown(Ok(())) | Outcome::Ran(Ok(_)) | Outcome::Imaged(Ok(())) => "",
         Outcome::Explained(Ok(())) | Outcome::HelpAsked | Outcome::UsageFault => "",
+        Outcome::Imaged(Err(ImageError::NoJob { .. })) => "",
         Outcome::Shown(Err(ShowError::NotCcw)) => "not a CCW\n",
         Outcome::Explained(Err(MeaningError::Unknown)) => "no such word\n",
         Outcome::Ran(Err(RunError::Read)) | Outcome::Imaged(Err(ImageError::Read)) => {
@@ -258,7 +262,8 @@ fn text<'a>(outcome: Outcome) -> &'a str
         Outcome::Ran(Err(RunError::TooLong)) => "deck too long\n",
         Outcome::Imaged(Err(ImageError::TooLong)) => "image too long\n",
         Outcome::Ran(Err(RunError::Deck { .. })) => "deck line ",
-        Outcome::Ran(Err(RunError::TooManyPlaces)) => "too many places\n",
+        Outcome::Ran(Err(RunError::TooManyPlaces))
+        | Outcome::Imaged(Err(ImageError::TooManyPlaces)) => "too many places\n",
         Outcome::Shown(Err(ShowError::Memory))
         | Outcome::Ran(Err(RunError::Memory))
         | Outcome::Imaged(Err(ImageError::Memory))

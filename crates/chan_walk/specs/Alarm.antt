@@ -134,7 +134,7 @@ ShowsCheck j p ps r = ShowsInStep j p ps (λ es stage. stage ≡ Checked r)
 -- may not begin; a store or a fetch outside lent areas; a seek that begins at p, where the
 -- channel's check passes, and ends or is checked before its sixth byte; an operation that begins at
 -- p and seeks where it isn't allowed; a store over what some run uses; a Set File Mask that begins
--- at p and takes a byte less strict than the job's mask
+-- at p and takes a byte that isn't at least as strict as the job's mask
 abbrev pub Shows : Job → Place → List Place → Reason → Type 0
 Shows j p ps Misaligned = ShowsCheck j p ps Misaligned
 Shows j p ps OutsideStorage = ShowsCheck j p ps OutsideStorage

@@ -16,7 +16,7 @@ pub record GuardAreas : Type 0 where
   pub arguments : List Area
 
 -- each is the one merged list for its bytes: the guarded bytes of the job's CCWs, and those of its
--- arguments
+-- arguments, which are those of seeks and of Set File Mask
 pub record Guards (j : Job) (g : GuardAreas) : Type 0 where
   pub ccws_merged : IsMerged g.ccws
   pub ccws : (b : ℕ) → (lies_in g.ccws b ≡ true) ↔ IsCcwByte j b

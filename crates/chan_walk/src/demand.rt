@@ -37,7 +37,7 @@ pub(crate) fn needed_mask(looks: &[Look]) -> FileMask
     mask
 }
 
-/// The strictest mask that is at most as strict as each of two.
+/// The strictest mask as which each of two is at least as strict.
 fn laxer(one: FileMask, other: FileMask) -> FileMask
     ensures { IsStrictest (IsLaxerThan one other) result }
 {

@@ -98,7 +98,7 @@ pub enum Evidence {
         taker: u32,
         sets_mask: bool,
     },
-    /// The byte that is set, and the job's mask, which is stricter.
+    /// The byte that is set, and the job's mask, as which it isn't at least as strict.
     WeakensMask {
         byte: u8,
         mask: FileMask,

@@ -19,8 +19,8 @@ use ccw_core::Area;
 use std::alloc::{AllocError, Global};
 use std::marker::Model;
 
-/// The guarded bytes of a job: those of the reachable CCWs, and those of the arguments of the
-/// reachable seeks that have no own fault.
+/// The guarded bytes of a job: those of the reachable CCWs, those of the arguments of the reachable
+/// seeks that have no own fault, and those that such a Set File Mask takes.
 #[derive(Debug, Drop)]
 pub struct Guard {
     ccws: Vec<Area>,
@@ -32,7 +32,8 @@ impl Model for Guard {
 
     ghost view = { λ g. record { ccws = g.ccws.items; arguments = g.arguments.items } };
 
-    ghost invariant = { λ g. IsMerged g.ccws.items × IsMerged g.arguments.items };
+    ghost invariant = { λ g. (IsMerged g.ccws.items × All (EndsBelow (2 ^ 32)) g.ccws.items)
+        × (IsMerged g.arguments.items × All (EndsBelow (2 ^ 32)) g.arguments.items) };
 }
 
 impl Guard {
@@ -73,6 +74,7 @@ impl Guard {
     pub fn ccw_ranges(&self) -> &[Area]
         ensures ranges { result.now ≡ self.now.ccws }
         ensures merged { IsMerged result.now }
+        ensures low { All (EndsBelow (2 ^ 32)) result.now }
     {
         self.ccws.as_slice()
     }
@@ -81,6 +83,7 @@ impl Guard {
     pub fn argument_ranges(&self) -> &[Area]
         ensures ranges { result.now ≡ self.now.arguments }
         ensures merged { IsMerged result.now }
+        ensures low { All (EndsBelow (2 ^ 32)) result.now }
     {
         self.arguments.as_slice()
     }

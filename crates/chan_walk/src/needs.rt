@@ -3,10 +3,9 @@
 ghost use Rattle.std.specs.Prelude.{◌≡◌, ◌↔◌, ◌+◌, ◌^◌, ℕ, Some, map, IfOk, OnOk};
 ghost use Rattle.std.specs.List.{All};
 ghost use Rattle.chan_walk.specs.Fault.{IsClear};
-ghost use Rattle.chan_walk.specs.Guard.{AddsBytes};
+ghost use Rattle.chan_walk.specs.Guard.{AddsBytes, Guards};
 ghost use Rattle.chan_walk.specs.Guarded.{IsGuarded};
-ghost use Rattle.chan_walk.specs.Least.{AreReached};
-ghost use Rattle.chan_walk.specs.Look.{AreLooks, IsLook, places_of_looks};
+ghost use Rattle.chan_walk.specs.Look.{IsLook};
 ghost use Rattle.chan_walk.specs.Needs.{AreOfOneProgram};
 ghost use Rattle.chan_walk.specs.Ranges.{EndsBelow, IsMerged};
 ghost use Rattle.chan_walk.specs.Rows.{AreExactly, AreLooksOfYes, AreNeeds, IsSought};
@@ -14,7 +13,7 @@ ghost use Rattle.chan_walk.specs.Rows.{SeeksCylinder, listed, rows_of, run_of};
 ghost use Rattle.chan_walk.specs.declared.job.Job.{Job};
 
 use crate::demand::needed_mask;
-use crate::guard::{add_argument, add_ccw};
+use crate::guard::Guard;
 use crate::job::Job;
 use crate::look::Look;
 use crate::noting::{fetched, stored};
@@ -60,10 +59,16 @@ impl Needs {
     }
 }
 
-/// What a program needs, where these are the looks at all places of a job of it whose verdict is
-/// yes.
-pub(crate) fn needs_of(alloc: Global, job: &Job, looks: &[Look]) -> Result<Needs, AllocError>
-    requires { AreLooksOfYes job.now looks.now }
+/// What a program needs, where these are the guard of a job of it whose verdict is yes, and the
+/// looks at all its places.
+pub(crate) fn needs_of(
+    alloc: Global,
+    job: &Job,
+    guard: &Guard,
+    looks: &[Look],
+) -> Result<Needs, AllocError>
+    requires looks { AreLooksOfYes job.now looks.now }
+    requires guard { Guards job.now guard.now }
     ensures { IfOk result (λ n. (j : Job) → AreOfOneProgram j job.now → AreNeeds j (listed n)) }
 {
     let sought = sought(alloc, looks)?;
@@ -73,21 +78,17 @@ pub(crate) fn needs_of(alloc: Global, job: &Job, looks: &[Look]) -> Result<Needs
         extents: runs(alloc, sought.as_slice())?,
         fetch: fetched(alloc, looks)?,
         store: stored(alloc, looks)?,
-        keep: kept(alloc, looks)?,
+        keep: kept(alloc, guard)?,
     })
 }
 
-/// The bytes of CCWs and of arguments, as a merged list.
-fn kept(alloc: Global, looks: &[Look]) -> Result<Vec<Area>, AllocError>
-    requires { (j : Job) × AreLooks j looks.now }
-    ensures { IfOk result (λ v. (j : Job) → AreLooks j looks.now
-        → AreReached j (places_of_looks looks.now) → AreExactly (IsGuarded j) v.items) }
+/// The guarded bytes, as a merged list.
+fn kept(alloc: Global, guard: &Guard) -> Result<Vec<Area>, AllocError>
+    ensures { IfOk result (λ v. (j : Job) → Guards j guard.now → AreExactly (IsGuarded j) v.items) }
 {
     let mut areas = Vec::new(alloc);
-    for look in looks {
-        add_ccw(&mut areas, look)?;
-        add_argument(&mut areas, look)?;
-    }
+    areas.extend_from_slice(guard.ccw_ranges())?;
+    areas.extend_from_slice(guard.argument_ranges())?;
     merge(alloc, areas)
 }
 

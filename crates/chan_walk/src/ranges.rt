@@ -81,6 +81,7 @@ pub(crate) fn merge(alloc: Global, areas: Vec<Area>) -> Result<Vec<Area>, AllocE
     requires { All (EndsBelow (2 ^ 32)) areas.items }
     ensures merged { IfOk result (λ v. IsMerged v.items) }
     ensures bytes { IfOk result (λ v. HaveSameBytes v.items areas.items) }
+    ensures low { IfOk result (λ v. All (EndsBelow (2 ^ 32)) v.items) }
 {
     let mut areas = areas;
     areas.sort_unstable_by_key(|area| area.start);

@@ -135,7 +135,7 @@ impl Survey {
         ensures { IfOk result (λ n. (j : Job) → AreOfOneProgram j job.now → AreNeeds j (listed n)) }
     {
         first_is_verdict();
-        needs_of(alloc, job, self.walk.looks.as_slice())
+        needs_of(alloc, job, &self.guard, self.walk.looks.as_slice())
     }
 
     /// What was seen of the places, in order of place, and all offences.

@@ -8,6 +8,7 @@ use Rattle.clap.specs.Walk.{nothing_held, positional, reading_by, walk_from, wal
 use Rattle.clap.specs.declared.error.kind.ErrorKind.TheVariants.{UnknownArgument}
 use Rattle.chanv.proofs.TakenLines.{end_kinds, rule_at, sub_at}
 use Rattle.chanv.specs.CommandLine.{IsWord}
+use Rattle.chanv.specs.ImageLine.{grant_fault, is_least}
 use Rattle.chanv.proofs.Names.{All, All-head, All-tail, CommandLine, Rule, Shape, append_assoc}
 use Rattle.chanv.proofs.Names.{bytes_eq, files_in, fold, long_of, or_else, short_of}
 
@@ -173,7 +174,7 @@ HasTwo start extent rows =
     × (first_of (codes "start") rows ≡ Some start) × (first_of (codes "limit") rows ≡ None)
     × (all_of (codes "extent") rows ≡ Some (extent ∷ [])) × (all_of (codes "fetch") rows ≡ None)
     × (all_of (codes "store") rows ≡ None) × (first_of (codes "at") rows ≡ None)
-    × (first_of (codes "FILE") rows ≡ None)
+    × (first_of (codes "FILE") rows ≡ None) × (grant_fault rows ≡ None) × (is_least rows ≡ false)
 
 -- nothing is wrong with the extent, and both are found
 extent_leads : (start extent : Text) → IsValue extent
@@ -186,7 +187,7 @@ extent_leads start extent value = turned (sub_at 6) _
     (turned (sub_at 6) _ (behind_value (given (rule_at (sub_at 6) 2) (start ∷ []) ∷ [])
     (codes "extent") extent idle) extent [] _
     (simp (value.0, value.1, value.2) refl) (simp (value.0, value.1, value.2) refl)
-    (record { sound = refl; found = (refl, refl, refl, refl, refl, refl, refl, refl, refl) }))
+    (record { sound = refl; found = (refl, refl, refl, refl, refl, refl, refl, refl, refl, refl, refl) }))
 
 -- nor with the start
 pub options_are_given : (start extent : Text) → IsValue start → IsValue extent
@@ -199,3 +200,26 @@ options_are_given start extent value value-2 =
     (turned (sub_at 6) _ (behind_value [] (codes "start") start idle) start _ _
     (simp (value.0, value.1, value.2) refl) (simp (value.0, value.1, value.2) refl)
     (extent_leads start extent value-2))
+
+-- a start, and that the least job is wanted
+abbrev pub least_words : Text → List Text
+least_words start = codes "--start" ∷ start ∷ codes "--least" ∷ []
+
+-- only they are found
+abbrev pub HasLeast : Text → List Row → Type 0
+HasLeast start rows =
+    (first_of (codes "device") rows ≡ None) × (first_of (codes "start") rows ≡ Some start)
+    × (first_of (codes "limit") rows ≡ None) × (first_of (codes "at") rows ≡ None)
+    × (first_of (codes "FILE") rows ≡ None) × (grant_fault rows ≡ None) × (is_least rows ≡ true)
+
+pub least_is_given : (start : Text) → IsValue start
+    → CommandLeadsTo (sub_at 6) (least_words start) (HasLeast start)
+unfolding clap_on_literals
+least_is_given start value =
+    turned (sub_at 6) (walk_from nothing_held)
+    (walked (sub_at 6).rules [] (walk_from nothing_held) (codes "--start")) (codes "--start") _
+    (HasLeast start) refl refl
+    (turned (sub_at 6) _ (behind_value [] (codes "start") start idle) start _ _
+    (simp (value.0, value.1, value.2) refl) (simp (value.0, value.1, value.2) refl)
+    (turned (sub_at 6) _ _ (codes "--least") [] (HasLeast start) refl refl
+    (record { sound = refl; found = (refl, refl, refl, refl, refl, refl, refl) })))

@@ -11,16 +11,19 @@ use Rattle.clap.specs.declared.error.kind.ErrorKind.TheVariants.{DisplayHelp, Di
 use Rattle.clap.specs.declared.error.kind.ErrorKind.TheVariants.{InvalidSubcommand}
 use Rattle.clap.specs.declared.error.kind.ErrorKind.TheVariants.{MissingRequiredArgument}
 use Rattle.clap.specs.declared.error.kind.ErrorKind.TheVariants.{UnknownArgument}
-use Rattle.chanv.proofs.FileWords.{CommandLeadsTo, HasTwo, IsValue, files_are_found, is_value, one_word}
-use Rattle.chanv.proofs.FileWords.{option_words, options_are_given, second_is_stray, word_is_found}
+use Rattle.chanv.proofs.FileWords.{CommandLeadsTo, HasLeast, HasTwo, IsValue, files_are_found}
+use Rattle.chanv.proofs.FileWords.{is_value, least_is_given, least_words, one_word, option_words}
+use Rattle.chanv.proofs.FileWords.{options_are_given, second_is_stray, word_is_found}
+use Rattle.chanv.specs.ImageLine.{extents_or_all}
 use Rattle.chanv.proofs.TakenLines.{cons≢nil, passed_on, sub_at}
 use Rattle.chanv.specs.CommandLine.{AsksFor, ExplainsOrNoMemory, FaultsOrNoMemory, HelpsOrNoMemory}
-use Rattle.chanv.specs.CommandLine.{ImagesOrNoMemory, IsAnswerTo, IsWord, IsFor, IsNoCommand}
+use Rattle.chanv.specs.CommandLine.{ImagesLeastOrNoMemory, ImagesOrNoMemory, IsAnswerTo, IsFor, IsNoCommand}
+use Rattle.chanv.specs.CommandLine.{IsWord}
 use Rattle.chanv.specs.CommandLine.{IsPlainAnswerTo, IsTaken, RunsNamedOrNoMemory, RunsOrNoMemory}
 use Rattle.chanv.specs.CommandLine.{ShowsOrNoMemory, VersionOrNoMemory, chanv, files_met, name_met}
 use Rattle.chanv.specs.CommandLine.{name_of}
 use Rattle.chanv.specs.declared.command_line.Request.{Request}
-use Rattle.chanv.specs.declared.command_line.Request.TheVariants.{Explain, Fault, Help, Image}
+use Rattle.chanv.specs.declared.command_line.Request.TheVariants.{Explain, Fault, Grants, Help, Image}
 use Rattle.chanv.specs.declared.command_line.Request.TheVariants.{NoMemory, Run, RunNamed, Show}
 use Rattle.chanv.specs.declared.command_line.Request.TheVariants.{Version}
 use Rattle.chanv.proofs.Names.{if◌then◌else◌, ◌≢◌, Action, All-cons, All-nil, App, Bor, Error}
@@ -59,6 +62,7 @@ for_action (Some name) a is = ap (λ n. purpose (Some n)) is ∙ purpose_is a
 abbrev purpose_asked : Request → Option Action × Text
 purpose_asked (Show word) = (None, codes "show")
 purpose_asked (Image q) = (None, codes "deck")
+purpose_asked (Grants fault) = (None, codes "deck")
 purpose_asked (Explain word) = (None, codes "explain")
 purpose_asked (Run a) = (Some a, [])
 purpose_asked (RunNamed a names) = (Some a, [])
@@ -69,6 +73,7 @@ same_purpose : (met : Option (Text × List Row)) (r : Request) → AsksFor met r
     → purpose (name_met met) ≡ purpose_asked r
 same_purpose met (Show word) asks = ap purpose asks.0
 same_purpose met (Image q) asks = ap purpose asks.0
+same_purpose met (Grants fault) asks = ap purpose asks.0
 same_purpose met (Explain word) asks = ap purpose asks.0
 same_purpose met (Run a) asks = for_action (name_met met) a asks.0
 same_purpose met (RunNamed a names) asks = for_action (name_met met) a asks.0
@@ -136,18 +141,38 @@ no_text (Some t) e = cc
 pub images : (rows : List Row) (start extent : Text) → HasTwo start extent rows
     → (r : Request) → AsksFor (Some (codes "deck", rows)) r → ImagesOrNoMemory start extent r
 images rows start extent has (Image q) asks =
-    let said = asks.1 in (
+    let said = asks.1.1 in (
       said.device ∙ ap (λ o. unwrap_or o (codes "2314")) has.0,
       said.mask ∙ ap (λ o. unwrap_or o (codes "00")) has.1,
       said.start ∙ ap (λ o. unwrap_or o []) has.2,
       no_text q.words.limit (said.limit ∙ has.3),
-      said.extents ∙ ap (λ o. unwrap_or o []) has.4,
+      said.extents ∙ ap (λ o. extents_or_all (unwrap_or o [])) has.4,
       no_texts q.words.fetch.items (said.fetch ∙ ap (λ o. unwrap_or o []) has.5),
       no_texts q.words.store.items (said.store ∙ ap (λ o. unwrap_or o []) has.6),
       said.at ∙ ap (λ o. unwrap_or o (codes "0")) has.7,
+      said.least ∙ has.10,
       no_text q.file (said.file ∙ ap other_than_input has.8),
     )
+images rows start extent has (Grants fault) asks =
+    let bad : Some fault ≡ None = sym asks.1 ∙ has.9 in cc
 images rows start extent has r asks = absurd
+    (true≢false (ap (bytes_eq (codes "deck")) (named_by (Some (codes "deck", rows)) r asks)))
+
+-- and so is the start, where the least job is wanted
+pub images_least : (rows : List Row) (start : Text) → HasLeast start rows
+    → (r : Request) → AsksFor (Some (codes "deck", rows)) r → ImagesLeastOrNoMemory start r
+images_least rows start has (Image q) asks =
+    let said = asks.1.1 in (
+      said.device ∙ ap (λ o. unwrap_or o (codes "2314")) has.0,
+      said.start ∙ ap (λ o. unwrap_or o []) has.1,
+      no_text q.words.limit (said.limit ∙ has.2),
+      said.at ∙ ap (λ o. unwrap_or o (codes "0")) has.3,
+      said.least ∙ has.6,
+      no_text q.file (said.file ∙ ap other_than_input has.4),
+    )
+images_least rows start has (Grants fault) asks =
+    let bad : Some fault ≡ None = sym asks.1 ∙ has.5 in cc
+images_least rows start has r asks = absurd
     (true≢false (ap (bytes_eq (codes "deck")) (named_by (Some (codes "deck", rows)) r asks)))
 
 -- an answer to words that are taken is what they ask for, or memory was wanting
@@ -442,6 +467,9 @@ module _ (line : List Text) (answer : Request) (is : IsAnswerTo line answer) whe
             (options_are_given start extent (is_value start (inr plain))
             (is_value extent (inr plain-2))) (ImagesOrNoMemory start extent) tt
             (λ rows. images rows start extent) p;
+        deck_least = λ p start plain. taken _ deck (least_words start) _
+            (least_is_given start (is_value start (inr plain))) (ImagesLeastOrNoMemory start) tt
+            (λ rows. images_least rows start) p;
         deck_alone = failed _ deck [] _ wants_words.1;
         explain = λ p text word. taken _ explain (text ∷ []) _
             (word_is_found (codes "explain") (codes "WORD") text true refl refl refl
@@ -478,5 +506,6 @@ plain_request words r taken asks = plain words r (answers r asks)
     answers (Run action) a = (taken, a)
     answers (RunNamed action names) a = (taken, a)
     answers (Image q) a = (taken, a)
+    answers (Grants fault) a = (taken, a)
     answers (Explain word) a = (taken, a)
     answers r a = absurd a

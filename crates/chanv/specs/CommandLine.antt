@@ -10,10 +10,10 @@ use Rattle.clap.specs.declared.error.kind.ErrorKind.TheVariants.{DisplayHelp, Di
 use Rattle.clap.specs.declared.error.kind.ErrorKind.TheVariants.{OutOfMemory}
 use Rattle.chanv.specs.declared.command_line.Request.{Request}
 use Rattle.chanv.specs.declared.command_line.Request.TheVariants.{Show, Run, RunNamed, Image}
-use Rattle.chanv.specs.declared.command_line.Request.TheVariants.{Explain}
+use Rattle.chanv.specs.declared.command_line.Request.TheVariants.{Explain, Grants}
 use Rattle.chanv.specs.declared.command_line.Request.TheVariants.{Help, Version, Fault, NoMemory}
 use Rattle.chanv.specs.CommandWords.{IsStandardInput, file_word, files_in, texts_of}
-use Rattle.chanv.specs.ImageLine.{SaysImage, image_line, text_or}
+use Rattle.chanv.specs.ImageLine.{SaysImage, grant_fault, image_line, text_or}
 use Rattle.chan_run.specs.declared.running.Action.{Action}
 use Rattle.chan_run.specs.declared.running.Action.TheVariants as actions
 
@@ -115,13 +115,22 @@ RunsOver action files (RunNamed a names) =
     (a ≡ action) × (¬ IsStandardInput files) × (texts_of names.items ≡ files)
 RunsOver action files _ = ⊥
 
+-- the request is to make the deck of what was met, or says why its options don't say one job
+abbrev pub MakesDeck : List Row → Request → Type 0
+MakesDeck rows (Image asked) = (grant_fault rows ≡ None) × SaysImage rows asked
+MakesDeck rows (Grants fault) = grant_fault rows ≡ Some fault
+MakesDeck rows _ = ⊥
+
 -- what was met asks for this request
 abbrev pub AsksFor : Option (Text × List Row) → Request → Type 0
 AsksFor met (Show word) = (name_met met ≡ Some (codes "show")) × (ccw_met met ≡ Some word.now)
 AsksFor met (Run a) = IsFor (name_met met) a × RunsOver a (files_met met) (Run a)
 AsksFor met (RunNamed a names) =
     IsFor (name_met met) a × RunsOver a (files_met met) (RunNamed a names)
-AsksFor met (Image asked) = (name_met met ≡ Some (codes "deck")) × SaysImage (rows_met met) asked
+AsksFor met (Image asked) =
+    (name_met met ≡ Some (codes "deck")) × MakesDeck (rows_met met) (Image asked)
+AsksFor met (Grants fault) =
+    (name_met met ≡ Some (codes "deck")) × MakesDeck (rows_met met) (Grants fault)
 AsksFor met (Explain word) =
     (name_met met ≡ Some (codes "explain")) × (word.now ≡ text_or (codes "WORD") [] (rows_met met))
 AsksFor met _ = ⊥
@@ -133,6 +142,7 @@ IsAnswerTo words (Run action) = IsTaken words × AsksFor (subcommand_of chanv wo
 IsAnswerTo words (RunNamed action files) =
     IsTaken words × AsksFor (subcommand_of chanv words) (RunNamed action files)
 IsAnswerTo words (Image asked) = IsTaken words × AsksFor (subcommand_of chanv words) (Image asked)
+IsAnswerTo words (Grants fault) = IsTaken words × AsksFor (subcommand_of chanv words) (Grants fault)
 IsAnswerTo words (Explain word) = IsTaken words × AsksFor (subcommand_of chanv words) (Explain word)
 IsAnswerTo words (Help e) = (kind_of e ≡ DisplayHelp) × IsAmong DisplayHelp (fault_of chanv words)
 IsAnswerTo words (Version e) =
@@ -174,9 +184,20 @@ ImagesOrNoMemory start extent (Image asked) =
     (asked.words.device.now ≡ codes "2314") × (asked.words.mask.now ≡ codes "00")
     × (asked.words.start.now ≡ start) × (asked.words.limit ≡ None)
     × (texts_of asked.words.extents.items ≡ extent ∷ []) × (asked.words.fetch.items ≡ [])
-    × (asked.words.store.items ≡ []) × (asked.words.at.now ≡ codes "0") × (asked.file ≡ None)
+    × (asked.words.store.items ≡ []) × (asked.words.at.now ≡ codes "0")
+    × (asked.words.is_least ≡ false) × (asked.file ≡ None)
 ImagesOrNoMemory start extent NoMemory = Unit {0}
 ImagesOrNoMemory start extent _ = ⊥
+
+-- the answer is to make a deck with this start and the least job, and else as usual, of standard
+-- input, or an allocation failed
+abbrev pub ImagesLeastOrNoMemory : Text → Request → Type 0
+ImagesLeastOrNoMemory start (Image asked) =
+    (asked.words.device.now ≡ codes "2314") × (asked.words.start.now ≡ start)
+    × (asked.words.limit ≡ None) × (asked.words.at.now ≡ codes "0")
+    × (asked.words.is_least ≡ true) × (asked.file ≡ None)
+ImagesLeastOrNoMemory start NoMemory = Unit {0}
+ImagesLeastOrNoMemory start _ = ⊥
 
 -- the answer is help, or an allocation failed
 abbrev pub HelpsOrNoMemory : Request → Type 0
@@ -263,6 +284,9 @@ pub record IsPlainAnswerTo (words : List Text) (answer : Request) : Type 0 where
       → starts_with_minus extent ≡ false
       → words ≡ program ∷ codes "deck" ∷ codes "--start" ∷ start ∷ codes "--extent" ∷ extent ∷ []
       → ImagesOrNoMemory start extent answer
+  pub deck_least : (program start : Text) → starts_with_minus start ≡ false
+      → words ≡ program ∷ codes "deck" ∷ codes "--start" ∷ start ∷ codes "--least" ∷ []
+      → ImagesLeastOrNoMemory start answer
   pub deck_alone : (program : Text) → words ≡ program ∷ codes "deck" ∷ []
       → FaultsOrNoMemory answer
   pub explain : (program text : Text) → IsWord text

@@ -1,13 +1,22 @@
 -- The command that makes a deck of an image of storage: its words, and what they ask for.
-use Rattle.std.specs.Prelude.{◌≡◌, List, [], Some, true, codes, option_map, unwrap_or}
+use Rattle.std.specs.Prelude.{◌≡◌, List, [], ◌∷◌, Bool, true, Option, Some, None, codes, is_some}
+use Rattle.std.specs.Prelude.{if◌then◌else◌, option_map, unwrap_or}
+use Rattle.std.specs.Str.{bytes_eq}
 use Rattle.clap.specs.Words.{App, Row, Rule, Text, all_of, first_of, new_app, new_rule, with_rule}
-use Rattle.clap.specs.declared.builder.action.ArgAction.TheVariants.{Append}
+use Rattle.clap.specs.declared.builder.action.ArgAction.TheVariants.{Append, SetTrue}
 use Rattle.chanv.specs.CommandWords.{file_in, file_word, texts_of}
 use Rattle.chanv.specs.declared.image_command.ImageRequest.{ImageRequest}
+use Rattle.chan_run.specs.declared.image_options.GrantFault.{GrantFault}
+use Rattle.chan_run.specs.declared.image_options.GrantFault.TheVariants.{BesideLeast, NoExtent}
+use Rattle.chan_run.specs.declared.image_options.ImageOption.TheVariants as options
 
 -- an option of this name, whose value has a name in help
 abbrev pub option_word : Text → Rule
 option_word name = record (new_rule name) { long = Some name; value_names = 1 }
+
+-- an option of this name without a value
+abbrev pub flag_word : Text → Rule
+flag_word name = record (new_rule name) { long = Some name; action = Some SetTrue }
 
 -- one that has to be given
 abbrev pub needed : Rule → Rule
@@ -28,10 +37,11 @@ job_options line =
 -- a command with the options that say what the program may use, and where the image begins
 abbrev pub lending_options : App → App
 lending_options line =
-    let extent = with_rule line (repeated (needed (option_word (codes "extent")))) in
+    let extent = with_rule line (repeated (option_word (codes "extent"))) in
     let fetch = with_rule extent (repeated (option_word (codes "fetch"))) in
     let store = with_rule fetch (repeated (option_word (codes "store"))) in
-    with_rule store (option_word (codes "at"))
+    let least = with_rule store (flag_word (codes "least")) in
+    with_rule least (option_word (codes "at"))
 
 -- the command `deck`, with its options and a file
 abbrev pub image_line : App
@@ -45,6 +55,34 @@ text_or name usual rows = unwrap_or (first_of name rows) usual
 abbrev pub texts_in : Text → List Row → List Text
 texts_in name rows = unwrap_or (all_of name rows) []
 
+-- clap met the option
+abbrev pub is_met : Text → List Row → Bool
+is_met name rows = is_some (first_of name rows)
+
+-- the least job is asked for
+abbrev pub is_least : List Row → Bool
+is_least rows = bytes_eq (text_or (codes "least") (codes "false") rows) (codes "true")
+
+-- the first option that grants something beside the least job
+abbrev pub beside_least : List Row → Option GrantFault
+beside_least rows =
+    if is_met (codes "mask") rows then Some (BesideLeast options.Mask)
+    else (if is_met (codes "extent") rows then Some (BesideLeast options.Extent)
+    else (if is_met (codes "fetch") rows then Some (BesideLeast options.Fetch)
+    else (if is_met (codes "store") rows then Some (BesideLeast options.Store) else None)))
+
+-- why the options don't say one job, if they don't: something is granted beside the least job, or
+-- neither an extent nor that
+abbrev pub grant_fault : List Row → Option GrantFault
+grant_fault rows =
+    if is_least rows then beside_least rows
+    else (if is_met (codes "extent") rows then None else Some NoExtent)
+
+-- the texts of the extents; of all cylinders where there is none
+abbrev pub extents_or_all : List Text → List Text
+extents_or_all [] = codes "0-202" ∷ []
+extents_or_all (text ∷ texts) = text ∷ texts
+
 -- the request has the texts of the options, the usual ones where an option isn't given, and the
 -- file
 pub record SaysImage (rows : List Row) (r : ImageRequest) : Type 0 where
@@ -52,8 +90,9 @@ pub record SaysImage (rows : List Row) (r : ImageRequest) : Type 0 where
   pub mask : r.words.mask.now ≡ text_or (codes "mask") (codes "00") rows
   pub start : r.words.start.now ≡ text_or (codes "start") [] rows
   pub limit : option_map (λ text. text.now) r.words.limit ≡ first_of (codes "limit") rows
-  pub extents : texts_of r.words.extents.items ≡ texts_in (codes "extent") rows
+  pub extents : texts_of r.words.extents.items ≡ extents_or_all (texts_in (codes "extent") rows)
   pub fetch : texts_of r.words.fetch.items ≡ texts_in (codes "fetch") rows
   pub store : texts_of r.words.store.items ≡ texts_in (codes "store") rows
   pub at : r.words.at.now ≡ text_or (codes "at") (codes "0") rows
+  pub least : r.words.is_least ≡ is_least rows
   pub file : option_map (λ name. name.now) r.file ≡ file_in rows

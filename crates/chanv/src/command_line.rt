@@ -4,13 +4,13 @@ ghost use Rattle.std.specs.Prelude.{◌≡◌, ◌↔◌, IfErr, IfOk, IsTrue, O
 ghost use Rattle.clap.specs.Words.{HasKind, fault_of, found_of, rows_of};
 ghost use Rattle.clap.specs.Words.{subcommand_of, subcommand_rows_of};
 ghost use Rattle.chanv.specs.CommandLine.{AsksFor, IsAnswerTo, IsKnown, IsPlainAnswerTo, IsTaken};
-ghost use Rattle.chanv.specs.CommandLine.{RunsOver, chanv};
+ghost use Rattle.chanv.specs.CommandLine.{MakesDeck, RunsOver, chanv};
 ghost use Rattle.chanv.specs.CommandWords.{IsStandardInput, files_in, texts_of};
 
-use crate::image_command::{ImageRequest, image_request};
+use crate::image_command::{ImageRequest, grant_fault, image_request};
 use crate::lines::command;
 use crate::words_met::{text_met, text_or, texts_met};
-use chan_run::Action;
+use chan_run::{Action, GrantFault};
 use clap::error::ErrorKind;
 use clap::{ArgMatches, Error};
 use std::alloc::{AllocError, Global};
@@ -27,6 +27,8 @@ pub enum Request<'a> {
     RunNamed(Action, Vec<&'a str>),
     /// To make a deck of an image of storage.
     Image(ImageRequest<'a>),
+    /// To say why options that make a deck don't say one job.
+    Grants(GrantFault),
     /// To say what the word of a reason or of a cause means.
     Explain(&'a str),
     /// Help. Its text is the error's.
@@ -64,10 +66,20 @@ fn request_of<'a>(alloc: Global, matches: &ArgMatches<'a>) -> Result<Request<'a>
         Some(("why", inner)) => request_over(alloc, Action::Why, inner),
         Some(("graph", inner)) => request_over(alloc, Action::Graph, inner),
         Some(("needs", inner)) => request_over(alloc, Action::Needs, inner),
-        Some(("deck", inner)) => Ok(Request::Image(image_request(alloc, inner)?)),
+        Some(("deck", inner)) => deck_request(alloc, inner),
         Some(("explain", inner)) => Ok(Request::Explain(text_or(inner, "WORD", ""))),
         Some((_, inner)) => request_over(alloc, Action::Verify, inner),
         None => Ok(Request::Run(Action::Verify)),
+    }
+}
+
+/// The request to make a deck of what clap met.
+fn deck_request<'a>(alloc: Global, matches: &ArgMatches<'a>) -> Result<Request<'a>, AllocError>
+    ensures { IfOk result (MakesDeck (rows_of (found_of matches.now))) }
+{
+    match grant_fault(matches) {
+        Some(fault) => Ok(Request::Grants(fault)),
+        None => Ok(Request::Image(image_request(alloc, matches)?)),
     }
 }
 

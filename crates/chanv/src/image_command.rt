@@ -1,12 +1,13 @@
 //! The command that makes a deck of an image of storage: what its words ask for.
 
-ghost use Rattle.std.specs.Prelude.{◌≡◌, IfOk, option_map};
+ghost use Rattle.std.specs.Prelude.{◌≡◌, codes, IfOk, option_map};
 ghost use Rattle.clap.specs.Words.{found_of, rows_of};
-ghost use Rattle.chanv.specs.CommandWords.{file_in};
-ghost use Rattle.chanv.specs.ImageLine.{SaysImage};
+ghost use Rattle.chanv.specs.CommandWords.{file_in, texts_of};
+ghost use Rattle.chanv.specs.ImageLine.{SaysImage, beside_least, extents_or_all, grant_fault};
+ghost use Rattle.chanv.specs.ImageLine.{is_least, texts_in};
 
 use crate::words_met::{text_met, text_or, texts_met};
-use chan_run::ImageWords;
+use chan_run::{GrantFault, ImageOption, ImageWords};
 use clap::ArgMatches;
 use std::alloc::{AllocError, Global};
 
@@ -29,6 +30,55 @@ fn file<'a>(matches: &ArgMatches<'a>) -> Option<&'a str>
     }
 }
 
+/// Whether the least job is asked for.
+fn is_least(matches: &ArgMatches<'_>) -> bool
+    ensures { result ≡ is_least (rows_of (found_of matches.now)) }
+{
+    text_or(matches, "least", "false") == "true"
+}
+
+/// The first option that grants something beside the least job.
+fn beside_least(matches: &ArgMatches<'_>) -> Option<GrantFault>
+    ensures { result ≡ beside_least (rows_of (found_of matches.now)) }
+{
+    if text_met(matches, "mask").is_some() {
+        Some(GrantFault::BesideLeast(ImageOption::Mask))
+    } else if text_met(matches, "extent").is_some() {
+        Some(GrantFault::BesideLeast(ImageOption::Extent))
+    } else if text_met(matches, "fetch").is_some() {
+        Some(GrantFault::BesideLeast(ImageOption::Fetch))
+    } else if text_met(matches, "store").is_some() {
+        Some(GrantFault::BesideLeast(ImageOption::Store))
+    } else {
+        None
+    }
+}
+
+/// Why the options that clap met don't say one job, if they don't.
+pub(crate) fn grant_fault(matches: &ArgMatches<'_>) -> Option<GrantFault>
+    ensures { result ≡ grant_fault (rows_of (found_of matches.now)) }
+{
+    if is_least(matches) {
+        beside_least(matches)
+    } else if text_met(matches, "extent").is_some() {
+        None
+    } else {
+        Some(GrantFault::NoExtent)
+    }
+}
+
+/// The texts of the extents; of all cylinders where there is none.
+fn extents<'a>(alloc: Global, matches: &ArgMatches<'a>) -> Result<Vec<&'a str>, AllocError>
+    ensures { IfOk result (λ texts. texts_of texts.items
+        ≡ extents_or_all (texts_in (codes "extent") (rows_of (found_of matches.now)))) }
+{
+    let mut texts = texts_met(alloc, matches, "extent")?;
+    if texts.is_empty() {
+        texts.push("0-202")?;
+    }
+    Ok(texts)
+}
+
 /// What the words that clap met ask to make a deck of.
 pub(crate) fn image_request<'a>(
     alloc: Global,
@@ -36,15 +86,17 @@ pub(crate) fn image_request<'a>(
 ) -> Result<ImageRequest<'a>, AllocError>
     ensures { IfOk result (SaysImage (rows_of (found_of matches.now))) }
 {
+    let extents = extents(alloc, matches)?;
     let words = ImageWords {
         device: text_or(matches, "device", "2314"),
         mask: text_or(matches, "mask", "00"),
         start: text_or(matches, "start", ""),
         limit: text_met(matches, "limit"),
-        extents: texts_met(alloc, matches, "extent")?,
+        extents,
         fetch: texts_met(alloc, matches, "fetch")?,
         store: texts_met(alloc, matches, "store")?,
         at: text_or(matches, "at", "0"),
+        is_least: is_least(matches),
     };
     Ok(ImageRequest {
         words,

@@ -9,12 +9,23 @@ ghost use Rattle.chanv.specs.Lines.{line_in, rule_in, with_lines};
 use clap::{Arg, ArgAction, Command};
 use std::alloc::{AllocError, Global};
 
-/// A word of a command, or an option with a value.
+/// How a word of a command is given.
+#[derive(Clone, Copy)]
+pub(crate) enum Kind<'a> {
+    /// By itself.
+    Plain,
+    /// As an option with a value, which help calls so.
+    Valued(&'a str),
+    /// As an option without a value.
+    Flag,
+}
+
+/// A word of a command, or an option.
 pub(crate) struct Word<'a> {
     /// Its name, and that of the option.
     name: &'a str,
-    /// What help calls the value of an option; none where it is no option.
-    value: Option<&'a str>,
+    /// How it is given.
+    kind: Kind<'a>,
     /// Whether it has to be given.
     is_required: bool,
     /// Whether it may come any number of times.
@@ -41,6 +52,7 @@ const USAGE: &str = "chanv verify [FILE]...
        chanv why [FILE]
        chanv graph [FILE]
        chanv needs [FILE]
+       chanv deck --start <ADDRESS> --least [OPTIONS] [FILE]
        chanv deck --start <ADDRESS> --extent <FIRST-LAST> [OPTIONS] [FILE]
        chanv explain <WORD>
        chanv show <CCW>";
@@ -87,16 +99,20 @@ with the image, filled with zeros to a multiple of 8.
 The deck is written to standard output, so that it can be judged at once:
   chanv deck --start 3A98 --extent 0-202 core.bin | chanv why
 
+With --least the deck grants just what its program needs, and is judged yes. Where no job
+will do, a line on standard error says so, with the verdict where all is granted.
+
 The exit status:
   0  the deck was written
-  2  the image is longer than storage may be
+  1  with --least: no job will do
+  2  the image is longer than storage may be, or with --least too many places are reachable
   3  FILE can't be opened, reading or writing failed, or memory ran out
   4  the command line is wrong";
 
 /// The decks to judge.
 const DECKS: &[Word] = &[Word {
     name: "FILE",
-    value: None,
+    kind: Kind::Plain,
     is_required: false,
     is_repeated: true,
     help: "a deck; - is standard input, and so is no FILE at all",
@@ -105,7 +121,7 @@ const DECKS: &[Word] = &[Word {
 /// The deck to tell of.
 const DECK: &[Word] = &[Word {
     name: "FILE",
-    value: None,
+    kind: Kind::Plain,
     is_required: false,
     is_repeated: false,
     help: "a deck; - is standard input, and so is no FILE at all",
@@ -115,63 +131,70 @@ const DECK: &[Word] = &[Word {
 const IMAGE: &[Word] = &[
     Word {
         name: "device",
-        value: Some("NUMBER"),
+        kind: Kind::Valued("NUMBER"),
         is_required: false,
         is_repeated: false,
         help: "2311 or 2314; 2314 if left out",
     },
     Word {
         name: "mask",
-        value: Some("BYTE"),
+        kind: Kind::Valued("BYTE"),
         is_required: false,
         is_repeated: false,
         help: "the file mask; 00 if left out",
     },
     Word {
         name: "start",
-        value: Some("ADDRESS"),
+        kind: Kind::Valued("ADDRESS"),
         is_required: true,
         is_repeated: false,
         help: "where the first CCW stands",
     },
     Word {
         name: "limit",
-        value: Some("PLACES"),
+        kind: Kind::Valued("PLACES"),
         is_required: false,
         is_repeated: false,
         help: "how many places may be reachable; 4096 if left out",
     },
     Word {
         name: "extent",
-        value: Some("FIRST-LAST"),
-        is_required: true,
+        kind: Kind::Valued("FIRST-LAST"),
+        is_required: false,
         is_repeated: true,
-        help: "cylinders of the file",
+        help: "cylinders of the file; one at least, unless --least is given",
     },
     Word {
         name: "fetch",
-        value: Some("START+LENGTH"),
+        kind: Kind::Valued("START+LENGTH"),
         is_required: false,
         is_repeated: true,
         help: "an area lent for fetching",
     },
     Word {
         name: "store",
-        value: Some("START+LENGTH"),
+        kind: Kind::Valued("START+LENGTH"),
         is_required: false,
         is_repeated: true,
         help: "an area lent for storing",
     },
     Word {
+        name: "least",
+        kind: Kind::Flag,
+        is_required: false,
+        is_repeated: false,
+        help: "grants what the program needs, in place of mask, extents and areas",
+    },
+    Word {
         name: "at",
-        value: Some("ADDRESS"),
+        kind: Kind::Valued("ADDRESS"),
         is_required: false,
         is_repeated: false,
         help: "where the image begins; 0 if left out",
     },
     Word {
         name: "FILE",
-        value: None,
+        kind: Kind::Plain,
         is_required: false,
         is_repeated: false,
         help: "the bytes of storage; - is standard input, and so is no FILE at all",
@@ -186,7 +209,7 @@ const LINES: &[Line] = &[
         after_help: None,
         words: &[Word {
             name: "CCW",
-            value: None,
+            kind: Kind::Plain,
             is_required: true,
             is_repeated: false,
             help: "sixteen hexadecimal digits",
@@ -234,7 +257,7 @@ const LINES: &[Line] = &[
         after_help: None,
         words: &[Word {
             name: "WORD",
-            value: None,
+            kind: Kind::Plain,
             is_required: true,
             is_repeated: false,
             help: "the reason of a verdict, or the cause for which a deck is refused",
@@ -269,7 +292,7 @@ fn program<'a>(alloc: Global) -> Result<Command<'a>, AllocError>
     Ok(
         Command::new(alloc, "chanv")
             .about("verifies channel programs")
-            .version("0.1.0")
+            .version("0.2.0")
             .override_usage(USAGE),
     )
 }
@@ -330,9 +353,10 @@ fn arg_of<'a>(alloc: Global, word: &Word<'a>) -> Arg<'a>
     let arg = Arg::new(alloc, word.name)
         .required(word.is_required)
         .help(word.help);
-    let arg = match word.value {
-        Some(value) => arg.long(word.name).value_name(value),
-        None => arg,
+    let arg = match word.kind {
+        Kind::Plain => arg,
+        Kind::Valued(value) => arg.long(word.name).value_name(value),
+        Kind::Flag => arg.long(word.name).action(ArgAction::SetTrue),
     };
     if word.is_repeated {
         return arg.action(ArgAction::Append);

@@ -21,9 +21,9 @@ use crate::command_line::{Request, read_request};
 use crate::image_command::ImageRequest;
 use ccw_core::Watched;
 use chan_run::{
-    Action, ImageOptions, OptionError, Outcome, answer, conclude, ends_run, exit_status,
-    explain_word, greater_status, options_of, report, report_named, report_option, show,
-    write_image,
+    Action, ImageOptions, OptionError, Outcome, answer, answer_image, conclude, ends_run,
+    exit_status, explain_word, greater_status, options_of, report, report_grants, report_named,
+    report_option, show,
 };
 use std::fs::File;
 use std::io;
@@ -84,6 +84,7 @@ fn answered(rt: &HostRuntime, words: &[String]) -> u8 {
         Request::Run(action) => { exit_status(ran(rt, action, None, Input::Standard(rt.stdin()))) }
         Request::RunNamed(action, names) => ran_over(rt, action, names.as_slice()),
         Request::Image(request) => imaged(rt, &request),
+        Request::Grants(fault) => report_grants(fault, &mut Watched::new(rt.stderr())),
         Request::Explain(word) => explained(rt, word),
         Request::Help(text) | Request::Version(text) => match rt.print(text) {
             Ok(()) => ended(rt, None, Outcome::HelpAsked, &mut Watched::new(rt.stdout())),
@@ -185,10 +186,17 @@ fn imaged(rt: &HostRuntime, request: &ImageRequest<'_>) -> u8 {
     }
 }
 
-/// Writes the deck that the options make with an image, and gives the exit status.
+/// Makes a deck of an image that may have a name, and gives the exit status.
 fn written(rt: &HostRuntime, name: Option<&str>, options: &ImageOptions, input: Input) -> u8 {
     let mut input = Watched::new(input);
     let mut output = Watched::new(rt.stdout());
-    let answer = write_image(rt.alloc(), options, &mut input, &mut output);
-    ended(rt, name, Outcome::Imaged(answer), &mut output)
+    let mut errors = Watched::new(rt.stderr());
+    exit_status(answer_image(
+        rt.alloc(),
+        name,
+        options,
+        &mut input,
+        &mut output,
+        &mut errors,
+    ))
 }

@@ -34,8 +34,8 @@ note: fetch 000800 000020 is used by no reachable CCW
 note: fetch 000900 000000 is used by no reachable CCW
 note: store 000FFF 000002 is used by no reachable CCW
 note: store 000A00 000010 is used by no reachable CCW
-note: 000800 interrupts: what the processor may change then is not judged
-note: 000808 interrupts: what the processor may change then is not judged
+note: 000800 interrupts: the processor may change any byte but those that chanv needs keeps
+note: 000808 interrupts: the processor may change any byte but those that chanv needs keeps
 note: 000810 ends the program: chain data counts, and it moves no data
 ";
 

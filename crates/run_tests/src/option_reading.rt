@@ -18,6 +18,7 @@ fn words<'a>(alloc: Global) -> Result<ImageWords<'a>, Fail> {
         fetch: Vec::new(alloc),
         store: Vec::new(alloc),
         at: "7f8",
+        is_least: false,
     };
     words.extents.push("10-19")?;
     words.extents.push("202-202")?;

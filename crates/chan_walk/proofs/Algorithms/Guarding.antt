@@ -13,7 +13,7 @@ use Rattle.chan_walk.specs.declared.place.Place.{Place}
 use Rattle.chan_walk.specs.Argument.{Has, IsChain, argument_addresses}
 use Rattle.chan_walk.specs.Fault.{begins_seek, IsClear}
 use Rattle.chan_walk.specs.Guard.{AddsBytes, IsCcwByteOf, IsSeekByteOf, IsArgumentByteOf, byte_area}
-use Rattle.chan_walk.specs.Guarded.{IsCcwByte, IsArgumentByte, IsGuarded}
+use Rattle.chan_walk.specs.Guarded.{IsCcwByte, IsArgumentByte}
 use Rattle.chan_walk.specs.Job.{storage_of}
 use Rattle.chan_walk.specs.Least.{AreReached}
 use Rattle.chan_walk.specs.Place.{ccw_of}
@@ -79,18 +79,6 @@ stands_from s a o e h = search rules
 pub stands_low : (s : List ℕ) (a : ℕ) → length s ≤ 2 ^ 24 → Stands s a → EndsBelow (2 ^ 32) (record { start = a; len = 8 })
 unfolding is_inside
 stands_low s a l h = let k = leb-true (a + 8) (length s) h.1 in omega arith
-
--- ---- the bytes of CCWs and of arguments in one list
-
--- the byte at b is one of either
-abbrev pub IsKeptOf : Job → Place → ℕ → Type 0
-IsKeptOf j p b = IsCcwByteOf j p b ⊎ IsArgumentByteOf j p b
-
-pub adds_both : (old mid new : List Area) (P Q : ℕ → Type 0) → AddsBytes old mid P → AddsBytes mid new Q → AddsBytes old new (λ b. P b ⊎ Q b)
-adds_both old mid new P Q f g b = search rules
-
-pub kept_bytes : (j : Job) (ps : List Place) (areas : List Area) → AreReached j ps → HoldBytes (IsKeptOf j) ps areas → (b : ℕ) → (lies_in areas b ≡ true) ↔ IsGuarded j b
-kept_bytes j ps areas r f b = search rules
 
 -- what follows from two things that a call says of its value
 pub IfOk-two : {T E : Type 0} (r : Result T E) (P Q R : T → Type 0) → ((x : T) → P x → Q x → R x) → IfOk r P → IfOk r Q → IfOk r R

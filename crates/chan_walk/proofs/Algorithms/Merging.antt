@@ -1,12 +1,12 @@
 -- Bytes of areas, how they stay the same while areas are merged, and that there is one merged list for them.
-use Rattle.std.proofs.Common.{◌≡◌, ℕ, zero, suc, ◌+◌, ◌++◌, ◌<◌, ◌≤◌, true, ◌||◌, ◌&&◌, nat_le, nat_lt, List, [], ◌∷◌, length, get_or, take, refl, sym, ap, ◌∙◌, subst, ◌⊎◌, arith, append_assoc, IsPermutation, rules}
+use Rattle.std.proofs.Common.{◌≡◌, ℕ, zero, suc, ◌+◌, ◌-◌, ◌++◌, ◌↔◌, inl, inr, ◌<◌, ◌≤◌, true, ◌||◌, ◌&&◌, nat_le, nat_lt, List, [], ◌∷◌, length, get_or, take, refl, sym, ap, ◌∙◌, subst, ◌⊎◌, arith, append_assoc, IsPermutation, rules}
 use Rattle.std.proofs.lemmas.Grind.{common_steps}
 use Rattle.std.specs.Cmp.Derive.{one_truth}
 use Rattle.std.specs.List.{All}
 use Rattle.std.specs.List.Sorted.{IsNonDecreasingBy}
 use Rattle.std.proofs.lemmas.Bool.{cases_lt, or_cases, or_left, or_right, and_from, le-leb, lt-ltb, both_ways}
 use Rattle.std.proofs.lemmas.List.{take_more}
-use Rattle.std.proofs.lemmas.List.Elements.{All-append}
+use Rattle.std.proofs.lemmas.List.Elements.{All-append, All-cons, All-head, All-nil, All-tail}
 use Rattle.std.proofs.lemmas.List.Folds.{list_any-append}
 use Rattle.std.proofs.lemmas.List.Sorted.{list_any-IsPermutation}
 use Rattle.ccw_core.specs.declared.areas.Area.{Area}
@@ -184,3 +184,43 @@ merged_is_unique (x ∷ xs) (y ∷ ys) m n s =
     let e = same_area x y start len in
     let rests = merged_is_unique xs ys m.2 n.2 (λ b. one_truth (lies_in xs b) (lies_in ys b) (λ k. rest_within x y xs ys b e m s k) (λ k. rest_within y x ys xs b (sym e) n back k)) in
     ap (λ z. z ∷ xs) e ∙ ap (λ z. y ∷ z) rests
+
+-- ---- where areas end
+
+-- a byte lies before the end of its area
+lies_low : (n : ℕ) (areas : List Area) (b : ℕ) → All (EndsBelow n) areas → lies_in areas b ≡ true → b + 1 < n
+lies_low n [] b all lies = absurd (both_ways (lies_in [] b) (lies_in-nil b) lies)
+lies_low n (a ∷ rest) b all lies = go (lies_low n rest b (All-tail (EndsBelow n) a rest all)) (lies_in-cases a rest b lies)
+  where
+    go : (lies_in rest b ≡ true → b + 1 < n) → InArea a b ⊎ (lies_in rest b ≡ true) → b + 1 < n
+    go others (inl here) = omega (arith, here.1, All-head (EndsBelow n) a rest all)
+    go others (inr there) = others there
+
+-- and the last byte of each area of a merged list lies in it
+ends_low : (n : ℕ) (areas : List Area) → IsMerged areas → ((b : ℕ) → lies_in areas b ≡ true → b + 1 < n)
+    → All (EndsBelow n) areas
+ends_low n [] merged low = All-nil (EndsBelow n)
+ends_low n (a ∷ rest) merged low =
+    let last = low (a.start + (a.len - 1)) (lies_in-first a rest _ (omega (arith, merged.0), omega (arith, merged.0))) in
+    All-cons (EndsBelow n) a rest (omega (arith, last, merged.0)) (ends_low n rest merged.2 (λ b lies. low b (lies_in-rest a rest b lies)))
+
+-- so merged areas end where the areas do that they have the bytes of
+pub merged_low : (n : ℕ) (merged areas : List Area) → IsMerged merged → HaveSameBytes merged areas
+    → All (EndsBelow n) areas → All (EndsBelow n) merged
+merged_low n merged areas is same low = ends_low n merged is (λ b lies. lies_low n areas b low (sym (same b) ∙ lies))
+
+-- the bytes of two lists, merged
+pub merged_both : {P Q : ℕ → Type 0} (xs ys merged : List Area) → HaveSameBytes merged (xs ++ ys)
+    → ((b : ℕ) → (lies_in xs b ≡ true) ↔ P b) → ((b : ℕ) → (lies_in ys b ≡ true) ↔ Q b) → (b : ℕ)
+    → (lies_in merged b ≡ true) ↔ (P b ⊎ Q b)
+merged_both {P} {Q} xs ys merged same first second b =
+    let both = same b ∙ lies_in-append xs ys b in (
+      λ lies. elim (or_cases (lies_in xs b) (lies_in ys b) (sym both ∙ lies)) [
+        | inl l ↦ inl ((first b).0 l)
+        | inr l ↦ inr ((second b).0 l)
+      ],
+      λ is. both ∙ elim is [
+        | inl p ↦ or_left (lies_in xs b) (lies_in ys b) ((first b).1 p)
+        | inr q ↦ or_right (lies_in xs b) (lies_in ys b) ((second b).1 q)
+      ],
+    )

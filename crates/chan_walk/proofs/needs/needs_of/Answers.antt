@@ -6,7 +6,7 @@ use Rattle.chan_walk.proofs.needs.needs_of.Goals as goal
 pub returns : goal.returns
 returns c j one =
     let k = c.args.job.now in
-    let are = c.requires in
+    let are = c.requires.looks in
     are_needs j k c.args.looks.now _ c.in_ok-sought.sought.items one are
     (record {
       storage_len = c.len.ensures.value;
@@ -17,5 +17,5 @@ returns c j one =
       fetch = c.in_ok-fetched.ensures.bytes k are.looks are.reached;
       store_merged = c.in_ok-stored.ensures.merged;
       store = c.in_ok-stored.ensures.bytes k are.looks are.reached;
-      keep = c.in_ok-kept.ensures k are.looks are.reached;
+      keep = c.in_ok-kept.ensures k c.requires.guard;
     })

@@ -4,7 +4,8 @@ use Rattle.std.specs.List.Sorted.{IsNonDecreasingBy}
 use Rattle.std.proofs.lemmas.List.Sorted.{IsNonDecreasingBy-from_sort_by_key, All-permutation}
 use Rattle.std.proofs.lemmas.Result.{IfOk-weaker}
 use Rattle.chan_walk.specs.Ranges.{start_of, EndsBelow}
-use Rattle.chan_walk.proofs.Algorithms.Merging.{bytes_moved}
+use Rattle.chan_walk.proofs.Algorithms.Guarding.{IfOk-two}
+use Rattle.chan_walk.proofs.Algorithms.Merging.{bytes_moved, merged_low}
 use Rattle.chan_walk.proofs.ranges.merge.Goals as goal
 
 pub merge_sorted-requires-clause-sorted : goal.merge_sorted-requires-clause-sorted
@@ -15,3 +16,8 @@ merge_sorted-requires-clause-low c = subst (All (EndsBelow (2 ^ 32))) (sym c.as_
 
 pub returns-clause-bytes : goal.returns-clause-bytes
 returns-clause-bytes c = search (rules, IfOk-weaker, bytes_moved)
+
+pub returns-clause-low : goal.returns-clause-low
+returns-clause-low c =
+    IfOk-two c.merge_sorted.result _ _ _ (λ v m h. merged_low (2 ^ 32) v.items c.args.areas.items m h c.requires)
+    (search rules) (returns-clause-bytes c)

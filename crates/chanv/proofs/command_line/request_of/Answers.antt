@@ -3,8 +3,10 @@ use Rattle.std.proofs.Common.{◌∙◌, ◌≡◌, Bool, List, None, Option, So
 use Rattle.std.proofs.Common.{[], is_some, refl, rules, subst, sym, unwrap_or}
 use Rattle.clap.specs.Walk.{Row, Text, first_of}
 use Rattle.chanv.proofs.PlainLines.{no_action, purpose, purpose_is}
-use Rattle.chanv.specs.CommandLine.{AsksFor, IsKnown, name_met}
-use Rattle.chanv.specs.declared.command_line.Request.TheVariants.{Explain, Image, Show}
+use Rattle.std.proofs.Common.{Err, IfOk, Ok, Result}
+use Rattle.chanv.specs.CommandLine.{AsksFor, IsKnown, MakesDeck, name_met}
+use Rattle.chanv.specs.declared.command_line.Request.{Request}
+use Rattle.chanv.specs.declared.command_line.Request.TheVariants.{Explain, Grants, Image, Show}
 use Rattle.chanv.proofs.Names.{bytes_eq, found_of, option_map, rows_of, subcommand_rows_of}
 use Rattle.chanv.proofs.Names.{true≢false}
 use Rattle.chanv.proofs.command_line.request_of.Goals as goal
@@ -30,6 +32,14 @@ met_is None name rows named same = cc
 met_is (Some p) name rows named same = ap₂ (λ n rs. Some (n, rs))
     (ap (λ o. unwrap_or o []) named) (ap (λ o. unwrap_or o []) (sym same))
 
+-- what makes a deck of what was met is asked for by `deck`
+makes_deck : {E : Type 0} (rows : List Row) (r : Result Request E) → IfOk r (MakesDeck rows)
+    → IfOk r (AsksFor (Some (codes "deck", rows)))
+makes_deck rows (Ok (Image q)) makes = (refl, makes)
+makes_deck rows (Ok (Grants fault)) makes = (refl, makes)
+makes_deck rows (Ok r) makes = absurd makes
+makes_deck rows (Err e) makes = tt
+
 pub unreachable-requires : goal.unreachable-requires
 unreachable-requires c =
     let met = subcommand_rows_of c.args.matches.now in
@@ -44,13 +54,12 @@ returns-in-Some-text_met c =
     subst (λ m. AsksFor m (Show c.in-Some-text_met.word)) (sym is)
     (refl, sym c.in-Some-text_met.ensures)
 
-pub returns-in_ok-image_request-in-Some-deck-default :
-    goal.returns-in_ok-image_request-in-Some-deck-default
-returns-in_ok-image_request-in-Some-deck-default c =
+pub returns-in-Some-deck-default : goal.returns-in-Some-deck-default
+returns-in-Some-deck-default c =
     let met = subcommand_rows_of c.args.matches.now in
     let is = met_is met (codes "deck") _ (search rules) c.in-Some-deck-default.ensures.rows in
-    let found = c.in_ok-image_request-in-Some-deck-default in
-    subst (λ m. AsksFor m (Image found.field-0)) (sym is) (refl, found.ensures)
+    subst (λ m. IfOk c.deck_request.result (AsksFor m)) (sym is)
+    (makes_deck (rows_of (found_of c.in-Some-deck-default.inner.now)) c.deck_request.result c.deck_request.ensures)
 
 pub returns-in-Some-explain-default : goal.returns-in-Some-explain-default
 returns-in-Some-explain-default c =

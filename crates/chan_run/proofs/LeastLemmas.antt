@@ -1,0 +1,205 @@
+-- The deck with the least job: its areas have six digits, and the verdict on its job is yes.
+use Rattle.std.proofs.Common.{◌≡◌, ℕ, ◌+◌, ◌-◌, ◌∙◌, ◌<◌, ◌≤◌, ◌==◌, ◌^◌, Bool, ◌||◌, true, false, List, [], ◌∷◌, ◌++◌, length, ◌⊎◌, inl, inr, arith, refl, sym, ap, subst, Option, Result, Ok, Err, IfErr, OnOk}
+use Rattle.std.specs.List.{AllByRecursion}
+use Rattle.std.specs.Io.KnownBytes.{Appends}
+use Rattle.std.proofs.lemmas.Bool.{cases_lt, eqb-false, or_left, or_right}
+use Rattle.ccw_core.specs.declared.areas.Area.{Area}
+use Rattle.ccw_core.specs.Areas.{lies_in}
+use Rattle.ccw_core.specs.Written.{AppendsPrefix}
+use Rattle.ckd_core.specs.Cylinders.{has_cylinder}
+use Rattle.chan_walk.specs.declared.job.Job.{Job}
+use Rattle.chan_walk.specs.declared.verdict.Verdict.TheVariants.{Yes}
+use Rattle.chan_walk.specs.Job.{storage_of, extents_of, fetch_of, store_of}
+use Rattle.chan_walk.specs.Needs.{AreOfOneProgram, Grants, Serves, all_storage, open_job}
+use Rattle.chan_walk.specs.Ranges.{IsMerged, end_of}
+use Rattle.chan_walk.specs.Rows.{AreNeeds, IsOpenJob, Listed}
+use Rattle.chan_walk.specs.Verdict.{IsVerdict}
+use Rattle.chan_walk.proofs.Algorithms.Merging.{InArea, lies_in-append, lies_in-cases, lies_in-first, lies_in-rest}
+use Rattle.chan_walk.proofs.Theory.Needing.{granted_yes, to_open, yes_grants}
+use Rattle.chan_deck.specs.Image.{Image, IsDeck, limit_of, spelling}
+use Rattle.chan_deck.proofs.PartLemmas.{storage_fits}
+use Rattle.chan_deck.specs.Item.{IsArea}
+use Rattle.chan_deck.specs.Needs.{halves, in_six_digits, split}
+use Rattle.chan_run.specs.Imaging.{IsAskedDeck, IsDeckAnswer, IsOfOpenJob, IsProgramIn, deck_of, extents_for, least_deck}
+use Rattle.chan_run.specs.Run.{IsJobOf}
+use Rattle.chan_run.specs.declared.image.ImageError.{ImageError}
+use Rattle.chan_run.specs.declared.image.ImageError.TheVariants as faults
+use Rattle.chan_run.specs.declared.image_options.ImageOptions.{ImageOptions}
+
+-- ---- six digits
+
+-- an area that isn't empty and ends in the largest storage
+abbrev pub Fits : Area → Type 0
+Fits a = (0 < a.len) × (end_of a ≤ 2 ^ 24)
+
+-- so is each of a merged list whose bytes all lie in it
+pub merged_fit : (areas : List Area) → IsMerged areas → ((b : ℕ) → lies_in areas b ≡ true → b < 2 ^ 24)
+    → AllByRecursion Fits areas
+merged_fit [] merged below = tt
+merged_fit (a ∷ rest) (some, above, merged) below =
+    let last : a.start + (a.len - 1) < 2 ^ 24 = below _ (lies_in-first a rest _ (omega (arith, some), omega (arith, some))) in
+    ((some, omega (arith, last, some)), merged_fit rest merged (λ b lies. below b (lies_in-rest a rest b lies)))
+
+-- and so its start and its length have six digits, in two parts if it is all of that storage
+split_area : (a : Area) → Fits a → (b : Bool) → (a.len == 2 ^ 24) ≡ b → AllByRecursion IsArea (split a)
+split_area a fits true is = rw is ((omega arith, omega arith), ((omega arith, omega arith), tt))
+split_area a fits false is = rw is ((omega (arith, fits.0, fits.1), below (cases_lt a.len (2 ^ 24))), tt)
+  where
+    below : (a.len < 2 ^ 24) ⊎ (2 ^ 24 ≤ a.len) → a.len < 2 ^ 24
+    below (inl lt) = lt
+    below (inr le) = absurd (eqb-false a.len (2 ^ 24) is (omega (arith, le, fits.1)))
+
+areas_append : (xs ys : List Area) → AllByRecursion IsArea xs → AllByRecursion IsArea ys
+    → AllByRecursion IsArea (xs ++ ys)
+areas_append [] ys all more = more
+areas_append (x ∷ xs) ys all more = (all.0, areas_append xs ys all.1 more)
+
+pub six_are_areas : (areas : List Area) → AllByRecursion Fits areas → AllByRecursion IsArea (in_six_digits areas)
+six_are_areas [] fit = tt
+six_are_areas (a ∷ rest) fit =
+    areas_append (split a) (in_six_digits rest) (split_area a fit.0 (a.len == 2 ^ 24) refl) (six_are_areas rest fit.1)
+
+-- a byte of an area lies in its parts
+in_split : (a : Area) (b : ℕ) → Fits a → InArea a b → (all : Bool) → (a.len == 2 ^ 24) ≡ all
+    → lies_in (split a) b ≡ true
+in_split a b fits lies false is = rw is (lies_in-first a [] b lies)
+in_split a b fits lies true is = rw is (go (cases_lt b 0xFFFFFF))
+  where
+    first : Area
+    first = record { start = 0; len = 0xFFFFFF }
+
+    last : Area
+    last = record { start = 0xFFFFFF; len = 1 }
+
+    go : (b < 0xFFFFFF) ⊎ (0xFFFFFF ≤ b) → lies_in halves b ≡ true
+    go (inl lt) = lies_in-first first (last ∷ []) b (omega arith, omega (arith, lt))
+    go (inr le) = lies_in-rest first (last ∷ []) b (lies_in-first last [] b (le, omega (arith, lies.1, fits.1)))
+
+-- what lies in areas lies in their parts
+pub in_six : (areas : List Area) (b : ℕ) → AllByRecursion Fits areas → lies_in areas b ≡ true
+    → lies_in (in_six_digits areas) b ≡ true
+in_six [] b fit lies = lies
+in_six (a ∷ rest) b fit lies = go (in_six rest b fit.1) (lies_in-cases a rest b lies)
+  where
+    parts : lies_in (split a ++ in_six_digits rest) b ≡ (lies_in (split a) b || lies_in (in_six_digits rest) b)
+    parts = lies_in-append (split a) (in_six_digits rest) b
+
+    go : (lies_in rest b ≡ true → lies_in (in_six_digits rest) b ≡ true) → InArea a b ⊎ (lies_in rest b ≡ true)
+        → lies_in (in_six_digits (a ∷ rest)) b ≡ true
+    go others (inl here) = parts ∙ or_left _ _ (in_split a b fit.0 here (a.len == 2 ^ 24) refl)
+    go others (inr there) = parts ∙ or_right _ _ (others there)
+
+-- ---- the least job
+
+-- nothing lies in no area, nor in no extent
+no_area : (b : ℕ) → lies_in [] b ≡ true → ⊥
+unfolding lies_in
+no_area b e = cc
+
+no_cylinder : (c : ℕ) → has_cylinder [] c ≡ true → ⊥
+unfolding has_cylinder
+no_cylinder c e = cc
+
+-- what is needed lies in storage
+in_storage : (j : Job) (b : ℕ) → lies_in (all_storage j) b ≡ true → b < length (storage_of j)
+in_storage j b lies = go (lies_in-cases (record { start = 0; len = length (storage_of j) }) [] b lies)
+  where
+    go : InArea (record { start = 0; len = length (storage_of j) }) b ⊎ (lies_in [] b ≡ true) → b < length (storage_of j)
+    go (inl here) = omega (arith, here.1)
+    go (inr none) = absurd (no_area b none)
+
+same_program : (j : Job) → AreOfOneProgram j j
+same_program j = record { storage = refl; start = refl; device = refl }
+
+open_grants : (j : Job) (n : Listed) → AreNeeds j n → Grants j (open_job j)
+open_grants j n needs = yes_grants j (open_job j) (to_open j j (same_program j)) needs.verdict
+
+-- so what is fetched and what is stored into fit, where storage isn't too large
+pub fetch_fits : (j : Job) (n : Listed) → AreNeeds j n → length (storage_of j) ≤ 2 ^ 24
+    → AllByRecursion Fits n.fetch
+fetch_fits j n needs short = merged_fit n.fetch needs.fetch.merged below
+  where
+    below : (b : ℕ) → lies_in n.fetch b ≡ true → b < 2 ^ 24
+    below b lies =
+        let lt : b < length (storage_of j) = in_storage j b ((open_grants j n needs).fetch b ((needs.fetch.bytes b).0 lies)) in
+        omega (arith, lt, short)
+
+pub store_fits : (j : Job) (n : Listed) → AreNeeds j n → length (storage_of j) ≤ 2 ^ 24
+    → AllByRecursion Fits n.store
+store_fits j n needs short = merged_fit n.store needs.store.merged below
+  where
+    below : (b : ℕ) → lies_in n.store b ≡ true → b < 2 ^ 24
+    below b lies =
+        let lt : b < length (storage_of j) = in_storage j b ((open_grants j n needs).store b ((needs.store.bytes b).0 lies)) in
+        omega (arith, lt, short)
+
+-- the extents of the deck have the cylinders that are needed
+in_extents : (runs : List (ℕ × ℕ)) (c : ℕ) → has_cylinder runs c ≡ true → has_cylinder (extents_for runs) c ≡ true
+in_extents [] c has = absurd (no_cylinder c has)
+in_extents (run ∷ runs) c has = has
+
+-- the verdict is yes on a job that grants just what is needed
+pub least_is_yes : (j : Job) (n : Listed) → AreNeeds j n → length (storage_of j) ≤ 2 ^ 24 → j.mask ≡ n.mask
+    → extents_of j ≡ extents_for n.extents → fetch_of j ≡ in_six_digits n.fetch
+    → store_of j ≡ in_six_digits n.store → IsVerdict j Yes
+least_is_yes j n needs short mask extents fetch store =
+    granted_yes j j (same_program j) grants needs.verdict
+  where
+    grants : Grants j j
+    grants = record {
+      mask = subst (λ m. Serves j m) (sym mask) needs.mask.holds;
+      extents = λ c needed. rw extents (in_extents n.extents c ((needs.extents.cylinders c).1 needed));
+      fetch = λ b needed. rw fetch (in_six n.fetch b (fetch_fits j n needs short) ((needs.fetch.bytes b).1 needed));
+      store = λ b needed. rw store (in_six n.store b (store_fits j n needs short) ((needs.store.bytes b).1 needed));
+    }
+
+-- ---- the deck
+
+-- so it is on the job of the deck, whose program is the one that the options find
+program_of : (o : ImageOptions) (image : List ℕ) (n : Listed) (d : Image) (j : Job) → d ≡ least_deck o image n
+    → IsJobOf d j → IsProgramIn o image j
+program_of o image n d j is of = record {
+  storage = of.storage ∙ ap (λ (x : Image). x.storage) is;
+  start = of.start ∙ ap (λ (x : Image). x.start) is;
+  device = of.device ∙ ap (λ (x : Image). x.device) is;
+  limit = of.limit ∙ ap (λ (x : Image). limit_of x.version) is;
+}
+
+pub least_asked : (o : ImageOptions) (image : List ℕ) (n : Listed) (d : Image) → o.is_least ≡ true
+    → o.at + length image ≤ 2 ^ 24 → ((j : Job) → IsProgramIn o image j → AreNeeds j n)
+    → d ≡ least_deck o image n → IsAskedDeck o.is_least o image d
+least_asked o image n d least short needs is =
+    subst (λ b. IsAskedDeck b o image d) (sym least) (record { needed = n; needs = needs; is = is; yes = yes })
+  where
+    yes : (j : Job) → IsJobOf d j → IsVerdict j Yes
+    yes j of =
+        let there = program_of o image n d j is of in
+        least_is_yes j n (needs j there) (storage_fits o.at image (storage_of j) there.storage short)
+        (of.mask ∙ ap (λ (x : Image). x.mask) is) (of.extents ∙ ap (λ (x : Image). x.extents) is)
+        (of.fetch ∙ ap (λ (x : Image). x.fetch) is) (of.store ∙ ap (λ (x : Image). x.store) is)
+
+-- and so is the deck of what the options say, where they don't ask for the least job
+pub said_asked : (o : ImageOptions) (image : List ℕ) → o.is_least ≡ false
+    → IsAskedDeck o.is_least o image (deck_of o image)
+said_asked o image said = rw said refl
+
+-- the deck of parts that are just what is needed
+pub is_least_deck : (o : ImageOptions) (image : List ℕ) (n : Listed) (extents : List (ℕ × ℕ)) (fetch store : List Area)
+    → extents ≡ extents_for n.extents → fetch ≡ in_six_digits n.fetch → store ≡ in_six_digits n.store
+    → record (deck_of o image) { mask = n.mask; extents = extents; fetch = fetch; store = store } ≡ least_deck o image n
+is_least_deck o image n extents fetch store one two three = rw (one, two, three) refl
+
+-- what was written is the deck that is asked for, or a prefix of it
+pub deck_answered : (o : ImageOptions) (image : List ℕ) (d : Image) (old new : Option (List ℕ))
+    (r : Result (Unit {0}) ImageError) → IsAskedDeck o.is_least o image d → OnOk r (IsDeck d)
+    → OnOk r (Appends old new (spelling d)) → AppendsPrefix old new (spelling d)
+    → IfErr r (λ e. (e ≡ faults.Write) ⊎ (e ≡ faults.Memory)) → IsDeckAnswer o image old new r
+deck_answered o image d old new (Ok _) asked deck all prefix err = (d, asked, deck, all)
+deck_answered o image d old new (Err e) asked deck all prefix (inl write) = rw write (d, asked, prefix)
+deck_answered o image d old new (Err e) asked deck all prefix (inr memory) = rw memory tt
+
+-- the open job of a program shows something
+pub of_open_job : (o : ImageOptions) (image : List ℕ) (Holds : Job → Type 0) (j k : Job) → IsProgramIn o image j
+    → IsOpenJob j k → Holds k → IsOfOpenJob o image Holds
+of_open_job o image Holds j k there is holds =
+    record { job = j; of_program = there; opened = k; is_open = is; holds = holds }

@@ -1,0 +1,12 @@
+use Rattle.chan_run.specs.Imaging.{deck_of}
+use Rattle.chan_run.proofs.LeastLemmas.{deck_answered, said_asked}
+use Rattle.chan_run.proofs.image.write_said.Goals as goal
+
+pub returns-clause-answer : goal.returns-clause-answer
+returns-clause-answer g c =
+    let o = c.args.options.now in
+    let image = c.args.image.now in
+    deck_answered o image (deck_of o image) _ _ c.write_right.result (said_asked o image c.requires.said)
+    (rw (c.deref.ensures.value, c.deref-2.ensures.value) at c.write_right.ensures.deck)
+    (rw (c.deref.ensures.value, c.deref-2.ensures.value) at c.write_right.ensures.ok)
+    (rw (c.deref.ensures.value, c.deref-2.ensures.value) at c.write_right.ensures.prefix) c.write_right.ensures.err

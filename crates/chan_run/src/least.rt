@@ -1,0 +1,121 @@
+//! The deck of an image of storage with the least job of its program.
+
+ghost use Rattle.std.specs.Prelude.{◌≡◌, ◌↔◌, ◌+◌, ◌≤◌, ◌^◌, List, ℕ, false, true, length, IfErr};
+ghost use Rattle.std.specs.Prelude.{IfOk, IsErrOf, OnOk};
+ghost use Rattle.std.specs.List.{AllByRecursion};
+ghost use Rattle.ckd_core.specs.Cylinders.{IsExtent};
+ghost use Rattle.chan_deck.specs.Parts.{storage_with};
+ghost use Rattle.ccw_core.specs.Held.{bytes_held};
+ghost use Rattle.chan_walk.specs.Needs.{AreOfOneProgram};
+ghost use Rattle.chan_walk.specs.Rows.{AreNeeds, listed};
+ghost use Rattle.chan_walk.specs.declared.job.Job.{Job};
+ghost use Rattle.chan_run.specs.Imaging.{HasNoNeeds, IsDeckAnswer, IsEarly, IsProgramIn};
+ghost use Rattle.chan_run.specs.Imaging.{extents_for};
+ghost use Rattle.chan_run.specs.declared.image_options.ImageOptions.{ImageOptions};
+
+use crate::image::{ImageError, write_right};
+use crate::image_options::ImageOptions;
+use ccw_core::{Storage, Watched};
+use chan_deck::{Parts, in_six_digits, place_image};
+use chan_walk::{Job, Limit, Needs, OpenJob, Verdict, WalkError, survey};
+use ckd_core::Extents;
+use std::alloc::Global;
+use std::io::Write;
+
+/// Writes the deck that an image makes with the options and the least job of its program.
+pub(crate) fn write_least<W: Write>(
+    alloc: Global,
+    options: &ImageOptions,
+    image: &[u8],
+    to: &mut Watched<W>,
+) -> Result<(), ImageError>
+    requires short { options.now.at + length image.now ≤ 2 ^ 24 }
+    requires least { options.now.is_least ≡ true }
+    requires writer { to.old.failed ≡ false }
+    ensures answer { IsDeckAnswer options.now image.now
+        (W.contents to.old.device) (W.contents to.new.device) result }
+    ensures early { IsEarly result → to.new ≡ to.old }
+    ensures write { IsErrOf result ImageError.Write ↔ (to.new.failed ≡ true) }
+{
+    let needs = needs_in(alloc, options, image)?;
+    let extents = extents_over(alloc, &needs.extents)?;
+    let fetch = in_six_digits(alloc, &needs.fetch)?;
+    let store = in_six_digits(alloc, &needs.store)?;
+    let parts = Parts {
+        limit: options.limit,
+        device: options.device,
+        mask: needs.mask,
+        start: options.start,
+        extents: &extents,
+        fetch: &fetch,
+        store: &store,
+        at: options.at,
+        image,
+    };
+    write_right(alloc, &parts, to)
+}
+
+/// What the program needs that the options find in an image.
+fn needs_in(alloc: Global, options: &ImageOptions, image: &[u8]) -> Result<Needs, ImageError>
+    requires { options.now.at + length image.now ≤ 2 ^ 24 }
+    ensures ok { IfOk result (λ n. (j : Job) → IsProgramIn options.now image.now j
+        → AreNeeds j (listed n)) }
+    ensures some { OnOk result ((j : Job) × IsProgramIn options.now image.now j) }
+    ensures err { IfErr result (HasNoNeeds options.now image.now) }
+{
+    let bytes = place_image(alloc, options.at as usize, image)?;
+    // it isn't too large, since the image ends in storage
+    let storage = Storage::new(&bytes).unwrap();
+    let job = job_of(options, storage);
+    needs_of(alloc, &job)
+}
+
+/// The job of the program in storage, as the options have it.
+fn job_of<'a>(options: &'a ImageOptions, storage: Storage<'a>) -> Job<'a>
+    ensures { (image : List ℕ) → bytes_held storage.entry ≡ storage_with options.entry.now.at image
+        → IsProgramIn options.entry.now image result }
+{
+    Job {
+        storage,
+        start: options.start,
+        device: options.device,
+        mask: options.mask,
+        extents: &options.extents,
+        fetch: &options.fetch,
+        store: &options.store,
+        limit: options.limit.unwrap_or(Limit::usual()),
+    }
+}
+
+/// What the program of a job needs.
+fn needs_of(alloc: Global, job: &Job<'_>) -> Result<Needs, ImageError>
+    ensures ok { IfOk result (λ n. (j : Job) → AreOfOneProgram j job.now
+        → AreNeeds j (listed n)) }
+    ensures err { IfErr result (λ e. (o : ImageOptions) (image : List ℕ)
+        → IsProgramIn o image job.now → HasNoNeeds o image e) }
+{
+    let open = match OpenJob::of(alloc, job) {
+        Ok(open) => open,
+        Err(_) => return Err(ImageError::Memory),
+    };
+    let open_job = open.job();
+    let survey = match survey(alloc, &open_job) {
+        Ok(survey) => survey,
+        Err(WalkError::TooManyPlaces) => return Err(ImageError::TooManyPlaces),
+        Err(WalkError::Memory) => return Err(ImageError::Memory),
+    };
+    match survey.verdict() {
+        Verdict::No { address, reason } => Err(ImageError::NoJob { address, reason }),
+        Verdict::Yes => Ok(survey.needs(alloc, &open_job)?),
+    }
+}
+
+/// The extents that grant some runs of cylinders: all of the device's where there is none.
+fn extents_over(alloc: Global, runs: &[(u16, u16)]) -> Result<Extents, ImageError>
+    requires { AllByRecursion IsExtent runs.now }
+    ensures ok { IfOk result (λ extents. extents ≡ extents_for runs.now) }
+    ensures err { IfErr result (λ e. e ≡ ImageError.Memory) }
+{
+    let runs = if runs.is_empty() { &[(0, 202)] } else { runs };
+    Extents::new(alloc, runs).map_err(|_| ImageError::Memory)
+}

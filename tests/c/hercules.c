@@ -1,0 +1,164 @@
+/* Tries examples/hercules/chanvask.h without Hercules, over random programs that are started again
+ * and again while bytes of storage and storage keys change. Each answer has to be that of
+ * chanv_verify about storage as it stands, with all blocks lent that the keys allow.
+ *
+ *     hercules SEED STARTS
+ */
+#include <chanv.h>
+#include <stdio.h>
+#include <stdlib.h>
+#include <string.h>
+#include <strings.h>
+#include <time.h>
+
+/* What the header takes from Hercules. */
+typedef uint8_t BYTE;
+typedef uint32_t U32;
+typedef uint64_t U64;
+typedef struct {
+    unsigned devnum, devtype;
+    BYTE *mainstor, *storkeys;
+    U64 mainlim;
+    struct {
+        BYTE flag4, ccwaddr[4];
+    } orb;
+    struct CHANVASK *chanvask;
+} DEVBLK;
+enum { ORB4_KEY = 0xF0, STORKEY_KEY = 0xF0, STORKEY_FETCH = 0x08 };
+#define STORAGE_KEY(address, dev) (dev)->storkeys[(address) >> 11]
+#define _(text) text
+#define logmsg(...) ((void)(0 && printf(__VA_ARGS__)))
+
+static U32 fetch_fw(const BYTE *at)
+{
+    return (U32)at[0] << 24 | (U32)at[1] << 16 | (U32)at[2] << 8 | at[3];
+}
+
+static U64 fetch_dw(const BYTE *at)
+{
+    return (U64)fetch_fw(at) << 32 | fetch_fw(at + 4);
+}
+
+#define OPTION_CHANV
+#include "chanvask.h"
+
+enum { STORAGE = 0x40000, BLOCKS = STORAGE / 2048, STARTS = 8 };
+
+static BYTE storage[STORAGE], keys[BLOCKS];
+static U64 state;
+
+static U32 below(U32 bound)
+{
+    state = state * 6364136223846793005u + 1442695040888963407u;
+    return (U32)(state >> 33) % bound;
+}
+
+static void put(U32 address, U32 high, U32 low)
+{
+    for (int i = 0; i < 4; i++) {
+        storage[address + i] = (BYTE)(high >> (24 - 8 * i));
+        storage[address + 4 + i] = (BYTE)(low >> (24 - 8 * i));
+    }
+}
+
+/* Writes some CCWs from an address on, at times behind a transfer to elsewhere. */
+static void write_program(U32 at)
+{
+    static const BYTE codes[] = {0x03, 0x06, 0x07, 0x0B, 0x1B, 0x1F, 0x31, 0x05, 0x06, 0x07};
+    U32 scattered = below(4) == 0, count = scattered ? 60 : 1 + below(8);
+
+    for (U32 i = 0; i < count && at < STORAGE - 16; i++, at += 8) {
+        U32 code = codes[below(sizeof codes)], data = below(STORAGE - 64);
+        if (i > 0 && below(scattered ? 1 : 4) == 0) {
+            U32 to = 8 * below(STORAGE / 8 - 16);
+            put(at, 0x08000000 | to, 0);
+            at = to;
+        }
+        if (scattered) /* it leads from block to block, and moves nothing */
+            code = 0x03, data = at;
+        if (code == 0x07 || (code & 0x0F) == 0x0B) /* a seek's bin, cylinder and head */
+            put(data, below(20), below(20) << 16);
+        if (code == 0x1F)
+            storage[data] = below(4) ? 0xC0 : (BYTE)below(256);
+        put(at, code << 24 | data, (i + 1 < count ? (below(8) ? 0x40u : 0x80u) : 0) << 24
+                                       | (below(8) ? 6 : 1 + below(40)));
+    }
+}
+
+/* Somebody changes something, above all what a program that is remembered keeps. */
+static void change(const struct CHANVASK *ask, U32 start)
+{
+    const struct chanvask_program *program = &ask->programs[start / 8 % CHANVASK_PROGRAMS];
+    U32 how = below(16);
+
+    if (how == 0)
+        write_program(start);
+    else if (how == 1)
+        keys[below(BLOCKS)] = (BYTE)(below(3) << 4 | below(2) << 3);
+    else if (how == 2)
+        storage[below(STORAGE)] = (BYTE)below(256);
+    else if (how == 3 && program->known) {
+        struct chanv_area area = program->keep[below((U32)program->needed.keep)];
+        storage[area.start + below(area.len)] ^= (BYTE)(1 << below(8));
+    }
+}
+
+static U32 asked_directly(const DEVBLK *dev, U32 start, struct chanv_verdict *verdict)
+{
+    static struct chanv_area fetch[BLOCKS], store[BLOCKS];
+    BYTE key = dev->orb.flag4;
+    struct chanv_job job = {
+        .storage = {storage, STORAGE},
+        .extents = {dev->chanvask->extents, dev->chanvask->extent_count},
+        .fetch = {fetch, 0},
+        .store = {store, 0},
+        .start = start,
+        .limit = CHANV_USUAL_LIMIT,
+        .device = 2314,
+        .mask = dev->chanvask->mask,
+    };
+
+    for (U32 block = 0; block < BLOCKS; block++) {
+        struct chanv_area area = {block * 2048, 2048};
+        int mine = key == 0 || (keys[block] & 0xF0) == key;
+        if (mine || !(keys[block] & 0x08))
+            fetch[job.fetch.len++] = area;
+        if (mine)
+            store[job.store.len++] = area;
+    }
+    return chanv_verify(&job, verdict);
+}
+
+int main(int argc, char **argv)
+{
+    DEVBLK dev = {0x190, 0x2314, storage, keys, STORAGE - 1, {0, {0}}, NULL};
+    U32 starts[STARTS], yes = 0, count = argc > 2 ? (U32)atoi(argv[2]) : 0;
+
+    state = argc > 1 ? (U64)atoi(argv[1]) : 1;
+    if (!chanvask_arg(&dev, "chanv=0-9,12-19") || !chanvask_arg(&dev, "chanvmask=80")
+        || !chanvask_arg(&dev, "chanvrefuse") || chanvask_arg(&dev, "chanvmask=81")
+        || chanvask_arg(&dev, "chanvask"))
+        return 2;
+    for (int i = 0; i < STARTS; i++)
+        write_program(starts[i] = 8 * below(STORAGE / 8 - 16));
+    for (U32 i = 0; i < count; i++) {
+        U32 start = starts[below(STARTS)], answer, address = 0;
+        struct chanv_verdict verdict;
+        change(dev.chanvask, start);
+        dev.orb.flag4 = (BYTE)(below(3) << 4);
+        for (int byte = 0; byte < 4; byte++)
+            dev.orb.ccwaddr[byte] = (BYTE)(start >> (24 - 8 * byte));
+        chanvask(&dev);
+        answer = asked_directly(&dev, start, &verdict);
+        yes += answer == CHANV_YES;
+        if (chanvask_refuses(&dev, &address) != (answer != CHANV_YES)
+            || (answer == CHANV_NO && address != verdict.address + 8)) {
+            printf("differs at start %u of %06X: %u %06X, not %06X\n", i, start, answer,
+                   verdict.address, address - 8);
+            return 1;
+        }
+    }
+    printf("%u starts, %u yes, %u questions\n", count, yes, (unsigned)dev.chanvask->questions);
+    chanvask_end(&dev);
+    return 0;
+}

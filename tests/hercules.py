@@ -1,0 +1,76 @@
+"""What examples/hercules/ adds to Hercules, by itself over random programs, and built into it.
+
+The program of c/hercules.c starts random programs again and again, while storage and its keys
+change, and compares each answer with that of a question put anew to storage as it stands. A header
+that leaves something out has to give a wrong one. Whether Hercules itself comes to the ends that
+try.sh names is tried where the environment variable HERCULES_TARBALL says the path of its source
+and an assembler for System/390 is installed, and else left out, by its name.
+"""
+
+import os
+import shutil
+import tempfile
+from pathlib import Path
+
+from assembler import ASSEMBLER
+from building import FLAGS, HERE, compile_c, short
+from examples import EXAMPLES
+from expecting import say
+from running import run, text_of
+
+FOLDER = EXAMPLES / "hercules"
+SEEDS, STARTS = range(1, 9), 20000
+
+# the build of Hercules alone takes minutes
+MOST_SECONDS = 1800
+
+# What is left out, the text that stands in the header for it, and what stands there instead.
+CARELESS = [
+    ("the comparison", "kept, area.len) != 0", "kept, 0) != 0"),
+    ("the keys", "(has & STORKEY_KEY) == key", "has < 255"),
+    ("fetch protection", "(fetching && !(has & STORKEY_FETCH))", "fetching"),
+    ("the arguments", "chanvask_bring(dev, data) | chanvask_bring(dev, data + 5)", "0"),
+    ("data chains", "else if (ccw[4] & 0x80)", "else if (0)"),
+    ("scattered programs", "if (more)\n", "if (0)\n"),
+]
+
+
+def compile_header(library, header, folder):
+    """Compiles the program with a header, which stands in the folder by itself."""
+    folder.mkdir()
+    (folder / "chanvask.h").write_text(header)
+    linked = ["-D_DEFAULT_SOURCE", f"-I{library}", f"-I{folder}", library / "libchanv.a"]
+    return compile_c(HERE / "c/hercules.c", folder / "hercules", *FLAGS, *linked)
+
+
+def check_header(checks, library, room):
+    header = text_of(FOLDER / "chanvask.h")
+    program = compile_header(library, header, room / "careful")
+    for seed in SEEDS:
+        ran = run(program, str(seed), str(STARTS))
+        ended = ran.status == 0 and ran.output.startswith(f"{STARTS} starts, ")
+        checks.expect_that(f"{STARTS} starts, seed {seed}", ended, ran)
+    for name, old, new in CARELESS:
+        checks.expect(f"the header has {name}, once", 1, header.count(old))
+        program = compile_header(library, header.replace(old, new), room / name)
+        came = [run(program, str(seed), str(STARTS)) for seed in SEEDS]
+        wrong = [ran for ran in came if ran.status == 1 and ran.output.startswith("differs at ")]
+        checks.expect_that(f"without {name} an answer is wrong", wrong, came)
+
+
+def check_emulator(checks, library):
+    tarball, script = os.environ.get("HERCULES_TARBALL"), FOLDER / "try.sh"
+    missing = None if shutil.which(ASSEMBLER) else ASSEMBLER
+    if missing or not tarball:
+        say(f"hercules: no {missing or 'HERCULES_TARBALL'}, so not tried: {short(script)}")
+        return
+    ran = run(script, Path(tarball).absolute(), library, timeout=MOST_SECONDS)
+    checks.expect(short(script), (0, ""), (ran.status, ran.error))
+    checks.expect_that("all three programs", "as it should be\n" in ran.output, ran.output)
+
+
+def check(checks, built):
+    library = built.library()
+    with tempfile.TemporaryDirectory() as room:
+        check_header(checks, library, Path(room))
+    check_emulator(checks, library)

@@ -1,0 +1,106 @@
+"""The module of examples/python/ over all decks, with each fault of a job and numbers that C cuts.
+
+Its `judge.py` reads each deck of examples/ and examples/cases/ and asks the shared library, whose
+answer has to be the verdict of the deck. The module's own example is carried out too.
+"""
+
+import importlib
+import os
+import sys
+import tempfile
+from pathlib import Path
+
+from building import short
+from examples import EXAMPLES, FOLDERS, decks_of, verdicts_of
+from expecting import CannotRun
+from running import Ran, run, text_of
+
+FOLDER = EXAMPLES / "python"
+SMALL_LIMIT = EXAMPLES / "small-limit.deck"
+
+# What is wrong with the job, and the code and the wrong extent's index that the header gives it.
+FAULTS = [
+    ({"limit": 2}, (2, 0)),
+    ({"storage": bytes(0x1000001)}, (4, 0)),
+    ({"device": 2305}, (5, 0)),
+    ({"mask": 0x20}, (6, 0)),
+    ({"extents": []}, (7, 0)),
+    ({"extents": [(0, 1), (19, 10)]}, (8, 1)),
+    ({"extents": [(0, 1), (2, 2), (10, 203)]}, (9, 2)),
+    ({"limit": 0}, (10, 0)),
+    ({"limit": 65537, "mask": 0x20}, (6, 0)),
+]
+
+# Each would pass for a number of the job, or lend more, if it were cut to the size of its field.
+TOO_LARGE = [
+    {"start": 0x1_0000_0800},
+    {"limit": 0x1_0000_1000},
+    {"device": 0x10000 + 2314},
+    {"mask": 0x100},
+    {"extents": [(0x10000 + 10, 19)]},
+    {"fetch": [(0x900, 0x1_0000_0010)]},
+    {"store": [(-1, 0x1000)]},
+]
+
+
+def judge(library, *decks):
+    return run(sys.executable, "-B", FOLDER / "judge.py", *decks, env=told(library))
+
+
+def told(library):
+    return {**os.environ, "CHANV_LIBRARY": str(library)}
+
+
+def check_decks(checks, library):
+    for folder in FOLDERS:
+        verdicts = verdicts_of(folder)
+        ran = judge(library, *decks_of(folder))
+        checks.expect(f"{short(folder)}, the status", (1, ""), (ran.status, ran.error))
+        lines = ran.output.splitlines()
+        checks.expect(f"{short(folder)}, how many lines", len(verdicts), len(lines))
+        for (name, verdict), line in zip(sorted(verdicts.items()), lines):
+            checks.expect(f"judge {name}", f"{folder / name}: {verdict}", line)
+
+
+def check_status(checks, library):
+    """One deck that has a yes, and one of which there is no answer behind it."""
+    with tempfile.TemporaryDirectory() as room:
+        deck = Path(room) / "two-places.deck"
+        deck.write_text(text_of(SMALL_LIMIT).replace("limit 00003", "limit 00002"))
+        error = f"{deck}: no answer: more places are reachable than the limit\n"
+        yes = f"{SMALL_LIMIT}: yes\n"
+        checks.expect("judge a yes", Ran(0, yes), judge(library, SMALL_LIMIT))
+        checks.expect("judge too many", Ran(2, yes, error), judge(library, SMALL_LIMIT, deck))
+
+
+def answer_on(chanv, job, changes):
+    """The code and the index of the extent, or the name of another error; a verdict is its text."""
+    try:
+        return str(chanv.verify(chanv.Job(**{**vars(job), **changes})))
+    except chanv.NoAnswer as why:
+        return why.code, why.extent
+    except OverflowError as error:
+        return type(error).__name__
+
+
+def check_answers(checks, library):
+    os.environ["CHANV_LIBRARY"] = str(library)
+    sys.path.insert(0, str(FOLDER))
+    chanv, judging = importlib.import_module("chanv"), importlib.import_module("judge")
+    job = judging.read_deck(text_of(EXAMPLES / "search-loop.deck"))
+    checks.expect("the job itself", "yes", answer_on(chanv, job, {}))
+    for changes, wanted in FAULTS:
+        checks.expect(f"with {sorted(changes)}", wanted, answer_on(chanv, job, changes))
+    for changes in TOO_LARGE:
+        checks.expect(f"with {changes}", "OverflowError", answer_on(chanv, job, changes))
+
+
+def check(checks, built):
+    library = next(built.library().glob("libchanv.so.*"), None)
+    if library is None:
+        raise CannotRun(f"no libchanv.so in {built.library()}")
+    ran = run(sys.executable, "-B", "-m", "doctest", FOLDER / "chanv.py", env=told(library))
+    checks.expect("the module's example", Ran(0), ran)
+    check_decks(checks, library)
+    check_status(checks, library)
+    check_answers(checks, library)
