@@ -38,7 +38,7 @@ lib:
 	ld -r -o out/chanv.o --whole-archive crates/chanv_c/out/libchanv_c.a --no-whole-archive \
 	  "$$(dirname "$$(rt doc)")/c/liblibc_c.a"
 	objcopy --wildcard --keep-global-symbol='chanv_*' out/chanv.o
-	rm -f out/libchanv.a
+	rm -f out/libchanv.*
 	ar rcs out/libchanv.a out/chanv.o
 	$(CC) -shared -Wl,-z,defs -Wl,-soname,$(SONAME) -o out/libchanv.so.$(VERSION) out/chanv.o
 	cp crates/chanv_c/include/chanv.h out/chanv.h

@@ -1,6 +1,7 @@
 """Finds what the tests run, and builds what is written in C."""
 
 import os
+import re
 import shlex
 from pathlib import Path
 
@@ -60,15 +61,23 @@ def existing(program):
     return path
 
 
+def c_compiler():
+    return shlex.split(os.environ.get("CC") or "cc")
+
+
 def compile_c(source, made, *flags):
     """Compiles a file with the C compiler, which is $CC or cc."""
-    must_succeed(*shlex.split(os.environ.get("CC") or "cc"), "-o", made, source, *flags)
+    must_succeed(*c_compiler(), "-o", made, source, *flags)
     return made
+
+
+def version_of(header):
+    return re.search(r'(?m)^#define CHANV_VERSION "(.*)"$', header.read_text())[1]
 
 
 def compile_with(library, source, made):
     """Compiles a program that asks the library for C, which stands in a folder."""
-    linked = [f"-I{library}", library / "libchanv.a", "-pthread"]
+    linked = [f"-I{library}", f"-I{ROOT / 'examples/c'}", library / "libchanv.a", "-pthread"]
     return compile_c(source, made, *FLAGS, *linked)
 
 

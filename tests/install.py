@@ -11,7 +11,7 @@ import shutil
 import tempfile
 from pathlib import Path
 
-from building import FLAGS, ROOT, compile_c
+from building import FLAGS, ROOT, compile_c, version_of
 from examples import EXAMPLES
 from expecting import say
 from running import run, text_of
@@ -64,6 +64,8 @@ def check(checks, built):
         to = folder / "opt"
         checks.expect("make install", 0, make("install", to).status)
         version = run(to / "bin/chanv", "--version").output
+        there = version_of(to / "include/chanv.h")
+        checks.expect("the header's version", f"chanv {there}\n", version)
         _, said = pkg_config(to, "--modversion") if shutil.which("pkg-config") else (0, None)
         if said is None:
             say("install: no pkg-config, so no example was built with it")

@@ -1,7 +1,7 @@
 """The library for C: its example, answers, edges, refused memory and archive.
 
 The programs of c/ and examples/c/ ask it. What they should write was worked out from the rules:
-edges.out and needs.out of c/; the verdicts and listings of the decks of examples/ and
+edges.out, needs.out and nulls.out of c/; the verdicts and listings of the decks of examples/ and
 examples/cases/; the paths and values of each no among them in why-examples.out and why-cases.out of
 c/; the words of chan_walk's src/reason.rt; and the example of docs/EMBEDDING.md, whose text has to
 be that of ask.c. A deck's job grants what its program needs exactly where its verdict is yes. The
@@ -13,16 +13,21 @@ import re
 import tempfile
 from pathlib import Path
 
-from building import HERE, ROOT, compile_with, short
+from building import HERE, ROOT, c_compiler, compile_c, compile_with, short, version_of
 from examples import EXAMPLES, FOLDERS, decks_of, status_of, status_of_needs, verdicts_of
+from expecting import say
 from refusing import Case, Growths
 from running import Ran, run, text_of
 
-TESTS = ("decks", "edges", "needs", "one_call")
+TESTS = ("decks", "edges", "needs", "nulls", "one_call")
 SOURCES = [EXAMPLES / "c/ask.c", *[HERE / f"c/{name}.c" for name in TESTS]]
 MAY_ASK_FOR = {"memcpy", "memmove", "memset", "malloc", "realloc", "free"}
 OF_THE_RUNTIME = {"rattle_alloc", "rattle_realloc", "rattle_dealloc"}
-CALLS = {f"chanv_{call}" for call in ("verify", "list", "why", "needs", "grants", "beside")}
+NAMES = ("verify", "list", "why", "text", "needs", "grants", "beside", "version")
+CALLS = {f"chanv_{call}" for call in NAMES}
+# warnings that a program's own build may ask for
+WARNINGS = ["-Wall", "-Wextra", "-Wpedantic", "-Wconversion", "-Wsign-conversion", "-Werror"]
+IN_CPP = ["-x", "c++", "-std=c++11", "-Wold-style-cast"]
 
 # what chanv_list answers where there is no room
 NO_ROOM = 11
@@ -33,10 +38,10 @@ def check_document(checks, folder):
     blocks = re.findall(r"```(\w*)\n(.*?)```", text_of(ROOT / "docs/EMBEDDING.md"), re.S)
     shown = ("c", text_of(EXAMPLES / "c/ask.c")) in blocks
     checks.expect_that("the document shows the example", shown, "another text")
-    supervisor = text_of(EXAMPLES / "c/supervisor.c")
-    parts = [text for word, text in blocks if word == "c" and "may_start" in text]
-    shown = parts and all(text in supervisor for text in parts)
-    checks.expect_that("the document shows a part of the supervisor", shown, parts)
+    for name, word in (("supervisor", "may_start"), ("emulator", "ask_once")):
+        parts = [text for language, text in blocks if language == "c" and word in text]
+        shown = parts and all(text in text_of(EXAMPLES / f"c/{name}.c") for text in parts)
+        checks.expect_that(f"the document shows a part of the {name}", shown, parts)
     ran = run(folder / "ask")
     checks.expect("the example's status", (0, ""), (ran.status, ran.error))
     checks.expect_that("the document shows its lines", ("text", ran.output) in blocks, ran.output)
@@ -67,6 +72,27 @@ def check_words(checks, said):
     for name, word in said:
         number = int(name.removeprefix("reason "))
         checks.expect(name, words[numbers[number]] if number in numbers else "", word)
+
+
+def check_layout(checks, library, folder):
+    """The header's structs are laid out as the library has them, and its version is one."""
+    source = HERE / "c/layout.c"
+    built = compile_c(source, folder / "layout", f"-I{library}", *WARNINGS, library / "libchanv.a")
+    ran, version = run(built), version_of(library / "chanv.h")
+    checks.expect("the header's version", Ran(0, f"{version} {version} {version}\n"), ran)
+    made = re.findall(r"(?m)^VERSION = (.*)$", text_of(ROOT / "Makefile"))
+    checks.expect("the version of what is installed", [version], made)
+
+
+def check_warnings(checks, library):
+    """A build that asks for many warnings gets none, neither of the header nor of the example."""
+    look = [*c_compiler(), "-fsyntax-only", f"-I{library}", *WARNINGS]
+    ran = run(*look, "-std=c11", EXAMPLES / "c/ask.c")
+    checks.expect("warnings of the example", Ran(0), ran)
+    if run(*look, *IN_CPP, "/dev/null").status != 0:
+        say("library: no compiler of C++, so the header wasn't looked at in C++")
+        return
+    checks.expect("warnings of the header in C++", Ran(0), run(*look, *IN_CPP, HERE / "c/layout.c"))
 
 
 def check_archive(checks, library):
@@ -111,6 +137,14 @@ def check_decks(checks, program):
                 checks.expect(f"needs {short(deck)}", wanted, run(program, "needs", given=deck))
             if deck.with_suffix(".list").is_file():
                 check_listing(checks, program, deck)
+            if deck.with_suffix(".why").is_file() or verdict == "yes":
+                check_text(checks, program, deck, status)
+
+
+def check_text(checks, program, deck, status):
+    """The text is what `chanv why` prints, which of a yes is its line alone."""
+    wanted = text_of(deck.with_suffix(".why")) if deck.with_suffix(".why").is_file() else "yes\n"
+    checks.expect(f"text {short(deck)}", Ran(status, wanted), run(program, "text", given=deck))
 
 
 def check_listing(checks, program, deck):
@@ -125,6 +159,7 @@ def check_listing(checks, program, deck):
 def refuse_growths(checks, folder):
     growths, program = Growths(folder), folder / "one_call"
     answers = {"verify": "yes", "list": "3", "why": "2 3", "needs": "1 1 1", "grants": "yes"}
+    answers["text"] = "no"
     setup = [program, "setup"]
     for call, answer in answers.items():
         case = Case(f"chanv_{call}", [program, call], Ran(0, f"{answer}\n"), before=setup)
@@ -142,6 +177,9 @@ def check(checks, built):
         check_document(checks, folder)
         check_edges(checks, folder)
         check_lines(checks, folder, "needs")
+        check_lines(checks, folder, "nulls")
+        check_layout(checks, library, folder)
+        check_warnings(checks, library)
         check_archive(checks, library)
         check_decks(checks, folder / "decks")
         refuse_growths(checks, folder)

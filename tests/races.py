@@ -5,7 +5,9 @@ program whose CCWs, arguments and mask a second thread rewrites meanwhile, byte 
 call has to return, to leave alone what it wasn't handed to write, and to answer with one of its
 codes: yes, no, too many places or too little room, since nothing is wrong with the job itself. Each
 of these has to come. The calls about rows of needs don't look at storage, and always answer yes;
-they are made for 2 seconds.
+they are made for 2 seconds. `ask` of examples/c/emulator.c, which asks about a copy of what the
+program keeps, has to give an answer that stands: a job grants what the program needs exactly where
+the verdict on the copy is yes.
 """
 
 import os
@@ -21,9 +23,11 @@ CODES = {
     "verify": {0, 1, 2},
     "list": {0, 2, 11},
     "why": {0, 1, 2, 11},
+    "text": {0, 1, 2, 11},
     "needs": {0, 1, 2, 11},
     "grants": {0},
     "beside": {0},
+    "emulator": {0, 1, 2},
 }
 # the seconds at most for calls that don't look at storage
 FEW = {"grants": 2, "beside": 2}
@@ -32,9 +36,9 @@ FEW = {"grants": 2, "beside": 2}
 def check_call(checks, program, call, seconds):
     ran = run(program, str(seconds), call, timeout=seconds + MOST_SECONDS)
     ended = ran.status == 0 and not ran.error
-    checks.expect_that(f"chanv_{call} while storage changes, for {seconds} s", ended, ran)
+    checks.expect_that(f"{call} while storage changes, for {seconds} s", ended, ran)
     codes = {int(code) for code in re.findall(r", \d+ times (\d+)", ran.output)}
-    checks.expect(f"the codes of chanv_{call} while storage changes", CODES[call], codes)
+    checks.expect(f"the codes of {call} while storage changes", CODES[call], codes)
 
 
 def check(checks, built):

@@ -6,7 +6,7 @@
 /* Puts a CCW where it belongs: the high byte comes first. */
 static void put(uint8_t *storage, uint32_t address, uint64_t ccw)
 {
-    for (int i = 0; i < 8; i++)
+    for (uint32_t i = 0; i < 8; i++)
         storage[address + i] = (uint8_t)(ccw >> (56 - 8 * i));
 }
 

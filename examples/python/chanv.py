@@ -15,7 +15,7 @@ The library is the one that CHANV_LIBRARY names, or what `make lib` built, or wh
 
 import os
 from ctypes import CDLL, POINTER, Structure, byref
-from ctypes import c_char_p, c_size_t, c_uint8, c_uint16, c_uint32
+from ctypes import c_char_p, c_size_t, c_uint8, c_uint16, c_uint32, c_uint64
 from dataclasses import dataclass
 from pathlib import Path
 
@@ -30,6 +30,7 @@ NO_ANSWERS = {
     8: "an extent's first cylinder is above its last",
     9: "an extent's last cylinder is above 202",
     10: "the limit is 0, or above 65,536",
+    12: "the job has fields of a later version",
 }
 REASONS = """misaligned outside-storage transfer-not-allowed invalid-code bad-format zero-count
     data-outside not-in-table inhibited store-not-lent fetch-not-lent short-seek seek-outside
@@ -90,6 +91,7 @@ class _Job(Structure):  # struct chanv_job, with the two fields of each list in 
     _fields_ += [("fetch", POINTER(_Area)), ("fetch_len", c_size_t)]
     _fields_ += [("store", POINTER(_Area)), ("store_len", c_size_t)]
     _fields_ += [("start", c_uint32), ("limit", c_uint32), ("device", c_uint16), ("mask", c_uint8)]
+    _fields_ += [("reserved", c_uint64 * 4)]
 
 
 class _Verdict(Structure):
@@ -97,9 +99,9 @@ class _Verdict(Structure):
 
 
 def _list(kind, rows):
-    """A list's two fields. One row stands behind the others, so that there is always a pointer."""
-    made = (kind * (len(rows) + 1))(*rows)
-    _must_be_whole([tuple(row) for row in made[:-1]], [*rows])
+    """A list's two fields."""
+    made = (kind * len(rows))(*rows)
+    _must_be_whole([tuple(row) for row in made], [*rows])
     return made, len(rows)
 
 

@@ -150,6 +150,19 @@ static uint32_t ask_needs(const struct chanv_job *job, struct chanv_needed *told
     return chanv_needs(job, told, sought, MOST, fetched, MOST, stored, MOST, kept, MOST);
 }
 
+/* Asks for the length first. */
+static uint32_t text(const struct chanv_job *job)
+{
+    static char buffer[0x10000];
+    size_t length, again;
+    uint32_t answer = chanv_text(job, NULL, 0, &length);
+    if (answer != CHANV_NO_ROOM || length > sizeof buffer)
+        return answer;
+    answer = chanv_text(job, buffer, length, &again);
+    fwrite(buffer, 1, again, stdout);
+    return answer;
+}
+
 /* A run of 16,777,216 bytes, which six digits don't hold, stands as two. */
 static void print_lent(const char *word, const struct chanv_area *areas, size_t count)
 {
@@ -210,6 +223,8 @@ int main(int argc, char **argv)
         return (int)list(&job);
     if (strcmp(action, "why") == 0)
         return (int)why(&job);
+    if (strcmp(action, "text") == 0)
+        return (int)text(&job);
     if (strcmp(action, "needs") == 0)
         return (int)needs(&job);
     if (strcmp(action, "grants") == 0)

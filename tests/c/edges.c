@@ -176,6 +176,20 @@ static void ask_in_threads(struct chanv_job job)
     printf("four threads: %" PRIuPTR " right answers\n", right);
 }
 
+/* Asks for the text with so much room, and says whether what is behind it stands as it did. */
+static void text_with_room(const char *name, struct chanv_job job, size_t room)
+{
+    static char buffer[1024];
+    size_t length = 77, written;
+    memset(buffer, 0x77, sizeof buffer);
+    uint32_t answer = chanv_text(&job, room == 0 ? NULL : buffer, room, &length);
+    written = answer <= CHANV_NO ? length : 0;
+    printf("%s: text %" PRIu32 ", %zu\n%.*s", name, answer, length, (int)written, buffer);
+    for (size_t i = written; i < sizeof buffer; i++)
+        if (buffer[i] != 0x77)
+            printf("written past the text\n");
+}
+
 /* A search loop whose read stores over the CCW behind it. */
 static void ask_with_little_room(void)
 {
@@ -191,6 +205,10 @@ static void ask_with_little_room(void)
     why_with_room("room for two and two", job, 2, 2);
     why_with_room("room for two and three", job, 2, 3);
     why_with_room("room for four and four", job, 4, 4);
+    text_with_room("no room, NULL", job, 0);
+    text_with_room("room for all but one byte", job, 393);
+    text_with_room("room for the text", job, 394);
+    text_with_room("more room", job, 395);
     put(0x810, 0x06000A0020000050);
 }
 
@@ -216,6 +234,11 @@ static void ask_with_another_value(void)
     ask("the last address", job);
     job = good, job.device = 2311;
     ask("2311", job);
+    text_with_room("a yes", job, 4);
+    job.device = 2312, job.limit = 0;
+    text_with_room("no device and no limit", job, 4);
+    job.device = 2311, job.limit = 1;
+    text_with_room("too many places", job, 4);
 }
 
 /* A job with each fault that it can have at once, of which one after the other is taken away. */
@@ -229,6 +252,7 @@ static void ask_with_faults(void)
         .limit = 0,
         .device = 3330,
         .mask = 0x01,
+        .reserved = {0, 0, 0, (uint64_t)1 << 63},
     };
     ask("all faults", job);
     job.storage.len--;
@@ -246,7 +270,14 @@ static void ask_with_faults(void)
     job.limit = 65537;
     ask("a limit that is too large", job);
     job.limit = 65536;
-    ask("a limit", job);
+    ask("a limit, and what is reserved", job);
+    for (int i = 0; i < 4; i++) {
+        memset(job.reserved, 0, sizeof job.reserved);
+        job.reserved[i] = 1;
+        ask("one reserved word", job);
+    }
+    memset(job.reserved, 0, sizeof job.reserved);
+    ask("no fault", job);
 }
 
 static void list_with_little_room(void)

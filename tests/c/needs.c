@@ -209,8 +209,10 @@ static void ask_with_faults(void)
     ask_with_fault("extents, one past the device", job, nothing);
     job.extents.len = 1;
     ask_with_fault("right extents", job, nothing);
-    job.limit = 65537;
+    job.limit = 65537, job.reserved[2] = 7;
     ask_with_fault("a limit that is too large", job, nothing);
+    job.limit = 65536;
+    ask_with_fault("a limit, and what is reserved", job, nothing);
 }
 
 static void grant(const char *name, struct chanv_job job, const struct chanv_rows *rows)

@@ -1,8 +1,9 @@
 /* Makes one call, so that the growths of memory in that call can be refused one by one. It is about
- * the search loop, and that of `chanv_why` about one whose read stores over the CCW behind it.
+ * the search loop, and those of `chanv_why` and `chanv_text` about one whose read stores over the
+ * CCW behind it.
  *
- *     one_call CALL     verify, list, why, needs, grants or beside; prints what it answers, and
- *                       ends with its code, or with 0 where it is the answer that is due
+ *     one_call CALL     verify, list, why, text, needs, grants or beside; prints what it answers,
+ *                       and ends with its code, or with 0 where it is the answer that is due
  *     one_call setup    all that comes before the call
  *
  * The status is 99 where something was written that shouldn't be. Nothing here asks for memory.
@@ -67,6 +68,21 @@ static int why(const struct chanv_job *job)
     return answer == CHANV_NO ? say("2 3\n") : (int)answer;
 }
 
+static int text(const struct chanv_job *job)
+{
+    char buffer[1024];
+    size_t length = 7;
+    memset(buffer, 7, sizeof buffer);
+    uint32_t answer = chanv_text(job, buffer, sizeof buffer, &length);
+    if ((answer == CHANV_NO) != (length != 0) || length >= sizeof buffer
+        || (length != 0 && buffer[length - 1] != '\n'))
+        return 99;
+    for (size_t i = length; i < sizeof buffer; i++)
+        if (buffer[i] != 7)
+            return 99;
+    return answer == CHANV_NO ? say("no\n") : (int)answer;
+}
+
 /* Room for four rows in each list, of which so many are written. */
 static int needs(const struct chanv_job *job)
 {
@@ -119,7 +135,7 @@ static const struct call {
     const char *name;
     int (*make)(const struct chanv_job *job);
 } calls[] = {
-    {"verify", verify}, {"list", list},     {"why", why},
+    {"verify", verify}, {"list", list},     {"why", why},       {"text", text},
     {"needs", needs},   {"grants", grants}, {"beside", beside},
 };
 
@@ -140,7 +156,7 @@ int main(int argc, char **argv)
     put(0x808, 0x0800080000000000);
     put(0x810, 0x06000A0020000050);
     const char *name = argc < 2 ? "setup" : argv[1];
-    if (strcmp(name, "why") == 0) {
+    if (strcmp(name, "why") == 0 || strcmp(name, "text") == 0) {
         put(0x810, 0x0600081840000008);
         put(0x818, 0x0300000000000001);
         job.store.at = over;

@@ -2,14 +2,18 @@
  * may. What a call answers then means nothing. But it has to return, with one of the codes that the
  * header gives it, and may write only what it was handed for that.
  *
- *     race SECONDS CALL..     each CALL is verify, list, why, needs, grants or beside, and is made
- *                             for so many seconds
+ *     race SECONDS CALL..     each CALL is verify, list, why, text, needs, grants, beside or
+ *                             emulator, and is made for so many seconds
+ *
+ * The last is `ask` of examples/c/emulator.c, whose answer is about its copy. So what it says of
+ * the needs has to agree with the verdict on the copy, at any time after.
  *
  * It prints a line for each CALL: how many calls it made, and how often each code came. The status
  * is 0; it is 1 where a call did anything else, and a line says what.
  */
 #define _POSIX_C_SOURCE 200809L
 #include <chanv.h>
+#include <emulator.c>
 #include <inttypes.h>
 #include <pthread.h>
 #include <stdalign.h>
@@ -20,7 +24,7 @@
 #include <time.h>
 
 enum { STORAGE = 0x1000, PAST_STORAGE = 0x100, FENCE = 128, CODES = 12 };
-enum { LISTS = 4, MOST_ROWS = 32 };
+enum { LISTS = 4, MOST_ROWS = 32, MOST_BYTES = 2048 };
 enum { PROGRAM = 0x800, PROGRAM_END = 0x868, DATA = 0x900, DATA_END = 0x938 };
 
 /* Eight bytes of storage: a CCW, or what a CCW points to. */
@@ -183,7 +187,7 @@ static void *rewrite(void *nothing)
 
 /* Bytes that a call is handed to write, from FENCE on, among bytes that it has to leave alone. */
 struct fenced {
-    alignas(16) uint8_t bytes[FENCE + sizeof(struct chanv_place) * MOST_ROWS + FENCE];
+    alignas(16) uint8_t bytes[FENCE + MOST_BYTES + FENCE];
     size_t handed;
 };
 
@@ -267,6 +271,17 @@ static uint32_t why(size_t room)
     return code;
 }
 
+/* Some 64 bytes take a row of the text. */
+static uint32_t text(size_t room)
+{
+    size_t *length = hand(&outcome, sizeof *length), bytes = MOST_BYTES / MOST_ROWS * room;
+    char *buffer = hand_last(0, bytes);
+    uint32_t code = chanv_text(&job, buffer, bytes, length);
+    if (code <= CHANV_NO && *length > bytes)
+        fail("a longer text than there is room for", code);
+    return code;
+}
+
 static uint32_t needs(size_t room)
 {
     struct chanv_needed *told = hand(&outcome, sizeof *told);
@@ -281,38 +296,73 @@ static uint32_t needs(size_t room)
     return code;
 }
 
-/* What the program needs while it is right. */
-static struct chanv_rows rows;
+static struct chanv_rows rows_of(const struct asked *told)
+{
+    return (struct chanv_rows){
+        .extents = {told->extents, told->needed.extents},
+        .fetch = {told->fetch, told->needed.fetch},
+        .store = {told->store, told->needed.store},
+        .keep = {told->keep, told->needed.keep},
+        .storage_len = told->needed.storage_len,
+        .mask = (uint8_t)told->needed.mask,
+    };
+}
+
+/* What the program needs while it is right, which no call may write. */
+static struct asked right_needs, needs_before;
 
 static void look_at_needs(void)
 {
-    static struct chanv_extent extents[MOST_ROWS];
-    static struct chanv_area fetched[MOST_ROWS], stored[MOST_ROWS], kept[MOST_ROWS];
-    struct chanv_needed told;
-    uint32_t code = chanv_needs(&job, &told, extents, MOST_ROWS, fetched, MOST_ROWS, stored,
-                                MOST_ROWS, kept, MOST_ROWS);
+    uint32_t code = ask_once(&right_needs, &job);
     if (code != CHANV_LISTED)
         fail("no needs of the right program", code);
-    rows.extents = (struct chanv_extents){extents, told.extents};
-    rows.fetch = (struct chanv_areas){fetched, told.fetch};
-    rows.store = (struct chanv_areas){stored, told.store};
-    rows.keep = (struct chanv_areas){kept, told.keep};
-    rows.storage_len = told.storage_len, rows.mask = (uint8_t)told.mask;
+    needs_before = right_needs;
+}
+
+static uint32_t with_rows_left_alone(uint32_t code)
+{
+    if (memcmp(&right_needs, &needs_before, sizeof right_needs) != 0)
+        fail("written to the rows handed in", code);
+    return code;
 }
 
 /* These don't look at storage, so their answer is always the same. */
 static uint32_t grants(size_t room)
 {
+    struct chanv_rows rows = rows_of(&right_needs);
     (void)room;
     hand(&outcome, 0), hand_last(0, 0);
-    return chanv_grants(&job, &rows);
+    return with_rows_left_alone(chanv_grants(&job, &rows));
 }
 
 static uint32_t beside(size_t room)
 {
+    struct chanv_rows rows = rows_of(&right_needs);
     (void)room;
     hand(&outcome, 0), hand_last(0, 0);
-    return chanv_beside(&rows, &rows);
+    return with_rows_left_alone(chanv_beside(&rows, &rows));
+}
+
+/* How often storage had what is kept, and how often it hadn't. */
+static uint64_t there, changed;
+
+static uint32_t emulator(size_t room)
+{
+    static uint8_t copy[STORAGE];
+    static struct asked asked_by_it = {.copy = copy};
+    struct chanv_job still = job;
+    struct chanv_verdict verdict;
+    (void)room;
+    hand(&outcome, 0), hand_last(0, 0);
+    uint32_t code = ask(&asked_by_it, &job);
+    if (code != CHANV_LISTED)
+        return code;
+    struct chanv_rows rows = rows_of(&asked_by_it);
+    still.storage.at = copy;
+    if (chanv_grants(&still, &rows) != chanv_verify(&still, &verdict))
+        fail("another verdict on the copy", code);
+    is_there(&asked_by_it, storage.bytes) ? there++ : changed++;
+    return code;
 }
 
 /* The calls, each with a code that the header doesn't give it. */
@@ -324,9 +374,11 @@ static const struct call {
     {"verify", verify, CHANV_NO_ROOM},
     {"list", list, CHANV_NO},
     {"why", why, CODES},
+    {"text", text, CODES},
     {"needs", needs, CODES},
     {"grants", grants, CHANV_TOO_MANY_PLACES},
     {"beside", beside, CHANV_TOO_MANY_PLACES},
+    {"emulator", emulator, CHANV_NO_ROOM},
 };
 
 /* The program is right, and each wrong word does what it is there for. */
@@ -393,6 +445,8 @@ int main(int argc, char **argv)
         fail("no second thread", 0);
     for (int i = 2; i < argc; i++)
         make_calls(call_of(argv[i]), seconds);
+    if (there + changed != 0)
+        printf("kept bytes: there %" PRIu64 " times, changed %" PRIu64 " times\n", there, changed);
     is_over = 1;
     pthread_join(rewriting, NULL);
     return 0;

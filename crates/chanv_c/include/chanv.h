@@ -1,20 +1,21 @@
 /* chanv.h: may a System/360 channel program run, why may it not, which CCWs can it come to, and
  * what does it need of each job that it runs under?
  *
- * Link with libchanv.a. docs/EMBEDDING.md has whole examples, and says what is proved of the calls
- * and what is trusted.
+ * Link with -lchanv. docs/EMBEDDING.md has whole examples, and says what is proved of the calls and
+ * what is trusted, what a call costs, and what isn't judged.
  *
  * What the caller owes:
  *
  * - Each pointer is valid, and aligned for its type, for as many elements as the length beside it
- *   says. Where that length is 0 it may be NULL. `job`, `out`, `count` and the `rows` of
+ *   says. Where that length is 0 it may be NULL. `job`, `out`, `count`, `length` and the `rows` of
  *   `chanv_grants` and `chanv_beside` are never NULL.
- * - What a call writes, `out`, `count` and the lists that have room, lies apart from each other,
- *   from the job and from all that it points to.
+ * - What a call writes, `out`, `count`, `length` and the lists that have room, lies apart from each
+ *   other, from the job and from all that it points to.
  * - From the call to its return nobody writes the job, the rows that are handed in or anything that
- *   these point to, and nobody touches what the call writes. In an emulator the threads of the
- *   processors and of the channels write storage: stop them, or copy storage and ask about the
- *   copy. `chanv_grants` and `chanv_beside` don't look at storage, and need neither.
+ *   these point to, and nobody touches what the call writes. If storage is written meanwhile, the
+ *   answer means nothing at all; that the call returns nevertheless, with one of its codes, and
+ *   writes nothing else, is tested and not proved. The document says what an emulator does whose
+ *   threads write storage. `chanv_grants` and `chanv_beside` don't look at storage.
  * - No call is made from a signal handler, nor, in the child of a process with threads, between
  *   fork and exec.
  * - malloc, realloc and free are those of one allocator, and aligned as C asks.
@@ -31,6 +32,12 @@
 #ifdef __cplusplus
 extern "C" {
 #endif
+
+/* The version of this header, as text and number by number; `chanv_version` tells the library's. */
+#define CHANV_VERSION "0.2.0"
+#define CHANV_VERSION_MAJOR 0
+#define CHANV_VERSION_MINOR 2
+#define CHANV_VERSION_PATCH 0
 
 /* An area of storage. It may be empty, and it may reach past storage. */
 struct chanv_area {
@@ -68,28 +75,30 @@ struct chanv_job {
     uint32_t start;               /* the address of the first CCW */
     uint32_t limit;               /* how many places may be reachable, 1 to 65,536 */
     uint16_t device;              /* 2311 or 2314 */
-    uint8_t mask;                 /* the file mask that the supervisor set */
+    uint8_t mask;                 /* the file mask that is in force at the start */
+    uint64_t reserved[4];         /* 0, in the place of fields that a later version may have */
 };
 
 /* A limit that serves where nothing else is asked for, and the largest. */
 enum { CHANV_USUAL_LIMIT = 4096, CHANV_LARGEST_LIMIT = 65536 };
 
-/* What a call returns. 4 to 10 are faults of the job itself; if several apply, the least is returned, and
- * a job with a fault gets no answer. CHANV_MEMORY may come in place of any of the others. */
+/* What a call returns. 4 to 10 and 12 are faults of the job itself; if several apply, the least is
+ * returned, and a job with a fault gets no answer. CHANV_MEMORY may come in place of any other. */
 enum {
-    CHANV_YES = 0,                 /* every run is safe; all that is needed is granted; apart */
-    CHANV_LISTED = 0,              /* the places are listed, or what is needed is */
-    CHANV_NO = 1,                  /* `address` and `reason` say which CCW offends first, and why */
-    CHANV_TOO_MANY_PLACES = 2,     /* more places are reachable than the limit */
-    CHANV_MEMORY = 3,              /* memory ran out */
-    CHANV_STORAGE_TOO_LARGE = 4,   /* storage has more than 16,777,216 bytes */
-    CHANV_NOT_A_DEVICE = 5,        /* there is no such device */
-    CHANV_NOT_A_MASK = 6,          /* a bit of the mask is on that isn't in C0 or 18 */
-    CHANV_NO_EXTENT = 7,           /* there is no extent */
-    CHANV_EXTENT_BACKWARDS = 8,    /* the first extent that is wrong: its first cylinder is above its last */
-    CHANV_EXTENT_PAST_DEVICE = 9,  /* the first extent that is wrong: its last cylinder is above 202 */
-    CHANV_NOT_A_LIMIT = 10,        /* the limit is 0, or above 65,536 */
-    CHANV_NO_ROOM = 11             /* there is more to list than rows; for `chanv_why`, with a no */
+    CHANV_YES = 0,                /* every run is safe; all that is needed is granted; apart */
+    CHANV_LISTED = 0,             /* the places are listed, or what is needed is */
+    CHANV_NO = 1,                 /* `address` and `reason` say which CCW offends first, and why */
+    CHANV_TOO_MANY_PLACES = 2,    /* more places are reachable than the limit */
+    CHANV_MEMORY = 3,             /* memory ran out */
+    CHANV_STORAGE_TOO_LARGE = 4,  /* storage has more than 16,777,216 bytes */
+    CHANV_NOT_A_DEVICE = 5,       /* there is no such device */
+    CHANV_NOT_A_MASK = 6,         /* a bit of the mask is on that isn't in C0 or 18 */
+    CHANV_NO_EXTENT = 7,          /* there is no extent */
+    CHANV_EXTENT_BACKWARDS = 8,   /* the first wrong extent has its first cylinder above its last */
+    CHANV_EXTENT_PAST_DEVICE = 9, /* the first wrong extent has its last cylinder above 202 */
+    CHANV_NOT_A_LIMIT = 10,       /* the limit is 0, or above 65,536 */
+    CHANV_NO_ROOM = 11,           /* there is more to write than room; for `chanv_why`, with a no */
+    CHANV_RESERVED_NOT_ZERO = 12  /* `reserved` isn't 0: the job has fields of a later version */
 };
 
 /* What `chanv_verify` tells, and `chanv_why` too; a field that the answer doesn't use is 0. */
@@ -191,7 +200,8 @@ uint32_t chanv_verify(const struct chanv_job *job, struct chanv_verdict *out);
  * as they did. CHANV_NO_ROOM: `*count` is how many rows there would be. Else it returns why there
  * is no answer, and `*count` is the index of the extent that is wrong, or 0. Only for CHANV_LISTED
  * is a row written. There are never more places than the job's limit. */
-uint32_t chanv_list(const struct chanv_job *job, struct chanv_place *rows, size_t room, size_t *count);
+uint32_t chanv_list(const struct chanv_job *job, struct chanv_place *rows, size_t room,
+                    size_t *count);
 
 /* Why the program may not run. CHANV_NO: `out` has the verdict, the values of the cause and the
  * lengths of both paths, and the paths are the first rows of `path` and of `second_path`; the rows
@@ -210,6 +220,13 @@ uint32_t chanv_list(const struct chanv_job *job, struct chanv_place *rows, size_
 uint32_t chanv_why(const struct chanv_job *job, struct chanv_place *path, size_t room,
                    struct chanv_place *second_path, size_t second_room,
                    struct chanv_explanation *out);
+
+/* Writes the text that explains the verdict on the job, as `chanv why` prints it, with no 0 behind
+ * it. CHANV_YES, CHANV_NO: the first `*length` bytes of `buffer` are the text, and those behind
+ * them stand as they did. CHANV_NO_ROOM: it would have `*length` bytes, which are more than `room`.
+ * Else it returns why there is no answer, as `chanv_verify` does, and `*length` is 0. Only for
+ * CHANV_YES and CHANV_NO is a byte of `buffer` written. */
+uint32_t chanv_text(const struct chanv_job *job, char *buffer, size_t room, size_t *length);
 
 /* What the job's program, which is its storage, start and device, needs of each job that it runs
  * under, and what it keeps: no more, and no less. What this job grants doesn't matter, though it
@@ -250,6 +267,9 @@ uint32_t chanv_grants(const struct chanv_job *job, const struct chanv_rows *rows
  * searches for. */
 uint32_t chanv_beside(const struct chanv_rows *rows, const struct chanv_rows *other);
 
+/* The library's version: 65,536 times the first number, 256 times the second, and the third. */
+uint32_t chanv_version(void);
+
 /* The word for a reason, or "" for a number that is none. */
 static inline const char *chanv_reason_word(uint32_t reason)
 {
@@ -274,186 +294,6 @@ static inline const char *chanv_reason_word(uint32_t reason)
     };
     return reason < sizeof words / sizeof *words ? words[reason] : "";
 }
-
-/* The library takes a pointer for each list, also for an empty one. The rest of this header gives it
- * one where the caller has NULL, before each call. */
-
-static inline struct chanv_extents chanv_extents_without_null(struct chanv_extents list)
-{
-    static const struct chanv_extent nothing = {0, 0};
-    if (list.len == 0)
-        list.at = &nothing;
-    return list;
-}
-
-static inline struct chanv_areas chanv_areas_without_null(struct chanv_areas list)
-{
-    static const struct chanv_area nothing = {0, 0};
-    if (list.len == 0)
-        list.at = &nothing;
-    return list;
-}
-
-static inline struct chanv_job chanv_without_null(const struct chanv_job *job)
-{
-    static const uint8_t nothing = 0;
-    struct chanv_job whole = *job;
-    if (whole.storage.len == 0)
-        whole.storage.at = &nothing;
-    whole.extents = chanv_extents_without_null(job->extents);
-    whole.fetch = chanv_areas_without_null(job->fetch);
-    whole.store = chanv_areas_without_null(job->store);
-    return whole;
-}
-
-static inline struct chanv_rows chanv_rows_without_null(const struct chanv_rows *rows)
-{
-    struct chanv_rows whole = *rows;
-    whole.extents = chanv_extents_without_null(rows->extents);
-    whole.fetch = chanv_areas_without_null(rows->fetch);
-    whole.store = chanv_areas_without_null(rows->store);
-    whole.keep = chanv_areas_without_null(rows->keep);
-    return whole;
-}
-
-static inline uint32_t chanv_verify_or_null(const struct chanv_job *job, struct chanv_verdict *out)
-{
-    struct chanv_job whole = chanv_without_null(job);
-    return chanv_verify(&whole, out);
-}
-
-static inline uint32_t chanv_list_or_null(const struct chanv_job *job, struct chanv_place *rows, size_t room,
-                                          size_t *count)
-{
-    struct chanv_job whole = chanv_without_null(job);
-    struct chanv_place none;
-    return chanv_list(&whole, room == 0 ? &none : rows, room, count);
-}
-
-static inline uint32_t chanv_why_or_null(const struct chanv_job *job, struct chanv_place *path,
-                                         size_t room, struct chanv_place *second_path,
-                                         size_t second_room, struct chanv_explanation *out)
-{
-    struct chanv_job whole = chanv_without_null(job);
-    struct chanv_place none, second_none;
-    return chanv_why(&whole, room == 0 ? &none : path, room,
-                     second_room == 0 ? &second_none : second_path, second_room, out);
-}
-
-static inline uint32_t chanv_needs_or_null(const struct chanv_job *job, struct chanv_needed *out,
-                                           struct chanv_extent *extents, size_t extents_room,
-                                           struct chanv_area *fetch, size_t fetch_room,
-                                           struct chanv_area *store, size_t store_room,
-                                           struct chanv_area *keep, size_t keep_room)
-{
-    struct chanv_job whole = chanv_without_null(job);
-    struct chanv_extent no_extent;
-    struct chanv_area none[3];
-    return chanv_needs(&whole, out, extents_room == 0 ? &no_extent : extents, extents_room,
-                       fetch_room == 0 ? &none[0] : fetch, fetch_room,
-                       store_room == 0 ? &none[1] : store, store_room,
-                       keep_room == 0 ? &none[2] : keep, keep_room);
-}
-
-static inline uint32_t chanv_grants_or_null(const struct chanv_job *job,
-                                            const struct chanv_rows *rows)
-{
-    struct chanv_job whole = chanv_without_null(job);
-    struct chanv_rows listed = chanv_rows_without_null(rows);
-    return chanv_grants(&whole, &listed);
-}
-
-static inline uint32_t chanv_beside_or_null(const struct chanv_rows *rows,
-                                            const struct chanv_rows *other)
-{
-    struct chanv_rows one = chanv_rows_without_null(rows);
-    struct chanv_rows another = chanv_rows_without_null(other);
-    return chanv_beside(&one, &another);
-}
-
-#define chanv_verify chanv_verify_or_null
-#define chanv_list chanv_list_or_null
-#define chanv_why chanv_why_or_null
-#define chanv_needs chanv_needs_or_null
-#define chanv_grants chanv_grants_or_null
-#define chanv_beside chanv_beside_or_null
-
-/* The layout that the library was built with. */
-#ifdef __cplusplus
-#define CHANV_ASSERT static_assert
-#else
-#define CHANV_ASSERT _Static_assert
-#endif
-CHANV_ASSERT(sizeof(void *) == 8 && sizeof(size_t) == 8, "the library is built for 64 bits");
-CHANV_ASSERT(sizeof(struct chanv_area) == 8, "chanv_area");
-CHANV_ASSERT(offsetof(struct chanv_area, start) == 0, "chanv_area.start");
-CHANV_ASSERT(offsetof(struct chanv_area, len) == 4, "chanv_area.len");
-CHANV_ASSERT(sizeof(struct chanv_extent) == 4, "chanv_extent");
-CHANV_ASSERT(offsetof(struct chanv_extent, first) == 0, "chanv_extent.first");
-CHANV_ASSERT(offsetof(struct chanv_extent, last) == 2, "chanv_extent.last");
-CHANV_ASSERT(sizeof(struct chanv_bytes) == 16, "chanv_bytes");
-CHANV_ASSERT(offsetof(struct chanv_bytes, at) == 0, "chanv_bytes.at");
-CHANV_ASSERT(offsetof(struct chanv_bytes, len) == 8, "chanv_bytes.len");
-CHANV_ASSERT(sizeof(struct chanv_extents) == 16, "chanv_extents");
-CHANV_ASSERT(offsetof(struct chanv_extents, at) == 0, "chanv_extents.at");
-CHANV_ASSERT(offsetof(struct chanv_extents, len) == 8, "chanv_extents.len");
-CHANV_ASSERT(sizeof(struct chanv_areas) == 16, "chanv_areas");
-CHANV_ASSERT(offsetof(struct chanv_areas, at) == 0, "chanv_areas.at");
-CHANV_ASSERT(offsetof(struct chanv_areas, len) == 8, "chanv_areas.len");
-CHANV_ASSERT(sizeof(struct chanv_job) == 80, "chanv_job");
-CHANV_ASSERT(offsetof(struct chanv_job, storage) == 0, "chanv_job.storage");
-CHANV_ASSERT(offsetof(struct chanv_job, extents) == 16, "chanv_job.extents");
-CHANV_ASSERT(offsetof(struct chanv_job, fetch) == 32, "chanv_job.fetch");
-CHANV_ASSERT(offsetof(struct chanv_job, store) == 48, "chanv_job.store");
-CHANV_ASSERT(offsetof(struct chanv_job, start) == 64, "chanv_job.start");
-CHANV_ASSERT(offsetof(struct chanv_job, limit) == 68, "chanv_job.limit");
-CHANV_ASSERT(offsetof(struct chanv_job, device) == 72, "chanv_job.device");
-CHANV_ASSERT(offsetof(struct chanv_job, mask) == 74, "chanv_job.mask");
-CHANV_ASSERT(sizeof(struct chanv_verdict) == 16, "chanv_verdict");
-CHANV_ASSERT(offsetof(struct chanv_verdict, extent) == 0, "chanv_verdict.extent");
-CHANV_ASSERT(offsetof(struct chanv_verdict, address) == 8, "chanv_verdict.address");
-CHANV_ASSERT(offsetof(struct chanv_verdict, reason) == 12, "chanv_verdict.reason");
-CHANV_ASSERT(sizeof(struct chanv_place) == 8, "chanv_place");
-CHANV_ASSERT(offsetof(struct chanv_place, address) == 0, "chanv_place.address");
-CHANV_ASSERT(offsetof(struct chanv_place, entered) == 4, "chanv_place.entered");
-CHANV_ASSERT(offsetof(struct chanv_place, after_transfer) == 5, "chanv_place.after_transfer");
-CHANV_ASSERT(sizeof(struct chanv_evidence) == 64, "chanv_evidence");
-CHANV_ASSERT(offsetof(struct chanv_evidence, reason) == 0, "chanv_evidence.reason");
-CHANV_ASSERT(offsetof(struct chanv_evidence, range) == 4, "chanv_evidence.range");
-CHANV_ASSERT(offsetof(struct chanv_evidence, gap) == 12, "chanv_evidence.gap");
-CHANV_ASSERT(offsetof(struct chanv_evidence, address) == 20, "chanv_evidence.address");
-CHANV_ASSERT(offsetof(struct chanv_evidence, taker) == 24, "chanv_evidence.taker");
-CHANV_ASSERT(offsetof(struct chanv_evidence, length) == 28, "chanv_evidence.length");
-CHANV_ASSERT(offsetof(struct chanv_evidence, code) == 32, "chanv_evidence.code");
-CHANV_ASSERT(offsetof(struct chanv_evidence, mask) == 36, "chanv_evidence.mask");
-CHANV_ASSERT(offsetof(struct chanv_evidence, bits) == 40, "chanv_evidence.bits");
-CHANV_ASSERT(offsetof(struct chanv_evidence, given) == 44, "chanv_evidence.given");
-CHANV_ASSERT(offsetof(struct chanv_evidence, outside) == 48, "chanv_evidence.outside");
-CHANV_ASSERT(offsetof(struct chanv_evidence, value) == 52, "chanv_evidence.value");
-CHANV_ASSERT(offsetof(struct chanv_evidence, below) == 56, "chanv_evidence.below");
-CHANV_ASSERT(offsetof(struct chanv_evidence, sets_mask) == 60, "chanv_evidence.sets_mask");
-CHANV_ASSERT(sizeof(struct chanv_explanation) == 96, "chanv_explanation");
-CHANV_ASSERT(offsetof(struct chanv_explanation, verdict) == 0, "chanv_explanation.verdict");
-CHANV_ASSERT(offsetof(struct chanv_explanation, path) == 16, "chanv_explanation.path");
-CHANV_ASSERT(offsetof(struct chanv_explanation, second_path) == 24,
-             "chanv_explanation.second_path");
-CHANV_ASSERT(offsetof(struct chanv_explanation, evidence) == 32, "chanv_explanation.evidence");
-CHANV_ASSERT(sizeof(struct chanv_needed) == 56, "chanv_needed");
-CHANV_ASSERT(offsetof(struct chanv_needed, verdict) == 0, "chanv_needed.verdict");
-CHANV_ASSERT(offsetof(struct chanv_needed, extents) == 16, "chanv_needed.extents");
-CHANV_ASSERT(offsetof(struct chanv_needed, fetch) == 24, "chanv_needed.fetch");
-CHANV_ASSERT(offsetof(struct chanv_needed, store) == 32, "chanv_needed.store");
-CHANV_ASSERT(offsetof(struct chanv_needed, keep) == 40, "chanv_needed.keep");
-CHANV_ASSERT(offsetof(struct chanv_needed, storage_len) == 48, "chanv_needed.storage_len");
-CHANV_ASSERT(offsetof(struct chanv_needed, mask) == 52, "chanv_needed.mask");
-CHANV_ASSERT(sizeof(struct chanv_rows) == 72, "chanv_rows");
-CHANV_ASSERT(offsetof(struct chanv_rows, extents) == 0, "chanv_rows.extents");
-CHANV_ASSERT(offsetof(struct chanv_rows, fetch) == 16, "chanv_rows.fetch");
-CHANV_ASSERT(offsetof(struct chanv_rows, store) == 32, "chanv_rows.store");
-CHANV_ASSERT(offsetof(struct chanv_rows, keep) == 48, "chanv_rows.keep");
-CHANV_ASSERT(offsetof(struct chanv_rows, storage_len) == 64, "chanv_rows.storage_len");
-CHANV_ASSERT(offsetof(struct chanv_rows, mask) == 68, "chanv_rows.mask");
-#undef CHANV_ASSERT
 
 #ifdef __cplusplus
 }

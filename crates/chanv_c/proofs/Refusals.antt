@@ -2,7 +2,7 @@
 use Rattle.std.proofs.Common.{◌≡◌, ◌≤◌, ℕ, refl, arith}
 use Rattle.chanv_c.specs.declared.asked.CJob.{CJob}
 use Rattle.chanv_c.specs.declared.refusal.JobFault.{JobFault}
-use Rattle.chanv_c.specs.declared.refusal.JobFault.TheVariants.{StorageTooLarge, NotADevice, NotAMask, NoExtent, ExtentBackwards, ExtentPastDevice, NotALimit}
+use Rattle.chanv_c.specs.declared.refusal.JobFault.TheVariants.{StorageTooLarge, NotADevice, NotAMask, NoExtent, ExtentBackwards, ExtentPastDevice, NotALimit, ReservedNotZero}
 use Rattle.chanv_c.specs.declared.refusal.Refusal.{Refusal}
 use Rattle.chanv_c.specs.declared.refusal.Refusal.TheVariants.{TooManyPlaces, Memory, Wrong}
 use Rattle.chanv_c.specs.Answers.{HasTooMany, IsRefusal, refusal_code}
@@ -18,6 +18,7 @@ not_too_many NoExtent e = omega (arith, e)
 not_too_many (ExtentBackwards i) e = omega (arith, e)
 not_too_many (ExtentPastDevice i) e = omega (arith, e)
 not_too_many NotALimit e = omega (arith, e)
+not_too_many ReservedNotZero e = omega (arith, e)
 
 -- a refusal of this number is that of too many places
 pub too_many_by_number : (c : CJob) (r : Refusal) → IsRefusal c r → refusal_code r ≡ 2 → HasTooMany c

@@ -1,5 +1,5 @@
 -- What can be wrong with a job as C gives it, and which of it counts.
-use Rattle.std.specs.Prelude.{◌≡◌, ◌≢◌, ℕ, ◌<◌, false, [], length}
+use Rattle.std.specs.Prelude.{◌≡◌, ◌≢◌, ℕ, ◌<◌, false, [], ◌∷◌, length}
 use Rattle.ckd_core.specs.Faults.{IsBackwards, IsFirstWrong, IsPastDevice}
 use Rattle.ckd_core.specs.Mask.{is_mask}
 use Rattle.chan_walk.specs.Limit.{IsLimit}
@@ -8,6 +8,7 @@ use Rattle.chanv_c.specs.declared.refusal.JobFault.{JobFault}
 use Rattle.chanv_c.specs.declared.refusal.JobFault.TheVariants.{StorageTooLarge, NotADevice}
 use Rattle.chanv_c.specs.declared.refusal.JobFault.TheVariants.{NotAMask, NoExtent, ExtentBackwards}
 use Rattle.chanv_c.specs.declared.refusal.JobFault.TheVariants.{ExtentPastDevice, NotALimit}
+use Rattle.chanv_c.specs.declared.refusal.JobFault.TheVariants.{ReservedNotZero}
 use Rattle.chanv_c.specs.Asked.{extents_asked}
 
 -- this is wrong with the job; of the extents only the first from the left that is wrong is named,
@@ -20,6 +21,7 @@ Applies c NoExtent = extents_asked c ≡ []
 Applies c (ExtentBackwards i) = IsFirstWrong IsBackwards (extents_asked c) i
 Applies c (ExtentPastDevice i) = IsFirstWrong IsPastDevice (extents_asked c) i
 Applies c NotALimit = IsLimit c.limit → ⊥
+Applies c ReservedNotZero = c.reserved ≢ 0 ∷ 0 ∷ 0 ∷ 0 ∷ []
 
 -- the number of a fault in the header, by whose order the first fault is the one that counts
 abbrev pub fault_code : JobFault → ℕ
@@ -30,6 +32,7 @@ fault_code NoExtent = 7
 fault_code (ExtentBackwards i) = 8
 fault_code (ExtentPastDevice i) = 9
 fault_code NotALimit = 10
+fault_code ReservedNotZero = 12
 
 -- the index of the extent that is wrong, else 0
 abbrev pub fault_extent : JobFault → ℕ
@@ -40,6 +43,7 @@ fault_extent NoExtent = 0
 fault_extent (ExtentBackwards i) = i
 fault_extent (ExtentPastDevice i) = i
 fault_extent NotALimit = 0
+fault_extent ReservedNotZero = 0
 
 -- no fault with a number below n applies
 abbrev pub HasNoneBelow : CJob → ℕ → Type 0

@@ -5,3 +5,5 @@ pub mod Cause
 pub mod Explained
 pub mod Needed
 pub mod Granted
+pub mod Version
+pub mod Telling

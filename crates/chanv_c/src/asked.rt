@@ -20,7 +20,8 @@ pub struct CExtent {
     pub last: u16,
 }
 
-/// `struct chanv_job`. A slice is a pointer and then a length.
+/// `struct chanv_job`. A slice is a pointer and then a length; beside a length of 0 the pointer may
+/// be null, and isn't looked at.
 #[repr(C)]
 #[derive(Clone, Copy)]
 pub struct CJob<'a> {
@@ -32,6 +33,16 @@ pub struct CJob<'a> {
     pub limit: u32,
     pub device: u16,
     pub mask: u8,
+    /// What a later version gives a meaning, which isn't that of 0.
+    pub reserved: [u64; 4],
+}
+
+/// The list, and in the place of one without elements an empty one of our own: its pointer may be
+/// null, which no reference is in the proofs.
+pub(crate) fn or_empty<'a, T>(list: &'a [T]) -> &'a [T]
+    ensures { result.now ≡ list.now }
+{
+    if list.is_empty() { &[] } else { list }
 }
 
 /// The storage, the device and the mask that C names. Storage is borrowed.
@@ -63,7 +74,7 @@ fn parts_of<'a>(asked: &CJob<'a>) -> Result<Parts<'a>, JobFault>
     ensures right { OnOk result (HasNoneBelow asked.now 7) }
     ensures fault { IfErr result (IsFirstFault asked.now) }
 {
-    let Ok(storage) = Storage::new(asked.storage) else {
+    let Ok(storage) = Storage::new(or_empty(asked.storage)) else {
         return Err(JobFault::StorageTooLarge);
     };
     let Some(device) = device_of(asked.device) else {
@@ -84,7 +95,7 @@ pub(crate) fn pairs_of(alloc: Global, extents: &[CExtent]) -> Result<Vec<(u16, u
     ensures { IfOk result (λ pairs. pairs.items ≡ map pair extents.now) }
 {
     let mut pairs = Vec::new(alloc);
-    for extent in extents {
+    for extent in or_empty(extents) {
         pairs.push((extent.first, extent.last))?;
     }
     Ok(pairs)
@@ -136,6 +147,9 @@ pub(crate) fn make_ready<'a>(alloc: Global, asked: &CJob<'a>) -> Result<Ready<'a
     let Some(limit) = Limit::new(asked.limit) else {
         return Err(Refusal::Wrong(JobFault::NotALimit));
     };
+    if asked.reserved != [0; 4] {
+        return Err(Refusal::Wrong(JobFault::ReservedNotZero));
+    }
     Ok(Ready {
         parts,
         extents,
@@ -155,8 +169,8 @@ impl<'a> Ready<'a> {
             device: self.parts.device,
             mask: self.parts.mask,
             extents: &self.extents,
-            fetch: asked.fetch,
-            store: asked.store,
+            fetch: or_empty(asked.fetch),
+            store: or_empty(asked.store),
             limit: self.limit,
         }
     }

@@ -58,10 +58,10 @@ pub extern "C" fn chanv_why(
     ensures many { result ≡ 2 → HasTooMany job.now }
 
     // A job is refused by its first fault, and one that has a fault gets no answer.
-    ensures refused { 4 ≤ result → result ≤ 10 → IsRefused job.now result out.new.verdict.extent }
+    ensures refused { 4 ≤ result → result ≢ 11 → IsRefused job.now result out.new.verdict.extent }
     ensures accepted { result < 3 → HasNoFault job.now }
     ensures roomless { result ≡ 11 → HasNoFault job.now }
-    ensures codes { result ≤ 11 }
+    ensures codes { result ≤ 12 }
 
     ensures nothing { result ≢ 1 → result ≢ 11 → out.new ≡ told_nothing out.new.verdict.extent }
     ensures no_extent { result < 4 → out.new.verdict.extent ≡ 0 }

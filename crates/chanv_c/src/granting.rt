@@ -8,14 +8,14 @@ ghost use Rattle.chanv_c.specs.Asked.{IsJobOf};
 ghost use Rattle.chanv_c.specs.Faults.{HasNoFault, IsRefused};
 ghost use Rattle.chanv_c.specs.Granted.{HasYes, IsGrantedBy, KeepsProgramOf, rows_told};
 
-use crate::asked::{CExtent, CJob, make_ready, pairs_of};
+use crate::asked::{CExtent, CJob, make_ready, or_empty, pairs_of};
 use crate::refusal::Refusal;
 use ccw_core::Area;
 use chan_walk::{Job, Rows};
 use ckd_core::FileMask;
 use std::alloc::Global;
 
-/// `struct chanv_rows`. A slice is a pointer and then a length.
+/// `struct chanv_rows`. Beside a length of 0 a pointer may be null, as in a job.
 #[repr(C)]
 #[derive(Clone, Copy)]
 pub struct CRows<'a> {
@@ -42,7 +42,7 @@ pub extern "C" fn chanv_grants(alloc: Global, job: &CJob<'_>, rows: &CRows<'_>) 
     // A job is refused by its first fault, and one that has a fault gets no answer.
     ensures refused { 4 ≤ result → (extent : ℕ) × IsRefused job.now result extent }
     ensures accepted { result ≤ 1 → HasNoFault job.now }
-    ensures codes { (result ≤ 10) × (result ≢ 2) }
+    ensures codes { (result ≤ 12) × (result ≢ 2) × (result ≢ 11) }
 {
     match granted(alloc, job, rows) {
         Ok(true) => 0,
@@ -76,9 +76,9 @@ fn as_rows<'s>(rows: &'s CRows<'s>, mask: FileMask, extents: &'s [(u16, u16)]) -
         storage_len: rows.storage_len,
         mask,
         extents,
-        fetch: rows.fetch,
-        store: rows.store,
-        keep: rows.keep,
+        fetch: or_empty(rows.fetch),
+        store: or_empty(rows.store),
+        keep: or_empty(rows.keep),
     }
 }
 

@@ -12,7 +12,9 @@ mod listing;
 mod needed;
 mod refusal;
 mod rows;
+mod telling;
 mod verifying;
+mod version;
 
 pub use crate::asked::{CExtent, CJob};
 pub use crate::evidence::CEvidence;
@@ -21,4 +23,6 @@ pub use crate::granting::{CRows, chanv_beside, chanv_grants};
 pub use crate::listing::chanv_list;
 pub use crate::needed::{CNeeded, chanv_needs};
 pub use crate::rows::CPlace;
+pub use crate::telling::chanv_text;
 pub use crate::verifying::{CVerdict, chanv_verify};
+pub use crate::version::chanv_version;

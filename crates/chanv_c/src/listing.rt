@@ -28,10 +28,10 @@ pub extern "C" fn chanv_list(
     ensures many { result ≡ 2 → HasTooMany job.now }
 
     // A job is refused by its first fault, and one that has a fault gets no answer.
-    ensures refused { 4 ≤ result → result ≤ 10 → IsRefused job.now result count.new }
+    ensures refused { 4 ≤ result → result ≢ 11 → IsRefused job.now result count.new }
     ensures accepted { result < 3 → HasNoFault job.now }
     ensures roomless { result ≡ 11 → HasNoFault job.now }
-    ensures codes { (result ≤ 11) × (result ≢ 1) }
+    ensures codes { (result ≤ 12) × (result ≢ 1) }
 
     ensures no_count { 2 ≤ result → result ≤ 3 → count.new ≡ 0 }
 {

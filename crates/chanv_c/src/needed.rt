@@ -72,12 +72,12 @@ pub extern "C" fn chanv_needs(
     ensures many { result ≡ 2 → HasTooManyOpenly job.now }
 
     // A job is refused by its first fault, and one that has a fault gets no answer.
-    ensures refused { 4 ≤ result → result ≤ 10 → IsRefused job.now result out.new.verdict.extent }
+    ensures refused { 4 ≤ result → result ≢ 11 → IsRefused job.now result out.new.verdict.extent }
     ensures accepted { result < 3 → HasNoFault job.now }
     ensures roomless { result ≡ 11 → HasNoFault job.now }
-    ensures codes { result ≤ 11 }
+    ensures codes { result ≤ 12 }
 
-    ensures nothing { 2 ≤ result → result ≤ 10 → out.new
+    ensures nothing { 2 ≤ result → result ≢ 11 → out.new
         ≡ told_alone (record { extent = out.new.verdict.extent; address = 0; reason = 0 }) }
     ensures no_extent { result < 4 → out.new.verdict.extent ≡ 0 }
 {

@@ -27,6 +27,8 @@ pub enum JobFault {
     ExtentPastDevice(usize),
     /// The limit is 0, or above 65,536.
     NotALimit,
+    /// What is reserved isn't 0: the caller goes by a later version.
+    ReservedNotZero,
 }
 
 impl JobFault {
@@ -42,6 +44,7 @@ impl JobFault {
             JobFault::ExtentBackwards(_) => 8,
             JobFault::ExtentPastDevice(_) => 9,
             JobFault::NotALimit => 10,
+            JobFault::ReservedNotZero => 12,
         }
     }
 

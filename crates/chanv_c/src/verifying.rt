@@ -32,7 +32,7 @@ pub extern "C" fn chanv_verify(alloc: Global, job: &CJob<'_>, out: &mut CVerdict
     // A job is refused by its first fault, and one that has a fault gets no answer.
     ensures refused { 4 ≤ result → IsRefused job.now result out.new.extent }
     ensures accepted { result < 3 → HasNoFault job.now }
-    ensures codes { result ≤ 10 }
+    ensures codes { (result ≤ 12) × (result ≢ 11) }
 
     ensures no_place { result ≢ 1 → (out.new.address ≡ 0) × (out.new.reason ≡ 0) }
     ensures no_extent { result < 4 → out.new.extent ≡ 0 }

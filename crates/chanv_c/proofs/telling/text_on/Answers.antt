@@ -1,0 +1,26 @@
+-- What the survey says of the job is said of what C asks about.
+use Rattle.std.proofs.Common.{sym, subst}
+use Rattle.chan_walk.specs.declared.verdict.Verdict.{Verdict}
+use Rattle.chan_walk.specs.Answers.{IsAnswer}
+use Rattle.chan_walk.specs.Explained.{IsEvidenceOf, IsPathOf, IsWitness}
+use Rattle.chanv_c.proofs.telling.text_on.Goals as goal
+
+pub returns-in-Ok-explanation_text-clause-text : goal.returns-in-Ok-explanation_text-clause-text
+returns-in-Ok-explanation_text-clause-text c =
+    let j = c.args.job.now in
+    let w = c.in-Ok-witness.witness in
+    let same = sym c.verdict.ensures in
+    record {
+      job = j;
+      asked = c.requires.asked;
+      answer = subst (λ (v : Verdict). IsAnswer j v) same c.in-Ok.ensures.answer;
+      offences = c.in-Ok.survey.offences.items;
+      offending = c.in-Ok.ensures.survey.offences;
+      first = c.verdict.ensures;
+      witness = w;
+      path = subst (λ (v : Verdict). IsPathOf j v w.path.items) same c.in-Ok-witness.ensures.path;
+      shown = subst (λ (v : Verdict). IsWitness j v w.path.items) same c.in-Ok-witness.ensures.shown;
+      evidence = subst (λ (v : Verdict). IsEvidenceOf j v w.path.items w.evidence) same c.in-Ok-witness.ensures.evidence;
+      second = c.in-Ok-witness.ensures.second;
+      text = c.in-Ok-explanation_text.ensures;
+    }

@@ -1,0 +1,41 @@
+-- What the text of an explanation to C promises.
+use Rattle.std.specs.Prelude.{◌≡◌, ℕ, List, ◌++◌, drop, length, string_bytes}
+use Rattle.chan_walk.specs.declared.job.Job.{Job}
+use Rattle.chan_walk.specs.declared.offence.Offence.{Offence}
+use Rattle.chan_walk.specs.declared.verdict.Verdict.{Verdict}
+use Rattle.chan_walk.specs.declared.verdict.Verdict.TheVariants.{Yes, No}
+use Rattle.chan_walk.specs.declared.witness.Witness.{Witness}
+use Rattle.chan_walk.specs.Answers.{IsAnswer}
+use Rattle.chan_walk.specs.Explained.{IsEvidenceOf, IsPathOf, IsSecondPathOf, IsWitness}
+use Rattle.chan_walk.specs.Job.{storage_of}
+use Rattle.chan_walk.specs.Offences.{AreOffences, first_verdict}
+use Rattle.chan_deck.specs.Explanation.{explanation}
+use Rattle.chanv_c.specs.declared.asked.CJob.{CJob}
+use Rattle.chanv_c.specs.declared.telling.Told.{Told}
+use Rattle.chanv_c.specs.Asked.{IsJobOf}
+
+-- the verdict on the job that C asks about, with all that an answer promises, and the text that
+-- explains it: of all offences, and of what shows the first of them
+pub record IsText (c : CJob) (t : Told) : Type 0 where
+  pub job : Job
+  pub asked : IsJobOf c job
+  pub answer : IsAnswer job t.verdict
+  pub offences : List Offence
+  pub offending : AreOffences job offences
+  pub first : t.verdict ≡ first_verdict offences
+  pub witness : Witness
+  pub path : IsPathOf job t.verdict witness.path.items
+  pub shown : IsWitness job t.verdict witness.path.items
+  pub evidence : IsEvidenceOf job t.verdict witness.path.items witness.evidence
+  pub second : IsSecondPathOf job witness.evidence witness.second_path.items
+  pub text : string_bytes t.text ≡ explanation (storage_of job) offences witness
+
+-- the number of a verdict in the header
+abbrev pub verdict_code : Verdict → ℕ
+verdict_code Yes = 0
+verdict_code (No a r) = 1
+
+-- the text stands first, so many bytes long; what stood behind it stands there still
+pub record IsToldWhole (t : Told) (count : ℕ) (old new : List ℕ) : Type 0 where
+  pub count_is : count ≡ length (string_bytes t.text)
+  pub stands : new ≡ string_bytes t.text ++ drop (length (string_bytes t.text)) old

@@ -1,0 +1,56 @@
+/* An emulator whose threads write storage all the time asks about a program. It stops none of them,
+ * and copies no more of storage than what the program keeps. */
+#include <chanv.h>
+#include <string.h>
+
+enum { MOST_CYLINDERS = 203, MOST_AREAS = 4096 };
+
+/* A program that may run, with what it needs. */
+struct asked {
+    uint8_t *copy; /* as long as storage, with the bytes that are kept; the others mean nothing */
+    struct chanv_needed needed;
+    struct chanv_extent extents[MOST_CYLINDERS];
+    struct chanv_area fetch[MOST_AREAS], store[MOST_AREAS], keep[MOST_AREAS];
+};
+
+static uint32_t ask_once(struct asked *asked, const struct chanv_job *job)
+{
+    return chanv_needs(job, &asked->needed, asked->extents, MOST_CYLINDERS, asked->fetch,
+                       MOST_AREAS, asked->store, MOST_AREAS, asked->keep, MOST_AREAS);
+}
+
+/* Whether an area lies in storage. Nothing is promised of an answer while storage is written. */
+static int lies_in(struct chanv_area area, size_t length)
+{
+    return area.start <= length && area.len <= length - area.start;
+}
+
+/* Asks what the job's program needs while storage is written: twice, and the second answer counts.
+ * The first, over storage, means nothing; it only says what to copy. The second is about the copy,
+ * which nobody writes, and it holds for any storage as long that has the bytes which are kept. The
+ * room for the copy is `calloc(job->storage.len, 1)`, or that of an older program. */
+static uint32_t ask(struct asked *asked, const struct chanv_job *job)
+{
+    struct chanv_job still = *job;
+    uint32_t answer = ask_once(asked, job);
+    if (answer != CHANV_LISTED)
+        return answer;
+    for (size_t i = 0; i < asked->needed.keep && i < MOST_AREAS; i++) {
+        struct chanv_area area = asked->keep[i];
+        if (lies_in(area, job->storage.len))
+            memcpy(asked->copy + area.start, job->storage.at + area.start, area.len);
+    }
+    still.storage.at = asked->copy;
+    return ask_once(asked, &still);
+}
+
+/* Whether storage has the bytes that the program keeps. To be asked before each start. */
+static int is_there(const struct asked *asked, const uint8_t *storage)
+{
+    for (size_t i = 0; i < asked->needed.keep; i++) {
+        struct chanv_area area = asked->keep[i];
+        if (memcmp(asked->copy + area.start, storage + area.start, area.len) != 0)
+            return 0;
+    }
+    return 1;
+}
