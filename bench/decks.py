@@ -1,5 +1,5 @@
 #!/usr/bin/env python3
-"""Writes the decks that are measured: each is the largest, or nearly so, in one respect.
+"""Writes the decks that are measured: each is large in one respect.
 
     bench/decks.py FOLDER [NAME...]
 

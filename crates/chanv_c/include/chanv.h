@@ -192,7 +192,9 @@ struct chanv_rows {
     uint8_t mask;
 };
 
-/* Whether the program may run: CHANV_YES, CHANV_NO, or why there is no answer. */
+/* Whether the program may run: CHANV_YES, CHANV_NO, or why there is no answer. A yes takes for
+ * granted that at the start the arm stands inside the extents, the job's mask is in force, the
+ * device is the one used and storage is as it was, but for what isn't kept. */
 uint32_t chanv_verify(const struct chanv_job *job, struct chanv_verdict *out);
 
 /* Lists the places that the program can come to, each once, by address, then by `entered`, then by
