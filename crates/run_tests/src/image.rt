@@ -69,7 +69,10 @@ fn written<R: Read, W: Write>(
 fn an_image_between_doublewords(rt: HostRuntime) -> Result<(), Fail> {
     let mut from = Watched::new(IMAGE);
     let mut to = Watched::new(Vec::new(rt.alloc()));
-    assert_eq!(rt; written(rt.alloc(), "7FE", false, &mut from, &mut to)?, Ok(()));
+    assert_eq!(rt;
+        written(rt.alloc(), "7FE", false, &mut from, &mut to)?,
+        Ok(())
+    );
     assert_eq!(rt; to.into_inner().as_slice(), DECK.as_bytes());
     Ok(())
 }
@@ -78,7 +81,10 @@ fn an_image_between_doublewords(rt: HostRuntime) -> Result<(), Fail> {
 fn an_image_with_the_least_job(rt: HostRuntime) -> Result<(), Fail> {
     let mut from = Watched::new(IMAGE);
     let mut to = Watched::new(Vec::new(rt.alloc()));
-    assert_eq!(rt; written(rt.alloc(), "7FE", true, &mut from, &mut to)?, Ok(()));
+    assert_eq!(rt;
+        written(rt.alloc(), "7FE", true, &mut from, &mut to)?,
+        Ok(())
+    );
     assert_eq!(rt; to.into_inner().as_slice(), LEAST.as_bytes());
     Ok(())
 }
