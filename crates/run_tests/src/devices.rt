@@ -1,7 +1,13 @@
-//! Devices for the tests: readers and writers that fail, or seem never to end.
+//! What the tests share: one assertion, and readers and writers that fail, or seem never to end.
 
 use std::io;
 use std::io::{ErrorKind, Read, Write};
+use std::process::Abort;
+
+/// Asserts what a test found, in one place: an assertion costs the prover more than this call.
+pub(crate) fn expect(rt: &impl Abort, holds: bool, name: &str) {
+    assert!(rt; holds, "{name}");
+}
 
 /// Takes so many bytes, one in each call, and then fails.
 #[derive(Drop)]

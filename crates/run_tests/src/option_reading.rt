@@ -1,102 +1,221 @@
 //! The texts of the options of an image, and what they say.
 
+use crate::devices::expect;
 use ccw_core::Area;
-use chan_run::{ImageOption, ImageWords, OptionError, OptionFault, options_of};
+use chan_run::{ImageOption, ImageOptions, ImageWords, OptionError, options_of};
 use chan_walk::Limit;
-use ckd_core::{Device, FileMask};
-use std::alloc::Global;
-use std::test::Fail;
+use ckd_core::Device;
+use std::alloc::{AllocError, Global};
 
-/// The words of a job, each option of which is right.
-fn words<'a>(alloc: Global) -> Result<ImageWords<'a>, Fail> {
-    let mut words = ImageWords {
-        device: "2311",
-        mask: "c8",
-        start: "800",
-        limit: Some("65536"),
-        extents: Vec::new(alloc),
-        fetch: Vec::new(alloc),
-        store: Vec::new(alloc),
-        at: "7f8",
-        is_least: false,
-    };
-    words.extents.push("10-19")?;
-    words.extents.push("202-202")?;
-    words.fetch.push("900+10")?;
-    words.store.push("a00+100")?;
-    words.store.push("FFFFFF+0")?;
-    Ok(words)
+/// The texts of device, mask, start and limit.
+type Marks = (&'static str, &'static str, &'static str, &'static str);
+
+/// The texts of some options of one kind.
+type Texts = &'static [&'static str];
+
+const MARKS: Marks = ("2311", "c8", "800", "65536");
+
+const EXTENTS: Texts = &["10-19", "202-202"];
+
+const FETCH: Texts = &["900+10"];
+
+const STORE: Texts = &["a00+100", "FFFFFF+0"];
+
+const WRONG_FETCH: Texts = &["900+10", "900+1000000", "x"];
+
+const WRONG_STORE: Texts = &["a00+100", "FFFFFF+0", "A00"];
+
+/// Marks, extents, areas for fetching and for storing, the image's address, and the first option
+/// that is wrong, with its text.
+type Case = (
+    Marks,
+    Texts,
+    Texts,
+    Texts,
+    &'static str,
+    ImageOption,
+    &'static str,
+);
+
+/// From the option that is asked last to the first. What is wrong in a case stays wrong in those
+/// behind it, but for the extents.
+static WRONG: &[Case] = &[
+    (
+        MARKS,
+        EXTENTS,
+        FETCH,
+        STORE,
+        "1000000",
+        ImageOption::At,
+        "1000000",
+    ),
+    (
+        MARKS,
+        EXTENTS,
+        FETCH,
+        WRONG_STORE,
+        "1000000",
+        ImageOption::Store,
+        "A00",
+    ),
+    (
+        MARKS,
+        EXTENTS,
+        WRONG_FETCH,
+        WRONG_STORE,
+        "1000000",
+        ImageOption::Fetch,
+        "900+1000000",
+    ),
+    (
+        MARKS,
+        &["10-19", "202-202", "10-203", "19-10"],
+        WRONG_FETCH,
+        WRONG_STORE,
+        "1000000",
+        ImageOption::Extent,
+        "10-203",
+    ),
+    (
+        MARKS,
+        &[],
+        WRONG_FETCH,
+        WRONG_STORE,
+        "1000000",
+        ImageOption::Extent,
+        "",
+    ),
+    (
+        MARKS,
+        &["19-10"],
+        WRONG_FETCH,
+        WRONG_STORE,
+        "1000000",
+        ImageOption::Extent,
+        "19-10",
+    ),
+    (
+        ("2311", "c8", "800", "0"),
+        &["19-10"],
+        WRONG_FETCH,
+        WRONG_STORE,
+        "1000000",
+        ImageOption::Limit,
+        "0",
+    ),
+    (
+        ("2311", "c8", "-800", "0"),
+        &["19-10"],
+        WRONG_FETCH,
+        WRONG_STORE,
+        "1000000",
+        ImageOption::Start,
+        "-800",
+    ),
+    (
+        ("2311", "01", "-800", "0"),
+        &["19-10"],
+        WRONG_FETCH,
+        WRONG_STORE,
+        "1000000",
+        ImageOption::Mask,
+        "01",
+    ),
+    (
+        ("3330", "01", "-800", "0"),
+        &["19-10"],
+        WRONG_FETCH,
+        WRONG_STORE,
+        "1000000",
+        ImageOption::Device,
+        "3330",
+    ),
+];
+
+fn copied<'a>(alloc: Global, texts: &[&'a str]) -> Result<Vec<&'a str>, AllocError> {
+    let mut copy = Vec::new(alloc);
+    copy.extend_from_slice(texts)?;
+    Ok(copy)
 }
 
-#[test]
-fn right_options(rt: HostRuntime) -> Result<(), Fail> {
-    let words = words(rt.alloc())?;
-    match options_of(rt.alloc(), &words) {
-        Ok(options) => {
-            assert_eq!(rt; options.device, Device::D2311);
-            assert_eq!(rt; Some(options.mask), FileMask::new(0xC8));
-            assert_eq!(rt; options.start, 0x800);
-            assert_eq!(rt; options.limit, Limit::new(65_536));
-            assert_eq!(rt; options.extents.pairs(), [(10, 19), (202, 202)].as_slice());
-            assert_eq!(rt; options.fetch.as_slice(), [area(0x900, 0x10)].as_slice());
-            assert_eq!(rt;
-                options.store.as_slice(),
-                [area(0xA00, 0x100), area(0xFF_FFFF, 0)].as_slice()
-            );
-            assert_eq!(rt; options.at, 0x7F8);
-        }
-        Err(error) => assert_eq!(rt; error, OptionError::Memory),
+fn words<'a>(
+    alloc: Global,
+    marks: Marks,
+    extents: &[&'a str],
+    fetch: &[&'a str],
+    store: &[&'a str],
+    at: &'a str,
+) -> Result<ImageWords<'a>, AllocError> {
+    Ok(ImageWords {
+        device: marks.0,
+        mask: marks.1,
+        start: marks.2,
+        limit: Some(marks.3),
+        extents: copied(alloc, extents)?,
+        fetch: copied(alloc, fetch)?,
+        store: copied(alloc, store)?,
+        at,
+        is_least: false,
+    })
+}
+
+fn are_right(alloc: Global) -> bool {
+    match words(alloc, MARKS, EXTENTS, FETCH, STORE, "7f8") {
+        Ok(words) => are_read(alloc, &words),
+        Err(_) => false,
     }
-    Ok(())
+}
+
+fn are_read(alloc: Global, words: &ImageWords<'_>) -> bool {
+    match options_of(alloc, words) {
+        Ok(options) => has_marks(&options) && has_lists(&options),
+        Err(_) => false,
+    }
+}
+
+fn has_marks(options: &ImageOptions) -> bool {
+    options.device == Device::D2311
+        && options.mask.byte() == 0xC8
+        && options.start == 0x800
+        && options.limit == Limit::new(65_536)
+        && options.at == 0x7F8
+}
+
+fn has_lists(options: &ImageOptions) -> bool {
+    options.extents.pairs() == [(10, 19), (202, 202)].as_slice()
+        && options.fetch.as_slice() == [area(0x900, 0x10)].as_slice()
+        && options.store.as_slice() == [area(0xA00, 0x100), area(0xFF_FFFF, 0)].as_slice()
 }
 
 fn area(start: u32, len: u32) -> Area {
     Area { start, len }
 }
 
-/// The option that is refused, and its text.
-fn refused<'a>(alloc: Global, words: &ImageWords<'a>) -> Option<(ImageOption, &'a str)> {
+#[test]
+fn right_options(rt: HostRuntime) {
+    expect(&rt, are_right(rt.alloc()), "right");
+}
+
+fn is_named(alloc: Global, case: &Case) -> bool {
+    let (marks, extents, fetch, store, at, option, text) = *case;
+    match words(alloc, marks, extents, fetch, store, at) {
+        Ok(words) => is_first(alloc, &words, option, text),
+        Err(_) => false,
+    }
+}
+
+/// Whether this option is refused, with this text.
+fn is_first(alloc: Global, words: &ImageWords<'_>, option: ImageOption, text: &str) -> bool {
     match options_of(alloc, words) {
-        Err(OptionError::Wrong(OptionFault { option, text })) => Some((option, text)),
-        _ => None,
+        Err(OptionError::Wrong(fault)) => fault.option == option && fault.text == text,
+        _ => false,
     }
 }
 
 #[test]
-fn the_first_wrong_option_is_named(rt: HostRuntime) -> Result<(), Fail> {
-    let alloc = rt.alloc();
-    let mut words = words(alloc)?;
-    assert_eq!(rt; refused(alloc, &words), None);
-    words.at = "1000000";
-    assert_eq!(rt; refused(alloc, &words), Some((ImageOption::At, "1000000")));
-    words.store.push("A00")?;
-    assert_eq!(rt; refused(alloc, &words), Some((ImageOption::Store, "A00")));
-    words.fetch.push("900+1000000")?;
-    words.fetch.push("x")?;
-    assert_eq!(rt;
-        refused(alloc, &words),
-        Some((ImageOption::Fetch, "900+1000000"))
-    );
-    words.extents.push("10-203")?;
-    words.extents.push("19-10")?;
-    assert_eq!(rt;
-        refused(alloc, &words),
-        Some((ImageOption::Extent, "10-203"))
-    );
-    words.extents.clear();
-    assert_eq!(rt; refused(alloc, &words), Some((ImageOption::Extent, "")));
-    words.extents.push("19-10")?;
-    assert_eq!(rt;
-        refused(alloc, &words),
-        Some((ImageOption::Extent, "19-10"))
-    );
-    words.limit = Some("0");
-    assert_eq!(rt; refused(alloc, &words), Some((ImageOption::Limit, "0")));
-    words.start = "-800";
-    assert_eq!(rt; refused(alloc, &words), Some((ImageOption::Start, "-800")));
-    words.mask = "01";
-    assert_eq!(rt; refused(alloc, &words), Some((ImageOption::Mask, "01")));
-    words.device = "3330";
-    assert_eq!(rt; refused(alloc, &words), Some((ImageOption::Device, "3330")));
-    Ok(())
+fn the_first_wrong_option_is_named(rt: HostRuntime) {
+    expect(&rt, are_right(rt.alloc()), "right");
+    for case in WRONG {
+        expect(&rt, is_named(rt.alloc(), case), case.6);
+    }
 }
