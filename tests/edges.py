@@ -21,7 +21,7 @@ chanv verify [FILE]...
        chanv needs [FILE]
        chanv deck --start <ADDRESS> --least [OPTIONS] [FILE]
        chanv deck --start <ADDRESS> --extent <FIRST-LAST> [OPTIONS] [FILE]
-       chanv explain <WORD>
+       chanv explain [WORD]
        chanv show <CCW>"""
 
 
@@ -74,7 +74,7 @@ def check_words(checks, program):
         ([SEARCH_LOOP.name], f"unrecognized subcommand '{SEARCH_LOOP.name}'", USAGE),
         (["--fast"], "unexpected argument '--fast' found", USAGE),
         (["show"], f"{lacking}<CCW>", "chanv show <CCW>"),
-        (["explain"], f"{lacking}<WORD>", "chanv explain <WORD>"),
+        (["explain", "mask", "extra"], extra, "chanv explain [WORD]"),
         (["deck"], f"{lacking}--start <ADDRESS>", f"chanv deck {options} [FILE]"),
         (["deck", "--start", "8", "--start", "8"], twice, f"chanv deck [OPTIONS] {options} [FILE]"),
         (["show", CCW, "extra"], extra, "chanv show <CCW>"),

@@ -1,8 +1,8 @@
 """The pages that say what words mean say what `chanv` writes of them.
 
 Each word of the table of reasons in docs/VERDICT.md, and of the table of causes in docs/DECK.md,
-has a section on its page, and that is what `chanv explain` writes of it. A word that isn't in them
-is refused. And `chanv why` gives the cause of each example deck's no in a form that the section of
+has a section on its page, and that is what `chanv explain` writes of it, in any case of its
+letters, and without a word it lists these words. A word that isn't in them is refused. And `chanv why` gives the cause of each example deck's no in a form that the section of
 its reason has in docs/VERDICT.md, where each reason has an example.
 """
 
@@ -60,16 +60,29 @@ def check_causes(checks, program, causes):
     checks.expect("the reasons that an example has", sorted(causes), sorted(shown))
 
 
+def check_list(checks, program, words):
+    """Without a word each is listed, in the order of the pages, and what it is in a few words."""
+    ran = run(program, "explain")
+    lines = re.findall(r"(?m)^([a-z-]+): (.+)$", ran.output)
+    checks.expect("the words that are listed", words, [word for word, _ in lines])
+    is_whole = ran == Ran(0, "".join(f"{word}: {said}\n" for word, said in lines))
+    checks.expect_that("the list of words", is_whole and "\n\n" not in ran.output, ran)
+
+
 def check(checks, built):
-    program = built.chanv()
+    program, listed = built.chanv(), []
     for name, row in PAGES.items():
         page = text_of(ROOT / "docs" / name)
         words, said = re.findall(f"(?m)^{row}", page), sections_of(page)
         is_same = words == list(said) and words
         checks.expect_that(f"the table and the sections of {name}", is_same, (words, list(said)))
         for word in words:
-            checks.expect(word, Ran(0, said.get(word, "")), run(program, "explain", word))
-    for word in ("", "changes", "changes-ccw ", "Changes-ccw", "deck"):
+            meaning = Ran(0, said.get(word, ""))
+            checks.expect(word, meaning, run(program, "explain", word))
+            checks.expect(word.upper(), meaning, run(program, "explain", word.upper()))
+        listed += words
+    check_list(checks, program, listed)
+    for word in ("", "changes", "changes-ccw ", "deck"):
         refused = Ran(4, "", "chanv: no such word\n")
         checks.expect(f"'{word}'", refused, run(program, "explain", word))
     check_causes(checks, program, dict(causes_of(text_of(ROOT / "docs" / VERDICT))))

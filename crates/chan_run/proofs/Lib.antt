@@ -5,3 +5,4 @@ pub mod LeastLemmas
 pub mod OptionLemmas
 pub mod ImageLemmas
 pub mod Endings
+pub mod MeaningLemmas

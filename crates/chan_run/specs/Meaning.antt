@@ -1,5 +1,7 @@
 -- The words that verdicts give as reasons, and refused decks as causes, and what each means.
-use Rattle.std.specs.Prelude.{ℕ, List, codes}
+use Rattle.std.specs.Prelude.{◌≡◌, ◌++◌, ℕ, List, codes}
+use Rattle.std.specs.List.{flat_map}
+use Rattle.std.specs.Str.{str_to_ascii_lowercase}
 use Rattle.chan_deck.specs.declared.cause.Cause.{Cause}
 use Rattle.chan_deck.specs.declared.cause.Cause.TheVariants as causes
 use Rattle.chan_walk.specs.Reason.{word_of}
@@ -27,6 +29,56 @@ word_of_cause causes.Limit = codes "limit"
 abbrev pub word_of_term : Term → List ℕ
 word_of_term (terms.Reason reason) = word_of reason
 word_of_term (terms.Cause cause) = word_of_cause cause
+
+-- the text is the term's word, whatever the case of its letters
+abbrev pub IsWordOf : List ℕ → Term → Type 0
+IsWordOf text t = str_to_ascii_lowercase (word_of_term t) ≡ str_to_ascii_lowercase text
+
+-- what a reason is, in a few words
+abbrev pub brief_of_reason : Reason → List ℕ
+brief_of_reason reasons.Misaligned = codes "a CCW at an address that isn't a multiple of 8"
+brief_of_reason reasons.OutsideStorage = codes "a CCW that doesn't lie wholly in main storage"
+brief_of_reason reasons.TransferNotAllowed = codes "a transfer in channel first, or behind another one"
+brief_of_reason reasons.InvalidCode = codes "a command code whose low four bits are zero"
+brief_of_reason reasons.BadFormat = codes "a flag on that has to be off"
+brief_of_reason reasons.ZeroCount = codes "a count of zero"
+brief_of_reason reasons.DataOutside = codes "a data range that leaves main storage"
+brief_of_reason reasons.NotInTable = codes "a command code that chanv doesn't know"
+brief_of_reason reasons.Inhibited = codes "a command that the file mask inhibits"
+brief_of_reason reasons.StoreNotLent = codes "a store into bytes that aren't lent for storing"
+brief_of_reason reasons.FetchNotLent = codes "a fetch of bytes that aren't lent for fetching"
+brief_of_reason reasons.ShortSeek = codes "a seek without six bytes for its argument"
+brief_of_reason reasons.SeekOutside = codes "a seek to where no extent or no head is"
+brief_of_reason reasons.ChangesCcw = codes "a store over a reachable CCW"
+brief_of_reason reasons.ChangesArgument = codes "a store over a seek's argument or a mask byte"
+brief_of_reason reasons.WeakensMask = codes "a Set File Mask to a byte that permits more, or is no mask"
+
+-- what a cause is, in a few words
+abbrev pub brief_of_cause : Cause → List ℕ
+brief_of_cause causes.Ended = codes "the deck ends before its line `end` does"
+brief_of_cause causes.Header = codes "the first line isn't that of a deck"
+brief_of_cause causes.Form = codes "the line has no form that may stand there"
+brief_of_cause causes.Mask = codes "the mask isn't a file mask"
+brief_of_cause causes.ExtentBackwards = codes "the extent's last cylinder is below its first"
+brief_of_cause causes.ExtentPastDevice = codes "the extent goes on past cylinder 202"
+brief_of_cause causes.Size = codes "storage has no such size"
+brief_of_cause causes.PutAddress = codes "the put's address is out of order or out of storage"
+brief_of_cause causes.PutZero = codes "the put's bytes are all zero"
+brief_of_cause causes.After = codes "something follows the line `end`"
+brief_of_cause causes.Limit = codes "the limit on places is 0 or above 65,536"
+
+-- what a term is, in a few words
+abbrev pub brief_of : Term → List ℕ
+brief_of (terms.Reason reason) = brief_of_reason reason
+brief_of (terms.Cause cause) = brief_of_cause cause
+
+-- the line of a term in the list: its word, and what it is
+abbrev pub line_of_term : Term → List ℕ
+line_of_term t = word_of_term t ++ codes ": " ++ brief_of t ++ codes "\n"
+
+-- the list of all words, in the order of the table of terms
+abbrev pub words_list : List ℕ
+words_list = flat_map line_of_term texts.TERMS
 
 -- what a reason means, and what usually mends it
 abbrev pub meaning_of_reason : Reason → List ℕ

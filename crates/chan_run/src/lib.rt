@@ -36,7 +36,7 @@ pub use crate::image::{ImageError, write_image};
 pub use crate::image_options::{
     GrantFault, ImageOption, ImageOptions, ImageWords, OptionError, OptionFault,
 };
-pub use crate::meaning::{MeaningError, Term, explain_word, term_of};
+pub use crate::meaning::{MeaningError, Term, explain_word, list_words, term_of};
 pub use crate::option_fault::{report_grants, report_option};
 pub use crate::option_reading::options_of;
 pub use crate::options::{address_of, area_of, cylinders_of, device_of, limit_of, mask_of};

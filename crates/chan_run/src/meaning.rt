@@ -1,13 +1,15 @@
 //! What the words of verdicts and of refused decks mean.
 
-ghost use Rattle.std.specs.Prelude.{◌≡◌, ◌≢◌, ◌↔◌, false, true, Err, IfSome, IsErrOf, None, OnOk};
+ghost use Rattle.std.specs.Prelude.{◌≡◌, ◌↔◌, false, true, Err, IfSome, IsErr, IsErrOf, None, OnOk};
+ghost use Rattle.std.specs.List.{All, flat_map};
 ghost use Rattle.std.specs.Io.KnownBytes.{Appends};
 ghost use Rattle.ccw_core.specs.Written.{AppendsPrefix};
-ghost use Rattle.chan_walk.specs.Reason.{word_of};
-ghost use Rattle.chan_run.specs.Meaning.{meaning_of, meaning_of_cause, meaning_of_reason};
-ghost use Rattle.chan_run.specs.Meaning.{word_of_cause, word_of_term};
+ghost use Rattle.chan_run.specs.Meaning.{IsWordOf, brief_of, brief_of_cause, brief_of_reason};
+ghost use Rattle.chan_run.specs.Meaning.{line_of_term, meaning_of, meaning_of_cause};
+ghost use Rattle.chan_run.specs.Meaning.{meaning_of_reason, word_of_cause, word_of_term, words_list};
 
-use ccw_core::{Watched, write_out};
+use crate::texts::write_texts;
+use ccw_core::{DeviceFault, Watched, write_out};
 use chan_deck::Cause;
 use chan_walk::Reason;
 use std::io::Write;
@@ -196,6 +198,37 @@ pub enum Term {
     Cause(Cause),
 }
 
+/// The terms in the order of the list: the reasons by number, then the causes.
+const TERMS: [Term; 27] = [
+    Term::Reason(Reason::Misaligned),
+    Term::Reason(Reason::OutsideStorage),
+    Term::Reason(Reason::TransferNotAllowed),
+    Term::Reason(Reason::InvalidCode),
+    Term::Reason(Reason::BadFormat),
+    Term::Reason(Reason::ZeroCount),
+    Term::Reason(Reason::DataOutside),
+    Term::Reason(Reason::NotInTable),
+    Term::Reason(Reason::Inhibited),
+    Term::Reason(Reason::StoreNotLent),
+    Term::Reason(Reason::FetchNotLent),
+    Term::Reason(Reason::ShortSeek),
+    Term::Reason(Reason::SeekOutside),
+    Term::Reason(Reason::ChangesCcw),
+    Term::Reason(Reason::ChangesArgument),
+    Term::Reason(Reason::WeakensMask),
+    Term::Cause(Cause::Ended),
+    Term::Cause(Cause::Header),
+    Term::Cause(Cause::Form),
+    Term::Cause(Cause::Mask),
+    Term::Cause(Cause::ExtentBackwards),
+    Term::Cause(Cause::ExtentPastDevice),
+    Term::Cause(Cause::Size),
+    Term::Cause(Cause::PutAddress),
+    Term::Cause(Cause::PutZero),
+    Term::Cause(Cause::After),
+    Term::Cause(Cause::Limit),
+];
+
 /// Why a word was not explained.
 #[derive(Clone, Copy, PartialEq, Eq, Debug, Error)]
 pub enum MeaningError {
@@ -207,30 +240,43 @@ pub enum MeaningError {
     Write,
 }
 
-/// The reason or the cause that has this word; none where none has.
+/// The reason or the cause that has this word, in any case of its letters; none where none has.
 pub fn term_of(word: &str) -> Option<Term>
-    ensures named { IfSome result (λ t. word_of_term t ≡ word.now) }
-    ensures none { result ≡ None → (t : Term) → word_of_term t ≢ word.now }
+    ensures named { IfSome result (IsWordOf word.now) }
+    ensures none { result ≡ None → (t : Term) → ¬ IsWordOf word.now t }
 {
-    match reason_of(word) {
-        Some(reason) => Some(Term::Reason(reason)),
-        None => Some(Term::Cause(cause_of(word)?)),
+    term_among(&TERMS, word)
+}
+
+/// The first of these terms that has this word.
+fn term_among(terms: &[Term], word: &str) -> Option<Term>
+    ensures named { IfSome result (IsWordOf word.now) }
+    ensures none { result ≡ None → All (λ t. ¬ IsWordOf word.now t) terms.now }
+{
+    match terms {
+        [] => None,
+        [first, rest @ ..] => {
+            if term_word(*first).eq_ignore_ascii_case(word) {
+                return Some(*first);
+            }
+            term_among(rest, word)
+        }
     }
 }
 
 /// Writes what a word means, and what usually mends what it names.
 ///
-/// `Unknown` comes exactly where the word is no reason's and no cause's, and then nothing was
-/// written; `Write` comes exactly where a write failed, and then a prefix was written. It takes no
-/// memory.
+/// `Unknown` comes exactly where the word, in any case, is no reason's and no cause's, and then
+/// nothing was written; `Write` comes exactly where a write failed, and then a prefix was written.
+/// It takes no memory.
 pub fn explain_word<W: Write>(word: &str, to: &mut Watched<W>) -> Result<(), MeaningError>
     requires { to.old.failed ≡ false }
-    ensures ok { OnOk result ((t : Term) × (word_of_term t ≡ word.now)
+    ensures ok { OnOk result ((t : Term) × IsWordOf word.now t
         × Appends (W.contents to.old.device) (W.contents to.new.device) (meaning_of t)) }
     ensures unknown { IsErrOf result MeaningError.Unknown
-        ↔ ((t : Term) → word_of_term t ≢ word.now) }
+        ↔ ((t : Term) → ¬ IsWordOf word.now t) }
     ensures early { result ≡ Err MeaningError.Unknown → to.new ≡ to.old }
-    ensures prefix { IsErrOf result MeaningError.Write → (t : Term) × (word_of_term t ≡ word.now)
+    ensures prefix { IsErrOf result MeaningError.Write → (t : Term) × IsWordOf word.now t
         × AppendsPrefix (W.contents to.old.device) (W.contents to.new.device) (meaning_of t) }
     ensures write { IsErrOf result MeaningError.Write ↔ (to.new.failed ≡ true) }
 {
@@ -238,50 +284,110 @@ pub fn explain_word<W: Write>(word: &str, to: &mut Watched<W>) -> Result<(), Mea
     write_out(meaning(term).as_bytes(), to).map_err(|_| MeaningError::Write)
 }
 
-/// The reason that has this word.
-fn reason_of(word: &str) -> Option<Reason>
-    ensures named { IfSome result (λ r. word_of r ≡ word.now) }
-    ensures none { result ≡ None → (r : Reason) → word_of r ≢ word.now }
+/// Writes each word with what it is in a few words, a line for each. It takes no memory.
+pub fn list_words<W: Write>(to: &mut Watched<W>) -> Result<(), MeaningError>
+    requires { to.old.failed ≡ false }
+    ensures ok { OnOk result
+        (Appends (W.contents to.old.device) (W.contents to.new.device) words_list) }
+    ensures prefix { AppendsPrefix (W.contents to.old.device) (W.contents to.new.device)
+        words_list }
+    ensures write { IsErrOf result MeaningError.Write ↔ (to.new.failed ≡ true) }
+    ensures known { ¬ IsErrOf result MeaningError.Unknown }
 {
-    match word {
-        "misaligned" => Some(Reason::Misaligned),
-        "outside-storage" => Some(Reason::OutsideStorage),
-        "transfer-not-allowed" => Some(Reason::TransferNotAllowed),
-        "invalid-code" => Some(Reason::InvalidCode),
-        "bad-format" => Some(Reason::BadFormat),
-        "zero-count" => Some(Reason::ZeroCount),
-        "data-outside" => Some(Reason::DataOutside),
-        "not-in-table" => Some(Reason::NotInTable),
-        "inhibited" => Some(Reason::Inhibited),
-        "store-not-lent" => Some(Reason::StoreNotLent),
-        "fetch-not-lent" => Some(Reason::FetchNotLent),
-        "short-seek" => Some(Reason::ShortSeek),
-        "seek-outside" => Some(Reason::SeekOutside),
-        "changes-ccw" => Some(Reason::ChangesCcw),
-        "changes-argument" => Some(Reason::ChangesArgument),
-        "weakens-mask" => Some(Reason::WeakensMask),
-        _ => None,
+    write_lines(&TERMS, to).map_err(|_| MeaningError::Write)
+}
+
+/// Writes the lines of some terms.
+#[tactic(auto, using(ccw_core::proofs::Prefixes::prefix_after, ccw_core::proofs::Prefixes::prefix_of_more))]
+fn write_lines<W: Write>(terms: &[Term], to: &mut Watched<W>) -> Result<(), DeviceFault>
+    requires { to.old.failed ≡ false }
+    ensures ok { OnOk result (Appends (W.contents to.old.device) (W.contents to.new.device)
+        (flat_map line_of_term terms.now)) }
+    ensures prefix { AppendsPrefix (W.contents to.old.device) (W.contents to.new.device)
+        (flat_map line_of_term terms.now) }
+    ensures fault { IsErr result ↔ (to.new.failed ≡ true) }
+{
+    match terms {
+        [] => Ok(()),
+        [first, rest @ ..] => {
+            write_term(*first, to)?;
+            write_lines(rest, to)
+        }
     }
 }
 
-/// The cause that has this word.
-fn cause_of(word: &str) -> Option<Cause>
-    ensures named { IfSome result (λ c. word_of_cause c ≡ word.now) }
-    ensures none { result ≡ None → (c : Cause) → word_of_cause c ≢ word.now }
+/// Writes the line of a term.
+fn write_term<W: Write>(term: Term, to: &mut Watched<W>) -> Result<(), DeviceFault>
+    requires { to.old.failed ≡ false }
+    ensures ok { OnOk result (Appends (W.contents to.old.device) (W.contents to.new.device)
+        (line_of_term term)) }
+    ensures prefix { AppendsPrefix (W.contents to.old.device) (W.contents to.new.device)
+        (line_of_term term) }
+    ensures fault { IsErr result ↔ (to.new.failed ≡ true) }
 {
-    match word {
-        "ended" => Some(Cause::Ended),
-        "header" => Some(Cause::Header),
-        "form" => Some(Cause::Form),
-        "mask" => Some(Cause::Mask),
-        "extent-backwards" => Some(Cause::ExtentBackwards),
-        "extent-past-device" => Some(Cause::ExtentPastDevice),
-        "size" => Some(Cause::Size),
-        "put-address" => Some(Cause::PutAddress),
-        "put-zero" => Some(Cause::PutZero),
-        "after" => Some(Cause::After),
-        "limit" => Some(Cause::Limit),
-        _ => None,
+    write_texts(&[term_word(term), ": ", brief(term), "\n"], to)
+}
+
+/// The word of a term.
+fn term_word(term: Term) -> &'static str
+    ensures { result.now ≡ word_of_term term }
+{
+    match term {
+        Term::Reason(reason) => reason.word(),
+        Term::Cause(cause) => cause_word(cause),
+    }
+}
+
+/// What a term is, in a few words.
+fn brief(term: Term) -> &'static str
+    ensures { result.now ≡ brief_of term }
+{
+    match term {
+        Term::Reason(reason) => reason_brief(reason),
+        Term::Cause(cause) => cause_brief(cause),
+    }
+}
+
+/// What a reason is, in a few words.
+fn reason_brief(reason: Reason) -> &'static str
+    ensures { result.now ≡ brief_of_reason reason }
+{
+    match reason {
+        Reason::Misaligned => "a CCW at an address that isn't a multiple of 8",
+        Reason::OutsideStorage => "a CCW that doesn't lie wholly in main storage",
+        Reason::TransferNotAllowed => "a transfer in channel first, or behind another one",
+        Reason::InvalidCode => "a command code whose low four bits are zero",
+        Reason::BadFormat => "a flag on that has to be off",
+        Reason::ZeroCount => "a count of zero",
+        Reason::DataOutside => "a data range that leaves main storage",
+        Reason::NotInTable => "a command code that chanv doesn't know",
+        Reason::Inhibited => "a command that the file mask inhibits",
+        Reason::StoreNotLent => "a store into bytes that aren't lent for storing",
+        Reason::FetchNotLent => "a fetch of bytes that aren't lent for fetching",
+        Reason::ShortSeek => "a seek without six bytes for its argument",
+        Reason::SeekOutside => "a seek to where no extent or no head is",
+        Reason::ChangesCcw => "a store over a reachable CCW",
+        Reason::ChangesArgument => "a store over a seek's argument or a mask byte",
+        Reason::WeakensMask => "a Set File Mask to a byte that permits more, or is no mask",
+    }
+}
+
+/// What a cause is, in a few words.
+fn cause_brief(cause: Cause) -> &'static str
+    ensures { result.now ≡ brief_of_cause cause }
+{
+    match cause {
+        Cause::Ended => "the deck ends before its line `end` does",
+        Cause::Header => "the first line isn't that of a deck",
+        Cause::Form => "the line has no form that may stand there",
+        Cause::Mask => "the mask isn't a file mask",
+        Cause::ExtentBackwards => "the extent's last cylinder is below its first",
+        Cause::ExtentPastDevice => "the extent goes on past cylinder 202",
+        Cause::Size => "storage has no such size",
+        Cause::PutAddress => "the put's address is out of order or out of storage",
+        Cause::PutZero => "the put's bytes are all zero",
+        Cause::After => "something follows the line `end`",
+        Cause::Limit => "the limit on places is 0 or above 65,536",
     }
 }
 

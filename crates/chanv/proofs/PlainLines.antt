@@ -17,6 +17,7 @@ use Rattle.chanv.proofs.FileWords.{options_are_given, second_is_stray, word_is_f
 use Rattle.chanv.specs.ImageLine.{extents_or_all}
 use Rattle.chanv.proofs.TakenLines.{cons≢nil, passed_on, sub_at}
 use Rattle.chanv.specs.CommandLine.{AsksFor, ExplainsOrNoMemory, FaultsOrNoMemory, HelpsOrNoMemory}
+use Rattle.chanv.specs.CommandLine.{ListsOrNoMemory}
 use Rattle.chanv.specs.CommandLine.{ImagesLeastOrNoMemory, ImagesOrNoMemory, IsAnswerTo, IsFor, IsNoCommand}
 use Rattle.chanv.specs.CommandLine.{IsWord}
 use Rattle.chanv.specs.CommandLine.{IsPlainAnswerTo, IsTaken, RunsNamedOrNoMemory, RunsOrNoMemory}
@@ -25,7 +26,7 @@ use Rattle.chanv.specs.CommandLine.{name_of}
 use Rattle.chanv.specs.declared.command_line.Request.{Request}
 use Rattle.chanv.specs.declared.command_line.Request.TheVariants.{Explain, Fault, Grants, Help, Image}
 use Rattle.chanv.specs.declared.command_line.Request.TheVariants.{NoMemory, Run, RunNamed, Show}
-use Rattle.chanv.specs.declared.command_line.Request.TheVariants.{Version}
+use Rattle.chanv.specs.declared.command_line.Request.TheVariants.{Version, Words}
 use Rattle.chanv.proofs.Names.{if◌then◌else◌, ◌≢◌, Action, All-cons, All-nil, App, Bor, Error}
 use Rattle.chanv.proofs.Names.{ErrorKind, IsAmong, IsStandardInput, Kinds, Shape, built, bytes_eq}
 use Rattle.chanv.proofs.Names.{bytes_eq-Decides, entered, fault_of, files_in, find, fold, kind_of}
@@ -64,6 +65,7 @@ purpose_asked (Show word) = (None, codes "show")
 purpose_asked (Image q) = (None, codes "deck")
 purpose_asked (Grants fault) = (None, codes "deck")
 purpose_asked (Explain word) = (None, codes "explain")
+purpose_asked Words = (None, codes "explain")
 purpose_asked (Run a) = (Some a, [])
 purpose_asked (RunNamed a names) = (Some a, [])
 purpose_asked _ = (None, codes "help")
@@ -75,6 +77,7 @@ same_purpose met (Show word) asks = ap purpose asks.0
 same_purpose met (Image q) asks = ap purpose asks.0
 same_purpose met (Grants fault) asks = ap purpose asks.0
 same_purpose met (Explain word) asks = ap purpose asks.0
+same_purpose met Words asks = ap purpose asks.0
 same_purpose met (Run a) asks = for_action (name_met met) a asks.0
 same_purpose met (RunNamed a names) asks = for_action (name_met met) a asks.0
 same_purpose met r asks = absurd asks
@@ -123,8 +126,17 @@ shows rows word has r asks =
 -- the word that `explain` met is explained
 pub explains : (rows : List Row) (word : Text) → first_of (codes "WORD") rows ≡ Some word
     → (r : Request) → AsksFor (Some (codes "explain", rows)) r → ExplainsOrNoMemory word r
-explains rows word has (Explain text) asks = asks.1 ∙ ap (λ o. unwrap_or o []) has
+explains rows word has (Explain text) asks = ap (λ o. unwrap_or o []) (sym asks.1 ∙ has)
+explains rows word has Words asks = true≢false (ap is_some (sym has ∙ asks.1))
 explains rows word has r asks = absurd (true≢false
+    (ap (bytes_eq (codes "explain")) (named_by (Some (codes "explain", rows)) r asks)))
+
+-- where `explain` met no word, all are listed
+pub lists : (rows : List Row) → first_of (codes "WORD") rows ≡ None
+    → (r : Request) → AsksFor (Some (codes "explain", rows)) r → ListsOrNoMemory r
+lists rows none (Explain text) asks = true≢false (ap is_some (sym asks.1 ∙ none))
+lists rows none Words asks = tt
+lists rows none r asks = absurd (true≢false
     (ap (bytes_eq (codes "explain")) (named_by (Some (codes "explain", rows)) r asks)))
 
 -- texts of which there is none are none
@@ -309,18 +321,23 @@ requests : (p : Text) (rest : List Text)
 unfolding clap_on_literals
 requests p rest = (refl, refl)
 
--- a word is wanted behind `show`, `deck` and `explain`
+-- a word is wanted behind `show` and `deck`
 wants_words : (level_fault (sub_at 0) [] nothing_held [] false [] ≡ MissingRequiredArgument ∷ [])
     × (level_fault (sub_at 6) [] nothing_held [] false [] ≡ MissingRequiredArgument ∷ [])
-    × (level_fault (sub_at 7) [] nothing_held [] false [] ≡ MissingRequiredArgument ∷ [])
 unfolding clap_on_literals
-wants_words = (refl, refl, refl)
+wants_words = (refl, refl)
 
 -- nothing is wanted behind the name of an action that takes one file
 wants_none : (name : Text)
     → CommandLeadsTo (one_word name (codes "FILE") false) [] (λ rows. files_in rows ≡ [])
 unfolding clap_on_literals
 wants_none name = record { sound = refl; found = refl }
+
+-- nor behind `explain`
+explain_wants_none : CommandLeadsTo (one_word (codes "explain") (codes "WORD") false) []
+    (λ rows. first_of (codes "WORD") rows ≡ None)
+unfolding clap_on_literals
+explain_wants_none = record { sound = refl; found = refl }
 
 -- a file there is what is found as such
 file_is_given : (name file : Text) → IsWord file
@@ -426,7 +443,7 @@ module _ (line : List Text) (answer : Request) (is : IsAnswerTo line answer) whe
       let show : IsNamed (codes "show") (one_word (codes "show") (codes "CCW") true) = search rules in
       let needs : IsNamed (codes "needs") (one_word (codes "needs") (codes "FILE") false) = search rules in
       let deck : IsNamed (codes "deck") (sub_at 6) = search rules in
-      let explain : IsNamed (codes "explain") (one_word (codes "explain") (codes "WORD") true) = search rules in
+      let explain : IsNamed (codes "explain") (one_word (codes "explain") (codes "WORD") false) = search rules in
       record {
         alone = λ p e. answered line None (RunsOrNoMemory actions.Verify)
             (ap (fault_of chanv) e ∙ (alone_is_taken p).0)
@@ -472,12 +489,12 @@ module _ (line : List Text) (answer : Request) (is : IsAnswerTo line answer) whe
             (λ rows. images_least rows start) p;
         deck_alone = failed _ deck [] _ wants_words.1;
         explain = λ p text word. taken _ explain (text ∷ []) _
-            (word_is_found (codes "explain") (codes "WORD") text true refl refl refl
+            (word_is_found (codes "explain") (codes "WORD") text false refl refl refl
             (is_value text word)) (ExplainsOrNoMemory text) tt
             (λ rows found. explains rows text (ap (first_of (codes "WORD")) found)) p;
-        explain_alone = failed _ explain [] _ wants_words.2;
+        explain_alone = taken _ explain [] _ explain_wants_none ListsOrNoMemory tt lists;
         explain_more = λ p text more rest word word-2. failed _ explain (text ∷ more ∷ rest) _
-            (second_is_stray (codes "explain") (codes "WORD") text more rest true
+            (second_is_stray (codes "explain") (codes "WORD") text more rest false
             (is_value text word) (is_value more word-2)) p;
         help = λ p rest e. refused_by line DisplayHelp
             (ap (fault_of chanv) e ∙ (requests p rest).0) answer is;
@@ -508,4 +525,5 @@ plain_request words r taken asks = plain words r (answers r asks)
     answers (Image q) a = (taken, a)
     answers (Grants fault) a = (taken, a)
     answers (Explain word) a = (taken, a)
+    answers Words a = (taken, a)
     answers r a = absurd a

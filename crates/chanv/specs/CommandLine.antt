@@ -10,7 +10,7 @@ use Rattle.clap.specs.declared.error.kind.ErrorKind.TheVariants.{DisplayHelp, Di
 use Rattle.clap.specs.declared.error.kind.ErrorKind.TheVariants.{OutOfMemory}
 use Rattle.chanv.specs.declared.command_line.Request.{Request}
 use Rattle.chanv.specs.declared.command_line.Request.TheVariants.{Show, Run, RunNamed, Image}
-use Rattle.chanv.specs.declared.command_line.Request.TheVariants.{Explain, Grants}
+use Rattle.chanv.specs.declared.command_line.Request.TheVariants.{Explain, Grants, Words}
 use Rattle.chanv.specs.declared.command_line.Request.TheVariants.{Help, Version, Fault, NoMemory}
 use Rattle.chanv.specs.CommandWords.{IsStandardInput, file_word, files_in, texts_of}
 use Rattle.chanv.specs.ImageLine.{SaysImage, grant_fault, image_line, text_or}
@@ -37,10 +37,9 @@ verify_line = with_rule (new_app (codes "verify")) file_words
 abbrev pub deck_line : Text → App
 deck_line name = with_rule (new_app name) file_word
 
--- the command `explain`, with the word that it requires
+-- the command `explain`, with one word or none
 abbrev pub explain_line : App
-explain_line =
-    with_rule (new_app (codes "explain")) (record (new_rule (codes "WORD")) { required = true })
+explain_line = with_rule (new_app (codes "explain")) (new_rule (codes "WORD"))
 
 -- the program alone, which has a version
 abbrev pub program_line : App
@@ -74,6 +73,10 @@ IsTaken words = fault_of chanv words ≡ []
 -- the name of the command that clap met
 abbrev pub name_met : Option (Text × List Row) → Option Text
 name_met = option_map (λ p. p.0)
+
+-- the word that it met as the one to explain
+abbrev pub word_asked : Option (Text × List Row) → Option Text
+word_asked = option_and_then (λ p. first_of (codes "WORD") p.1)
 
 -- the word that it met as that command's CCW
 abbrev pub ccw_met : Option (Text × List Row) → Option Text
@@ -132,7 +135,8 @@ AsksFor met (Image asked) =
 AsksFor met (Grants fault) =
     (name_met met ≡ Some (codes "deck")) × MakesDeck (rows_met met) (Grants fault)
 AsksFor met (Explain word) =
-    (name_met met ≡ Some (codes "explain")) × (word.now ≡ text_or (codes "WORD") [] (rows_met met))
+    (name_met met ≡ Some (codes "explain")) × (word_asked met ≡ Some word.now)
+AsksFor met Words = (name_met met ≡ Some (codes "explain")) × (word_asked met ≡ None)
 AsksFor met _ = ⊥
 
 -- what each answer says of the words
@@ -144,6 +148,7 @@ IsAnswerTo words (RunNamed action files) =
 IsAnswerTo words (Image asked) = IsTaken words × AsksFor (subcommand_of chanv words) (Image asked)
 IsAnswerTo words (Grants fault) = IsTaken words × AsksFor (subcommand_of chanv words) (Grants fault)
 IsAnswerTo words (Explain word) = IsTaken words × AsksFor (subcommand_of chanv words) (Explain word)
+IsAnswerTo words Words = IsTaken words × AsksFor (subcommand_of chanv words) Words
 IsAnswerTo words (Help e) = (kind_of e ≡ DisplayHelp) × IsAmong DisplayHelp (fault_of chanv words)
 IsAnswerTo words (Version e) =
     (kind_of e ≡ DisplayVersion) × IsAmong DisplayVersion (fault_of chanv words)
@@ -163,6 +168,12 @@ abbrev pub ExplainsOrNoMemory : Text → Request → Type 0
 ExplainsOrNoMemory text (Explain word) = word.now ≡ text
 ExplainsOrNoMemory text NoMemory = Unit {0}
 ExplainsOrNoMemory text _ = ⊥
+
+-- the answer is to list the words that have a meaning, or an allocation failed
+abbrev pub ListsOrNoMemory : Request → Type 0
+ListsOrNoMemory Words = Unit {0}
+ListsOrNoMemory NoMemory = Unit {0}
+ListsOrNoMemory _ = ⊥
 
 -- the answer is this action over standard input, or an allocation failed
 abbrev pub RunsOrNoMemory : Action → Request → Type 0
@@ -292,7 +303,7 @@ pub record IsPlainAnswerTo (words : List Text) (answer : Request) : Type 0 where
   pub explain : (program text : Text) → IsWord text
       → words ≡ program ∷ codes "explain" ∷ text ∷ [] → ExplainsOrNoMemory text answer
   pub explain_alone : (program : Text) → words ≡ program ∷ codes "explain" ∷ []
-      → FaultsOrNoMemory answer
+      → ListsOrNoMemory answer
   pub explain_more : (program text more : Text) (rest : List Text) → IsWord text → IsWord more
       → words ≡ program ∷ codes "explain" ∷ text ∷ more ∷ rest → FaultsOrNoMemory answer
   pub help : (program : Text) (rest : List Text) → words ≡ program ∷ codes "--help" ∷ rest

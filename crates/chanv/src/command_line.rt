@@ -9,7 +9,7 @@ ghost use Rattle.chanv.specs.CommandWords.{IsStandardInput, files_in, texts_of};
 
 use crate::image_command::{ImageRequest, grant_fault, image_request};
 use crate::lines::command;
-use crate::words_met::{text_met, text_or, texts_met};
+use crate::words_met::{text_met, texts_met};
 use chan_run::{Action, GrantFault};
 use clap::error::ErrorKind;
 use clap::{ArgMatches, Error};
@@ -29,8 +29,10 @@ pub enum Request<'a> {
     Image(ImageRequest<'a>),
     /// To say why options that make a deck don't say one job.
     Grants(GrantFault),
-    /// To say what the word of a reason or of a cause means.
+    /// To say what a word means.
     Explain(&'a str),
+    /// To list the words that have a meaning.
+    Words,
     /// Help. Its text is the error's.
     Help(Error),
     /// The version. Its text is the error's.
@@ -67,7 +69,10 @@ fn request_of<'a>(alloc: Global, matches: &ArgMatches<'a>) -> Result<Request<'a>
         Some(("graph", inner)) => request_over(alloc, Action::Graph, inner),
         Some(("needs", inner)) => request_over(alloc, Action::Needs, inner),
         Some(("deck", inner)) => deck_request(alloc, inner),
-        Some(("explain", inner)) => Ok(Request::Explain(text_or(inner, "WORD", ""))),
+        Some(("explain", inner)) => match text_met(inner, "WORD") {
+            Some(word) => Ok(Request::Explain(word)),
+            None => Ok(Request::Words),
+        },
         Some((_, inner)) => request_over(alloc, Action::Verify, inner),
         None => Ok(Request::Run(Action::Verify)),
     }

@@ -54,7 +54,7 @@ const USAGE: &str = "chanv verify [FILE]...
        chanv needs [FILE]
        chanv deck --start <ADDRESS> --least [OPTIONS] [FILE]
        chanv deck --start <ADDRESS> --extent <FIRST-LAST> [OPTIONS] [FILE]
-       chanv explain <WORD>
+       chanv explain [WORD]
        chanv show <CCW>";
 
 /// What the help of `verify` says behind its words.
@@ -253,14 +253,14 @@ const LINES: &[Line] = &[
     },
     Line {
         name: "explain",
-        about: "says what a reason or a cause means, and what usually mends it",
+        about: "says what a word means, and what usually mends it; without WORD, lists all words",
         after_help: None,
         words: &[Word {
             name: "WORD",
             kind: Kind::Plain,
-            is_required: true,
+            is_required: false,
             is_repeated: false,
-            help: "the reason of a verdict, or the cause for which a deck is refused",
+            help: "the reason of a verdict, or the cause for which a deck is refused, in any case",
         }],
     },
 ];

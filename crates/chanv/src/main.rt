@@ -22,8 +22,8 @@ use crate::image_command::ImageRequest;
 use ccw_core::Watched;
 use chan_run::{
     Action, ImageOptions, OptionError, Outcome, answer, answer_image, conclude, ends_run,
-    exit_status, explain_word, greater_status, options_of, report, report_grants, report_named,
-    report_option, show,
+    exit_status, explain_word, greater_status, list_words, options_of, report, report_grants,
+    report_named, report_option, show,
 };
 use std::fs::File;
 use std::io;
@@ -86,6 +86,7 @@ fn answered(rt: &HostRuntime, words: &[String]) -> u8 {
         Request::Image(request) => imaged(rt, &request),
         Request::Grants(fault) => report_grants(fault, &mut Watched::new(rt.stderr())),
         Request::Explain(word) => explained(rt, word),
+        Request::Words => listed(rt),
         Request::Help(text) | Request::Version(text) => match rt.print(text) {
             Ok(()) => ended(rt, None, Outcome::HelpAsked, &mut Watched::new(rt.stdout())),
             Err(_) => reported(rt, None, Outcome::FlushFailed),
@@ -123,6 +124,12 @@ fn shown(rt: &HostRuntime, text: &str) -> u8 {
 fn explained(rt: &HostRuntime, word: &str) -> u8 {
     let mut output = Watched::new(rt.stdout());
     let answer = explain_word(word, &mut output);
+    ended(rt, None, Outcome::Explained(answer), &mut output)
+}
+
+fn listed(rt: &HostRuntime) -> u8 {
+    let mut output = Watched::new(rt.stdout());
+    let answer = list_words(&mut output);
     ended(rt, None, Outcome::Explained(answer), &mut output)
 }
 

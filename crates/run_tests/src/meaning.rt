@@ -3,8 +3,9 @@
 use crate::devices::Narrow;
 use ccw_core::Watched;
 use chan_deck::Cause;
-use chan_run::{MeaningError, Term, explain_word, term_of};
+use chan_run::{MeaningError, Term, explain_word, list_words, term_of};
 use chan_walk::Reason;
+use std::process::Abort;
 
 /// Each reason, with its word.
 static REASONS: [(&str, Reason); 16] = [
@@ -60,7 +61,14 @@ Write the lower number first. Both are decimal.
 ];
 
 /// Texts that are no term's word.
-static UNKNOWN: [&str; 4] = ["", "misalign", "Misaligned", "limit\n"];
+static UNKNOWN: [&str; 4] = ["", "misalign", "misaligned ", "limit\n"];
+
+/// Words in which the case differs, with their terms.
+static CASES: [(&str, Term); 3] = [
+    ("Changes-CCW", Term::Reason(Reason::ChangesCcw)),
+    ("MISALIGNED", Term::Reason(Reason::Misaligned)),
+    ("put-Zero", Term::Cause(Cause::PutZero)),
+];
 
 #[test]
 fn each_word_has_its_term(rt: HostRuntime) {
@@ -70,6 +78,50 @@ fn each_word_has_its_term(rt: HostRuntime) {
     for (word, cause) in &CAUSES {
         assert_eq!(rt; term_of(word), Some(Term::Cause(*cause)));
     }
+}
+
+#[test]
+fn the_case_of_letters_is_nothing(rt: HostRuntime) {
+    for (word, term) in &CASES {
+        assert_eq!(rt; term_of(word), Some(*term));
+    }
+}
+
+#[test]
+fn the_list_has_a_line_for_each_word(rt: HostRuntime) {
+    let mut to = Watched::new(Vec::new(rt.alloc()));
+    assert_eq!(rt; list_words(&mut to), Ok(()));
+    let text = to.into_inner();
+    let mut rest = text.as_slice();
+    for (word, _) in &REASONS {
+        rest = behind_line_of(&rt, rest, word);
+    }
+    for (word, _) in &CAUSES {
+        rest = behind_line_of(&rt, rest, word);
+    }
+    assert!(rt; rest.is_empty());
+}
+
+/// What follows the first line, which begins with this word and a colon and says something.
+fn behind_line_of<'a>(rt: &impl Abort, text: &'a [u8], word: &str) -> &'a [u8] {
+    let front = text.strip_prefix(word.as_bytes()).unwrap_or(&[]);
+    let said = front.strip_prefix(b": ".as_slice()).unwrap_or(&[]);
+    let end = said.iter().position(|byte| *byte == b'\n').unwrap_or(0);
+    assert!(rt; end > 0);
+    said.get(end + 1..).unwrap_or(&[])
+}
+
+#[test]
+fn the_list_ends_where_a_write_fails(rt: HostRuntime) {
+    let mut to = Watched::new(Narrow {
+        room: 14,
+        taken: Vec::new(rt.alloc()),
+    });
+    assert_eq!(rt; list_words(&mut to), Err(MeaningError::Write));
+    assert_eq!(rt;
+        to.into_inner().taken.as_slice(),
+        b"misaligned: a ".as_slice()
+    );
 }
 
 #[test]

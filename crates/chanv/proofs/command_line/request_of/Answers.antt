@@ -7,6 +7,7 @@ use Rattle.std.proofs.Common.{Err, IfOk, Ok, Result}
 use Rattle.chanv.specs.CommandLine.{AsksFor, IsKnown, MakesDeck, name_met}
 use Rattle.chanv.specs.declared.command_line.Request.{Request}
 use Rattle.chanv.specs.declared.command_line.Request.TheVariants.{Explain, Grants, Image, Show}
+use Rattle.chanv.specs.declared.command_line.Request.TheVariants.{Words}
 use Rattle.chanv.proofs.Names.{bytes_eq, found_of, option_map, rows_of, subcommand_rows_of}
 use Rattle.chanv.proofs.Names.{true≢false}
 use Rattle.chanv.proofs.command_line.request_of.Goals as goal
@@ -60,9 +61,3 @@ returns-in-Some-deck-default c =
     let is = met_is met (codes "deck") _ (search rules) c.in-Some-deck-default.ensures.rows in
     subst (λ m. IfOk c.deck_request.result (AsksFor m)) (sym is)
     (makes_deck (rows_of (found_of c.in-Some-deck-default.inner.now)) c.deck_request.result c.deck_request.ensures)
-
-pub returns-in-Some-explain-default : goal.returns-in-Some-explain-default
-returns-in-Some-explain-default c =
-    let met = subcommand_rows_of c.args.matches.now in
-    let is = met_is met (codes "explain") _ (search rules) c.in-Some-explain-default.ensures.rows in
-    subst (λ m. AsksFor m (Explain c.text_or.result)) (sym is) (refl, c.text_or.ensures)
