@@ -365,7 +365,7 @@ fn reason_brief(reason: Reason) -> &'static str
         Reason::StoreNotLent => "a store into bytes that aren't lent for storing",
         Reason::FetchNotLent => "a fetch of bytes that aren't lent for fetching",
         Reason::ShortSeek => "a seek without six bytes for its argument",
-        Reason::SeekOutside => "a seek to where no extent or no head is",
+        Reason::SeekOutside => "a seek outside the extents, the heads or bin 0",
         Reason::ChangesCcw => "a store over a reachable CCW",
         Reason::ChangesArgument => "a store over a seek's argument or a mask byte",
         Reason::WeakensMask => "a Set File Mask to a byte that permits more, or is no mask",
