@@ -13,7 +13,7 @@ use Rattle.chanv.specs.declared.command_line.Request.TheVariants.{Show, Run, Run
 use Rattle.chanv.specs.declared.command_line.Request.TheVariants.{Explain, Grants, Words}
 use Rattle.chanv.specs.declared.command_line.Request.TheVariants.{Help, Version, Fault, NoMemory}
 use Rattle.chanv.specs.CommandWords.{IsStandardInput, file_word, files_in, texts_of}
-use Rattle.chanv.specs.ImageLine.{SaysImage, grant_fault, image_line, text_or}
+use Rattle.chanv.specs.ImageLine.{SaysImage, grant_fault, image_line}
 use Rattle.chan_run.specs.declared.running.Action.{Action}
 use Rattle.chan_run.specs.declared.running.Action.TheVariants as actions
 

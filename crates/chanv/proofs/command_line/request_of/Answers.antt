@@ -6,8 +6,7 @@ use Rattle.chanv.proofs.PlainLines.{no_action, purpose, purpose_is}
 use Rattle.std.proofs.Common.{Err, IfOk, Ok, Result}
 use Rattle.chanv.specs.CommandLine.{AsksFor, IsKnown, MakesDeck, name_met}
 use Rattle.chanv.specs.declared.command_line.Request.{Request}
-use Rattle.chanv.specs.declared.command_line.Request.TheVariants.{Explain, Grants, Image, Show}
-use Rattle.chanv.specs.declared.command_line.Request.TheVariants.{Words}
+use Rattle.chanv.specs.declared.command_line.Request.TheVariants.{Grants, Image, Show}
 use Rattle.chanv.proofs.Names.{bytes_eq, found_of, option_map, rows_of, subcommand_rows_of}
 use Rattle.chanv.proofs.Names.{true≢false}
 use Rattle.chanv.proofs.command_line.request_of.Goals as goal
