@@ -1,6 +1,6 @@
 """The library for C while a second thread rewrites the program that it looks at.
 
-The program of c/race.c makes each call for so many seconds, 20 or what RACE_SECONDS says, over a
+The program of c/race.c makes each call for so many seconds, 60 or what RACE_SECONDS says, over a
 program whose CCWs, arguments and mask a second thread rewrites meanwhile, byte by byte too. Each
 call has to return, to leave alone what it wasn't handed to write, and to answer with one of its
 codes: yes, no, too many places or too little room, since nothing is wrong with the job itself. Each
@@ -42,7 +42,7 @@ def check_call(checks, program, call, seconds):
 
 
 def check(checks, built):
-    library, seconds = built.library(), int(os.environ.get("RACE_SECONDS") or 20)
+    library, seconds = built.library(), int(os.environ.get("RACE_SECONDS") or 60)
     with tempfile.TemporaryDirectory() as room:
         program = compile_with(library, HERE / "c/race.c", Path(room) / "race")
         for call in CODES:
