@@ -4,10 +4,10 @@ The program of c/race.c makes each call for so many seconds, 60 or what RACE_SEC
 program whose CCWs, arguments and mask a second thread rewrites meanwhile, byte by byte too. Each
 call has to return, to leave alone what it wasn't handed to write, and to answer with one of its
 codes: yes, no, too many places or too little room, since nothing is wrong with the job itself. Each
-of these has to come. The calls about rows of needs don't look at storage, and always answer yes;
-they are made for 2 seconds. `ask` of examples/c/emulator.c, which asks about a copy of what the
-program keeps, has to give an answer that stands: a job grants what the program needs exactly where
-the verdict on the copy is yes.
+of these has to come. The calls about rows of needs don't look at storage, and always answer yes.
+`ask` of examples/c/emulator.c, which asks about a copy of what the program keeps, has to give an
+answer that stands: a job grants what the program needs exactly where the verdict on the copy is
+yes.
 """
 
 import os
@@ -29,8 +29,6 @@ CODES = {
     "beside": {0},
     "emulator": {0, 1, 2},
 }
-# the seconds at most for calls that don't look at storage
-FEW = {"grants": 2, "beside": 2}
 
 
 def check_call(checks, program, call, seconds):
@@ -46,4 +44,4 @@ def check(checks, built):
     with tempfile.TemporaryDirectory() as room:
         program = compile_with(library, HERE / "c/race.c", Path(room) / "race")
         for call in CODES:
-            check_call(checks, program, call, min(seconds, FEW.get(call, seconds)))
+            check_call(checks, program, call, seconds)
