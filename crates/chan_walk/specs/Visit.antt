@@ -32,10 +32,10 @@ kind_by ChainSearch command = Search
 
 -- the command and the kind are those of the CCW at the place
 pub record IsBegun (v : Visit) : Type 0 where
-  pub command : option_map entry_of v.command ≡ begun v.place v.word
-  pub kind : v.kind ≡ kind_of v.place.entered v.word
+  pub command : option_map entry_of v.command ≡ begun v.place v.ccw
+  pub kind : v.kind ≡ kind_of v.place.entered v.ccw
 
 -- and the CCW is the one that stands there
 pub record IsVisit (s : List ℕ) (v : Visit) : Type 0 where
   pub begun : IsBegun v
-  pub stands : ccw_at s v.place.address ≡ Some v.word
+  pub stands : ccw_at s v.place.address ≡ Some v.ccw

@@ -203,13 +203,13 @@ struct Sought {
 /// bytes is read here, and nowhere else.
 fn seek_out(storage: &Storage, visit: &Visit) -> Sought
     requires { IsVisit (bytes_held storage.now) visit.now }
-    ensures seek { begins_seek visit.now.place visit.now.word ≡ true
+    ensures seek { begins_seek visit.now.place visit.now.ccw ≡ true
         → HasAddresses (bytes_held storage.now) visit.now.place.address result.addresses }
-    ensures other { begins_seek visit.now.place visit.now.word ≡ false → result.addresses ≡ None }
-    ensures read { IsRead (bytes_held storage.now) visit.now.place visit.now.word result.read }
+    ensures other { begins_seek visit.now.place visit.now.ccw ≡ false → result.addresses ≡ None }
+    ensures read { IsRead (bytes_held storage.now) visit.now.place visit.now.ccw result.read }
 {
     if visit.begins_seek() {
-        return match argument_addresses(storage, visit.place.address, visit.word) {
+        return match argument_addresses(storage, visit.place.address, visit.ccw) {
             Ok(addresses) => Sought {
                 addresses: Some(addresses),
                 read: Read::Whole(bytes_of(storage, addresses)),
@@ -223,7 +223,7 @@ fn seek_out(storage: &Storage, visit: &Visit) -> Sought
     if visit.begins_set_mask() {
         return Sought {
             addresses: None,
-            read: Read::Byte(byte_at(storage, visit.word.address())),
+            read: Read::Byte(byte_at(storage, visit.ccw.address())),
         };
     }
     Sought {
@@ -235,10 +235,10 @@ fn seek_out(storage: &Storage, visit: &Visit) -> Sought
 /// The byte that is set at a place, if Set File Mask begins there.
 fn mask_argument(visit: &Visit) -> Argument
     requires { IsBegun visit.now }
-    ensures addresses { addresses_of result ≡ mask_addresses visit.now.place visit.now.word }
-    ensures low { visit.now.word.address < 2 ^ 24 }
+    ensures addresses { addresses_of result ≡ mask_addresses visit.now.place visit.now.ccw }
+    ensures low { visit.now.ccw.address < 2 ^ 24 }
 {
-    let address = visit.word.address();
+    let address = visit.ccw.address();
     if visit.begins_set_mask() {
         Argument::Mask([address])
     } else {
@@ -247,13 +247,13 @@ fn mask_argument(visit: &Visit) -> Argument
 }
 
 /// What is seen of a place where a CCW stands.
-fn look_at_word(job: &Job, lending: Lending, place: Place, word: Ccw) -> Look
-    requires stands { ccw_in (storage_of job.now) place.address ≡ Some word }
+fn look_at_ccw(job: &Job, lending: Lending, place: Place, ccw: Ccw) -> Look
+    requires stands { ccw_in (storage_of job.now) place.address ≡ Some ccw }
     requires lends { Lends job.now lending }
     ensures place { result.place ≡ place }
     ensures look { IsLook job.now result }
 {
-    let visit = Visit::new(place, word);
+    let visit = Visit::new(place, ccw);
     let Sought { addresses, read } = seek_out(&job.storage, &visit);
     let fault = own_fault(job, lending, &visit, read.argument(), read.byte());
     let (argument, next) = match (fault, addresses) {
@@ -263,7 +263,7 @@ fn look_at_word(job: &Job, lending: Lending, place: Place, word: Ccw) -> Look
     };
     Look {
         place,
-        ccw: Some(word),
+        ccw: Some(ccw),
         command: visit.command,
         fault,
         argument,
@@ -281,7 +281,7 @@ pub(crate) fn look_at(job: &Job, lending: Lending, place: Place) -> Look
     ensures look { IsLook job.now result }
 {
     match job.storage.ccw_at(place.address) {
-        Some(word) => look_at_word(job, lending, place, word),
+        Some(ccw) => look_at_ccw(job, lending, place, ccw),
         None => look_at_nothing(place),
     }
 }

@@ -22,11 +22,11 @@ struct Link {
 }
 
 /// A CCW can give bytes of an argument.
-fn gives_bytes(storage: &Storage, word: &Ccw) -> bool
-    ensures { result ≡ (not (is_transfer word.now) && formed word.now && counted word.now
-        && data_in (length (bytes_held storage.now)) word.now) }
+fn gives_bytes(storage: &Storage, ccw: &Ccw) -> bool
+    ensures { result ≡ (not (is_transfer ccw.now) && formed ccw.now && counted ccw.now
+        && data_in (length (bytes_held storage.now)) ccw.now) }
 {
-    !word.is_transfer() && is_formed(word) && is_counted(word) && has_data_in(storage, word)
+    !ccw.is_transfer() && is_formed(ccw) && is_counted(ccw) && has_data_in(storage, ccw)
 }
 
 /// What a CCW gives of an argument: bytes in a row, and whether the chain goes on behind them.

@@ -49,30 +49,30 @@ pub fn successors(job: &Job, place: Place) -> Next
 pub(crate) fn next_after(visit: &Visit) -> Next
     requires begun { IsBegun visit.now }
     requires low { visit.now.place.address < 2 ^ 25 }
-    ensures next { result.next ≡ next_of visit.now.place visit.now.word
-        (kind visit.now.place.entered visit.now.word) }
-    ensures skip { result.skip ≡ skip_of visit.now.place visit.now.word
-        (kind visit.now.place.entered visit.now.word) }
+    ensures next { result.next ≡ next_of visit.now.place visit.now.ccw
+        (kind visit.now.place.entered visit.now.ccw) }
+    ensures skip { result.skip ≡ skip_of visit.now.place visit.now.ccw
+        (kind visit.now.place.entered visit.now.ccw) }
 {
     let Visit {
         place,
-        word,
+        ccw,
         kind,
         ..
     } = *visit;
-    if word.is_transfer() {
+    if ccw.is_transfer() {
         return Next {
-            next: Some(Place::transferred_to(word.address(), place.entered)),
+            next: Some(Place::transferred_to(ccw.address(), place.entered)),
             skip: None,
         };
     }
-    if chains_data(&word) {
+    if chains_data(&ccw) {
         return Next {
             next: chained(kind).map(|entered| Place::straight_to(place.address + 8, entered)),
             skip: None,
         };
     }
-    if !chains_command(&word) {
+    if !chains_command(&ccw) {
         return Next::nowhere();
     }
     Next {

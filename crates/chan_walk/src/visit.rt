@@ -15,23 +15,23 @@ use ckd_core::{Command, Kind, MaskClass, lookup};
 #[derive(Clone, Copy)]
 pub(crate) struct Visit {
     pub(crate) place: Place,
-    pub(crate) word: Ccw,
+    pub(crate) ccw: Ccw,
     /// `None` under data chaining, and where the table has no such code.
     pub(crate) command: Option<Command>,
     pub(crate) kind: Kind,
 }
 
 impl Visit {
-    /// Visits a place whose CCW is `word`.
-    pub(crate) fn new(place: Place, word: Ccw) -> Visit
+    /// Visits a place whose CCW is `ccw`.
+    pub(crate) fn new(place: Place, ccw: Ccw) -> Visit
         ensures place { result.place ≡ place }
-        ensures word { result.word ≡ word }
+        ensures ccw { result.ccw ≡ ccw }
         ensures begun { IsBegun result }
     {
-        let command = begun_command(place, &word);
+        let command = begun_command(place, &ccw);
         Visit {
             place,
-            word,
+            ccw,
             command,
             kind: kind_of(place.entered, command),
         }
@@ -40,7 +40,7 @@ impl Visit {
     /// One of the three seeks begins there.
     pub(crate) fn begins_seek(&self) -> bool
         requires { IsBegun self.now }
-        ensures { result ≡ fault.begins_seek self.now.place self.now.word }
+        ensures { result ≡ fault.begins_seek self.now.place self.now.ccw }
     {
         match self.command {
             Some(command) => is_seek_class(command.class()),
@@ -51,7 +51,7 @@ impl Visit {
     /// Recalibrate begins there.
     pub(crate) fn begins_recalibrate(&self) -> bool
         requires { IsBegun self.now }
-        ensures { result ≡ fault.begins_recalibrate self.now.place self.now.word }
+        ensures { result ≡ fault.begins_recalibrate self.now.place self.now.ccw }
     {
         match self.command {
             Some(command) => is_recalibrate_class(command.class()),
@@ -62,7 +62,7 @@ impl Visit {
     /// Set File Mask begins there.
     pub(crate) fn begins_set_mask(&self) -> bool
         requires { IsBegun self.now }
-        ensures { result ≡ fault.begins_set_mask self.now.place self.now.word }
+        ensures { result ≡ fault.begins_set_mask self.now.place self.now.ccw }
     {
         match self.command {
             Some(command) => is_set_mask_class(command.class()),
@@ -73,54 +73,54 @@ impl Visit {
     /// The CCW stores there.
     pub(crate) fn stores(&self) -> bool
         requires { IsBegun self.now }
-        ensures { result ≡ fault.stores self.now.place self.now.word }
+        ensures { result ≡ fault.stores self.now.place self.now.ccw }
     {
-        !self.word.is_transfer() && self.kind == Kind::Inward && !skips(&self.word)
+        !self.ccw.is_transfer() && self.kind == Kind::Inward && !skips(&self.ccw)
     }
 
     /// The CCW fetches there.
     pub(crate) fn fetches(&self) -> bool
         requires { IsBegun self.now }
-        ensures { result ≡ fault.fetches self.now.place self.now.word }
+        ensures { result ≡ fault.fetches self.now.place self.now.ccw }
     {
-        !self.word.is_transfer() && matches!(self.kind, Kind::Outward | Kind::Search)
+        !self.ccw.is_transfer() && matches!(self.kind, Kind::Outward | Kind::Search)
     }
 }
 
-/// Recalibrate begins at a place whose CCW is `word`.
-pub(crate) fn recalibrates_at(place: Place, word: Ccw) -> bool
-    ensures { result ≡ fault.begins_recalibrate place word }
+/// Recalibrate begins at a place whose CCW is `ccw`.
+pub(crate) fn recalibrates_at(place: Place, ccw: Ccw) -> bool
+    ensures { result ≡ fault.begins_recalibrate place ccw }
 {
-    match begun_command(place, &word) {
+    match begun_command(place, &ccw) {
         Some(command) => is_recalibrate_class(command.class()),
         None => false,
     }
 }
 
-/// Set File Mask begins at a place whose CCW is `word`.
-pub(crate) fn sets_mask_at(place: Place, word: Ccw) -> bool
-    ensures { result ≡ fault.begins_set_mask place word }
+/// Set File Mask begins at a place whose CCW is `ccw`.
+pub(crate) fn sets_mask_at(place: Place, ccw: Ccw) -> bool
+    ensures { result ≡ fault.begins_set_mask place ccw }
 {
-    match begun_command(place, &word) {
+    match begun_command(place, &ccw) {
         Some(command) => is_set_mask_class(command.class()),
         None => false,
     }
 }
 
-/// The CCW `word` fetches at a place.
-pub(crate) fn fetches_at(place: Place, word: Ccw) -> bool
-    ensures { result ≡ fault.fetches place word }
+/// The CCW `ccw` fetches at a place.
+pub(crate) fn fetches_at(place: Place, ccw: Ccw) -> bool
+    ensures { result ≡ fault.fetches place ccw }
 {
-    let kind = kind_of(place.entered, begun_command(place, &word));
-    !word.is_transfer() && matches!(kind, Kind::Outward | Kind::Search)
+    let kind = kind_of(place.entered, begun_command(place, &ccw));
+    !ccw.is_transfer() && matches!(kind, Kind::Outward | Kind::Search)
 }
 
-/// The command of the table that begins at a place whose CCW is `word`.
-fn begun_command(place: Place, word: &Ccw) -> Option<Command>
-    ensures { option_map entry_of result ≡ begun place word.now }
+/// The command of the table that begins at a place whose CCW is `ccw`.
+fn begun_command(place: Place, ccw: &Ccw) -> Option<Command>
+    ensures { option_map entry_of result ≡ begun place ccw.now }
 {
     if place.entered.is_fresh() {
-        lookup(word.command())
+        lookup(ccw.command())
     } else {
         None
     }

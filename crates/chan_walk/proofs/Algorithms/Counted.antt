@@ -27,7 +27,7 @@ use Rattle.chan_walk.proofs.Theory.Chains.{argument_exists, argument_unique}
 use Rattle.chan_walk.proofs.Theory.Checks.{check_stands}
 use Rattle.chan_walk.proofs.Theory.Faults.{clear_check}
 use Rattle.chan_walk.proofs.Theory.Lists.{same_reads}
-use Rattle.chan_walk.proofs.Theory.Words.{same_ccw}
+use Rattle.chan_walk.proofs.Theory.SameCcws.{same_ccw}
 
 -- ---- where no CCW stands, its fields don't matter
 
@@ -50,12 +50,12 @@ part_of n a c = is_aligned a && is_inside n a && not (is_transfer c) && is_forme
 part_apart : (n x : ℕ) (c d : Fields) (a b : Bool) → is_aligned x ≡ a → is_inside n x ≡ b → (a ≡ true → b ≡ true → c ≡ d) → part_of n x c ≡ part_of n x d
 part_apart n x c d a b e f h = search rules
 
-part_by_word : (s t : List ℕ) (a : ℕ) → length t ≡ length s → (Stands s a → ccw s a ≡ ccw t a) → is_part s a ≡ is_part t a
+part_by_ccw : (s t : List ℕ) (a : ℕ) → length t ≡ length s → (Stands s a → ccw s a ≡ ccw t a) → is_part s a ≡ is_part t a
 unfolding is_part
-part_by_word s t a len h = part_apart (length s) a (ccw s a) (ccw t a) _ _ refl refl (λ x y. h (x, y)) ∙ ap (λ n. part_of n a (ccw t a)) (sym len)
+part_by_ccw s t a len h = part_apart (length s) a (ccw s a) (ccw t a) _ _ refl refl (λ x y. h (x, y)) ∙ ap (λ n. part_of n a (ccw t a)) (sym len)
 
-check_by_word : (s t : List ℕ) (p : Place) → length t ≡ length s → (Stands s p.address → ccw s p.address ≡ ccw t p.address) → check s p ≡ check t p
-check_by_word s t p len h = check_apart (length s) p (ccw s p.address) (ccw t p.address) _ _ refl refl (λ x y. h (x, y)) ∙ ap (λ n. check_of n p (ccw t p.address)) (sym len)
+check_by_ccw : (s t : List ℕ) (p : Place) → length t ≡ length s → (Stands s p.address → ccw s p.address ≡ ccw t p.address) → check s p ≡ check t p
+check_by_ccw s t p len h = check_apart (length s) p (ccw s p.address) (ccw t p.address) _ _ refl refl (λ x y. h (x, y)) ∙ ap (λ n. check_of n p (ccw t p.address)) (sym len)
 
 stands_there : (s t : List ℕ) (a : ℕ) → length t ≡ length s → Stands s a → Stands t a
 stands_there s t a len h = (h.0, subst (λ n. is_inside n a ≡ true) (sym len) h.1)
@@ -63,9 +63,9 @@ stands_there s t a len h = (h.0, subst (λ n. is_inside n a ≡ true) (sym len) 
 -- ---- a data chain whose CCWs are the same
 
 -- C holds where the chain begins, and goes on along it
-module _ (s t : List ℕ) (len : length t ≡ length s) (C : ℕ → Type 0) (word : (b : ℕ) → C b → Stands s b → ccw s b ≡ ccw t b) (on : (b d : ℕ) → C b → is_part s b ≡ true → chains_data (ccw s b) ≡ true → Leads s b d → C d) where
+module _ (s t : List ℕ) (len : length t ≡ length s) (C : ℕ → Type 0) (alike : (b : ℕ) → C b → Stands s b → ccw s b ≡ ccw t b) (on : (b d : ℕ) → C b → is_part s b ≡ true → chains_data (ccw s b) ≡ true → Leads s b d → C d) where
   part_same : (b : ℕ) → C b → is_part s b ≡ is_part t b
-  part_same b c = part_by_word s t b len (word b c)
+  part_same b c = part_by_ccw s t b len (alike b c)
 
   part_stands : (b : ℕ) → is_part s b ≡ true → Stands s b
   unfolding is_part
@@ -82,56 +82,56 @@ module _ (s t : List ℕ) (len : length t ≡ length s) (C : ℕ → Type 0) (wo
   linked_to (x ∷ []) a b c h = sym (part_same x (subst C (sym b) c)) ∙ h
   linked_to (x ∷ y ∷ l) a b c h = search (rules, part_stands, part_same, lead_to, linked_to (y ∷ l) y)
 
-  abbrev SameWords : List ℕ → Type 0
-  SameWords l = AllByRecursion (λ x. ccw s x ≡ ccw t x) l
+  abbrev SameCcws : List ℕ → Type 0
+  SameCcws l = AllByRecursion (λ x. ccw s x ≡ ccw t x) l
 
-  words_same : (l : List ℕ) (a : ℕ) → BeginsAt a l → C a → AreLinked s l → SameWords l
-  words_same [] a b c h = tt
-  words_same (x ∷ []) a b c h = (word x (subst C (sym b) c) (part_stands x h), tt)
-  words_same (x ∷ y ∷ l) a b c h = search (rules, part_stands, words_same (y ∷ l) y)
+  ccws_same : (l : List ℕ) (a : ℕ) → BeginsAt a l → C a → AreLinked s l → SameCcws l
+  ccws_same [] a b c h = tt
+  ccws_same (x ∷ []) a b c h = (alike x (subst C (sym b) c) (part_stands x h), tt)
+  ccws_same (x ∷ y ∷ l) a b c h = search (rules, part_stands, ccws_same (y ∷ l) y)
 
-  total_same : (l : List ℕ) → SameWords l → total s l ≡ total t l
+  total_same : (l : List ℕ) → SameCcws l → total s l ≡ total t l
   total_same [] h = refl
   total_same (x ∷ l) h = ap (λ z. z.count + total s l) h.0 ∙ ap (λ n. (ccw t x).count + n) (total_same l h.1)
 
-  joined_same : (l : List ℕ) → SameWords l → joined s l ≡ joined t l
+  joined_same : (l : List ℕ) → SameCcws l → joined s l ≡ joined t l
   joined_same [] h = refl
   joined_same (x ∷ l) h = ap (λ z. range_with_len z.address z.count ++ joined s l) h.0 ∙ ap (λ n. data_addresses t x ++ n) (joined_same l h.1)
 
-  words_but_last : (l : List ℕ) → SameWords l → SameWords (but_last l)
-  words_but_last [] h = tt
-  words_but_last (x ∷ []) h = tt
-  words_but_last (x ∷ y ∷ l) h = (h.0, words_but_last (y ∷ l) h.1)
+  ccws_but_last : (l : List ℕ) → SameCcws l → SameCcws (but_last l)
+  ccws_but_last [] h = tt
+  ccws_but_last (x ∷ []) h = tt
+  ccws_but_last (x ∷ y ∷ l) h = (h.0, ccws_but_last (y ∷ l) h.1)
 
-  chain_words : (n a : ℕ) (l : List ℕ) → C a → IsChain s n a l → SameWords l
-  chain_words n a l c k = words_same l a k.begins c k.linked
+  chain_ccws : (n a : ℕ) (l : List ℕ) → C a → IsChain s n a l → SameCcws l
+  chain_ccws n a l c k = ccws_same l a k.begins c k.linked
 
   pub chain_to : (n a : ℕ) (l : List ℕ) → C a → IsChain s n a l → IsChain t n a l
   chain_to n a l c k =
-      let w = chain_words n a l c k in
+      let w = chain_ccws n a l c k in
       record {
         begins = k.begins;
         linked = linked_to l a k.begins c k.linked;
-        short = subst (λ m. m < n) (total_same (but_last l) (words_but_last l w)) k.short;
+        short = subst (λ m. m < n) (total_same (but_last l) (ccws_but_last l w)) k.short;
         enough = subst (λ m. n ≤ m) (total_same l w) k.enough;
       }
 
   pub addresses_same : (a : ℕ) (l : List ℕ) → C a → IsChain s 6 a l → argument_addresses s l ≡ argument_addresses t l
-  addresses_same a l c k = ap (take 6) (joined_same l (chain_words 6 a l c k))
+  addresses_same a l c k = ap (take 6) (joined_same l (chain_ccws 6 a l c k))
 
 -- and back
 pub chain_from : (s t : List ℕ) (len : length t ≡ length s) (C : ℕ → Type 0) → ((b : ℕ) → C b → Stands s b → ccw s b ≡ ccw t b)
     → ((b d : ℕ) → C b → is_part s b ≡ true → chains_data (ccw s b) ≡ true → Leads s b d → C d) → (n a : ℕ) (l : List ℕ) → C a → IsChain t n a l → IsChain s n a l
-chain_from s t len C word on n a l c k = chain_to t s (sym len) C back follows n a l c k
+chain_from s t len C alike on n a l c k = chain_to t s (sym len) C back follows n a l c k
   where
     back : (b : ℕ) → C b → Stands t b → ccw t b ≡ ccw s b
-    back b c st = sym (word b c (stands_there t s b (sym len) st))
+    back b c st = sym (alike b c (stands_there t s b (sym len) st))
 
     follows : (b d : ℕ) → C b → is_part t b ≡ true → chains_data (ccw t b) ≡ true → Leads t b d → C d
     follows b d c part cd lead =
-        let there : is_part s b ≡ true = part_same s t len C word on b c ∙ part in
-        let chained : chains_data (ccw s b) ≡ true = ap chains_data (word b c (part_stands s t len C word on b there)) ∙ cd in
-        on b d c there chained (lead_from s t len C word on b d c there chained lead)
+        let there : is_part s b ≡ true = part_same s t len C alike on b c ∙ part in
+        let chained : chains_data (ccw s b) ≡ true = ap chains_data (alike b c (part_stands s t len C alike on b there)) ∙ cd in
+        on b d c there chained (lead_from s t len C alike on b d c there chained lead)
 
 -- ---- the job over another storage
 
@@ -139,14 +139,14 @@ chain_from s t len C word on n a l c k = chain_to t s (sym len) C back follows n
 pub record AreSame (j k : Job) (p : Place) : Type 0 where
   pub stands : Stands (storage_of j) p.address ↔ Stands (storage_of k) p.address
   pub fault : (r : Option Reason) → HasFault j p r ↔ HasFault k p r
-  pub word : IsClear j p → ccw_of j p ≡ ccw_of k p
+  pub ccw : IsClear j p → ccw_of j p ≡ ccw_of k p
   pub takes : IsClear j p → (b : ℕ) → (IsSeekByte j p b ⊎ IsMaskByte j p b) ↔ (IsSeekByte k p b ⊎ IsMaskByte k p b)
 
 flipped : (j k : Job) (p : Place) → AreSame j k p → AreSame k j p
 flipped j k p h = record {
   stands = (h.stands.1, h.stands.0);
   fault = λ r. ((h.fault r).1, (h.fault r).0);
-  word = λ f. sym (h.word ((h.fault None).1 f));
+  ccw = λ f. sym (h.ccw ((h.fault None).1 f));
   takes = λ f b. let t = h.takes ((h.fault None).1 f) b in (t.1, t.0);
 }
 
@@ -160,11 +160,11 @@ module _ (j : Job) (t : Storage) (h : IsSameIn (IsCounted j) (storage_of j) (byt
   abbrev u : List ℕ
   u = storage_of (with_storage j t)
 
-  word_same : (p : Place) → IsReachable j p → Stands s p.address → ccw_of j p ≡ ccw_of there p
-  word_same p r st = same_ccw s u p.address (λ b le lt. sym (h.same b (inl (record { place = p; reached = r; stands = st; from = le; below = lt }))))
+  ccw_same : (p : Place) → IsReachable j p → Stands s p.address → ccw_of j p ≡ ccw_of there p
+  ccw_same p r st = same_ccw s u p.address (λ b le lt. sym (h.same b (inl (record { place = p; reached = r; stands = st; from = le; below = lt }))))
 
   check_same : (p : Place) → IsReachable j p → check s p ≡ check u p
-  check_same p r = check_by_word s u p h.same_length (word_same p r)
+  check_same p r = check_by_ccw s u p h.same_length (ccw_same p r)
 
   -- ---- the argument of a reachable seek
 
@@ -172,17 +172,17 @@ module _ (j : Job) (t : Storage) (h : IsSameIn (IsCounted j) (storage_of j) (byt
     abbrev Chained : ℕ → Type 0
     Chained a = IsChained s p.address a
 
-    chain_word : (a : ℕ) → Chained a → Stands s a → ccw s a ≡ ccw u a
-    chain_word a c st = same_ccw s u a (λ x le lt. sym (h.same x (inr (inl (record { seek = p; reached = r; seeks = b; at = a; chained = c; stands = st; from = le; below = lt })))))
+    chain_ccw : (a : ℕ) → Chained a → Stands s a → ccw s a ≡ ccw u a
+    chain_ccw a c st = same_ccw s u a (λ x le lt. sym (h.same x (inr (inl (record { seek = p; reached = r; seeks = b; at = a; chained = c; stands = st; from = le; below = lt })))))
 
     seek_chain_to : (l : List ℕ) → IsChain s 6 p.address l → IsChain u 6 p.address l
-    seek_chain_to l k = chain_to s u h.same_length Chained chain_word (λ x y c part cd lead. further c part cd lead) 6 p.address l at_once k
+    seek_chain_to l k = chain_to s u h.same_length Chained chain_ccw (λ x y c part cd lead. further c part cd lead) 6 p.address l at_once k
 
     seek_chain_from : (l : List ℕ) → IsChain u 6 p.address l → IsChain s 6 p.address l
-    seek_chain_from l k = chain_from s u h.same_length Chained chain_word (λ x y c part cd lead. further c part cd lead) 6 p.address l at_once k
+    seek_chain_from l k = chain_from s u h.same_length Chained chain_ccw (λ x y c part cd lead. further c part cd lead) 6 p.address l at_once k
 
     seek_addresses : (l : List ℕ) → IsChain s 6 p.address l → argument_addresses s l ≡ argument_addresses u l
-    seek_addresses l k = addresses_same s u h.same_length Chained chain_word (λ x y c part cd lead. further c part cd lead) p.address l at_once k
+    seek_addresses l k = addresses_same s u h.same_length Chained chain_ccw (λ x y c part cd lead. further c part cd lead) p.address l at_once k
 
     argument_same : (l : List ℕ) → IsChain s 6 p.address l → argument s l ≡ argument u l
     argument_same l k =
@@ -220,29 +220,29 @@ module _ (j : Job) (t : Storage) (h : IsSameIn (IsCounted j) (storage_of j) (byt
       go None e =
           ap (λ o. option_or o (rest j (ccw_of j p) x)) (check_same p r)
           ∙ ap (λ ts. option_or (check u p) (if is_transfer (ccw_of j p) then None else first_reason ts)) (table_same p r x y a b)
-          ∙ ap (λ c. option_or (check u p) (rest there c y)) (word_same p r (check_stands s p e))
+          ∙ ap (λ c. option_or (check u p) (rest there c y)) (ccw_same p r (check_stands s p e))
 
   takes_same : (p : Place) → IsReachable j p → IsClear j p → (b : ℕ) → (IsSeekByte j p b ⊎ IsMaskByte j p b) ↔ (IsSeekByte there p b ⊎ IsMaskByte there p b)
   takes_same p r clear b = (to, from)
     where
-      word : ccw_of j p ≡ ccw_of there p
-      word = word_same p r (check_stands s p (clear_check j p clear))
+      same : ccw_of j p ≡ ccw_of there p
+      same = ccw_same p r (check_stands s p (clear_check j p clear))
 
       to : IsSeekByte j p b ⊎ IsMaskByte j p b → IsSeekByte there p b ⊎ IsMaskByte there p b
       to (inl k) = inl (record {
-        seeks = subst (λ c. begins_seek p c ≡ true) word k.seeks;
+        seeks = subst (λ c. begins_seek p c ≡ true) same k.seeks;
         chain = k.chain;
         is_chain = seek_chain_to p r k.seeks k.chain k.is_chain;
         has = subst (λ l. Has l b) (seek_addresses p r k.seeks k.chain k.is_chain) k.has;
       })
-      to (inr k) = inr (record { sets = subst (λ c. begins_set_mask p c ≡ true) word k.sets; at = subst (λ (c : Fields). c.address ≡ b) word k.at })
+      to (inr k) = inr (record { sets = subst (λ c. begins_set_mask p c ≡ true) same k.sets; at = subst (λ (c : Fields). c.address ≡ b) same k.at })
 
       from : IsSeekByte there p b ⊎ IsMaskByte there p b → IsSeekByte j p b ⊎ IsMaskByte j p b
       from (inl k) =
-          let seeks : begins_seek p (ccw_of j p) ≡ true = subst (λ c. begins_seek p c ≡ true) (sym word) k.seeks in
+          let seeks : begins_seek p (ccw_of j p) ≡ true = subst (λ c. begins_seek p c ≡ true) (sym same) k.seeks in
           let chain = seek_chain_from p r seeks k.chain k.is_chain in
           inl (record { seeks = seeks; chain = k.chain; is_chain = chain; has = subst (λ l. Has l b) (sym (seek_addresses p r seeks k.chain chain)) k.has })
-      from (inr k) = inr (record { sets = subst (λ c. begins_set_mask p c ≡ true) (sym word) k.sets; at = subst (λ (c : Fields). c.address ≡ b) (sym word) k.at })
+      from (inr k) = inr (record { sets = subst (λ c. begins_set_mask p c ≡ true) (sym same) k.sets; at = subst (λ (c : Fields). c.address ≡ b) (sym same) k.at })
 
   same_at : (p : Place) → IsReachable j p → AreSame j there p
   same_at p r = record {
@@ -251,7 +251,7 @@ module _ (j : Job) (t : Storage) (h : IsSameIn (IsCounted j) (storage_of j) (byt
       (λ f. let y = argument_exists u p.address in (y.0, y.1, sym (fault_same p r f.0 y.0 f.1 y.1) ∙ f.2)),
       λ f. let x = argument_exists s p.address in (x.0, x.1, fault_same p r x.0 f.0 x.1 f.1 ∙ f.2),
     );
-    word = λ f. word_same p r (check_stands s p (clear_check j p f));
+    ccw = λ f. ccw_same p r (check_stands s p (clear_check j p f));
     takes = takes_same p r;
   }
 
@@ -266,7 +266,7 @@ path_over j k first same (p ∷ []) e = e ∙ first
 path_over j k first same (q ∷ p ∷ ps) e =
     let before = path_over j k first same (p ∷ ps) e.0 in
     let here = same p (ps, e.0) (ps, before) in
-    (before, (here.fault None).0 e.1, subst (Leads_on p q) (here.word e.1) e.2)
+    (before, (here.fault None).0 e.1, subst (Leads_on p q) (here.ccw e.1) e.2)
 
 reach_over : (j k : Job) → first_place j ≡ first_place k → ((p : Place) → IsReachable j p → IsReachable k p → AreSame j k p) → (p : Place) → IsReachable j p → IsReachable k p
 reach_over j k first same p r = (r.0, path_over j k first same (p ∷ r.0) r.1)

@@ -23,7 +23,7 @@ use Rattle.chan_walk.proofs.Theory.Faults.{clear_check, clear_good, yes_clear}
 use Rattle.chan_walk.proofs.Theory.Lists.{has_at, has_cases, has_left, has_right}
 use Rattle.chan_walk.proofs.Theory.Masking.{IsDown, mask_of, serves_down, strictest_of_any, strictest_of_byte, strictest_of_two, strictest_same}
 use Rattle.chan_walk.proofs.Algorithms.Looking.{place_at}
-use Rattle.chan_walk.proofs.Algorithms.Noted.{word_seen}
+use Rattle.chan_walk.proofs.Algorithms.Noted.{ccw_seen}
 
 -- ---- at one place
 
@@ -32,7 +32,7 @@ clear_stands j p f = check_stands (storage_of j) p (clear_check j p f)
 
 -- the command that begins at a clear place, as it was seen
 pub command_at : (j : Job) (l : Seen) → IsLook j l → IsClear j l.place → l.command ≡ begun l.place (ccw_of j l.place)
-command_at j l look f = search (rules, word_seen, clear_stands)
+command_at j l look f = search (rules, ccw_seen, clear_stands)
 
 pub fresh_from : (p : Place) (c : Fields) (k : Command) → begun p c ≡ Some k → (is_fresh p.entered ≡ true) × (lookup c.command ≡ Some k)
 fresh_from p c k h = search rules
@@ -99,8 +99,8 @@ module _ (j : Job) (l : Seen) (look : IsLook j l) (clear : IsClear j l.place) wh
   demands_byte k e same =
       let h = sym (command_at j l look clear) ∙ e in
       let sets : begins_set_mask l.place (ccw_of j l.place) ≡ true = sets_it j l.place k h ∙ ap class_sets_mask same in
-      let word = word_seen j l look (clear_stands j l.place clear) in
-      let is : byte_of l.read ≡ byte (storage_of j) (ccw_of j l.place).address = ap byte_of ((look.read (ccw_of j l.place) word).mask sets) in
+      let ccw = ccw_seen j l look (clear_stands j l.place clear) in
+      let is : byte_of l.read ≡ byte (storage_of j) (ccw_of j l.place).address = ap byte_of ((look.read (ccw_of j l.place) ccw).mask sets) in
       let strict = (clear_good j l.place clear (mask_is_no_transfer (ccw_of j l.place) (and_parts _ _ sets).1)).strict sets in
       subst (IsStrictest (ServesAt j l.place)) (sym is)
       (strictest_same _ (ServesAt j l.place) _ (serves_byte j l.place k h same) (strictest_of_byte _ (mask_of _ j.mask strict) (j.storage.fits (ccw_of j l.place).address)))

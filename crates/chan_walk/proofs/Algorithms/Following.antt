@@ -111,7 +111,7 @@ in_range s a h = search (rules, and_parts, leb-true, part_counts)
 pub part_in_range : (s : List ℕ) (a : ℕ) (c : Fields) → ccw_at s a ≡ Some c → is_part s a ≡ true → IsInRange s a c
 part_in_range s a c h k = subst (IsInRange s a) (sym (ccw_at-some s a c h).2) (in_range s a k)
 
--- what is known of a word that was found
+-- what is known of a CCW that was found
 pub ruleset found_parts = (found_is_part, part_in_range)
 
 -- ---- the bytes of an argument lie in storage

@@ -21,7 +21,7 @@ use Rattle.chan_walk.specs.Reachable.{IsReachable}
 use Rattle.chan_walk.specs.Verdict.{IsVerdict}
 use Rattle.chan_walk.specs.Place.{transferred_to, ccw_of}
 use Rattle.chan_walk.proofs.Algorithms.Counted.{AreSame, verdict_both}
-use Rattle.chan_walk.proofs.Theory.Granting.{turned, word, seek_byte_over, mask_byte_over, covered_more, refused_more}
+use Rattle.chan_walk.proofs.Theory.Granting.{turned, ccw_over, seek_byte_over, mask_byte_over, covered_more, refused_more}
 use Rattle.chan_walk.proofs.Theory.OwnFaults.{data_in_storage}
 use Rattle.chan_walk.proofs.Theory.Strictness.{laxer_permits, strict_as_laxer}
 
@@ -47,7 +47,7 @@ module _ (j k : Job) (one : AreOfOneProgram j k) (more : GrantsMore j k) (less :
 
   rest_alike : (p : Place) (x : Option (List ℕ)) → check (storage_of j) p ≡ None
       → (if is_transfer (ccw_of j p) then None else first_reason (table_of_own j p (ccw_of j p) x)) ≡ (if is_transfer (ccw_of k p) then None else first_reason (table_of_own k p (ccw_of k p) x))
-  rest_alike p x e = go (is_transfer (ccw_of j p)) refl ∙ ap (λ c. if is_transfer c then None else first_reason (table_of_own k p c x)) (word j k one p)
+  rest_alike p x e = go (is_transfer (ccw_of j p)) refl ∙ ap (λ c. if is_transfer c then None else first_reason (table_of_own k p c x)) (ccw_over j k one p)
     where
       go : (b : Bool) → is_transfer (ccw_of j p) ≡ b → cond b None (first_reason (table_of_own j p (ccw_of j p) x)) ≡ cond b None (first_reason (table_of_own k p (ccw_of j p) x))
       go true t = refl
@@ -75,7 +75,7 @@ module _ (j k : Job) (one : AreOfOneProgram j k) (more : GrantsMore j k) (less :
           (λ f. (f.0, subst (λ s. HasArgument s p.address f.0) one.storage f.1, sym (fault_alike p f.0) ∙ f.2)),
           λ f. (f.0, subst (λ s. HasArgument s p.address f.0) back.storage f.1, fault_alike p f.0 ∙ f.2),
         );
-        word = λ f. word j k one p;
+        ccw = λ f. ccw_over j k one p;
         takes = λ f b. (to j k one p b, to k j back p b);
       }
     where

@@ -1,5 +1,5 @@
 -- The areas of a guard while they are gathered, place by place.
-use Rattle.std.proofs.Common.{◌≡◌, ℕ, ◌+◌, ◌<◌, ◌≤◌, ◌^◌, true, ◌++◌, List, [], ◌∷◌, map, length, get_or, Option, is_some, sym, ap, ◌∙◌, subst, ◌⊎◌, ◌↔◌, Result, Ok, Err, IfOk, arith, rules}
+use Rattle.std.proofs.Common.{◌≡◌, ℕ, ◌+◌, ◌<◌, ◌≤◌, ◌^◌, true, ◌++◌, List, [], ◌∷◌, map, length, get_or, Option, is_some, sym, ap, ◌∙◌, subst, ◌↔◌, Result, Ok, Err, IfOk, arith, rules}
 use Rattle.std.specs.List.{All}
 use Rattle.std.proofs.lemmas.Bool.{or_cases, or_left, or_right, both_ways, leb-true}
 use Rattle.std.proofs.lemmas.List.Elements.{All-append, All-map}

@@ -29,7 +29,7 @@ use Rattle.chan_walk.specs.Rows.{AreExactly, AreLooksOfYes, AreNeeds, HasStoreAn
 use Rattle.chan_walk.specs.Surveyed.{IsSurvey}
 use Rattle.chan_walk.specs.Verdict.{IsVerdict}
 use Rattle.chan_walk.proofs.Theory.Faults.{clear_check, yes_clear}
-use Rattle.chan_walk.proofs.Theory.Granting.{fetches_parts, same_under_yes, stores_parts, turned, word}
+use Rattle.chan_walk.proofs.Theory.Granting.{fetches_parts, same_under_yes, stores_parts, turned, ccw_over}
 use Rattle.chan_walk.proofs.Theory.Masking.{strictest_same}
 use Rattle.chan_walk.proofs.Theory.Needing.{needed_mask_is_enough, to_open, yes_opens}
 use Rattle.chan_walk.proofs.Theory.OwnFaults.{data_in_storage}
@@ -42,7 +42,7 @@ use Rattle.chan_walk.proofs.Algorithms.Seeking.{runs_of}
 module _ (j k : Job) (one : AreOfOneProgram j k) where
   serves_over : (p : Place) (m : ℕ) → ServesAt j p m → ServesAt k p m
   serves_over p m h = record {
-    permits = subst (λ c. begins p c ≡ true → inhibits m c.command ≡ false) (word j k one p) h.permits;
+    permits = subst (λ c. begins p c ≡ true → inhibits m c.command ≡ false) (ccw_over j k one p) h.permits;
     admits = subst (λ s. begins_set_mask p (ccw s p.address) ≡ true → is_at_least (byte s (ccw s p.address).address) m ≡ true) one.storage h.admits;
   }
 
@@ -53,9 +53,9 @@ module _ (j k : Job) (one : AreOfOneProgram j k) where
   data_over test on b h = record {
     place = h.place;
     reached = on h.place h.reached;
-    passes = (subst (λ s. Stands s h.place.address) one.storage h.passes.0, subst (λ c. test h.place c ≡ true) (word j k one h.place) h.passes.1);
-    from = subst (λ c. (data_of c).start ≤ b) (word j k one h.place) h.from;
-    below = subst (λ c. b < end_of (data_of c)) (word j k one h.place) h.below;
+    passes = (subst (λ s. Stands s h.place.address) one.storage h.passes.0, subst (λ c. test h.place c ≡ true) (ccw_over j k one h.place) h.passes.1);
+    from = subst (λ c. (data_of c).start ≤ b) (ccw_over j k one h.place) h.from;
+    below = subst (λ c. b < end_of (data_of c)) (ccw_over j k one h.place) h.below;
   }
 
 -- ---- what was found

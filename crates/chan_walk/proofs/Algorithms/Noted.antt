@@ -87,8 +87,8 @@ filter_drops p xs i d old l k h = grind (arith, common_steps, append-nil, filter
 abbrev pub HasData : (Place → Fields → Bool) → Job → Place → ℕ → Type 0
 HasData test j p b = Passes test j p × ((data_at j p).start ≤ b) × (b < end_of (data_at j p))
 
-pub word_seen : (j : Job) (l : Seen) → IsLook j l → Stands (storage_of j) l.place.address → l.ccw ≡ Some (ccw_of j l.place)
-word_seen j l look s = look.ccw ∙ ccw_at-where (storage_of j) l.place.address s
+pub ccw_seen : (j : Job) (l : Seen) → IsLook j l → Stands (storage_of j) l.place.address → l.ccw ≡ Some (ccw_of j l.place)
+ccw_seen j l look s = look.ccw ∙ ccw_at-where (storage_of j) l.place.address s
 
 pub adds_data : (test : Place → Fields → Bool) (j : Job) (l : Seen) (so : Bool) (old new : List Area) → IsLook j l → ((c : Fields) → l.ccw ≡ Some c → so ≡ test l.place c) → AddsBytes old new (IsSeenByte l so) → AddsBytes old new (HasData test j l.place)
 adds_data test j l so old new look same adds b = search rules

@@ -33,7 +33,7 @@ use Rattle.chan_walk.proofs.Theory.Chains.{argument_unique}
 use Rattle.chan_walk.proofs.Algorithms.Demanding.{clear_stands, command_at, fresh_from, none_from}
 use Rattle.chan_walk.proofs.Algorithms.Guarding.{HoldBytes, adds_areas, lies_in-bytes}
 use Rattle.chan_walk.proofs.Algorithms.Merging.{InArea, lies_in-cases, lies_in-first, lies_in-rest}
-use Rattle.chan_walk.proofs.Algorithms.Noted.{word_seen}
+use Rattle.chan_walk.proofs.Algorithms.Noted.{ccw_seen}
 
 -- ---- at one look
 
@@ -103,7 +103,7 @@ module _ (j : Job) (l : Seen) (look : IsLook j l) (clear : IsClear j l.place) wh
     goes_seeking f g n = (to (argument_of l.read) has, from)
       where
         has : HasArgument (storage_of j) p.address (argument_of l.read)
-        has = read_whole (storage_of j) p l.read ((look.read c (word_seen j l look (clear_stands j p clear))).seek (seeks_it ∙ f))
+        has = read_whole (storage_of j) p l.read ((look.read c (ccw_seen j l look (clear_stands j p clear))).seek (seeks_it ∙ f))
 
         to : (o : Option (List ℕ)) → HasArgument (storage_of j) p.address o → option_map cylinder_of o ≡ Some n → SeeksCylinder j p n
         to None h d = absurd cc

@@ -30,7 +30,7 @@ use Rattle.chan_walk.proofs.Machine.Storing.{StoresAt, step_only}
 use Rattle.chan_walk.proofs.Machine.Waiting.{WaitsSpared, waits_kept}
 use Rattle.chan_walk.proofs.Theory.Lists.{all_map}
 use Rattle.chan_walk.proofs.Theory.Masks.{strict_as_itself}
-use Rattle.chan_walk.proofs.Theory.Words.{same_ccw}
+use Rattle.chan_walk.proofs.Theory.SameCcws.{same_ccw}
 
 -- a seek that begins goes out, as its table entry says
 pub fresh_out : (p : Place) (c : Fields) → begins_seek p c ≡ true → kind_of p.entered c ≡ Outward

@@ -18,13 +18,13 @@ pub check-outside : (s : List ℕ) (p : Place) → p.address % 8 ≡ 0 → ccw_a
 unfolding check_of
 check-outside s p h n = search (rules, is_aligned-true, ccw_at-none)
 
--- where a word stands, only its own bits are left to look at
+-- where a CCW stands, only its own bits are left to look at
 pub check-found : (s : List ℕ) (p : Place) (c : Fields) → ccw_at s p.address ≡ Some c
     → check s p ≡ option_or (first_reason ((is_transfer c && p.after_transfer, TransferNotAllowed) ∷ [])) (if is_transfer c then None else first_reason (table_of_non_transfer (length s) p c))
 unfolding check_of
 check-found s p c h = search rules
 
--- a word that was found gives bytes of an argument
+-- a CCW that was found gives bytes of an argument
 pub found_is_part : (s : List ℕ) (a : ℕ) (c : Fields) → ccw_at s a ≡ Some c
     → is_part s a ≡ (not (is_transfer c) && is_formed c && is_counted c && has_data_in (length s) c)
 unfolding is_part

@@ -86,8 +86,8 @@ pub turned : (j k : Job) → AreOfOneProgram j k → AreOfOneProgram k j
 turned j k one = record { storage = sym one.storage; start = sym one.start; device = sym one.device }
 
 module _ (j k : Job) (one : AreOfOneProgram j k) where
-  pub word : (p : Place) → ccw_of j p ≡ ccw_of k p
-  word p = ap (λ s. ccw s p.address) one.storage
+  pub ccw_over : (p : Place) → ccw_of j p ≡ ccw_of k p
+  ccw_over p = ap (λ s. ccw s p.address) one.storage
 
   pub same_heads : heads j ≡ heads k
   same_heads = ap heads_of one.device
@@ -98,8 +98,8 @@ module _ (j k : Job) (one : AreOfOneProgram j k) where
       → IsClear k p
   clear_over p f g =
       clear_from k p f.0 (subst (λ s. HasArgument s p.address f.0) one.storage f.1) (subst (λ s. check s p ≡ None) one.storage (clear_check j p f))
-      (λ t. let u : is_transfer (ccw_of j p) ≡ false = subst (λ c. is_transfer c ≡ false) (sym (word p)) t in
-      subst (λ c. IsGood k p c f.0) (word p) (g f.0 f.1 u (data_in_storage (storage_of j) p (ccw_of j p) (clear_check j p f) refl u) (clear_good j p f u)))
+      (λ t. let u : is_transfer (ccw_of j p) ≡ false = subst (λ c. is_transfer c ≡ false) (sym (ccw_over p)) t in
+      subst (λ c. IsGood k p c f.0) (ccw_over p) (g f.0 f.1 u (data_in_storage (storage_of j) p (ccw_of j p) (clear_check j p f) refl u) (clear_good j p f u)))
 
   -- where nothing that is reachable under j has a fault, nothing else is reachable under k
   path_over : AreClear j → (ps : List Place) → IsPath k ps → IsPath j ps
@@ -107,7 +107,7 @@ module _ (j k : Job) (one : AreOfOneProgram j k) where
   path_over clear (p ∷ []) e = e ∙ sym (ap (λ a. transferred_to a Fresh) one.start)
   path_over clear (q ∷ p ∷ ps) e =
       let before = path_over clear (p ∷ ps) e.0 in
-      (before, clear p (ps, before), subst (Leads_on p q) (sym (word p)) e.2)
+      (before, clear p (ps, before), subst (Leads_on p q) (sym (ccw_over p)) e.2)
 
   pub reach_over : AreClear j → (p : Place) → IsReachable k p → IsReachable j p
   reach_over clear p r = (r.0, path_over clear (p ∷ r.0) r.1)
@@ -117,14 +117,14 @@ module _ (j k : Job) (one : AreOfOneProgram j k) where
 
   pub seek_byte_over : (p : Place) (b : ℕ) → IsSeekByte j p b → IsSeekByte k p b
   seek_byte_over p b g = record {
-    seeks = subst (λ c. begins_seek p c ≡ true) (word p) g.seeks;
+    seeks = subst (λ c. begins_seek p c ≡ true) (ccw_over p) g.seeks;
     chain = g.chain;
     is_chain = subst (λ s. IsChain s 6 p.address g.chain) one.storage g.is_chain;
     has = subst (λ s. Has (argument_addresses s g.chain) b) one.storage g.has;
   }
 
   pub mask_byte_over : (p : Place) (b : ℕ) → IsMaskByte j p b → IsMaskByte k p b
-  mask_byte_over p b g = record { sets = subst (λ c. begins_set_mask p c ≡ true) (word p) g.sets; at = subst (λ (c : Fields). c.address ≡ b) (word p) g.at }
+  mask_byte_over p b g = record { sets = subst (λ c. begins_set_mask p c ≡ true) (ccw_over p) g.sets; at = subst (λ (c : Fields). c.address ≡ b) (ccw_over p) g.at }
 
   argument_byte_over : ((p : Place) → IsReachable j p → IsReachable k p) → AreClear k → (b : ℕ) → IsArgumentByte j b → IsArgumentByte k b
   argument_byte_over on clear b g = record { place = g.place; reached = on g.place g.reached; clear = clear g.place (on g.place g.reached); takes = go g.takes }
@@ -135,10 +135,10 @@ module _ (j k : Job) (one : AreOfOneProgram j k) where
 
   stores_over : (p : Place) (P Q : ℕ → Type 0) → ((b : ℕ) → P b → Q b) → StoresOver j p P → StoresOver k p Q
   stores_over p P Q f o = record {
-    stores = subst (λ c. stores p c ≡ true) (word p) o.stores;
+    stores = subst (λ c. stores p c ≡ true) (ccw_over p) o.stores;
     at = o.at;
-    from = subst (λ (c : Fields). c.address ≤ o.at) (word p) o.from;
-    below = subst (λ (c : Fields). o.at < c.address + c.count) (word p) o.below;
+    from = subst (λ (c : Fields). c.address ≤ o.at) (ccw_over p) o.from;
+    below = subst (λ (c : Fields). o.at < c.address + c.count) (ccw_over p) o.below;
     holds = f o.at o.holds;
   }
 
@@ -175,7 +175,7 @@ module _ (j k : Job) (one : AreOfOneProgram j k) where
     path_more : (ps : List Place) → IsPath j ps → IsPath k ps
     path_more [] e = e
     path_more (p ∷ []) e = e ∙ ap (λ a. transferred_to a Fresh) one.start
-    path_more (q ∷ p ∷ ps) e = (path_more (p ∷ ps) e.0, clear_more p e.1, subst (Leads_on p q) (word p) e.2)
+    path_more (q ∷ p ∷ ps) e = (path_more (p ∷ ps) e.0, clear_more p e.1, subst (Leads_on p q) (ccw_over p) e.2)
 
 pub more_is_reachable : (j k : Job) → AreOfOneProgram j k → GrantsMore j k → (p : Place) → IsReachable j p → IsReachable k p
 more_is_reachable j k one more p r = (r.0, path_more j k one more (p ∷ r.0) r.1)

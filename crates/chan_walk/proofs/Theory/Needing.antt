@@ -27,7 +27,7 @@ use Rattle.chan_walk.proofs.Theory.Areas.{covered_at, allows_cylinder}
 use Rattle.chan_walk.proofs.Theory.Chains.{argument_unique}
 use Rattle.chan_walk.proofs.Theory.Commands.{mask_is_no_transfer, seek_is_no_transfer, recalibrate_is_no_transfer}
 use Rattle.chan_walk.proofs.Theory.Faults.{IsGood, clear_check, clear_good, yes_clear, stores_from}
-use Rattle.chan_walk.proofs.Theory.Granting.{word, same_heads, stores_parts, fetches_parts, covered_from, allows_from, clear_over, reach_over, turned, yes_over, more_is_yes, same_under_yes}
+use Rattle.chan_walk.proofs.Theory.Granting.{ccw_over, same_heads, stores_parts, fetches_parts, covered_from, allows_from, clear_over, reach_over, turned, yes_over, more_is_yes, same_under_yes}
 use Rattle.chan_walk.proofs.Theory.Strictness.{laxer_permits, strict_as_laxer, strict_as_open}
 
 -- ---- the open job
@@ -67,11 +67,11 @@ module _ (j k : Job) (one : AreOfOneProgram j k) (v : IsVerdict k Yes) where
   clear : (p : Place) → IsOpenlyReachable j p → IsClear k p
   clear p r = yes_clear k v p (reach_over k (open_job j) (to_open j k one) (yes_clear k v) p r)
 
-  same_word : (p : Place) → ccw_of k p ≡ ccw_of j p
-  same_word p = word k (open_job j) (to_open j k one) p
+  same_ccw : (p : Place) → ccw_of k p ≡ ccw_of j p
+  same_ccw p = ccw_over k (open_job j) (to_open j k one) p
 
   good : (p : Place) (r : IsOpenlyReachable j p) → is_transfer (ccw_of j p) ≡ false → IsGood k p (ccw_of j p) (clear p r).0
-  good p r t = subst (λ c. IsGood k p c (clear p r).0) (same_word p) (clear_good k p (clear p r) (subst (λ c. is_transfer c ≡ false) (sym (same_word p)) t))
+  good p r t = subst (λ c. IsGood k p c (clear p r).0) (same_ccw p) (clear_good k p (clear p r) (subst (λ c. is_transfer c ≡ false) (sym (same_ccw p)) t))
 
   has_needed : (n : ℕ) → IsNeededCylinder j n → has_cylinder (extents_of k) n ≡ true
   has_needed n m = subst (λ c. has_cylinder (extents_of k) c ≡ true) m.at (go m.seeks)

@@ -39,14 +39,14 @@ numbers_increase j p x = (same (is_transfer c), rises (is_transfer c))
     any : List (Bool × Reason)
     any = table_of_every_ccw (length (storage_of j)) p (ccw_of j p)
 
-    word : List (Bool × Reason)
-    word = table_of_non_transfer (length (storage_of j)) p (ccw_of j p)
+    ccw : List (Bool × Reason)
+    ccw = table_of_non_transfer (length (storage_of j)) p (ccw_of j p)
 
     own : List (Bool × Reason)
     own = table_of_own j p (ccw_of j p) x
 
-    same : (b : Bool) → option_or (option_or (first_reason any) (if b then None else first_reason word)) (if b then None else first_reason own) ≡ first_reason (any ++ (if b then [] else word ++ own))
-    same b = search (rules, or_none, first_reason-append, any, or_assoc, word, own)
+    same : (b : Bool) → option_or (option_or (first_reason any) (if b then None else first_reason ccw)) (if b then None else first_reason own) ≡ first_reason (any ++ (if b then [] else ccw ++ own))
+    same b = search (rules, or_none, first_reason-append, any, or_assoc, ccw, own)
 
-    rises : (b : Bool) → IsStrictlyIncreasing (numbers_of (any ++ (if b then [] else word ++ own)))
-    rises b = search (rules, increasing, any, word, own)
+    rises : (b : Bool) → IsStrictlyIncreasing (numbers_of (any ++ (if b then [] else ccw ++ own)))
+    rises b = search (rules, increasing, any, ccw, own)

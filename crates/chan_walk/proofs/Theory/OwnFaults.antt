@@ -74,7 +74,7 @@ fault_of_parts j p c command lent seek mask e h t f g k n =
     three : first_reason (command_faults j p c ++ lent_faults j p c ++ seek_faults j p c k.0) ≡ option_or (option_or command lent) seek
     three = search (rules, first_reason-append)
 
--- the data range of a word that passed the channel's checks lies in storage
+-- the data range of a CCW that passed the channel's checks lies in storage
 pub data_in_storage : (s : List ℕ) (p : Place) (c : Fields) → check s p ≡ None → c ≡ ccw s p.address → is_transfer c ≡ false → c.address + c.count ≤ length s
 unfolding has_data_in
 data_in_storage s p c h e t =

@@ -10,13 +10,13 @@ use Rattle.chan_walk.proofs.fault.command_fault.Goals as goal
 pub returns-in-Some : goal.returns-in-Some
 returns-in-Some c =
     let fresh : is_fresh c.args.visit.now.place.entered ≡ true = sym c.is_fresh.ensures ∙ c.if-not-is_fresh.false in
-    let found : lookup c.args.visit.now.word.command ≡ Some (entry_of c.in-Some.command) = sym (begun-fresh c.args.visit.now.place c.args.visit.now.word fresh) ∙ sym c.requires.command ∙ ap (option_map entry_of) c.in-Some.is in
-    let i : inhibits c.args.job.now.mask c.args.visit.now.word.command ≡ true = inhibits-class _ _ _ found ∙ sym c.inhibits.ensures ∙ c.if-inhibits.true in
+    let found : lookup c.args.visit.now.ccw.command ≡ Some (entry_of c.in-Some.command) = sym (begun-fresh c.args.visit.now.place c.args.visit.now.ccw fresh) ∙ sym c.requires.command ∙ ap (option_map entry_of) c.in-Some.is in
+    let i : inhibits c.args.job.now.mask c.args.visit.now.ccw.command ≡ true = inhibits-class _ _ _ found ∙ sym c.inhibits.ensures ∙ c.if-inhibits.true in
     rw (fresh, found, i) refl
 
 pub returns-in-Some-2 : goal.returns-in-Some-2
 returns-in-Some-2 c =
     let fresh : is_fresh c.args.visit.now.place.entered ≡ true = sym c.is_fresh.ensures ∙ c.if-not-is_fresh.false in
-    let found : lookup c.args.visit.now.word.command ≡ Some (entry_of c.in-Some.command) = sym (begun-fresh c.args.visit.now.place c.args.visit.now.word fresh) ∙ sym c.requires.command ∙ ap (option_map entry_of) c.in-Some.is in
-    let i : inhibits c.args.job.now.mask c.args.visit.now.word.command ≡ false = inhibits-class _ _ _ found ∙ sym c.inhibits.ensures ∙ c.if-inhibits.false in
+    let found : lookup c.args.visit.now.ccw.command ≡ Some (entry_of c.in-Some.command) = sym (begun-fresh c.args.visit.now.place c.args.visit.now.ccw fresh) ∙ sym c.requires.command ∙ ap (option_map entry_of) c.in-Some.is in
+    let i : inhibits c.args.job.now.mask c.args.visit.now.ccw.command ≡ false = inhibits-class _ _ _ found ∙ sym c.inhibits.ensures ∙ c.if-inhibits.false in
     rw (fresh, found, i) refl
