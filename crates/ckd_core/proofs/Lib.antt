@@ -1,3 +1,4 @@
 pub mod TableLemmas
+mod Permitting
 pub mod CylinderLemmas
 pub mod ArgumentLemmas

@@ -1,6 +1,7 @@
 pub mod Geometry
 pub mod Table
 pub mod Entries
+pub mod Further
 pub mod Mask
 pub mod Cylinders
 pub mod HeldCylinders

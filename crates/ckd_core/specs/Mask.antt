@@ -1,14 +1,14 @@
 -- Which commands a file mask inhibits
 -- (component descriptions of the 2841 with the 2311, and of the 2314; the classes of Recalibrate
 -- and Erase are this project's choice).
-use Rattle.std.specs.Prelude.{ℕ, Bool, true, false, ◌≡◌, ◌↔◌, ◌==◌, ◌&&◌, ◌||◌, not, bit_and, List}
-use Rattle.std.specs.Prelude.{[], ◌∷◌}
+use Rattle.std.specs.Prelude.{ℕ, zero, suc, Bool, true, false, ◌≡◌, ◌↔◌, ◌+◌, ◌==◌, ◌&&◌, ◌||◌, not}
+use Rattle.std.specs.Prelude.{bit_and, List, [], ◌∷◌, Option, None, if◌then◌else◌}
 use Rattle.std.specs.List.{list_all}
 use Rattle.ckd_core.specs.declared.command.MaskClass.{MaskClass}
 use Rattle.ckd_core.specs.declared.command.MaskClass.TheVariants.{Plain, Seek, SeekCylinder}
 use Rattle.ckd_core.specs.declared.command.MaskClass.TheVariants.{SeekHead, Recalibrate, WriteHome}
 use Rattle.ckd_core.specs.declared.command.MaskClass.TheVariants.{WriteFormat, WriteUpdate, SetMask}
-use Rattle.ckd_core.specs.Table.{class_passes, lookup}
+use Rattle.ckd_core.specs.Table.{Entry, class_passes, lookup}
 
 -- no bit but those of writes and seeks
 abbrev pub is_mask : ℕ → Bool
@@ -61,6 +61,20 @@ inhibits_too byte mask class = not (inhibits_class mask class) || inhibits_class
 -- inhibits
 unfoldable pub is_at_least : ℕ → ℕ → Bool
 is_at_least byte mask = is_mask byte && list_all (inhibits_too byte mask) inhibitable
+
+-- the mask inhibits the class, and the byte doesn't
+abbrev pub permits_beyond : ℕ → ℕ → MaskClass → Bool
+permits_beyond byte mask class = inhibits_class mask class && not (inhibits_class byte class)
+
+-- the first command of which the class passes a test, of those with n codes in a row
+abbrev pub first_command : (MaskClass → Bool) → ℕ → ℕ → Option Entry
+first_command test code zero = None
+first_command test code (suc n) =
+    if class_passes test (lookup code) then lookup code else first_command test (code + 1) n
+
+-- the command with the least code that the mask inhibits and the byte doesn't
+unfoldable pub least_permitted : ℕ → ℕ → Option Entry
+least_permitted byte mask = first_command (permits_beyond byte mask) 0 256
 
 -- strictness, said of every class: a byte is at least as strict as a mask exactly where it is a
 -- mask and inhibits what that one inhibits

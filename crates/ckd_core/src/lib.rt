@@ -24,12 +24,14 @@
 mod command;
 mod device;
 mod extents;
+mod further;
 mod mask;
 mod track;
 
 pub use crate::command::{Command, Kind, MaskClass, lookup};
 pub use crate::device::Device;
 pub use crate::extents::{ExtentError, Extents};
+pub use crate::further::further_name;
 pub use crate::mask::FileMask;
 pub use crate::track::{Track, allowed};
 

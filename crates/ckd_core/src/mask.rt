@@ -1,10 +1,15 @@
 //! The file mask, by which a supervisor inhibits writes and seeks.
 
-ghost use Rattle.std.specs.Prelude.{◌≡◌, ◌↔◌, true, IsSome, IfSome};
+ghost use Rattle.std.specs.Prelude.{◌≡◌, ◌↔◌, true, None, IsSome, IfSome, option_map};
+ghost use Rattle.std.specs.Prelude.{if◌then◌else◌};
 ghost use Rattle.ckd_core.specs.Entries.{entry_of};
+ghost use Rattle.ckd_core.specs.Mask as specs;
 ghost use Rattle.ckd_core.specs.Mask.{StrictnessIsByClass, inhibits_class, is_at_least, is_mask};
+ghost use Rattle.ckd_core.specs.Mask.{permits_beyond};
+ghost use Rattle.ckd_core.specs.Table.{class_passes};
+ghost use Rattle.ckd_core.specs.Table as table;
 
-use crate::command::{Command, MaskClass};
+use crate::command::{Command, MaskClass, lookup};
 use std::marker::Model;
 
 /// The bits that decide over writes.
@@ -93,6 +98,32 @@ impl FileMask {
         // This tells the prover that the byte of a mask is a mask.
         let FileMask { byte: _byte } = *self;
         INHIBITABLE.iter().all(|class| !than.inhibits_class(*class) || self.inhibits_class(*class))
+    }
+
+    /// The command with the least code that another mask inhibits and this one permits. Where this
+    /// one is at least as strict there is none.
+    pub fn least_permitted(&self, than: FileMask) -> Option<Command>
+        ensures { option_map entry_of result ≡ specs.least_permitted self.now than }
+    {
+        for code in 0..256u16 {
+            if let Some(command) = self.permitted(than, code as u8) {
+                return Some(command);
+            }
+        }
+        None
+    }
+
+    /// The command of a code, if another mask inhibits it and this one permits it.
+    fn permitted(&self, than: FileMask, code: u8) -> Option<Command>
+        ensures { option_map entry_of result ≡ (if class_passes (permits_beyond self.now than)
+            (table.lookup code) then table.lookup code else None) }
+    {
+        let command = lookup(code)?;
+        if than.inhibits(command) && !self.inhibits(command) {
+            Some(command)
+        } else {
+            None
+        }
     }
 
     fn inhibits_class(&self, class: MaskClass) -> bool

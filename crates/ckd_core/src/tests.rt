@@ -1,6 +1,8 @@
 //! Worked cases, with the answers of the devices' tables.
 
-use crate::{Device, ExtentError, Extents, FileMask, Kind, MaskClass, Track, allowed, lookup};
+use crate::{
+    Device, ExtentError, Extents, FileMask, Kind, MaskClass, Track, allowed, further_name, lookup,
+};
 use std::alloc::Global;
 use std::test::Fail;
 
@@ -131,27 +133,70 @@ fn commands(rt: HostRuntime) {
     }
 }
 
-/// Codes that the table doesn't have.
-static OUTSIDE: &[(u8, &str)] = &[
-    (0x9F, "Set File Mask, multi-track"),
-    (0x02, "Read IPL"),
-    (0x17, "Restore"),
-    (0x0F, "Space Count"),
-    (0x94, "Device Release"),
-    (0xB4, "Device Reserve"),
-    (0x0C, "Read Backward"),
-    (0x83, "No Operation, multi-track"),
-    (0x99, "Write Home Address, multi-track"),
-    (0x00, "invalid"),
-    (0x08, "Transfer in Channel"),
+/// Codes that the table doesn't have, with the names that some manual has for them.
+static OUTSIDE: &[(u8, Option<&str>)] = &[
+    (0x02, Some("read-ipl")),
+    (0x14, Some("unconditional-reserve")),
+    (0x94, Some("release")),
+    (0xB4, Some("reserve")),
+    (0x17, Some("restore")),
+    (0x22, Some("read-sector")),
+    (0x23, Some("set-sector")),
+    (0x2D, Some("search-key-data-equal")),
+    (0xAD, Some("search-key-data-equal-mt")),
+    (0x4D, Some("search-key-data-high")),
+    (0xCD, Some("search-key-data-high-mt")),
+    (0x6D, Some("search-key-data-equal-or-high")),
+    (0xED, Some("search-key-data-equal-or-high-mt")),
+    (0x25, Some("continue-scan-equal")),
+    (0xA5, Some("continue-scan-equal-mt")),
+    (0x45, Some("continue-scan-high")),
+    (0xC5, Some("continue-scan-high-mt")),
+    (0x65, Some("continue-scan-equal-or-high")),
+    (0xE5, Some("continue-scan-equal-or-high-mt")),
+    (0x35, Some("continue-scan-set")),
+    (0xB5, Some("continue-scan-set-mt")),
+    (0x75, Some("continue-scan-no-set")),
+    (0xF5, Some("continue-scan-no-set-mt")),
+    (0x27, Some("perform-subsystem-function")),
+    (0x3E, Some("read-subsystem-data")),
+    (0x47, Some("locate-record")),
+    (0x63, Some("define-extent")),
+    (0xE7, Some("prefix")),
+    (0x54, Some("sense-subsystem-status")),
+    (0x64, Some("read-device-characteristics")),
+    (0xE4, Some("sense-id")),
+    (0xFA, Some("read-configuration-data")),
+    (0x5E, Some("read-multiple-count-key-data")),
+    (0xDE, Some("read-track")),
+    (0xA4, Some("read-and-reset-buffered-log")),
+    // Set File Mask, multi-track.
+    (0x9F, None),
+    // Space Count.
+    (0x0F, None),
+    // Read Backward.
+    (0x0C, None),
+    // No Operation, multi-track.
+    (0x83, None),
+    // Write Home Address, multi-track.
+    (0x99, None),
+    // Invalid.
+    (0x00, None),
+    // Transfer in Channel.
+    (0x08, None),
 ];
 
 #[test]
 fn outside_the_table(rt: HostRuntime) {
     let inside = (0..=255u8).filter(|code| lookup(*code).is_some()).count();
     assert_eq!(rt; inside, 40);
+    let named = (0..=255u8)
+        .filter(|code| further_name(*code).is_some())
+        .count();
+    assert_eq!(rt; named, 35);
     for (code, name) in OUTSIDE {
-        assert!(rt; lookup(*code).is_none(), "{name}");
+        assert!(rt; lookup(*code).is_none(), "{code:02X}");
+        assert_eq!(rt; further_name(*code), *name, "{code:02X}");
     }
 }
 
@@ -264,33 +309,45 @@ fn mask_bits(rt: HostRuntime) {
     assert_eq!(rt; FileMask::new(0xD8).map(|mask| mask.byte()), Some(0xD8));
 }
 
-/// Pairs of masks, and whether the first is at least as strict as the second.
-static STRICTNESS: &[(u8, u8, bool)] = &[
-    (0x40, 0x80, true),
-    (0x80, 0x80, true),
-    (0x98, 0x80, true),
-    (0x00, 0x80, false),
-    (0xC0, 0x80, false),
-    (0x00, 0xC0, true),
-    (0x80, 0x00, true),
-    (0x40, 0x00, true),
-    (0x00, 0x08, false),
-    (0x10, 0x08, true),
-    (0x18, 0x10, true),
-    (0x10, 0x18, false),
-    (0x58, 0x00, true),
-    (0x48, 0xD0, false),
-    (0x98, 0x40, false),
+/// Pairs of masks, and the least code that the second inhibits and the first permits; there is none
+/// where the first is at least as strict.
+static STRICTNESS: &[(u8, u8, Option<u8>)] = &[
+    (0x40, 0x80, None),
+    (0x80, 0x80, None),
+    (0x98, 0x80, None),
+    (0x00, 0x80, Some(0x01)),
+    (0xC0, 0x80, Some(0x01)),
+    (0x00, 0xC0, None),
+    (0x80, 0x00, None),
+    (0x40, 0x00, None),
+    (0xC0, 0x00, Some(0x15)),
+    (0x00, 0x08, Some(0x07)),
+    (0x10, 0x08, None),
+    (0x18, 0x10, None),
+    (0x10, 0x18, Some(0x1B)),
+    (0x58, 0x00, None),
+    (0x48, 0xD0, Some(0x0B)),
+    (0x98, 0x40, Some(0x05)),
+    (0x00, 0x58, Some(0x01)),
 ];
 
 #[test]
 fn mask_strictness(rt: HostRuntime) {
-    for (byte, than, answer) in STRICTNESS {
-        let strict = match (FileMask::new(*byte), FileMask::new(*than)) {
-            (Some(mask), Some(than)) => Some(mask.at_least(than)),
-            _ => None,
+    for (byte, than, code) in STRICTNESS {
+        let (strict, permitted) = match (FileMask::new(*byte), FileMask::new(*than)) {
+            (Some(mask), Some(than)) => (Some(mask.at_least(than)), mask.least_permitted(than)),
+            _ => (None, None),
         };
-        assert_eq!(rt; strict, Some(*answer), "{byte:02X} beside {than:02X}");
+        assert_eq!(rt;
+            strict,
+            Some(code.is_none()),
+            "{byte:02X} beside {than:02X}"
+        );
+        assert_eq!(rt;
+            permitted.map(|command| command.code()),
+            *code,
+            "{byte:02X} beside {than:02X}"
+        );
     }
 }
 
