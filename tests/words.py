@@ -42,7 +42,8 @@ def causes_of(page):
     for word, said in re.findall(r"(?ms)^### `([a-z-]+)`$(.*?)(?=^### |\Z)", page):
         forms = re.findall(r"`(because [^`]+)`", " ".join(said.split()))
         forms += [form.replace(" argument ", " mask byte ") for form in forms if "BYTE" in form]
-        yield word, [VALUE.sub(lambda found: VALUES[found[0]], form) for form in forms]
+        plain = [re.sub(r"[()]", r"\\\g<0>", form) for form in forms]
+        yield word, [VALUE.sub(lambda found: VALUES[found[0]], form) for form in plain]
 
 
 def check_causes(checks, program, causes):

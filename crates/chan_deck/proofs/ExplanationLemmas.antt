@@ -7,13 +7,13 @@ use Rattle.hex.specs.Hex.{encode_upper, encode_with}
 use Rattle.ccw_core.specs.Ccw.{Fields}
 use Rattle.ccw_core.specs.Storage.{ccw_at}
 use Rattle.ckd_core.specs.Table.{Entry as TableEntry}
-use Rattle.chan_walk.specs.declared.evidence.Evidence.TheVariants.{WeakensMask}
+use Rattle.ckd_core.specs.Mask.{is_mask, least_permitted}
 use Rattle.chan_walk.specs.declared.evidence.Outside.TheVariants.{Bin, Head}
 use Rattle.chan_walk.specs.declared.offence.Offence.{Offence}
 use Rattle.chan_walk.specs.declared.place.Place.{Place}
-use Rattle.chan_deck.specs.Explanation.{also_line, also_lines, are_alike, cause_text, path_rows, seek_text}
+use Rattle.chan_deck.specs.Explanation.{also_line, also_lines, are_alike, path_rows, seek_text, weaker_text}
 use Rattle.chan_deck.specs.Item.{byte_digits}
-use Rattle.chan_deck.specs.Listing.{command_of, row, row_with}
+use Rattle.chan_deck.specs.Listing.{command_name, command_of, row, row_with}
 
 -- ---- the cause
 
@@ -25,10 +25,18 @@ bin_told held bytes n e = ap (λ b. held ++ (codes "bin " ++ (encode_upper (get_
 pub head_told : (held : List ℕ) (n m : ℕ) → held ++ (codes "head " ++ (decimal n ++ (codes " is not below " ++ decimal m))) ≡ held ++ seek_text (Head n m)
 head_told held n m = ap (λ t. held ++ (codes "head " ++ t)) (sym (append_assoc (decimal n) (codes " is not below ") (decimal m)))
 
-pub weaker_told : (held : List ℕ) (path : List Place) (b mask is : ℕ) → is ≡ mask
-    → held ++ (codes "mask byte " ++ (byte_digits b ++ (codes " is not as strict as " ++ byte_digits is))) ≡ held ++ cause_text path (WeakensMask b mask)
-weaker_told held path b mask is e =
-    ap (λ t. held ++ (codes "mask byte " ++ t)) (ap (λ m. byte_digits b ++ (codes " is not as strict as " ++ byte_digits m)) e ∙ sym (append_assoc (byte_digits b) (codes " is not as strict as ") (byte_digits mask)))
+-- six texts behind what is held, in either grouping
+regrouped : (h a d c m p n : List ℕ) → h ++ (a ++ (d ++ (c ++ (m ++ (p ++ n))))) ≡ h ++ (a ++ d ++ c ++ m ++ p ++ n)
+regrouped h a d c m p n =
+    ap (λ t. h ++ t) (sym (append_assoc (a ++ d ++ c ++ m) p n ∙ append_assoc (a ++ d ++ c) m (p ++ n) ∙ append_assoc (a ++ d) c (m ++ (p ++ n)) ∙ append_assoc a d (c ++ (m ++ (p ++ n)))))
+
+pub weaker_told : (held : List ℕ) (b mask is weaker : ℕ) (name : List ℕ) → is_mask b ≡ true → is ≡ mask → weaker ≡ b → name ≡ command_name (least_permitted weaker mask)
+    → held ++ (codes "mask byte " ++ (byte_digits b ++ (codes " is not as strict as " ++ (byte_digits is ++ (codes ": it permits " ++ name))))) ≡ held ++ weaker_text b mask
+weaker_told held b mask is weaker name m e w n =
+    let told = n ∙ ap (λ k. command_name (least_permitted k mask)) w in
+    rw m (ap (λ k. held ++ (codes "mask byte " ++ (byte_digits b ++ (codes " is not as strict as " ++ (byte_digits k ++ (codes ": it permits " ++ name)))))) e
+    ∙ ap (λ t. held ++ (codes "mask byte " ++ (byte_digits b ++ (codes " is not as strict as " ++ (byte_digits mask ++ (codes ": it permits " ++ t)))))) told
+    ∙ regrouped held (codes "mask byte ") (byte_digits b) (codes " is not as strict as ") (byte_digits mask) (codes ": it permits ") (command_name (least_permitted b mask)))
 
 -- ---- the rows of a path
 

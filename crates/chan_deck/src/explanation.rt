@@ -1,28 +1,29 @@
 //! The explanation of a verdict: what `chanv why` writes.
 
 ghost use Rattle.std.specs.Prelude.{◌≡◌, ◌↔◌, ◌++◌, false, true, string_bytes, IfOk, IsErrOf, OnOk};
-ghost use Rattle.std.specs.Prelude.{[], if◌then◌else◌};
+ghost use Rattle.std.specs.Prelude.{[], if◌then◌else◌, option_map};
 ghost use Rattle.std.specs.Io.KnownBytes.{Appends};
 ghost use Rattle.ccw_core.specs.Written.{AppendsPrefix};
 ghost use Rattle.chan_deck.specs.Explanation as texts;
 ghost use Rattle.chan_deck.specs.Listing.{command_name};
-ghost use Rattle.ckd_core.specs.Table as table;
+ghost use Rattle.ckd_core.specs.Entries.{entry_of};
+ghost use Rattle.ckd_core.specs.Further as further_codes;
 ghost use Rattle.chan_walk.specs.Job.{storage_of};
 
 use crate::listing::{ListError, push_row, standing_at};
 use crate::texts::{Address, Digits, Range, Size, verdict_text};
 use ccw_core::{Area, Watched, write_out};
 use chan_walk::{Evidence, Job, Offence, Outside, Place, Survey, Witness};
-use ckd_core::lookup;
+use ckd_core::{Command, FileMask, further_name, lookup};
 use std::alloc::{AllocError, Global};
 use std::fmt::Write as _;
 use std::io::Write;
 
-/// The name of the command of a code.
-fn name_of_code(code: u8) -> &'static str
-    ensures { result.now ≡ command_name (table.lookup code) }
+/// The name of a command of the table, or `unknown` for a code of none.
+fn name_of_command(command: Option<Command>) -> &'static str
+    ensures { result.now ≡ command_name (option_map entry_of command) }
 {
-    match lookup(code) {
+    match command {
         Some(command) => command.name(),
         None => "unknown",
     }
@@ -38,14 +39,54 @@ fn push_outside(out: &mut String, range: Area, length: u32) -> Result<(), AllocE
     write!(out, "{range} is not in storage of {length} bytes")
 }
 
-/// Adds that a part of some data isn't lent.
+/// Whether two areas have the same bytes.
+fn are_same(one: Area, other: Area) -> bool
+    ensures { result ≡ texts.are_same one other }
+{
+    one.start == other.start && one.len == other.len
+}
+
+/// Adds that none of some data is lent, or that a part of it isn't.
 fn push_unlent(out: &mut String, range: Area, gap: Area, purpose: &str) -> Result<(), AllocError>
     ensures { OnOk result (string_bytes out.new
         ≡ string_bytes out.old ++ texts.unlent_text range gap purpose.now) }
 {
+    if are_same(gap, range) {
+        let range = Range(range);
+        return write!(out, "none of {range} is lent for {purpose}");
+    }
     let range = Range(range);
     let gap = Range(gap);
     write!(out, "{gap} of {range} is not lent for {purpose}")
+}
+
+/// Adds that the command table hasn't a code, with the name that a manual has for it.
+fn push_unknown(out: &mut String, code: u8) -> Result<(), AllocError>
+    ensures { OnOk result (string_bytes out.new
+        ≡ string_bytes out.old ++ texts.unknown_text code (further_codes.further_name code)) }
+{
+    let digits = Digits(code);
+    match further_name(code) {
+        Some(name) => write!(out, "code {digits} ({name}) is not in the table"),
+        None => write!(out, "code {digits} is not in the table"),
+    }
+}
+
+/// Adds what is wrong with a byte that is set as the file mask.
+fn push_weaker(out: &mut String, byte: u8, mask: FileMask) -> Result<(), AllocError>
+    ensures { OnOk result (string_bytes out.new
+        ≡ string_bytes out.old ++ texts.weaker_text byte mask) }
+{
+    let digits = Digits(byte);
+    let Some(weaker) = FileMask::new(byte) else {
+        return write!(out, "mask byte {digits} is no file mask");
+    };
+    let name = name_of_command(weaker.least_permitted(mask));
+    let mask = Digits(mask.byte());
+    write!(
+        out,
+        "mask byte {digits} is not as strict as {mask}: it permits {name}"
+    )
 }
 
 /// Adds what is wrong with the argument of a seek.
@@ -131,13 +172,10 @@ fn push_cause(out: &mut String, path: &[Place], evidence: Evidence) -> Result<()
         }
         Evidence::ZeroCount => out.push_str("the count is zero"),
         Evidence::DataOutside { data, length } => push_outside(out, data, length),
-        Evidence::NotInTable { code } => {
-            let code = Digits(code);
-            write!(out, "code {code} is not in the table")
-        }
+        Evidence::NotInTable { code } => push_unknown(out, code),
         Evidence::Inhibited { mask, code } => {
             let mask = Digits(mask.byte());
-            let name = name_of_code(code);
+            let name = name_of_command(lookup(code));
             write!(out, "mask {mask} inhibits {name}")
         }
         Evidence::StoreNotLent { data, gap } => push_unlent(out, data, gap, "storing"),
@@ -147,11 +185,7 @@ fn push_cause(out: &mut String, path: &[Place], evidence: Evidence) -> Result<()
         Evidence::ChangesCcw { .. } | Evidence::ChangesArgument { .. } => push_change(
             out, evidence,
         ),
-        Evidence::WeakensMask { byte, mask } => {
-            let byte = Digits(byte);
-            let mask = Digits(mask.byte());
-            write!(out, "mask byte {byte} is not as strict as {mask}")
-        }
+        Evidence::WeakensMask { byte, mask } => push_weaker(out, byte, mask),
     }
 }
 

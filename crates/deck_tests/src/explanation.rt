@@ -28,7 +28,7 @@ const USUAL: Case<'static> = Case {
     text: "",
 };
 
-static CASES: [Case<'static>; 22] = [
+static CASES: [Case<'static>; 24] = [
     Case {
         puts: "put 000800 3100090040000005
 put 000808 0800080000000000
@@ -160,6 +160,14 @@ because code 0C is not in the table
         ..USUAL
     },
     Case {
+        puts: "put 000800 E500090000000010\n",
+        text: "no 000800 not-in-table
+000800 fresh t * E5 000900 -----0 00 0010 write unknown
+because code E5 (continue-scan-equal-or-high-mt) is not in the table
+",
+        ..USUAL
+    },
+    Case {
         store: "store 000A00 000080\nstore 000A90 000100\n",
         puts: "put 000800 06000A7000000050\n",
         text: "no 000800 store-not-lent
@@ -173,7 +181,7 @@ because 000A80-000A8F of 000A70-000ABF is not lent for storing
         text: "no 000808 store-not-lent
 000800 fresh t . 06 000A00 D----0 00 0010 read read-data
 000808 in - * 00 000B00 -----0 00 0010 invalid chained
-because 000B00-000B0F of 000B00-000B0F is not lent for storing
+because none of 000B00-000B0F is lent for storing
 ",
         ..USUAL
     },
@@ -242,7 +250,15 @@ because cylinder 0 is in no extent
         puts: "put 000800 1F00090000000001\nput 000900 C000000000000000\n",
         text: "no 000800 weakens-mask
 000800 fresh t * 1F 000900 -----0 00 0001 control set-file-mask
-because mask byte C0 is not as strict as 40
+because mask byte C0 is not as strict as 40: it permits write-special-count-key-data
+",
+        ..USUAL
+    },
+    Case {
+        puts: "put 000800 1F00090000000001\nput 000900 D900000000000000\n",
+        text: "no 000800 weakens-mask
+000800 fresh t * 1F 000900 -----0 00 0001 control set-file-mask
+because mask byte D9 is no file mask
 ",
         ..USUAL
     },

@@ -1,0 +1,14 @@
+use Rattle.std.proofs.Common.{◌∙◌, ap, refl, sym, string_bytes}
+use Rattle.std.proofs.lemmas.Result.{on_ok_weaker}
+use Rattle.chan_deck.specs.Listing.{command_name}
+use Rattle.ckd_core.specs.Mask.{least_permitted}
+use Rattle.chan_deck.proofs.ExplanationLemmas.{weaker_told}
+use Rattle.chan_deck.proofs.explanation.push_weaker.Goals as goal
+
+pub returns : goal.returns
+returns c =
+    let held = string_bytes c.args.out.now in
+    let is = c.byte.ensures.value in
+    let some = c.in-Some.ensures.mask.0 refl in
+    let name = c.name_of_command-name.ensures ∙ ap command_name c.least_permitted.ensures in
+    on_ok_weaker c.write-2.result (λ e. e ∙ weaker_told held c.args.byte c.args.mask _ c.in-Some.weaker _ some is c.in-Some.ensures.value name) c.write-2.ensures.bytes
