@@ -1,26 +1,28 @@
 -- The picture, piece by piece.
-use Rattle.std.proofs.Common.{◌≡◌, ◌∷◌, [], ◌++◌, ◌∙◌, ap, List, ℕ, Some, codes, append_assoc}
-use Rattle.chan_walk.specs.Reason.{word_of}
+use Rattle.std.proofs.Common.{◌≡◌, ◌∷◌, [], ◌++◌, ◌∙◌, ap, List, ℕ, None, Some, codes, append_assoc, option_map, refl, string_bytes}
+use Rattle.std.specs.BTreeMap.{BTreeMap}
+use Rattle.std.specs.BTreeMap as tree
+use Rattle.std.specs.List.{flat_map}
+use Rattle.std.specs.Ordering.{nat_cmp}
+use Rattle.std.specs.declared.string.String.{String}
+use Rattle.chan_walk.specs.Explored.{place_number}
+use Rattle.chan_walk.specs.Look.{Seen}
 use Rattle.chan_walk.specs.declared.offence.Offence.{Offence}
 use Rattle.chan_walk.specs.declared.place.Place.{Place}
 use Rattle.chan_walk.specs.declared.successor.Next.{Next}
-use Rattle.chan_walk.specs.Look.{Seen}
-use Rattle.chan_deck.specs.Graph.{edge_line, edge_lines, mark_line, next_style, node_name}
+use Rattle.chan_deck.specs.Graph.{AreMarks, edge_line, edge_lines, mark_in, mark_line, mark_with, next_style, node_name, text_in}
 
 six_parts : (a b c d e f : List ℕ) → a ++ (b ++ (c ++ (d ++ (e ++ f))))
     ≡ ((((a ++ b) ++ c) ++ d) ++ e) ++ f
 six_parts a b c d e f = simp append_assoc
 
-pub mark_told : (held word : List ℕ) (o : Offence) → word ≡ word_of o.reason
-    → held ++ (codes "  \"" ++ (node_name o.place
-    ++ (codes "\" [color=red, fontcolor=red, xlabel=\"" ++ (word ++ codes "\"];\n")))) ≡ held
-    ++ mark_line o
-mark_told held word o e =
-    ap (λ w. held ++ (codes "  \""
-    ++ (node_name o.place ++ (codes "\" [color=red, fontcolor=red, xlabel=\""
-    ++ (w ++ codes "\"];\n"))))) e
-    ∙ ap (λ t. held ++ t) (six_parts (codes "  \"") (node_name o.place)
-    (codes "\" [color=red, fontcolor=red, xlabel=\"") (word_of o.reason) (codes "\"];") (10 ∷ []))
+pub mark_told : (held : List ℕ) (p : Place) (t : List ℕ)
+    → held ++ (codes "  \"" ++ (node_name p
+    ++ (codes "\" [color=red, fontcolor=red, xlabel=\"" ++ (t ++ codes "\"];\n")))) ≡ held
+    ++ mark_with p (Some t)
+mark_told held p t = ap (λ u. held ++ u)
+    (six_parts (codes "  \"") (node_name p) (codes "\" [color=red, fontcolor=red, xlabel=\"") t
+    (codes "\"];") (10 ∷ []))
 
 eight_parts : (a b c d e f g h : List ℕ) → a ++ (b ++ (c ++ (d ++ (e ++ (f ++ (g ++ h))))))
     ≡ ((((((a ++ b) ++ c) ++ d) ++ e) ++ f) ++ g) ++ h
@@ -46,3 +48,31 @@ edges_told held more all style l p n at onward drawn first second =
     ∙ ap (λ q. held ++ (edge_line (next_style l.ccw) q n.next ++ edge_line dashed q n.skip)) at
     ∙ ap (λ (m : Next). held ++ (edge_line (next_style l.ccw) l.place m.next ++ edge_line dashed
     l.place m.skip)) onward
+
+-- ---- the texts beside places
+
+-- the line of a place with the text that was found by its number
+pub mark_found : {Y : Type 0} (m : BTreeMap ℕ (String Y)) (l : Seen) (p : Place) (n : ℕ) (t : String Y)
+    → p ≡ l.place → n ≡ place_number p → Some t ≡ tree.get nat_cmp m n
+    → mark_with p (Some (string_bytes t)) ≡ mark_in m l
+mark_found m l p n t at number found =
+    ap (λ o. mark_with p (option_map string_bytes o)) found
+    ∙ ap (λ k. mark_with p (text_in m k)) number
+    ∙ ap (λ q. mark_with q (text_in m (place_number q))) at
+
+-- and of one by whose number none was found
+pub mark_missed : {Y : Type 0} (m : BTreeMap ℕ (String Y)) (l : Seen) (p : Place) (n : ℕ)
+    → p ≡ l.place → n ≡ place_number p → None ≡ tree.get nat_cmp m n → [] ≡ mark_in m l
+mark_missed m l p n at number found =
+    ap (λ o. mark_with p (option_map string_bytes o)) found
+    ∙ ap (λ k. mark_with p (text_in m k)) number
+    ∙ ap (λ q. mark_with q (text_in m (place_number q))) at
+
+mark_is : {Y : Type 0} (os : List Offence) (m : BTreeMap ℕ (String Y)) → AreMarks os m → (l : Seen)
+    → mark_in m l ≡ mark_line os l
+mark_is os m marks l = ap (mark_with l.place) (marks.each (place_number l.place))
+
+pub marks_are : {Y : Type 0} (os : List Offence) (m : BTreeMap ℕ (String Y)) → AreMarks os m → (ls : List Seen)
+    → flat_map (mark_in m) ls ≡ flat_map (mark_line os) ls
+marks_are os m marks [] = refl
+marks_are os m marks (l ∷ ls) = ap (λ t. t ++ flat_map (mark_in m) ls) (mark_is os m marks l) ∙ ap (λ t. mark_line os l ++ t) (marks_are os m marks ls)

@@ -1,11 +1,16 @@
 -- The picture of a program in Graphviz's language: a node for each place that it can come to, a
--- mark for each offence, and an edge to each place where it goes on.
-use Rattle.std.specs.Prelude.{ℕ, Bool, true, false, List, [], ◌∷◌, ◌++◌, codes, Option, None}
-use Rattle.std.specs.Prelude.{Some, if◌then◌else◌}
-use Rattle.std.specs.List.{flat_map}
+-- mark for each of these that offends, and an edge to each place where it goes on.
+use Rattle.std.specs.Prelude.{◌≡◌, ℕ, ◌==◌, Bool, true, false, List, [], ◌∷◌, ◌++◌, map, codes}
+use Rattle.std.specs.Prelude.{Option, None, Some, option_map, if◌then◌else◌, string_bytes}
+use Rattle.std.specs.BTreeMap.{BTreeMap}
+use Rattle.std.specs.BTreeMap as tree
+use Rattle.std.specs.List.{filter, flat_map}
+use Rattle.std.specs.Ordering.{nat_cmp}
+use Rattle.std.specs.declared.string.String.{String}
 use Rattle.ccw_core.specs.Ccw.{Fields, is_transfer}
 use Rattle.chan_walk.specs.declared.offence.Offence.{Offence}
 use Rattle.chan_walk.specs.declared.place.Place.{Place}
+use Rattle.chan_walk.specs.Explored.{place_number}
 use Rattle.chan_walk.specs.Look.{Seen}
 use Rattle.chan_walk.specs.Reason.{word_of}
 use Rattle.chan_deck.specs.Listing.{name_of, transfer_word, way_word}
@@ -38,11 +43,25 @@ abbrev pub node_line : Seen → List ℕ
 node_line l =
     codes "  \"" ++ node_name l.place ++ codes "\" [label=\"" ++ label l ++ codes "\"];" ++ 10 ∷ []
 
--- the line that marks the place of an offence
-abbrev pub mark_line : Offence → List ℕ
-mark_line o =
-    codes "  \"" ++ node_name o.place ++ codes "\" [color=red, fontcolor=red, xlabel=\""
-    ++ word_of o.reason ++ codes "\"];" ++ 10 ∷ []
+-- the words of the reasons of the offences at the place with this number, in order
+abbrev pub words_at : List Offence → ℕ → List (List ℕ)
+words_at os n = map (λ o. word_of o.reason) (filter (λ o. place_number o.place == n) os)
+
+-- words below each other, with Graphviz's line end between two, if there is one
+abbrev pub below : List (List ℕ) → Option (List ℕ)
+below [] = None
+below (w ∷ ws) = Some (w ++ flat_map (λ v. codes "\\n" ++ v) ws)
+
+-- the line that puts a text beside a place's node and makes both red, if there is a text
+abbrev pub mark_with : Place → Option (List ℕ) → List ℕ
+mark_with p None = []
+mark_with p (Some t) =
+    codes "  \"" ++ node_name p ++ codes "\" [color=red, fontcolor=red, xlabel=\"" ++ t
+    ++ codes "\"];" ++ 10 ∷ []
+
+-- the line that marks a place with the reasons by which it offends, if it does
+abbrev pub mark_line : List Offence → Seen → List ℕ
+mark_line os l = mark_with l.place (below (words_at os (place_number l.place)))
 
 -- the line of an edge in this style from one place to another, if there is another
 abbrev pub edge_line : List ℕ → Place → Option Place → List ℕ
@@ -74,4 +93,23 @@ ending = codes "}" ++ 10 ∷ []
 -- the whole picture of what was seen, with these offences marked
 abbrev pub graph : List Seen → List Offence → List ℕ
 graph ls os =
-    heading ++ flat_map node_line ls ++ flat_map mark_line os ++ flat_map edge_lines ls ++ ending
+    heading ++ flat_map node_line ls ++ flat_map (mark_line os) ls ++ flat_map edge_lines ls ++ ending
+
+-- ---- texts kept in a map, each by a number
+
+-- the text that is kept by a number
+abbrev pub text_in : {Y : Type 0} → BTreeMap ℕ (String Y) → ℕ → Option (List ℕ)
+text_in m n = option_map string_bytes (tree.get nat_cmp m n)
+
+-- a word below a text, if there is one
+abbrev pub word_below : Option (List ℕ) → List ℕ → List ℕ
+word_below None w = w
+word_below (Some t) w = t ++ (codes "\\n" ++ w)
+
+-- what stands beside a place is kept by the place's number
+pub record AreMarks {Y : Type 0} (os : List Offence) (m : BTreeMap ℕ (String Y)) : Type 0 where
+  pub each : (n : ℕ) → text_in m n ≡ below (words_at os n)
+
+-- the line that marks a place with the text that is kept by its number
+abbrev pub mark_in : {Y : Type 0} → BTreeMap ℕ (String Y) → Seen → List ℕ
+mark_in m l = mark_with l.place (text_in m (place_number l.place))

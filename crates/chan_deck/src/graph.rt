@@ -1,17 +1,22 @@
 //! The picture of the places that a program can come to, in Graphviz's language.
 
-ghost use Rattle.std.specs.Prelude.{◌≡◌, ◌↔◌, ◌++◌, false, true, string_bytes, IsErrOf, OnOk};
+ghost use Rattle.std.specs.Prelude.{◌≡◌, ◌↔◌, ◌++◌, ◌∷◌, [], List, false, true, option_map};
+ghost use Rattle.std.specs.Prelude.{string_bytes, IfOk, IsErrOf, OnOk};
 ghost use Rattle.std.specs.Io.KnownBytes.{Appends};
 ghost use Rattle.std.specs.List.{flat_map};
 ghost use Rattle.ccw_core.specs.Written.{AppendsPrefix};
+ghost use Rattle.chan_walk.specs.Explored.{place_number};
+ghost use Rattle.chan_walk.specs.declared.offence.Offence as offences;
 ghost use Rattle.chan_deck.specs.Graph as draw;
+ghost use Rattle.chan_deck.specs.Graph.{AreMarks};
 ghost use Rattle.chan_deck.specs.Pieces.{IsHeldBack, GoesOn, BreaksOff};
 
 use crate::listing::{ListError, hand_over, name_of, transfer_word, way_word};
 use crate::texts::Address;
 use ccw_core::{Watched, write_out};
-use chan_walk::{Look, Offence, Place};
+use chan_walk::{Entry, Look, Offence, Place};
 use std::alloc::{AllocError, Global};
+use std::collections::BTreeMap;
 use std::fmt;
 use std::fmt::Write as _;
 use std::io::Write;
@@ -80,15 +85,70 @@ fn push_node(out: &mut String, look: &Look) -> Result<(), AllocError>
     out.push_str("\"];\n")
 }
 
-/// Adds the line that marks the place of an offence to a text.
-fn push_mark(out: &mut String, offence: Offence) -> Result<(), AllocError>
-    ensures { OnOk result (string_bytes out.new ≡ string_bytes out.old ++ draw.mark_line offence) }
+/// The number of a place: places are in order as their numbers are.
+fn number_of(place: Place) -> u64
+    ensures { result ≡ place_number place }
 {
-    let name = Node(offence.place);
-    let word = offence.reason.word();
+    let entry = match place.entered {
+        Entry::Fresh => 0,
+        Entry::ChainIn => 1,
+        Entry::ChainOut => 2,
+        Entry::ChainSearch => 3,
+    };
+    8 * u64::from(place.address) + 2 * entry + u64::from(place.after_transfer)
+}
+
+/// A word below a text, if there is one.
+fn word_below(alloc: Global, text: Option<&String>, word: &str) -> Result<String, AllocError>
+    ensures { IfOk result (λ t. string_bytes t
+        ≡ draw.word_below (option_map (λ s. string_bytes s.now) text.entry) word.now) }
+{
+    match text {
+        Some(text) => format!(in alloc; "{text}\\n{word}"),
+        None => String::from_str(alloc, word),
+    }
+}
+
+/// Adds the reason of an offence to what stands beside its place.
+fn add_reason(
+    alloc: Global,
+    marks: &mut BTreeMap<u64, String>,
+    offence: Offence,
+) -> Result<(), AllocError>
+    ensures { OnOk result ((os : List offences.Offence) → AreMarks os marks.old
+        → AreMarks (os ++ offence ∷ []) marks.new) }
+{
+    let number = number_of(offence.place);
+    let text = word_below(alloc, marks.get(&number), offence.reason.word())?;
+    marks.insert(number, text)?;
+    Ok(())
+}
+
+/// What stands beside each place that offends, by the place's number: its reasons, one below the
+/// other.
+fn marks_of(alloc: Global, offences: &[Offence]) -> Result<BTreeMap<u64, String>, AllocError>
+    ensures { IfOk result (λ m. AreMarks offences.now m) }
+{
+    let mut marks = BTreeMap::new(alloc);
+    for offence in offences {
+        add_reason(alloc, &mut marks, *offence)?;
+    }
+    Ok(marks)
+}
+
+/// Adds the line that marks a place to a text, if it offends.
+fn push_mark(out: &mut String, look: &Look, marks: &BTreeMap<u64, String>) -> Result<(), AllocError>
+    ensures { OnOk result (string_bytes out.new
+        ≡ string_bytes out.old ++ draw.mark_in marks.now look.now) }
+{
+    let place = look.place();
+    let Some(reasons) = marks.get(&number_of(place)) else {
+        return Ok(());
+    };
+    let name = Node(place);
     write!(
         out,
-        "  \"{name}\" [color=red, fontcolor=red, xlabel=\"{word}\"];\n"
+        "  \"{name}\" [color=red, fontcolor=red, xlabel=\"{reasons}\"];\n"
     )
 }
 
@@ -168,39 +228,42 @@ fn write_nodes<W: Write>(
     Ok(())
 }
 
-/// Adds the line that marks the place of an offence in the same way.
+/// Adds the line that marks a place in the same way.
 fn write_mark<W: Write>(
     piece: &mut String,
-    offence: Offence,
+    look: &Look,
+    marks: &BTreeMap<u64, String>,
     to: &mut Watched<W>,
 ) -> Result<(), ListError>
     requires { to.old.failed ≡ false }
     ensures ok { OnOk result (IsHeldBack (W.contents to.old.device) (W.contents to.new.device)
-        (string_bytes piece.old ++ draw.mark_line offence) (string_bytes piece.new)) }
+        (string_bytes piece.old ++ draw.mark_in marks.now look.now) (string_bytes piece.new)) }
     ensures prefix { AppendsPrefix (W.contents to.old.device) (W.contents to.new.device)
-        (string_bytes piece.old ++ draw.mark_line offence) }
+        (string_bytes piece.old ++ draw.mark_in marks.now look.now) }
     ensures write { IsErrOf result ListError.Write ↔ (to.new.failed ≡ true) }
 {
-    push_mark(piece, offence)?;
+    push_mark(piece, look, marks)?;
     hand_over(piece, to)?;
     Ok(())
 }
 
-/// Adds the line of a mark for each offence.
+/// Adds the line of a mark for each look at a place that offends.
 fn write_marks<W: Write>(
     piece: &mut String,
-    offences: &[Offence],
+    looks: &[Look],
+    marks: &BTreeMap<u64, String>,
     to: &mut Watched<W>,
 ) -> Result<(), ListError>
     requires { to.old.failed ≡ false }
     ensures ok { OnOk result (GoesOn (W.contents to.old.device) (string_bytes piece.old)
-        (flat_map draw.mark_line offences.now) (W.contents to.new.device) (string_bytes piece.new)) }
+        (flat_map (draw.mark_in marks.now) looks.now)
+        (W.contents to.new.device) (string_bytes piece.new)) }
     ensures prefix { BreaksOff (W.contents to.old.device) (string_bytes piece.old)
-        (flat_map draw.mark_line offences.now) (W.contents to.new.device) }
+        (flat_map (draw.mark_in marks.now) looks.now) (W.contents to.new.device) }
     ensures write { IsErrOf result ListError.Write ↔ (to.new.failed ≡ true) }
 {
-    for offence in offences {
-        write_mark(piece, *offence, to)?;
+    for look in looks {
+        write_mark(piece, look, marks, to)?;
     }
     Ok(())
 }
@@ -258,14 +321,15 @@ fn write_ending<W: Write>(piece: String, to: &mut Watched<W>) -> Result<(), List
 }
 
 /// Writes the picture of a program that was judged, in Graphviz's language: a node for each place
-/// that it can come to, a red mark with the reason for each of the offences, and an edge to each
-/// place where the program goes on, dashed where status modifier skips a CCW and dotted where a
-/// transfer in channel leads.
+/// that it can come to, a red mark for each of these that offends, with its reasons below each
+/// other, and an edge to each place where the program goes on, dashed where status modifier skips a
+/// CCW and dotted where a transfer in channel leads.
 ///
-/// The offences are taken as they are handed in, whether or not they are the job's. A place that
-/// offends by several reasons has as many marks, of which Graphviz shows the last.
+/// The offences are taken as they are handed in, whether or not they are the job's, and marked
+/// where a node is theirs.
 ///
-/// The lines are written in pieces of a few thousand bytes: no text of the whole picture is held.
+/// The lines are written in pieces of a few thousand bytes: of the whole picture no text is held
+/// but that of the marks.
 /// `Write` comes exactly where a write failed. After an error a prefix of the picture was written.
 pub fn write_graph<W: Write>(
     alloc: Global,
@@ -280,9 +344,10 @@ pub fn write_graph<W: Write>(
         (draw.graph looks.now offences.now) }
     ensures write { IsErrOf result ListError.Write ↔ (to.new.failed ≡ true) }
 {
+    let marks = marks_of(alloc, offences)?;
     let mut piece = String::from_str(alloc, HEADING)?;
     write_nodes(&mut piece, looks, to)?;
-    write_marks(&mut piece, offences, to)?;
+    write_marks(&mut piece, looks, &marks, to)?;
     write_edges(&mut piece, looks, to)?;
     write_ending(piece, to)
 }

@@ -87,8 +87,7 @@ put 000908 0300000000000001
   "000808 fresh -" [label="000808 fresh\nread-data"];
   "000810 fresh -" [label="000810 fresh\ntransfer-in-channel"];
   "000908 fresh t" [label="000908 fresh t\nno-operation"];
-  "000808 fresh -" [color=red, fontcolor=red, xlabel="changes-ccw"];
-  "000808 fresh -" [color=red, fontcolor=red, xlabel="changes-argument"];
+  "000808 fresh -" [color=red, fontcolor=red, xlabel="changes-ccw\nchanges-argument"];
   "000800 fresh t" -> "000808 fresh -";
   "000808 fresh -" -> "000810 fresh -";
   "000810 fresh -" -> "000908 fresh t" [style=dotted];
