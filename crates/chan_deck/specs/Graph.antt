@@ -14,6 +14,7 @@ use Rattle.chan_walk.specs.Explored.{place_number}
 use Rattle.chan_walk.specs.Look.{Seen}
 use Rattle.chan_walk.specs.Reason.{word_of}
 use Rattle.chan_deck.specs.Listing.{name_of, transfer_word, way_word}
+use Rattle.chan_deck.specs.Runs.{runs}
 use Rattle.chan_deck.specs.Texts.{address_text}
 
 -- the name of a place's node: `address way transfer`, as in a listing
@@ -42,6 +43,27 @@ label l =
 abbrev pub node_line : Seen → List ℕ
 node_line l =
     codes "  \"" ++ node_name l.place ++ codes "\" [label=\"" ++ label l ++ codes "\"];" ++ 10 ∷ []
+
+-- whether two places have the same address
+abbrev pub is_beside : Seen → Seen → Bool
+is_beside l m = l.place.address == m.place.address
+
+-- whether the first of some places has the same address as the next
+abbrev pub is_shared : Seen → List Seen → Bool
+is_shared l [] = false
+is_shared l (m ∷ ls) = is_beside l m
+
+-- a frame round the nodes of the places at an address
+abbrev pub frame : ℕ → List Seen → List ℕ
+frame a ls =
+    (codes "  subgraph \"cluster_" ++ (address_text a ++ (codes "\" {" ++ 10 ∷ [])))
+    ++ flat_map node_line ls ++ (codes "  }" ++ 10 ∷ [])
+
+-- the nodes of the places that stand together
+abbrev pub nodes : List Seen → List ℕ
+nodes [] = []
+nodes (l ∷ ls) =
+    if is_shared l ls then frame l.place.address (l ∷ ls) else flat_map node_line (l ∷ ls)
 
 -- the words of the reasons of the offences at the place with this number, in order
 abbrev pub words_at : List Offence → ℕ → List (List ℕ)
@@ -93,7 +115,8 @@ ending = codes "}" ++ 10 ∷ []
 -- the whole picture of what was seen, with these offences marked
 abbrev pub graph : List Seen → List Offence → List ℕ
 graph ls os =
-    heading ++ flat_map node_line ls ++ flat_map (mark_line os) ls ++ flat_map edge_lines ls ++ ending
+    heading ++ flat_map nodes (runs is_beside ls) ++ flat_map (mark_line os) ls
+    ++ flat_map edge_lines ls ++ ending
 
 -- ---- texts kept in a map, each by a number
 

@@ -1,6 +1,7 @@
 //! The picture of the places that a program can come to, in Graphviz's language.
 
-ghost use Rattle.std.specs.Prelude.{◌≡◌, ◌↔◌, ◌++◌, ◌∷◌, [], List, false, true, option_map};
+ghost use Rattle.std.specs.Prelude.{◌≡◌, ◌↔◌, ◌++◌, ◌∷◌, ◌<◌, [], List, false, true, option_map};
+ghost use Rattle.std.specs.Prelude.{length};
 ghost use Rattle.std.specs.Prelude.{string_bytes, IfOk, IsErrOf, OnOk};
 ghost use Rattle.std.specs.Io.KnownBytes.{Appends};
 ghost use Rattle.std.specs.List.{flat_map};
@@ -9,6 +10,7 @@ ghost use Rattle.chan_walk.specs.Explored.{place_number};
 ghost use Rattle.chan_walk.specs.declared.offence.Offence as offences;
 ghost use Rattle.chan_deck.specs.Graph as draw;
 ghost use Rattle.chan_deck.specs.Graph.{AreMarks};
+ghost use Rattle.chan_deck.specs.Runs.{IsFirstRun, runs};
 ghost use Rattle.chan_deck.specs.Pieces.{IsHeldBack, GoesOn, BreaksOff};
 
 use crate::listing::{ListError, hand_over, name_of, transfer_word, way_word};
@@ -191,25 +193,91 @@ fn push_edges(out: &mut String, look: &Look) -> Result<(), AllocError>
     push_edge(out, " [style=dashed]", place, onward.skip)
 }
 
-/// Adds the line of a node to the text that is held back, and writes that once it is long enough.
-fn write_node<W: Write>(
+/// Whether two places have the same address.
+fn are_beside(look: &Look, other: &Look) -> bool
+    ensures { result ≡ draw.is_beside look.now other.now }
+{
+    look.place().address == other.place().address
+}
+
+/// How many of some places, from the first on, stand together.
+fn first_run(looks: &[Look]) -> usize
+    requires { 0 < length looks.now }
+    ensures { IsFirstRun draw.is_beside looks.now result }
+{
+    let last = looks.len() - 1;
+    for at in 0..last {
+        if !are_beside(&looks[at], &looks[at + 1]) {
+            return at + 1;
+        }
+    }
+    looks.len()
+}
+
+/// Adds the lines of the nodes of some places to a text.
+fn push_nodes(out: &mut String, looks: &[Look]) -> Result<(), AllocError>
+    ensures { OnOk result (string_bytes out.new
+        ≡ string_bytes out.old ++ flat_map draw.node_line looks.now) }
+{
+    for look in looks {
+        push_node(out, look)?;
+    }
+    Ok(())
+}
+
+/// Adds a frame round the nodes of places at one address to a text.
+fn push_frame(out: &mut String, address: u32, looks: &[Look]) -> Result<(), AllocError>
+    ensures { OnOk result (string_bytes out.new
+        ≡ string_bytes out.old ++ draw.frame address looks.now) }
+{
+    let address = Address(address);
+    write!(out, "  subgraph \"cluster_{address}\" {{\n")?;
+    push_nodes(out, looks)?;
+    out.push_str("  }\n")
+}
+
+/// Whether a place has the same address as the first of those behind it.
+fn is_shared(look: &Look, behind: &[Look]) -> bool
+    ensures { result ≡ draw.is_shared look.now behind.now }
+{
+    match behind {
+        [next, ..] => are_beside(look, next),
+        [] => false,
+    }
+}
+
+/// Adds the nodes of places that stand together to a text.
+fn push_part(out: &mut String, part: &[Look]) -> Result<(), AllocError>
+    ensures { OnOk result (string_bytes out.new ≡ string_bytes out.old ++ draw.nodes part.now) }
+{
+    match part.split_first() {
+        Some((first, behind)) if is_shared(first, behind) => {
+            push_frame(out, first.place().address, part)
+        }
+        _ => push_nodes(out, part),
+    }
+}
+
+/// Adds the nodes of places that stand together to the text that is held back, and writes that
+/// once it is long enough.
+fn write_part<W: Write>(
     piece: &mut String,
-    look: &Look,
+    part: &[Look],
     to: &mut Watched<W>,
 ) -> Result<(), ListError>
     requires { to.old.failed ≡ false }
     ensures ok { OnOk result (IsHeldBack (W.contents to.old.device) (W.contents to.new.device)
-        (string_bytes piece.old ++ draw.node_line look.now) (string_bytes piece.new)) }
+        (string_bytes piece.old ++ draw.nodes part.now) (string_bytes piece.new)) }
     ensures prefix { AppendsPrefix (W.contents to.old.device) (W.contents to.new.device)
-        (string_bytes piece.old ++ draw.node_line look.now) }
+        (string_bytes piece.old ++ draw.nodes part.now) }
     ensures write { IsErrOf result ListError.Write ↔ (to.new.failed ≡ true) }
 {
-    push_node(piece, look)?;
+    push_part(piece, part)?;
     hand_over(piece, to)?;
     Ok(())
 }
 
-/// Adds the line of a node for each look in this way.
+/// Adds the nodes of all places in this way.
 fn write_nodes<W: Write>(
     piece: &mut String,
     looks: &[Look],
@@ -217,13 +285,17 @@ fn write_nodes<W: Write>(
 ) -> Result<(), ListError>
     requires { to.old.failed ≡ false }
     ensures ok { OnOk result (GoesOn (W.contents to.old.device) (string_bytes piece.old)
-        (flat_map draw.node_line looks.now) (W.contents to.new.device) (string_bytes piece.new)) }
+        (flat_map draw.nodes (runs draw.is_beside looks.now))
+        (W.contents to.new.device) (string_bytes piece.new)) }
     ensures prefix { BreaksOff (W.contents to.old.device) (string_bytes piece.old)
-        (flat_map draw.node_line looks.now) (W.contents to.new.device) }
+        (flat_map draw.nodes (runs draw.is_beside looks.now)) (W.contents to.new.device) }
     ensures write { IsErrOf result ListError.Write ↔ (to.new.failed ≡ true) }
 {
-    for look in looks {
-        write_node(piece, look, to)?;
+    let mut rest = looks;
+    while !rest.is_empty() {
+        let (part, behind) = rest.split_at(first_run(rest));
+        write_part(piece, part, to)?;
+        rest = behind;
     }
     Ok(())
 }

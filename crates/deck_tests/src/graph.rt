@@ -41,8 +41,10 @@ put 000818 06000A0000000010
   node [shape=box, fontname="monospace", fontsize=10];
   edge [arrowsize=0.7];
   "000800 fresh t" [label="000800 fresh t\nsearch-id-equal"];
+  subgraph "cluster_000808" {
   "000808 fresh t" [label="000808 fresh t\nunknown"];
   "000808 search -" [label="000808 search\nchained"];
+  }
   "000810 fresh -" [label="000810 fresh\ntransfer-in-channel"];
   "000818 fresh -" [label="000818 fresh\nread-data"];
   "000808 fresh t" [color=red, fontcolor=red, xlabel="invalid-code"];

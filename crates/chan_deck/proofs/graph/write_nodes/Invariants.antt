@@ -1,12 +1,14 @@
-use Rattle.std.proofs.Common.{◌≡◌, false, string_bytes, take}
-use Rattle.std.specs.List.{flat_map}
-use Rattle.chan_deck.specs.Graph.{node_line}
-use Rattle.chan_deck.specs.Pieces.{GoesOn}
+use Rattle.std.proofs.Common.{◌≡◌, false, length, string_bytes}
+use Rattle.chan_deck.specs.Graph.{is_beside, nodes}
+use Rattle.chan_deck.proofs.RunLemmas.{AreWritten}
 use Rattle.chan_deck.proofs.graph.write_nodes.Given as goal
 
-abbrev pub invariant-loop-look : goal.invariant-loop-look
-invariant-loop-look g l = record {
+abbrev pub invariant-loop-rest : goal.invariant-loop-rest
+invariant-loop-rest g l = record {
   sound : l.to.failed ≡ false;
-  lines : GoesOn (g.W.Write.contents l.fn.to.device) (string_bytes l.fn.piece)
-      (flat_map node_line (take l.look-index l.looks)) (g.W.Write.contents l.to.device) (string_bytes l.piece);
+  lines : AreWritten is_beside nodes l.looks l.rest (g.W.Write.contents l.fn.to.device)
+      (string_bytes l.fn.piece) (g.W.Write.contents l.to.device) (string_bytes l.piece);
 }
+
+abbrev pub decreases-loop-rest : goal.decreases-loop-rest
+decreases-loop-rest g l = length l.rest
