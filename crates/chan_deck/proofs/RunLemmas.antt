@@ -1,5 +1,5 @@
 -- How the first run of a list is found, and lists cut into runs by equal tests.
-use Rattle.std.proofs.Common.{◌≡◌, ℕ, ◌+◌, ◌<◌, Bool, true, false, List, [], ◌∷◌, ◌++◌, Option, length, take, drop, get_or, refl, sym, ap, subst, ◌∙◌, arith, suc, append_assoc, append-nil}
+use Rattle.std.proofs.Common.{if◌then◌else◌, ◌≡◌, ℕ, ◌+◌, ◌<◌, Bool, true, false, List, [], ◌∷◌, ◌++◌, Option, length, take, drop, get_or, refl, sym, ap, subst, ◌∙◌, arith, suc, append_assoc, append-nil}
 use Rattle.std.proofs.lemmas.Grind.{common_steps}
 use Rattle.std.proofs.lemmas.List.{drop_all, take_all}
 use Rattle.std.proofs.Math.Seq.{drop-cons, take-suc}
@@ -115,6 +115,16 @@ pub run_is_all : {X : Type 0} (belong : X → X → Bool) (xs : List X) (at : �
     → runs belong xs ≡ joined (take at xs) (runs belong (drop at xs)) → IsFirstRun belong xs (length xs)
 run_is_all belong [] at last before = absurd (omega arith)
 run_is_all belong (x ∷ xs) at last before = all_is_run belong (x ∷ xs) at x last before
+
+-- tests that agree cut alike
+pub same_runs : {X : Type 0} (t u : X → X → Bool) → ((x y : X) → t x y ≡ u x y) → (xs : List X)
+    → runs t xs ≡ runs u xs
+unfolding runs
+same_runs t u same [] = refl
+same_runs t u same (x ∷ []) = refl
+same_runs t u same (x ∷ y ∷ xs) =
+    ap (λ b. if b then with_first x (runs t (y ∷ xs)) else (x ∷ []) ∷ runs t (y ∷ xs)) (same x y)
+    ∙ ap (λ rs. if u x y then with_first x rs else (x ∷ []) ∷ rs) (same_runs t u same (y ∷ xs))
 
 -- ---- run after run
 
