@@ -11,6 +11,7 @@ pub mod Texts
 pub mod Pieces
 pub mod Listing
 pub mod Explanation
+pub mod Runs
 pub mod Graph
 pub mod Hint
 pub mod Notes

@@ -9,7 +9,7 @@ use std::alloc::Global;
 /// The start, the lines of areas to be stored into, the puts, and the picture.
 type Case = (&'static str, &'static str, &'static str, &'static str);
 
-static CASES: [Case; 4] = [
+static CASES: [Case; 7] = [
     (
         "000800",
         "store 000A00 000100\n",
@@ -20,9 +20,9 @@ put 000810 06000A0020000050
         r#"digraph program {
   node [shape=box, fontname="monospace", fontsize=10];
   edge [arrowsize=0.7];
-  "000800 fresh t" [label="000800 fresh t\nsearch-id-equal"];
-  "000808 fresh -" [label="000808 fresh\ntransfer-in-channel"];
-  "000810 fresh -" [label="000810 fresh\nread-data"];
+  "000800 fresh t" [label="000800 fresh t  search-id-equal\l"];
+  "000808 fresh -" [label="000808 fresh  transfer-in-channel\l"];
+  "000810 fresh -" [label="000810 fresh  read-data\l"];
   "000800 fresh t" -> "000808 fresh -";
   "000800 fresh t" -> "000810 fresh -" [style=dashed];
   "000808 fresh -" -> "000800 fresh t" [style=dotted];
@@ -40,11 +40,13 @@ put 000818 06000A0000000010
         r#"digraph program {
   node [shape=box, fontname="monospace", fontsize=10];
   edge [arrowsize=0.7];
-  "000800 fresh t" [label="000800 fresh t\nsearch-id-equal"];
-  "000808 fresh t" [label="000808 fresh t\nunknown"];
-  "000808 search -" [label="000808 search\nchained"];
-  "000810 fresh -" [label="000810 fresh\ntransfer-in-channel"];
-  "000818 fresh -" [label="000818 fresh\nread-data"];
+  "000800 fresh t" [label="000800 fresh t  search-id-equal\l"];
+  subgraph "cluster_000808" {
+  "000808 fresh t" [label="000808 fresh t  unknown\l"];
+  "000808 search -" [label="000808 search  chained\l"];
+  }
+  "000810 fresh -" [label="000810 fresh  transfer-in-channel\l"];
+  "000818 fresh -" [label="000818 fresh  read-data\l"];
   "000808 fresh t" [color=red, fontcolor=red, xlabel="invalid-code"];
   "000800 fresh t" -> "000808 search -";
   "000808 search -" -> "000810 fresh -";
@@ -60,9 +62,9 @@ put 000818 06000A0000000010
         r#"digraph program {
   node [shape=box, fontname="monospace", fontsize=10];
   edge [arrowsize=0.7];
-  "000FF8 fresh t" [label="000FF8 fresh t\nsearch-id-equal"];
-  "001000 fresh -" [label="001000 fresh\nno-ccw"];
-  "001008 fresh -" [label="001008 fresh\nno-ccw"];
+  "000FF8 fresh t" [label="000FF8 fresh t  search-id-equal\l"];
+  "001000 fresh -" [label="001000 fresh  no-ccw\l"];
+  "001008 fresh -" [label="001008 fresh  no-ccw\l"];
   "001000 fresh -" [color=red, fontcolor=red, xlabel="outside-storage"];
   "001008 fresh -" [color=red, fontcolor=red, xlabel="outside-storage"];
   "000FF8 fresh t" -> "001000 fresh -";
@@ -70,7 +72,7 @@ put 000818 06000A0000000010
 }
 "#,
     ),
-    // A place that offends by two reasons.
+    // A place that offends by two reasons, and a box of two places behind it.
     (
         "000800",
         "store 000900 000010\n",
@@ -83,15 +85,78 @@ put 000908 0300000000000001
         r#"digraph program {
   node [shape=box, fontname="monospace", fontsize=10];
   edge [arrowsize=0.7];
-  "000800 fresh t" [label="000800 fresh t\nseek"];
-  "000808 fresh -" [label="000808 fresh\nread-data"];
-  "000810 fresh -" [label="000810 fresh\ntransfer-in-channel"];
-  "000908 fresh t" [label="000908 fresh t\nno-operation"];
-  "000808 fresh -" [color=red, fontcolor=red, xlabel="changes-ccw"];
-  "000808 fresh -" [color=red, fontcolor=red, xlabel="changes-argument"];
+  "000800 fresh t" [label="000800 fresh t  seek\l"];
+  "000808 fresh -" [label="000808 fresh  read-data\l"];
+  "000810 fresh -" [label="000810 fresh  transfer-in-channel\l000908 fresh t  no-operation\l"];
+  "000808 fresh -" [color=red, fontcolor=red, xlabel="changes-ccw\nchanges-argument"];
   "000800 fresh t" -> "000808 fresh -";
   "000808 fresh -" -> "000810 fresh -";
-  "000810 fresh -" -> "000908 fresh t" [style=dotted];
+}
+"#,
+    ),
+    // A box that leads to a frame.
+    (
+        "000800",
+        "store 000A00 000100\n",
+        "put 000800 0700090040000006
+put 000808 0300000040000001
+put 000810 3100090A40000005
+put 000818 0800081000000000
+put 000820 06000A0020000050
+put 000900 0000000A00000000
+",
+        r#"digraph program {
+  node [shape=box, fontname="monospace", fontsize=10];
+  edge [arrowsize=0.7];
+  "000800 fresh t" [label="000800 fresh t  seek\l000808 fresh  no-operation\l"];
+  subgraph "cluster_000810" {
+  "000810 fresh -" [label="000810 fresh  search-id-equal\l"];
+  "000810 fresh t" [label="000810 fresh t  search-id-equal\l"];
+  }
+  "000818 fresh -" [label="000818 fresh  transfer-in-channel\l"];
+  "000820 fresh -" [label="000820 fresh  read-data\l"];
+  "000800 fresh t" -> "000810 fresh -";
+  "000810 fresh -" -> "000818 fresh -";
+  "000810 fresh -" -> "000820 fresh -" [style=dashed];
+  "000810 fresh t" -> "000818 fresh -";
+  "000810 fresh t" -> "000820 fresh -" [style=dashed];
+  "000818 fresh -" -> "000810 fresh t" [style=dotted];
+}
+"#,
+    ),
+    // A place to which two lead, of which one leads to no other.
+    (
+        "000800",
+        "store 000A00 000100\n",
+        "put 000800 3100090040000005
+put 000808 0300000040000001
+put 000810 06000A0020000050
+",
+        r#"digraph program {
+  node [shape=box, fontname="monospace", fontsize=10];
+  edge [arrowsize=0.7];
+  "000800 fresh t" [label="000800 fresh t  search-id-equal\l"];
+  "000808 fresh -" [label="000808 fresh  no-operation\l"];
+  "000810 fresh -" [label="000810 fresh  read-data\l"];
+  "000800 fresh t" -> "000808 fresh -";
+  "000800 fresh t" -> "000810 fresh -" [style=dashed];
+  "000808 fresh -" -> "000810 fresh -";
+}
+"#,
+    ),
+    // A box that leads to itself.
+    (
+        "000800",
+        "store 000A00 000100\n",
+        "put 000800 0300000040000001
+put 000808 0300000040000001
+put 000810 0800080000000000
+",
+        r#"digraph program {
+  node [shape=box, fontname="monospace", fontsize=10];
+  edge [arrowsize=0.7];
+  "000800 fresh t" [label="000800 fresh t  no-operation\l000808 fresh  no-operation\l000810 fresh  transfer-in-channel\l"];
+  "000800 fresh t" -> "000800 fresh t" [style=dotted];
 }
 "#,
     ),
