@@ -85,10 +85,25 @@ def check_words(checks, program):
         checks.expect(f"usage fault: {words}", Ran(4, "", error), ran)
     ran = run(program, "verify", "--", "--help")
     checks.expect("a FILE like an option", Ran(3, "", "chanv: --help: cannot open\n"), ran)
-    fault = "error: invalid UTF-8 was detected in one or more arguments"
-    error = f"{fault}\n\nFor more information, try '--help'.\n"
-    ran = run(program, b"show\xff")
-    checks.expect("a word that is not UTF-8", Ran(4, "", error), ran)
+
+
+def check_hostile_words(checks, program):
+    """What a usage fault says of a word stands on its line, in printable ASCII."""
+    deck = ["deck", "--start", "8", "--extent", "0-9"]
+    for words, fault in [
+        ([b"show\xff"], "unrecognized subcommand 'show\\xFF'"),
+        (["judge\nyes"], "unrecognized subcommand 'judge\\x0Ayes'"),
+        (["verify", "--\x1b[2J"], "unexpected argument '--\\x1B[2J' found"),
+        ([*deck, "--mask", "0\n0"], "invalid value '0\\x0A0' for '--mask <BYTE>': "),
+        ([*deck, "--at", "\\x0A"], "invalid value '\\x5Cx0A' for '--at <ADDRESS>': "),
+    ]:
+        ran = run(program, *words)
+        first, is_plain = ran.error.partition("\n")[0], ran.error.replace("\n", "").isprintable()
+        is_said = first.startswith(f"error: {fault}") and is_plain and ran.error.isascii()
+        checks.expect_that(f"{words}", (ran.status, ran.output) == (4, "") and is_said, ran)
+    for word in (b"mask\xff", "mask\n"):
+        ran = run(program, "explain", word)
+        checks.expect(f"explain {word!r}", Ran(4, "", "chanv: no such word\n"), ran)
 
 
 def check_small_stack(checks, program):
@@ -112,4 +127,5 @@ def check(checks, built):
         check_lengths(checks, program, deck)
         check_readers(checks, program, deck)
     check_words(checks, program)
+    check_hostile_words(checks, program)
     check_small_stack(checks, program)

@@ -5,7 +5,9 @@ Streams are closed too. Each run is in a folder with the files `yes`, `no`, `dam
 error are those that the README says.
 """
 
+import os
 import shlex
+import shutil
 import tempfile
 from pathlib import Path
 
@@ -90,6 +92,44 @@ def check_streams(checks, program, folder):
         checks.expect(f"{words} {redirection}", Ran(3, output, error), ran)
 
 
+# names that would forge a line, reach a terminal, or be taken for another, and how they are shown
+HOSTILE = [
+    (b"good.deck: yes\nevil.deck", "good.deck: yes\\x0Aevil.deck"),
+    (b"\x1b[2J\x7f", "\\x1B[2J\\x7F"),
+    (b"\\x0A", "\\x5Cx0A"),
+    ("b\u00e4nder".encode(), "b\\xC3\\xA4nder"),
+]
+# a name that isn't UTF-8 can't be opened
+NOT_TEXT, NOT_TEXT_SHOWN = b"\xff.deck", "\\xFF.deck"
+
+
+def check_hostile_names(checks, program, folder):
+    """Each name stands on its line, in printable ASCII; a wrong one stops nothing."""
+    job = "deck --start 800 --least".split()
+    for name, said in [*HOSTILE, (NOT_TEXT, NOT_TEXT_SHOWN)]:
+        missing = Ran(3, YES, f"chanv: {said}: cannot open\n")
+        checks.expect(f"no {name}", missing, run(program, "verify", name, "yes", cwd=folder))
+        ran = run(program, *job, name, cwd=folder)
+        checks.expect(f"no image {name}", missing._replace(output=""), ran)
+    for name, said in HOSTILE:
+        file = os.fsencode(folder) + b"/" + name
+        for deck, expected in [
+            ("no", Ran(1, f"{said}: no 000810 changes-ccw\n")),
+            ("damaged", Ran(2, "", f"chanv: {said}: {DAMAGED}")),
+        ]:
+            shutil.copyfile(folder / deck, file)
+            checks.expect(f"{name}", expected, run(program, "verify", name, cwd=folder))
+        os.remove(file)
+    shutil.copyfile(folder / "no", os.fsencode(folder) + b"/" + NOT_TEXT)
+    ran = run(program, "verify", "no", NOT_TEXT, "yes", cwd=folder)
+    missing = Ran(3, NO + YES, f"chanv: {NOT_TEXT_SHOWN}: cannot open\n")
+    checks.expect("a name that isn't UTF-8", missing, ran)
+    names = [b"\\" * 60_000, b"\xff" * 60_000]
+    said = ["\\x5C" * 60_000, "\\xFF" * 60_000]
+    errors = "".join(f"chanv: {name}: cannot open\n" for name in said)
+    checks.expect("long names", Ran(3, "", errors), run(program, "verify", *names, cwd=folder))
+
+
 def check_limits(checks, program, folder):
     """Many files take as much memory and as few descriptors as one; 40 KiB of stack are enough."""
     names = ["yes"] * 2000
@@ -118,4 +158,5 @@ def check(checks, built):
         check_names(checks, program, folder)
         check_standard_input(checks, program, folder)
         check_streams(checks, program, folder)
+        check_hostile_names(checks, program, folder)
         check_limits(checks, program, folder)

@@ -6,3 +6,4 @@ pub mod OptionLemmas
 pub mod ImageLemmas
 pub mod Endings
 pub mod MeaningLemmas
+mod WordLemmas

@@ -1,6 +1,7 @@
 pub mod Show
 pub mod Input
 pub mod Naming
+pub mod Word
 pub mod Run
 pub mod Meaning
 pub mod Report

@@ -30,6 +30,7 @@ mod reporting;
 mod running;
 mod showing;
 mod texts;
+mod word;
 
 pub use crate::answering::{answer, answer_image};
 pub use crate::image::{ImageError, write_image};
@@ -45,3 +46,4 @@ pub use crate::reporting::{
 };
 pub use crate::running::{Action, RunError, Status, run, run_named};
 pub use crate::showing::{ShowError, show};
+pub use crate::word::{shown_word, word_of};

@@ -21,22 +21,20 @@ use crate::command_line::{Request, read_request};
 use crate::image_command::ImageRequest;
 use ccw_core::Watched;
 use chan_run::{
-    Action, ImageOptions, OptionError, Outcome, answer, answer_image, conclude, ends_run,
+    Action, ImageOptions, OptionError, Outcome, RunError, answer, answer_image, conclude, ends_run,
     exit_status, explain_word, greater_status, list_words, options_of, report, report_grants,
-    report_named, report_option, show,
+    report_named, report_option, show, shown_word, word_of,
 };
+use std::alloc::AllocError;
+use std::env::{Env, FillError};
 use std::fs::File;
 use std::io;
 use std::io::Read;
 use std::process::ExitCode;
 use std::rt::{Stdin, Stdout};
 
-/// The text of the usage fault where a word isn't UTF-8, in clap's wording. Here clap takes text
-/// alone, so it has no such error.
-const NOT_TEXT: &str = "error: invalid UTF-8 was detected in one or more arguments
-
-For more information, try '--help'.
-";
+/// The first size of the room for a word, in bytes.
+const USUAL_ROOM: usize = 256;
 
 /// What a deck is read from. One type, so that the program has one function that reads, whose
 /// buffer is on the stack.
@@ -56,25 +54,41 @@ impl Read for Input {
 }
 
 fn main(rt: HostRuntime) -> ExitCode {
-    let status = match read_words(&rt) {
+    ExitCode::from(match read_words(&rt) {
         Ok(words) => answered(&rt, words.as_slice()),
-        Err(error) if error.kind() == io::ErrorKind::OutOfMemory => {
-            reported(&rt, None, Outcome::NoMemoryForCommandLine)
-        }
-        Err(_) => {
-            let _ = rt.eprint(NOT_TEXT);
-            reported(&rt, None, Outcome::UsageFault)
-        }
-    };
-    ExitCode::from(status)
+        Err(AllocError) => reported(&rt, None, Outcome::NoMemoryForCommandLine),
+    })
 }
 
-fn read_words(rt: &HostRuntime) -> io::Result<Vec<String>> {
+/// The words of the command line, each as it is shown. So nothing that is written of them is more
+/// than a line, or brings a terminal anything but text.
+fn read_words(rt: &HostRuntime) -> Result<Vec<String>, AllocError> {
     let mut words = Vec::new(rt.alloc());
-    for word in std::env::args(rt)? {
-        words.push(word)?;
+    for number in 0..usize::MAX {
+        let Some(word) = read_word(rt, number)? else {
+            break;
+        };
+        words.push(shown_word(rt.alloc(), word.as_slice())?)?;
     }
     Ok(words)
+}
+
+/// The word of this number, if there is one.
+fn read_word(rt: &HostRuntime, number: usize) -> Result<Option<Vec<u8>>, AllocError> {
+    let mut size = USUAL_ROOM;
+    for _ in 0..usize::BITS {
+        let mut word = Vec::new(rt.alloc());
+        word.resize(size, 0)?;
+        match rt.arg(number, word.as_mut_slice()) {
+            Ok(len) => {
+                word.truncate(len);
+                return Ok(Some(word));
+            }
+            Err(FillError::NotPresent) => return Ok(None),
+            Err(FillError::TooLong) => size = size.saturating_add(size),
+        }
+    }
+    Err(AllocError)
 }
 
 /// Does what the words ask for, and gives the exit status.
@@ -151,13 +165,24 @@ fn opened(rt: &HostRuntime, action: Action, name: &str) -> Outcome {
     if name == "-" {
         return ran(rt, action, Some(name), Input::Standard(rt.stdin()));
     }
-    match File::open(rt, name) {
+    match open(rt, name) {
         Ok(file) => ran(rt, action, Some(name), Input::File(file)),
-        Err(_) => {
-            reported(rt, Some(name), Outcome::CannotOpen);
-            Outcome::CannotOpen
+        Err(outcome) => {
+            reported(rt, Some(name), outcome);
+            outcome
         }
     }
+}
+
+/// Opens the file whose name is shown so. One whose name isn't UTF-8 can't be opened.
+fn open(rt: &HostRuntime, name: &str) -> Result<File, Outcome> {
+    let Ok(word) = word_of(rt.alloc(), name) else {
+        return Err(Outcome::Ran(Err(RunError::Memory)));
+    };
+    let Ok(path) = String::from_utf8(word) else {
+        return Err(Outcome::CannotOpen);
+    };
+    File::open(rt, path.as_str()).map_err(|_| Outcome::CannotOpen)
 }
 
 /// Runs over an input that may have a name.
@@ -186,9 +211,9 @@ fn imaged(rt: &HostRuntime, request: &ImageRequest<'_>) -> u8 {
     };
     match request.file {
         None => written(rt, None, &options, Input::Standard(rt.stdin())),
-        Some(name) => match File::open(rt, name) {
+        Some(name) => match open(rt, name) {
             Ok(file) => written(rt, Some(name), &options, Input::File(file)),
-            Err(_) => reported(rt, Some(name), Outcome::CannotOpen),
+            Err(outcome) => reported(rt, Some(name), outcome),
         },
     }
 }

@@ -24,3 +24,5 @@ mod reporting;
 mod running;
 #[cfg(test)]
 mod showing;
+#[cfg(test)]
+mod word;
