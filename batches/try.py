@@ -11,11 +11,11 @@ but without the crate:
     function: extents::judge
 
 For each crate, `rt check` first proves it as it is, over the work kept in out/. Then, beside the
-next crate's proof, a copy gets a wrong body in each of several functions, and is checked once. Each
-of these functions has to be refused for a goal of its own: one that the search left open, or one
-that its written answer shows no longer. It doesn't count that it calls what isn't proved, that a
-proof lost a name, or that a text isn't Rattle. An edit that such a thing hides is tried again
-without those that were refused beside it, and at last alone. What a caller owes rests on the
+next crate's proof, a copy gets a wrong body in each of several functions, and these functions are
+checked, and no others. Each has to be refused for a goal of its own: one that the search left open,
+or one that its written answer shows no longer. It doesn't count that it calls what isn't proved,
+that a proof lost a name, or that a text isn't Rattle. An edit that such a thing hides is tried
+again without those that were refused beside it, and at last alone. What a caller owes rests on the
 contracts of what it calls and never on their bodies, so a function is refused here for its own body
 alone.
 
@@ -72,9 +72,9 @@ def applied(edit, text):
     return text
 
 
-def check(folder, what):
-    """What `rt check` says of the crate in the folder."""
-    words = ["rt", "check", *FLAGS]
+def check(folder, what, functions=()):
+    """What `rt check` says of the crate in the folder, or of these functions of it alone."""
+    words = ["rt", "check", *FLAGS, *(word for name in functions for word in ("--only", name))]
     how = {"stdout": subprocess.PIPE, "stderr": subprocess.STDOUT, "stdin": subprocess.DEVNULL}
     with subprocess.Popen(words, cwd=folder, text=True, errors="replace", **how) as ran:
         said = ran.stdout.read()
@@ -93,8 +93,8 @@ def below(crate):
     return found
 
 
-def check_with(crate, texts, count):
-    """What `rt check` says of a copy of the crate that has these texts in place of its own."""
+def check_with(crate, texts, functions):
+    """What `rt check` says of these functions where the crate has these texts in place of its own."""
     needed = below(crate)
 
     def left_out(folder, names):
@@ -109,7 +109,7 @@ def check_with(crate, texts, count):
         shutil.copy(ROOT / "crates.txt", room)
         for file, text in texts.items():
             (copy / crate / file).write_text(text)
-        return check(copy / crate, f"{count} bodies wrong")
+        return check(copy / crate, f"{len(functions)} bodies wrong", functions)
 
 
 def own_goals(function, line, said):
@@ -134,7 +134,8 @@ def tried(crate, edits):
             later.append(edit)
         else:
             batch, texts[edit.file] = [*batch, edit], text
-    said, hidden = check_with(crate, texts, len(batch)) if batch else "", []
+    functions = [edit.function for edit in batch]
+    said, hidden = check_with(crate, texts, functions) if batch else "", []
     for edit in batch:
         line = re.search(rf"(?m)^fn {re.escape(f'{crate}::{edit.function}')}: (.*)", said)
         error = re.search(r"(?m)^.*\berror(\[[\w-]+\])?: .*", said)

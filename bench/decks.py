@@ -131,12 +131,12 @@ def loops(count=PLACES):
     return deck(in_a_row(words), storage, fetch=fetch, store=store, places=count)
 
 
-def chain(count=PLACES):
+def chain(count=PLACES, storage=None):
     """One read by the longest data chain: as many places as there may be, all of one operation."""
-    data, storage = room_for(count)
+    data, enough = room_for(count)
     words = [word(READ_DATA, data + 16 * i, CHAIN_DATA, 16) for i in range(count - 1)]
     words.append(word(READ_DATA, data + 16 * (count - 1), LAST, 16))
-    return deck(in_a_row(words), storage, store=[(data, 16 * count)], places=count)
+    return deck(in_a_row(words), storage or enough, store=[(data, 16 * count)], places=count)
 
 
 def one_byte_areas(order):
@@ -212,6 +212,9 @@ GROWING = [("places", places), ("loops", loops), ("chain", chain), ("areas-apart
 for name, write in GROWING:
     for count in (MOST_PLACES // 4, MOST_PLACES):
         DECKS[f"{name}-{count}"] = partial(write, count)
+
+# The most places in the largest storage, of which little is put: what memory is for both together.
+DECKS["chain-in-full-storage"] = partial(chain, MOST_PLACES, STORAGE_LIMIT)
 
 
 def verdict_on(name):

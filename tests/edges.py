@@ -49,6 +49,21 @@ def check_lengths(checks, program, deck):
     checks.expect("one byte more", refused, run(program, given=deck))
 
 
+def check_notes(checks, program, deck):
+    """Areas lent in vain: those that adjoin have one note, and of a sort a hundred are written."""
+    head = "chanv deck 1\ndevice 2314\nmask 00\nstart 000800\nextent 010 019\n"
+    tail = "storage 0010000\nput 000800 0300000000000001\nend\n"
+    more_of = {99: "", 100: "", 101: "note: 1 more such\n", 250: "note: 150 more such\n"}
+    for count, more in more_of.items():
+        adjoining = [f"fetch {0x1000 + 16 * at:06X} 000010\n" for at in range(count)]
+        apart = [f"store {0x1000 + 32 * at:06X} 000010\n" for at in range(count)]
+        deck.write_text("".join([head, *adjoining, *apart, tail]))
+        one = f"note: fetch 001000 {16 * count:06X} is used by no reachable CCW\n"
+        each = [f"note: {line[:-1]} is used by no reachable CCW\n" for line in apart[:100]]
+        wanted = Ran(0, "yes\n", "".join([one, *each, more]))
+        checks.expect(f"{count} areas lent in vain", wanted, run(program, "why", given=deck))
+
+
 def check_readers(checks, program, deck):
     """Readers of the first row alone: of a listing that fits a pipe, and of one that doesn't."""
     script = '"$@" | head -n 1; exit "${PIPESTATUS[0]}"'
@@ -125,6 +140,7 @@ def check(checks, built):
     with tempfile.TemporaryDirectory() as room:
         deck = Path(room) / "deck"
         check_lengths(checks, program, deck)
+        check_notes(checks, program, deck)
         check_readers(checks, program, deck)
     check_words(checks, program)
     check_hostile_words(checks, program)

@@ -1,10 +1,11 @@
 """The library for C while a second thread rewrites the program that it looks at.
 
 The program of c/race.c makes each call for so many seconds, 60 or what RACE_SECONDS says, over a
-program whose CCWs, arguments and mask a second thread rewrites meanwhile, byte by byte too. Each
-call has to return, to leave alone what it wasn't handed to write, and to answer with one of its
-codes: yes, no, too many places or too little room, since nothing is wrong with the job itself. Each
-of these has to come. The calls about rows of needs don't look at storage, and always answer yes.
+program whose CCWs, arguments and mask a second thread rewrites meanwhile, byte by byte too; four
+calls are tried side by side, each in a process of its own. A call has to return, to leave alone
+what it wasn't handed to write, and to answer with one of its codes: yes, no, too many places or too
+little room, since nothing is wrong with the job itself. Each of these has to come. The calls about
+rows of needs don't look at storage, and always answer yes.
 `ask` of examples/c/emulator.c, which asks about a copy of what the program keeps, has to give an
 answer that stands: a job grants what the program needs exactly where the verdict on the copy is
 yes.
@@ -13,10 +14,13 @@ yes.
 import os
 import re
 import tempfile
+from concurrent.futures import ThreadPoolExecutor
 from pathlib import Path
 
 from building import HERE, compile_with
 from running import MOST_SECONDS, run
+
+AT_ONCE = 4
 
 # the codes of chanv.h that each call gives over a job without a fault, while there is memory
 CODES = {
@@ -31,8 +35,7 @@ CODES = {
 }
 
 
-def check_call(checks, program, call, seconds):
-    ran = run(program, str(seconds), call, timeout=seconds + MOST_SECONDS)
+def check_call(checks, call, seconds, ran):
     ended = ran.status == 0 and not ran.error
     checks.expect_that(f"{call} while storage changes, for {seconds} s", ended, ran)
     codes = {int(code) for code in re.findall(r", \d+ times (\d+)", ran.output)}
@@ -43,5 +46,8 @@ def check(checks, built):
     library, seconds = built.library(), int(os.environ.get("RACE_SECONDS") or 60)
     with tempfile.TemporaryDirectory() as room:
         program = compile_with(library, HERE / "c/race.c", Path(room) / "race")
-        for call in CODES:
-            check_call(checks, program, call, seconds)
+        most = seconds + MOST_SECONDS
+        with ThreadPoolExecutor(max_workers=AT_ONCE) as beside:
+            runs = beside.map(lambda call: run(program, str(seconds), call, timeout=most), CODES)
+            for call, ran in zip(CODES, runs):
+                check_call(checks, call, seconds, ran)

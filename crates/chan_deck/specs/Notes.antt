@@ -1,5 +1,8 @@
--- The notes on a job as text, a line each.
-use Rattle.std.specs.Prelude.{ℕ, List, [], ◌∷◌, ◌++◌, codes}
+-- The notes on a job as text: of each sort a line for each of the first hundred, and one for the
+-- rest.
+use Rattle.std.specs.Prelude.{ℕ, ◌+◌, ◌-◌, nat_eq, nat_lt, Bool, ◌&&◌, if◌then◌else◌}
+use Rattle.std.specs.Prelude.{List, [], ◌∷◌, ◌++◌, codes, length, take}
+use Rattle.std.specs.Fmt.{decimal}
 use Rattle.std.specs.List.{flat_map}
 use Rattle.ccw_core.specs.declared.areas.Area.{Area}
 use Rattle.chan_walk.specs.declared.note.Notes.{Notes}
@@ -10,6 +13,30 @@ abbrev pub area_note : List ℕ → List ℕ → Area → List ℕ
 area_note word what a =
     codes "note: " ++ word ++ codes " " ++ address_text a.start ++ codes " " ++ address_text a.len
     ++ what ++ 10 ∷ []
+
+-- an area begins where another ends, and both together have a length that an area may have
+abbrev pub adjoin : Area → Area → Bool
+adjoin a b = nat_eq (a.start + a.len) b.start && nat_lt (a.len + b.len) 4294967296
+
+-- the two as one area
+abbrev pub together : Area → Area → Area
+together a b = record { start = a.start; len = a.len + b.len }
+
+-- an area and those behind it, neighbours that adjoin as one
+abbrev pub joined_from : Area → List Area → List Area
+joined_from a [] = a ∷ []
+joined_from a (b ∷ bs) =
+    if adjoin a b then joined_from (together a b) bs else a ∷ joined_from b bs
+
+-- areas, neighbours that adjoin as one
+abbrev pub joined : List Area → List Area
+joined [] = []
+joined (a ∷ rest) = joined_from a rest
+
+-- how many more notes of a sort there are, if there are any
+abbrev pub more_note : ℕ → List ℕ
+more_note n =
+    if nat_eq n 0 then [] else codes "note: " ++ decimal n ++ codes " more such" ++ 10 ∷ []
 
 -- what is noted of the CCW at an address
 abbrev pub ccw_note : List ℕ → ℕ → List ℕ
@@ -27,12 +54,26 @@ interrupts = codes " interrupts: the processor may change any byte but those tha
 abbrev pub ends_there : List ℕ
 ends_there = codes " ends the program: chain data counts, and it moves no data"
 
+-- the notes of a sort: on each of the first hundred areas, and how many more there are
+abbrev pub run_notes : List ℕ → List ℕ → List Area → List ℕ
+run_notes word what areas =
+    flat_map (area_note word what) (take 100 areas) ++ more_note (length areas - 100)
+
+-- the notes of a sort on areas, neighbours that adjoin as one
+abbrev pub area_notes : List ℕ → List ℕ → List Area → List ℕ
+area_notes word what areas = run_notes word what (joined areas)
+
+-- the notes of a sort on CCWs
+abbrev pub ccw_notes : List ℕ → List ℕ → List ℕ
+ccw_notes what addresses =
+    flat_map (ccw_note what) (take 100 addresses) ++ more_note (length addresses - 100)
+
 -- all notes
 abbrev pub notes : Notes → List ℕ
 notes n =
-    flat_map (area_note (codes "fetch") past_storage) n.fetch_past_storage.items
-    ++ flat_map (area_note (codes "store") past_storage) n.store_past_storage.items
-    ++ flat_map (area_note (codes "fetch") unused) n.unused_fetch.items
-    ++ flat_map (area_note (codes "store") unused) n.unused_store.items
-    ++ flat_map (ccw_note interrupts) n.interrupting.items
-    ++ flat_map (ccw_note ends_there) n.ending.items
+    area_notes (codes "fetch") past_storage n.fetch_past_storage.items
+    ++ area_notes (codes "store") past_storage n.store_past_storage.items
+    ++ area_notes (codes "fetch") unused n.unused_fetch.items
+    ++ area_notes (codes "store") unused n.unused_store.items
+    ++ ccw_notes interrupts n.interrupting.items
+    ++ ccw_notes ends_there n.ending.items
