@@ -28,7 +28,7 @@ const USUAL: Case<'static> = Case {
     text: "",
 };
 
-static CASES: [Case<'static>; 24] = [
+static CASES: [Case<'static>; 25] = [
     Case {
         puts: "put 000800 3100090040000005
 put 000808 0800080000000000
@@ -197,7 +197,7 @@ because 000910-000957 of 000908-000957 is not lent for fetching
         puts: "put 000800 0700090000000005\n",
         text: "no 000800 short-seek
 000800 fresh t * 07 000900 -----0 00 0005 control seek
-because the argument ends after 5 of 6 bytes
+because the argument ends after 5 of 6 bytes: 0000000000 at 000900-000904
 ",
         ..USUAL
     },
@@ -208,7 +208,7 @@ put 000900 0001000000000000
 ",
         text: "no 000800 short-seek
 000800 fresh t * 07 000900 D----0 00 0002 control seek
-because the argument ends after 5 of 6 bytes
+because the argument ends after 5 of 6 bytes: 0001000000 at 000900-000904
 ",
         ..USUAL
     },
@@ -216,7 +216,7 @@ because the argument ends after 5 of 6 bytes
         puts: "put 000800 0700090000000006\nput 000900 0102000000000000\n",
         text: "no 000800 seek-outside
 000800 fresh t * 07 000900 -----0 00 0006 control seek
-because bin 0102 is not zero
+because bin 0102 is not zero: the argument is 010200000000 at 000900-000905
 ",
         ..USUAL
     },
@@ -224,7 +224,19 @@ because bin 0102 is not zero
         puts: "put 000800 0700090000000006\nput 000900 0000001400000000\n",
         text: "no 000800 seek-outside
 000800 fresh t * 07 000900 -----0 00 0006 control seek
-because cylinder 20 is in no extent
+because cylinder 20 is in no extent: the argument is 000000140000 at 000900-000905
+",
+        ..USUAL
+    },
+    Case {
+        puts: "put 000800 0700090880000001
+put 000808 0000090000000005
+put 000900 0200000000000000
+put 000908 0100000000000000
+",
+        text: "no 000800 seek-outside
+000800 fresh t * 07 000908 D----0 00 0001 control seek
+because bin 0102 is not zero: the argument is 010200000000 at 000908-000908, 000900-000904
 ",
         ..USUAL
     },
@@ -233,7 +245,7 @@ because cylinder 20 is in no extent
         puts: "put 000800 0700090000000006\nput 000900 0000000A000A0000\n",
         text: "no 000800 seek-outside
 000800 fresh t * 07 000900 -----0 00 0006 control seek
-because head 10 is not below 10
+because head 10 is not below 10: the argument is 0000000A000A at 000900-000905
 ",
         ..USUAL
     },
