@@ -335,8 +335,23 @@ fn push_others(out: &mut String, offences: &[Offence]) -> Result<(), AllocError>
     Ok(())
 }
 
-/// Adds what shows that a verdict is no, if it is: the path, the cause, and the path to what is
-/// changed.
+/// Adds the line that says which place stores over what stands at the path's end, if one does.
+fn push_stored(out: &mut String, stored_over: Option<Place>) -> Result<(), AllocError>
+    ensures { OnOk result (string_bytes out.new
+        ≡ string_bytes out.old ++ texts.stored_line stored_over) }
+{
+    let Some(place) = stored_over else {
+        return Ok(());
+    };
+    let address = Address(place.address);
+    write!(
+        out,
+        "stored over by {address}: what will stand there is not judged\n"
+    )
+}
+
+/// Adds what shows that a verdict is no, if it is: the path, the cause, what is stored over before,
+/// and the path to what is changed.
 fn push_witness(
     alloc: Global,
     out: &mut String,
@@ -353,12 +368,14 @@ fn push_witness(
     out.push_str("because ")?;
     push_cause(alloc, out, witness.path.as_slice(), evidence)?;
     out.push('\n')?;
+    push_stored(out, witness.stored_over)?;
     push_second(alloc, out, job, witness.second_path.as_slice())
 }
 
 /// The explanation of a verdict as text: its line; the path to an offending place, a row for each
-/// place, the last marked; the cause, with its values; the path to what is changed; and a line for
-/// each other address and reason that offends. An error means that an allocation failed.
+/// place, the last marked; the cause, with its values; the place that stores over what stands at the
+/// path's end; the path to what is changed; and a line for each other address and reason that
+/// offends. An error means that an allocation failed.
 ///
 /// The rows show the CCWs that stand in the job's storage, whether or not the explanation is the
 /// job's.

@@ -247,7 +247,7 @@ fn eight_bytes(address: u32) -> Area
 }
 
 /// The range of a CCW's data.
-fn data_of(ccw: &Ccw) -> Area
+pub(crate) fn data_of(ccw: &Ccw) -> Area
     ensures { result ≡ specs.data_of ccw.now }
 {
     Area {

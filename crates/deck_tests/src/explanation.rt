@@ -28,7 +28,7 @@ const USUAL: Case<'static> = Case {
     text: "",
 };
 
-static CASES: [Case<'static>; 25] = [
+static CASES: [Case<'static>; 29] = [
     Case {
         puts: "put 000800 3100090040000005
 put 000808 0800080000000000
@@ -271,6 +271,57 @@ because mask byte C0 is not as strict as 40: it permits write-special-count-key-
         text: "no 000800 weakens-mask
 000800 fresh t * 1F 000900 -----0 00 0001 control set-file-mask
 because mask byte D9 is no file mask
+",
+        ..USUAL
+    },
+    Case {
+        puts: "put 000800 06000A0040000010\nput 000808 08000A0000000000\n",
+        text: "no 000A00 invalid-code
+000800 fresh t . 06 000A00 -C---0 00 0010 read read-data
+000808 fresh - . 08 000A00 -----0 00 0000 transfer transfer-in-channel
+000A00 fresh t * 00 000000 -----0 00 0000 invalid unknown
+because code 00 is invalid
+stored over by 000800: what will stand there is not judged
+",
+        ..USUAL
+    },
+    Case {
+        puts: "put 000800 06000A0040000008
+put 000808 06000A0740000001
+put 000810 06000A0840000008
+put 000818 08000A0000000000
+",
+        text: "no 000A00 invalid-code
+000800 fresh t . 06 000A00 -C---0 00 0008 read read-data
+000808 fresh - . 06 000A07 -C---0 00 0001 read read-data
+000810 fresh - . 06 000A08 -C---0 00 0008 read read-data
+000818 fresh - . 08 000A00 -----0 00 0000 transfer transfer-in-channel
+000A00 fresh t * 00 000000 -----0 00 0000 invalid unknown
+because code 00 is invalid
+stored over by 000808: what will stand there is not judged
+",
+        ..USUAL
+    },
+    Case {
+        puts: "put 000800 06000A0050000010\nput 000808 08000A0000000000\n",
+        text: "no 000A00 invalid-code
+000800 fresh t . 06 000A00 -C-S-0 00 0010 read read-data
+000808 fresh - . 08 000A00 -----0 00 0000 transfer transfer-in-channel
+000A00 fresh t * 00 000000 -----0 00 0000 invalid unknown
+because code 00 is invalid
+",
+        ..USUAL
+    },
+    Case {
+        puts: "put 000800 06000A0040000010
+put 000808 08000A0000000000
+put 000A00 06000B0000000010
+",
+        text: "no 000A00 store-not-lent
+000800 fresh t . 06 000A00 -C---0 00 0010 read read-data
+000808 fresh - . 08 000A00 -----0 00 0000 transfer transfer-in-channel
+000A00 fresh t * 06 000B00 -----0 00 0010 read read-data
+because none of 000B00-000B0F is lent for storing
 ",
         ..USUAL
     },
