@@ -22,6 +22,8 @@ VALUES = {
     "A-B": r"[0-9A-F]{6,8}-[0-9A-F]{6,8}",
     "ADDRESS": r"[0-9A-F]{6,8}",
     "BYTE": r"[0-9A-F]{6}",
+    "BYTES": r"(?:[0-9A-F]{2})+",
+    "RANGES": r"[0-9A-F]{6}-[0-9A-F]{6}(?:, [0-9A-F]{6}-[0-9A-F]{6})*",
     "HHHH": r"[0-9A-F]{4}",
     "HH": r"[0-9A-F]{2}",
     "NAME": r"[a-z-]+",
@@ -41,7 +43,6 @@ def causes_of(page):
     """The forms of each reason's cause, as patterns."""
     for word, said in re.findall(r"(?ms)^### `([a-z-]+)`$(.*?)(?=^### |\Z)", page):
         forms = re.findall(r"`(because [^`]+)`", " ".join(said.split()))
-        forms += [form.replace(" argument ", " mask byte ") for form in forms if "BYTE" in form]
         plain = [re.sub(r"[()]", r"\\\g<0>", form) for form in forms]
         yield word, [VALUE.sub(lambda found: VALUES[found[0]], form) for form in plain]
 

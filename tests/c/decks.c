@@ -104,6 +104,20 @@ static void print_number(const char *name, uint32_t number)
         printf(" %s %" PRIu32, name, number);
 }
 
+/* Prints the bytes of an argument, and their addresses. */
+static void print_given(const struct chanv_evidence *values)
+{
+    print_number("given", values->given);
+    if (values->given == 0)
+        return;
+    printf(" bytes ");
+    for (uint32_t i = 0; i < values->given; i++)
+        printf("%02" PRIX8, values->bytes[i]);
+    printf(" at");
+    for (uint32_t i = 0; i < values->given; i++)
+        printf(" %06" PRIX32, values->addresses[i]);
+}
+
 static void print_evidence(const struct chanv_evidence *values)
 {
     printf("because %" PRIu32, values->reason);
@@ -115,7 +129,7 @@ static void print_evidence(const struct chanv_evidence *values)
     print_value("code", values->code, 2);
     print_value("mask", values->mask, 2);
     print_value("bits", values->bits, 2);
-    print_number("given", values->given);
+    print_given(values);
     print_number("outside", values->outside);
     print_number("value", values->value);
     print_number("below", values->below);

@@ -54,7 +54,7 @@ FIELD(chanv_place, address, 0);
 FIELD(chanv_place, entered, 4);
 FIELD(chanv_place, after_transfer, 5);
 
-SIZE(chanv_evidence, 64);
+SIZE(chanv_evidence, 96);
 FIELD(chanv_evidence, reason, 0);
 FIELD(chanv_evidence, range, 4);
 FIELD(chanv_evidence, gap, 12);
@@ -69,8 +69,10 @@ FIELD(chanv_evidence, outside, 48);
 FIELD(chanv_evidence, value, 52);
 FIELD(chanv_evidence, below, 56);
 FIELD(chanv_evidence, sets_mask, 60);
+FIELD(chanv_evidence, addresses, 64);
+FIELD(chanv_evidence, bytes, 88);
 
-SIZE(chanv_explanation, 96);
+SIZE(chanv_explanation, 128);
 FIELD(chanv_explanation, verdict, 0);
 FIELD(chanv_explanation, path, 16);
 FIELD(chanv_explanation, second_path, 24);

@@ -1,5 +1,5 @@
 -- The explanation, row by row and line by line.
-use Rattle.std.proofs.Common.{◌≡◌, ◌∷◌, [], ◌++◌, ◌∙◌, ◌+◌, ◌-◌, ◌<◌, ◌≤◌, ap, sym, List, ℕ, suc, true, false, Option, refl, nat_eq, if◌then◌else◌, append_assoc, append-nil, arith, codes, drop, drop-cons, get_or, length, length-drop}
+use Rattle.std.proofs.Common.{◌≡◌, ◌∷◌, [], ◌++◌, ◌∙◌, ◌+◌, ◌-◌, ◌<◌, ◌≤◌, ap, sym, List, ℕ, suc, true, false, Option, Some, refl, nat_eq, if◌then◌else◌, append_assoc, append-nil, arith, codes, drop, drop-cons, get_or, length, length-drop}
 use Rattle.std.proofs.lemmas.Bool.Decides.{nat_tests}
 use Rattle.std.specs.Fmt.{decimal}
 use Rattle.std.specs.Int.{w16, to_be_bytes}
@@ -11,7 +11,10 @@ use Rattle.ckd_core.specs.Mask.{is_mask, least_permitted}
 use Rattle.chan_walk.specs.declared.evidence.Outside.TheVariants.{Bin, Head}
 use Rattle.chan_walk.specs.declared.offence.Offence.{Offence}
 use Rattle.chan_walk.specs.declared.place.Place.{Place}
-use Rattle.chan_deck.specs.Explanation.{also_line, also_lines, are_alike, path_rows, seek_text, weaker_text}
+use Rattle.chan_walk.specs.declared.seek.GivenBytes.{GivenBytes}
+use Rattle.chan_walk.specs.Given.{addresses_given}
+use Rattle.chan_deck.specs.Explanation.{also_line, also_lines, are_alike, argument_text, given_text, path_rows, ranges_text, seek_text, taken_text, weaker_text}
+use Rattle.chan_deck.specs.Texts.{address_text}
 use Rattle.chan_deck.specs.Item.{byte_digits}
 use Rattle.chan_deck.specs.Listing.{command_name, command_of, row, row_with}
 
@@ -24,6 +27,24 @@ bin_told held bytes n e = ap (λ b. held ++ (codes "bin " ++ (encode_upper (get_
 
 pub head_told : (held : List ℕ) (n m : ℕ) → held ++ (codes "head " ++ (decimal n ++ (codes " is not below " ++ decimal m))) ≡ held ++ seek_text (Head n m)
 head_told held n m = ap (λ t. held ++ (codes "head " ++ t)) (sym (append_assoc (decimal n) (codes " is not below ") (decimal m)))
+
+-- a text in three parts, and one behind it
+pub short_told : (held told a b c d : List ℕ) → told ≡ held ++ (a ++ (b ++ c)) → told ++ d ≡ held ++ (a ++ b ++ c ++ d)
+short_told held told a b c d e = ap (λ t. t ++ d) e ∙ append_assoc held (a ++ (b ++ c)) d ∙ ap (λ t. held ++ (t ++ d)) (sym (append_assoc a b c))
+
+pub sought_told : (held first told outside : List ℕ) (o : Option GivenBytes) (g : GivenBytes) → o ≡ Some g → first ≡ held ++ outside → told ≡ first ++ codes ": the argument is "
+    → told ++ given_text g ≡ held ++ (outside ++ argument_text o)
+sought_told held first told outside o g is e f =
+    let l = codes ": the argument is " in
+    ap (λ t. t ++ given_text g) (f ∙ ap (λ t. t ++ l) e) ∙ append_assoc (held ++ outside) l (given_text g) ∙ append_assoc held outside (l ++ given_text g)
+    ∙ ap (λ z. held ++ (outside ++ argument_text z)) (sym is)
+
+pub taken_told : (held told addresses : List ℕ) (b : ℕ) (o : Option GivenBytes) (g : GivenBytes) → o ≡ Some g → told ≡ held ++ (address_text b ++ codes " of the argument ") → addresses ≡ addresses_given g
+    → told ++ ranges_text addresses ≡ held ++ taken_text b o
+taken_told held told addresses b o g is e f =
+    let l = codes " of the argument " in
+    ap (λ t. t ++ ranges_text addresses) e ∙ append_assoc held (address_text b ++ l) (ranges_text addresses) ∙ ap (λ t. held ++ (address_text b ++ l ++ ranges_text t)) f
+    ∙ ap (λ z. held ++ taken_text b z) (sym is)
 
 -- six texts behind what is held, in either grouping
 regrouped : (h a d c m p n : List ℕ) → h ++ (a ++ (d ++ (c ++ (m ++ (p ++ n))))) ≡ h ++ (a ++ d ++ c ++ m ++ p ++ n)

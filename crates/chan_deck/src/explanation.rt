@@ -8,12 +8,13 @@ ghost use Rattle.chan_deck.specs.Explanation as texts;
 ghost use Rattle.chan_deck.specs.Listing.{command_name};
 ghost use Rattle.ckd_core.specs.Entries.{entry_of};
 ghost use Rattle.ckd_core.specs.Further as further_codes;
+ghost use Rattle.chan_walk.specs.declared.evidence.Evidence.TheVariants as because;
 ghost use Rattle.chan_walk.specs.Job.{storage_of};
 
 use crate::listing::{ListError, push_row, standing_at};
 use crate::texts::{Address, Digits, Range, Size, verdict_text};
 use ccw_core::{Area, Watched, write_out};
-use chan_walk::{Evidence, Job, Offence, Outside, Place, Survey, Witness};
+use chan_walk::{Evidence, GivenBytes, Job, Offence, Outside, Place, Survey, Witness};
 use ckd_core::{Command, FileMask, further_name, lookup};
 use std::alloc::{AllocError, Global};
 use std::fmt::Write as _;
@@ -106,6 +107,76 @@ fn push_seek(out: &mut String, outside: Outside) -> Result<(), AllocError>
     }
 }
 
+/// Adds what stands between two addresses in a row of them: nothing where the second follows the
+/// first, and else the end of one range and the begin of another.
+fn push_between(out: &mut String, one: u32, other: u32) -> Result<(), AllocError>
+    ensures { OnOk result (string_bytes out.new
+        ≡ string_bytes out.old ++ texts.between one other) }
+{
+    if u64::from(other) == u64::from(one) + 1 {
+        return Ok(());
+    }
+    let one = Address(one);
+    let other = Address(other);
+    write!(out, "-{one}, {other}")
+}
+
+/// Adds the ranges of some addresses in their order.
+fn push_ranges(out: &mut String, addresses: &[u32]) -> Result<(), AllocError>
+    ensures { OnOk result (string_bytes out.new
+        ≡ string_bytes out.old ++ texts.ranges_text addresses.now) }
+{
+    if addresses.is_empty() {
+        return Ok(());
+    }
+    let first = Address(addresses[0]);
+    write!(out, "{first}")?;
+    for at in 1..addresses.len() {
+        push_between(out, addresses[at - 1], addresses[at])?;
+    }
+    let last = Address(addresses[addresses.len() - 1]);
+    write!(out, "-{last}")
+}
+
+/// Adds the bytes of an argument, and where they stand.
+fn push_given(alloc: Global, out: &mut String, given: GivenBytes) -> Result<(), AllocError>
+    ensures { OnOk result (string_bytes out.new
+        ≡ string_bytes out.old ++ texts.given_text given) }
+{
+    let bytes = hex::encode_upper(alloc, given.bytes())?;
+    out.push_str(bytes.as_str())?;
+    out.push_str(" at ")?;
+    push_ranges(out, given.addresses())
+}
+
+/// Adds how many bytes there are of an argument that isn't whole, and these.
+fn push_short(alloc: Global, out: &mut String, given: GivenBytes) -> Result<(), AllocError>
+    ensures { OnOk result (string_bytes out.new ≡ string_bytes out.old
+        ++ texts.cause_text [] (because.ShortSeek given)) }
+{
+    let count = given.count;
+    write!(out, "the argument ends after {count} of 6 bytes: ")?;
+    push_given(alloc, out, given)
+}
+
+/// Adds what is wrong with a seek, and its argument, if it has one.
+fn push_sought(
+    alloc: Global,
+    out: &mut String,
+    outside: Outside,
+    argument: Option<GivenBytes>,
+) -> Result<(), AllocError>
+    ensures { OnOk result (string_bytes out.new ≡ string_bytes out.old
+        ++ texts.cause_text [] (because.SeekOutside outside argument)) }
+{
+    push_seek(out, outside)?;
+    let Some(argument) = argument else {
+        return Ok(());
+    };
+    out.push_str(": the argument is ")?;
+    push_given(alloc, out, argument)
+}
+
 /// What is wrong with a transfer in channel to which a path leads.
 fn transfer_word(path: &[Place]) -> &'static str
     ensures { result.now ≡ texts.transfer_text path.now }
@@ -116,11 +187,17 @@ fn transfer_word(path: &[Place]) -> &'static str
     }
 }
 
-/// What the byte that is stored over is to the place that takes it.
-fn byte_word(sets_mask: bool) -> &'static str
-    ensures { result.now ≡ texts.byte_word sets_mask }
+/// Adds what the byte that is stored over is to the place that takes it.
+fn push_taken(out: &mut String, byte: u32, argument: Option<GivenBytes>) -> Result<(), AllocError>
+    ensures { OnOk result (string_bytes out.new
+        ≡ string_bytes out.old ++ texts.taken_text byte argument) }
 {
-    if sets_mask { "mask byte" } else { "argument" }
+    let byte = Address(byte);
+    let Some(argument) = argument else {
+        return write!(out, "the mask byte {byte}");
+    };
+    write!(out, "{byte} of the argument ")?;
+    push_ranges(out, argument.addresses())
 }
 
 /// Adds the cause to a text, if it is that some data is stored over what may not change.
@@ -138,20 +215,25 @@ fn push_change(out: &mut String, evidence: Evidence) -> Result<(), AllocError>
             data,
             byte,
             taker,
-            sets_mask,
+            argument,
         } => {
             let data = Range(data);
-            let word = byte_word(sets_mask);
-            let byte = Address(byte);
+            write!(out, "it stores {data}, over ")?;
+            push_taken(out, byte, argument)?;
             let taker = Address(taker);
-            write!(out, "it stores {data}, over the {word} {byte} of {taker}")
+            write!(out, " of {taker}")
         }
         _ => Ok(()),
     }
 }
 
 /// Adds the cause to a text.
-fn push_cause(out: &mut String, path: &[Place], evidence: Evidence) -> Result<(), AllocError>
+fn push_cause(
+    alloc: Global,
+    out: &mut String,
+    path: &[Place],
+    evidence: Evidence,
+) -> Result<(), AllocError>
     ensures { OnOk result (string_bytes out.new
         ≡ string_bytes out.old ++ texts.cause_text path.now evidence) }
 {
@@ -180,8 +262,8 @@ fn push_cause(out: &mut String, path: &[Place], evidence: Evidence) -> Result<()
         }
         Evidence::StoreNotLent { data, gap } => push_unlent(out, data, gap, "storing"),
         Evidence::FetchNotLent { data, gap } => push_unlent(out, data, gap, "fetching"),
-        Evidence::ShortSeek { given } => write!(out, "the argument ends after {given} of 6 bytes"),
-        Evidence::SeekOutside { outside } => push_seek(out, outside),
+        Evidence::ShortSeek { given } => push_short(alloc, out, given),
+        Evidence::SeekOutside { outside, argument } => push_sought(alloc, out, outside, argument),
         Evidence::ChangesCcw { .. } | Evidence::ChangesArgument { .. } => push_change(
             out, evidence,
         ),
@@ -253,8 +335,23 @@ fn push_others(out: &mut String, offences: &[Offence]) -> Result<(), AllocError>
     Ok(())
 }
 
-/// Adds what shows that a verdict is no, if it is: the path, the cause, and the path to what is
-/// changed.
+/// Adds the line that says which place stores over what stands at the path's end, if one does.
+fn push_stored(out: &mut String, stored_over: Option<Place>) -> Result<(), AllocError>
+    ensures { OnOk result (string_bytes out.new
+        ≡ string_bytes out.old ++ texts.stored_line stored_over) }
+{
+    let Some(place) = stored_over else {
+        return Ok(());
+    };
+    let address = Address(place.address);
+    write!(
+        out,
+        "stored over by {address}: what will stand there is not judged\n"
+    )
+}
+
+/// Adds what shows that a verdict is no, if it is: the path, the cause, what is stored over before,
+/// and the path to what is changed.
 fn push_witness(
     alloc: Global,
     out: &mut String,
@@ -269,14 +366,16 @@ fn push_witness(
     };
     push_path(alloc, out, job, witness.path.as_slice())?;
     out.push_str("because ")?;
-    push_cause(out, witness.path.as_slice(), evidence)?;
+    push_cause(alloc, out, witness.path.as_slice(), evidence)?;
     out.push('\n')?;
+    push_stored(out, witness.stored_over)?;
     push_second(alloc, out, job, witness.second_path.as_slice())
 }
 
 /// The explanation of a verdict as text: its line; the path to an offending place, a row for each
-/// place, the last marked; the cause, with its values; the path to what is changed; and a line for
-/// each other address and reason that offends. An error means that an allocation failed.
+/// place, the last marked; the cause, with its values; the place that stores over what stands at the
+/// path's end; the path to what is changed; and a line for each other address and reason that
+/// offends. An error means that an allocation failed.
 ///
 /// The rows show the CCWs that stand in the job's storage, whether or not the explanation is the
 /// job's.

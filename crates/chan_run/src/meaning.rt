@@ -39,7 +39,9 @@ A new operation begins at the CCW, and the low four bits of its code are zero,
 which no command has.
 Correct the code. Where the CCW is to go on with a data chain, switch on chain
 data in the CCW before it; where the program is to end before it, switch off
-chain command in the last one.
+chain command in the last one. Where the program reads in what it then runs,
+what will stand there can't be judged: read it in first, and ask about storage
+as it is then.
 ";
 
 const BAD_FORMAT: &str = "\

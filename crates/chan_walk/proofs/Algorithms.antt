@@ -26,3 +26,4 @@ pub mod Seeking
 pub mod Needed
 pub mod Holding
 pub mod Opened
+pub mod StoredOver

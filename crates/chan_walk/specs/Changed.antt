@@ -1,11 +1,12 @@
 -- What a store changes, as it is found among the places that were looked at.
-use Rattle.std.specs.Prelude.{◌≡◌, Bool, ℕ, ◌+◌, ◌<◌, min, List, slice_get, Option, None, Some}
+use Rattle.std.specs.Prelude.{◌≡◌, ℕ, ◌+◌, ◌<◌, min, List, slice_get, Option, None, Some}
 use Rattle.std.specs.Prelude.{IsSome}
 use Rattle.ccw_core.specs.declared.areas.Area.{Area}
 use Rattle.chan_walk.specs.declared.evidence.Evidence.{Evidence}
 use Rattle.chan_walk.specs.declared.evidence.Evidence.TheVariants as because
 use Rattle.chan_walk.specs.declared.job.Job.{Job}
 use Rattle.chan_walk.specs.declared.place.Place.{Place}
+use Rattle.chan_walk.specs.declared.seek.GivenBytes.{GivenBytes}
 use Rattle.chan_walk.specs.Evidence.{IsArgumentIn, IsLeastOf, IsTakenAt}
 use Rattle.chan_walk.specs.Guard.{IsArgumentByteOf}
 use Rattle.chan_walk.specs.Look.{Seen}
@@ -37,12 +38,13 @@ IsLesserOf (Some b) a n = n ≡ min b a
 -- the evidence that some data is stored over an argument
 abbrev pub IsArgumentChange : Job → Area → Evidence → Type 0
 IsArgumentChange j range e =
-    (b : ℕ) × (taker : ℕ) × (sets : Bool) × (e ≡ because.ChangesArgument range b taker sets)
-    × IsLeastOf (IsArgumentIn j range) b × IsTakenAt j b taker sets
+    (b : ℕ) × (taker : ℕ) × (argument : Option GivenBytes)
+    × (e ≡ because.ChangesArgument range b taker argument)
+    × IsLeastOf (IsArgumentIn j range) b × IsTakenAt j b taker argument
 
 -- the first of the places that the second path may lead to, or that there is none
 abbrev pub IsFirstChanged : Job → Evidence → List Place → Option ℕ → Type 0
 IsFirstChanged j (because.ChangesCcw range ccw) ps at = IsFirstWhere (λ q. q.address ≡ ccw) ps at
-IsFirstChanged j (because.ChangesArgument range b taker sets) ps at =
+IsFirstChanged j (because.ChangesArgument range b taker argument) ps at =
     IsFirstWhere (λ q. IsArgumentByteOf j q b) ps at
 IsFirstChanged j _ ps at = at ≡ None

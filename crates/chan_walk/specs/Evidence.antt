@@ -1,5 +1,5 @@
 -- The evidence for an offence: the values of its cause, and the path that shows what is changed.
-use Rattle.std.specs.Prelude.{◌≡◌, ℕ, ◌+◌, ◌*◌, ◌%◌, ◌<◌, ◌≤◌, Bool, true, false, List, [], length}
+use Rattle.std.specs.Prelude.{◌≡◌, ℕ, ◌+◌, ◌*◌, ◌%◌, ◌<◌, ◌≤◌, true, false, List, [], length}
 use Rattle.std.specs.Prelude.{slice_index, Option, Some, None, ◌⊎◌}
 use Rattle.ccw_core.specs.declared.areas.Area.{Area}
 use Rattle.ccw_core.specs.Areas.{lies_in}
@@ -16,8 +16,10 @@ use Rattle.chan_walk.specs.declared.offence.Offence.{Offence}
 use Rattle.chan_walk.specs.declared.place.Place.{Place}
 use Rattle.chan_walk.specs.declared.reason.Reason.{Reason}
 use Rattle.chan_walk.specs.declared.reason.Reason.TheVariants as reasons
+use Rattle.chan_walk.specs.declared.seek.GivenBytes.{GivenBytes}
 use Rattle.chan_walk.specs.Argument.{Gives, HasArgument}
-use Rattle.chan_walk.specs.Fault.{allows, begins_recalibrate, begins_seek, begins_set_mask}
+use Rattle.chan_walk.specs.Fault.{allows, begins_recalibrate, begins_seek}
+use Rattle.chan_walk.specs.Given.{AreArgument, AreGiven}
 use Rattle.chan_walk.specs.Guard.{IsArgumentByteOf}
 use Rattle.chan_walk.specs.Guarded.{IsArgumentByte}
 use Rattle.chan_walk.specs.Job.{extents_of, fetch_of, heads, storage_of, store_of}
@@ -74,6 +76,12 @@ IsOutside j x (Head n m) =
     (has_no_bin x ≡ true) × (has_cylinder (extents_of j) (cylinder_of x) ≡ true)
     × (n ≡ head_of x) × (m ≡ heads j) × (m ≤ n)
 
+-- the argument of the seek that begins at p, and none where no seek begins there
+abbrev pub IsArgumentAt : Job → Place → Option GivenBytes → Type 0
+IsArgumentAt j p None = begins_seek p (ccw_of j p) ≡ false
+IsArgumentAt j p (Some g) =
+    (begins_seek p (ccw_of j p) ≡ true) × AreArgument (storage_of j) p.address g
+
 -- a reachable CCW stands at a, and the data has a byte of it
 pub record IsCcwIn (j : Job) (range : Area) (a : ℕ) : Type 0 where
   pub place : Place
@@ -102,11 +110,11 @@ IsLeastOrNone P (Some n) = IsLeastOf P n
 abbrev pub IsPathToTaker : Job → ℕ → Place → List Place → Type 0
 IsPathToTaker j b taker before = IsPathWhere j (λ q. IsArgumentByteOf j q b) taker before
 
--- that path ends at the address a, with a Set File Mask or with a seek
-abbrev pub IsTakenAt : Job → ℕ → ℕ → Bool → Type 0
-IsTakenAt j b a sets =
+-- that path ends at the address a, with a seek of this argument or with a Set File Mask
+abbrev pub IsTakenAt : Job → ℕ → ℕ → Option GivenBytes → Type 0
+IsTakenAt j b a argument =
     (taker : Place) × (before : List Place) × IsPathToTaker j b taker before
-    × (taker.address ≡ a) × (begins_set_mask taker (ccw_of j taker) ≡ sets)
+    × (taker.address ≡ a) × IsArgumentAt j taker argument
 
 -- ---- the evidence
 
@@ -123,10 +131,10 @@ reason_of (because.NotInTable code) = reasons.NotInTable
 reason_of (because.Inhibited mask code) = reasons.Inhibited
 reason_of (because.StoreNotLent range gap) = reasons.StoreNotLent
 reason_of (because.FetchNotLent range gap) = reasons.FetchNotLent
-reason_of (because.ShortSeek n) = reasons.ShortSeek
-reason_of (because.SeekOutside outside) = reasons.SeekOutside
+reason_of (because.ShortSeek given) = reasons.ShortSeek
+reason_of (because.SeekOutside outside argument) = reasons.SeekOutside
 reason_of (because.ChangesCcw range ccw) = reasons.ChangesCcw
-reason_of (because.ChangesArgument range b taker sets) = reasons.ChangesArgument
+reason_of (because.ChangesArgument range b taker argument) = reasons.ChangesArgument
 reason_of (because.WeakensMask b mask) = reasons.WeakensMask
 
 -- its values are those of the place
@@ -145,12 +153,14 @@ IsCause j p (because.StoreNotLent range gap) =
     (range ≡ data_at j p) × IsFirstGap (store_of j) range gap
 IsCause j p (because.FetchNotLent range gap) =
     (range ≡ data_at j p) × IsFirstGap (fetch_of j) range gap
-IsCause j p (because.ShortSeek n) = Gives (storage_of j) p.address n
-IsCause j p (because.SeekOutside outside) = (x : List ℕ) × SeeksTo j p x × IsOutside j x outside
+IsCause j p (because.ShortSeek given) =
+    Gives (storage_of j) p.address given.count × AreGiven (storage_of j) p.address given
+IsCause j p (because.SeekOutside outside argument) =
+    ((x : List ℕ) × SeeksTo j p x × IsOutside j x outside) × IsArgumentAt j p argument
 IsCause j p (because.ChangesCcw range ccw) =
     (range ≡ data_at j p) × IsLeastOf (IsCcwIn j range) ccw
-IsCause j p (because.ChangesArgument range b taker sets) =
-    (range ≡ data_at j p) × IsLeastOf (IsArgumentIn j range) b × IsTakenAt j b taker sets
+IsCause j p (because.ChangesArgument range b taker argument) =
+    (range ≡ data_at j p) × IsLeastOf (IsArgumentIn j range) b × IsTakenAt j b taker argument
 IsCause j p (because.WeakensMask b mask) =
     (b ≡ byte (storage_of j) (ccw_of j p).address) × (mask ≡ j.mask)
 
@@ -164,6 +174,6 @@ IsEvidence j o e = (reason_of e ≡ o.reason) × IsCause j o.place e
 -- takes the argument; no places for other causes
 abbrev pub IsSecondPath : Job → Evidence → List Place → Type 0
 IsSecondPath j (because.ChangesCcw range ccw) places = ArePathWhere j (λ q. q.address ≡ ccw) places
-IsSecondPath j (because.ChangesArgument range b taker sets) places =
+IsSecondPath j (because.ChangesArgument range b taker argument) places =
     ArePathWhere j (λ q. IsArgumentByteOf j q b) places
 IsSecondPath j _ places = places ≡ []

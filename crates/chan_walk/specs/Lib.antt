@@ -3,6 +3,7 @@ pub mod Place
 pub mod Reason
 pub mod Check
 pub mod Argument
+pub mod Given
 pub mod Onward
 pub mod Fault
 pub mod Order

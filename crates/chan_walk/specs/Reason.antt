@@ -1,5 +1,5 @@
 -- The reasons why a program may not run, by number and by word.
-use Rattle.std.specs.Prelude.{ℕ, List, codes}
+use Rattle.std.specs.Prelude.{ℕ, nat_le, Bool, List, codes}
 use Rattle.chan_walk.specs.declared.reason.Reason.{Reason}
 use Rattle.chan_walk.specs.declared.reason.Reason.TheVariants.{Misaligned, OutsideStorage}
 use Rattle.chan_walk.specs.declared.reason.Reason.TheVariants.{TransferNotAllowed, InvalidCode}
@@ -27,6 +27,11 @@ number_of SeekOutside = 13
 number_of ChangesCcw = 14
 number_of ChangesArgument = 15
 number_of WeakensMask = 16
+
+-- no command of the table stands there that the channel can carry out: one of the first eight
+-- reasons. So it is where a program is read in only while this one runs.
+unfoldable pub is_no_command : Reason → Bool
+is_no_command r = nat_le (number_of r) 8
 
 -- the word for a reason in a verdict, as ASCII text
 abbrev pub word_of : Reason → List ℕ

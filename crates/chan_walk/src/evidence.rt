@@ -23,6 +23,7 @@ use crate::lent::Lent;
 use crate::look::{Look, Read};
 use crate::offence::Offence;
 use crate::reason::Reason;
+use crate::seek::GivenBytes;
 use crate::visit::recalibrates_at;
 use ccw_core::{Area, Ccw};
 use ckd_core::{FileMask, Track};
@@ -76,13 +77,15 @@ pub enum Evidence {
         data: Area,
         gap: Area,
     },
-    /// How many of the six bytes of its argument the seek's data chain gives.
+    /// What the seek's data chain gives of its argument: fewer than six bytes.
     ShortSeek {
-        given: u8,
+        given: GivenBytes,
     },
-    /// What the argument names that the job doesn't allow.
+    /// What the argument names that the job doesn't allow, and the argument; a Recalibrate has
+    /// none.
     SeekOutside {
         outside: Outside,
+        argument: Option<GivenBytes>,
     },
     /// The data that is stored, and the least address of a reachable CCW of which it has a byte.
     ChangesCcw {
@@ -90,13 +93,14 @@ pub enum Evidence {
         ccw: u32,
     },
     /// The data that is stored, the least address in it of a byte that a reachable place takes as
-    /// its argument, the address of such a place, and whether it is a Set File Mask. Of several
-    /// such places it is the one to which the path leads.
+    /// its argument, the address of such a place, and the whole argument if it is a seek's; else
+    /// the byte is the one that Set File Mask sets. Of several such places it is the one to which
+    /// the path leads.
     ChangesArgument {
         data: Area,
         byte: u32,
         taker: u32,
-        sets_mask: bool,
+        argument: Option<GivenBytes>,
     },
     /// The byte that is set, and the job's mask, as which it isn't at least as strict.
     WeakensMask {
@@ -243,7 +247,7 @@ fn eight_bytes(address: u32) -> Area
 }
 
 /// The range of a CCW's data.
-fn data_of(ccw: &Ccw) -> Area
+pub(crate) fn data_of(ccw: &Ccw) -> Area
     ensures { result ≡ specs.data_of ccw.now }
 {
     Area {
@@ -290,15 +294,19 @@ fn evidence_of_seek(job: &Job, offence: Offence, ccw: Ccw, read: Read) -> Eviden
     if recalibrates_at(offence.place, ccw) {
         return Evidence::SeekOutside {
             outside: Outside::Cylinder(0),
+            argument: None,
         };
     }
     match read {
-        Read::Whole(bytes) => Evidence::SeekOutside {
-            outside: outside_of(job, bytes),
+        Read::Whole(given) => Evidence::SeekOutside {
+            outside: outside_of(job, given.bytes),
+            argument: Some(given),
         },
         Read::Short(given) => Evidence::ShortSeek { given },
         // A seek begins there, so that its argument was read.
-        Read::Nothing | Read::Byte(_) => Evidence::ShortSeek { given: 0 },
+        Read::Nothing | Read::Byte(_) => Evidence::ShortSeek {
+            given: GivenBytes::NONE,
+        },
     }
 }
 

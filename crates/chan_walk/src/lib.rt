@@ -61,7 +61,7 @@ pub use crate::opened::OpenJob;
 pub use crate::place::{Entry, Place, first_place};
 pub use crate::reason::Reason;
 pub use crate::rows::Rows;
-pub use crate::seek::seek_argument;
+pub use crate::seek::{GivenBytes, seek_argument};
 pub use crate::successor::{Next, successors};
 pub use crate::surveyed::Survey;
 pub use crate::verdict::Verdict;

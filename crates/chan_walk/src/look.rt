@@ -8,7 +8,7 @@ ghost use Rattle.chan_walk.specs.Fault.{begins_seek};
 ghost use Rattle.chan_walk.specs.Job.{storage_of};
 ghost use Rattle.chan_walk.specs.Lending.{Lends};
 ghost use Rattle.chan_walk.specs.Look.{IsLook, IsRead, addresses_of, argument_of, byte_of};
-ghost use Rattle.chan_walk.specs.Look.{mask_addresses};
+ghost use Rattle.chan_walk.specs.Look.{mask_addresses, whole_of};
 ghost use Rattle.chan_walk.specs.Tables.{HasAddresses};
 ghost use Rattle.chan_walk.specs.Visit.{IsBegun, IsVisit};
 
@@ -17,7 +17,7 @@ use crate::job::Job;
 use crate::lent::Lending;
 use crate::place::Place;
 use crate::reason::Reason;
-use crate::seek::{argument_addresses, byte_at, bytes_of};
+use crate::seek::{GivenBytes, argument_addresses, byte_at, front_at, whole_at};
 use crate::successor::{Next, next_after};
 use crate::visit::Visit;
 use ccw_core::{Ccw, Storage};
@@ -53,21 +53,31 @@ impl Argument {
 pub(crate) enum Read {
     /// Neither a seek nor Set File Mask begins there.
     Nothing,
-    /// So many of the six bytes of its argument the seek's data chain gives.
-    Short(u8),
-    /// The six bytes of the seek's argument.
-    Whole([u8; 6]),
+    /// What the seek's data chain gives of its argument: fewer than six bytes.
+    Short(GivenBytes),
+    /// The whole argument of the seek.
+    Whole(GivenBytes),
     /// The byte that Set File Mask sets.
     Byte(u8),
 }
 
 impl Read {
+    /// The whole argument of a seek, if it was read.
+    pub(crate) fn whole(self) -> Option<GivenBytes>
+        ensures { result ≡ whole_of self }
+    {
+        match self {
+            Read::Whole(given) => Some(given),
+            _ => None,
+        }
+    }
+
     /// The bytes of a seek's argument, if all six were read.
     pub(crate) fn argument(self) -> Option<[u8; 6]>
         ensures { result ≡ argument_of self }
     {
         match self {
-            Read::Whole(bytes) => Some(bytes),
+            Read::Whole(given) => Some(given.bytes),
             _ => None,
         }
     }
@@ -212,11 +222,11 @@ fn seek_out(storage: &Storage, visit: &Visit) -> Sought
         return match argument_addresses(storage, visit.place.address, visit.ccw) {
             Ok(addresses) => Sought {
                 addresses: Some(addresses),
-                read: Read::Whole(bytes_of(storage, addresses)),
+                read: Read::Whole(whole_at(storage, addresses)),
             },
-            Err(given) => Sought {
+            Err(front) => Sought {
                 addresses: None,
-                read: Read::Short(given),
+                read: Read::Short(front_at(storage, front)),
             },
         };
     }

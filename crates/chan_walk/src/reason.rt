@@ -1,7 +1,7 @@
 //! The reasons why a program may not run.
 
 ghost use Rattle.std.specs.Prelude.{◌≡◌};
-ghost use Rattle.chan_walk.specs.Reason.{number_of, word_of};
+ghost use Rattle.chan_walk.specs.Reason.{is_no_command, number_of, word_of};
 
 /// Why a program may not run.
 #[derive(Clone, Copy, PartialEq, Eq, Debug)]
@@ -64,6 +64,15 @@ impl Reason {
             Reason::ChangesArgument => 15,
             Reason::WeakensMask => 16,
         }
+    }
+
+    /// Whether it says that no command of the table stands there that the channel can carry out. So
+    /// it is where a program is read in only while this one runs.
+    #[tactic(auto, unfolding(crate::specs::Reason::is_no_command))]
+    pub(crate) fn is_no_command(self) -> bool
+        ensures { result ≡ is_no_command self }
+    {
+        self.number() <= 8
     }
 
     /// The reason's word in a verdict.

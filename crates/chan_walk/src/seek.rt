@@ -8,11 +8,56 @@ ghost use Rattle.ccw_core.specs.Ccw.{is_formed as formed};
 ghost use Rattle.ccw_core.specs.Held.{bytes_held};
 ghost use Rattle.ccw_core.specs.Storage.{ccw_at as ccw_in};
 ghost use Rattle.chan_walk.specs.Argument.{Gives, HasArgument, is_part};
+ghost use Rattle.chan_walk.specs.Given.{AreArgument, AreGiven, IsFront};
+ghost use Rattle.chan_walk.specs.Given.{addresses_given, bytes_given};
 ghost use Rattle.chan_walk.specs.Onward as onward;
 ghost use Rattle.chan_walk.specs.Tables.{HasAddresses};
 
 use crate::bits::{chains_data, has_data_in, is_counted, is_formed};
 use ccw_core::{Ccw, Storage};
+
+/// The bytes that a seek's data chain gives of its argument, and where they stand, in order.
+#[derive(Clone, Copy, PartialEq, Eq, Debug)]
+pub struct GivenBytes {
+    /// How many they are: six where the argument is whole.
+    pub count: u8,
+    /// The bytes, with zeros behind them.
+    pub bytes: [u8; 6],
+    /// Their addresses, with zeros behind them.
+    pub addresses: [u32; 6],
+}
+
+impl GivenBytes {
+    /// No byte.
+    pub(crate) const NONE: GivenBytes = GivenBytes {
+        count: 0,
+        bytes: [0; 6],
+        addresses: [0; 6],
+    };
+
+    /// The bytes.
+    pub fn bytes(&self) -> &[u8]
+        ensures { result.now ≡ bytes_given self.now }
+    {
+        let count = usize::from(self.count).min(6);
+        &self.bytes[..count]
+    }
+
+    /// Their addresses.
+    pub fn addresses(&self) -> &[u32]
+        ensures { result.now ≡ addresses_given self.now }
+    {
+        let count = usize::from(self.count).min(6);
+        &self.addresses[..count]
+    }
+}
+
+/// The addresses of the first bytes of an argument.
+#[derive(Clone, Copy)]
+pub(crate) struct Front {
+    pub(crate) count: u8,
+    pub(crate) addresses: [u32; 6],
+}
 
 /// A CCW of the chain, and the address at which it stands.
 #[derive(Clone, Copy)]
@@ -99,20 +144,30 @@ fn note(addresses: &mut [u32; 6], have: usize, from: u32, count: usize)
 }
 
 /// The addresses of the six bytes of the argument of a seek whose own CCW, `ccw`, stands at
-/// `address`; or how many bytes its data chain gives, if they are fewer. At most five further CCWs
+/// `address`; or of those that its data chain gives, if they are fewer. At most five further CCWs
 /// and five transfers are looked at, each of them once.
-pub(crate) fn argument_addresses(storage: &Storage, address: u32, ccw: Ccw) -> Result<[u32; 6], u8>
+pub(crate) fn argument_addresses(
+    storage: &Storage,
+    address: u32,
+    ccw: Ccw,
+) -> Result<[u32; 6], Front>
     requires { ccw_in (bytes_held storage.now) address ≡ Some ccw }
     ensures six { IfOk result (λ x. HasAddresses (bytes_held storage.now) address (Some x)) }
     ensures none { IfErr result (λ _. HasAddresses (bytes_held storage.now) address None) }
-    ensures given { IfErr result (Gives (bytes_held storage.now) address) }
+    ensures few { IfErr result (λ front. front.count < 6) }
+    ensures given { IfErr result (λ front. Gives (bytes_held storage.now) address front.count) }
+    ensures front { IfErr result
+        (λ front. IsFront (bytes_held storage.now) address front.count front.addresses) }
 {
     let mut addresses = [0u32; 6];
     let mut have: usize = 0;
     let mut here = Link { address, ccw };
     loop {
         let Some(part) = part_at(storage, here.address, here.ccw) else {
-            return Err(have as u8);
+            return Err(Front {
+                count: have as u8,
+                addresses,
+            });
         };
         let (from, count, chains) = (part.from, part.count, part.chains);
         let room = 6 - have;
@@ -120,14 +175,20 @@ pub(crate) fn argument_addresses(storage: &Storage, address: u32, ccw: Ccw) -> R
             note(&mut addresses, have, from, room);
             return Ok(addresses);
         }
-        if !chains {
-            return Err((have + count) as u8);
-        }
         note(&mut addresses, have, from, count);
         have += count;
+        if !chains {
+            return Err(Front {
+                count: have as u8,
+                addresses,
+            });
+        }
         match onward(storage, here.address) {
             Some(next) => here = next,
-            None => return Err(have as u8),
+            None => return Err(Front {
+                count: have as u8,
+                addresses,
+            }),
         }
     }
 }
@@ -142,16 +203,52 @@ pub(crate) fn byte_at(storage: &Storage, address: u32) -> u8
     }
 }
 
-/// The bytes at these addresses.
-pub(crate) fn bytes_of(storage: &Storage, addresses: [u32; 6]) -> [u8; 6]
-    ensures { (address : ℕ) → HasAddresses (bytes_held storage.now) address (Some addresses)
-        → HasArgument (bytes_held storage.now) address (Some result) }
+/// The bytes at the first of these addresses, `count` of them.
+fn bytes_of(storage: &Storage, count: usize, addresses: [u32; 6]) -> [u8; 6]
+    requires { count ≤ 6 }
+    ensures size { length result ≡ 6 }
+    ensures bytes { (i : ℕ) → i < count → slice_index result i
+        ≡ byte (bytes_held storage.now) (slice_index addresses i) }
 {
     let mut bytes = [0u8; 6];
-    for k in 0..6usize {
+    for k in 0..count {
         bytes[k] = byte_at(storage, addresses[k]);
     }
     bytes
+}
+
+/// The whole argument, at the addresses of its bytes.
+pub(crate) fn whole_at(storage: &Storage, addresses: [u32; 6]) -> GivenBytes
+    ensures argument { (address : ℕ)
+        → HasAddresses (bytes_held storage.now) address (Some addresses)
+        → HasArgument (bytes_held storage.now) address (Some result.bytes) }
+    ensures given { (address : ℕ)
+        → HasAddresses (bytes_held storage.now) address (Some addresses)
+        → AreArgument (bytes_held storage.now) address result }
+{
+    let bytes = bytes_of(storage, 6, addresses);
+    GivenBytes {
+        count: 6,
+        bytes,
+        addresses,
+    }
+}
+
+/// The front of an argument that isn't whole.
+pub(crate) fn front_at(storage: &Storage, front: Front) -> GivenBytes
+    requires { front.count < 6 }
+    ensures count { result.count ≡ front.count }
+    ensures given { (address : ℕ)
+        → IsFront (bytes_held storage.now) address front.count front.addresses
+        → AreGiven (bytes_held storage.now) address result }
+{
+    let Front { count, addresses } = front;
+    let bytes = bytes_of(storage, usize::from(count), addresses);
+    GivenBytes {
+        count,
+        bytes,
+        addresses,
+    }
 }
 
 /// The bytes of an argument at these addresses, if there is one.
@@ -160,7 +257,7 @@ pub(crate) fn bytes_at(storage: &Storage, addresses: Option<[u32; 6]>) -> Option
         → HasArgument (bytes_held storage.now) address result }
 {
     match addresses {
-        Some(addresses) => Some(bytes_of(storage, addresses)),
+        Some(addresses) => Some(whole_at(storage, addresses).bytes),
         None => None,
     }
 }

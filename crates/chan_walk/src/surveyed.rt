@@ -4,7 +4,8 @@ ghost use Rattle.std.specs.Prelude.{◌≡◌, ◌↔◌, map, option_map, vec_i
 ghost use Rattle.std.specs.List.{filter};
 ghost use Rattle.std.specs.List.Sorted.{IsStrictlyIncreasing};
 ghost use Rattle.chan_walk.specs.Argument.{Has};
-ghost use Rattle.chan_walk.specs.Explained.{IsEvidenceOf, IsPathOf, IsSecondPathOf, IsWitness};
+ghost use Rattle.chan_walk.specs.Explained.{IsEvidenceOf, IsPathOf, IsSecondPathOf, IsStoredOver};
+ghost use Rattle.chan_walk.specs.Explained.{IsWitness};
 ghost use Rattle.chan_walk.specs.Explored.{AreApart, AreReachable, place_number};
 ghost use Rattle.chan_walk.specs.Job.{fetch_of, store_of};
 ghost use Rattle.chan_walk.specs.Look.{AreLooks, Seen, places_of_looks};
@@ -28,7 +29,7 @@ use crate::needs::{Needs, needs_of};
 use crate::note::Notes;
 use crate::noting::notes_of;
 use crate::offence::Offence;
-use crate::path::{index_of, path_at};
+use crate::path::{Path, index_of, path_at};
 use crate::place::{Place, order_is_by_number};
 use crate::verdict::Verdict;
 use crate::witness::{Witness, witness_of};
@@ -76,7 +77,10 @@ impl Survey {
             → IsPathTo j place (option_map vec_items path)) }
     {
         match index_of(self.walk.looks.as_slice(), place) {
-            Some(at) => Ok(Some(path_at(alloc, &self.walk, at)?)),
+            Some(at) => {
+                let Path { places, .. } = path_at(alloc, &self.walk, at)?;
+                Ok(Some(places))
+            }
             None => Ok(None),
         }
     }
@@ -90,6 +94,8 @@ impl Survey {
             (λ w. IsWitness job.now (first_verdict self.now.offences.items) w.path.items) }
         ensures evidence { IfOk result (λ w. IsEvidenceOf job.now
             (first_verdict self.now.offences.items) w.path.items w.evidence) }
+        ensures stored { IfOk result (λ w. IsStoredOver job.now
+            (first_verdict self.now.offences.items) w.path.items w.stored_over) }
         ensures second { IfOk result (λ w. IsSecondPathOf job.now w.evidence w.second_path.items) }
     {
         each_path_shows();

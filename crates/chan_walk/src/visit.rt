@@ -97,16 +97,6 @@ pub(crate) fn recalibrates_at(place: Place, ccw: Ccw) -> bool
     }
 }
 
-/// Set File Mask begins at a place whose CCW is `ccw`.
-pub(crate) fn sets_mask_at(place: Place, ccw: Ccw) -> bool
-    ensures { result ≡ fault.begins_set_mask place ccw }
-{
-    match begun_command(place, &ccw) {
-        Some(command) => is_set_mask_class(command.class()),
-        None => false,
-    }
-}
-
 /// The CCW `ccw` fetches at a place.
 pub(crate) fn fetches_at(place: Place, ccw: Ccw) -> bool
     ensures { result ≡ fault.fetches place ccw }

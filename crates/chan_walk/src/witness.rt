@@ -1,11 +1,13 @@
 //! What shows that a program may not run: the path to a place that offends, and the values of the
 //! cause.
 
-ghost use Rattle.std.specs.Prelude.{◌≡◌, ◌↔◌, IfOk, IsTrue};
+ghost use Rattle.std.specs.Prelude.{◌≡◌, ◌↔◌, true, false, None, IfOk, IsTrue};
 ghost use Rattle.chan_walk.specs.Explained.{IsEvidenceOf, IsLike, IsPathOf, IsSecondPathOf};
+ghost use Rattle.chan_walk.specs.Explained.{IsStoredOver};
 ghost use Rattle.chan_walk.specs.Guard.{Guards};
 ghost use Rattle.chan_walk.specs.Look.{places_of_looks};
 ghost use Rattle.chan_walk.specs.Offences.{AreOffences, first_verdict};
+ghost use Rattle.chan_walk.specs.Reason.{is_no_command};
 ghost use Rattle.chan_walk.specs.Walk.{HasFound, IsFirstWhere};
 
 use crate::changed::second_path;
@@ -15,8 +17,9 @@ use crate::guard::Guard;
 use crate::job::Job;
 use crate::look::Look;
 use crate::offence::{Offence, has_offence};
-use crate::path::path_at;
+use crate::path::{Path, path_at};
 use crate::place::Place;
+use crate::reason::Reason;
 use std::alloc::{AllocError, Global};
 
 /// What shows that the first of a job's offences is one.
@@ -33,6 +36,10 @@ pub struct Witness {
     pub path: Vec<Place>,
     /// The values of the cause.
     pub evidence: Option<Evidence>,
+    /// The last place of the path before its end that stores one of the eight bytes from the end's
+    /// address on, where the reason is that no command stands there: what will stand there isn't
+    /// judged.
+    pub stored_over: Option<Place>,
     /// The places of the path to what is changed, where the reason is `ChangesCcw` or
     /// `ChangesArgument`; else none.
     pub second_path: Vec<Place>,
@@ -54,25 +61,41 @@ pub(crate) fn witness_of(
         (λ w. IsPathOf job.now (first_verdict offences.now) w.path.items) }
     ensures evidence { IfOk result
         (λ w. IsEvidenceOf job.now (first_verdict offences.now) w.path.items w.evidence) }
+    ensures stored { IfOk result
+        (λ w. IsStoredOver job.now (first_verdict offences.now) w.path.items w.stored_over) }
     ensures second { IfOk result (λ w. IsSecondPathOf job.now w.evidence w.second_path.items) }
 {
     let Some(first) = offences.first() else {
         return Ok(Witness {
             path: Vec::new(alloc),
             evidence: None,
+            stored_over: None,
             second_path: Vec::new(alloc),
         });
     };
     // The first offence's own place is one.
     let at = first_like(walk.looks.as_slice(), offences, *first).unwrap();
-    let path = path_at(alloc, walk, at)?;
+    let Path { places, stored_by } = path_at(alloc, walk, at)?;
     let evidence = evidence_at(alloc, job, walk, guard, &walk.looks[at], first.reason)?;
     let second_path = second_path(alloc, walk, &evidence)?;
     Ok(Witness {
-        path,
+        path: places,
         evidence: Some(evidence),
+        stored_over: told_over(first.reason, stored_by),
         second_path,
     })
+}
+
+/// The place that stores over what stands at a path's end, where that is no command.
+fn told_over(reason: Reason, stored_by: Option<Place>) -> Option<Place>
+    ensures told { is_no_command reason ≡ true → result ≡ stored_by }
+    ensures other { is_no_command reason ≡ false → result ≡ None }
+{
+    if reason.is_no_command() {
+        stored_by
+    } else {
+        None
+    }
 }
 
 /// The index of the first place at which there is an offence with the address and the reason of

@@ -136,10 +136,11 @@ enum { CHANV_BIN = 1, CHANV_CYLINDER = 2, CHANV_HEAD = 3 };
  *     9  inhibited             code, mask
  *    10  store-not-lent        range, gap
  *    11  fetch-not-lent        range, gap
- *    12  short-seek            given
- *    13  seek-outside          outside, value; below for a head
+ *    12  short-seek            given, addresses, bytes
+ *    13  seek-outside          outside, value; below for a head; given, addresses and bytes for a seek
  *    14  changes-ccw           range, address
- *    15  changes-argument      range, address, taker, sets_mask
+ *    15  changes-argument      range, address, taker; sets_mask for a Set File Mask, and given,
+ *                              addresses and bytes for a seek
  *    16  weakens-mask          mask, value
  */
 struct chanv_evidence {
@@ -154,11 +155,14 @@ struct chanv_evidence {
     uint32_t code;           /* the command code */
     uint32_t mask;           /* the job's file mask */
     uint32_t bits;           /* the three low flag bits of the CCW */
-    uint32_t given;          /* how many of the argument's six bytes the seek's data chain gives */
+    uint32_t given;          /* how many of the argument's six bytes the seek's data chain gives; for
+                                15 the seek is the taker */
     uint32_t outside;        /* the first that is wrong: CHANV_BIN, CHANV_CYLINDER or CHANV_HEAD */
     uint32_t value;          /* for 13 that bin, cylinder or head; for 16 the byte that is set */
     uint32_t below;          /* how many heads the device has */
     uint32_t sets_mask;      /* 1 if the taker is a Set File Mask, 0 if it is a seek */
+    uint32_t addresses[6];   /* the addresses of the bytes that are given, in order */
+    uint8_t bytes[6];        /* these bytes */
 };
 
 /* What `chanv_why` tells; a field that the answer doesn't use is 0. */

@@ -1,10 +1,11 @@
 -- The values of a cause as C is told them.
-use Rattle.std.specs.Prelude.{ℕ, Bool, true, false, Option, Some, None}
+use Rattle.std.specs.Prelude.{ℕ, [], ◌∷◌, Option, Some, None}
 use Rattle.ccw_core.specs.declared.areas.Area.{Area}
 use Rattle.chan_walk.specs.declared.evidence.Evidence.{Evidence}
 use Rattle.chan_walk.specs.declared.evidence.Evidence.TheVariants as because
 use Rattle.chan_walk.specs.declared.evidence.Outside.{Outside}
 use Rattle.chan_walk.specs.declared.evidence.Outside.TheVariants.{Bin, Cylinder, Head}
+use Rattle.chan_walk.specs.declared.seek.GivenBytes.{GivenBytes}
 use Rattle.chan_walk.specs.Evidence.{reason_of}
 use Rattle.chan_walk.specs.Reason.{number_of}
 use Rattle.chanv_c.specs.declared.evidence.CEvidence.{CEvidence}
@@ -30,18 +31,30 @@ no_values = record {
   value = 0;
   below = 0;
   sets_mask = 0;
+  addresses = 0 ∷ 0 ∷ 0 ∷ 0 ∷ 0 ∷ 0 ∷ [];
+  bytes = 0 ∷ 0 ∷ 0 ∷ 0 ∷ 0 ∷ 0 ∷ [];
 }
 
--- 1 for a Set File Mask, 0 for a seek
-abbrev pub set_mask_number : Bool → ℕ
-set_mask_number true = 1
-set_mask_number false = 0
+-- 0 for a seek, which has an argument, and 1 for a Set File Mask
+abbrev pub set_mask_number : Option GivenBytes → ℕ
+set_mask_number (Some g) = 0
+set_mask_number None = 1
 
--- a bin, a cylinder or a head by its number, and for a head the device's number of heads
-abbrev pub outside_values : Outside → CEvidence
-outside_values (Bin n) = record no_values { outside = 1; value = n }
-outside_values (Cylinder n) = record no_values { outside = 2; value = n }
-outside_values (Head n m) = record no_values { outside = 3; value = n; below = m }
+-- how many bytes of an argument there are, where they stand, and they themselves
+abbrev pub given_values : GivenBytes → CEvidence
+given_values g = record no_values { given = g.count; addresses = g.addresses; bytes = g.bytes }
+
+-- the same of the argument of a seek, where one is told
+abbrev pub argument_values : Option GivenBytes → CEvidence
+argument_values None = no_values
+argument_values (Some g) = given_values g
+
+-- beside some values a bin, a cylinder or a head by its number, and for a head the device's number of
+-- heads
+abbrev pub outside_values : Outside → CEvidence → CEvidence
+outside_values (Bin n) v = record v { outside = 1; value = n }
+outside_values (Cylinder n) v = record v { outside = 2; value = n }
+outside_values (Head n m) v = record v { outside = 3; value = n; below = m }
 
 -- the values of a cause, each in the field that the header says; the other fields are 0
 abbrev pub values_of : Evidence → CEvidence
@@ -56,11 +69,17 @@ values_of (because.NotInTable code) = record no_values { code = code }
 values_of (because.Inhibited mask code) = record no_values { mask = mask; code = code }
 values_of (because.StoreNotLent range gap) = record no_values { range = range; gap = gap }
 values_of (because.FetchNotLent range gap) = record no_values { range = range; gap = gap }
-values_of (because.ShortSeek n) = record no_values { given = n }
-values_of (because.SeekOutside outside) = outside_values outside
+values_of (because.ShortSeek g) = given_values g
+values_of (because.SeekOutside outside argument) =
+    outside_values outside (argument_values argument)
 values_of (because.ChangesCcw range ccw) = record no_values { range = range; address = ccw }
-values_of (because.ChangesArgument range b taker sets) =
-    record no_values { range = range; address = b; taker = taker; sets_mask = set_mask_number sets }
+values_of (because.ChangesArgument range b taker argument) =
+    record (argument_values argument) {
+      range = range;
+      address = b;
+      taker = taker;
+      sets_mask = set_mask_number argument;
+    }
 values_of (because.WeakensMask b mask) = record no_values { value = b; mask = mask }
 
 -- the number of the reason, and the values

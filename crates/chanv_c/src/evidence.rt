@@ -4,7 +4,7 @@ ghost use Rattle.std.specs.Prelude.{◌≡◌};
 ghost use Rattle.chanv_c.specs.Cause as specs;
 
 use ccw_core::Area;
-use chan_walk::{Evidence, Outside};
+use chan_walk::{Evidence, GivenBytes, Outside};
 
 /// `struct chanv_evidence`.
 #[repr(C)]
@@ -24,6 +24,8 @@ pub struct CEvidence {
     pub value: u32,
     pub below: u32,
     pub sets_mask: u32,
+    pub addresses: [u32; 6],
+    pub bytes: [u8; 6],
 }
 
 /// An area of no bytes.
@@ -45,30 +47,66 @@ pub(crate) const NO_VALUES: CEvidence = CEvidence {
     value: 0,
     below: 0,
     sets_mask: 0,
+    addresses: [0; 6],
+    bytes: [0; 6],
 };
 
-/// The values of what is outside.
-fn outside_values(outside: Outside) -> CEvidence
-    ensures { result ≡ specs.outside_values outside }
+/// The bytes of an argument, and where they stand.
+fn given_values(given: GivenBytes) -> CEvidence
+    ensures { result ≡ specs.given_values given }
+{
+    let GivenBytes {
+        count,
+        bytes,
+        addresses,
+    } = given;
+    CEvidence {
+        given: u32::from(count),
+        addresses,
+        bytes,
+        ..NO_VALUES
+    }
+}
+
+/// Those of the argument of a seek, if it is told.
+fn argument_values(argument: Option<GivenBytes>) -> CEvidence
+    ensures { result ≡ specs.argument_values argument }
+{
+    match argument {
+        Some(given) => given_values(given),
+        None => NO_VALUES,
+    }
+}
+
+/// What is outside, beside other values.
+fn outside_values(outside: Outside, values: CEvidence) -> CEvidence
+    ensures { result ≡ specs.outside_values outside values }
 {
     match outside {
         Outside::Bin(number) => CEvidence {
             outside: 1,
             value: u32::from(number),
-            ..NO_VALUES
+            ..values
         },
         Outside::Cylinder(number) => CEvidence {
             outside: 2,
             value: u32::from(number),
-            ..NO_VALUES
+            ..values
         },
         Outside::Head { head, heads } => CEvidence {
             outside: 3,
             value: u32::from(head),
             below: u32::from(heads),
-            ..NO_VALUES
+            ..values
         },
     }
+}
+
+/// 0 for a seek, which has an argument, and 1 for a Set File Mask.
+fn set_mask_number(argument: Option<GivenBytes>) -> u32
+    ensures { result ≡ specs.set_mask_number argument }
+{
+    u32::from(argument.is_none())
 }
 
 /// The values of a cause, without the reason's number.
@@ -109,11 +147,11 @@ fn values_of(evidence: Evidence) -> CEvidence
             gap,
             ..NO_VALUES
         },
-        Evidence::ShortSeek { given } => CEvidence {
-            given: u32::from(given),
-            ..NO_VALUES
-        },
-        Evidence::SeekOutside { outside } => outside_values(outside),
+        Evidence::ShortSeek { given } => given_values(given),
+        Evidence::SeekOutside { outside, argument } => outside_values(
+            outside,
+            argument_values(argument),
+        ),
         Evidence::ChangesCcw { data, ccw } => CEvidence {
             range: data,
             address: ccw,
@@ -123,13 +161,13 @@ fn values_of(evidence: Evidence) -> CEvidence
             data,
             byte,
             taker,
-            sets_mask,
+            argument,
         } => CEvidence {
             range: data,
             address: byte,
             taker,
-            sets_mask: u32::from(sets_mask),
-            ..NO_VALUES
+            sets_mask: set_mask_number(argument),
+            ..argument_values(argument)
         },
         Evidence::WeakensMask { byte, mask } => CEvidence {
             value: u32::from(byte),

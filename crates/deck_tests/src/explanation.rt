@@ -28,7 +28,7 @@ const USUAL: Case<'static> = Case {
     text: "",
 };
 
-static CASES: [Case<'static>; 24] = [
+static CASES: [Case<'static>; 29] = [
     Case {
         puts: "put 000800 3100090040000005
 put 000808 0800080000000000
@@ -197,7 +197,7 @@ because 000910-000957 of 000908-000957 is not lent for fetching
         puts: "put 000800 0700090000000005\n",
         text: "no 000800 short-seek
 000800 fresh t * 07 000900 -----0 00 0005 control seek
-because the argument ends after 5 of 6 bytes
+because the argument ends after 5 of 6 bytes: 0000000000 at 000900-000904
 ",
         ..USUAL
     },
@@ -208,7 +208,7 @@ put 000900 0001000000000000
 ",
         text: "no 000800 short-seek
 000800 fresh t * 07 000900 D----0 00 0002 control seek
-because the argument ends after 5 of 6 bytes
+because the argument ends after 5 of 6 bytes: 0001000000 at 000900-000904
 ",
         ..USUAL
     },
@@ -216,7 +216,7 @@ because the argument ends after 5 of 6 bytes
         puts: "put 000800 0700090000000006\nput 000900 0102000000000000\n",
         text: "no 000800 seek-outside
 000800 fresh t * 07 000900 -----0 00 0006 control seek
-because bin 0102 is not zero
+because bin 0102 is not zero: the argument is 010200000000 at 000900-000905
 ",
         ..USUAL
     },
@@ -224,7 +224,19 @@ because bin 0102 is not zero
         puts: "put 000800 0700090000000006\nput 000900 0000001400000000\n",
         text: "no 000800 seek-outside
 000800 fresh t * 07 000900 -----0 00 0006 control seek
-because cylinder 20 is in no extent
+because cylinder 20 is in no extent: the argument is 000000140000 at 000900-000905
+",
+        ..USUAL
+    },
+    Case {
+        puts: "put 000800 0700090880000001
+put 000808 0000090000000005
+put 000900 0200000000000000
+put 000908 0100000000000000
+",
+        text: "no 000800 seek-outside
+000800 fresh t * 07 000908 D----0 00 0001 control seek
+because bin 0102 is not zero: the argument is 010200000000 at 000908-000908, 000900-000904
 ",
         ..USUAL
     },
@@ -233,7 +245,7 @@ because cylinder 20 is in no extent
         puts: "put 000800 0700090000000006\nput 000900 0000000A000A0000\n",
         text: "no 000800 seek-outside
 000800 fresh t * 07 000900 -----0 00 0006 control seek
-because head 10 is not below 10
+because head 10 is not below 10: the argument is 0000000A000A at 000900-000905
 ",
         ..USUAL
     },
@@ -259,6 +271,57 @@ because mask byte C0 is not as strict as 40: it permits write-special-count-key-
         text: "no 000800 weakens-mask
 000800 fresh t * 1F 000900 -----0 00 0001 control set-file-mask
 because mask byte D9 is no file mask
+",
+        ..USUAL
+    },
+    Case {
+        puts: "put 000800 06000A0040000010\nput 000808 08000A0000000000\n",
+        text: "no 000A00 invalid-code
+000800 fresh t . 06 000A00 -C---0 00 0010 read read-data
+000808 fresh - . 08 000A00 -----0 00 0000 transfer transfer-in-channel
+000A00 fresh t * 00 000000 -----0 00 0000 invalid unknown
+because code 00 is invalid
+stored over by 000800: what will stand there is not judged
+",
+        ..USUAL
+    },
+    Case {
+        puts: "put 000800 06000A0040000008
+put 000808 06000A0740000001
+put 000810 06000A0840000008
+put 000818 08000A0000000000
+",
+        text: "no 000A00 invalid-code
+000800 fresh t . 06 000A00 -C---0 00 0008 read read-data
+000808 fresh - . 06 000A07 -C---0 00 0001 read read-data
+000810 fresh - . 06 000A08 -C---0 00 0008 read read-data
+000818 fresh - . 08 000A00 -----0 00 0000 transfer transfer-in-channel
+000A00 fresh t * 00 000000 -----0 00 0000 invalid unknown
+because code 00 is invalid
+stored over by 000808: what will stand there is not judged
+",
+        ..USUAL
+    },
+    Case {
+        puts: "put 000800 06000A0050000010\nput 000808 08000A0000000000\n",
+        text: "no 000A00 invalid-code
+000800 fresh t . 06 000A00 -C-S-0 00 0010 read read-data
+000808 fresh - . 08 000A00 -----0 00 0000 transfer transfer-in-channel
+000A00 fresh t * 00 000000 -----0 00 0000 invalid unknown
+because code 00 is invalid
+",
+        ..USUAL
+    },
+    Case {
+        puts: "put 000800 06000A0040000010
+put 000808 08000A0000000000
+put 000A00 06000B0000000010
+",
+        text: "no 000A00 store-not-lent
+000800 fresh t . 06 000A00 -C---0 00 0010 read read-data
+000808 fresh - . 08 000A00 -----0 00 0000 transfer transfer-in-channel
+000A00 fresh t * 06 000B00 -----0 00 0010 read read-data
+because none of 000B00-000B0F is lent for storing
 ",
         ..USUAL
     },

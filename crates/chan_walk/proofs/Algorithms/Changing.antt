@@ -1,7 +1,7 @@
 -- What a store changes, among the places that were looked at.
-use Rattle.std.proofs.Common.{◌≡◌, ℕ, zero, suc, ◌+◌, ◌<◌, ◌≤◌, Bool, true, ◌||◌, nat_eq, List, [], ◌∷◌, length, get_or, slice_get, Option, Some, None, IsSome, IsTrue, refl, sym, ap, ◌∙◌, subst, ◌⊎◌, inl, inr, ◌↔◌, arith, rules}
+use Rattle.std.proofs.Common.{◌≡◌, ℕ, zero, suc, ◌+◌, ◌<◌, ◌≤◌, Bool, true, false, ◌||◌, nat_eq, List, [], ◌∷◌, length, get_or, slice_get, Option, Some, None, IsSome, IsTrue, refl, sym, ap, ◌∙◌, subst, ◌⊎◌, inl, inr, ◌↔◌, arith, rules}
 use Rattle.std.specs.List.{list_any}
-use Rattle.std.proofs.lemmas.Bool.{cases_lt, eq-eqb, eqb-true, or_cases}
+use Rattle.std.proofs.lemmas.Bool.{cases_Bool, cases_lt, eq-eqb, eqb-true, or_cases}
 use Rattle.std.proofs.Math.Bool.{or-true}
 use Rattle.ccw_core.specs.declared.areas.Area.{Area}
 use Rattle.ccw_core.specs.Areas.{lies_in}
@@ -15,19 +15,24 @@ use Rattle.chan_walk.specs.Argument.{Has}
 use Rattle.ccw_core.specs.Ccw.{Fields}
 use Rattle.ccw_core.specs.Storage.{Stands}
 use Rattle.chan_walk.specs.Changed.{HasByteOf, HasCcwIn, IsCcwOf, IsFirstChanged, IsLesserOf}
-use Rattle.chan_walk.specs.Evidence.{IsArgumentIn, IsCause, IsCcwIn, IsLeastOf, IsLeastOrNone, IsSecondPath, IsTakenAt}
-use Rattle.chan_walk.specs.Fault.{IsClear, begins_set_mask}
+use Rattle.chan_walk.specs.declared.seek.GivenBytes.{GivenBytes}
+use Rattle.chan_walk.specs.Evidence.{IsArgumentAt, IsArgumentIn, IsCause, IsCcwIn, IsLeastOf, IsLeastOrNone, IsSecondPath, IsTakenAt}
+use Rattle.chan_walk.specs.declared.look.Read.{Read}
+use Rattle.chan_walk.specs.declared.look.Read.TheVariants as read
+use Rattle.chan_walk.specs.Fault.{IsClear, begins_seek, begins_set_mask}
 use Rattle.chan_walk.specs.Guard.{GuardAreas, Guards, IsArgumentByteOf}
 use Rattle.chan_walk.specs.Guarded.{IsArgumentByte}
 use Rattle.chan_walk.specs.Job.{storage_of}
-use Rattle.chan_walk.specs.Look.{IsLook, Seen, places_of_looks}
+use Rattle.chan_walk.specs.Look.{IsLook, IsRead, IsReadOfSeek, Seen, places_of_looks, whole_of}
 use Rattle.chan_walk.specs.Place.{ccw_of}
 use Rattle.chan_walk.specs.Ranges.{IsByteIn}
 use Rattle.chan_walk.specs.Walk.{HasFound, IsFirstWhere, IsPathAt}
 use Rattle.chan_walk.proofs.Algorithms.Backward.{within_looks}
 use Rattle.chan_walk.proofs.Algorithms.Finding.{best_where, path_where, reached_at}
 use Rattle.chan_walk.proofs.Theory.Lists.{get_there, has_at}
-use Rattle.chan_walk.proofs.Algorithms.Looking.{number_of_places, place_at}
+use Rattle.chan_walk.proofs.Algorithms.Demanding.{clear_stands}
+use Rattle.chan_walk.proofs.Algorithms.Noted.{ccw_seen}
+use Rattle.chan_walk.proofs.Algorithms.Looking.{number_of_places, place_at, seek_or_mask}
 use Rattle.chan_walk.proofs.Algorithms.Walking.{all_found, at_has}
 
 -- ---- the least address of a CCW
@@ -155,6 +160,26 @@ takes_clear j q b h = search rules
 takes_of : (j : Job) (b : ℕ) (m : IsArgumentByte j b) → IsArgumentByteOf j m.place b
 takes_of j b m = search rules
 
+-- where Set File Mask begins, no seek does
+sets_only : (p : Place) (c : Fields) → begins_set_mask p c ≡ true → begins_seek p c ≡ false
+sets_only p c h = search (rules, seek_or_mask, cases_Bool)
+
+-- what was read at a place that takes a byte is its argument, if it is a seek's
+argument_taken : (j : Job) (p : Place) (b : ℕ) (r : Read) → IsRead (storage_of j) p (ccw_of j p) r → IsArgumentByteOf j p b → IsArgumentAt j p (whole_of r)
+argument_taken j p b r h (inr m) = subst (λ r. IsArgumentAt j p (whole_of r)) (sym (h.mask m.1.sets)) (sets_only p (ccw_of j p) m.1.sets)
+argument_taken j p b r h (inl k) = go r (h.seek k.1.seeks)
+  where
+    go : (r : Read) → IsReadOfSeek (storage_of j) p r → IsArgumentAt j p (whole_of r)
+    go read.Nothing e = absurd e
+    go (read.Short g) e = absurd (e.0 k.1.chain k.1.is_chain)
+    go (read.Whole g) e = (k.1.seeks, e.1)
+    go (read.Byte x) e = absurd e
+
+pub taken_whole : (j : Job) (l : Seen) → IsLook j l → (b : ℕ) (o : Option GivenBytes) → o ≡ whole_of l.read → IsArgumentByteOf j l.place b → IsArgumentAt j l.place o
+taken_whole j l look b o e takes =
+    let c = ccw_seen j l look (clear_stands j l.place (takes_clear j l.place b takes)) in
+    subst (IsArgumentAt j l.place) (sym e) (argument_taken j l.place b l.read (look.read (ccw_of j l.place) c) takes)
+
 -- the guarded bytes of arguments are those in the guard's areas
 module _ (j : Job) (areas : List Area) (g : (b : ℕ) → (lies_in areas b ≡ true) ↔ IsArgumentByte j b) (r : Area) where
   to_argument : (b : ℕ) → IsByteIn areas r.start r.len b → IsArgumentIn j r b
@@ -175,11 +200,11 @@ module _ (j : Job) (w : Walk) (f : HasFound j w) where
   one_taker b None m n = absurd (reached_at j w f (λ q. IsArgumentByteOf j q b) n m.place m.reached (takes_of j b m))
   one_taker b (Some i) m n = refl
 
-  pub taken_at : (b i a : ℕ) (sets : Bool) (l : Seen) → IsFirstWhere (λ q. IsArgumentByteOf j q b) (places_of_looks w.looks.items) (Some i) → i < length w.looks.items → l ≡ get_or w.looks.items i l
-      → a ≡ l.place.address → (IsClear j l.place → sets ≡ begins_set_mask l.place (ccw_of j l.place)) → IsTakenAt j b a sets
-  taken_at b i a sets l n h e address is =
+  pub taken_at : (b i a : ℕ) (argument : Option GivenBytes) (l : Seen) → IsFirstWhere (λ q. IsArgumentByteOf j q b) (places_of_looks w.looks.items) (Some i) → i < length w.looks.items → l ≡ get_or w.looks.items i l
+      → a ≡ l.place.address → (IsArgumentByteOf j l.place b → IsArgumentAt j l.place argument) → IsTakenAt j b a argument
+  taken_at b i a argument l n h e address is =
       let r = best_where j w f (λ q. IsArgumentByteOf j q b) i l.place n (place_at w.looks.items i l h e) in
-      (l.place, r.0, r.1, sym address, sym (is (takes_clear j l.place b r.1.holds)))
+      (l.place, r.0, r.1, sym address, is r.1.holds)
 
 -- the index found is one of the list
 pub first_within : (P : Place → Type 0) (ls : List Seen) (i : ℕ) → IsFirstWhere P (places_of_looks ls) (Some i) → i < length ls

@@ -1,5 +1,5 @@
 -- The path to a place that offends by the verdict's reason.
-use Rattle.std.proofs.Common.{◌≡◌, ℕ, suc, ◌+◌, ◌<◌, ◌≤◌, List, [], ◌∷◌, length, get_or, slice_get, Option, Some, None, IsSome, Bool, true, false, refl, sym, ap, ◌∙◌, subst, inl, inr, ◌↔◌, arith, rules}
+use Rattle.std.proofs.Common.{◌≡◌, ℕ, suc, ◌+◌, ◌<◌, ◌≤◌, List, [], ◌∷◌, length, get_or, reverse, slice_get, Option, Some, None, IsSome, Bool, true, false, refl, sym, ap, ◌∙◌, subst, inl, inr, ◌↔◌, arith, rules}
 use Rattle.std.proofs.lemmas.Bool.{cases_lt}
 use Rattle.chan_walk.specs.declared.evidence.Evidence.{Evidence}
 use Rattle.chan_walk.specs.declared.exploring.Walk.{Walk}
@@ -8,7 +8,8 @@ use Rattle.chan_walk.specs.declared.offence.Offence.{Offence}
 use Rattle.chan_walk.specs.declared.place.Place.{Place}
 use Rattle.chan_walk.specs.Alarm.{EachPathShows, IsProper}
 use Rattle.chan_walk.specs.Argument.{Has}
-use Rattle.chan_walk.specs.Explained.{HasNumber, IsEvidenceOf, IsLike, IsPathOf, IsWitness, OffendsAt}
+use Rattle.chan_walk.specs.Explained.{HasNumber, IsEvidenceOf, IsLike, IsPathOf, IsStoredBefore, IsStoredOver, IsWitness, OffendsAt}
+use Rattle.chan_walk.specs.Reason.{is_no_command}
 use Rattle.chan_walk.specs.Least.{AreReached}
 use Rattle.chan_walk.specs.Look.{AreLooks, Seen, places_of_looks}
 use Rattle.chan_walk.specs.Evidence.{IsEvidence}
@@ -98,6 +99,11 @@ module _ (j : Job) (w : Walk) (f : HasFound j w) where
         let is : p ≡ a.last = cc in
         as_head (λ os o. IsEvidence j (offence p o.reason) e → IsEvidenceOf j (first_verdict os) path (Some e))
         (λ t ts are v. (a.last, a.before, a.is, subst (λ (q : Place). IsEvidence j (offence q t.reason) e) is v))
+
+    pub stored_chosen : (path : List Place) (by shown : Option Place) → IsStoredBefore j (reverse path) by → (is_no_command o.reason ≡ true → shown ≡ by) → (is_no_command o.reason ≡ false → shown ≡ None) → IsStoredOver j (first_verdict os) path shown
+    stored_chosen path by shown s =
+        as_head (λ os o. (is_no_command o.reason ≡ true → shown ≡ by) → (is_no_command o.reason ≡ false → shown ≡ None) → IsStoredOver j (first_verdict os) path shown)
+        (λ t ts are told other. ((λ e. subst (IsStoredBefore j (reverse path)) (sym (told e)) s), other))
 
 -- a run over the path shows the reason
 pub witness : (j : Job) (os : List Offence) (path : List Place) → IsProper j → EachPathShows → IsPathOf j (first_verdict os) path → IsWitness j (first_verdict os) path

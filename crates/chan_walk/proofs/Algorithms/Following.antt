@@ -1,5 +1,5 @@
 -- Following the chain of a seek, CCW by CCW.
-use Rattle.std.proofs.Common.{◌≡◌, ℕ, zero, suc, ◌+◌, ◌-◌, ◌<◌, ◌≤◌, true, false, List, [], ◌∷◌, ◌++◌, take, length, get_or, None, Some, Option, Result, IfOk, IfErr, refl, sym, ap, ◌∙◌, subst, arith, append_assoc, append-nil, length-append, rules}
+use Rattle.std.proofs.Common.{◌≡◌, ℕ, zero, suc, ◌+◌, ◌-◌, ◌<◌, ◌≤◌, true, false, List, [], ◌∷◌, ◌++◌, take, length, get_or, None, Some, Option, Result, IfOk, IfErr, refl, sym, ap, ◌∙◌, subst, arith, append_assoc, append-nil, length-append, length-take-le, rules}
 use Rattle.std.proofs.lemmas.Grind.{common_steps}
 use Rattle.std.proofs.lemmas.List.{ext_get_or, get_or-append-add}
 use Rattle.std.specs.Result.{result_ok}
@@ -10,7 +10,7 @@ use Rattle.std.proofs.lemmas.List.FromFn.{get_or-range_with_len, length-range_wi
 use Rattle.ccw_core.specs.Ccw.{Fields, ccw, has_data_in, chains_data}
 use Rattle.ccw_core.specs.Storage.{ccw_at, is_inside}
 use Rattle.ccw_core.proofs.StorageLemmas.{ccw_at-some}
-use Rattle.chan_walk.specs.Argument.{is_part, AreLinked, IsChain, argument_addresses, joined, data_addresses}
+use Rattle.chan_walk.specs.Argument.{is_part, AreLinked, IsChain, argument_addresses, joined, total, data_addresses}
 use Rattle.chan_walk.specs.Onward.{onward}
 use Rattle.chan_walk.specs.Tables.{HasAddresses}
 use Rattle.chan_walk.proofs.Theory.Chains.{chain_cons, chain_tail, chain_begins_with_part, onward_leads, onward_only, part_counts}
@@ -48,11 +48,11 @@ leads_nowhere s a taken have here w lt n k h =
     begins_nowhere s _ (onward s here) n m.0 m.1
 
 -- the addresses that were found, if they were
-pub found_or_none : (s : List ℕ) (a : ℕ) (r : Result (List ℕ) ℕ) (o : Option (List ℕ)) → o ≡ result_ok r → IfOk r (λ x. HasAddresses s a (Some x)) → IfErr r (λ _. HasAddresses s a None) → HasAddresses s a o
+pub found_or_none : {E : Type 0} (s : List ℕ) (a : ℕ) (r : Result (List ℕ) E) (o : Option (List ℕ)) → o ≡ result_ok r → IfOk r (λ x. HasAddresses s a (Some x)) → IfErr r (λ _. HasAddresses s a None) → HasAddresses s a o
 found_or_none s a r o e six none = search rules
 
 -- the addresses after n more from a
-note_more : (before taken taken' : List ℕ) (have from n : ℕ) → length before ≡ have → ((i : ℕ) → i < have → get_or taken i 0 ≡ get_or before i 0)
+pub note_more : (before taken taken' : List ℕ) (have from n : ℕ) → length before ≡ have → ((i : ℕ) → i < have → get_or taken i 0 ≡ get_or before i 0)
     → ((i : ℕ) → i < have → get_or taken' i 0 ≡ get_or taken i 0) → ((i : ℕ) → i < n → get_or taken' (have + i) 0 ≡ from + i)
     → (i : ℕ) → i < have + n → get_or taken' i 0 ≡ get_or (before ++ range_with_len from n) i 0
 note_more before taken taken' have from n c r b a i h = grind (arith, common_steps, cases_lt, get_or-append, get_or-append-add, get_or-range_with_len)
@@ -113,6 +113,15 @@ part_in_range s a c h k = subst (IsInRange s a) (sym (ccw_at-some s a c h).2) (i
 
 -- what is known of a CCW that was found
 pub ruleset found_parts = (found_is_part, part_in_range)
+
+-- ---- how many the bytes of a chain are
+
+length_joined : (s l : List ℕ) → length (joined s l) ≡ total s l
+length_joined s [] = refl
+length_joined s (a ∷ l) = length-append (data_addresses s a) (joined s l) ∙ ap (λ n. n + length (joined s l)) (length-range_with_len (ccw s a).address (ccw s a).count) ∙ ap (λ n. (ccw s a).count + n) (length_joined s l)
+
+pub length_front : (s : List ℕ) (n a : ℕ) (l : List ℕ) → IsChain s n a l → length (take n (joined s l)) ≡ n
+length_front s n a l k = let e = k.enough in length-take-le n (joined s l) (omega (arith, length_joined s l, e))
 
 -- ---- the bytes of an argument lie in storage
 

@@ -15,15 +15,13 @@ use Rattle.ckd_core.specs.Argument.{cylinder_of}
 use Rattle.ckd_core.specs.Cylinders.{has_cylinder}
 use Rattle.ckd_core.specs.Table.{Entry as Command, class_is_seek, class_passes, class_recalibrates, is_seek, lookup, recalibrates}
 use Rattle.chan_walk.specs.declared.job.Job.{Job}
-use Rattle.chan_walk.specs.declared.look.Read.{Read}
-use Rattle.chan_walk.specs.declared.look.Read.TheVariants as read
 use Rattle.chan_walk.specs.declared.place.Place.{Place}
 use Rattle.chan_walk.specs.Argument.{Has, HasArgument}
 use Rattle.chan_walk.specs.Fault.{begins_recalibrate, begins_seek, IsClear}
 use Rattle.chan_walk.specs.Guard.{AddsBytes, byte_area}
 use Rattle.chan_walk.specs.Job.{storage_of}
 use Rattle.chan_walk.specs.Least.{AreReached}
-use Rattle.chan_walk.specs.Look.{IsLook, IsReadOfSeek, Seen, argument_of}
+use Rattle.chan_walk.specs.Look.{IsLook, Seen, argument_of}
 use Rattle.chan_walk.specs.Machine.{home}
 use Rattle.chan_walk.specs.Place.{is_fresh, ccw_of}
 use Rattle.chan_walk.specs.Ranges.{BeginAbove, EndsBelow, HaveSameBytes, IsMerged, end_of}
@@ -33,6 +31,7 @@ use Rattle.chan_walk.proofs.Theory.Chains.{argument_unique}
 use Rattle.chan_walk.proofs.Algorithms.Demanding.{clear_stands, command_at, fresh_from, none_from}
 use Rattle.chan_walk.proofs.Algorithms.Guarding.{HoldBytes, adds_areas, lies_in-bytes}
 use Rattle.chan_walk.proofs.Algorithms.Merging.{InArea, lies_in-cases, lies_in-first, lies_in-rest}
+use Rattle.chan_walk.proofs.Algorithms.Looking.{argument_read}
 use Rattle.chan_walk.proofs.Algorithms.Noted.{ccw_seen}
 
 -- ---- at one look
@@ -53,13 +52,6 @@ no_seek j p e f = goes_nowhere j p none
 
 never : (a b : Bool) → (a ≡ true → b ≡ false) → (a && b) ≡ false
 never a b h = search rules
-
--- what was read of a seek's argument is its argument
-read_whole : (s : List ℕ) (p : Place) (r : Read) → IsReadOfSeek s p r → HasArgument s p.address (argument_of r)
-read_whole s p read.Nothing h = absurd h
-read_whole s p (read.Short n) h = h.0
-read_whole s p (read.Whole x) h = h
-read_whole s p (read.Byte b) h = absurd h
 
 module _ (j : Job) (l : Seen) (look : IsLook j l) (clear : IsClear j l.place) where
   abbrev p : Place
@@ -103,7 +95,7 @@ module _ (j : Job) (l : Seen) (look : IsLook j l) (clear : IsClear j l.place) wh
     goes_seeking f g n = (to (argument_of l.read) has, from)
       where
         has : HasArgument (storage_of j) p.address (argument_of l.read)
-        has = read_whole (storage_of j) p l.read ((look.read c (ccw_seen j l look (clear_stands j p clear))).seek (seeks_it ∙ f))
+        has = argument_read (storage_of j) p l.read ((look.read c (ccw_seen j l look (clear_stands j p clear))).seek (seeks_it ∙ f))
 
         to : (o : Option (List ℕ)) → HasArgument (storage_of j) p.address o → option_map cylinder_of o ≡ Some n → SeeksCylinder j p n
         to None h d = absurd cc

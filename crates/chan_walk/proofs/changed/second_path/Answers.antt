@@ -1,5 +1,4 @@
 use Rattle.std.proofs.Common.{List, Some, None, subst}
-use Rattle.std.proofs.lemmas.Result.{IfOk-weaker}
 use Rattle.chan_walk.specs.Changed.{IsFirstChanged}
 use Rattle.chan_walk.specs.Look.{Seen, places_of_looks}
 use Rattle.chan_walk.proofs.Algorithms.Changing.{changed_within, none_found, second_found}
@@ -14,14 +13,11 @@ path_at-requires-clause-within c =
     changed_within j c.args.walk.now f c.args.evidence.now c.in-Some.at
     (subst (λ (ls : List Seen). IsFirstChanged j c.args.evidence.now (places_of_looks ls) (Some c.in-Some.at)) c.as_slice.ensures.value (c.in-Some.ensures j looks))
 
-pub returns-in-Some : goal.returns-in-Some
-returns-in-Some c =
-    IfOk-weaker c.path_at.result _ _
-    (λ path h j f p cause.
+pub returns-in_ok-places-in-Some : goal.returns-in_ok-places-in-Some
+returns-in_ok-places-in-Some c j f p cause =
     let looks = (reached_looks j c.args.walk.now c.as_slice.result.now f c.as_slice.ensures.value).0 in
-    second_found j c.args.walk.now f c.args.evidence.now c.in-Some.at path.items
-    (subst (λ (ls : List Seen). IsFirstChanged j c.args.evidence.now (places_of_looks ls) (Some c.in-Some.at)) c.as_slice.ensures.value (c.in-Some.ensures j looks)) (h j f))
-    c.path_at.ensures
+    second_found j c.args.walk.now f c.args.evidence.now c.in-Some.at c.in_ok-places-in-Some.field-0.places.items
+    (subst (λ (ls : List Seen). IsFirstChanged j c.args.evidence.now (places_of_looks ls) (Some c.in-Some.at)) c.as_slice.ensures.value (c.in-Some.ensures j looks)) (c.in_ok-places-in-Some.ensures.path j f)
 
 pub returns-in-None : goal.returns-in-None
 returns-in-None c j f p cause =

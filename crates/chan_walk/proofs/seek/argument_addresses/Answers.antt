@@ -1,11 +1,14 @@
 use Rattle.std.proofs.Common.{◌∙◌, sym, arith}
 use Rattle.ccw_core.specs.Held.{bytes_held}
 use Rattle.chan_walk.proofs.Algorithms.Following.{argument_below, followed_more, followed_whole, leads_nowhere, no_more}
-use Rattle.chan_walk.proofs.Algorithms.Given.{given_more, given_no_part, given_nowhere, given_unchained}
+use Rattle.chan_walk.proofs.Algorithms.Given.{front_more, front_taken, given_more, given_no_part, given_nowhere, given_unchained}
 use Rattle.chan_walk.proofs.seek.argument_addresses.Goals as goal
 
 pub returns-in_default-clause-given : goal.returns-in_default-clause-given
-returns-in_default-clause-given c = given_no_part _ _ _ _ c.loop-part.invariant.given c.in_default.ensures.none
+returns-in_default-clause-given c = given_no_part _ _ _ _ _ c.loop-part.invariant.given c.in_default.ensures.none
+
+pub returns-in_default-clause-front : goal.returns-in_default-clause-front
+returns-in_default-clause-front c = front_taken _ _ _ _ _ c.loop-part.invariant.given (omega (arith, c.loop-part.invariant.followed.size, c.loop-part.invariant.followed.few))
 
 pub returns-then-count-room-clause-six : goal.returns-then-count-room-clause-six
 returns-then-count-room-clause-six c =
@@ -21,22 +24,35 @@ pub returns-then-not-chains-clause-none : goal.returns-then-not-chains-clause-no
 returns-then-not-chains-clause-none c = no_more _ _ _ _ _ c.loop-part.invariant.followed (omega (arith, c.in-Some.ensures.count)) (sym c.in-Some.ensures.chains ∙ c.if-not-chains.true)
 
 pub returns-then-not-chains-clause-given : goal.returns-then-not-chains-clause-given
-returns-then-not-chains-clause-given c = rw c.in-Some.ensures.count (given_unchained _ _ _ _ c.loop-part.invariant.given c.in-Some.ensures.part (sym c.in-Some.ensures.chains ∙ c.if-not-chains.true))
+returns-then-not-chains-clause-given c = rw c.in-Some.ensures.count (given_unchained _ _ _ _ _ c.loop-part.invariant.given c.in-Some.ensures.part (sym c.in-Some.ensures.chains ∙ c.if-not-chains.true))
+
+pub returns-then-not-chains-clause-front : goal.returns-then-not-chains-clause-front
+returns-then-not-chains-clause-front c =
+    let part = c.in-Some.ensures in
+    let n = c.note-in-loop-part.ensures in
+    rw part.count (front_more _ _ _ _ _ c.loop-part.invariant.given part.part c.note-in-loop-part.new.addresses n.before (simp (part.count, part.from) at n.added) (omega (arith, n.size, part.count)))
 
 pub returns-in-None-clause-none : goal.returns-in-None-clause-none
 returns-in-None-clause-none c = leads_nowhere _ _ _ _ _ c.loop-part.invariant.followed (omega (arith, c.in-Some.ensures.count)) c.in-None.ensures.none
 
 pub returns-in-None-clause-given : goal.returns-in-None-clause-given
-returns-in-None-clause-given c = rw c.in-Some.ensures.count (given_nowhere _ _ _ _ c.loop-part.invariant.given c.in-Some.ensures.part c.in-None.ensures.none)
+returns-in-None-clause-given c = rw c.in-Some.ensures.count (given_nowhere _ _ _ _ _ c.loop-part.invariant.given c.in-Some.ensures.part c.in-None.ensures.none)
+
+pub returns-in-None-clause-front : goal.returns-in-None-clause-front
+returns-in-None-clause-front c =
+    let part = c.in-Some.ensures in
+    let n = c.note-in-loop-part.ensures in
+    rw part.count (front_more _ _ _ _ _ c.loop-part.invariant.given part.part c.note-in-loop-part.new.addresses n.before (simp (part.count, part.from) at n.added) (omega (arith, n.size, part.count)))
 
 pub loop-part-preserved : goal.loop-part-preserved
 loop-part-preserved c =
     let part = c.in-Some.ensures in
+    let n = c.note-in-loop-part.ensures in
     let chained = sym part.chains ∙ c.if-not-chains.false in
     record {
       followed = rw (c.in-Some-onward.ensures.found, part.count)
           (followed_more _ _ c.loop-part.addresses _ _ _ c.loop-part.invariant.followed part.part (omega (arith, part.count)) chained
-          c.note-in-loop-part.ensures.size c.note-in-loop-part.ensures.before (simp (part.count, part.from) at c.note-in-loop-part.ensures.added));
-      given = rw (c.in-Some-onward.ensures.found, part.count) (given_more _ _ _ _ c.loop-part.invariant.given part.part chained);
+          n.size n.before (simp (part.count, part.from) at n.added));
+      given = rw (c.in-Some-onward.ensures.found, part.count) (given_more _ _ _ _ _ c.loop-part.invariant.given part.part c.note-in-loop-part.new.addresses n.before (simp (part.count, part.from) at n.added) chained);
       stands = c.in-Some-onward.ensures.stands;
     }

@@ -8,7 +8,7 @@ use Rattle.chan_walk.proofs.seek.argument_addresses.Given as goal
 abbrev pub invariant-loop-part : goal.invariant-loop-part
 invariant-loop-part l = record {
   followed : IsFollowed (bytes_held l.storage) l.address l.addresses l.have l.here.address;
-  given : IsGiven (bytes_held l.storage) l.address l.have l.here.address;
+  given : IsGiven (bytes_held l.storage) l.address l.addresses l.have l.here.address;
   stands : ccw_at (bytes_held l.storage) l.here.address ≡ Some l.here.ccw;
 }
 

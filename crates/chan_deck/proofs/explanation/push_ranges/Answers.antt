@@ -1,0 +1,15 @@
+use Rattle.std.proofs.Common.{◌∙◌, sym, arith}
+use Rattle.std.proofs.lemmas.Result.{on_ok_weaker}
+use Rattle.chan_deck.proofs.StepLemmas.{not_zero}
+use Rattle.chan_deck.proofs.RangeLemmas.{ranges_end, ranges_more}
+use Rattle.chan_deck.proofs.explanation.push_ranges.Goals as goal
+
+pub loop-at-preserved : goal.loop-at-preserved
+loop-at-preserved c =
+    ranges_more c.args.addresses.now c.loop-at.at _ _ _ _ c.loop-at.auto.at c.loop-at-test.true c.in_ok-push_between.ensures c.loop-at.invariant
+
+pub returns : goal.returns
+returns c =
+    let some = not_zero _ (sym c.is_empty.ensures ∙ c.if-is_empty.false) in
+    on_ok_weaker c.write-2.result
+    (λ e. e ∙ ranges_end c.args.addresses.now c.loop-at.at _ _ _ c.loop-at-test.false (c.loop-at.auto.at-end (omega (arith, some))) c.loop-at.auto.at c.loop-at.invariant) c.write-2.ensures.bytes

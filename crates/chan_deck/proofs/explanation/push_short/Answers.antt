@@ -1,0 +1,12 @@
+use Rattle.std.proofs.Common.{◌∙◌, string_bytes, codes}
+use Rattle.std.proofs.lemmas.Result.{on_ok_weaker}
+use Rattle.std.specs.Fmt.{decimal}
+use Rattle.chan_deck.specs.Explanation.{given_text}
+use Rattle.chan_deck.proofs.ExplanationLemmas.{short_told}
+use Rattle.chan_deck.proofs.explanation.push_short.Goals as goal
+
+pub returns : goal.returns
+returns c =
+    let n = decimal c.args.given.count in
+    on_ok_weaker c.push_given.result
+    (λ e. e ∙ short_told (string_bytes c.args.out.now) _ (codes "the argument ends after ") n (codes " of 6 bytes: ") (given_text c.args.given) c.in_ok-write.ensures.bytes) c.push_given.ensures

@@ -1,0 +1,9 @@
+use Rattle.std.proofs.Common.{◌∙◌, string_bytes}
+use Rattle.std.proofs.lemmas.Result.{on_ok_weaker}
+use Rattle.chan_deck.proofs.ExplanationLemmas.{taken_told}
+use Rattle.chan_deck.proofs.explanation.push_taken.Goals as goal
+
+pub returns : goal.returns
+returns c =
+    on_ok_weaker c.push_ranges.result
+    (λ e. e ∙ taken_told (string_bytes c.args.out.now) _ _ c.args.byte c.args.argument c.in-Some.argument c.in-Some.is c.in_ok-write.ensures.bytes c.addresses.ensures) c.push_ranges.ensures
