@@ -3,6 +3,13 @@ _chanv() {
     local word=${COMP_WORDS[COMP_CWORD]} before=${COMP_WORDS[COMP_CWORD - 1]}
     local commands='show verify list why graph needs deck explain help'
     local of_deck='--device --mask --start --limit --extent --fetch --store --least --at'
+    local reasons='misaligned outside-storage transfer-not-allowed invalid-code bad-format zero-count
+        data-outside not-in-table inhibited store-not-lent fetch-not-lent short-seek seek-outside
+        changes-ccw changes-argument weakens-mask'
+    local causes='ended header form mask extent-backwards extent-past-device size put-address
+        put-zero after limit'
+    local failures='cannot-open read-failed deck-too-long image-too-long too-many-places
+        no-job-will-do write-failed out-of-memory not-a-ccw no-such-word'
     local words='--help'
     COMPREPLY=()
     if ((COMP_CWORD == 1)); then
@@ -10,6 +17,7 @@ _chanv() {
     else
         case ${COMP_WORDS[1]} in
         help) words=$commands ;;
+        explain) [[ $word == -* ]] || words="$reasons $causes $failures" ;;
         deck)
             case $before in
             --device) words='2311 2314' ;;
@@ -19,9 +27,10 @@ _chanv() {
             ;;
         esac
     fi
-    if ((COMP_CWORD == 1)) || [[ ${COMP_WORDS[1]} == help || $before == --device || $word == -* ]]; then
+    if ((COMP_CWORD == 1)) || [[ ${COMP_WORDS[1]} == @(help|explain) || $before == --device ]] ||
+        [[ $word == -* ]]; then
         mapfile -t COMPREPLY < <(compgen -W "$words" -- "$word")
-    elif [[ ${COMP_WORDS[1]} != show && ${COMP_WORDS[1]} != explain ]]; then
+    elif [[ ${COMP_WORDS[1]} != show ]]; then
         mapfile -t COMPREPLY < <(compgen -f -- "$word")
     fi
 }

@@ -25,12 +25,14 @@ WRITE_FAILED = "chanv: write failed\n"
 ANSWERED = {"yes": "search-loop", "noted": "trips", "no": "chained-and-fresh"}
 ENDINGS = {"list": ".list", "why": ".why", "graph": ".dot", "needs": ".needs"}
 
+LIMIT = "the limit is 2; a deck of version 2 may raise it to 65536 by its line limit\n"
+
 # The other decks: the status, what is said, and what `why` adds. `closed` is standard input that is
 # closed, and there is no `nowhere`.
 REFUSED = {
     "damaged": (2, "deck line 3: form\n", "found mask\nexpected mask XX, where X is 0-9 or A-F\n"),
     "empty": (2, "deck line 1: ended\n", "found \nexpected chanv deck 1, chanv deck 2\n"),
-    "many": (2, "too many places\n", ""),
+    "many": (2, "too many places\n", LIMIT),
     "long": (2, "deck too long\n", ""),
     "folder": (3, "read failed\n", ""),
     "nowhere": (3, "cannot open\n", ""),
@@ -164,6 +166,7 @@ def over_nothing():
         (["show", "0800"], Ran(4, "", "chanv: not a CCW\n")),
         (["explain", "changes-ccw"], Ran(0, meaning)),
         (["explain", "nothing"], Ran(4, "", "chanv: no such word\n")),
+        (["explain", "masks"], Ran(4, "", "chanv: no such word; the nearest is mask\n")),
         (["judge"], Ran(4, "", f"{fault}For more information, try '--help'.\n")),
         (["--version"], Ran(0, "chanv 0.2.0\n")),
         (["-V"], Ran(0, "chanv 0.2.0\n")),

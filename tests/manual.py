@@ -81,6 +81,8 @@ def check_completions(checks, program):
         options = sorted(re.findall(r"(?:  |, )(--[a-z]*)", said))
         name = f"the options that are completed: chanv {' '.join(words)}"
         checks.expect(name, options, completed(*words, "--"))
+    listed = sorted(re.findall(r"(?m)^([a-z-]+): ", run(program, "explain").output))
+    checks.expect("the words that are completed", listed, completed("explain", ""))
     devices = completed("deck", "--device", "")
     checks.expect("the devices that are completed", ["2311", "2314"], devices)
 

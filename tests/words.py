@@ -1,8 +1,9 @@
 """The pages that say what words mean say what `chanv` writes of them.
 
-Each word of the table of reasons in docs/VERDICT.md, and of the table of causes in docs/DECK.md,
-has a section on its page, and that is what `chanv explain` writes of it, in any case of its
-letters, and without a word it lists these words. A word that isn't in them is refused. And `chanv why` gives the cause of each example deck's no in a form that the section of
+Each word of the table of reasons in docs/VERDICT.md, of causes in docs/DECK.md, and of what is said
+in place of an answer in docs/FAILURES.md has a section on its page, and that is what `chanv explain`
+writes of it, in any case of its letters, and without a word it lists these words. A word that isn't
+in them is refused, and the nearest is named. And `chanv why` gives the cause of each example deck's no in a form that the section of
 its reason has in docs/VERDICT.md, where each reason has an example.
 """
 
@@ -14,7 +15,23 @@ from running import Ran, run, text_of
 
 VERDICT = "VERDICT.md"
 # how a row of the page's table begins
-PAGES = {VERDICT: r"\| \d+ \| `([a-z-]+)` \|", "DECK.md": r"\| `[A-Z]\w*` \| `([a-z-]+)` \|"}
+PAGES = {
+    VERDICT: r"\| \d+ \| `([a-z-]+)` \|",
+    "DECK.md": r"\| `[A-Z]\w*` \| `([a-z-]+)` \|",
+    "FAILURES.md": r"\| `([a-z-]+)` \| `[a-zA-Z :]+` \| \d \|",
+}
+
+# words that have no meaning, and what is said of the nearest
+UNKNOWN = {
+    "": "",
+    "deck": "",
+    "changes": "",
+    "changes-ccw ": "; the nearest is changes-ccw",
+    "CHANGES-CWC": "; the nearest is changes-ccw",
+    "too many places": "; the nearest is too-many-places",
+    "put-aero": "; the nearest is put-zero",
+    "x" * 100_000: "",
+}
 
 # what stands for a value in the form of a cause
 VALUES = {
@@ -84,7 +101,7 @@ def check(checks, built):
             checks.expect(word.upper(), meaning, run(program, "explain", word.upper()))
         listed += words
     check_list(checks, program, listed)
-    for word in ("", "changes", "changes-ccw ", "deck"):
-        refused = Ran(4, "", "chanv: no such word\n")
-        checks.expect(f"'{word}'", refused, run(program, "explain", word))
+    for word, nearest in UNKNOWN.items():
+        refused = Ran(4, "", f"chanv: no such word{nearest}\n")
+        checks.expect(f"'{word[:20]}'", refused, run(program, "explain", word))
     check_causes(checks, program, dict(causes_of(text_of(ROOT / "docs" / VERDICT))))

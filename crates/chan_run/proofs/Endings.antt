@@ -8,7 +8,7 @@ use Rattle.chan_run.specs.declared.reporting.Outcome.TheVariants.{Ran, FlushFail
 use Rattle.chan_run.specs.declared.running.Action.{Action}
 use Rattle.chan_run.specs.declared.running.Action.TheVariants as actions
 use Rattle.chan_run.specs.declared.running.RunError.{RunError}
-use Rattle.chan_run.specs.declared.running.RunError.TheVariants.{Deck}
+use Rattle.chan_run.specs.declared.running.RunError.TheVariants.{Deck, TooManyPlaces}
 use Rattle.chan_run.specs.declared.running.Status.{Status}
 use Rattle.chan_run.specs.declared.running.Status.TheVariants.{Yes}
 use Rattle.chan_run.specs.Advice.{IsBeside}
@@ -42,12 +42,15 @@ said actions.Why t (Ok Yes) (Ok text) has is = inl is
 said actions.Why t (Ok Yes) (Err refused) has is = inr refl
 said actions.Why t (Err (Deck line cause)) (Ok text) has is = inl is
 said actions.Why t (Err (Deck line cause)) (Err refused) has is = inr refl
+said actions.Why t (Err TooManyPlaces) (Ok text) has is = inl is
+said actions.Why t (Err TooManyPlaces) (Err refused) has is = inr refl
 said a t r advice has is = absurd (cc)
 
 -- and where there is nothing
 unsaid : (a : Action) (t : List ℕ) (end : Outcome) → has_advice a end ≡ false → IsAdvice a t end []
 unsaid actions.Why t (Ran (Ok Yes)) none = absurd (cc)
 unsaid actions.Why t (Ran (Err (Deck line cause))) none = absurd (cc)
+unsaid actions.Why t (Ran (Err TooManyPlaces)) none = absurd (cc)
 unsaid a t end none = refl
 
 -- no flush that failed has any

@@ -7,3 +7,4 @@ pub mod ImageLemmas
 pub mod Endings
 pub mod MeaningLemmas
 mod WordLemmas
+mod NearestLemmas

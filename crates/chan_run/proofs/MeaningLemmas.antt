@@ -9,6 +9,7 @@ use Rattle.ccw_core.proofs.Prefixes.{prefix_after}
 use Rattle.chan_deck.specs.declared.cause.Cause.TheVariants as causes
 use Rattle.chan_walk.specs.declared.reason.Reason.TheVariants as reasons
 use Rattle.chan_run.specs.Meaning.{line_of_term}
+use Rattle.chan_run.specs.declared.failure.Failure.TheVariants as failures
 use Rattle.chan_run.specs.declared.meaning.Term.{Term}
 use Rattle.chan_run.specs.declared.meaning.Term.TheVariants as terms
 use Rattle.chan_run.specs.declared.meaning.TheConstants as texts
@@ -69,6 +70,26 @@ of_each P all (terms.Cause causes.After) =
     all 25 (terms.Cause causes.After) (lit< tt)
 of_each P all (terms.Cause causes.Limit) =
     all 26 (terms.Cause causes.Limit) (lit< tt)
+of_each P all (terms.Failure failures.CannotOpen) =
+    all 27 (terms.Failure failures.CannotOpen) (lit< tt)
+of_each P all (terms.Failure failures.ReadFailed) =
+    all 28 (terms.Failure failures.ReadFailed) (lit< tt)
+of_each P all (terms.Failure failures.DeckTooLong) =
+    all 29 (terms.Failure failures.DeckTooLong) (lit< tt)
+of_each P all (terms.Failure failures.ImageTooLong) =
+    all 30 (terms.Failure failures.ImageTooLong) (lit< tt)
+of_each P all (terms.Failure failures.TooManyPlaces) =
+    all 31 (terms.Failure failures.TooManyPlaces) (lit< tt)
+of_each P all (terms.Failure failures.NoJobWillDo) =
+    all 32 (terms.Failure failures.NoJobWillDo) (lit< tt)
+of_each P all (terms.Failure failures.WriteFailed) =
+    all 33 (terms.Failure failures.WriteFailed) (lit< tt)
+of_each P all (terms.Failure failures.OutOfMemory) =
+    all 34 (terms.Failure failures.OutOfMemory) (lit< tt)
+of_each P all (terms.Failure failures.NotCcw) =
+    all 35 (terms.Failure failures.NotCcw) (lit< tt)
+of_each P all (terms.Failure failures.NoSuchWord) =
+    all 36 (terms.Failure failures.NoSuchWord) (lit< tt)
 
 -- the line of the first of some terms was written, and then a prefix of the others' lines
 pub after_first_line : (ts : List Term) (d : Term) (a b c : Option (List ℕ)) → 1 ≤ length ts

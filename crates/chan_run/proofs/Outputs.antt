@@ -105,4 +105,6 @@ beside front actions.Why t deck j old new (Ok Yes) advice spelled of_deck h note
     of_job t deck j _ spelled of_deck noted
 beside front actions.Why t deck j old new (Err (Deck line cause)) advice spelled of_deck h noted =
     absurd h.2
+beside front actions.Why t deck j old new (Err TooManyPlaces) advice spelled of_deck h noted =
+    of_job t deck j _ spelled of_deck noted
 beside front a t deck j old new r advice spelled of_deck h noted = tt

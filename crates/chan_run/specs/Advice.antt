@@ -1,6 +1,8 @@
 -- What is said beside the answer on a text: where the text is no deck, the hint at the line that is
--- refused; where its verdict is yes, the notes on its job.
-use Rattle.std.specs.Prelude.{◌≡◌, ℕ, List, Result, Ok, Err}
+-- refused; where its verdict is yes, the notes on its job; where too many places are reachable, what
+-- the limit is.
+use Rattle.std.specs.Prelude.{◌≡◌, ◌==◌, ◌++◌, ℕ, List, Result, Ok, Err, codes, if◌then◌else◌}
+use Rattle.std.specs.Fmt.{decimal}
 use Rattle.std.specs.List.{filter}
 use Rattle.chan_deck.specs.Hint.{IsHint}
 use Rattle.chan_deck.specs.Notes.{notes}
@@ -12,7 +14,7 @@ use Rattle.chan_walk.specs.Notes.{ends_there, interrupts, reaches_past_storage}
 use Rattle.chan_run.specs.declared.running.Action.{Action}
 use Rattle.chan_run.specs.declared.running.Action.TheVariants as actions
 use Rattle.chan_run.specs.declared.running.RunError.{RunError}
-use Rattle.chan_run.specs.declared.running.RunError.TheVariants.{Deck}
+use Rattle.chan_run.specs.declared.running.RunError.TheVariants.{Deck, TooManyPlaces}
 use Rattle.chan_run.specs.declared.running.Status.{Status}
 use Rattle.chan_run.specs.declared.running.Status.TheVariants as statuses
 use Rattle.chan_run.specs.Run.{IsOfJob}
@@ -32,13 +34,23 @@ pub record AreNotes (j : Job) (n : Notes) : Type 0 where
 abbrev pub IsNoted : Job → List ℕ → Type 0
 IsNoted j advice = (n : Notes) × AreNotes j n × (advice ≡ notes n)
 
+-- what the limit on places is, and how it may be raised
+abbrev pub limit_line : ℕ → List ℕ
+limit_line limit =
+    codes "the limit is " ++ (decimal limit
+    ++ (if limit == 65536 then codes ", and none is higher\n"
+    else codes "; a deck of version 2 may raise it to 65536 by its line limit\n"))
+
 -- what is said beside an answer on a job
 abbrev pub IsBesideJob : Action → Job → Result Status RunError → List ℕ → Type 0
 IsBesideJob actions.Why j (Ok statuses.Yes) advice = IsNoted j advice
+IsBesideJob actions.Why j (Err TooManyPlaces) advice = advice ≡ limit_line j.limit
 IsBesideJob a j answer advice = Unit {0}
 
 -- what is said beside an answer on a text
 abbrev pub IsBeside : Action → List ℕ → Result Status RunError → List ℕ → Type 0
 IsBeside actions.Why t (Ok statuses.Yes) advice = IsOfJob t (λ j. IsNoted j advice)
 IsBeside actions.Why t (Err (Deck line cause)) advice = IsHint t line cause advice
+IsBeside actions.Why t (Err TooManyPlaces) advice =
+    IsOfJob t (λ j. advice ≡ limit_line j.limit)
 IsBeside a t answer advice = Unit {0}

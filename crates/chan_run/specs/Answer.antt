@@ -15,10 +15,10 @@ use Rattle.chan_run.specs.declared.reporting.Outcome.TheVariants.{Imaged, Ran}
 use Rattle.chan_run.specs.declared.running.Action.{Action}
 use Rattle.chan_run.specs.declared.running.Action.TheVariants as actions
 use Rattle.chan_run.specs.declared.running.RunError.{RunError}
-use Rattle.chan_run.specs.declared.running.RunError.TheVariants.{Deck, Memory}
+use Rattle.chan_run.specs.declared.running.RunError.TheVariants.{Deck, Memory, TooManyPlaces}
 use Rattle.chan_run.specs.declared.running.Status.{Status}
 use Rattle.chan_run.specs.declared.running.Status.TheVariants as statuses
-use Rattle.chan_run.specs.Advice.{IsNoted}
+use Rattle.chan_run.specs.Advice.{IsNoted, limit_line}
 use Rattle.chan_run.specs.Imaging.{IsImageAnswer}
 use Rattle.chan_run.specs.Naming.{name_before}
 use Rattle.chan_run.specs.Report.{IsEnd, line_of, line_over}
@@ -29,13 +29,16 @@ use Rattle.chan_run.specs.Run.{front_of}
 abbrev pub memory_line : List ℕ
 memory_line = line_of (Ran (Err Memory))
 
--- what is said of an input behind the outcome's line: for an explanation the notes behind a yes, and
--- the hint where the text is refused, or that memory ran out for them
+-- what is said of an input behind the outcome's line: for an explanation the notes behind a yes, the
+-- hint where the text is refused, and the limit where too many places are reachable, or that memory
+-- ran out for them
 abbrev pub IsAdvice : Action → List ℕ → Outcome → List ℕ → Type 0
 IsAdvice actions.Why t (Ran (Ok statuses.Yes)) advice =
     IsOfJob t (λ j. IsNoted j advice) ⊎ (advice ≡ memory_line)
 IsAdvice actions.Why t (Ran (Err (Deck line cause))) advice =
     IsHint t line cause advice ⊎ (advice ≡ memory_line)
+IsAdvice actions.Why t (Ran (Err TooManyPlaces)) advice =
+    IsOfJob t (λ j. advice ≡ limit_line j.limit) ⊎ (advice ≡ memory_line)
 IsAdvice a t end advice = advice ≡ []
 
 -- the text was answered, and then this was said

@@ -3,7 +3,9 @@ pub mod Input
 pub mod Naming
 pub mod Word
 pub mod Run
+pub mod Failure
 pub mod Meaning
+pub mod Nearest
 pub mod Report
 pub mod Options
 pub mod Imaging

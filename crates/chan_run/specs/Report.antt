@@ -1,5 +1,5 @@
 -- The exit status of each outcome, and its line on standard error.
-use Rattle.std.specs.Prelude.{◌≡◌, ◌⊎◌, ◌++◌, ◌∷◌, ℕ, Bool, true, false, List, [], Option, None}
+use Rattle.std.specs.Prelude.{◌≡◌, ◌⊎◌, ◌++◌, ◌∷◌, ℕ, Bool, true, false, List, [], Option, Some, None}
 use Rattle.std.specs.Prelude.{codes, Ok, Err}
 use Rattle.std.specs.Fmt.{decimal}
 use Rattle.chan_deck.specs.declared.cause.Cause.{Cause}
@@ -16,7 +16,7 @@ use Rattle.chan_run.specs.declared.reporting.Outcome.TheVariants.{HelpAsked}
 use Rattle.chan_run.specs.declared.reporting.Outcome.TheVariants.{UsageFault}
 use Rattle.chan_run.specs.declared.reporting.Outcome.TheVariants.{NoMemoryForCommandLine}
 use Rattle.chan_run.specs.declared.reporting.Outcome.TheVariants.{FlushFailed, CannotOpen}
-use Rattle.chan_run.specs.Meaning.{word_of_cause}
+use Rattle.chan_run.specs.Meaning.{word_of_cause, word_of_term}
 use Rattle.chan_run.specs.Naming.{name_before}
 
 abbrev pub status_of : Outcome → ℕ
@@ -40,7 +40,8 @@ status_of (Imaged (Err (images.NoJob _ _))) = 1
 status_of (Imaged (Err images.Write)) = 3
 status_of (Imaged (Err images.Memory)) = 3
 status_of (Explained (Ok _)) = 0
-status_of (Explained (Err meanings.Unknown)) = 4
+status_of (Explained (Err (meanings.Unknown _))) = 4
+status_of (Explained (Err meanings.Memory)) = 3
 status_of (Explained (Err meanings.Write)) = 3
 status_of HelpAsked = 0
 status_of UsageFault = 4
@@ -48,10 +49,12 @@ status_of NoMemoryForCommandLine = 3
 status_of FlushFailed = 3
 status_of CannotOpen = 3
 
--- what is written beside the explanation of a yes, and where the text is no deck
+-- what is written beside the explanation of a yes, where the text is no deck, and where too many
+-- places are reachable
 abbrev pub has_advice : Action → Outcome → Bool
 has_advice actions.Why (Ran (Ok statuses.Yes)) = true
 has_advice actions.Why (Ran (Err (runs.Deck line cause))) = true
+has_advice actions.Why (Ran (Err runs.TooManyPlaces)) = true
 has_advice _ _ = false
 
 -- all was done that was asked for, so that the output is flushed
@@ -109,7 +112,9 @@ text_of (Imaged (Err (images.NoJob _ _))) = []
 text_of (Imaged (Err images.Write)) = codes "write failed" ++ 10 ∷ []
 text_of (Imaged (Err images.Memory)) = codes "out of memory" ++ 10 ∷ []
 text_of (Explained (Ok _)) = []
-text_of (Explained (Err meanings.Unknown)) = codes "no such word" ++ 10 ∷ []
+text_of (Explained (Err (meanings.Unknown None))) = codes "no such word" ++ 10 ∷ []
+text_of (Explained (Err (meanings.Unknown (Some _)))) = codes "no such word; the nearest is "
+text_of (Explained (Err meanings.Memory)) = codes "out of memory" ++ 10 ∷ []
 text_of (Explained (Err meanings.Write)) = codes "write failed" ++ 10 ∷ []
 text_of HelpAsked = []
 text_of UsageFault = []
@@ -121,9 +126,11 @@ text_of CannotOpen = codes "cannot open" ++ 10 ∷ []
 abbrev pub cause_text : Cause → List ℕ
 cause_text cause = codes ": " ++ (word_of_cause cause ++ 10 ∷ [])
 
--- the number and the cause of a deck's refusal
+-- what ends a line that names something: the number and the cause of a deck's refusal, or the word
+-- that is nearest to one that has no meaning
 abbrev pub refusal_of : Outcome → List ℕ
 refusal_of (Ran (Err (runs.Deck number cause))) = decimal number ++ cause_text cause
+refusal_of (Explained (Err (meanings.Unknown (Some t)))) = word_of_term t ++ 10 ∷ []
 refusal_of _ = []
 
 -- the line of an outcome over an input that may have a name

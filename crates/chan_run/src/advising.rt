@@ -1,11 +1,11 @@
 //! What is said beside the answer on a text, as lines.
 
-ghost use Rattle.std.specs.Prelude.{IfOk};
-ghost use Rattle.chan_run.specs.Advice.{IsNoted};
+ghost use Rattle.std.specs.Prelude.{◌≡◌, IfOk};
+ghost use Rattle.chan_run.specs.Advice.{IsNoted, limit_line};
 ghost use Rattle.chan_walk.specs.Surveyed.{IsSurvey};
 
 use chan_deck::notes_text;
-use chan_walk::{Job, Survey};
+use chan_walk::{Job, Limit, Survey};
 use std::alloc::{AllocError, Global};
 
 /// The notes on a job that was surveyed.
@@ -15,4 +15,17 @@ pub(crate) fn notes_on(alloc: Global, job: &Job, survey: &Survey) -> Result<Vec<
 {
     let notes = survey.notes(alloc, job)?;
     Ok(notes_text(alloc, &notes)?.into_bytes())
+}
+
+/// What the limit on places is, and how it may be raised.
+pub(crate) fn limit_text(alloc: Global, limit: Limit) -> Result<Vec<u8>, AllocError>
+    ensures { IfOk result (λ text. text.items ≡ limit_line limit) }
+{
+    let places = limit.get();
+    let how = if places == 65_536 {
+        ", and none is higher"
+    } else {
+        "; a deck of version 2 may raise it to 65536 by its line limit"
+    };
+    Ok(format!(in alloc; "the limit is {places}{how}\n")?.into_bytes())
 }

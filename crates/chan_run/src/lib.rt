@@ -17,12 +17,14 @@
 
 mod advising;
 mod answering;
+mod failure;
 mod image;
 mod image_options;
 mod input;
 mod least;
 mod meaning;
 mod naming;
+mod nearest;
 mod option_fault;
 mod option_reading;
 mod options;
@@ -33,6 +35,7 @@ mod texts;
 mod word;
 
 pub use crate::answering::{answer, answer_image};
+pub use crate::failure::Failure;
 pub use crate::image::{ImageError, write_image};
 pub use crate::image_options::{
     GrantFault, ImageOption, ImageOptions, ImageWords, OptionError, OptionFault,

@@ -1,17 +1,22 @@
-//! What the words of verdicts and of refused decks mean.
+//! What the words of verdicts, of refused decks and of failures mean.
 
-ghost use Rattle.std.specs.Prelude.{◌≡◌, ◌↔◌, false, true, Err, IfSome, IsErr, IsErrOf, None, OnOk};
+ghost use Rattle.std.specs.Prelude.{◌≡◌, ◌≢◌, ◌↔◌, false, true, IfErr, IfSome, IsErr, IsErrOf, None};
+ghost use Rattle.std.specs.Prelude.{OnOk};
 ghost use Rattle.std.specs.List.{All, flat_map};
 ghost use Rattle.std.specs.Io.KnownBytes.{Appends};
 ghost use Rattle.ccw_core.specs.Written.{AppendsPrefix};
 ghost use Rattle.chan_run.specs.Meaning.{IsWordOf, brief_of, brief_of_cause, brief_of_reason};
 ghost use Rattle.chan_run.specs.Meaning.{line_of_term, meaning_of, meaning_of_cause};
 ghost use Rattle.chan_run.specs.Meaning.{meaning_of_reason, word_of_cause, word_of_term, words_list};
+ghost use Rattle.chan_run.specs.Nearest.{IsUnknown};
 
+use crate::failure::{Failure, failure_brief, failure_meaning, failure_word};
+use crate::nearest::nearest_term;
 use crate::texts::write_texts;
 use ccw_core::{DeviceFault, Watched, write_out};
 use chan_deck::Cause;
 use chan_walk::Reason;
+use std::alloc::{AllocError, Global};
 use std::io::Write;
 use thiserror::Error;
 
@@ -39,9 +44,10 @@ A new operation begins at the CCW, and the low four bits of its code are zero,
 which no command has.
 Correct the code. Where the CCW is to go on with a data chain, switch on chain
 data in the CCW before it; where the program is to end before it, switch off
-chain command in the last one. Where the program reads in what it then runs,
-what will stand there can't be judged: read it in first, and ask about storage
-as it is then.
+chain command in the last one. A row that says `invalid chained` isn't meant:
+a data chain leads there, and the code doesn't count. Where the program reads in
+what it then runs, what will stand there can't be judged: read it in first, and
+ask about storage as it is then.
 ";
 
 const BAD_FORMAT: &str = "\
@@ -191,17 +197,20 @@ Write a number from 00001 to 65536. It is decimal. A deck of version 1 has no
 such line, and its limit is 4,096 places.
 ";
 
-/// A word that a verdict gives as its reason, or a refused deck's line as its cause.
+/// A word that a verdict gives as its reason, a refused deck's line as its cause, or a line on
+/// standard error in place of an answer.
 #[derive(Clone, Copy, PartialEq, Eq, Debug)]
 pub enum Term {
     /// The reason of a verdict.
     Reason(Reason),
     /// The cause for which a deck's line is refused.
     Cause(Cause),
+    /// What is said in place of an answer.
+    Failure(Failure),
 }
 
-/// The terms in the order of the list: the reasons by number, then the causes.
-const TERMS: [Term; 27] = [
+/// The terms in the order of the list: the reasons by number, then the causes, then the failures.
+const TERMS: [Term; 37] = [
     Term::Reason(Reason::Misaligned),
     Term::Reason(Reason::OutsideStorage),
     Term::Reason(Reason::TransferNotAllowed),
@@ -229,20 +238,33 @@ const TERMS: [Term; 27] = [
     Term::Cause(Cause::PutZero),
     Term::Cause(Cause::After),
     Term::Cause(Cause::Limit),
+    Term::Failure(Failure::CannotOpen),
+    Term::Failure(Failure::ReadFailed),
+    Term::Failure(Failure::DeckTooLong),
+    Term::Failure(Failure::ImageTooLong),
+    Term::Failure(Failure::TooManyPlaces),
+    Term::Failure(Failure::NoJobWillDo),
+    Term::Failure(Failure::WriteFailed),
+    Term::Failure(Failure::OutOfMemory),
+    Term::Failure(Failure::NotCcw),
+    Term::Failure(Failure::NoSuchWord),
 ];
 
 /// Why a word was not explained.
 #[derive(Clone, Copy, PartialEq, Eq, Debug, Error)]
 pub enum MeaningError {
-    /// No reason and no cause has this word.
+    /// No term has this word. This one is the nearest, if one is near.
     #[error("no such word")]
-    Unknown,
+    Unknown { nearest: Option<Term> },
+    /// An allocation was refused.
+    #[error("out of memory")]
+    Memory,
     /// The writer failed.
     #[error("write failed")]
     Write,
 }
 
-/// The reason or the cause that has this word, in any case of its letters; none where none has.
+/// The term that has this word, in any case of its letters; none where none has.
 pub fn term_of(word: &str) -> Option<Term>
     ensures named { IfSome result (IsWordOf word.now) }
     ensures none { result ≡ None → (t : Term) → ¬ IsWordOf word.now t }
@@ -268,22 +290,39 @@ fn term_among(terms: &[Term], word: &str) -> Option<Term>
 
 /// Writes what a word means, and what usually mends what it names.
 ///
-/// `Unknown` comes exactly where the word, in any case, is no reason's and no cause's, and then
-/// nothing was written; `Write` comes exactly where a write failed, and then a prefix was written.
-/// It takes no memory.
-pub fn explain_word<W: Write>(word: &str, to: &mut Watched<W>) -> Result<(), MeaningError>
+/// `Unknown` comes where the word, in any case, is no term's, with the term of the nearest word, if
+/// one is near; `Memory` may come in its place. `Write` comes exactly where a write failed, and then
+/// a prefix was written, and after another error nothing was.
+pub fn explain_word<W: Write>(
+    alloc: Global,
+    word: &str,
+    to: &mut Watched<W>,
+) -> Result<(), MeaningError>
     requires { to.old.failed ≡ false }
     ensures ok { OnOk result ((t : Term) × IsWordOf word.now t
         × Appends (W.contents to.old.device) (W.contents to.new.device) (meaning_of t)) }
-    ensures unknown { IsErrOf result MeaningError.Unknown
-        ↔ ((t : Term) → ¬ IsWordOf word.now t) }
-    ensures early { result ≡ Err MeaningError.Unknown → to.new ≡ to.old }
+    ensures unknown { IfErr result (λ e. e ≢ MeaningError.Write → IsUnknown word.now e) }
+    ensures early { IfErr result (λ e. e ≢ MeaningError.Write → to.new ≡ to.old) }
     ensures prefix { IsErrOf result MeaningError.Write → (t : Term) × IsWordOf word.now t
         × AppendsPrefix (W.contents to.old.device) (W.contents to.new.device) (meaning_of t) }
     ensures write { IsErrOf result MeaningError.Write ↔ (to.new.failed ≡ true) }
 {
-    let term = term_of(word).ok_or(MeaningError::Unknown)?;
-    write_out(meaning(term).as_bytes(), to).map_err(|_| MeaningError::Write)
+    match term_of(word) {
+        Some(term) => write_out(meaning(term).as_bytes(), to).map_err(|_| MeaningError::Write),
+        None => Err(unknown(alloc, word)),
+    }
+}
+
+/// The error of a word that is no term's.
+fn unknown(alloc: Global, word: &str) -> MeaningError
+    requires { (t : Term) → ¬ IsWordOf word.now t }
+    ensures error { IsUnknown word.now result }
+    ensures other { result ≢ MeaningError.Write }
+{
+    match nearest_term(alloc, &TERMS, word) {
+        Ok(nearest) => MeaningError::Unknown { nearest },
+        Err(AllocError) => MeaningError::Memory,
+    }
 }
 
 /// Writes each word with what it is in a few words, a line for each. It takes no memory.
@@ -294,7 +333,7 @@ pub fn list_words<W: Write>(to: &mut Watched<W>) -> Result<(), MeaningError>
     ensures prefix { AppendsPrefix (W.contents to.old.device) (W.contents to.new.device)
         words_list }
     ensures write { IsErrOf result MeaningError.Write ↔ (to.new.failed ≡ true) }
-    ensures known { ¬ IsErrOf result MeaningError.Unknown }
+    ensures known { IfErr result (λ e. e ≡ MeaningError.Write) }
 {
     write_lines(&TERMS, to).map_err(|_| MeaningError::Write)
 }
@@ -331,12 +370,13 @@ fn write_term<W: Write>(term: Term, to: &mut Watched<W>) -> Result<(), DeviceFau
 }
 
 /// The word of a term.
-fn term_word(term: Term) -> &'static str
+pub(crate) fn term_word(term: Term) -> &'static str
     ensures { result.now ≡ word_of_term term }
 {
     match term {
         Term::Reason(reason) => reason.word(),
         Term::Cause(cause) => cause_word(cause),
+        Term::Failure(failure) => failure_word(failure),
     }
 }
 
@@ -347,6 +387,7 @@ fn brief(term: Term) -> &'static str
     match term {
         Term::Reason(reason) => reason_brief(reason),
         Term::Cause(cause) => cause_brief(cause),
+        Term::Failure(failure) => failure_brief(failure),
     }
 }
 
@@ -419,6 +460,7 @@ fn meaning(term: Term) -> &'static str
     match term {
         Term::Reason(reason) => reason_meaning(reason),
         Term::Cause(cause) => cause_meaning(cause),
+        Term::Failure(failure) => failure_meaning(failure),
     }
 }
 

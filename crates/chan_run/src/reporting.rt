@@ -11,7 +11,7 @@ ghost use Rattle.chan_run.specs.Report.{cause_text, line_of, line_over, program_
 ghost use Rattle.chan_run.specs.Report.{status_of, text_of};
 
 use crate::image::ImageError;
-use crate::meaning::{MeaningError, cause_word};
+use crate::meaning::{MeaningError, cause_word, term_word};
 use crate::naming::named;
 use crate::running::{Action, RunError, Status};
 use crate::showing::ShowError;
@@ -89,13 +89,13 @@ pub fn ends_run(outcome: Outcome) -> bool
 }
 
 /// Whether something is written beside what an action came to: it is for the explanation of a yes,
-/// and where the text is no deck.
+/// where the text is no deck, and where too many places are reachable.
 pub fn has_advice(action: Action, outcome: Outcome) -> bool
     ensures { result ≡ has_advice action outcome }
 {
     match (action, outcome) {
         (Action::Why, Outcome::Ran(Ok(Status::Yes)))
-        | (Action::Why, Outcome::Ran(Err(RunError::Deck { .. }))) => true,
+        | (Action::Why, Outcome::Ran(Err(RunError::Deck { .. } | RunError::TooManyPlaces))) => true,
         _ => false,
     }
 }
@@ -171,7 +171,7 @@ pub fn exit_status(outcome: Outcome) -> u8
         Outcome::Imaged(Err(ImageError::TooLong | ImageError::TooManyPlaces)) => 2,
         Outcome::Imaged(Err(ImageError::NoJob { .. })) => 1,
         Outcome::Shown(Err(ShowError::NotCcw)) | Outcome::UsageFault => 4,
-        Outcome::Explained(Err(MeaningError::Unknown)) => 4,
+        Outcome::Explained(Err(MeaningError::Unknown { .. })) => 4,
         _ => 3,
     }
 }
@@ -194,7 +194,8 @@ pub(crate) fn write_line<W: Write>(
     write_refusal(outcome, to)
 }
 
-/// Writes the number and the cause of a deck's refusal, where the outcome is one.
+/// Writes what ends the line of an outcome that names something: the number and the cause of a
+/// deck's refusal, or the word that is nearest.
 fn write_refusal<W: Write>(outcome: Outcome, to: &mut Watched<W>) -> Result<(), DeviceFault>
     requires { to.old.failed ≡ false }
     ensures ok { OnOk result (Appends (W.contents to.old.device) (W.contents to.new.device)
@@ -205,6 +206,13 @@ fn write_refusal<W: Write>(outcome: Outcome, to: &mut Watched<W>) -> Result<(), 
 {
     match outcome {
         Outcome::Ran(Err(RunError::Deck { line, cause })) => write_refused(line, cause, to),
+        Outcome::Explained(
+            Err(
+                MeaningError::Unknown {
+                    nearest: Some(term),
+                },
+            ),
+        ) => write_texts(&[term_word(term), "\n"], to),
         _ => Ok(()),
     }
 }
@@ -255,7 +263,10 @@ fn text<'a>(outcome: Outcome) -> &'a str
         Outcome::Explained(Ok(())) | Outcome::HelpAsked | Outcome::UsageFault => "",
         Outcome::Imaged(Err(ImageError::NoJob { .. })) => "",
         Outcome::Shown(Err(ShowError::NotCcw)) => "not a CCW\n",
-        Outcome::Explained(Err(MeaningError::Unknown)) => "no such word\n",
+        Outcome::Explained(Err(MeaningError::Unknown { nearest: None })) => "no such word\n",
+        Outcome::Explained(Err(MeaningError::Unknown { nearest: Some(_) })) => {
+            "no such word; the nearest is "
+        }
         Outcome::Ran(Err(RunError::Read)) | Outcome::Imaged(Err(ImageError::Read)) => {
             "read failed\n"
         }
@@ -267,6 +278,7 @@ fn text<'a>(outcome: Outcome) -> &'a str
         Outcome::Shown(Err(ShowError::Memory))
         | Outcome::Ran(Err(RunError::Memory))
         | Outcome::Imaged(Err(ImageError::Memory))
+        | Outcome::Explained(Err(MeaningError::Memory))
         | Outcome::NoMemoryForCommandLine => "out of memory\n",
         Outcome::Shown(Err(ShowError::Write))
         | Outcome::Ran(Err(RunError::Write))

@@ -14,7 +14,7 @@ ghost use Rattle.chan_run.specs.Run.{IsInput, IsReadFault, IsRunAnswer, IsWritte
 ghost use Rattle.chan_run.specs.Run.{IsTextAnswer, front_of, status_of_verdict};
 ghost use Rattle.chan_run.specs.declared.running.Action.TheVariants as actions;
 
-use crate::advising::notes_on;
+use crate::advising::{limit_text, notes_on};
 use crate::input::{InputError, TEXT_LIMIT, read_input};
 use crate::naming::named;
 use crate::texts::write_texts;
@@ -253,7 +253,8 @@ fn answer_open<W: Write>(
 }
 
 /// Verifies a job, and writes what the action asks for. Behind the answer stand the notes on the
-/// job, if advice is asked for and the verdict is yes.
+/// job, if advice is asked for and the verdict is yes, or its limit where too many places are
+/// reachable.
 fn answer_job<W: Write>(
     alloc: Global,
     name: Option<&str>,
@@ -273,7 +274,12 @@ fn answer_job<W: Write>(
     let survey = match survey(alloc, job) {
         Ok(survey) => survey,
         Err(WalkError::TooManyPlaces) => {
-            return (Err(RunError::TooManyPlaces), Ok(Vec::new(alloc)));
+            let limit = if asked && action == Action::Why {
+                limit_text(alloc, job.limit)
+            } else {
+                Ok(Vec::new(alloc))
+            };
+            return (Err(RunError::TooManyPlaces), limit);
         }
         Err(WalkError::Memory) => return (Err(RunError::Memory), Ok(Vec::new(alloc))),
     };

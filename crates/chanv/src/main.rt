@@ -137,7 +137,7 @@ fn shown(rt: &HostRuntime, text: &str) -> u8 {
 
 fn explained(rt: &HostRuntime, word: &str) -> u8 {
     let mut output = Watched::new(rt.stdout());
-    let answer = explain_word(word, &mut output);
+    let answer = explain_word(rt.alloc(), word, &mut output);
     ended(rt, None, Outcome::Explained(answer), &mut output)
 }
 

@@ -92,7 +92,9 @@ static ANSWERS: &[(Option<&str>, Action, &str, Outcome, &str, &str)] = &[
         TOO_MANY,
         Outcome::Ran(Err(RunError::TooManyPlaces)),
         "",
-        "chanv: too many places\n",
+        "chanv: too many places
+the limit is 2; a deck of version 2 may raise it to 65536 by its line limit
+",
     ),
     (
         Some("a.deck"),

@@ -3,7 +3,7 @@
 use crate::devices::Narrow;
 use ccw_core::Watched;
 use chan_deck::Cause;
-use chan_run::{MeaningError, Term, explain_word, list_words, term_of};
+use chan_run::{Failure, MeaningError, Term, explain_word, list_words, term_of};
 use chan_walk::Reason;
 use std::process::Abort;
 
@@ -42,6 +42,20 @@ static CAUSES: [(&str, Cause); 11] = [
     ("limit", Cause::Limit),
 ];
 
+/// Each failure, with its word.
+static FAILURES: [(&str, Failure); 10] = [
+    ("cannot-open", Failure::CannotOpen),
+    ("read-failed", Failure::ReadFailed),
+    ("deck-too-long", Failure::DeckTooLong),
+    ("image-too-long", Failure::ImageTooLong),
+    ("too-many-places", Failure::TooManyPlaces),
+    ("no-job-will-do", Failure::NoJobWillDo),
+    ("write-failed", Failure::WriteFailed),
+    ("out-of-memory", Failure::OutOfMemory),
+    ("not-a-ccw", Failure::NotCcw),
+    ("no-such-word", Failure::NoSuchWord),
+];
+
 /// A word, and the whole text of its meaning.
 static MEANINGS: [(&str, &str); 2] = [
     (
@@ -60,8 +74,22 @@ Write the lower number first. Both are decimal.
     ),
 ];
 
-/// Texts that are no term's word.
-static UNKNOWN: [&str; 4] = ["", "misalign", "misaligned ", "limit\n"];
+/// Texts that are no term's word, with the term whose word is the nearest, if one is near.
+static UNKNOWN: [(&str, Option<Term>); 10] = [
+    ("", None),
+    ("deck", None),
+    ("masks", Some(Term::Cause(Cause::Mask))),
+    ("mxxk", None),
+    ("misalign", Some(Term::Reason(Reason::Misaligned))),
+    ("MISALIGNED ", Some(Term::Reason(Reason::Misaligned))),
+    ("changes-cw", Some(Term::Reason(Reason::ChangesCcw))),
+    (
+        "too many places",
+        Some(Term::Failure(Failure::TooManyPlaces)),
+    ),
+    ("limits\n", None),
+    ("limit\n", Some(Term::Cause(Cause::Limit))),
+];
 
 /// Words in which the case differs, with their terms.
 static CASES: [(&str, Term); 3] = [
@@ -77,6 +105,9 @@ fn each_word_has_its_term(rt: HostRuntime) {
     }
     for (word, cause) in &CAUSES {
         assert_eq!(rt; term_of(word), Some(Term::Cause(*cause)));
+    }
+    for (word, failure) in &FAILURES {
+        assert_eq!(rt; term_of(word), Some(Term::Failure(*failure)));
     }
 }
 
@@ -128,17 +159,20 @@ fn the_list_ends_where_a_write_fails(rt: HostRuntime) {
 fn whole_texts(rt: HostRuntime) {
     for (word, text) in &MEANINGS {
         let mut to = Watched::new(Vec::new(rt.alloc()));
-        assert_eq!(rt; explain_word(word, &mut to), Ok(()));
+        assert_eq!(rt; explain_word(rt.alloc(), word, &mut to), Ok(()));
         assert_eq!(rt; to.into_inner().as_slice(), text.as_bytes());
     }
 }
 
 #[test]
 fn unknown_words_write_nothing(rt: HostRuntime) {
-    for word in &UNKNOWN {
+    for (word, nearest) in &UNKNOWN {
         assert_eq!(rt; term_of(word), None);
         let mut to = Watched::new(Vec::new(rt.alloc()));
-        assert_eq!(rt; explain_word(word, &mut to), Err(MeaningError::Unknown));
+        assert_eq!(rt;
+            explain_word(rt.alloc(), word, &mut to),
+            Err(MeaningError::Unknown { nearest: *nearest })
+        );
         assert!(rt; to.into_inner().is_empty());
     }
 }
@@ -149,6 +183,9 @@ fn a_write_fails_after_a_byte(rt: HostRuntime) {
         room: 1,
         taken: Vec::new(rt.alloc()),
     });
-    assert_eq!(rt; explain_word("put-zero", &mut to), Err(MeaningError::Write));
+    assert_eq!(rt;
+        explain_word(rt.alloc(), "put-zero", &mut to),
+        Err(MeaningError::Write)
+    );
     assert_eq!(rt; to.into_inner().taken.as_slice(), b"T".as_slice());
 }

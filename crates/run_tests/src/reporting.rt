@@ -4,8 +4,8 @@ use crate::devices::Narrow;
 use ccw_core::Watched;
 use chan_deck::Cause;
 use chan_run::{
-    Action, ImageError, MeaningError, Outcome, RunError, ShowError, Status, ends_run, exit_status,
-    greater_status, has_advice, report, report_named,
+    Action, ImageError, MeaningError, Outcome, RunError, ShowError, Status, Term, ends_run,
+    exit_status, greater_status, has_advice, report, report_named,
 };
 use std::alloc::Global;
 use std::process::Abort;
@@ -130,9 +130,21 @@ fn reports_of_words(rt: HostRuntime) {
     let outcomes = [
         (Outcome::Explained(Ok(())), 0, ""),
         (
-            Outcome::Explained(Err(MeaningError::Unknown)),
+            Outcome::Explained(Err(MeaningError::Unknown { nearest: None })),
             4,
             "chanv: no such word\n",
+        ),
+        (
+            Outcome::Explained(Err(MeaningError::Unknown {
+                nearest: Some(Term::Cause(Cause::Mask)),
+            })),
+            4,
+            "chanv: no such word; the nearest is mask\n",
+        ),
+        (
+            Outcome::Explained(Err(MeaningError::Memory)),
+            3,
+            "chanv: out of memory\n",
         ),
         (
             Outcome::Explained(Err(MeaningError::Write)),
@@ -224,7 +236,7 @@ fn reports_over_an_input(rt: HostRuntime) {
             "chanv: write failed\n",
         ),
         (
-            Outcome::Explained(Err(MeaningError::Unknown)),
+            Outcome::Explained(Err(MeaningError::Unknown { nearest: None })),
             4,
             "chanv: no such word\n",
         ),
@@ -255,7 +267,7 @@ fn outcomes_with_advice(rt: HostRuntime) {
         (Outcome::Ran(Ok(Status::Yes)), true),
         (refused(7, Cause::Form), true),
         (Outcome::Ran(Ok(Status::No)), false),
-        (Outcome::Ran(Err(RunError::TooManyPlaces)), false),
+        (Outcome::Ran(Err(RunError::TooManyPlaces)), true),
         (Outcome::Ran(Err(RunError::Write)), false),
         (Outcome::FlushFailed, false),
         (Outcome::CannotOpen, false),
