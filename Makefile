@@ -4,7 +4,7 @@
 # where users expect it, and builds nothing; `make uninstall` takes it away.
 
 PREFIX ?= /usr/local
-VERSION = 0.2.0
+VERSION = 0.3.0
 
 # How many processors a proof may use; each takes up to 1.5 GB of memory.
 JOBS ?= $(shell nproc)

@@ -168,8 +168,8 @@ def over_nothing():
         (["explain", "nothing"], Ran(4, "", "chanv: no such word\n")),
         (["explain", "masks"], Ran(4, "", "chanv: no such word; the nearest is mask\n")),
         (["judge"], Ran(4, "", f"{fault}For more information, try '--help'.\n")),
-        (["--version"], Ran(0, "chanv 0.2.0\n")),
-        (["-V"], Ran(0, "chanv 0.2.0\n")),
+        (["--version"], Ran(0, "chanv 0.3.0\n")),
+        (["-V"], Ran(0, "chanv 0.3.0\n")),
         *[(words, Ran(0, text)) for words, text in helps()],
     ]:
         for given in ("yes", "closed"):

@@ -8,7 +8,7 @@ from running import Ran, run, run_in_bash, text_of
 
 PAGE = ROOT / "docs/chanv.1"
 COMPLETIONS = ROOT / "docs/chanv.bash"
-VERSION = "chanv 0.2.0\n"
+VERSION = "chanv 0.3.0\n"
 COMMANDS = ["show", "verify", "list", "why", "graph", "needs", "deck", "explain"]
 
 # completes the last of the words that stand behind the file's name

@@ -292,7 +292,7 @@ fn program<'a>(alloc: Global) -> Result<Command<'a>, AllocError>
     Ok(
         Command::new(alloc, "chanv")
             .about("verifies channel programs")
-            .version("0.2.0")
+            .version("0.3.0")
             .override_usage(USAGE),
     )
 }

@@ -34,9 +34,9 @@ extern "C" {
 #endif
 
 /* The version of this header, as text and number by number; `chanv_version` tells the library's. */
-#define CHANV_VERSION "0.2.0"
+#define CHANV_VERSION "0.3.0"
 #define CHANV_VERSION_MAJOR 0
-#define CHANV_VERSION_MINOR 2
+#define CHANV_VERSION_MINOR 3
 #define CHANV_VERSION_PATCH 0
 
 /* An area of storage. It may be empty, and it may reach past storage. */
