@@ -130,7 +130,7 @@ static ANSWERS: &[(Option<&str>, Action, &str, Outcome, &str, &str)] = &[
             cause: Cause::Ended,
         })),
         "",
-        "chanv: a.deck: deck line 1: ended\nfound \nexpected chanv deck 1, chanv deck 2\n",
+        "chanv: a.deck: deck line 1: ended\nfound the end of the text\nexpected chanv deck 1, chanv deck 2\n",
     ),
     (
         None,
