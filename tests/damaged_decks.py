@@ -3,8 +3,8 @@
 Each front of the deck's 205 bytes is refused as `ended`, at the line that is one more than its
 number of line feeds. Each byte replaced by `~` is refused at the line that held it: the first
 thirteen by `header`, the last, without which the last line has no end, by `ended`, and each other
-by `form`. `why` shows the line as it stands, but a blank at its end as `\\x20` and no line by words, and says
-in a line what was expected.
+by `form`. `why` shows the line as it stands, but a blank at its end as two digits and no line by
+words, and says in a line what was expected.
 """
 
 import re
