@@ -3,7 +3,8 @@
 Each front of the deck's 205 bytes is refused as `ended`, at the line that is one more than its
 number of line feeds. Each byte replaced by `~` is refused at the line that held it: the first
 thirteen by `header`, the last, without which the last line has no end, by `ended`, and each other
-by `form`. `why` shows the line as it stands, and says in a line what was expected.
+by `form`. `why` shows the line as it stands, but a blank at its end as two digits and no line by
+words, and says in a line what was expected.
 """
 
 import re
@@ -23,6 +24,13 @@ def damaged(deck):
         yield f"byte {at} replaced", text, deck[:at].count(b"\n") + 1, cause
 
 
+def shown(piece):
+    """What `why` shows of a piece of the deck's text."""
+    if not piece:
+        return "the end of the text"
+    return piece[:-1] + "\\x20" if piece.endswith(" ") else piece
+
+
 def check(checks, built):
     program = built.chanv()
     decks = list(damaged(SEARCH_LOOP.read_bytes()))
@@ -30,7 +38,7 @@ def check(checks, built):
         for name, deck, line, cause in decks:
             complaint = re.escape(f"chanv: deck line {line}: {cause}\n")
             if action == "why":
-                found = (deck.decode().split("\n") + [""])[line - 1]
+                found = shown((deck.decode().split("\n") + [""])[line - 1])
                 complaint += re.escape(f"found {found}\n") + r"expected [^\n]+\n"
             ran = run(program, action, given=deck)
             is_refused = ran.status == 2 and ran.output == "" and re.fullmatch(complaint, ran.error)

@@ -31,7 +31,11 @@ LIMIT = "the limit is 2; a deck of version 2 may raise it to 65536 by its line l
 # closed, and there is no `nowhere`.
 REFUSED = {
     "damaged": (2, "deck line 3: form\n", "found mask\nexpected mask XX, where X is 0-9 or A-F\n"),
-    "empty": (2, "deck line 1: ended\n", "found \nexpected chanv deck 1, chanv deck 2\n"),
+    "empty": (
+        2,
+        "deck line 1: ended\n",
+        "found the end of the text\nexpected chanv deck 1, chanv deck 2\n",
+    ),
     "many": (2, "too many places\n", LIMIT),
     "long": (2, "deck too long\n", ""),
     "folder": (3, "read failed\n", ""),

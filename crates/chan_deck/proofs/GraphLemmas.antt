@@ -11,9 +11,10 @@ use Rattle.chan_walk.specs.Look.{Seen}
 use Rattle.chan_walk.specs.declared.offence.Offence.{Offence}
 use Rattle.chan_walk.specs.declared.place.Place.{Place}
 use Rattle.chan_walk.specs.declared.successor.Next.{Next}
-use Rattle.chan_deck.specs.Graph.{AreCounted, AreFolds, AreMarks, address_of, below, edge_line, edges, edges_from, ending, graph, heading, is_beside, is_once, is_some_once, kept_of, last_of, leads_only, mark_in, mark_line, mark_with, may_join, may_join_in, next_style, node_name, nodes, once_in, parts, stand_together, targets, text_in, together_in, words_at}
+use Rattle.chan_deck.specs.Folds.{AreCounted, AreFolds, AreMarks, address_of, below, is_beside, is_once, is_some_once, kept_of, leads_only, may_join, may_join_in, once_in, parts, stand_together, targets, text_in, together_in, words_at}
+use Rattle.chan_deck.specs.Graph.{edge_line, edges, edges_from, ending, graph, heading, last_of, mark_in, mark_line, mark_with, next_style, node_name, nodes}
 use Rattle.chan_deck.specs.Runs.{runs}
-use Rattle.chan_deck.specs.declared.graph.Folds.{Folds}
+use Rattle.chan_deck.specs.declared.folds.Folds.{Folds}
 use Rattle.chan_deck.proofs.RunLemmas.{same_runs}
 
 six_parts : (a b c d e f : List ℕ) → a ++ (b ++ (c ++ (d ++ (e ++ f))))

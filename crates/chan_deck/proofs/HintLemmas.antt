@@ -1,15 +1,16 @@
 -- What a hint says of a line: the forms behind the line before it, and the bytes that are shown.
-use Rattle.std.proofs.Common.{◌≡◌, ℕ, ◌+◌, ◌-◌, ◌<◌, ◌≤◌, Bool, false, List, [], ◌∷◌, ◌++◌, length, take, drop, map, Option, Some, None, Bor, refl, sym, ap, subst, ◌∙◌, arith, append_assoc, length-append, take_all, suc, slice_index, Result, Ok, Err, IfOk, inl, inr}
+use Rattle.std.proofs.Common.{is_some, length-drop, not, zero, ◌≡◌, ℕ, ◌+◌, ◌-◌, ◌<◌, ◌≤◌, Bool, false, List, [], ◌∷◌, ◌++◌, length, take, drop, map, Option, Some, None, Bor, refl, sym, ap, subst, ◌∙◌, arith, append_assoc, length-append, take_all, suc, slice_index, Result, Ok, Err, IfOk, inl, inr}
 use Rattle.std.specs.Prelude.{position, ◌==◌}
-use Rattle.std.specs.List.{AllByRecursion, position_or_len}
+use Rattle.std.specs.List.{AllByRecursion, list_any, position_or_len}
 use Rattle.std.proofs.lemmas.Bool.Decides.{nat_tests}
 use Rattle.std.proofs.lemmas.Bool.{cases_Bool, le-leb, lt-leb}
-use Rattle.std.proofs.lemmas.List.{append-nil, append_cancel_left, drop_all, take-append-drop}
+use Rattle.std.proofs.lemmas.List.{append-nil, append_cancel_left, drop_all, take-append-drop, take-append-le}
 use Rattle.std.proofs.Math.Seq.{drop-cons}
 use Rattle.ckd_core.specs.declared.device.Device.TheVariants.{D2311}
-use Rattle.chan_deck.specs.Hint.{AreBehind, IsLastOf, IsSaidBy, all_forms, begun_as, example_of, first_word, forms_behind, put_address, shown, shown_byte}
+use Rattle.chan_deck.specs.Hint.{AreBehind, IsBehind, IsLastOf, IsSaidBy, all_forms, begun_as, example_of, first_word, form_text, forms_behind, forms_text, is_in_text, is_no_text, order_text, place_of_form, put_address, shown, shown_byte}
 use Rattle.chan_deck.specs.Item.{Item, header, device, mask, start, limit, extent, fetch, store, storage, put, end, line, HasForm, Says}
-use Rattle.chan_deck.specs.Refused.{AreSaid, found_behind, found_in, is_second, last_of, lines, part, split, whole_line}
+use Rattle.chan_deck.specs.Refused.{AreSaid, found_behind, found_in, is_second, last_of, lines, part, size_said, split, whole_line}
+use Rattle.chan_deck.specs.declared.hint.Spot.{Spot}
 use Rattle.chan_deck.specs.declared.keyword.Form.{Form}
 use Rattle.chan_deck.specs.declared.keyword.Form.TheVariants as forms
 use Rattle.chan_deck.specs.declared.version.VersionNumber.{VersionNumber}
@@ -170,42 +171,53 @@ said_behind t n last rest before h said =
 -- ---- bytes
 
 -- a byte that has room is shown, and what follows it in the room that is left
-pub shown_more : (room b : ℕ) (l : List ℕ) → length (shown_byte b) ≤ room
-    → shown room (b ∷ l) ≡ shown_byte b ++ shown (room - length (shown_byte b)) l
+pub shown_more : (room b : ℕ) (l : List ℕ) → length (shown_byte b (length l)) ≤ room
+    → shown room (b ∷ l)
+    ≡ shown_byte b (length l) ++ shown (room - length (shown_byte b (length l))) l
 unfolding shown
-shown_more room b l h = rw (le-leb (length (shown_byte b)) room h) refl
+shown_more room b l h = rw (le-leb (length (shown_byte b (length l))) room h) refl
 
 -- and one that has none ends what is shown
-pub shown_no_more : (room b : ℕ) (l : List ℕ) → room < length (shown_byte b) → shown room (b ∷ l) ≡ []
+pub shown_no_more : (room b : ℕ) (l : List ℕ) → room < length (shown_byte b (length l)) → shown room (b ∷ l) ≡ []
 unfolding shown
-shown_no_more room b l h = rw (lt-leb (length (shown_byte b)) room h) refl
+shown_no_more room b l h = rw (lt-leb (length (shown_byte b (length l))) room h) refl
+
+-- the byte at an index, with what is behind it
+byte_at : (l : List ℕ) (at : ℕ) → at < length l
+    → (drop at l ≡ slice_index l at ∷ drop (at + 1) l) × (length l - at - 1 ≡ length (drop (at + 1) l))
+byte_at l at here =
+    let one : suc at ≡ at + 1 = omega arith in
+    let cons : drop at l ≡ slice_index l at ∷ drop (at + 1) l = drop-cons l at 0 here ∙ ap (λ k. slice_index l at ∷ drop k l) one in
+    let more : length l - at - 1 ≡ length (drop (at + 1) l) = omega (arith, length-drop (at + 1) l) in
+    (cons, more)
 
 pub shown_step : (l out old text new : List ℕ) (at left room width : ℕ) → at < length l
-    → text ≡ shown_byte (slice_index l at) → width ≡ length text → width ≤ left → new ≡ out ++ text
+    → text ≡ shown_byte (slice_index l at) (length l - at - 1) → width ≡ length text → width ≤ left → new ≡ out ++ text
     → out ++ shown left (drop at l) ≡ old ++ shown room l
     → new ++ shown (left - width) (drop (at + 1) l) ≡ old ++ shown room l
 shown_step l out old text new at left room width here e wide fits is told =
     let b = slice_index l at in
-    let byte : length (shown_byte b) ≡ width = ap (λ t. length t) (sym e) ∙ sym wide in
-    let one : suc at ≡ at + 1 = omega arith in
-    let cons : drop at l ≡ b ∷ drop (at + 1) l = drop-cons l at 0 here ∙ ap (λ k. b ∷ drop k l) one in
-    let front : shown left (drop at l) ≡ text ++ shown (left - width) (drop (at + 1) l) =
-    ap (λ x. shown left x) cons ∙ shown_more left b (drop (at + 1) l) (omega (arith, byte))
-    ∙ ap (λ n. shown_byte b ++ shown (left - n) (drop (at + 1) l)) byte
-    ∙ ap (λ t. t ++ shown (left - width) (drop (at + 1) l)) (sym e) in
-    ap (λ t. t ++ shown (left - width) (drop (at + 1) l)) is
-    ∙ append_assoc out text (shown (left - width) (drop (at + 1) l))
+    let rest = drop (at + 1) l in
+    let parts = byte_at l at here in
+    let same : text ≡ shown_byte b (length rest) = e ∙ ap (shown_byte b) parts.1 in
+    let byte : length (shown_byte b (length rest)) ≡ width = ap (λ t. length t) (sym same) ∙ sym wide in
+    let front : shown left (drop at l) ≡ text ++ shown (left - width) rest =
+    ap (λ x. shown left x) parts.0 ∙ shown_more left b rest (omega (arith, byte))
+    ∙ ap (λ n. shown_byte b (length rest) ++ shown (left - n) rest) byte
+    ∙ ap (λ t. t ++ shown (left - width) rest) (sym same) in
+    ap (λ t. t ++ shown (left - width) rest) is
+    ∙ append_assoc out text (shown (left - width) rest)
     ∙ ap (λ t. out ++ t) (sym front) ∙ told
 
 pub shown_stops : (l out old text : List ℕ) (at left room : ℕ) → at < length l
-    → text ≡ shown_byte (slice_index l at) → left < length text
+    → text ≡ shown_byte (slice_index l at) (length l - at - 1) → left < length text
     → out ++ shown left (drop at l) ≡ old ++ shown room l → out ≡ old ++ shown room l
 shown_stops l out old text at left room here e full told =
     let b = slice_index l at in
-    let byte : left < length (shown_byte b) = subst (λ t. left < length t) e full in
-    let one : suc at ≡ at + 1 = omega arith in
-    let cons : drop at l ≡ b ∷ drop (at + 1) l = drop-cons l at 0 here ∙ ap (λ k. b ∷ drop k l) one in
-    let none : shown left (drop at l) ≡ [] = ap (λ x. shown left x) cons ∙ shown_no_more left b (drop (at + 1) l) byte in
+    let rest = drop (at + 1) l in
+    let parts = byte_at l at here in
+    let byte : left < length (shown_byte b (length rest)) = subst (λ t. left < length t) (e ∙ ap (shown_byte b) parts.1) full in
+    let none : shown left (drop at l) ≡ [] = ap (λ x. shown left x) parts.0 ∙ shown_no_more left b rest byte in
     sym (append-nil out) ∙ ap (λ t. out ++ t) (sym none) ∙ told
 
 pub shown_all : (l out old : List ℕ) (at left room : ℕ) → length l ≤ at
@@ -218,3 +230,125 @@ pub if_ok : {A E : Type 0} {P Q : A → Type 0} (r : Result A E) → ((x : A) �
     → IfOk r Q
 if_ok (Ok x) f h = f x h
 if_ok (Err e) f h = tt
+
+-- ---- the size of storage
+
+-- a line that says no number of bytes of storage
+abbrev pub SaysNoSize : List ℕ → Type 0
+SaysNoSize l = (n : ℕ) → Says l (storage n) → ⊥
+
+size_more : (i : Item) (is : List Item) → HasForm i → SaysNoSize (line i)
+    → size_said (i ∷ is) ≡ size_said is
+size_more (storage n) is form none = absurd (none n (form, refl))
+size_more _ is form none = refl
+
+pub size_none : (ls : List (List ℕ)) (n : ℕ) (before : List Item) → AllByRecursion SaysNoSize ls
+    → AllByRecursion HasForm before → map line before ≡ take n ls → size_said before ≡ 0
+size_none ls n [] none forms e = refl
+size_none [] zero (i ∷ is) none forms e = absurd cc
+size_none [] (suc n) (i ∷ is) none forms e = absurd cc
+size_none (l ∷ ls) zero (i ∷ is) none forms e = absurd cc
+size_none (l ∷ ls) (suc n) (i ∷ is) none forms e =
+    size_more i is forms.0 (subst (λ x. SaysNoSize x) (sym (head_is e)) none.0)
+    ∙ size_none ls n is none.1 forms.1 (tail_is e)
+
+pub size_found : (ls : List (List ℕ)) (l : List ℕ) (more : List (List ℕ)) (n size : ℕ) (before : List Item)
+    → AllByRecursion SaysNoSize ls → AllByRecursion HasForm before
+    → map line before ≡ take n (ls ++ l ∷ more) → length ls < n → Says l (storage size)
+    → size ≡ size_said before
+size_found ls l more zero size before none forms e lt says = absurd (omega arith)
+size_found [] l more (suc n) size [] none forms e lt says = absurd cc
+size_found [] l more (suc n) size (i ∷ is) none forms e lt says =
+    ap (λ x. size_said (x ∷ is)) (says_one l (storage size) i says (forms.0, sym (head_is e)))
+size_found (k ∷ ls) l more (suc n) size [] none forms e lt says = absurd cc
+size_found (k ∷ ls) l more (suc n) size (i ∷ is) none forms e lt says =
+    size_found ls l more n size is none.1 forms.1 (tail_is e) (omega arith) says
+    ∙ sym (size_more i is forms.0 (subst (λ x. SaysNoSize x) (sym (head_is e)) none.0))
+
+-- n lines of a text were taken, none of which says one, and the rest is left
+pub record AreSizeless (t : List ℕ) (n : ℕ) (rest : List ℕ) : Type 0 where
+  pub done : List (List ℕ)
+  pub count : length done ≡ n
+  pub parts : split t ≡ (done ++ (split rest).0, (split rest).1)
+  pub none : AllByRecursion SaysNoSize done
+
+none_more : (ls : List (List ℕ)) (l : List ℕ) → AllByRecursion SaysNoSize ls → SaysNoSize l
+    → AllByRecursion SaysNoSize (ls ++ l ∷ [])
+none_more [] l none here = (here, tt)
+none_more (k ∷ ls) l none here = (none.0, none_more ls l none.1 here)
+
+pub sizeless_more : (t : List ℕ) (n : ℕ) (rest l after : List ℕ) → AreSizeless t n rest
+    → split rest ≡ (l ∷ (split after).0, (split after).1) → SaysNoSize l → AreSizeless t (n + 1) after
+sizeless_more t n rest l after h e here = record {
+  done = h.done ++ l ∷ [];
+  count = omega (arith, h.count, length-append h.done (l ∷ []));
+  parts =
+      h.parts ∙ ap (λ (p : List (List ℕ) × List ℕ). (h.done ++ p.0, p.1)) e
+      ∙ ap (λ x. (x, (split after).1)) (sym (append_assoc h.done (l ∷ []) (split after).0));
+  none = none_more h.done l h.none here;
+}
+
+pub sizeless_found : (t : List ℕ) (n count size : ℕ) (rest l after : List ℕ) (before : List Item) → AreSizeless t n rest
+    → split rest ≡ (l ∷ (split after).0, (split after).1) → Says l (storage size) → n < count
+    → AreSaid count t before → size ≡ size_said before
+sizeless_found t n count size rest l after before h e says lt said =
+    let all : lines t ≡ h.done ++ l ∷ (split after).0 =
+    ap (λ (p : List (List ℕ) × List ℕ). p.0) h.parts ∙ ap (λ (p : List (List ℕ) × List ℕ). h.done ++ p.0) e in
+    size_found h.done l (split after).0 count size before h.none said.0 (said.1 ∙ ap (λ ls. take count ls) all) (omega (arith, h.count)) says
+
+pub sizeless_ended : (t : List ℕ) (n count : ℕ) (rest : List ℕ) (before : List Item) → AreSizeless t n rest
+    → split rest ≡ ([], rest) → AreSaid count t before → 0 ≡ size_said before
+sizeless_ended t n count rest before h e said =
+    let all : lines t ≡ h.done =
+    ap (λ (p : List (List ℕ) × List ℕ). p.0) h.parts ∙ ap (λ (p : List (List ℕ) × List ℕ). h.done ++ p.0) e ∙ append-nil h.done in
+    sym (size_none h.done count before h.none said.0 (said.1 ∙ ap (λ ls. take count ls) all))
+
+pub sizeless_all : (t : List ℕ) (n count : ℕ) (rest : List ℕ) (before : List Item) → AreSizeless t n rest
+    → count ≡ n → AreSaid count t before → 0 ≡ size_said before
+sizeless_all t n count rest before h same said =
+    let all : take count (lines t) ≡ take count h.done =
+    ap (λ (p : List (List ℕ) × List ℕ). take count p.0) h.parts ∙ take-append-le count h.done (split rest).0 (omega (arith, h.count)) in
+    sym (size_none h.done count before h.none said.0 (said.1 ∙ all))
+
+-- ---- the order of forms
+
+-- a form stands in no header's place before it
+no_earlier : (second other : Bool) (f : Form) → place_of_form second forms.Header [] f ≡ place_of_form other forms.Header [] f
+no_earlier second other forms.Header = refl
+no_earlier second other forms.Device = refl
+no_earlier second other forms.Mask = refl
+no_earlier second other forms.Start = refl
+no_earlier second other forms.Limit = refl
+no_earlier second other forms.Extent = refl
+no_earlier second other forms.Fetch = refl
+no_earlier second other forms.Store = refl
+no_earlier second other forms.Storage = refl
+no_earlier second other forms.Put = refl
+no_earlier second other forms.End = refl
+
+order_at_start : (second other : Bool) (o : Option Form)
+    → order_text second (forms.Header ∷ []) o ≡ order_text other (forms.Header ∷ []) o
+order_at_start second other None = refl
+order_at_start second other (Some f) = no_earlier second other f
+
+-- the text behind some lines is that of the spot
+pub forms_told : (before : List Item) (spot : Spot) → IsBehind before spot
+    → form_text (forms_behind spot.is_second (last_of before)) spot.found.now
+    ++ order_text spot.is_second (forms_behind spot.is_second (last_of before)) (begun_as all_forms spot.found.now)
+    ≡ forms_text before spot.found.now
+forms_told [] spot h =
+    ap (λ t. form_text (forms.Header ∷ []) spot.found.now ++ t)
+    (order_at_start spot.is_second false (begun_as all_forms spot.found.now))
+forms_told (i ∷ is) spot h =
+    ap (λ b. form_text (forms_behind b (last_of (i ∷ is))) spot.found.now
+    ++ order_text b (forms_behind b (last_of (i ∷ is))) (begun_as all_forms spot.found.now))
+    (h.second (λ e. cc))
+
+-- ---- the start of a text
+
+pub read_at_start : (l : Bor (List ℕ)) (o : Option (Bor (List ℕ))) (last : Option Item) (b : Bool)
+    → is_some o ≡ false → b ≡ list_any (λ c. not (is_in_text c)) (take 60 l.now) → IsSaidBy o last
+    → b ≡ is_no_text last l.now
+read_at_start l None None b none e said = e
+read_at_start l None (Some i) b none e said = absurd said
+read_at_start l (Some k) last b none e said = absurd cc

@@ -12,6 +12,7 @@ pub mod Pieces
 pub mod Listing
 pub mod Explanation
 pub mod Runs
+pub mod Folds
 pub mod Graph
 pub mod Hint
 pub mod Notes

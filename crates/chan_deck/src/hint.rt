@@ -1,22 +1,23 @@
 //! What is said of the line at which a text is refused.
 
 ghost use Rattle.std.specs.Prelude.{◌≡◌, ◌++◌, ◌∷◌, ℕ, List, IfOk, OnOk, string_bytes};
-ghost use Rattle.std.specs.Prelude.{Option as Maybe, Some, codes};
-ghost use Rattle.std.specs.List.{flat_map};
+ghost use Rattle.std.specs.Prelude.{Option as Maybe, Some, codes, not, take};
+ghost use Rattle.std.specs.List.{flat_map, list_any};
 ghost use Rattle.chan_deck.specs.Digits.{AreValues};
 ghost use Rattle.chan_deck.specs.Hint as hint;
-ghost use Rattle.chan_deck.specs.Hint.{AreBehind, IsBehind, IsExpected, IsHint, IsSaidBy, IsSpot};
+ghost use Rattle.chan_deck.specs.Hint.{AreBehind, IsBehind, IsExpected, IsExpectedText, IsHint};
+ghost use Rattle.chan_deck.specs.Hint.{IsSaidBy, IsSpot};
 ghost use Rattle.chan_deck.specs.Hint.{condition_of, forms_text, found_as, keyword_of, shown_byte};
 ghost use Rattle.chan_deck.specs.Item.{Item, Says, put};
 ghost use Rattle.chan_deck.specs.declared.cause.Cause.TheVariants as causes;
-ghost use Rattle.chan_deck.specs.Refused.{AreSaid, is_second as second};
+ghost use Rattle.chan_deck.specs.Refused.{AreSaid, is_second as second, size_said};
 
 use crate::cause::Cause;
 use crate::digits::{DigitValues, digit_values};
-use crate::forms::{header_of, put_of};
-use crate::keyword::{Form, begun_as, forms_behind};
+use crate::forms::{header_of, put_of, storage_of};
+use crate::keyword::{Form, begun_as, forms_behind, push_order};
 use crate::lines::next_line;
-use crate::texts::{Address, Digits};
+use crate::texts::{Address, Digits, Size};
 use crate::version::VersionNumber;
 use std::alloc::{AllocError, Global};
 
@@ -34,6 +35,8 @@ struct Spot<'a> {
     found: &'a [u8],
     /// Whether it has a line feed behind it.
     is_whole: bool,
+    /// How many bytes of storage the lines before say.
+    size: u32,
 }
 
 /// Whether a line is the header of version 2.
@@ -58,6 +61,24 @@ fn is_second(text: &[u8]) -> bool
     }
 }
 
+/// How many bytes of storage so many whole lines say, and 0 where none of them does.
+fn size_behind(text: &[u8], count: u64) -> u32
+    ensures { (before : List Item) → AreSaid count text.now before → result ≡ size_said before }
+{
+    let values = digit_values();
+    let mut rest = text;
+    for _ in 0..count {
+        let Some((line, after)) = next_line(rest) else {
+            return 0;
+        };
+        if let Some(size) = storage_of(line, &values) {
+            return size;
+        }
+        rest = after;
+    }
+    0
+}
+
 /// The last of so many whole lines, or of all if there are fewer, and what follows it.
 fn skip_lines(text: &[u8], count: u64) -> (Option<&[u8]>, &[u8])
     ensures { AreBehind text.now count result.0 result.1.now }
@@ -79,6 +100,7 @@ fn spot_behind(text: &[u8], count: u64) -> Spot<'_>
     ensures { IsSpot text.now count result }
 {
     let is_second = is_second(text);
+    let size = size_behind(text, count);
     let (last, rest) = skip_lines(text, count);
     match next_line(rest) {
         Some((line, _)) => Spot {
@@ -86,21 +108,30 @@ fn spot_behind(text: &[u8], count: u64) -> Spot<'_>
             last,
             found: line,
             is_whole: true,
+            size,
         },
         None => Spot {
             is_second,
             last,
             found: rest,
             is_whole: false,
+            size,
         },
     }
 }
 
-/// A byte as text: printable ASCII as itself, any other as `\x` and its two digits.
-fn byte_text(alloc: Global, byte: u8) -> Result<String, AllocError>
-    ensures { IfOk result (λ t. string_bytes t ≡ shown_byte byte) }
+fn is_printable(byte: u8) -> bool
+    ensures { result ≡ hint.is_printable byte }
 {
-    if byte.is_ascii_graphic() || byte == b' ' {
+    byte.is_ascii_graphic() || byte == b' '
+}
+
+/// A byte as text, in front of so many more of its line: as itself where it can be seen, else as
+/// `\x` and its two digits. A blank at the end can't.
+fn byte_text(alloc: Global, byte: u8, more: usize) -> Result<String, AllocError>
+    ensures { IfOk result (λ t. string_bytes t ≡ shown_byte byte more) }
+{
+    if is_printable(byte) && !(byte == b' ' && more == 0) {
         let shown = char::from(byte);
         return format!(in alloc; "{shown}");
     }
@@ -114,7 +145,7 @@ fn push_shown(alloc: Global, out: &mut Vec<u8>, line: &[u8], room: usize) -> Res
 {
     let mut left = room;
     for at in 0..line.len() {
-        let shown = byte_text(alloc, line[at])?;
+        let shown = byte_text(alloc, line[at], line.len() - at - 1)?;
         let width = shown.len();
         if width > left {
             return Ok(());
@@ -208,13 +239,19 @@ fn above_text(alloc: Global, above: Option<u32>) -> Result<String, AllocError>
     }
 }
 
-/// The condition that the address of a put doesn't meet, behind a put with an address or behind
-/// none.
-fn place_text(alloc: Global, above: Option<u32>, address: u32) -> Result<String, AllocError>
-    ensures { IfOk result (λ t. string_bytes t ≡ hint.place_text above address) }
+/// The condition that the address of a put doesn't meet in storage of so many bytes, behind a put
+/// with an address or behind none.
+fn place_text(
+    alloc: Global,
+    size: u32,
+    above: Option<u32>,
+    address: u32,
+) -> Result<String, AllocError>
+    ensures { IfOk result (λ t. string_bytes t ≡ hint.place_text size above address) }
 {
     if address % 8 == 0 && is_past(above, address) {
-        return String::from_str(alloc, "an address at which storage has eight bytes");
+        let size = Size(size);
+        return format!(in alloc; "an address at which storage of {size} bytes has eight bytes");
     }
     above_text(alloc, above)
 }
@@ -223,12 +260,12 @@ fn place_text(alloc: Global, above: Option<u32>, address: u32) -> Result<String,
 fn expected_place(alloc: Global, spot: &Spot<'_>) -> Result<String, AllocError>
     ensures { IfOk result (λ t. (i : Maybe Item) (a : ℕ) (word : List ℕ) → IsSaidBy spot.now.last i
         → Says spot.now.found.now (put a word)
-        → string_bytes t ≡ hint.place_text (hint.put_address i) a) }
+        → string_bytes t ≡ hint.place_text spot.now.size (hint.put_address i) a) }
 {
     let values = digit_values();
     let above = last_put(spot.last, &values);
     let address = put_address(spot.found, &values).unwrap_or(0);
-    place_text(alloc, above, address)
+    place_text(alloc, spot.size, above, address)
 }
 
 /// The condition that a line refused for a cause doesn't meet, whatever it says.
@@ -252,13 +289,16 @@ fn expected_forms(alloc: Global, spot: &Spot<'_>) -> Result<String, AllocError>
     ensures { IfOk result (λ t. (before : List Item) → IsBehind before spot.now
         → string_bytes t ≡ forms_text before spot.now.found.now) }
 {
-    form_text(alloc, forms_behind(spot.last, spot.is_second), spot.found)
+    let forms = forms_behind(spot.last, spot.is_second);
+    let mut text = form_text(alloc, forms, spot.found)?;
+    push_order(&mut text, spot.is_second, forms, spot.found)?;
+    Ok(text)
 }
 
 /// What is expected where a text ends.
 fn expected_at_end(alloc: Global, spot: &Spot<'_>) -> Result<String, AllocError>
     ensures { IfOk result (λ t. (before : List Item) → IsBehind before spot.now
-        → IsExpected before (found_as spot.now.is_whole spot.now.found.now) causes.Ended
+        → IsExpectedText before (found_as spot.now.is_whole spot.now.found.now) causes.Ended
         (string_bytes t)) }
 {
     if spot.is_whole || spot.found.is_empty() {
@@ -267,10 +307,10 @@ fn expected_at_end(alloc: Global, spot: &Spot<'_>) -> Result<String, AllocError>
     String::from_str(alloc, "a line feed behind this line")
 }
 
-/// What is expected in place of what is found.
+/// What is expected in place of what is found in a text.
 fn expected_text(alloc: Global, spot: &Spot<'_>, cause: Cause) -> Result<String, AllocError>
     ensures { IfOk result (λ t. (before : List Item) → IsBehind before spot.now
-        → IsExpected before (found_as spot.now.is_whole spot.now.found.now) cause
+        → IsExpectedText before (found_as spot.now.is_whole spot.now.found.now) cause
         (string_bytes t)) }
 {
     match cause {
@@ -281,17 +321,84 @@ fn expected_text(alloc: Global, spot: &Spot<'_>, cause: Cause) -> Result<String,
     }
 }
 
-/// Adds a line of what stands in a line, and one of what is expected.
+/// Whether a byte may stand in a text.
+fn is_in_text(byte: u8) -> bool
+    ensures { result ≡ hint.is_in_text byte }
+{
+    is_printable(byte) || byte == b'\t' || byte == b'\r'
+}
+
+/// Whether some of these bytes may not stand in a text.
+fn has_others(bytes: &[u8]) -> bool
+    ensures { result ≡ list_any (λ b. not (hint.is_in_text b)) bytes.now }
+{
+    bytes.iter().any(|byte| !is_in_text(*byte))
+}
+
+/// The first bytes of a line, as many as may be shown.
+fn start_of(line: &[u8]) -> &[u8]
+    ensures { result.now ≡ take 60 line.now }
+{
+    if line.len() <= SHOWN {
+        return line;
+    }
+    let (start, _) = line.split_at(SHOWN);
+    start
+}
+
+/// Whether what stands at the start of the input is no text, by its first bytes.
+fn is_no_text(spot: &Spot<'_>) -> bool
+    ensures { (last : Maybe Item) → IsSaidBy spot.now.last last
+        → result ≡ hint.is_no_text last spot.now.found.now }
+{
+    if spot.last.is_some() {
+        return false;
+    }
+    has_others(start_of(spot.found))
+}
+
+/// What is expected in place of what is found, which may be an image of storage.
+fn expected(alloc: Global, spot: &Spot<'_>, cause: Cause) -> Result<String, AllocError>
+    ensures { IfOk result (λ t. (before : List Item) → IsBehind before spot.now
+        → IsExpected before (found_as spot.now.is_whole spot.now.found.now) cause
+        (string_bytes t)) }
+{
+    if is_no_text(spot) {
+        return String::from_str(
+            alloc,
+            "a deck, which is text; chanv deck makes one of an image of storage",
+        );
+    }
+    expected_text(alloc, spot, cause)
+}
+
+/// Adds what is found, by words where nothing can be seen.
+fn push_found(alloc: Global, out: &mut Vec<u8>, spot: &Spot<'_>) -> Result<(), AllocError>
+    ensures { OnOk result (out.new.items ≡ out.old.items
+        ++ hint.found_text (found_as spot.now.is_whole spot.now.found.now)) }
+{
+    if !spot.found.is_empty() {
+        return push_shown(alloc, out, spot.found, SHOWN);
+    }
+    if spot.is_whole {
+        out.extend_from_slice(b"an empty line")
+    } else {
+        out.extend_from_slice(b"the end of the text")
+    }
+}
+
+/// Adds a line of what is found, and one of what is expected.
 fn push_hint(
     alloc: Global,
     out: &mut Vec<u8>,
-    found: &[u8],
+    spot: &Spot<'_>,
     expected: &[u8],
 ) -> Result<(), AllocError>
-    ensures { OnOk result (out.new.items ≡ out.old.items ++ hint.hint_of found.now expected.now) }
+    ensures { OnOk result (out.new.items ≡ out.old.items
+        ++ hint.hint_of (found_as spot.now.is_whole spot.now.found.now) expected.now) }
 {
     out.extend_from_slice(b"found ")?;
-    push_shown(alloc, out, found, SHOWN)?;
+    push_found(alloc, out, spot)?;
     out.extend_from_slice(b"\nexpected ")?;
     out.extend_from_slice(expected)?;
     out.push(b'\n')?;
@@ -303,14 +410,16 @@ fn push_hint(
 /// doesn't meet. An error means that an allocation failed.
 ///
 /// Of the line 60 characters are shown at most; a byte that isn't printable ASCII is shown as `\x`
-/// and two digits. Where several forms may stand, their keywords are given, but the pattern of the
-/// one whose keyword the line begins with.
+/// and two digits, and so is a blank at the line's end. An empty line and the end of the text are
+/// told by words. Where several forms may stand, their keywords are given, but the pattern of the
+/// one whose keyword the line begins with; where it begins as another form, that this comes earlier
+/// or later. Where the first bytes are no text, the line names the command that makes a deck.
 pub fn hint_text(alloc: Global, text: &[u8], line: u64, cause: Cause) -> Result<Vec<u8>, AllocError>
     ensures { IfOk result (λ v. IsHint text.now line cause v.items) }
 {
     let spot = spot_behind(text, line.saturating_sub(1));
-    let expected = expected_text(alloc, &spot, cause)?;
+    let expected = expected(alloc, &spot, cause)?;
     let mut out = Vec::new(alloc);
-    push_hint(alloc, &mut out, spot.found, expected.as_bytes())?;
+    push_hint(alloc, &mut out, &spot, expected.as_bytes())?;
     Ok(out)
 }

@@ -1,10 +1,15 @@
 //! The forms of a deck's lines, by their keywords.
 
-ghost use Rattle.std.specs.Prelude.{◌≡◌, ◌==◌, ◌<◌, length, position, IfSome};
+ghost use Rattle.std.specs.Prelude.{◌≡◌, ◌==◌, ◌<◌, ◌++◌, length, position, IfSome, OnOk};
+ghost use Rattle.std.specs.Prelude.{string_bytes};
+ghost use Rattle.std.specs.List.{list_any};
 ghost use Rattle.std.specs.Prelude.{Option as Maybe, Some};
 ghost use Rattle.chan_deck.specs.Hint as hint;
 ghost use Rattle.chan_deck.specs.Hint.{IsSaidBy, example_of, keyword_of, pattern_of};
 ghost use Rattle.chan_deck.specs.Item.{Item};
+
+use std::alloc::AllocError;
+use std::fmt::Write as _;
 
 /// A form of lines.
 #[derive(Clone, Copy, PartialEq, Eq, Debug)]
@@ -57,6 +62,25 @@ impl Form {
         }
     }
 
+    /// The place of the form among all.
+    fn number(self) -> u8
+        ensures { result ≡ hint.number_of self }
+    {
+        match self {
+            Form::Header => 0,
+            Form::Device => 1,
+            Form::Mask => 2,
+            Form::Start => 3,
+            Form::Limit => 4,
+            Form::Extent => 5,
+            Form::Fetch => 6,
+            Form::Store => 7,
+            Form::Storage => 8,
+            Form::Put => 9,
+            Form::End => 10,
+        }
+    }
+
     /// The form as a pattern, and what its letters stand for.
     pub(crate) fn pattern(self) -> &'static str
         ensures { result.now ≡ pattern_of self }
@@ -74,6 +98,66 @@ impl Form {
             Form::Put => "put XXXXXX XXXXXXXXXXXXXXXX, where X is 0-9 or A-F",
             Form::End => "end",
         }
+    }
+}
+
+/// Whether a form is one of these.
+fn is_among(forms: &[Form], form: Form) -> bool
+    ensures { result ≡ list_any (λ g. hint.number_of g == hint.number_of form) forms.now }
+{
+    forms.iter().any(|other| other.number() == form.number())
+}
+
+/// Adds where a form stands that comes before those that may stand, in a deck of version 2 or not.
+fn push_earlier(text: &mut String, is_second: bool, form: Form) -> Result<(), AllocError>
+    ensures { OnOk result (string_bytes text.new
+        ≡ string_bytes text.old ++ hint.earlier_text is_second form) }
+{
+    match form {
+        Form::Limit if !is_second => text.push_str("; limit stands in chanv deck 2 alone"),
+        _ => {
+            let word = form.keyword();
+            write!(text, "; {word} comes earlier")
+        }
+    }
+}
+
+/// Adds where a form stands, where it is none of those that may stand.
+fn push_place(
+    text: &mut String,
+    is_second: bool,
+    forms: &[Form],
+    form: Form,
+) -> Result<(), AllocError>
+    ensures { OnOk result (string_bytes text.new
+        ≡ string_bytes text.old ++ hint.order_text is_second forms.now (Some form)) }
+{
+    let Some(first) = forms.first() else {
+        return Ok(());
+    };
+    if form.number() < first.number() {
+        return push_earlier(text, is_second, form);
+    }
+    if is_among(forms, form) {
+        return Ok(());
+    }
+    let word = form.keyword();
+    write!(text, "; {word} comes later")
+}
+
+/// Adds where the form stands that a line begins as, if it is none of those that may stand.
+pub(crate) fn push_order(
+    text: &mut String,
+    is_second: bool,
+    forms: &[Form],
+    line: &[u8],
+) -> Result<(), AllocError>
+    ensures { OnOk result (string_bytes text.new ≡ string_bytes text.old
+        ++ hint.order_text is_second forms.now (hint.begun_as hint.all_forms line.now)) }
+{
+    match begun_as(&FORMS, line) {
+        Some(form) => push_place(text, is_second, forms, form),
+        None => Ok(()),
     }
 }
 

@@ -16,6 +16,7 @@ mod deck;
 mod digits;
 mod error;
 mod explanation;
+mod folds;
 mod forms;
 mod graph;
 mod heading;

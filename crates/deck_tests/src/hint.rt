@@ -25,7 +25,11 @@ type Case = (usize, &'static str, &'static str);
 
 /// A line that begins as none that may stand, or as one of them.
 static FORMS: [Case; 19] = [
-    (0, "\n", "found \nexpected chanv deck 1, chanv deck 2\n"),
+    (
+        0,
+        "\n",
+        "found an empty line\nexpected chanv deck 1, chanv deck 2\n",
+    ),
     (
         0,
         "chanv deck 3\n",
@@ -49,17 +53,17 @@ static FORMS: [Case; 19] = [
     (
         4,
         "extent 010 019\n",
-        "found extent 010 019\nexpected limit NNNNN, where N is 0-9\n",
+        "found extent 010 019\nexpected limit NNNNN, where N is 0-9; extent comes later\n",
     ),
     (
         5,
         "fetch 1 2\n",
-        "found fetch 1 2\nexpected extent NNN NNN, where N is 0-9\n",
+        "found fetch 1 2\nexpected extent NNN NNN, where N is 0-9; fetch comes later\n",
     ),
     (
         6,
         "put 000800\n",
-        "found put 000800\nexpected extent, fetch, store, storage\n",
+        "found put 000800\nexpected extent, fetch, store, storage; put comes later\n",
     ),
     (
         6,
@@ -79,12 +83,12 @@ static FORMS: [Case; 19] = [
     (
         7,
         "extent 010 019\n",
-        "found extent 010 019\nexpected fetch, store, storage\n",
+        "found extent 010 019\nexpected fetch, store, storage; extent comes earlier\n",
     ),
     (
         8,
         "fetch 000900 000010\n",
-        "found fetch 000900 000010\nexpected store, storage\n",
+        "found fetch 000900 000010\nexpected store, storage; fetch comes earlier\n",
     ),
     (
         8,
@@ -99,10 +103,10 @@ static FORMS: [Case; 19] = [
     (
         9,
         "storage 0001000\n",
-        "found storage 0001000\nexpected put, end\n",
+        "found storage 0001000\nexpected put, end; storage comes earlier\n",
     ),
     (10, "END\n", "found END\nexpected put, end\n"),
-    (10, "end \n", "found end \nexpected end\n"),
+    (10, "end \n", "found end\\x20\nexpected end\n"),
     (
         11,
         "put 000810 06\n",
@@ -110,10 +114,50 @@ static FORMS: [Case; 19] = [
     ),
 ];
 
+const OLDER: [&str; 4] = [
+    "chanv deck 1\n",
+    "device 2314\n",
+    "mask 00\n",
+    "start 000800\n",
+];
+
+/// The same of a deck of version 1.
+static OLDER_FORMS: [Case; 4] = [
+    (
+        0,
+        "device 2314\n",
+        "found device 2314\nexpected chanv deck 1, chanv deck 2; device comes later\n",
+    ),
+    (
+        2,
+        "limit 04096\n",
+        "found limit 04096\nexpected mask XX, where X is 0-9 or A-F; limit comes later\n",
+    ),
+    (
+        4,
+        "limit 04096\n",
+        "found limit 04096\n\
+expected extent NNN NNN, where N is 0-9; limit stands in chanv deck 2 alone\n",
+    ),
+    (
+        4,
+        "chanv deck 1\n",
+        "found chanv deck 1\nexpected extent NNN NNN, where N is 0-9; chanv comes earlier\n",
+    ),
+];
+
 /// A line that has a form that may stand, or no line.
 static CONDITIONS: [Case; 17] = [
-    (0, "", "found \nexpected chanv deck 1, chanv deck 2\n"),
-    (8, "", "found \nexpected store, storage\n"),
+    (
+        0,
+        "",
+        "found the end of the text\nexpected chanv deck 1, chanv deck 2\n",
+    ),
+    (
+        8,
+        "",
+        "found the end of the text\nexpected store, storage\n",
+    ),
     (
         11,
         "en",
@@ -124,7 +168,11 @@ static CONDITIONS: [Case; 17] = [
         "end",
         "found end\nexpected a line feed behind this line\n",
     ),
-    (12, "\n", "found \nexpected nothing behind the line end\n"),
+    (
+        12,
+        "\n",
+        "found an empty line\nexpected nothing behind the line end\n",
+    ),
     (12, "x", "found x\nexpected nothing behind the line end\n"),
     (
         2,
@@ -159,7 +207,8 @@ static CONDITIONS: [Case; 17] = [
     (
         9,
         "put 001000 3100090040000005\n",
-        "found put 001000 3100090040000005\nexpected an address at which storage has eight bytes\n",
+        "found put 001000 3100090040000005\n\
+expected an address at which storage of 0001000 bytes has eight bytes\n",
     ),
     (
         11,
@@ -176,7 +225,8 @@ expected an address above 000808 that is a multiple of 8\n",
     (
         11,
         "put FFFFF8 06000A0020000050\n",
-        "found put FFFFF8 06000A0020000050\nexpected an address at which storage has eight bytes\n",
+        "found put FFFFF8 06000A0020000050\n\
+expected an address at which storage of 0001000 bytes has eight bytes\n",
     ),
     (
         11,
@@ -186,7 +236,51 @@ expected an address above 000808 that is a multiple of 8\n",
 ];
 
 /// A line that is long, or not printable.
-static SHOWN: [Case; 5] = [
+static SHOWN: [Case; 13] = [
+    (
+        1,
+        "  \n",
+        "found  \\x20\nexpected device 2311, device 2314\n",
+    ),
+    (
+        11,
+        "put 000810 06000A0020000050 \n",
+        "found put 000810 06000A0020000050\\x20\n\
+expected put XXXXXX XXXXXXXXXXXXXXXX, where X is 0-9 or A-F\n",
+    ),
+    (
+        0,
+        "\u{7}\0 @\0\n",
+        "found \\x07\\x00 @\\x00\n\
+expected a deck, which is text; chanv deck makes one of an image of storage\n",
+    ),
+    (
+        0,
+        "\0\0\0",
+        "found \\x00\\x00\\x00\n\
+expected a deck, which is text; chanv deck makes one of an image of storage\n",
+    ),
+    (
+        1,
+        "\0\n",
+        "found \\x00\nexpected device 2311, device 2314\n",
+    ),
+    (
+        0,
+        "chanv deck 1\r\n",
+        "found chanv deck 1\\x0D\nexpected chanv deck 1, chanv deck 2\n",
+    ),
+    (
+        0,
+        "\tchanv deck 1\n",
+        "found \\x09chanv deck 1\nexpected chanv deck 1, chanv deck 2\n",
+    ),
+    (
+        0,
+        "chanv deck 1, and more text behind it, which leads past col 60\0\n",
+        "found chanv deck 1, and more text behind it, which leads past col \n\
+expected chanv deck 1, chanv deck 2\n",
+    ),
     (
         1,
         "device 2314 and more text behind it, which leads past column 60, as it is said\n",
@@ -216,10 +310,10 @@ expected device 2311, device 2314\n",
     ),
 ];
 
-/// Whether this is the hint at the text behind so many lines of the deck.
-fn has_hint(alloc: Global, case: &Case) -> bool {
+/// Whether this is the hint at the text behind so many lines of a deck.
+fn has_hint(alloc: Global, lines: &[&str], case: &Case) -> bool {
     let (count, more, hint) = *case;
-    let Some(front) = LINES.get(..count) else {
+    let Some(front) = lines.get(..count) else {
         return false;
     };
     match front.concat(alloc) {
@@ -253,23 +347,24 @@ fn is_hint(alloc: Global, text: &[u8], line: u64, cause: Cause, hint: &str) -> b
     }
 }
 
-fn expect_hints(rt: &impl Abort, alloc: Global, cases: &[Case]) {
+fn expect_hints(rt: &impl Abort, alloc: Global, lines: &[&str], cases: &[Case]) {
     for case in cases {
-        expect(rt, has_hint(alloc, case), case.1);
+        expect(rt, has_hint(alloc, lines, case), case.1);
     }
 }
 
 #[test]
 fn hints_at_forms(rt: HostRuntime) {
-    expect_hints(&rt, rt.alloc(), &FORMS);
+    expect_hints(&rt, rt.alloc(), &LINES, &FORMS);
+    expect_hints(&rt, rt.alloc(), &OLDER, &OLDER_FORMS);
 }
 
 #[test]
 fn hints_at_conditions(rt: HostRuntime) {
-    expect_hints(&rt, rt.alloc(), &CONDITIONS);
+    expect_hints(&rt, rt.alloc(), &LINES, &CONDITIONS);
 }
 
 #[test]
 fn hints_show_lines(rt: HostRuntime) {
-    expect_hints(&rt, rt.alloc(), &SHOWN);
+    expect_hints(&rt, rt.alloc(), &LINES, &SHOWN);
 }

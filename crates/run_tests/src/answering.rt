@@ -132,7 +132,7 @@ the limit is 2; a deck of version 2 may raise it to 65536 by its line limit
             cause: Cause::Ended,
         })),
         "",
-        "chanv: a.deck: deck line 1: ended\nfound \nexpected chanv deck 1, chanv deck 2\n",
+        "chanv: a.deck: deck line 1: ended\nfound the end of the text\nexpected chanv deck 1, chanv deck 2\n",
     ),
     (
         None,

@@ -1,6 +1,7 @@
 use Rattle.std.proofs.Common.{arith, rules}
 use Rattle.std.proofs.lemmas.Bool.Decides.{nat_tests}
-use Rattle.chan_deck.specs.Graph.{layer_text, together_in}
+use Rattle.chan_deck.specs.Folds.{together_in}
+use Rattle.chan_deck.specs.Graph.{layer_text}
 use Rattle.chan_deck.proofs.Pieces.{lines_begun}
 use Rattle.chan_deck.proofs.RunLemmas.{run_begun, run_written, runs_written}
 use Rattle.chan_deck.proofs.graph.write_layer.Goals as goal

@@ -1,5 +1,6 @@
 use Rattle.std.proofs.Common.{◌≡◌, false, length, string_bytes}
-use Rattle.chan_deck.specs.Graph.{layer_text, together_in}
+use Rattle.chan_deck.specs.Folds.{together_in}
+use Rattle.chan_deck.specs.Graph.{layer_text}
 use Rattle.chan_deck.proofs.RunLemmas.{AreWritten}
 use Rattle.chan_deck.proofs.graph.write_layer.Given as goal
 

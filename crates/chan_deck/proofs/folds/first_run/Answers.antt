@@ -1,7 +1,7 @@
 use Rattle.std.proofs.Common.{arith, rules}
-use Rattle.chan_deck.specs.Graph.{together_in}
+use Rattle.chan_deck.specs.Folds.{together_in}
 use Rattle.chan_deck.proofs.RunLemmas.{run_ends, run_grows, run_is_all}
-use Rattle.chan_deck.proofs.graph.first_run.Goals as goal
+use Rattle.chan_deck.proofs.folds.first_run.Goals as goal
 
 pub returns-then-not-are_together : goal.returns-then-not-are_together
 returns-then-not-are_together c =

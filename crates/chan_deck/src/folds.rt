@@ -1,0 +1,215 @@
+//! Which places stand together in a picture: in a frame or in a box.
+
+ghost use Rattle.std.specs.Prelude.{◌≡◌, ◌++◌, ◌∷◌, ◌<◌, [], List, ℕ, length, map, option_map};
+ghost use Rattle.std.specs.Prelude.{string_bytes, IfOk, OnOk};
+ghost use Rattle.std.specs.List.{flat_map};
+ghost use Rattle.chan_walk.specs.Explored.{place_number};
+ghost use Rattle.chan_walk.specs.declared.offence.Offence as offences;
+ghost use Rattle.chan_deck.specs.Folds as fold;
+ghost use Rattle.chan_deck.specs.Folds.{AreCounted, AreFolds, AreMarks};
+ghost use Rattle.chan_deck.specs.Runs.{IsFirstRun};
+
+use chan_walk::{Entry, Look, Next, Offence, Place};
+use std::alloc::{AllocError, Global};
+use std::collections::BTreeMap;
+
+/// What says which places stand together in a picture.
+#[derive(Drop)]
+pub(crate) struct Folds {
+    /// What stands beside each place that offends, by the place's number.
+    pub(crate) marks: BTreeMap<u64, String>,
+    /// The addresses of the places, each with whether it was counted again.
+    addresses: BTreeMap<u64, bool>,
+    /// The numbers of the places where the program goes on from some place, in the same way.
+    targets: BTreeMap<u64, bool>,
+}
+
+/// The number of a place: places are in order as their numbers are.
+pub(crate) fn number_of(place: Place) -> u64
+    ensures { result ≡ place_number place }
+{
+    let entry = match place.entered {
+        Entry::Fresh => 0,
+        Entry::ChainIn => 1,
+        Entry::ChainOut => 2,
+        Entry::ChainSearch => 3,
+    };
+    8 * u64::from(place.address) + 2 * entry + u64::from(place.after_transfer)
+}
+
+/// A word below a text, if there is one.
+fn word_below(alloc: Global, text: Option<&String>, word: &str) -> Result<String, AllocError>
+    ensures { IfOk result (λ t. string_bytes t
+        ≡ fold.word_below (option_map (λ s. string_bytes s.now) text.entry) word.now) }
+{
+    match text {
+        Some(text) => format!(in alloc; "{text}\\n{word}"),
+        None => String::from_str(alloc, word),
+    }
+}
+
+/// Adds the reason of an offence to what stands beside its place.
+fn add_reason(
+    alloc: Global,
+    marks: &mut BTreeMap<u64, String>,
+    offence: Offence,
+) -> Result<(), AllocError>
+    ensures { OnOk result ((os : List offences.Offence) → AreMarks os marks.old
+        → AreMarks (os ++ offence ∷ []) marks.new) }
+{
+    let number = number_of(offence.place);
+    let text = word_below(alloc, marks.get(&number), offence.reason.word())?;
+    marks.insert(number, text)?;
+    Ok(())
+}
+
+/// What stands beside each place that offends, by the place's number: its reasons, one below the
+/// other.
+fn marks_of(alloc: Global, offences: &[Offence]) -> Result<BTreeMap<u64, String>, AllocError>
+    ensures { IfOk result (λ m. AreMarks offences.now m) }
+{
+    let mut marks = BTreeMap::new(alloc);
+    for offence in offences {
+        add_reason(alloc, &mut marks, *offence)?;
+    }
+    Ok(marks)
+}
+
+/// Counts a number.
+fn count(seen: &mut BTreeMap<u64, bool>, number: u64) -> Result<(), AllocError>
+    ensures { OnOk result ((ns : List ℕ) → AreCounted ns seen.old
+        → AreCounted (ns ++ number ∷ []) seen.new) }
+{
+    let again = seen.contains_key(&number);
+    seen.insert(number, again)?;
+    Ok(())
+}
+
+/// Whether a number was counted exactly once.
+fn is_once(seen: &BTreeMap<u64, bool>, number: u64) -> bool
+    ensures { result ≡ fold.once_in seen.now number }
+{
+    match seen.get(&number) {
+        Some(again) => !*again,
+        None => false,
+    }
+}
+
+/// Counts the number of a place, if there is one.
+fn count_place(seen: &mut BTreeMap<u64, bool>, place: Option<Place>) -> Result<(), AllocError>
+    ensures { OnOk result ((ns : List ℕ) → AreCounted ns seen.old
+        → AreCounted (ns ++ fold.number_if place) seen.new) }
+{
+    match place {
+        Some(place) => count(seen, number_of(place)),
+        None => Ok(()),
+    }
+}
+
+/// The addresses of some places, counted.
+fn addresses_of(alloc: Global, looks: &[Look]) -> Result<BTreeMap<u64, bool>, AllocError>
+    ensures { IfOk result (λ m. AreCounted (map fold.address_of looks.now) m) }
+{
+    let mut seen = BTreeMap::new(alloc);
+    for look in looks {
+        count(&mut seen, u64::from(look.place().address))?;
+    }
+    Ok(seen)
+}
+
+/// Counts the numbers of the places where the program goes on.
+fn count_targets(seen: &mut BTreeMap<u64, bool>, look: &Look) -> Result<(), AllocError>
+    ensures { OnOk result ((ns : List ℕ) → AreCounted ns seen.old
+        → AreCounted (ns ++ fold.targets look.now) seen.new) }
+{
+    let onward = look.next();
+    count_place(seen, onward.next)?;
+    count_place(seen, onward.skip)
+}
+
+/// The numbers of the places where the program goes on from some places, counted.
+fn targets_of(alloc: Global, looks: &[Look]) -> Result<BTreeMap<u64, bool>, AllocError>
+    ensures { IfOk result (λ m. AreCounted (flat_map fold.targets looks.now) m) }
+{
+    let mut seen = BTreeMap::new(alloc);
+    for look in looks {
+        count_targets(&mut seen, look)?;
+    }
+    Ok(seen)
+}
+
+/// What says which of these places stand together.
+pub(crate) fn folds_of(
+    alloc: Global,
+    looks: &[Look],
+    offences: &[Offence],
+) -> Result<Folds, AllocError>
+    ensures { IfOk result (λ f. AreFolds looks.now offences.now f) }
+{
+    let marks = marks_of(alloc, offences)?;
+    let addresses = addresses_of(alloc, looks)?;
+    let targets = targets_of(alloc, looks)?;
+    Ok(Folds {
+        marks,
+        addresses,
+        targets,
+    })
+}
+
+/// Whether the program goes on to this place, and to no other.
+fn leads_only(onward: Next, to: Place) -> bool
+    ensures { result ≡ fold.leads_only onward.next onward.skip to }
+{
+    match (onward.next, onward.skip) {
+        (Some(next), None) => number_of(next) == number_of(to),
+        _ => false,
+    }
+}
+
+/// Whether two places have the same address.
+pub(crate) fn are_beside(look: &Look, other: &Look) -> bool
+    ensures { result ≡ fold.is_beside look.now other.now }
+{
+    look.place().address == other.place().address
+}
+
+/// Whether a place may share its box: no other has its address, and it doesn't offend.
+fn may_join(folds: &Folds, look: &Look) -> bool
+    ensures { result ≡ fold.may_join_in folds.now look.now }
+{
+    let place = look.place();
+    is_once(&folds.addresses, u64::from(place.address))
+        && folds.marks.get(&number_of(place)).is_none()
+}
+
+/// Whether a place and the one behind it stand in one box.
+fn are_folded(folds: &Folds, look: &Look, behind: &Look) -> bool
+    ensures { result ≡ fold.is_folded_in folds.now look.now behind.now }
+{
+    let to = behind.place();
+    leads_only(look.next(), to)
+        && is_once(&folds.targets, number_of(to))
+        && may_join(folds, look)
+        && may_join(folds, behind)
+}
+
+/// Whether a place and the one behind it stand together: in a frame or in a box.
+fn are_together(folds: &Folds, look: &Look, behind: &Look) -> bool
+    ensures { result ≡ fold.together_in folds.now look.now behind.now }
+{
+    are_beside(look, behind) || are_folded(folds, look, behind)
+}
+
+/// How many of some places, from the first on, stand together.
+pub(crate) fn first_run(folds: &Folds, looks: &[Look]) -> usize
+    requires { 0 < length looks.now }
+    ensures { IsFirstRun (fold.together_in folds.now) looks.now result }
+{
+    let last = looks.len() - 1;
+    for at in 0..last {
+        if !are_together(folds, &looks[at], &looks[at + 1]) {
+            return at + 1;
+        }
+    }
+    looks.len()
+}
