@@ -49,7 +49,7 @@ pub(crate) struct Line<'a> {
 /// What a line may look like, for help and for a usage fault before any command.
 const USAGE: &str = "chanv verify [FILE]...
        chanv list [FILE]
-       chanv why [FILE]
+       chanv why [FILE]...
        chanv graph [FILE]
        chanv needs [FILE]
        chanv deck --start <ADDRESS> --least [OPTIONS] [FILE]
@@ -109,7 +109,7 @@ The exit status:
   3  FILE can't be opened, reading or writing failed, or memory ran out
   4  the command line is wrong";
 
-/// The decks to judge.
+/// The decks to judge, or to explain the verdicts on.
 const DECKS: &[Word] = &[Word {
     name: "FILE",
     kind: Kind::Plain,
@@ -229,9 +229,9 @@ const LINES: &[Line] = &[
     },
     Line {
         name: "why",
-        about: "explains the verdict on a deck: the path to the CCW, and the cause",
+        about: "explains the verdict on each deck: the path to the CCW, and the cause",
         after_help: Some(OF_ONE),
-        words: DECK,
+        words: DECKS,
     },
     Line {
         name: "graph",
