@@ -176,6 +176,7 @@ HasTwo start extent rows =
     × (all_of (codes "extent") rows ≡ Some (extent ∷ [])) × (all_of (codes "fetch") rows ≡ None)
     × (all_of (codes "store") rows ≡ None) × (first_of (codes "at") rows ≡ None)
     × (first_of (codes "FILE") rows ≡ None) × (grant_fault rows ≡ None) × (is_least rows ≡ false)
+    × (first_of (codes "storage") rows ≡ None)
 
 -- nothing is wrong with the extent, and both are found
 extent_leads : (start extent : Text) → IsValue extent
@@ -188,7 +189,7 @@ extent_leads start extent value = turned (sub_at 6) _
     (turned (sub_at 6) _ (behind_value (given (rule_at (sub_at 6) 2) (start ∷ []) ∷ [])
     (codes "extent") extent idle) extent [] _
     (simp (value.0, value.1, value.2) refl) (simp (value.0, value.1, value.2) refl)
-    (record { sound = refl; found = (refl, refl, refl, refl, refl, refl, refl, refl, refl, refl, refl) }))
+    (record { sound = refl; found = (refl, refl, refl, refl, refl, refl, refl, refl, refl, refl, refl, refl) }))
 
 -- nor with the start
 pub options_are_given : (start extent : Text) → IsValue start → IsValue extent
@@ -212,6 +213,7 @@ HasLeast start rows =
     (first_of (codes "device") rows ≡ None) × (first_of (codes "start") rows ≡ Some start)
     × (first_of (codes "limit") rows ≡ None) × (first_of (codes "at") rows ≡ None)
     × (first_of (codes "FILE") rows ≡ None) × (grant_fault rows ≡ None) × (is_least rows ≡ true)
+    × (first_of (codes "storage") rows ≡ None)
 
 pub least_is_given : (start : Text) → IsValue start
     → CommandLeadsTo (sub_at 6) (least_words start) (HasLeast start)
@@ -223,4 +225,4 @@ least_is_given start value =
     (turned (sub_at 6) _ (behind_value [] (codes "start") start idle) start _ _
     (simp (value.0, value.1, value.2) refl) (simp (value.0, value.1, value.2) refl)
     (turned (sub_at 6) _ _ (codes "--least") [] (HasLeast start) refl refl
-    (record { sound = refl; found = (refl, refl, refl, refl, refl, refl, refl) })))
+    (record { sound = refl; found = (refl, refl, refl, refl, refl, refl, refl, refl) })))

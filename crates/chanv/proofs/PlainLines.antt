@@ -165,6 +165,7 @@ images rows start extent has (Image q) asks =
       said.at ∙ ap (λ o. unwrap_or o (codes "0")) has.7,
       said.least ∙ has.10,
       no_text q.file (said.file ∙ ap other_than_input has.8),
+      no_text q.words.storage (said.storage ∙ has.11),
     )
 images rows start extent has (Grants fault) asks =
     let bad : Some fault ≡ None = sym asks.1 ∙ has.9 in cc
@@ -182,6 +183,7 @@ images_least rows start has (Image q) asks =
       said.at ∙ ap (λ o. unwrap_or o (codes "0")) has.3,
       said.least ∙ has.6,
       no_text q.file (said.file ∙ ap other_than_input has.4),
+      no_text q.words.storage (said.storage ∙ has.7),
     )
 images_least rows start has (Grants fault) asks =
     let bad : Some fault ≡ None = sym asks.1 ∙ has.5 in cc

@@ -197,7 +197,7 @@ ImagesOrNoMemory start extent (Image asked) =
     × (asked.words.start.now ≡ start) × (asked.words.limit ≡ None)
     × (texts_of asked.words.extents.items ≡ extent ∷ []) × (asked.words.fetch.items ≡ [])
     × (asked.words.store.items ≡ []) × (asked.words.at.now ≡ codes "0")
-    × (asked.words.is_least ≡ false) × (asked.file ≡ None)
+    × (asked.words.is_least ≡ false) × (asked.file ≡ None) × (asked.words.storage ≡ None)
 ImagesOrNoMemory start extent NoMemory = Unit {0}
 ImagesOrNoMemory start extent _ = ⊥
 
@@ -207,7 +207,7 @@ abbrev pub ImagesLeastOrNoMemory : Text → Request → Type 0
 ImagesLeastOrNoMemory start (Image asked) =
     (asked.words.device.now ≡ codes "2314") × (asked.words.start.now ≡ start)
     × (asked.words.limit ≡ None) × (asked.words.at.now ≡ codes "0")
-    × (asked.words.is_least ≡ true) × (asked.file ≡ None)
+    × (asked.words.is_least ≡ true) × (asked.file ≡ None) × (asked.words.storage ≡ None)
 ImagesLeastOrNoMemory start NoMemory = Unit {0}
 ImagesLeastOrNoMemory start _ = ⊥
 

@@ -91,10 +91,11 @@ where all is granted: there may be too many where `chanv verify` says no, and ne
 yes.";
 
 /// What the help of `deck` says behind its words.
-const OF_DECK: &str = "Addresses, lengths and the mask are hexadecimal, cylinders and the limit \
+const OF_DECK: &str = "Addresses, lengths, sizes and the mask are hexadecimal, cylinders and the limit \
 decimal. An option
 with <START+LENGTH> may come any number of times, and so may --extent. Storage ends
-with the image, filled with zeros to a multiple of 8.
+with the image, filled with zeros to a multiple of 8, or with --storage where that says,
+filled with zeros.
 
 The deck is written to standard output, so that it can be judged at once:
   chanv deck --start 3A98 --extent 0-202 core.bin | chanv why
@@ -107,7 +108,7 @@ The exit status:
   1  with --least: no job will do
   2  the image is longer than storage may be, or with --least too many places are reachable
   3  FILE can't be opened, reading or writing failed, or memory ran out
-  4  the command line is wrong";
+  4  the command line is wrong, or the image ends past --storage";
 
 /// The decks to judge, or to explain the verdicts on.
 const DECKS: &[Word] = &[Word {
@@ -191,6 +192,13 @@ const IMAGE: &[Word] = &[
         is_required: false,
         is_repeated: false,
         help: "where the image begins; 0 if left out",
+    },
+    Word {
+        name: "storage",
+        kind: Kind::Valued("SIZE"),
+        is_required: false,
+        is_repeated: false,
+        help: "how many bytes storage has; as many as the image takes if left out",
     },
     Word {
         name: "FILE",
