@@ -2,14 +2,15 @@
 _chanv() {
     local word=${COMP_WORDS[COMP_CWORD]} before=${COMP_WORDS[COMP_CWORD - 1]}
     local commands='show verify list why graph needs deck explain help'
-    local of_deck='--device --mask --start --limit --extent --fetch --store --least --at'
+    local of_deck='--device --mask --start --limit --extent --fetch --store --least --at
+        --storage'
     local reasons='misaligned outside-storage transfer-not-allowed invalid-code bad-format zero-count
         data-outside not-in-table inhibited store-not-lent fetch-not-lent short-seek seek-outside
         changes-ccw changes-argument weakens-mask'
     local causes='ended header form mask extent-backwards extent-past-device size put-address
         put-zero after limit'
-    local failures='cannot-open read-failed deck-too-long image-too-long too-many-places
-        no-job-will-do write-failed out-of-memory not-a-ccw no-such-word'
+    local failures='cannot-open read-failed deck-too-long image-too-long image-past-storage
+        too-many-places no-job-will-do write-failed out-of-memory not-a-ccw no-such-word'
     local words='--help'
     COMPREPLY=()
     if ((COMP_CWORD == 1)); then

@@ -16,7 +16,7 @@ CCW, CCW_LINE = "06000A0020000050", "06 000A00 --L--0 00 0050 read\n"
 USAGE = """\
 chanv verify [FILE]...
        chanv list [FILE]
-       chanv why [FILE]
+       chanv why [FILE]...
        chanv graph [FILE]
        chanv needs [FILE]
        chanv deck --start <ADDRESS> --least [OPTIONS] [FILE]

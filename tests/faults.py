@@ -112,13 +112,14 @@ def of_deck(action, deck, name=""):
         return refused(action, REFUSED[deck], name)
     example = EXAMPLES / f"{ANSWERED[deck]}.deck"
     verdict = verdicts_of(EXAMPLES)[example.name]
+    front = f"{name}: " if name and action in ("verify", "why") else ""
     if action == "verify":
-        front = f"{name}: " if name else ""
         return Ran(status_of(verdict), f"{front}{verdict}\n")
     notes = example.with_suffix(".notes")
     error = text_of(notes) if action == "why" and notes.is_file() else ""
     text = text_of(example.with_suffix(ENDINGS[action]))
-    return Ran(status_of_needs(text) if action == "needs" else status_of(verdict), text, error)
+    status = status_of_needs(text) if action == "needs" else status_of(verdict)
+    return Ran(status, f"{front}{text}", error)
 
 
 def of_image(image, name=""):
@@ -152,12 +153,12 @@ def over_decks():
         yield from over_each([action], known, partial(of_deck, action))
 
 
-def over_two_decks():
+def over_two_decks(action):
     names = ["yes", "no", "damaged", "empty", "many", "folder", "nowhere", "-"]
-    parts = [of_deck("verify", "closed" if name == "-" else name, name) for name in names]
+    parts = [of_deck(action, "closed" if name == "-" else name, name) for name in names]
     for one, part in zip(names, parts):
         for other, other_part in zip(names, parts):
-            yield Run(["verify", one, other], "closed", [part, other_part])
+            yield Run([action, one, other], "closed", [part, other_part])
 
 
 def over_nothing():
@@ -201,7 +202,8 @@ def helps():
 
 def runs():
     yield from over_decks()
-    yield from over_two_decks()
+    yield from over_two_decks("verify")
+    yield from over_two_decks("why")
     yield from over_each(OF_IMAGE, IMAGES, of_image)
     yield from over_nothing()
 

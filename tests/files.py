@@ -15,6 +15,7 @@ from examples import CHANGES_ITSELF, EXAMPLES, SEARCH_LOOP
 from running import Ran, run, run_in_bash, text_of
 
 YES, NO = "yes: yes\n", "no: no 000810 changes-ccw\n"
+WHY_NO = f"no: {text_of(CHANGES_ITSELF.with_suffix('.why'))}"
 DAMAGED = "deck line 3: form\n"
 HINT = "found mask\nexpected mask XX, where X is 0-9 or A-F\n"
 
@@ -51,6 +52,10 @@ def check_names(checks, program, folder):
         ("list yes", 0, listing, ""),
         ("list damaged", 2, "", damaged),
         ("why damaged", 2, "", damaged + HINT),
+        ("why yes", 0, YES, ""),
+        ("why no", 1, WHY_NO, ""),
+        ("why no yes damaged no", 2, WHY_NO + YES + WHY_NO, damaged + HINT),
+        ("why nowhere no", 3, WHY_NO, missing),
         ("list nowhere", 3, "", missing),
         ("list folder", 3, "", "chanv: folder: read failed\n"),
     ]:
@@ -68,6 +73,8 @@ def check_standard_input(checks, program, folder):
         ("damaged", "verify -", 2, "", f"chanv: {DAMAGED}"),
         ("damaged", "verify - yes", 2, YES, f"chanv: -: {DAMAGED}"),
         ("yes", "verify - -", 2, "-: yes\n", "chanv: -: deck line 1: ended\n"),
+        ("no", "why yes -", 1, YES + WHY_NO.replace("no:", "-:", 1), ""),
+        ("no", "why -", 1, WHY_NO.removeprefix("no: "), ""),
         ("yes", "list -", 0, listing, ""),
     ]:
         ran = run(program, *words.split(), cwd=folder, given=folder / given)

@@ -6,6 +6,7 @@ that is made of as much of the image as its puts need, with its first zeros left
 that is all of storage.
 """
 
+import re
 import tempfile
 from pathlib import Path
 
@@ -18,6 +19,7 @@ ADDRESS = "a hexadecimal address, at most FFFFFF"
 AREA = "hexadecimal start and length, each at most FFFFFF, as 900+10"
 CYLINDERS = "decimal cylinders in order, 0 to 202, as 10-19"
 MASK = "a hexadecimal byte with no bits on but C0 and 18"
+SIZE = "a hexadecimal multiple of 8, at most 1000000"
 LIMIT = "a decimal number, 1 to 65536"
 TOO_LONG = bytes(0x1000001)
 
@@ -45,6 +47,10 @@ REFUSED = [
     ("--fetch", "<START+LENGTH>", "900", AREA),
     ("--store", "<START+LENGTH>", "900+1000000", AREA),
     ("--at", "<ADDRESS>", "0x10", ADDRESS),
+    ("--storage", "<SIZE>", "804", SIZE),
+    ("--storage", "<SIZE>", "1000008", SIZE),
+    ("--storage", "<SIZE>", "-8", SIZE),
+    ("--storage", "<SIZE>", "1000g", SIZE),
 ]
 
 
@@ -104,6 +110,36 @@ def check_spellings(checks, program):
             checks.expect(f"the file {file}", expected, run(program, "deck", *plain, file))
 
 
+def check_storage(checks, program):
+    """Storage of the size that is asked for is zero behind the image."""
+    text = text_of(SEARCH_LOOP)
+    words, storage = taken_apart(text)
+    first = len(storage) - len(storage.lstrip(b"\0"))
+    image = storage[first:].rstrip(b"\0")
+    placed = ["--at", f"{first:X}"]
+    taken = (first + len(image) + 7) // 8 * 8
+    for size in (taken, taken + 8, 0x1000, 0xFFFFF8, 0x1000000):
+        expected = Ran(0, re.sub("storage .*", f"storage {size:07X}", text))
+        ran = run(program, "deck", *words, *placed, "--storage", f"{size:x}", given=image)
+        checks.expect(f"storage of {size:x}", expected, ran)
+    wanted = ["deck", "--start", "800", "--least", *placed, "--storage=2000"]
+    ran = run(program, *wanted, given=image)
+    is_so = ran.status == 0 and "\nmask 58\n" in ran.output and "storage 0002000\n" in ran.output
+    checks.expect_that("the least job in a larger storage", is_so, ran)
+    ran = run(program, "deck", "--start", "8", "--extent", "0-9", "--storage", "0")
+    is_so = ran.status == 0 and ran.output.endswith("\nstorage 0000000\nend\n")
+    checks.expect_that("no storage", is_so, ran)
+    past = Ran(4, "", "chanv: image past storage\n")
+    for name, at, size, given in [
+        ("a byte past storage", "0", "8", bytes(9)),
+        ("a byte past storage from an address on", "7", "8", bytes(2)),
+        ("an address past storage", "9", "8", b""),
+        ("a byte past the largest", "0", "1000000", TOO_LONG),
+    ]:
+        words = ["--start", "8", "--extent", "0-9", "--at", at, "--storage", size]
+        checks.expect(name, past, run(program, "deck", *words, given=given))
+
+
 def check_refusals(checks, program):
     job = ["--start", "8", "--extent", "0-9"]
     refused = Ran(2, "", "chanv: image too long\n")
@@ -142,5 +178,6 @@ def check(checks, built):
     program = built.chanv()
     check_decks(checks, program)
     check_spellings(checks, program)
+    check_storage(checks, program)
     check_refusals(checks, program)
     check_least(checks, program)

@@ -56,7 +56,7 @@ def commands():
         (["verify", SEARCH_LOOP], b"", f"{SEARCH_LOOP}: yes\n"),
         (["list", SEARCH_LOOP], b"", listing),
         (["why"], changing, text_of(EXAMPLES / "changes-itself.why")),
-        (["why", SEARCH_LOOP], b"", "yes\n"),
+        (["why", SEARCH_LOOP], b"", f"{SEARCH_LOOP}: yes\n"),
         (["graph"], deck, text_of(EXAMPLES / "search-loop.dot")),
         (["needs"], deck, text_of(EXAMPLES / "search-loop.needs")),
         (["deck", *OF_IMAGE], image, text_of(EXAMPLES / "changes-argument.deck")),
@@ -88,7 +88,7 @@ def command_cases(chanv):
             complaints=complaints,
             begun=answer if words[0] in ("list", "graph") else "",
             # the complaint stands in place of notes
-            may_answer=words[0] == "why" and answer == "yes\n",
+            may_answer=words[0] == "why" and answer.endswith("yes\n"),
         )
 
 

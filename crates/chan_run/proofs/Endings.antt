@@ -35,23 +35,23 @@ flushed_answer front a t old mid new (Err e) keeps same h =
     subst (λ x. IsTextAnswer front a t old x (Err e)) (sym (same (λ done. done))) h
 
 -- what is said where there is something to say of the answer
-said : {A E : Type 0} (a : Action) (t : List ℕ) (r : Result Status RunError)
+said : {A E : Type 0} (name : Option (List ℕ)) (a : Action) (t : List ℕ) (r : Result Status RunError)
     (advice : Result (Vec ℕ A) E) → has_advice a (Ran r) ≡ true
-    → IfOk advice (λ text. IsBeside a t r text.items) → IsAdvice a t (Ran r) (advice_of (Some advice))
-said actions.Why t (Ok Yes) (Ok text) has is = inl is
-said actions.Why t (Ok Yes) (Err refused) has is = inr refl
-said actions.Why t (Err (Deck line cause)) (Ok text) has is = inl is
-said actions.Why t (Err (Deck line cause)) (Err refused) has is = inr refl
-said actions.Why t (Err TooManyPlaces) (Ok text) has is = inl is
-said actions.Why t (Err TooManyPlaces) (Err refused) has is = inr refl
-said a t r advice has is = absurd (cc)
+    → IfOk advice (λ text. IsBeside a t r text.items) → IsAdvice name a t (Ran r) (advice_of name (Some advice))
+said name actions.Why t (Ok Yes) (Ok text) has is = inl is
+said name actions.Why t (Ok Yes) (Err refused) has is = inr refl
+said name actions.Why t (Err (Deck line cause)) (Ok text) has is = inl is
+said name actions.Why t (Err (Deck line cause)) (Err refused) has is = inr refl
+said name actions.Why t (Err TooManyPlaces) (Ok text) has is = inl is
+said name actions.Why t (Err TooManyPlaces) (Err refused) has is = inr refl
+said name a t r advice has is = absurd (cc)
 
 -- and where there is nothing
-unsaid : (a : Action) (t : List ℕ) (end : Outcome) → has_advice a end ≡ false → IsAdvice a t end []
-unsaid actions.Why t (Ran (Ok Yes)) none = absurd (cc)
-unsaid actions.Why t (Ran (Err (Deck line cause))) none = absurd (cc)
-unsaid actions.Why t (Ran (Err TooManyPlaces)) none = absurd (cc)
-unsaid a t end none = refl
+unsaid : (name : Option (List ℕ)) (a : Action) (t : List ℕ) (end : Outcome) → has_advice a end ≡ false → IsAdvice name a t end []
+unsaid name actions.Why t (Ran (Ok Yes)) none = absurd (cc)
+unsaid name actions.Why t (Ran (Err (Deck line cause))) none = absurd (cc)
+unsaid name actions.Why t (Ran (Err TooManyPlaces)) none = absurd (cc)
+unsaid name a t end none = refl
 
 -- no flush that failed has any
 no_flush : (a : Action) → has_advice a FlushFailed ≡ true → ⊥
@@ -59,16 +59,16 @@ no_flush actions.Why has = absurd (cc)
 no_flush a has = absurd (cc)
 
 -- what is said of how the run ended, where there is something to say, and else nothing
-pub advised : {A E : Type 0} (a : Action) (t : List ℕ) (r : Result Status RunError) (end : Outcome)
+pub advised : {A E : Type 0} (name : Option (List ℕ)) (a : Action) (t : List ℕ) (r : Result Status RunError) (end : Outcome)
     (advice : Result (Vec ℕ A) E) (told : Option (Result (Vec ℕ A) E)) → IsEnd (Ran r) end
     → IfOk advice (λ text. IsBeside a t r text.items)
     → ((has_advice a end ≡ true) × (told ≡ Some advice)) ⊎ ((has_advice a end ≡ false) × (told ≡ None))
-    → IsAdvice a t end (advice_of told)
-advised a t r end advice told (inl is) beside (inl (has, some)) =
-    rw (is, some) (said a t r advice (rw is at has) beside)
-advised a t r end advice told (inr after) beside (inl (has, some)) =
+    → IsAdvice name a t end (advice_of name told)
+advised name a t r end advice told (inl is) beside (inl (has, some)) =
+    rw (is, some) (said name a t r advice (rw is at has) beside)
+advised name a t r end advice told (inr after) beside (inl (has, some)) =
     absurd (no_flush a (rw after.1 at has))
-advised a t r end advice told ended beside (inr (none, nothing)) = rw nothing (unsaid a t end none)
+advised name a t r end advice told ended beside (inr (none, nothing)) = rw nothing (unsaid name a t end none)
 
 -- ---- an image of storage
 

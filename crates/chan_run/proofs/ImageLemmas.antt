@@ -1,9 +1,9 @@
 -- The options of an image: the texts of one that may be given again, and the first that is wrong.
-use Rattle.std.proofs.Common.{◌≡◌, ◌⊎◌, ℕ, zero, suc, ◌<◌, List, [], ◌∷◌, ◌++◌, length, take, slice_index_or, arith, ap, inl, inr, refl, length-append, Option, Some, None}
+use Rattle.std.proofs.Common.{◌≡◌, ◌⊎◌, ℕ, zero, suc, ◌<◌, List, [], ◌∷◌, ◌++◌, length, take, slice_index_or, arith, ap, inl, inr, refl, length-append, unwrap_or, Option, Some, None}
 use Rattle.std.specs.List.{AllByRecursion, AllZip}
 use Rattle.ccw_core.specs.declared.areas.Area.{Area}
-use Rattle.chan_run.specs.Options.{SaysArea, SaysCylinders}
-use Rattle.chan_run.specs.Imaging.{IsFirstWrong, IsRight, NamesFirstWrong, SaysExtent, SaysLimitOrNone, each_given, extents_given, limit_given, texts_of}
+use Rattle.chan_run.specs.Options.{IsSize, SaysArea, SaysCylinders}
+use Rattle.chan_run.specs.Imaging.{IsFirstWrong, IsRight, NamesFirstWrong, SaysExtent, SaysLimitOrNone, SaysSizeOrNone, each_given, extents_given, limit_given, size_given, texts_of}
 use Rattle.chan_deck.specs.Item.{IsArea}
 use Rattle.chan_run.specs.declared.image_options.ImageWords.{ImageWords}
 use Rattle.chan_run.specs.declared.image_options.OptionError.{OptionError}
@@ -104,6 +104,20 @@ pub limit_right : (text : Option (Bor (List ℕ))) (limit : Option ℕ) → Says
 limit_right None limit said = tt
 limit_right (Some text) None said = absurd said
 limit_right (Some text) (Some n) said = ((n, said), tt)
+
+-- and so is the size of storage
+pub size_right : (text : Option (Bor (List ℕ))) (size : Option ℕ) → SaysSizeOrNone text size
+    → AreRight (size_given text)
+size_right None size said = tt
+size_right (Some text) None said = absurd said
+size_right (Some text) (Some n) said = ((n, said), tt)
+
+-- which may be had
+pub said_size : (text : Option (Bor (List ℕ))) (size : Option ℕ) → SaysSizeOrNone text size
+    → IsSize (unwrap_or size 0)
+said_size text None said = (omega arith, refl)
+said_size (Some text) (Some n) said = said.1
+said_size None (Some n) said = cc
 
 -- and so are the extents, of which there are some
 pub extents_right : (texts : List (Bor (List ℕ))) (pairs : List (ℕ × ℕ)) → 0 < length pairs

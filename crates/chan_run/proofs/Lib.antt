@@ -8,3 +8,4 @@ pub mod Endings
 pub mod MeaningLemmas
 mod WordLemmas
 mod NearestLemmas
+mod RoomLemmas

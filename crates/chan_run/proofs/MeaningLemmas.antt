@@ -78,18 +78,20 @@ of_each P all (terms.Failure failures.DeckTooLong) =
     all 29 (terms.Failure failures.DeckTooLong) (lit< tt)
 of_each P all (terms.Failure failures.ImageTooLong) =
     all 30 (terms.Failure failures.ImageTooLong) (lit< tt)
+of_each P all (terms.Failure failures.ImagePastStorage) =
+    all 31 (terms.Failure failures.ImagePastStorage) (lit< tt)
 of_each P all (terms.Failure failures.TooManyPlaces) =
-    all 31 (terms.Failure failures.TooManyPlaces) (lit< tt)
+    all 32 (terms.Failure failures.TooManyPlaces) (lit< tt)
 of_each P all (terms.Failure failures.NoJobWillDo) =
-    all 32 (terms.Failure failures.NoJobWillDo) (lit< tt)
+    all 33 (terms.Failure failures.NoJobWillDo) (lit< tt)
 of_each P all (terms.Failure failures.WriteFailed) =
-    all 33 (terms.Failure failures.WriteFailed) (lit< tt)
+    all 34 (terms.Failure failures.WriteFailed) (lit< tt)
 of_each P all (terms.Failure failures.OutOfMemory) =
-    all 34 (terms.Failure failures.OutOfMemory) (lit< tt)
+    all 35 (terms.Failure failures.OutOfMemory) (lit< tt)
 of_each P all (terms.Failure failures.NotCcw) =
-    all 35 (terms.Failure failures.NotCcw) (lit< tt)
+    all 36 (terms.Failure failures.NotCcw) (lit< tt)
 of_each P all (terms.Failure failures.NoSuchWord) =
-    all 36 (terms.Failure failures.NoSuchWord) (lit< tt)
+    all 37 (terms.Failure failures.NoSuchWord) (lit< tt)
 
 -- the line of the first of some terms was written, and then a prefix of the others' lines
 pub after_first_line : (ts : List Term) (d : Term) (a b c : Option (List ℕ)) → 1 ≤ length ts

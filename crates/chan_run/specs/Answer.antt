@@ -21,25 +21,25 @@ use Rattle.chan_run.specs.declared.running.Status.TheVariants as statuses
 use Rattle.chan_run.specs.Advice.{IsNoted, limit_line}
 use Rattle.chan_run.specs.Imaging.{IsImageAnswer}
 use Rattle.chan_run.specs.Naming.{name_before}
-use Rattle.chan_run.specs.Report.{IsEnd, line_of, line_over}
+use Rattle.chan_run.specs.Report.{IsEnd, line_over}
 use Rattle.chan_run.specs.Run.{IsEarly, IsInput, IsOfJob, IsReadFault, IsTextAnswer, IsUnwritten}
 use Rattle.chan_run.specs.Run.{front_of}
 
--- the line where an allocation was refused
-abbrev pub memory_line : List ℕ
-memory_line = line_of (Ran (Err Memory))
+-- the line where an allocation was refused over an input that may have a name
+abbrev pub memory_line : Option (List ℕ) → List ℕ
+memory_line name = line_over name (Ran (Err Memory))
 
 -- what is said of an input behind the outcome's line: for an explanation the notes behind a yes, the
 -- hint where the text is refused, and the limit where too many places are reachable, or that memory
 -- ran out for them
-abbrev pub IsAdvice : Action → List ℕ → Outcome → List ℕ → Type 0
-IsAdvice actions.Why t (Ran (Ok statuses.Yes)) advice =
-    IsOfJob t (λ j. IsNoted j advice) ⊎ (advice ≡ memory_line)
-IsAdvice actions.Why t (Ran (Err (Deck line cause))) advice =
-    IsHint t line cause advice ⊎ (advice ≡ memory_line)
-IsAdvice actions.Why t (Ran (Err TooManyPlaces)) advice =
-    IsOfJob t (λ j. advice ≡ limit_line j.limit) ⊎ (advice ≡ memory_line)
-IsAdvice a t end advice = advice ≡ []
+abbrev pub IsAdvice : Option (List ℕ) → Action → List ℕ → Outcome → List ℕ → Type 0
+IsAdvice name actions.Why t (Ran (Ok statuses.Yes)) advice =
+    IsOfJob t (λ j. IsNoted j advice) ⊎ (advice ≡ memory_line name)
+IsAdvice name actions.Why t (Ran (Err (Deck line cause))) advice =
+    IsHint t line cause advice ⊎ (advice ≡ memory_line name)
+IsAdvice name actions.Why t (Ran (Err TooManyPlaces)) advice =
+    IsOfJob t (λ j. advice ≡ limit_line j.limit) ⊎ (advice ≡ memory_line name)
+IsAdvice name a t end advice = advice ≡ []
 
 -- the text was answered, and then this was said
 pub record IsTextTold (name : Option (List ℕ)) (a : Action) (t : List ℕ)
@@ -48,7 +48,7 @@ pub record IsTextTold (name : Option (List ℕ)) (a : Action) (t : List ℕ)
   pub answered : IsTextAnswer (front_of name a) a t old new answer
   pub ended : IsEnd (Ran answer) end
   pub advice : List ℕ
-  pub advised : IsAdvice a t end advice
+  pub advised : IsAdvice name a t end advice
   pub is : told ≡ line_over name end ++ advice
 
 -- the input was read to its end, its text was answered, and then this was said
@@ -83,10 +83,10 @@ IsEarlyEnd a (Ran answer) = IsEarly a answer
 IsEarlyEnd a end = ⊥
 
 -- the advice as it is said, where there is some
-abbrev pub advice_of : {A E : Type 0} → Option (Result (Vec ℕ A) E) → List ℕ
-advice_of None = []
-advice_of (Some (Ok text)) = text.items
-advice_of (Some (Err refused)) = memory_line
+abbrev pub advice_of : {A E : Type 0} → Option (List ℕ) → Option (Result (Vec ℕ A) E) → List ℕ
+advice_of name None = []
+advice_of name (Some (Ok text)) = text.items
+advice_of name (Some (Err refused)) = memory_line name
 
 -- ---- an image of storage
 

@@ -1,6 +1,6 @@
 -- The options with which a deck is made of an image of storage, and what is written of them.
-use Rattle.std.specs.Prelude.{ℕ, ◌+◌, ◌≤◌, ◌^◌, ◌≡◌, ◌⊎◌, List, [], ◌∷◌, ◌++◌, length, map}
-use Rattle.std.specs.Prelude.{Bool, true, false, Option, Some, None, Result, Ok, Err}
+use Rattle.std.specs.Prelude.{ℕ, ◌+◌, ◌-◌, ◌<◌, ◌≤◌, ◌^◌, ◌≡◌, ◌⊎◌, List, [], ◌∷◌, ◌++◌, length, map}
+use Rattle.std.specs.Prelude.{Bool, true, false, Option, Some, None, Result, Ok, Err, replicate, unwrap_or}
 use Rattle.std.specs.Borrow.{Bor}
 use Rattle.std.specs.Io.KnownBytes.{Appends}
 use Rattle.std.specs.List.{AllZip}
@@ -20,7 +20,7 @@ use Rattle.chan_walk.specs.Rows.{AreNeeds, IsOpenJob, Listed}
 use Rattle.chan_walk.specs.Verdict.{IsVerdict}
 use Rattle.chan_run.specs.Input.{GaveAll, GaveOut, GaveTooMuch}
 use Rattle.chan_run.specs.Options.{SaysAddress, SaysArea, SaysCylinders, SaysDevice, SaysLimit}
-use Rattle.chan_run.specs.Options.{SaysMask}
+use Rattle.chan_run.specs.Options.{SaysMask, SaysSize}
 use Rattle.chan_run.specs.Run.{IsJobOf}
 use Rattle.chan_run.specs.declared.image.ImageError.{ImageError}
 use Rattle.chan_run.specs.declared.image.ImageError.TheVariants as faults
@@ -44,6 +44,12 @@ SaysLimitOrNone None limit = limit ≡ None
 SaysLimitOrNone (Some text) None = ⊥
 SaysLimitOrNone (Some text) (Some n) = SaysLimit text.now n
 
+-- where there is a text, it says this size of storage, and else there is none
+abbrev pub SaysSizeOrNone : Option (Bor (List ℕ)) → Option ℕ → Type 0
+SaysSizeOrNone None size = size ≡ None
+SaysSizeOrNone (Some text) None = ⊥
+SaysSizeOrNone (Some text) (Some n) = SaysSize text.now n
+
 -- the options are what their texts say
 pub record SaysOptions (w : ImageWords) (o : ImageOptions) : Type 0 where
   pub device : SaysDevice w.device.now o.device
@@ -54,6 +60,7 @@ pub record SaysOptions (w : ImageWords) (o : ImageOptions) : Type 0 where
   pub fetch : AllZip SaysArea (texts_of w.fetch.items) o.fetch.items
   pub store : AllZip SaysArea (texts_of w.store.items) o.store.items
   pub at : SaysAddress w.at.now o.at
+  pub size : SaysSizeOrNone w.storage o.size
   pub least : o.is_least ≡ w.is_least
 
 -- the text says something that this option may say
@@ -66,6 +73,7 @@ IsRight (options.Extent, text) = (e : ℕ × ℕ) × SaysExtent text e
 IsRight (options.Fetch, text) = (a : Area) × SaysArea text a
 IsRight (options.Store, text) = (a : Area) × SaysArea text a
 IsRight (options.At, text) = (n : ℕ) × SaysAddress text n
+IsRight (options.Storage, text) = (n : ℕ) × SaysSize text n
 
 -- an option that is given any number of times, with its texts
 abbrev pub each_given : ImageOption → List (Bor (List ℕ)) → List (ImageOption × List ℕ)
@@ -76,19 +84,25 @@ abbrev pub limit_given : Option (Bor (List ℕ)) → List (ImageOption × List �
 limit_given None = []
 limit_given (Some text) = (options.Limit, text.now) ∷ []
 
+-- the option of the size of storage, where it is given
+abbrev pub size_given : Option (Bor (List ℕ)) → List (ImageOption × List ℕ)
+size_given None = []
+size_given (Some text) = (options.Storage, text.now) ∷ []
+
 -- the options of an extent; where none is given, it is as if an empty text were
 abbrev pub extents_given : List (Bor (List ℕ)) → List (ImageOption × List ℕ)
 extents_given [] = (options.Extent, []) ∷ []
 extents_given texts = each_given options.Extent texts
 
 -- the options that are given with their texts, in the order of a deck's lines, and then the
--- address of the image
+-- address of the image and the size of storage
 abbrev pub given : ImageWords → List (ImageOption × List ℕ)
 given w =
     (options.Device, w.device.now) ∷ (options.Mask, w.mask.now) ∷ (options.Start, w.start.now)
     ∷ (limit_given w.limit ++ (extents_given w.extents.items
     ++ (each_given options.Fetch w.fetch.items
-    ++ (each_given options.Store w.store.items ++ (options.At, w.at.now) ∷ []))))
+    ++ (each_given options.Store w.store.items
+    ++ (options.At, w.at.now) ∷ size_given w.storage))))
 
 -- the first of some options whose text isn't right
 abbrev pub IsFirstWrong : List (ImageOption × List ℕ) → ImageOption × List ℕ → Type 0
@@ -156,10 +170,22 @@ abbrev pub IsAskedDeck : Bool → ImageOptions → List ℕ → Image → Type 0
 IsAskedDeck false o image d = d ≡ deck_of o image
 IsAskedDeck true o image d = IsLeastDeck o image d
 
--- the whole input is an image that ends in storage
-pub record IsImage (o : ImageOptions) (old new : Option (List ℕ)) (image : List ℕ) : Type 0 where
+-- from the image's address on there is room for so many bytes: to the size of storage that was asked
+-- for, or the largest
+abbrev pub IsRoom : ImageOptions → ℕ → Type 0
+IsRoom o room = o.at + room ≡ unwrap_or o.size (2 ^ 24)
+
+-- an image with zeros behind it, where a size of storage was asked for that leaves so much room
+abbrev pub filled : Option ℕ → ℕ → List ℕ → List ℕ
+filled None room image = image
+filled (Some size) room image = image ++ replicate (room - length image) 0
+
+-- the whole input is an image for which there is so much room
+pub record IsImage (o : ImageOptions) (room : ℕ) (old new : Option (List ℕ)) (image : List ℕ)
+    : Type 0 where
   pub gave : GaveAll old new image
-  pub short : o.at + length image ≤ 2 ^ 24
+  pub is_room : IsRoom o room
+  pub short : length image ≤ room
 
 -- why nothing is needed of a job: none will do, too many places are reachable, or memory ran out
 abbrev pub HasNoNeeds : ImageOptions → List ℕ → ImageError → Type 0
@@ -182,16 +208,20 @@ IsDeckAnswer o image old new (Err fault) = (o.is_least ≡ true) × HasNoNeeds o
 pub record IsReadImage (o : ImageOptions) (old_in new_in old new : Option (List ℕ))
     (answer : Result (Unit {0}) ImageError) : Type 0 where
   pub image : List ℕ
-  pub input : IsImage o old_in new_in image
-  pub answered : IsDeckAnswer o image old new answer
+  pub room : ℕ
+  pub input : IsImage o room old_in new_in image
+  pub answered : IsDeckAnswer o (filled o.size room image) old new answer
 
 -- what each answer says of the input and the output
 abbrev pub IsImageAnswer : ImageOptions → Option (List ℕ) → Option (List ℕ) → Option (List ℕ)
     → Option (List ℕ) → Result (Unit {0}) ImageError → Type 0
 IsImageAnswer o old_in new_in old new (Err faults.TooLong) =
-    (room : ℕ) × (o.at + room ≡ 2 ^ 24) × GaveTooMuch room old_in new_in
+    (o.size ≡ None) × (room : ℕ) × IsRoom o room × GaveTooMuch room old_in new_in
+IsImageAnswer o old_in new_in old new (Err faults.PastStorage) =
+    (size : ℕ) × (o.size ≡ Some size)
+    × ((size < o.at) ⊎ ((room : ℕ) × IsRoom o room × GaveTooMuch room old_in new_in))
 IsImageAnswer o old_in new_in old new (Err faults.Read) =
-    (room : ℕ) × (o.at + room ≡ 2 ^ 24) × GaveOut room old_in new_in
+    (room : ℕ) × IsRoom o room × GaveOut room old_in new_in
 IsImageAnswer o old_in new_in old new (Err faults.Memory) = Unit {0}
 IsImageAnswer o old_in new_in old new answer = IsReadImage o old_in new_in old new answer
 

@@ -16,6 +16,7 @@ option_usage options.Extent = codes "--extent <FIRST-LAST>"
 option_usage options.Fetch = codes "--fetch <START+LENGTH>"
 option_usage options.Store = codes "--store <START+LENGTH>"
 option_usage options.At = codes "--at <ADDRESS>"
+option_usage options.Storage = codes "--storage <SIZE>"
 
 -- what an option accepts
 abbrev pub accepted_by : ImageOption → List ℕ
@@ -27,6 +28,7 @@ accepted_by options.Extent = codes "decimal cylinders in order, 0 to 202, as 10-
 accepted_by options.Fetch = codes "hexadecimal start and length, each at most FFFFFF, as 900+10"
 accepted_by options.Store = codes "hexadecimal start and length, each at most FFFFFF, as 900+10"
 accepted_by options.At = codes "a hexadecimal address, at most FFFFFF"
+accepted_by options.Storage = codes "a hexadecimal multiple of 8, at most 1000000"
 
 -- the text that was given, the option, and what it accepts
 abbrev pub fault_text : OptionFault → List ℕ

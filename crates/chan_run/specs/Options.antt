@@ -1,5 +1,5 @@
 -- What the texts of the command's options say.
-use Rattle.std.specs.Prelude.{ℕ, ◌<◌, ◌^◌, ◌≡◌, true, List, ◌++◌, codes, Option, Some, None}
+use Rattle.std.specs.Prelude.{ℕ, ◌<◌, ◌≤◌, ◌%◌, ◌^◌, ◌≡◌, true, List, ◌++◌, codes, Option, Some, None}
 use Rattle.std.specs.Str.Parse.{IsNumeral, digits_value}
 use Rattle.ccw_core.specs.declared.areas.Area.{Area}
 use Rattle.ckd_core.specs.Mask.{is_mask}
@@ -20,6 +20,14 @@ SaysNumber radix text n = IsNumeral radix text × (digits_value radix text ≡ n
 -- hexadecimal digits of an address, or of the length of an area
 abbrev pub SaysAddress : List ℕ → ℕ → Type 0
 SaysAddress text n = SaysNumber 16 text n × (n < 2 ^ 24)
+
+-- a number of bytes that storage may have
+abbrev pub IsSize : ℕ → Type 0
+IsSize n = (n ≤ 2 ^ 24) × (n % 8 ≡ 0)
+
+-- hexadecimal digits of a size of storage
+abbrev pub SaysSize : List ℕ → ℕ → Type 0
+SaysSize text n = SaysNumber 16 text n × IsSize n
 
 -- hexadecimal digits of a file mask
 abbrev pub SaysMask : List ℕ → ℕ → Type 0

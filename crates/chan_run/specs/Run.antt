@@ -99,9 +99,11 @@ IsOutput actions.Graph j v text = IsPicture j text
 IsOutput actions.Needs j Yes text = IsNeedsText j text
 IsOutput actions.Needs j (No a r) text = IsExplained j (No a r) text
 
--- what stands before the output: for a verdict, the name of the input, where it has one
+-- what stands before the output: for a verdict and its explanation the name of the input, where it
+-- has one
 abbrev pub front_of : Option (List ℕ) → Action → List ℕ
 front_of name actions.Verify = name_before name true
+front_of name actions.Why = name_before name true
 front_of name _ = []
 
 -- nothing was written, where the writer tells what it holds

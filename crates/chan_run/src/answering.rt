@@ -75,16 +75,16 @@ fn tell<E: Write>(
 ) -> Result<(), DeviceFault>
     requires { errors.old.failed ≡ false }
     ensures ok { OnOk result (Appends (E.contents errors.old.device) (E.contents errors.new.device)
-        (line_over (name_in name.entry) outcome ++ advice_of advice)) }
+        (line_over (name_in name.entry) outcome ++ advice_of (name_in name.entry) advice)) }
     ensures prefix { AppendsPrefix (E.contents errors.old.device) (E.contents errors.new.device)
-        (line_over (name_in name.entry) outcome ++ advice_of advice) }
+        (line_over (name_in name.entry) outcome ++ advice_of (name_in name.entry) advice) }
     ensures fault { IsErr result ↔ (errors.new.failed ≡ true) }
 {
     write_line(name, outcome, errors)?;
     match advice {
         None => Ok(()),
         Some(Ok(text)) => write_out(text.as_slice(), errors),
-        Some(Err(AllocError)) => write_line(None, Outcome::Ran(Err(RunError::Memory)), errors),
+        Some(Err(AllocError)) => write_line(name, Outcome::Ran(Err(RunError::Memory)), errors),
     }
 }
 

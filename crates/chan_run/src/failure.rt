@@ -27,6 +27,13 @@ have.
 Cut the image down to what the program needs, or lower its address.
 ";
 
+const IMAGE_PAST_STORAGE: &str = "\
+The image, from its address on, ends past the size of storage that --storage
+says.
+Ask for a larger size, lower the image's address, or leave --storage out: then
+storage ends with the image.
+";
+
 const TOO_MANY_PLACES: &str = "\
 More places are reachable than the limit: 4,096, unless the deck says another.
 A deck of version 2 says it by its line `limit`, of at most 65,536, and so does
@@ -74,6 +81,8 @@ pub enum Failure {
     DeckTooLong,
     /// The image is longer than storage may be.
     ImageTooLong,
+    /// The image is longer than the size of storage that is asked for.
+    ImagePastStorage,
     /// More places are reachable than the limit.
     TooManyPlaces,
     /// The least job was asked for, and there is none.
@@ -97,6 +106,7 @@ pub(crate) fn failure_word(failure: Failure) -> &'static str
         Failure::ReadFailed => "read-failed",
         Failure::DeckTooLong => "deck-too-long",
         Failure::ImageTooLong => "image-too-long",
+        Failure::ImagePastStorage => "image-past-storage",
         Failure::TooManyPlaces => "too-many-places",
         Failure::NoJobWillDo => "no-job-will-do",
         Failure::WriteFailed => "write-failed",
@@ -115,6 +125,7 @@ pub(crate) fn failure_brief(failure: Failure) -> &'static str
         Failure::ReadFailed => "an input that can't be read to its end",
         Failure::DeckTooLong => "a text longer than a deck's may be",
         Failure::ImageTooLong => "an image longer than storage may be",
+        Failure::ImagePastStorage => "an image longer than the storage asked for",
         Failure::TooManyPlaces => "more places reachable than the limit",
         Failure::NoJobWillDo => "a program that no job will do for",
         Failure::WriteFailed => "an output that can't be written",
@@ -133,6 +144,7 @@ pub(crate) fn failure_meaning(failure: Failure) -> &'static str
         Failure::ReadFailed => READ_FAILED,
         Failure::DeckTooLong => DECK_TOO_LONG,
         Failure::ImageTooLong => IMAGE_TOO_LONG,
+        Failure::ImagePastStorage => IMAGE_PAST_STORAGE,
         Failure::TooManyPlaces => TOO_MANY_PLACES,
         Failure::NoJobWillDo => NO_JOB_WILL_DO,
         Failure::WriteFailed => WRITE_FAILED,

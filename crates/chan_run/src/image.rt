@@ -1,12 +1,13 @@
 //! Making a deck of an image of storage: from the reader's bytes to the writer's.
 
 ghost use Rattle.std.specs.Prelude.{◌≡◌, ◌↔◌, ◌⊎◌, ◌+◌, ◌≤◌, ◌^◌, false, true, length, Err, IfErr};
-ghost use Rattle.std.specs.Prelude.{IsErrOf, OnOk};
+ghost use Rattle.std.specs.Prelude.{◌<◌, if◌then◌else◌, is_some, IfOk, IfSome, IsErrOf, None, OnOk};
+ghost use Rattle.std.specs.Prelude.{unwrap_or};
 ghost use Rattle.std.specs.Io.KnownBytes.{Appends};
 ghost use Rattle.ccw_core.specs.Written.{AppendsPrefix};
 ghost use Rattle.chan_deck.specs.Image.{IsDeck, spelling};
 ghost use Rattle.chan_deck.specs.Parts.{HasAddresses, image_of};
-ghost use Rattle.chan_run.specs.Imaging.{IsDeckAnswer, IsEarly, IsImageAnswer};
+ghost use Rattle.chan_run.specs.Imaging.{IsDeckAnswer, IsEarly, IsImageAnswer, IsRoom, filled};
 
 use crate::image_options::ImageOptions;
 use crate::input::{InputError, read_input};
@@ -30,6 +31,10 @@ pub enum ImageError {
     /// More bytes came than storage has from the image's address on.
     #[error("image too long")]
     TooLong,
+    /// A size of storage was asked for, and the image's address lies past it, or more bytes came than
+    /// there is room for.
+    #[error("image past storage")]
+    PastStorage,
     /// The least job was asked for, and more places are reachable under the program's open job than
     /// the limit.
     #[error("too many places")]
@@ -60,7 +65,8 @@ impl From<AllocError> for ImageError {
 /// options: the deck's one text. Its job is what the options say, or where they ask for it the
 /// least job of the program, under which the verdict is yes.
 ///
-/// Storage has 16,777,216 bytes at most. Nothing is written before the whole image was read: after
+/// Storage has the size that is asked for, with zeros behind the image, or else it ends with the
+/// image, and has 16,777,216 bytes at most. Nothing is written before the whole image was read: after
 /// each error but `Write` nothing was written, and after that a prefix of the text.
 /// `Read` and `Write` come exactly where the device failed, and `Read` only before too many bytes
 /// came. Over an endless reader it returns, with `TooLong`.
@@ -79,16 +85,73 @@ pub fn write_image<R: Read, W: Write>(
     ensures read { IsErrOf result ImageError.Read ↔ (from.new.failed ≡ true) }
     ensures write { IsErrOf result ImageError.Write ↔ (to.new.failed ≡ true) }
 {
-    let image = match read_input(alloc, STORAGE_LIMIT - options.at as usize, from) {
+    let Some(room) = room_for(options) else {
+        return Err(ImageError::PastStorage);
+    };
+    let image = match read_input(alloc, room, from) {
         Ok(image) => image,
         Err(InputError::Read) => return Err(ImageError::Read),
-        Err(InputError::TooLong) => return Err(ImageError::TooLong),
+        Err(InputError::TooLong) => return Err(too_long(options)),
         Err(InputError::Memory) => return Err(ImageError::Memory),
     };
+    let whole = filled(options, image, room)?;
+    write_image_of(alloc, options, whole.as_slice(), to)
+}
+
+/// How many bytes there is room for from the image's address on, if it doesn't lie past storage.
+fn room_for(options: &ImageOptions) -> Option<usize>
+    ensures some { IfSome result (IsRoom options.now) }
+    ensures none { result ≡ None → unwrap_or options.now.size (2 ^ 24) < options.now.at }
+{
+    let end = match options.size {
+        Some(size) => size as usize,
+        None => STORAGE_LIMIT,
+    };
+    end.checked_sub(options.at as usize)
+}
+
+/// An image with zeros behind it, where a size of storage was asked for that leaves so much room.
+fn filled(options: &ImageOptions, image: Vec<u8>, room: usize) -> Result<Vec<u8>, AllocError>
+    requires { length image.items ≤ room }
+    ensures is { IfOk result (λ whole. whole.items ≡ filled options.now.size room image.items) }
+    ensures fits { IfOk result (λ whole. length whole.items ≤ room) }
+{
+    let mut whole = image;
+    if options.size.is_some() {
+        whole.resize(room, 0)?;
+    }
+    Ok(whole)
+}
+
+/// Why an image is refused for which there is no room.
+fn too_long(options: &ImageOptions) -> ImageError
+    ensures { result ≡ (if is_some options.now.size then ImageError.PastStorage
+        else ImageError.TooLong) }
+{
+    match options.size {
+        Some(_) => ImageError::PastStorage,
+        None => ImageError::TooLong,
+    }
+}
+
+/// Writes the deck that an image makes with the job that is asked for.
+fn write_image_of<W: Write>(
+    alloc: Global,
+    options: &ImageOptions,
+    image: &[u8],
+    to: &mut Watched<W>,
+) -> Result<(), ImageError>
+    requires short { options.now.at + length image.now ≤ 2 ^ 24 }
+    requires writer { to.old.failed ≡ false }
+    ensures answer { IsDeckAnswer options.now image.now
+        (W.contents to.old.device) (W.contents to.new.device) result }
+    ensures early { IsEarly result → to.new ≡ to.old }
+    ensures write { IsErrOf result ImageError.Write ↔ (to.new.failed ≡ true) }
+{
     if options.is_least {
-        write_least(alloc, options, image.as_slice(), to)
+        write_least(alloc, options, image, to)
     } else {
-        write_said(alloc, options, image.as_slice(), to)
+        write_said(alloc, options, image, to)
     }
 }
 

@@ -2,6 +2,8 @@
 
 ghost use Rattle.std.specs.List.{All};
 ghost use Rattle.chan_deck.specs.Item.{IsAddress, IsArea};
+ghost use Rattle.std.specs.Prelude.{unwrap_or};
+ghost use Rattle.chan_run.specs.Options.{IsSize};
 
 use ccw_core::Area;
 use chan_walk::Limit;
@@ -26,6 +28,8 @@ pub enum ImageOption {
     Store,
     /// `--at`: the address at which the image begins.
     At,
+    /// `--storage`: how many bytes storage has.
+    Storage,
 }
 
 /// The texts of the options with which a deck is made of an image, as a command line has them.
@@ -48,6 +52,8 @@ pub struct ImageWords<'a> {
     pub store: Vec<&'a str>,
     /// As `address_of` reads it.
     pub at: &'a str,
+    /// As `size_of` reads it.
+    pub storage: Option<&'a str>,
     /// Whether the deck grants what the program needs, in place of mask, extents and areas.
     pub is_least: bool,
 }
@@ -72,6 +78,9 @@ pub struct ImageOptions {
     pub store: Vec<Area>,
     /// The address at which the image begins, at most `FFFFFF`.
     pub at: u32,
+    /// How many bytes storage has, zeros behind the image; as many as the image needs where it isn't
+    /// said.
+    pub size: Option<u32>,
     /// Whether the deck grants what the program needs, in place of mask, extents and areas. These
     /// don't matter then.
     pub is_least: bool,
@@ -79,6 +88,7 @@ pub struct ImageOptions {
     pub ghost fetch_are_areas: { All IsArea fetch.items },
     pub ghost store_are_areas: { All IsArea store.items },
     pub ghost at_is_address: { IsAddress at },
+    pub ghost size_is_size: { IsSize (unwrap_or size 0) },
 }
 
 /// An option whose text isn't accepted, with that text.

@@ -43,7 +43,9 @@ pub use crate::image_options::{
 pub use crate::meaning::{MeaningError, Term, explain_word, list_words, term_of};
 pub use crate::option_fault::{report_grants, report_option};
 pub use crate::option_reading::options_of;
-pub use crate::options::{address_of, area_of, cylinders_of, device_of, limit_of, mask_of};
+pub use crate::options::{
+    address_of, area_of, cylinders_of, device_of, limit_of, mask_of, size_of,
+};
 pub use crate::reporting::{
     Outcome, conclude, ends_run, exit_status, greater_status, has_advice, report, report_named,
 };

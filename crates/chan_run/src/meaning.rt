@@ -210,7 +210,7 @@ pub enum Term {
 }
 
 /// The terms in the order of the list: the reasons by number, then the causes, then the failures.
-const TERMS: [Term; 37] = [
+const TERMS: [Term; 38] = [
     Term::Reason(Reason::Misaligned),
     Term::Reason(Reason::OutsideStorage),
     Term::Reason(Reason::TransferNotAllowed),
@@ -242,6 +242,7 @@ const TERMS: [Term; 37] = [
     Term::Failure(Failure::ReadFailed),
     Term::Failure(Failure::DeckTooLong),
     Term::Failure(Failure::ImageTooLong),
+    Term::Failure(Failure::ImagePastStorage),
     Term::Failure(Failure::TooManyPlaces),
     Term::Failure(Failure::NoJobWillDo),
     Term::Failure(Failure::WriteFailed),

@@ -117,6 +117,7 @@ fn usage<'a>(option: ImageOption) -> &'a str
         ImageOption::Fetch => "--fetch <START+LENGTH>",
         ImageOption::Store => "--store <START+LENGTH>",
         ImageOption::At => "--at <ADDRESS>",
+        ImageOption::Storage => "--storage <SIZE>",
     }
 }
 
@@ -128,6 +129,7 @@ fn accepted<'a>(option: ImageOption) -> &'a str
         ImageOption::Device => "2311 or 2314",
         ImageOption::Mask => "a hexadecimal byte with no bits on but C0 and 18",
         ImageOption::Start | ImageOption::At => "a hexadecimal address, at most FFFFFF",
+        ImageOption::Storage => "a hexadecimal multiple of 8, at most 1000000",
         ImageOption::Limit => "a decimal number, 1 to 65536",
         ImageOption::Extent => "decimal cylinders in order, 0 to 202, as 10-19",
         ImageOption::Fetch | ImageOption::Store => {

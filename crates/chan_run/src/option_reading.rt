@@ -4,13 +4,12 @@ ghost use Rattle.std.specs.Prelude.{◌≡◌, ◌⊎◌, ◌∷◌, [], IfErr, 
 ghost use Rattle.std.specs.List.{AllZip};
 ghost use Rattle.chan_run.specs.Imaging.{NamesFirstWrong, SaysExtent, SaysLimitOrNone};
 ghost use Rattle.chan_run.specs.Imaging.{SaysOptions, each_given, extents_given, given};
-ghost use Rattle.chan_run.specs.Imaging.{limit_given};
-ghost use Rattle.chan_run.specs.Imaging.{texts_of};
+ghost use Rattle.chan_run.specs.Imaging.{SaysSizeOrNone, limit_given, size_given, texts_of};
 ghost use Rattle.chan_run.specs.Options.{IsRead, SaysAddress, SaysArea};
 ghost use Rattle.chan_run.specs.declared.image_options.ImageOption.TheVariants as options;
 
 use crate::image_options::{ImageOption, ImageOptions, ImageWords, OptionError, OptionFault};
-use crate::options::{address_of, area_of, cylinders_of, device_of, limit_of, mask_of};
+use crate::options::{address_of, area_of, cylinders_of, device_of, limit_of, mask_of, size_of};
 use ccw_core::Area;
 use chan_walk::Limit;
 use ckd_core::Extents;
@@ -102,6 +101,20 @@ fn image_address<'a>(text: &'a str) -> Result<u32, OptionError<'a>>
     }
 }
 
+/// The size of storage that its text says, where there is one.
+fn size_or_none<'a>(text: Option<&'a str>) -> Result<Option<u32>, OptionError<'a>>
+    ensures ok { IfOk result (SaysSizeOrNone text.entry) }
+    ensures wrong { IfErr result (NamesFirstWrong (size_given text.entry)) }
+{
+    match text {
+        Some(text) => match size_of(text) {
+            Some(size) => Ok(Some(size)),
+            None => Err(wrong(ImageOption::Storage, text)),
+        },
+        None => Ok(None),
+    }
+}
+
 /// The error that names an option and its text.
 fn wrong<'a>(option: ImageOption, text: &'a str) -> OptionError<'a>
     ensures { result ≡ OptionError.Wrong (record { option = option; text = text.entry }) }
@@ -111,9 +124,9 @@ fn wrong<'a>(option: ImageOption, text: &'a str) -> OptionError<'a>
 
 /// What the texts of the options say.
 ///
-/// The options are asked in the order of a deck's lines, that of the image's address last, and the
-/// first is named whose text isn't accepted: a device, a file mask, an address, a limit,
-/// an extent in order and on the device, an area. Where there is no extent, it is as if an empty
+/// The options are asked in the order of a deck's lines, those of the image's address and of the size
+/// of storage last, and the first is named whose text isn't accepted: a device, a file mask, an
+/// address, a limit, an extent in order and on the device, an area, a size. Where there is no extent, it is as if an empty
 /// text were given for one.
 pub fn options_of<'a>(
     alloc: Global,
@@ -130,6 +143,7 @@ pub fn options_of<'a>(
     let fetch = areas_of(alloc, ImageOption::Fetch, &words.fetch)?;
     let store = areas_of(alloc, ImageOption::Store, &words.store)?;
     let at = image_address(words.at)?;
+    let size = size_or_none(words.storage)?;
     Ok(ImageOptions {
         device,
         mask,
@@ -139,6 +153,7 @@ pub fn options_of<'a>(
         fetch,
         store,
         at,
+        size,
         is_least: words.is_least,
     })
 }

@@ -1,7 +1,7 @@
 //! What the texts of the command's options say.
 
 ghost use Rattle.std.specs.Prelude.{◌<◌, ◌≤◌, ◌^◌};
-ghost use Rattle.chan_run.specs.Options.{IsRead, SaysAddress, SaysArea, SaysCylinder};
+ghost use Rattle.chan_run.specs.Options.{IsRead, SaysAddress, SaysArea, SaysCylinder, SaysSize};
 ghost use Rattle.chan_run.specs.Options.{SaysCylinders, SaysDevice, SaysLimit, SaysMask};
 ghost use Rattle.chan_run.specs.Options.{SaysNumber};
 
@@ -31,6 +31,17 @@ pub fn address_of(text: &str) -> Option<u32>
 {
     match number_of(text, 16) {
         Some(number) if number < PAST_ADDRESSES => Some(number),
+        _ => None,
+    }
+}
+
+/// A size of storage: one hexadecimal digit or more, of either case, whose number is a multiple of 8
+/// and at most `1000000`.
+pub fn size_of(text: &str) -> Option<u32>
+    ensures { IsRead SaysSize text.now result }
+{
+    match number_of(text, 16) {
+        Some(number) if number <= PAST_ADDRESSES && number % 8 == 0 => Some(number),
         _ => None,
     }
 }

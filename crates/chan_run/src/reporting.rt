@@ -171,6 +171,7 @@ pub fn exit_status(outcome: Outcome) -> u8
         Outcome::Imaged(Err(ImageError::TooLong | ImageError::TooManyPlaces)) => 2,
         Outcome::Imaged(Err(ImageError::NoJob { .. })) => 1,
         Outcome::Shown(Err(ShowError::NotCcw)) | Outcome::UsageFault => 4,
+        Outcome::Imaged(Err(ImageError::PastStorage)) => 4,
         Outcome::Explained(Err(MeaningError::Unknown { .. })) => 4,
         _ => 3,
     }
@@ -272,6 +273,7 @@ fn text<'a>(outcome: Outcome) -> &'a str
         }
         Outcome::Ran(Err(RunError::TooLong)) => "deck too long\n",
         Outcome::Imaged(Err(ImageError::TooLong)) => "image too long\n",
+        Outcome::Imaged(Err(ImageError::PastStorage)) => "image past storage\n",
         Outcome::Ran(Err(RunError::Deck { .. })) => "deck line ",
         Outcome::Ran(Err(RunError::TooManyPlaces))
         | Outcome::Imaged(Err(ImageError::TooManyPlaces)) => "too many places\n",

@@ -1,15 +1,16 @@
 //! Running over a deck: from the reader's bytes to the writer's.
 
 ghost use Rattle.std.specs.Prelude.{◌≡◌, ◌↔◌, ◌++◌, [], false, true, Err, IfErr, IfOk};
-ghost use Rattle.std.specs.Prelude.{IsErrOf, OnOk};
+ghost use Rattle.std.specs.Prelude.{IsErr, IsErrOf, OnOk, string_bytes};
 ghost use Rattle.std.specs.Io.KnownBytes.{Appends};
 ghost use Rattle.ccw_core.specs.Written.{AppendsPrefix};
 ghost use Rattle.chan_deck.specs.Texts.{verdict_line};
 ghost use Rattle.chan_walk.specs.Offences.{first_verdict};
 ghost use Rattle.chan_walk.specs.Surveyed.{IsSurvey};
 ghost use Rattle.chan_run.specs.Advice.{IsBeside, IsBesideJob};
-ghost use Rattle.chan_run.specs.Naming.{name_in};
-ghost use Rattle.chan_run.specs.Run.{IsAnswerBehind, IsAnswerOn, IsEarly, IsJobAnswer, IsNamedAnswer};
+ghost use Rattle.chan_run.specs.Naming.{name_before, name_in};
+ghost use Rattle.chan_run.specs.Run.{IsAnswerBehind, IsAnswerOn, IsEarly, IsExplained, IsJobAnswer};
+ghost use Rattle.chan_run.specs.Run.{IsNamedAnswer};
 ghost use Rattle.chan_run.specs.Run.{IsInput, IsReadFault, IsRunAnswer, IsWritten};
 ghost use Rattle.chan_run.specs.Run.{IsTextAnswer, front_of, status_of_verdict};
 ghost use Rattle.chan_run.specs.declared.running.Action.TheVariants as actions;
@@ -18,10 +19,10 @@ use crate::advising::{limit_text, notes_on};
 use crate::input::{InputError, TEXT_LIMIT, read_input};
 use crate::naming::named;
 use crate::texts::write_texts;
-use ccw_core::{Storage, Watched};
+use ccw_core::{DeviceFault, Storage, Watched};
 use chan_deck::{
-    Cause, DeckError, ListError, hint_text, read_deck, verdict_text, write_explanation,
-    write_graph, write_needs, write_seen,
+    Cause, DeckError, ListError, explanation_text, hint_text, read_deck, verdict_text, write_graph,
+    write_needs, write_seen,
 };
 use chan_walk::{Job, OpenJob, Survey, Verdict, WalkError, survey};
 use std::alloc::{AllocError, Global};
@@ -103,9 +104,9 @@ pub fn run<R: Read, W: Write>(
 
 /// As `run`, over an input that has a name.
 ///
-/// For `Verify` the verdict's line stands behind the name, a colon and a space, of which nothing is
-/// written either before the whole deck was judged; after `Write` a prefix of all this was written.
-/// For `List`, `Why`, `Graph` and `Needs` the text is that of `run`.
+/// For `Verify` and `Why` the verdict's line stands behind the name, a colon and a space, of which
+/// nothing is written either before the whole deck was judged; after `Write` a prefix of all this
+/// was written. For `List`, `Graph` and `Needs` the text is that of `run`.
 pub fn run_named<R: Read, W: Write>(
     alloc: Global,
     name: &str,
@@ -321,7 +322,7 @@ fn write_output<W: Write>(
             let (looks, _offences) = survey.into_parts();
             write_seen(alloc, looks.as_slice(), verdict, to)
         }
-        Action::Why => write_why(alloc, job, &survey, to),
+        Action::Why => write_why(alloc, name, job, &survey, to),
         Action::Needs => write_needed(alloc, job, &survey, to),
         Action::Graph => {
             let (looks, offences) = survey.into_parts();
@@ -330,23 +331,38 @@ fn write_output<W: Write>(
     }
 }
 
-/// Writes the explanation of the verdict on a job that was surveyed.
+/// Writes the explanation of the verdict on a job that was surveyed, behind the name that the input
+/// may have.
 fn write_why<W: Write>(
     alloc: Global,
+    name: Option<&str>,
     job: &Job,
     survey: &Survey,
     to: &mut Watched<W>,
 ) -> Result<(), ListError>
     requires writer { to.old.failed ≡ false }
     requires survey { IsSurvey job.now survey.now }
-    ensures output { IsWritten [] actions.Why job.now
+    ensures output { IsWritten (front_of (name_in name.entry) actions.Why) actions.Why job.now
         (first_verdict survey.now.offences.items)
         (W.contents to.old.device) (W.contents to.new.device) result }
     ensures write { IsErrOf result ListError.Write ↔ (to.new.failed ≡ true) }
     ensures memory { IsErrOf result ListError.Memory → to.new ≡ to.old }
 {
+    let text = why_text(alloc, job, survey)?;
+    match write_named(name, text.as_str(), to) {
+        Ok(()) => Ok(()),
+        Err(DeviceFault) => Err(ListError::Write),
+    }
+}
+
+/// The explanation of the verdict on a job that was surveyed.
+fn why_text(alloc: Global, job: &Job, survey: &Survey) -> Result<String, AllocError>
+    requires { IsSurvey job.now survey.now }
+    ensures { IfOk result (λ text. IsExplained job.now (first_verdict survey.now.offences.items)
+        (string_bytes text)) }
+{
     let witness = survey.witness(alloc, job)?;
-    write_explanation(alloc, job, survey, &witness, to)
+    explanation_text(alloc, job, survey, &witness)
 }
 
 /// Writes what the program of a job needs that was surveyed, or where the verdict is no, its
@@ -366,7 +382,7 @@ fn write_needed<W: Write>(
     ensures memory { IsErrOf result ListError.Memory → to.new ≡ to.old }
 {
     match survey.verdict() {
-        Verdict::No { .. } => write_why(alloc, job, survey, to),
+        Verdict::No { .. } => write_why(alloc, None, job, survey, to),
         Verdict::Yes => {
             let needs = survey.needs(alloc, job)?;
             write_needs(alloc, &needs, to)
@@ -390,8 +406,24 @@ fn write_verdict<W: Write>(
     ensures memory { IsErrOf result ListError.Memory → to.new ≡ to.old }
 {
     let line = verdict_text(alloc, verdict)?;
+    Ok(write_named(name, line.as_str(), to)?)
+}
+
+/// Writes a text, behind the name that the input may have.
+fn write_named<W: Write>(
+    name: Option<&str>,
+    text: &str,
+    to: &mut Watched<W>,
+) -> Result<(), DeviceFault>
+    requires { to.old.failed ≡ false }
+    ensures ok { OnOk result (Appends (W.contents to.old.device) (W.contents to.new.device)
+        (name_before (name_in name.entry) true ++ text.now)) }
+    ensures prefix { AppendsPrefix (W.contents to.old.device) (W.contents to.new.device)
+        (name_before (name_in name.entry) true ++ text.now) }
+    ensures fault { IsErr result ↔ (to.new.failed ≡ true) }
+{
     let (name, mark) = named(name, true);
-    Ok(write_texts(&[name, mark, line.as_str()], to)?)
+    write_texts(&[name, mark, text], to)
 }
 
 fn status_of(verdict: Verdict) -> Status

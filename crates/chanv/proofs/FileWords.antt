@@ -71,61 +71,62 @@ behind_value rows id word waiting = record {
   stopped = None;
 }
 
--- ---- the words after `verify`
+-- ---- the words after `verify` or `why`
 
-abbrev verify : Shape
-verify = sub_at 1
+-- a command of this name, as clap builds it, with any number of files
+abbrev pub files_line : Text → Shape
+files_line name = record (sub_at 1) { name = name }
 
 -- what is found for files that are used
 abbrev rows_for : List Text → List Row
 rows_for [] = []
-rows_for (v ∷ vs) = given (rule_at verify 0) (v ∷ vs) ∷ []
+rows_for (v ∷ vs) = given (rule_at (sub_at 1) 0) (v ∷ vs) ∷ []
 
 -- the walk behind these words, of which the last waits to be used
 abbrev behind : List Text → Text → Walk
 behind front last = behind_value (rows_for front) (codes "FILE") last positional
 
 -- the first word leads behind it
-first : (word : Text) → IsValue word → (turn_fault verify [] (walk_from nothing_held) word ≡ [])
-    × (walked verify.rules [] (walk_from nothing_held) word ≡ behind [] word)
+first : (name word : Text) → IsValue word → (turn_fault (files_line name) [] (walk_from nothing_held) word ≡ [])
+    × (walked (files_line name).rules [] (walk_from nothing_held) word ≡ behind [] word)
 unfolding clap_on_literals
-first word value =
+first name word value =
     (simp (value.0, value.1, value.2) refl, simp (value.0, value.1, value.2) refl)
 
 -- and so does each word after it
-next : (front : List Text) (last word : Text) → IsValue word
-    → (turn_fault verify [] (behind front last) word ≡ [])
-    × (walked verify.rules [] (behind front last) word ≡ behind (front ++ last ∷ []) word)
+next : (name : Text) (front : List Text) (last word : Text) → IsValue word
+    → (turn_fault (files_line name) [] (behind front last) word ≡ [])
+    × (walked (files_line name).rules [] (behind front last) word ≡ behind (front ++ last ∷ []) word)
 unfolding clap_on_literals
-next [] last word value =
+next name [] last word value =
     (simp (value.0, value.1, value.2) refl, simp (value.0, value.1, value.2) refl)
-next (v ∷ vs) last word value =
+next name (v ∷ vs) last word value =
     (simp (value.0, value.1, value.2) refl, simp (value.0, value.1, value.2) refl)
 
 -- the files go on to the end
-ends : (front : List Text) (last : Text) (rest : List Text) → All IsWord rest
-    → LeadsTo verify (behind front last) rest (λ rows. files_in rows ≡ front ++ last ∷ rest)
+ends : (name : Text) (front : List Text) (last : Text) (rest : List Text) → All IsWord rest
+    → LeadsTo (files_line name) (behind front last) rest (λ rows. files_in rows ≡ front ++ last ∷ rest)
 unfolding clap_on_literals
-ends [] last [] files = record { sound = refl; found = refl }
-ends (v ∷ vs) last [] files = record { sound = refl; found = refl }
-ends front last (word ∷ rest) files =
-    let leads = ends (front ++ last ∷ []) word rest (All-tail IsWord word rest files) in
-    let here = next front last word (is_value word (All-head IsWord word rest files)) in
-    turned verify _ _ word rest (λ rows. files_in rows ≡ front ++ last ∷ word ∷ rest) here.0 here.1
+ends name [] last [] files = record { sound = refl; found = refl }
+ends name (v ∷ vs) last [] files = record { sound = refl; found = refl }
+ends name front last (word ∷ rest) files =
+    let leads = ends name (front ++ last ∷ []) word rest (All-tail IsWord word rest files) in
+    let here = next name front last word (is_value word (All-head IsWord word rest files)) in
+    turned (files_line name) _ _ word rest (λ rows. files_in rows ≡ front ++ last ∷ word ∷ rest) here.0 here.1
     (record {
       sound = leads.sound;
       found = leads.found ∙ append_assoc front (last ∷ []) (word ∷ rest);
     })
 
 -- nothing is wrong with files, and they are what is found as such
-pub files_are_found : (files : List Text) → All IsWord files
-    → CommandLeadsTo verify files (λ rows. files_in rows ≡ files)
+pub files_are_found : (name : Text) (files : List Text) → All IsWord files
+    → CommandLeadsTo (files_line name) files (λ rows. files_in rows ≡ files)
 unfolding clap_on_literals
-files_are_found [] files = record { sound = refl; found = refl }
-files_are_found (file ∷ rest) files =
-    let here = first file (is_value file (All-head IsWord file rest files)) in
-    turned verify (walk_from nothing_held) _ file rest (λ rows. files_in rows ≡ file ∷ rest)
-    here.0 here.1 (ends [] file rest (All-tail IsWord file rest files))
+files_are_found name [] files = record { sound = refl; found = refl }
+files_are_found name (file ∷ rest) files =
+    let here = first name file (is_value file (All-head IsWord file rest files)) in
+    turned (files_line name) (walk_from nothing_held) _ file rest (λ rows. files_in rows ≡ file ∷ rest)
+    here.0 here.1 (ends name [] file rest (All-tail IsWord file rest files))
 
 -- ---- one word
 
@@ -175,6 +176,7 @@ HasTwo start extent rows =
     × (all_of (codes "extent") rows ≡ Some (extent ∷ [])) × (all_of (codes "fetch") rows ≡ None)
     × (all_of (codes "store") rows ≡ None) × (first_of (codes "at") rows ≡ None)
     × (first_of (codes "FILE") rows ≡ None) × (grant_fault rows ≡ None) × (is_least rows ≡ false)
+    × (first_of (codes "storage") rows ≡ None)
 
 -- nothing is wrong with the extent, and both are found
 extent_leads : (start extent : Text) → IsValue extent
@@ -187,7 +189,7 @@ extent_leads start extent value = turned (sub_at 6) _
     (turned (sub_at 6) _ (behind_value (given (rule_at (sub_at 6) 2) (start ∷ []) ∷ [])
     (codes "extent") extent idle) extent [] _
     (simp (value.0, value.1, value.2) refl) (simp (value.0, value.1, value.2) refl)
-    (record { sound = refl; found = (refl, refl, refl, refl, refl, refl, refl, refl, refl, refl, refl) }))
+    (record { sound = refl; found = (refl, refl, refl, refl, refl, refl, refl, refl, refl, refl, refl, refl) }))
 
 -- nor with the start
 pub options_are_given : (start extent : Text) → IsValue start → IsValue extent
@@ -211,6 +213,7 @@ HasLeast start rows =
     (first_of (codes "device") rows ≡ None) × (first_of (codes "start") rows ≡ Some start)
     × (first_of (codes "limit") rows ≡ None) × (first_of (codes "at") rows ≡ None)
     × (first_of (codes "FILE") rows ≡ None) × (grant_fault rows ≡ None) × (is_least rows ≡ true)
+    × (first_of (codes "storage") rows ≡ None)
 
 pub least_is_given : (start : Text) → IsValue start
     → CommandLeadsTo (sub_at 6) (least_words start) (HasLeast start)
@@ -222,4 +225,4 @@ least_is_given start value =
     (turned (sub_at 6) _ (behind_value [] (codes "start") start idle) start _ _
     (simp (value.0, value.1, value.2) refl) (simp (value.0, value.1, value.2) refl)
     (turned (sub_at 6) _ _ (codes "--least") [] (HasLeast start) refl refl
-    (record { sound = refl; found = (refl, refl, refl, refl, refl, refl, refl) })))
+    (record { sound = refl; found = (refl, refl, refl, refl, refl, refl, refl, refl) })))

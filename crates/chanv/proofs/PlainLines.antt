@@ -12,6 +12,7 @@ use Rattle.clap.specs.declared.error.kind.ErrorKind.TheVariants.{InvalidSubcomma
 use Rattle.clap.specs.declared.error.kind.ErrorKind.TheVariants.{MissingRequiredArgument}
 use Rattle.clap.specs.declared.error.kind.ErrorKind.TheVariants.{UnknownArgument}
 use Rattle.chanv.proofs.FileWords.{CommandLeadsTo, HasLeast, HasTwo, IsValue, files_are_found}
+use Rattle.chanv.proofs.FileWords.{files_line}
 use Rattle.chanv.proofs.FileWords.{is_value, least_is_given, least_words, one_word, option_words}
 use Rattle.chanv.proofs.FileWords.{options_are_given, second_is_stray, word_is_found}
 use Rattle.chanv.specs.ImageLine.{extents_or_all}
@@ -27,7 +28,7 @@ use Rattle.chanv.specs.declared.command_line.Request.{Request}
 use Rattle.chanv.specs.declared.command_line.Request.TheVariants.{Explain, Fault, Grants, Help, Image}
 use Rattle.chanv.specs.declared.command_line.Request.TheVariants.{NoMemory, Run, RunNamed, Show}
 use Rattle.chanv.specs.declared.command_line.Request.TheVariants.{Version, Words}
-use Rattle.chanv.proofs.Names.{if◌then◌else◌, ◌≢◌, Action, All-cons, All-nil, App, Bor, Error}
+use Rattle.chanv.proofs.Names.{if◌then◌else◌, ◌≢◌, Action, All, All-cons, All-nil, App, Bor, Error}
 use Rattle.chanv.proofs.Names.{ErrorKind, IsAmong, IsStandardInput, Kinds, Shape, built, bytes_eq}
 use Rattle.chanv.proofs.Names.{bytes_eq-Decides, entered, fault_of, files_in, find, fold, kind_of}
 use Rattle.chanv.proofs.Names.{label_of, names_of, option_map, option_map_or, or_else}
@@ -164,6 +165,7 @@ images rows start extent has (Image q) asks =
       said.at ∙ ap (λ o. unwrap_or o (codes "0")) has.7,
       said.least ∙ has.10,
       no_text q.file (said.file ∙ ap other_than_input has.8),
+      no_text q.words.storage (said.storage ∙ has.11),
     )
 images rows start extent has (Grants fault) asks =
     let bad : Some fault ≡ None = sym asks.1 ∙ has.9 in cc
@@ -181,6 +183,7 @@ images_least rows start has (Image q) asks =
       said.at ∙ ap (λ o. unwrap_or o (codes "0")) has.3,
       said.least ∙ has.6,
       no_text q.file (said.file ∙ ap other_than_input has.4),
+      no_text q.words.storage (said.storage ∙ has.7),
     )
 images_least rows start has (Grants fault) asks =
     let bad : Some fault ≡ None = sym asks.1 ∙ has.5 in cc
@@ -412,6 +415,21 @@ module _ (line : List Text) (answer : Request) (is : IsAnswerTo line answer) whe
       (λ rows. files_in rows ≡ files) leads (RunsNamedOrNoMemory a files) tt
       (λ rows found. runs_named (Some (name_of a, rows)) a (purpose_is a) files found other)
 
+  -- the lines of an action that takes any number of files
+  module _ (a : Action) (named : IsNamed (name_of a) (files_line (name_of a))) where
+    judged : (p : Text) → line ≡ p ∷ name_of a ∷ [] → RunsOrNoMemory a answer
+    judged = over_input a _ named [] [] (files_are_found (name_of a) [] (All-nil IsWord)) (inl refl)
+
+    judged_input : (p : Text) → line ≡ p ∷ name_of a ∷ codes "-" ∷ [] → RunsOrNoMemory a answer
+    judged_input = over_input a _ named (codes "-" ∷ []) (codes "-" ∷ [])
+        (files_are_found (name_of a) (codes "-" ∷ [])
+        (All-cons IsWord _ [] (inl refl) (All-nil IsWord))) (inr refl)
+
+    judged_files : (p : Text) (files : List Text) → All IsWord files → ¬ IsStandardInput files
+        → line ≡ p ∷ name_of a ∷ files → RunsNamedOrNoMemory a files answer
+    judged_files p files are other =
+        over_files a _ named files (files_are_found (name_of a) files are) other p
+
   -- the lines of an action that takes one file
   module _ (a : Action) (named : IsNamed (name_of a) (one_word (name_of a)
       (codes "FILE") false)) where
@@ -436,9 +454,9 @@ module _ (line : List Text) (answer : Request) (is : IsAnswerTo line answer) whe
   -- it is what the plain lines say
   pub plain : IsPlainAnswerTo line answer
   plain =
-      let verify : IsNamed (codes "verify") (sub_at 1) = search rules in
+      let verify : IsNamed (codes "verify") (files_line (codes "verify")) = search rules in
       let list : IsNamed (codes "list") (one_word (codes "list") (codes "FILE") false) = search rules in
-      let why : IsNamed (codes "why") (one_word (codes "why") (codes "FILE") false) = search rules in
+      let why : IsNamed (codes "why") (files_line (codes "why")) = search rules in
       let graph : IsNamed (codes "graph") (one_word (codes "graph") (codes "FILE") false) = search rules in
       let show : IsNamed (codes "show") (one_word (codes "show") (codes "CCW") true) = search rules in
       let needs : IsNamed (codes "needs") (one_word (codes "needs") (codes "FILE") false) = search rules in
@@ -449,21 +467,16 @@ module _ (line : List Text) (answer : Request) (is : IsAnswerTo line answer) whe
             (ap (fault_of chanv) e ∙ (alone_is_taken p).0)
             (ap (subcommand_of chanv) e ∙ (alone_is_taken p).1) tt
             (runs None actions.Verify refl (inl refl)) answer is;
-        verify = over_input actions.Verify (sub_at 1) verify [] []
-            (files_are_found [] (All-nil IsWord)) (inl refl);
-        verify_input = over_input actions.Verify (sub_at 1) verify (codes "-" ∷ []) (codes "-" ∷ [])
-            (files_are_found (codes "-" ∷ []) (All-cons IsWord _ [] (inl refl) (All-nil IsWord)))
-            (inr refl);
-        verify_files = λ p files are other. over_files actions.Verify (sub_at 1) verify files
-            (files_are_found files are) other p;
+        verify = judged actions.Verify verify;
+        verify_input = judged_input actions.Verify verify;
+        verify_files = judged_files actions.Verify verify;
         list = told actions.List list;
         list_input = told_input actions.List list;
         list_file = told_file actions.List list;
         list_more = told_more actions.List list;
-        why = told actions.Why why;
-        why_input = told_input actions.Why why;
-        why_file = told_file actions.Why why;
-        why_more = told_more actions.Why why;
+        why = judged actions.Why why;
+        why_input = judged_input actions.Why why;
+        why_files = judged_files actions.Why why;
         graph = told actions.Graph graph;
         graph_input = told_input actions.Graph graph;
         graph_file = told_file actions.Graph graph;

@@ -29,9 +29,9 @@ file_words = record file_word { action = Some Append }
 abbrev pub show_line : App
 show_line = with_rule (new_app (codes "show")) ccw_word
 
--- the command `verify`, with any number of files
-abbrev pub verify_line : App
-verify_line = with_rule (new_app (codes "verify")) file_words
+-- a command of this name, with any number of files
+abbrev pub decks_line : Text → App
+decks_line name = with_rule (new_app name) file_words
 
 -- a command of this name, with one file or none
 abbrev pub deck_line : Text → App
@@ -49,13 +49,14 @@ program_line =
 
 -- the program with `show` and `verify`
 abbrev pub judging_line : App
-judging_line = with_subcommand (with_subcommand program_line show_line.top) verify_line.top
+judging_line =
+    with_subcommand (with_subcommand program_line show_line.top) (decks_line (codes "verify")).top
 
 -- a program with `list`, `why`, `graph` and `needs` too
 abbrev pub with_tellers : App → App
 with_tellers app =
     let listing = with_subcommand app (deck_line (codes "list")).top in
-    let explaining = with_subcommand listing (deck_line (codes "why")).top in
+    let explaining = with_subcommand listing (decks_line (codes "why")).top in
     let drawing = with_subcommand explaining (deck_line (codes "graph")).top in
     with_subcommand drawing (deck_line (codes "needs")).top
 
@@ -196,7 +197,7 @@ ImagesOrNoMemory start extent (Image asked) =
     × (asked.words.start.now ≡ start) × (asked.words.limit ≡ None)
     × (texts_of asked.words.extents.items ≡ extent ∷ []) × (asked.words.fetch.items ≡ [])
     × (asked.words.store.items ≡ []) × (asked.words.at.now ≡ codes "0")
-    × (asked.words.is_least ≡ false) × (asked.file ≡ None)
+    × (asked.words.is_least ≡ false) × (asked.file ≡ None) × (asked.words.storage ≡ None)
 ImagesOrNoMemory start extent NoMemory = Unit {0}
 ImagesOrNoMemory start extent _ = ⊥
 
@@ -206,7 +207,7 @@ abbrev pub ImagesLeastOrNoMemory : Text → Request → Type 0
 ImagesLeastOrNoMemory start (Image asked) =
     (asked.words.device.now ≡ codes "2314") × (asked.words.start.now ≡ start)
     × (asked.words.limit ≡ None) × (asked.words.at.now ≡ codes "0")
-    × (asked.words.is_least ≡ true) × (asked.file ≡ None)
+    × (asked.words.is_least ≡ true) × (asked.file ≡ None) × (asked.words.storage ≡ None)
 ImagesLeastOrNoMemory start NoMemory = Unit {0}
 ImagesLeastOrNoMemory start _ = ⊥
 
@@ -262,11 +263,9 @@ pub record IsPlainAnswerTo (words : List Text) (answer : Request) : Type 0 where
       → RunsOrNoMemory actions.Why answer
   pub why_input : (program : Text) → words ≡ program ∷ codes "why" ∷ codes "-" ∷ []
       → RunsOrNoMemory actions.Why answer
-  pub why_file : (program file : Text) → starts_with_minus file ≡ false
-      → words ≡ program ∷ codes "why" ∷ file ∷ []
-      → RunsNamedOrNoMemory actions.Why (file ∷ []) answer
-  pub why_more : (program file more : Text) (rest : List Text) → IsWord file → IsWord more
-      → words ≡ program ∷ codes "why" ∷ file ∷ more ∷ rest → FaultsOrNoMemory answer
+  pub why_files : (program : Text) (files : List Text) → All IsWord files
+      → ¬ IsStandardInput files → words ≡ program ∷ codes "why" ∷ files
+      → RunsNamedOrNoMemory actions.Why files answer
   pub graph : (program : Text) → words ≡ program ∷ codes "graph" ∷ []
       → RunsOrNoMemory actions.Graph answer
   pub graph_input : (program : Text) → words ≡ program ∷ codes "graph" ∷ codes "-" ∷ []

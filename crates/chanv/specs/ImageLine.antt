@@ -41,7 +41,8 @@ lending_options line =
     let fetch = with_rule extent (repeated (option_word (codes "fetch"))) in
     let store = with_rule fetch (repeated (option_word (codes "store"))) in
     let least = with_rule store (flag_word (codes "least")) in
-    with_rule least (option_word (codes "at"))
+    let at = with_rule least (option_word (codes "at")) in
+    with_rule at (option_word (codes "storage"))
 
 -- the command `deck`, with its options and a file
 abbrev pub image_line : App
@@ -94,5 +95,6 @@ pub record SaysImage (rows : List Row) (r : ImageRequest) : Type 0 where
   pub fetch : texts_of r.words.fetch.items ≡ texts_in (codes "fetch") rows
   pub store : texts_of r.words.store.items ≡ texts_in (codes "store") rows
   pub at : r.words.at.now ≡ text_or (codes "at") (codes "0") rows
+  pub storage : option_map (λ text. text.now) r.words.storage ≡ first_of (codes "storage") rows
   pub least : r.words.is_least ≡ is_least rows
   pub file : option_map (λ name. name.now) r.file ≡ file_in rows

@@ -96,6 +96,7 @@ pub(crate) fn image_request<'a>(
         fetch: texts_met(alloc, matches, "fetch")?,
         store: texts_met(alloc, matches, "store")?,
         at: text_or(matches, "at", "0"),
+        storage: text_met(matches, "storage"),
         is_least: is_least(matches),
     };
     Ok(ImageRequest {

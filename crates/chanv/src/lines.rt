@@ -49,7 +49,7 @@ pub(crate) struct Line<'a> {
 /// What a line may look like, for help and for a usage fault before any command.
 const USAGE: &str = "chanv verify [FILE]...
        chanv list [FILE]
-       chanv why [FILE]
+       chanv why [FILE]...
        chanv graph [FILE]
        chanv needs [FILE]
        chanv deck --start <ADDRESS> --least [OPTIONS] [FILE]
@@ -91,10 +91,11 @@ where all is granted: there may be too many where `chanv verify` says no, and ne
 yes.";
 
 /// What the help of `deck` says behind its words.
-const OF_DECK: &str = "Addresses, lengths and the mask are hexadecimal, cylinders and the limit \
+const OF_DECK: &str = "Addresses, lengths, sizes and the mask are hexadecimal, cylinders and the limit \
 decimal. An option
 with <START+LENGTH> may come any number of times, and so may --extent. Storage ends
-with the image, filled with zeros to a multiple of 8.
+with the image, filled with zeros to a multiple of 8, or with --storage where that says,
+filled with zeros.
 
 The deck is written to standard output, so that it can be judged at once:
   chanv deck --start 3A98 --extent 0-202 core.bin | chanv why
@@ -107,9 +108,9 @@ The exit status:
   1  with --least: no job will do
   2  the image is longer than storage may be, or with --least too many places are reachable
   3  FILE can't be opened, reading or writing failed, or memory ran out
-  4  the command line is wrong";
+  4  the command line is wrong, or the image ends past --storage";
 
-/// The decks to judge.
+/// The decks to judge, or to explain the verdicts on.
 const DECKS: &[Word] = &[Word {
     name: "FILE",
     kind: Kind::Plain,
@@ -193,6 +194,13 @@ const IMAGE: &[Word] = &[
         help: "where the image begins; 0 if left out",
     },
     Word {
+        name: "storage",
+        kind: Kind::Valued("SIZE"),
+        is_required: false,
+        is_repeated: false,
+        help: "how many bytes storage has; as many as the image takes if left out",
+    },
+    Word {
         name: "FILE",
         kind: Kind::Plain,
         is_required: false,
@@ -229,9 +237,9 @@ const LINES: &[Line] = &[
     },
     Line {
         name: "why",
-        about: "explains the verdict on a deck: the path to the CCW, and the cause",
+        about: "explains the verdict on each deck: the path to the CCW, and the cause",
         after_help: Some(OF_ONE),
-        words: DECK,
+        words: DECKS,
     },
     Line {
         name: "graph",

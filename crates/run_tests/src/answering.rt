@@ -67,7 +67,7 @@ static ANSWERS: &[(Option<&str>, Action, &str, Outcome, &str, &str)] = &[
         Action::Why,
         LENT_IN_VAIN,
         Outcome::Ran(Ok(Status::Yes)),
-        "yes\n",
+        "a.deck: yes\n",
         NOTES,
     ),
     (
@@ -204,7 +204,7 @@ fn a_write_that_fails(rt: HostRuntime) {
         ),
         Outcome::Ran(Err(RunError::Write))
     );
-    assert_eq!(rt; to.into_inner().taken.as_slice(), b"y".as_slice());
+    assert_eq!(rt; to.into_inner().taken.as_slice(), b"a".as_slice());
     assert_eq!(rt;
         errors.into_inner().as_slice(),
         b"chanv: write failed\n".as_slice()

@@ -55,6 +55,7 @@ fn written<R: Read, W: Write>(
         fetch: Vec::new(alloc),
         store: Vec::new(alloc),
         at,
+        storage: None,
         is_least,
     };
     words.extents.push("10-19")?;

@@ -43,11 +43,12 @@ static CAUSES: [(&str, Cause); 11] = [
 ];
 
 /// Each failure, with its word.
-static FAILURES: [(&str, Failure); 10] = [
+static FAILURES: [(&str, Failure); 11] = [
     ("cannot-open", Failure::CannotOpen),
     ("read-failed", Failure::ReadFailed),
     ("deck-too-long", Failure::DeckTooLong),
     ("image-too-long", Failure::ImageTooLong),
+    ("image-past-storage", Failure::ImagePastStorage),
     ("too-many-places", Failure::TooManyPlaces),
     ("no-job-will-do", Failure::NoJobWillDo),
     ("write-failed", Failure::WriteFailed),

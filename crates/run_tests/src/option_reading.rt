@@ -155,6 +155,7 @@ fn words<'a>(
         fetch: copied(alloc, fetch)?,
         store: copied(alloc, store)?,
         at,
+        storage: Some("0001000"),
         is_least: false,
     })
 }
@@ -179,6 +180,7 @@ fn has_marks(options: &ImageOptions) -> bool {
         && options.start == 0x800
         && options.limit == Limit::new(65_536)
         && options.at == 0x7F8
+        && options.size == Some(0x1000)
 }
 
 fn has_lists(options: &ImageOptions) -> bool {

@@ -107,6 +107,11 @@ fn reports_of_images(rt: HostRuntime) {
             "chanv: read failed\n",
         ),
         (
+            Outcome::Imaged(Err(ImageError::PastStorage)),
+            4,
+            "chanv: image past storage\n",
+        ),
+        (
             Outcome::Imaged(Err(ImageError::TooLong)),
             2,
             "chanv: image too long\n",

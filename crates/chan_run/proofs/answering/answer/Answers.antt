@@ -8,19 +8,20 @@ use Rattle.chan_run.proofs.answering.answer.Goals as goal
 
 pub returns-clause-answer : goal.returns-clause-answer
 returns-clause-answer g c =
+    let name = name_in c.args.name in
     let t = c.in-Ok.text.items in
     let r = c.answer_text-answer.result.0 in
     let end = c.flushed-outcome.result in
     let contents = g.W.Write.contents in
     let beside = rw c.as_slice.ensures.value at (c.answer_text-answer.ensures.advice refl) in
-    let advice : IsAdvice c.args.action t end (advice_of c.if-has_advice.told) =
-    advised c.args.action t r end c.answer_text-answer.result.1 c.if-has_advice.told c.flushed-outcome.ensures.end beside
+    let advice : IsAdvice name c.args.action t end (advice_of name c.if-has_advice.told) =
+    advised name c.args.action t r end c.answer_text-answer.result.1 c.if-has_advice.told c.flushed-outcome.ensures.end beside
     (elim c.if-has_advice.branch [
       | then-has_advice w ↦ inl (sym c.has_advice.ensures ∙ w.if-has_advice.true, w.told-is)
       | else-has_advice w ↦ inr (sym c.has_advice.ensures ∙ w.if-has_advice.false, w.told-is)
     ]) in
     record {
-      told = line_over (name_in c.args.name) end ++ advice_of c.if-has_advice.told;
+      told = line_over name end ++ advice_of name c.if-has_advice.told;
       of_input = inl (record {
         text = t;
         input = c.in-Ok.ensures.ok;
@@ -30,7 +31,7 @@ returns-clause-answer g c =
               (λ done. ap (λ w. contents w.device) (c.flushed-outcome.ensures.early done))
               (rw c.as_slice.ensures.value at c.answer_text-answer.ensures.answer);
           ended = c.flushed-outcome.ensures.end;
-          advice = advice_of c.if-has_advice.told;
+          advice = advice_of name c.if-has_advice.told;
           advised = advice;
           is = refl;
         };

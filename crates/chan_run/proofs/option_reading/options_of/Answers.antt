@@ -1,8 +1,8 @@
-use Rattle.std.proofs.Common.{◌<◌, ap, arith, length, rules}
+use Rattle.std.proofs.Common.{◌<◌, ◌∷◌, [], ap, arith, length, rules}
 use Rattle.std.proofs.lemmas.Result.{err_from_is_err_and}
 use Rattle.std.proofs.lemmas.List.Elements.{All-from_recursion}
 use Rattle.chan_run.specs.Imaging.{each_given, extents_given, limit_given}
-use Rattle.chan_run.proofs.ImageLemmas.{areas_right, extents_right, first_given, limit_right, named_before, named_behind, said_areas}
+use Rattle.chan_run.proofs.ImageLemmas.{areas_right, extents_right, first_given, limit_right, named_before, named_behind, said_areas, said_size}
 use Rattle.chan_run.specs.declared.image_options.ImageOption.TheVariants as options
 use Rattle.chan_run.proofs.option_reading.options_of.Goals as goal
 
@@ -56,7 +56,21 @@ returns-in_err-at-clause-wrong c =
     (named_behind (limit_given w.limit) _ _ (search (rules, limit_right))
     (named_behind (extents_given w.extents.items) _ _ (search (rules, extents_right))
     (named_behind (each_given options.Fetch w.fetch.items) _ _ (search (rules, areas_right))
-    (named_behind (each_given options.Store w.store.items) _ _ (search (rules, areas_right)) c.in_err-at.ensures.wrong)))))
+    (named_behind (each_given options.Store w.store.items) _ _ (search (rules, areas_right))
+    (named_before ((options.At, w.at.now) ∷ []) _ _ c.in_err-at.ensures.wrong))))))
+
+pub returns-in_err-size-clause-wrong : goal.returns-in_err-size-clause-wrong
+returns-in_err-size-clause-wrong c =
+    let w = c.args.words.now in
+    let some : 0 < length c.in_ok-extents.extents = omega (arith, ap length c.extents.view_is, c.extents.invariant.extents_right.0) in
+    let p = err_from_is_err_and c.from_residual-in_err-size.result c.from_residual-in_err-size.ensures.1 in
+    rw (p.1, p.2)
+    (named_behind (first_given w) _ _ (search rules)
+    (named_behind (limit_given w.limit) _ _ (search (rules, limit_right))
+    (named_behind (extents_given w.extents.items) _ _ (search (rules, extents_right))
+    (named_behind (each_given options.Fetch w.fetch.items) _ _ (search (rules, areas_right))
+    (named_behind (each_given options.Store w.store.items) _ _ (search (rules, areas_right))
+    (named_behind ((options.At, w.at.now) ∷ []) _ _ ((c.in_ok-at.at, c.in_ok-at.ensures.ok), tt) c.in_err-size.ensures.wrong))))))
 
 pub invariant_of-result : goal.invariant_of-result
 invariant_of-result c =
@@ -66,4 +80,5 @@ invariant_of-result c =
       fetch_are_areas = All-from_recursion _ c.in_ok-fetch.fetch.items (said_areas w.fetch.items c.in_ok-fetch.fetch.items (search rules));
       store_are_areas = All-from_recursion _ c.in_ok-store.store.items (said_areas w.store.items c.in_ok-store.store.items (search rules));
       at_is_address = search rules;
+      size_is_size = said_size w.storage c.in_ok-size.size c.in_ok-size.ensures.ok;
     }

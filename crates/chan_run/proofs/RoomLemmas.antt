@@ -1,0 +1,40 @@
+-- Room for an image, and the zeros behind it.
+use Rattle.std.proofs.Common.{◌≡◌, ◌<◌, ◌≤◌, ◌-◌, ◌++◌, ◌⊎◌, ℕ, List, Bool, true, false, Option, Some, None, Result, Ok, Err, ap, arith, inl, length, refl, sym, take}
+use Rattle.std.specs.Prelude.{◌^◌, is_some, replicate, unwrap_or}
+use Rattle.std.proofs.lemmas.List.{take_all}
+use Rattle.chan_run.specs.Imaging.{IsImageAnswer, IsReadImage, filled}
+use Rattle.chan_run.specs.declared.image.ImageError.{ImageError}
+use Rattle.chan_run.specs.declared.image.ImageError.TheVariants as faults
+use Rattle.chan_run.specs.declared.image_options.ImageOptions.{ImageOptions}
+
+-- an address in the largest storage lies past storage only where a smaller size was asked for
+pub past_storage : (X : Type 0) (size : Option ℕ) (at : ℕ) → unwrap_or size (2 ^ 24) < at → at < 2 ^ 24
+    → (n : ℕ) × (size ≡ Some n) × ((n < at) ⊎ X)
+past_storage X None at past small = absurd (omega (arith, past, small))
+past_storage X (Some n) at past small = (n, refl, inl past)
+
+-- where a size was asked for, zeros fill the room
+pub filled_up : (size : Option ℕ) (room len : ℕ) (image whole : List ℕ) → is_some size ≡ true
+    → length image ≤ room → len ≡ length image → whole ≡ take room image ++ replicate (room - len) 0
+    → whole ≡ filled size room image
+filled_up None room len image whole some fits same is = cc
+filled_up (Some n) room len image whole some fits same is = rw (is, same, take_all room image fits) refl
+
+-- and else the image stays
+pub left_alone : (size : Option ℕ) (room : ℕ) (image : List ℕ) → is_some size ≡ false
+    → image ≡ filled size room image
+left_alone None room image none = refl
+left_alone (Some n) room image none = cc
+
+-- what is answered of an image that was read is an answer
+pub read_answer : (o : ImageOptions) (old_in new_in old new : Option (List ℕ))
+    (answer : Result (Unit {0}) ImageError) → IsReadImage o old_in new_in old new answer
+    → IsImageAnswer o old_in new_in old new answer
+read_answer o old_in new_in old new (Ok _) h = h
+read_answer o old_in new_in old new (Err faults.Read) h = absurd h.answered.1
+read_answer o old_in new_in old new (Err faults.TooLong) h = absurd h.answered.1
+read_answer o old_in new_in old new (Err faults.PastStorage) h = absurd h.answered.1
+read_answer o old_in new_in old new (Err faults.TooManyPlaces) h = h
+read_answer o old_in new_in old new (Err (faults.NoJob a r)) h = h
+read_answer o old_in new_in old new (Err faults.Write) h = h
+read_answer o old_in new_in old new (Err faults.Memory) h = tt

@@ -1,0 +1,13 @@
+use Rattle.std.proofs.Common.{refl}
+use Rattle.std.proofs.lemmas.Result.{IfOk-weaker}
+use Rattle.chan_walk.specs.Offences.{first_verdict}
+use Rattle.chan_run.specs.Run.{IsExplanation}
+use Rattle.chan_run.proofs.running.why_text.Goals as goal
+
+pub returns : goal.returns
+returns c =
+    let os = c.args.survey.now.offences.items in
+    let w = c.in_ok-witness.ensures in
+    let s = c.requires in
+    let explains : IsExplanation c.args.job.now (first_verdict os) os c.in_ok-witness.witness = record { offences = s.offences; verdict = refl; path = w.path; shown = w.shown; evidence = w.evidence; second = w.second } in
+    IfOk-weaker c.explanation_text.result _ _ (λ text is. (os, c.in_ok-witness.witness, explains, is)) c.explanation_text.ensures
