@@ -91,7 +91,8 @@ where all is granted: there may be too many where `chanv verify` says no, and ne
 yes.";
 
 /// What the help of `deck` says behind its words.
-const OF_DECK: &str = "Addresses, lengths, sizes and the mask are hexadecimal, cylinders and the limit \
+const OF_DECK: &str =
+    "Addresses, lengths, sizes and the mask are hexadecimal, cylinders and the limit \
 decimal. An option
 with <START+LENGTH> may come any number of times, and so may --extent. Storage ends
 with the image, filled with zeros to a multiple of 8, or with --storage where that says,
