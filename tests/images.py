@@ -35,21 +35,26 @@ EITHER = "  <--extent <FIRST-LAST>|--least>"
 # an image whose program changes an argument of its own
 CORE = EXAMPLES / "core.bin"
 
-# options with a word that they don't accept
+# options with a word that they don't accept, and why they don't
 REFUSED = [
     ("--device", "<NUMBER>", "3330", "2311 or 2314"),
-    ("--mask", "<BYTE>", "01", MASK),
-    ("--mask", "<BYTE>", "100", MASK),
-    ("--limit", "<PLACES>", "0", LIMIT),
-    ("--limit", "<PLACES>", "65537", LIMIT),
-    ("--extent", "<FIRST-LAST>", "9-203", CYLINDERS),
-    ("--extent", "<FIRST-LAST>", "9-8", CYLINDERS),
+    ("--mask", "<BYTE>", "01", "a bit on besides C0 and 18"),
+    ("--mask", "<BYTE>", "100", "above FF"),
+    ("--mask", "<BYTE>", "+1", MASK),
+    ("--limit", "<PLACES>", "0", "below 1"),
+    ("--limit", "<PLACES>", "65537", "above 65536"),
+    ("--limit", "<PLACES>", "1000h", LIMIT),
+    ("--extent", "<FIRST-LAST>", "9-203", "its last cylinder is above 202, the device's last"),
+    ("--extent", "<FIRST-LAST>", "9-8", "its last cylinder is below its first"),
+    ("--extent", "<FIRST-LAST>", "0A-13", CYLINDERS),
+    ("--extent", "<FIRST-LAST>", "9", CYLINDERS),
     ("--fetch", "<START+LENGTH>", "900", AREA),
     ("--store", "<START+LENGTH>", "900+1000000", AREA),
     ("--at", "<ADDRESS>", "0x10", ADDRESS),
-    ("--storage", "<SIZE>", "804", SIZE),
-    ("--storage", "<SIZE>", "1000008", SIZE),
-    ("--storage", "<SIZE>", "-8", SIZE),
+    ("--at", "<ADDRESS>", "1000000", "above FFFFFF"),
+    ("--storage", "<SIZE>", "804", "not a multiple of 8"),
+    ("--storage", "<SIZE>", "1000008", "above 1000000"),
+    ("--storage", "<SIZE>", "+8", SIZE),
     ("--storage", "<SIZE>", "1000g", SIZE),
 ]
 

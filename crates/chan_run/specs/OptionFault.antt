@@ -18,23 +18,11 @@ option_usage options.Store = codes "--store <START+LENGTH>"
 option_usage options.At = codes "--at <ADDRESS>"
 option_usage options.Storage = codes "--storage <SIZE>"
 
--- what an option accepts
-abbrev pub accepted_by : ImageOption → List ℕ
-accepted_by options.Device = codes "2311 or 2314"
-accepted_by options.Mask = codes "a hexadecimal byte with no bits on but C0 and 18"
-accepted_by options.Start = codes "a hexadecimal address, at most FFFFFF"
-accepted_by options.Limit = codes "a decimal number, 1 to 65536"
-accepted_by options.Extent = codes "decimal cylinders in order, 0 to 202, as 10-19"
-accepted_by options.Fetch = codes "hexadecimal start and length, each at most FFFFFF, as 900+10"
-accepted_by options.Store = codes "hexadecimal start and length, each at most FFFFFF, as 900+10"
-accepted_by options.At = codes "a hexadecimal address, at most FFFFFF"
-accepted_by options.Storage = codes "a hexadecimal multiple of 8, at most 1000000"
-
--- the text that was given, the option, and what it accepts
-abbrev pub fault_text : OptionFault → List ℕ
-fault_text fault =
+-- the text that was given, the option, and why it isn't accepted
+abbrev pub fault_text : OptionFault → List ℕ → List ℕ
+fault_text fault why =
     codes "error: invalid value '" ++ (fault.text.now ++ (codes "' for '"
-    ++ (option_usage fault.option ++ (codes "': " ++ (accepted_by fault.option
+    ++ (option_usage fault.option ++ (codes "': " ++ (why
     ++ (10 ∷ 10 ∷ codes "For more information, try '--help'." ++ 10 ∷ []))))))
 
 -- an option, so written, can't stand beside the least job

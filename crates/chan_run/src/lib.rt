@@ -25,6 +25,7 @@ mod least;
 mod meaning;
 mod naming;
 mod nearest;
+mod option_cause;
 mod option_fault;
 mod option_reading;
 mod options;

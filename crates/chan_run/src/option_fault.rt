@@ -1,12 +1,14 @@
 //! The usage faults that name an option.
 
-ghost use Rattle.std.specs.Prelude.{◌≡◌, ◌↔◌, false, true, IsErr, OnOk};
+ghost use Rattle.std.specs.Prelude.{◌≡◌, ◌↔◌, List, ℕ, false, true, IsErr, OnOk};
 ghost use Rattle.std.specs.Io.KnownBytes.{Appends};
 ghost use Rattle.ccw_core.specs.Written.{AppendsPrefix};
-ghost use Rattle.chan_run.specs.OptionFault.{accepted_by, beside_text, fault_text};
+ghost use Rattle.chan_run.specs.OptionCause.{IsCause};
+ghost use Rattle.chan_run.specs.OptionFault.{beside_text, fault_text};
 ghost use Rattle.chan_run.specs.OptionFault.{grant_fault_text, option_usage};
 
 use crate::image_options::{GrantFault, ImageOption, OptionFault};
+use crate::option_cause::cause;
 use crate::texts::write_texts;
 use ccw_core::{DeviceFault, Watched, write_out};
 use std::io::Write;
@@ -18,18 +20,19 @@ const NO_EXTENT: &str = "error: the following required arguments were not provid
 For more information, try '--help'.
 ";
 
-/// Writes the text of a usage fault that names an option, its text and what is accepted in its
-/// place, and gives the exit status, 4. It takes no memory. A writer that fails doesn't change the
+/// Writes the text of a usage fault that names an option, its text and why that isn't accepted, and
+/// gives the exit status, 4. It takes no memory. A writer that fails doesn't change the
 /// status, and a prefix of the text was written.
 pub fn report_option<W: Write>(fault: OptionFault<'_>, to: &mut Watched<W>) -> u8
     requires { to.old.failed ≡ false }
     ensures status { result ≡ 4 }
-    ensures text { to.new.failed ≡ false → Appends (W.contents to.old.device)
-        (W.contents to.new.device) (fault_text fault.entry) }
-    ensures prefix { AppendsPrefix (W.contents to.old.device) (W.contents to.new.device)
-        (fault_text fault.entry) }
+    ensures text { (why : List ℕ) × IsCause fault.entry.option fault.entry.text.now why
+        × (to.new.failed ≡ false → Appends (W.contents to.old.device) (W.contents to.new.device)
+        (fault_text fault.entry why))
+        × AppendsPrefix (W.contents to.old.device) (W.contents to.new.device)
+        (fault_text fault.entry why) }
 {
-    let _ = write_fault(fault, to);
+    let _ = write_fault(fault, cause(fault.option, fault.text), to);
     4
 }
 
@@ -81,13 +84,17 @@ fn write_beside<W: Write>(usage: &str, to: &mut Watched<W>) -> Result<(), Device
     )
 }
 
-/// Writes the text of a usage fault that names an option.
-fn write_fault<W: Write>(fault: OptionFault<'_>, to: &mut Watched<W>) -> Result<(), DeviceFault>
+/// Writes the text of a usage fault that names an option, for this cause.
+fn write_fault<W: Write>(
+    fault: OptionFault<'_>,
+    why: &str,
+    to: &mut Watched<W>,
+) -> Result<(), DeviceFault>
     requires { to.old.failed ≡ false }
     ensures ok { OnOk result (Appends (W.contents to.old.device) (W.contents to.new.device)
-        (fault_text fault.entry)) }
+        (fault_text fault.entry why.now)) }
     ensures prefix { AppendsPrefix (W.contents to.old.device) (W.contents to.new.device)
-        (fault_text fault.entry) }
+        (fault_text fault.entry why.now) }
     ensures fault { IsErr result ↔ (to.new.failed ≡ true) }
 {
     write_texts(
@@ -97,7 +104,7 @@ fn write_fault<W: Write>(fault: OptionFault<'_>, to: &mut Watched<W>) -> Result<
             "' for '",
             usage(fault.option),
             "': ",
-            accepted(fault.option),
+            why,
             "\n\nFor more information, try '--help'.\n",
         ],
         to,
@@ -118,22 +125,5 @@ fn usage<'a>(option: ImageOption) -> &'a str
         ImageOption::Store => "--store <START+LENGTH>",
         ImageOption::At => "--at <ADDRESS>",
         ImageOption::Storage => "--storage <SIZE>",
-    }
-}
-
-/// What an option accepts.
-fn accepted<'a>(option: ImageOption) -> &'a str
-    ensures { result.now ≡ accepted_by option }
-{
-    match option {
-        ImageOption::Device => "2311 or 2314",
-        ImageOption::Mask => "a hexadecimal byte with no bits on but C0 and 18",
-        ImageOption::Start | ImageOption::At => "a hexadecimal address, at most FFFFFF",
-        ImageOption::Storage => "a hexadecimal multiple of 8, at most 1000000",
-        ImageOption::Limit => "a decimal number, 1 to 65536",
-        ImageOption::Extent => "decimal cylinders in order, 0 to 202, as 10-19",
-        ImageOption::Fetch | ImageOption::Store => {
-            "hexadecimal start and length, each at most FFFFFF, as 900+10"
-        }
     }
 }

@@ -10,10 +10,10 @@ use chan_walk::Limit;
 use ckd_core::{Device, FileMask};
 
 /// The first number that is no address: addresses have 24 bits.
-const PAST_ADDRESSES: u32 = 0x100_0000;
+pub(crate) const PAST_ADDRESSES: u32 = 0x100_0000;
 
 /// The number that is written by digits in a radix, one or more, without a sign.
-fn number_of(text: &str, radix: u32) -> Option<u32>
+pub(crate) fn number_of(text: &str, radix: u32) -> Option<u32>
     requires lower { 2 ≤ radix }
     requires upper { radix ≤ 16 }
     ensures { IsRead (λ t n. SaysNumber radix t n × (n < 2 ^ 32)) text.now result }

@@ -7,7 +7,7 @@ use std::alloc::Global;
 use std::process::Abort;
 
 /// An option, a text that isn't accepted, and the text of the fault.
-static FAULTS: [(ImageOption, &str, &str); 8] = [
+static FAULTS: [(ImageOption, &str, &str); 14] = [
     (
         ImageOption::Device,
         "3330",
@@ -19,7 +19,7 @@ For more information, try '--help'.
     (
         ImageOption::Mask,
         "20",
-        "error: invalid value '20' for '--mask <BYTE>': a hexadecimal byte with no bits on but C0 and 18
+        "error: invalid value '20' for '--mask <BYTE>': a bit on besides C0 and 18
 
 For more information, try '--help'.
 ",
@@ -27,7 +27,7 @@ For more information, try '--help'.
     (
         ImageOption::Start,
         "1000000",
-        "error: invalid value '1000000' for '--start <ADDRESS>': a hexadecimal address, at most FFFFFF
+        "error: invalid value '1000000' for '--start <ADDRESS>': above FFFFFF
 
 For more information, try '--help'.
 ",
@@ -35,7 +35,7 @@ For more information, try '--help'.
     (
         ImageOption::Limit,
         "0",
-        "error: invalid value '0' for '--limit <PLACES>': a decimal number, 1 to 65536
+        "error: invalid value '0' for '--limit <PLACES>': below 1
 
 For more information, try '--help'.
 ",
@@ -43,7 +43,7 @@ For more information, try '--help'.
     (
         ImageOption::Extent,
         "19-10",
-        "error: invalid value '19-10' for '--extent <FIRST-LAST>': decimal cylinders in order, 0 to 202, as 10-19
+        "error: invalid value '19-10' for '--extent <FIRST-LAST>': its last cylinder is below its first
 
 For more information, try '--help'.
 ",
@@ -68,6 +68,54 @@ For more information, try '--help'.
         ImageOption::At,
         "x",
         "error: invalid value 'x' for '--at <ADDRESS>': a hexadecimal address, at most FFFFFF
+
+For more information, try '--help'.
+",
+    ),
+    (
+        ImageOption::Mask,
+        "100",
+        "error: invalid value '100' for '--mask <BYTE>': above FF
+
+For more information, try '--help'.
+",
+    ),
+    (
+        ImageOption::Limit,
+        "65537",
+        "error: invalid value '65537' for '--limit <PLACES>': above 65536
+
+For more information, try '--help'.
+",
+    ),
+    (
+        ImageOption::Extent,
+        "10-203",
+        "error: invalid value '10-203' for '--extent <FIRST-LAST>': its last cylinder is above 202, the device's last
+
+For more information, try '--help'.
+",
+    ),
+    (
+        ImageOption::Extent,
+        "0A-13",
+        "error: invalid value '0A-13' for '--extent <FIRST-LAST>': decimal cylinders in order, 0 to 202, as 10-19
+
+For more information, try '--help'.
+",
+    ),
+    (
+        ImageOption::Storage,
+        "804",
+        "error: invalid value '804' for '--storage <SIZE>': not a multiple of 8
+
+For more information, try '--help'.
+",
+    ),
+    (
+        ImageOption::Storage,
+        "1000008",
+        "error: invalid value '1000008' for '--storage <SIZE>': above 1000000
 
 For more information, try '--help'.
 ",
