@@ -1,10 +1,11 @@
 """The pages that say what words mean say what `chanv` writes of them.
 
 Each word of the table of reasons in docs/VERDICT.md, of causes in docs/DECK.md, and of what is said
-in place of an answer in docs/FAILURES.md has a section on its page, and that is what `chanv explain`
-writes of it, in any case of its letters, and without a word it lists these words. A word that isn't
-in them is refused, and the nearest is named. And `chanv why` gives the cause of each example deck's no in a form that the section of
-its reason has in docs/VERDICT.md, where each reason has an example.
+in place of an answer in docs/FAILURES.md has a section on its page, and that is what `chanv
+explain` writes of it, in any case of its letters, and without a word it lists these words. A word
+that isn't in them is refused, and the nearest is named. And `chanv why` gives the cause of each
+example deck's no in a form that the section of its reason has in docs/VERDICT.md, where each reason
+has an example.
 """
 
 import re
