@@ -159,22 +159,12 @@ pub fn notes_text(alloc: Global, notes: &Notes) -> Result<String, AllocError>
     let mut text = String::new(alloc);
     let past_fetch = notes.fetch_past_storage.as_slice();
     let past_store = notes.store_past_storage.as_slice();
+    let unused_fetch = notes.unused_fetch.as_slice();
+    let unused_store = notes.unused_store.as_slice();
     push_areas(alloc, &mut text, "fetch", PAST_STORAGE, past_fetch)?;
     push_areas(alloc, &mut text, "store", PAST_STORAGE, past_store)?;
-    push_areas(
-        alloc,
-        &mut text,
-        "fetch",
-        UNUSED,
-        notes.unused_fetch.as_slice(),
-    )?;
-    push_areas(
-        alloc,
-        &mut text,
-        "store",
-        UNUSED,
-        notes.unused_store.as_slice(),
-    )?;
+    push_areas(alloc, &mut text, "fetch", UNUSED, unused_fetch)?;
+    push_areas(alloc, &mut text, "store", UNUSED, unused_store)?;
     push_ccws(&mut text, INTERRUPTS, notes.interrupting.as_slice())?;
     push_ccws(&mut text, ENDS_THERE, notes.ending.as_slice())?;
     Ok(text)
