@@ -1,7 +1,6 @@
-use Rattle.std.proofs.Common.{◌∙◌, ap, refl, sym, string_bytes}
+use Rattle.std.proofs.Common.{◌∙◌, ap, refl, string_bytes}
 use Rattle.std.proofs.lemmas.Result.{on_ok_weaker}
 use Rattle.chan_deck.specs.Listing.{command_name}
-use Rattle.ckd_core.specs.Mask.{least_permitted}
 use Rattle.chan_deck.proofs.ExplanationLemmas.{weaker_told}
 use Rattle.chan_deck.proofs.explanation.push_weaker.Goals as goal
 
