@@ -131,6 +131,9 @@ fn the_list_has_a_line_for_each_word(rt: HostRuntime) {
     for (word, _) in &CAUSES {
         rest = behind_line_of(&rt, rest, word);
     }
+    for (word, _) in &FAILURES {
+        rest = behind_line_of(&rt, rest, word);
+    }
     assert!(rt; rest.is_empty());
 }
 

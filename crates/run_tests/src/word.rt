@@ -1,7 +1,7 @@
 //! How words are shown, and which word is shown so.
 
 use chan_run::{shown_word, word_of};
-use std::process::Abort;
+use std::test::Fail;
 
 /// A word, and how it is shown.
 static WORDS: [(&[u8], &str); 10] = [
@@ -18,9 +18,10 @@ static WORDS: [(&[u8], &str); 10] = [
 ];
 
 #[test]
-fn each_word_is_shown_and_read_back(rt: HostRuntime) {
+fn each_word_is_shown_and_read_back(rt: HostRuntime) -> Result<(), Fail> {
     for (word, shown) in &WORDS {
-        assert_eq!(rt; shown_word(rt.alloc(), word).unwrap().as_str(), *shown);
-        assert_eq!(rt; word_of(rt.alloc(), shown).unwrap().as_slice(), *word);
+        assert_eq!(rt; shown_word(rt.alloc(), word)?.as_str(), *shown);
+        assert_eq!(rt; word_of(rt.alloc(), shown)?.as_slice(), *word);
     }
+    Ok(())
 }
