@@ -373,8 +373,8 @@ fn push_witness(
 }
 
 /// The explanation of a verdict as text: its line; the path to an offending place, a row for each
-/// place, the last marked; the cause, with its values; the place that stores over what stands at the
-/// path's end; the path to what is changed; and a line for each other address and reason that
+/// place, the last marked; the cause, with its values; the place that stores over what stands at
+/// the path's end; the path to what is changed; and a line for each other address and reason that
 /// offends. An error means that an allocation failed.
 ///
 /// The rows show the CCWs that stand in the job's storage, whether or not the explanation is the

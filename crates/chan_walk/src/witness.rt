@@ -28,7 +28,7 @@ use std::alloc::{AllocError, Global};
 /// such paths, and of several that are equally short the one that goes on to `next` where another
 /// goes to `skip`, at the first place where they part. A run over exactly this path, on which
 /// nothing changes, shows the reason at its last place. The evidence is that of its last place, and
-/// the second path, chosen in the same way, leads to the CCW that is stored over, or to a place that
+/// the second path, chosen in the same way, leads to the CCW stored over, or to a place that
 /// takes the argument. Where nothing offends, there are none of them.
 #[derive(Debug, Drop)]
 pub struct Witness {

@@ -137,7 +137,8 @@ enum { CHANV_BIN = 1, CHANV_CYLINDER = 2, CHANV_HEAD = 3 };
  *    10  store-not-lent        range, gap
  *    11  fetch-not-lent        range, gap
  *    12  short-seek            given, addresses, bytes
- *    13  seek-outside          outside, value; below for a head; given, addresses and bytes for a seek
+ *    13  seek-outside          outside, value; below for a head; and given, addresses and bytes
+ *                              for a seek
  *    14  changes-ccw           range, address
  *    15  changes-argument      range, address, taker; sets_mask for a Set File Mask, and given,
  *                              addresses and bytes for a seek
@@ -155,8 +156,8 @@ struct chanv_evidence {
     uint32_t code;           /* the command code */
     uint32_t mask;           /* the job's file mask */
     uint32_t bits;           /* the three low flag bits of the CCW */
-    uint32_t given;          /* how many of the argument's six bytes the seek's data chain gives; for
-                                15 the seek is the taker */
+    uint32_t given;          /* how many of the argument's six bytes the seek's data chain gives;
+                                for 15 the seek is the taker */
     uint32_t outside;        /* the first that is wrong: CHANV_BIN, CHANV_CYLINDER or CHANV_HEAD */
     uint32_t value;          /* for 13 that bin, cylinder or head; for 16 the byte that is set */
     uint32_t below;          /* how many heads the device has */

@@ -49,8 +49,8 @@ abbrev pub argument_values : Option GivenBytes → CEvidence
 argument_values None = no_values
 argument_values (Some g) = given_values g
 
--- beside some values a bin, a cylinder or a head by its number, and for a head the device's number of
--- heads
+-- beside some values a bin, a cylinder or a head by its number, and for a head the device's number
+-- of heads
 abbrev pub outside_values : Outside → CEvidence → CEvidence
 outside_values (Bin n) v = record v { outside = 1; value = n }
 outside_values (Cylinder n) v = record v { outside = 2; value = n }
