@@ -150,9 +150,9 @@ fn push_each_ccw(out: &mut String, what: &str, addresses: &[u32]) -> Result<(), 
 
 /// The notes on a job as text: the areas that reach past storage, those that no reachable CCW uses,
 /// the CCWs that ask for an interruption, and those at which the program ends though both chaining
-/// flags are on. Each sort has a line for each of its first hundred, and one for how many more there
-/// are; neighbours among the areas that adjoin count as one. An error means that an allocation
-/// failed.
+/// flags are on. Each sort has a line for each of its first hundred, and one for how many more
+/// there are; neighbours among the areas that adjoin count as one. An error means that an
+/// allocation failed.
 pub fn notes_text(alloc: Global, notes: &Notes) -> Result<String, AllocError>
     ensures { IfOk result (λ t. string_bytes t ≡ texts.notes notes.now) }
 {

@@ -1,6 +1,6 @@
 -- What is said beside the answer on a text: where the text is no deck, the hint at the line that is
--- refused; where its verdict is yes, the notes on its job; where too many places are reachable, what
--- the limit is.
+-- refused; where its verdict is yes, the notes on its job; where too many places are reachable,
+-- what the limit is.
 use Rattle.std.specs.Prelude.{◌≡◌, ◌==◌, ◌++◌, ℕ, List, Result, Ok, Err, codes, if◌then◌else◌}
 use Rattle.std.specs.Fmt.{decimal}
 use Rattle.std.specs.List.{filter}

@@ -29,9 +29,9 @@ use Rattle.chan_run.specs.Run.{front_of}
 abbrev pub memory_line : Option (List ℕ) → List ℕ
 memory_line name = line_over name (Ran (Err Memory))
 
--- what is said of an input behind the outcome's line: for an explanation the notes behind a yes, the
--- hint where the text is refused, and the limit where too many places are reachable, or that memory
--- ran out for them
+-- what is said of an input behind the outcome's line: for an explanation the notes behind a yes,
+-- the hint where the text is refused, and the limit where too many places are reachable, or that
+-- memory ran out for them
 abbrev pub IsAdvice : Option (List ℕ) → Action → List ℕ → Outcome → List ℕ → Type 0
 IsAdvice name actions.Why t (Ran (Ok statuses.Yes)) advice =
     IsOfJob t (λ j. IsNoted j advice) ⊎ (advice ≡ memory_line name)

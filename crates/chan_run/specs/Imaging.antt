@@ -170,8 +170,8 @@ abbrev pub IsAskedDeck : Bool → ImageOptions → List ℕ → Image → Type 0
 IsAskedDeck false o image d = d ≡ deck_of o image
 IsAskedDeck true o image d = IsLeastDeck o image d
 
--- from the image's address on there is room for so many bytes: to the size of storage that was asked
--- for, or the largest
+-- from the image's address on there is room for so many bytes: to the size of storage that was
+-- asked for, or the largest
 abbrev pub IsRoom : ImageOptions → ℕ → Type 0
 IsRoom o room = o.at + room ≡ unwrap_or o.size (2 ^ 24)
 

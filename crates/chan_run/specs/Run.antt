@@ -145,7 +145,8 @@ IsJobAnswer front a j old new (Err Memory) =
     IsUnwritten old new ⊎ ((v : Verdict) × IsAnswer j v × Writes AppendsPrefix front a j v old new)
 IsJobAnswer front a j old new _ = ⊥
 
--- the job that an action judges: for what is needed the open job of the program, else the job itself
+-- the job that an action judges: for what is needed the open job of the program, else the job
+-- itself
 abbrev pub Judges : Action → Job → Job → Type 0
 Judges actions.Needs j k = IsOpenJob j k
 Judges actions.Verify j k = k ≡ j

@@ -26,8 +26,8 @@ use std::io::{Read, Write};
 ///
 /// On the first writer stands what `run` and, over a name, `run_named` write, and it is flushed
 /// where all of it was written. On the second stands the outcome's line, as `report_named` writes
-/// it. For `Why` the notes on the job follow where the verdict is yes, the hint where the text is no
-/// deck, and the limit where too many places are reachable; or the line that memory ran out for
+/// it. For `Why` the notes on the job follow where the verdict is yes, the hint where the text is
+/// no deck, and the limit where too many places are reachable; or the line that memory ran out for
 /// these, which doesn't change the outcome.
 ///
 /// The input is read once and its job walked once. The outcome is what `run` answers, or

@@ -31,8 +31,8 @@ pub enum ImageError {
     /// More bytes came than storage has from the image's address on.
     #[error("image too long")]
     TooLong,
-    /// A size of storage was asked for, and the image's address lies past it, or more bytes came than
-    /// there is room for.
+    /// A size of storage was asked for, and the image's address lies past it, or more bytes came
+    /// than there is room for.
     #[error("image past storage")]
     PastStorage,
     /// The least job was asked for, and more places are reachable under the program's open job than
@@ -66,10 +66,10 @@ impl From<AllocError> for ImageError {
 /// least job of the program, under which the verdict is yes.
 ///
 /// Storage has the size that is asked for, with zeros behind the image, or else it ends with the
-/// image, and has 16,777,216 bytes at most. Nothing is written before the whole image was read: after
-/// each error but `Write` nothing was written, and after that a prefix of the text.
-/// `Read` and `Write` come exactly where the device failed, and `Read` only before too many bytes
-/// came. Over an endless reader it returns, with `TooLong`.
+/// image, and has 16,777,216 bytes at most. Nothing is written before the whole image was read:
+/// after each error but `Write` nothing was written, and after that a prefix of the text. `Read`
+/// and `Write` come exactly where the device failed, and `Read` only before too many bytes came.
+/// Over an endless reader it returns, with `TooLong`.
 pub fn write_image<R: Read, W: Write>(
     alloc: Global,
     options: &ImageOptions,

@@ -78,8 +78,8 @@ pub struct ImageOptions {
     pub store: Vec<Area>,
     /// The address at which the image begins, at most `FFFFFF`.
     pub at: u32,
-    /// How many bytes storage has, zeros behind the image; as many as the image needs where it isn't
-    /// said.
+    /// How many bytes storage has, zeros behind the image; as many as the image needs where it
+    /// isn't said.
     pub size: Option<u32>,
     /// Whether the deck grants what the program needs, in place of mask, extents and areas. These
     /// don't matter then.

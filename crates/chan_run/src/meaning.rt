@@ -292,8 +292,8 @@ fn term_among(terms: &[Term], word: &str) -> Option<Term>
 /// Writes what a word means, and what usually mends what it names.
 ///
 /// `Unknown` comes where the word, in any case, is no term's, with the term of the nearest word, if
-/// one is near; `Memory` may come in its place. `Write` comes exactly where a write failed, and then
-/// a prefix was written, and after another error nothing was.
+/// one is near; `Memory` may come in its place. `Write` comes exactly where a write failed, and
+/// then a prefix was written, and after another error nothing was.
 pub fn explain_word<W: Write>(
     alloc: Global,
     word: &str,

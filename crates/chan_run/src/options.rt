@@ -35,8 +35,8 @@ pub fn address_of(text: &str) -> Option<u32>
     }
 }
 
-/// A size of storage: one hexadecimal digit or more, of either case, whose number is a multiple of 8
-/// and at most `1000000`.
+/// A size of storage: one hexadecimal digit or more, of either case, whose number is a multiple of
+/// 8 and at most `1000000`.
 pub fn size_of(text: &str) -> Option<u32>
     ensures { IsRead SaysSize text.now result }
 {

@@ -61,10 +61,10 @@ impl Rows<'_> {
         Ok(fetched && stored)
     }
 
-    /// Whether two programs may run side by side, where `needs` gave both their rows: neither stores
-    /// into what the other keeps. This makes both safe; it says nothing of what the data mean, since
-    /// one may read in over what the other writes out or searches for. Of the rows only `store` and
-    /// `keep` count.
+    /// Whether two programs may run side by side, where `needs` gave both their rows: neither
+    /// stores into what the other keeps. This makes both safe; it says nothing of what the data
+    /// mean, since one may read in over what the other writes out or searches for. Of the rows only
+    /// `store` and `keep` count.
     ///
     /// The cost is that of one pass over both rows, and no memory is taken.
     pub fn beside(&self, other: &Rows) -> bool
