@@ -115,7 +115,9 @@ def check_with(crate, texts, functions):
 def own_goals(function, line, said):
     """The goals of its own for which a function is refused that has this line."""
     left = re.search("`search` did not prove ((?:`[^`]*`(?:, )?)*)", line)
-    folder = re.escape(function.replace("::", "/"))
+    # the proof of one that calls itself has a `+` before its name
+    *above, name = map(re.escape, function.split("::"))
+    folder = "/".join([*above, rf"\+?{name}"])
     error = rf"(?m)^(?:\./)?proofs/{folder}/\w+\.antt:\d+:\d+: error: `([^`]*)`: (.*)"
     answers = [f"{it} (answered)" for it, why in re.findall(error, said) if not LOST.search(why)]
     found = (re.findall("`([^`]*)`", left[1]) if left else []) + answers
