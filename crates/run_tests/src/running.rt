@@ -59,9 +59,9 @@ also 001008 outside-storage
 const SEARCH_LOOP_PICTURE: &str = r#"digraph program {
   node [shape=box, fontname="monospace", fontsize=10];
   edge [arrowsize=0.7];
-  "000800 fresh t" [label="000800 fresh t\nsearch-id-equal"];
-  "000808 fresh -" [label="000808 fresh\ntransfer-in-channel"];
-  "000810 fresh -" [label="000810 fresh\nread-data"];
+  "000800 fresh t" [label="000800 fresh t  search-id-equal\l"];
+  "000808 fresh -" [label="000808 fresh  transfer-in-channel\l"];
+  "000810 fresh -" [label="000810 fresh  read-data\l"];
   "000800 fresh t" -> "000808 fresh -";
   "000800 fresh t" -> "000810 fresh -" [style=dashed];
   "000808 fresh -" -> "000800 fresh t" [style=dotted];
@@ -71,9 +71,9 @@ const SEARCH_LOOP_PICTURE: &str = r#"digraph program {
 const END_OF_STORAGE_PICTURE: &str = r#"digraph program {
   node [shape=box, fontname="monospace", fontsize=10];
   edge [arrowsize=0.7];
-  "000FF8 fresh t" [label="000FF8 fresh t\nsearch-id-equal"];
-  "001000 fresh -" [label="001000 fresh\nno-ccw"];
-  "001008 fresh -" [label="001008 fresh\nno-ccw"];
+  "000FF8 fresh t" [label="000FF8 fresh t  search-id-equal\l"];
+  "001000 fresh -" [label="001000 fresh  no-ccw\l"];
+  "001008 fresh -" [label="001008 fresh  no-ccw\l"];
   "001000 fresh -" [color=red, fontcolor=red, xlabel="outside-storage"];
   "001008 fresh -" [color=red, fontcolor=red, xlabel="outside-storage"];
   "000FF8 fresh t" -> "001000 fresh -";
