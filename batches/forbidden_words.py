@@ -33,7 +33,7 @@ class Rule(NamedTuple):
 NO_LABELS = (
     # bits of the file mask
     (r"\bC0\b", r"."),
-    (r'mask D[8]\b|mask byte D[9]\b|"D[89]"', r"\.rt$"),
+    (r'mask D[8]\b|"D[89]"', r"\.rt$"),
     # command codes
     (r"`([C]9|[D]1)`", r"^docs/DEVICE\.md$"),
     (r"`[C]5`", r"^docs/EXPLANATION\.md$"),

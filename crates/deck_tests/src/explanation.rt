@@ -267,10 +267,10 @@ because mask byte C0 is not as strict as 40: it permits write-special-count-key-
         ..USUAL
     },
     Case {
-        puts: "put 000800 1F00090000000001\nput 000900 D900000000000000\n",
+        puts: "put 000800 1F00090000000001\nput 000900 FF00000000000000\n",
         text: "no 000800 weakens-mask
 000800 fresh t * 1F 000900 -----0 00 0001 control set-file-mask
-because mask byte D9 is no file mask
+because mask byte FF is no file mask
 ",
         ..USUAL
     },
