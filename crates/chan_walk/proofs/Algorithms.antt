@@ -18,6 +18,7 @@ pub mod Backward
 pub mod Finding
 pub mod Explaining
 pub mod Gaps
+pub mod Indexing
 pub mod Changing
 pub mod Given
 pub mod Noted

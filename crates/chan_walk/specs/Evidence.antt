@@ -1,6 +1,6 @@
 -- The evidence for an offence: the values of its cause, and the path that shows what is changed.
 use Rattle.std.specs.Prelude.{◌≡◌, ℕ, ◌+◌, ◌*◌, ◌%◌, ◌<◌, ◌≤◌, true, false, List, [], length}
-use Rattle.std.specs.Prelude.{slice_index, Option, Some, None, ◌⊎◌}
+use Rattle.std.specs.Prelude.{slice_index, Option, Some, None, ◌⊎◌, ◌↔◌, IsTrue}
 use Rattle.ccw_core.specs.declared.areas.Area.{Area}
 use Rattle.ccw_core.specs.Areas.{lies_in}
 use Rattle.ccw_core.specs.Ccw.{Fields, byte}
@@ -25,7 +25,7 @@ use Rattle.chan_walk.specs.Guarded.{IsArgumentByte}
 use Rattle.chan_walk.specs.Job.{extents_of, fetch_of, heads, storage_of, store_of}
 use Rattle.chan_walk.specs.Machine.{home}
 use Rattle.chan_walk.specs.Paths.{ArePathWhere, IsPathWhere}
-use Rattle.chan_walk.specs.Place.{ccw_of}
+use Rattle.chan_walk.specs.Place.{ccw_of, first_place}
 use Rattle.chan_walk.specs.Ranges.{end_of}
 use Rattle.chan_walk.specs.Reachable.{IsReachable}
 
@@ -88,6 +88,7 @@ pub record IsCcwIn (j : Job) (range : Area) (a : ℕ) : Type 0 where
   pub reached : IsReachable j place
   pub address : place.address ≡ a
   pub stands : Stands (storage_of j) a
+  pub filled : 0 < range.len
   pub from : range.start < a + 8
   pub below : a < end_of range
 
@@ -122,7 +123,7 @@ IsTakenAt j b a argument =
 abbrev pub reason_of : Evidence → Reason
 reason_of (because.Misaligned a) = reasons.Misaligned
 reason_of (because.OutsideStorage ccw n) = reasons.OutsideStorage
-reason_of because.TransferNotAllowed = reasons.TransferNotAllowed
+reason_of (because.TransferNotAllowed first) = reasons.TransferNotAllowed
 reason_of (because.InvalidCode code) = reasons.InvalidCode
 reason_of (because.BadFormat bits) = reasons.BadFormat
 reason_of because.ZeroCount = reasons.ZeroCount
@@ -142,7 +143,7 @@ abbrev pub IsCause : Job → Place → Evidence → Type 0
 IsCause j p (because.Misaligned a) = a ≡ p.address
 IsCause j p (because.OutsideStorage ccw n) =
     (ccw ≡ record { start = p.address; len = 8 }) × (n ≡ length (storage_of j))
-IsCause j p because.TransferNotAllowed = Unit {0}
+IsCause j p (because.TransferNotAllowed first) = IsTrue first ↔ (p ≡ first_place j)
 IsCause j p (because.InvalidCode code) = code ≡ (ccw_of j p).command
 IsCause j p (because.BadFormat bits) = bits ≡ (ccw_of j p).flags % 8
 IsCause j p because.ZeroCount = Unit {0}

@@ -35,6 +35,7 @@ pub mod Offences
 pub mod Paths
 pub mod Evidence
 pub mod Changed
+pub mod Index
 pub mod Explained
 pub mod Surveyed
 pub mod Notes

@@ -1,6 +1,6 @@
 //! Evidence: the values of an offence's cause.
 
-ghost use Rattle.std.specs.Prelude.{◌≡◌, ◌+◌, ◌≤◌, false, length, IfOk, None, Some};
+ghost use Rattle.std.specs.Prelude.{◌≡◌, ◌+◌, ◌≤◌, false, length, None, Some};
 ghost use Rattle.ccw_core.specs.Areas.{covered};
 ghost use Rattle.ccw_core.specs.Storage.{ccw_at as ccw_in};
 ghost use Rattle.ccw_core.specs.declared.areas.Area as areas;
@@ -9,7 +9,9 @@ ghost use Rattle.chan_walk.specs.Evidence.{FailsToSeek, IsEvidence, IsFirstGap};
 ghost use Rattle.chan_walk.specs.Evidence.{IsOutside};
 ghost use Rattle.chan_walk.specs.Fault.{allows};
 ghost use Rattle.chan_walk.specs.Guard.{Guards};
+ghost use Rattle.chan_walk.specs.Index.{FindsCauses};
 ghost use Rattle.chan_walk.specs.Job.{fetch_of, storage_of, store_of};
+ghost use Rattle.chan_walk.specs.Lent.{AreLent};
 ghost use Rattle.chan_walk.specs.Look.{IsLook, IsRead};
 ghost use Rattle.chan_walk.specs.Offences.{Offending, seen_offence};
 ghost use Rattle.chan_walk.specs.Walk.{HasFound};
@@ -17,17 +19,18 @@ ghost use Rattle.chan_walk.specs.declared.evidence.Evidence.TheVariants as becau
 
 use crate::changed::{changed_argument, changed_ccw};
 use crate::exploring::Walk;
+use crate::finder::Finder;
 use crate::guard::Guard;
 use crate::job::Job;
 use crate::lent::Lent;
 use crate::look::{Look, Read};
 use crate::offence::Offence;
+use crate::place::first_place;
 use crate::reason::Reason;
 use crate::seek::GivenBytes;
 use crate::visit::recalibrates_at;
 use ccw_core::{Area, Ccw};
 use ckd_core::{FileMask, Track};
-use std::alloc::{AllocError, Global};
 
 /// Why a program may not run, with the values of the cause.
 #[derive(Clone, Copy, PartialEq, Eq, Debug)]
@@ -42,7 +45,9 @@ pub enum Evidence {
         length: u32,
     },
     /// A transfer in channel comes first, or after another one.
-    TransferNotAllowed,
+    TransferNotAllowed {
+        first: bool,
+    },
     /// The command code can't be any command's.
     InvalidCode {
         code: u8,
@@ -128,7 +133,7 @@ impl Evidence {
         match self {
             Evidence::Misaligned { .. } => Reason::Misaligned,
             Evidence::OutsideStorage { .. } => Reason::OutsideStorage,
-            Evidence::TransferNotAllowed => Reason::TransferNotAllowed,
+            Evidence::TransferNotAllowed { .. } => Reason::TransferNotAllowed,
             Evidence::InvalidCode { .. } => Reason::InvalidCode,
             Evidence::BadFormat { .. } => Reason::BadFormat,
             Evidence::ZeroCount => Reason::ZeroCount,
@@ -149,26 +154,27 @@ impl Evidence {
 /// The evidence for the offence of a place that was looked at, of a job whose reachable places a
 /// walk has found: all that it says of storage was read at a look.
 pub(crate) fn evidence_at(
-    alloc: Global,
     job: &Job,
     walk: &Walk,
     guard: &Guard,
+    finder: &Finder,
     look: &Look,
     reason: Reason,
-) -> Result<Evidence, AllocError>
+) -> Evidence
     requires found { HasFound job.now walk.now }
     requires guards { Guards job.now guard.now }
+    requires finds { FindsCauses job.now walk.now.looks.items finder.now }
     requires look { IsLook job.now look.now }
     requires offends { Offending job.now (seen_offence look.now reason) }
-    ensures { IfOk result (IsEvidence job.now (seen_offence look.now reason)) }
+    ensures { IsEvidence job.now (seen_offence look.now reason) result }
 {
     let offence = Offence {
         place: look.place(),
         reason,
     };
     match look.ccw() {
-        Some(ccw) => evidence_of_ccw(alloc, job, walk, guard, offence, ccw, look.read()),
-        None => Ok(evidence_of_nothing(job, offence)),
+        Some(ccw) => evidence_of_ccw(job, walk, guard, finder, offence, ccw, look.read()),
+        None => evidence_of_nothing(job, offence),
     }
 }
 
@@ -190,31 +196,34 @@ fn evidence_of_nothing(job: &Job, offence: Offence) -> Evidence
 
 /// The evidence for an offence where this CCW stands.
 fn evidence_of_ccw(
-    alloc: Global,
     job: &Job,
     walk: &Walk,
     guard: &Guard,
+    finder: &Finder,
     offence: Offence,
     ccw: Ccw,
     read: Read,
-) -> Result<Evidence, AllocError>
+) -> Evidence
     requires stands { ccw_in (storage_of job.now) offence.place.address ≡ Some ccw }
     requires read { IsRead (storage_of job.now) offence.place ccw read }
     requires found { HasFound job.now walk.now }
     requires guards { Guards job.now guard.now }
+    requires finds { FindsCauses job.now walk.now.looks.items finder.now }
     requires offends { Offending job.now offence }
-    ensures { IfOk result (IsEvidence job.now offence) }
+    ensures { IsEvidence job.now offence result }
 {
     let address = offence.place.address;
     let (code, data) = (ccw.command(), data_of(&ccw));
     let (length, mask) = (job.storage.len(), job.mask);
-    let evidence = match offence.reason {
+    match offence.reason {
         Reason::Misaligned => Evidence::Misaligned { address },
         Reason::OutsideStorage => Evidence::OutsideStorage {
             ccw: eight_bytes(address),
             length,
         },
-        Reason::TransferNotAllowed => Evidence::TransferNotAllowed,
+        Reason::TransferNotAllowed => Evidence::TransferNotAllowed {
+            first: offence.place == first_place(job),
+        },
         Reason::InvalidCode => Evidence::InvalidCode { code },
         Reason::BadFormat => Evidence::BadFormat {
             bits: ccw.flags() % 8,
@@ -223,17 +232,16 @@ fn evidence_of_ccw(
         Reason::DataOutside => Evidence::DataOutside { data, length },
         Reason::NotInTable => Evidence::NotInTable { code },
         Reason::Inhibited => Evidence::Inhibited { mask, code },
-        Reason::StoreNotLent => not_lent_for_storing(alloc, job, data)?,
-        Reason::FetchNotLent => not_lent_for_fetching(alloc, job, data)?,
+        Reason::StoreNotLent => not_lent_for_storing(job, &finder.lent, data),
+        Reason::FetchNotLent => not_lent_for_fetching(job, &finder.lent, data),
         Reason::ShortSeek | Reason::SeekOutside => evidence_of_seek(job, offence, ccw, read),
-        Reason::ChangesCcw => changed_ccw(walk, data),
-        Reason::ChangesArgument => changed_argument(walk, guard, data),
+        Reason::ChangesCcw => changed_ccw(guard, data),
+        Reason::ChangesArgument => changed_argument(walk, guard, finder, data),
         Reason::WeakensMask => Evidence::WeakensMask {
             byte: read.byte(),
             mask,
         },
-    };
-    Ok(evidence)
+    }
 }
 
 /// The bytes of a CCW at an address.
@@ -257,31 +265,31 @@ pub(crate) fn data_of(ccw: &Ccw) -> Area
 }
 
 /// What of some data isn't lent for storing.
-fn not_lent_for_storing(alloc: Global, job: &Job, range: Area) -> Result<Evidence, AllocError>
+fn not_lent_for_storing(job: &Job, lent: &Lent, range: Area) -> Evidence
+    requires lent { AreLent job.now lent.now }
     requires inside { range.start + range.len ≤ length (storage_of job.now) }
     requires uncovered { covered (store_of job.now) range.start range.len ≡ false }
-    ensures { IfOk result (λ e. (gap : areas.Area) × (e ≡ because.StoreNotLent range gap)
-        × IsFirstGap (store_of job.now) range gap) }
+    ensures { (gap : areas.Area) × (result ≡ because.StoreNotLent range gap)
+        × IsFirstGap (store_of job.now) range gap }
 {
-    let lent = Lent::new(alloc, job)?;
-    Ok(Evidence::StoreNotLent {
+    Evidence::StoreNotLent {
         data: range,
         gap: lent.store_gap(range),
-    })
+    }
 }
 
 /// What of some data isn't lent for fetching.
-fn not_lent_for_fetching(alloc: Global, job: &Job, range: Area) -> Result<Evidence, AllocError>
+fn not_lent_for_fetching(job: &Job, lent: &Lent, range: Area) -> Evidence
+    requires lent { AreLent job.now lent.now }
     requires inside { range.start + range.len ≤ length (storage_of job.now) }
     requires uncovered { covered (fetch_of job.now) range.start range.len ≡ false }
-    ensures { IfOk result (λ e. (gap : areas.Area) × (e ≡ because.FetchNotLent range gap)
-        × IsFirstGap (fetch_of job.now) range gap) }
+    ensures { (gap : areas.Area) × (result ≡ because.FetchNotLent range gap)
+        × IsFirstGap (fetch_of job.now) range gap }
 {
-    let lent = Lent::new(alloc, job)?;
-    Ok(Evidence::FetchNotLent {
+    Evidence::FetchNotLent {
         data: range,
         gap: lent.fetch_gap(range),
-    })
+    }
 }
 
 /// What is wrong with the argument of the seek, or with cylinder 0 where a Recalibrate begins.

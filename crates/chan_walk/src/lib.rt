@@ -18,6 +18,7 @@ mod evidence;
 mod explored;
 mod exploring;
 mod fault;
+mod finder;
 mod guard;
 mod job;
 mod judging;

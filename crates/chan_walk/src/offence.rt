@@ -3,10 +3,10 @@
 ghost use Rattle.std.specs.Prelude.{◌≡◌, ◌↔◌, map, IfOk, IsTrue, OnOk};
 ghost use Rattle.std.specs.List.Sorted.{IsStrictlyIncreasing};
 ghost use Rattle.chan_walk.specs.Argument.{Has};
-ghost use Rattle.chan_walk.specs.Explained.{HasNumber};
 ghost use Rattle.chan_walk.specs.Explored.{AreApart};
 ghost use Rattle.chan_walk.specs.Fault.{IsClear};
 ghost use Rattle.chan_walk.specs.Guard.{Guards};
+ghost use Rattle.chan_walk.specs.Index.{kind_number};
 ghost use Rattle.chan_walk.specs.Least.{AreReached, IsOwn};
 ghost use Rattle.chan_walk.specs.Look.{AreLooks, IsLook, places_of_looks};
 ghost use Rattle.chan_walk.specs.Offences as listed;
@@ -44,6 +44,13 @@ impl Offence {
         let address = u64::from(self.place.address);
         let reason = u64::from(self.reason.number());
         (address * 32 + reason) * 8 + u64::from(way_of(self.place))
+    }
+
+    /// The number of its address and its reason.
+    pub(crate) fn kind_number(&self) -> u64
+        ensures { result ≡ kind_number self.now }
+    {
+        u64::from(self.place.address) * 32 + u64::from(self.reason.number())
     }
 }
 
@@ -160,16 +167,4 @@ fn in_order(offences: Vec<Offence>) -> Vec<Offence>
     let mut offences = offences;
     offences.sort_unstable_by_key(|offence| offence.number());
     offences
-}
-
-/// Whether one of the offences has this number.
-pub(crate) fn has_offence(offences: &[Offence], number: u64) -> bool
-    ensures { IsTrue result ↔ HasNumber offences.now number }
-{
-    for at in 0..offences.len() {
-        if offences[at].number() == number {
-            return true;
-        }
-    }
-    false
 }

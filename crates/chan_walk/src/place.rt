@@ -6,6 +6,7 @@ ghost use Rattle.chan_walk.specs.Explored.{place_number};
 ghost use Rattle.chan_walk.specs.Place as place;
 
 use crate::job::Job;
+use crate::ways::way_of;
 
 /// How a CCW is entered.
 #[derive(Clone, Copy, PartialEq, Eq, PartialOrd, Ord, Debug)]
@@ -64,6 +65,13 @@ impl Place {
             entered,
             after_transfer: true,
         }
+    }
+
+    /// The number by which places are in order.
+    pub(crate) fn number(self) -> u64
+        ensures { result ≡ place_number self }
+    {
+        8 * u64::from(self.address) + u64::from(way_of(self))
     }
 }
 

@@ -1,11 +1,11 @@
 //! What a survey of a job tells.
 
 ghost use Rattle.std.specs.Prelude.{◌≡◌, ◌↔◌, map, option_map, vec_items, IfOk};
-ghost use Rattle.std.specs.List.{filter};
+ghost use Rattle.std.specs.List.{AllZip, filter};
 ghost use Rattle.std.specs.List.Sorted.{IsStrictlyIncreasing};
 ghost use Rattle.chan_walk.specs.Argument.{Has};
 ghost use Rattle.chan_walk.specs.Explained.{IsEvidenceOf, IsPathOf, IsSecondPathOf, IsStoredOver};
-ghost use Rattle.chan_walk.specs.Explained.{IsWitness};
+ghost use Rattle.chan_walk.specs.Explained.{IsCauseOf, IsWitness};
 ghost use Rattle.chan_walk.specs.Explored.{AreApart, AreReachable, place_number};
 ghost use Rattle.chan_walk.specs.Job.{fetch_of, store_of};
 ghost use Rattle.chan_walk.specs.Look.{AreLooks, Seen, places_of_looks};
@@ -20,6 +20,7 @@ ghost use Rattle.chan_walk.specs.Surveyed.{IsSurvey};
 ghost use Rattle.chan_walk.specs.declared.job.Job.{Job};
 ghost use Rattle.chan_walk.specs.declared.verdict.Verdict.TheVariants.{Yes};
 
+use crate::evidence::Evidence;
 use crate::exploring::Walk;
 use crate::guard::Guard;
 use crate::job::Job;
@@ -32,7 +33,7 @@ use crate::offence::Offence;
 use crate::path::{Path, index_of, path_at};
 use crate::place::{Place, order_is_by_number};
 use crate::verdict::Verdict;
-use crate::witness::{Witness, witness_of};
+use crate::witness::{Witness, causes_of, witness_of};
 use std::alloc::{AllocError, Global};
 
 /// What one walk over a job's reachable places has found, and what follows from it: how each was
@@ -107,6 +108,24 @@ impl Survey {
             self.offences.as_slice(),
         )?;
         Ok(witness)
+    }
+
+    /// The cause of each offence, in their order: that of the place to which the path leads that is
+    /// chosen, as for the first offence, among the places with its address that offend by its reason.
+    ///
+    /// With n places and a areas lent, the cost is (n + a) log (n + a).
+    pub fn causes(&self, alloc: Global, job: &Job) -> Result<Vec<Evidence>, AllocError>
+        requires { IsSurvey job.now self.now }
+        ensures { IfOk result
+            (λ es. AllZip (IsCauseOf job.now) self.now.offences.items es.items) }
+    {
+        causes_of(
+            alloc,
+            job,
+            &self.walk,
+            &self.guard,
+            self.offences.as_slice(),
+        )
     }
 
     /// The notes on the job.

@@ -1,22 +1,22 @@
 //! What shows that a program may not run: the path to a place that offends, and the values of the
 //! cause.
 
-ghost use Rattle.std.specs.Prelude.{◌≡◌, ◌↔◌, true, false, None, IfOk, IsTrue};
-ghost use Rattle.chan_walk.specs.Explained.{IsEvidenceOf, IsLike, IsPathOf, IsSecondPathOf};
+ghost use Rattle.std.specs.Prelude.{◌≡◌, true, false, None, IfOk};
+ghost use Rattle.std.specs.List.{AllZip};
+ghost use Rattle.chan_walk.specs.Explained.{IsCauseOf, IsEvidenceOf, IsPathOf, IsSecondPathOf};
 ghost use Rattle.chan_walk.specs.Explained.{IsStoredOver};
 ghost use Rattle.chan_walk.specs.Guard.{Guards};
-ghost use Rattle.chan_walk.specs.Look.{places_of_looks};
 ghost use Rattle.chan_walk.specs.Offences.{AreOffences, first_verdict};
 ghost use Rattle.chan_walk.specs.Reason.{is_no_command};
-ghost use Rattle.chan_walk.specs.Walk.{HasFound, IsFirstWhere};
+ghost use Rattle.chan_walk.specs.Walk.{HasFound};
 
 use crate::changed::second_path;
 use crate::evidence::{Evidence, evidence_at};
 use crate::exploring::Walk;
+use crate::finder::Finder;
 use crate::guard::Guard;
 use crate::job::Job;
-use crate::look::Look;
-use crate::offence::{Offence, has_offence};
+use crate::offence::Offence;
 use crate::path::{Path, path_at};
 use crate::place::Place;
 use crate::reason::Reason;
@@ -73,11 +73,12 @@ pub(crate) fn witness_of(
             second_path: Vec::new(alloc),
         });
     };
+    let finder = Finder::new(alloc, job, walk, offences)?;
     // The first offence's own place is one.
-    let at = first_like(walk.looks.as_slice(), offences, *first).unwrap();
+    let at = finder.offender(*first).unwrap();
     let Path { places, stored_by } = path_at(alloc, walk, at)?;
-    let evidence = evidence_at(alloc, job, walk, guard, &walk.looks[at], first.reason)?;
-    let second_path = second_path(alloc, walk, &evidence)?;
+    let evidence = evidence_at(job, walk, guard, &finder, &walk.looks[at], first.reason);
+    let second_path = second_path(alloc, walk, &finder, &evidence)?;
     Ok(Witness {
         path: places,
         evidence: Some(evidence),
@@ -98,29 +99,25 @@ fn told_over(reason: Reason, stored_by: Option<Place>) -> Option<Place>
     }
 }
 
-/// The index of the first place at which there is an offence with the address and the reason of
-/// this one.
-fn first_like(looks: &[Look], offences: &[Offence], offence: Offence) -> Option<usize>
-    ensures { IsFirstWhere (IsLike offences.now offence) (places_of_looks looks.now) result }
+/// The cause of each offence of a job whose reachable places a walk has found, in their order.
+pub(crate) fn causes_of(
+    alloc: Global,
+    job: &Job,
+    walk: &Walk,
+    guard: &Guard,
+    offences: &[Offence],
+) -> Result<Vec<Evidence>, AllocError>
+    requires found { HasFound job.now walk.now }
+    requires guards { Guards job.now guard.now }
+    requires offences { AreOffences job.now offences.now }
+    ensures { IfOk result (λ es. AllZip (IsCauseOf job.now) offences.now es.items) }
 {
-    for at in 0..looks.len() {
-        if is_like(offences, offence, looks[at].place()) {
-            return Some(at);
-        }
+    let finder = Finder::new(alloc, job, walk, offences)?;
+    let mut causes = Vec::new(alloc);
+    for offence in offences {
+        // The offence's own place is one.
+        let look = &walk.looks[finder.offender(*offence).unwrap()];
+        causes.push(evidence_at(job, walk, guard, &finder, look, offence.reason))?;
     }
-    None
-}
-
-/// Whether there is an offence at a place with the address and the reason of this one.
-fn is_like(offences: &[Offence], offence: Offence, place: Place) -> bool
-    ensures { IsTrue result ↔ IsLike offences.now offence place }
-{
-    if place.address != offence.place.address {
-        return false;
-    }
-    let wanted = Offence {
-        place,
-        reason: offence.reason,
-    };
-    has_offence(offences, wanted.number())
+    Ok(causes)
 }

@@ -1,156 +1,76 @@
 -- What a store changes, among the places that were looked at.
-use Rattle.std.proofs.Common.{◌≡◌, ℕ, zero, suc, ◌+◌, ◌<◌, ◌≤◌, Bool, true, false, ◌||◌, nat_eq, List, [], ◌∷◌, length, get_or, slice_get, Option, Some, None, IsSome, IsTrue, refl, sym, ap, ◌∙◌, subst, ◌⊎◌, inl, inr, ◌↔◌, arith, rules}
-use Rattle.std.specs.List.{list_any}
-use Rattle.std.proofs.lemmas.Bool.{cases_Bool, cases_lt, eq-eqb, eqb-true, or_cases}
-use Rattle.std.proofs.Math.Bool.{or-true}
+use Rattle.std.proofs.Common.{◌≡◌, ℕ, ◌+◌, ◌-◌, ◌%◌, ◌<◌, ◌≤◌, true, false, List, [], length, get_or, Option, Some, None, IsSome, refl, sym, subst, ◌⊎◌, inl, inr, ◌↔◌, arith, rules}
+use Rattle.std.proofs.lemmas.Bool.{cases_Bool, cases_lt, eqb-true}
 use Rattle.ccw_core.specs.declared.areas.Area.{Area}
 use Rattle.ccw_core.specs.Areas.{lies_in}
-use Rattle.ccw_core.proofs.StorageLemmas.{ccw_at-where}
 use Rattle.chan_walk.specs.declared.evidence.Evidence.{Evidence}
 use Rattle.chan_walk.specs.declared.evidence.Evidence.TheVariants as because
 use Rattle.chan_walk.specs.declared.exploring.Walk.{Walk}
 use Rattle.chan_walk.specs.declared.job.Job.{Job}
 use Rattle.chan_walk.specs.declared.place.Place.{Place}
-use Rattle.chan_walk.specs.Argument.{Has}
 use Rattle.ccw_core.specs.Ccw.{Fields}
-use Rattle.ccw_core.specs.Storage.{Stands}
-use Rattle.chan_walk.specs.Changed.{HasByteOf, HasCcwIn, IsCcwOf, IsFirstChanged, IsLesserOf}
+use Rattle.ccw_core.specs.Storage.{Stands, is_aligned}
+use Rattle.chan_walk.specs.Changed.{IsFirstChanged}
 use Rattle.chan_walk.specs.declared.seek.GivenBytes.{GivenBytes}
 use Rattle.chan_walk.specs.Evidence.{IsArgumentAt, IsArgumentIn, IsCause, IsCcwIn, IsLeastOf, IsLeastOrNone, IsSecondPath, IsTakenAt}
 use Rattle.chan_walk.specs.declared.look.Read.{Read}
 use Rattle.chan_walk.specs.declared.look.Read.TheVariants as read
 use Rattle.chan_walk.specs.Fault.{IsClear, begins_seek, begins_set_mask}
 use Rattle.chan_walk.specs.Guard.{GuardAreas, Guards, IsArgumentByteOf}
-use Rattle.chan_walk.specs.Guarded.{IsArgumentByte}
+use Rattle.chan_walk.specs.Guarded.{IsArgumentByte, IsCcwByte}
 use Rattle.chan_walk.specs.Job.{storage_of}
 use Rattle.chan_walk.specs.Look.{IsLook, IsRead, IsReadOfSeek, Seen, places_of_looks, whole_of}
 use Rattle.chan_walk.specs.Place.{ccw_of}
-use Rattle.chan_walk.specs.Ranges.{IsByteIn}
+use Rattle.chan_walk.specs.Ranges.{IsByteIn, end_of}
 use Rattle.chan_walk.specs.Walk.{HasFound, IsFirstWhere, IsPathAt}
 use Rattle.chan_walk.proofs.Algorithms.Backward.{within_looks}
 use Rattle.chan_walk.proofs.Algorithms.Finding.{best_where, path_where, reached_at}
-use Rattle.chan_walk.proofs.Theory.Lists.{get_there, has_at}
 use Rattle.chan_walk.proofs.Algorithms.Demanding.{clear_stands}
 use Rattle.chan_walk.proofs.Algorithms.Noted.{ccw_seen}
-use Rattle.chan_walk.proofs.Algorithms.Looking.{number_of_places, place_at, seek_or_mask}
-use Rattle.chan_walk.proofs.Algorithms.Walking.{all_found, at_has}
+use Rattle.chan_walk.proofs.Algorithms.Looking.{place_at, seek_or_mask}
 
 -- ---- the least address of a CCW
 
-module _ (ls : List Seen) (r : Area) (i : ℕ) (l : Seen) (h : i < length ls) (e : l ≡ get_or ls i l) where
-  later : (a : ℕ) → HasCcwIn ls r i a → HasCcwIn ls r (i + 1) a
-  later a m = record { at = m.at; look = m.look; below = let c = m.below in omega arith; there = m.there; address = m.address; in_range = m.in_range }
+-- a multiple of 8, from a byte of the eight from it on
+round_down : (a b : ℕ) → a % 8 ≡ 0 → a ≤ b → b < a + 8 → b - b % 8 ≡ a
+round_down a b e f g = omega (arith, e)
 
-  -- it is the last look, or an earlier one
-  last_or_earlier : (a : ℕ) → HasCcwIn ls r (i + 1) a → ((l.place.address ≡ a) × IsCcwOf l r) ⊎ HasCcwIn ls r i a
-  last_or_earlier a m = search (rules, cases_lt, get_there)
+least_round : (a b : ℕ) → a % 8 ≡ 0 → b < a + 8 → b - b % 8 ≤ a
+least_round a b e g = omega (arith, e)
 
-  -- where it isn't the last look nothing changes
-  pub least_skip : (best : Option ℕ) → (IsCcwOf l r → ⊥) → IsLeastOrNone (HasCcwIn ls r i) best → IsLeastOrNone (HasCcwIn ls r (i + 1)) best
-  least_skip best none old = go best old
+aligned : (s : List ℕ) (a : ℕ) → Stands s a → a % 8 ≡ 0
+unfolding is_aligned
+aligned s a h = search (rules, eqb-true)
+
+module _ (j : Job) (areas : List Area) (g : (b : ℕ) → (lies_in areas b ≡ true) ↔ IsCcwByte j b) (r : Area) where
+  -- a CCW of which the data has a byte has a first byte there
+  ccw_byte : (a : ℕ) → IsCcwIn j r a → (b : ℕ) × IsByteIn areas r.start r.len b × (b < a + 8)
+  ccw_byte a m = go (cases_lt r.start a)
     where
-      earlier : (a : ℕ) → HasCcwIn ls r (i + 1) a → HasCcwIn ls r i a
-      earlier a m = search (rules, last_or_earlier)
+      from : (b : ℕ) → r.start ≤ b → b < end_of r → a ≤ b → b < a + 8 → (b : ℕ) × IsByteIn areas r.start r.len b × (b < a + 8)
+      from b h k c d =
+          let here : m.place.address ≡ a = m.address in
+          (b, (h, k, (g b).1 (record { place = m.place; reached = m.reached; stands = subst (Stands (storage_of j)) (sym m.address) m.stands; from = omega (arith, here); below = omega (arith, here) })), d)
 
-      go : (best : Option ℕ) → IsLeastOrNone (HasCcwIn ls r i) best → IsLeastOrNone (HasCcwIn ls r (i + 1)) best
-      go None n = λ a m. n a (earlier a m)
-      go (Some b) n = (later b n.0, λ a m. n.1 a (earlier a m))
+      go : (r.start < a) ⊎ (a ≤ r.start) → (b : ℕ) × IsByteIn areas r.start r.len b × (b < a + 8)
+      go (inl c) = from a (omega arith) m.below (omega arith) (omega arith)
+      go (inr c) = from r.start (omega arith) (omega (arith, m.filled)) c m.from
 
-  -- and where it is, its address takes part
-  pub least_take : (best : Option ℕ) (n : ℕ) → IsCcwOf l r → IsLesserOf best l.place.address n → IsLeastOrNone (HasCcwIn ls r i) best → IsLeastOrNone (HasCcwIn ls r (i + 1)) (Some n)
-  least_take best n b = go best
+  pub one_ccw : (o : Option ℕ) → IsLeastOrNone (IsByteIn areas r.start r.len) o → (a : ℕ) × IsCcwIn j r a → IsSome o
+  one_ccw None n k = let b = ccw_byte k.0 k.1 in absurd (n b.0 b.1)
+  one_ccw (Some b) n k = refl
+
+  pub least_ccw : (b : ℕ) → IsLeastOf (IsByteIn areas r.start r.len) b → IsLeastOf (IsCcwIn j r) (b - b % 8)
+  least_ccw b m =
+      let c = (g b).0 m.0.2 in
+      let e = round_down c.place.address b (aligned (storage_of j) c.place.address c.stands) c.from c.below in
+      (subst (IsCcwIn j r) (sym e) (record { place = c.place; reached = c.reached; address = refl; stands = c.stands; filled = omega (arith, m.0.0, m.0.1); from = let f = c.below in omega (arith, m.0.0); below = let f = c.from in omega (arith, m.0.1) }), bound)
     where
-      here : HasCcwIn ls r (i + 1) l.place.address
-      here = record { at = i; look = l; below = omega arith; there = get_there ls i l h ∙ ap Some (sym e); address = refl; in_range = b }
-
-      bound : n ≤ l.place.address → ((a : ℕ) → HasCcwIn ls r i a → n ≤ a) → (a : ℕ) → HasCcwIn ls r (i + 1) a → n ≤ a
-      bound le old a m = at (last_or_earlier a m)
-        where
-          at : ((l.place.address ≡ a) × IsCcwOf l r) ⊎ HasCcwIn ls r i a → n ≤ a
-          at (inl k) = omega (arith, k.0)
-          at (inr k) = old a k
-
-      go : (best : Option ℕ) → IsLesserOf best l.place.address n → IsLeastOrNone (HasCcwIn ls r i) best → IsLeastOf (HasCcwIn ls r (i + 1)) n
-      go None is none = (subst (HasCcwIn ls r (i + 1)) (sym is) here, bound (omega arith) (λ a m. absurd (none a m)))
-      go (Some c) is old = (held (cases_lt c l.place.address), bound (omega arith) (λ a m. let d = old.1 a m in omega arith))
-        where
-          held : (c < l.place.address) ⊎ (l.place.address ≤ c) → HasCcwIn ls r (i + 1) n
-          held h = search (rules, later, here)
-
-get_within : (ls : List Seen) (k : ℕ) (l : Seen) → slice_get ls k ≡ Some l → k < length ls
-get_within [] k l e = absurd (cc)
-get_within (x ∷ ls) zero l e = omega arith
-get_within (x ∷ ls) (suc k) l e = let r = get_within ls k l e in omega arith
-
-read_there : (ls : List Seen) (k : ℕ) (l : Seen) → slice_get ls k ≡ Some l → l ≡ get_or ls k l
-read_there ls k l e = search (rules, get_there, get_within)
-
-stands_seen : (j : Job) (l : Seen) → IsLook j l → IsSome l.ccw → Stands (storage_of j) l.place.address
-stands_seen j l h s = search rules
-
-seen_stands : (j : Job) (l : Seen) → IsLook j l → Stands (storage_of j) l.place.address → IsSome l.ccw
-seen_stands j l h s = subst (λ (c : Option Fields). IsSome c) (sym (h.ccw ∙ ccw_at-where (storage_of j) l.place.address s)) refl
-
-look_at : (ls : List Seen) (k : ℕ) (p : Place) → k < length ls → slice_get (places_of_looks ls) k ≡ Some p → (l : Seen) × (slice_get ls k ≡ Some l) × (l.place ≡ p)
-look_at [] k p h e = absurd (omega arith)
-look_at (x ∷ ls) zero p h e = search rules
-look_at (x ∷ ls) (suc k) p h e = look_at ls k p (omega arith) e
-
-module _ (j : Job) (w : Walk) (f : HasFound j w) (r : Area) where
-  abbrev ls : List Seen
-  ls = w.looks.items
-
-  -- the CCWs that were seen are the reachable ones
-  to_reached : (a : ℕ) → HasCcwIn ls r (length ls) a → IsCcwIn j r a
-  to_reached a m =
-      let h = get_within ls m.at m.look m.there in
-      let l = f.looks m.look (has_at ls m.at m.look m.there) in
-      let reached = f.walked.only m.look.place (has_at (places_of_looks ls) m.at m.look.place (place_at ls m.at m.look h (read_there ls m.at m.look m.there))) in
-      record {
-        place = m.look.place;
-        reached = reached;
-        address = m.address;
-        stands = subst (Stands (storage_of j)) m.address (stands_seen j m.look l m.in_range.0);
-        from = (subst (HasByteOf r) m.address m.in_range.1).0;
-        below = (subst (HasByteOf r) m.address m.in_range.1).1;
-      }
-
-  from_reached : (a : ℕ) → IsCcwIn j r a → HasCcwIn ls r (length ls) a
-  from_reached a m =
-      let p = at_has (places_of_looks ls) m.place (all_found j j.limit (places_of_looks ls) f.at f.walked f.all m.place m.reached) in
-      let h : p.0 < length ls = omega (arith, p.1, number_of_places ls) in
-      let l = look_at ls p.0 m.place h p.2 in
-      let seen = f.looks l.0 (has_at ls p.0 l.0 l.1) in
-      let address : l.0.place.address ≡ a = ap (λ (q : Place). q.address) l.2 ∙ m.address in
-      record {
-        at = p.0;
-        look = l.0;
-        below = h;
-        there = l.1;
-        address = address;
-        in_range = (seen_stands j l.0 seen (subst (Stands (storage_of j)) (sym address) m.stands), subst (HasByteOf r) (sym address) (m.from, m.below));
-      }
-
-  pub least_reached : (a : ℕ) → IsLeastOf (HasCcwIn ls r (length ls)) a → IsLeastOf (IsCcwIn j r) a
-  least_reached a m = (to_reached a m.0, λ b k. m.1 b (from_reached b k))
-
-  pub one_reached : (o : Option ℕ) → IsLeastOrNone (HasCcwIn ls r (length ls)) o → (a : ℕ) × IsCcwIn j r a → IsSome o
-  one_reached None n k = absurd (n k.0 (from_reached k.0 k.1))
-  one_reached (Some b) n k = refl
-
--- ---- an argument by its addresses
-
-any_to : (xs : List ℕ) (b : ℕ) → list_any (λ y. nat_eq y b) xs ≡ true → Has xs b
-any_to [] b h = absurd (cc)
-any_to (x ∷ xs) b h = search (rules, or_cases, eqb-true, any_to xs b)
-
-any_from : (xs : List ℕ) (b : ℕ) → Has xs b → list_any (λ y. nat_eq y b) xs ≡ true
-any_from [] b h = absurd h
-any_from (x ∷ xs) b (inl e) = ap (λ t. t || list_any (λ y. nat_eq y b) xs) (eq-eqb x b e)
-any_from (x ∷ xs) b (inr h) = ap (λ t. nat_eq x b || t) (any_from xs b h) ∙ or-true (nat_eq x b)
-
-pub any_has : (xs ys : List ℕ) (b : ℕ) (t : Bool) → xs ≡ ys → t ≡ list_any (λ y. nat_eq y b) xs → IsTrue t ↔ Has ys b
-any_has xs ys b t s e = ((λ h. subst (λ z. Has z b) s (any_to xs b (sym e ∙ h)), λ h. e ∙ any_from xs b (subst (λ z. Has z b) (sym s) h)))
+      bound : (a : ℕ) → IsCcwIn j r a → b - b % 8 ≤ a
+      bound a k =
+          let x = ccw_byte a k in
+          let le = m.1 x.0 x.1 in
+          least_round a b (aligned (storage_of j) a k.stands) (omega (arith, x.2))
 
 -- ---- the place that takes an argument
 

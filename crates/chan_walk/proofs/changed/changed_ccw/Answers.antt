@@ -1,17 +1,17 @@
-use Rattle.std.proofs.Common.{List, Option, length, refl, subst}
-use Rattle.chan_walk.specs.Changed.{HasCcwIn}
+use Rattle.std.proofs.Common.{List, ◌-◌, ◌%◌, refl, subst}
+use Rattle.ccw_core.specs.declared.areas.Area.{Area}
 use Rattle.chan_walk.specs.Evidence.{IsLeastOrNone}
-use Rattle.chan_walk.specs.Look.{Seen}
-use Rattle.chan_walk.proofs.Algorithms.Changing.{least_reached, one_reached}
+use Rattle.chan_walk.specs.Ranges.{IsByteIn}
+use Rattle.chan_walk.proofs.Algorithms.Changing.{least_ccw, one_ccw}
 use Rattle.chan_walk.proofs.changed.changed_ccw.Goals as goal
 
-pub unwrap-ccw-requires : goal.unwrap-ccw-requires
-unwrap-ccw-requires c =
-    let least = subst (λ (ls : List Seen). IsLeastOrNone (HasCcwIn ls c.args.range (length ls)) c.least_ccw.result) c.as_slice.ensures.value c.least_ccw.ensures in
-    one_reached c.requires.0 c.args.walk.now c.requires.1 c.args.range c.least_ccw.result least c.requires.2
+pub unwrap-byte-requires : goal.unwrap-byte-requires
+unwrap-byte-requires c =
+    let found = subst (λ (xs : List Area). IsLeastOrNone (IsByteIn xs c.args.range.start c.args.range.len) c.first_in.result) c.ccw_ranges.ensures.ranges c.first_in.ensures in
+    one_ccw c.requires.0 c.args.guard.now.ccws c.requires.1.ccws c.args.range c.first_in.result found c.requires.2
 
 pub returns : goal.returns
-returns c j f =
-    let least = subst (λ (ls : List Seen). IsLeastOrNone (HasCcwIn ls c.args.range (length ls)) c.least_ccw.result) c.as_slice.ensures.value c.least_ccw.ensures in
-    let some = subst (λ (o : Option _). IsLeastOrNone (HasCcwIn c.args.walk.now.looks.items c.args.range (length c.args.walk.now.looks.items)) o) c.unwrap-ccw.ensures least in
-    (c.unwrap-ccw.result, refl, least_reached j c.args.walk.now f c.args.range c.unwrap-ccw.result some)
+returns c j g =
+    let found = subst (λ (xs : List Area). IsLeastOrNone (IsByteIn xs c.args.range.start c.args.range.len) c.first_in.result) c.ccw_ranges.ensures.ranges c.first_in.ensures in
+    let least = subst (IsLeastOrNone (IsByteIn c.args.guard.now.ccws c.args.range.start c.args.range.len)) c.unwrap-byte.ensures found in
+    (c.unwrap-byte.result - c.unwrap-byte.result % 8, refl, least_ccw j c.args.guard.now.ccws g.ccws c.args.range c.unwrap-byte.result least)

@@ -5,4 +5,4 @@ use Rattle.chan_walk.proofs.evidence.not_lent_for_fetching.Goals as goal
 
 pub returns : goal.returns
 returns c =
-    (c.fetch_gap.result, refl, gap_in_storage (length (storage_of c.args.job.now)) c.in_ok-lent.lent.fetch (fetch_of c.args.job.now) c.args.range c.fetch_gap.result c.in_ok-lent.ensures.fetch c.requires.inside c.fetch_gap.ensures)
+    (c.fetch_gap.result, refl, gap_in_storage (length (storage_of c.args.job.now)) c.args.lent.now.fetch (fetch_of c.args.job.now) c.args.range c.fetch_gap.result c.requires.lent.fetch c.requires.inside c.fetch_gap.ensures)

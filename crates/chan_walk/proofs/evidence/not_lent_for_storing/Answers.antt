@@ -5,4 +5,4 @@ use Rattle.chan_walk.proofs.evidence.not_lent_for_storing.Goals as goal
 
 pub returns : goal.returns
 returns c =
-    (c.store_gap.result, refl, gap_in_storage (length (storage_of c.args.job.now)) c.in_ok-lent.lent.store (store_of c.args.job.now) c.args.range c.store_gap.result c.in_ok-lent.ensures.store c.requires.inside c.store_gap.ensures)
+    (c.store_gap.result, refl, gap_in_storage (length (storage_of c.args.job.now)) c.args.lent.now.store (store_of c.args.job.now) c.args.range c.store_gap.result c.requires.lent.store c.requires.inside c.store_gap.ensures)
