@@ -1,5 +1,5 @@
 -- The explanation, row by row and line by line.
-use Rattle.std.proofs.Common.{◌≡◌, ◌∷◌, [], ◌++◌, ◌∙◌, ◌+◌, ◌-◌, ◌<◌, ◌≤◌, ap, sym, List, ℕ, suc, true, false, Option, Some, refl, nat_eq, if◌then◌else◌, append_assoc, append-nil, arith, codes, drop, drop-cons, get_or, length, length-drop}
+use Rattle.std.proofs.Common.{◌≡◌, ◌∷◌, [], ◌++◌, ◌∙◌, ◌+◌, ◌-◌, ◌<◌, ◌≤◌, ap, sym, List, ℕ, zero, suc, true, false, Option, Some, refl, nat_eq, if◌then◌else◌, append_assoc, append-nil, arith, codes, drop, drop-cons, get_or, length, length-drop, slice_get}
 use Rattle.std.proofs.lemmas.Bool.Decides.{nat_tests}
 use Rattle.std.specs.Fmt.{decimal}
 use Rattle.std.specs.Int.{w16, to_be_bytes}
@@ -10,10 +10,11 @@ use Rattle.ckd_core.specs.Table.{Entry as TableEntry}
 use Rattle.ckd_core.specs.Mask.{is_mask, least_permitted}
 use Rattle.chan_walk.specs.declared.evidence.Outside.TheVariants.{Bin, Head}
 use Rattle.chan_walk.specs.declared.offence.Offence.{Offence}
+use Rattle.chan_walk.specs.declared.evidence.Evidence.{Evidence}
 use Rattle.chan_walk.specs.declared.place.Place.{Place}
 use Rattle.chan_walk.specs.declared.seek.GivenBytes.{GivenBytes}
 use Rattle.chan_walk.specs.Given.{addresses_given}
-use Rattle.chan_deck.specs.Explanation.{also_line, also_lines, are_alike, argument_text, given_text, path_rows, ranges_text, seek_text, taken_text, weaker_text}
+use Rattle.chan_deck.specs.Explanation.{also_after, also_lines, next_lines, argument_text, given_text, path_rows, ranges_text, seek_text, taken_text, weaker_text}
 use Rattle.chan_deck.specs.Texts.{address_text}
 use Rattle.chan_deck.specs.Item.{byte_digits}
 use Rattle.chan_deck.specs.Listing.{command_name, command_of, row, row_with}
@@ -92,31 +93,43 @@ path_more s ps at d held more whole c command lt stands is told before =
 
 -- ---- the lines of the other offences
 
+drop_one : (es : List Evidence) (n : ℕ) → drop 1 (drop n es) ≡ drop (suc n) es
+drop_one es zero = refl
+drop_one [] (suc n) = refl
+drop_one (e ∷ es) (suc n) = drop_one es n
+
+first_left : (es : List Evidence) (n : ℕ) → slice_get (drop n es) 0 ≡ slice_get es n
+first_left es zero = refl
+first_left [] (suc n) = refl
+first_left (e ∷ es) (suc n) = first_left es n
+
 -- those of the offences behind one of them
-lines_left : (os : List Offence) (at : ℕ) (d : Offence) → 0 < at → at < length os
-    → also_lines (drop (at - 1) os) ≡ (if are_alike (get_or os (at - 1) d) (get_or os at d) then [] else also_line (get_or os at d)) ++ also_lines (drop at os)
-lines_left os at d some lt =
+lines_left : (os : List Offence) (es : List Evidence) (at : ℕ) (d : Offence) → 0 < at → at < length os
+    → also_lines (drop (at - 1) os) (drop (at - 1) es) ≡ next_lines (get_or os (at - 1) d) (get_or os at d) (slice_get es at) ++ also_lines (drop at os) (drop at es)
+lines_left os es at d some lt =
     let o = get_or os (at - 1) d in
     let p = get_or os at d in
     let next : suc (at - 1) ≡ at = omega arith in
     let here = drop-cons os at d lt in
     let both : drop (at - 1) os ≡ o ∷ p ∷ drop (suc at) os = drop-cons os (at - 1) d (omega arith) ∙ ap (λ n. o ∷ drop n os) next ∙ ap (λ t. o ∷ t) here in
-    ap also_lines both ∙ ap (λ t. (if are_alike o p then [] else also_line p) ++ also_lines t) (sym here)
+    let rest : drop 1 (drop (at - 1) es) ≡ drop at es = drop_one es (at - 1) ∙ ap (λ n. drop n es) next in
+    ap (λ t. also_lines t (drop (at - 1) es)) both ∙ ap (λ z. next_lines o p (slice_get z 0) ++ also_after p (drop (suc at) os) (drop 1 z)) rest
+    ∙ ap (λ z. next_lines o p z ++ also_after p (drop (suc at) os) (drop 1 (drop at es))) (first_left es at) ∙ ap (λ t. next_lines o p (slice_get es at) ++ also_lines t (drop at es)) (sym here)
 
 -- one line more, or none for an offence that is like the one before it
-pub others_more : (os : List Offence) (at : ℕ) (d : Offence) (held more whole : List ℕ) → 0 < at → at < length os
-    → more ≡ held ++ (if are_alike (get_or os (at - 1) d) (get_or os at d) then [] else also_line (get_or os at d))
-    → held ++ also_lines (drop (at - 1) os) ≡ whole → more ++ also_lines (drop (at + 1 - 1) os) ≡ whole
-others_more os at d held more whole some lt told before =
+pub others_more : (os : List Offence) (es : List Evidence) (at : ℕ) (d : Offence) (cause : Option Evidence) (held more whole : List ℕ) → 0 < at → at < length os → cause ≡ slice_get es at
+    → more ≡ held ++ next_lines (get_or os (at - 1) d) (get_or os at d) cause
+    → held ++ also_lines (drop (at - 1) os) (drop (at - 1) es) ≡ whole → more ++ also_lines (drop (at + 1 - 1) os) (drop (at + 1 - 1) es) ≡ whole
+others_more os es at d cause held more whole some lt is told before =
     let next : at + 1 - 1 ≡ at = omega arith in
-    rw (next, told, append_assoc, ← lines_left os at d some lt) before
+    rw (next, told, is, append_assoc, ← lines_left os es at d some lt) before
 
 -- one offence has no other behind it
-no_line : (os : List Offence) → length os ≤ 1 → also_lines os ≡ []
-no_line [] h = refl
-no_line (o ∷ []) h = refl
-no_line (o ∷ p ∷ os) h = absurd (omega (arith, h))
+no_line : (os : List Offence) (es : List Evidence) → length os ≤ 1 → also_lines os es ≡ []
+no_line [] es h = refl
+no_line (o ∷ []) es h = refl
+no_line (o ∷ p ∷ os) es h = absurd (omega (arith, h))
 
-pub none_left : (os : List Offence) (at : ℕ) (held whole : List ℕ) → length os ≤ at → 0 < at → held ++ also_lines (drop (at - 1) os) ≡ whole → held ≡ whole
-none_left os at held whole h some before =
-    sym (append-nil held) ∙ ap (λ t. held ++ t) (sym (no_line (drop (at - 1) os) (omega (arith, length-drop (at - 1) os)))) ∙ before
+pub none_left : (os : List Offence) (es : List Evidence) (at : ℕ) (held whole : List ℕ) → length os ≤ at → 0 < at → held ++ also_lines (drop (at - 1) os) (drop (at - 1) es) ≡ whole → held ≡ whole
+none_left os es at held whole h some before =
+    sym (append-nil held) ∙ ap (λ t. held ++ t) (sym (no_line (drop (at - 1) os) (drop (at - 1) es) (omega (arith, length-drop (at - 1) os)))) ∙ before

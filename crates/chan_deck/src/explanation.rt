@@ -1,7 +1,7 @@
 //! The explanation of a verdict: what `chanv why` writes.
 
 ghost use Rattle.std.specs.Prelude.{◌≡◌, ◌↔◌, ◌++◌, false, true, string_bytes, IfOk, IsErrOf, OnOk};
-ghost use Rattle.std.specs.Prelude.{[], if◌then◌else◌, option_map};
+ghost use Rattle.std.specs.Prelude.{option_map, slice_get};
 ghost use Rattle.std.specs.Io.KnownBytes.{Appends};
 ghost use Rattle.ccw_core.specs.Written.{AppendsPrefix};
 ghost use Rattle.chan_deck.specs.Explanation as texts;
@@ -152,7 +152,7 @@ fn push_given(alloc: Global, out: &mut String, given: GivenBytes) -> Result<(), 
 /// Adds how many bytes there are of an argument that isn't whole, and these.
 fn push_short(alloc: Global, out: &mut String, given: GivenBytes) -> Result<(), AllocError>
     ensures { OnOk result (string_bytes out.new ≡ string_bytes out.old
-        ++ texts.cause_text [] (because.ShortSeek given)) }
+        ++ texts.cause_text (because.ShortSeek given)) }
 {
     let count = given.count;
     write!(out, "the argument ends after {count} of 6 bytes: ")?;
@@ -167,7 +167,7 @@ fn push_sought(
     argument: Option<GivenBytes>,
 ) -> Result<(), AllocError>
     ensures { OnOk result (string_bytes out.new ≡ string_bytes out.old
-        ++ texts.cause_text [] (because.SeekOutside outside argument)) }
+        ++ texts.cause_text (because.SeekOutside outside argument)) }
 {
     push_seek(out, outside)?;
     let Some(argument) = argument else {
@@ -177,13 +177,14 @@ fn push_sought(
     push_given(alloc, out, argument)
 }
 
-/// What is wrong with a transfer in channel to which a path leads.
-fn transfer_word(path: &[Place]) -> &'static str
-    ensures { result.now ≡ texts.transfer_text path.now }
+/// What is wrong with a transfer in channel that stands at the first place, or doesn't.
+fn transfer_word(first: bool) -> &'static str
+    ensures { result.now ≡ texts.transfer_text first }
 {
-    match path {
-        [_] => "a transfer stands first",
-        _ => "a transfer leads to a transfer",
+    if first {
+        "a transfer stands first"
+    } else {
+        "a transfer leads to a transfer"
     }
 }
 
@@ -228,14 +229,9 @@ fn push_change(out: &mut String, evidence: Evidence) -> Result<(), AllocError>
 }
 
 /// Adds the cause to a text.
-fn push_cause(
-    alloc: Global,
-    out: &mut String,
-    path: &[Place],
-    evidence: Evidence,
-) -> Result<(), AllocError>
+fn push_cause(alloc: Global, out: &mut String, evidence: Evidence) -> Result<(), AllocError>
     ensures { OnOk result (string_bytes out.new
-        ≡ string_bytes out.old ++ texts.cause_text path.now evidence) }
+        ≡ string_bytes out.old ++ texts.cause_text evidence) }
 {
     match evidence {
         Evidence::Misaligned { address } => {
@@ -243,7 +239,7 @@ fn push_cause(
             write!(out, "{address} is not a multiple of 8")
         }
         Evidence::OutsideStorage { ccw, length } => push_outside(out, ccw, length),
-        Evidence::TransferNotAllowed => out.push_str(transfer_word(path)),
+        Evidence::TransferNotAllowed { first } => out.push_str(transfer_word(first)),
         Evidence::InvalidCode { code } => {
             let code = Digits(code);
             write!(out, "code {code} is invalid")
@@ -269,6 +265,16 @@ fn push_cause(
         ),
         Evidence::WeakensMask { byte, mask } => push_weaker(out, byte, mask),
     }
+}
+
+/// Adds the line of a cause.
+fn push_because(alloc: Global, out: &mut String, evidence: Evidence) -> Result<(), AllocError>
+    ensures { OnOk result (string_bytes out.new
+        ≡ string_bytes out.old ++ texts.because_line evidence) }
+{
+    out.push_str("because ")?;
+    push_cause(alloc, out, evidence)?;
+    out.push('\n')
 }
 
 /// Adds a row for each place of a path, the last of them marked.
@@ -313,24 +319,49 @@ fn push_also(out: &mut String, offence: Offence) -> Result<(), AllocError>
     write!(out, "also {address} {word}\n")
 }
 
-/// Adds the line of an offence behind another, if they aren't alike.
-fn push_next(out: &mut String, before: Offence, offence: Offence) -> Result<(), AllocError>
-    ensures { OnOk result (string_bytes out.new ≡ string_bytes out.old
-        ++ (if texts.are_alike before offence then [] else texts.also_line offence)) }
+/// Adds the line of an offence behind another, if they aren't alike, and that of its cause, if there
+/// is one.
+fn push_next(
+    alloc: Global,
+    out: &mut String,
+    before: Offence,
+    offence: Offence,
+    cause: Option<Evidence>,
+) -> Result<(), AllocError>
+    ensures { OnOk result (string_bytes out.new
+        ≡ string_bytes out.old ++ texts.next_lines before offence cause) }
 {
     if are_alike(before, offence) {
         return Ok(());
     }
-    push_also(out, offence)
+    push_also(out, offence)?;
+    match cause {
+        Some(evidence) => push_because(alloc, out, evidence),
+        None => Ok(()),
+    }
 }
 
-/// Adds a line for each address and reason but the first.
-fn push_others(out: &mut String, offences: &[Offence]) -> Result<(), AllocError>
+/// The cause of the offence of an index, where there are causes.
+fn cause_at(causes: &[Evidence], at: usize) -> Option<Evidence>
+    ensures { result ≡ slice_get causes.now at }
+{
+    causes.get(at).copied()
+}
+
+/// Adds a line for each address and reason but the first, and behind it that of the offence's cause,
+/// if there are causes.
+fn push_others(
+    alloc: Global,
+    out: &mut String,
+    offences: &[Offence],
+    causes: &[Evidence],
+) -> Result<(), AllocError>
     ensures { OnOk result (string_bytes out.new
-        ≡ string_bytes out.old ++ texts.also_lines offences.now) }
+        ≡ string_bytes out.old ++ texts.also_lines offences.now causes.now) }
 {
     for at in 1..offences.len() {
-        push_next(out, offences[at - 1], offences[at])?;
+        let cause = cause_at(causes, at);
+        push_next(alloc, out, offences[at - 1], offences[at], cause)?;
     }
     Ok(())
 }
@@ -365,9 +396,7 @@ fn push_witness(
         return Ok(());
     };
     push_path(alloc, out, job, witness.path.as_slice())?;
-    out.push_str("because ")?;
-    push_cause(alloc, out, witness.path.as_slice(), evidence)?;
-    out.push('\n')?;
+    push_because(alloc, out, evidence)?;
     push_stored(out, witness.stored_over)?;
     push_second(alloc, out, job, witness.second_path.as_slice())
 }
@@ -375,7 +404,8 @@ fn push_witness(
 /// The explanation of a verdict as text: its line; the path to an offending place, a row for each
 /// place, the last marked; the cause, with its values; the place that stores over what stands at
 /// the path's end; the path to what is changed; and a line for each other address and reason that
-/// offends. An error means that an allocation failed.
+/// offends, with the line of its cause behind it where the causes of all offences are handed in. An
+/// error means that an allocation failed.
 ///
 /// The rows show the CCWs that stand in the job's storage, whether or not the explanation is the
 /// job's.
@@ -384,14 +414,15 @@ pub fn explanation_text(
     job: &Job,
     survey: &Survey,
     witness: &Witness,
+    causes: &[Evidence],
 ) -> Result<String, AllocError>
     ensures { IfOk result
         (λ t. string_bytes t ≡ texts.explanation (storage_of job.now)
-        survey.now.offences.items witness.now) }
+        survey.now.offences.items causes.now witness.now) }
 {
     let mut text = verdict_text(alloc, survey.verdict())?;
     push_witness(alloc, &mut text, job, witness)?;
-    push_others(&mut text, survey.offences())?;
+    push_others(alloc, &mut text, survey.offences(), causes)?;
     Ok(text)
 }
 
@@ -404,18 +435,19 @@ pub fn write_explanation<W: Write>(
     job: &Job,
     survey: &Survey,
     witness: &Witness,
+    causes: &[Evidence],
     to: &mut Watched<W>,
 ) -> Result<(), ListError>
     requires { to.old.failed ≡ false }
     ensures ok { OnOk result (Appends (W.contents to.old.device) (W.contents to.new.device)
         (texts.explanation (storage_of job.now)
-        survey.now.offences.items witness.now)) }
+        survey.now.offences.items causes.now witness.now)) }
     ensures prefix { AppendsPrefix (W.contents to.old.device) (W.contents to.new.device)
         (texts.explanation (storage_of job.now)
-        survey.now.offences.items witness.now) }
+        survey.now.offences.items causes.now witness.now) }
     ensures write { IsErrOf result ListError.Write ↔ (to.new.failed ≡ true) }
     ensures memory { IsErrOf result ListError.Memory → to.new ≡ to.old }
 {
-    let text = explanation_text(alloc, job, survey, witness)?;
+    let text = explanation_text(alloc, job, survey, witness, causes)?;
     Ok(write_out(text.as_bytes(), to)?)
 }

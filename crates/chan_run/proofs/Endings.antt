@@ -38,24 +38,24 @@ flushed_answer front a t old mid new (Err e) keeps same h =
 said : {A E : Type 0} (name : Option (List ℕ)) (a : Action) (t : List ℕ) (r : Result Status RunError)
     (advice : Result (Vec ℕ A) E) → has_advice a (Ran r) ≡ true
     → IfOk advice (λ text. IsBeside a t r text.items) → IsAdvice name a t (Ran r) (advice_of name (Some advice))
-said name actions.Why t (Ok Yes) (Ok text) has is = inl is
-said name actions.Why t (Ok Yes) (Err refused) has is = inr refl
-said name actions.Why t (Err (Deck line cause)) (Ok text) has is = inl is
-said name actions.Why t (Err (Deck line cause)) (Err refused) has is = inr refl
-said name actions.Why t (Err TooManyPlaces) (Ok text) has is = inl is
-said name actions.Why t (Err TooManyPlaces) (Err refused) has is = inr refl
+said name (actions.Why all) t (Ok Yes) (Ok text) has is = inl is
+said name (actions.Why all) t (Ok Yes) (Err refused) has is = inr refl
+said name (actions.Why all) t (Err (Deck line cause)) (Ok text) has is = inl is
+said name (actions.Why all) t (Err (Deck line cause)) (Err refused) has is = inr refl
+said name (actions.Why all) t (Err TooManyPlaces) (Ok text) has is = inl is
+said name (actions.Why all) t (Err TooManyPlaces) (Err refused) has is = inr refl
 said name a t r advice has is = absurd (cc)
 
 -- and where there is nothing
 unsaid : (name : Option (List ℕ)) (a : Action) (t : List ℕ) (end : Outcome) → has_advice a end ≡ false → IsAdvice name a t end []
-unsaid name actions.Why t (Ran (Ok Yes)) none = absurd (cc)
-unsaid name actions.Why t (Ran (Err (Deck line cause))) none = absurd (cc)
-unsaid name actions.Why t (Ran (Err TooManyPlaces)) none = absurd (cc)
+unsaid name (actions.Why all) t (Ran (Ok Yes)) none = absurd (cc)
+unsaid name (actions.Why all) t (Ran (Err (Deck line cause))) none = absurd (cc)
+unsaid name (actions.Why all) t (Ran (Err TooManyPlaces)) none = absurd (cc)
 unsaid name a t end none = refl
 
 -- no flush that failed has any
 no_flush : (a : Action) → has_advice a FlushFailed ≡ true → ⊥
-no_flush actions.Why has = absurd (cc)
+no_flush (actions.Why all) has = absurd (cc)
 no_flush a has = absurd (cc)
 
 -- what is said of how the run ended, where there is something to say, and else nothing

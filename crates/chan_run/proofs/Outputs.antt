@@ -1,7 +1,7 @@
 -- What a run writes of a job that was judged is what the action asks for, and what is said of the
 -- job of a deck is said of the text that spells it.
 use Rattle.std.proofs.KnownBytes.{Appends-nil}
-use Rattle.std.proofs.Common.{refl, ◌≡◌, ◌++◌, ℕ, List, [], Option, Result, Ok, Err, OnOk, inl, inr}
+use Rattle.std.proofs.Common.{refl, false, ◌≡◌, ◌++◌, ℕ, List, [], Option, Result, Ok, Err, OnOk, inl, inr}
 use Rattle.std.specs.Io.KnownBytes.{Appends}
 use Rattle.ccw_core.specs.Written.{AppendsPrefix}
 use Rattle.chan_deck.specs.declared.listing.ListError.{ListError}
@@ -37,7 +37,7 @@ written front a j v output old new (Err lists.Memory) asked all prefix =
 
 -- where the verdict is no, an explanation is what is asked for by `needs` too
 pub explained : (j : Job) (a : ℕ) (why : Reason) (old new : Option (List ℕ))
-    (r : Result (Unit {0}) ListError) → IsWritten [] actions.Why j (No a why) old new r
+    (r : Result (Unit {0}) ListError) → IsWritten [] (actions.Why false) j (No a why) old new r
     → IsWritten [] actions.Needs j (No a why) old new r
 explained j a why old new (Ok _) w =
     record { output = w.output; asked = w.asked; written = w.written }
@@ -58,7 +58,7 @@ ran_out front a j v old new answers (inr some) = inr (v, answers, some)
 pub judges_itself : (a : Action) (j : Job) → (a ≡ actions.Needs → ⊥) → Judges a j j
 judges_itself actions.Verify j other = refl
 judges_itself actions.List j other = refl
-judges_itself actions.Why j other = refl
+judges_itself (actions.Why all) j other = refl
 judges_itself actions.Graph j other = refl
 judges_itself actions.Needs j other = absurd (other refl)
 
@@ -101,10 +101,10 @@ pub beside : (front : List ℕ) (a : Action) (t : List ℕ) (deck : Image) (j : 
     (old new : Option (List ℕ)) (r : Result Status RunError) (advice : List ℕ) → Spells t deck
     → IsJobOf deck j → IsAnswerOn front a j old new r → IsBesideJob a j r advice
     → IsBeside a t r advice
-beside front actions.Why t deck j old new (Ok Yes) advice spelled of_deck h noted =
+beside front (actions.Why all) t deck j old new (Ok Yes) advice spelled of_deck h noted =
     of_job t deck j _ spelled of_deck noted
-beside front actions.Why t deck j old new (Err (Deck line cause)) advice spelled of_deck h noted =
+beside front (actions.Why all) t deck j old new (Err (Deck line cause)) advice spelled of_deck h noted =
     absurd h.2
-beside front actions.Why t deck j old new (Err TooManyPlaces) advice spelled of_deck h noted =
+beside front (actions.Why all) t deck j old new (Err TooManyPlaces) advice spelled of_deck h noted =
     of_job t deck j _ spelled of_deck noted
 beside front a t deck j old new r advice spelled of_deck h noted = tt

@@ -43,14 +43,14 @@ limit_line limit =
 
 -- what is said beside an answer on a job
 abbrev pub IsBesideJob : Action → Job → Result Status RunError → List ℕ → Type 0
-IsBesideJob actions.Why j (Ok statuses.Yes) advice = IsNoted j advice
-IsBesideJob actions.Why j (Err TooManyPlaces) advice = advice ≡ limit_line j.limit
+IsBesideJob (actions.Why all) j (Ok statuses.Yes) advice = IsNoted j advice
+IsBesideJob (actions.Why all) j (Err TooManyPlaces) advice = advice ≡ limit_line j.limit
 IsBesideJob a j answer advice = Unit {0}
 
 -- what is said beside an answer on a text
 abbrev pub IsBeside : Action → List ℕ → Result Status RunError → List ℕ → Type 0
-IsBeside actions.Why t (Ok statuses.Yes) advice = IsOfJob t (λ j. IsNoted j advice)
-IsBeside actions.Why t (Err (Deck line cause)) advice = IsHint t line cause advice
-IsBeside actions.Why t (Err TooManyPlaces) advice =
+IsBeside (actions.Why all) t (Ok statuses.Yes) advice = IsOfJob t (λ j. IsNoted j advice)
+IsBeside (actions.Why all) t (Err (Deck line cause)) advice = IsHint t line cause advice
+IsBeside (actions.Why all) t (Err TooManyPlaces) advice =
     IsOfJob t (λ j. advice ≡ limit_line j.limit)
 IsBeside a t answer advice = Unit {0}

@@ -33,11 +33,11 @@ memory_line name = line_over name (Ran (Err Memory))
 -- the hint where the text is refused, and the limit where too many places are reachable, or that
 -- memory ran out for them
 abbrev pub IsAdvice : Option (List ℕ) → Action → List ℕ → Outcome → List ℕ → Type 0
-IsAdvice name actions.Why t (Ran (Ok statuses.Yes)) advice =
+IsAdvice name (actions.Why all) t (Ran (Ok statuses.Yes)) advice =
     IsOfJob t (λ j. IsNoted j advice) ⊎ (advice ≡ memory_line name)
-IsAdvice name actions.Why t (Ran (Err (Deck line cause))) advice =
+IsAdvice name (actions.Why all) t (Ran (Err (Deck line cause))) advice =
     IsHint t line cause advice ⊎ (advice ≡ memory_line name)
-IsAdvice name actions.Why t (Ran (Err TooManyPlaces)) advice =
+IsAdvice name (actions.Why all) t (Ran (Err TooManyPlaces)) advice =
     IsOfJob t (λ j. advice ≡ limit_line j.limit) ⊎ (advice ≡ memory_line name)
 IsAdvice name a t end advice = advice ≡ []
 

@@ -53,9 +53,9 @@ status_of CannotOpen = 3
 -- what is written beside the explanation of a yes, where the text is no deck, and where too many
 -- places are reachable
 abbrev pub has_advice : Action → Outcome → Bool
-has_advice actions.Why (Ran (Ok statuses.Yes)) = true
-has_advice actions.Why (Ran (Err (runs.Deck line cause))) = true
-has_advice actions.Why (Ran (Err runs.TooManyPlaces)) = true
+has_advice (actions.Why all) (Ran (Ok statuses.Yes)) = true
+has_advice (actions.Why all) (Ran (Err (runs.Deck line cause))) = true
+has_advice (actions.Why all) (Ran (Err runs.TooManyPlaces)) = true
 has_advice _ _ = false
 
 -- all was done that was asked for, so that the output is flushed

@@ -1,5 +1,7 @@
 -- What a run of the program answers for a text.
-use Rattle.std.specs.Prelude.{◌≡◌, ◌≤◌, ◌++◌, ◌⊎◌, ℕ, true, List, [], Option, Some, length}
+use Rattle.std.specs.Prelude.{◌≡◌, ◌≤◌, ◌++◌, ◌⊎◌, ℕ, Bool, true, false, List, [], Option, Some}
+use Rattle.std.specs.Prelude.{length}
+use Rattle.std.specs.List.{AllZip}
 use Rattle.std.specs.Prelude.{Result, Ok, Err}
 use Rattle.std.specs.Io.KnownBytes.{Appends}
 use Rattle.ccw_core.specs.Written.{AppendsPrefix}
@@ -12,6 +14,7 @@ use Rattle.chan_deck.specs.Listing.{listing}
 use Rattle.chan_deck.specs.Needs.{needs_text}
 use Rattle.chan_deck.specs.Refused.{IsRefused}
 use Rattle.chan_deck.specs.Texts.{verdict_line}
+use Rattle.chan_walk.specs.declared.evidence.Evidence.{Evidence}
 use Rattle.chan_walk.specs.declared.job.Job.{Job}
 use Rattle.chan_walk.specs.declared.offence.Offence.{Offence}
 use Rattle.chan_walk.specs.declared.place.Place.{Place}
@@ -19,8 +22,8 @@ use Rattle.chan_walk.specs.declared.verdict.Verdict.{Verdict}
 use Rattle.chan_walk.specs.declared.verdict.Verdict.TheVariants.{Yes, No}
 use Rattle.chan_walk.specs.declared.witness.Witness.{Witness}
 use Rattle.chan_walk.specs.Answers.{IsAnswer}
-use Rattle.chan_walk.specs.Explained.{IsEvidenceOf, IsPathOf, IsSecondPathOf}
-use Rattle.chan_walk.specs.Explained.{IsWitness}
+use Rattle.chan_walk.specs.Explained.{IsCauseOf, IsEvidenceOf, IsPathOf, IsSecondPathOf}
+use Rattle.chan_walk.specs.Explained.{IsStoredOver, IsWitness}
 use Rattle.chan_walk.specs.Explored.{AreReachable, HasMoreThan}
 use Rattle.chan_walk.specs.Job.{extents_of, fetch_of, storage_of, store_of}
 use Rattle.chan_walk.specs.Look.{AreLooks, Seen, places_of_looks}
@@ -65,6 +68,7 @@ pub record IsExplanation (j : Job) (v : Verdict) (os : List Offence) (w : Witnes
   pub path : IsPathOf j v w.path.items
   pub shown : IsWitness j v w.path.items
   pub evidence : IsEvidenceOf j v w.path.items w.evidence
+  pub stored : IsStoredOver j v w.path.items w.stored_over
   pub second : IsSecondPathOf j w.evidence w.second_path.items
 
 -- this is the picture of the job: of what is seen of its reachable places, with all its offences
@@ -76,16 +80,26 @@ pub record IsPicture (j : Job) (text : List ℕ) : Type 0 where
   pub offending : AreOffences j offences
   pub drawn : text ≡ graph looks offences
 
--- this is the explanation of the verdict on the job
-abbrev pub IsExplained : Job → Verdict → List ℕ → Type 0
-IsExplained j v text =
-    (os : List Offence) × (w : Witness) × IsExplanation j v os w
-    × (text ≡ explanation (storage_of j) os w)
+-- the causes that are told: those of all offences, or none
+abbrev pub AreTold : Bool → Job → List Offence → List Evidence → Type 0
+AreTold true j os es = AllZip (IsCauseOf j) os es
+AreTold false j os es = es ≡ []
+
+-- this is the explanation of the verdict on the job, with all causes or without
+abbrev pub IsExplained : Bool → Job → Verdict → List ℕ → Type 0
+IsExplained all j v text =
+    (os : List Offence) × (es : List Evidence) × (w : Witness) × IsExplanation j v os w
+    × AreTold all j os es × (text ≡ explanation (storage_of j) os es w)
 
 -- this says what the job's program needs, whichever job of it is asked, and what it keeps
 abbrev pub IsNeedsText : Job → List ℕ → Type 0
 IsNeedsText j text =
     (n : Listed) × ((k : Job) → AreOfOneProgram k j → AreNeeds k n) × (text ≡ needs_text n)
+
+-- the action explains the verdict
+abbrev pub is_why : Action → Bool
+is_why (actions.Why all) = true
+is_why _ = false
 
 -- what an action asks to write of a job and its verdict: the verdict's line, the listing of the
 -- reachable places, the explanation, the picture, or what is needed; where the verdict is no,
@@ -94,16 +108,16 @@ abbrev pub IsOutput : Action → Job → Verdict → List ℕ → Type 0
 IsOutput actions.Verify j v text = text ≡ verdict_line v
 IsOutput actions.List j v text =
     (ps : List Place) × AreReachable j ps × (text ≡ listing (storage_of j) ps v)
-IsOutput actions.Why j v text = IsExplained j v text
+IsOutput (actions.Why all) j v text = IsExplained all j v text
 IsOutput actions.Graph j v text = IsPicture j text
 IsOutput actions.Needs j Yes text = IsNeedsText j text
-IsOutput actions.Needs j (No a r) text = IsExplained j (No a r) text
+IsOutput actions.Needs j (No a r) text = IsExplained false j (No a r) text
 
 -- what stands before the output: for a verdict and its explanation the name of the input, where it
 -- has one
 abbrev pub front_of : Option (List ℕ) → Action → List ℕ
 front_of name actions.Verify = name_before name true
-front_of name actions.Why = name_before name true
+front_of name (actions.Why all) = name_before name true
 front_of name _ = []
 
 -- nothing was written, where the writer tells what it holds
@@ -151,7 +165,7 @@ abbrev pub Judges : Action → Job → Job → Type 0
 Judges actions.Needs j k = IsOpenJob j k
 Judges actions.Verify j k = k ≡ j
 Judges actions.List j k = k ≡ j
-Judges actions.Why j k = k ≡ j
+Judges (actions.Why all) j k = k ≡ j
 Judges actions.Graph j k = k ≡ j
 
 -- what each answer says of a job of which the action judges its own, and of what was written
@@ -236,6 +250,6 @@ IsEarly a (Err (Deck line cause)) = Unit {0}
 IsEarly a (Err TooManyPlaces) = Unit {0}
 IsEarly actions.Verify (Err Memory) = Unit {0}
 IsEarly actions.List (Err Memory) = ⊥
-IsEarly actions.Why (Err Memory) = Unit {0}
+IsEarly (actions.Why all) (Err Memory) = Unit {0}
 IsEarly actions.Graph (Err Memory) = ⊥
 IsEarly actions.Needs (Err Memory) = Unit {0}

@@ -94,8 +94,11 @@ pub fn has_advice(action: Action, outcome: Outcome) -> bool
     ensures { result ≡ has_advice action outcome }
 {
     match (action, outcome) {
-        (Action::Why, Outcome::Ran(Ok(Status::Yes)))
-        | (Action::Why, Outcome::Ran(Err(RunError::Deck { .. } | RunError::TooManyPlaces))) => true,
+        (Action::Why { .. }, Outcome::Ran(Ok(Status::Yes)))
+        | (
+            Action::Why { .. },
+            Outcome::Ran(Err(RunError::Deck { .. } | RunError::TooManyPlaces)),
+        ) => true,
         _ => false,
     }
 }

@@ -9,7 +9,8 @@ ghost use Rattle.chan_walk.specs.Offences.{first_verdict};
 ghost use Rattle.chan_walk.specs.Surveyed.{IsSurvey};
 ghost use Rattle.chan_run.specs.Advice.{IsBeside, IsBesideJob};
 ghost use Rattle.chan_run.specs.Naming.{name_before, name_in};
-ghost use Rattle.chan_run.specs.Run.{IsAnswerBehind, IsAnswerOn, IsEarly, IsExplained, IsJobAnswer};
+ghost use Rattle.chan_run.specs.Run.{AreTold, IsAnswerBehind, IsAnswerOn, IsEarly, IsExplained};
+ghost use Rattle.chan_run.specs.Run.{IsJobAnswer, is_why};
 ghost use Rattle.chan_run.specs.Run.{IsNamedAnswer};
 ghost use Rattle.chan_run.specs.Run.{IsInput, IsReadFault, IsRunAnswer, IsWritten};
 ghost use Rattle.chan_run.specs.Run.{IsTextAnswer, front_of, status_of_verdict};
@@ -24,7 +25,7 @@ use chan_deck::{
     Cause, DeckError, ListError, explanation_text, hint_text, read_deck, verdict_text, write_graph,
     write_needs, write_seen,
 };
-use chan_walk::{Job, OpenJob, Survey, Verdict, WalkError, survey};
+use chan_walk::{Evidence, Job, OpenJob, Survey, Verdict, WalkError, survey};
 use std::alloc::{AllocError, Global};
 use std::io::{Read, Write};
 use thiserror::Error;
@@ -36,13 +37,23 @@ pub enum Action {
     Verify,
     /// Writes a row for each reachable place, and then the line of the verdict.
     List,
-    /// Writes the explanation of the verdict.
-    Why,
+    /// Writes the explanation of the verdict; with the cause of each offence beside the first, if
+    /// all are asked for.
+    Why { all: bool },
     /// Writes the picture of the program in Graphviz's language.
     Graph,
     /// Writes what the deck's program needs of each job under which it may run, and what it keeps;
     /// or where no job will do, the explanation of the no that the program's open job has.
     Needs,
+}
+
+impl Action {
+    /// Whether it explains the verdict.
+    fn is_why(self) -> bool
+        ensures { result ≡ is_why self }
+    {
+        matches!(self, Action::Why { .. })
+    }
 }
 
 /// What a verdict was.
@@ -192,7 +203,7 @@ pub(crate) fn answer_text<W: Write>(
     let deck = match read_deck(alloc, text) {
         Ok(deck) => deck,
         Err(DeckError::At { line, cause }) => {
-            let hint = if asked && action == Action::Why {
+            let hint = if asked && action.is_why() {
                 hint_text(alloc, text, line, cause)
             } else {
                 Ok(Vec::new(alloc))
@@ -275,7 +286,7 @@ fn answer_job<W: Write>(
     let survey = match survey(alloc, job) {
         Ok(survey) => survey,
         Err(WalkError::TooManyPlaces) => {
-            let limit = if asked && action == Action::Why {
+            let limit = if asked && action.is_why() {
                 limit_text(alloc, job.limit)
             } else {
                 Ok(Vec::new(alloc))
@@ -285,7 +296,7 @@ fn answer_job<W: Write>(
         Err(WalkError::Memory) => return (Err(RunError::Memory), Ok(Vec::new(alloc))),
     };
     let status = status_of(survey.verdict());
-    let notes = if asked && action == Action::Why && status == Status::Yes {
+    let notes = if asked && action.is_why() && status == Status::Yes {
         notes_on(alloc, job, &survey)
     } else {
         Ok(Vec::new(alloc))
@@ -322,7 +333,7 @@ fn write_output<W: Write>(
             let (looks, _offences) = survey.into_parts();
             write_seen(alloc, looks.as_slice(), verdict, to)
         }
-        Action::Why => write_why(alloc, name, job, &survey, to),
+        Action::Why { all } => write_why(alloc, name, all, job, &survey, to),
         Action::Needs => write_needed(alloc, job, &survey, to),
         Action::Graph => {
             let (looks, offences) = survey.into_parts();
@@ -336,33 +347,53 @@ fn write_output<W: Write>(
 fn write_why<W: Write>(
     alloc: Global,
     name: Option<&str>,
+    all: bool,
     job: &Job,
     survey: &Survey,
     to: &mut Watched<W>,
 ) -> Result<(), ListError>
     requires writer { to.old.failed ≡ false }
     requires survey { IsSurvey job.now survey.now }
-    ensures output { IsWritten (front_of (name_in name.entry) actions.Why) actions.Why job.now
-        (first_verdict survey.now.offences.items)
+    ensures output { IsWritten (front_of (name_in name.entry) (actions.Why all)) (actions.Why all)
+        job.now (first_verdict survey.now.offences.items)
         (W.contents to.old.device) (W.contents to.new.device) result }
     ensures write { IsErrOf result ListError.Write ↔ (to.new.failed ≡ true) }
     ensures memory { IsErrOf result ListError.Memory → to.new ≡ to.old }
 {
-    let text = why_text(alloc, job, survey)?;
+    let text = why_text(alloc, all, job, survey)?;
     match write_named(name, text.as_str(), to) {
         Ok(()) => Ok(()),
         Err(DeviceFault) => Err(ListError::Write),
     }
 }
 
-/// The explanation of the verdict on a job that was surveyed.
-fn why_text(alloc: Global, job: &Job, survey: &Survey) -> Result<String, AllocError>
+/// The explanation of the verdict on a job that was surveyed, with the causes of all offences, if
+/// they are asked for.
+fn why_text(alloc: Global, all: bool, job: &Job, survey: &Survey) -> Result<String, AllocError>
     requires { IsSurvey job.now survey.now }
-    ensures { IfOk result (λ text. IsExplained job.now (first_verdict survey.now.offences.items)
-        (string_bytes text)) }
+    ensures { IfOk result (λ text. IsExplained all job.now
+        (first_verdict survey.now.offences.items) (string_bytes text)) }
 {
     let witness = survey.witness(alloc, job)?;
-    explanation_text(alloc, job, survey, &witness)
+    let causes = causes_told(alloc, all, job, survey)?;
+    explanation_text(alloc, job, survey, &witness, causes.as_slice())
+}
+
+/// The causes of all offences, or none, if they aren't asked for.
+fn causes_told(
+    alloc: Global,
+    all: bool,
+    job: &Job,
+    survey: &Survey,
+) -> Result<Vec<Evidence>, AllocError>
+    requires { IsSurvey job.now survey.now }
+    ensures { IfOk result (λ es. AreTold all job.now survey.now.offences.items es.items) }
+{
+    if all {
+        survey.causes(alloc, job)
+    } else {
+        Ok(Vec::new(alloc))
+    }
 }
 
 /// Writes what the program of a job needs that was surveyed, or where the verdict is no, its
@@ -382,7 +413,7 @@ fn write_needed<W: Write>(
     ensures memory { IsErrOf result ListError.Memory → to.new ≡ to.old }
 {
     match survey.verdict() {
-        Verdict::No { .. } => write_why(alloc, None, job, survey, to),
+        Verdict::No { .. } => write_why(alloc, None, false, job, survey, to),
         Verdict::Yes => {
             let needs = survey.needs(alloc, job)?;
             write_needs(alloc, &needs, to)

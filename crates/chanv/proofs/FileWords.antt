@@ -8,7 +8,7 @@ use Rattle.clap.specs.Walk.{nothing_held, positional, reading_by, walk_from, wal
 use Rattle.clap.specs.declared.error.kind.ErrorKind.TheVariants.{UnknownArgument}
 use Rattle.chanv.proofs.TakenLines.{end_kinds, rule_at, sub_at}
 use Rattle.chanv.specs.CommandLine.{IsWord}
-use Rattle.chanv.specs.ImageLine.{grant_fault, is_least}
+use Rattle.chanv.specs.ImageLine.{grant_fault, is_flagged, is_least}
 use Rattle.chanv.proofs.Names.{All, All-head, All-tail, CommandLine, Rule, Shape, append_assoc}
 use Rattle.chanv.proofs.Names.{bytes_eq, files_in, fold, long_of, or_else, short_of}
 
@@ -71,7 +71,12 @@ behind_value rows id word waiting = record {
   stopped = None;
 }
 
--- ---- the words after `verify` or `why`
+-- what leads to one thing leads to what follows from it
+pub leads_on : (s : Shape) (words : List Text) (P Q : List Row → Type 0) → ((rows : List Row) → P rows → Q rows)
+    → CommandLeadsTo s words P → CommandLeadsTo s words Q
+leads_on s words P Q on leads = record { sound = leads.sound; found = on _ leads.found }
+
+-- ---- the words after `verify`
 
 -- a command of this name, as clap builds it, with any number of files
 abbrev pub files_line : Text → Shape
@@ -127,6 +132,77 @@ files_are_found name (file ∷ rest) files =
     let here = first name file (is_value file (All-head IsWord file rest files)) in
     turned (files_line name) (walk_from nothing_held) _ file rest (λ rows. files_in rows ≡ file ∷ rest)
     here.0 here.1 (ends name [] file rest (All-tail IsWord file rest files))
+
+-- ---- the words after `why`
+
+-- what is found before the files: that each cause is asked for, or nothing
+abbrev before_files : Bool → List Row
+before_files true = (walked (sub_at 3).rules [] (walk_from nothing_held) (codes "--all")).held.rows
+before_files false = []
+
+-- the walk behind these words, of which the last waits to be used
+abbrev behind_why : Bool → List Text → Text → Walk
+behind_why all front last = behind_value (before_files all ++ rows_for front) (codes "FILE") last positional
+
+-- what is found in the end
+abbrev pub IsWhy : Bool → List Text → List Row → Type 0
+IsWhy all files rows = (files_in rows ≡ files) × (all ≡ is_flagged (codes "all") rows)
+
+-- each word after the first file leads behind it
+next_why : (all : Bool) (front : List Text) (last word : Text) → IsValue word
+    → (turn_fault (sub_at 3) [] (behind_why all front last) word ≡ [])
+    × (walked (sub_at 3).rules [] (behind_why all front last) word ≡ behind_why all (front ++ last ∷ []) word)
+unfolding clap_on_literals
+next_why false [] last word value =
+    (simp (value.0, value.1, value.2) refl, simp (value.0, value.1, value.2) refl)
+next_why false (v ∷ vs) last word value =
+    (simp (value.0, value.1, value.2) refl, simp (value.0, value.1, value.2) refl)
+next_why true [] last word value =
+    (simp (value.0, value.1, value.2) refl, simp (value.0, value.1, value.2) refl)
+next_why true (v ∷ vs) last word value =
+    (simp (value.0, value.1, value.2) refl, simp (value.0, value.1, value.2) refl)
+
+-- the files go on to the end
+ends_why : (all : Bool) (front : List Text) (last : Text) (rest : List Text) → All IsWord rest
+    → LeadsTo (sub_at 3) (behind_why all front last) rest (IsWhy all (front ++ last ∷ rest))
+unfolding clap_on_literals
+ends_why false [] last [] files = record { sound = refl; found = (refl, refl) }
+ends_why false (v ∷ vs) last [] files = record { sound = refl; found = (refl, refl) }
+ends_why true [] last [] files = record { sound = refl; found = (refl, refl) }
+ends_why true (v ∷ vs) last [] files = record { sound = refl; found = (refl, refl) }
+ends_why all front last (word ∷ rest) files =
+    let leads = ends_why all (front ++ last ∷ []) word rest (All-tail IsWord word rest files) in
+    let here = next_why all front last word (is_value word (All-head IsWord word rest files)) in
+    turned (sub_at 3) _ _ word rest (IsWhy all (front ++ last ∷ word ∷ rest)) here.0 here.1
+    (record {
+      sound = leads.sound;
+      found = (leads.found.0 ∙ append_assoc front (last ∷ []) (word ∷ rest), leads.found.1);
+    })
+
+-- nothing is wrong with files, and they are what is found as such
+pub why_is_found : (files : List Text) → All IsWord files → CommandLeadsTo (sub_at 3) files (IsWhy false files)
+unfolding clap_on_literals
+why_is_found [] files = record { sound = refl; found = (refl, refl) }
+why_is_found (file ∷ rest) files =
+    let value = is_value file (All-head IsWord file rest files) in
+    turned (sub_at 3) (walk_from nothing_held) (behind_why false [] file) file rest (IsWhy false (file ∷ rest))
+    (simp (value.0, value.1, value.2) refl) (simp (value.0, value.1, value.2) refl)
+    (ends_why false [] file rest (All-tail IsWord file rest files))
+
+-- nor with the option before them
+pub why_all_is_found : (files : List Text) → All IsWord files
+    → CommandLeadsTo (sub_at 3) (codes "--all" ∷ files) (IsWhy true files)
+unfolding clap_on_literals
+why_all_is_found [] files =
+    turned (sub_at 3) (walk_from nothing_held) (walked (sub_at 3).rules [] (walk_from nothing_held) (codes "--all")) (codes "--all") [] (IsWhy true [])
+    refl refl (record { sound = refl; found = (refl, refl) })
+why_all_is_found (file ∷ rest) files =
+    let value = is_value file (All-head IsWord file rest files) in
+    turned (sub_at 3) (walk_from nothing_held) (walked (sub_at 3).rules [] (walk_from nothing_held) (codes "--all")) (codes "--all") (file ∷ rest) (IsWhy true (file ∷ rest))
+    refl refl
+    (turned (sub_at 3) _ (behind_why true [] file) file rest (IsWhy true (file ∷ rest))
+    (simp (value.0, value.1, value.2) refl) (simp (value.0, value.1, value.2) refl)
+    (ends_why true [] file rest (All-tail IsWord file rest files)))
 
 -- ---- one word
 

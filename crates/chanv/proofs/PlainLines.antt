@@ -12,10 +12,10 @@ use Rattle.clap.specs.declared.error.kind.ErrorKind.TheVariants.{InvalidSubcomma
 use Rattle.clap.specs.declared.error.kind.ErrorKind.TheVariants.{MissingRequiredArgument}
 use Rattle.clap.specs.declared.error.kind.ErrorKind.TheVariants.{UnknownArgument}
 use Rattle.chanv.proofs.FileWords.{CommandLeadsTo, HasLeast, HasTwo, IsValue, files_are_found}
-use Rattle.chanv.proofs.FileWords.{files_line}
+use Rattle.chanv.proofs.FileWords.{files_line, leads_on, why_all_is_found, why_is_found}
 use Rattle.chanv.proofs.FileWords.{is_value, least_is_given, least_words, one_word, option_words}
 use Rattle.chanv.proofs.FileWords.{options_are_given, second_is_stray, word_is_found}
-use Rattle.chanv.specs.ImageLine.{extents_or_all}
+use Rattle.chanv.specs.ImageLine.{extents_or_all, is_flagged}
 use Rattle.chanv.proofs.TakenLines.{cons≢nil, passed_on, sub_at}
 use Rattle.chanv.specs.CommandLine.{AsksFor, ExplainsOrNoMemory, FaultsOrNoMemory, HelpsOrNoMemory}
 use Rattle.chanv.specs.CommandLine.{ListsOrNoMemory}
@@ -23,7 +23,7 @@ use Rattle.chanv.specs.CommandLine.{ImagesLeastOrNoMemory, ImagesOrNoMemory, IsA
 use Rattle.chanv.specs.CommandLine.{IsWord}
 use Rattle.chanv.specs.CommandLine.{IsPlainAnswerTo, IsTaken, RunsNamedOrNoMemory, RunsOrNoMemory}
 use Rattle.chanv.specs.CommandLine.{ShowsOrNoMemory, VersionOrNoMemory, chanv, files_met, name_met}
-use Rattle.chanv.specs.CommandLine.{name_of}
+use Rattle.chanv.specs.CommandLine.{IsAllAsMet, name_of, rows_met}
 use Rattle.chanv.specs.declared.command_line.Request.{Request}
 use Rattle.chanv.specs.declared.command_line.Request.TheVariants.{Explain, Fault, Grants, Help, Image}
 use Rattle.chanv.specs.declared.command_line.Request.TheVariants.{NoMemory, Run, RunNamed, Show}
@@ -39,26 +39,26 @@ use Rattle.chan_run.specs.declared.running.Action.TheVariants as actions
 -- ---- what a command and a request are for
 
 -- what a command of this name is for, or no command: an action, or else what its name says
-abbrev pub purpose : Option Text → Option Action × Text
-purpose None = (Some actions.Verify, [])
-purpose (Some name) = if bytes_eq name (codes "verify") then (Some actions.Verify, [])
+abbrev pub purpose : Option Text → List Row → Option Action × Text
+purpose None rows = (Some actions.Verify, [])
+purpose (Some name) rows = if bytes_eq name (codes "verify") then (Some actions.Verify, [])
     else (if bytes_eq name (codes "list") then (Some actions.List, [])
-    else (if bytes_eq name (codes "why") then (Some actions.Why, [])
+    else (if bytes_eq name (codes "why") then (Some (actions.Why (is_flagged (codes "all") rows)), [])
     else (if bytes_eq name (codes "graph") then (Some actions.Graph, [])
     else (if bytes_eq name (codes "needs") then (Some actions.Needs, []) else (None, name)))))
 
 -- the command of an action is for it
-pub purpose_is : (a : Action) → purpose (Some (name_of a)) ≡ (Some a, [])
-purpose_is actions.Verify = refl
-purpose_is actions.List = refl
-purpose_is actions.Why = refl
-purpose_is actions.Graph = refl
-purpose_is actions.Needs = refl
+pub purpose_is : (a : Action) (rows : List Row) → IsAllAsMet a rows → purpose (Some (name_of a)) rows ≡ (Some a, [])
+purpose_is actions.Verify rows all = refl
+purpose_is actions.List rows all = refl
+purpose_is (actions.Why b) rows all = ap (λ x. (Some (actions.Why x), [])) (sym all)
+purpose_is actions.Graph rows all = refl
+purpose_is actions.Needs rows all = refl
 
 -- so is what asks for the action
-for_action : (name : Option Text) (a : Action) → IsFor name a → purpose name ≡ (Some a, [])
-for_action None a is = ap (λ b. (Some b, [])) (sym is)
-for_action (Some name) a is = ap (λ n. purpose (Some n)) is ∙ purpose_is a
+for_action : (name : Option Text) (rows : List Row) (a : Action) → IsFor name a → IsAllAsMet a rows → purpose name rows ≡ (Some a, [])
+for_action None rows a is all = ap (λ b. (Some b, [])) (sym is)
+for_action (Some name) rows a is all = ap (λ n. purpose (Some n) rows) is ∙ purpose_is a rows all
 
 -- what a request is for
 abbrev purpose_asked : Request → Option Action × Text
@@ -73,14 +73,14 @@ purpose_asked _ = (None, codes "help")
 
 -- it is what the command that was met is for
 same_purpose : (met : Option (Text × List Row)) (r : Request) → AsksFor met r
-    → purpose (name_met met) ≡ purpose_asked r
-same_purpose met (Show word) asks = ap purpose asks.0
-same_purpose met (Image q) asks = ap purpose asks.0
-same_purpose met (Grants fault) asks = ap purpose asks.0
-same_purpose met (Explain word) asks = ap purpose asks.0
-same_purpose met Words asks = ap purpose asks.0
-same_purpose met (Run a) asks = for_action (name_met met) a asks.0
-same_purpose met (RunNamed a names) asks = for_action (name_met met) a asks.0
+    → purpose (name_met met) (rows_met met) ≡ purpose_asked r
+same_purpose met (Show word) asks = ap (λ n. purpose n (rows_met met)) asks.0
+same_purpose met (Image q) asks = ap (λ n. purpose n (rows_met met)) asks.0
+same_purpose met (Grants fault) asks = ap (λ n. purpose n (rows_met met)) asks.0
+same_purpose met (Explain word) asks = ap (λ n. purpose n (rows_met met)) asks.0
+same_purpose met Words asks = ap (λ n. purpose n (rows_met met)) asks.0
+same_purpose met (Run a) asks = for_action (name_met met) (rows_met met) a asks.0 asks.2
+same_purpose met (RunNamed a names) asks = for_action (name_met met) (rows_met met) a asks.0 asks.2
 same_purpose met r asks = absurd asks
 
 -- a command that is for an action isn't for what a name says
@@ -90,15 +90,15 @@ no_action a name is = true≢false (ap (λ (p : Option Action × Text). is_some 
 
 -- a request that is for what a name says asks by that name
 named_by : (met : Option (Text × List Row)) (r : Request) → AsksFor met r
-    → (purpose (name_met met)).1 ≡ (purpose_asked r).1
+    → (purpose (name_met met) (rows_met met)).1 ≡ (purpose_asked r).1
 named_by met r asks = ap (λ (p : Option Action × Text). p.1) (same_purpose met r asks)
 
 -- ---- what is met, and so asked for
 
 module _ (met : Option (Text × List Row)) (a : Action)
-    (only : purpose (name_met met) ≡ (Some a, [])) where
+    (only : purpose (name_met met) (rows_met met) ≡ (Some a, [])) where
   -- another action is asked for by nothing that was met
-  same : (b : Action) → purpose (name_met met) ≡ (Some b, []) → b ≡ a
+  same : (b : Action) → purpose (name_met met) (rows_met met) ≡ (Some b, []) → b ≡ a
   same b is = ap (λ (p : Option Action × Text). unwrap_or p.0 b) (sym is ∙ only)
 
   -- with standard input for its files it runs over that
@@ -400,50 +400,54 @@ module _ (line : List Text) (answer : Request) (is : IsAnswerTo line answer) whe
 
   -- an action with standard input for its files is over that
   over_input : (a : Action) (s : Shape) → IsNamed (name_of a) s → (words files : List Text)
-      → CommandLeadsTo s words (λ rows. files_in rows ≡ files) → IsStandardInput files
+      → CommandLeadsTo s words (λ rows. (files_in rows ≡ files) × IsAllAsMet a rows) → IsStandardInput files
       → (p : Text) → line ≡ p ∷ name_of a ∷ words → RunsOrNoMemory a answer
   over_input a s named words files leads input = taken s named words
-      (λ rows. files_in rows ≡ files) leads (RunsOrNoMemory a) tt
-      (λ rows found. runs (Some (name_of a, rows)) a (purpose_is a)
-      (subst IsStandardInput (sym found) input))
+      (λ rows. (files_in rows ≡ files) × IsAllAsMet a rows) leads (RunsOrNoMemory a) tt
+      (λ rows found. runs (Some (name_of a, rows)) a (purpose_is a rows found.1)
+      (subst IsStandardInput (sym found.0) input))
 
   -- with other files it is over them
-  over_files : (a : Action) (s : Shape) → IsNamed (name_of a) s → (files : List Text)
-      → CommandLeadsTo s files (λ rows. files_in rows ≡ files) → ¬ IsStandardInput files
-      → (p : Text) → line ≡ p ∷ name_of a ∷ files → RunsNamedOrNoMemory a files answer
-  over_files a s named files leads other = taken s named files
-      (λ rows. files_in rows ≡ files) leads (RunsNamedOrNoMemory a files) tt
-      (λ rows found. runs_named (Some (name_of a, rows)) a (purpose_is a) files found other)
+  over_files : (a : Action) (s : Shape) → IsNamed (name_of a) s → (words files : List Text)
+      → CommandLeadsTo s words (λ rows. (files_in rows ≡ files) × IsAllAsMet a rows) → ¬ IsStandardInput files
+      → (p : Text) → line ≡ p ∷ name_of a ∷ words → RunsNamedOrNoMemory a files answer
+  over_files a s named words files leads other = taken s named words
+      (λ rows. (files_in rows ≡ files) × IsAllAsMet a rows) leads (RunsNamedOrNoMemory a files) tt
+      (λ rows found. runs_named (Some (name_of a, rows)) a (purpose_is a rows found.1) files found.0 other)
 
   -- the lines of an action that takes any number of files
-  module _ (a : Action) (named : IsNamed (name_of a) (files_line (name_of a))) where
+  module _ (a : Action) (s : Shape) (named : IsNamed (name_of a) s) (leads : (files : List Text) → All IsWord files
+      → CommandLeadsTo s files (λ rows. (files_in rows ≡ files) × IsAllAsMet a rows)) where
     judged : (p : Text) → line ≡ p ∷ name_of a ∷ [] → RunsOrNoMemory a answer
-    judged = over_input a _ named [] [] (files_are_found (name_of a) [] (All-nil IsWord)) (inl refl)
+    judged = over_input a s named [] [] (leads [] (All-nil IsWord)) (inl refl)
 
     judged_input : (p : Text) → line ≡ p ∷ name_of a ∷ codes "-" ∷ [] → RunsOrNoMemory a answer
-    judged_input = over_input a _ named (codes "-" ∷ []) (codes "-" ∷ [])
-        (files_are_found (name_of a) (codes "-" ∷ [])
-        (All-cons IsWord _ [] (inl refl) (All-nil IsWord))) (inr refl)
+    judged_input = over_input a s named (codes "-" ∷ []) (codes "-" ∷ [])
+        (leads (codes "-" ∷ []) (All-cons IsWord _ [] (inl refl) (All-nil IsWord))) (inr refl)
 
     judged_files : (p : Text) (files : List Text) → All IsWord files → ¬ IsStandardInput files
         → line ≡ p ∷ name_of a ∷ files → RunsNamedOrNoMemory a files answer
-    judged_files p files are other =
-        over_files a _ named files (files_are_found (name_of a) files are) other p
+    judged_files p files are other = over_files a s named files files (leads files are) other p
 
   -- the lines of an action that takes one file
   module _ (a : Action) (named : IsNamed (name_of a) (one_word (name_of a)
-      (codes "FILE") false)) where
+      (codes "FILE") false)) (all : (rows : List Row) → IsAllAsMet a rows) where
+    -- it has no such option
+    only : (words files : List Text) → CommandLeadsTo (one_word (name_of a) (codes "FILE") false) words (λ rows. files_in rows ≡ files)
+        → CommandLeadsTo (one_word (name_of a) (codes "FILE") false) words (λ rows. (files_in rows ≡ files) × IsAllAsMet a rows)
+    only words files = leads_on _ words (λ rows. files_in rows ≡ files) (λ rows. (files_in rows ≡ files) × IsAllAsMet a rows) (λ rows found. (found, all rows))
+
     told : (p : Text) → line ≡ p ∷ name_of a ∷ [] → RunsOrNoMemory a answer
-    told = over_input a _ named [] [] (wants_none (name_of a)) (inl refl)
+    told = over_input a _ named [] [] (only [] [] (wants_none (name_of a))) (inl refl)
 
     told_input : (p : Text) → line ≡ p ∷ name_of a ∷ codes "-" ∷ [] → RunsOrNoMemory a answer
     told_input = over_input a _ named (codes "-" ∷ []) (codes "-" ∷ [])
-        (file_is_given (name_of a) (codes "-") (inl refl)) (inr refl)
+        (only (codes "-" ∷ []) (codes "-" ∷ []) (file_is_given (name_of a) (codes "-") (inl refl))) (inr refl)
 
     told_file : (p file : Text) → starts_with_minus file ≡ false
         → line ≡ p ∷ name_of a ∷ file ∷ [] → RunsNamedOrNoMemory a (file ∷ []) answer
-    told_file p file plain = over_files a _ named (file ∷ [])
-        (file_is_given (name_of a) file (inr plain)) (names_another file plain) p
+    told_file p file plain = over_files a _ named (file ∷ []) (file ∷ [])
+        (only (file ∷ []) (file ∷ []) (file_is_given (name_of a) file (inr plain))) (names_another file plain) p
 
     told_more : (p file more : Text) (rest : List Text) → IsWord file → IsWord more
         → line ≡ p ∷ name_of a ∷ file ∷ more ∷ rest → FaultsOrNoMemory answer
@@ -456,7 +460,8 @@ module _ (line : List Text) (answer : Request) (is : IsAnswerTo line answer) whe
   plain =
       let verify : IsNamed (codes "verify") (files_line (codes "verify")) = search rules in
       let list : IsNamed (codes "list") (one_word (codes "list") (codes "FILE") false) = search rules in
-      let why : IsNamed (codes "why") (files_line (codes "why")) = search rules in
+      let why : IsNamed (codes "why") (sub_at 3) = search rules in
+      let files = λ (files : List Text) (are : All IsWord files). leads_on (files_line (codes "verify")) files (λ rows. files_in rows ≡ files) (λ rows. (files_in rows ≡ files) × Unit {0}) (λ rows found. (found, tt)) (files_are_found (codes "verify") files are) in
       let graph : IsNamed (codes "graph") (one_word (codes "graph") (codes "FILE") false) = search rules in
       let show : IsNamed (codes "show") (one_word (codes "show") (codes "CCW") true) = search rules in
       let needs : IsNamed (codes "needs") (one_word (codes "needs") (codes "FILE") false) = search rules in
@@ -467,24 +472,26 @@ module _ (line : List Text) (answer : Request) (is : IsAnswerTo line answer) whe
             (ap (fault_of chanv) e ∙ (alone_is_taken p).0)
             (ap (subcommand_of chanv) e ∙ (alone_is_taken p).1) tt
             (runs None actions.Verify refl (inl refl)) answer is;
-        verify = judged actions.Verify verify;
-        verify_input = judged_input actions.Verify verify;
-        verify_files = judged_files actions.Verify verify;
-        list = told actions.List list;
-        list_input = told_input actions.List list;
-        list_file = told_file actions.List list;
-        list_more = told_more actions.List list;
-        why = judged actions.Why why;
-        why_input = judged_input actions.Why why;
-        why_files = judged_files actions.Why why;
-        graph = told actions.Graph graph;
-        graph_input = told_input actions.Graph graph;
-        graph_file = told_file actions.Graph graph;
-        graph_more = told_more actions.Graph graph;
-        needs = told actions.Needs needs;
-        needs_input = told_input actions.Needs needs;
-        needs_file = told_file actions.Needs needs;
-        needs_more = told_more actions.Needs needs;
+        verify = judged actions.Verify (files_line (codes "verify")) verify files;
+        verify_input = judged_input actions.Verify (files_line (codes "verify")) verify files;
+        verify_files = judged_files actions.Verify (files_line (codes "verify")) verify files;
+        list = told actions.List list (λ rows. tt);
+        list_input = told_input actions.List list (λ rows. tt);
+        list_file = told_file actions.List list (λ rows. tt);
+        list_more = told_more actions.List list (λ rows. tt);
+        why = judged (actions.Why false) (sub_at 3) why why_is_found;
+        why_input = judged_input (actions.Why false) (sub_at 3) why why_is_found;
+        why_files = judged_files (actions.Why false) (sub_at 3) why why_is_found;
+        why_all = over_input (actions.Why true) (sub_at 3) why (codes "--all" ∷ []) [] (why_all_is_found [] (All-nil IsWord)) (inl refl);
+        why_all_files = λ p files are other. over_files (actions.Why true) (sub_at 3) why (codes "--all" ∷ files) files (why_all_is_found files are) other p;
+        graph = told actions.Graph graph (λ rows. tt);
+        graph_input = told_input actions.Graph graph (λ rows. tt);
+        graph_file = told_file actions.Graph graph (λ rows. tt);
+        graph_more = told_more actions.Graph graph (λ rows. tt);
+        needs = told actions.Needs needs (λ rows. tt);
+        needs_input = told_input actions.Needs needs (λ rows. tt);
+        needs_file = told_file actions.Needs needs (λ rows. tt);
+        needs_more = told_more actions.Needs needs (λ rows. tt);
         show = λ p text word. taken _ show (text ∷ []) _
             (word_is_found (codes "show") (codes "CCW") text true refl refl refl
             (is_value text word)) (ShowsOrNoMemory text) tt

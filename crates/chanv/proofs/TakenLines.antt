@@ -271,7 +271,7 @@ named_is_known name words no_help = found_by
     (also (λ _ sound. inr (inr (inl (refl, has_word words sound))))
     (also (λ _ _. inr (inl (actions.Verify, refl)))
     (also (λ _ _. inr (inl (actions.List, refl)))
-    (also (λ _ _. inr (inl (actions.Why, refl)))
+    (also (λ _ _. inr (inl (actions.Why false, refl)))
     (also (λ _ _. inr (inl (actions.Graph, refl)))
     (also (λ _ _. inr (inl (actions.Needs, refl)))
     (also (λ _ _. inr (inr (inr (inl refl))))

@@ -13,7 +13,7 @@ use Rattle.chanv.specs.declared.command_line.Request.TheVariants.{Show, Run, Run
 use Rattle.chanv.specs.declared.command_line.Request.TheVariants.{Explain, Grants, Words}
 use Rattle.chanv.specs.declared.command_line.Request.TheVariants.{Help, Version, Fault, NoMemory}
 use Rattle.chanv.specs.CommandWords.{IsStandardInput, file_word, files_in, texts_of}
-use Rattle.chanv.specs.ImageLine.{SaysImage, grant_fault, image_line}
+use Rattle.chanv.specs.ImageLine.{SaysImage, flag_word, grant_fault, image_line, is_flagged}
 use Rattle.chan_run.specs.declared.running.Action.{Action}
 use Rattle.chan_run.specs.declared.running.Action.TheVariants as actions
 
@@ -32,6 +32,10 @@ show_line = with_rule (new_app (codes "show")) ccw_word
 -- a command of this name, with any number of files
 abbrev pub decks_line : Text → App
 decks_line name = with_rule (new_app name) file_words
+
+-- the command `why`, with any number of files, and the option to tell each cause
+abbrev pub why_line : App
+why_line = with_rule (decks_line (codes "why")) (flag_word (codes "all"))
 
 -- a command of this name, with one file or none
 abbrev pub deck_line : Text → App
@@ -56,7 +60,7 @@ judging_line =
 abbrev pub with_tellers : App → App
 with_tellers app =
     let listing = with_subcommand app (deck_line (codes "list")).top in
-    let explaining = with_subcommand listing (decks_line (codes "why")).top in
+    let explaining = with_subcommand listing why_line.top in
     let drawing = with_subcommand explaining (deck_line (codes "graph")).top in
     with_subcommand drawing (deck_line (codes "needs")).top
 
@@ -97,7 +101,7 @@ rows_met (Some p) = p.1
 abbrev pub name_of : Action → Text
 name_of actions.Verify = codes "verify"
 name_of actions.List = codes "list"
-name_of actions.Why = codes "why"
+name_of (actions.Why all) = codes "why"
 name_of actions.Graph = codes "graph"
 name_of actions.Needs = codes "needs"
 
@@ -112,12 +116,22 @@ abbrev pub IsFor : Option Text → Action → Type 0
 IsFor None action = action ≡ actions.Verify
 IsFor (Some name) action = name ≡ name_of action
 
+-- the action tells each cause exactly where that option was met
+abbrev pub IsAllAsMet : Action → List Row → Type 0
+IsAllAsMet (actions.Why all) rows = all ≡ is_flagged (codes "all") rows
+IsAllAsMet _ rows = Unit {0}
+
 -- the request is to run over these files
 abbrev pub RunsOver : Action → List Text → Request → Type 0
 RunsOver action files (Run a) = (a ≡ action) × IsStandardInput files
 RunsOver action files (RunNamed a names) =
     (a ≡ action) × (¬ IsStandardInput files) × (texts_of names.items ≡ files)
 RunsOver action files _ = ⊥
+
+-- the request is to explain the verdicts on the files that were met, with each cause where that
+-- option was
+abbrev pub Explains : List Row → Request → Type 0
+Explains rows r = RunsOver (actions.Why (is_flagged (codes "all") rows)) (files_in rows) r
 
 -- the request is to make the deck of what was met, or says why its options don't say one job
 abbrev pub MakesDeck : List Row → Request → Type 0
@@ -128,9 +142,11 @@ MakesDeck rows _ = ⊥
 -- what was met asks for this request
 abbrev pub AsksFor : Option (Text × List Row) → Request → Type 0
 AsksFor met (Show word) = (name_met met ≡ Some (codes "show")) × (ccw_met met ≡ Some word.now)
-AsksFor met (Run a) = IsFor (name_met met) a × RunsOver a (files_met met) (Run a)
+AsksFor met (Run a) =
+    IsFor (name_met met) a × RunsOver a (files_met met) (Run a) × IsAllAsMet a (rows_met met)
 AsksFor met (RunNamed a names) =
     IsFor (name_met met) a × RunsOver a (files_met met) (RunNamed a names)
+    × IsAllAsMet a (rows_met met)
 AsksFor met (Image asked) =
     (name_met met ≡ Some (codes "deck")) × MakesDeck (rows_met met) (Image asked)
 AsksFor met (Grants fault) =
@@ -260,12 +276,17 @@ pub record IsPlainAnswerTo (words : List Text) (answer : Request) : Type 0 where
   pub list_more : (program file more : Text) (rest : List Text) → IsWord file → IsWord more
       → words ≡ program ∷ codes "list" ∷ file ∷ more ∷ rest → FaultsOrNoMemory answer
   pub why : (program : Text) → words ≡ program ∷ codes "why" ∷ []
-      → RunsOrNoMemory actions.Why answer
+      → RunsOrNoMemory (actions.Why false) answer
   pub why_input : (program : Text) → words ≡ program ∷ codes "why" ∷ codes "-" ∷ []
-      → RunsOrNoMemory actions.Why answer
+      → RunsOrNoMemory (actions.Why false) answer
   pub why_files : (program : Text) (files : List Text) → All IsWord files
       → ¬ IsStandardInput files → words ≡ program ∷ codes "why" ∷ files
-      → RunsNamedOrNoMemory actions.Why files answer
+      → RunsNamedOrNoMemory (actions.Why false) files answer
+  pub why_all : (program : Text) → words ≡ program ∷ codes "why" ∷ codes "--all" ∷ []
+      → RunsOrNoMemory (actions.Why true) answer
+  pub why_all_files : (program : Text) (files : List Text) → All IsWord files
+      → ¬ IsStandardInput files → words ≡ program ∷ codes "why" ∷ codes "--all" ∷ files
+      → RunsNamedOrNoMemory (actions.Why true) files answer
   pub graph : (program : Text) → words ≡ program ∷ codes "graph" ∷ []
       → RunsOrNoMemory actions.Graph answer
   pub graph_input : (program : Text) → words ≡ program ∷ codes "graph" ∷ codes "-" ∷ []

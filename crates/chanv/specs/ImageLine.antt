@@ -60,9 +60,13 @@ texts_in name rows = unwrap_or (all_of name rows) []
 abbrev pub is_met : Text → List Row → Bool
 is_met name rows = is_some (first_of name rows)
 
+-- clap met the option of this name that has no value
+abbrev pub is_flagged : Text → List Row → Bool
+is_flagged name rows = bytes_eq (text_or name (codes "false") rows) (codes "true")
+
 -- the least job is asked for
 abbrev pub is_least : List Row → Bool
-is_least rows = bytes_eq (text_or (codes "least") (codes "false") rows) (codes "true")
+is_least rows = is_flagged (codes "least") rows
 
 -- the first option that grants something beside the least job
 abbrev pub beside_least : List Row → Option GrantFault

@@ -4,12 +4,12 @@ ghost use Rattle.std.specs.Prelude.{◌≡◌, ◌↔◌, IfErr, IfOk, IsTrue, O
 ghost use Rattle.clap.specs.Words.{HasKind, fault_of, found_of, rows_of};
 ghost use Rattle.clap.specs.Words.{subcommand_of, subcommand_rows_of};
 ghost use Rattle.chanv.specs.CommandLine.{AsksFor, IsAnswerTo, IsKnown, IsPlainAnswerTo, IsTaken};
-ghost use Rattle.chanv.specs.CommandLine.{MakesDeck, RunsOver, chanv};
+ghost use Rattle.chanv.specs.CommandLine.{Explains, MakesDeck, RunsOver, chanv};
 ghost use Rattle.chanv.specs.CommandWords.{IsStandardInput, files_in, texts_of};
 
 use crate::image_command::{ImageRequest, grant_fault, image_request};
 use crate::lines::command;
-use crate::words_met::{text_met, texts_met};
+use crate::words_met::{is_flagged, text_met, texts_met};
 use chan_run::{Action, GrantFault};
 use clap::error::ErrorKind;
 use clap::{ArgMatches, Error};
@@ -65,7 +65,7 @@ fn request_of<'a>(alloc: Global, matches: &ArgMatches<'a>) -> Result<Request<'a>
             None => unreachable!(),
         },
         Some(("list", inner)) => request_over(alloc, Action::List, inner),
-        Some(("why", inner)) => request_over(alloc, Action::Why, inner),
+        Some(("why", inner)) => why_request(alloc, inner),
         Some(("graph", inner)) => request_over(alloc, Action::Graph, inner),
         Some(("needs", inner)) => request_over(alloc, Action::Needs, inner),
         Some(("deck", inner)) => deck_request(alloc, inner),
@@ -76,6 +76,14 @@ fn request_of<'a>(alloc: Global, matches: &ArgMatches<'a>) -> Result<Request<'a>
         Some((_, inner)) => request_over(alloc, Action::Verify, inner),
         None => Ok(Request::Run(Action::Verify)),
     }
+}
+
+/// The request to explain the verdicts on the decks that clap met.
+fn why_request<'a>(alloc: Global, matches: &ArgMatches<'a>) -> Result<Request<'a>, AllocError>
+    ensures { IfOk result (Explains (rows_of (found_of matches.now))) }
+{
+    let all = is_flagged(matches, "all");
+    request_over(alloc, Action::Why { all }, matches)
 }
 
 /// The request to make a deck of what clap met.

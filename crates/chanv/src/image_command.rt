@@ -6,7 +6,7 @@ ghost use Rattle.chanv.specs.CommandWords.{file_in, texts_of};
 ghost use Rattle.chanv.specs.ImageLine.{SaysImage, beside_least, extents_or_all, grant_fault};
 ghost use Rattle.chanv.specs.ImageLine.{is_least, texts_in};
 
-use crate::words_met::{text_met, text_or, texts_met};
+use crate::words_met::{is_flagged, text_met, text_or, texts_met};
 use chan_run::{GrantFault, ImageOption, ImageWords};
 use clap::ArgMatches;
 use std::alloc::{AllocError, Global};
@@ -34,7 +34,7 @@ fn file<'a>(matches: &ArgMatches<'a>) -> Option<&'a str>
 fn is_least(matches: &ArgMatches<'_>) -> bool
     ensures { result ≡ is_least (rows_of (found_of matches.now)) }
 {
-    text_or(matches, "least", "false") == "true"
+    is_flagged(matches, "least")
 }
 
 /// The first option that grants something beside the least job.

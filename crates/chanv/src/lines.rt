@@ -49,7 +49,7 @@ pub(crate) struct Line<'a> {
 /// What a line may look like, for help and for a usage fault before any command.
 const USAGE: &str = "chanv verify [FILE]...
        chanv list [FILE]
-       chanv why [FILE]...
+       chanv why [--all] [FILE]...
        chanv graph [FILE]
        chanv needs [FILE]
        chanv deck --start <ADDRESS> --least [OPTIONS] [FILE]
@@ -111,7 +111,7 @@ The exit status:
   3  FILE can't be opened, reading or writing failed, or memory ran out
   4  the command line is wrong, or the image ends past --storage";
 
-/// The decks to judge, or to explain the verdicts on.
+/// The decks to judge.
 const DECKS: &[Word] = &[Word {
     name: "FILE",
     kind: Kind::Plain,
@@ -119,6 +119,24 @@ const DECKS: &[Word] = &[Word {
     is_repeated: true,
     help: "a deck; - is standard input, and so is no FILE at all",
 }];
+
+/// The decks to explain the verdicts on.
+const EXPLAINED: &[Word] = &[
+    Word {
+        name: "FILE",
+        kind: Kind::Plain,
+        is_required: false,
+        is_repeated: true,
+        help: "a deck; - is standard input, and so is no FILE at all",
+    },
+    Word {
+        name: "all",
+        kind: Kind::Flag,
+        is_required: false,
+        is_repeated: false,
+        help: "tells the cause of each line `also` too",
+    },
+];
 
 /// The deck to tell of.
 const DECK: &[Word] = &[Word {
@@ -240,7 +258,7 @@ const LINES: &[Line] = &[
         name: "why",
         about: "explains the verdict on each deck: the path to the CCW, and the cause",
         after_help: Some(OF_ONE),
-        words: DECKS,
+        words: EXPLAINED,
     },
     Line {
         name: "graph",

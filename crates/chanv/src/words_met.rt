@@ -3,7 +3,7 @@
 ghost use Rattle.std.specs.Prelude.{◌≡◌, IfOk, option_map};
 ghost use Rattle.clap.specs.Words.{first_of, found_of, rows_of};
 ghost use Rattle.chanv.specs.CommandWords.{texts_of};
-ghost use Rattle.chanv.specs.ImageLine.{text_or, texts_in};
+ghost use Rattle.chanv.specs.ImageLine.{is_flagged, text_or, texts_in};
 
 use clap::ArgMatches;
 use std::alloc::{AllocError, Global};
@@ -24,6 +24,13 @@ pub(crate) fn text_or<'a>(matches: &ArgMatches<'a>, name: &str, usual: &'a str) 
         Some(text) => text,
         None => usual,
     }
+}
+
+/// Whether clap met an option that has no value.
+pub(crate) fn is_flagged(matches: &ArgMatches<'_>, name: &str) -> bool
+    ensures { result ≡ is_flagged name.now (rows_of (found_of matches.now)) }
+{
+    text_or(matches, name, "false") == "true"
 }
 
 /// The texts that clap met, in order.

@@ -60,7 +60,7 @@ outside_values (Head n m) v = record v { outside = 3; value = n; below = m }
 abbrev pub values_of : Evidence → CEvidence
 values_of (because.Misaligned a) = record no_values { address = a }
 values_of (because.OutsideStorage ccw n) = record no_values { range = ccw; length = n }
-values_of because.TransferNotAllowed = no_values
+values_of (because.TransferNotAllowed first) = no_values
 values_of (because.InvalidCode code) = record no_values { code = code }
 values_of (because.BadFormat bits) = record no_values { bits = bits }
 values_of because.ZeroCount = no_values

@@ -28,7 +28,7 @@ pub record IsText (c : CJob) (t : Told) : Type 0 where
   pub shown : IsWitness job t.verdict witness.path.items
   pub evidence : IsEvidenceOf job t.verdict witness.path.items witness.evidence
   pub second : IsSecondPathOf job witness.evidence witness.second_path.items
-  pub text : string_bytes t.text ≡ explanation (storage_of job) offences witness
+  pub text : string_bytes t.text ≡ explanation (storage_of job) offences [] witness
 
 -- the number of a verdict in the header
 abbrev pub verdict_code : Verdict → ℕ

@@ -123,7 +123,7 @@ fn values_of(evidence: Evidence) -> CEvidence
             length,
             ..NO_VALUES
         },
-        Evidence::TransferNotAllowed | Evidence::ZeroCount => NO_VALUES,
+        Evidence::TransferNotAllowed { .. } | Evidence::ZeroCount => NO_VALUES,
         Evidence::InvalidCode { code } | Evidence::NotInTable { code } => CEvidence {
             code: u32::from(code),
             ..NO_VALUES

@@ -109,7 +109,7 @@ fn text_on(alloc: Global, asked: &CJob<'_>, job: &Job) -> Result<Told, Refusal>
     let Ok(witness) = survey.witness(alloc, job) else {
         return Err(Refusal::Memory);
     };
-    match explanation_text(alloc, job, &survey, &witness) {
+    match explanation_text(alloc, job, &survey, &witness, &[]) {
         Ok(text) => Ok(Told {
             verdict: survey.verdict(),
             text,

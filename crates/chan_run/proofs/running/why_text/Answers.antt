@@ -9,5 +9,5 @@ returns c =
     let os = c.args.survey.now.offences.items in
     let w = c.in_ok-witness.ensures in
     let s = c.requires in
-    let explains : IsExplanation c.args.job.now (first_verdict os) os c.in_ok-witness.witness = record { offences = s.offences; verdict = refl; path = w.path; shown = w.shown; evidence = w.evidence; second = w.second } in
-    IfOk-weaker c.explanation_text.result _ _ (λ text is. (os, c.in_ok-witness.witness, explains, is)) c.explanation_text.ensures
+    let explains : IsExplanation c.args.job.now (first_verdict os) os c.in_ok-witness.witness = record { offences = s.offences; verdict = refl; path = w.path; shown = w.shown; evidence = w.evidence; stored = w.stored; second = w.second } in
+    IfOk-weaker c.explanation_text.result _ _ (λ text is. (os, c.in_ok-causes.causes.items, c.in_ok-witness.witness, explains, c.in_ok-causes.ensures, is)) (rw c.as_slice.ensures.value at c.explanation_text.ensures)
