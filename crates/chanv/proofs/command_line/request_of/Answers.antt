@@ -2,7 +2,7 @@
 use Rattle.std.proofs.Common.{◌∙◌, ◌≡◌, Bool, List, None, Option, Some, ap, ap₂, codes, inl, inr}
 use Rattle.std.proofs.Common.{[], is_some, refl, rules, subst, sym, unwrap_or}
 use Rattle.clap.specs.Walk.{Row, Text, first_of}
-use Rattle.chanv.proofs.PlainLines.{no_action, purpose, purpose_is}
+use Rattle.chan_run.specs.declared.running.Action.TheVariants as actions
 use Rattle.std.proofs.Common.{Err, IfOk, Ok, Result}
 use Rattle.chanv.specs.CommandLine.{AsksFor, IsKnown, MakesDeck, name_met}
 use Rattle.chanv.specs.declared.command_line.Request.{Request}
@@ -19,8 +19,11 @@ is_show name = bytes_eq (codes "show") (unwrap_or name [])
 no_word : (rows : List Row) → first_of (codes "CCW") rows ≡ None
     → IsKnown (Some (codes "show", rows)) → ⊥
 no_word rows none (inl e) = cc
-no_word rows none (inr (inl (action, e))) =
-    no_action action (codes "show") (sym (purpose_is action) ∙ ap purpose (sym e))
+no_word rows none (inr (inl (actions.Verify, e))) = true≢false (ap is_show e)
+no_word rows none (inr (inl (actions.List, e))) = true≢false (ap is_show e)
+no_word rows none (inr (inl (actions.Why all, e))) = true≢false (ap is_show e)
+no_word rows none (inr (inl (actions.Graph, e))) = true≢false (ap is_show e)
+no_word rows none (inr (inl (actions.Needs, e))) = true≢false (ap is_show e)
 no_word rows none (inr (inr (inl (e, word)))) = true≢false (sym word ∙ ap is_some none)
 no_word rows none (inr (inr (inr (inl e)))) = true≢false (ap is_show e)
 no_word rows none (inr (inr (inr (inr e)))) = true≢false (ap is_show e)
