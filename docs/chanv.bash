@@ -18,6 +18,7 @@ _chanv() {
     else
         case ${COMP_WORDS[1]} in
         help) words=$commands ;;
+        why) words='--all --help' ;;
         explain) [[ $word == -* ]] || words="$reasons $causes $failures" ;;
         deck)
             case $before in

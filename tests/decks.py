@@ -1,15 +1,22 @@
 """The verdicts, listings, explanations, pictures and needs of all example decks.
 
 `chanv verify` prints a deck's line of the folder's verdicts.txt and nothing else. Where NAME.list,
-NAME.why or NAME.dot stands beside NAME.deck, `chanv list`, `why` or `graph` prints it, with the
-same status; and NAME.needs `chanv needs`, with that of its own first line. Only `why` writes on standard error: the notes of NAME.notes, if there are such.
+NAME.why, NAME.all or NAME.dot stands beside NAME.deck, `chanv list`, `why`, `why --all` or `graph`
+prints it, with the same status; and NAME.needs `chanv needs`, with that of its own first line. Only
+`why` writes on standard error: the notes of NAME.notes, if there are such.
 """
 
 from building import short
 from examples import FOLDERS, decks_of, status_of, status_of_needs, verdicts_of
 from running import Ran, run, text_of
 
-ENDINGS = {"list": ".list", "why": ".why", "graph": ".dot", "needs": ".needs"}
+ENDINGS = {
+    "list": ".list",
+    "why": ".why",
+    "why --all": ".all",
+    "graph": ".dot",
+    "needs": ".needs",
+}
 
 
 def check_deck(checks, program, deck, verdict):
@@ -20,8 +27,8 @@ def check_deck(checks, program, deck, verdict):
         path = deck.with_suffix(ending)
         if not path.is_file():
             continue
-        ran = run(program, action, given=deck)
-        if action == "why":
+        ran = run(program, *action.split(), given=deck)
+        if action.startswith("why"):
             notes = deck.with_suffix(".notes")
             expected = text_of(notes) if notes.is_file() else ""
             checks.expect(f"the notes of why {name}", expected, ran.error)

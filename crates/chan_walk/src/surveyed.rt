@@ -119,13 +119,8 @@ impl Survey {
         ensures { IfOk result
             (λ es. AllZip (IsCauseOf job.now) self.now.offences.items es.items) }
     {
-        causes_of(
-            alloc,
-            job,
-            &self.walk,
-            &self.guard,
-            self.offences.as_slice(),
-        )
+        let offences = self.offences();
+        causes_of(alloc, job, &self.walk, &self.guard, offences)
     }
 
     /// The notes on the job.
