@@ -63,6 +63,7 @@ REFUSED = [
     ("--store", "<AREA>", "900+1000000", "its length is above FFFFFF"),
     ("--store", "<AREA>", "900-8FF", "its last byte is below its first"),
     ("--fetch", "<AREA>", "900-1000000", "its last byte is above FFFFFF"),
+    ("--store", "<AREA>", "1000000-1000000", "its last byte is above FFFFFF"),
     ("--fetch", "<AREA>", "0-FFFFFF", "its length, 1000000, is above FFFFFF"),
     ("--at", "<ADDRESS>", "0x", ADDRESS),
     ("--at", "<ADDRESS>", "0x0x10", ADDRESS),

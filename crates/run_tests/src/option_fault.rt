@@ -7,7 +7,7 @@ use std::alloc::Global;
 use std::process::Abort;
 
 /// An option, a text that isn't accepted, and the text of the fault.
-static FAULTS: [(ImageOption, &str, &str); 22] = [
+static FAULTS: [(ImageOption, &str, &str); 23] = [
     (
         ImageOption::Device,
         "3330",
@@ -180,6 +180,14 @@ For more information, try '--help'.
         ImageOption::Start,
         "0x",
         "error: invalid value '0x' for '--start <ADDRESS>': a hexadecimal address, at most FFFFFF
+
+For more information, try '--help'.
+",
+    ),
+    (
+        ImageOption::Store,
+        "1000000-1000000",
+        "error: invalid value '1000000-1000000' for '--store <AREA>': its last byte is above FFFFFF
 
 For more information, try '--help'.
 ",
