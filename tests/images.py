@@ -16,7 +16,9 @@ from running import Ran, run, text_of
 
 FOR_HELP = "\n\nFor more information, try '--help'.\n"
 ADDRESS = "a hexadecimal address, at most FFFFFF"
-AREA = "hexadecimal start and length, each at most FFFFFF, as 900+10"
+AREA = (
+    "hexadecimal start and length or first and last byte, each at most FFFFFF, as 900+10 or 900-90F"
+)
 CYLINDERS = "decimal cylinders in order, 0 to 202, as 10-19"
 MASK = "a hexadecimal byte with no bits on but C0 and 18"
 SIZE = "a hexadecimal multiple of 8, at most 1000000"
@@ -27,8 +29,8 @@ TOO_LONG = bytes(0x1000001)
 BESIDE_LEAST = [
     ("--mask=00", "--mask <BYTE>"),
     ("--extent=0-202", "--extent <FIRST-LAST>"),
-    ("--fetch=900+10", "--fetch <START+LENGTH>"),
-    ("--store=900+10", "--store <START+LENGTH>"),
+    ("--fetch=900+10", "--fetch <AREA>"),
+    ("--store=900+10", "--store <AREA>"),
 ]
 EITHER = "  <--extent <FIRST-LAST>|--least>"
 
@@ -38,24 +40,52 @@ CORE = EXAMPLES / "core.bin"
 # options with a word that they don't accept, and why they don't
 REFUSED = [
     ("--device", "<NUMBER>", "3330", "2311 or 2314"),
+    ("--device", "<NUMBER>", "0x2311", "2311 or 2314"),
     ("--mask", "<BYTE>", "01", "a bit on besides C0 and 18"),
     ("--mask", "<BYTE>", "100", "above FF"),
+    ("--mask", "<BYTE>", "0x100", "above FF"),
     ("--mask", "<BYTE>", "+1", MASK),
     ("--limit", "<PLACES>", "0", "below 1"),
     ("--limit", "<PLACES>", "65537", "above 65536"),
     ("--limit", "<PLACES>", "1000h", LIMIT),
+    ("--limit", "<PLACES>", "0x10", LIMIT),
     ("--extent", "<FIRST-LAST>", "9-203", "its last cylinder is above 202, the device's last"),
     ("--extent", "<FIRST-LAST>", "9-8", "its last cylinder is below its first"),
     ("--extent", "<FIRST-LAST>", "0A-13", CYLINDERS),
     ("--extent", "<FIRST-LAST>", "9", CYLINDERS),
-    ("--fetch", "<START+LENGTH>", "900", AREA),
-    ("--store", "<START+LENGTH>", "900+1000000", AREA),
-    ("--at", "<ADDRESS>", "0x10", ADDRESS),
+    ("--extent", "<FIRST-LAST>", "0x0-0x9", CYLINDERS),
+    ("--fetch", "<AREA>", "900", AREA),
+    ("--fetch", "<AREA>", "900+", AREA),
+    ("--fetch", "<AREA>", "0x-90F", AREA),
+    ("--store", "<AREA>", "900+10-90F", AREA),
+    ("--store", "<AREA>", "900-90F+10", AREA),
+    ("--fetch", "<AREA>", "1000000+10", "its start is above FFFFFF"),
+    ("--store", "<AREA>", "900+1000000", "its length is above FFFFFF"),
+    ("--store", "<AREA>", "900-8FF", "its last byte is below its first"),
+    ("--fetch", "<AREA>", "900-1000000", "its last byte is above FFFFFF"),
+    ("--store", "<AREA>", "1000000-1000000", "its last byte is above FFFFFF"),
+    ("--fetch", "<AREA>", "0-FFFFFF", "its length, 1000000, is above FFFFFF"),
+    ("--at", "<ADDRESS>", "0x", ADDRESS),
+    ("--at", "<ADDRESS>", "0x0x10", ADDRESS),
     ("--at", "<ADDRESS>", "1000000", "above FFFFFF"),
+    ("--at", "<ADDRESS>", "0x1000000", "above FFFFFF"),
     ("--storage", "<SIZE>", "804", "not a multiple of 8"),
+    ("--storage", "<SIZE>", "0x804", "not a multiple of 8"),
     ("--storage", "<SIZE>", "1000008", "above 1000000"),
     ("--storage", "<SIZE>", "+8", SIZE),
     ("--storage", "<SIZE>", "1000g", SIZE),
+]
+
+# areas as they may be written, and what stands in the deck's line
+AREAS = [
+    ("900+10", "000900 000010"),
+    ("0x900+0X10", "000900 000010"),
+    ("900-90F", "000900 000010"),
+    ("0X0900-0x90f", "000900 000010"),
+    ("900-900", "000900 000001"),
+    ("0-FFFFFE", "000000 FFFFFF"),
+    ("1-FFFFFF", "000001 FFFFFF"),
+    ("0x0+0", "000000 000000"),
 ]
 
 
@@ -95,9 +125,15 @@ def check_spellings(checks, program):
     storage = taken_apart(text)[1]
     plain = ["--start", "800", "--extent", "10-19", "--fetch", "900+10", "--store", "a00+100"]
     joined = ["--start=0000800", "--extent=010-019", "--store=A00+0100", "--fetch=0900+10"]
+    marked = ["--start", "0x800", "--extent", "10-19", "--fetch", "0x900+0x10"]
+    marked += ["--store", "0XA00+0x100", "--mask", "0x00", "--at=0x0"]
+    ranges = ["--start=800", "--extent=10-19", "--store", "A00-AFF", "--fetch", "0x900-90f"]
     for name, words, image in [
         ("options as a person writes them", plain, storage),
         ("options joined to their values", joined, storage),
+        ("hexadecimal numbers behind their mark", marked, storage),
+        ("a size behind its mark", [*plain, f"--storage=0x{len(storage):x}"], storage),
+        ("areas by first and last byte", ranges, storage),
         ("standard input by its name", [*plain, "-"], storage),
         ("an odd end", plain, storage[:-7]),
     ]:
@@ -113,6 +149,15 @@ def check_spellings(checks, program):
             (none, Ran(3, "", f"chanv: {none}: cannot open\n")),
         ]:
             checks.expect(f"the file {file}", expected, run(program, "deck", *plain, file))
+
+
+def check_areas(checks, program):
+    """An area is its start and its length, or its first byte and its last."""
+    words = ["deck", "--start", "8", "--extent", "0-9"]
+    for word, area in AREAS:
+        ran = run(program, *words, "--fetch", word, "--store", word)
+        is_so = ran.status == 0 and f"\nfetch {area}\nstore {area}\n" in ran.output
+        checks.expect_that(f"the area {word}", is_so, ran)
 
 
 def check_storage(checks, program):
@@ -183,6 +228,7 @@ def check(checks, built):
     program = built.chanv()
     check_decks(checks, program)
     check_spellings(checks, program)
+    check_areas(checks, program)
     check_storage(checks, program)
     check_refusals(checks, program)
     check_least(checks, program)

@@ -2,7 +2,7 @@
 use Rattle.std.proofs.Common.{◌≡◌, ◌⊎◌, ℕ, zero, suc, ◌<◌, List, [], ◌∷◌, ◌++◌, length, take, slice_index_or, arith, ap, inl, inr, refl, length-append, unwrap_or, Option, Some, None}
 use Rattle.std.specs.List.{AllByRecursion, AllZip}
 use Rattle.ccw_core.specs.declared.areas.Area.{Area}
-use Rattle.chan_run.specs.Options.{IsSize, SaysArea, SaysCylinders}
+use Rattle.chan_run.specs.Options.{IsSize, SaysAddress, SaysArea, SaysCylinders}
 use Rattle.chan_run.specs.Imaging.{IsFirstWrong, IsRight, NamesFirstWrong, SaysExtent, SaysLimitOrNone, SaysSizeOrNone, each_given, extents_given, limit_given, size_given, texts_of}
 use Rattle.chan_deck.specs.Item.{IsArea}
 use Rattle.chan_run.specs.declared.image_options.ImageWords.{ImageWords}
@@ -89,6 +89,11 @@ pub no_area : (option : ImageOption) → (option ≡ options.Fetch) ⊎ (option 
 no_area option (inl is) text none right = let said = rw is at right in none said.0 said.1
 no_area option (inr is) text none right = let said = rw is at right in none said.0 said.1
 
+-- a text that says no address is none for the start
+pub no_start : (text : List ℕ) → ((n : ℕ) → SaysAddress text n → ⊥)
+    → IsRight (options.Start, text) → ⊥
+no_start text none right = none right.0 right.1
+
 -- an empty text is no extent, and stands for none
 pub no_extent : (texts : List (Bor (List ℕ))) → length texts ≡ 0
     → IsFirstWrong (extents_given texts) (options.Extent, [])
@@ -136,4 +141,4 @@ said_areas (t ∷ texts) [] said = absurd said
 said_areas (t ∷ texts) (a ∷ areas) (said, rest) = (is_area t.now said, said_areas texts areas rest)
   where
     is_area : (text : List ℕ) → SaysArea text a → IsArea a
-    is_area text (start, len, is, first, second) = (first.1, second.1)
+    is_area text (is, said) = is

@@ -121,8 +121,8 @@ fn usage<'a>(option: ImageOption) -> &'a str
         ImageOption::Start => "--start <ADDRESS>",
         ImageOption::Limit => "--limit <PLACES>",
         ImageOption::Extent => "--extent <FIRST-LAST>",
-        ImageOption::Fetch => "--fetch <START+LENGTH>",
-        ImageOption::Store => "--store <START+LENGTH>",
+        ImageOption::Fetch => "--fetch <AREA>",
+        ImageOption::Store => "--store <AREA>",
         ImageOption::At => "--at <ADDRESS>",
         ImageOption::Storage => "--storage <SIZE>",
     }

@@ -1,9 +1,13 @@
 //! What the texts of the command's options say.
 
-ghost use Rattle.std.specs.Prelude.{◌<◌, ◌≤◌, ◌^◌};
-ghost use Rattle.chan_run.specs.Options.{IsRead, SaysAddress, SaysArea, SaysCylinder, SaysSize};
-ghost use Rattle.chan_run.specs.Options.{SaysCylinders, SaysDevice, SaysLimit, SaysMask};
-ghost use Rattle.chan_run.specs.Options.{SaysNumber};
+ghost use Rattle.std.specs.Prelude.{◌<◌, ◌≤◌, ◌^◌, ◌≡◌, ◌⊎◌, ◌∷◌, [], ℕ, List, MatchOption};
+ghost use Rattle.std.specs.Str.Parse.{AllDigits};
+ghost use Rattle.ccw_core.specs.declared.areas.Area.{Area};
+ghost use Rattle.chan_deck.specs.Item.{IsArea};
+ghost use Rattle.chan_run.specs.Options.{AreDigitsOf, HasSpan, IsRead, SaysAddress, SaysArea};
+ghost use Rattle.chan_run.specs.Options.{SaysCylinder, SaysCylinders, SaysDevice, SaysHexadecimal};
+ghost use Rattle.chan_run.specs.Options.{SaysLimit, SaysMask, SaysNumber, SaysPair, SaysSize};
+ghost use Rattle.chan_run.specs.Options.{SaysWord, SaysWords};
 
 use ccw_core::Area;
 use chan_walk::Limit;
@@ -12,11 +16,20 @@ use ckd_core::{Device, FileMask};
 /// The first number that is no address: addresses have 24 bits.
 pub(crate) const PAST_ADDRESSES: u32 = 0x100_0000;
 
+/// An area as its text writes it.
+#[derive(Clone, Copy)]
+pub(crate) enum Span {
+    /// Its start and its length, as `900+10`.
+    StartLength(u32, u32),
+    /// Its first byte and its last, as `900-90F`.
+    FirstLast(u32, u32),
+}
+
 /// The number that is written by digits in a radix, one or more, without a sign.
 pub(crate) fn number_of(text: &str, radix: u32) -> Option<u32>
     requires lower { 2 ≤ radix }
     requires upper { radix ≤ 16 }
-    ensures { IsRead (λ t n. SaysNumber radix t n × (n < 2 ^ 32)) text.now result }
+    ensures { IsRead (SaysWord (SaysNumber radix)) text.now result }
 {
     if text.starts_with('+') {
         return None;
@@ -24,33 +37,52 @@ pub(crate) fn number_of(text: &str, radix: u32) -> Option<u32>
     u32::from_str_radix(text, radix).ok()
 }
 
-/// An address, or the length of an area: one hexadecimal digit or more, of either case, whose
-/// number is at most `FFFFFF`. There may be leading zeros, but no sign and no space.
+/// The hexadecimal number of a text: one digit or more, of either case, with `0x` or `0X` before
+/// them or without. There may be leading zeros, but no sign and no space.
+pub(crate) fn hexadecimal_of(text: &str) -> Option<u32>
+    ensures { IsRead (SaysWord SaysHexadecimal) text.now result }
+{
+    number_of(digits_of(text), 16)
+}
+
+/// What stands behind `0x` or `0X`, or all of a text that doesn't begin so: the digits of a text
+/// that is a hexadecimal number.
+fn digits_of(text: &str) -> &str
+    ensures are { AreDigitsOf text.now result.now }
+    ensures alone { (digits : List ℕ) → AreDigitsOf text.now digits → AllDigits 16 digits
+        → digits ≡ result.now }
+{
+    match text.strip_prefix("0x") {
+        Some(digits) => digits,
+        None => text.strip_prefix("0X").unwrap_or(text),
+    }
+}
+
+/// An address: a hexadecimal number, as `hexadecimal_of` reads it, that is at most `FFFFFF`.
 pub fn address_of(text: &str) -> Option<u32>
     ensures { IsRead SaysAddress text.now result }
 {
-    match number_of(text, 16) {
+    match hexadecimal_of(text) {
         Some(number) if number < PAST_ADDRESSES => Some(number),
         _ => None,
     }
 }
 
-/// A size of storage: one hexadecimal digit or more, of either case, whose number is a multiple of
-/// 8 and at most `1000000`.
+/// A size of storage: a hexadecimal number that is a multiple of 8 and at most `1000000`.
 pub fn size_of(text: &str) -> Option<u32>
     ensures { IsRead SaysSize text.now result }
 {
-    match number_of(text, 16) {
+    match hexadecimal_of(text) {
         Some(number) if number <= PAST_ADDRESSES && number % 8 == 0 => Some(number),
         _ => None,
     }
 }
 
-/// A file mask: one hexadecimal digit or more, of either case, whose number is a mask's byte.
+/// A file mask: a hexadecimal number that is a mask's byte.
 pub fn mask_of(text: &str) -> Option<FileMask>
     ensures { IsRead SaysMask text.now result }
 {
-    let number = number_of(text, 16)?;
+    let number = hexadecimal_of(text)?;
     if number > 0xFF {
         return None;
     }
@@ -76,16 +108,57 @@ pub fn cylinders_of(text: &str) -> Option<(u16, u16)>
     Some((cylinder_of(first)?, cylinder_of(last)?))
 }
 
-/// An area, as `900+10`: its start and its length, each as `address_of` reads it, with a plus
-/// between them.
+/// Two hexadecimal numbers with a sign between them, a plus or a hyphen.
+fn pair_of(text: &str, sign: char) -> Option<(u32, u32)>
+    requires { (sign ≡ 43) ⊎ (sign ≡ 45) }
+    ensures { IsRead (λ t p. SaysPair (sign ∷ []) t p × (p.0 < 2 ^ 32) × (p.1 < 2 ^ 32))
+        text.now result }
+{
+    let (first, second) = text.split_once(sign)?;
+    let first = hexadecimal_of(first)?;
+    let second = hexadecimal_of(second)?;
+    Some((first, second))
+}
+
+/// Start and length, or first and last byte. Whether an area has them isn't asked.
+pub(crate) fn span_of(text: &str) -> Option<Span>
+    ensures { IsRead SaysWords text.now result }
+{
+    if let Some((start, len)) = pair_of(text, '+') {
+        return Some(Span::StartLength(start, len));
+    }
+    let (first, last) = pair_of(text, '-')?;
+    Some(Span::FirstLast(first, last))
+}
+
+/// The area that has a span, if there is one whose start and length are at most `FFFFFF`.
+fn area_over(span: Span) -> Option<Area>
+    ensures { MatchOption result ((a : Area) → IsArea a → HasSpan a span → ⊥)
+        (λ a. IsArea a × HasSpan a span) }
+{
+    match span {
+        Span::StartLength(start, len) if start < PAST_ADDRESSES && len < PAST_ADDRESSES => {
+            Some(Area { start, len })
+        }
+        Span::FirstLast(start, last)
+            if start <= last && last < PAST_ADDRESSES && last - start < PAST_ADDRESSES - 1 => {
+            Some(Area {
+                start,
+                len: last - start + 1,
+            })
+        }
+        _ => None,
+    }
+}
+
+/// An area, by its start and its length, as `900+10`, or by its first byte and its last, as
+/// `900-90F`: hexadecimal numbers, each at most `FFFFFF`, of which the last byte isn't below the
+/// first. Its length is at most `FFFFFF` too.
 pub fn area_of(text: &str) -> Option<Area>
     ensures { IsRead SaysArea text.now result }
 {
-    let (start, len) = text.split_once('+')?;
-    Some(Area {
-        start: address_of(start)?,
-        len: address_of(len)?,
-    })
+    let span = span_of(text)?;
+    area_over(span)
 }
 
 /// A limit on places: one decimal digit or more, whose number is from 1 to 65,536.

@@ -92,11 +92,12 @@ yes.";
 
 /// What the help of `deck` says behind its words.
 const OF_DECK: &str =
-    "Addresses, lengths, sizes and the mask are hexadecimal, cylinders and the limit \
-decimal. An option
-with <START+LENGTH> may come any number of times, and so may --extent. Storage ends
-with the image, filled with zeros to a multiple of 8, or with --storage where that says,
-filled with zeros.
+    "Addresses, lengths, sizes and the mask are hexadecimal, with or without 0x before them,
+cylinders and the limit decimal. An area is start and length, as 900+10, or first and last
+byte, as 900-90F. An option with <AREA> may come any number of times, and so may --extent.
+
+Storage ends with the image, filled with zeros to a multiple of 8, or with --storage where that
+says, filled with zeros.
 
 The deck is written to standard output, so that it can be judged at once:
   chanv deck --start 3A98 --extent 0-202 core.bin | chanv why
@@ -186,14 +187,14 @@ const IMAGE: &[Word] = &[
     },
     Word {
         name: "fetch",
-        kind: Kind::Valued("START+LENGTH"),
+        kind: Kind::Valued("AREA"),
         is_required: false,
         is_repeated: true,
         help: "an area lent for fetching",
     },
     Word {
         name: "store",
-        kind: Kind::Valued("START+LENGTH"),
+        kind: Kind::Valued("AREA"),
         is_required: false,
         is_repeated: true,
         help: "an area lent for storing",

@@ -7,7 +7,7 @@ use std::alloc::Global;
 use std::process::Abort;
 
 /// An option, a text that isn't accepted, and the text of the fault.
-static FAULTS: [(ImageOption, &str, &str); 14] = [
+static FAULTS: [(ImageOption, &str, &str); 23] = [
     (
         ImageOption::Device,
         "3330",
@@ -51,7 +51,7 @@ For more information, try '--help'.
     (
         ImageOption::Fetch,
         "",
-        "error: invalid value '' for '--fetch <START+LENGTH>': hexadecimal start and length, each at most FFFFFF, as 900+10
+        "error: invalid value '' for '--fetch <AREA>': hexadecimal start and length or first and last byte, each at most FFFFFF, as 900+10 or 900-90F
 
 For more information, try '--help'.
 ",
@@ -59,7 +59,7 @@ For more information, try '--help'.
     (
         ImageOption::Store,
         "A00",
-        "error: invalid value 'A00' for '--store <START+LENGTH>': hexadecimal start and length, each at most FFFFFF, as 900+10
+        "error: invalid value 'A00' for '--store <AREA>': hexadecimal start and length or first and last byte, each at most FFFFFF, as 900+10 or 900-90F
 
 For more information, try '--help'.
 ",
@@ -116,6 +116,78 @@ For more information, try '--help'.
         ImageOption::Storage,
         "1000008",
         "error: invalid value '1000008' for '--storage <SIZE>': above 1000000
+
+For more information, try '--help'.
+",
+    ),
+    (
+        ImageOption::Fetch,
+        "1000000+10",
+        "error: invalid value '1000000+10' for '--fetch <AREA>': its start is above FFFFFF
+
+For more information, try '--help'.
+",
+    ),
+    (
+        ImageOption::Store,
+        "900+0x1000000",
+        "error: invalid value '900+0x1000000' for '--store <AREA>': its length is above FFFFFF
+
+For more information, try '--help'.
+",
+    ),
+    (
+        ImageOption::Fetch,
+        "90F-900",
+        "error: invalid value '90F-900' for '--fetch <AREA>': its last byte is below its first
+
+For more information, try '--help'.
+",
+    ),
+    (
+        ImageOption::Store,
+        "900-1000000",
+        "error: invalid value '900-1000000' for '--store <AREA>': its last byte is above FFFFFF
+
+For more information, try '--help'.
+",
+    ),
+    (
+        ImageOption::Fetch,
+        "0-FFFFFF",
+        "error: invalid value '0-FFFFFF' for '--fetch <AREA>': its length, 1000000, is above FFFFFF
+
+For more information, try '--help'.
+",
+    ),
+    (
+        ImageOption::Fetch,
+        "900+10-90F",
+        "error: invalid value '900+10-90F' for '--fetch <AREA>': hexadecimal start and length or first and last byte, each at most FFFFFF, as 900+10 or 900-90F
+
+For more information, try '--help'.
+",
+    ),
+    (
+        ImageOption::Mask,
+        "0x100",
+        "error: invalid value '0x100' for '--mask <BYTE>': above FF
+
+For more information, try '--help'.
+",
+    ),
+    (
+        ImageOption::Start,
+        "0x",
+        "error: invalid value '0x' for '--start <ADDRESS>': a hexadecimal address, at most FFFFFF
+
+For more information, try '--help'.
+",
+    ),
+    (
+        ImageOption::Store,
+        "1000000-1000000",
+        "error: invalid value '1000000-1000000' for '--store <AREA>': its last byte is above FFFFFF
 
 For more information, try '--help'.
 ",

@@ -13,15 +13,15 @@ type Marks = (&'static str, &'static str, &'static str, &'static str);
 /// The texts of some options of one kind.
 type Texts = &'static [&'static str];
 
-const MARKS: Marks = ("2311", "c8", "800", "65536");
+const MARKS: Marks = ("2311", "0xc8", "0X800", "65536");
 
 const EXTENTS: Texts = &["10-19", "202-202"];
 
 const FETCH: Texts = &["900+10"];
 
-const STORE: Texts = &["a00+100", "FFFFFF+0"];
+const STORE: Texts = &["0xa00-AFF", "FFFFFF+0"];
 
-const WRONG_FETCH: Texts = &["900+10", "900+1000000", "x"];
+const WRONG_FETCH: Texts = &["900+10", "0-FFFFFF", "x"];
 
 const WRONG_STORE: Texts = &["a00+100", "FFFFFF+0", "A00"];
 
@@ -65,7 +65,7 @@ static WRONG: &[Case] = &[
         WRONG_STORE,
         "1000000",
         ImageOption::Fetch,
-        "900+1000000",
+        "0-FFFFFF",
     ),
     (
         MARKS,
@@ -155,13 +155,13 @@ fn words<'a>(
         fetch: copied(alloc, fetch)?,
         store: copied(alloc, store)?,
         at,
-        storage: Some("0001000"),
+        storage: Some("0x0001000"),
         is_least: false,
     })
 }
 
 fn are_right(alloc: Global) -> bool {
-    match words(alloc, MARKS, EXTENTS, FETCH, STORE, "7f8") {
+    match words(alloc, MARKS, EXTENTS, FETCH, STORE, "0x7f8") {
         Ok(words) => are_read(alloc, &words),
         Err(_) => false,
     }

@@ -1,13 +1,13 @@
 //! The texts of options, and what they say.
 
 use ccw_core::Area;
-use chan_run::{address_of, area_of, cylinders_of, device_of, limit_of, mask_of};
+use chan_run::{address_of, area_of, cylinders_of, device_of, limit_of, mask_of, size_of};
 use chan_walk::Limit;
 use ckd_core::{Device, FileMask};
 use std::test::Fail;
 
 /// A text, and the address that it says, if it says one.
-static ADDRESSES: [(&str, Option<u32>); 19] = [
+static ADDRESSES: [(&str, Option<u32>); 30] = [
     ("0", Some(0)),
     ("800", Some(0x800)),
     ("000800", Some(0x800)),
@@ -22,7 +22,18 @@ static ADDRESSES: [(&str, Option<u32>); 19] = [
     ("", None),
     ("+800", None),
     ("-800", None),
-    ("0x800", None),
+    ("0x800", Some(0x800)),
+    ("0X000800", Some(0x800)),
+    ("0x0", Some(0)),
+    ("0xffFFff", Some(0xFF_FFFF)),
+    ("0x1000000", None),
+    ("0x", None),
+    ("x800", None),
+    ("00x800", None),
+    ("0x0x800", None),
+    ("0x+800", None),
+    ("+0x800", None),
+    ("0x 800", None),
     ("80G", None),
     (" 800", None),
     ("800 ", None),
@@ -38,13 +49,15 @@ fn addresses(rt: HostRuntime) -> Result<(), Fail> {
 }
 
 /// A text, and the byte of the mask that it says, if it says one.
-static MASKS: [(&str, Option<u8>); 12] = [
+static MASKS: [(&str, Option<u8>); 14] = [
     ("00", Some(0x00)),
     ("0", Some(0x00)),
     ("8", Some(0x08)),
     ("c0", Some(0xC0)),
     ("D8", Some(0xD8)),
     ("00D8", Some(0xD8)),
+    ("0xD8", Some(0xD8)),
+    ("0x20", None),
     ("20", None),
     ("D9", None),
     ("100", None),
@@ -63,7 +76,7 @@ fn masks(rt: HostRuntime) -> Result<(), Fail> {
 }
 
 /// A text, and the first and last cylinder that it says, if it says them.
-static CYLINDERS: [(&str, Option<(u16, u16)>); 14] = [
+static CYLINDERS: [(&str, Option<(u16, u16)>); 15] = [
     ("10-19", Some((10, 19))),
     ("010-019", Some((10, 19))),
     ("19-10", Some((19, 10))),
@@ -77,6 +90,7 @@ static CYLINDERS: [(&str, Option<(u16, u16)>); 14] = [
     ("10-19-20", None),
     ("10-+19", None),
     ("A-B", None),
+    ("0x1-0x2", None),
     ("10 -19", None),
 ];
 
@@ -89,7 +103,7 @@ fn cylinders(rt: HostRuntime) -> Result<(), Fail> {
 }
 
 /// A text, and the start and the length of the area that it says, if it says one.
-static AREAS: [(&str, Option<(u32, u32)>); 12] = [
+static AREAS: [(&str, Option<(u32, u32)>); 29] = [
     ("000900+10", Some((0x900, 0x10))),
     ("a00+100", Some((0xA00, 0x100))),
     ("FFFFFF+FFFFFF", Some((0xFF_FFFF, 0xFF_FFFF))),
@@ -101,7 +115,24 @@ static AREAS: [(&str, Option<(u32, u32)>); 12] = [
     ("+10", None),
     ("900++10", None),
     ("900+10+10", None),
-    ("900-10", None),
+    ("0x900+0x10", Some((0x900, 0x10))),
+    ("900+0X10", Some((0x900, 0x10))),
+    ("900-90F", Some((0x900, 0x10))),
+    ("0X900-0x90f", Some((0x900, 0x10))),
+    ("900-900", Some((0x900, 1))),
+    ("FFFFFF-FFFFFF", Some((0xFF_FFFF, 1))),
+    ("0-FFFFFE", Some((0, 0xFF_FFFF))),
+    ("1-FFFFFF", Some((1, 0xFF_FFFF))),
+    ("0-FFFFFF", None),
+    ("900-8FF", None),
+    ("FFFFFF-1000000", None),
+    ("900-", None),
+    ("-90F", None),
+    ("900--90F", None),
+    ("900-90F-90F", None),
+    ("900+10-90F", None),
+    ("900-90F+10", None),
+    ("900 - 90F", None),
 ];
 
 #[test]
@@ -113,8 +144,27 @@ fn areas(rt: HostRuntime) -> Result<(), Fail> {
     Ok(())
 }
 
+/// A text, and the size of storage that it says, if it says one.
+static SIZES: [(&str, Option<u32>); 7] = [
+    ("1000", Some(0x1000)),
+    ("0x1000", Some(0x1000)),
+    ("0X01000000", Some(0x100_0000)),
+    ("0", Some(0)),
+    ("0x1000008", None),
+    ("0x804", None),
+    ("0x", None),
+];
+
+#[test]
+fn sizes(rt: HostRuntime) -> Result<(), Fail> {
+    for (text, size) in &SIZES {
+        assert_eq!(rt; size_of(text), *size, "{text}");
+    }
+    Ok(())
+}
+
 /// A text, and the limit that it says, if it says one.
-static LIMITS: [(&str, Option<u32>); 10] = [
+static LIMITS: [(&str, Option<u32>); 11] = [
     ("1", Some(1)),
     ("4096", Some(4096)),
     ("04096", Some(4096)),
@@ -124,6 +174,7 @@ static LIMITS: [(&str, Option<u32>); 10] = [
     ("0", None),
     ("+1", None),
     ("1000h", None),
+    ("0x10", None),
     ("", None),
 ];
 

@@ -2,9 +2,12 @@ use Rattle.std.proofs.Common.{◌<◌, ◌∷◌, [], ap, arith, length, rules}
 use Rattle.std.proofs.lemmas.Result.{err_from_is_err_and}
 use Rattle.std.proofs.lemmas.List.Elements.{All-from_recursion}
 use Rattle.chan_run.specs.Imaging.{each_given, extents_given, limit_given}
-use Rattle.chan_run.proofs.ImageLemmas.{areas_right, extents_right, first_given, limit_right, named_before, named_behind, said_areas, said_size}
+use Rattle.chan_run.proofs.ImageLemmas.{areas_right, extents_right, first_given, limit_right, named_before, named_behind, no_start, said_areas, said_size}
 use Rattle.chan_run.specs.declared.image_options.ImageOption.TheVariants as options
 use Rattle.chan_run.proofs.option_reading.options_of.Goals as goal
+
+pub returns-in_err-start-clause-wrong : goal.returns-in_err-start-clause-wrong
+returns-in_err-start-clause-wrong c = search (rules, no_start)
 
 pub returns-in_err-limit-clause-wrong : goal.returns-in_err-limit-clause-wrong
 returns-in_err-limit-clause-wrong c =
