@@ -2,11 +2,12 @@
 
 `chanv verify` prints a deck's line of the folder's verdicts.txt and nothing else. Where NAME.list,
 NAME.why or NAME.dot stands beside NAME.deck, `chanv list`, `why` or `graph` prints it, with the
-same status; and NAME.needs `chanv needs`, with that of its own first line. Only `why` writes on standard error: the notes of NAME.notes, if there are such.
+same status; and NAME.needs `chanv needs`, with that of its own first line. Only `why` writes on
+standard error: the notes of NAME.notes, if there are such.
 """
 
 from building import short
-from examples import FOLDERS, decks_of, status_of, status_of_needs, verdicts_of
+from examples import FOLDERS, TEXTS, decks_of, status_of, status_of_needs, verdicts_of
 from running import Ran, run, text_of
 
 ENDINGS = {"list": ".list", "why": ".why", "graph": ".dot", "needs": ".needs"}
@@ -33,7 +34,7 @@ def check_deck(checks, program, deck, verdict):
 
 def check(checks, built):
     program = built.chanv()
-    for folder in FOLDERS:
+    for folder in (*FOLDERS, TEXTS):
         verdicts = verdicts_of(folder)
         found = [deck.name for deck in decks_of(folder)]
         checks.expect(f"the decks of {short(folder)}/verdicts.txt", sorted(verdicts), found)
