@@ -7,7 +7,7 @@ prints it, with the same status; and NAME.needs `chanv needs`, with that of its 
 """
 
 from building import short
-from examples import FOLDERS, decks_of, status_of, status_of_needs, verdicts_of
+from examples import FOLDERS, TEXTS, decks_of, status_of, status_of_needs, verdicts_of
 from running import Ran, run, text_of
 
 ENDINGS = {
@@ -40,7 +40,7 @@ def check_deck(checks, program, deck, verdict):
 
 def check(checks, built):
     program = built.chanv()
-    for folder in FOLDERS:
+    for folder in (*FOLDERS, TEXTS):
         verdicts = verdicts_of(folder)
         found = [deck.name for deck in decks_of(folder)]
         checks.expect(f"the decks of {short(folder)}/verdicts.txt", sorted(verdicts), found)

@@ -13,6 +13,14 @@ from running import Ran, run, run_in_bash, text_of
 MOST_BYTES = 67_108_864
 CCW, CCW_LINE = "06000A0020000050", "06 000A00 --L--0 00 0050 read\n"
 
+# CCWs, and how they are shown
+SHOWN = {
+    CCW: CCW_LINE,
+    "ffffffffffffffff": "FF FFFFFF DCLSP7 FF FFFF control\n",
+    "0C00000000000000": "0C 000000 -----0 00 0000 read-backward\n",
+    "0800080000FF0007": "08 000800 -----0 FF 0007 transfer\n",
+}
+
 USAGE = """\
 chanv verify [FILE]...
        chanv list [FILE]
@@ -32,11 +40,14 @@ def longest():
     return head + "fetch 000900 000010\n" * 3_355_437 + tail
 
 
-def many_places():
-    """A deck of 4,096 CCWs, whose listing is longer than what a pipe holds."""
-    head = "chanv deck 1\ndevice 2314\nmask 00\nstart 000800\nextent 010 019\nstorage 0010000\n"
-    puts = [f"put {address:06X} 0300000040000001\n" for address in range(0x800, 0x87F8, 8)]
-    return head + "".join(puts) + "put 0087F8 0300000000000001\nend\n"
+def chain_of(count, limit=None, last="0300000000000001"):
+    """A deck of so many CCWs from 000800 on, each chained to the next, but the last."""
+    version, line = (2, f"limit {limit:05}\n") if limit else (1, "")
+    head = f"chanv deck {version}\ndevice 2314\nmask 00\nstart 000800\n{line}"
+    end = 0x800 + 8 * (count - 1)
+    puts = [f"put {address:06X} 0300000040000001\n" for address in range(0x800, end, 8)]
+    area = "extent 010 019\nstorage 0010000\n"
+    return f"{head}{area}{''.join(puts)}put {end:06X} {last}\nend\n"
 
 
 def check_lengths(checks, program, deck):
@@ -47,6 +58,25 @@ def check_lengths(checks, program, deck):
     deck.write_text(f"{text}\n")
     refused = Ran(2, "", "chanv: deck too long\n")
     checks.expect("one byte more", refused, run(program, given=deck))
+
+
+def check_places(checks, program, deck):
+    """As many reachable places as the deck's limit, and one more, in both versions."""
+    yes, many = Ran(0, "yes\n"), Ran(2, "", "chanv: too many places\n")
+    for name, text, expected in [
+        ("4,096 places", chain_of(4096), yes),
+        (
+            "the last offends",
+            chain_of(4096, last="0200000000000001"),
+            Ran(1, "no 0087F8 not-in-table\n"),
+        ),
+        ("4,097 places", chain_of(4097), many),
+        ("4,097 places by version 2", chain_of(4097, 4096), many),
+        ("a limit of 4,097", chain_of(4097, 4097), yes),
+        ("one above that limit", chain_of(4098, 4097), many),
+    ]:
+        deck.write_text(text)
+        checks.expect(name, expected, run(program, given=deck))
 
 
 def check_notes(checks, program, deck):
@@ -70,7 +100,8 @@ def check_readers(checks, program, deck):
     row = "000800 fresh t . 31 000900 -C---0 00 0005 write search-id-equal\n"
     ran = run_in_bash(script, program, "list", given=SEARCH_LOOP)
     checks.expect("a reader of one row", Ran(0, row), ran)
-    deck.write_text(many_places())
+    # 4,096 rows are more than a pipe holds
+    deck.write_text(chain_of(4096))
     row = "000800 fresh t . 03 000000 -C---0 00 0001 control no-operation\n"
     ran = run_in_bash(script, program, "list", given=deck)
     checks.expect("a reader that goes away", Ran(3, row, "chanv: write failed\n"), ran)
@@ -78,8 +109,11 @@ def check_readers(checks, program, deck):
 
 def check_words(checks, program):
     """The words of the command line: which stream gets a text, and the status."""
-    ran = run(program, "show", "0800")
-    checks.expect("not a CCW", Ran(4, "", "chanv: not a CCW\n"), ran)
+    for word, line in SHOWN.items():
+        checks.expect(f"show {word}", Ran(0, line), run(program, "show", word))
+    for word in ("0800", "", "0600 A0020000050", "06000A00200000500"):
+        ran = run(program, "show", word)
+        checks.expect(f"show '{word}'", Ran(4, "", "chanv: not a CCW\n"), ran)
     lacking = "the following required arguments were not provided:\n  "
     options = "--start <ADDRESS>"
     twice = "the argument '--start <ADDRESS>' cannot be used multiple times"
@@ -140,6 +174,7 @@ def check(checks, built):
     with tempfile.TemporaryDirectory() as room:
         deck = Path(room) / "deck"
         check_lengths(checks, program, deck)
+        check_places(checks, program, deck)
         check_notes(checks, program, deck)
         check_readers(checks, program, deck)
     check_words(checks, program)

@@ -1,10 +1,13 @@
-"""The decks of examples/ and of examples/cases/, which most tests go through."""
+"""The decks of examples/ and of examples/cases/, which most tests go through, and of texts/."""
 
 from building import ROOT
 from running import text_of
 
 EXAMPLES = ROOT / "examples"
 FOLDERS = (EXAMPLES, EXAMPLES / "cases")
+
+# decks that are there for the texts beside them
+TEXTS = EXAMPLES / "texts"
 
 SEARCH_LOOP = EXAMPLES / "search-loop.deck"
 CHANGES_ITSELF = EXAMPLES / "changes-itself.deck"

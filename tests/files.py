@@ -1,8 +1,8 @@
 """Files that the command line names: several, missing, damaged, many, and `-`.
 
-Streams are closed too. Each run is in a folder with the files `yes`, `no`, `damaged`, `many`, `-`,
-`no right` and the folder `folder`; there is no `nowhere`. Status, standard output and standard
-error are those that the README says.
+Streams are closed too. Each run is in a folder with the files `yes`, `no`, `damaged`, `many`,
+`vain`, `end`, `-`, `no right` and the folder `folder`; there is no `nowhere`. Status, standard
+output and standard error are those that the README says.
 """
 
 import os
@@ -11,12 +11,14 @@ import shutil
 import tempfile
 from pathlib import Path
 
-from examples import CHANGES_ITSELF, EXAMPLES, SEARCH_LOOP
+from examples import CHANGES_ITSELF, EXAMPLES, SEARCH_LOOP, TEXTS
 from running import Ran, run, run_in_bash, text_of
 
 YES, NO = "yes: yes\n", "no: no 000810 changes-ccw\n"
 WHY_NO = f"no: {text_of(CHANGES_ITSELF.with_suffix('.why'))}"
 DAMAGED = "deck line 3: form\n"
+# areas that the program doesn't use
+VAIN = TEXTS / "lent-in-vain.deck"
 HINT = "found mask\nexpected mask XX, where X is 0-9 or A-F\n"
 
 
@@ -27,6 +29,8 @@ def make_files(folder):
     (folder / "no").write_text(text_of(CHANGES_ITSELF))
     (folder / "damaged").write_text(deck.replace("\nmask 00\n", "\nmask\n"))
     (folder / "many").write_text(limited.replace("\nextent", "\nlimit 00002\nextent"))
+    (folder / "vain").write_text(text_of(VAIN))
+    (folder / "end").write_text(text_of(EXAMPLES / "end-of-storage.deck"))
     (folder / "-").write_text(deck)
     (folder / "folder").mkdir()
     (folder / "no right").touch()
@@ -56,6 +60,9 @@ def check_names(checks, program, folder):
         ("why no", 1, WHY_NO, ""),
         ("why no yes damaged no", 2, WHY_NO + YES + WHY_NO, damaged + HINT),
         ("why nowhere no", 3, WHY_NO, missing),
+        ("why vain", 0, "vain: yes\n", text_of(VAIN.with_suffix(".notes"))),
+        ("verify vain", 0, "vain: yes\n", ""),
+        ("needs vain", 0, text_of(VAIN.with_suffix(".needs")), ""),
         ("list nowhere", 3, "", missing),
         ("list folder", 3, "", "chanv: folder: read failed\n"),
     ]:
@@ -72,6 +79,7 @@ def check_standard_input(checks, program, folder):
         ("no", "verify ./-", 0, "./-: yes\n", ""),
         ("damaged", "verify -", 2, "", f"chanv: {DAMAGED}"),
         ("damaged", "verify - yes", 2, YES, f"chanv: -: {DAMAGED}"),
+        ("end", "verify yes -", 1, f"{YES}-: no 001000 outside-storage\n", ""),
         ("yes", "verify - -", 2, "-: yes\n", "chanv: -: deck line 1: ended\n"),
         ("no", "why yes -", 1, YES + WHY_NO.replace("no:", "-:", 1), ""),
         ("no", "why -", 1, WHY_NO.removeprefix("no: "), ""),

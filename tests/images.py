@@ -1,9 +1,9 @@
 """Decks made of images of storage, how options may be spelled, and what is refused.
 
-Each deck of examples/ and examples/cases/ is taken apart, into the image of its storage and the
-options of its job; the deck that `chanv deck` makes of them has to be the same text. So has the one
-that is made of as much of the image as its puts need, with its first zeros left to `--at`, where
-that is all of storage.
+Each example deck is taken apart, into the image of its storage and the options of its job; the deck
+that `chanv deck` makes of them has to be the same text. So has the one that is made of as much of
+the image as its puts need, with its first zeros left to `--at`, where that is all of storage. Small
+images are put wherever an image may begin.
 """
 
 import re
@@ -11,8 +11,8 @@ import tempfile
 from pathlib import Path
 
 from building import short
-from examples import EXAMPLES, FOLDERS, SEARCH_LOOP, decks_of
-from running import Ran, run, text_of
+from examples import EXAMPLES, FOLDERS, SEARCH_LOOP, TEXTS, decks_of
+from running import Ran, run, run_in_bash, text_of
 
 FOR_HELP = "\n\nFor more information, try '--help'.\n"
 ADDRESS = "a hexadecimal address, at most FFFFFF"
@@ -33,6 +33,130 @@ BESIDE_LEAST = [
     ("--store=900+10", "--store <AREA>"),
 ]
 EITHER = "  <--extent <FIRST-LAST>|--least>"
+
+# the search loop's job as options, and the lines of its deck before the line of storage
+JOB = "--start 800 --extent 10-19 --fetch 900+10 --store a00+100".split()
+PREAMBLE = """\
+chanv deck 1
+device 2314
+mask 00
+start 000800
+extent 010 019
+fetch 000900 000010
+store 000A00 000100
+"""
+
+# an address, the image that begins there, and the lines of storage
+PLACED = [
+    ("0", "", "storage 0000000\n"),
+    ("3", "", "storage 0000008\n"),
+    ("0", "0102030405", "storage 0000008\nput 000000 0102030405000000\n"),
+    ("0", "0102030405060708", "storage 0000008\nput 000000 0102030405060708\n"),
+    (
+        "0",
+        "010203040506070809",
+        "storage 0000010\nput 000000 0102030405060708\nput 000008 0900000000000000\n",
+    ),
+    (
+        "6",
+        "0102030405",
+        "storage 0000010\nput 000000 0000000000000102\nput 000008 0304050000000000\n",
+    ),
+    ("6", "0102", "storage 0000008\nput 000000 0000000000000102\n"),
+    ("80A", "AB00CD", "storage 0000810\nput 000808 0000AB00CD000000\n"),
+    # a doubleword of zeros first
+    ("10", "000000000000000007", "storage 0000020\nput 000018 0700000000000000\n"),
+    # up to the largest address
+    ("FFFFF8", "0102030405060708", "storage 1000000\nput FFFFF8 0102030405060708\n"),
+    ("FFFFF6", "00000300000000000001", "storage 1000000\nput FFFFF8 0300000000000001\n"),
+]
+
+# addresses from which on these bytes reach past the largest storage
+PAST_THE_END = [
+    ("FFFFF8", "010203040506070809"),
+    ("FFFFF7", "00000300000000000001"),
+    ("FFFFFF", "00000300000000000001"),
+]
+
+LARGEST = "FFFFFF+FFFFFF"
+CYLINDERS_OF_THREE = ["--extent=200-202", "--extent=0-0", "--extent=10-19"]
+# a job that differs from the usual one in each part, but its limit
+MASK_OF_MORE = f"{0xD8:02X}"
+MORE = [
+    *f"--device 2311 --mask {MASK_OF_MORE} --start ABC --fetch 123456+ABCDEF --fetch 8+0".split(),
+    *["--store", "FEDCBA+654321", *CYLINDERS_OF_THREE],
+]
+# its lines before that of its limit, and behind it
+FRONT_OF_MORE = f"chanv deck 2\ndevice 2311\nmask {MASK_OF_MORE}\nstart 000ABC\n"
+REST_OF_MORE = """\
+extent 200 202
+extent 000 000
+extent 010 019
+fetch 123456 ABCDEF
+fetch 000008 000000
+store FEDCBA 654321
+"""
+
+# options, an image, and the whole deck
+WHOLE_DECKS = [
+    (
+        "the largest numbers, fetched",
+        [*JOB[:4], "--fetch", LARGEST, "--fetch", "0+0", *JOB[6:]],
+        "",
+        PREAMBLE.replace("000900 000010", "FFFFFF FFFFFF\nfetch 000000 000000")
+        + "storage 0000000\nend\n",
+    ),
+    (
+        "the largest numbers, stored into",
+        [*JOB[:6], "--store", LARGEST, "--store", "0+0"],
+        "",
+        PREAMBLE.replace("000A00 000100", "FFFFFF FFFFFF\nstore 000000 000000")
+        + "storage 0000000\nend\n",
+    ),
+    (
+        "the last start",
+        ["--start", "FFFFFF", *JOB[2:]],
+        "",
+        PREAMBLE.replace("000800", "FFFFFF") + "storage 0000000\nend\n",
+    ),
+    (
+        "no limit",
+        ["--mask", "40", *JOB[:2], *CYLINDERS_OF_THREE, *JOB[4:]],
+        "",
+        PREAMBLE.replace("mask 00", "mask 40").replace(
+            "extent 010 019", "extent 200 202\nextent 000 000\nextent 010 019"
+        )
+        + "storage 0000000\nend\n",
+    ),
+    (
+        "a limit of 12345, and an image between doublewords",
+        [*MORE, "--limit", "12345", "--at", "5"],
+        "01020304",
+        f"{FRONT_OF_MORE}limit 12345\n{REST_OF_MORE}"
+        "storage 0000010\nput 000000 0000000000010203\nput 000008 0400000000000000\nend\n",
+    ),
+    (
+        "a limit of 1, and a byte of zeros",
+        [*MORE, "--limit", "1"],
+        "00",
+        f"{FRONT_OF_MORE}limit 00001\n{REST_OF_MORE}"
+        "storage 0000008\nend\n",
+    ),
+    (
+        "no area to be stored into",
+        [*JOB[:6], "--at", "7FE"],
+        "00000300000000000001",
+        PREAMBLE.replace("store 000A00 000100\n", "")
+        + "storage 0000808\nput 000800 0300000000000001\nend\n",
+    ),
+    (
+        "the least job",
+        ["--start", "800", "--least", "--at", "7FE"],
+        "00000300000000000001",
+        "chanv deck 1\ndevice 2314\nmask 58\nstart 000800\nextent 000 202\n"
+        "storage 0000808\nput 000800 0300000000000001\nend\n",
+    ),
+]
 
 # an image whose program changes an argument of its own
 CORE = EXAMPLES / "core.bin"
@@ -108,7 +232,7 @@ def taken_apart(text):
 
 
 def check_decks(checks, program):
-    for path in [deck for folder in FOLDERS for deck in decks_of(folder)]:
+    for path in [deck for folder in (*FOLDERS, TEXTS) for deck in decks_of(folder)]:
         text = text_of(path)
         words, storage = taken_apart(text)
         ran = run(program, "deck", *words, given=storage)
@@ -160,6 +284,19 @@ def check_areas(checks, program):
         checks.expect_that(f"the area {word}", is_so, ran)
 
 
+def check_images(checks, program):
+    """Images of a few bytes, wherever they begin, and jobs with each number at an end."""
+    for at, image, lines in PLACED:
+        ran = run(program, "deck", *JOB, "--at", at, given=bytes.fromhex(image))
+        checks.expect(f"'{image}' at {at}", Ran(0, f"{PREAMBLE}{lines}end\n"), ran)
+    for name, words, image, text in WHOLE_DECKS:
+        ran = run(program, "deck", *words, given=bytes.fromhex(image))
+        checks.expect(name, Ran(0, text), ran)
+    loop = taken_apart(text_of(SEARCH_LOOP))[1]
+    ran = run(program, "deck", *JOB, "--at", "7FD", given=loop[0x7FD:0xFFB])
+    checks.expect("a part of storage", Ran(0, text_of(SEARCH_LOOP)), ran)
+
+
 def check_storage(checks, program):
     """Storage of the size that is asked for is zero behind the image."""
     text = text_of(SEARCH_LOOP)
@@ -196,6 +333,11 @@ def check_refusals(checks, program):
     checks.expect("a byte too much", refused, run(program, "deck", *job, given=TOO_LONG))
     ran = run(program, "deck", *job, "--at", "FFFFFF", given=b"ab")
     checks.expect("a byte too far", refused, ran)
+    for at, image in PAST_THE_END:
+        ran = run(program, "deck", *JOB, "--at", at, given=bytes.fromhex(image))
+        checks.expect(f"'{image}' at {at}", refused, ran)
+    ran = run_in_bash("yes '' | \"$@\"", program, "deck", *JOB)
+    checks.expect("an endless image", refused, ran)
     for option, value, word, accepted in REFUSED:
         ran = run(program, "deck", *job, option, word)
         checks.expect(f"{option} {word}", fault(f"{option} {value}", word, accepted), ran)
@@ -217,6 +359,9 @@ def check_least(checks, program):
     checks.expect("few places", many, run(program, *least, "--limit", "2", given=storage))
     said = f"chanv: {CORE}: no job will do: no 000818 changes-argument\n"
     checks.expect("no job will do", Ran(1, "", said), run(program, *least, CORE))
+    said = "chanv: no job will do: no 000800 invalid-code\n"
+    ran = run(program, *least, "--at", "800", given=bytes(8))
+    checks.expect("zeros alone", Ran(1, "", said), ran)
     checks.expect("no image", Ran(3, "", "chanv: none: cannot open\n"), run(program, *least, "none"))
 
 
@@ -229,6 +374,7 @@ def check(checks, built):
     check_decks(checks, program)
     check_spellings(checks, program)
     check_areas(checks, program)
+    check_images(checks, program)
     check_storage(checks, program)
     check_refusals(checks, program)
     check_least(checks, program)

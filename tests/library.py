@@ -14,7 +14,7 @@ import tempfile
 from pathlib import Path
 
 from building import HERE, ROOT, c_compiler, compile_c, compile_with, short, version_of
-from examples import EXAMPLES, FOLDERS, decks_of, status_of, status_of_needs, verdicts_of
+from examples import EXAMPLES, FOLDERS, TEXTS, decks_of, status_of, status_of_needs, verdicts_of
 from expecting import say
 from refusing import Case, Growths
 from running import Ran, run, text_of
@@ -141,6 +141,12 @@ def check_decks(checks, program):
                 check_text(checks, program, deck, status)
 
 
+def check_texts(checks, program):
+    for name, verdict in verdicts_of(TEXTS).items():
+        if (TEXTS / name).with_suffix(".why").is_file():
+            check_text(checks, program, TEXTS / name, status_of(verdict))
+
+
 def check_text(checks, program, deck, status):
     """The text is what `chanv why` prints, which of a yes is its line alone."""
     wanted = text_of(deck.with_suffix(".why")) if deck.with_suffix(".why").is_file() else "yes\n"
@@ -182,4 +188,5 @@ def check(checks, built):
         check_warnings(checks, library)
         check_archive(checks, library)
         check_decks(checks, folder / "decks")
+        check_texts(checks, folder / "decks")
         refuse_growths(checks, folder)

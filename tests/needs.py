@@ -8,7 +8,7 @@ A deck's own verdict is `yes` exactly where its job grants what is written. And 
 """
 
 from building import short
-from examples import FOLDERS, decks_of
+from examples import FOLDERS, TEXTS, decks_of
 from images import taken_apart
 from running import Ran, run, text_of
 
@@ -144,7 +144,7 @@ def check_largest(checks, program):
 
 def check(checks, built):
     program = built.chanv()
-    for folder in FOLDERS:
+    for folder in (*FOLDERS, TEXTS):
         for path in decks_of(folder):
             check_deck(checks, program, path)
     check_largest(checks, program)

@@ -11,7 +11,7 @@ has an example.
 import re
 
 from building import ROOT, short
-from examples import FOLDERS, verdicts_of
+from examples import FOLDERS, TEXTS, verdicts_of
 from running import Ran, run, text_of
 
 VERDICT = "VERDICT.md"
@@ -67,7 +67,7 @@ def causes_of(page):
 
 def check_causes(checks, program, causes):
     shown = set()
-    for folder in FOLDERS:
+    for folder in (*FOLDERS, TEXTS):
         for name, verdict in verdicts_of(folder).items():
             if verdict == "yes":
                 continue

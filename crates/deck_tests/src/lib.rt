@@ -8,15 +8,9 @@
 #[cfg(test)]
 mod explanation;
 #[cfg(test)]
-mod graph;
-#[cfg(test)]
-mod hint;
-#[cfg(test)]
 mod listing;
 #[cfg(test)]
 mod needs;
-#[cfg(test)]
-mod notes;
 #[cfg(test)]
 mod parts;
 #[cfg(test)]

@@ -2,8 +2,8 @@
 
 use crate::shared::{Paper, expect};
 use ccw_core::{Storage, Watched};
-use chan_deck::{ListError, read_deck, row_text, write_listing, write_seen};
-use chan_walk::{Entry, Explored, Job, Look, Place, Reason, Verdict, explore, survey, verify};
+use chan_deck::{ListError, read_deck, row_text, write_listing};
+use chan_walk::{Entry, Explored, Job, Place, Reason, Verdict, explore};
 use std::alloc::Global;
 use std::io;
 use std::io::Write;
@@ -72,8 +72,8 @@ yes
 /// What is asked of the job of a deck.
 #[derive(Clone, Copy)]
 enum Question<'a> {
-    /// Whether this is the listing of its places and its verdict.
-    Listing(&'a str),
+    /// Whether this is the listing of its places and of this verdict.
+    Listing(Verdict, &'a [u8]),
     /// Whether these are rows of its storage.
     Rows(&'a [Row]),
     /// Whether the listing is cut off wherever a write fails.
@@ -104,9 +104,7 @@ fn holds_of_deck(alloc: Global, text: &[u8], question: Question) -> bool {
 
 fn holds_of_job(alloc: Global, job: &Job, question: Question) -> bool {
     match question {
-        Question::Listing(listing) => {
-            is_listed(alloc, job, listing.as_bytes()) && is_surveyed(alloc, job, listing.as_bytes())
-        }
+        Question::Listing(verdict, listing) => is_listed(alloc, job, verdict, listing),
         Question::Rows(rows) => are_rows(alloc, job, rows),
         Question::CutOff(listing) => is_cut_off(alloc, job, listing),
         Question::Pieces(listing) => comes_in_pieces(alloc, job, listing),
@@ -128,50 +126,48 @@ fn answers(
     found == answer && to.into_inner().left.is_empty()
 }
 
-/// Whether this is the listing of the job's places and its verdict.
-fn is_listed(alloc: Global, job: &Job, listing: &[u8]) -> bool {
-    let Ok(verdict) = verify(alloc, job) else {
-        return false;
-    };
+/// Whether this is the listing of the job's places and of this verdict.
+fn is_listed(alloc: Global, job: &Job, verdict: Verdict, listing: &[u8]) -> bool {
     match explore(alloc, job) {
         Ok(places) => answers(alloc, job, &places, verdict, Ok(()), listing),
         Err(_) => false,
     }
 }
 
-/// Whether this is the listing of what a survey has seen of the job.
-fn is_surveyed(alloc: Global, job: &Job, listing: &[u8]) -> bool {
-    match survey(alloc, job) {
-        Ok(survey) => {
-            let verdict = survey.verdict();
-            let (looks, _offences) = survey.into_parts();
-            is_seen(alloc, looks.as_slice(), verdict, listing)
-        }
-        Err(_) => false,
-    }
-}
-
-fn is_seen(alloc: Global, looks: &[Look], verdict: Verdict, listing: &[u8]) -> bool {
-    let mut to = Watched::new(Paper { left: listing });
-    write_seen(alloc, looks, verdict, &mut to).is_ok() && to.into_inner().left.is_empty()
-}
-
-/// The start, the puts, and the listing.
-static LISTINGS: [(&str, &str, &str); 4] = [
-    ("000800", SEARCH_LOOP, SEARCH_LOOP_LISTING),
-    ("000800", CHAINED_AND_FRESH, CHAINED_AND_FRESH_LISTING),
-    ("000FF8", END_OF_STORAGE, END_OF_STORAGE_LISTING),
+/// The start, the puts, the verdict, and the listing.
+static LISTINGS: [(&str, &str, Verdict, &str); 4] = [
+    ("000800", SEARCH_LOOP, Verdict::Yes, SEARCH_LOOP_LISTING),
+    (
+        "000800",
+        CHAINED_AND_FRESH,
+        Verdict::No {
+            address: 0x808,
+            reason: Reason::InvalidCode,
+        },
+        CHAINED_AND_FRESH_LISTING,
+    ),
+    (
+        "000FF8",
+        END_OF_STORAGE,
+        Verdict::No {
+            address: 0x1000,
+            reason: Reason::OutsideStorage,
+        },
+        END_OF_STORAGE_LISTING,
+    ),
     (
         "000800",
         SEEK_THROUGH_TRANSFER,
+        Verdict::Yes,
         SEEK_THROUGH_TRANSFER_LISTING,
     ),
 ];
 
 #[test]
 fn listings(rt: HostRuntime) {
-    for (start, puts, listing) in &LISTINGS {
-        let listed = holds(rt.alloc(), start, puts, Question::Listing(listing));
+    for (start, puts, verdict, listing) in &LISTINGS {
+        let question = Question::Listing(*verdict, listing.as_bytes());
+        let listed = holds(rt.alloc(), start, puts, question);
         expect(&rt, listed, listing);
     }
 }

@@ -1,11 +1,11 @@
 //! What words mean, and which words there are.
 
-use crate::devices::Narrow;
+use crate::devices::{expect, paper_of};
 use ccw_core::Watched;
 use chan_deck::Cause;
 use chan_run::{Failure, MeaningError, Term, explain_word, list_words, term_of};
 use chan_walk::Reason;
-use std::process::Abort;
+use std::alloc::Global;
 
 /// Each reason, with its word.
 static REASONS: [(&str, Reason); 16] = [
@@ -57,24 +57,6 @@ static FAILURES: [(&str, Failure); 11] = [
     ("no-such-word", Failure::NoSuchWord),
 ];
 
-/// A word, and the whole text of its meaning.
-static MEANINGS: [(&str, &str); 2] = [
-    (
-        "store-not-lent",
-        "The CCW stores, and a byte of its data range lies in no area lent for storing.
-Lend the area, as with a line `store` in the deck, or shorten the count. What
-isn't wanted of a record can go to a CCW with the flag skip, by chain data: it
-stores nothing. `chanv why` names the bytes.
-",
-    ),
-    (
-        "extent-backwards",
-        "The extent's first cylinder is above its last.
-Write the lower number first. Both are decimal.
-",
-    ),
-];
-
 /// Texts that are no term's word, with the term whose word is the nearest, if one is near.
 static UNKNOWN: [(&str, Option<Term>); 10] = [
     ("", None),
@@ -99,97 +81,60 @@ static CASES: [(&str, Term); 3] = [
     ("put-Zero", Term::Cause(Cause::PutZero)),
 ];
 
+fn is_of(word: &str, term: Option<Term>) -> bool {
+    term_of(word) == term
+}
+
 #[test]
 fn each_word_has_its_term(rt: HostRuntime) {
     for (word, reason) in &REASONS {
-        assert_eq!(rt; term_of(word), Some(Term::Reason(*reason)));
+        expect(&rt, is_of(word, Some(Term::Reason(*reason))), word);
     }
     for (word, cause) in &CAUSES {
-        assert_eq!(rt; term_of(word), Some(Term::Cause(*cause)));
+        expect(&rt, is_of(word, Some(Term::Cause(*cause))), word);
     }
     for (word, failure) in &FAILURES {
-        assert_eq!(rt; term_of(word), Some(Term::Failure(*failure)));
+        expect(&rt, is_of(word, Some(Term::Failure(*failure))), word);
     }
 }
 
 #[test]
 fn the_case_of_letters_is_nothing(rt: HostRuntime) {
     for (word, term) in &CASES {
-        assert_eq!(rt; term_of(word), Some(*term));
+        expect(&rt, is_of(word, Some(*term)), word);
     }
 }
 
-#[test]
-fn the_list_has_a_line_for_each_word(rt: HostRuntime) {
-    let mut to = Watched::new(Vec::new(rt.alloc()));
-    assert_eq!(rt; list_words(&mut to), Ok(()));
-    let text = to.into_inner();
-    let mut rest = text.as_slice();
-    for (word, _) in &REASONS {
-        rest = behind_line_of(&rt, rest, word);
-    }
-    for (word, _) in &CAUSES {
-        rest = behind_line_of(&rt, rest, word);
-    }
-    for (word, _) in &FAILURES {
-        rest = behind_line_of(&rt, rest, word);
-    }
-    assert!(rt; rest.is_empty());
-}
-
-/// What follows the first line, which begins with this word and a colon and says something.
-fn behind_line_of<'a>(rt: &impl Abort, text: &'a [u8], word: &str) -> &'a [u8] {
-    let front = text.strip_prefix(word.as_bytes()).unwrap_or(&[]);
-    let said = front.strip_prefix(b": ".as_slice()).unwrap_or(&[]);
-    let end = said.iter().position(|byte| *byte == b'\n').unwrap_or(0);
-    assert!(rt; end > 0);
-    said.get(end + 1..).unwrap_or(&[])
+/// Whether the list of the words is cut off behind this.
+fn is_cut_off(front: &[u8]) -> bool {
+    let mut to = Watched::new(paper_of(front));
+    list_words(&mut to) == Err(MeaningError::Write) && to.into_inner().left.is_empty()
 }
 
 #[test]
 fn the_list_ends_where_a_write_fails(rt: HostRuntime) {
-    let mut to = Watched::new(Narrow {
-        room: 14,
-        taken: Vec::new(rt.alloc()),
-    });
-    assert_eq!(rt; list_words(&mut to), Err(MeaningError::Write));
-    assert_eq!(rt;
-        to.into_inner().taken.as_slice(),
-        b"misaligned: a ".as_slice()
-    );
+    expect(&rt, is_cut_off(b"misaligned: a "), "list");
 }
 
-#[test]
-fn whole_texts(rt: HostRuntime) {
-    for (word, text) in &MEANINGS {
-        let mut to = Watched::new(Vec::new(rt.alloc()));
-        assert_eq!(rt; explain_word(rt.alloc(), word, &mut to), Ok(()));
-        assert_eq!(rt; to.into_inner().as_slice(), text.as_bytes());
-    }
+/// Whether the meaning of a word comes to this, and this is written. A write behind that fails.
+fn is_explained(alloc: Global, word: &str, error: MeaningError, front: &[u8]) -> bool {
+    let mut to = Watched::new(paper_of(front));
+    let found = explain_word(alloc, word, &mut to);
+    let is_write_failure = error == MeaningError::Write;
+    found == Err(error) && to.failed() == is_write_failure && to.into_inner().left.is_empty()
 }
 
 #[test]
 fn unknown_words_write_nothing(rt: HostRuntime) {
     for (word, nearest) in &UNKNOWN {
-        assert_eq!(rt; term_of(word), None);
-        let mut to = Watched::new(Vec::new(rt.alloc()));
-        assert_eq!(rt;
-            explain_word(rt.alloc(), word, &mut to),
-            Err(MeaningError::Unknown { nearest: *nearest })
-        );
-        assert!(rt; to.into_inner().is_empty());
+        let error = MeaningError::Unknown { nearest: *nearest };
+        expect(&rt, is_of(word, None), word);
+        expect(&rt, is_explained(rt.alloc(), word, error, &[]), word);
     }
 }
 
 #[test]
 fn a_write_fails_after_a_byte(rt: HostRuntime) {
-    let mut to = Watched::new(Narrow {
-        room: 1,
-        taken: Vec::new(rt.alloc()),
-    });
-    assert_eq!(rt;
-        explain_word(rt.alloc(), "put-zero", &mut to),
-        Err(MeaningError::Write)
-    );
-    assert_eq!(rt; to.into_inner().taken.as_slice(), b"T".as_slice());
+    let cut_off = is_explained(rt.alloc(), "put-zero", MeaningError::Write, b"T");
+    expect(&rt, cut_off, "put-zero");
 }

@@ -1,12 +1,12 @@
-//! Runs over decks, and over devices that fail.
+//! Runs over devices that fail, or seem never to end.
+//!
+//! What is written over decks that are judged or refused is seen from outside, in `tests/`.
 
-use crate::devices::{Broken, LineFeeds, Narrow};
+use crate::devices::{Broken, LineFeeds, expect, paper_of};
 use ccw_core::Watched;
 use chan_deck::Cause;
 use chan_run::{Action, RunError, Status, run, run_named};
 use std::alloc::Global;
-use std::fmt::Write;
-use std::test::Fail;
 
 /// The search loop: search for a record by its identifier, try the next one, read what was found.
 const SEARCH_LOOP: &str = "chanv deck 1
@@ -42,13 +42,6 @@ put 000FF8 3100090040000005
 end
 ";
 
-const END_OF_STORAGE_LISTING: &str =
-    "000FF8 fresh t . 31 000900 -C---0 00 0005 write search-id-equal
-001000 fresh - * no-ccw
-001008 fresh - . no-ccw
-no 001000 outside-storage
-";
-
 const END_OF_STORAGE_EXPLANATION: &str = "no 001000 outside-storage
 000FF8 fresh t . 31 000900 -C---0 00 0005 write search-id-equal
 001000 fresh - * no-ccw
@@ -68,258 +61,66 @@ const SEARCH_LOOP_PICTURE: &str = r#"digraph program {
 }
 "#;
 
-const END_OF_STORAGE_PICTURE: &str = r#"digraph program {
-  node [shape=box, fontname="monospace", fontsize=10];
-  edge [arrowsize=0.7];
-  "000FF8 fresh t" [label="000FF8 fresh t  search-id-equal\l"];
-  "001000 fresh -" [label="001000 fresh  no-ccw\l"];
-  "001008 fresh -" [label="001008 fresh  no-ccw\l"];
-  "001000 fresh -" [color=red, fontcolor=red, xlabel="outside-storage"];
-  "001008 fresh -" [color=red, fontcolor=red, xlabel="outside-storage"];
-  "000FF8 fresh t" -> "001000 fresh -";
-  "000FF8 fresh t" -> "001008 fresh -" [style=dashed];
-}
-"#;
-
-const SEARCH_LOOP_NEEDS: &str = "mask 58
-fetch 000900 000005
-store 000A00 000050
-keep 000800 000018
-";
-
-fn ran(alloc: Global, action: Action, text: &[u8]) -> (Result<Status, RunError>, Vec<u8>) {
-    let mut from = Watched::new(text);
-    let mut to = Watched::new(Vec::new(alloc));
-    let answer = run(alloc, action, &mut from, &mut to);
-    (answer, to.into_inner())
+/// What is asked for, a text, the read that fails, and what comes of it: the answer, and what was
+/// written by then. A write behind that fails.
+#[derive(Clone, Copy)]
+struct Case<'a> {
+    action: Action,
+    text: &'a str,
+    failing: usize,
+    answer: Result<Status, RunError>,
+    written: &'a [u8],
 }
 
-#[test]
-fn runs_over_decks(rt: HostRuntime) {
-    for (action, text, status, written) in [
-        (Action::Verify, SEARCH_LOOP, Status::Yes, "yes\n"),
-        (
-            Action::Verify,
-            END_OF_STORAGE,
-            Status::No,
-            "no 001000 outside-storage\n",
-        ),
-        (Action::List, SEARCH_LOOP, Status::Yes, SEARCH_LOOP_LISTING),
-        (
-            Action::List,
-            END_OF_STORAGE,
-            Status::No,
-            END_OF_STORAGE_LISTING,
-        ),
-        (Action::Why, SEARCH_LOOP, Status::Yes, "yes\n"),
-        (
-            Action::Why,
-            END_OF_STORAGE,
-            Status::No,
-            END_OF_STORAGE_EXPLANATION,
-        ),
-        (Action::Graph, SEARCH_LOOP, Status::Yes, SEARCH_LOOP_PICTURE),
-        (
-            Action::Graph,
-            END_OF_STORAGE,
-            Status::No,
-            END_OF_STORAGE_PICTURE,
-        ),
-        (Action::Needs, SEARCH_LOOP, Status::Yes, SEARCH_LOOP_NEEDS),
-        (
-            Action::Needs,
-            END_OF_STORAGE,
-            Status::No,
-            END_OF_STORAGE_EXPLANATION,
-        ),
-    ] {
-        let (answer, output) = ran(rt.alloc(), action, text.as_bytes());
-        assert_eq!(rt; answer, Ok(status));
-        assert_eq!(rt; output.as_slice(), written.as_bytes());
-    }
+/// The search loop's verdict. Its 205 bytes and the end of the input are 206 reads.
+const USUAL: Case<'static> = Case {
+    action: Action::Verify,
+    text: SEARCH_LOOP,
+    failing: 206,
+    answer: Ok(Status::Yes),
+    written: b"yes\n",
+};
+
+/// Whether a run comes to this.
+fn is_run(alloc: Global, case: &Case) -> bool {
+    let mut from = Watched::new(Broken {
+        rest: case.text.as_bytes(),
+        reads: 0,
+        failing: case.failing,
+    });
+    let mut to = Watched::new(paper_of(case.written));
+    let answer = run(alloc, case.action, &mut from, &mut to);
+    answer == case.answer && to.into_inner().left.is_empty()
 }
 
-#[test]
-fn runs_over_named_inputs(rt: HostRuntime) {
-    for (name, action, text, answer, written) in [
-        (
-            "a.deck",
-            Action::Verify,
-            SEARCH_LOOP,
-            Ok(Status::Yes),
-            "a.deck: yes\n",
-        ),
-        (
-            "-",
-            Action::Verify,
-            END_OF_STORAGE,
-            Ok(Status::No),
-            "-: no 001000 outside-storage\n",
-        ),
-        (
-            "a.deck",
-            Action::List,
-            SEARCH_LOOP,
-            Ok(Status::Yes),
-            SEARCH_LOOP_LISTING,
-        ),
-        (
-            "a.deck",
-            Action::Graph,
-            SEARCH_LOOP,
-            Ok(Status::Yes),
-            SEARCH_LOOP_PICTURE,
-        ),
-        (
-            "a.deck",
-            Action::Verify,
-            "chanv deck 3\n",
-            Err(RunError::Deck {
-                line: 1,
-                cause: Cause::Header,
-            }),
-            "",
-        ),
-    ] {
-        let mut from = Watched::new(text.as_bytes());
-        let mut to = Watched::new(Vec::new(rt.alloc()));
-        assert_eq!(rt;
-            run_named(rt.alloc(), name, action, &mut from, &mut to),
-            answer
-        );
-        assert_eq!(rt; to.into_inner().as_slice(), written.as_bytes());
-    }
+/// Whether a run over an input of this name comes to this.
+fn is_run_over(alloc: Global, name: &str, case: &Case) -> bool {
+    let mut from = Watched::new(Broken {
+        rest: case.text.as_bytes(),
+        reads: 0,
+        failing: case.failing,
+    });
+    let mut to = Watched::new(paper_of(case.written));
+    let answer = run_named(alloc, name, case.action, &mut from, &mut to);
+    answer == case.answer && to.into_inner().left.is_empty()
 }
 
 #[test]
 fn each_write_over_a_named_input_failing_in_turn(rt: HostRuntime) {
-    let whole = "a.deck: yes\n";
+    let whole = b"a.deck: yes\n".as_slice();
     for room in 0..whole.len() {
-        let mut from = Watched::new(SEARCH_LOOP.as_bytes());
-        let mut to = Watched::new(Narrow {
-            room,
-            taken: Vec::new(rt.alloc()),
-        });
-        assert_eq!(rt;
-            run_named(rt.alloc(), "a.deck", Action::Verify, &mut from, &mut to),
-            Err(RunError::Write)
-        );
-        assert_eq!(rt; to.into_inner().taken.as_slice(), &whole.as_bytes()[..room]);
+        let case = Case {
+            answer: Err(RunError::Write),
+            written: &whole[..room],
+            ..USUAL
+        };
+        expect(&rt, is_run_over(rt.alloc(), "a.deck", &case), "cut off");
     }
-}
-
-#[test]
-fn refused_decks_write_nothing(rt: HostRuntime) {
-    for (text, line, cause) in [
-        ("", 1, Cause::Ended),
-        ("chanv deck 3\n", 1, Cause::Header),
-        (
-            "chanv deck 2\ndevice 2311\nmask 00\nstart 000800\nlimit 00000\n",
-            5,
-            Cause::Limit,
-        ),
-        ("chanv deck 1\ndevice 2311\nmask 20\n", 3, Cause::Mask),
-    ] {
-        for action in [
-            Action::Verify,
-            Action::List,
-            Action::Why,
-            Action::Graph,
-            Action::Needs,
-        ] {
-            let (answer, output) = ran(rt.alloc(), action, text.as_bytes());
-            assert_eq!(rt; answer, Err(RunError::Deck { line, cause }));
-            assert!(rt; output.is_empty());
-        }
-    }
-}
-
-/// A deck of so many CCWs from 000800 on, each chained to the next; the heading up to the start,
-/// with what follows it, and the last CCW are given.
-fn chain_of(alloc: Global, heading: &str, count: u32, last: &str) -> Result<String, Fail> {
-    let mut text = String::from_str(alloc, heading)?;
-    text.push_str("extent 010 019\nstorage 0010000\n")?;
-    for index in 0..count.saturating_sub(1) {
-        let address = index.saturating_mul(8).saturating_add(0x800);
-        write!(text, "put {address:06X} 0300000040000001\n")?;
-    }
-    let address = count
-        .saturating_sub(1)
-        .saturating_mul(8)
-        .saturating_add(0x800);
-    write!(text, "put {address:06X} {last}\nend\n")?;
-    Ok(text)
-}
-
-const FIRST: &str = "chanv deck 1\ndevice 2314\nmask 00\nstart 000800\n";
-
-const USUAL: &str = "chanv deck 2\ndevice 2314\nmask 00\nstart 000800\nlimit 04096\n";
-
-const ONE_MORE: &str = "chanv deck 2\ndevice 2314\nmask 00\nstart 000800\nlimit 04097\n";
-
-/// Chains of CCWs under a limit of the deck: the name, the heading, how many CCWs, the last one,
-/// the answer, and what is written.
-static LIMITS: &[(&str, &str, u32, &str, Result<Status, RunError>, &str)] = &[
-    (
-        "4,096 places",
-        FIRST,
-        4096,
-        "0300000000000001",
-        Ok(Status::Yes),
-        "yes\n",
-    ),
-    (
-        "the last offends",
-        FIRST,
-        4096,
-        "0200000000000001",
-        Ok(Status::No),
-        "no 0087F8 not-in-table\n",
-    ),
-    (
-        "4,097 places",
-        FIRST,
-        4097,
-        "0300000000000001",
-        Err(RunError::TooManyPlaces),
-        "",
-    ),
-    (
-        "4,097 by version 2",
-        USUAL,
-        4097,
-        "0300000000000001",
-        Err(RunError::TooManyPlaces),
-        "",
-    ),
-    (
-        "a limit of 4,097",
-        ONE_MORE,
-        4097,
-        "0300000000000001",
-        Ok(Status::Yes),
-        "yes\n",
-    ),
-    (
-        "one above it",
-        ONE_MORE,
-        4098,
-        "0300000000000001",
-        Err(RunError::TooManyPlaces),
-        "",
-    ),
-];
-
-#[test]
-fn place_limit_by_deck(rt: HostRuntime) -> Result<(), Fail> {
-    let alloc = rt.alloc();
-    for (name, heading, count, last, expected, written) in LIMITS {
-        let text = chain_of(alloc, heading, *count, last)?;
-        let (answer, output) = ran(alloc, Action::Verify, text.as_bytes());
-        assert_eq!(rt; answer, *expected, "{name}");
-        assert_eq!(rt; output.as_slice(), written.as_bytes(), "{name}");
-    }
-    Ok(())
+    let case = Case {
+        written: whole,
+        ..USUAL
+    };
+    expect(&rt, is_run_over(rt.alloc(), "a.deck", &case), "whole");
 }
 
 /// Readers of line feeds: how many they give at a time and in all, and what the run answers.
@@ -341,88 +142,108 @@ static LONG_INPUTS: &[(&str, usize, usize, RunError)] = &[
     ("a read that fails at once", 65_536, 0, RunError::Read),
 ];
 
+/// Whether a run over so many line feeds answers so, and writes nothing.
+fn refuses(alloc: Global, action: Action, at_a_time: usize, left: usize, error: RunError) -> bool {
+    let mut from = Watched::new(LineFeeds { at_a_time, left });
+    let mut to = Watched::new(paper_of(&[]));
+    run(alloc, action, &mut from, &mut to) == Err(error) && !to.failed()
+}
+
 #[test]
 fn long_inputs(rt: HostRuntime) {
     for (name, at_a_time, left, error) in LONG_INPUTS {
         for action in [Action::Verify, Action::List] {
-            let mut from = Watched::new(LineFeeds {
-                at_a_time: *at_a_time,
-                left: *left,
-            });
-            let mut to = Watched::new(Vec::new(rt.alloc()));
-            let answer = run(rt.alloc(), action, &mut from, &mut to);
-            assert_eq!(rt; answer, Err(*error), "{name}");
-            assert!(rt; to.into_inner().is_empty(), "{name}");
+            let refused = refuses(rt.alloc(), action, *at_a_time, *left, *error);
+            expect(&rt, refused, name);
         }
     }
 }
 
-// The search loop's 205 bytes and the end of the input are 206 reads.
-#[test]
-fn each_read_failing_in_turn(rt: HostRuntime) {
-    let alloc = rt.alloc();
-    for (action, whole) in [
-        (Action::Verify, "yes\n"),
-        (Action::List, SEARCH_LOOP_LISTING),
-    ] {
-        for failing in 0..207 {
-            let mut from = Watched::new(Broken {
-                rest: SEARCH_LOOP.as_bytes(),
-                reads: 0,
-                failing,
-            });
-            let mut to = Watched::new(Vec::new(alloc));
-            let answer = run(alloc, action, &mut from, &mut to);
-            let (expected, written) = if failing < 206 {
-                (Err(RunError::Read), "")
-            } else {
-                (Ok(Status::Yes), whole)
-            };
-            assert_eq!(rt; answer, expected);
-            assert_eq!(rt; to.into_inner().as_slice(), written.as_bytes());
+/// Whether a run comes to this where all is read, and fails where one of the reads before does.
+fn reads(alloc: Global, whole: &Case) -> bool {
+    for failing in 0..206 {
+        let case = Case {
+            failing,
+            answer: Err(RunError::Read),
+            written: &[],
+            ..*whole
+        };
+        if !is_run(alloc, &case) {
+            return false;
         }
     }
+    is_run(alloc, whole)
+}
+
+#[test]
+fn each_read_failing_in_turn(rt: HostRuntime) {
+    let listed = Case {
+        action: Action::List,
+        written: SEARCH_LOOP_LISTING.as_bytes(),
+        ..USUAL
+    };
+    expect(&rt, reads(rt.alloc(), &USUAL), "verify");
+    expect(&rt, reads(rt.alloc(), &listed), "list");
+}
+
+/// What is asked for, a text, and all that is written over it.
+static WRITTEN: [(Action, &str, &str); 4] = [
+    (Action::Verify, SEARCH_LOOP, "yes\n"),
+    (Action::List, SEARCH_LOOP, SEARCH_LOOP_LISTING),
+    (Action::Why, END_OF_STORAGE, END_OF_STORAGE_EXPLANATION),
+    (Action::Graph, SEARCH_LOOP, SEARCH_LOOP_PICTURE),
+];
+
+/// Whether a run is cut off wherever a write fails.
+fn is_cut_off(alloc: Global, action: Action, text: &str, whole: &[u8]) -> bool {
+    for room in 0..whole.len() {
+        let case = Case {
+            action,
+            text,
+            failing: usize::MAX,
+            answer: Err(RunError::Write),
+            written: &whole[..room],
+        };
+        if !is_run(alloc, &case) {
+            return false;
+        }
+    }
+    true
 }
 
 #[test]
 fn each_write_failing_in_turn(rt: HostRuntime) {
-    let alloc = rt.alloc();
-    for (action, text, whole) in [
-        (Action::Verify, SEARCH_LOOP, "yes\n"),
-        (Action::List, SEARCH_LOOP, SEARCH_LOOP_LISTING),
-        (Action::Why, END_OF_STORAGE, END_OF_STORAGE_EXPLANATION),
-        (Action::Graph, SEARCH_LOOP, SEARCH_LOOP_PICTURE),
-    ] {
-        for room in 0..whole.len() {
-            let mut from = Watched::new(text.as_bytes());
-            let mut to = Watched::new(Narrow {
-                room,
-                taken: Vec::new(alloc),
-            });
-            assert_eq!(rt;
-                run(alloc, action, &mut from, &mut to),
-                Err(RunError::Write)
-            );
-            assert_eq!(rt; to.into_inner().taken.as_slice(), &whole.as_bytes()[..room]);
-        }
+    for (action, text, whole) in &WRITTEN {
+        let cut_off = is_cut_off(rt.alloc(), *action, text, whole.as_bytes());
+        expect(&rt, cut_off, text);
+    }
+}
+
+static ERRORS: [(RunError, &str); 6] = [
+    (RunError::Read, "read failed"),
+    (RunError::TooLong, "deck too long"),
+    (
+        RunError::Deck {
+            line: 9,
+            cause: Cause::PutAddress,
+        },
+        "deck line 9",
+    ),
+    (RunError::TooManyPlaces, "too many places"),
+    (RunError::Write, "write failed"),
+    (RunError::Memory, "out of memory"),
+];
+
+fn is_error(alloc: Global, error: RunError, text: &str) -> bool {
+    match format!(in alloc; "{error}") {
+        Ok(found) => found.as_str() == text,
+        Err(_) => false,
     }
 }
 
 #[test]
-fn texts_of_errors(rt: HostRuntime) -> Result<(), Fail> {
-    let refused = RunError::Deck {
-        line: 9,
-        cause: Cause::PutAddress,
-    };
-    for (error, text) in [
-        (RunError::Read, "read failed"),
-        (RunError::TooLong, "deck too long"),
-        (refused, "deck line 9"),
-        (RunError::TooManyPlaces, "too many places"),
-        (RunError::Write, "write failed"),
-        (RunError::Memory, "out of memory"),
-    ] {
-        assert_eq!(rt; format!(in rt.alloc(); "{error}")?.as_str(), text);
+fn texts_of_errors(rt: HostRuntime) {
+    for (error, text) in &ERRORS {
+        expect(&rt, is_error(rt.alloc(), *error, text), text);
     }
-    Ok(())
 }

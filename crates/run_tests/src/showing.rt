@@ -1,64 +1,41 @@
-//! What `show` writes.
+//! What `show` writes where a write fails, and the texts of its errors.
 
-use crate::devices::Narrow;
+use crate::devices::{expect, paper_of};
 use ccw_core::Watched;
 use chan_run::{ShowError, show};
-use std::test::Fail;
+use std::alloc::Global;
 
-#[test]
-fn show_lines(rt: HostRuntime) -> Result<(), Fail> {
-    for (text, line) in [
-        ("06000A0020000050", "06 000A00 --L--0 00 0050 read\n"),
-        ("ffffffffffffffff", "FF FFFFFF DCLSP7 FF FFFF control\n"),
-        (
-            "0C00000000000000",
-            "0C 000000 -----0 00 0000 read-backward\n",
-        ),
-    ] {
-        let mut to = Watched::new(Vec::new(rt.alloc()));
-        show(rt.alloc(), text, &mut to)?;
-        assert_eq!(rt; to.into_inner().as_slice(), line.as_bytes());
-    }
-    for text in ["0800", "", "0600 A0020000050", "06000A00200000500"] {
-        let mut to = Watched::new(Vec::new(rt.alloc()));
-        assert_eq!(rt; show(rt.alloc(), text, &mut to), Err(ShowError::NotCcw));
-        assert!(rt; to.into_inner().is_empty());
-    }
-    Ok(())
-}
-
-#[test]
-fn transfer_line(rt: HostRuntime) -> Result<(), Fail> {
-    let mut to = Watched::new(Vec::new(rt.alloc()));
-    show(rt.alloc(), "0800080000FF0007", &mut to)?;
-    assert_eq!(rt;
-        to.into_inner().as_slice(),
-        b"08 000800 -----0 FF 0007 transfer\n".as_slice()
-    );
-    Ok(())
+/// Whether showing a text answers so, and writes this: a write behind that fails.
+fn is_shown(alloc: Global, text: &str, answer: Result<(), ShowError>, line: &[u8]) -> bool {
+    let mut to = Watched::new(paper_of(line));
+    show(alloc, text, &mut to) == answer && to.into_inner().left.is_empty()
 }
 
 #[test]
 fn show_write_fault(rt: HostRuntime) {
-    let mut to = Watched::new(Narrow {
-        room: 1,
-        taken: Vec::new(rt.alloc()),
-    });
-    assert_eq!(rt;
-        show(rt.alloc(), "06000A0020000050", &mut to),
-        Err(ShowError::Write)
-    );
-    assert_eq!(rt; to.into_inner().taken.as_slice(), b"0".as_slice());
+    let text = "06000A0020000050";
+    let cut_off = is_shown(rt.alloc(), text, Err(ShowError::Write), b"0");
+    expect(&rt, cut_off, "cut off");
+    let line = b"06 000A00 --L--0 00 0050 read\n";
+    expect(&rt, is_shown(rt.alloc(), text, Ok(()), line), "whole");
+}
+
+static ERRORS: [(ShowError, &str); 3] = [
+    (ShowError::NotCcw, "not a CCW"),
+    (ShowError::Memory, "out of memory"),
+    (ShowError::Write, "write failed"),
+];
+
+fn is_error(alloc: Global, error: ShowError, text: &str) -> bool {
+    match format!(in alloc; "{error}") {
+        Ok(found) => found.as_str() == text,
+        Err(_) => false,
+    }
 }
 
 #[test]
-fn texts_of_errors(rt: HostRuntime) -> Result<(), Fail> {
-    for (error, text) in [
-        (ShowError::NotCcw, "not a CCW"),
-        (ShowError::Memory, "out of memory"),
-        (ShowError::Write, "write failed"),
-    ] {
-        assert_eq!(rt; format!(in rt.alloc(); "{error}")?.as_str(), text);
+fn texts_of_errors(rt: HostRuntime) {
+    for (error, text) in &ERRORS {
+        expect(&rt, is_error(rt.alloc(), *error, text), text);
     }
-    Ok(())
 }

@@ -1,7 +1,8 @@
 //! How words are shown, and which word is shown so.
 
+use crate::devices::expect;
 use chan_run::{shown_word, word_of};
-use std::test::Fail;
+use std::alloc::Global;
 
 /// A word, and how it is shown.
 static WORDS: [(&[u8], &str); 10] = [
@@ -17,11 +18,24 @@ static WORDS: [(&[u8], &str); 10] = [
     (b"\x80\xFF.deck", "\\x80\\xFF.deck"),
 ];
 
-#[test]
-fn each_word_is_shown_and_read_back(rt: HostRuntime) -> Result<(), Fail> {
-    for (word, shown) in &WORDS {
-        assert_eq!(rt; shown_word(rt.alloc(), word)?.as_str(), *shown);
-        assert_eq!(rt; word_of(rt.alloc(), shown)?.as_slice(), *word);
+fn is_shown(alloc: Global, word: &[u8], text: &str) -> bool {
+    match shown_word(alloc, word) {
+        Ok(found) => found.as_str() == text,
+        Err(_) => false,
     }
-    Ok(())
+}
+
+fn is_read(alloc: Global, text: &str, word: &[u8]) -> bool {
+    match word_of(alloc, text) {
+        Ok(found) => found.as_slice() == word,
+        Err(_) => false,
+    }
+}
+
+#[test]
+fn each_word_is_shown_and_read_back(rt: HostRuntime) {
+    for (word, shown) in &WORDS {
+        expect(&rt, is_shown(rt.alloc(), word, shown), shown);
+        expect(&rt, is_read(rt.alloc(), shown, word), shown);
+    }
 }

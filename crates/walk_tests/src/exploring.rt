@@ -1,12 +1,8 @@
 //! Worked cases, with the places that follow from the rules of the channel.
 
-use crate::image::image;
-use ccw_core::{Area, Storage};
+use crate::shared::{Program, Question, USUAL, expect, holds};
 use chan_walk::{Entry, Explored, Job, Limit, Place, WalkError, explore};
-use ckd_core::{Device, Extents, FileMask};
-use std::alloc::Global;
-use std::process::Abort;
-use std::test::Fail;
+use std::alloc::{AllocError, Global};
 
 /// A program that starts at `800`, its places, and the marks at some addresses.
 struct Case<'a> {
@@ -15,17 +11,6 @@ struct Case<'a> {
     places: &'a [Place],
     marks: &'a [(u32, u8)],
 }
-
-/// Where the areas lie that each case is lent: one for fetching, one for storing.
-static FETCH: [Area; 1] = [Area {
-    start: 0x900,
-    len: 16,
-}];
-
-static STORE: [Area; 1] = [Area {
-    start: 0xA00,
-    len: 256,
-}];
 
 static CASES: [Case<'static>; 4] = [
     Case {
@@ -157,123 +142,168 @@ static CASES: [Case<'static>; 4] = [
     },
 ];
 
-/// The places of a program that starts at `800`, where there may be as many as are given.
-fn explored(
-    alloc: Global,
-    storage: &[u8],
-    limit: Limit,
-) -> Result<Result<Explored, WalkError>, Fail> {
-    let extents = Extents::new(alloc, &[(10, 19)])?;
-    let job = Job {
-        storage: Storage::new(storage)?,
-        start: 0x800,
-        device: Device::D2314,
-        mask: FileMask::new(0x00).ok_or("a mask")?,
-        extents: &extents,
-        fetch: &FETCH,
-        store: &STORE,
-        limit,
-    };
-    Ok(explore(alloc, &job))
-}
-
-/// The places are these, by `len`, by `place` and one after another.
-fn expect_places(rt: &impl Abort, explored: &Explored, case: &Case) {
-    let (name, places) = (case.name, case.places);
-    assert_eq!(rt; explored.len(), places.len(), "{name}");
-    assert_eq!(rt; explored.places().count(), places.len(), "{name}");
-    assert_eq!(rt; explored.place(places.len()), None, "{name}");
-    for (index, place) in explored.places().enumerate() {
-        assert_eq!(rt;
-            places.get(index).copied(),
-            Some(place),
-            "{name}, place {index}"
-        );
-        assert_eq!(rt; explored.place(index), Some(place), "{name}, place {index}");
+/// Whether these are the places of a job, and the marks at these addresses.
+pub(crate) fn are_places(alloc: Global, job: &Job, places: &[Place], marks: &[(u32, u8)]) -> bool {
+    match explore(alloc, job) {
+        Ok(explored) => has_places(&explored, places) && has_marks(&explored, marks),
+        Err(_) => false,
     }
 }
 
-fn expect_marks(rt: &impl Abort, explored: &Explored, case: &Case) {
-    let name = case.name;
-    for (address, marks) in case.marks {
-        assert_eq!(rt;
-            explored.marks_at(*address),
-            *marks,
-            "{name}, at {address:X}"
-        );
+/// Whether the places are these, by `len`, by `place` and one after another.
+fn has_places(explored: &Explored, places: &[Place]) -> bool {
+    explored.len() == places.len()
+        && explored.place(places.len()).is_none()
+        && has_each(explored, places)
+        && are_in_order(explored, places)
+}
+
+fn has_each(explored: &Explored, places: &[Place]) -> bool {
+    for (index, place) in places.iter().enumerate() {
+        if explored.place(index) != Some(*place) {
+            return false;
+        }
     }
+    true
+}
+
+fn are_in_order(explored: &Explored, places: &[Place]) -> bool {
+    let mut rest = places;
+    for place in explored.places() {
+        match rest {
+            [first, left @ ..] if *first == place => rest = left,
+            _ => return false,
+        }
+    }
+    rest.is_empty()
+}
+
+fn has_marks(explored: &Explored, rows: &[(u32, u8)]) -> bool {
+    for (address, marks) in rows {
+        if explored.marks_at(*address) != *marks {
+            return false;
+        }
+    }
+    true
 }
 
 #[test]
-fn places_and_marks(rt: HostRuntime) -> Result<(), Fail> {
+fn places_and_marks(rt: HostRuntime) {
     for case in &CASES {
-        let storage = image(rt.alloc(), 4096, case.puts)?;
-        let explored = explored(rt.alloc(), &storage, Limit::usual())??;
-        expect_places(&rt, &explored, case);
-        expect_marks(&rt, &explored, case);
+        let program = Program {
+            puts: case.puts,
+            ..USUAL
+        };
+        let asked = Question::Places(case.places, case.marks);
+        expect(&rt, holds(rt.alloc(), &program, asked), case.name);
     }
-    Ok(())
+}
+
+/// Whether a job has so many places, or too many.
+pub(crate) fn is_count(alloc: Global, job: &Job, count: Result<usize, WalkError>) -> bool {
+    match explore(alloc, job) {
+        Ok(explored) => Ok(explored.len()) == count,
+        Err(error) => Err(error) == count,
+    }
 }
 
 /// No-operations from `800` on, as many as are given, each of which chains to the next, but the
-/// last.
-fn no_operations(alloc: Global, count: usize) -> Result<Vec<u8>, Fail> {
+/// last, which is given.
+pub(crate) fn no_operations(
+    alloc: Global,
+    count: usize,
+    last: u64,
+) -> Result<Vec<(usize, u64)>, AllocError> {
     let mut puts = Vec::new(alloc);
     let mut address = 0x800usize;
     for _ in 1..count {
         puts.push((address, 0x0300_0000_4000_0001))?;
         address = address.saturating_add(8);
     }
-    puts.push((address, 0x0300_0000_0000_0001))?;
-    image(alloc, 65_536, &puts)
+    puts.push((address, last))?;
+    Ok(puts)
 }
 
-/// How many places that many no-operations have, where there may be as many as the limit.
-fn count_within(alloc: Global, count: usize, limit: u32) -> Result<Result<usize, WalkError>, Fail> {
-    let storage = no_operations(alloc, count)?;
-    let limit = Limit::new(limit).ok_or("a limit")?;
-    Ok(explored(alloc, &storage, limit)?.map(|places| places.len()))
+/// Whether the job of so many no-operations under this limit has what is asked for.
+pub(crate) fn holds_of_chain(
+    alloc: Global,
+    count: usize,
+    last: u64,
+    limit: u32,
+    question: Question,
+) -> bool {
+    match no_operations(alloc, count, last) {
+        Ok(puts) => {
+            let program = Program {
+                size: 65_536,
+                limit,
+                puts: puts.as_slice(),
+                ..USUAL
+            };
+            holds(alloc, &program, question)
+        }
+        Err(_) => false,
+    }
 }
 
-/// Numbers of no-operations and limits, and whether there are too many.
-static COUNTS: [(usize, u32, bool); 5] = [
-    (3, 2, true),
-    (3, 3, false),
-    (4096, 4096, false),
-    (4097, 4096, true),
-    (4097, 4097, false),
+/// Numbers of no-operations and limits, and how many places there are.
+static COUNTS: [(usize, u32, Result<usize, WalkError>); 5] = [
+    (3, 2, Err(WalkError::TooManyPlaces)),
+    (3, 3, Ok(3)),
+    (4096, 4096, Ok(4096)),
+    (4097, 4096, Err(WalkError::TooManyPlaces)),
+    (4097, 4097, Ok(4097)),
 ];
 
 #[test]
-fn place_limit(rt: HostRuntime) -> Result<(), Fail> {
-    for (count, limit, many) in &COUNTS {
-        let places = if *many {
-            Err(WalkError::TooManyPlaces)
-        } else {
-            Ok(*count)
-        };
-        let found = count_within(rt.alloc(), *count, *limit)?;
-        assert_eq!(rt; found, places, "{count} within {limit}");
+fn place_limit(rt: HostRuntime) {
+    for (count, limit, places) in &COUNTS {
+        let asked = Question::Count(*places);
+        let is_so = holds_of_chain(rt.alloc(), *count, 0x0300_0000_0000_0001, *limit, asked);
+        expect(&rt, is_so, "places");
     }
-    Ok(())
+}
+
+/// Numbers of places, and whether a limit may be so many.
+static LIMITS: [(u32, bool); 5] = [
+    (0, false),
+    (1, true),
+    (4096, true),
+    (65_536, true),
+    (65_537, false),
+];
+
+/// Whether there is a limit of so many places, or none.
+fn is_limit(places: u32, is_so: bool) -> bool {
+    match Limit::new(places) {
+        Some(limit) => is_so && limit.get() == places,
+        None => !is_so,
+    }
 }
 
 #[test]
 fn limits(rt: HostRuntime) {
-    for places in [0, 65_537] {
-        assert_eq!(rt; Limit::new(places), None);
+    for (places, is_so) in &LIMITS {
+        expect(&rt, is_limit(*places, *is_so), "limit");
     }
-    for places in [1, 4096, 65_536] {
-        assert_eq!(rt; Limit::new(places).map(|limit| limit.get()), Some(places));
+    expect(&rt, Limit::new(4096) == Some(Limit::usual()), "usual");
+}
+
+static ERRORS: [(WalkError, &str); 2] = [
+    (WalkError::TooManyPlaces, "too many places"),
+    (WalkError::Memory, "out of memory"),
+];
+
+fn is_error(alloc: Global, error: WalkError, text: &str) -> bool {
+    match format!(in alloc; "{error}") {
+        Ok(found) => found.as_str() == text,
+        Err(_) => false,
     }
-    assert_eq!(rt; Limit::new(4096), Some(Limit::usual()));
 }
 
 #[test]
-fn texts_of_errors(rt: HostRuntime) -> Result<(), Fail> {
-    let many = format!(in rt.alloc(); "{}", WalkError::TooManyPlaces)?;
-    assert_eq!(rt; many.as_str(), "too many places");
-    let memory = format!(in rt.alloc(); "{}", WalkError::Memory)?;
-    assert_eq!(rt; memory.as_str(), "out of memory");
-    Ok(())
+fn texts_of_errors(rt: HostRuntime) {
+    for (error, text) in &ERRORS {
+        expect(&rt, is_error(rt.alloc(), *error, text), text);
+    }
 }

@@ -1,18 +1,15 @@
 //! The worked cases, each with the verdict that follows from the rules.
 
-use crate::image::image;
-use cases::{
-    FORMATS, GUARDED, MASKS, SEARCHES, SEEKS, SET_MASKS, STORAGE, TRANSFERS, TWO_FAULTS, USUAL,
-};
+use crate::exploring::holds_of_chain;
+use crate::shared::{Program, Question, expect, holds};
+use cases::{FORMATS, GUARDED, MASKS, SEARCHES, SEEKS, SET_MASKS, STORAGE, TRANSFERS, TWO_FAULTS};
 use ccw_core::{Area, Ccw, Storage};
 use chan_walk::{
-    Entry, Explored, Guard, Job, Limit, Place, Reason, Verdict, WalkError, explore, fault_at,
-    verify,
+    Entry, Explored, Guard, Job, Place, Reason, Verdict, WalkError, explore, fault_at, verify,
 };
-use ckd_core::{Device, Extents, FileMask, Kind, MaskClass, lookup};
-use std::alloc::Global;
+use ckd_core::{Device, Kind, MaskClass, lookup};
+use std::alloc::{AllocError, Global};
 use std::process::Abort;
-use std::test::Fail;
 
 mod cases;
 
@@ -32,22 +29,9 @@ struct Case<'a> {
     verdict: Verdict,
 }
 
-/// What `verify` answers, once the guards were seen to agree.
-fn answer(alloc: Global, case: &Case) -> Result<Result<Verdict, WalkError>, Fail> {
-    let bytes = image(alloc, case.size, case.puts)?;
-    let extents = Extents::new(alloc, case.extents)?;
-    let job = Job {
-        storage: Storage::new(&bytes)?,
-        start: case.start,
-        device: case.device,
-        mask: FileMask::new(case.mask).ok_or("a mask")?,
-        extents: &extents,
-        fetch: case.fetch,
-        store: case.store,
-        limit: Limit::new(case.limit).ok_or("a limit")?,
-    };
-    guards_agree(alloc, &job)?;
-    Ok(verify(alloc, &job))
+/// Whether this is the verdict on a job, once the guards were seen to agree.
+pub(crate) fn is_judged(alloc: Global, job: &Job, verdict: Result<Verdict, WalkError>) -> bool {
+    guards_agree(alloc, job) && verify(alloc, job) == verdict
 }
 
 /// Whether one of the bytes lies in the range.
@@ -65,21 +49,24 @@ fn class_at(place: Place, word: &Ccw) -> Option<MaskClass> {
     if place.entered != Entry::Fresh {
         return None;
     }
-    lookup(word.command()).map(|command| command.class())
+    match lookup(word.command()) {
+        Some(command) => Some(command.class()),
+        None => None,
+    }
 }
 
 /// Whether the CCW at a place stores.
 fn stores(place: Place, word: &Ccw) -> bool {
-    let kind = match place.entered {
-        Entry::Fresh => lookup(word.command()).map(|command| command.kind()),
-        Entry::ChainIn => Some(Kind::Inward),
-        _ => None,
+    let is_inward = match (place.entered, lookup(word.command())) {
+        (Entry::Fresh, Some(command)) => command.kind() == Kind::Inward,
+        (Entry::ChainIn, _) => true,
+        _ => false,
     };
-    kind == Some(Kind::Inward) && !word.is_transfer() && word.flags() & 0x10 == 0
+    is_inward && !word.is_transfer() && word.flags() & 0x10 == 0
 }
 
 /// The addresses of the six bytes that a seek without a fault gathers along its data chain.
-fn gathered(alloc: Global, storage: &Storage, seek: u32) -> Result<Vec<u32>, Fail> {
+fn gathered(alloc: Global, storage: &Storage, seek: u32) -> Result<Vec<u32>, AllocError> {
     let mut addresses = Vec::new(alloc);
     let mut at = seek;
     // Six CCWs of a byte each, and a transfer before each but the first, are the longest chain.
@@ -97,7 +84,7 @@ fn gathered(alloc: Global, storage: &Storage, seek: u32) -> Result<Vec<u32>, Fai
 }
 
 /// Adds the addresses of a CCW's data, as long as there are fewer than six.
-fn add_range(addresses: &mut Vec<u32>, word: &Ccw) -> Result<(), Fail> {
+fn add_range(addresses: &mut Vec<u32>, word: &Ccw) -> Result<(), AllocError> {
     for offset in 0..u32::from(word.count()) {
         if addresses.len() < 6 {
             addresses.push(word.address().saturating_add(offset))?;
@@ -112,7 +99,7 @@ fn guarded_bytes(
     alloc: Global,
     job: &Job,
     explored: &Explored,
-) -> Result<(Vec<u32>, Vec<u32>), Fail> {
+) -> Result<(Vec<u32>, Vec<u32>), AllocError> {
     let mut ccws = Vec::new(alloc);
     let mut arguments = Vec::new(alloc);
     for place in explored.places() {
@@ -138,127 +125,120 @@ fn guarded_bytes(
     Ok((ccws, arguments))
 }
 
-/// Fails unless the merged guard meets the bytes that each place stores exactly where one of the
-/// guarded bytes, gone through one by one, is among them.
-fn guards_agree(alloc: Global, job: &Job) -> Result<(), Fail> {
-    let explored = match explore(alloc, job) {
-        Ok(explored) => explored,
-        Err(_) => return Ok(()),
+/// Whether the merged guard meets the bytes that each place stores exactly where one of the guarded
+/// bytes, gone through one by one, is among them. A job with too many places has no guard.
+fn guards_agree(alloc: Global, job: &Job) -> bool {
+    let Ok(explored) = explore(alloc, job) else {
+        return true;
     };
-    let guard = Guard::new(alloc, job, &explored)?;
-    let (ccws, arguments) = guarded_bytes(alloc, job, &explored)?;
+    let Ok(guard) = Guard::new(alloc, job, &explored) else {
+        return false;
+    };
+    match guarded_bytes(alloc, job, &explored) {
+        Ok((ccws, arguments)) => {
+            agree_at_each(
+                job,
+                &explored,
+                &guard,
+                ccws.as_slice(),
+                arguments.as_slice(),
+            )
+        }
+        Err(_) => false,
+    }
+}
+
+fn agree_at_each(
+    job: &Job,
+    explored: &Explored,
+    guard: &Guard,
+    ccws: &[u32],
+    arguments: &[u32],
+) -> bool {
     for place in explored.places() {
         let word = match job.storage.ccw_at(place.address) {
             Some(word) if stores(place, &word) => word,
             _ => continue,
         };
         let (start, len) = (word.address(), u32::from(word.count()));
-        if guard.meets_ccw(start, len) != has_byte_in(&ccws, start, len)
-            || guard.meets_argument(start, len) != has_byte_in(&arguments, start, len)
+        if guard.meets_ccw(start, len) != has_byte_in(ccws, start, len)
+            || guard.meets_argument(start, len) != has_byte_in(arguments, start, len)
         {
-            return Err(Fail::from("the guards disagree"));
+            return false;
         }
     }
-    Ok(())
+    true
 }
 
-fn expect_verdicts(rt: &impl Abort, alloc: Global, cases: &[Case]) -> Result<(), Fail> {
-    for case in cases {
-        assert_eq!(rt; answer(alloc, case)?, Ok(case.verdict), "{}", case.name);
-    }
-    Ok(())
-}
-
-#[test]
-fn searches(rt: HostRuntime) -> Result<(), Fail> {
-    expect_verdicts(&rt, rt.alloc(), &SEARCHES)
-}
-
-#[test]
-fn transfers(rt: HostRuntime) -> Result<(), Fail> {
-    expect_verdicts(&rt, rt.alloc(), &TRANSFERS)
-}
-
-#[test]
-fn formats(rt: HostRuntime) -> Result<(), Fail> {
-    expect_verdicts(&rt, rt.alloc(), &FORMATS)
-}
-
-#[test]
-fn storage(rt: HostRuntime) -> Result<(), Fail> {
-    expect_verdicts(&rt, rt.alloc(), &STORAGE)
-}
-
-#[test]
-fn masks(rt: HostRuntime) -> Result<(), Fail> {
-    expect_verdicts(&rt, rt.alloc(), &MASKS)
-}
-
-#[test]
-fn set_masks(rt: HostRuntime) -> Result<(), Fail> {
-    expect_verdicts(&rt, rt.alloc(), &SET_MASKS)
-}
-
-#[test]
-fn two_faults(rt: HostRuntime) -> Result<(), Fail> {
-    expect_verdicts(&rt, rt.alloc(), &TWO_FAULTS)
-}
-
-#[test]
-fn seeks(rt: HostRuntime) -> Result<(), Fail> {
-    expect_verdicts(&rt, rt.alloc(), &SEEKS)
-}
-
-#[test]
-fn guarded(rt: HostRuntime) -> Result<(), Fail> {
-    expect_verdicts(&rt, rt.alloc(), &GUARDED)
-}
-
-/// As many CCWs from `800` on, each of which chains to the next, but the last, which is given.
-fn chain(
-    alloc: Global,
-    count: usize,
-    last: u64,
-    limit: u32,
-) -> Result<Result<Verdict, WalkError>, Fail> {
-    let mut puts = Vec::new(alloc);
-    let mut address = 0x800usize;
-    for _ in 1..count {
-        puts.push((address, 0x0300_0000_4000_0001))?;
-        address = address.saturating_add(8);
-    }
-    puts.push((address, last))?;
-    let case = Case {
-        size: 65_536,
-        puts: &puts,
-        limit,
-        ..USUAL
+/// Whether a case has its verdict.
+fn is_answered(alloc: Global, case: &Case) -> bool {
+    let program = Program {
+        size: case.size,
+        start: case.start,
+        device: case.device,
+        mask: case.mask,
+        extents: case.extents,
+        fetch: case.fetch,
+        store: case.store,
+        limit: case.limit,
+        puts: case.puts,
     };
-    answer(alloc, &case)
+    holds(alloc, &program, Question::Verdict(Ok(case.verdict)))
 }
 
-/// Numbers of CCWs and limits, and the answers where the last CCW is a no-operation.
-static LIMITS: [(usize, u32, Result<Verdict, WalkError>); 5] = [
-    (3, 2, Err(WalkError::TooManyPlaces)),
-    (3, 3, Ok(Verdict::Yes)),
-    (4096, 4096, Ok(Verdict::Yes)),
-    (4097, 4096, Err(WalkError::TooManyPlaces)),
-    (4097, 4097, Ok(Verdict::Yes)),
+fn expect_verdicts(rt: &impl Abort, alloc: Global, cases: &[Case]) {
+    for case in cases {
+        expect(rt, is_answered(alloc, case), case.name);
+    }
+}
+
+#[test]
+fn verdicts(rt: HostRuntime) {
+    expect_verdicts(&rt, rt.alloc(), &SEARCHES);
+    expect_verdicts(&rt, rt.alloc(), &TRANSFERS);
+    expect_verdicts(&rt, rt.alloc(), &FORMATS);
+    expect_verdicts(&rt, rt.alloc(), &STORAGE);
+    expect_verdicts(&rt, rt.alloc(), &MASKS);
+    expect_verdicts(&rt, rt.alloc(), &SET_MASKS);
+    expect_verdicts(&rt, rt.alloc(), &TWO_FAULTS);
+    expect_verdicts(&rt, rt.alloc(), &SEEKS);
+    expect_verdicts(&rt, rt.alloc(), &GUARDED);
+}
+
+/// A name, a number of no-operations of which the last is given, a limit, and the answer.
+type Chain = (&'static str, usize, u64, u32, Result<Verdict, WalkError>);
+
+const LAST: u64 = 0x0300_0000_0000_0001;
+
+static LIMITS: [Chain; 6] = [
+    ("3 within 2", 3, LAST, 2, Err(WalkError::TooManyPlaces)),
+    ("3 within 3", 3, LAST, 3, Ok(Verdict::Yes)),
+    ("4,096 within 4,096", 4096, LAST, 4096, Ok(Verdict::Yes)),
+    (
+        "4,097 within 4,096",
+        4097,
+        LAST,
+        4096,
+        Err(WalkError::TooManyPlaces),
+    ),
+    ("4,097 within 4,097", 4097, LAST, 4097, Ok(Verdict::Yes)),
+    (
+        "the last offends",
+        4096,
+        0x0200_0000_0000_0001,
+        4096,
+        Ok(Verdict::No {
+            address: 0x87F8,
+            reason: Reason::NotInTable,
+        }),
+    ),
 ];
 
 #[test]
-fn place_limit(rt: HostRuntime) -> Result<(), Fail> {
-    for (count, limit, wanted) in &LIMITS {
-        let answer = chain(rt.alloc(), *count, 0x0300_0000_0000_0001, *limit)?;
-        assert_eq!(rt; answer, *wanted, "{count} within {limit}");
+fn place_limit(rt: HostRuntime) {
+    for (name, count, last, limit, answer) in &LIMITS {
+        let asked = Question::Verdict(*answer);
+        let is_so = holds_of_chain(rt.alloc(), *count, *last, *limit, asked);
+        expect(&rt, is_so, name);
     }
-    let unknown = chain(rt.alloc(), 4096, 0x0200_0000_0000_0001, 4096)?;
-    assert_eq!(rt;
-        unknown,
-        Ok(Verdict::No {
-            address: 0x87F8,
-            reason: Reason::NotInTable
-        })
-    );
-    Ok(())
 }

@@ -9,8 +9,6 @@ mod exploring;
 #[cfg(test)]
 mod guard;
 #[cfg(test)]
-mod image;
-#[cfg(test)]
 mod judging;
 #[cfg(test)]
 mod needs;
@@ -18,5 +16,7 @@ mod needs;
 mod noting;
 #[cfg(test)]
 mod seek;
+#[cfg(test)]
+mod shared;
 #[cfg(test)]
 mod witness;

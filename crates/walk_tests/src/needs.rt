@@ -1,201 +1,99 @@
-//! Worked cases of what a program needs, with rows that follow from the rules.
+//! Which jobs grant what programs need, and which programs may run beside each other.
+//!
+//! The texts of what programs need stand beside decks of `examples/texts/`.
 
-use crate::image::image;
+ghost use Rattle.chan_walk.specs.Surveyed.{IsSurvey};
+
+use crate::noting::{Row, areas};
+use crate::shared::{Program, Question, USUAL, expect, holds, image};
 use ccw_core::{Area, Storage};
-use chan_walk::{Job, Limit, Needs, OpenJob, Verdict, survey};
+use chan_walk::{Job, Limit, Needs, OpenJob, Survey, Verdict, survey};
 use ckd_core::{Device, Extents, FileMask};
 use std::alloc::Global;
-use std::process::Abort;
-use std::test::Fail;
 
-/// An area: its start and its length.
-type Row = (u32, u32);
-
-/// A program in 4,096 bytes of storage, and what it needs.
-#[derive(Clone, Copy)]
-struct Case<'a> {
-    name: &'a str,
-    start: u32,
-    puts: &'a [(usize, u64)],
-    mask: u8,
-    extents: &'a [(u16, u16)],
-    fetch: &'a [Row],
-    store: &'a [Row],
-    keep: &'a [Row],
-}
-
-const USUAL: Case<'static> = Case {
-    name: "",
-    start: 0x800,
-    puts: &[],
-    mask: 0x58,
-    extents: &[],
-    fetch: &[],
-    store: &[],
-    keep: &[],
-};
+/// Words of storage by their addresses.
+type Puts = &'static [(usize, u64)];
 
 /// A search for an identifier, over and over until it is found, and a read of its record.
-const SEARCH: Case<'static> = Case {
-    name: "search-loop",
-    puts: &[
-        (0x800, 0x3100_0900_4000_0005),
-        (0x808, 0x0800_0800_0000_0000),
-        (0x810, 0x0600_0A00_2000_0050),
-    ],
-    fetch: &[(0x900, 5)],
-    store: &[(0xA00, 0x50)],
-    keep: &[(0x800, 0x18)],
-    ..USUAL
-};
-
-/// Seeks to cylinders 10, 11 and 202, of which two arguments adjoin, and a Recalibrate.
-const SEEKS: Case<'static> = Case {
-    name: "seeks",
-    puts: &[
-        (0x800, 0x0700_0900_4000_0006),
-        (0x808, 0x0B00_0906_4000_0006),
-        (0x810, 0x1300_0000_4000_0001),
-        (0x818, 0x0700_0910_4000_0006),
-        (0x820, 0x0600_0A00_0000_0001),
-        (0x900, 0x0000_000A_0000_0000),
-        (0x908, 0x000B_0001_0000_0000),
-        (0x910, 0x0000_00CA_0000_0000),
-    ],
-    mask: 0x40,
-    extents: &[(0, 0), (10, 11), (202, 202)],
-    fetch: &[(0x900, 12), (0x910, 6)],
-    store: &[(0xA00, 1)],
-    keep: &[(0x800, 0x28), (0x900, 12), (0x910, 6)],
-    ..USUAL
-};
-
-static CASES: [Case<'static>; 5] = [
-    SEARCH,
-    SEEKS,
-    // The byte 80 that is set forbids a stricter mask, as the write does, and it allows each seek.
-    Case {
-        name: "set-mask",
-        puts: &[
-            (0x800, 0x1F00_0900_4000_0001),
-            (0x808, 0x0500_0A00_0000_0008),
-            (0x900, 0x8000_0000_0000_0000),
-        ],
-        mask: 0x80,
-        fetch: &[(0x900, 1), (0xA00, 8)],
-        keep: &[(0x800, 0x10), (0x900, 1)],
-        ..USUAL
-    },
-    // The byte 18 that is set is lax in writes, and Seek Head in seeks: the mask is lax in both.
-    Case {
-        name: "lax-in-both",
-        puts: &[
-            (0x800, 0x1F00_0900_4000_0001),
-            (0x808, 0x1B00_0908_0000_0006),
-            (0x900, 0x1800_0000_0000_0000),
-            (0x908, 0x0000_0005_0003_0000),
-        ],
-        mask: 0x10,
-        extents: &[(5, 5)],
-        fetch: &[(0x900, 1), (0x908, 6)],
-        keep: &[(0x800, 0x10), (0x900, 1), (0x908, 6)],
-        ..USUAL
-    },
-    // A read with skip on stores nothing.
-    Case {
-        name: "skips",
-        puts: &[(0x800, 0x0600_0A00_1000_0050)],
-        keep: &[(0x800, 8)],
-        ..USUAL
-    },
+const SEARCH: Puts = &[
+    (0x800, 0x3100_0900_4000_0005),
+    (0x808, 0x0800_0800_0000_0000),
+    (0x810, 0x0600_0A00_2000_0050),
 ];
 
-/// The areas of some rows.
-fn areas(alloc: Global, rows: &[Row]) -> Result<Vec<Area>, Fail> {
-    let mut areas = Vec::new(alloc);
-    for (start, len) in rows {
-        areas.push(Area {
-            start: *start,
-            len: *len,
-        })?;
+/// Seeks to cylinders 10, 11 and 202, of which two arguments adjoin, and a Recalibrate.
+const SEEKS: Puts = &[
+    (0x800, 0x0700_0900_4000_0006),
+    (0x808, 0x0B00_0906_4000_0006),
+    (0x810, 0x1300_0000_4000_0001),
+    (0x818, 0x0700_0910_4000_0006),
+    (0x820, 0x0600_0A00_0000_0001),
+    (0x900, 0x0000_000A_0000_0000),
+    (0x908, 0x000B_0001_0000_0000),
+    (0x910, 0x0000_00CA_0000_0000),
+];
+
+/// What a program needs, asked for by a job that grants next to nothing; `None` where no job will
+/// do.
+fn ask(alloc: Global, start: u32, puts: &[(usize, u64)]) -> Option<Needs> {
+    let Ok(bytes) = image(alloc, 4096, puts) else {
+        return None;
+    };
+    match Extents::new(alloc, &[(100, 100)]) {
+        Ok(extents) => ask_in(alloc, start, bytes.as_slice(), &extents),
+        Err(_) => None,
     }
-    Ok(areas)
 }
 
-/// What the program of a case needs, asked for by a job that grants next to nothing; `None` where
-/// no job will do.
-fn ask(alloc: Global, case: &Case) -> Result<Option<Needs>, Fail> {
-    let bytes = image(alloc, 4096, case.puts)?;
-    let extents = Extents::new(alloc, &[(100, 100)])?;
+fn ask_in(alloc: Global, start: u32, bytes: &[u8], extents: &Extents) -> Option<Needs> {
+    let Ok(storage) = Storage::new(bytes) else {
+        return None;
+    };
+    let Some(mask) = FileMask::new(0x58) else {
+        return None;
+    };
     let job = Job {
-        storage: Storage::new(&bytes)?,
-        start: case.start,
+        storage,
+        start,
         device: Device::D2314,
-        mask: FileMask::new(0x58).ok_or("a mask")?,
-        extents: &extents,
+        mask,
+        extents,
         fetch: &[],
         store: &[],
         limit: Limit::usual(),
     };
-    let open = OpenJob::of(alloc, &job)?;
-    let job = open.job();
-    let survey = survey(alloc, &job)?;
-    match survey.verdict() {
-        Verdict::Yes => Ok(Some(survey.needs(alloc, &job)?)),
-        Verdict::No { .. } => Ok(None),
+    ask_open(alloc, &job)
+}
+
+fn ask_open(alloc: Global, job: &Job) -> Option<Needs> {
+    match OpenJob::of(alloc, job) {
+        Ok(open) => needs_of(alloc, &open.job()),
+        Err(_) => None,
     }
 }
 
-/// Whether a list has the areas of these rows, in this order.
-fn agree(found: &[Area], rows: &[Row]) -> bool {
-    if found.len() != rows.len() {
-        return false;
+fn needs_of(alloc: Global, job: &Job) -> Option<Needs> {
+    match survey(alloc, job) {
+        Ok(survey) => surveyed(alloc, job, &survey),
+        Err(_) => None,
     }
-    for (area, (start, len)) in found.iter().zip(rows) {
-        if area.start != *start || area.len != *len {
-            return false;
-        }
-    }
-    true
 }
 
-#[test]
-fn needed(rt: HostRuntime) -> Result<(), Fail> {
-    for case in &CASES {
-        let Some(needs) = ask(rt.alloc(), case)? else {
-            return Err(Fail::from(case.name));
-        };
-        let name = case.name;
-        assert_eq!(rt; needs.storage_len, 4096, "{name}");
-        assert_eq!(rt; needs.mask.byte(), case.mask, "{name}");
-        assert_eq!(rt; needs.extents.as_slice(), case.extents, "{name}");
-        assert!(rt; agree(&needs.fetch, case.fetch), "{name}: fetch");
-        assert!(rt; agree(&needs.store, case.store), "{name}: store");
-        assert!(rt; agree(&needs.keep, case.keep), "{name}: keep");
+fn surveyed(alloc: Global, job: &Job, survey: &Survey) -> Option<Needs>
+    requires { IsSurvey job.now survey.now }
+{
+    if survey.verdict() != Verdict::Yes {
+        return None;
     }
-    Ok(())
+    survey.needs(alloc, job).ok()
 }
 
-/// A Set File Mask takes the byte 01, which is no mask: no job will do.
-#[test]
-fn no_job_will_do(rt: HostRuntime) -> Result<(), Fail> {
-    let case = Case {
-        puts: &[
-            (0x800, 0x1F00_0900_0000_0001),
-            (0x900, 0x0100_0000_0000_0000),
-        ],
-        ..USUAL
-    };
-    assert!(rt; ask(rt.alloc(), &case)?.is_none());
-    Ok(())
-}
-
-/// What a job grants, and whether that is all that the program of a case needs.
+/// What a job grants, and whether that is all that a program needs.
 #[derive(Clone, Copy)]
 struct Grant<'a> {
-    case: Case<'a>,
+    puts: Puts,
     mask: u8,
-    extent: (u16, u16),
+    extents: &'a [(u16, u16)],
     fetch: &'a [Row],
     store: &'a [Row],
     granted: bool,
@@ -203,9 +101,9 @@ struct Grant<'a> {
 
 /// What the search loop needs, and no more; it seeks nowhere.
 const LEAST: Grant<'static> = Grant {
-    case: SEARCH,
+    puts: SEARCH,
     mask: 0x58,
-    extent: (7, 7),
+    extents: &[(7, 7)],
     fetch: &[(0x900, 5)],
     store: &[(0xA00, 0x50)],
     granted: true,
@@ -213,9 +111,9 @@ const LEAST: Grant<'static> = Grant {
 
 /// What the program with the seeks needs, and more.
 const MORE: Grant<'static> = Grant {
-    case: SEEKS,
+    puts: SEEKS,
     mask: 0x40,
-    extent: (0, 202),
+    extents: &[(0, 202)],
     fetch: &[(0, 4096)],
     store: &[(0, 4096)],
     granted: true,
@@ -251,46 +149,69 @@ static GRANTS: [Grant<'static>; 9] = [
         ..MORE
     },
     Grant {
-        extent: (0, 201),
+        extents: &[(0, 201)],
         granted: false,
         ..MORE
     },
     Grant {
-        extent: (1, 202),
+        extents: &[(1, 202)],
         granted: false,
         ..MORE
     },
 ];
 
-/// Whether what the program of a case needs is granted. What a job grants is all that counts:
-/// storage is empty here.
-fn is_granted(alloc: Global, grant: &Grant) -> Result<bool, Fail> {
-    let needs = ask(alloc, &grant.case)?.ok_or("needs")?;
-    let bytes = image(alloc, 0, &[])?;
-    let extents = Extents::new(alloc, &[grant.extent])?;
-    let fetch = areas(alloc, grant.fetch)?;
-    let store = areas(alloc, grant.store)?;
-    let job = Job {
-        storage: Storage::new(&bytes)?,
+/// Whether a job grants what is needed, or doesn't, as is said.
+pub(crate) fn grants(alloc: Global, job: &Job, needed: &Needs, is_so: bool) -> bool {
+    match needed.rows().are_granted(alloc, job) {
+        Ok(granted) => granted == is_so,
+        Err(_) => false,
+    }
+}
+
+/// Whether what the program of a row needs is granted as it says.
+fn is_granted(alloc: Global, grant: &Grant) -> bool {
+    match ask(alloc, 0x800, grant.puts) {
+        Some(needed) => needed.storage_len == 4096 && is_granted_in(alloc, grant, &needed),
+        None => false,
+    }
+}
+
+fn is_granted_in(alloc: Global, grant: &Grant, needed: &Needs) -> bool {
+    let Ok(fetch) = areas(alloc, grant.fetch) else {
+        return false;
+    };
+    match areas(alloc, grant.store) {
+        Ok(store) => is_granted_by(alloc, grant, needed, fetch.as_slice(), store.as_slice()),
+        Err(_) => false,
+    }
+}
+
+/// What a job grants is all that counts: storage is empty here.
+fn is_granted_by<'a>(
+    alloc: Global,
+    grant: &'a Grant<'a>,
+    needed: &Needs,
+    fetch: &'a [Area],
+    store: &'a [Area],
+) -> bool {
+    let program = Program {
+        size: 0,
         start: 0,
         device: Device::D2311,
-        mask: FileMask::new(grant.mask).ok_or("a mask")?,
-        extents: &extents,
-        fetch: &fetch,
-        store: &store,
-        limit: Limit::usual(),
+        mask: grant.mask,
+        extents: grant.extents,
+        fetch,
+        store,
+        ..USUAL
     };
-    let granted = needs.rows().are_granted(alloc, &job)?;
-    Ok(granted)
+    holds(alloc, &program, Question::Grants(needed, grant.granted))
 }
 
 #[test]
-fn granted(rt: HostRuntime) -> Result<(), Fail> {
+fn granted(rt: HostRuntime) {
     for grant in &GRANTS {
-        let granted = is_granted(rt.alloc(), grant)?;
-        assert_eq!(rt; granted, grant.granted, "{}", grant.case.name);
+        expect(&rt, is_granted(rt.alloc(), grant), "granted");
     }
-    Ok(())
 }
 
 /// A read of eight bytes, at 000C00, and whether it may run beside the search loop.
@@ -303,18 +224,33 @@ static BESIDE: [(u64, bool); 6] = [
     (0x0600_0A00_0000_0008, true),
 ];
 
-#[test]
-fn beside(rt: HostRuntime) -> Result<(), Fail> {
-    let search = ask(rt.alloc(), &SEARCH)?.ok_or("needs")?;
-    for (read, apart) in &BESIDE {
-        let case = Case {
-            start: 0xC00,
-            puts: &[(0xC00, *read)],
-            ..USUAL
-        };
-        let other = ask(rt.alloc(), &case)?.ok_or("needs")?;
-        assert_eq!(rt; search.rows().beside(&other.rows()), *apart, "{read:X}");
-        assert_eq!(rt; other.rows().beside(&search.rows()), *apart, "{read:X}");
+/// Whether what two programs need has them run beside each other as is said, whichever is asked.
+fn are_beside(one: &Needs, other: &Needs, is_so: bool) -> bool {
+    one.rows().beside(&other.rows()) == is_so && other.rows().beside(&one.rows()) == is_so
+}
+
+fn is_beside(alloc: Global, search: &Needs, read: u64, is_so: bool) -> bool {
+    match ask(alloc, 0xC00, &[(0xC00, read)]) {
+        Some(other) => are_beside(search, &other, is_so),
+        None => false,
     }
-    Ok(())
+}
+
+/// Whether each read may run beside the search loop as its row says.
+fn are_all_beside(alloc: Global, search: &Needs) -> bool {
+    for (read, is_so) in &BESIDE {
+        if !is_beside(alloc, search, *read, *is_so) {
+            return false;
+        }
+    }
+    true
+}
+
+#[test]
+fn beside(rt: HostRuntime) {
+    let is_so = match ask(rt.alloc(), 0x800, SEARCH) {
+        Some(search) => are_all_beside(rt.alloc(), &search),
+        None => false,
+    };
+    expect(&rt, is_so, "beside");
 }

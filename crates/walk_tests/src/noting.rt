@@ -1,22 +1,21 @@
 //! Worked cases, with the notes that follow from the rules.
 
-use crate::image::image;
-use ccw_core::{Area, Storage};
-use chan_walk::{Job, Limit, Notes, WalkError, survey};
-use ckd_core::{Device, Extents, FileMask, Kind, lookup};
-use std::alloc::Global;
-use std::process::Abort;
-use std::test::Fail;
+ghost use Rattle.chan_walk.specs.Surveyed.{IsSurvey};
+
+use crate::shared::{Program, Question, USUAL as PROGRAM, expect, holds};
+use ccw_core::Area;
+use chan_walk::{Job, Notes, Survey, survey};
+use ckd_core::{Kind, lookup};
+use std::alloc::{AllocError, Global};
 
 /// An area: its start and its length.
-type Row = (u32, u32);
+pub(crate) type Row = (u32, u32);
 
 /// A program in 4,096 bytes of storage, the areas that it is lent, and the notes on it.
 #[derive(Clone, Copy)]
-struct Case<'a> {
+pub(crate) struct Case<'a> {
     name: &'a str,
     start: u32,
-    limit: u32,
     fetch: &'a [Row],
     store: &'a [Row],
     puts: &'a [(usize, u64)],
@@ -31,7 +30,6 @@ struct Case<'a> {
 const USUAL: Case<'static> = Case {
     name: "",
     start: 0x800,
-    limit: 4096,
     fetch: &[(0x900, 16)],
     store: &[(0xA00, 256)],
     puts: &[],
@@ -241,7 +239,7 @@ static CASES: [Case<'static>; 13] = [
 ];
 
 /// The areas of some rows.
-fn areas(alloc: Global, rows: &[Row]) -> Result<Vec<Area>, Fail> {
+pub(crate) fn areas(alloc: Global, rows: &[Row]) -> Result<Vec<Area>, AllocError> {
     let mut areas = Vec::new(alloc);
     for (start, len) in rows {
         areas.push(Area {
@@ -252,105 +250,87 @@ fn areas(alloc: Global, rows: &[Row]) -> Result<Vec<Area>, Fail> {
     Ok(areas)
 }
 
-/// The notes on a case.
-fn ask(alloc: Global, case: &Case) -> Result<Result<Notes, WalkError>, Fail> {
-    let bytes = image(alloc, 4096, case.puts)?;
-    let extents = Extents::new(alloc, &[(10, 19)])?;
-    let fetch = areas(alloc, case.fetch)?;
-    let store = areas(alloc, case.store)?;
-    let job = Job {
-        storage: Storage::new(&bytes)?,
-        start: case.start,
-        device: Device::D2314,
-        mask: FileMask::new(0x00).ok_or("a mask")?,
-        extents: &extents,
-        fetch: &fetch,
-        store: &store,
-        limit: Limit::new(case.limit).ok_or("a limit")?,
+/// Whether the job of a case has its notes.
+fn has_notes(alloc: Global, case: &Case) -> bool {
+    let Ok(fetch) = areas(alloc, case.fetch) else {
+        return false;
     };
-    match survey(alloc, &job) {
-        Ok(survey) => Ok(Ok(survey.notes(alloc, &job)?)),
-        Err(error) => Ok(Err(error)),
+    match areas(alloc, case.store) {
+        Ok(store) => has_notes_with(alloc, case, fetch.as_slice(), store.as_slice()),
+        Err(_) => false,
     }
+}
+
+fn has_notes_with<'a>(
+    alloc: Global,
+    case: &'a Case<'a>,
+    fetch: &'a [Area],
+    store: &'a [Area],
+) -> bool {
+    let program = Program {
+        start: case.start,
+        fetch,
+        store,
+        puts: case.puts,
+        ..PROGRAM
+    };
+    holds(alloc, &program, Question::Notes(case))
+}
+
+/// Whether the notes on a job are those of a case.
+pub(crate) fn is_noted(alloc: Global, job: &Job, case: &Case) -> bool {
+    match survey(alloc, job) {
+        Ok(survey) => survey_is_noted(alloc, job, &survey, case),
+        Err(_) => false,
+    }
+}
+
+fn survey_is_noted(alloc: Global, job: &Job, survey: &Survey, case: &Case) -> bool
+    requires { IsSurvey job.now survey.now }
+{
+    match survey.notes(alloc, job) {
+        Ok(notes) => are_notes(alloc, &notes, case),
+        Err(_) => false,
+    }
+}
+
+fn are_notes(alloc: Global, notes: &Notes, case: &Case) -> bool {
+    agree(alloc, &notes.fetch_past_storage, case.fetch_past_storage)
+        && agree(alloc, &notes.store_past_storage, case.store_past_storage)
+        && agree(alloc, &notes.unused_fetch, case.unused_fetch)
+        && agree(alloc, &notes.unused_store, case.unused_store)
+        && notes.interrupting.as_slice() == case.interrupting
+        && notes.ending.as_slice() == case.ending
 }
 
 /// Whether a list has the areas of these rows, in this order.
-fn agree(found: &[Area], rows: &[Row]) -> bool {
-    if found.len() != rows.len() {
-        return false;
+fn agree(alloc: Global, found: &[Area], rows: &[Row]) -> bool {
+    match areas(alloc, rows) {
+        Ok(areas) => found == areas.as_slice(),
+        Err(_) => false,
     }
-    for (area, (start, len)) in found.iter().zip(rows) {
-        if area.start != *start || area.len != *len {
-            return false;
-        }
-    }
-    true
 }
 
 #[test]
-fn noted(rt: HostRuntime) -> Result<(), Fail> {
+fn noted(rt: HostRuntime) {
     for case in &CASES {
-        let Ok(notes) = ask(rt.alloc(), case)? else {
-            return Err(Fail::from(case.name));
-        };
-        assert!(rt;
-            agree(&notes.fetch_past_storage, case.fetch_past_storage),
-            "{}",
-            case.name
-        );
-        assert!(rt;
-            agree(&notes.store_past_storage, case.store_past_storage),
-            "{}",
-            case.name
-        );
-        assert!(rt;
-            agree(&notes.unused_fetch, case.unused_fetch),
-            "{}",
-            case.name
-        );
-        assert!(rt;
-            agree(&notes.unused_store, case.unused_store),
-            "{}",
-            case.name
-        );
-        assert_eq!(rt;
-            notes.interrupting.as_slice(),
-            case.interrupting,
-            "{}",
-            case.name
-        );
-        assert_eq!(rt; notes.ending.as_slice(), case.ending, "{}", case.name);
+        expect(&rt, has_notes(rt.alloc(), case), case.name);
     }
-    Ok(())
 }
 
-#[test]
-fn the_limit(rt: HostRuntime) -> Result<(), Fail> {
-    for limit in [2, 3] {
-        let case = Case {
-            limit,
-            puts: CASES[0].puts,
-            ..USUAL
-        };
-        match ask(rt.alloc(), &case)? {
-            Ok(_) => assert_eq!(rt; limit, 3),
-            Err(error) => {
-                assert_eq!(rt; limit, 2);
-                assert_eq!(rt; error, WalkError::TooManyPlaces);
-            }
-        }
+/// Whether a command of this code moves no data.
+fn is_idle(code: u8) -> bool {
+    match lookup(code) {
+        Some(command) => command.kind() == Kind::Idle,
+        None => false,
     }
-    Ok(())
 }
 
 /// No Operation and Recalibrate are all that move no data.
 #[test]
 fn idle_commands(rt: HostRuntime) {
     for code in 0..=255u8 {
-        let idle = match lookup(code) {
-            Some(command) => command.kind() == Kind::Idle,
-            None => false,
-        };
-        assert_eq!(rt; idle, code == 0x03 || code == 0x13, "{code:02X}");
+        let is_one = code == 0x03 || code == 0x13;
+        expect(&rt, is_idle(code) == is_one, "idle");
     }
 }

@@ -1,9 +1,7 @@
 //! Worked cases of the argument of a seek.
 
-use crate::image::image;
-use ccw_core::Storage;
-use chan_walk::seek_argument;
-use std::test::Fail;
+use crate::shared::{Program, Question, USUAL, expect, holds};
+use chan_walk::{Job, seek_argument};
 
 /// A program, and the argument of the seek at `800`.
 struct Case<'a> {
@@ -60,12 +58,19 @@ static CASES: [Case<'static>; 5] = [
     },
 ];
 
+/// Whether this is the argument of the seek at a job's start.
+pub(crate) fn is_argument(job: &Job, argument: Option<[u8; 6]>) -> bool {
+    seek_argument(&job.storage, job.start) == argument
+}
+
 #[test]
-fn arguments(rt: HostRuntime) -> Result<(), Fail> {
+fn arguments(rt: HostRuntime) {
     for case in &CASES {
-        let bytes = image(rt.alloc(), 4096, case.puts)?;
-        let argument = seek_argument(&Storage::new(&bytes)?, 0x800);
-        assert_eq!(rt; argument, case.argument, "{}", case.name);
+        let program = Program {
+            puts: case.puts,
+            ..USUAL
+        };
+        let asked = Question::Argument(case.argument);
+        expect(&rt, holds(rt.alloc(), &program, asked), case.name);
     }
-    Ok(())
 }

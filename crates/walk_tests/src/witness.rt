@@ -4,25 +4,21 @@
 ghost use Rattle.chan_walk.specs.Surveyed.{IsSurvey};
 ghost use Rattle.chan_walk.specs.declared.job.Job as jobs;
 
-use crate::image::image;
-use ccw_core::{Area, Storage};
-use chan_walk::{Entry, Job, Limit, Offence, Place, Reason, Survey, Verdict, WalkError, survey};
-use ckd_core::{Device, Extents, FileMask};
+use crate::shared::{Program, Question, USUAL as PROGRAM, expect, holds};
+use ccw_core::Area;
+use chan_walk::{Entry, Job, Offence, Place, Reason, Survey, Verdict, WalkError, survey};
 use std::alloc::Global;
-use std::process::Abort;
-use std::test::Fail;
 
 /// A place: its address, how it is entered, and whether it counts as reached by a transfer.
 type Row = (u32, Entry, bool);
 
 /// A job by what differs from case to case, its verdict, the path, and its other offences.
 #[derive(Clone, Copy)]
-struct Case<'a> {
+pub(crate) struct Case<'a> {
     name: &'a str,
     start: u32,
     mask: u8,
     store: &'a [Area],
-    limit: u32,
     puts: &'a [(usize, u64)],
     verdict: Verdict,
     path: &'a [Row],
@@ -37,7 +33,6 @@ const USUAL: Case<'static> = Case {
         start: 0xA00,
         len: 256,
     }],
-    limit: 4096,
     puts: &[],
     verdict: Verdict::Yes,
     path: &[],
@@ -165,60 +160,21 @@ static CASES: [Case<'static>; 6] = [
     },
 ];
 
-const FETCH: &[Area] = &[Area {
-    start: 0x900,
-    len: 16,
-}];
-
-/// What a survey of a case says otherwise than the case does, if anything, or why there is none.
-fn ask(alloc: Global, case: &Case) -> Result<Result<Option<&'static str>, WalkError>, Fail> {
-    let bytes = image(alloc, 4096, case.puts)?;
-    let extents = Extents::new(alloc, &[(10, 19)])?;
-    let job = Job {
-        storage: Storage::new(&bytes)?,
-        start: case.start,
-        device: Device::D2314,
-        mask: FileMask::new(case.mask).ok_or("a mask")?,
-        extents: &extents,
-        fetch: FETCH,
-        store: case.store,
-        limit: Limit::new(case.limit).ok_or("a limit")?,
-    };
-    compared(alloc, &job, case)
-}
-
-fn compared(
-    alloc: Global,
-    job: &Job,
-    case: &Case,
-) -> Result<Result<Option<&'static str>, WalkError>, Fail> {
+/// Whether a survey of a job says what the case does.
+pub(crate) fn is_explained(alloc: Global, job: &Job, case: &Case) -> bool {
     match survey(alloc, job) {
-        Ok(survey) => Ok(Ok(difference(alloc, job, &survey, case)?)),
-        Err(error) => Ok(Err(error)),
+        Ok(survey) => explains(alloc, job, &survey, case),
+        Err(_) => false,
     }
 }
 
-fn difference(
-    alloc: Global,
-    job: &Job,
-    survey: &Survey,
-    case: &Case,
-) -> Result<Option<&'static str>, Fail>
+fn explains(alloc: Global, job: &Job, survey: &Survey, case: &Case) -> bool
     requires { IsSurvey job.now survey.now }
 {
-    if survey.verdict() != case.verdict {
-        return Ok(Some("the verdict"));
-    }
-    if !are_offences(survey.offences(), case.offences) {
-        return Ok(Some("the offences"));
-    }
-    if !shows(alloc, job, survey, case.path)? {
-        return Ok(Some("the path of the witness"));
-    }
-    if !comes_to(alloc, survey, case.path)? {
-        return Ok(Some("the path to its last place"));
-    }
-    Ok(None)
+    survey.verdict() == case.verdict
+        && are_offences(survey.offences(), case.offences)
+        && shows(alloc, job, survey, case.path)
+        && comes_to(alloc, survey, case.path)
 }
 
 fn are_offences(offences: &[Offence], rows: &[(Row, Reason)]) -> bool {
@@ -240,23 +196,27 @@ fn is_path(path: &[Place], rows: &[Row]) -> bool {
 }
 
 /// Whether this is the path of the witness.
-fn shows(alloc: Global, job: &Job, survey: &Survey, rows: &[Row]) -> Result<bool, Fail>
+fn shows(alloc: Global, job: &Job, survey: &Survey, rows: &[Row]) -> bool
     requires { IsSurvey job.now survey.now }
 {
-    let witness = survey.witness(alloc, job)?;
-    Ok(is_path(witness.path.as_slice(), rows))
+    match survey.witness(alloc, job) {
+        Ok(witness) => is_path(witness.path.as_slice(), rows),
+        Err(_) => false,
+    }
 }
 
 /// Whether this is the path to its last place; no path leads to an address that none has.
-fn comes_to(alloc: Global, survey: &Survey, rows: &[Row]) -> Result<bool, Fail>
+fn comes_to(alloc: Global, survey: &Survey, rows: &[Row]) -> bool
     requires { (j : jobs.Job) × IsSurvey j survey.now }
 {
-    let Some(last) = rows.last() else {
-        return Ok(survey.path_to(alloc, place(NOWHERE))?.is_none());
+    let last = match rows.last() {
+        Some(last) => *last,
+        None => NOWHERE,
     };
-    match survey.path_to(alloc, place(*last))? {
-        Some(path) => Ok(is_path(path.as_slice(), rows)),
-        None => Ok(false),
+    match survey.path_to(alloc, place(last)) {
+        Ok(Some(path)) => is_path(path.as_slice(), rows) && !rows.is_empty(),
+        Ok(None) => rows.is_empty(),
+        Err(_) => false,
     }
 }
 
@@ -270,31 +230,43 @@ fn place(row: Row) -> Place {
     }
 }
 
-#[test]
-fn explains(rt: HostRuntime) -> Result<(), Fail> {
-    for case in &CASES {
-        let differs = ask(rt.alloc(), case)?;
-        assert_eq!(rt; differs, Ok(None), "{}", case.name);
-    }
-    Ok(())
+/// Whether the job of a case has its path and its offences.
+fn is_shown(alloc: Global, case: &Case) -> bool {
+    let program = Program {
+        start: case.start,
+        mask: case.mask,
+        store: case.store,
+        puts: case.puts,
+        ..PROGRAM
+    };
+    holds(alloc, &program, Question::Witness(case))
 }
 
 #[test]
-fn the_limit(rt: HostRuntime) -> Result<(), Fail> {
-    let case = Case {
-        limit: 2,
-        puts: &[
-            (0x800, 0x3100_0900_4000_0005),
-            (0x808, 0x0800_0800_0000_0000),
-            (0x810, 0x0600_0A00_2000_0050),
-        ],
-        ..USUAL
-    };
-    match ask(rt.alloc(), &case)? {
-        Ok(_) => Err(Fail::from("an answer")),
-        Err(error) => {
-            assert_eq!(rt; error, WalkError::TooManyPlaces);
-            Ok(())
-        }
+fn witnesses(rt: HostRuntime) {
+    for case in &CASES {
+        expect(&rt, is_shown(rt.alloc(), case), case.name);
+    }
+}
+
+/// Whether a job has more places than a survey may go through, or hasn't, as is said.
+pub(crate) fn is_too_large(alloc: Global, job: &Job, is_so: bool) -> bool {
+    match survey(alloc, job) {
+        Ok(_) => !is_so,
+        Err(error) => is_so && error == WalkError::TooManyPlaces,
+    }
+}
+
+/// The search loop has three places.
+#[test]
+fn the_limit(rt: HostRuntime) {
+    for limit in [2, 3] {
+        let program = Program {
+            limit,
+            puts: CASES[0].puts,
+            ..PROGRAM
+        };
+        let asked = Question::IsTooLarge(limit == 2);
+        expect(&rt, holds(rt.alloc(), &program, asked), "limit");
     }
 }

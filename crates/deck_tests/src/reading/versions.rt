@@ -1,10 +1,10 @@
 //! Decks of version 2, and how decks of version 1 become such.
 
-use super::{Refusal, compared, differ, expect_refused, reads_back, verdict_of, writes};
+use super::{compared, differ, reads_back, writes};
 use crate::shared::{SEARCH_LOOP, expect};
 use ccw_core::Storage;
-use chan_deck::{Cause, Deck, read_deck};
-use chan_walk::{Limit, Verdict};
+use chan_deck::{Deck, read_deck};
+use chan_walk::Limit;
 use std::alloc::Global;
 
 /// The search loop's deck in version 2, with the limit of version 1.
@@ -60,8 +60,6 @@ fn deck_two(rt: HostRuntime) {
     expect(&rt, DECK_OF_TWO.len() == 217, "its length");
     expect(&rt, reads_back(alloc, DECK_OF_TWO), "deck-two");
     expect(&rt, reads_as(alloc, DECK_OF_TWO, 2, 4096), "version 2");
-    let verdict = verdict_of(alloc, DECK_OF_TWO);
-    expect(&rt, verdict == Some(Verdict::Yes), "its verdict");
     expect(&rt, reads_as(alloc, SEARCH_LOOP, 1, 4096), "version 1");
     expect(&rt, differ(alloc, SEARCH_LOOP, DECK_OF_TWO), "two versions");
 }
@@ -90,108 +88,6 @@ fn limits(rt: HostRuntime) {
     for (words, limit) in &LIMITS {
         expect(&rt, has_limit(rt.alloc(), words, *limit), words);
     }
-}
-
-/// Lines of a limit that are refused in version 2.
-static LIMIT_LINES: [Refusal; 8] = [
-    (
-        "limit-lines/zero",
-        "limit 04096",
-        "limit 00000",
-        5,
-        Cause::Limit,
-    ),
-    (
-        "limit-lines/too-large",
-        "limit 04096",
-        "limit 65537",
-        5,
-        Cause::Limit,
-    ),
-    (
-        "limit-lines/largest-number",
-        "limit 04096",
-        "limit 99999",
-        5,
-        Cause::Limit,
-    ),
-    (
-        "limit-lines/four-digits",
-        "limit 04096",
-        "limit 4096",
-        5,
-        Cause::Form,
-    ),
-    (
-        "limit-lines/six-digits",
-        "limit 04096",
-        "limit 004096",
-        5,
-        Cause::Form,
-    ),
-    (
-        "limit-lines/hexadecimal",
-        "limit 04096",
-        "limit 0000A",
-        5,
-        Cause::Form,
-    ),
-    (
-        "limit-lines/no-number",
-        "limit 04096",
-        "limit ",
-        5,
-        Cause::Form,
-    ),
-    ("limit-lines/taken-out", "limit 04096\n", "", 5, Cause::Form),
-];
-
-/// Lines of a limit in version 1.
-static LIMITS_OF_ONE: [Refusal; 2] = [
-    (
-        "limit-lines/in-version-1",
-        "extent",
-        "limit 04096\nextent",
-        5,
-        Cause::Form,
-    ),
-    (
-        "limit-lines/zero-in-version-1",
-        "extent",
-        "limit 00000\nextent",
-        5,
-        Cause::Form,
-    ),
-];
-
-#[test]
-fn limit_lines(rt: HostRuntime) {
-    expect_refused(&rt, rt.alloc(), DECK_OF_TWO, &LIMIT_LINES);
-    expect_refused(&rt, rt.alloc(), SEARCH_LOOP, &LIMITS_OF_ONE);
-}
-
-/// A limit comes once: only an extent follows it.
-static ONCE: [Refusal; 3] = [
-    (
-        "twice",
-        "limit 04096\n",
-        "limit 04096\nlimit 04096\n",
-        6,
-        Cause::Form,
-    ),
-    (
-        "storage",
-        "limit 04096\n",
-        "limit 04096\nstorage 0001000\n",
-        6,
-        Cause::Form,
-    ),
-    ("header", "chanv deck 2", "chanv deck 3", 1, Cause::Header),
-];
-
-#[test]
-fn limit_comes_once(rt: HostRuntime) {
-    expect_refused(&rt, rt.alloc(), DECK_OF_TWO, &ONCE);
 }
 
 /// Whether the text is read, and upgraded to the deck of another.

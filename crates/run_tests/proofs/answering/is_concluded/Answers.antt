@@ -1,0 +1,10 @@
+use Rattle.std.proofs.Common.{sym, ◌∙◌}
+use Rattle.run_tests.proofs.answering.is_concluded.Goals as goal
+
+pub conclude-requires-clause-writer : goal.conclude-requires-clause-writer
+conclude-requires-clause-writer c =
+    let none = c.if-ends_run.false in
+    let sound = c.new-to.ensures.sound in (
+      λ failed. sound ∙ (sym none ∙ c.ends_run.ensures.1 failed),
+      λ failed. c.ends_run.ensures.0 (none ∙ (sym sound ∙ failed)),
+    )

@@ -1,0 +1,344 @@
+"""Decks that are refused: the line and the cause, and what `why` says of the line.
+
+Of the search loop's deck, and of the same in version 2, some words stand in place of others:
+`verify` says the line that is refused and why. Then some text stands behind the first lines of a
+deck: `why` says what was found in the line behind them, and what was expected there. The lines, the
+causes and these words follow from docs/DECK.md and docs/FAILURES.md.
+"""
+
+import re
+
+from examples import SEARCH_LOOP, TEXTS
+from running import Ran, run, text_of
+
+DECK = text_of(SEARCH_LOOP)
+
+# what is refused: a name, the words that give way, those in their place, the line, and the cause
+REFUSED = [
+    # each cause
+    ("deck-header", "chanv deck 1", "chanv deck 9", 1, "header"),
+    ("deck-form/device", "device 2314", "device 3330", 2, "form"),
+    ("deck-mask", "mask 00", "mask 20", 3, "mask"),
+    ("deck-form/lower-case", "mask 00", "mask c0", 3, "form"),
+    ("deck-extent-backwards/on-device", "extent 010 019", "extent 019 010", 5, "extent-backwards"),
+    ("deck-extent-past-device", "extent 010 019", "extent 010 203", 5, "extent-past-device"),
+    (
+        "deck-extent-backwards/past-device",
+        "extent 010 019",
+        "extent 300 203",
+        5,
+        "extent-backwards",
+    ),
+    ("deck-size/no-multiple-of-8", "storage 0001000", "storage 0001004", 8, "size"),
+    ("deck-size/too-large", "storage 0001000", "storage 1000008", 8, "size"),
+    (
+        "deck-put-address/again",
+        "put 000808 0800080000000000",
+        "put 000800 0800080000000000",
+        10,
+        "put-address",
+    ),
+    (
+        "deck-put-address/no-multiple-of-8",
+        "put 000808 0800080000000000",
+        "put 00080C 0800080000000000",
+        10,
+        "put-address",
+    ),
+    (
+        "deck-put-address/past-storage",
+        "put 000810 06000A0020000050",
+        "put 001000 06000A0020000050",
+        11,
+        "put-address",
+    ),
+    ("deck-put-zero", "put 000810 06000A0020000050", "put 000810 0000000000000000", 11, "put-zero"),
+    # texts that have ended too early
+    ("deck-ended/empty-text", DECK, "", 1, "ended"),
+    ("deck-ended/no-line-feed-at-the-end", "end\n", "end", 12, "ended"),
+    # what stands behind the line `end`, which is line 12
+    ("deck-after", "end\n", "end\n\n", 13, "after"),
+    ("deck-after/two-lines", "end\n", "end\n\nchanv deck 1", 13, "after"),
+    ("deck-after/no-line-feed", "end\n", "end\nchanv deck 1", 13, "after"),
+    # a line left out, and two that change places
+    ("deck-form/no-extent", "extent 010 019\n", "", 5, "form"),
+    (
+        "deck-form/storing-before-fetching",
+        "fetch 000900 000010\nstore 000A00 000100\n",
+        "store 000A00 000100\nfetch 000900 000010\n",
+        7,
+        "form",
+    ),
+    # digits in lower case
+    ("mask 0a", "mask 00", "mask 0a", 3, "form"),
+    ("start 000a00", "start 000800", "start 000a00", 4, "form"),
+    ("fetch 00090a 000010", "fetch 000900 000010", "fetch 00090a 000010", 6, "form"),
+    ("fetch 000900 00001a", "fetch 000900 000010", "fetch 000900 00001a", 6, "form"),
+    ("store 000a00 000100", "store 000A00 000100", "store 000a00 000100", 7, "form"),
+    ("store 000A00 00010f", "store 000A00 000100", "store 000A00 00010f", 7, "form"),
+    ("storage 000100a", "storage 0001000", "storage 000100a", 8, "form"),
+    (
+        "put 00080a 3100090040000005",
+        "put 000800 3100090040000005",
+        "put 00080a 3100090040000005",
+        9,
+        "form",
+    ),
+    (
+        "put 000800 310009004000000b",
+        "put 000800 3100090040000005",
+        "put 000800 310009004000000b",
+        9,
+        "form",
+    ),
+    # a digit or a blank too few or too many, and a word in capitals
+    ("device 2314 ", "device 2314", "device 2314 ", 2, "form"),
+    ("mask 000", "mask 00", "mask 000", 3, "form"),
+    ("start 00800", "start 000800", "start 00800", 4, "form"),
+    ("extent 10 19", "extent 010 019", "extent 10 19", 5, "form"),
+    ("extent 010  019", "extent 010 019", "extent 010  019", 5, "form"),
+    ("fetch 000900", "fetch 000900 000010", "fetch 000900", 6, "form"),
+    ("storage 00001000", "storage 0001000", "storage 00001000", 8, "form"),
+    (
+        "put 000800 31000900400000",
+        "put 000800 3100090040000005",
+        "put 000800 31000900400000",
+        9,
+        "form",
+    ),
+    (
+        "put 000800 310009004000000500",
+        "put 000800 3100090040000005",
+        "put 000800 310009004000000500",
+        9,
+        "form",
+    ),
+    ("END", "end", "END", 12, "form"),
+    # a limit, which stands in version 2 alone
+    ("limit-lines/in-version-1", "extent", "limit 04096\nextent", 5, "form"),
+    ("limit-lines/zero-in-version-1", "extent", "limit 00000\nextent", 5, "form"),
+]
+
+# the same of version 2
+REFUSED_OF_TWO = [
+    ("limit-lines/zero", "limit 04096", "limit 00000", 5, "limit"),
+    ("limit-lines/too-large", "limit 04096", "limit 65537", 5, "limit"),
+    ("limit-lines/largest-number", "limit 04096", "limit 99999", 5, "limit"),
+    ("limit-lines/four-digits", "limit 04096", "limit 4096", 5, "form"),
+    ("limit-lines/six-digits", "limit 04096", "limit 004096", 5, "form"),
+    ("limit-lines/hexadecimal", "limit 04096", "limit 0000A", 5, "form"),
+    ("limit-lines/no-number", "limit 04096", "limit ", 5, "form"),
+    ("limit-lines/taken-out", "limit 04096\n", "", 5, "form"),
+    # a limit comes once: only an extent follows it
+    ("twice", "limit 04096\n", "limit 04096\nlimit 04096\n", 6, "form"),
+    ("storage", "limit 04096\n", "limit 04096\nstorage 0001000\n", 6, "form"),
+    ("header", "chanv deck 2", "chanv deck 3", 1, "header"),
+]
+
+# texts that no command reads as a deck: the line, the cause, what is found, and what was expected
+NO_DECKS = [
+    ("", 1, "ended", "the end of the text", "chanv deck 1, chanv deck 2"),
+    ("chanv deck 3\n", 1, "header", "chanv deck 3", "chanv deck 1, chanv deck 2"),
+    (
+        "chanv deck 2\ndevice 2311\nmask 00\nstart 000800\nlimit 00000\n",
+        5,
+        "limit",
+        "limit 00000",
+        "a limit from 00001 to 65536",
+    ),
+    (
+        "chanv deck 1\ndevice 2311\nmask 20\n",
+        3,
+        "mask",
+        "mask 20",
+        "a mask with no bits on but C0 and 18",
+    ),
+    ("chanv deck 1\ndevice 2315\n", 2, "form", "device 2315", "device 2311, device 2314"),
+]
+
+LINES = """\
+chanv deck 2
+device 2314
+mask 00
+start 000800
+limit 04096
+extent 010 019
+fetch 000900 000010
+store 000A00 000100
+storage 0001000
+put 000800 3100090040000005
+put 000808 0800080000000000
+end
+"""
+
+# What stands behind so many lines, what is found in the line behind them, and what was expected.
+# No other line is refused.
+HINTS = [
+    # a line that begins as none that may stand, or as one of them
+    (0, "\n", "an empty line", "chanv deck 1, chanv deck 2"),
+    (0, "chanv deck 3\n", "chanv deck 3", "chanv deck 1, chanv deck 2"),
+    (1, "DEVICE 2314\n", "DEVICE 2314", "device 2311, device 2314"),
+    (2, "mask c0\n", "mask c0", "mask XX, where X is 0-9 or A-F"),
+    (3, "start 800\n", "start 800", "start XXXXXX, where X is 0-9 or A-F"),
+    (4, "extent 010 019\n", "extent 010 019", "limit NNNNN, where N is 0-9; extent comes later"),
+    (5, "fetch 1 2\n", "fetch 1 2", "extent NNN NNN, where N is 0-9; fetch comes later"),
+    (6, "put 000800\n", "put 000800", "extent, fetch, store, storage; put comes later"),
+    (6, "extent 1 2\n", "extent 1 2", "extent NNN NNN, where N is 0-9"),
+    (6, "fetch\n", "fetch", "fetch XXXXXX XXXXXX, where X is 0-9 or A-F"),
+    (6, "fetch900 10\n", "fetch900 10", "extent, fetch, store, storage"),
+    (7, "extent 010 019\n", "extent 010 019", "fetch, store, storage; extent comes earlier"),
+    (8, "fetch 000900 000010\n", "fetch 000900 000010", "store, storage; fetch comes earlier"),
+    (8, "store 1 2\n", "store 1 2", "store XXXXXX XXXXXX, where X is 0-9 or A-F"),
+    (8, "storage 1\n", "storage 1", "storage XXXXXXX, where X is 0-9 or A-F"),
+    (9, "storage 0001000\n", "storage 0001000", "put, end; storage comes earlier"),
+    (10, "END\n", "END", "put, end"),
+    (10, "end \n", "end\\x20", "end"),
+    (11, "put 000810 06\n", "put 000810 06", "put XXXXXX XXXXXXXXXXXXXXXX, where X is 0-9 or A-F"),
+    # a line that has a form that may stand, or no line
+    (0, "", "the end of the text", "chanv deck 1, chanv deck 2"),
+    (8, "", "the end of the text", "store, storage"),
+    (11, "en", "en", "a line feed behind this line"),
+    (11, "end", "end", "a line feed behind this line"),
+    (12, "\n", "an empty line", "nothing behind the line end"),
+    (12, "x", "x", "nothing behind the line end"),
+    (2, "mask 20\n", "mask 20", "a mask with no bits on but C0 and 18"),
+    (4, "limit 00000\n", "limit 00000", "a limit from 00001 to 65536"),
+    (5, "extent 019 010\n", "extent 019 010", "a last cylinder that isn't below the first"),
+    (5, "extent 010 203\n", "extent 010 203", "a last cylinder of at most 202"),
+    (8, "storage 0001001\n", "storage 0001001", "a multiple of 8 that is at most 1000000"),
+    (
+        9,
+        "put 000804 3100090040000005\n",
+        "put 000804 3100090040000005",
+        "an address that is a multiple of 8",
+    ),
+    (
+        9,
+        "put 001000 3100090040000005\n",
+        "put 001000 3100090040000005",
+        "an address at which storage of 0001000 bytes has eight bytes",
+    ),
+    (
+        11,
+        "put 000808 06000A0020000050\n",
+        "put 000808 06000A0020000050",
+        "an address above 000808 that is a multiple of 8",
+    ),
+    (
+        11,
+        "put 00080C 06000A0020000050\n",
+        "put 00080C 06000A0020000050",
+        "an address above 000808 that is a multiple of 8",
+    ),
+    (
+        11,
+        "put FFFFF8 06000A0020000050\n",
+        "put FFFFF8 06000A0020000050",
+        "an address at which storage of 0001000 bytes has eight bytes",
+    ),
+    (
+        11,
+        "put 000810 0000000000000000\n",
+        "put 000810 0000000000000000",
+        "eight bytes that aren't all zero",
+    ),
+    # a line that is long, or not printable
+    (1, "  \n", " \\x20", "device 2311, device 2314"),
+    (
+        11,
+        "put 000810 06000A0020000050 \n",
+        "put 000810 06000A0020000050\\x20",
+        "put XXXXXX XXXXXXXXXXXXXXXX, where X is 0-9 or A-F",
+    ),
+    (
+        0,
+        "\x07\x00 @\x00\n",
+        "\\x07\\x00 @\\x00",
+        "a deck, which is text; chanv deck makes one of an image of storage",
+    ),
+    (
+        0,
+        "\x00\x00\x00",
+        "\\x00\\x00\\x00",
+        "a deck, which is text; chanv deck makes one of an image of storage",
+    ),
+    (1, "\x00\n", "\\x00", "device 2311, device 2314"),
+    (0, "chanv deck 1\r\n", "chanv deck 1\\x0D", "chanv deck 1, chanv deck 2"),
+    (0, "\tchanv deck 1\n", "\\x09chanv deck 1", "chanv deck 1, chanv deck 2"),
+    (
+        0,
+        "chanv deck 1, and more text behind it, which leads past col 60\x00\n",
+        "chanv deck 1, and more text behind it, which leads past col ",
+        "chanv deck 1, chanv deck 2",
+    ),
+    (
+        1,
+        "device 2314 and more text behind it, which leads past column 60, as it is said\n",
+        "device 2314 and more text behind it, which leads past column",
+        "device 2311, device 2314",
+    ),
+    (1, "device 2314\r\n", "device 2314\\x0D", "device 2311, device 2314"),
+    (1, "\tdevice\x7f2314~\n", "\\x09device\\x7F2314~", "device 2311, device 2314"),
+    (1, "\u00e4\n", "\\xC3\\xA4", "device 2311, device 2314"),
+    (
+        1,
+        "device 2314 and more text behind it, which leads past col\r\r\n",
+        "device 2314 and more text behind it, which leads past col",
+        "device 2311, device 2314",
+    ),
+]
+
+OLDER = """\
+chanv deck 1
+device 2314
+mask 00
+start 000800
+"""
+
+OLDER_HINTS = [
+    (0, "device 2314\n", "device 2314", "chanv deck 1, chanv deck 2; device comes later"),
+    (2, "limit 04096\n", "limit 04096", "mask XX, where X is 0-9 or A-F; limit comes later"),
+    (
+        4,
+        "limit 04096\n",
+        "limit 04096",
+        "extent NNN NNN, where N is 0-9; limit stands in chanv deck 2 alone",
+    ),
+    (4, "chanv deck 1\n", "chanv deck 1", "extent NNN NNN, where N is 0-9; chanv comes earlier"),
+]
+
+
+def check_refused(checks, program, deck, rows):
+    for name, old, new, line, cause in rows:
+        refused = Ran(2, "", f"chanv: deck line {line}: {cause}\n")
+        ran = run(program, "verify", given=deck.replace(old, new, 1).encode())
+        checks.expect(name, refused, ran)
+
+
+def check_each_command(checks, program):
+    """Each command over decks says the same, and `why` adds its hint. Nothing is written."""
+    for text, line, cause, found, expected in NO_DECKS:
+        for action in ("verify", "list", "why", "graph", "needs"):
+            hint = f"found {found}\nexpected {expected}\n" if action == "why" else ""
+            refused = Ran(2, "", f"chanv: deck line {line}: {cause}\n{hint}")
+            ran = run(program, action, given=text.encode())
+            checks.expect(f"{action}, {text!r}", refused, ran)
+
+
+def check_hints(checks, program, lines, rows):
+    for count, more, found, expected in rows:
+        text = "".join(lines.splitlines(keepends=True)[:count]) + more
+        hint = re.escape(f"found {found}\nexpected {expected}\n")
+        ran = run(program, "why", given=text.encode())
+        complaint = f"chanv: deck line {count + 1}: [a-z-]+\n{hint}"
+        is_so = ran[:2] == (2, "") and re.fullmatch(complaint, ran.error)
+        checks.expect_that(f"{more!r} behind {count} lines", is_so, ran)
+
+
+def check(checks, built):
+    program = built.chanv()
+    check_refused(checks, program, DECK, REFUSED)
+    check_refused(checks, program, text_of(TEXTS / "deck-two.deck"), REFUSED_OF_TWO)
+    check_each_command(checks, program)
+    check_hints(checks, program, LINES, HINTS)
+    check_hints(checks, program, OLDER, OLDER_HINTS)
