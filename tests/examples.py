@@ -11,6 +11,7 @@ TEXTS = EXAMPLES / "texts"
 
 SEARCH_LOOP = EXAMPLES / "search-loop.deck"
 CHANGES_ITSELF = EXAMPLES / "changes-itself.deck"
+CHANGES_BOTH = EXAMPLES / "changes-both.deck"
 
 # What who follows the README leaves in examples/. Git ignores it, and so do the tests.
 MADE_BY_READERS = "dump.deck"

@@ -8,7 +8,7 @@ answer. The program one_call makes the calls of crates.
 
 import tempfile
 
-from examples import CHANGES_ITSELF, EXAMPLES, SEARCH_LOOP
+from examples import CHANGES_BOTH, CHANGES_ITSELF, EXAMPLES, SEARCH_LOOP
 from refusing import Case, Growths
 from running import Ran, text_of
 
@@ -57,6 +57,7 @@ def commands():
         (["list", SEARCH_LOOP], b"", listing),
         (["why"], changing, text_of(EXAMPLES / "changes-itself.why")),
         (["why", SEARCH_LOOP], b"", f"{SEARCH_LOOP}: yes\n"),
+        (["why", "--all"], CHANGES_BOTH.read_bytes(), text_of(CHANGES_BOTH.with_suffix(".all"))),
         (["graph"], deck, text_of(EXAMPLES / "search-loop.dot")),
         (["needs"], deck, text_of(EXAMPLES / "search-loop.needs")),
         (["deck", *OF_IMAGE], image, text_of(EXAMPLES / "changes-argument.deck")),
@@ -83,7 +84,7 @@ def command_cases(chanv):
         yield Case(
             name=" ".join(map(str, ["chanv", *words])),
             words=[chanv, *words],
-            expected=Ran(1 if words == ["why"] else 0, answer),
+            expected=Ran(1 if answer.startswith("no ") else 0, answer),
             given=given,
             complaints=complaints,
             begun=answer if words[0] in ("list", "graph") else "",

@@ -66,7 +66,7 @@ fn is_written(alloc: Global, job: &Job, survey: &Survey, witness: &Witness, text
     let mut to = Watched::new(Paper {
         left: text.as_bytes(),
     });
-    write_explanation(alloc, job, survey, witness, &mut to).is_ok()
+    write_explanation(alloc, job, survey, witness, &[], &mut to).is_ok()
         && to.into_inner().left.is_empty()
 }
 

@@ -44,7 +44,7 @@ fn make_call(rt: &HostRuntime) -> Result<(), Stop> {
         "show" => shown(rt, setup),
         "run-verify" => ran(rt, Action::Verify, SEARCH_LOOP, setup),
         "run-list" => ran(rt, Action::List, SEARCH_LOOP, setup),
-        "run-why" => ran(rt, Action::Why, CHANGES_ITSELF, setup),
+        "run-why" => ran(rt, Action::Why { all: false }, CHANGES_ITSELF, setup),
         _ => over_a_deck(rt, call, setup),
     }
 }

@@ -58,7 +58,7 @@ fn is_answered(alloc: Global, case: &Case) -> bool {
         flushes: case.flushes,
     });
     let mut errors = Watched::new(paper_of(case.told));
-    let action = Action::Why;
+    let action = Action::Why { all: false };
     let found = answer(alloc, case.name, action, &mut from, &mut to, &mut errors);
     found == case.outcome && to.into_inner().left.is_empty() && errors.into_inner().left.is_empty()
 }

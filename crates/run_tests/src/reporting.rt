@@ -283,7 +283,7 @@ static ADVISED: [(Outcome, bool); 7] = [
 ];
 
 fn is_advised(outcome: Outcome, is_so: bool) -> bool {
-    has_advice(Action::Why, outcome) == is_so && !has_advice(Action::Graph, outcome)
+    has_advice(Action::Why { all: false }, outcome) == is_so && !has_advice(Action::Graph, outcome)
 }
 
 #[test]

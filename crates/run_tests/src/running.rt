@@ -190,7 +190,11 @@ fn each_read_failing_in_turn(rt: HostRuntime) {
 static WRITTEN: [(Action, &str, &str); 4] = [
     (Action::Verify, SEARCH_LOOP, "yes\n"),
     (Action::List, SEARCH_LOOP, SEARCH_LOOP_LISTING),
-    (Action::Why, END_OF_STORAGE, END_OF_STORAGE_EXPLANATION),
+    (
+        Action::Why { all: false },
+        END_OF_STORAGE,
+        END_OF_STORAGE_EXPLANATION,
+    ),
     (Action::Graph, SEARCH_LOOP, SEARCH_LOOP_PICTURE),
 ];
 
