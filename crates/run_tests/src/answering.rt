@@ -25,8 +25,8 @@ note: fetch 000900 000010 is used by no reachable CCW
 note: store 000A00 000700 is used by no reachable CCW
 ";
 
-/// A name, the read that fails, whether the output can be flushed, what comes of it, and what stands
-/// on either writer. A write behind that fails.
+/// A name, the read that fails, whether the output can be flushed, what comes of it, what stands on
+/// either writer, and whether more was to be told. A write behind that fails.
 #[derive(Clone, Copy)]
 struct Case<'a> {
     name: Option<&'a str>,
@@ -35,6 +35,7 @@ struct Case<'a> {
     outcome: Outcome,
     written: &'a [u8],
     told: &'a [u8],
+    is_cut_off: bool,
 }
 
 const USUAL: Case<'static> = Case {
@@ -44,6 +45,7 @@ const USUAL: Case<'static> = Case {
     outcome: Outcome::Ran(Ok(Status::Yes)),
     written: b"yes\n",
     told: b"",
+    is_cut_off: false,
 };
 
 /// Whether `why` comes to this, over the deck whose areas are lent in vain.
@@ -60,7 +62,10 @@ fn is_answered(alloc: Global, case: &Case) -> bool {
     let mut errors = Watched::new(paper_of(case.told));
     let action = Action::Why { all: false };
     let found = answer(alloc, case.name, action, &mut from, &mut to, &mut errors);
-    found == case.outcome && to.into_inner().left.is_empty() && errors.into_inner().left.is_empty()
+    found == case.outcome
+        && to.into_inner().left.is_empty()
+        && errors.failed() == case.is_cut_off
+        && errors.into_inner().left.is_empty()
 }
 
 #[test]
@@ -104,6 +109,7 @@ fn each_write_of_the_notes_failing_in_turn(rt: HostRuntime) {
     for room in 0..NOTES.len() + 1 {
         let case = Case {
             told: &NOTES.as_bytes()[..room],
+            is_cut_off: room < NOTES.len(),
             ..USUAL
         };
         expect(&rt, is_answered(rt.alloc(), &case), "cut off");
@@ -155,8 +161,8 @@ fn is_concluded(came: Outcome, end: Outcome, line: &[u8]) -> bool {
         flushes: false,
     });
     let mut errors = Watched::new(paper_of(line));
-    conclude(Some("a.deck"), came, &mut to, &mut errors) == end
-        && errors.into_inner().left.is_empty()
+    let found = conclude(Some("a.deck"), came, &mut to, &mut errors);
+    found == end && !errors.failed() && errors.into_inner().left.is_empty()
 }
 
 #[test]

@@ -11,18 +11,29 @@ use chan_run::{
 /// An outcome, its status, and its line.
 type Row = (Outcome, u8, &'static str);
 
-/// Whether the report of an outcome has this status, and writes this: a write behind that fails.
-fn is_reported(outcome: Outcome, status: u8, line: &[u8]) -> bool {
-    let mut to = Watched::new(paper_of(line));
-    report(outcome, &mut to) == status && to.into_inner().left.is_empty()
+/// Whether the report of an outcome has this status, and writes this and no more, or else fails
+/// behind it.
+fn is_reported(outcome: Outcome, status: u8, written: &[u8], fails: bool) -> bool {
+    let mut to = Watched::new(paper_of(written));
+    let found = report(outcome, &mut to);
+    found == status && to.failed() == fails && to.into_inner().left.is_empty()
+}
+
+/// Whether the report of an outcome has this status where a write fails behind the first byte.
+fn is_cut_off(outcome: Outcome, status: u8, line: &[u8]) -> bool {
+    match line {
+        [] => true,
+        [_] => false,
+        _ => is_reported(outcome, status, &line[..1], true),
+    }
 }
 
 /// Whether an outcome has this status and this line, over a writer that takes all and one that
 /// fails after a byte.
 fn is_said(outcome: Outcome, status: u8, line: &[u8]) -> bool {
     exit_status(outcome) == status
-        && is_reported(outcome, status, line)
-        && is_reported(outcome, status, &line[..line.len().min(1)])
+        && is_reported(outcome, status, line, false)
+        && is_cut_off(outcome, status, line)
 }
 
 /// What each command comes to.
@@ -241,7 +252,8 @@ static OVER_AN_INPUT: [Row; 14] = [
 /// Whether the report of an outcome over this input has this status and this line.
 fn is_reported_over(name: &str, outcome: Outcome, status: u8, line: &[u8]) -> bool {
     let mut to = Watched::new(paper_of(line));
-    report_named(name, outcome, &mut to) == status && to.into_inner().left.is_empty()
+    let found = report_named(name, outcome, &mut to);
+    found == status && !to.failed() && to.into_inner().left.is_empty()
 }
 
 #[test]

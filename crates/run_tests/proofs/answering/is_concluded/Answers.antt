@@ -1,8 +1,8 @@
 use Rattle.std.proofs.Common.{sym, ◌∙◌}
 use Rattle.run_tests.proofs.answering.is_concluded.Goals as goal
 
-pub conclude-requires-clause-writer : goal.conclude-requires-clause-writer
-conclude-requires-clause-writer c =
+pub conclude-found-requires-clause-writer : goal.conclude-found-requires-clause-writer
+conclude-found-requires-clause-writer c =
     let none = c.if-ends_run.false in
     let sound = c.new-to.ensures.sound in (
       λ failed. sound ∙ (sym none ∙ c.ends_run.ensures.1 failed),
