@@ -319,8 +319,8 @@ fn push_also(out: &mut String, offence: Offence) -> Result<(), AllocError>
     write!(out, "also {address} {word}\n")
 }
 
-/// Adds the line of an offence behind another, if they aren't alike, and that of its cause, if there
-/// is one.
+/// Adds the line of an offence behind another, if they aren't alike, and that of its cause, if
+/// there is one.
 fn push_next(
     alloc: Global,
     out: &mut String,
@@ -348,8 +348,8 @@ fn cause_at(causes: &[Evidence], at: usize) -> Option<Evidence>
     causes.get(at).copied()
 }
 
-/// Adds a line for each address and reason but the first, and behind it that of the offence's cause,
-/// if there are causes.
+/// Adds a line for each address and reason but the first, and behind it that of the offence's
+/// cause, if there are causes.
 fn push_others(
     alloc: Global,
     out: &mut String,

@@ -110,8 +110,9 @@ impl Survey {
         Ok(witness)
     }
 
-    /// The cause of each offence, in their order: that of the place to which the path leads that is
-    /// chosen, as for the first offence, among the places with its address that offend by its reason.
+    /// The cause of each offence, in their order: that of the place at the end of the path which is
+    /// chosen, as for the first offence, among those to places that offend with its address and its
+    /// reason.
     ///
     /// With n places and a areas lent, the cost is (n + a) log (n + a).
     pub fn causes(&self, alloc: Global, job: &Job) -> Result<Vec<Evidence>, AllocError>
