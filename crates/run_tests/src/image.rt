@@ -21,8 +21,19 @@ put 000800 0300000000000001
 end
 ";
 
+/// The same with the least job: the program may run anywhere, under the strictest mask.
+const LEAST: &str = "chanv deck 1
+device 2314
+mask 58
+start 000800
+extent 000 202
+storage 0000808
+put 000800 0300000000000001
+end
+";
+
 /// Two bytes before the program, for which 16 bytes are lent for fetching.
-fn words(alloc: Global) -> Result<ImageWords<'static>, AllocError> {
+fn words(alloc: Global, is_least: bool) -> Result<ImageWords<'static>, AllocError> {
     Ok(ImageWords {
         device: "2314",
         mask: "00",
@@ -33,14 +44,25 @@ fn words(alloc: Global) -> Result<ImageWords<'static>, AllocError> {
         store: Vec::new(alloc),
         at: "7FE",
         storage: None,
-        is_least: false,
+        is_least,
     })
 }
 
 /// Whether the deck of the image comes to this where a read fails, and this is written. A write
 /// behind that fails.
 fn is_made(alloc: Global, failing: usize, answer: Result<(), ImageError>, text: &[u8]) -> bool {
-    let Ok(words) = words(alloc) else {
+    is_made_of(alloc, false, failing, answer, text)
+}
+
+/// The same, with the job that is said or with the least.
+fn is_made_of(
+    alloc: Global,
+    is_least: bool,
+    failing: usize,
+    answer: Result<(), ImageError>,
+    text: &[u8],
+) -> bool {
+    let Ok(words) = words(alloc, is_least) else {
         return false;
     };
     match options_of(alloc, &words) {
@@ -83,4 +105,12 @@ fn each_write_of_a_deck_failing_in_turn(rt: HostRuntime) {
         expect(&rt, refused, "write");
     }
     expect(&rt, is_made(rt.alloc(), usize::MAX, Ok(()), deck), "whole");
+}
+
+/// What is granted beside the least job counts for nothing. The program refuses it before.
+#[test]
+fn the_least_job_beside_another(rt: HostRuntime) {
+    let deck = LEAST.as_bytes();
+    let made = is_made_of(rt.alloc(), true, usize::MAX, Ok(()), deck);
+    expect(&rt, made, "least");
 }
