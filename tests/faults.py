@@ -44,7 +44,7 @@ REFUSED = {
 }
 
 # images of storage that `deck` refuses; `long` is longer than storage may be too
-OF_IMAGE = "deck --start 800 --extent 10-19 --fetch 900+10 --store 900+10".split()
+OF_IMAGE = "deck --device 2314 --start 800 --extent 10-19 --fetch 900+10 --store 900+10".split()
 REFUSED_IMAGES = {**REFUSED, "long": (2, "image too long\n", "")}
 IMAGES = ("core", "empty", "long", "folder", "nowhere", "closed")
 MOST_BYTES = 67_108_864

@@ -120,7 +120,7 @@ NOT_TEXT, NOT_TEXT_SHOWN = b"\xff.deck", "\\xFF.deck"
 
 def check_hostile_names(checks, program, folder):
     """Each name stands on its line, in printable ASCII; a wrong one stops nothing."""
-    job = "deck --start 800 --least".split()
+    job = "deck --device 2314 --start 800 --least".split()
     for name, said in [*HOSTILE, (NOT_TEXT, NOT_TEXT_SHOWN)]:
         missing = Ran(3, YES, f"chanv: {said}: cannot open\n")
         checks.expect(f"no {name}", missing, run(program, "verify", name, "yes", cwd=folder))

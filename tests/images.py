@@ -25,6 +25,9 @@ SIZE = "a hexadecimal multiple of 8, at most 1000000"
 LIMIT = "a decimal number, 1 to 65536"
 TOO_LONG = bytes(0x1000001)
 
+# what stands first on standard error where no device is named, and the words are right
+USUAL_DEVICE = "note: no device was named, so it is the 2314\n"
+
 # what can't stand beside the least job, as given and in a fault's text, and what has to be there
 BESIDE_LEAST = [
     ("--mask=00", "--mask <BYTE>"),
@@ -231,16 +234,27 @@ def taken_apart(text):
     return words, bytes(storage)
 
 
+def made(program, *words, **given):
+    """What `chanv deck` makes, without the note on the device, which has to be there if none is named."""
+    ran = run(program, "deck", *words, **given)
+    is_named = any(str(word).startswith("--device") for word in words)
+    is_usage_fault = ran.error.startswith("error: ")
+    if is_named or is_usage_fault:
+        return ran
+    note, error = ran.error[: len(USUAL_DEVICE)], ran.error[len(USUAL_DEVICE) :]
+    return ran._replace(error=error if note == USUAL_DEVICE else f"no note on the device: {ran.error}")
+
+
 def check_decks(checks, program):
     for path in [deck for folder in (*FOLDERS, TEXTS) for deck in decks_of(folder)]:
         text = text_of(path)
         words, storage = taken_apart(text)
-        ran = run(program, "deck", *words, given=storage)
+        ran = made(program, *words, given=storage)
         checks.expect(short(path), Ran(0, text), ran)
         image = storage.lstrip(b"\0")
         if image:
             words += ["--at", f"{len(storage) - len(image):x}"]
-            ran = run(program, "deck", *words, given=image)
+            ran = made(program, *words, given=image)
             checks.expect(f"{short(path)} from its first byte on", Ran(0, text), ran)
 
 
@@ -261,7 +275,7 @@ def check_spellings(checks, program):
         ("standard input by its name", [*plain, "-"], storage),
         ("an odd end", plain, storage[:-7]),
     ]:
-        checks.expect(name, Ran(0, text), run(program, "deck", *words, given=image))
+        checks.expect(name, Ran(0, text), made(program, *words, given=image))
     with tempfile.TemporaryDirectory() as folder:
         core, long, none = (Path(folder) / name for name in ("core", "long", "none"))
         core.write_bytes(storage)
@@ -272,14 +286,14 @@ def check_spellings(checks, program):
             (folder, Ran(3, "", f"chanv: {folder}: read failed\n")),
             (none, Ran(3, "", f"chanv: {none}: cannot open\n")),
         ]:
-            checks.expect(f"the file {file}", expected, run(program, "deck", *plain, file))
+            checks.expect(f"the file {file}", expected, made(program, *plain, file))
 
 
 def check_areas(checks, program):
     """An area is its start and its length, or its first byte and its last."""
-    words = ["deck", "--start", "8", "--extent", "0-9"]
+    words = ["--start", "8", "--extent", "0-9"]
     for word, area in AREAS:
-        ran = run(program, *words, "--fetch", word, "--store", word)
+        ran = made(program, *words, "--fetch", word, "--store", word)
         is_so = ran.status == 0 and f"\nfetch {area}\nstore {area}\n" in ran.output
         checks.expect_that(f"the area {word}", is_so, ran)
 
@@ -287,13 +301,13 @@ def check_areas(checks, program):
 def check_images(checks, program):
     """Images of a few bytes, wherever they begin, and jobs with each number at an end."""
     for at, image, lines in PLACED:
-        ran = run(program, "deck", *JOB, "--at", at, given=bytes.fromhex(image))
+        ran = made(program, *JOB, "--at", at, given=bytes.fromhex(image))
         checks.expect(f"'{image}' at {at}", Ran(0, f"{PREAMBLE}{lines}end\n"), ran)
     for name, words, image, text in WHOLE_DECKS:
-        ran = run(program, "deck", *words, given=bytes.fromhex(image))
+        ran = made(program, *words, given=bytes.fromhex(image))
         checks.expect(name, Ran(0, text), ran)
     loop = taken_apart(text_of(SEARCH_LOOP))[1]
-    ran = run(program, "deck", *JOB, "--at", "7FD", given=loop[0x7FD:0xFFB])
+    ran = made(program, *JOB, "--at", "7FD", given=loop[0x7FD:0xFFB])
     checks.expect("a part of storage", Ran(0, text_of(SEARCH_LOOP)), ran)
 
 
@@ -307,13 +321,13 @@ def check_storage(checks, program):
     taken = (first + len(image) + 7) // 8 * 8
     for size in (taken, taken + 8, 0x1000, 0xFFFFF8, 0x1000000):
         expected = Ran(0, re.sub("storage .*", f"storage {size:07X}", text))
-        ran = run(program, "deck", *words, *placed, "--storage", f"{size:x}", given=image)
+        ran = made(program, *words, *placed, "--storage", f"{size:x}", given=image)
         checks.expect(f"storage of {size:x}", expected, ran)
-    wanted = ["deck", "--start", "800", "--least", *placed, "--storage=2000"]
-    ran = run(program, *wanted, given=image)
+    wanted = ["--start", "800", "--least", *placed, "--storage=2000"]
+    ran = made(program, *wanted, given=image)
     is_so = ran.status == 0 and "\nmask 58\n" in ran.output and "storage 0002000\n" in ran.output
     checks.expect_that("the least job in a larger storage", is_so, ran)
-    ran = run(program, "deck", "--start", "8", "--extent", "0-9", "--storage", "0")
+    ran = made(program, "--start", "8", "--extent", "0-9", "--storage", "0")
     is_so = ran.status == 0 and ran.output.endswith("\nstorage 0000000\nend\n")
     checks.expect_that("no storage", is_so, ran)
     past = Ran(4, "", "chanv: image past storage\n")
@@ -324,45 +338,45 @@ def check_storage(checks, program):
         ("a byte past the largest", "0", "1000000", TOO_LONG),
     ]:
         words = ["--start", "8", "--extent", "0-9", "--at", at, "--storage", size]
-        checks.expect(name, past, run(program, "deck", *words, given=given))
+        checks.expect(name, past, made(program, *words, given=given))
 
 
 def check_refusals(checks, program):
     job = ["--start", "8", "--extent", "0-9"]
     refused = Ran(2, "", "chanv: image too long\n")
-    checks.expect("a byte too much", refused, run(program, "deck", *job, given=TOO_LONG))
-    ran = run(program, "deck", *job, "--at", "FFFFFF", given=b"ab")
+    checks.expect("a byte too much", refused, made(program, *job, given=TOO_LONG))
+    ran = made(program, *job, "--at", "FFFFFF", given=b"ab")
     checks.expect("a byte too far", refused, ran)
     for at, image in PAST_THE_END:
-        ran = run(program, "deck", *JOB, "--at", at, given=bytes.fromhex(image))
+        ran = made(program, *JOB, "--at", at, given=bytes.fromhex(image))
         checks.expect(f"'{image}' at {at}", refused, ran)
-    ran = run_in_bash("yes '' | \"$@\"", program, "deck", *JOB)
+    ran = run_in_bash("yes '' | \"$@\"", program, "deck", "--device=2314", *JOB)
     checks.expect("an endless image", refused, ran)
     for option, value, word, accepted in REFUSED:
-        ran = run(program, "deck", *job, option, word)
+        ran = made(program, *job, option, word)
         checks.expect(f"{option} {word}", fault(f"{option} {value}", word, accepted), ran)
     # of several the first in the order of a deck's lines is named
-    ran = run(program, "deck", "--store", "1", "--extent", "9", "--start", "+8")
+    ran = made(program, "--store", "1", "--extent", "9", "--start", "+8")
     checks.expect("the first of three", fault("--start <ADDRESS>", "+8", ADDRESS), ran)
 
 
 def check_least(checks, program):
     """The least job stands alone, and says where there is none."""
-    least = ["deck", "--start", "800", "--least"]
+    least = ["--start", "800", "--least"]
     for option, usage in BESIDE_LEAST:
         said = f"error: the argument '--least' cannot be used with '{usage}'{FOR_HELP}"
-        checks.expect(f"--least {option}", Ran(4, "", said), run(program, *least, option))
+        checks.expect(f"--least {option}", Ran(4, "", said), made(program, *least, option))
     said = f"error: the following required arguments were not provided:\n{EITHER}{FOR_HELP}"
-    checks.expect("neither", Ran(4, "", said), run(program, *least[:-1]))
+    checks.expect("neither", Ran(4, "", said), made(program, *least[:-1]))
     storage = taken_apart(text_of(SEARCH_LOOP))[1]
     many = Ran(2, "", "chanv: too many places\n")
-    checks.expect("few places", many, run(program, *least, "--limit", "2", given=storage))
+    checks.expect("few places", many, made(program, *least, "--limit", "2", given=storage))
     said = f"chanv: {CORE}: no job will do: no 000818 changes-argument\n"
-    checks.expect("no job will do", Ran(1, "", said), run(program, *least, CORE))
+    checks.expect("no job will do", Ran(1, "", said), made(program, *least, CORE))
     said = "chanv: no job will do: no 000800 invalid-code\n"
-    ran = run(program, *least, "--at", "800", given=bytes(8))
+    ran = made(program, *least, "--at", "800", given=bytes(8))
     checks.expect("zeros alone", Ran(1, "", said), ran)
-    checks.expect("no image", Ran(3, "", "chanv: none: cannot open\n"), run(program, *least, "none"))
+    checks.expect("no image", Ran(3, "", "chanv: none: cannot open\n"), made(program, *least, "none"))
 
 
 def fault(option, word, accepted):

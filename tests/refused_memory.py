@@ -13,7 +13,7 @@ from refusing import Case, Growths
 from running import Ran, text_of
 
 CCW, CCW_LINE = "06000A0020000050", "06 000A00 --L--0 00 0050 read"
-OF_IMAGE = "--start 800 --extent 10-19 --fetch 900+10 --store 900+10".split()
+OF_IMAGE = "--device 2314 --start 800 --extent 10-19 --fetch 900+10 --store 900+10".split()
 OUT_OF_MEMORY = "chanv: out of memory\n"
 NOTES = """\
 note: fetch 000FFF 000002 reaches past storage

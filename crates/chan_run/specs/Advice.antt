@@ -41,6 +41,10 @@ limit_line limit =
     ++ (if limit == 65536 then codes ", and none is higher\n"
     else codes "; a deck of version 2 may raise it to 65536 by its line limit\n"))
 
+-- which device a deck is made for where none was named, the usual one
+abbrev pub usual_device_note : List ℕ
+usual_device_note = codes "note: no device was named, so it is the 2314\n"
+
 -- what is said beside an answer on a job
 abbrev pub IsBesideJob : Action → Job → Result Status RunError → List ℕ → Type 0
 IsBesideJob (actions.Why all) j (Ok statuses.Yes) advice = IsNoted j advice

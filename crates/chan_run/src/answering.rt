@@ -3,6 +3,7 @@
 ghost use Rattle.std.specs.Prelude.{◌≡◌, ◌↔◌, ◌++◌, false, true, Err, IsErr, OnOk};
 ghost use Rattle.std.specs.Io.KnownBytes.{Appends};
 ghost use Rattle.ccw_core.specs.Written.{AppendsPrefix};
+ghost use Rattle.chan_run.specs.Advice.{usual_device_note};
 ghost use Rattle.chan_run.specs.Answer.{IsEarlyEnd, IsHandled, IsImageHandled, advice_of};
 ghost use Rattle.chan_run.specs.Naming.{name_in};
 ghost use Rattle.chan_run.specs.Report.{IsWriteFailure, line_over};
@@ -86,6 +87,18 @@ fn tell<E: Write>(
         Some(Ok(text)) => write_out(text.as_slice(), errors),
         Some(Err(AllocError)) => write_line(name, Outcome::Ran(Err(RunError::Memory)), errors),
     }
+}
+
+/// Says which device a deck is made for where none was named, the usual one. A writer that fails
+/// has a prefix.
+pub fn note_usual_device<E: Write>(errors: &mut Watched<E>)
+    requires { errors.old.failed ≡ false }
+    ensures whole { errors.new.failed ≡ false
+        → Appends (E.contents errors.old.device) (E.contents errors.new.device) usual_device_note }
+    ensures prefix { AppendsPrefix (E.contents errors.old.device) (E.contents errors.new.device)
+        usual_device_note }
+{
+    let _ = write_texts(&["note: no device was named, so it is the 2314\n"], errors);
 }
 
 /// Makes a deck of an image of storage that may have a name, and says what came of it.

@@ -35,7 +35,7 @@ mod showing;
 mod texts;
 mod word;
 
-pub use crate::answering::{answer, answer_image};
+pub use crate::answering::{answer, answer_image, note_usual_device};
 pub use crate::failure::Failure;
 pub use crate::image::{ImageError, write_image};
 pub use crate::image_options::{

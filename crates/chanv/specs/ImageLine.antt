@@ -1,6 +1,6 @@
 -- The command that makes a deck of an image of storage: its words, and what they ask for.
 use Rattle.std.specs.Prelude.{◌≡◌, List, [], ◌∷◌, Bool, true, Option, Some, None, codes, is_some}
-use Rattle.std.specs.Prelude.{if◌then◌else◌, option_map, unwrap_or}
+use Rattle.std.specs.Prelude.{if◌then◌else◌, not, option_map, unwrap_or}
 use Rattle.std.specs.Str.{bytes_eq}
 use Rattle.clap.specs.Words.{App, Row, Rule, Text, all_of, first_of, new_app, new_rule, with_rule}
 use Rattle.clap.specs.declared.builder.action.ArgAction.TheVariants.{Append, SetTrue}
@@ -102,3 +102,4 @@ pub record SaysImage (rows : List Row) (r : ImageRequest) : Type 0 where
   pub storage : option_map (λ text. text.now) r.words.storage ≡ first_of (codes "storage") rows
   pub least : r.words.is_least ≡ is_least rows
   pub file : option_map (λ name. name.now) r.file ≡ file_in rows
+  pub usual_device : r.is_usual_device ≡ not (is_met (codes "device") rows)

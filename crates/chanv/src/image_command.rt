@@ -18,6 +18,8 @@ pub struct ImageRequest<'a> {
     pub words: ImageWords<'a>,
     /// The file that has the image, or `None` where that is standard input.
     pub file: Option<&'a str>,
+    /// Whether no device is named, so that it is the usual one.
+    pub is_usual_device: bool,
 }
 
 /// The file that clap met, unless it is standard input.
@@ -102,5 +104,6 @@ pub(crate) fn image_request<'a>(
     Ok(ImageRequest {
         words,
         file: file(matches),
+        is_usual_device: text_met(matches, "device").is_none(),
     })
 }

@@ -22,8 +22,8 @@ use crate::image_command::ImageRequest;
 use ccw_core::Watched;
 use chan_run::{
     Action, ImageOptions, OptionError, Outcome, RunError, answer, answer_image, conclude, ends_run,
-    exit_status, explain_word, greater_status, list_words, options_of, report, report_grants,
-    report_named, report_option, show, shown_word, word_of,
+    exit_status, explain_word, greater_status, list_words, note_usual_device, options_of, report,
+    report_grants, report_named, report_option, show, shown_word, word_of,
 };
 use std::alloc::AllocError;
 use std::env::{Env, FillError};
@@ -209,6 +209,9 @@ fn imaged(rt: &HostRuntime, request: &ImageRequest<'_>) -> u8 {
         }
         Err(OptionError::Memory) => return reported(rt, None, Outcome::NoMemoryForCommandLine),
     };
+    if request.is_usual_device {
+        note_usual_device(&mut Watched::new(rt.stderr()));
+    }
     match request.file {
         None => written(rt, None, &options, Input::Standard(rt.stdin())),
         Some(name) => match open(rt, name) {
