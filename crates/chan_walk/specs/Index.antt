@@ -61,8 +61,8 @@ abbrev pub IsLesserOf : Option ℕ → ℕ → ℕ → Type 0
 IsLesserOf None a n = n ≡ a
 IsLesserOf (Some b) a n = n ≡ min b a
 
--- that the look of this index has the key is noted, unless it is known of an earlier one
-pub record Notes (key at : ℕ) (old new : BTreeMap ℕ ℕ) : Type 0 where
+-- of a key the lesser of what was known and this index is kept, and of others what was known
+pub record KeepsLeast (key at : ℕ) (old new : BTreeMap ℕ ℕ) : Type 0 where
   pub least : ℕ
   pub lesser : IsLesserOf (tree.get nat_cmp old key) at least
   pub noted : tree.get nat_cmp new key ≡ Some least

@@ -5,8 +5,8 @@ ghost use Rattle.std.specs.BTreeMap as tree;
 ghost use Rattle.std.specs.Ordering.{nat_cmp};
 ghost use Rattle.chan_walk.specs.Argument.{Has};
 ghost use Rattle.chan_walk.specs.Explored.{AreApart};
-ghost use Rattle.chan_walk.specs.Index.{Finds, IsAtPlace, IsIndex, IsLesserOf, IsOfKind, Notes};
-ghost use Rattle.chan_walk.specs.Index.{TakesByte, kind_number};
+ghost use Rattle.chan_walk.specs.Index.{Finds, IsAtPlace, IsIndex, IsLesserOf, IsOfKind};
+ghost use Rattle.chan_walk.specs.Index.{KeepsLeast, TakesByte, kind_number};
 ghost use Rattle.chan_walk.specs.Look.{places_of_looks};
 ghost use Rattle.chan_walk.specs.Offences.{AreOffences};
 ghost use Rattle.chan_walk.specs.Walk.{HasFound};
@@ -78,9 +78,9 @@ fn lesser(best: Option<usize>, at: usize) -> usize
     }
 }
 
-/// Notes that the look of an index has a key, unless an earlier one is known to have it.
+/// Keeps that the look of an index has a key, unless an earlier one is known to have it.
 fn note(first: &mut BTreeMap<u64, usize>, key: u64, at: usize) -> Result<(), AllocError>
-    ensures { OnOk result (Notes key at first.old first.new) }
+    ensures { OnOk result (KeepsLeast key at first.old first.new) }
 {
     let least = lesser(first.get(&key).copied(), at);
     first.insert(key, least)?;
@@ -98,7 +98,7 @@ fn places_of(alloc: Global, looks: &[Look]) -> Result<BTreeMap<u64, usize>, Allo
     Ok(first)
 }
 
-/// Notes the bytes that the look of an index takes as its argument.
+/// Keeps the bytes that the look of an index takes as its argument.
 fn note_bytes(first: &mut BTreeMap<u64, usize>, looks: &[Look], at: usize) -> Result<(), AllocError>
     requires within { at < length looks.now }
     requires index { IsIndex (TakesByte looks.now at) first.old }

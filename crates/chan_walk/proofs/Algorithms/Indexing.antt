@@ -9,7 +9,7 @@ use Rattle.chan_walk.specs.declared.place.Place.{Place}
 use Rattle.chan_walk.specs.Argument.{Has}
 use Rattle.chan_walk.specs.Evidence.{IsLeastOf, IsLeastOrNone}
 use Rattle.chan_walk.specs.Explored.{AreApart, place_number}
-use Rattle.chan_walk.specs.Index.{IsAtPlace, IsIndex, IsLesserOf, IsOfKind, Notes, TakesByte, TakesSoFar, kind_number}
+use Rattle.chan_walk.specs.Index.{IsAtPlace, IsIndex, IsLesserOf, IsOfKind, KeepsLeast, TakesByte, TakesSoFar, kind_number}
 use Rattle.chan_walk.specs.Look.{AreLooks, Seen, places_of_looks}
 use Rattle.chan_walk.specs.declared.job.Job.{Job}
 use Rattle.chan_walk.specs.declared.reason.Reason.{Reason}
@@ -48,7 +48,7 @@ same_least P Q e None n = λ a h. n a ((e a).1 h)
 same_least P Q e (Some b) h = ((e b).0 h.0, λ a k. h.1 a ((e a).1 k))
 
 -- an index with one more look that has a key
-pub note_more : (H G : ℕ → ℕ → Type 0) (key at : ℕ) (old new : BTreeMap ℕ ℕ) → ((k a : ℕ) → G k a ↔ (H k a ⊎ ((k ≡ key) × (a ≡ at)))) → IsIndex H old → Notes key at old new → IsIndex G new
+pub note_more : (H G : ℕ → ℕ → Type 0) (key at : ℕ) (old new : BTreeMap ℕ ℕ) → ((k a : ℕ) → G k a ↔ (H k a ⊎ ((k ≡ key) × (a ≡ at)))) → IsIndex H old → KeepsLeast key at old new → IsIndex G new
 note_more H G key at old new more h n k = go (cases_eq k key)
   where
     go : (k ≡ key) ⊎ (k ≡ key → ⊥) → IsLeastOrNone (G k) (tree.get nat_cmp new k)
