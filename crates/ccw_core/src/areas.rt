@@ -7,7 +7,7 @@ ghost use Rattle.ccw_core.specs.Areas.{covered, lies_in};
 ///
 /// It is laid out as in C, so that a caller in C can hand in its own.
 #[repr(C)]
-#[derive(Clone, Copy, PartialEq, Eq, Debug)]
+#[derive(Clone, Copy, PartialEq, Eq)]
 pub struct Area {
     /// The address of its first byte.
     pub start: u32,

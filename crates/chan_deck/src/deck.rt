@@ -12,7 +12,7 @@ use ckd_core::{Device, Extents, FileMask};
 use std::marker::Model;
 
 /// A storage image with its job, as a deck spells them. `read_deck` makes one, and `upgrade`.
-#[derive(Debug, Drop)]
+#[derive(Drop)]
 pub struct Deck {
     pub(crate) version: Version,
     pub(crate) device: Device,

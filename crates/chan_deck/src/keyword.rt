@@ -12,7 +12,7 @@ use std::alloc::AllocError;
 use std::fmt::Write as _;
 
 /// A form of lines.
-#[derive(Clone, Copy, PartialEq, Eq, Debug)]
+#[derive(Clone, Copy)]
 pub(crate) enum Form {
     Header,
     Device,

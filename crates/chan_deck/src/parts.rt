@@ -27,7 +27,7 @@ const STORAGE_LIMIT: usize = 16_777_216;
 const PAST_ADDRESSES: u32 = 0x100_0000;
 
 /// What a deck is made of: an image of storage that begins at an address, and the job.
-#[derive(Clone, Copy, PartialEq, Eq, Debug)]
+#[derive(Clone, Copy)]
 pub struct Parts<'a> {
     /// How many places may be reachable, at most. With a limit the deck is of version 2, without
     /// one of version 1.

@@ -6,14 +6,14 @@ ghost use Rattle.chan_deck.specs.Image.{limit_of, number_of};
 use chan_walk::Limit;
 
 /// What a header says: in which version the deck is.
-#[derive(Clone, Copy, PartialEq, Eq, Debug)]
+#[derive(Clone, Copy)]
 pub(crate) enum VersionNumber {
     One,
     Two,
 }
 
 /// The version of a deck. In version 2 a line says the limit on places.
-#[derive(Clone, Copy, Debug)]
+#[derive(Clone, Copy)]
 pub(crate) enum Version {
     One,
     Two(Limit),

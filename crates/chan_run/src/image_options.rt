@@ -10,7 +10,7 @@ use chan_walk::Limit;
 use ckd_core::{Device, Extents, FileMask};
 
 /// An option with which a deck is made of an image.
-#[derive(Clone, Copy, PartialEq, Eq, Debug)]
+#[derive(Clone, Copy)]
 pub enum ImageOption {
     /// `--device`: the device that the program runs against.
     Device,
@@ -33,7 +33,7 @@ pub enum ImageOption {
 }
 
 /// The texts of the options with which a deck is made of an image, as a command line has them.
-#[derive(Debug, Drop)]
+#[derive(Drop)]
 pub struct ImageWords<'a> {
     /// As `device_of` reads it.
     pub device: &'a str,
@@ -59,7 +59,7 @@ pub struct ImageWords<'a> {
 }
 
 /// What the options say: the job of the deck, and where the image stands.
-#[derive(Debug, Drop)]
+#[derive(Drop)]
 pub struct ImageOptions {
     /// The device that the program runs against.
     pub device: Device,
@@ -92,7 +92,7 @@ pub struct ImageOptions {
 }
 
 /// An option whose text isn't accepted, with that text.
-#[derive(Clone, Copy, PartialEq, Eq, Debug)]
+#[derive(Clone, Copy)]
 pub struct OptionFault<'a> {
     /// Which option.
     pub option: ImageOption,
@@ -101,7 +101,7 @@ pub struct OptionFault<'a> {
 }
 
 /// Why options don't say one job.
-#[derive(Clone, Copy, PartialEq, Eq, Debug)]
+#[derive(Clone, Copy)]
 pub enum GrantFault {
     /// This option stands beside `--least`, which grants in its place.
     BesideLeast(ImageOption),
@@ -110,7 +110,7 @@ pub enum GrantFault {
 }
 
 /// Why the texts of options weren't read.
-#[derive(Clone, Copy, PartialEq, Eq, Debug)]
+#[derive(Clone, Copy)]
 pub enum OptionError<'a> {
     /// This option is the first whose text isn't accepted.
     Wrong(OptionFault<'a>),

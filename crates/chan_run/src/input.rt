@@ -16,7 +16,7 @@ pub(crate) const TEXT_LIMIT: usize = 67_108_864;
 const CHUNK: usize = 8_192;
 
 /// Why the input was not read to its end.
-#[derive(Clone, Copy, PartialEq, Eq, Debug)]
+#[derive(Clone, Copy)]
 pub(crate) enum InputError {
     /// The reader failed, before more bytes came than there may be.
     Read,

@@ -22,7 +22,7 @@ use std::io::Write;
 
 /// How a run of the program ended. The texts of help, of the version, of a usage fault and on a
 /// program that no job will do for are written before.
-#[derive(Clone, Copy, PartialEq, Eq, Debug)]
+#[derive(Clone, Copy, PartialEq, Eq)]
 pub enum Outcome {
     /// What `show` answered.
     Shown(Result<(), ShowError>),

@@ -31,7 +31,7 @@ use std::io::{Read, Write};
 use thiserror::Error;
 
 /// What a run does with the deck.
-#[derive(Clone, Copy, PartialEq, Eq, Debug)]
+#[derive(Clone, Copy, PartialEq, Eq)]
 pub enum Action {
     /// Writes the line of the verdict.
     Verify,
@@ -57,7 +57,7 @@ impl Action {
 }
 
 /// What a verdict was.
-#[derive(Clone, Copy, PartialEq, Eq, Debug)]
+#[derive(Clone, Copy, PartialEq, Eq)]
 pub enum Status {
     /// The program may run.
     Yes,

@@ -33,7 +33,7 @@ use ccw_core::{Area, Ccw};
 use ckd_core::{FileMask, Track};
 
 /// Why a program may not run, with the values of the cause.
-#[derive(Clone, Copy, PartialEq, Eq, Debug)]
+#[derive(Clone, Copy)]
 pub enum Evidence {
     /// This address of the CCW isn't a multiple of 8.
     Misaligned {
@@ -115,7 +115,7 @@ pub enum Evidence {
 }
 
 /// The first of three things that is wrong with the argument of a seek.
-#[derive(Clone, Copy, PartialEq, Eq, Debug)]
+#[derive(Clone, Copy)]
 pub enum Outside {
     /// The number of a bin, which isn't zero.
     Bin(u16),

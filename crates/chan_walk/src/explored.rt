@@ -14,7 +14,7 @@ use std::marker::Model;
 
 /// The reachable places of a program, each once, in order: those that it can come to in the initial
 /// storage. It borrows nothing from the job.
-#[derive(Debug, Drop)]
+#[derive(Drop)]
 pub struct Explored {
     /// For each address the ways in which it is entered, a bit for each.
     marks: BTreeMap<u32, u8>,
@@ -91,7 +91,7 @@ impl Explored {
 }
 
 /// The places of an `Explored`, in order.
-#[derive(Clone, Debug, Drop)]
+#[derive(Clone, Drop)]
 pub struct Places<'a> {
     rest: &'a [Place],
 }

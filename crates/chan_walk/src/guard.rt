@@ -21,7 +21,7 @@ use std::marker::Model;
 
 /// The guarded bytes of a job: those of the reachable CCWs, those of the arguments of the reachable
 /// seeks that have no own fault, and those that such a Set File Mask takes.
-#[derive(Debug, Drop)]
+#[derive(Drop)]
 pub struct Guard {
     ccws: Vec<Area>,
     arguments: Vec<Area>,

@@ -5,7 +5,7 @@ use ccw_core::{Area, Storage};
 use ckd_core::{Device, Extents, FileMask};
 
 /// A channel program before its start, and what it was lent.
-#[derive(Clone, Copy, PartialEq, Eq, Debug)]
+#[derive(Clone, Copy, PartialEq, Eq)]
 pub struct Job<'a> {
     /// Main storage from address 0 on, as it stands.
     pub storage: Storage<'a>,

@@ -6,7 +6,7 @@ ghost use Rattle.chan_walk.specs.Limit.{IsLimit, usual_limit};
 use std::marker::Model;
 
 /// How many places a job may have within reach, at most: a number from 1 to 65,536.
-#[derive(Clone, Copy, PartialEq, Eq, Debug)]
+#[derive(Clone, Copy, PartialEq, Eq)]
 pub struct Limit {
     places: u32,
 }

@@ -25,7 +25,7 @@ use ckd_core::Command;
 use std::marker::Model;
 
 /// The bytes of an argument, by their addresses.
-#[derive(Clone, Copy, Debug)]
+#[derive(Clone, Copy)]
 enum Argument {
     /// There is none.
     Absent,
@@ -49,7 +49,7 @@ impl Argument {
 }
 
 /// What was read of the argument of the operation that begins at a place.
-#[derive(Clone, Copy, Debug)]
+#[derive(Clone, Copy)]
 pub(crate) enum Read {
     /// Neither a seek nor Set File Mask begins there.
     Nothing,
@@ -94,7 +94,7 @@ impl Read {
 }
 
 /// What is seen of a place at one look, in the initial storage.
-#[derive(Debug, Drop)]
+#[derive(Drop)]
 pub struct Look {
     place: Place,
     ccw: Option<Ccw>,

@@ -25,7 +25,7 @@ use std::alloc::{AllocError, Global};
 
 /// What a program needs of each job that it runs under, and what it keeps: no more, and no less. A
 /// job of the program has the verdict yes exactly where it grants all this.
-#[derive(Debug, Drop)]
+#[derive(Drop)]
 pub struct Needs {
     /// How many bytes storage has: the answer stands over storage that is as long and holds the
     /// same in what is kept.

@@ -6,7 +6,7 @@ use ccw_core::Area;
 ///
 /// A reachable CCW counts, whether or not its place has an own fault: the program asks for it all
 /// the same.
-#[derive(Debug, Drop)]
+#[derive(Drop)]
 pub struct Notes {
     /// The areas lent for fetching that end past storage, in the job's order.
     pub fetch_past_storage: Vec<Area>,

@@ -27,7 +27,7 @@ use ccw_core::Area;
 use std::alloc::{AllocError, Global};
 
 /// A reachable place that offends, and a reason by which it does.
-#[derive(Clone, Copy, PartialEq, Eq, Debug)]
+#[derive(Clone, Copy)]
 pub struct Offence {
     /// The place.
     pub place: Place,

@@ -9,7 +9,7 @@ use crate::job::Job;
 use crate::ways::way_of;
 
 /// How a CCW is entered.
-#[derive(Clone, Copy, PartialEq, Eq, PartialOrd, Ord, Debug)]
+#[derive(Clone, Copy, PartialEq, Eq, PartialOrd, Ord)]
 pub enum Entry {
     /// A new operation begins.
     Fresh,
@@ -34,7 +34,7 @@ impl Entry {
 ///
 /// Places are ordered by address, then by entry in the order above, then by whether they were
 /// reached by a transfer in channel.
-#[derive(Clone, Copy, PartialEq, Eq, PartialOrd, Ord, Debug)]
+#[derive(Clone, Copy, PartialEq, Eq, PartialOrd, Ord)]
 pub struct Place {
     /// The address of the CCW.
     pub address: u32,

@@ -24,7 +24,7 @@ const END_OF_STORAGE: u32 = 16_777_216;
 
 /// What `Needs` says, as rows that somebody holds. Rows that came about in another way do no harm,
 /// but an answer about them means nothing.
-#[derive(Clone, Copy, Debug)]
+#[derive(Clone, Copy)]
 pub struct Rows<'a> {
     /// How many bytes storage has.
     pub storage_len: u32,

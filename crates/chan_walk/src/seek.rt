@@ -17,7 +17,7 @@ use crate::bits::{chains_data, has_data_in, is_counted, is_formed};
 use ccw_core::{Ccw, Storage};
 
 /// The bytes that a seek's data chain gives of its argument, and where they stand, in order.
-#[derive(Clone, Copy, PartialEq, Eq, Debug)]
+#[derive(Clone, Copy)]
 pub struct GivenBytes {
     /// How many they are: six where the argument is whole.
     pub count: u8,

@@ -15,7 +15,7 @@ use crate::visit::Visit;
 use ckd_core::Kind;
 
 /// The places after a place.
-#[derive(Clone, Copy, PartialEq, Eq, Debug)]
+#[derive(Clone, Copy, PartialEq, Eq)]
 pub struct Next {
     /// The place that is next, by a transfer in channel or by data or command chaining.
     pub next: Option<Place>,

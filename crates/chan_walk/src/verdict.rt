@@ -3,7 +3,7 @@
 use crate::reason::Reason;
 
 /// Whether a program may run.
-#[derive(Clone, Copy, PartialEq, Eq, Debug)]
+#[derive(Clone, Copy, PartialEq, Eq)]
 pub enum Verdict {
     /// Every run is safe.
     Yes,

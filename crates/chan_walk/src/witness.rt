@@ -30,7 +30,7 @@ use std::alloc::{AllocError, Global};
 /// nothing changes, shows the reason at its last place. The evidence is that of its last place, and
 /// the second path, chosen in the same way, leads to the CCW stored over, or to a place that
 /// takes the argument. Where nothing offends, there are none of them.
-#[derive(Debug, Drop)]
+#[derive(Drop)]
 pub struct Witness {
     /// The places of the path, from the first place on.
     pub path: Vec<Place>,

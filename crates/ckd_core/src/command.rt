@@ -41,7 +41,7 @@ pub enum MaskClass {
 }
 
 /// A command of the table.
-#[derive(Clone, Copy, PartialEq, Eq, Debug)]
+#[derive(Clone, Copy, PartialEq, Eq)]
 pub struct Command {
     code: u8,
     name: &'static str,
