@@ -14,10 +14,8 @@ use crate::error::DeckError;
 use crate::forms::{area_of, extent_of};
 use crate::lines::Cursor;
 use ccw_core::Area;
+use ckd_core::LAST_CYLINDER;
 use std::alloc::Global;
-
-/// The last cylinder of either device.
-const LAST_CYLINDER: u16 = 202;
 
 /// The lists of a deck, as far as they have been read.
 #[derive(Drop)]

@@ -12,11 +12,8 @@ use crate::image_options::{ImageOption, ImageOptions, ImageWords, OptionError, O
 use crate::options::{address_of, area_of, cylinders_of, device_of, limit_of, mask_of, size_of};
 use ccw_core::Area;
 use chan_walk::Limit;
-use ckd_core::Extents;
+use ckd_core::{Extents, LAST_CYLINDER};
 use std::alloc::Global;
-
-/// The last cylinder of either device.
-const LAST_CYLINDER: u16 = 202;
 
 /// First and last cylinder of an extent, in order and on the device.
 fn extent_of(text: &str) -> Option<(u16, u16)>

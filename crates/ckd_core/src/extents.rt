@@ -15,7 +15,7 @@ use thiserror::Error;
 const CYLINDERS: usize = 203;
 
 /// The last cylinder of either device.
-const LAST_CYLINDER: u16 = 202;
+pub const LAST_CYLINDER: u16 = 202;
 
 /// Why pairs of cylinders are no extents.
 #[derive(Clone, Copy, PartialEq, Eq, Debug, Error)]

@@ -30,7 +30,7 @@ mod track;
 
 pub use crate::command::{Command, Kind, MaskClass, lookup};
 pub use crate::device::Device;
-pub use crate::extents::{ExtentError, Extents};
+pub use crate::extents::{ExtentError, Extents, LAST_CYLINDER};
 pub use crate::further::further_name;
 pub use crate::mask::FileMask;
 pub use crate::track::{Track, allowed};
