@@ -10,7 +10,7 @@ but without the crate:
 
     function: extents::judge
 
-For each crate, `rt check` first proves it as it is, over the work kept in out/. Then, beside the
+Each crate is first proved as it is, over the work that was kept in out/. Then, beside the
 next crate's proof, a copy gets a wrong body in each of several functions, and these functions are
 checked, and no others. Each has to be refused for a goal of its own: one that the search left open,
 or one that its written answer shows no longer. It doesn't count that it calls what isn't proved,
@@ -72,17 +72,24 @@ def applied(edit, text):
     return text
 
 
-def check(folder, what, functions=()):
-    """What `rt check` says of the crate in the folder, or of these functions of it alone."""
-    words = ["rt", "check", *FLAGS, *(word for name in functions for word in ("--only", name))]
+def called(command, folder, what, more=()):
+    """What a command of `rt` says in a crate's folder, and the status with which it ends."""
     how = {"stdout": subprocess.PIPE, "stderr": subprocess.STDOUT, "stdin": subprocess.DEVNULL}
+    words = ["rt", command, *FLAGS, *more]
     with subprocess.Popen(words, cwd=folder, text=True, errors="replace", **how) as ran:
         said = ran.stdout.read()
         _, status, used = os.wait4(ran.pid, 0)
         ran.returncode = os.waitstatus_to_exitcode(status)
     spent = used.ru_utime + used.ru_stime
     print(f"{folder.name}, {what}: checked in {spent:.0f} s of a processor", flush=True)
-    return said
+    return said, ran.returncode
+
+
+def is_proved(crate):
+    """Whether the crate is proved as it is. A library that `make` has built is at once."""
+    folder = ROOT / "crates" / crate
+    command = "lib" if (folder / "src/lib.rt").is_file() else "check"
+    return called(command, folder, "as it is")[1] == 0
 
 
 def below(crate):
@@ -109,7 +116,8 @@ def check_with(crate, texts, functions):
         shutil.copy(ROOT / "crates.txt", room)
         for file, text in texts.items():
             (copy / crate / file).write_text(text)
-        return check(copy / crate, f"{len(functions)} bodies wrong", functions)
+        only = [word for name in functions for word in ("--only", name)]
+        return called("check", copy / crate, f"{len(functions)} bodies wrong", only)[0]
 
 
 def own_goals(function, line, said):
@@ -176,8 +184,7 @@ def main():
     with concurrent.futures.ThreadPoolExecutor(max_workers=1) as beside:
         counts = []
         for crate in NAMES or lowest_first:
-            proved = "\nlogic=proved" in check(ROOT / "crates" / crate, "as it is")
-            counts.append(beside.submit(told, crate, proved))
+            counts.append(beside.submit(told, crate, is_proved(crate)))
     refused, failed = map(sum, zip(*(it.result() for it in counts)))
     print(f"{refused} refused, {failed} failed")
     return 1 if failed or not refused else 0

@@ -4,9 +4,9 @@
     tests/run cases          compares, and says which deck or which verdict differs
     tests/cases.py --write   writes the decks and verdicts.txt anew
 
-The table is cases.rt below src/judging/ of the crate that has the tests of `verify`, which go
-through it. A case NAME/PART is the deck NAME-PART. Decks that the table doesn't have stay as they
-are: their lines of verdicts.txt stand in OTHERS. And the tests that docs/CASES.md names are there.
+The table is cases.rt of the unit tests, which go through it. A case NAME/PART is the deck NAME-PART.
+Decks that the table doesn't have stay as they are: their lines of verdicts.txt stand in OTHERS. And
+the tests that docs/CASES.md names are there.
 """
 
 import re
@@ -18,7 +18,7 @@ from building import ROOT, short  # noqa: E402
 from examples import EXAMPLES  # noqa: E402
 from running import text_of  # noqa: E402
 
-TABLE = "crates/*/src/judging/**/cases.rt"
+TABLE = "crates/unit_tests/src/walk/judging/cases.rt"
 FOLDER = EXAMPLES / "cases"
 VERDICTS = FOLDER / "verdicts.txt"
 PAGE = ROOT / "docs/CASES.md"

@@ -23,6 +23,3 @@ pub use crate::flags::CcwFlags;
 pub use crate::group::Group;
 pub use crate::storage::{Storage, TooLarge};
 pub use crate::watched::{DeviceFault, Watched, write_out};
-
-#[cfg(test)]
-mod tests;

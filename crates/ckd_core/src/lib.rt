@@ -34,6 +34,3 @@ pub use crate::extents::{ExtentError, Extents, LAST_CYLINDER};
 pub use crate::further::further_name;
 pub use crate::mask::FileMask;
 pub use crate::track::{Track, allowed};
-
-#[cfg(test)]
-mod tests;

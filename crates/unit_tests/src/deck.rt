@@ -1,0 +1,22 @@
+//! The tests of `chan_deck`.
+
+mod explanation;
+mod listing;
+mod needs;
+mod parts;
+mod reading;
+
+/// The search loop: search for a record by its identifier, try the next one, read what was found.
+const SEARCH_LOOP: &str = "chanv deck 1
+device 2314
+mask 00
+start 000800
+extent 010 019
+fetch 000900 000010
+store 000A00 000100
+storage 0001000
+put 000800 3100090040000005
+put 000808 0800080000000000
+put 000810 06000A0020000050
+end
+";

@@ -1,0 +1,254 @@
+//! Runs over devices that fail, or seem never to end.
+//!
+//! What is written over decks that are judged or refused is seen from outside, in `tests/`.
+
+use crate::run::devices::{Broken, LineFeeds};
+use crate::shared::{expect, paper_of};
+use ccw_core::Watched;
+use chan_deck::Cause;
+use chan_run::{Action, RunError, Status, run, run_named};
+use std::alloc::Global;
+
+/// The search loop: search for a record by its identifier, try the next one, read what was found.
+const SEARCH_LOOP: &str = "chanv deck 1
+device 2314
+mask 00
+start 000800
+extent 010 019
+fetch 000900 000010
+store 000A00 000100
+storage 0001000
+put 000800 3100090040000005
+put 000808 0800080000000000
+put 000810 06000A0020000050
+end
+";
+
+const SEARCH_LOOP_LISTING: &str = "000800 fresh t . 31 000900 -C---0 00 0005 write search-id-equal
+000808 fresh - . 08 000800 -----0 00 0000 transfer transfer-in-channel
+000810 fresh - . 06 000A00 --L--0 00 0050 read read-data
+yes
+";
+
+/// A search in the last eight bytes of storage.
+const END_OF_STORAGE: &str = "chanv deck 1
+device 2314
+mask 00
+start 000FF8
+extent 010 019
+fetch 000900 000010
+store 000A00 000100
+storage 0001000
+put 000FF8 3100090040000005
+end
+";
+
+const END_OF_STORAGE_EXPLANATION: &str = "no 001000 outside-storage
+000FF8 fresh t . 31 000900 -C---0 00 0005 write search-id-equal
+001000 fresh - * no-ccw
+because 001000-001007 is not in storage of 0001000 bytes
+also 001008 outside-storage
+";
+
+const SEARCH_LOOP_PICTURE: &str = r#"digraph program {
+  node [shape=box, fontname="monospace", fontsize=10];
+  edge [arrowsize=0.7];
+  "000800 fresh t" [label="000800 fresh t  search-id-equal\l"];
+  "000808 fresh -" [label="000808 fresh  transfer-in-channel\l"];
+  "000810 fresh -" [label="000810 fresh  read-data\l"];
+  "000800 fresh t" -> "000808 fresh -";
+  "000800 fresh t" -> "000810 fresh -" [style=dashed];
+  "000808 fresh -" -> "000800 fresh t" [style=dotted];
+}
+"#;
+
+/// What is asked for, a text, the read that fails, and what comes of it: the answer, and what was
+/// written by then. A write behind that fails.
+#[derive(Clone, Copy)]
+struct Case<'a> {
+    action: Action,
+    text: &'a str,
+    failing: usize,
+    answer: Result<Status, RunError>,
+    written: &'a [u8],
+}
+
+/// The search loop's verdict. Its 205 bytes and the end of the input are 206 reads.
+const USUAL: Case<'static> = Case {
+    action: Action::Verify,
+    text: SEARCH_LOOP,
+    failing: 206,
+    answer: Ok(Status::Yes),
+    written: b"yes\n",
+};
+
+/// Whether a run comes to this.
+fn is_run(alloc: Global, case: &Case) -> bool {
+    let mut from = Watched::new(Broken {
+        rest: case.text.as_bytes(),
+        reads: 0,
+        failing: case.failing,
+    });
+    let mut to = Watched::new(paper_of(case.written));
+    let answer = run(alloc, case.action, &mut from, &mut to);
+    answer == case.answer && to.into_inner().left.is_empty()
+}
+
+/// Whether a run over an input of this name comes to this.
+fn is_run_over(alloc: Global, name: &str, case: &Case) -> bool {
+    let mut from = Watched::new(Broken {
+        rest: case.text.as_bytes(),
+        reads: 0,
+        failing: case.failing,
+    });
+    let mut to = Watched::new(paper_of(case.written));
+    let answer = run_named(alloc, name, case.action, &mut from, &mut to);
+    answer == case.answer && to.into_inner().left.is_empty()
+}
+
+#[test]
+fn each_write_over_a_named_input_failing_in_turn(rt: HostRuntime) {
+    let whole = b"a.deck: yes\n".as_slice();
+    for room in 0..whole.len() {
+        let case = Case {
+            answer: Err(RunError::Write),
+            written: &whole[..room],
+            ..USUAL
+        };
+        expect(&rt, is_run_over(rt.alloc(), "a.deck", &case), "cut off");
+    }
+    let case = Case {
+        written: whole,
+        ..USUAL
+    };
+    expect(&rt, is_run_over(rt.alloc(), "a.deck", &case), "whole");
+}
+
+/// Readers of line feeds: how many they give at a time and in all, and what the run answers.
+static LONG_INPUTS: &[(&str, usize, usize, RunError)] = &[
+    ("endless, byte by byte", 1, usize::MAX, RunError::TooLong),
+    (
+        "endless, many at a time",
+        65_536,
+        usize::MAX,
+        RunError::TooLong,
+    ),
+    ("one byte too many", 65_536, 67_108_865, RunError::TooLong),
+    (
+        "as many as a deck may have",
+        65_536,
+        67_108_864,
+        RunError::Read,
+    ),
+    ("a read that fails at once", 65_536, 0, RunError::Read),
+];
+
+/// Whether a run over so many line feeds answers so, and writes nothing.
+fn refuses(alloc: Global, action: Action, at_a_time: usize, left: usize, error: RunError) -> bool {
+    let mut from = Watched::new(LineFeeds { at_a_time, left });
+    let mut to = Watched::new(paper_of(&[]));
+    run(alloc, action, &mut from, &mut to) == Err(error) && !to.failed()
+}
+
+#[test]
+fn long_inputs(rt: HostRuntime) {
+    for (name, at_a_time, left, error) in LONG_INPUTS {
+        for action in [Action::Verify, Action::List] {
+            let refused = refuses(rt.alloc(), action, *at_a_time, *left, *error);
+            expect(&rt, refused, name);
+        }
+    }
+}
+
+/// Whether a run comes to this where all is read, and fails where one of the reads before does.
+fn reads(alloc: Global, whole: &Case) -> bool {
+    for failing in 0..206 {
+        let case = Case {
+            failing,
+            answer: Err(RunError::Read),
+            written: &[],
+            ..*whole
+        };
+        if !is_run(alloc, &case) {
+            return false;
+        }
+    }
+    is_run(alloc, whole)
+}
+
+#[test]
+fn each_read_failing_in_turn(rt: HostRuntime) {
+    let listed = Case {
+        action: Action::List,
+        written: SEARCH_LOOP_LISTING.as_bytes(),
+        ..USUAL
+    };
+    expect(&rt, reads(rt.alloc(), &USUAL), "verify");
+    expect(&rt, reads(rt.alloc(), &listed), "list");
+}
+
+/// What is asked for, a text, and all that is written over it.
+static WRITTEN: [(Action, &str, &str); 4] = [
+    (Action::Verify, SEARCH_LOOP, "yes\n"),
+    (Action::List, SEARCH_LOOP, SEARCH_LOOP_LISTING),
+    (
+        Action::Why { all: false },
+        END_OF_STORAGE,
+        END_OF_STORAGE_EXPLANATION,
+    ),
+    (Action::Graph, SEARCH_LOOP, SEARCH_LOOP_PICTURE),
+];
+
+/// Whether a run is cut off wherever a write fails.
+fn is_cut_off(alloc: Global, action: Action, text: &str, whole: &[u8]) -> bool {
+    for room in 0..whole.len() {
+        let case = Case {
+            action,
+            text,
+            failing: usize::MAX,
+            answer: Err(RunError::Write),
+            written: &whole[..room],
+        };
+        if !is_run(alloc, &case) {
+            return false;
+        }
+    }
+    true
+}
+
+#[test]
+fn each_write_failing_in_turn(rt: HostRuntime) {
+    for (action, text, whole) in &WRITTEN {
+        let cut_off = is_cut_off(rt.alloc(), *action, text, whole.as_bytes());
+        expect(&rt, cut_off, text);
+    }
+}
+
+static ERRORS: [(RunError, &str); 6] = [
+    (RunError::Read, "read failed"),
+    (RunError::TooLong, "deck too long"),
+    (
+        RunError::Deck {
+            line: 9,
+            cause: Cause::PutAddress,
+        },
+        "deck line 9",
+    ),
+    (RunError::TooManyPlaces, "too many places"),
+    (RunError::Write, "write failed"),
+    (RunError::Memory, "out of memory"),
+];
+
+fn is_error(alloc: Global, error: RunError, text: &str) -> bool {
+    match format!(in alloc; "{error}") {
+        Ok(found) => found.as_str() == text,
+        Err(_) => false,
+    }
+}
+
+#[test]
+fn texts_of_errors(rt: HostRuntime) {
+    for (error, text) in &ERRORS {
+        expect(&rt, is_error(rt.alloc(), *error, text), text);
+    }
+}

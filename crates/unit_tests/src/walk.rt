@@ -1,0 +1,10 @@
+//! The tests of `chan_walk`.
+
+mod exploring;
+mod guard;
+mod judging;
+mod needs;
+mod noting;
+mod program;
+mod seek;
+mod witness;

@@ -1,0 +1,134 @@
+//! Jobs by what differs from case to case, and what is asked of one.
+
+use super::guard::Ranges;
+use super::{exploring, guard, judging, needs, noting, seek, witness};
+use ccw_core::{Area, Storage};
+use chan_walk::{Job, Limit, Needs, Place, Verdict, WalkError};
+use ckd_core::{Device, Extents, FileMask};
+use std::alloc::{AllocError, Global};
+
+/// A job by what differs from case to case, and the words put into its storage at their addresses,
+/// which ascend.
+#[derive(Clone, Copy)]
+pub(crate) struct Program<'a> {
+    pub(crate) size: usize,
+    pub(crate) start: u32,
+    pub(crate) device: Device,
+    pub(crate) mask: u8,
+    pub(crate) extents: &'a [(u16, u16)],
+    pub(crate) fetch: &'a [Area],
+    pub(crate) store: &'a [Area],
+    pub(crate) limit: u32,
+    pub(crate) puts: &'a [(usize, u64)],
+}
+
+/// What the programs have where they say nothing else.
+pub(crate) const USUAL: Program<'static> = Program {
+    size: 4096,
+    start: 0x800,
+    device: Device::D2314,
+    mask: 0x00,
+    extents: &[(10, 19)],
+    fetch: &[Area {
+        start: 0x900,
+        len: 16,
+    }],
+    store: &[Area {
+        start: 0xA00,
+        len: 256,
+    }],
+    limit: 4096,
+    puts: &[],
+};
+
+/// What is asked of the job of a program.
+#[derive(Clone, Copy)]
+pub(crate) enum Question<'a> {
+    /// Whether these are its places, and the marks at these addresses.
+    Places(&'a [Place], &'a [(u32, u8)]),
+    /// Whether it has so many places, or too many.
+    Count(Result<usize, WalkError>),
+    /// Whether this is the argument of the seek at its start.
+    Argument(Option<[u8; 6]>),
+    /// Whether these are the ranges of its guard, and what they meet.
+    Guard(&'a Ranges<'a>),
+    /// Whether this is its verdict, once the guards were seen to agree.
+    Verdict(Result<Verdict, WalkError>),
+    /// Whether it has too many places for a survey.
+    IsTooLarge(bool),
+    /// Whether these are the notes on it.
+    Notes(&'a noting::Case<'a>),
+    /// Whether these are its verdict, its other offences and the path to the first of them.
+    Witness(&'a witness::Case<'a>),
+    /// Whether it grants this.
+    Grants(&'a Needs, bool),
+}
+
+/// Whether the job of a program has what is asked for.
+pub(crate) fn holds(alloc: Global, program: &Program, question: Question) -> bool {
+    let Ok(bytes) = image(alloc, program.size, program.puts) else {
+        return false;
+    };
+    match Extents::new(alloc, program.extents) {
+        Ok(extents) => holds_in(alloc, program, bytes.as_slice(), &extents, question),
+        Err(_) => false,
+    }
+}
+
+fn holds_in(
+    alloc: Global,
+    program: &Program,
+    bytes: &[u8],
+    extents: &Extents,
+    question: Question,
+) -> bool {
+    let Ok(storage) = Storage::new(bytes) else {
+        return false;
+    };
+    let Some(mask) = FileMask::new(program.mask) else {
+        return false;
+    };
+    let Some(limit) = Limit::new(program.limit) else {
+        return false;
+    };
+    let job = Job {
+        storage,
+        start: program.start,
+        device: program.device,
+        mask,
+        extents,
+        fetch: program.fetch,
+        store: program.store,
+        limit,
+    };
+    answers(alloc, &job, question)
+}
+
+/// Zeros, with the words put at their addresses.
+pub(crate) fn image(
+    alloc: Global,
+    size: usize,
+    puts: &[(usize, u64)],
+) -> Result<Vec<u8>, AllocError> {
+    let mut bytes = Vec::new(alloc);
+    for (address, word) in puts {
+        bytes.resize(*address, 0)?;
+        bytes.extend_from_slice(&word.to_be_bytes())?;
+    }
+    bytes.resize(size, 0)?;
+    Ok(bytes)
+}
+
+fn answers(alloc: Global, job: &Job, question: Question) -> bool {
+    match question {
+        Question::Places(places, marks) => exploring::are_places(alloc, job, places, marks),
+        Question::Count(count) => exploring::is_count(alloc, job, count),
+        Question::Argument(argument) => seek::is_argument(job, argument),
+        Question::Guard(ranges) => guard::has_guard(alloc, job, ranges),
+        Question::Verdict(verdict) => judging::is_judged(alloc, job, verdict),
+        Question::IsTooLarge(is_so) => witness::is_too_large(alloc, job, is_so),
+        Question::Notes(case) => noting::is_noted(alloc, job, case),
+        Question::Witness(case) => witness::is_explained(alloc, job, case),
+        Question::Grants(needed, is_so) => needs::grants(alloc, job, needed, is_so),
+    }
+}
