@@ -16,7 +16,7 @@ use Rattle.chan_walk.specs.Look.{IsLook, Seen, byte_of, places_of_looks}
 use Rattle.chan_walk.specs.Needs.{IsStrictest, ServesAt, begins}
 use Rattle.chan_walk.specs.Place.{is_fresh, ccw_of}
 use Rattle.chan_walk.specs.Rows.{AreLooksOfYes, IsLaxerThan}
-use Rattle.chan_walk.specs.Visit.{begun}
+use Rattle.chan_walk.specs.Visit.{begun, begun_at}
 use Rattle.chan_walk.proofs.Theory.Checks.{check_stands}
 use Rattle.chan_walk.proofs.Theory.Commands.{known_is_no_transfer, mask_is_no_transfer}
 use Rattle.chan_walk.proofs.Theory.Faults.{clear_check, clear_good, yes_clear}
@@ -32,7 +32,7 @@ clear_stands j p f = check_stands (storage_of j) p (clear_check j p f)
 
 -- the command that begins at a clear place, as it was seen
 pub command_at : (j : Job) (l : Seen) → IsLook j l → IsClear j l.place → l.command ≡ begun l.place (ccw_of j l.place)
-command_at j l look f = search (rules, ccw_seen, clear_stands)
+command_at j l look f = look.command ∙ ap (begun_at l.place) (ccw_seen j l look (clear_stands j l.place f))
 
 pub fresh_from : (p : Place) (c : Fields) (k : Command) → begun p c ≡ Some k → (is_fresh p.entered ≡ true) × (lookup c.command ≡ Some k)
 fresh_from p c k h = search rules

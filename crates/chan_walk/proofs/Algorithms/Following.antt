@@ -1,6 +1,5 @@
 -- Following the chain of a seek, CCW by CCW.
-use Rattle.std.proofs.Common.{◌≡◌, ℕ, zero, suc, ◌+◌, ◌-◌, ◌<◌, ◌≤◌, true, false, List, [], ◌∷◌, ◌++◌, take, length, get_or, None, Some, Option, Result, IfOk, IfErr, refl, sym, ap, ◌∙◌, subst, arith, append_assoc, append-nil, length-append, length-take-le, rules}
-use Rattle.std.proofs.lemmas.Grind.{common_steps}
+use Rattle.std.proofs.Common.{◌≡◌, ℕ, zero, suc, ◌+◌, ◌-◌, ◌<◌, ◌≤◌, true, false, List, [], ◌∷◌, ◌++◌, take, length, get_or, None, Some, Option, Result, IfOk, IfErr, refl, sym, ap, ◌∙◌, subst, ◌⊎◌, inl, inr, arith, append_assoc, append-nil, length-append, length-take-le, rules}
 use Rattle.std.proofs.lemmas.List.{ext_get_or, get_or-append-add}
 use Rattle.std.specs.Result.{result_ok}
 use Rattle.std.specs.List.{range_with_len, AllByRecursion}
@@ -55,7 +54,17 @@ found_or_none s a r o e six none = search rules
 pub note_more : (before taken taken' : List ℕ) (have from n : ℕ) → length before ≡ have → ((i : ℕ) → i < have → get_or taken i 0 ≡ get_or before i 0)
     → ((i : ℕ) → i < have → get_or taken' i 0 ≡ get_or taken i 0) → ((i : ℕ) → i < n → get_or taken' (have + i) 0 ≡ from + i)
     → (i : ℕ) → i < have + n → get_or taken' i 0 ≡ get_or (before ++ range_with_len from n) i 0
-note_more before taken taken' have from n c r b a i h = grind (arith, common_steps, cases_lt, get_or-append, get_or-append-add, get_or-range_with_len)
+note_more before taken taken' have from n c r b a i h = go (cases_lt i have)
+  where
+    go : (i < have) ⊎ (have ≤ i) → get_or taken' i 0 ≡ get_or (before ++ range_with_len from n) i 0
+    go (inl l) = b i l ∙ r i l ∙ sym (get_or-append before (range_with_len from n) 0 i (omega arith))
+    go (inr l) =
+        let k = i - have in
+        let at : have + k ≡ i = omega arith in
+        let there : length before + k ≡ i = omega arith in
+        let short : k < n = omega arith in
+        ap (λ z. get_or taken' z 0) (sym at) ∙ a k short ∙ sym (get_or-range_with_len from n k 0 short)
+        ∙ sym (get_or-append-add before (range_with_len from n) k 0) ∙ ap (λ z. get_or (before ++ range_with_len from n) z 0) there
 
 pub followed_more : (s : List ℕ) (a : ℕ) (taken taken' : List ℕ) (have here : ℕ) → IsFollowed s a taken have here → is_part s here ≡ true
     → (ccw s here).count < 6 - have → chains_data (ccw s here) ≡ true → length taken' ≡ 6
@@ -148,4 +157,7 @@ index_below n zero (x ∷ xs) p h = h.0
 index_below n (suc i) (x ∷ xs) p h = index_below n i xs p h.1
 
 pub argument_below : (s : List ℕ) (n a : ℕ) (l x : List ℕ) → IsChain s n a l → x ≡ argument_addresses s l → (i : ℕ) → get_or x i 0 < length s
-argument_below s n a l x k e i = grind (arith, common_steps, in_range, chain_begins_with_part, index_below, take_below, joined_below)
+argument_below s n a l x k e i =
+    let inside = (in_range s a (chain_begins_with_part s n a l k)).inside in
+    let below = take_below (length s) 6 (joined s l) (joined_below s l k.linked) in
+    subst (λ z. get_or z i 0 < length s) (sym e) (index_below (length s) i (argument_addresses s l) (omega arith) below)

@@ -1,5 +1,5 @@
 -- The areas of a guard while they are gathered, place by place.
-use Rattle.std.proofs.Common.{◌≡◌, ℕ, ◌+◌, ◌<◌, ◌≤◌, ◌^◌, true, ◌++◌, List, [], ◌∷◌, map, length, get_or, Option, is_some, sym, ap, ◌∙◌, subst, ◌↔◌, Result, Ok, Err, IfOk, arith, rules}
+use Rattle.std.proofs.Common.{◌≡◌, ℕ, ◌+◌, ◌<◌, ◌≤◌, ◌^◌, true, ◌++◌, List, [], ◌∷◌, map, length, get_or, Option, is_some, refl, sym, ap, ◌∙◌, subst, ◌⊎◌, inl, inr, ◌↔◌, Result, Ok, Err, IfOk, arith, rules}
 use Rattle.std.specs.List.{All}
 use Rattle.std.proofs.lemmas.Bool.{or_cases, or_left, or_right, both_ways, leb-true}
 use Rattle.std.proofs.lemmas.List.Elements.{All-append, All-map}
@@ -32,9 +32,22 @@ hold_none P areas e b = ((λ h. absurd (both_ways (lies_in [] b) (lies_in-nil b)
 pub low_none : (n : ℕ) (areas : List Area) → areas ≡ [] → All (EndsBelow n) areas
 low_none n areas e = subst (All (EndsBelow n)) (sym e) (λ i d l. absurd (omega arith))
 
+-- what holds at some place of the list, and what holds at some place of the list with one more
+pub one_more : (P : Place → Type 0) (ps : List Place) (p : Place) (Old New : Type 0) → Old ↔ ((q : Place) × Has ps q × P q) → New ↔ (Old ⊎ P p) → New ↔ ((q : Place) × Has (ps ++ p ∷ []) q × P q)
+one_more P ps p Old New f g = ((λ h. to (g.0 h)), λ r. from r.0 r.2 (has_cases ps (p ∷ []) r.0 r.1))
+  where
+    to : Old ⊎ P p → (q : Place) × Has (ps ++ p ∷ []) q × P q
+    to (inl h) = let r = f.0 h in (r.0, has_left ps (p ∷ []) r.0 r.1, r.2)
+    to (inr h) = (p, has_right ps (p ∷ []) p (inl refl), h)
+
+    from : (q : Place) → P q → Has ps q ⊎ Has (p ∷ []) q → New
+    from q h (inl m) = g.1 (inl (f.1 (q, m, h)))
+    from q h (inr (inl e)) = g.1 (inr (subst P (sym e) h))
+    from q h (inr (inr m)) = absurd m
+
 -- one more place
 pub hold_more : (P : Place → ℕ → Type 0) (ps : List Place) (p : Place) (old new : List Area) → HoldBytes P ps old → AddsBytes old new (P p) → HoldBytes P (ps ++ p ∷ []) new
-hold_more P ps p old new f g b = search (rules, has_cases, has_left, has_right)
+hold_more P ps p old new f g b = one_more (λ q. P q b) ps p (lies_in old b ≡ true) (lies_in new b ≡ true) (f b) (g b)
 
 -- at the end, in a list with the same bytes
 pub hold_same : (P : Place → ℕ → Type 0) (some ps : List Place) (areas merged : List Area) → some ≡ ps → HoldBytes P some areas → HaveSameBytes merged areas → HoldBytes P ps merged

@@ -8,7 +8,7 @@ use Rattle.std.specs.Ordering.{nat_cmp}
 use Rattle.std.specs.BTreeMap.{BTreeMap}
 use Rattle.std.specs.BTreeMap as tree
 use Rattle.std.specs.Map.{keys_of}
-use Rattle.std.proofs.lemmas.Bool.{ne_eqb, eqb-true, eq-eqb, cases_eq, both_ways, or_cases, or_left, or_right}
+use Rattle.std.proofs.lemmas.Bool.{ne_eqb, eqb-true, eq-eqb, cases_lt, or_cases, or_left, or_right}
 use Rattle.std.proofs.lemmas.Bool.Decides.{nat_tests}
 use Rattle.std.proofs.lemmas.Cmp.{nat_cmp_total, nat_eq_equiv}
 use Rattle.std.proofs.lemmas.List.{length-map}
@@ -82,12 +82,32 @@ later_way a m i n p w = let f = w.from in let b = w.below in record { way = w.wa
 way_in : (a m i n : ℕ) (p : Place) → Has (ways a m i n) p → IsWay a m i n p
 unfolding ways
 way_in a m i zero p h = absurd h
-way_in a m i (suc n) p h = search (rules, eqb-true, later_way, way_in a m (suc i) n p)
+way_in a m i (suc n) p h = go (bit_at m i == 1) refl (way_in a m (suc i) n p) h
+  where
+    go : (t : Bool) → (bit_at m i == 1) ≡ t → (Has (ways a m (suc i) n) p → IsWay a m (suc i) n p) → Has (put t (place_at a i) (ways a m (suc i) n)) p → IsWay a m i (suc n) p
+    go true e rec (inl d) = record { way = i; from = omega arith; below = omega arith; is = sym d; set = eqb-true (bit_at m i) 1 e }
+    go true e rec (inr k) = later_way a m i n p (rec k)
+    go false e rec k = later_way a m i n p (rec k)
 
 in_ways : (a m i n k : ℕ) → i ≤ k → k < i + n → bit_at m k ≡ 1 → Has (ways a m i n) (place_at a k)
 unfolding ways
 in_ways a m i zero k l h s = absurd (omega arith)
-in_ways a m i (suc n) k l h s = search (rules, cases_eq, both_ways, eq-eqb, in_ways a m (suc i) n k)
+in_ways a m i (suc n) k l h s = go (cases_lt i k) (λ b. in_ways a m (suc i) n k b (omega arith) s)
+  where
+    first : (t : Bool) → t ≡ true → Has (put t (place_at a i) (ways a m (suc i) n)) (place_at a i)
+    first true e = inl refl
+    first false e = absurd (cc)
+
+    later : (t : Bool) → Has (ways a m (suc i) n) (place_at a k) → Has (put t (place_at a i) (ways a m (suc i) n)) (place_at a k)
+    later true w = inr w
+    later false w = w
+
+    go : (i < k) ⊎ (k ≤ i) → (i < k → Has (ways a m (suc i) n) (place_at a k)) → Has (put (bit_at m i == 1) (place_at a i) (ways a m (suc i) n)) (place_at a k)
+    go (inl b) rec = later (bit_at m i == 1) (rec b)
+    go (inr b) rec =
+        let e : i ≡ k = omega arith in
+        let on : (bit_at m i == 1) ≡ true = eq-eqb (bit_at m i) 1 (ap (bit_at m) e ∙ s) in
+        subst (λ z. Has (put (bit_at m i == 1) (place_at a i) (ways a m (suc i) n)) (place_at a z)) e (first (bit_at m i == 1) on)
 
 -- the number of the place at a that is entered in the way w
 number_at : (a w : ℕ) → w < 8 → place_number (place_at a w) ≡ 8 * a + w

@@ -4,7 +4,7 @@ use Rattle.std.proofs.lemmas.Grind.{common_steps}
 use Rattle.std.specs.List.Sorted.{IsNonDecreasing, IsNonDecreasingBy, IsPermutation, IsStrictlyIncreasing, IsStrictlySortedBy}
 use Rattle.std.specs.List.{AllByRecursion, IsDistinct}
 use Rattle.std.specs.Ordering.{nat_cmp}
-use Rattle.std.proofs.lemmas.Bool.{both_ways, eq-eqb, eqb-true, ne_eqb}
+use Rattle.std.proofs.lemmas.Bool.{both_ways, cases_lt, eq-eqb, eqb-true, ne_eqb}
 use Rattle.std.proofs.lemmas.List.{get_or-map, length-map, length-take, map-append, take-append-drop}
 use Rattle.std.proofs.lemmas.List.Sorted.{Contains-permutation, IsPermutation-map, IsPermutation-sym}
 use Rattle.std.proofs.lemmas.Map.Keys.{IsDistinct-IsPermutation, IsStrictlyIncreasing-from_distinct, sorted_from_strictly_increasing}
@@ -15,9 +15,9 @@ use Rattle.chan_walk.specs.declared.job.Job.{Job}
 use Rattle.chan_walk.specs.declared.offence.Offence.{Offence}
 use Rattle.chan_walk.specs.declared.place.Place.{Place}
 use Rattle.chan_walk.specs.declared.reason.Reason.{Reason}
-use Rattle.chan_walk.specs.declared.reason.Reason.TheVariants.{ChangesCcw, ChangesArgument}
+use Rattle.chan_walk.specs.declared.reason.Reason.TheVariants.{Misaligned, OutsideStorage, TransferNotAllowed, InvalidCode, BadFormat, ZeroCount, DataOutside, NotInTable, Inhibited, StoreNotLent, FetchNotLent, ShortSeek, SeekOutside, ChangesCcw, ChangesArgument, WeakensMask}
 use Rattle.chan_walk.specs.Argument.{Has}
-use Rattle.chan_walk.specs.Explored.{AreApart}
+use Rattle.chan_walk.specs.Explored.{AreApart, way_of}
 use Rattle.chan_walk.specs.Fault.{HasFault, IsClear}
 use Rattle.chan_walk.specs.Guarded.{IsArgumentByte, IsCcwByte}
 use Rattle.chan_walk.specs.Least.{AreReached, IsOwn}
@@ -31,10 +31,15 @@ use Rattle.chan_walk.proofs.Theory.Faults.{clear_check, fault_unique}
 use Rattle.chan_walk.proofs.Algorithms.InOrder.{cmp_less}
 use Rattle.chan_walk.proofs.Theory.Lists.{contains_has, has_cases, has_contains, has_left, has_push, has_right}
 use Rattle.chan_walk.proofs.Algorithms.Looking.{number_of_places, place_at}
+use Rattle.chan_walk.proofs.Algorithms.Marks.{same_place, way_small}
 use Rattle.chan_walk.proofs.Algorithms.Sorting.{eqb_flips}
 use Rattle.chan_walk.proofs.Algorithms.Tracing.{same_index}
 use Rattle.chan_walk.proofs.Algorithms.Verdicts.{change_of, clear_all, meets_from_over, not_clear, over_from_meets}
 use Rattle.chan_walk.proofs.Algorithms.Walking.{at_has, slice_get-append}
+
+-- an offence by its place and its reason
+abbrev pub offence : Place → Reason → Offence
+offence p r = record { place = p; reason = r }
 
 -- each of the rest has a greater number than the first
 above_first : (n : ℕ) (os : List Offence) → AllByRecursion (λ y. nat_cmp n y ≡ Less) (map offence_number os) → (o : Offence) → Has os o → n < offence_number o
@@ -48,9 +53,35 @@ all_above o os up t h =
     let sorted : IsStrictlySortedBy nat_cmp (map offence_number (o ∷ os)) = sorted_from_strictly_increasing (map offence_number (o ∷ os)) up in
     above_first (offence_number o) os sorted.0 t h
 
+-- ---- the parts of an offence's number
+
+number_small : (r : Reason) → number_of r < 32
+number_small r = search rules
+
+-- the reasons by their numbers, from 1 on
+abbrev reasons : List Reason
+reasons =
+    Misaligned ∷ Misaligned ∷ OutsideStorage ∷ TransferNotAllowed ∷ InvalidCode ∷ BadFormat ∷ ZeroCount ∷ DataOutside
+    ∷ NotInTable ∷ Inhibited ∷ StoreNotLent ∷ FetchNotLent ∷ ShortSeek ∷ SeekOutside ∷ ChangesCcw ∷ ChangesArgument ∷ WeakensMask ∷ []
+
+reason_there : (r : Reason) → get_or reasons (number_of r) Misaligned ≡ r
+reason_there r = search rules
+
+same_reason : (r t : Reason) → number_of r ≡ number_of t → r ≡ t
+same_reason r t e = sym (reason_there r) ∙ ap (λ n. get_or reasons n Misaligned) e ∙ reason_there t
+
 -- a lesser number comes first
 comes_first : (o t : Offence) → offence_number o < offence_number t → ComesFirst o.place.address o.reason t.place.address t.reason
-comes_first o t l = search rules
+comes_first o t l = go (cases_lt o.place.address t.place.address)
+  where
+    go : (o.place.address < t.place.address) ⊎ (t.place.address ≤ o.place.address) → ComesFirst o.place.address o.reason t.place.address t.reason
+    go (inl b) = inl b
+    go (inr b) =
+        let r = number_small o.reason in
+        let s = number_small t.reason in
+        let w = way_small o.place in
+        let v = way_small t.place in
+        inr (omega arith, omega arith)
 
 pub first_is_verdict : FirstIsVerdict
 first_is_verdict j [] are = λ p r m o. are.each (record { place = p; reason = r }) (m, o)
@@ -69,7 +100,16 @@ first_is_verdict j (o ∷ os) are = (record { place = o.place; reached = here.0;
 -- ---- offences with one number are one offence
 
 pub same_offence : (o t : Offence) → offence_number o ≡ offence_number t → o ≡ t
-same_offence o t e = search rules
+same_offence o t e =
+    let r = number_small o.reason in
+    let s = number_small t.reason in
+    let w = way_small o.place in
+    let v = way_small t.place in
+    let way : way_of o.place ≡ way_of t.place = omega arith in
+    let number : number_of o.reason ≡ number_of t.reason = omega arith in
+    let place = same_place o.place t.place (omega arith) way in
+    let reason = same_reason o.reason t.reason number in
+    ap (λ z. offence z o.reason) place ∙ ap (offence t.place) reason
 
 distinct : (os : List Offence) → AreApart os → IsDistinct eqb (map offence_number os)
 unfolding IsDistinct
@@ -103,10 +143,6 @@ same_offences os ts o moved = search (rules, contains_has, Contains-permutation,
 apart_append : {X : Type 0} (xs ys : List X) → AreApart xs → AreApart ys → ((x : X) → Has xs x → Has ys x → ⊥) → AreApart (xs ++ ys)
 apart_append [] ys a b n = b
 apart_append (x ∷ xs) ys a b n = search (rules, has_cases, apart_append xs ys a.1 b)
-
--- an offence by its place and its reason
-abbrev pub offence : Place → Reason → Offence
-offence p r = record { place = p; reason = r }
 
 -- none, or one
 pub adds_none : (Off : Place → Reason → Type 0) (p : Place) (os ts : List Offence) → ts ≡ os → ((r : Reason) → Off p r → ⊥) → AddsOffences Off p os ts
@@ -147,7 +183,18 @@ stores_both j l b given areas P look clear e same h = search (rules, ccw_at-wher
 -- the two changes at a place
 pub adds_changes : (j : Job) (p : Place) (a b : Bool) (os ts us : List Offence) → IsTrue a ↔ StoresOver j p (IsCcwByte j) → IsTrue b ↔ StoresOver j p (IsArgumentByte j)
     → AddsOffences (λ _ t. (t ≡ ChangesCcw) × IsTrue a) p os ts → AddsOffences (λ _ t. (t ≡ ChangesArgument) × IsTrue b) p ts us → AddsOffences (Changes j) p os us
-adds_changes j p a b os ts us f g one other = search (rules, adds_both)
+adds_changes j p a b os ts us f g one other = adds_both (λ _ t. (t ≡ ChangesCcw) × IsTrue a) (λ _ t. (t ≡ ChangesArgument) × IsTrue b) (Changes j) p os ts us one other (λ r. (to r, from r)) never
+  where
+    to : (r : Reason) → Changes j p r → ((r ≡ ChangesCcw) × IsTrue a) ⊎ ((r ≡ ChangesArgument) × IsTrue b)
+    to r (inl h) = inl (h.0, f.1 h.1)
+    to r (inr h) = inr (h.0, g.1 h.1)
+
+    from : (r : Reason) → ((r ≡ ChangesCcw) × IsTrue a) ⊎ ((r ≡ ChangesArgument) × IsTrue b) → Changes j p r
+    from r (inl h) = inl (h.0, f.0 h.1)
+    from r (inr h) = inr (h.0, g.0 h.1)
+
+    never : (r : Reason) → (r ≡ ChangesCcw) × IsTrue a → (r ≡ ChangesArgument) × IsTrue b → ⊥
+    never r h k = let same : ◌≡◌ {A = Reason} ChangesCcw ChangesArgument = sym h.0 ∙ k.0 in cc
 
 -- ---- all of them
 
@@ -190,4 +237,8 @@ no_offence os n b l e f = grind (arith, common_steps, eqb-true)
 
 -- the same offences in order
 pub put_in_order : (j : Job) (os ts : List Offence) → AreAllOffences j os → IsStrictlyIncreasing (map offence_number ts) → ((o : Offence) → Has ts o ↔ Has os o) → AreOffences j ts
-put_in_order j os ts all up same = search rules
+put_in_order j os ts all up same = record {
+  ordered = up;
+  each = λ o h. (same o).1 ((all.exactly o).1 h);
+  only = λ o h. (all.exactly o).0 ((same o).0 h);
+}

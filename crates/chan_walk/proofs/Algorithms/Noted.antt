@@ -1,5 +1,5 @@
 -- Notes: areas lent in vain, and the addresses of CCWs that pass a test.
-use Rattle.std.proofs.Common.{◌≡◌, ℕ, zero, suc, ◌+◌, ◌<◌, ◌≤◌, Bool, true, false, not, ◌||◌, IsTrue, List, [], ◌∷◌, ◌++◌, append-nil, length, get_or, take, Some, ◌∙◌, subst, ◌⊎◌, ◌↔◌, arith, eqb, rules}
+use Rattle.std.proofs.Common.{◌≡◌, ℕ, zero, suc, ◌+◌, ◌<◌, ◌≤◌, Bool, true, false, not, ◌||◌, IsTrue, List, [], ◌∷◌, ◌++◌, append-nil, length, get_or, take, Some, sym, ap, ◌∙◌, subst, ◌⊎◌, inl, inr, ◌↔◌, arith, eqb, rules}
 use Rattle.std.proofs.lemmas.Grind.{common_steps}
 use Rattle.std.specs.List.{dedup, filter}
 use Rattle.std.specs.List.Sorted.{IsPermutation, IsStrictlyIncreasing}
@@ -11,9 +11,9 @@ use Rattle.std.proofs.lemmas.List.Sorted.{Contains-permutation, IsPermutation-sy
 use Rattle.ccw_core.specs.declared.areas.Area.{Area}
 use Rattle.ccw_core.specs.Areas.{lies_in}
 use Rattle.ccw_core.specs.Ccw.{Fields}
-use Rattle.ccw_core.specs.Storage.{Stands}
+use Rattle.ccw_core.specs.Storage.{Stands, is_aligned, is_inside}
 use Rattle.ccw_core.proofs.Covering.{lies_in-nil}
-use Rattle.ccw_core.proofs.StorageLemmas.{ccw_at-where}
+use Rattle.ccw_core.proofs.StorageLemmas.{ccw_at-some, ccw_at-where}
 use Rattle.ckd_core.specs.Table.{lookup}
 use Rattle.chan_walk.specs.declared.job.Job.{Job}
 use Rattle.chan_walk.specs.declared.place.Entry.{Entry}
@@ -29,8 +29,8 @@ use Rattle.chan_walk.specs.Notes.{AddsAddress, AreAddressesOf, AreUnused, HoldDa
 use Rattle.chan_walk.specs.Place.{is_fresh, ccw_of}
 use Rattle.chan_walk.specs.Ranges.{end_of, Meets}
 use Rattle.chan_walk.proofs.Theory.Commands.{idle_is_no_transfer}
-use Rattle.chan_walk.proofs.Algorithms.Guarding.{HoldBytes}
-use Rattle.chan_walk.proofs.Theory.Lists.{contains_has, has_cases, has_contains, has_left, has_push, has_right}
+use Rattle.chan_walk.proofs.Algorithms.Guarding.{HoldBytes, one_more}
+use Rattle.chan_walk.proofs.Theory.Lists.{contains_has, has_contains, has_push}
 use Rattle.chan_walk.proofs.Algorithms.Merging.{lies_in-cases, lies_in-first}
 
 -- ---- areas that are used, by a test
@@ -90,8 +90,25 @@ HasData test j p b = Passes test j p × ((data_at j p).start ≤ b) × (b < end_
 pub ccw_seen : (j : Job) (l : Seen) → IsLook j l → Stands (storage_of j) l.place.address → l.ccw ≡ Some (ccw_of j l.place)
 ccw_seen j l look s = look.ccw ∙ ccw_at-where (storage_of j) l.place.address s
 
+-- what was seen is the CCW that stands there
+seen_at : (j : Job) (l : Seen) (c : Fields) → IsLook j l → l.ccw ≡ Some c → (is_aligned l.place.address ≡ true) × (is_inside (length (storage_of j)) l.place.address ≡ true) × (c ≡ ccw_of j l.place)
+seen_at j l c look e = ccw_at-some (storage_of j) l.place.address c (sym look.ccw ∙ e)
+
 pub adds_data : (test : Place → Fields → Bool) (j : Job) (l : Seen) (so : Bool) (old new : List Area) → IsLook j l → ((c : Fields) → l.ccw ≡ Some c → so ≡ test l.place c) → AddsBytes old new (IsSeenByte l so) → AddsBytes old new (HasData test j l.place)
-adds_data test j l so old new look same adds b = search rules
+adds_data test j l so old new look same adds b = ((λ h. to ((adds b).0 h)), λ h. (adds b).1 (from h))
+  where
+    to : (lies_in old b ≡ true) ⊎ IsSeenByte l so b → (lies_in old b ≡ true) ⊎ HasData test j l.place b
+    to (inl h) = inl h
+    to (inr h) =
+        let at = seen_at j l h.ccw look h.seen in
+        let is = at.2 in
+        inr (((at.0, at.1), ap (test l.place) (sym is) ∙ sym (same h.ccw h.seen) ∙ h.so), subst (λ (c : Fields). c.address ≤ b) is h.from, subst (λ c. b < end_of (data_of c)) is h.below)
+
+    from : (lies_in old b ≡ true) ⊎ HasData test j l.place b → (lies_in old b ≡ true) ⊎ IsSeenByte l so b
+    from (inl h) = inl h
+    from (inr h) =
+        let seen = ccw_seen j l look h.0.0 in
+        inr (record { ccw = ccw_of j l.place; seen = seen; so = same (ccw_of j l.place) seen ∙ h.0.1; from = h.1; below = h.2 })
 
 -- over the reachable places
 pub all_data : (test : Place → Fields → Bool) (j : Job) (ps : List Place) (areas : List Area) → AreReached j ps → HoldBytes (HasData test j) ps areas → HoldData test j areas
@@ -111,10 +128,21 @@ pub addresses_none : (P : Place → ℕ → Type 0) (xs : List ℕ) → xs ≡ [
 addresses_none P xs e a = ((λ h. absurd (subst (λ z. Has z a) e h)), λ h. absurd h.1)
 
 pub addresses_more : (P : Place → ℕ → Type 0) (ps : List Place) (p : Place) (old new : List ℕ) → HoldAddresses (Has old) P ps → ((a : ℕ) → Has new a ↔ (Has old a ⊎ P p a)) → HoldAddresses (Has new) P (ps ++ p ∷ [])
-addresses_more P ps p old new f g a = search (rules, has_cases, has_left, has_right)
+addresses_more P ps p old new f g a = one_more (λ q. P q a) ps p (Has old a) (Has new a) (f a) (g a)
 
 pub adds_address : (test : Place → Fields → Bool) (j : Job) (l : Seen) (so : Bool) (old new : List ℕ) → IsLook j l → IsTrue so ↔ IsSeenWith test l → AddsAddress so l.place.address old new → (a : ℕ) → Has new a ↔ (Has old a ⊎ HasAddress test j l.place a)
-adds_address test j l so old new look same adds a = search rules
+adds_address test j l so old new look same adds a = ((λ h. to ((adds a).0 h)), λ h. (adds a).1 (from h))
+  where
+    to : Has old a ⊎ (IsTrue so × (l.place.address ≡ a)) → Has old a ⊎ HasAddress test j l.place a
+    to (inl h) = inl h
+    to (inr h) =
+        let w = same.0 h.0 in
+        let at = seen_at j l w.0 look w.1 in
+        inr (((at.0, at.1), ap (test l.place) (sym at.2) ∙ w.2), h.1)
+
+    from : Has old a ⊎ HasAddress test j l.place a → Has old a ⊎ (IsTrue so × (l.place.address ≡ a))
+    from (inl h) = inl h
+    from (inr h) = inr (same.1 (ccw_of j l.place, ccw_seen j l look h.0.0, h.0.1), h.1)
 
 -- over the reachable places, each once
 pub all_addresses : (test : Place → Fields → Bool) (j : Job) (some ps : List Place) (xs ys : List ℕ) → some ≡ ps → AreReached j ps → HoldAddresses (Has xs) (HasAddress test j) some → IsStrictlyIncreasing ys → ((a : ℕ) → Has ys a ↔ Has xs a) → AreAddressesOf test j ys

@@ -94,15 +94,24 @@ module _ (j : Job) (ps : List Place) (fs : List ℕ) (i : ℕ) (p q : Place) (t 
         earlier = omega arith;
         among = omega arith;
       }
-  from k h l (inr b) = search (rules, length-more, new, there', get_last, within)
+  from k h l (inr b) =
+      let at : k ≡ length ps = omega (arith, length-more) in
+      let e : slice_index from_more k ≡ i = ap (slice_index from_more) at ∙ new in
+      record { parent = p; child = q; there = ap (slice_get more) e ∙ there'; here = get_last ps q k at; follows = follows; earlier = omega (arith, within); among = omega arith }
 
   upto : (k : ℕ) → 0 < k → k < length ps → slice_index from_more k ≤ i
   upto k h b = let e = old k b in let a = (t.from k h b).among in omega arith
 
   rising : (k l : ℕ) → 0 < k → k ≤ l → l < length more → (l < length ps) ⊎ (length ps ≤ l) → (k < length ps) ⊎ (length ps ≤ k) → slice_index from_more k ≤ slice_index from_more l
   rising k l h o b (inl c) d = let e = old k (omega arith) in let f = old l c in let r = t.rising k l h o c in omega arith
-  rising k l h o b (inr c) (inl d) = search (rules, length-more, new, upto)
-  rising k l h o b (inr c) (inr d) = search (rules, length-more)
+  rising k l h o b (inr c) (inl d) =
+      let at : l ≡ length ps = omega (arith, length-more) in
+      let e : slice_index from_more l ≡ i = ap (slice_index from_more) at ∙ new in
+      let u = upto k h d in
+      omega arith
+  rising k l h o b (inr c) (inr d) =
+      let at : k ≡ l = omega (arith, length-more) in
+      subst (λ z. slice_index from_more k ≤ slice_index from_more z) at (omega arith)
 
   siblings : (k l : ℕ) → 0 < k → k < l → l < length more → slice_index from_more k ≡ slice_index from_more l → (l < length ps) ⊎ (length ps ≤ l) → AreSiblings j more (slice_index from_more k) k l
   siblings k l h o b e (inl c) =
@@ -237,7 +246,8 @@ module _ (j : Job) (p : Place) (n : Next) (i : ℕ) (are : AreSuccessors j p n) 
       same has = record { traced = m.traced; there = m.there; has = λ q. each q }
         where
           each : (q : Place) → IsAmong n q → IsFoundBy qs gs i q
-          each q h = search rules
+          each q (inl g) = m.has q g
+          each q (inr g) = has q g
 
       moved : rs ≡ qs → hs ≡ gs → HasBoth j p n i qs gs → HasBoth j p n i rs hs
       moved d f h = subst (λ z. HasBoth j p n i z hs) (sym d) (subst (λ z. HasBoth j p n i qs z) (sym f) h)

@@ -1,5 +1,5 @@
 -- The whole table of own faults: its first reason is the own fault, and its numbers increase.
-use Rattle.std.proofs.Common.{◌≡◌, ℕ, zero, suc, ◌<◌, Bool, if◌then◌else◌, List, [], ◌∷◌, ◌++◌, length, Option, None, arith, rules}
+use Rattle.std.proofs.Common.{◌≡◌, ℕ, zero, suc, ◌+◌, ◌<◌, Bool, true, false, if◌then◌else◌, List, [], ◌∷◌, ◌++◌, append-nil, length, slice_index, Option, None, sym, ap, ◌∙◌, subst, arith, rules}
 use Rattle.std.specs.List.Sorted.{IsStrictlyIncreasing}
 use Rattle.std.specs.Option.{option_or}
 use Rattle.ccw_core.specs.Ccw.{Fields, is_transfer}
@@ -21,7 +21,9 @@ increasing : (ns : List ℕ) → Rises ns → IsStrictlyIncreasing ns
 increasing [] h k l = absurd (omega arith)
 increasing (n ∷ []) h k l = absurd (omega arith)
 increasing (n ∷ m ∷ ms) h zero l = h.0
-increasing (n ∷ m ∷ ms) h (suc k) l = search (rules, increasing (m ∷ ms) h.1 k)
+increasing (n ∷ m ∷ ms) h (suc k) l =
+    let e : suc (k + 1) ≡ suc k + 1 = omega arith in
+    subst (λ i. slice_index (m ∷ ms) k < slice_index (n ∷ m ∷ ms) i) e (increasing (m ∷ ms) h.1 k (omega arith))
 
 or_assoc : (a b c : Option Reason) → option_or (option_or a b) c ≡ option_or a (option_or b c)
 or_assoc a b c = search rules
@@ -46,7 +48,9 @@ numbers_increase j p x = (same (is_transfer c), rises (is_transfer c))
     own = table_of_own j p (ccw_of j p) x
 
     same : (b : Bool) → option_or (option_or (first_reason any) (if b then None else first_reason ccw)) (if b then None else first_reason own) ≡ first_reason (any ++ (if b then [] else ccw ++ own))
-    same b = search (rules, or_none, first_reason-append, any, or_assoc, ccw, own)
+    same true = or_none (option_or (first_reason any) None) ∙ or_none (first_reason any) ∙ ap first_reason (sym (append-nil any))
+    same false = or_assoc (first_reason any) (first_reason ccw) (first_reason own) ∙ ap (option_or (first_reason any)) (sym (first_reason-append ccw own)) ∙ sym (first_reason-append any (ccw ++ own))
 
     rises : (b : Bool) → IsStrictlyIncreasing (numbers_of (any ++ (if b then [] else ccw ++ own)))
-    rises b = search (rules, increasing, any, ccw, own)
+    rises true = increasing (numbers_of (any ++ [])) (search rules)
+    rises false = increasing (numbers_of (any ++ ccw ++ own)) (search rules)

@@ -1,6 +1,7 @@
-use Rattle.std.proofs.Common.{◌∷◌, [], ◌∙◌, ◌++◌, ap, sym, append_assoc, append-nil, rules}
+use Rattle.std.proofs.Common.{◌∷◌, [], ◌∙◌, ◌++◌, ap, sym, append_assoc, append-nil}
 use Rattle.chan_walk.specs.Job.{storage_of}
 use Rattle.chan_deck.specs.Listing.{row_of}
+use Rattle.chan_deck.proofs.Failures.{not_failed}
 use Rattle.chan_deck.proofs.Pieces.{line_added, line_begun, lines_begun}
 use Rattle.chan_deck.proofs.listing.write_places.Goals as goal
 
@@ -10,7 +11,7 @@ loop-place-preserved g c =
     let row = simp (c.is_named-marked.ensures, c.standing_at-ccw.ensures.ccw, c.standing_at-ccw.ensures.command) at c.in_ok-write_row.ensures.ok in
     record {
       all = append_assoc ps (c.in-Some.place ∷ []) c.next.new.self ∙ ap (λ z. ps ++ z) (sym c.in-Some.ensures.steps) ∙ c.loop-place.invariant.all;
-      sound = search rules;
+      sound = not_failed _ _ _ c.in_ok-write_row.ensures.write.1;
       lines = line_added (row_of (storage_of c.args.job.now) c.args.verdict) ps c.in-Some.place c.loop-place.invariant.lines row;
     }
 

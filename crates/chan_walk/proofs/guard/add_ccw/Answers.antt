@@ -1,7 +1,9 @@
-use Rattle.std.proofs.Common.{[], ◌∷◌, ◌++◌, sym, ap, ◌∙◌, rules}
+use Rattle.std.proofs.Common.{◌^◌, [], ◌∷◌, ◌++◌, sym, ap, ◌∙◌}
 use Rattle.ccw_core.specs.declared.areas.Area.{Area}
 use Rattle.chan_walk.specs.declared.place.Place.{Place}
 use Rattle.chan_walk.specs.Guard.{IsCcwByteOf}
+use Rattle.chan_walk.specs.Job.{storage_of}
+use Rattle.chan_walk.specs.Ranges.{EndsBelow}
 use Rattle.chan_walk.proofs.Algorithms.Guarding.{adds_areas, bytes_of_ccw, low_more, stands_low}
 use Rattle.chan_walk.proofs.Algorithms.Looking.{seen_stands}
 use Rattle.chan_walk.proofs.Algorithms.Merging.{all_one}
@@ -12,7 +14,12 @@ abbrev area_at : Place → Area
 area_at p = record { start = p.address; len = 8 }
 
 pub returns-in_ok-push-clause-low : goal.returns-in_ok-push-clause-low
-returns-in_ok-push-clause-low c = search (rules, seen_stands, low_more, all_one, stands_low)
+returns-in_ok-push-clause-low c =
+    let p = c.args.look.now.place in
+    let j = c.requires.look.0 in
+    let stands = seen_stands j c.args.look.now c.ccw.result c.requires.look.1 c.ccw.ensures (sym c.is_some.ensures ∙ c.if-is_some.true) in
+    low_more c.args.areas.now.items (area_at p ∷ []) c.push.new.self.items (2 ^ 32) (c.in_ok-push.ensures.items ∙ ap (λ (q : Place). c.args.areas.now.items ++ area_at q ∷ []) c.place.ensures)
+    c.requires.low (all_one (EndsBelow (2 ^ 32)) (area_at p) (stands_low (storage_of j) p.address j.storage.small stands))
 
 pub returns-in_ok-push-clause-bytes : goal.returns-in_ok-push-clause-bytes
 returns-in_ok-push-clause-bytes c j h =

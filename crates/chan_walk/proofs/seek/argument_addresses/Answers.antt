@@ -1,5 +1,8 @@
-use Rattle.std.proofs.Common.{◌∙◌, sym, arith}
+use Rattle.std.proofs.Common.{◌≡◌, ℕ, ◌+◌, ◌-◌, [], refl, ◌∙◌, sym, subst, arith}
+use Rattle.std.proofs.lemmas.Bool.{both_ways}
 use Rattle.ccw_core.specs.Held.{bytes_held}
+use Rattle.chan_walk.specs.Argument.{IsChain, is_part}
+use Rattle.chan_walk.proofs.Theory.Chains.{chain_begins_with_part}
 use Rattle.chan_walk.proofs.Algorithms.Following.{argument_below, followed_more, followed_whole, leads_nowhere, no_more}
 use Rattle.chan_walk.proofs.Algorithms.Given.{front_more, front_taken, given_more, given_no_part, given_nowhere, given_unchained}
 use Rattle.chan_walk.proofs.seek.argument_addresses.Goals as goal
@@ -56,3 +59,28 @@ loop-part-preserved c =
       given = rw (c.in-Some-onward.ensures.found, part.count) (given_more _ _ _ _ _ c.loop-part.invariant.given part.part c.note-in-loop-part.new.addresses n.before (simp (part.count, part.from) at n.added) chained);
       stands = c.in-Some-onward.ensures.stands;
     }
+
+pub loop-part-init : goal.loop-part-init
+loop-part-init c =
+    let s = bytes_held c.args.storage.now in
+    let a = c.args.address in
+    let none : (m : ℕ) → 0 + m ≡ m = λ m. omega arith in
+    record {
+      followed = record { size = refl; few = omega arith; before = []; count = refl; noted = λ i h. absurd (omega arith); to = λ l k. (l, k, refl); from = λ k h. (k, h) };
+      given = record {
+        before = [];
+        count = refl;
+        noted = λ i h. absurd (omega arith);
+        some = λ h. absurd (omega arith);
+        to = λ m h l k. (l, subst (λ z. IsChain s z a l) (sym (none m)) k, refl);
+        from = λ m h k w. (k, subst (λ z. IsChain s z a k) (none m) w);
+      };
+      stands = c.requires;
+    }
+
+pub returns-in_default-clause-none : goal.returns-in_default-clause-none
+returns-in_default-clause-none c l k =
+    let s = bytes_held c.args.storage.now in
+    let here = c.loop-part.here.address in
+    let r = c.loop-part.invariant.followed.from l k in
+    both_ways (is_part s here) c.in_default.ensures.none (chain_begins_with_part s (6 - c.loop-part.have) here r.0 r.1)
