@@ -1,19 +1,20 @@
 # `make` builds chanv and runs it, `make test` passes every proof and every test, and `make audit`
 # shows that the proofs mean something: all from nothing, and wrong bodies that have to be refused.
-# `make lib` builds the library for C. `make install PREFIX=/usr/local` copies what these two built to
-# where users expect it, and builds nothing; `make uninstall` takes it away.
+# `make lib` builds the library for C. `make install PREFIX=/usr/local` copies what these two built
+# to where users expect it, and builds nothing; `make uninstall` takes it away.
 
 PREFIX ?= /usr/local
 VERSION = 0.3.0
 
 # How many processors a proof may use; each takes up to 1.5 GB of memory.
 JOBS ?= $(shell nproc)
+HALF = $(shell expr \( $(JOBS) + 1 \) / 2)
 
 # The libraries under chanv, lowest first. They are built one by one, each with all processors, so
 # that `rt run` in chanv finds them there, and leaves out its quick pass over all sources.
 LIBRARIES = ccw_core ckd_core chan_walk chan_deck chan_run
 
-.PHONY: run libraries test audit lib install uninstall
+.PHONY: run libraries test audit proofs wrong_bodies lib install uninstall
 
 run: libraries
 	cd crates/chanv && rt run --jobs $(JOBS) < stdin
@@ -25,13 +26,24 @@ libraries:
 test: libraries
 	tests/run --all --jobs $(JOBS)
 
+# The two stand side by side, each with half of the processors: a proof reads for a while with one,
+# and with more processes than processors each takes longer.
 audit:
-	rt ci
-	batches/try.py
+	RT_JOBS=$(HALF) $(MAKE) --jobs=2 JOBS=$(HALF) proofs wrong_bodies
 	batches/forbidden_words.py
 
-# The library for C with the kit's runtime, as one object that shows nothing but chanv's calls, in an
-# archive and a shared library, each of which links by itself.
+wrong_bodies: libraries
+	batches/try.py
+
+# The kit's gate, from nothing. It gets a copy without must-fail/: to try wrong bodies it would
+# prove each crate that has some once more, and batches/try.py begins with what `libraries` kept.
+proofs:
+	copy=$$(mktemp -d) && trap 'rm -rf "$$copy"' EXIT && \
+	  tar -c --exclude=./.git --exclude=out --exclude=must-fail . | tar -x -C "$$copy" && \
+	  cd "$$copy" && rt ci
+
+# The library for C with the kit's runtime, as one object that shows nothing but chanv's calls, in
+# an archive and a shared library, each of which links by itself.
 lib:
 	cd crates/chanv_c && rt lib --jobs $(JOBS)
 	mkdir -p out

@@ -1,31 +1,38 @@
 #!/usr/bin/env python3
-"""Tries the further wrong bodies, batches/CRATE/NAME.edit, several with one check.
+"""Tries each wrong body once: those of single functions several with one check, the others alone.
 
-usage: batches/try.py [CRATE..] [--jobs=N]     (no CRATE: each that has a folder here, lowest first)
+usage: batches/try.py [CRATE..]     (no CRATE: each that has a folder here, lowest first)
 
-`rt ci` tries each edit of must-fail/ with a check of its own. Here stand those that turn another
-clause or branch of what has an edit there. They have the same form, the lines 'file:', 'old:'
-and 'new:', for one file of src/, and name the function whose body they turn, as `rt check` does
-but without the crate:
+The named wrong bodies and the wrong definitions are crates/CRATE/must-fail/NAME.edit. Further wrong
+bodies, of another clause or branch, are batches/CRATE/NAME.edit. All have the lines 'file:', 'old:'
+and 'new:', and one that names a function as `rt check` does, but without the crate:
 
-    function: extents::judge
+    # function: extents::judge             for one that turns the body of this function
+    # goals: returns-then-first-last       what the search leaves open there, if anything
+    # refused-by: laws::yes_is_safe        for any other
 
-Each crate is first proved as it is, over the work that was kept in out/. Then, beside the
-next crate's proof, a copy gets a wrong body in each of several functions, and these functions are
-checked, and no others. Each has to be refused for a goal of its own: one that the search left open,
-or one that its written answer shows no longer. It doesn't count that it calls what isn't proved,
-that a proof lost a name, or that a text isn't Rattle. An edit that such a thing hides is tried
-again without those that were refused beside it, and at last alone. What a caller owes rests on the
-contracts of what it calls and never on their bodies, so a function is refused here for its own body
-alone.
+Each crate is first proved as it is, over the work that was kept in out/. Then a copy gets a wrong
+body in each of several functions, and these functions are checked, and no others. Each has to be
+refused for a goal of its own: one that the search left open, or one that its written answer shows
+no longer. Where an edit names goals, it is each of these; the copy leaves them to the search by
+name, since `rt check` else looks for what to offer, which takes as long again. It doesn't count
+that it calls what isn't proved, that a proof lost a name, or that a text isn't Rattle. An edit that
+such a thing hides is tried again without those that were refused beside it, and at last alone. What
+a caller owes rests on the contracts of what it calls and never on their bodies, so a function is
+refused here for its own body alone.
 
-It prints a line for each edit, with these goals, those of the second sort as (answered), and the
-processor time of each check. The last line is 'N refused, M failed', and the exit status is 1
-where M isn't 0.
+The others are wrong definitions, with the code that computes them, and constants: what several
+functions owe. For each of these a copy is checked as far as the law or the function reaches that
+has to refuse it, with the lemmas that its proof cites.
+
+It prints a line for each edit, with the goals, those of the second sort as (answered), or with what
+was said first, and the processor time of each check. The last line is 'N refused, M failed', and
+the exit status is 1 where M isn't 0.
 """
 
 import collections
 import concurrent.futures
+import contextlib
 import os
 import pathlib
 import re
@@ -36,52 +43,76 @@ import tempfile
 
 HERE = pathlib.Path(__file__).resolve().parent
 ROOT = HERE.parent
-# What antt says of an answer that names what is no longer there, or that it can't read.
-LOST = re.compile(
-    "is not in scope|has no field|has no `|was not admitted|is no name|operand is missing"
-    "|expected the end|cannot continue"
+# What antt says of a text that it can't read, and what more of one that rests on what isn't there.
+UNREAD = re.compile(
+    "is not in scope|has no field|is no name|operand is missing|expected the end|cannot continue"
 )
+LOST = re.compile(f"{UNREAD.pattern}|has no `|was not admitted")
+UNFIT = "an old text doesn't stand in its file exactly once"
 LINES = [it.partition(":") for it in (ROOT / "crates.txt").read_text().splitlines()]
 STANDS_ON = {it[0].split()[0]: set(it[2].split()) for it in LINES if it[0][:1] not in ("", "#")}
-FLAGS = [word for word in sys.argv[1:] if word.startswith("--")]
-NAMES = [word for word in sys.argv[1:] if not word.startswith("--")]
+# Where a check refuses something: the file, and why.
+REFUSED = re.compile(r"(?m)^(?:\./)?([^\s:]+):\d+:\d+: error: (.*)")
+OPEN = re.compile(r"(?m)^note: (\S+: it is not proved that .*)")
+NAMES = sys.argv[1:]
 
-Edit = collections.namedtuple("Edit", "name function file pairs")  # pairs of an old text and a new
+# is_body: whether it turns the body of the function; changes: file, old text and new text of each
+Edit = collections.namedtuple("Edit", "name function is_body goals changes")
 
 
 def read_edit(path):
-    said = [line.partition(":")[::2] for line in path.read_text().splitlines()]
-    once = {word: text.strip() for word, text in said}
-    texts = [text.removeprefix(" ") for word, text in said if word in ("old", "new")]
-    pairs = [*zip(texts[::2], texts[1::2])]
-    return Edit(path.stem, once.get("function", ""), once.get("file", ""), pairs)
+    function, is_body, goals, file, old, changes = "", False, [], "", "", []
+    for line in path.read_text().splitlines():
+        word, _, text = line.removeprefix("# ").partition(":")
+        text = text.removeprefix(" ")
+        if word in ("function", "refused-by"):
+            function, is_body = text, word == "function"
+        elif word == "goals":
+            goals = text.split(", ")
+        elif word == "file":
+            file = text
+        elif word == "old":
+            old = text
+        elif word == "new":
+            changes.append((file, old, text))
+    return Edit(path.stem, function, is_body, goals, changes)
 
 
-def source(crate, edit):
-    """The text of the edit's file, empty where it isn't one of src/."""
-    path = ROOT / "crates" / crate / edit.file
-    return path.read_text() if edit.file.startswith("src/") and path.is_file() else ""
-
-
-def applied(edit, text):
-    """The text with the edit, or None where an old text doesn't stand in it exactly once."""
-    for old, new in edit.pairs:
+def applied(crate, edit, texts):
+    """The texts of files with the edit, or None where an old text doesn't stand in one once."""
+    texts = dict(texts)
+    for file, old, new in edit.changes:
+        path = ROOT / "crates" / crate / file
+        text = texts.get(file) or (path.read_text() if path.is_file() else "")
         if text.count(old) != 1:
             return None
-        text = text.replace(old, new)
-    return text
+        texts[file] = text.replace(old, new)
+    return texts
 
 
-def called(command, folder, what, more=()):
+def left_to_search(crate, edit, texts):
+    """These texts, where the goals that the edit names are left to the search by name."""
+    file = f"proofs/{edit.function.replace('::', '/')}/Answers.antt"
+    path, goals = ROOT / "crates" / crate / file, f"{edit.function.replace('::', '.')}.Goals"
+    text = path.read_text() if path.is_file() else ""
+    uses = {
+        rf"Common\.\{{[^}}]*\brules\b": "use Rattle.std.proofs.Common.{rules}",
+        "Goals as goal": f"use Rattle.{crate}.proofs.{goals} as goal",
+    }
+    lines = [line for has, line in uses.items() if not re.search(has, text)]
+    answers = [f"pub {it} : goal.{it}\n{it} c = search rules\n" for it in edit.goals]
+    return {**texts, file: "\n".join([*lines, text, *answers])} if answers else texts
+
+
+def called(words, folder, what):
     """What a command of `rt` says in a crate's folder, and the status with which it ends."""
     how = {"stdout": subprocess.PIPE, "stderr": subprocess.STDOUT, "stdin": subprocess.DEVNULL}
-    words = ["rt", command, *FLAGS, *more]
-    with subprocess.Popen(words, cwd=folder, text=True, errors="replace", **how) as ran:
+    with subprocess.Popen(["rt", *words], cwd=folder, text=True, errors="replace", **how) as ran:
         said = ran.stdout.read()
         _, status, used = os.wait4(ran.pid, 0)
         ran.returncode = os.waitstatus_to_exitcode(status)
     spent = used.ru_utime + used.ru_stime
-    print(f"{folder.name}, {what}: checked in {spent:.0f} s of a processor", flush=True)
+    print(f"{folder.name}, {what}: {spent:.0f} s of a processor", flush=True)
     return said, ran.returncode
 
 
@@ -89,7 +120,7 @@ def is_proved(crate):
     """Whether the crate is proved as it is. A library that `make` has built is at once."""
     folder = ROOT / "crates" / crate
     command = "lib" if (folder / "src/lib.rt").is_file() else "check"
-    return called(command, folder, "as it is")[1] == 0
+    return called([command], folder, "as it is")[1] == 0
 
 
 def below(crate):
@@ -100,8 +131,9 @@ def below(crate):
     return found
 
 
-def check_with(crate, texts, functions):
-    """What `rt check` says of these functions where the crate has these texts in place of its own."""
+@contextlib.contextmanager
+def copy_of(crate):
+    """A copy of the crates without wrong bodies, with what is kept of this one and those below."""
     needed = below(crate)
 
     def left_out(folder, names):
@@ -114,42 +146,50 @@ def check_with(crate, texts, functions):
         copy = pathlib.Path(room) / "crates"
         shutil.copytree(ROOT / "crates", copy, ignore=left_out)
         shutil.copy(ROOT / "crates.txt", room)
+        yield copy / crate
+
+
+def check_with(crate, texts, functions, what):
+    """What `rt check` says of these functions where these texts take the place of the crate's."""
+    only = [word for name in functions for word in ("--only", name)]
+    with copy_of(crate) as copy:
         for file, text in texts.items():
-            (copy / crate / file).write_text(text)
-        only = [word for name in functions for word in ("--only", name)]
-        return called("check", copy / crate, f"{len(functions)} bodies wrong", only)[0]
+            (copy / file).parent.mkdir(parents=True, exist_ok=True)
+            (copy / file).write_text(text)
+        return called(["check", "--jobs=1", *only], copy, what)[0]
 
 
-def own_goals(function, line, said):
-    """The goals of its own for which a function is refused that has this line."""
+def own_goals(edit, line, said):
+    """The goals of its own for which an edit's function is refused that has this line."""
     left = re.search("`search` did not prove ((?:`[^`]*`(?:, )?)*)", line)
     # the proof of one that calls itself has a `+` before its name
-    *above, name = map(re.escape, function.split("::"))
+    *above, name = map(re.escape, edit.function.split("::"))
     folder = "/".join([*above, rf"\+?{name}"])
     error = rf"(?m)^(?:\./)?proofs/{folder}/\w+\.antt:\d+:\d+: error: `([^`]*)`: (.*)"
-    answers = [f"{it} (answered)" for it, why in re.findall(error, said) if not LOST.search(why)]
-    found = (re.findall("`([^`]*)`", left[1]) if left else []) + answers
-    return [*dict.fromkeys(found)]
+    refused = [goal for goal, why in re.findall(error, said) if not LOST.search(why)]
+    answers = [it if it in edit.goals else f"{it} (answered)" for it in refused]
+    found = [*dict.fromkeys((re.findall("`([^`]*)`", left[1]) if left else []) + answers)]
+    return found if set(edit.goals) <= set(found) else []
 
 
 def tried(crate, edits):
     """Gives each edit with the goals for which it is refused, or with none and why it isn't."""
     batch, later, texts = [], [], {}
     for edit in edits:
-        whole = source(crate, edit)
-        text = applied(edit, texts.get(edit.file, whole))
-        if applied(edit, whole) is None:
-            yield edit, [], f"an old text doesn't stand in {edit.file} exactly once"
-        elif text is None or edit.function in [it.function for it in batch]:
+        more = applied(crate, edit, texts)
+        if applied(crate, edit, {}) is None:
+            yield edit, [], UNFIT
+        elif more is None or edit.function in [it.function for it in batch]:
             later.append(edit)
         else:
-            batch, texts[edit.file] = [*batch, edit], text
+            batch, texts = [*batch, edit], left_to_search(crate, edit, more)
     functions = [edit.function for edit in batch]
-    said, hidden = check_with(crate, texts, functions) if batch else "", []
+    what = f"{len(batch)} bodies wrong"
+    said, hidden = check_with(crate, texts, functions, what) if batch else "", []
     for edit in batch:
         line = re.search(rf"(?m)^fn {re.escape(f'{crate}::{edit.function}')}: (.*)", said)
         error = re.search(r"(?m)^.*\berror(\[[\w-]+\])?: .*", said)
-        goals = own_goals(edit.function, line[1], said) if line else []
+        goals = own_goals(edit, line[1], said) if line else []
         if goals or len(batch) == 1 or line and line[1].startswith("proved"):
             told = [it[0] for it in (line, len(batch) == 1 and error) if it]
             yield edit, goals, "; ".join(told)[:240] or "`rt check` doesn't name its function"
@@ -160,19 +200,55 @@ def tried(crate, edits):
         yield from tried(crate, edits)
 
 
-def told(crate, proved):
-    """Tries the edits of a crate, says of each what came of it, and counts both sorts."""
-    edits = [read_edit(it) for it in sorted((HERE / crate).glob("*.edit"))]
-    if not proved:
-        print(f"{crate}: FAILED: it isn't proved as it is", flush=True)
-        return 0, max(1, len(edits))
-    lines, refused, failed = [], 0, 0
+def together(crate, edits):
+    """Tries bodies of single functions, and gives the name of each, if it is refused, and why."""
     for edit, goals, why in tried(crate, edits):
-        refused, failed = refused + bool(goals), failed + (not goals)
         end = f"refused: {edit.function}: {', '.join(goals)}" if goals else f"FAILED: {why}"
-        lines.append(f"{crate}/{edit.name}: {end}")
-    print("\n".join(lines), flush=True)
-    return refused, failed
+        yield edit.name, bool(goals), end
+
+
+def alone(crate, edits):
+    """Tries other edits, and gives the same for each."""
+    for edit in edits:
+        texts = applied(crate, edit, {})
+        said = check_with(crate, texts, [edit.function], edit.name) if texts else UNFIT
+        errors = REFUSED.findall(said)
+        # an edit that can't be read shows nothing, nor does a proof that only lost a name
+        unread = [
+            why
+            for file, why in errors
+            if UNREAD.search(why) and (file in texts or file.startswith(("src/", "specs/")))
+        ]
+        found = [why for _, why in errors if not LOST.search(why)] + OPEN.findall(said)
+        is_left = f"fn {crate}::{edit.function}: not proved" in said
+        is_refused = bool(is_left and found and not unread)
+        end = "refused" if is_refused else "FAILED"
+        yield edit.name, is_refused, f"{end}: {edit.function}: {[*unread, *found, said[-240:]][0]}"
+
+
+def told(crate, found):
+    """Says of each edit what came of it, and counts both sorts."""
+    found = list(found)
+    print("\n".join(f"{crate}/{name}: {end}" for name, _, end in found), flush=True)
+    refused = sum(is_refused for _, is_refused, _ in found)
+    return refused, len(found) - refused
+
+
+def not_proved(crate):
+    print(f"{crate}: FAILED: it isn't proved as it is", flush=True)
+    return 0, 1
+
+
+def tasks(crate):
+    """What there is to try of a crate."""
+    if not is_proved(crate):
+        return [lambda: not_proved(crate)]
+    named = (ROOT / "crates" / crate / "must-fail").glob("*.edit")
+    edits = [read_edit(it) for it in [*sorted(named), *sorted((HERE / crate).glob("*.edit"))]]
+    bodies = [edit for edit in edits if edit.is_body]
+    others = [edit for edit in edits if not edit.is_body]
+    found = [together(crate, bodies)] * bool(bodies) + [alone(crate, others)] * bool(others)
+    return [lambda found=it: told(crate, found) for it in found]
 
 
 def has_edits(crate):
@@ -181,10 +257,11 @@ def has_edits(crate):
 
 def main():
     lowest_first = sorted(filter(has_edits, STANDS_ON), key=lambda it: len(below(it)))
-    with concurrent.futures.ThreadPoolExecutor(max_workers=1) as beside:
+    # a check for each processor
+    with concurrent.futures.ThreadPoolExecutor(len(os.sched_getaffinity(0))) as beside:
         counts = []
         for crate in NAMES or lowest_first:
-            counts.append(beside.submit(told, crate, is_proved(crate)))
+            counts += [beside.submit(task) for task in tasks(crate)]
     refused, failed = map(sum, zip(*(it.result() for it in counts)))
     print(f"{refused} refused, {failed} failed")
     return 1 if failed or not refused else 0

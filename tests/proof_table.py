@@ -47,7 +47,7 @@ class Edit(NamedTuple):
 def read_edit(path):
     function, file, old, changes = "", Path(), "", []
     for line in text_of(path).splitlines():
-        word, _, text = line.partition(":")
+        word, _, text = line.removeprefix("# ").partition(":")
         text = text.removeprefix(" ")
         if word == "function":
             function = text
