@@ -14,7 +14,7 @@ HALF = $(shell expr \( $(JOBS) + 1 \) / 2)
 # that `rt run` in chanv finds them there, and leaves out its quick pass over all sources.
 LIBRARIES = ccw_core ckd_core chan_walk chan_deck chan_run
 
-.PHONY: run libraries test audit proofs wrong_bodies lib install uninstall
+.PHONY: run libraries test audit proofs wrong_bodies one_call lib install uninstall
 
 run: libraries
 	cd crates/chanv && rt run --jobs $(JOBS) < stdin
@@ -41,6 +41,10 @@ proofs:
 	copy=$$(mktemp -d) && trap 'rm -rf "$$copy"' EXIT && \
 	  tar -c --exclude=./.git --exclude=out --exclude=must-fail . | tar -x -C "$$copy" && \
 	  cd "$$copy" && rt ci
+
+# The program that the tests of refused memory run.
+one_call: libraries
+	cd crates/one_call && rt run --jobs $(JOBS) -- ccw-text whole
 
 # The library for C with the kit's runtime, as one object that shows nothing but chanv's calls, in
 # an archive and a shared library, each of which links by itself.

@@ -33,13 +33,17 @@ class Built:
     def __init__(self, program=None, one_call=None, library=None, jobs=None):
         self.jobs = jobs
         self._chanv = program or ROOT / "crates/chanv/out/chanv"
-        self._one_call = one_call or ROOT / "crates/one_call/out/one_call"
+        self._one_call = one_call
         self._library = library
 
     def chanv(self):
         return existing(self._chanv)
 
     def one_call(self):
+        """The program of that crate. `make one_call` builds it, if none was given."""
+        if self._one_call is None:
+            must_succeed("make", "-C", ROOT, "one_call", timeout=None)
+            self._one_call = ROOT / "crates/one_call/out/one_call"
         return existing(self._one_call)
 
     def library(self):
