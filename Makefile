@@ -32,11 +32,11 @@ audit:
 	RT_JOBS=$(HALF) $(MAKE) --jobs=2 JOBS=$(HALF) proofs wrong_bodies
 	batches/forbidden_words.py
 
-wrong_bodies: libraries
+wrong_bodies: run lib
 	batches/try.py
 
 # The kit's gate, from nothing. It gets a copy without must-fail/: to try wrong bodies it would
-# prove each crate that has some once more, and batches/try.py begins with what `libraries` kept.
+# prove each crate that has some once more, and batches/try.py begins with what was built.
 proofs:
 	copy=$$(mktemp -d) && trap 'rm -rf "$$copy"' EXIT && \
 	  tar -c --exclude=./.git --exclude=out --exclude=must-fail . | tar -x -C "$$copy" && \

@@ -131,6 +131,14 @@ def below(crate):
     return found
 
 
+def link_or_copy(source, target):
+    """Shares a file of out/, gigabytes in all: rt puts others in their place, and edits none."""
+    if pathlib.Path(source).relative_to(ROOT / "crates").parts[1] == "out":
+        with contextlib.suppress(OSError):
+            return os.link(source, target)
+    return shutil.copy2(source, target)
+
+
 @contextlib.contextmanager
 def copy_of(crate):
     """A copy of the crates without wrong bodies, with what is kept of this one and those below."""
@@ -144,7 +152,7 @@ def copy_of(crate):
 
     with tempfile.TemporaryDirectory(prefix="batch-") as room:
         copy = pathlib.Path(room) / "crates"
-        shutil.copytree(ROOT / "crates", copy, ignore=left_out)
+        shutil.copytree(ROOT / "crates", copy, ignore=left_out, copy_function=link_or_copy)
         shutil.copy(ROOT / "crates.txt", room)
         yield copy / crate
 
