@@ -3,6 +3,7 @@
 import os
 import re
 import shlex
+import threading
 from pathlib import Path
 
 from expecting import CannotRun
@@ -24,6 +25,21 @@ def crates():
     return [line.partition(":")[0].split()[0] for line in lines if line and line[0] != "#"]
 
 
+class Made:
+    """What was given, or what a target of make leaves at a path, made once, whoever asks first."""
+
+    def __init__(self, given, target, path):
+        self._given, self._target, self._path = given, target, path
+        self._one_at_a_time = threading.Lock()
+
+    def path(self):
+        with self._one_at_a_time:
+            if self._given is None:
+                must_succeed("make", "-C", ROOT, self._target, timeout=None)
+                self._given = self._path
+        return Path(self._given).absolute()
+
+
 class Built:
     """The programs, and the library for C; paths that aren't given are those of this repository.
 
@@ -33,25 +49,19 @@ class Built:
     def __init__(self, program=None, one_call=None, library=None, jobs=None):
         self.jobs = jobs
         self._chanv = program or ROOT / "crates/chanv/out/chanv"
-        self._one_call = one_call
-        self._library = library
+        self._one_call = Made(one_call, "one_call", ROOT / "crates/one_call/out/one_call")
+        self._library = Made(library, "lib", ROOT / "out")
 
     def chanv(self):
         return existing(self._chanv)
 
     def one_call(self):
         """The program of that crate. `make one_call` builds it, if none was given."""
-        if self._one_call is None:
-            must_succeed("make", "-C", ROOT, "one_call", timeout=None)
-            self._one_call = ROOT / "crates/one_call/out/one_call"
-        return existing(self._one_call)
+        return existing(self._one_call.path())
 
     def library(self):
         """The folder with libchanv.a and chanv.h. `make lib` builds them, if none was given."""
-        if self._library is None:
-            must_succeed("make", "-C", ROOT, "lib", timeout=None)
-            self._library = ROOT / "out"
-        folder = Path(self._library).absolute()
+        folder = self._library.path()
         for name in ("libchanv.a", "chanv.h"):
             if not (folder / name).is_file():
                 raise CannotRun(f"no {folder / name}")

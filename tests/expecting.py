@@ -17,7 +17,8 @@ class CannotRun(Exception):
 
 
 def say(text):
-    print(text, flush=True)
+    """Prints lines at once, so that those of another test don't come between."""
+    print(f"{text}\n", end="", flush=True)
 
 
 class Checks:
