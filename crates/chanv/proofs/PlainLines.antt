@@ -154,7 +154,7 @@ no_text (Some t) e = cc
 pub images : (rows : List Row) (start extent : Text) → HasTwo start extent rows
     → (r : Request) → AsksFor (Some (codes "deck", rows)) r → ImagesOrNoMemory start extent r
 images rows start extent has (Image q) asks =
-    let said = asks.1.1 in (
+    let said = asks.1.1.words in (
       said.device ∙ ap (λ o. unwrap_or o (codes "2314")) has.0,
       said.mask ∙ ap (λ o. unwrap_or o (codes "00")) has.1,
       said.start ∙ ap (λ o. unwrap_or o []) has.2,
@@ -164,7 +164,7 @@ images rows start extent has (Image q) asks =
       no_texts q.words.store.items (said.store ∙ ap (λ o. unwrap_or o []) has.6),
       said.at ∙ ap (λ o. unwrap_or o (codes "0")) has.7,
       said.least ∙ has.10,
-      no_text q.file (said.file ∙ ap other_than_input has.8),
+      no_text q.file (asks.1.1.file ∙ ap other_than_input has.8),
       no_text q.words.storage (said.storage ∙ has.11),
     )
 images rows start extent has (Grants fault) asks =
@@ -176,13 +176,13 @@ images rows start extent has r asks = absurd
 pub images_least : (rows : List Row) (start : Text) → HasLeast start rows
     → (r : Request) → AsksFor (Some (codes "deck", rows)) r → ImagesLeastOrNoMemory start r
 images_least rows start has (Image q) asks =
-    let said = asks.1.1 in (
+    let said = asks.1.1.words in (
       said.device ∙ ap (λ o. unwrap_or o (codes "2314")) has.0,
       said.start ∙ ap (λ o. unwrap_or o []) has.1,
       no_text q.words.limit (said.limit ∙ has.2),
       said.at ∙ ap (λ o. unwrap_or o (codes "0")) has.3,
       said.least ∙ has.6,
-      no_text q.file (said.file ∙ ap other_than_input has.4),
+      no_text q.file (asks.1.1.file ∙ ap other_than_input has.4),
       no_text q.words.storage (said.storage ∙ has.7),
     )
 images_least rows start has (Grants fault) asks =

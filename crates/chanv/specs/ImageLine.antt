@@ -6,6 +6,7 @@ use Rattle.clap.specs.Words.{App, Row, Rule, Text, all_of, first_of, new_app, ne
 use Rattle.clap.specs.declared.builder.action.ArgAction.TheVariants.{Append, SetTrue}
 use Rattle.chanv.specs.CommandWords.{file_in, file_word, texts_of}
 use Rattle.chanv.specs.declared.image_command.ImageRequest.{ImageRequest}
+use Rattle.chan_run.specs.declared.image_options.ImageWords.{ImageWords}
 use Rattle.chan_run.specs.declared.image_options.GrantFault.{GrantFault}
 use Rattle.chan_run.specs.declared.image_options.GrantFault.TheVariants.{BesideLeast, NoExtent}
 use Rattle.chan_run.specs.declared.image_options.ImageOption.TheVariants as options
@@ -88,18 +89,21 @@ abbrev pub extents_or_all : List Text → List Text
 extents_or_all [] = codes "0-202" ∷ []
 extents_or_all (text ∷ texts) = text ∷ texts
 
--- the request has the texts of the options, the usual ones where an option isn't given, and the
--- file
+-- the texts are those of the options, the usual ones where an option isn't given
+pub record SaysOptions (rows : List Row) (w : ImageWords) : Type 0 where
+  pub device : w.device.now ≡ text_or (codes "device") (codes "2314") rows
+  pub mask : w.mask.now ≡ text_or (codes "mask") (codes "00") rows
+  pub start : w.start.now ≡ text_or (codes "start") [] rows
+  pub limit : option_map (λ text. text.now) w.limit ≡ first_of (codes "limit") rows
+  pub extents : texts_of w.extents.items ≡ extents_or_all (texts_in (codes "extent") rows)
+  pub fetch : texts_of w.fetch.items ≡ texts_in (codes "fetch") rows
+  pub store : texts_of w.store.items ≡ texts_in (codes "store") rows
+  pub at : w.at.now ≡ text_or (codes "at") (codes "0") rows
+  pub storage : option_map (λ text. text.now) w.storage ≡ first_of (codes "storage") rows
+  pub least : w.is_least ≡ is_least rows
+
+-- the request has these texts, the file, and whether no device is named
 pub record SaysImage (rows : List Row) (r : ImageRequest) : Type 0 where
-  pub device : r.words.device.now ≡ text_or (codes "device") (codes "2314") rows
-  pub mask : r.words.mask.now ≡ text_or (codes "mask") (codes "00") rows
-  pub start : r.words.start.now ≡ text_or (codes "start") [] rows
-  pub limit : option_map (λ text. text.now) r.words.limit ≡ first_of (codes "limit") rows
-  pub extents : texts_of r.words.extents.items ≡ extents_or_all (texts_in (codes "extent") rows)
-  pub fetch : texts_of r.words.fetch.items ≡ texts_in (codes "fetch") rows
-  pub store : texts_of r.words.store.items ≡ texts_in (codes "store") rows
-  pub at : r.words.at.now ≡ text_or (codes "at") (codes "0") rows
-  pub storage : option_map (λ text. text.now) r.words.storage ≡ first_of (codes "storage") rows
-  pub least : r.words.is_least ≡ is_least rows
+  pub words : SaysOptions rows r.words
   pub file : option_map (λ name. name.now) r.file ≡ file_in rows
   pub usual_device : r.is_usual_device ≡ not (is_met (codes "device") rows)

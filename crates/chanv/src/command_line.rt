@@ -1,7 +1,8 @@
 //! The command line: which words ask for what.
 
-ghost use Rattle.std.specs.Prelude.{◌≡◌, ◌↔◌, IfErr, IfOk, IsTrue, OnOk, map, string_bytes};
-ghost use Rattle.clap.specs.Words.{HasKind, fault_of, found_of, rows_of};
+ghost use Rattle.std.specs.Prelude.{◌≡◌, ◌↔◌, IfErr, IfOk, IsSome, IsTrue, OnOk, Some, codes, map};
+ghost use Rattle.std.specs.Prelude.{string_bytes};
+ghost use Rattle.clap.specs.Words.{HasKind, fault_of, first_of, found_of, rows_of};
 ghost use Rattle.clap.specs.Words.{subcommand_of, subcommand_rows_of};
 ghost use Rattle.chanv.specs.CommandLine.{AsksFor, IsAnswerTo, IsKnown, IsPlainAnswerTo, IsTaken};
 ghost use Rattle.chanv.specs.CommandLine.{Explains, MakesDeck, RunsOver, chanv};
@@ -59,22 +60,37 @@ fn request_of<'a>(alloc: Global, matches: &ArgMatches<'a>) -> Result<Request<'a>
     ensures { IfOk result (AsksFor (subcommand_rows_of matches.now)) }
 {
     match matches.subcommand() {
-        Some(("show", inner)) => match text_met(inner, "CCW") {
-            Some(word) => Ok(Request::Show(word)),
-            // the word is required
-            None => unreachable!(),
-        },
+        Some(("show", inner)) => Ok(show_request(inner)),
         Some(("list", inner)) => request_over(alloc, Action::List, inner),
         Some(("why", inner)) => why_request(alloc, inner),
         Some(("graph", inner)) => request_over(alloc, Action::Graph, inner),
         Some(("needs", inner)) => request_over(alloc, Action::Needs, inner),
         Some(("deck", inner)) => deck_request(alloc, inner),
-        Some(("explain", inner)) => match text_met(inner, "WORD") {
-            Some(word) => Ok(Request::Explain(word)),
-            None => Ok(Request::Words),
-        },
+        Some(("explain", inner)) => Ok(explain_request(inner)),
         Some((_, inner)) => request_over(alloc, Action::Verify, inner),
         None => Ok(Request::Run(Action::Verify)),
+    }
+}
+
+/// The request to show the word that clap met as the CCW.
+fn show_request<'a>(matches: &ArgMatches<'a>) -> Request<'a>
+    requires { IsSome (first_of (codes "CCW") (rows_of (found_of matches.now))) }
+    ensures { AsksFor (Some (codes "show", rows_of (found_of matches.now))) result }
+{
+    match text_met(matches, "CCW") {
+        Some(word) => Request::Show(word),
+        // the word is required
+        None => unreachable!(),
+    }
+}
+
+/// The request to say what the word means that clap met, or to list all words where it met none.
+fn explain_request<'a>(matches: &ArgMatches<'a>) -> Request<'a>
+    ensures { AsksFor (Some (codes "explain", rows_of (found_of matches.now))) result }
+{
+    match text_met(matches, "WORD") {
+        Some(word) => Request::Explain(word),
+        None => Request::Words,
     }
 }
 

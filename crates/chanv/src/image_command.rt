@@ -3,8 +3,8 @@
 ghost use Rattle.std.specs.Prelude.{◌≡◌, codes, IfOk, option_map};
 ghost use Rattle.clap.specs.Words.{found_of, rows_of};
 ghost use Rattle.chanv.specs.CommandWords.{file_in, texts_of};
-ghost use Rattle.chanv.specs.ImageLine.{SaysImage, beside_least, extents_or_all, grant_fault};
-ghost use Rattle.chanv.specs.ImageLine.{is_least, texts_in};
+ghost use Rattle.chanv.specs.ImageLine.{SaysImage, SaysOptions, beside_least, extents_or_all};
+ghost use Rattle.chanv.specs.ImageLine.{grant_fault, is_least, texts_in};
 
 use crate::words_met::{is_flagged, text_met, text_or, texts_met};
 use chan_run::{GrantFault, ImageOption, ImageWords};
@@ -81,15 +81,12 @@ fn extents<'a>(alloc: Global, matches: &ArgMatches<'a>) -> Result<Vec<&'a str>, 
     Ok(texts)
 }
 
-/// What the words that clap met ask to make a deck of.
-pub(crate) fn image_request<'a>(
-    alloc: Global,
-    matches: &ArgMatches<'a>,
-) -> Result<ImageRequest<'a>, AllocError>
-    ensures { IfOk result (SaysImage (rows_of (found_of matches.now))) }
+/// The texts of the options that clap met, the usual ones where an option isn't given.
+fn image_words<'a>(alloc: Global, matches: &ArgMatches<'a>) -> Result<ImageWords<'a>, AllocError>
+    ensures { IfOk result (SaysOptions (rows_of (found_of matches.now))) }
 {
     let extents = extents(alloc, matches)?;
-    let words = ImageWords {
+    Ok(ImageWords {
         device: text_or(matches, "device", "2314"),
         mask: text_or(matches, "mask", "00"),
         start: text_or(matches, "start", ""),
@@ -100,9 +97,18 @@ pub(crate) fn image_request<'a>(
         at: text_or(matches, "at", "0"),
         storage: text_met(matches, "storage"),
         is_least: is_least(matches),
-    };
+    })
+}
+
+/// What the words that clap met ask to make a deck of.
+pub(crate) fn image_request<'a>(
+    alloc: Global,
+    matches: &ArgMatches<'a>,
+) -> Result<ImageRequest<'a>, AllocError>
+    ensures { IfOk result (SaysImage (rows_of (found_of matches.now))) }
+{
     Ok(ImageRequest {
-        words,
+        words: image_words(alloc, matches)?,
         file: file(matches),
         is_usual_device: text_met(matches, "device").is_none(),
     })

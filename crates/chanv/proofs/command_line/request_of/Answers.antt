@@ -1,6 +1,6 @@
 -- The request is what was met asks for; `show` was met with its word.
 use Rattle.std.proofs.Common.{◌∙◌, ◌≡◌, Bool, List, None, Option, Some, ap, ap₂, codes, inl, inr}
-use Rattle.std.proofs.Common.{[], is_some, refl, rules, subst, sym, unwrap_or}
+use Rattle.std.proofs.Common.{[], IsSome, refl, rules, subst, sym, unwrap_or}
 use Rattle.clap.specs.Walk.{Row, Text, first_of}
 use Rattle.clap.specs.Words.{subcommand_name_of}
 use Rattle.chan_run.specs.declared.running.Action.TheVariants as actions
@@ -9,8 +9,8 @@ use Rattle.chanv.specs.CommandLine.{AsksFor, IsAllAsMet, IsKnown, MakesDeck, Run
 use Rattle.chanv.specs.CommandLine.{name_met, name_of}
 use Rattle.chanv.specs.ImageLine.{is_flagged}
 use Rattle.chanv.specs.declared.command_line.Request.{Request}
-use Rattle.chanv.specs.declared.command_line.Request.TheVariants.{Explain, Grants, Image}
-use Rattle.chanv.specs.declared.command_line.Request.TheVariants.{Run, RunNamed, Show, Words}
+use Rattle.chanv.specs.declared.command_line.Request.TheVariants.{Grants, Image}
+use Rattle.chanv.specs.declared.command_line.Request.TheVariants.{Run, RunNamed}
 use Rattle.chanv.proofs.Names.{Action, ArgMatches, bytes_eq, files_in, found_of, option_map}
 use Rattle.chanv.proofs.Names.{rows_of, subcommand_rows_of, true≢false}
 use Rattle.chanv.proofs.command_line.request_of.Goals as goal
@@ -24,17 +24,17 @@ abbrev is_show : Option Text → Bool
 is_show name = bytes_eq (codes "show") (unwrap_or name [])
 
 -- what is known of `show` has its word
-no_word : (rows : List Row) → first_of (codes "CCW") rows ≡ None
-    → IsKnown (Some (codes "show", rows)) → ⊥
-no_word rows none (inl e) = cc
-no_word rows none (inr (inl (actions.Verify, e))) = true≢false (ap is_show e)
-no_word rows none (inr (inl (actions.List, e))) = true≢false (ap is_show e)
-no_word rows none (inr (inl (actions.Why all, e))) = true≢false (ap is_show e)
-no_word rows none (inr (inl (actions.Graph, e))) = true≢false (ap is_show e)
-no_word rows none (inr (inl (actions.Needs, e))) = true≢false (ap is_show e)
-no_word rows none (inr (inr (inl (e, word)))) = true≢false (sym word ∙ ap is_some none)
-no_word rows none (inr (inr (inr (inl e)))) = true≢false (ap is_show e)
-no_word rows none (inr (inr (inr (inr e)))) = true≢false (ap is_show e)
+known_word : (rows : List Row) → IsKnown (Some (codes "show", rows))
+    → IsSome (first_of (codes "CCW") rows)
+known_word rows (inl e) = cc
+known_word rows (inr (inl (actions.Verify, e))) = absurd (true≢false (ap is_show e))
+known_word rows (inr (inl (actions.List, e))) = absurd (true≢false (ap is_show e))
+known_word rows (inr (inl (actions.Why all, e))) = absurd (true≢false (ap is_show e))
+known_word rows (inr (inl (actions.Graph, e))) = absurd (true≢false (ap is_show e))
+known_word rows (inr (inl (actions.Needs, e))) = absurd (true≢false (ap is_show e))
+known_word rows (inr (inr (inl (e, word)))) = word
+known_word rows (inr (inr (inr (inl e)))) = absurd (true≢false (ap is_show e))
+known_word rows (inr (inr (inr (inr e)))) = absurd (true≢false (ap is_show e))
 
 -- two maps in turn are one
 mapped_twice : {T U V : Type 0} (f : T → U) (g : U → V) (o : Option T)
@@ -108,22 +108,21 @@ verify_is name rows (inr (inr (inr (inl e)))) show list why graph needs deck exp
 verify_is name rows (inr (inr (inr (inr e)))) show list why graph needs deck explain =
     absurd (explain (the_value e))
 
-pub unreachable-requires : goal.unreachable-requires
-unreachable-requires c =
+pub show_request-requires : goal.show_request-requires
+show_request-requires c =
     let at = c.in-Some-show-default in
     let rows = rows_of (found_of at.inner.now) in
     let is = met_is c.args.matches.now (codes "show") at.field-0-0.now rows at.ensures.name
     at.is-show at.ensures.rows in
-    no_word rows (sym c.in-None-text_met.ensures) (subst IsKnown is c.requires)
+    known_word rows (subst IsKnown is c.requires)
 
-pub returns-in-Some-text_met : goal.returns-in-Some-text_met
-returns-in-Some-text_met c =
+pub returns-in-Some-show-default : goal.returns-in-Some-show-default
+returns-in-Some-show-default c =
     let at = c.in-Some-show-default in
     let rows = rows_of (found_of at.inner.now) in
     let is = met_is c.args.matches.now (codes "show") at.field-0-0.now rows at.ensures.name
     at.is-show at.ensures.rows in
-    subst (λ m. AsksFor m (Show c.in-Some-text_met.word)) (sym is)
-    (refl, sym c.in-Some-text_met.ensures)
+    subst (λ m. AsksFor m c.show_request.result) (sym is) c.show_request.ensures
 
 pub returns-in-Some-list-default : goal.returns-in-Some-list-default
 returns-in-Some-list-default c =
@@ -173,22 +172,13 @@ returns-in-Some-deck-default c =
     subst (λ m. IfOk c.deck_request.result (AsksFor m)) (sym is)
     (makes_deck rows c.deck_request.result c.deck_request.ensures)
 
-pub returns-in-Some-text_met-2 : goal.returns-in-Some-text_met-2
-returns-in-Some-text_met-2 c =
+pub returns-in-Some-explain-default : goal.returns-in-Some-explain-default
+returns-in-Some-explain-default c =
     let at = c.in-Some-explain-default in
     let rows = rows_of (found_of at.inner.now) in
     let is = met_is c.args.matches.now (codes "explain") at.field-0-0.now rows at.ensures.name
     at.is-explain at.ensures.rows in
-    subst (λ m. AsksFor m (Explain c.in-Some-text_met-2.word)) (sym is)
-    (refl, sym c.in-Some-text_met-2.ensures)
-
-pub returns-in-None-text_met-2 : goal.returns-in-None-text_met-2
-returns-in-None-text_met-2 c =
-    let at = c.in-Some-explain-default in
-    let rows = rows_of (found_of at.inner.now) in
-    let is = met_is c.args.matches.now (codes "explain") at.field-0-0.now rows at.ensures.name
-    at.is-explain at.ensures.rows in
-    subst (λ m. AsksFor m Words) (sym is) (refl, sym c.in-None-text_met-2.ensures)
+    subst (λ m. AsksFor m c.explain_request.result) (sym is) c.explain_request.ensures
 
 pub returns-in-None : goal.returns-in-None
 returns-in-None c =
