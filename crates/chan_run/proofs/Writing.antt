@@ -4,7 +4,7 @@ use Rattle.std.proofs.KnownBytes.{Appends-trans}
 use Rattle.std.specs.Io.KnownBytes.{Appends}
 use Rattle.std.proofs.lemmas.List.{take_all}
 use Rattle.ccw_core.specs.Written.{AppendsPrefix}
-use Rattle.ccw_core.proofs.Prefixes.{prefix_after, prefix_of_more}
+pub use Rattle.ccw_core.proofs.Prefixes.{prefix_after, prefix_of_more}
 use Rattle.chan_run.specs.Naming.{joined}
 
 -- a prefix was written of bytes that are these, with which more bytes begin

@@ -72,8 +72,8 @@ pub record IsHandled (name : Option (List ℕ)) (a : Action)
     (old_in new_in old new old_err new_err : Option (List ℕ)) (failed : Bool) (end : Outcome)
     : Type 0 where
   pub told : List ℕ
-  pub of_input :
-      IsInputTold name a old_in new_in old new end told ⊎ IsUnread name old_in new_in old new end told
+  pub of_input : IsInputTold name a old_in new_in old new end told
+      ⊎ IsUnread name old_in new_in old new end told
   pub whole : failed ≡ false → Appends old_err new_err told
   pub prefix : AppendsPrefix old_err new_err told
 
@@ -93,7 +93,8 @@ advice_of name (Some (Err refused)) = memory_line name
 -- what is said of an image: the outcome's line, or the verdict for which no job will do
 abbrev pub image_line : Option (List ℕ) → Outcome → List ℕ
 image_line name (Imaged (Err (NoJob a r))) =
-    codes "chanv: " ++ (name_before name true ++ (codes "no job will do: " ++ verdict_line (No a r)))
+    codes "chanv: "
+    ++ (name_before name true ++ (codes "no job will do: " ++ verdict_line (No a r)))
 image_line name end = line_over name end
 
 -- how it ends when the answer is this: just so, with a failed flush, or without memory for the line

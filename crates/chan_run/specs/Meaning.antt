@@ -41,7 +41,8 @@ IsWordOf text t = str_to_ascii_lowercase (word_of_term t) ≡ str_to_ascii_lower
 abbrev pub brief_of_reason : Reason → List ℕ
 brief_of_reason reasons.Misaligned = codes "a CCW at an address that isn't a multiple of 8"
 brief_of_reason reasons.OutsideStorage = codes "a CCW that doesn't lie wholly in main storage"
-brief_of_reason reasons.TransferNotAllowed = codes "a transfer in channel first, or behind another one"
+brief_of_reason reasons.TransferNotAllowed =
+    codes "a transfer in channel first, or behind another one"
 brief_of_reason reasons.InvalidCode = codes "a command code whose low four bits are zero"
 brief_of_reason reasons.BadFormat = codes "a flag on that has to be off"
 brief_of_reason reasons.ZeroCount = codes "a count of zero"
@@ -54,7 +55,8 @@ brief_of_reason reasons.ShortSeek = codes "a seek without six bytes for its argu
 brief_of_reason reasons.SeekOutside = codes "a seek outside the extents, the heads or bin 0"
 brief_of_reason reasons.ChangesCcw = codes "a store over a reachable CCW"
 brief_of_reason reasons.ChangesArgument = codes "a store over a seek's argument or a mask byte"
-brief_of_reason reasons.WeakensMask = codes "a Set File Mask to a byte that permits more, or is no mask"
+brief_of_reason reasons.WeakensMask =
+    codes "a Set File Mask to a byte that permits more, or is no mask"
 
 -- what a cause is, in a few words
 abbrev pub brief_of_cause : Cause → List ℕ

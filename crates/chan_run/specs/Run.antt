@@ -151,7 +151,8 @@ IsWritten front a j v old new (Err lists.Memory) =
 abbrev pub IsJobAnswer : List ℕ → Action → Job → Option (List ℕ) → Option (List ℕ)
     → Result Status RunError → Type 0
 IsJobAnswer front a j old new (Ok status) =
-    (v : Verdict) × (status ≡ status_of_verdict v) × IsAnswer j v × Writes Appends front a j v old new
+    (v : Verdict) × (status ≡ status_of_verdict v) × IsAnswer j v
+    × Writes Appends front a j v old new
 IsJobAnswer front a j old new (Err TooManyPlaces) = HasMoreThan j j.limit
 IsJobAnswer front a j old new (Err Write) =
     (v : Verdict) × IsAnswer j v × Writes AppendsPrefix front a j v old new

@@ -1,13 +1,14 @@
 //! What the words of verdicts, of refused decks and of failures mean.
 
-ghost use Rattle.std.specs.Prelude.{◌≡◌, ◌≢◌, ◌↔◌, false, true, IfErr, IfSome, IsErr, IsErrOf, None};
-ghost use Rattle.std.specs.Prelude.{OnOk};
+ghost use Rattle.std.specs.Prelude.{◌≡◌, ◌≢◌, ◌↔◌, false, true, IfErr, IfSome, IsErr, IsErrOf};
+ghost use Rattle.std.specs.Prelude.{None, OnOk};
 ghost use Rattle.std.specs.List.{All, flat_map};
 ghost use Rattle.std.specs.Io.KnownBytes.{Appends};
 ghost use Rattle.ccw_core.specs.Written.{AppendsPrefix};
 ghost use Rattle.chan_run.specs.Meaning.{IsWordOf, brief_of, brief_of_cause, brief_of_reason};
 ghost use Rattle.chan_run.specs.Meaning.{line_of_term, meaning_of, meaning_of_cause};
-ghost use Rattle.chan_run.specs.Meaning.{meaning_of_reason, word_of_cause, word_of_term, words_list};
+ghost use Rattle.chan_run.specs.Meaning.{meaning_of_reason, word_of_cause, word_of_term};
+ghost use Rattle.chan_run.specs.Meaning.{words_list};
 ghost use Rattle.chan_run.specs.Nearest.{IsUnknown};
 
 use crate::failure::{Failure, failure_brief, failure_meaning, failure_word};
@@ -340,7 +341,7 @@ pub fn list_words<W: Write>(to: &mut Watched<W>) -> Result<(), MeaningError>
 }
 
 /// Writes the lines of some terms.
-#[tactic(auto, using(ccw_core::proofs::Prefixes::prefix_after, ccw_core::proofs::Prefixes::prefix_of_more))]
+#[tactic(auto, using(crate::proofs::Writing::prefix_after, crate::proofs::Writing::prefix_of_more))]
 fn write_lines<W: Write>(terms: &[Term], to: &mut Watched<W>) -> Result<(), DeviceFault>
     requires { to.old.failed ≡ false }
     ensures ok { OnOk result (Appends (W.contents to.old.device) (W.contents to.new.device)

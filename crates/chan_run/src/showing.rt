@@ -41,8 +41,8 @@ pub fn show<W: Write>(alloc: Global, text: &str, to: &mut Watched<W>) -> Result<
     ensures early { (result ≡ Err ShowError.NotCcw) ⊎ (result ≡ Err ShowError.Memory) → to.new
         ≡ to.old }
     ensures write { IsErrOf result ShowError.Write ↔ (to.new.failed ≡ true) }
-    ensures prefix { IsErrOf result ShowError.Write
-        → AppendsPrefix (W.contents to.old.device) (W.contents to.new.device) (shown_line text.now) }
+    ensures prefix { IsErrOf result ShowError.Write → AppendsPrefix (W.contents to.old.device)
+        (W.contents to.new.device) (shown_line text.now) }
 {
     let bytes = spelled_bytes(text).ok_or(ShowError::NotCcw)?;
     let line = line_of(alloc, &bytes).map_err(|_| ShowError::Memory)?;

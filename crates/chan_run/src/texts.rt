@@ -10,7 +10,7 @@ use ccw_core::{DeviceFault, Watched, write_out};
 use std::io::Write;
 
 /// Writes some texts.
-#[tactic(auto, using(ccw_core::proofs::Prefixes::prefix_after, ccw_core::proofs::Prefixes::prefix_of_more))]
+#[tactic(auto, using(crate::proofs::Writing::prefix_after, crate::proofs::Writing::prefix_of_more))]
 pub(crate) fn write_texts<W: Write>(texts: &[&str], to: &mut Watched<W>) -> Result<(), DeviceFault>
     requires { to.old.failed ≡ false }
     ensures ok { OnOk result (Appends (W.contents to.old.device) (W.contents to.new.device)
@@ -29,7 +29,6 @@ pub(crate) fn write_texts<W: Write>(texts: &[&str], to: &mut Watched<W>) -> Resu
 }
 
 /// Writes a number in decimal, the first digit not zero unless it is the only one.
-#[tactic(auto, using(std::proofs::lemmas::Fmt::decimal_step, std::proofs::lemmas::Fmt::decimal_digit, ccw_core::proofs::Prefixes::prefix_after, ccw_core::proofs::Prefixes::prefix_of_more))]
 pub(crate) fn write_decimal<W: Write>(number: u64, to: &mut Watched<W>) -> Result<(), DeviceFault>
     requires { to.old.failed ≡ false }
     ensures ok { OnOk result (Appends (W.contents to.old.device) (W.contents to.new.device)

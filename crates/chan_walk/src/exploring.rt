@@ -42,7 +42,8 @@ impl Walk {
             (places_of_looks self.old.looks.items) (places_of_looks self.new.looks.items)
             self.old.found_from.items self.new.found_from.items) }
         ensures looks { OnOk result (AreLooks job.now self.new.looks.items) }
-        ensures agrees { OnOk result (Agrees self.new.marks (places_of_looks self.new.looks.items)) }
+        ensures agrees { OnOk result
+            (Agrees self.new.marks (places_of_looks self.new.looks.items)) }
         ensures many { result ≡ Err WalkError.TooManyPlaces
             → Overflows job.now.limit place (places_of_looks self.old.looks.items) }
     {
@@ -74,7 +75,8 @@ impl Walk {
         ensures traced { OnOk result (IsTraced job.now (places_of_looks self.new.looks.items)
             self.new.found_from.items (at + 1) (at + 1)) }
         ensures looks { OnOk result (AreLooks job.now self.new.looks.items) }
-        ensures agrees { OnOk result (Agrees self.new.marks (places_of_looks self.new.looks.items)) }
+        ensures agrees { OnOk result
+            (Agrees self.new.marks (places_of_looks self.new.looks.items)) }
         ensures many { result ≡ Err WalkError.TooManyPlaces → HasMoreThan job.now job.now.limit }
     {
         let next = self.looks[at].next();

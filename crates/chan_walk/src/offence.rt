@@ -75,7 +75,8 @@ pub(crate) fn offences_of(
 fn unordered(alloc: Global, guard: &Guard, looks: &[Look]) -> Result<Vec<Offence>, AllocError>
     requires { AreApart (places_of_looks looks.now) }
     ensures { IfOk result (λ v. (j : Job) → AreLooks j looks.now
-        → AreReached j (places_of_looks looks.now) → Guards j guard.now → AreAllOffences j v.items) }
+        → AreReached j (places_of_looks looks.now) → Guards j guard.now
+        → AreAllOffences j v.items) }
 {
     let faults = faults_of(alloc, looks)?;
     if !faults.is_empty() {
