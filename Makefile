@@ -33,14 +33,16 @@ audit:
 	batches/forbidden_words.py
 
 wrong_bodies: run lib
-	batches/try.py
+	batches/try.py --built
 
 # The kit's gate, from nothing. It gets a copy without must-fail/: to try wrong bodies it would
-# prove each crate that has some once more, and batches/try.py begins with what was built.
+# prove each crate that has some once more, and batches/try.py begins with what was built. The lock
+# tells batches/try.py that half of the processors are taken.
 proofs:
+	mkdir -p out
 	copy=$$(mktemp -d) && trap 'rm -rf "$$copy"' EXIT && \
 	  tar -c --exclude=./.git --exclude=out --exclude=must-fail . | tar -x -C "$$copy" && \
-	  cd "$$copy" && rt ci
+	  cd "$$copy" && flock "$(CURDIR)/out/proofs.lock" rt ci
 
 # The program that the tests of refused memory run.
 one_call: libraries

@@ -1,7 +1,7 @@
 #!/usr/bin/env python3
 """Tries each wrong body once: those of single functions several with one check, the others alone.
 
-usage: batches/try.py [CRATE..]     (no CRATE: each that has a folder here, lowest first)
+usage: batches/try.py [--built] [CRATE..]     (no CRATE: each that has a folder here, lowest first)
 
 The named wrong bodies and the wrong definitions are crates/CRATE/must-fail/NAME.edit. Further wrong
 bodies, of another clause or branch, are batches/CRATE/NAME.edit. All have the lines 'file:', 'old:'
@@ -11,19 +11,23 @@ and 'new:', and one that names a function as `rt check` does, but without the cr
     # goals: returns-then-first-last       what the search leaves open there, if anything
     # refused-by: laws::yes_is_safe        for any other
 
-Each crate is first proved as it is, over the work that was kept in out/. Then a copy gets a wrong
-body in each of several functions, and these functions are checked, and no others. Each has to be
-refused for a goal of its own: one that the search left open, or one that its written answer shows
-no longer. Where an edit names goals, it is each of these; the copy leaves them to the search by
-name, since `rt check` else looks for what to offer, which takes as long again. It doesn't count
-that it calls what isn't proved, that a proof lost a name, or that a text isn't Rattle. An edit that
-such a thing hides is tried again without those that were refused beside it, and at last alone. What
-a caller owes rests on the contracts of what it calls and never on their bodies, so a function is
-refused here for its own body alone.
+Each crate is first proved as it is, over the work that was kept in out/; with --built that was
+done just now, by `make` and `make lib`. Then a copy gets a wrong body in each of several functions,
+and these functions are checked, and no others. Each has to be refused for a goal of its own: one
+that the search left open, or one that its written answer shows no longer. Where an edit names
+goals, it is each of these; the copy leaves them to the search by name, since `rt check` else looks
+for what to offer, which takes as long again. It doesn't count that it calls what isn't proved, that
+a proof lost a name, or that a text isn't Rattle. An edit that such a thing hides is tried again
+without those that were refused beside it, and at last alone. What a caller owes rests on the
+contracts of what it calls and never on their bodies, so a function is refused here for its own body
+alone.
 
 The others are wrong definitions, with the code that computes them, and constants: what several
 functions owe. For each of these a copy is checked as far as the law or the function reaches that
 has to refuse it, with the lemmas that its proof cites.
+
+A check runs on each processor. While somebody holds out/proofs.lock, as `make proofs` does, half of
+the processors are left to him.
 
 It prints a line for each edit, with the goals, those of the second sort as (answered), or with what
 was said first, and the processor time of each check. The last line is 'N refused, M failed', and
@@ -33,6 +37,7 @@ the exit status is 1 where M isn't 0.
 import collections
 import concurrent.futures
 import contextlib
+import fcntl
 import os
 import pathlib
 import re
@@ -54,7 +59,6 @@ STANDS_ON = {it[0].split()[0]: set(it[2].split()) for it in LINES if it[0][:1] n
 # Where a check refuses something: the file, and why.
 REFUSED = re.compile(r"(?m)^(?:\./)?([^\s:]+):\d+:\d+: error: (.*)")
 OPEN = re.compile(r"(?m)^note: (\S+: it is not proved that .*)")
-NAMES = sys.argv[1:]
 
 # is_body: whether it turns the body of the function; changes: file, old text and new text of each
 Edit = collections.namedtuple("Edit", "name function is_body goals changes")
@@ -247,9 +251,9 @@ def not_proved(crate):
     return 0, 1
 
 
-def tasks(crate):
+def tasks(crate, is_built):
     """What there is to try of a crate."""
-    if not is_proved(crate):
+    if not is_built and not is_proved(crate):
         return [lambda: not_proved(crate)]
     named = (ROOT / "crates" / crate / "must-fail").glob("*.edit")
     edits = [read_edit(it) for it in [*sorted(named), *sorted((HERE / crate).glob("*.edit"))]]
@@ -263,13 +267,24 @@ def has_edits(crate):
     return (HERE / crate).is_dir()
 
 
+def wait_for_proofs():
+    """Returns when nobody proves the crates beside this."""
+    lock = ROOT / "out/proofs.lock"
+    lock.parent.mkdir(exist_ok=True)
+    with lock.open("a") as file:
+        fcntl.flock(file, fcntl.LOCK_SH)
+
+
 def main():
+    is_built, names = "--built" in sys.argv, [it for it in sys.argv[1:] if it != "--built"]
     lowest_first = sorted(filter(has_edits, STANDS_ON), key=lambda it: len(below(it)))
-    # a check for each processor
-    with concurrent.futures.ThreadPoolExecutor(len(os.sched_getaffinity(0))) as beside:
+    processors = len(os.sched_getaffinity(0))
+    with concurrent.futures.ThreadPoolExecutor(processors) as beside:
+        for _ in range((processors + 1) // 2):
+            beside.submit(wait_for_proofs)
         counts = []
-        for crate in NAMES or lowest_first:
-            counts += [beside.submit(task) for task in tasks(crate)]
+        for crate in names or lowest_first:
+            counts += [beside.submit(task) for task in tasks(crate, is_built)]
     refused, failed = map(sum, zip(*(it.result() for it in counts)))
     print(f"{refused} refused, {failed} failed")
     return 1 if failed or not refused else 0
