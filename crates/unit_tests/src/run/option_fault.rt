@@ -43,7 +43,8 @@ For more information, try '--help'.
     (
         ImageOption::Extent,
         "19-10",
-        "error: invalid value '19-10' for '--extent <FIRST-LAST>': its last cylinder is below its first
+        "error: invalid value '19-10' for '--extent <FIRST-LAST>': \
+its last cylinder is below its first
 
 For more information, try '--help'.
 ",
@@ -51,7 +52,8 @@ For more information, try '--help'.
     (
         ImageOption::Fetch,
         "",
-        "error: invalid value '' for '--fetch <AREA>': hexadecimal start and length or first and last byte, each at most FFFFFF, as 900+10 or 900-90F
+        "error: invalid value '' for '--fetch <AREA>': \
+hexadecimal start and length or first and last byte, each at most FFFFFF, as 900+10 or 900-90F
 
 For more information, try '--help'.
 ",
@@ -59,7 +61,8 @@ For more information, try '--help'.
     (
         ImageOption::Store,
         "A00",
-        "error: invalid value 'A00' for '--store <AREA>': hexadecimal start and length or first and last byte, each at most FFFFFF, as 900+10 or 900-90F
+        "error: invalid value 'A00' for '--store <AREA>': \
+hexadecimal start and length or first and last byte, each at most FFFFFF, as 900+10 or 900-90F
 
 For more information, try '--help'.
 ",
@@ -91,7 +94,8 @@ For more information, try '--help'.
     (
         ImageOption::Extent,
         "10-203",
-        "error: invalid value '10-203' for '--extent <FIRST-LAST>': its last cylinder is above 202, the device's last
+        "error: invalid value '10-203' for '--extent <FIRST-LAST>': \
+its last cylinder is above 202, the device's last
 
 For more information, try '--help'.
 ",
@@ -99,7 +103,8 @@ For more information, try '--help'.
     (
         ImageOption::Extent,
         "0A-13",
-        "error: invalid value '0A-13' for '--extent <FIRST-LAST>': decimal cylinders in order, 0 to 202, as 10-19
+        "error: invalid value '0A-13' for '--extent <FIRST-LAST>': \
+decimal cylinders in order, 0 to 202, as 10-19
 
 For more information, try '--help'.
 ",
@@ -163,7 +168,8 @@ For more information, try '--help'.
     (
         ImageOption::Fetch,
         "900+10-90F",
-        "error: invalid value '900+10-90F' for '--fetch <AREA>': hexadecimal start and length or first and last byte, each at most FFFFFF, as 900+10 or 900-90F
+        "error: invalid value '900+10-90F' for '--fetch <AREA>': \
+hexadecimal start and length or first and last byte, each at most FFFFFF, as 900+10 or 900-90F
 
 For more information, try '--help'.
 ",
