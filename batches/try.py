@@ -1,8 +1,6 @@
 #!/usr/bin/env python3
 """Tries each wrong body once: those of single functions several with one check, the others alone.
 
-usage: batches/try.py [--built] [CRATE..]     (no CRATE: each that has a folder here, lowest first)
-
 The named wrong bodies and the wrong definitions are crates/CRATE/must-fail/NAME.edit. Further wrong
 bodies, of another clause or branch, are batches/CRATE/NAME.edit. All have the lines 'file:', 'old:'
 and 'new:', and one that names a function as `rt check` does, but without the crate:
@@ -34,6 +32,7 @@ was said first, and the processor time of each check. The last line is 'N refuse
 the exit status is 1 where M isn't 0.
 """
 
+import argparse
 import collections
 import concurrent.futures
 import contextlib
@@ -275,16 +274,27 @@ def wait_for_proofs():
         fcntl.flock(file, fcntl.LOCK_SH)
 
 
+def arguments(crates):
+    said = argparse.ArgumentParser(prog="batches/try.py", description=__doc__.splitlines()[0])
+    said.add_argument("crates", nargs="*", metavar="CRATE", help="none: all, lowest first")
+    said.add_argument("--built", action="store_true", help="make and make lib built it just now")
+    given = said.parse_args()
+    for crate in given.crates:
+        if crate not in crates:
+            said.error(f"{crate} has no folder in batches/")
+    return given
+
+
 def main():
-    is_built, names = "--built" in sys.argv, [it for it in sys.argv[1:] if it != "--built"]
     lowest_first = sorted(filter(has_edits, STANDS_ON), key=lambda it: len(below(it)))
+    given = arguments(lowest_first)
     processors = len(os.sched_getaffinity(0))
     with concurrent.futures.ThreadPoolExecutor(processors) as beside:
         for _ in range((processors + 1) // 2):
             beside.submit(wait_for_proofs)
         counts = []
-        for crate in names or lowest_first:
-            counts += [beside.submit(task) for task in tasks(crate, is_built)]
+        for crate in given.crates or lowest_first:
+            counts += [beside.submit(task) for task in tasks(crate, given.built)]
     refused, failed = map(sum, zip(*(it.result() for it in counts)))
     print(f"{refused} refused, {failed} failed")
     return 1 if failed or not refused else 0

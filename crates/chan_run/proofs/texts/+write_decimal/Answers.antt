@@ -19,7 +19,7 @@ returns-clause-ok g t c =
     let new = g.W.Write.contents c.write_out.new.to.device in
     elim c.if-number-ge10.branch [
       | then-number-ge10+in_ok-write_decimal w ↦
-          let step : decimal n ≡ decimal (n / 10) ++ ((48 + n % 10) ∷ []) = decimal_step n (omega arith) (omega arith) in
+          let step = decimal_step n (omega arith) (omega arith) in
           on_ok c.write_out.result
           (λ last. subst (λ ds. Appends old new ds) (sym step) (Appends-trans _ _ _ _ _ w.in_ok-write_decimal.ensures.ok (rw w.to-is at last)))
           c.write_out.ensures.ok
@@ -35,7 +35,7 @@ returns-in_err-write_decimal-clause-prefix g t c =
     let n = c.args.number in
     let old = g.W.Write.contents c.args.to.now.device in
     let new = g.W.Write.contents c.write_decimal.new.to.device in
-    let step : decimal n ≡ decimal (n / 10) ++ ((48 + n % 10) ∷ []) = decimal_step n (omega arith) (omega arith) in
+    let step = decimal_step n (omega arith) (omega arith) in
     subst (λ ds. AppendsPrefix old new ds) (sym step)
     (prefix_of_more _ _ _ _ c.in_err-write_decimal.ensures.prefix)
 
@@ -46,7 +46,7 @@ returns-clause-prefix g t c =
     let new = g.W.Write.contents c.write_out.new.to.device in
     elim c.if-number-ge10.branch [
       | then-number-ge10+in_ok-write_decimal w ↦
-          let step : decimal n ≡ decimal (n / 10) ++ ((48 + n % 10) ∷ []) = decimal_step n (omega arith) (omega arith) in
+          let step = decimal_step n (omega arith) (omega arith) in
           subst (λ ds. AppendsPrefix old new ds) (sym step)
           (prefix_after _ _ _ _ _ w.in_ok-write_decimal.ensures.ok (rw w.to-is at c.write_out.ensures.prefix))
       | else-number-ge10 w ↦
