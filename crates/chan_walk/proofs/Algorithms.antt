@@ -23,6 +23,7 @@ pub mod Changing
 pub mod Given
 pub mod Noted
 pub mod Demanding
+pub mod Existing
 pub mod Seeking
 pub mod Needed
 pub mod Holding

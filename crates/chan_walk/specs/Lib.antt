@@ -1,27 +1,40 @@
+-- The rules: what a job is, and which programs are refused.
 pub mod Job
 pub mod Place
 pub mod Reason
 pub mod Check
 pub mod Argument
-pub mod Given
-pub mod Onward
 pub mod Fault
-pub mod Order
 pub mod Successors
 pub mod Reachable
 pub mod Guarded
 pub mod Verdict
+-- The machine: what a program does while it runs.
 pub mod Machine
 pub mod Runs
+-- The laws: what a verdict means for every run.
 pub mod Headline
+pub mod Alarm
 pub mod History
 pub mod Beside
 pub mod Counted
-pub mod Alarm
-pub mod Visit
-pub mod Tables
+pub mod Order
+-- What the answers say: lists, paths, causes, notes and needs.
 pub mod Limit
 pub mod Explored
+pub mod Answers
+pub mod Offences
+pub mod Paths
+pub mod Given
+pub mod Evidence
+pub mod Explained
+pub mod Notes
+pub mod Needs
+pub mod Rows
+-- What only ties the code to all this.
+pub mod Onward
+pub mod Visit
+pub mod Tables
 pub mod Marks
 pub mod Walk
 pub mod Ranges
@@ -30,14 +43,6 @@ pub mod Lent
 pub mod Lending
 pub mod Guard
 pub mod Look
-pub mod Answers
-pub mod Offences
-pub mod Paths
-pub mod Evidence
 pub mod Changed
 pub mod Index
-pub mod Explained
 pub mod Surveyed
-pub mod Notes
-pub mod Needs
-pub mod Rows

@@ -136,6 +136,11 @@ abbrev pub NeededMaskIsOne : Type 0
 NeededMaskIsOne =
     (j : Job) (mask other : ℕ) → IsNeededMask j mask → IsNeededMask j other → mask ≡ other
 
+-- where the verdict on the open job is yes, there is a needed mask
+abbrev pub NeededMaskExists : Type 0
+NeededMaskExists =
+    (j : Job) → IsVerdict (open_job j) Yes → (mask : ℕ) × IsNeededMask j mask
+
 -- k grants all that j grants
 pub record GrantsMore (j k : Job) : Type 0 where
   pub mask : is_at_least j.mask k.mask ≡ true

@@ -1,5 +1,5 @@
--- What a verdict leaves open: areas lent in vain, CCWs that interrupt, and CCWs at which a program
--- ends though chain command is on.
+-- What a verdict leaves open: areas lent in vain, CCWs that interrupt, CCWs at which a program ends
+-- though chain command is on, and kept areas into which the machine itself stores.
 use Rattle.std.specs.Prelude.{◌≡◌, ℕ, ◌<◌, ◌≤◌, nat_lt, Bool, true, false, not, ◌&&◌, ◌⊎◌, ◌↔◌}
 use Rattle.std.specs.Prelude.{List, length, Option, None, Some, IsTrue}
 use Rattle.std.specs.List.{filter}
@@ -16,10 +16,11 @@ use Rattle.chan_walk.specs.declared.place.Place.{Place}
 use Rattle.chan_walk.specs.Argument.{Has}
 use Rattle.chan_walk.specs.Evidence.{data_at, data_of}
 use Rattle.chan_walk.specs.Fault.{fetches, kind_of, stores}
+use Rattle.chan_walk.specs.Guarded.{IsGuarded}
 use Rattle.chan_walk.specs.Job.{storage_of}
 use Rattle.chan_walk.specs.Look.{Seen}
 use Rattle.chan_walk.specs.Place.{is_fresh, ccw_of}
-use Rattle.chan_walk.specs.Ranges.{end_of}
+use Rattle.chan_walk.specs.Ranges.{AreExactly, end_of}
 use Rattle.chan_walk.specs.Reachable.{IsReachable}
 use Rattle.chan_walk.specs.Successors.{next_of, skip_of}
 
@@ -105,6 +106,27 @@ pub record AreAddressesOf (test : Place → Fields → Bool) (j : Job) (addresse
     : Type 0 where
   pub rising : IsStrictlyIncreasing addresses
   pub exactly : (a : ℕ) → Has addresses a ↔ IsAddressOf test j a
+
+-- ---- the machine's own stores
+
+-- the machine itself stores into the byte at b, whatever was lent: at 18-47 it stores old program
+-- status words (PSWs) and the channel status word (CSW), and at 50-53 it counts the timer
+-- (System/360 Principles of Operation, A22-6821)
+abbrev pub IsMachineByte : ℕ → Type 0
+IsMachineByte b = ((0x18 ≤ b) × (b ≤ 0x47)) ⊎ ((0x50 ≤ b) × (b ≤ 0x53))
+
+-- the second list has the areas of the first that are used, in their order
+pub record AreUsed (Used : ℕ → Type 0) (areas used : List Area) : Type 0 where
+  pub is_used : Area → Bool
+  pub right : (a : Area) → (is_used a ≡ true) ↔ IsUsed Used a
+  pub are : used ≡ filter is_used areas
+
+-- of the kept areas, which are the one merged list of the guarded bytes, these are the ones that
+-- have a byte into which the machine itself stores: each of them whole, and in order
+pub record AreMachineStores (j : Job) (areas : List Area) : Type 0 where
+  pub kept : List Area
+  pub guarded : AreExactly (IsGuarded j) kept
+  pub are : AreUsed IsMachineByte kept areas
 
 -- ---- place by place
 

@@ -1,5 +1,6 @@
 -- Areas of storage merged into one list, and ranges that meet such a list.
 use Rattle.std.specs.Prelude.{◌≡◌, ℕ, ◌+◌, ◌<◌, ◌≤◌, true, false, List, [], ◌∷◌, Option, None, Some}
+use Rattle.std.specs.Prelude.{◌↔◌}
 use Rattle.std.specs.List.{All}
 use Rattle.ccw_core.specs.declared.areas.Area.{Area}
 use Rattle.ccw_core.specs.Areas.{lies_in}
@@ -25,6 +26,11 @@ BeginAbove n (a ∷ rest) = (n < a.start) × BeginAbove n rest
 abbrev pub IsMerged : List Area → Type 0
 IsMerged [] = Unit {0}
 IsMerged (a ∷ rest) = (0 < a.len) × BeginAbove (end_of a) rest × IsMerged rest
+
+-- the areas are the one merged list of the bytes for which P holds
+pub record AreExactly (P : ℕ → Type 0) (areas : List Area) : Type 0 where
+  pub merged : IsMerged areas
+  pub bytes : (b : ℕ) → (lies_in areas b ≡ true) ↔ P b
 
 -- the same bytes lie in some area of either list
 abbrev pub HaveSameBytes : List Area → List Area → Type 0

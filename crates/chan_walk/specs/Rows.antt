@@ -22,7 +22,7 @@ use Rattle.chan_walk.specs.Least.{AreReached}
 use Rattle.chan_walk.specs.Look.{AreLooks, Seen, places_of_looks}
 use Rattle.chan_walk.specs.Needs.{AreOfOneProgram, IsKept, IsNeededCylinder, IsNeededForFetching}
 use Rattle.chan_walk.specs.Needs.{IsNeededForStoring, IsNeededMask, all_storage, open_job}
-use Rattle.chan_walk.specs.Ranges.{IsMerged}
+use Rattle.chan_walk.specs.Ranges.{AreExactly}
 use Rattle.chan_walk.specs.Reachable.{IsReachable}
 use Rattle.chan_walk.specs.Verdict.{IsVerdict}
 
@@ -88,11 +88,6 @@ rows_of r = record {
   store = r.store.now;
   keep = r.keep.now;
 }
-
--- the areas are the one merged list of the bytes for which P holds
-pub record AreExactly (P : ℕ → Type 0) (areas : List Area) : Type 0 where
-  pub merged : IsMerged areas
-  pub bytes : (b : ℕ) → (lies_in areas b ≡ true) ↔ P b
 
 -- each run begins above n
 abbrev pub RunsAbove : ℕ → List (ℕ × ℕ) → Type 0

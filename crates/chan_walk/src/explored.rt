@@ -50,10 +50,10 @@ impl Explored {
         self.places.get(index).copied()
     }
 
-    /// The ways in which the CCW at an address is entered: bit 2 * `e` + `t` is on where there is a
-    /// place with that address, whose entry is number `e` in the order of `Entry`, counted from 0,
+    /// The ways in which the CCW at an address is entered: bit 2 * `e` + `t` is on if there is a
+    /// place with that address whose entry is number `e` in the order of `Entry`, counted from 0,
     /// and which counts as reached by a transfer in channel, `t` = 1, or doesn't, `t` = 0. It is 0
-    /// where no place has the address.
+    /// if no place has the address.
     ///
     /// The cost is the logarithm of the number of places.
     pub fn marks_at(&self, address: u32) -> u8

@@ -87,11 +87,11 @@ impl Walk {
     }
 }
 
-/// The reachable places: the first place, and each successor of one of them, in storage as it
-/// stands before the program's start.
+/// The reachable places: the first place, and each successor of one of them, in storage as it is
+/// before the program's start.
 ///
-/// `TooManyPlaces` comes exactly where there are more than the job's limit, and no growth was
-/// refused: also where one of the places has a fault. `Memory` comes where a growth was refused.
+/// `TooManyPlaces` comes exactly if there are more than the job's limit, and no growth was refused,
+/// even if one of the places has a fault. `Memory` comes if a growth was refused.
 ///
 /// Each place is looked at once. With n places and a lent areas, the cost is (n + a) log (n + a).
 pub fn explore(alloc: Global, job: &Job) -> Result<Explored, WalkError>

@@ -4,10 +4,10 @@ use crate::limit::Limit;
 use ccw_core::{Area, Storage};
 use ckd_core::{Device, Extents, FileMask};
 
-/// A channel program before its start, and what it was lent.
+/// A channel program before its start, and all that it may use.
 #[derive(Clone, Copy, PartialEq, Eq)]
 pub struct Job<'a> {
-    /// Main storage from address 0 on, as it stands.
+    /// Main storage from address 0 on, as it is.
     pub storage: Storage<'a>,
     /// The address of the first CCW.
     pub start: u32,

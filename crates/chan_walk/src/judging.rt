@@ -21,8 +21,8 @@ use std::alloc::Global;
 
 /// Surveys a job: walks once over the places that its program can come to, and looks at each once.
 ///
-/// `TooManyPlaces` comes exactly where more places are reachable than the job's limit and no growth
-/// was refused, also where one of them offends. `Memory` comes where a growth was refused.
+/// `TooManyPlaces` comes exactly if more places are reachable than the job's limit and no growth
+/// was refused, even if one of them offends. `Memory` comes if a growth was refused.
 ///
 /// With n places and a lent areas, the cost is (n + a) log (n + a).
 pub fn survey(alloc: Global, job: &Job) -> Result<Survey, WalkError>
@@ -53,16 +53,17 @@ pub fn survey(alloc: Global, job: &Job) -> Result<Survey, WalkError>
 
 /// Whether the program may run.
 ///
-/// `Yes` means that no reachable place offends; then whatever the disk holds, however
-/// searches and errors fall and after any number of steps, the channel meets no program check,
-/// moves data only through areas lent for it, changes no CCW, seek argument or mask byte that any
-/// run uses, seeks only inside the extents, sets no weaker mask and issues no inhibited command.
-/// All this stays so while others change storage, in any bytes but the guarded ones.
-/// `No` names the first offending CCW, by address, and the first reason there, by number; some run
-/// shows it. A job whose every run is safe, and which is steady, is never answered `No`.
+/// `Yes` means that no reachable place offends. Then whatever the disk holds, however searches and
+/// errors turn out, and after any number of steps, the channel meets no program check, moves data
+/// only through areas lent for it, changes no CCW, seek argument or mask byte that any run uses,
+/// seeks only inside the extents, sets no weaker mask and issues no inhibited command. This holds
+/// even while others write to storage, as long as they leave the guarded bytes alone.
 ///
-/// `TooManyPlaces` comes exactly where more places are reachable than the job's limit and no growth
-/// was refused, also where one of them offends. `Memory` comes where a growth was refused.
+/// `No` names the first offending CCW, by address, and the first reason there, by number; some run
+/// shows it. A job that is safe in every run, and steady, is never answered `No`.
+///
+/// `TooManyPlaces` comes exactly if more places are reachable than the job's limit and no growth
+/// was refused, even if one of them offends. `Memory` comes if a growth was refused.
 ///
 /// With n places and a lent areas, the cost is (n + a) log (n + a).
 pub fn verify(alloc: Global, job: &Job) -> Result<Verdict, WalkError>

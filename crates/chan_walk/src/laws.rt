@@ -9,7 +9,7 @@ ghost use Rattle.chan_walk.specs.Headline.{GathersArguments, GuardedStays, Stays
 ghost use Rattle.chan_walk.specs.Headline.{YesIsSafe, YesIsSafeAmong};
 ghost use Rattle.chan_walk.specs.History.{StaysWell};
 ghost use Rattle.chan_walk.specs.Needs.{AskedOnce, LeastJob, MoreIsYes, NeededMaskIsEnough};
-ghost use Rattle.chan_walk.specs.Needs.{NeededMaskIsOne, NoJobWillDo};
+ghost use Rattle.chan_walk.specs.Needs.{NeededMaskExists, NeededMaskIsOne, NoJobWillDo};
 ghost use Rattle.chan_walk.specs.Needs.{SafeIsGranted, SameUnderYes};
 ghost use Rattle.chan_walk.specs.Offences.{FirstIsVerdict};
 ghost use Rattle.chan_walk.specs.Order.{NumbersIncrease};
@@ -141,6 +141,11 @@ pub(crate) fn needed_mask_is_enough()
 /// There is no other needed mask.
 pub(crate) fn needed_mask_is_one()
     ensures { NeededMaskIsOne }
+{}
+
+/// Where the verdict on the open job is yes, there is a needed mask.
+pub(crate) fn needed_mask_exists()
+    ensures { NeededMaskExists }
 {}
 
 /// Granting more never turns a yes into a no.

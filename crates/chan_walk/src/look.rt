@@ -93,7 +93,7 @@ impl Read {
     }
 }
 
-/// What is seen of a place at one look, in the initial storage.
+/// A place as it is seen at one look, in the initial storage.
 #[derive(Drop)]
 pub struct Look {
     place: Place,
@@ -133,14 +133,14 @@ impl Look {
         self.place
     }
 
-    /// The CCW that stands there; `None` where the address isn't a multiple of 8 or leaves storage.
+    /// The CCW there; `None` if the address isn't a multiple of 8 or leaves storage.
     pub fn ccw(&self) -> Option<Ccw>
         ensures { result ≡ self.now.ccw }
     {
         self.ccw
     }
 
-    /// The command that begins there; `None` under data chaining, and where the table has no such
+    /// The command that begins there; `None` under data chaining, and if the table has no such
     /// code.
     pub fn command(&self) -> Option<Command>
         ensures { option_map entry_of result ≡ self.now.command }

@@ -7,8 +7,8 @@ ghost use Rattle.chan_walk.specs.Guard.{AddsBytes, Guards};
 ghost use Rattle.chan_walk.specs.Guarded.{IsGuarded};
 ghost use Rattle.chan_walk.specs.Look.{IsLook};
 ghost use Rattle.chan_walk.specs.Needs.{AreOfOneProgram};
-ghost use Rattle.chan_walk.specs.Ranges.{EndsBelow, IsMerged};
-ghost use Rattle.chan_walk.specs.Rows.{AreExactly, AreLooksOfYes, AreNeeds, IsSought};
+ghost use Rattle.chan_walk.specs.Ranges.{AreExactly, EndsBelow, IsMerged};
+ghost use Rattle.chan_walk.specs.Rows.{AreLooksOfYes, AreNeeds, IsSought};
 ghost use Rattle.chan_walk.specs.Rows.{SeeksCylinder, listed, rows_of, run_of};
 ghost use Rattle.chan_walk.specs.declared.job.Job.{Job};
 
@@ -23,12 +23,12 @@ use ccw_core::Area;
 use ckd_core::{FileMask, MaskClass};
 use std::alloc::{AllocError, Global};
 
-/// What a program needs of each job that it runs under, and what it keeps: no more, and no less. A
-/// job of the program has the verdict yes exactly where it grants all this.
+/// The needs of a program in each job that it runs under, and the bytes that it keeps: no more, and
+/// no less. A job of the program has the verdict yes exactly if it grants all this.
 #[derive(Drop)]
 pub struct Needs {
-    /// How many bytes storage has: the answer stands over storage that is as long and holds the
-    /// same in what is kept.
+    /// How many bytes storage has: the answer holds over storage that is as long and the same in
+    /// each kept byte.
     pub storage_len: u32,
     /// The strictest mask that serves: it inhibits no command that may begin, and each byte that
     /// Set File Mask may take is at least as strict.
@@ -83,7 +83,7 @@ pub(crate) fn needs_of(
 }
 
 /// The guarded bytes, as a merged list.
-fn kept(alloc: Global, guard: &Guard) -> Result<Vec<Area>, AllocError>
+pub(crate) fn kept(alloc: Global, guard: &Guard) -> Result<Vec<Area>, AllocError>
     ensures { IfOk result (λ v. (j : Job) → Guards j guard.now → AreExactly (IsGuarded j) v.items) }
 {
     let mut areas = Vec::new(alloc);

@@ -2,7 +2,7 @@
 
 use ccw_core::Area;
 
-/// What a verdict leaves open, and people trip over.
+/// The points that a yes leaves open.
 ///
 /// A reachable CCW counts, whether or not its place has an own fault: the program asks for it all
 /// the same.
@@ -12,7 +12,7 @@ pub struct Notes {
     pub fetch_past_storage: Vec<Area>,
     /// The areas lent for storing that end past storage, in the job's order.
     pub store_past_storage: Vec<Area>,
-    /// The areas lent for fetching of which no reachable CCW fetches a byte, in the job's order;
+    /// The areas lent for fetching from which no reachable CCW fetches a byte, in the job's order;
     /// each empty area is one.
     pub unused_fetch: Vec<Area>,
     /// The areas lent for storing into which no reachable CCW stores a byte, in the job's order;
@@ -25,4 +25,9 @@ pub struct Notes {
     /// each once, rising. As chain data is on, and an operation that moves no data never goes on by
     /// it, the program ends there.
     pub ending: Vec<u32>,
+    /// The kept areas, as the merged list of the guarded bytes has them, that have a byte of 000018
+    /// to 000047 or of 000050 to 000053; each whole, rising. The machine itself stores there,
+    /// whatever was lent: old PSWs and the CSW in the first range, the timer in the second. No
+    /// verdict takes these stores into account.
+    pub machine_stores: Vec<Area>,
 }

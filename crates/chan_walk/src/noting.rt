@@ -1,4 +1,5 @@
-//! The notes on a job: what is lent in vain, and what flags ask for.
+//! The notes on a job: what is lent in vain, what flags ask for, and which kept areas the machine
+//! itself stores into.
 
 ghost use Rattle.std.specs.Prelude.{◌≡◌, ◌↔◌, ◌^◌, ℕ, Some, true, IfOk, IsTrue, OnOk};
 ghost use Rattle.std.specs.List.{All, filter};
@@ -7,20 +8,23 @@ ghost use Rattle.ccw_core.specs.Areas.{lies_in};
 ghost use Rattle.ccw_core.specs.Ccw.{Fields};
 ghost use Rattle.chan_walk.specs.Argument.{Has};
 ghost use Rattle.chan_walk.specs.Fault as fault;
-ghost use Rattle.chan_walk.specs.Guard.{AddsBytes};
+ghost use Rattle.chan_walk.specs.Guard.{AddsBytes, Guards};
 ghost use Rattle.chan_walk.specs.Job.{fetch_of, store_of};
 ghost use Rattle.chan_walk.specs.Least.{AreReached};
 ghost use Rattle.chan_walk.specs.Look.{AreLooks, IsLook, places_of_looks};
 ghost use Rattle.chan_walk.specs.Notes as noted;
-ghost use Rattle.chan_walk.specs.Notes.{AddsAddress, AreAddressesOf, AreUnused, HoldData};
-ghost use Rattle.chan_walk.specs.Notes.{IsFetchedFrom, IsSeenByte, IsSeenWith, IsStoredInto};
+ghost use Rattle.chan_walk.specs.Notes.{AddsAddress, AreAddressesOf, AreMachineStores, AreUnused};
+ghost use Rattle.chan_walk.specs.Notes.{AreUsed, HoldData, IsFetchedFrom, IsSeenByte};
+ghost use Rattle.chan_walk.specs.Notes.{IsSeenWith, IsStoredInto};
 ghost use Rattle.chan_walk.specs.Notes.{NothingFollows, reaches_past_storage};
 ghost use Rattle.chan_walk.specs.Ranges.{EndsBelow, IsMerged};
 ghost use Rattle.chan_walk.specs.declared.job.Job.{Job};
 
 use crate::bits::{asks_interruption, chains_command, chains_data};
+use crate::guard::Guard;
 use crate::job::Job;
 use crate::look::Look;
+use crate::needs::kept;
 use crate::note::Notes;
 use crate::ranges::{meets, merge};
 use crate::visit::fetches_at;
@@ -28,8 +32,14 @@ use ccw_core::Area;
 use ckd_core::Kind;
 use std::alloc::{AllocError, Global};
 
-/// The notes on a job whose reachable places are those that were looked at.
-pub(crate) fn notes_of(alloc: Global, job: &Job, looks: &[Look]) -> Result<Notes, AllocError>
+/// The notes on a job with this guard, whose reachable places are those that were looked at.
+pub(crate) fn notes_of(
+    alloc: Global,
+    job: &Job,
+    guard: &Guard,
+    looks: &[Look],
+) -> Result<Notes, AllocError>
+    requires guard { Guards job.now guard.now }
     requires looks { AreLooks job.now looks.now }
     requires reached { AreReached job.now (places_of_looks looks.now) }
 
@@ -47,6 +57,10 @@ pub(crate) fn notes_of(alloc: Global, job: &Job, looks: &[Look]) -> Result<Notes
     ensures interrupting { IfOk result
         (λ n. AreAddressesOf noted.interrupts job.now n.interrupting.items) }
     ensures ending { IfOk result (λ n. AreAddressesOf noted.ends_there job.now n.ending.items) }
+
+    // Where the machine itself stores.
+    ensures machine_stores { IfOk result
+        (λ n. AreMachineStores job.now n.machine_stores.items) }
 {
     let fetched = fetched(alloc, looks)?;
     let stored = stored(alloc, looks)?;
@@ -57,6 +71,7 @@ pub(crate) fn notes_of(alloc: Global, job: &Job, looks: &[Look]) -> Result<Notes
         unused_store: unused(alloc, job.store, stored.as_slice())?,
         interrupting: interrupting(alloc, looks)?,
         ending: ending(alloc, looks)?,
+        machine_stores: machine_stores(alloc, guard)?,
     })
 }
 
@@ -86,6 +101,37 @@ fn unused(alloc: Global, areas: &[Area], used: &[Area]) -> Result<Vec<Area>, All
         }
     }
     Ok(unused)
+}
+
+/// Those of some areas that have a byte of a merged list.
+fn meeting(alloc: Global, areas: &[Area], merged: &[Area]) -> Result<Vec<Area>, AllocError>
+    requires { IsMerged merged.now }
+    ensures { IfOk result (λ v. AreUsed (λ b. lies_in merged.now b ≡ true) areas.now v.items) }
+{
+    let mut met = Vec::new(alloc);
+    for area in areas {
+        if meets(merged, area.start, area.len) {
+            met.push(*area)?;
+        }
+    }
+    Ok(met)
+}
+
+/// The kept areas that have a byte into which the machine itself stores: old PSWs and the CSW at
+/// 000018 to 000047, or the timer at 000050 to 000053.
+fn machine_stores(alloc: Global, guard: &Guard) -> Result<Vec<Area>, AllocError>
+    ensures { IfOk result (λ v. (j : Job) → Guards j guard.now → AreMachineStores j v.items) }
+{
+    let status = Area {
+        start: 0x18,
+        len: 0x30,
+    };
+    let timer = Area {
+        start: 0x50,
+        len: 4,
+    };
+    let kept = kept(alloc, guard)?;
+    meeting(alloc, kept.as_slice(), &[status, timer])
 }
 
 /// The bytes that reachable CCWs fetch, as a merged list.

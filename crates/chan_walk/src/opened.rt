@@ -16,8 +16,8 @@ use ckd_core::{Device, Extents, FileMask};
 use std::alloc::Global;
 
 /// The open job of a program: no mask inhibits anything, the extents are all cylinders, and all of
-/// storage is lent for fetching and for storing. Where its verdict is no, so is that of each job of
-/// the program; where it is yes, its survey tells what the program needs.
+/// storage is lent for fetching and for storing. If its verdict is no, so is that of each job of
+/// the program; if it is yes, its survey has the needs of the program.
 #[derive(Drop)]
 pub struct OpenJob<'a> {
     storage: Storage<'a>,

@@ -75,8 +75,8 @@ impl Place {
     }
 }
 
-/// The place where a program begins: its start, entered fresh. It counts as reached by a transfer
-/// in channel, so that a supervisor may put commands of its own and a transfer before it.
+/// The first place of a program: its start, entered fresh. It counts as reached by a transfer in
+/// channel, so that a supervisor may put commands of its own and a transfer before it.
 pub fn first_place(job: &Job) -> Place
     ensures { result ≡ place.first_place job.now }
 {

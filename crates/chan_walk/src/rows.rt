@@ -22,8 +22,8 @@ use std::alloc::{AllocError, Global};
 /// The address after the last that has 24 bits.
 const END_OF_STORAGE: u32 = 16_777_216;
 
-/// What `Needs` says, as rows that somebody holds. Rows that came about in another way do no harm,
-/// but an answer about them means nothing.
+/// The content of `Needs`, as rows in the caller's memory. Rows from another source do no harm, but
+/// an answer about them means nothing.
 #[derive(Clone, Copy)]
 pub struct Rows<'a> {
     /// How many bytes storage has.
@@ -41,8 +41,8 @@ pub struct Rows<'a> {
 }
 
 impl Rows<'_> {
-    /// Whether a job grants what the rows say that a program needs, where `needs` gave them. The
-    /// job's storage isn't looked at.
+    /// Whether a job grants the needs in the rows, if `needs` gave them. It doesn't look at the
+    /// job's storage.
     ///
     /// With n rows and a lent areas, the cost is (n + a) log a.
     pub fn are_granted(&self, alloc: Global, job: &Job) -> Result<bool, AllocError>
@@ -61,9 +61,9 @@ impl Rows<'_> {
         Ok(fetched && stored)
     }
 
-    /// Whether two programs may run side by side, where `needs` gave both their rows: neither
-    /// stores into what the other keeps. This makes both safe; it says nothing of what the data
-    /// mean, since one may read in over what the other writes out or searches for. Of the rows only
+    /// Whether two programs may run side by side, if `needs` gave both their rows: neither needs to
+    /// store into bytes that the other keeps. This makes both safe. It says nothing about data,
+    /// since one may read in over bytes that the other writes out or searches for. Of the rows only
     /// `store` and `keep` count.
     ///
     /// The cost is that of one pass over both rows, and no memory is taken.

@@ -8,7 +8,7 @@ ghost use Rattle.ccw_core.specs.Ccw.{is_formed as formed};
 ghost use Rattle.ccw_core.specs.Held.{bytes_held};
 ghost use Rattle.ccw_core.specs.Storage.{ccw_at as ccw_in};
 ghost use Rattle.chan_walk.specs.Argument.{Gives, HasArgument, is_part};
-ghost use Rattle.chan_walk.specs.Given.{AreArgument, AreGiven, IsFront};
+ghost use Rattle.chan_walk.specs.Given.{AreArgument, AreGiven, AreZeroFrom, IsFront};
 ghost use Rattle.chan_walk.specs.Given.{addresses_given, bytes_given};
 ghost use Rattle.chan_walk.specs.Onward as onward;
 ghost use Rattle.chan_walk.specs.Tables.{HasAddresses};
@@ -16,14 +16,14 @@ ghost use Rattle.chan_walk.specs.Tables.{HasAddresses};
 use crate::bits::{chains_data, has_data_in, is_counted, is_formed};
 use ccw_core::{Ccw, Storage};
 
-/// The bytes that a seek's data chain gives of its argument, and where they stand, in order.
+/// The bytes that a seek's data chain gives of its argument, and their addresses, in order.
 #[derive(Clone, Copy)]
 pub struct GivenBytes {
-    /// How many they are: six where the argument is whole.
+    /// How many they are: six if the argument is whole.
     pub count: u8,
-    /// The bytes, with zeros behind them.
+    /// The bytes; the places after them hold zeros.
     pub bytes: [u8; 6],
-    /// Their addresses, with zeros behind them.
+    /// Their addresses; the places after them hold zeros.
     pub addresses: [u32; 6],
 }
 
@@ -137,6 +137,8 @@ fn note(addresses: &mut [u32; 6], have: usize, from: u32, count: usize)
     ensures before { (i : ℕ) → i < have → slice_index addresses.new i
         ≡ slice_index addresses.old i }
     ensures added { (i : ℕ) → i < count → slice_index addresses.new (have + i) ≡ from + i }
+    ensures after { (i : ℕ) → have + count ≤ i → slice_index addresses.new i
+        ≡ slice_index addresses.old i }
 {
     for k in 0..count {
         addresses[have + k] = from + k as u32;
@@ -158,6 +160,7 @@ pub(crate) fn argument_addresses(
     ensures given { IfErr result (λ front. Gives (bytes_held storage.now) address front.count) }
     ensures front { IfErr result
         (λ front. IsFront (bytes_held storage.now) address front.count front.addresses) }
+    ensures zeros { IfErr result (λ front. AreZeroFrom front.count front.addresses) }
 {
     let mut addresses = [0u32; 6];
     let mut have: usize = 0;
@@ -203,12 +206,13 @@ pub(crate) fn byte_at(storage: &Storage, address: u32) -> u8
     }
 }
 
-/// The bytes at the first of these addresses, `count` of them.
+/// The bytes at the first of these addresses, `count` of them, and zeros after them.
 fn bytes_of(storage: &Storage, count: usize, addresses: [u32; 6]) -> [u8; 6]
     requires { count ≤ 6 }
     ensures size { length result ≡ 6 }
     ensures bytes { (i : ℕ) → i < count → slice_index result i
         ≡ byte (bytes_held storage.now) (slice_index addresses i) }
+    ensures zeros { AreZeroFrom count result }
 {
     let mut bytes = [0u8; 6];
     for k in 0..count {
@@ -240,6 +244,7 @@ pub(crate) fn front_at(storage: &Storage, front: Front) -> GivenBytes
     ensures count { result.count ≡ front.count }
     ensures given { (address : ℕ)
         → IsFront (bytes_held storage.now) address front.count front.addresses
+        → AreZeroFrom front.count front.addresses
         → AreGiven (bytes_held storage.now) address result }
 {
     let Front { count, addresses } = front;
@@ -263,12 +268,12 @@ pub(crate) fn bytes_at(storage: &Storage, addresses: Option<[u32; 6]>) -> Option
 }
 
 /// The argument of a seek at an address: the first six bytes of the joined data ranges of the data
-/// chain that begins there, whether or not a seek stands there.
+/// chain that begins there, whether or not a seek is there.
 ///
-/// `None` comes exactly where there is no argument: where the CCW is a transfer in channel, where
-/// the chain ends before six bytes, or where a CCW that is needed for them is misaligned, outside
-/// storage, wrongly formed, of count zero, has its data outside storage, or is a transfer that a
-/// transfer leads to. Whether bytes are lent plays no part. At most six CCWs and five transfers are
+/// `None` comes exactly if there is no argument: if the CCW is a transfer in channel, if the chain
+/// ends before six bytes, or if a CCW that is needed for them is misaligned, outside storage,
+/// wrongly formed, of count zero, has its data outside storage, or is a transfer that a transfer
+/// leads to. It doesn't matter whether bytes are lent. At most six CCWs and five transfers are
 /// looked at.
 pub fn seek_argument(storage: &Storage, address: u32) -> Option<[u8; 6]>
     ensures { HasArgument (bytes_held storage.now) address result }

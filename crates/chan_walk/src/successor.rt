@@ -36,7 +36,7 @@ impl Next {
     }
 }
 
-/// The successors of a place: none where it has an own fault. The place may be any, reached or not.
+/// The successors of a place: none if it has an own fault. The place may be any, reached or not.
 ///
 /// It takes no memory. The cost is that of `fault_at`.
 pub fn successors(job: &Job, place: Place) -> Next

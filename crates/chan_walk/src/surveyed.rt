@@ -10,8 +10,8 @@ ghost use Rattle.chan_walk.specs.Explored.{AreApart, AreReachable, place_number}
 ghost use Rattle.chan_walk.specs.Job.{fetch_of, store_of};
 ghost use Rattle.chan_walk.specs.Look.{AreLooks, Seen, places_of_looks};
 ghost use Rattle.chan_walk.specs.Notes as noted;
-ghost use Rattle.chan_walk.specs.Notes.{AreAddressesOf, AreUnused, IsFetchedFrom, IsStoredInto};
-ghost use Rattle.chan_walk.specs.Notes.{reaches_past_storage};
+ghost use Rattle.chan_walk.specs.Notes.{AreAddressesOf, AreMachineStores, AreUnused};
+ghost use Rattle.chan_walk.specs.Notes.{IsFetchedFrom, IsStoredInto, reaches_past_storage};
 ghost use Rattle.chan_walk.specs.Needs.{AreOfOneProgram};
 ghost use Rattle.chan_walk.specs.Offences.{first_verdict};
 ghost use Rattle.chan_walk.specs.Paths.{IsPathTo};
@@ -36,8 +36,8 @@ use crate::verdict::Verdict;
 use crate::witness::{Witness, causes_of, witness_of};
 use std::alloc::{AllocError, Global};
 
-/// What one walk over a job's reachable places has found, and what follows from it: how each was
-/// found, what was seen of it, the guard, and all offences.
+/// The result of one walk over a job's reachable places: for each its look and the place that it
+/// was found from, and then the guard and all offences.
 #[derive(Drop)]
 pub struct Survey {
     pub(crate) walk: Walk,
@@ -46,8 +46,8 @@ pub struct Survey {
 }
 
 impl Survey {
-    /// Whether the program may run: yes where nothing offends, and else the address and the reason
-    /// of the first offence.
+    /// Whether the program may run: yes if nothing offends, otherwise the address and the reason of
+    /// the first offence.
     pub fn verdict(&self) -> Verdict
         ensures { result ≡ first_verdict self.now.offences.items }
     {
@@ -68,10 +68,9 @@ impl Survey {
         self.offences.as_slice()
     }
 
-    /// The path from the first place to a place: the shortest list of successors, and of several
-    /// that are equally short the one that goes on to `next` where another goes to `skip`, at the
-    /// first place where they part. So there is exactly one. `None` exactly where the place isn't
-    /// reachable.
+    /// The path from the first place to a place: the shortest list of successors. Of several that
+    /// are equally short it is the one that goes on to `next`, not to `skip`, at the first place at
+    /// which they part. So there is exactly one. `None` comes exactly if the place isn't reachable.
     pub fn path_to(&self, alloc: Global, place: Place) -> Result<Option<Vec<Place>>, AllocError>
         requires { (j : Job) × IsSurvey j self.now }
         ensures { IfOk result (λ path. (j : Job) → IsSurvey j self.now
@@ -86,7 +85,7 @@ impl Survey {
         }
     }
 
-    /// What shows that the first offence is one.
+    /// The witness of the first offence.
     pub fn witness(&self, alloc: Global, job: &Job) -> Result<Witness, AllocError>
         requires { IsSurvey job.now self.now }
         ensures path { IfOk result
@@ -142,11 +141,15 @@ impl Survey {
             (λ n. AreAddressesOf noted.interrupts job.now n.interrupting.items) }
         ensures ending { IfOk result
             (λ n. AreAddressesOf noted.ends_there job.now n.ending.items) }
+
+        // Where the machine itself stores.
+        ensures machine_stores { IfOk result
+            (λ n. AreMachineStores job.now n.machine_stores.items) }
     {
-        notes_of(alloc, job, self.walk.looks.as_slice())
+        notes_of(alloc, job, &self.guard, self.walk.looks.as_slice())
     }
 
-    /// What the program needs of each job that it runs under, where the verdict is yes. Each job of
+    /// The needs of the program in each job that it runs under, if the verdict is yes. Each job of
     /// the program that has a yes gives the same; the open job has one if any has.
     ///
     /// With n places, the cost is n log n.
@@ -159,7 +162,7 @@ impl Survey {
         needs_of(alloc, job, &self.guard, self.walk.looks.as_slice())
     }
 
-    /// What was seen of the places, in order of place, and all offences.
+    /// The looks at the places, in order of place, and all offences.
     pub fn into_parts(self) -> (Vec<Look>, Vec<Offence>)
         requires { (j : Job) × IsSurvey j self }
         ensures looks { (j : Job) → IsSurvey j self → AreLooks j result.0.items }

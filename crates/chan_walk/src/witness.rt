@@ -22,14 +22,14 @@ use crate::place::Place;
 use crate::reason::Reason;
 use std::alloc::{AllocError, Global};
 
-/// What shows that the first of a job's offences is one.
+/// The witness of the first of a job's offences.
 ///
 /// The path leads to a place with its address that offends by its reason. It is the shortest of all
-/// such paths, and of several that are equally short the one that goes on to `next` where another
-/// goes to `skip`, at the first place where they part. A run over exactly this path, on which
-/// nothing changes, shows the reason at its last place. The evidence is that of its last place, and
-/// the second path, chosen in the same way, leads to the CCW stored over, or to a place that
-/// takes the argument. Where nothing offends, there are none of them.
+/// such paths; of several that are equally short it is the one that goes on to `next`, not to
+/// `skip`, at the first place at which they part. A run over exactly this path, on which nothing
+/// changes, shows the reason at its last place. The evidence is that of its last place, and the
+/// second path, chosen in the same way, leads to the CCW stored over, or to a place that takes the
+/// argument. If nothing offends, all of them are empty.
 #[derive(Drop)]
 pub struct Witness {
     /// The places of the path, from the first place on.
@@ -37,11 +37,11 @@ pub struct Witness {
     /// The values of the cause.
     pub evidence: Option<Evidence>,
     /// The last place of the path before its end that stores one of the eight bytes from the end's
-    /// address on, where the reason is that no command stands there: what will stand there isn't
+    /// address on, if the reason is that no command is there: the bytes that will be there aren't
     /// judged.
     pub stored_over: Option<Place>,
-    /// The places of the path to what is changed, where the reason is `ChangesCcw` or
-    /// `ChangesArgument`; else none.
+    /// The places of the path to the CCW or argument that is changed, if the reason is `ChangesCcw`
+    /// or `ChangesArgument`; else none.
     pub second_path: Vec<Place>,
 }
 

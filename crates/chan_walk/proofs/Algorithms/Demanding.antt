@@ -1,10 +1,10 @@
 -- What a place that was looked at asks of the mask, and the strictest mask that serves many.
-use Rattle.std.proofs.Common.{◌≡◌, ℕ, ◌<◌, true, false, List, [], ◌∷◌, ◌++◌, length, get_or, Some, None, refl, sym, ap, ◌∙◌, subst, inl, ◌↔◌, rules}
+use Rattle.std.proofs.Common.{◌≡◌, ℕ, ◌<◌, true, false, List, [], ◌∷◌, ◌++◌, length, get_or, Option, Some, None, refl, sym, ap, ◌∙◌, subst, ◌⊎◌, inl, inr, ◌↔◌, rules}
 use Rattle.std.proofs.lemmas.Bool.{and_from, and_parts, both_ways, not_from_false}
 use Rattle.ccw_core.specs.Ccw.{byte, Fields}
 use Rattle.ccw_core.specs.Storage.{Stands}
 use Rattle.ckd_core.specs.declared.command.MaskClass.{MaskClass}
-use Rattle.ckd_core.specs.declared.command.MaskClass.TheVariants.{SetMask}
+use Rattle.ckd_core.specs.declared.command.MaskClass.TheVariants.{Plain, Recalibrate, Seek, SeekCylinder, SeekHead, SetMask, WriteFormat, WriteHome, WriteUpdate}
 use Rattle.ckd_core.specs.Mask.{inhibits, inhibits_class, is_at_least}
 use Rattle.ckd_core.specs.Table.{Entry as Command, lookup, class_passes, class_sets_mask, sets_mask}
 use Rattle.chan_walk.specs.declared.job.Job.{Job}
@@ -21,7 +21,7 @@ use Rattle.chan_walk.proofs.Theory.Checks.{check_stands}
 use Rattle.chan_walk.proofs.Theory.Commands.{known_is_no_transfer, mask_is_no_transfer}
 use Rattle.chan_walk.proofs.Theory.Faults.{clear_check, clear_good, yes_clear}
 use Rattle.chan_walk.proofs.Theory.Lists.{has_at, has_cases, has_left, has_right}
-use Rattle.chan_walk.proofs.Theory.Masking.{IsDown, mask_of, serves_down, strictest_of_any, strictest_of_byte, strictest_of_two, strictest_same}
+use Rattle.chan_walk.proofs.Theory.Masking.{IsDown, cap_of, laxer, lax_both, mask_of, serves_down, strictest_for, strictest_of_any, strictest_of_byte, strictest_of_two, strictest_same}
 use Rattle.chan_walk.proofs.Algorithms.Looking.{place_at}
 use Rattle.chan_walk.proofs.Algorithms.Noted.{ccw_seen}
 
@@ -75,6 +75,12 @@ module _ (j : Job) (p : Place) (k : Command) (h : begun p (ccw_of j p) ≡ Some 
       plain : (m : ℕ) → inhibits_class m SetMask ≡ false
       plain m = refl
 
+  pub demanded_byte : k.class ≡ SetMask → IsClear j p → IsStrictest (ServesAt j p) (byte (storage_of j) c.address)
+  demanded_byte same clear =
+      let sets : begins_set_mask p c ≡ true = sets_it ∙ ap class_sets_mask same in
+      let strict = (clear_good j p clear (mask_is_no_transfer c (and_parts _ _ sets).1)).strict sets in
+      strictest_same _ (ServesAt j p) _ (serves_byte same) (strictest_of_byte _ (mask_of _ j.mask strict) (j.storage.fits c.address))
+
 -- no command of the table
 pub serves_none : (j : Job) (p : Place) → begun p (ccw_of j p) ≡ None → (m : ℕ) → ServesAt j p m
 unfolding inhibits sets_mask
@@ -101,9 +107,7 @@ module _ (j : Job) (l : Seen) (look : IsLook j l) (clear : IsClear j l.place) wh
       let sets : begins_set_mask l.place (ccw_of j l.place) ≡ true = sets_it j l.place k h ∙ ap class_sets_mask same in
       let ccw = ccw_seen j l look (clear_stands j l.place clear) in
       let is : byte_of l.read ≡ byte (storage_of j) (ccw_of j l.place).address = ap byte_of ((look.read (ccw_of j l.place) ccw).mask sets) in
-      let strict = (clear_good j l.place clear (mask_is_no_transfer (ccw_of j l.place) (and_parts _ _ sets).1)).strict sets in
-      subst (IsStrictest (ServesAt j l.place)) (sym is)
-      (strictest_same _ (ServesAt j l.place) _ (serves_byte j l.place k h same) (strictest_of_byte _ (mask_of _ j.mask strict) (j.storage.fits (ccw_of j l.place).address)))
+      subst (IsStrictest (ServesAt j l.place)) (sym is) (demanded_byte j l.place k h same clear)
 
 -- ---- at many
 
@@ -127,6 +131,48 @@ strictest_next j ps p a b m f g h =
 
     parts : (x : ℕ) → ServesEach j (ps ++ p ∷ []) x → ServesEach j ps x × ServesAt j p x
     parts x w = ((λ q k. w q (has_left ps (p ∷ []) q k)), w p (has_right ps (p ∷ []) p (inl refl)))
+
+-- ---- at any clear place
+
+demand_of_command : (j : Job) (p : Place) (k : Command) → begun p (ccw_of j p) ≡ Some k → IsClear j p → (k.class ≡ SetMask) ⊎ (class_sets_mask k.class ≡ false) → (m : ℕ) × IsStrictest (ServesAt j p) m
+demand_of_command j p k h clear (inl same) = (byte (storage_of j) (ccw_of j p).address, demanded_byte j p k h same clear)
+demand_of_command j p k h clear (inr other) = (cap_of k.class, strictest_same _ (ServesAt j p) _ (serves_command j p k h other) (strictest_for k.class k.class refl))
+
+sets_or_not : (c : MaskClass) → (c ≡ SetMask) ⊎ (class_sets_mask c ≡ false)
+sets_or_not SetMask = inl refl
+sets_or_not Plain = inr refl
+sets_or_not Seek = inr refl
+sets_or_not SeekCylinder = inr refl
+sets_or_not SeekHead = inr refl
+sets_or_not Recalibrate = inr refl
+sets_or_not WriteHome = inr refl
+sets_or_not WriteFormat = inr refl
+sets_or_not WriteUpdate = inr refl
+
+demand_of : (j : Job) (p : Place) → IsClear j p → (m : ℕ) × IsStrictest (ServesAt j p) m
+demand_of j p clear = go (begun p (ccw_of j p)) refl
+  where
+    go : (o : Option Command) → begun p (ccw_of j p) ≡ o → (m : ℕ) × IsStrictest (ServesAt j p) m
+    go None e = (0x58, strictest_of_any (ServesAt j p) (serves_none j p e))
+    go (Some k) e = demand_of_command j p k e clear (sets_or_not k.class)
+
+pub demand_of_each : (j : Job) (ps : List Place) → ((p : Place) → Has ps p → IsClear j p) → (m : ℕ) × IsStrictest (ServesEach j ps) m
+demand_of_each j [] clear = (0x58, strictest_first j 0x58 refl)
+demand_of_each j (p ∷ ps) clear =
+    let a = demand_of j p (clear p (inl refl)) in
+    let b = demand_of_each j ps (λ q h. clear q (inr h)) in
+    let two = laxer a.0 b.0 a.1.small b.1.small a.1.right b.1.right in (
+      lax_both a.0 b.0,
+      strictest_same (λ x. ServesAt j p x × ServesEach j ps x) (ServesEach j (p ∷ ps)) (lax_both a.0 b.0) (λ x. (both x, parts x))
+          (strictest_of_two (ServesAt j p) (ServesEach j ps) a.0 b.0 (lax_both a.0 b.0) (serves_down j p) (each_down j ps) a.1 b.1 two),
+    )
+  where
+    both : (x : ℕ) → ServesAt j p x × ServesEach j ps x → ServesEach j (p ∷ ps) x
+    both x w q (inl e) = subst (λ r. ServesAt j r x) e w.0
+    both x w q (inr h) = w.1 q h
+
+    parts : (x : ℕ) → ServesEach j (p ∷ ps) x → ServesAt j p x × ServesEach j ps x
+    parts x w = (w p (inl refl), λ q h. w q (inr h))
 
 -- each place that was looked at under a yes is clear
 look_clear : (j : Job) (ls : List Seen) (p : Place) → AreLooksOfYes j ls → Has (places_of_looks ls) p → IsClear j p

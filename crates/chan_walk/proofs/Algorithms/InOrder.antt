@@ -229,7 +229,7 @@ distinct (p ∷ ps) a = (all ps a.0, distinct ps a.1)
     all [] n = tt
     all (q ∷ qs) n = (ne_eqb (place_number p) (place_number q) (λ e. n (inl (sym (same_number p q e)))), all qs (λ h. n (inr h)))
 
-has_number : (k : ℕ) (ps : List Place) → list_any (λ y. eqb k y) (map place_number ps) ≡ true → (p : Place) × Has ps p × (place_number p ≡ k)
+pub has_number : (k : ℕ) (ps : List Place) → list_any (λ y. eqb k y) (map place_number ps) ≡ true → (p : Place) × Has ps p × (place_number p ≡ k)
 has_number k [] h = absurd (cc)
 has_number k (p ∷ ps) h = search (rules, or_cases, eqb-true, has_number k ps)
 

@@ -23,9 +23,9 @@ use Rattle.chan_walk.specs.Needs.{AreOfOneProgram, Grants, IsKept, IsNeededCylin
 use Rattle.chan_walk.specs.Notes.{IsDataOf, HoldData}
 use Rattle.chan_walk.specs.Offences.{FirstIsVerdict, first_verdict}
 use Rattle.chan_walk.specs.Place.{ccw_of}
-use Rattle.chan_walk.specs.Ranges.{IsMerged, end_of}
+use Rattle.chan_walk.specs.Ranges.{AreExactly, IsMerged, end_of}
 use Rattle.chan_walk.specs.Reachable.{IsReachable}
-use Rattle.chan_walk.specs.Rows.{AreExactly, AreLooksOfYes, AreNeeds, HasStoreAndKeep, IsSought, LieBelow, Listed, MayRunBeside, Share, run_of}
+use Rattle.chan_walk.specs.Rows.{AreLooksOfYes, AreNeeds, HasStoreAndKeep, IsSought, LieBelow, Listed, MayRunBeside, Share, run_of}
 use Rattle.chan_walk.specs.Surveyed.{IsSurvey}
 use Rattle.chan_walk.specs.Verdict.{IsVerdict}
 use Rattle.chan_walk.proofs.Theory.Faults.{clear_check, yes_clear}

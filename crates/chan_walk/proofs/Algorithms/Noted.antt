@@ -25,13 +25,13 @@ use Rattle.chan_walk.specs.Guard.{AddsBytes}
 use Rattle.chan_walk.specs.Job.{storage_of}
 use Rattle.chan_walk.specs.Least.{AreReached}
 use Rattle.chan_walk.specs.Look.{IsLook, Seen}
-use Rattle.chan_walk.specs.Notes.{AddsAddress, AreAddressesOf, AreUnused, HoldData, IsDataOf, IsSeenByte, IsSeenWith, IsUsed, NothingFollows, Passes}
+use Rattle.chan_walk.specs.Notes.{AddsAddress, AreAddressesOf, AreUnused, AreUsed, HoldData, IsDataOf, IsMachineByte, IsSeenByte, IsSeenWith, IsUsed, NothingFollows, Passes}
 use Rattle.chan_walk.specs.Place.{is_fresh, ccw_of}
 use Rattle.chan_walk.specs.Ranges.{end_of, Meets}
 use Rattle.chan_walk.proofs.Theory.Commands.{idle_is_no_transfer}
 use Rattle.chan_walk.proofs.Algorithms.Guarding.{HoldBytes, one_more}
 use Rattle.chan_walk.proofs.Theory.Lists.{contains_has, has_contains, has_push}
-use Rattle.chan_walk.proofs.Algorithms.Merging.{lies_in-cases, lies_in-first}
+use Rattle.chan_walk.proofs.Algorithms.Merging.{InArea, lies_in-cases, lies_in-first, lies_in-rest}
 
 -- ---- areas that are used, by a test
 
@@ -59,15 +59,55 @@ any_unless areas a n b h e = search (rules, both_ways, any_meets)
 abbrev pub misses : List Area → Area → Bool
 misses used a = not (meets_any used a.start a.len)
 
-pub are_unused : (used areas unused : List Area) → unused ≡ filter (misses used) areas → AreUnused (λ b. lies_in used b ≡ true) areas unused
-are_unused used areas unused e = record {
-  is_used = λ a. meets_any used a.start a.len;
-  right = λ a. (to a, λ h. any_at used a.start a.len h.0 h.1 h.2 h.3);
-  are = e;
-}
+-- an area meets the bytes exactly where it has one of them
+right : (used : List Area) (a : Area) → (meets_any used a.start a.len ≡ true) ↔ IsUsed (λ b. lies_in used b ≡ true) a
+right used a = (to, λ h. any_at used a.start a.len h.0 h.1 h.2 h.3)
   where
-    to : (a : Area) → meets_any used a.start a.len ≡ true → IsUsed (λ b. lies_in used b ≡ true) a
-    to a h = let m = any_meets used a.start a.len h in (m.at, m.from, m.below, m.lies)
+    to : meets_any used a.start a.len ≡ true → IsUsed (λ b. lies_in used b ≡ true) a
+    to h = let m = any_meets used a.start a.len h in (m.at, m.from, m.below, m.lies)
+
+-- the test that leaves the used areas
+abbrev pub hits : List Area → Area → Bool
+hits used a = meets_any used a.start a.len
+
+pub are_used : (used areas met : List Area) → met ≡ filter (hits used) areas → AreUsed (λ b. lies_in used b ≡ true) areas met
+are_used used areas met e = record { is_used = hits used; right = right used; are = e }
+
+-- the bytes of the two areas into which the machine itself stores
+pub machine_bytes : (b : ℕ) → (lies_in (record { start = 0x18; len = 0x30 } ∷ record { start = 0x50; len = 4 } ∷ []) b ≡ true) ↔ IsMachineByte b
+machine_bytes b = (to, from)
+  where
+    status : Area
+    status = record { start = 0x18; len = 0x30 }
+
+    timer : Area
+    timer = record { start = 0x50; len = 4 }
+
+    to : lies_in (status ∷ timer ∷ []) b ≡ true → IsMachineByte b
+    to h = go (lies_in-cases status (timer ∷ []) b h)
+      where
+        last : InArea timer b ⊎ (lies_in [] b ≡ true) → IsMachineByte b
+        last (inl i) = inr (omega (arith, i.0), omega (arith, i.1))
+        last (inr e) = absurd (both_ways _ (lies_in-nil b) e)
+
+        go : InArea status b ⊎ (lies_in (timer ∷ []) b ≡ true) → IsMachineByte b
+        go (inl i) = inl (omega (arith, i.0), omega (arith, i.1))
+        go (inr e) = last (lies_in-cases timer [] b e)
+
+    from : IsMachineByte b → lies_in (status ∷ timer ∷ []) b ≡ true
+    from (inl i) = lies_in-first status (timer ∷ []) b (omega (arith, i.0), omega (arith, i.1))
+    from (inr i) = lies_in-rest status (timer ∷ []) b (lies_in-first timer [] b (omega (arith, i.0), omega (arith, i.1)))
+
+-- the same areas are used, where the same bytes are
+pub used_same : (P Q : ℕ → Type 0) (areas met : List Area) → ((b : ℕ) → P b ↔ Q b) → AreUsed P areas met → AreUsed Q areas met
+used_same P Q areas met f u = record {
+  is_used = u.is_used;
+  right = λ a. ((λ h. let w = (u.right a).0 h in (w.0, w.1, w.2, (f w.0).0 w.3)), λ w. (u.right a).1 (w.0, w.1, w.2, (f w.0).1 w.3));
+  are = u.are;
+}
+
+pub are_unused : (used areas unused : List Area) → unused ≡ filter (misses used) areas → AreUnused (λ b. lies_in used b ≡ true) areas unused
+are_unused used areas unused e = record { is_used = hits used; right = right used; are = e }
 
 -- the bytes of the merged list are those of the data of CCWs
 pub unused_data : (test : Place → Fields → Bool) (j : Job) (given used areas unused : List Area) → given ≡ used → HoldData test j used → AreUnused (λ b. lies_in given b ≡ true) areas unused → AreUnused (IsDataOf test j) areas unused

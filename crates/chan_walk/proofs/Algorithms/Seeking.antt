@@ -24,8 +24,8 @@ use Rattle.chan_walk.specs.Least.{AreReached}
 use Rattle.chan_walk.specs.Look.{IsLook, Seen, argument_of}
 use Rattle.chan_walk.specs.Machine.{home}
 use Rattle.chan_walk.specs.Place.{is_fresh, ccw_of}
-use Rattle.chan_walk.specs.Ranges.{BeginAbove, EndsBelow, HaveSameBytes, IsMerged, end_of}
-use Rattle.chan_walk.specs.Rows.{AreExactly, AreRising, AreRunsOf, IsSought, RunsAbove, SeeksCylinder, run_of}
+use Rattle.chan_walk.specs.Ranges.{AreExactly, BeginAbove, EndsBelow, HaveSameBytes, IsMerged, end_of}
+use Rattle.chan_walk.specs.Rows.{AreRising, AreRunsOf, IsSought, RunsAbove, SeeksCylinder, run_of}
 use Rattle.chan_walk.specs.Visit.{begun}
 use Rattle.chan_walk.proofs.Theory.Chains.{argument_unique}
 use Rattle.chan_walk.proofs.Algorithms.Demanding.{clear_stands, command_at, fresh_from, none_from}

@@ -173,6 +173,16 @@ walked_on j l n from ps qs rs fs gs hs i w h s a b = record {
 only_first : (j : Job) (p : Place) → Has (first_place j ∷ []) p → IsReachable j p
 only_first j p h = search rules
 
+pub walked_first : (j : Job) (n : ℕ) → 0 < n → IsWalked j n (first_place j ∷ []) 0
+walked_first j n h = record {
+  few = omega arith;
+  within = omega arith;
+  apart = ((λ m. m), tt);
+  begins = inl refl;
+  only = only_first j;
+  closed = λ k p q l. absurd (omega arith);
+}
+
 pub first_overflows : (j : Job) (n : ℕ) (p : Place) (ps : List Place) → ps ≡ [] → Overflows n (Some p) ps → HasMoreThan j n
 first_overflows j n p ps e a = record {
   places = first_place j ∷ [];

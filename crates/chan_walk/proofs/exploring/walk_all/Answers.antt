@@ -2,13 +2,11 @@ use Rattle.std.proofs.Common.{◌≡◌, ℕ, ◌<◌, List, [], ◌∷◌, Some
 use Rattle.std.proofs.lemmas.Result.{err_from_is_err_and}
 use Rattle.chan_walk.specs.declared.job.Job.{Job}
 use Rattle.chan_walk.specs.declared.place.Place.{Place}
-use Rattle.chan_walk.specs.Argument.{Has}
 use Rattle.chan_walk.specs.Look.{places_of_looks}
 use Rattle.chan_walk.specs.Place.{first_place}
-use Rattle.chan_walk.specs.Reachable.{IsReachable}
 use Rattle.chan_walk.specs.Walk.{Adds, IsTraced, IsWalked}
 use Rattle.chan_walk.proofs.Algorithms.Looking.{number_of_places}
-use Rattle.chan_walk.proofs.Algorithms.Walking.{first_overflows}
+use Rattle.chan_walk.proofs.Algorithms.Walking.{first_overflows, walked_first}
 use Rattle.chan_walk.proofs.exploring.walk_all.Goals as goal
 
 -- where there was no place, the one added is alone
@@ -22,20 +20,6 @@ alone n p [] qs [] gs e f (inl a) = absurd a.0
 alone n p [] qs [] gs e f (inr a) = record { places = a.1; from = a.3; room = a.2 }
 alone n p (q ∷ ps) qs fs gs e f a = absurd (cc)
 alone n p [] qs (x ∷ fs) gs e f a = absurd (cc)
-
-walked_first : (j : Job) (n : ℕ) → 0 < n → IsWalked j n (first_place j ∷ []) 0
-walked_first j n h = record {
-  few = omega arith;
-  within = omega arith;
-  apart = ((λ m. m), tt);
-  begins = inl refl;
-  only = only;
-  closed = λ k p q l. absurd (omega arith);
-}
-  where
-    only : (p : Place) → Has (first_place j ∷ []) p → IsReachable j p
-    only p (inl e) = ([], sym e)
-    only p (inr h) = absurd h
 
 traced_first : (j : Job) → IsTraced j (first_place j ∷ []) (0 ∷ []) 0 0
 traced_first j = record {

@@ -1,4 +1,4 @@
-use Rattle.std.proofs.Common.{◌≡◌, ℕ, ◌+◌, ◌-◌, [], refl, ◌∙◌, sym, subst, arith}
+use Rattle.std.proofs.Common.{◌≡◌, ℕ, ◌+◌, ◌-◌, [], refl, ◌∙◌, sym, subst, arith, rules}
 use Rattle.std.proofs.lemmas.Bool.{both_ways}
 use Rattle.ccw_core.specs.Held.{bytes_held}
 use Rattle.chan_walk.specs.Argument.{IsChain, is_part}
@@ -57,6 +57,7 @@ loop-part-preserved c =
           (followed_more _ _ c.loop-part.addresses _ _ _ c.loop-part.invariant.followed part.part (omega (arith, part.count)) chained
           n.size n.before (simp (part.count, part.from) at n.added));
       given = rw (c.in-Some-onward.ensures.found, part.count) (given_more _ _ _ _ _ c.loop-part.invariant.given part.part c.note-in-loop-part.new.addresses n.before (simp (part.count, part.from) at n.added) chained);
+      zeros = λ i le lt. n.after i le ∙ c.loop-part.invariant.zeros i (omega (arith, le)) lt;
       stands = c.in-Some-onward.ensures.stands;
     }
 
@@ -75,6 +76,7 @@ loop-part-init c =
         to = λ m h l k. (l, subst (λ z. IsChain s z a l) (sym (none m)) k, refl);
         from = λ m h k w. (k, subst (λ z. IsChain s z a k) (none m) w);
       };
+      zeros = λ i le lt. search rules;
       stands = c.requires;
     }
 

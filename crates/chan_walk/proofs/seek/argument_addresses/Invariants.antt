@@ -1,6 +1,7 @@
 use Rattle.std.proofs.Common.{◌≡◌, ◌-◌, Some}
 use Rattle.ccw_core.specs.Held.{bytes_held}
 use Rattle.ccw_core.specs.Storage.{ccw_at}
+use Rattle.chan_walk.specs.Given.{AreZeroFrom}
 use Rattle.chan_walk.proofs.Algorithms.Following.{IsFollowed}
 use Rattle.chan_walk.proofs.Algorithms.Given.{IsGiven}
 use Rattle.chan_walk.proofs.seek.argument_addresses.Given as goal
@@ -9,6 +10,7 @@ abbrev pub invariant-loop-part : goal.invariant-loop-part
 invariant-loop-part l = record {
   followed : IsFollowed (bytes_held l.storage) l.address l.addresses l.have l.here.address;
   given : IsGiven (bytes_held l.storage) l.address l.addresses l.have l.here.address;
+  zeros : AreZeroFrom l.have l.addresses;
   stands : ccw_at (bytes_held l.storage) l.here.address ≡ Some l.here.ccw;
 }
 
