@@ -14,7 +14,7 @@ use byteorder::{BigEndian, ByteOrder};
 use std::alloc::{AllocError, Global};
 use std::marker::Model;
 
-/// A channel command word (CCW): what the channel is to do with one block of storage.
+/// A channel command word (CCW): the channel's instruction for one block of storage.
 ///
 /// A value keeps every bit of its eight bytes, whether or not the channel would accept them
 /// (System/360 Principles of Operation, A22-6821).
@@ -53,8 +53,8 @@ impl Model for Ccw {
 }
 
 impl Ccw {
-    /// A CCW of these fields: `None` exactly where the address is 16,777,216 or more, since it has
-    /// 24 bits.
+    /// A CCW of these fields: `None` exactly if the address is 16,777,216 or more, since it has 24
+    /// bits.
     pub fn new(command: u8, address: u32, flags: u8, spare: u8, count: u16) -> Option<Ccw>
         ensures found { IsSome result ↔ (address < 16777216) }
         ensures refused { IsNone result ↔ (16777216 ≤ address) }
@@ -145,7 +145,7 @@ impl Ccw {
         Group::of(self.command)
     }
 
-    /// Whether the CCW is a transfer in channel: the next CCW stands at its address field.
+    /// Whether the CCW is a transfer in channel: the next CCW is at its address field.
     pub fn is_transfer(&self) -> bool
         ensures value { result ≡ is_transfer self.now }
         ensures group { IsTrue result ↔ (group_of self.now.command ≡ Transfer) }
@@ -153,7 +153,7 @@ impl Ccw {
         self.command % 16 == 0b1000
     }
 
-    /// The flags by name; `None` exactly where one of the three low bits is set.
+    /// The flags by name; `None` exactly if one of the three low bits is set.
     pub fn known_flags(&self) -> Option<CcwFlags>
         ensures found { IsSome result ↔ (bit_and self.now.flags 7 ≡ 0) }
         ensures formed { is_some result ≡ is_formed self.now }

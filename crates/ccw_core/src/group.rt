@@ -5,7 +5,7 @@ ghost use Rattle.ccw_core.specs.Group.{group_of, group_word};
 
 use std::fmt;
 
-/// What a command code asks for, by its low bits (System/360 Principles of Operation, A22-6821).
+/// The group of a command code, by its low bits (System/360 Principles of Operation, A22-6821).
 #[derive(Clone, Copy, PartialEq, Eq)]
 pub enum Group {
     /// `xxxx0000`: no command; a program check.

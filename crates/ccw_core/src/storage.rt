@@ -16,7 +16,7 @@ const STORAGE_LIMIT: usize = 16_777_216;
 #[error("storage is larger than 16,777,216 bytes")]
 pub struct TooLarge;
 
-/// Main storage from address 0 on, borrowed as it stands.
+/// Main storage from address 0 on, borrowed as it is.
 #[derive(Clone, Copy, PartialEq, Eq, Debug)]
 pub struct Storage<'a> {
     bytes: &'a [u8],
@@ -49,8 +49,8 @@ impl<'a> Storage<'a> {
         self.bytes.len() as u32
     }
 
-    /// The channel command word at an address: `None` exactly where the address isn't a multiple of
-    /// 8, or the eight bytes from there on aren't wholly in storage. Nothing wraps round.
+    /// The channel command word at an address: `None` exactly if the address isn't a multiple of 8,
+    /// or the eight bytes from there on aren't wholly in storage. Nothing wraps round.
     pub fn ccw_at(&self, address: u32) -> Option<Ccw>
         ensures { result ≡ ccw_at (bytes_held self.now) address }
     {
@@ -62,8 +62,8 @@ impl<'a> Storage<'a> {
         Some(Ccw::from_bytes(word))
     }
 
-    /// The bytes of a range, borrowed and not copied: `None` exactly where start plus length is
-    /// above the length of storage. An empty range lies in storage up to its very end.
+    /// The bytes of a range, borrowed and not copied: `None` exactly if start plus length is above
+    /// the length of storage. An empty range lies in storage up to its very end.
     pub fn range(&self, start: u32, len: u32) -> Option<&'a [u8]>
         ensures { option_copied result ≡ range_at (bytes_held self.now) start len }
     {

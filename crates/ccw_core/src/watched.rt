@@ -14,14 +14,16 @@ use thiserror::Error;
 #[error("the device failed")]
 pub struct DeviceFault;
 
-/// A reader or writer that remembers whether a call of it failed.
+/// A reader or writer that remembers whether a call of it failed, and whether it has been flushed
+/// since the last write.
 ///
-/// So a caller who handed it down several layers can still tell a device that failed from one that
+/// A caller that passed it down several layers can still tell a device that failed from one that
 /// didn't.
 #[derive(Drop)]
 pub struct Watched<T> {
     inner: T,
     failed: bool,
+    flushed: bool,
 }
 
 impl<T> Model for Watched<T> {
@@ -29,7 +31,7 @@ impl<T> Model for Watched<T> {
 
     ghost Value = { Watch T };
 
-    ghost view = { λ w. record { device = w.inner; failed = w.failed } };
+    ghost view = { λ w. record { device = w.inner; failed = w.failed; flushed = w.flushed } };
 }
 
 impl<T> Watched<T> {
@@ -37,10 +39,12 @@ impl<T> Watched<T> {
     pub fn new(inner: T) -> Watched<T>
         ensures held { result.device ≡ inner }
         ensures sound { result.failed ≡ false }
+        ensures unflushed { result.flushed ≡ false }
     {
         Watched {
             inner,
             failed: false,
+            flushed: false,
         }
     }
 
@@ -51,11 +55,22 @@ impl<T> Watched<T> {
         self.failed
     }
 
+    /// Whether a flush has succeeded since the last write.
+    pub fn flushed(&self) -> bool
+        ensures { result ≡ self.now.flushed }
+    {
+        self.flushed
+    }
+
     /// The device itself.
     pub fn into_inner(self) -> T
         ensures { result ≡ self.device }
     {
-        let Watched { inner, failed: _ } = self;
+        let Watched {
+            inner,
+            failed: _,
+            flushed: _,
+        } = self;
         inner
     }
 
@@ -63,6 +78,7 @@ impl<T> Watched<T> {
     fn fault(&mut self) -> DeviceFault
         ensures kept { self.new.device ≡ self.old.device }
         ensures noted { self.new.failed ≡ true }
+        ensures flushed { self.new.flushed ≡ self.old.flushed }
     {
         self.failed = true;
         DeviceFault
@@ -100,21 +116,27 @@ impl<W: Write> Watched<W> {
             result bytes.now }
         ensures ok { OnOk result (self.new.failed ≡ self.old.failed) }
         ensures fault { OnErr result (self.new.failed ≡ true) }
+        ensures unflushed { self.new.flushed ≡ false }
     {
+        self.flushed = false;
         match self.inner.write(bytes) {
             Ok(n) if n > 0 || bytes.is_empty() => Ok(n),
             _ => Err(self.fault()),
         }
     }
 
-    /// Has what was written handed on. The bytes that were written stay as they are.
+    /// Flushes the device. The bytes that were written stay as they are.
     pub fn flush(&mut self) -> Result<(), DeviceFault>
         ensures bytes { Keeps (W.contents self.old.device) (W.contents self.new.device) }
         ensures ok { OnOk result (self.new.failed ≡ self.old.failed) }
+        ensures flushed { OnOk result (self.new.flushed ≡ true) }
         ensures fault { OnErr result (self.new.failed ≡ true) }
     {
         match self.inner.flush() {
-            Ok(()) => Ok(()),
+            Ok(()) => {
+                self.flushed = true;
+                Ok(())
+            }
             Err(_) => Err(self.fault()),
         }
     }

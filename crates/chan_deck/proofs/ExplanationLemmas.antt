@@ -1,5 +1,5 @@
 -- The explanation, row by row and line by line.
-use Rattle.std.proofs.Common.{◌≡◌, ◌∷◌, [], ◌++◌, ◌∙◌, ◌+◌, ◌-◌, ◌<◌, ◌≤◌, ap, sym, List, ℕ, zero, suc, true, false, Option, Some, refl, nat_eq, if◌then◌else◌, append_assoc, append-nil, arith, codes, drop, drop-cons, get_or, length, length-drop, slice_get}
+use Rattle.std.proofs.Common.{◌≡◌, ◌∷◌, [], ◌++◌, ◌∙◌, ◌+◌, ◌-◌, ◌<◌, ◌≤◌, ap, sym, List, ℕ, zero, suc, true, false, Option, Some, refl, nat_eq, append_assoc, append-nil, arith, codes, drop, drop-cons, get_or, length, length-drop, slice_get}
 use Rattle.std.proofs.lemmas.Bool.Decides.{nat_tests}
 use Rattle.std.specs.Fmt.{decimal}
 use Rattle.std.specs.Int.{w16, to_be_bytes}

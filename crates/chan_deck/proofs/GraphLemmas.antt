@@ -11,7 +11,7 @@ use Rattle.chan_walk.specs.Look.{Seen}
 use Rattle.chan_walk.specs.declared.offence.Offence.{Offence}
 use Rattle.chan_walk.specs.declared.place.Place.{Place}
 use Rattle.chan_walk.specs.declared.successor.Next.{Next}
-use Rattle.chan_deck.specs.Folds.{AreCounted, AreFolds, AreMarks, address_of, below, is_beside, is_once, is_some_once, kept_of, leads_only, may_join, may_join_in, once_in, parts, stand_together, targets, text_in, together_in, words_at}
+use Rattle.chan_deck.specs.Folds.{AreCounted, AreFolds, AreMarks, address_of, below, entries, is_beside, is_once, is_some_once, kept_of, leads_only, may_join, may_join_in, once_in, parts, stand_together, text_in, together_in, words_at}
 use Rattle.chan_deck.specs.Graph.{edge_line, edges, edges_from, ending, graph, heading, last_of, mark_in, mark_line, mark_with, next_style, node_name, nodes}
 use Rattle.chan_deck.specs.Runs.{runs}
 use Rattle.chan_deck.specs.declared.folds.Folds.{Folds}
@@ -104,9 +104,9 @@ none_of_mapped : {A B : Type 0} (f : A → B) (o : Option A) → is_none (option
 none_of_mapped f None = refl
 none_of_mapped f (Some x) = refl
 
-same_joins : (ls : List Seen) (os : List Offence) (f : Folds) (l : Seen) → AreFolds ls os f
+same_joins : (first : Place) (ls : List Seen) (os : List Offence) (f : Folds) (l : Seen) → AreFolds first ls os f
     → may_join_in f l ≡ may_join ls os l
-same_joins ls os f l folds =
+same_joins start ls os f l folds =
     let alone = same_count (map address_of ls) f.addresses l.place.address folds.addresses in
     let n = place_number l.place in
     let clear : is_none (tree.get nat_cmp f.marks n) ≡ is_none (below (words_at os n)) =
@@ -114,20 +114,21 @@ same_joins ls os f l folds =
     ap (λ b. b && is_none (tree.get nat_cmp f.marks n)) alone
     ∙ ap (λ b. is_once l.place.address (map address_of ls) && b) clear
 
-pub same_together : (ls : List Seen) (os : List Offence) (f : Folds) → AreFolds ls os f → (l m : Seen)
-    → together_in f l m ≡ stand_together ls os l m
-same_together ls os f folds l m =
+pub same_together : (first : Place) (ls : List Seen) (os : List Offence) (f : Folds) → AreFolds first ls os f
+    → (l m : Seen) → together_in f l m ≡ stand_together first ls os l m
+same_together start ls os f folds l m =
     let lead = leads_only l.next.next l.next.skip m.place in
-    let once = same_count (flat_map targets ls) f.targets (place_number m.place) folds.targets in
-    let first = same_joins ls os f l folds in
-    let second = same_joins ls os f m folds in
+    let once = same_count (entries start ls) f.entries (place_number m.place) folds.entries in
+    let first = same_joins start ls os f l folds in
+    let second = same_joins start ls os f m folds in
     ap (λ b. is_beside l m || (lead && b && may_join_in f l && may_join_in f m)) once
-    ∙ ap (λ b. is_beside l m || (lead && is_once (place_number m.place) (flat_map targets ls) && b && may_join_in f m)) first
-    ∙ ap (λ b. is_beside l m || (lead && is_once (place_number m.place) (flat_map targets ls) && may_join ls os l && b)) second
+    ∙ ap (λ b. is_beside l m || (lead && is_once (place_number m.place) (entries start ls) && b && may_join_in f m)) first
+    ∙ ap (λ b. is_beside l m || (lead && is_once (place_number m.place) (entries start ls) && may_join ls os l && b)) second
 
-pub same_parts : (ls : List Seen) (os : List Offence) (f : Folds) → AreFolds ls os f
-    → runs (together_in f) ls ≡ parts ls os
-same_parts ls os f folds = same_runs (together_in f) (stand_together ls os) (same_together ls os f folds) ls
+pub same_parts : (first : Place) (ls : List Seen) (os : List Offence) (f : Folds) → AreFolds first ls os f
+    → runs (together_in f) ls ≡ parts first ls os
+same_parts first ls os f folds =
+    same_runs (together_in f) (stand_together first ls os) (same_together first ls os f folds) ls
 
 -- ---- the whole picture
 
@@ -137,9 +138,10 @@ graph_in f ls =
     heading ++ flat_map nodes (runs (together_in f) ls) ++ flat_map (mark_in f.marks) ls
     ++ flat_map edges (runs (together_in f) ls) ++ ending
 
-pub same_graph : (ls : List Seen) (os : List Offence) (f : Folds) → AreFolds ls os f → graph_in f ls ≡ graph ls os
-same_graph ls os f folds =
+pub same_graph : (first : Place) (ls : List Seen) (os : List Offence) (f : Folds) → AreFolds first ls os f
+    → graph_in f ls ≡ graph first ls os
+same_graph first ls os f folds =
     ap (λ rs. heading ++ flat_map nodes rs ++ flat_map (mark_in f.marks) ls ++ flat_map edges rs ++ ending)
-    (same_parts ls os f folds)
-    ∙ ap (λ t. heading ++ flat_map nodes (parts ls os) ++ t ++ flat_map edges (parts ls os) ++ ending)
+    (same_parts first ls os f folds)
+    ∙ ap (λ t. heading ++ flat_map nodes (parts first ls os) ++ t ++ flat_map edges (parts first ls os) ++ ending)
     (marks_are os f.marks folds.marks ls)

@@ -48,6 +48,10 @@ number_if (Some p) = place_number p ∷ []
 abbrev pub targets : Seen → List ℕ
 targets l = number_if l.next.next ++ number_if l.next.skip
 
+-- the numbers of the places at which the program is entered: at its start, and where it goes on
+abbrev pub entries : Place → List Seen → List ℕ
+entries first ls = place_number first ∷ flat_map targets ls
+
 -- whether the program goes on to this place, and to no other
 abbrev pub leads_only : Option Place → Option Place → Place → Bool
 leads_only (Some q) None p = place_number q == place_number p
@@ -59,21 +63,21 @@ may_join ls os l =
     is_once l.place.address (map address_of ls)
     && is_none (below (words_at os (place_number l.place)))
 
--- whether a place and the one behind it stand in one box: both may, the program goes on from the
--- one to the other alone, and comes to the other from the one alone
-abbrev pub is_folded : List Seen → List Offence → Seen → Seen → Bool
-is_folded ls os l m =
+-- whether a place and the next share one box: both may, the program goes on from the one to the
+-- other alone, and enters the other from the one alone
+abbrev pub is_folded : Place → List Seen → List Offence → Seen → Seen → Bool
+is_folded first ls os l m =
     leads_only l.next.next l.next.skip m.place
-    && is_once (place_number m.place) (flat_map targets ls)
+    && is_once (place_number m.place) (entries first ls)
     && may_join ls os l && may_join ls os m
 
--- whether a place and the one behind it stand together: in a frame or in a box
-abbrev pub stand_together : List Seen → List Offence → Seen → Seen → Bool
-stand_together ls os l m = is_beside l m || is_folded ls os l m
+-- whether a place and the next are drawn together: in a frame or in a box
+abbrev pub stand_together : Place → List Seen → List Offence → Seen → Seen → Bool
+stand_together first ls os l m = is_beside l m || is_folded first ls os l m
 
 -- the places in order, cut into those that stand together
-abbrev pub parts : List Seen → List Offence → List (List Seen)
-parts ls os = runs (stand_together ls os) ls
+abbrev pub parts : Place → List Seen → List Offence → List (List Seen)
+parts first ls os = runs (stand_together first ls os) ls
 
 -- ---- texts kept in a map, each by a number
 
@@ -109,10 +113,10 @@ abbrev pub once_in : BTreeMap ℕ Bool → ℕ → Bool
 once_in m n = is_some_once (tree.get nat_cmp m n)
 
 -- what says which places stand together
-pub record AreFolds (ls : List Seen) (os : List Offence) (f : Folds) : Type 0 where
+pub record AreFolds (first : Place) (ls : List Seen) (os : List Offence) (f : Folds) : Type 0 where
   pub marks : AreMarks os f.marks
   pub addresses : AreCounted (map address_of ls) f.addresses
-  pub targets : AreCounted (flat_map targets ls) f.targets
+  pub entries : AreCounted (entries first ls) f.entries
 
 -- the same questions to it
 abbrev pub may_join_in : Folds → Seen → Bool
@@ -122,7 +126,7 @@ may_join_in f l =
 
 abbrev pub is_folded_in : Folds → Seen → Seen → Bool
 is_folded_in f l m =
-    leads_only l.next.next l.next.skip m.place && once_in f.targets (place_number m.place)
+    leads_only l.next.next l.next.skip m.place && once_in f.entries (place_number m.place)
     && may_join_in f l && may_join_in f m
 
 abbrev pub together_in : Folds → Seen → Seen → Bool

@@ -113,11 +113,11 @@ heading =
 abbrev pub ending : List ℕ
 ending = codes "}" ++ 10 ∷ []
 
--- the whole picture of what was seen, with these offences marked
-abbrev pub graph : List Seen → List Offence → List ℕ
-graph ls os =
-    heading ++ flat_map nodes (parts ls os) ++ flat_map (mark_line os) ls
-    ++ flat_map edges (parts ls os) ++ ending
+-- the whole picture of what was seen from the first place on, with these offences marked
+abbrev pub graph : Place → List Seen → List Offence → List ℕ
+graph first ls os =
+    heading ++ flat_map nodes (parts first ls os) ++ flat_map (mark_line os) ls
+    ++ flat_map edges (parts first ls os) ++ ending
 
 -- what a layer of the picture has of places that stand together
 abbrev pub layer_text : Layer → List Seen → List ℕ

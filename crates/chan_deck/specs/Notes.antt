@@ -8,7 +8,7 @@ use Rattle.ccw_core.specs.declared.areas.Area.{Area}
 use Rattle.chan_walk.specs.declared.note.Notes.{Notes}
 use Rattle.chan_deck.specs.Texts.{address_text}
 
--- an area that is lent, as the line of a deck that lends it, and what is noted of it
+-- an area, as the line of a deck or of what is needed that names it, and what is noted of it
 abbrev pub area_note : List ℕ → List ℕ → Area → List ℕ
 area_note word what a =
     codes "note: " ++ word ++ codes " " ++ address_text a.start ++ codes " " ++ address_text a.len
@@ -48,6 +48,9 @@ past_storage = codes " reaches past storage"
 abbrev pub unused : List ℕ
 unused = codes " is used by no reachable CCW"
 
+abbrev pub machine_stores : List ℕ
+machine_stores = codes " is where the machine stores PSWs, the CSW or the timer"
+
 abbrev pub interrupts : List ℕ
 interrupts = codes " interrupts: the processor may change any byte but those that chanv needs keeps"
 
@@ -75,5 +78,6 @@ notes n =
     ++ area_notes (codes "store") past_storage n.store_past_storage.items
     ++ area_notes (codes "fetch") unused n.unused_fetch.items
     ++ area_notes (codes "store") unused n.unused_store.items
+    ++ area_notes (codes "keep") machine_stores n.machine_stores.items
     ++ ccw_notes interrupts n.interrupting.items
     ++ ccw_notes ends_there n.ending.items

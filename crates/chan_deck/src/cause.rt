@@ -1,7 +1,7 @@
 //! Why a line of a deck is refused.
 
 /// Why a line of a deck is refused. The causes are tried in this order, and the first that applies
-/// is named; but to what follows the line `end` only `After` applies.
+/// is named; but after the line `end` only `After` applies.
 #[derive(Clone, Copy, PartialEq, Eq, Debug)]
 pub enum Cause {
     /// The text ends here: no byte is left, or the rest has no line feed, and `end` hasn't come.

@@ -402,13 +402,12 @@ fn push_witness(
 }
 
 /// The explanation of a verdict as text: its line; the path to an offending place, a row for each
-/// place, the last marked; the cause, with its values; the place that stores over what stands at
-/// the path's end; the path to what is changed; and a line for each other address and reason that
-/// offends, with the line of its cause behind it where the causes of all offences are handed in. An
-/// error means that an allocation failed.
+/// place, the last marked; the cause, with its values; the place that stores over the path's end;
+/// the path to the CCW or argument that is changed; and a line for each other address and reason
+/// that offends, followed by the line of its cause if the caller hands in the causes of all
+/// offences. An error means that an allocation failed.
 ///
-/// The rows show the CCWs that stand in the job's storage, whether or not the explanation is the
-/// job's.
+/// The rows show the CCWs in the job's storage, whether or not the explanation is the job's.
 pub fn explanation_text(
     alloc: Global,
     job: &Job,
@@ -428,8 +427,7 @@ pub fn explanation_text(
 
 /// Writes the explanation of a verdict.
 ///
-/// `Write` comes exactly where a write failed; then a prefix was written. After `Memory` nothing
-/// was.
+/// `Write` comes exactly if a write failed; then a prefix was written. After `Memory` nothing was.
 pub fn write_explanation<W: Write>(
     alloc: Global,
     job: &Job,

@@ -20,8 +20,8 @@ pub(crate) struct Folds {
     pub(crate) marks: BTreeMap<u64, String>,
     /// The addresses of the places, each with whether it was counted again.
     addresses: BTreeMap<u64, bool>,
-    /// The numbers of the places where the program goes on from some place, in the same way.
-    targets: BTreeMap<u64, bool>,
+    /// The numbers of the places at which the program is entered, in the same way.
+    entries: BTreeMap<u64, bool>,
 }
 
 /// The number of a place: places are in order as their numbers are.
@@ -127,32 +127,40 @@ fn count_targets(seen: &mut BTreeMap<u64, bool>, look: &Look) -> Result<(), Allo
     count_place(seen, onward.skip)
 }
 
-/// The numbers of the places where the program goes on from some places, counted.
-fn targets_of(alloc: Global, looks: &[Look]) -> Result<BTreeMap<u64, bool>, AllocError>
-    ensures { IfOk result (λ m. AreCounted (flat_map fold.targets looks.now) m) }
+/// The numbers of the places at which the program is entered, counted: of the first place, and of
+/// those where it goes on.
+fn entries_of(
+    alloc: Global,
+    first: Place,
+    looks: &[Look],
+) -> Result<BTreeMap<u64, bool>, AllocError>
+    ensures { IfOk result (λ m. AreCounted (fold.entries first looks.now) m) }
 {
     let mut seen = BTreeMap::new(alloc);
+    count(&mut seen, number_of(first))?;
     for look in looks {
         count_targets(&mut seen, look)?;
     }
     Ok(seen)
 }
 
-/// What says which of these places stand together.
+/// Decides which of these places are drawn together, in a picture of a program that begins at
+/// `first`.
 pub(crate) fn folds_of(
     alloc: Global,
+    first: Place,
     looks: &[Look],
     offences: &[Offence],
 ) -> Result<Folds, AllocError>
-    ensures { IfOk result (λ f. AreFolds looks.now offences.now f) }
+    ensures { IfOk result (λ f. AreFolds first looks.now offences.now f) }
 {
     let marks = marks_of(alloc, offences)?;
     let addresses = addresses_of(alloc, looks)?;
-    let targets = targets_of(alloc, looks)?;
+    let entries = entries_of(alloc, first, looks)?;
     Ok(Folds {
         marks,
         addresses,
-        targets,
+        entries,
     })
 }
 
@@ -188,7 +196,7 @@ fn are_folded(folds: &Folds, look: &Look, behind: &Look) -> bool
 {
     let to = behind.place();
     leads_only(look.next(), to)
-        && is_once(&folds.targets, number_of(to))
+        && is_once(&folds.entries, number_of(to))
         && may_join(folds, look)
         && may_join(folds, behind)
 }

@@ -368,18 +368,19 @@ fn write_ending<W: Write>(piece: String, to: &mut Watched<W>) -> Result<(), List
 /// besides is the text of the marks and two numbers for each place and each edge.
 pub fn write_graph<W: Write>(
     alloc: Global,
+    first: Place,
     looks: &[Look],
     offences: &[Offence],
     to: &mut Watched<W>,
 ) -> Result<(), ListError>
     requires { to.old.failed ≡ false }
     ensures ok { OnOk result (Appends (W.contents to.old.device) (W.contents to.new.device)
-        (draw.graph looks.now offences.now)) }
+        (draw.graph first looks.now offences.now)) }
     ensures prefix { AppendsPrefix (W.contents to.old.device) (W.contents to.new.device)
-        (draw.graph looks.now offences.now) }
+        (draw.graph first looks.now offences.now) }
     ensures write { IsErrOf result ListError.Write ↔ (to.new.failed ≡ true) }
 {
-    let folds = folds_of(alloc, looks, offences)?;
+    let folds = folds_of(alloc, first, looks, offences)?;
     let mut piece = String::from_str(alloc, HEADING)?;
     write_layer(&mut piece, Layer::Nodes, &folds, looks, to)?;
     write_marks(&mut piece, looks, &folds.marks, to)?;

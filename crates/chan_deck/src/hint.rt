@@ -405,15 +405,16 @@ fn push_hint(
     Ok(())
 }
 
-/// The hint for a text that is refused at this line for this cause: a line `found ` with the line
-/// as it stands, and a line `expected ` with what may stand in its place, or the condition that it
+/// The hint for a text that is refused at this line for this cause: a line `found ` with the
+/// refused line, and a line `expected ` with the text that may replace it, or the condition that it
 /// doesn't meet. An error means that an allocation failed.
 ///
-/// Of the line 60 characters are shown at most; a byte that isn't printable ASCII is shown as `\x`
+/// At most 60 characters of the line are shown; a byte that isn't printable ASCII is shown as `\x`
 /// and two digits, and so is a blank at the line's end. An empty line and the end of the text are
-/// told by words. Where several forms may stand, their keywords are given, but the pattern of the
-/// one whose keyword the line begins with; where it begins as another form, that this comes earlier
-/// or later. Where the first bytes are no text, the line names the command that makes a deck.
+/// named by words. If several forms may come, the hint lists their keywords, or gives the pattern
+/// of the one whose keyword the line begins with; if the line begins like another form, it says
+/// that this form comes earlier or later. If the first bytes aren't text, it names the command that
+/// makes a deck.
 pub fn hint_text(alloc: Global, text: &[u8], line: u64, cause: Cause) -> Result<Vec<u8>, AllocError>
     ensures { IfOk result (λ v. IsHint text.now line cause v.items) }
 {

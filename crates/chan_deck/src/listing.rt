@@ -23,8 +23,9 @@ use std::fmt::Write as _;
 use std::io::Write;
 use thiserror::Error;
 
-/// So many bytes of a listing at least are handed to the writer at once, but at its end.
-const PIECE: usize = 4096;
+/// A listing is written in pieces of whole lines. A piece ends with the line that reaches so many
+/// bytes, so pieces of rows stay below the 4,096 bytes that a pipe takes whole (`PIPE_BUF`).
+const PIECE: usize = 3968;
 
 /// Why a listing was not written whole.
 #[derive(Clone, Copy, PartialEq, Eq, Debug, Error)]
@@ -152,12 +153,12 @@ pub(crate) fn standing_at(job: &Job, address: u32) -> (Option<Ccw>, Option<Comma
     }
 }
 
-/// The row of a place, with its end: `address way transfer mark ccw name`. An error means that an
-/// allocation failed.
+/// The row of a place, with its line feed: `address way transfer mark ccw name`. An error means
+/// that an allocation failed.
 ///
 /// The place may have any address and need not be one that the job's program can come to. The CCW
-/// is the one that stands there in the job's storage; where none does, because the address isn't a
-/// multiple of 8 or leaves storage, `no-ccw` stands in place of it and its name.
+/// is the one in the job's storage; if there is none, because the address isn't a multiple of 8 or
+/// leaves storage, `no-ccw` replaces it and its name.
 pub fn row_text(alloc: Global, job: &Job, place: Place, marked: bool) -> Result<String, AllocError>
     ensures { IfOk result (λ t. string_bytes t ≡ list.row (storage_of job.now) place marked) }
 {
@@ -296,8 +297,8 @@ fn write_end<W: Write>(
 /// address the verdict names are marked.
 ///
 /// The rows are written in pieces of a few thousand bytes: no text of the whole listing is held.
-/// `Write` comes exactly where a write failed. After an error a prefix of the listing was written.
-/// The places and the verdict are taken as they are handed in, whether or not they are the job's.
+/// `Write` comes exactly if a write failed. After an error a prefix of the listing was written. The
+/// places and the verdict are taken as the caller hands them in, whether or not they are the job's.
 pub fn write_listing<W: Write>(
     alloc: Global,
     job: &Job,
@@ -320,8 +321,8 @@ pub fn write_listing<W: Write>(
 /// Writes the listing of a job that was judged: a row for each of its reachable places, in order,
 /// and then the line of its verdict. Nothing is looked at again.
 ///
-/// What is written is what `write_listing` writes for the job, its reachable places and its
-/// verdict; so are the errors.
+/// The output and the errors are those of `write_listing` for the job, its reachable places and its
+/// verdict.
 pub fn write_seen<W: Write>(
     alloc: Global,
     looks: &[Look],

@@ -53,8 +53,8 @@ pub fn in_six_digits(alloc: Global, areas: &[Area]) -> Result<Vec<Area>, AllocEr
     Ok(parts)
 }
 
-/// What a program needs as text: in a deck's grammar the lines `mask`, `extent`, `fetch` and
-/// `store` of a job that grants just this, and a line `keep` for each area that is kept. An error
+/// The needs of a program as text: in a deck's grammar the lines `mask`, `extent`, `fetch` and
+/// `store` of a job that grants just these, and a line `keep` for each area that is kept. An error
 /// means that an allocation failed.
 pub fn needs_text(alloc: Global, needs: &Needs) -> Result<Vec<u8>, AllocError>
     requires { AllByRecursion IsExtent needs.now.extents.items }
@@ -72,10 +72,9 @@ pub fn needs_text(alloc: Global, needs: &Needs) -> Result<Vec<u8>, AllocError>
     Ok(text)
 }
 
-/// Writes what a program needs.
+/// Writes the needs of a program.
 ///
-/// `Write` comes exactly where a write failed; then a prefix was written. After `Memory` nothing
-/// was.
+/// `Write` comes exactly if a write failed; then a prefix was written. After `Memory` nothing was.
 pub fn write_needs<W: Write>(
     alloc: Global,
     needs: &Needs,

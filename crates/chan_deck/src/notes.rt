@@ -18,6 +18,9 @@ const PAST_STORAGE: &str = " reaches past storage";
 /// What is noted of an area that isn't used.
 const UNUSED: &str = " is used by no reachable CCW";
 
+/// What is noted of an area that is kept and that the machine itself stores into.
+const MACHINE_STORES: &str = " is where the machine stores PSWs, the CSW or the timer";
+
 /// What is noted of a CCW with the flag for a program-controlled interruption.
 const INTERRUPTS: &str =
     " interrupts: the processor may change any byte but those that chanv needs keeps";
@@ -148,11 +151,15 @@ fn push_each_ccw(out: &mut String, what: &str, addresses: &[u32]) -> Result<(), 
     Ok(())
 }
 
-/// The notes on a job as text: the areas that reach past storage, those that no reachable CCW uses,
-/// the CCWs that ask for an interruption, and those at which the program ends though both chaining
-/// flags are on. Each sort has a line for each of its first hundred, and one for how many more
-/// there are; neighbours among the areas that adjoin count as one. An error means that an
-/// allocation failed.
+/// The notes on a job as text, in this order:
+///
+/// - the lent areas that reach past storage, and those that no reachable CCW uses;
+/// - the kept areas that the machine itself stores into;
+/// - the CCWs that ask for an interruption, and those at which the program ends though both
+///   chaining flags are on.
+///
+/// Each sort has a line for each of its first hundred notes, and one line with the number of the
+/// others. Areas that adjoin count as one. An error means that an allocation failed.
 pub fn notes_text(alloc: Global, notes: &Notes) -> Result<String, AllocError>
     ensures { IfOk result (λ t. string_bytes t ≡ texts.notes notes.now) }
 {
@@ -165,6 +172,13 @@ pub fn notes_text(alloc: Global, notes: &Notes) -> Result<String, AllocError>
     push_areas(alloc, &mut text, "store", PAST_STORAGE, past_store)?;
     push_areas(alloc, &mut text, "fetch", UNUSED, unused_fetch)?;
     push_areas(alloc, &mut text, "store", UNUSED, unused_store)?;
+    push_areas(
+        alloc,
+        &mut text,
+        "keep",
+        MACHINE_STORES,
+        notes.machine_stores.as_slice(),
+    )?;
     push_ccws(&mut text, INTERRUPTS, notes.interrupting.as_slice())?;
     push_ccws(&mut text, ENDS_THERE, notes.ending.as_slice())?;
     Ok(text)

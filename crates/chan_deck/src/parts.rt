@@ -26,7 +26,7 @@ const STORAGE_LIMIT: usize = 16_777_216;
 /// The first number for which six digits aren't enough.
 const PAST_ADDRESSES: u32 = 0x100_0000;
 
-/// What a deck is made of: an image of storage that begins at an address, and the job.
+/// The parts of a deck: an image of storage that begins at an address, and the job.
 #[derive(Clone, Copy)]
 pub struct Parts<'a> {
     /// How many places may be reachable, at most. With a limit the deck is of version 2, without
@@ -46,7 +46,7 @@ pub struct Parts<'a> {
     pub store: &'a [Area],
     /// The address at which the image begins, whether or not it is a multiple of 8.
     pub at: u32,
-    /// The bytes of storage from there on. Storage is zero before them, and behind them up to a
+    /// The bytes of storage from there on. Storage is zero before them, and after them up to a
     /// multiple of 8, at which it ends.
     pub image: &'a [u8],
 }
@@ -113,7 +113,7 @@ fn has_addresses(parts: &Parts<'_>) -> bool
     parts.start < PAST_ADDRESSES && are_areas(parts.fetch) && are_areas(parts.store)
 }
 
-/// Storage in which an image begins at an address. It is zero before the image, and behind it up to
+/// Storage in which an image begins at an address. It is zero before the image, and after it up to
 /// a multiple of 8, at which it ends.
 pub fn place_image(alloc: Global, at: usize, image: &[u8]) -> Result<Vec<u8>, AllocError>
     requires { at + length image.now ≤ 2 ^ 24 }
@@ -168,9 +168,9 @@ fn text_of_parts(alloc: Global, parts: &Parts<'_>) -> Result<Vec<u8>, AllocError
 
 /// Writes the deck that the parts make: its one text.
 ///
-/// It is first asked whether the image is too long, and then whether each number has six digits.
-/// `Write` comes exactly where a write failed, and after it a prefix of the text was written; after
-/// each other error nothing was. The cost is one pass over the image, whatever its address, and the
+/// The first fault is an image that is too long, the second a number of more than six digits.
+/// `Write` comes exactly if a write failed, and then a prefix of the text was written; after each
+/// other error nothing was. The cost is one pass over the image, whatever its address, and the
 /// memory is that of the image and of the text.
 pub fn write_parts<W: Write>(
     alloc: Global,

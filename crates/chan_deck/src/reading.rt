@@ -44,8 +44,8 @@ fn read_parts(alloc: Global, text: &[u8]) -> Result<Parts, DeckError>
 /// The deck that a text spells.
 ///
 /// A text that spells none is refused: the line is the first, counted from 1, with which no deck's
-/// text goes on, and the cause is the first of the table that applies to it. `Memory` comes only
-/// where a growth was refused. Each line is looked at once, after its line feed was found.
+/// text goes on, and the cause is the first of the table that applies to it. `Memory` comes only if
+/// a growth was refused. Each line is looked at once, after its line feed was found.
 pub fn read_deck(alloc: Global, text: &[u8]) -> Result<Deck, DeckError>
     ensures spelled { IfOk result (Spells text.now) }
     ensures refused { IfErr result (IsRefusal text.now) }

@@ -1,11 +1,13 @@
 -- What a writer got, part by part, where the parts are known by equations.
-use Rattle.std.proofs.Common.{◌≡◌, ◌++◌, ◌≤◌, ◌-◌, ◌∷◌, List, [], ℕ, Bor, Option, arith, drop, length, slice_index_or, subst, take}
+use Rattle.std.proofs.Common.{◌≡◌, ◌++◌, ◌≤◌, ◌<◌, ◌+◌, ◌-◌, ◌∷◌, List, [], ℕ, Bor, Option, append_assoc, arith, drop, length, slice_index_or, subst, suc, take, zero}
 use Rattle.std.proofs.KnownBytes.{Appends-trans}
 use Rattle.std.specs.Io.KnownBytes.{Appends}
-use Rattle.std.proofs.lemmas.List.{take_all}
+use Rattle.std.proofs.lemmas.List.{append-nil, length-append, take_all}
 use Rattle.ccw_core.specs.Written.{AppendsPrefix}
 pub use Rattle.ccw_core.proofs.Prefixes.{prefix_after, prefix_of_more}
-use Rattle.chan_run.specs.Naming.{joined}
+use Rattle.chan_run.specs.declared.reporting.Outcome.{Outcome}
+use Rattle.chan_run.specs.Naming.{joined, name_before}
+use Rattle.chan_run.specs.Report.{ending_of, is_on_input, line_over, number_of, program_of, text_of}
 
 -- a prefix was written of bytes that are these, with which more bytes begin
 pub begun : (a b : Option (List ℕ)) (bytes xs ys : List ℕ) → bytes ≡ xs → AppendsPrefix a b bytes
@@ -23,6 +25,23 @@ pub whole : (a b c : Option (List ℕ)) (bytes xs more ys : List ℕ) → bytes 
     → Appends a b bytes → Appends b c more → Appends a c (xs ++ ys)
 whole a b c bytes xs more ys is are h k =
     Appends-trans a b c xs ys (subst (Appends a b) is h) (subst (Appends b c) are k)
+
+-- the parts of an outcome's line, one after another, are the line
+pub line_of_parts : (o : Outcome) (name : Option (List ℕ)) (p n m t d a b e : List ℕ)
+    → n ++ m ≡ name_before name (is_on_input o) → p ≡ program_of o → t ≡ text_of o
+    → d ≡ number_of o → a ++ (b ++ e) ≡ ending_of o
+    → p ++ (n ++ (m ++ (t ++ (d ++ (a ++ (b ++ (e ++ []))))))) ≡ line_over name o
+line_of_parts o name p n m t d a b e named program text number ends =
+    rw (← named, ← program, ← text, ← number, ← ends) (simp (append-nil, append_assoc))
+
+-- some texts before one, and this one, are no longer than all of them
+pub no_longer : (texts : List (Bor (List ℕ))) (i : ℕ) (d : Bor (List ℕ)) → i < length texts
+    → length (joined (take i texts)) + length (slice_index_or texts i d).now ≤ length (joined texts)
+no_longer [] i d lt = absurd (omega (arith, lt))
+no_longer (text ∷ texts) zero d lt = rw (length-append text.now (joined texts)) (omega arith)
+no_longer (text ∷ texts) (suc i) d lt =
+    let more = no_longer texts i d (omega (arith, lt)) in
+    rw (length-append text.now (joined (take i texts)), length-append text.now (joined texts)) (omega (arith, more))
 
 -- the first of some texts was written, and then a prefix of the others
 pub after_first : (texts : List (Bor (List ℕ))) (d : Bor (List ℕ)) (a b c : Option (List ℕ))

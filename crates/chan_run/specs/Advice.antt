@@ -9,8 +9,8 @@ use Rattle.chan_deck.specs.Notes.{notes}
 use Rattle.chan_walk.specs.declared.job.Job.{Job}
 use Rattle.chan_walk.specs.declared.note.Notes.{Notes}
 use Rattle.chan_walk.specs.Job.{fetch_of, store_of}
-use Rattle.chan_walk.specs.Notes.{AreAddressesOf, AreUnused, IsFetchedFrom, IsStoredInto}
-use Rattle.chan_walk.specs.Notes.{ends_there, interrupts, reaches_past_storage}
+use Rattle.chan_walk.specs.Notes.{AreAddressesOf, AreMachineStores, AreUnused, IsFetchedFrom}
+use Rattle.chan_walk.specs.Notes.{IsStoredInto, ends_there, interrupts, reaches_past_storage}
 use Rattle.chan_run.specs.declared.running.Action.{Action}
 use Rattle.chan_run.specs.declared.running.Action.TheVariants as actions
 use Rattle.chan_run.specs.declared.running.RunError.{RunError}
@@ -29,6 +29,7 @@ pub record AreNotes (j : Job) (n : Notes) : Type 0 where
   pub unused_store : AreUnused (IsStoredInto j) (store_of j) n.unused_store.items
   pub interrupting : AreAddressesOf interrupts j n.interrupting.items
   pub ending : AreAddressesOf ends_there j n.ending.items
+  pub machine_stores : AreMachineStores j n.machine_stores.items
 
 -- these are the notes on the job, as text
 abbrev pub IsNoted : Job → List ℕ → Type 0

@@ -20,6 +20,7 @@ use Rattle.chan_run.specs.declared.running.Status.{Status}
 use Rattle.chan_run.specs.declared.running.Status.TheVariants as statuses
 use Rattle.chan_run.specs.Advice.{IsNoted, limit_line}
 use Rattle.chan_run.specs.Imaging.{IsImageAnswer}
+use Rattle.chan_run.specs.Imaging as imaging
 use Rattle.chan_run.specs.Naming.{name_before}
 use Rattle.chan_run.specs.Report.{IsEnd, line_over}
 use Rattle.chan_run.specs.Run.{IsEarly, IsInput, IsOfJob, IsReadFault, IsTextAnswer, IsUnwritten}
@@ -96,6 +97,11 @@ image_line name (Imaged (Err (NoJob a r))) =
     codes "chanv: "
     ++ (name_before name true ++ (codes "no job will do: " ++ verdict_line (No a r)))
 image_line name end = line_over name end
+
+-- an image was answered before anything was written
+abbrev pub IsEarlyImageEnd : Outcome → Type 0
+IsEarlyImageEnd (Imaged answer) = imaging.IsEarly answer
+IsEarlyImageEnd end = ⊥
 
 -- how it ends when the answer is this: just so, with a failed flush, or without memory for the line
 -- that no job will do

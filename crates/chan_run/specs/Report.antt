@@ -3,7 +3,6 @@ use Rattle.std.specs.Prelude.{◌≡◌, ◌⊎◌, ◌++◌, ◌∷◌, ℕ, Bo
 use Rattle.std.specs.Prelude.{Option, Some, None}
 use Rattle.std.specs.Prelude.{codes, Ok, Err}
 use Rattle.std.specs.Fmt.{decimal}
-use Rattle.chan_deck.specs.declared.cause.Cause.{Cause}
 use Rattle.chan_run.specs.declared.image.ImageError.TheVariants as images
 use Rattle.chan_run.specs.declared.meaning.MeaningError.TheVariants as meanings
 use Rattle.chan_run.specs.declared.running.Action.{Action}
@@ -125,22 +124,23 @@ text_of NoMemoryForCommandLine = codes "out of memory" ++ 10 ∷ []
 text_of FlushFailed = codes "write failed" ++ 10 ∷ []
 text_of CannotOpen = codes "cannot open" ++ 10 ∷ []
 
--- the word of a cause, and what stands around it
-abbrev pub cause_text : Cause → List ℕ
-cause_text cause = codes ": " ++ (word_of_cause cause ++ 10 ∷ [])
+-- the number in the line of an outcome: that of a refused line of a deck, in decimal
+abbrev pub number_of : Outcome → List ℕ
+number_of (Ran (Err (runs.Deck number cause))) = decimal number
+number_of _ = []
 
--- what ends a line that names something: the number and the cause of a deck's refusal, or the word
--- that is nearest to one that has no meaning
-abbrev pub refusal_of : Outcome → List ℕ
-refusal_of (Ran (Err (runs.Deck number cause))) = decimal number ++ cause_text cause
-refusal_of (Explained (Err (meanings.Unknown (Some t)))) = word_of_term t ++ 10 ∷ []
-refusal_of _ = []
+-- the end of the line: the cause for which a deck's line is refused, or the word that is nearest to
+-- an unknown word
+abbrev pub ending_of : Outcome → List ℕ
+ending_of (Ran (Err (runs.Deck number cause))) = codes ": " ++ (word_of_cause cause ++ 10 ∷ [])
+ending_of (Explained (Err (meanings.Unknown (Some t)))) = word_of_term t ++ 10 ∷ []
+ending_of _ = []
 
 -- the line of an outcome over an input that may have a name
 abbrev pub line_over : Option (List ℕ) → Outcome → List ℕ
 line_over name outcome =
-    (program_of outcome ++ (name_before name (is_on_input outcome) ++ text_of outcome))
-    ++ refusal_of outcome
+    program_of outcome ++ (name_before name (is_on_input outcome)
+    ++ (text_of outcome ++ (number_of outcome ++ ending_of outcome)))
 
 abbrev pub line_of : Outcome → List ℕ
 line_of = line_over None

@@ -29,6 +29,7 @@ use Rattle.chan_walk.specs.Job.{extents_of, fetch_of, storage_of, store_of}
 use Rattle.chan_walk.specs.Look.{AreLooks, Seen, places_of_looks}
 use Rattle.chan_walk.specs.Needs.{AreOfOneProgram}
 use Rattle.chan_walk.specs.Offences.{AreOffences, first_verdict}
+use Rattle.chan_walk.specs.Place.{first_place}
 use Rattle.chan_walk.specs.Rows.{AreNeeds, IsOpenJob, Listed}
 use Rattle.chan_run.specs.declared.running.Action.{Action}
 use Rattle.chan_run.specs.declared.running.Action.TheVariants as actions
@@ -78,7 +79,7 @@ pub record IsPicture (j : Job) (text : List ℕ) : Type 0 where
   pub places : AreReachable j (places_of_looks looks)
   pub seen : AreLooks j looks
   pub offending : AreOffences j offences
-  pub drawn : text ≡ graph looks offences
+  pub drawn : text ≡ graph (first_place j) looks offences
 
 -- the causes that are told: those of all offences, or none
 abbrev pub AreTold : Bool → Job → List Offence → List Evidence → Type 0

@@ -29,3 +29,9 @@ ShowsNone text = (b : ℕ) (w : List ℕ) → IsByte b → text ≢ shown_byte b
 abbrev pub IsNextShown : List ℕ → ℕ → List ℕ → Type 0
 IsNextShown text byte rest = (b : ℕ) (w : List ℕ) → IsByte b → text ≡ shown_byte b ++ shown_word w
     → (byte ≡ b) × (rest ≡ shown_word w)
+
+-- no two words of bytes are shown alike
+abbrev pub NoTwoAlike : Type 0
+NoTwoAlike =
+    (v w : List ℕ) → AllByRecursion IsByte v → AllByRecursion IsByte w
+    → shown_word v ≡ shown_word w → v ≡ w

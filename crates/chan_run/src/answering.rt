@@ -4,9 +4,10 @@ ghost use Rattle.std.specs.Prelude.{◌≡◌, ◌↔◌, ◌++◌, false, true,
 ghost use Rattle.std.specs.Io.KnownBytes.{Appends};
 ghost use Rattle.ccw_core.specs.Written.{AppendsPrefix};
 ghost use Rattle.chan_run.specs.Advice.{usual_device_note};
-ghost use Rattle.chan_run.specs.Answer.{IsEarlyEnd, IsHandled, IsImageHandled, advice_of};
+ghost use Rattle.chan_run.specs.Answer.{IsEarlyEnd, IsEarlyImageEnd, IsHandled, IsImageHandled};
+ghost use Rattle.chan_run.specs.Answer.{advice_of};
 ghost use Rattle.chan_run.specs.Naming.{name_in};
-ghost use Rattle.chan_run.specs.Report.{IsWriteFailure, line_over};
+ghost use Rattle.chan_run.specs.Report.{IsDone, IsWriteFailure, line_over};
 ghost use Rattle.chan_run.specs.declared.image.ImageError.TheVariants as images;
 ghost use Rattle.chan_run.specs.declared.reporting.Outcome.TheVariants.{Imaged, Ran};
 ghost use Rattle.chan_run.specs.declared.running.RunError.TheVariants as runs;
@@ -49,6 +50,7 @@ pub fn answer<R: Read, W: Write, E: Write>(
         (W.contents to.old.device) (W.contents to.new.device)
         (E.contents errors.old.device) (E.contents errors.new.device) errors.new.failed result }
     ensures early { IsEarlyEnd action result → to.new ≡ to.old }
+    ensures flushed { IsDone result → to.new.flushed ≡ true }
     ensures read { result ≡ Ran (Err runs.Read) ↔ (from.new.failed ≡ true) }
     ensures write { IsWriteFailure result ↔ (to.new.failed ≡ true) }
 {
@@ -89,8 +91,7 @@ fn tell<E: Write>(
     }
 }
 
-/// Says which device a deck is made for where none was named, the usual one. A writer that fails
-/// has a prefix.
+/// Names the usual device, for a deck without a named one. If the writer fails, it has a prefix.
 pub fn note_usual_device<E: Write>(errors: &mut Watched<E>)
     requires { errors.old.failed ≡ false }
     ensures whole { errors.new.failed ≡ false
@@ -124,6 +125,8 @@ pub fn answer_image<R: Read, W: Write, E: Write>(
         (R.remaining from.old.device) (R.remaining from.new.device)
         (W.contents to.old.device) (W.contents to.new.device)
         (E.contents errors.old.device) (E.contents errors.new.device) errors.new.failed result }
+    ensures early { IsEarlyImageEnd result → to.new ≡ to.old }
+    ensures flushed { IsDone result → to.new.flushed ≡ true }
     ensures read { result ≡ Imaged (Err images.Read) ↔ (from.new.failed ≡ true) }
     ensures write { IsWriteFailure result ↔ (to.new.failed ≡ true) }
 {

@@ -44,8 +44,8 @@ runs on through storage reaches one every 8 bytes.
 const NO_JOB_WILL_DO: &str = "\
 The least job was asked for, and there is none: a no stands even where all is
 granted. The verdict behind it says which CCW offends, and why.
-Correct the program. `chanv explain` has the reason, and `chanv needs` writes
-the explanation of that no.
+Correct the program. `chanv explain` has the reason. To see the path, make a
+deck that grants everything, and ask `chanv why` about it.
 ";
 
 const WRITE_FAILED: &str = "\
@@ -70,7 +70,7 @@ The word is no reason, no cause and none of what is said in place of an answer.
 `chanv explain` without a word lists all.
 ";
 
-/// What is said in place of an answer.
+/// The line in place of an answer.
 #[derive(Clone, Copy, PartialEq, Eq, Debug)]
 pub enum Failure {
     /// The input can't be opened.

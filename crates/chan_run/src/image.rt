@@ -61,15 +61,15 @@ impl From<AllocError> for ImageError {
     }
 }
 
-/// Reads an image of storage to the end of the input, and writes the deck that it makes with the
-/// options: the deck's one text. Its job is what the options say, or where they ask for it the
-/// least job of the program, under which the verdict is yes.
+/// Reads an image of storage to the end of the input, and writes the one text of the deck that it
+/// makes with the options. Its job is the one of the options, or, if they ask for it, the least job
+/// of the program, under which the verdict is yes.
 ///
-/// Storage has the size that is asked for, with zeros behind the image, or else it ends with the
-/// image, and has 16,777,216 bytes at most. Nothing is written before the whole image was read:
-/// after each error but `Write` nothing was written, and after that a prefix of the text. `Read`
-/// and `Write` come exactly where the device failed, and `Read` only before too many bytes came.
-/// Over an endless reader it returns, with `TooLong`.
+/// Storage has the requested size, with zeros after the image; without a size it ends with the
+/// image. It has at most 16,777,216 bytes. Nothing is written before the whole image was read:
+/// after a failed write a prefix of the text was written, after any other error nothing was. `Read`
+/// and `Write` come exactly if the device failed, and `Read` only before too many bytes came. Over
+/// an endless reader it returns, with `TooLong`.
 pub fn write_image<R: Read, W: Write>(
     alloc: Global,
     options: &ImageOptions,

@@ -58,7 +58,7 @@ pub struct ImageWords<'a> {
     pub is_least: bool,
 }
 
-/// What the options say: the job of the deck, and where the image stands.
+/// The values of the options: the job of the deck, and the address of the image.
 #[derive(Drop)]
 pub struct ImageOptions {
     /// The device that the program runs against.
@@ -78,8 +78,8 @@ pub struct ImageOptions {
     pub store: Vec<Area>,
     /// The address at which the image begins, at most `FFFFFF`.
     pub at: u32,
-    /// How many bytes storage has, zeros behind the image; as many as the image needs where it
-    /// isn't said.
+    /// How many bytes storage has, with zeros after the image; without a value, as many as the
+    /// image needs.
     pub size: Option<u32>,
     /// Whether the deck grants what the program needs, in place of mask, extents and areas. These
     /// don't matter then.
@@ -96,7 +96,7 @@ pub struct ImageOptions {
 pub struct OptionFault<'a> {
     /// Which option.
     pub option: ImageOption,
-    /// What was given for it.
+    /// The text that was given for it.
     pub text: &'a str,
 }
 

@@ -266,7 +266,7 @@ pub enum MeaningError {
     Write,
 }
 
-/// The term that has this word, in any case of its letters; none where none has.
+/// The term that has this word, in any case of its letters; none if none has.
 pub fn term_of(word: &str) -> Option<Term>
     ensures named { IfSome result (IsWordOf word.now) }
     ensures none { result ≡ None → (t : Term) → ¬ IsWordOf word.now t }
@@ -290,11 +290,11 @@ fn term_among(terms: &[Term], word: &str) -> Option<Term>
     }
 }
 
-/// Writes what a word means, and what usually mends what it names.
+/// Writes the meaning of a word, and how to fix what it names.
 ///
-/// `Unknown` comes where the word, in any case, is no term's, with the term of the nearest word, if
-/// one is near; `Memory` may come in its place. `Write` comes exactly where a write failed, and
-/// then a prefix was written, and after another error nothing was.
+/// `Unknown` comes if the word, in any case, is no term's, with the term of the nearest word, if
+/// one is near; `Memory` may come in its place. `Write` comes exactly if a write failed, and then a
+/// prefix was written; after another error nothing was.
 pub fn explain_word<W: Write>(
     alloc: Global,
     word: &str,
@@ -327,7 +327,7 @@ fn unknown(alloc: Global, word: &str) -> MeaningError
     }
 }
 
-/// Writes each word with what it is in a few words, a line for each. It takes no memory.
+/// Writes a line for each word, with its meaning in a few words. It takes no memory.
 pub fn list_words<W: Write>(to: &mut Watched<W>) -> Result<(), MeaningError>
     requires { to.old.failed ≡ false }
     ensures ok { OnOk result

@@ -119,12 +119,12 @@ fn wrong<'a>(option: ImageOption, text: &'a str) -> OptionError<'a>
     OptionError::Wrong(OptionFault { option, text })
 }
 
-/// What the texts of the options say.
+/// The values of the options' texts.
 ///
-/// The options are asked in the order of a deck's lines, those of the image's address and of the
-/// size of storage last, and the first is named whose text isn't accepted: a device, a file mask,
-/// an address, a limit, an extent in order and on the device, an area, a size. Where there is no
-/// extent, it is as if an empty text were given for one.
+/// The options are read in the order of a deck's lines, the image's address and the size of storage
+/// last. The first whose text isn't accepted is named: a device, a file mask, an address, a limit,
+/// an extent in order and on the device, an area, a size. No extent counts as one with an empty
+/// text.
 pub fn options_of<'a>(
     alloc: Global,
     words: &ImageWords<'a>,

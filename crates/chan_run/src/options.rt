@@ -151,9 +151,9 @@ fn area_over(span: Span) -> Option<Area>
     }
 }
 
-/// An area, by its start and its length, as `900+10`, or by its first byte and its last, as
-/// `900-90F`: hexadecimal numbers, each at most `FFFFFF`, of which the last byte isn't below the
-/// first. Its length is at most `FFFFFF` too.
+/// An area, by its start and its length, such as `900+10`, or by its first byte and its last, such
+/// as `900-90F`: hexadecimal numbers, each at most `FFFFFF`, the last byte not below the first. Its
+/// length is at most `FFFFFF` too.
 pub fn area_of(text: &str) -> Option<Area>
     ensures { IsRead SaysArea text.now result }
 {

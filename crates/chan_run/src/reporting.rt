@@ -3,11 +3,10 @@
 ghost use Rattle.std.specs.Prelude.{◌≡◌, ◌≤◌, ◌↔◌, ◌⊎◌, ◌++◌, false, true, IsErr, IsTrue, OnOk};
 ghost use Rattle.std.specs.Prelude.{Some};
 ghost use Rattle.std.specs.Io.KnownBytes.{Appends, Keeps};
-ghost use Rattle.std.specs.Fmt.{decimal};
 ghost use Rattle.ccw_core.specs.Written.{AppendsPrefix};
 ghost use Rattle.chan_run.specs.Naming.{name_in};
 ghost use Rattle.chan_run.specs.Report.{IsDone, IsEnd, IsWriteFailure, has_advice, is_on_input};
-ghost use Rattle.chan_run.specs.Report.{cause_text, line_of, line_over, program_of, refusal_of};
+ghost use Rattle.chan_run.specs.Report.{ending_of, line_of, line_over, number_of, program_of};
 ghost use Rattle.chan_run.specs.Report.{status_of, text_of};
 
 use crate::image::ImageError;
@@ -15,9 +14,9 @@ use crate::meaning::{MeaningError, cause_word, term_word};
 use crate::naming::named;
 use crate::running::{Action, RunError, Status};
 use crate::showing::ShowError;
-use crate::texts::{write_decimal, write_texts};
+use crate::texts::write_texts;
 use ccw_core::{DeviceFault, Watched};
-use chan_deck::Cause;
+use itoa::Buffer;
 use std::io::Write;
 
 /// How a run of the program ended. The texts of help, of the version, of a usage fault and on a
@@ -44,8 +43,8 @@ pub enum Outcome {
     CannotOpen,
 }
 
-/// Writes the outcome's line, where it has one, and gives the exit status. It takes no memory.
-/// A writer that fails doesn't change the status, and a prefix of the line was written.
+/// Writes the outcome's line, if it has one, and gives the exit status. It takes no memory. A
+/// writer that fails doesn't change the status, and a prefix of the line was written.
 pub fn report<W: Write>(outcome: Outcome, to: &mut Watched<W>) -> u8
     requires { to.old.failed ≡ false }
     ensures status { result ≡ status_of outcome }
@@ -58,10 +57,10 @@ pub fn report<W: Write>(outcome: Outcome, to: &mut Watched<W>) -> u8
     exit_status(outcome)
 }
 
-/// As `report`, of what came of an input that has a name.
+/// Like `report`, for an input that has a name.
 ///
-/// Where the line is on the input, the name, a colon and a space stand behind `chanv: `. A line on
-/// a failed allocation for the command line, on help or on a failed write names no input.
+/// If the line is about the input, the name, a colon and a space come after `chanv: `. A line about
+/// a failed allocation for the command line, about help or about a failed write names no input.
 pub fn report_named<W: Write>(name: &str, outcome: Outcome, to: &mut Watched<W>) -> u8
     requires { to.old.failed ≡ false }
     ensures status { result ≡ status_of outcome }
@@ -88,8 +87,8 @@ pub fn ends_run(outcome: Outcome) -> bool
     )
 }
 
-/// Whether something is written beside what an action came to: it is for the explanation of a yes,
-/// where the text is no deck, and where too many places are reachable.
+/// Whether advice follows the answer of an action: it does for the explanation of a yes, for a text
+/// that isn't a deck, and if too many places are reachable.
 pub fn has_advice(action: Action, outcome: Outcome) -> bool
     ensures { result ≡ has_advice action outcome }
 {
@@ -103,9 +102,10 @@ pub fn has_advice(action: Action, outcome: Outcome) -> bool
     }
 }
 
-/// Ends a command that came to this outcome: flushes the output where all was done, writes the line
-/// of the outcome, as `report` or, over an input that has a name, `report_named` does, and gives
-/// the outcome, which is `FlushFailed` where the flush failed. It takes no memory.
+/// Ends a command that came to this outcome, and gives its final outcome. It takes no memory.
+///
+/// If all was done, it flushes the output; the outcome is `FlushFailed` if the flush fails. Then it
+/// writes the line of the outcome, as `report` does or, for an input with a name, `report_named`.
 pub fn conclude<W: Write, E: Write>(
     name: Option<&str>,
     outcome: Outcome,
@@ -115,6 +115,7 @@ pub fn conclude<W: Write, E: Write>(
     requires writer { IsWriteFailure outcome ↔ (to.old.failed ≡ true) }
     requires errors { errors.old.failed ≡ false }
     ensures end { IsEnd outcome result }
+    ensures flushed { IsDone result → to.new.flushed ≡ true }
     ensures kept { Keeps (W.contents to.old.device) (W.contents to.new.device) }
     ensures early { (IsDone outcome → ⊥) → to.new ≡ to.old }
     ensures write { IsWriteFailure result ↔ (to.new.failed ≡ true) }
@@ -128,10 +129,11 @@ pub fn conclude<W: Write, E: Write>(
     end
 }
 
-/// Flushes the output where all was done, and gives the outcome with which the command ends then.
+/// Flushes the output if all was done, and gives the outcome with which the command then ends.
 pub(crate) fn flushed<W: Write>(outcome: Outcome, to: &mut Watched<W>) -> Outcome
     requires { IsWriteFailure outcome ↔ (to.old.failed ≡ true) }
     ensures end { IsEnd outcome result }
+    ensures flushed { IsDone result → to.new.flushed ≡ true }
     ensures kept { Keeps (W.contents to.old.device) (W.contents to.new.device) }
     ensures early { (IsDone outcome → ⊥) → to.new ≡ to.old }
     ensures write { IsWriteFailure result ↔ (to.new.failed ≡ true) }
@@ -180,7 +182,7 @@ pub fn exit_status(outcome: Outcome) -> u8
     }
 }
 
-/// Writes the line of an outcome over an input that may have a name.
+/// Writes the line of an outcome over an input that may have a name. It takes no memory.
 pub(crate) fn write_line<W: Write>(
     name: Option<&str>,
     outcome: Outcome,
@@ -194,44 +196,51 @@ pub(crate) fn write_line<W: Write>(
     ensures fault { IsErr result ↔ (to.new.failed ≡ true) }
 {
     let (name, mark) = named(name, is_on_input(outcome));
-    write_texts(&[program(outcome), name, mark, text(outcome)], to)?;
-    write_refusal(outcome, to)
+    let mut buffer = Buffer::new();
+    let number = number_text(outcome, &mut buffer);
+    let (colon, word, end) = ending(outcome);
+    write_texts(
+        &[
+            program(outcome),
+            name,
+            mark,
+            text(outcome),
+            number,
+            colon,
+            word,
+            end,
+        ],
+        to,
+    )
 }
 
-/// Writes what ends the line of an outcome that names something: the number and the cause of a
-/// deck's refusal, or the word that is nearest.
-fn write_refusal<W: Write>(outcome: Outcome, to: &mut Watched<W>) -> Result<(), DeviceFault>
-    requires { to.old.failed ≡ false }
-    ensures ok { OnOk result (Appends (W.contents to.old.device) (W.contents to.new.device)
-        (refusal_of outcome)) }
-    ensures prefix { AppendsPrefix (W.contents to.old.device) (W.contents to.new.device)
-        (refusal_of outcome) }
-    ensures fault { IsErr result ↔ (to.new.failed ≡ true) }
+/// The number in an outcome's line, in decimal: that of a refused line of a deck. Other outcomes
+/// have none.
+fn number_text(outcome: Outcome, buffer: &mut Buffer) -> &str
+    ensures { result.now ≡ number_of outcome }
 {
     match outcome {
-        Outcome::Ran(Err(RunError::Deck { line, cause })) => write_refused(line, cause, to),
+        Outcome::Ran(Err(RunError::Deck { line, .. })) => buffer.format(line),
+        _ => "",
+    }
+}
+
+/// What ends an outcome's line, in three parts: for a refused line of a deck the cause, for an
+/// unknown word the word that is nearest. Other outcomes have nothing there.
+fn ending<'a>(outcome: Outcome) -> (&'a str, &'a str, &'a str)
+    ensures { result.0.now ++ (result.1.now ++ result.2.now) ≡ ending_of outcome }
+{
+    match outcome {
+        Outcome::Ran(Err(RunError::Deck { cause, .. })) => (": ", cause_word(cause), "\n"),
         Outcome::Explained(
             Err(
                 MeaningError::Unknown {
                     nearest: Some(term),
                 },
             ),
-        ) => write_texts(&[term_word(term), "\n"], to),
-        _ => Ok(()),
+        ) => ("", term_word(term), "\n"),
+        _ => ("", "", ""),
     }
-}
-
-/// Writes the number of a line and the cause for which it is refused.
-fn write_refused<W: Write>(line: u64, cause: Cause, to: &mut Watched<W>) -> Result<(), DeviceFault>
-    requires { to.old.failed ≡ false }
-    ensures ok { OnOk result (Appends (W.contents to.old.device) (W.contents to.new.device)
-        (decimal line ++ cause_text cause)) }
-    ensures prefix { AppendsPrefix (W.contents to.old.device) (W.contents to.new.device)
-        (decimal line ++ cause_text cause) }
-    ensures fault { IsErr result ↔ (to.new.failed ≡ true) }
-{
-    write_decimal(line, to)?;
-    write_texts(&[": ", cause_word(cause), "\n"], to)
 }
 
 /// What an outcome's line begins with, or nothing where there is none.

@@ -18,19 +18,17 @@ ghost use Rattle.chan_run.specs.declared.running.Action.TheVariants as actions;
 
 use crate::advising::{limit_text, notes_on};
 use crate::input::{InputError, TEXT_LIMIT, read_input};
-use crate::naming::named;
-use crate::texts::write_texts;
-use ccw_core::{DeviceFault, Storage, Watched};
+use ccw_core::{Storage, Watched, write_out};
 use chan_deck::{
     Cause, DeckError, ListError, explanation_text, hint_text, read_deck, verdict_text, write_graph,
     write_needs, write_seen,
 };
-use chan_walk::{Evidence, Job, OpenJob, Survey, Verdict, WalkError, survey};
+use chan_walk::{Evidence, Job, OpenJob, Survey, Verdict, WalkError, first_place, survey};
 use std::alloc::{AllocError, Global};
 use std::io::{Read, Write};
 use thiserror::Error;
 
-/// What a run does with the deck.
+/// The action of a run on the deck.
 #[derive(Clone, Copy, PartialEq, Eq)]
 pub enum Action {
     /// Writes the line of the verdict.
@@ -56,7 +54,7 @@ impl Action {
     }
 }
 
-/// What a verdict was.
+/// The kind of a verdict.
 #[derive(Clone, Copy, PartialEq, Eq)]
 pub enum Status {
     /// The program may run.
@@ -88,13 +86,13 @@ pub enum RunError {
     Memory,
 }
 
-/// Reads a deck to the end of the input, verifies its job, and writes what the action asks for. For
+/// Reads a deck to the end of the input, verifies its job, and writes the output of the action. For
 /// `Needs` it verifies the open job of the deck's program in place of the deck's own.
 ///
 /// Nothing is written before the whole deck was judged: after `Read`, `TooLong`, `Deck` and
 /// `TooManyPlaces` nothing was written, and after `Write` a prefix of the text. After `Memory`
-/// nothing was written or, for `List` and `Graph` alone, a prefix. `Read` and `Write` come exactly
-/// where the device failed, and `Read` only before more than 67,108,864 bytes came. Over an endless
+/// nothing was written or, only for `List` and `Graph`, a prefix. `Read` and `Write` come exactly
+/// if the device failed, and `Read` only before more than 67,108,864 bytes came. Over an endless
 /// reader it returns, with `TooLong`.
 pub fn run<R: Read, W: Write>(
     alloc: Global,
@@ -113,11 +111,11 @@ pub fn run<R: Read, W: Write>(
     run_behind(alloc, None, action, from, to)
 }
 
-/// As `run`, over an input that has a name.
+/// Like `run`, over an input that has a name.
 ///
-/// For `Verify` and `Why` the verdict's line stands behind the name, a colon and a space, of which
-/// nothing is written either before the whole deck was judged; after `Write` a prefix of all this
-/// was written. For `List`, `Graph` and `Needs` the text is that of `run`.
+/// For `Verify` and `Why` the verdict's line comes after the name, a colon and a space. Nothing of
+/// these is written before the whole deck was judged either; after `Write` a prefix of all this was
+/// written. For `List`, `Graph` and `Needs` the text is that of `run`.
 pub fn run_named<R: Read, W: Write>(
     alloc: Global,
     name: &str,
@@ -337,7 +335,8 @@ fn write_output<W: Write>(
         Action::Needs => write_needed(alloc, job, &survey, to),
         Action::Graph => {
             let (looks, offences) = survey.into_parts();
-            write_graph(alloc, looks.as_slice(), offences.as_slice(), to)
+            let first = first_place(job);
+            write_graph(alloc, first, looks.as_slice(), offences.as_slice(), to)
         }
     }
 }
@@ -361,10 +360,7 @@ fn write_why<W: Write>(
     ensures memory { IsErrOf result ListError.Memory → to.new ≡ to.old }
 {
     let text = why_text(alloc, all, job, survey)?;
-    match write_named(name, text.as_str(), to) {
-        Ok(()) => Ok(()),
-        Err(DeviceFault) => Err(ListError::Write),
-    }
+    write_named(alloc, name, text, to)
 }
 
 /// The explanation of the verdict on a job that was surveyed, with the causes of all offences, if
@@ -437,24 +433,37 @@ fn write_verdict<W: Write>(
     ensures memory { IsErrOf result ListError.Memory → to.new ≡ to.old }
 {
     let line = verdict_text(alloc, verdict)?;
-    Ok(write_named(name, line.as_str(), to)?)
+    write_named(alloc, name, line, to)
 }
 
-/// Writes a text, behind the name that the input may have.
+/// Writes a text after the name that the input may have, with one write.
 fn write_named<W: Write>(
+    alloc: Global,
     name: Option<&str>,
-    text: &str,
+    text: String,
     to: &mut Watched<W>,
-) -> Result<(), DeviceFault>
+) -> Result<(), ListError>
     requires { to.old.failed ≡ false }
     ensures ok { OnOk result (Appends (W.contents to.old.device) (W.contents to.new.device)
-        (name_before (name_in name.entry) true ++ text.now)) }
+        (name_before (name_in name.entry) true ++ string_bytes text)) }
     ensures prefix { AppendsPrefix (W.contents to.old.device) (W.contents to.new.device)
-        (name_before (name_in name.entry) true ++ text.now) }
-    ensures fault { IsErr result ↔ (to.new.failed ≡ true) }
+        (name_before (name_in name.entry) true ++ string_bytes text) }
+    ensures write { IsErrOf result ListError.Write ↔ (to.new.failed ≡ true) }
+    ensures memory { IsErrOf result ListError.Memory → to.new ≡ to.old }
 {
-    let (name, mark) = named(name, true);
-    write_texts(&[name, mark, text], to)
+    let named = text_after(alloc, name, text)?;
+    Ok(write_out(named.as_bytes(), to)?)
+}
+
+/// A text after the name that the input may have, a colon and a space.
+fn text_after(alloc: Global, name: Option<&str>, text: String) -> Result<String, AllocError>
+    ensures { IfOk result (λ named. string_bytes named
+        ≡ name_before (name_in name.entry) true ++ string_bytes text) }
+{
+    match name {
+        None => Ok(text),
+        Some(name) => format!(in alloc; "{name}: {text}"),
+    }
 }
 
 fn status_of(verdict: Verdict) -> Status

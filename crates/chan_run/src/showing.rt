@@ -30,8 +30,8 @@ pub enum ShowError {
 /// Writes the line that shows the CCW spelled by sixteen hexadecimal digits of either case: its
 /// text and a line feed.
 ///
-/// `NotCcw` comes exactly where the text isn't that, and `Write` exactly where a write failed.
-/// Nothing was written after `NotCcw` and `Memory`, and a prefix of the line after `Write`.
+/// `NotCcw` comes exactly if the text isn't that, and `Write` exactly if a write failed. Nothing
+/// was written after `NotCcw` and `Memory`, and a prefix of the line after `Write`.
 pub fn show<W: Write>(alloc: Global, text: &str, to: &mut Watched<W>) -> Result<(), ShowError>
     requires { to.old.failed ≡ false }
     ensures spelled { OnOk result (SpellsCcw text.now) }

@@ -1,17 +1,48 @@
-//! Writing texts one behind the other. It takes no memory.
+//! Writing some texts as one line. It takes no memory.
 
-ghost use Rattle.std.specs.Prelude.{◌≡◌, ◌↔◌, false, true, IsErr, OnOk};
-ghost use Rattle.std.specs.Fmt.{decimal};
+ghost use Rattle.std.specs.Prelude.{◌≡◌, ◌↔◌, ◌≤◌, false, true, length, IfSome, IsErr, IsSome, OnOk};
 ghost use Rattle.std.specs.Io.KnownBytes.{Appends};
 ghost use Rattle.ccw_core.specs.Written.{AppendsPrefix};
 ghost use Rattle.chan_run.specs.Naming.{joined};
 
+use arrayvec::ArrayString;
 use ccw_core::{DeviceFault, Watched, write_out};
 use std::io::Write;
 
-/// Writes some texts.
+/// Writes some texts, one after another: with one write, if together they have at most 4,096 bytes,
+/// which holds a line with any usual name; else each with a write of its own.
 #[tactic(auto, using(crate::proofs::Writing::prefix_after, crate::proofs::Writing::prefix_of_more))]
 pub(crate) fn write_texts<W: Write>(texts: &[&str], to: &mut Watched<W>) -> Result<(), DeviceFault>
+    requires { to.old.failed ≡ false }
+    ensures ok { OnOk result (Appends (W.contents to.old.device) (W.contents to.new.device)
+        (joined texts.now)) }
+    ensures prefix { AppendsPrefix (W.contents to.old.device) (W.contents to.new.device)
+        (joined texts.now) }
+    ensures fault { IsErr result ↔ (to.new.failed ≡ true) }
+{
+    match line_of(texts) {
+        Some(line) => write_out(line.as_bytes(), to),
+        None => write_each(texts, to),
+    }
+}
+
+/// Some texts, one after another; `None` if together they have more than 4,096 bytes.
+fn line_of(texts: &[&str]) -> Option<ArrayString<4096>>
+    ensures line { IfSome result (λ line. line.bytes ≡ joined texts.now) }
+    ensures room { length (joined texts.now) ≤ 4096 → IsSome result }
+{
+    let mut line = ArrayString::new();
+    for text in texts {
+        if line.try_push_str(text).is_err() {
+            return None;
+        }
+    }
+    Some(line)
+}
+
+/// Writes some texts, each with a write of its own.
+#[tactic(auto, using(crate::proofs::Writing::prefix_after, crate::proofs::Writing::prefix_of_more))]
+fn write_each<W: Write>(texts: &[&str], to: &mut Watched<W>) -> Result<(), DeviceFault>
     requires { to.old.failed ≡ false }
     ensures ok { OnOk result (Appends (W.contents to.old.device) (W.contents to.new.device)
         (joined texts.now)) }
@@ -23,22 +54,7 @@ pub(crate) fn write_texts<W: Write>(texts: &[&str], to: &mut Watched<W>) -> Resu
         [] => Ok(()),
         [first, rest @ ..] => {
             write_out(first.as_bytes(), to)?;
-            write_texts(rest, to)
+            write_each(rest, to)
         }
     }
-}
-
-/// Writes a number in decimal, the first digit not zero unless it is the only one.
-pub(crate) fn write_decimal<W: Write>(number: u64, to: &mut Watched<W>) -> Result<(), DeviceFault>
-    requires { to.old.failed ≡ false }
-    ensures ok { OnOk result (Appends (W.contents to.old.device) (W.contents to.new.device)
-        (decimal number)) }
-    ensures prefix { AppendsPrefix (W.contents to.old.device) (W.contents to.new.device)
-        (decimal number) }
-    ensures fault { IsErr result ↔ (to.new.failed ≡ true) }
-{
-    if number >= 10 {
-        write_decimal(number / 10, to)?;
-    }
-    write_out(&[b'0' + (number % 10) as u8], to)
 }

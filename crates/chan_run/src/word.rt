@@ -3,8 +3,8 @@
 ghost use Rattle.std.specs.Prelude.{◌≡◌, ◌++◌, ◌∷◌, ◌<◌, [], IfOk, IfSome, None, OnOk, length, ℕ};
 ghost use Rattle.std.specs.Prelude.{string_bytes};
 ghost use Rattle.chan_deck.specs.Item.{IsByte, byte_digits};
-ghost use Rattle.chan_run.specs.Word.{IsNextShown, IsWordShownAs, ShowsNone, shown_byte};
-ghost use Rattle.chan_run.specs.Word.{shown_word};
+ghost use Rattle.chan_run.specs.Word.{IsNextShown, IsWordShownAs, NoTwoAlike, ShowsNone};
+ghost use Rattle.chan_run.specs.Word.{shown_byte, shown_word};
 
 use hex::{FromHex, encode_upper};
 use std::alloc::{AllocError, Global};
@@ -72,3 +72,9 @@ fn next_shown(text: &[u8]) -> Option<(u8, &[u8])>
         _ => None,
     }
 }
+
+/// A law: no two words are shown alike. It is the contract of a function that does nothing, so that
+/// it is proved.
+fn no_two_alike()
+    ensures { NoTwoAlike }
+{}

@@ -16,7 +16,7 @@ use clap::error::ErrorKind;
 use clap::{ArgMatches, Error};
 use std::alloc::{AllocError, Global};
 
-/// What the words of the command line ask for.
+/// The request of a command line.
 #[derive(Drop)]
 pub enum Request<'a> {
     /// To show a CCW. The text is the word that was given for it.
@@ -138,10 +138,10 @@ fn is_standard_input(files: &[&str]) -> bool
     }
 }
 
-/// Reads the words, of which the first is the program's name.
+/// Reads the words; the first is the program's name.
 ///
-/// Without a command the request is to verify. Where clap takes the words, the answer is what they
-/// ask for; where it doesn't, `Help`, `Version` or `Fault`, by the kind of fault that it finds.
+/// Without a command the request is to verify. If clap accepts the words, the answer is their
+/// request; otherwise it is `Help`, `Version` or `Fault`, by the kind of fault that it finds.
 /// `NoMemory` may come in place of each.
 #[inline(never)]
 #[tactic(auto, using(crate::proofs::PlainLines::plain, crate::proofs::PlainLines::plain_request))]

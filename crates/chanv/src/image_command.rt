@@ -11,12 +11,12 @@ use chan_run::{GrantFault, ImageOption, ImageWords};
 use clap::ArgMatches;
 use std::alloc::{AllocError, Global};
 
-/// What a deck is made of: the texts of the options, and the file that has the image.
+/// The parts of a deck: the texts of the options, and the file that has the image.
 #[derive(Drop)]
 pub struct ImageRequest<'a> {
-    /// The texts of the options, the usual ones where an option isn't given.
+    /// The texts of the options, the usual ones for options that aren't given.
     pub words: ImageWords<'a>,
-    /// The file that has the image, or `None` where that is standard input.
+    /// The file that has the image, or `None` for standard input.
     pub file: Option<&'a str>,
     /// Whether no device is named, so that it is the usual one.
     pub is_usual_device: bool,

@@ -46,7 +46,7 @@ pub(crate) struct Line<'a> {
     words: &'a [Word<'a>],
 }
 
-/// What a line may look like, for help and for a usage fault before any command.
+/// The forms of a command line, for help and for a usage fault before any command.
 const USAGE: &str = "chanv verify [FILE]...
        chanv list [FILE]
        chanv why [--all] [FILE]...
@@ -57,11 +57,11 @@ const USAGE: &str = "chanv verify [FILE]...
        chanv explain [WORD]
        chanv show <CCW>";
 
-/// What the help of `verify` says behind its words.
-const OF_VERIFY: &str = "What comes out:
+/// The end of the help of `verify`.
+const OF_VERIFY: &str = "The output:
   Standard input alone   a line `yes`, or a line `no ADDRESS REASON`
-  Each FILE              the same line behind `FILE: `
-  What isn't a deck      a line on standard error, as `chanv: FILE: deck line 9: form`
+  Each FILE              the same line after `FILE: `
+  Not a deck             a line on standard error, such as `chanv: FILE: deck line 9: form`
 
 The exit status is the greatest of these:
   0  yes: the channel program may run
@@ -72,38 +72,38 @@ The exit status is the greatest of these:
 
 docs/DECK.md has the grammar of decks, docs/VERDICT.md the reasons.";
 
-/// What the help of a command for one deck says behind its words.
-const OF_ONE: &str = "The exit status is that of `chanv verify`, whose help has it.";
+/// The end of the help of a command for one deck.
+const OF_ONE: &str = "The exit status is that of `chanv verify`; see its help.";
 
-/// What the help of `needs` says behind its words.
-const OF_NEEDS: &str = "What comes out, in a deck's own lines but for keep:
+/// The end of the help of `needs`.
+const OF_NEEDS: &str = "The output, in lines of a deck except keep:
   mask XX               the strictest file mask that serves
   extent FFF LLL        cylinders that seeks go to; without such a line any will do
   fetch SSSSSS LLLLLL   an area that has to be lent for fetching
   store SSSSSS LLLLLL   an area that has to be lent for storing
-  keep SSSSSS LLLLLL    an area in which nobody else may store while the program runs
+  keep SSSSSS LLLLLL    an area in which nothing else may store while the program runs
 
-Where no job will do, it is the explanation of the no under the job that grants all there is, and
-the exit status is 1. Else the exit status is that of `chanv verify`, whose help has it.
+If no job will do, the output explains the no under the job that grants everything, and the exit
+status is 1. Otherwise the exit status is that of `chanv verify`; see its help.
 
-Mask, extents and areas of the deck don't matter. Its limit does, on the places that are reachable
-where all is granted: there may be too many where `chanv verify` says no, and never where it says
-yes.";
+Mask, extents and areas of the deck don't matter. Its limit counts the places that are reachable
+under the job that grants everything: there may be too many if `chanv verify` says no, and never
+if it says yes.";
 
-/// What the help of `deck` says behind its words.
+/// The end of the help of `deck`.
 const OF_DECK: &str =
     "Addresses, lengths, sizes and the mask are hexadecimal, with or without 0x before them,
-cylinders and the limit decimal. An area is start and length, as 900+10, or first and last
-byte, as 900-90F. An option with <AREA> may come any number of times, and so may --extent.
+cylinders and the limit decimal. An area is start and length, such as 900+10, or first and
+last byte, such as 900-90F. You may give --extent and options with <AREA> several times.
 
-Storage ends with the image, filled with zeros to a multiple of 8, or with --storage where that
-says, filled with zeros.
+Storage ends with the image, filled with zeros to a multiple of 8. With --storage it has that
+size, filled with zeros.
 
-The deck is written to standard output, so that it can be judged at once:
+The deck is written to standard output, so you can judge it at once:
   chanv deck --start 3A98 --extent 0-202 core.bin | chanv why
 
-With --least the deck grants just what its program needs, and is judged yes. Where no job
-will do, a line on standard error says so, with the verdict where all is granted.
+With --least the deck grants exactly the needs of its program, and is judged yes. If no job
+will do, a line on standard error says so, with the verdict on the job that grants everything.
 
 The exit status:
   0  the deck was written
@@ -135,7 +135,7 @@ const EXPLAINED: &[Word] = &[
         kind: Kind::Flag,
         is_required: false,
         is_repeated: false,
-        help: "tells the cause of each line `also` too",
+        help: "gives the cause of each line `also` too",
     },
 ];
 
@@ -169,7 +169,7 @@ const IMAGE: &[Word] = &[
         kind: Kind::Valued("ADDRESS"),
         is_required: true,
         is_repeated: false,
-        help: "where the first CCW stands",
+        help: "the address of the first CCW",
     },
     Word {
         name: "limit",
@@ -204,14 +204,14 @@ const IMAGE: &[Word] = &[
         kind: Kind::Flag,
         is_required: false,
         is_repeated: false,
-        help: "grants what the program needs, in place of mask, extents and areas",
+        help: "grants the program's needs, in place of mask, extents and areas",
     },
     Word {
         name: "at",
         kind: Kind::Valued("ADDRESS"),
         is_required: false,
         is_repeated: false,
-        help: "where the image begins; 0 if left out",
+        help: "the address of the image; 0 if left out",
     },
     Word {
         name: "storage",
@@ -245,7 +245,7 @@ const LINES: &[Line] = &[
     },
     Line {
         name: "verify",
-        about: "says of each deck whether its channel program may run; so does chanv without words",
+        about: "judges each deck: may its channel program run? So does chanv without words",
         after_help: Some(OF_VERIFY),
         words: DECKS,
     },
@@ -269,26 +269,26 @@ const LINES: &[Line] = &[
     },
     Line {
         name: "needs",
-        about: "says under which jobs the program of a deck may run, and what it keeps",
+        about: "lists what a job must grant a deck's program, and the bytes that must not change",
         after_help: Some(OF_NEEDS),
         words: DECK,
     },
     Line {
         name: "deck",
-        about: "writes the deck of an image of storage",
+        about: "turns an image of storage into a deck",
         after_help: Some(OF_DECK),
         words: IMAGE,
     },
     Line {
         name: "explain",
-        about: "says what a word means, and what usually mends it; without WORD, lists all words",
+        about: "says what a word means, and how to fix it; without WORD, lists all words",
         after_help: None,
         words: &[Word {
             name: "WORD",
             kind: Kind::Plain,
             is_required: false,
             is_repeated: false,
-            help: "the reason of a verdict, or the cause for which a deck is refused, in any case",
+            help: "a reason, a cause, or a line in place of an answer, in any case of its letters",
         }],
     },
 ];
@@ -320,7 +320,7 @@ fn program<'a>(alloc: Global) -> Result<Command<'a>, AllocError>
     Ok(
         Command::new(alloc, "chanv")
             .about("verifies channel programs")
-            .version("0.3.0")
+            .version("0.4.0")
             .override_usage(USAGE),
     )
 }

@@ -19,7 +19,7 @@ mod words_met;
 
 use crate::command_line::{Request, read_request};
 use crate::image_command::ImageRequest;
-use ccw_core::Watched;
+use ccw_core::{Watched, write_out};
 use chan_run::{
     Action, ImageOptions, OptionError, Outcome, RunError, answer, answer_image, conclude, ends_run,
     exit_status, explain_word, greater_status, list_words, note_usual_device, options_of, report,
@@ -101,14 +101,14 @@ fn answered(rt: &HostRuntime, words: &[String]) -> u8 {
         Request::Grants(fault) => report_grants(fault, &mut Watched::new(rt.stderr())),
         Request::Explain(word) => explained(rt, word),
         Request::Words => listed(rt),
-        Request::Help(text) | Request::Version(text) => match rt.print(text) {
-            Ok(()) => ended(rt, None, Outcome::HelpAsked, &mut Watched::new(rt.stdout())),
-            Err(_) => reported(rt, None, Outcome::FlushFailed),
+        Request::Help(text) | Request::Version(text) => match text.to_string(rt.alloc()) {
+            Ok(text) => printed(rt, text.as_str()),
+            Err(AllocError) => reported(rt, None, Outcome::NoMemoryForCommandLine),
         },
-        Request::Fault(text) => {
-            let _ = rt.eprint(text);
-            reported(rt, None, Outcome::UsageFault)
-        }
+        Request::Fault(text) => match text.to_string(rt.alloc()) {
+            Ok(text) => warned(rt, text.as_str()),
+            Err(AllocError) => reported(rt, None, Outcome::NoMemoryForCommandLine),
+        },
         Request::NoMemory => reported(rt, None, Outcome::NoMemoryForCommandLine),
     }
 }
@@ -127,6 +127,23 @@ fn ended(rt: &HostRuntime, name: Option<&str>, outcome: Outcome, output: &mut Wa
     requires { IsWriteFailure outcome ↔ (output.old.failed ≡ true) }
 {
     exit_status(conclude(name, outcome, output, &mut Watched::new(rt.stderr())))
+}
+
+/// Writes help or the version, and gives the exit status.
+fn printed(rt: &HostRuntime, text: &str) -> u8 {
+    let mut output = Watched::new(rt.stdout());
+    let outcome = match write_out(text.as_bytes(), &mut output) {
+        Ok(()) => Outcome::HelpAsked,
+        Err(_) => Outcome::FlushFailed,
+    };
+    ended(rt, None, outcome, &mut output)
+}
+
+/// Writes what is wrong with the command line, and gives the exit status.
+fn warned(rt: &HostRuntime, text: &str) -> u8 {
+    let mut errors = Watched::new(rt.stderr());
+    let _ = write_out(text.as_bytes(), &mut errors);
+    exit_status(Outcome::UsageFault)
 }
 
 fn shown(rt: &HostRuntime, text: &str) -> u8 {

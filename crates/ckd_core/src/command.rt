@@ -57,7 +57,7 @@ impl Command {
         self.code
     }
 
-    /// The name in small letters, with `-mt` at its end where the multi-track bit is on.
+    /// The name in small letters, with `-mt` at its end if the multi-track bit is on.
     pub fn name(&self) -> &'static str
         ensures { result.now ≡ (entry_of self.now).name }
     {
@@ -79,8 +79,8 @@ impl Command {
     }
 }
 
-/// The command with this code, or `None` where the table has none. It takes a few comparisons and
-/// no memory.
+/// The command with this code, or `None` if the table has none. It takes a few comparisons and no
+/// memory.
 ///
 /// The table is that of the component descriptions of the 2841 with the 2311, and of the 2314,
 /// without the commands that this project leaves out.

@@ -5,8 +5,8 @@ ghost use Rattle.std.specs.Prelude.{◌≡◌, option_map};
 ghost use Rattle.ckd_core.specs.Further as specs;
 
 /// The name that manuals of these or of later disks have for a code that isn't in the command
-/// table, with `-mt` at its end where the multi-track bit is on; `None` where this project knows
-/// none. The name serves a reader of old programs; it changes no verdict.
+/// table, with `-mt` at its end if the multi-track bit is on; `None` if this project knows none.
+/// The name serves a reader of old programs; it changes no verdict.
 #[tactic(auto, unfolding(crate::specs::Further::further_name))]
 pub fn further_name(code: u8) -> Option<&'static str>
     ensures { option_map (λ name. name.now) result ≡ specs.further_name code }

@@ -60,7 +60,7 @@ impl Model for FileMask {
 }
 
 impl FileMask {
-    /// The mask of this byte, or `None` exactly where a bit other than `C0` and `18` is on.
+    /// The mask of this byte, or `None` exactly if a bit outside `C0` and `18` is on.
     pub fn new(byte: u8) -> Option<FileMask>
         ensures mask { IsSome result ↔ (is_mask byte ≡ true) }
         ensures value { IfSome result (λ mask. mask ≡ byte) }
@@ -100,8 +100,8 @@ impl FileMask {
         INHIBITABLE.iter().all(|class| !than.inhibits_class(*class) || self.inhibits_class(*class))
     }
 
-    /// The command with the least code that another mask inhibits and this one permits. Where this
-    /// one is at least as strict there is none.
+    /// The command with the least code that another mask inhibits and this one permits. If this one
+    /// is at least as strict there is none.
     pub fn least_permitted(&self, than: FileMask) -> Option<Command>
         ensures { option_map entry_of result ≡ specs.least_permitted self.now than }
     {

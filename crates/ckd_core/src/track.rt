@@ -19,9 +19,9 @@ pub struct Track {
 
 impl Track {
     /// The track that the argument of a seek names: two bytes of bin, two of cylinder, two of head,
-    /// each number with its high byte first. It is `None` exactly where a byte of bin isn't zero,
+    /// each number with its high byte first. It is `None` exactly if a byte of bin isn't zero,
     /// since the devices have no bins (component descriptions of the 2841 with the 2311, and of the
-    /// 2314). Whether a device has the track is not asked here.
+    /// 2314). It doesn't matter here whether a device has the track.
     pub fn from_argument(argument: [u8; 6]) -> Option<Track>
         ensures value { result ≡ track_of argument }
         ensures no_bin { IsSome result ↔ (has_no_bin argument ≡ true) }

@@ -1,19 +1,24 @@
-use Rattle.std.proofs.Common.{◌≡◌, ◌++◌, [], append_assoc, refl}
-use Rattle.std.proofs.lemmas.List.{append-nil}
-use Rattle.chan_run.specs.Naming.{name_before, name_in}
-use Rattle.chan_run.specs.Report.{is_on_input, program_of, refusal_of, text_of}
-use Rattle.chan_run.proofs.Writing.{next}
+use Rattle.std.proofs.Common.{List, OnOk, subst, ℕ}
+use Rattle.std.specs.Io.KnownBytes.{Appends}
+use Rattle.ccw_core.specs.Written.{AppendsPrefix}
+use Rattle.chan_run.specs.Naming.{name_in}
+use Rattle.chan_run.proofs.Writing.{line_of_parts}
 use Rattle.chan_run.proofs.reporting.write_line.Goals as goal
+
+pub returns-clause-ok : goal.returns-clause-ok
+returns-clause-ok g c =
+    let old = g.W.Write.contents c.args.to.now.device in
+    let new = g.W.Write.contents c.write_texts.new.to.device in
+    let line = line_of_parts c.args.outcome (name_in c.args.name) c.program.result.now c.named.result.0.now c.named.result.1.now
+    c.text.result.now c.number_text-number.result.now c.ending.result.0.now c.ending.result.1.now c.ending.result.2.now
+    (rw c.is_on_input.ensures at c.named.ensures) c.program.ensures c.text.ensures c.number_text-number.ensures c.ending.ensures in
+    subst (λ (text : List ℕ). OnOk c.write_texts.result (Appends old new text)) line c.write_texts.ensures.ok
 
 pub returns-clause-prefix : goal.returns-clause-prefix
 returns-clause-prefix g c =
-    let o = c.args.outcome in
-    let p = c.program.result.now in
-    let n = c.named.result.0.now in
-    let m = c.named.result.1.now in
-    let t = c.text.result.now in
-    let named : n ++ m ≡ name_before (name_in c.args.name) (is_on_input o) = rw c.is_on_input.ensures at c.named.ensures in
-    let front : p ++ (n ++ (m ++ (t ++ []))) ≡ program_of o ++ (name_before (name_in c.args.name) (is_on_input o) ++ text_of o) =
-    rw (← named, ← c.program.ensures, ← c.text.ensures) (simp (append-nil, append_assoc)) in
-    next _ _ _ _ (program_of o ++ (name_before (name_in c.args.name) (is_on_input o) ++ text_of o)) _ (refusal_of o)
-    front refl c.in_ok-write_texts.ensures.ok c.write_refusal.ensures.prefix
+    let old = g.W.Write.contents c.args.to.now.device in
+    let new = g.W.Write.contents c.write_texts.new.to.device in
+    let line = line_of_parts c.args.outcome (name_in c.args.name) c.program.result.now c.named.result.0.now c.named.result.1.now
+    c.text.result.now c.number_text-number.result.now c.ending.result.0.now c.ending.result.1.now c.ending.result.2.now
+    (rw c.is_on_input.ensures at c.named.ensures) c.program.ensures c.text.ensures c.number_text-number.ensures c.ending.ensures in
+    subst (λ (text : List ℕ). AppendsPrefix old new text) line c.write_texts.ensures.prefix

@@ -5,6 +5,7 @@ use Rattle.chan_deck.specs.Listing.{seen_listing}
 use Rattle.chan_walk.specs.declared.offence.Offence.{Offence}
 use Rattle.chan_walk.specs.Look.{places_of_looks}
 use Rattle.chan_walk.specs.Offences.{AreOffences}
+use Rattle.chan_walk.specs.Place.{first_place}
 use Rattle.chan_run.specs.declared.running.Action.TheVariants as actions
 use Rattle.chan_run.specs.Run.{IsPicture}
 use Rattle.chan_run.proofs.Outputs.{written}
@@ -27,7 +28,7 @@ returns-in-Graph-clause-output g c =
     let s = c.requires.survey in
     let ls = c.into_parts-looks-in-Graph.result.0.items in
     let os = c.into_parts-looks-in-Graph.result.1.items in
-    let picture : IsPicture j (graph ls os) = record {
+    let picture : IsPicture j (graph (first_place j) ls os) = record {
       looks = ls;
       offences = os;
       places = c.into_parts-looks-in-Graph.ensures.places j s;
@@ -36,6 +37,6 @@ returns-in-Graph-clause-output g c =
       drawn = refl;
     } in
     rw c.in-Graph.is
-    (written _ actions.Graph j _ (graph ls os) _ _ c.write_graph.result picture
-    (rw (c.as_slice-in-Graph.ensures.value, c.as_slice-in-Graph-2.ensures.value) at c.write_graph.ensures.ok)
-    (rw (c.as_slice-in-Graph.ensures.value, c.as_slice-in-Graph-2.ensures.value) at c.write_graph.ensures.prefix))
+    (written _ actions.Graph j _ (graph (first_place j) ls os) _ _ c.write_graph.result picture
+    (rw (c.first_place-first.ensures, c.as_slice-in-Graph.ensures.value, c.as_slice-in-Graph-2.ensures.value) at c.write_graph.ensures.ok)
+    (rw (c.first_place-first.ensures, c.as_slice-in-Graph.ensures.value, c.as_slice-in-Graph-2.ensures.value) at c.write_graph.ensures.prefix))
