@@ -1,10 +1,12 @@
-# `make` builds chanv and runs it, `make test` passes every proof and every test, and `make audit`
-# shows that the proofs mean something: all from nothing, and wrong bodies that have to be refused.
+# `make try DECK=..` judges a deck with nothing proved. `make` proves and builds chanv and runs it,
+# `make test` runs every proof and every test, and `make audit` shows that the proofs mean
+# something: it proves everything again, and tries wrong bodies that the prover has to refuse.
 # `make lib` builds the library for C. `make install PREFIX=/usr/local` copies what these two built
-# to where users expect it, and builds nothing; `make uninstall` takes it away.
+# to where users expect it, and builds nothing; `make uninstall` removes it. `make table` prints
+# the contracts.
 
 PREFIX ?= /usr/local
-VERSION = 0.3.0
+VERSION = 0.4.0
 
 # How many processors a proof may use; each takes up to 1.5 GB of memory.
 JOBS ?= $(shell nproc)
@@ -14,7 +16,10 @@ HALF = $(shell expr \( $(JOBS) + 1 \) / 2)
 # that `rt run` in chanv finds them there, and leaves out its quick pass over all sources.
 LIBRARIES = ccw_core ckd_core chan_walk chan_deck chan_run
 
-.PHONY: run libraries test audit proofs wrong_bodies one_call lib install uninstall
+# The deck that `make try` explains the verdict on.
+DECK ?= examples/changes-argument.deck
+
+.PHONY: run libraries test audit proofs wrong_bodies one_call lib install uninstall try table
 
 run: libraries
 	cd crates/chanv && rt run --jobs $(JOBS) < stdin
@@ -22,6 +27,14 @@ run: libraries
 
 libraries:
 	for crate in $(LIBRARIES); do (cd crates/$$crate && rt lib --jobs $(JOBS)) || exit 1; done
+
+# Explains the verdict on a deck, with nothing proved: it compiles the sources as they are.
+try:
+	@exec < "$(DECK)" && cd crates/chanv && { rt try -- why || test $$? -eq 1; }
+
+# Prints each public function with the clauses of its contract and its wrong bodies.
+table:
+	@tests/proof_table.py
 
 test: libraries
 	tests/run --all --jobs $(JOBS)
@@ -61,8 +74,9 @@ lib:
 	$(CC) -shared -Wl,-z,defs -Wl,-soname,$(SONAME) -o out/libchanv.so.$(VERSION) out/chanv.o
 	cp crates/chanv_c/include/chanv.h out/chanv.h
 
-# The name by which programs ask for the shared library: it changes with the first number.
-SONAME = libchanv.so.$(firstword $(subst ., ,$(VERSION)))
+# The name by which programs ask for the shared library. While the first number is 0, structs may
+# change with the second, so the name has both.
+SONAME = libchanv.so.$(basename $(VERSION))
 
 BUILT = crates/chanv/out/chanv out/libchanv.a out/libchanv.so.$(VERSION) out/chanv.h
 TO = $(DESTDIR)$(PREFIX)

@@ -25,6 +25,7 @@ MAY_ASK_FOR = {"memcpy", "memmove", "memset", "malloc", "realloc", "free"}
 OF_THE_RUNTIME = {"rattle_alloc", "rattle_realloc", "rattle_dealloc"}
 NAMES = ("verify", "list", "why", "text", "needs", "grants", "beside", "version")
 CALLS = {f"chanv_{call}" for call in NAMES}
+LAYOUT = ROOT / "crates/chanv_c/include/layout.txt"
 # warnings that a program's own build may ask for
 WARNINGS = ["-Wall", "-Wextra", "-Wpedantic", "-Wconversion", "-Wsign-conversion", "-Werror"]
 IN_CPP = ["-x", "c++", "-std=c++11", "-Wold-style-cast"]
@@ -74,14 +75,30 @@ def check_words(checks, said):
         checks.expect(name, words[numbers[number]] if number in numbers else "", word)
 
 
+def structs_of(header):
+    """The header's structs, each with the names of its fields."""
+    code = re.sub(r"(?s)/\*.*?\*/", "", text_of(header))
+    for name, fields in re.findall(r"(?s)^struct (\w+) \{(.*?)^\};", code, re.M):
+        yield name, re.findall(r"(\w+)(?:\[\d+\])?;", fields)
+
+
 def check_layout(checks, library, folder):
-    """The header's structs are laid out as the library has them, and its version is one."""
-    source = HERE / "c/layout.c"
-    built = compile_c(source, folder / "layout", f"-I{library}", *WARNINGS, library / "libchanv.a")
-    ran, version = run(built), version_of(library / "chanv.h")
-    checks.expect("the header's version", Ran(0, f"{version} {version} {version}\n"), ran)
-    made = re.findall(r"(?m)^VERSION = (.*)$", text_of(ROOT / "Makefile"))
-    checks.expect("the version of what is installed", [version], made)
+    """The recorded layout and soname are those of the header and of the shared library."""
+    lines = []
+    for struct, fields in structs_of(library / "chanv.h"):
+        lines += [f"SIZE({struct});", *[f"FIELD({struct}, {field});" for field in fields]]
+    (folder / "structs.h").write_text("\n".join(lines) + "\n")
+    flags = [f"-I{library}", f"-I{folder}", *WARNINGS, library / "libchanv.a"]
+    ran = run(compile_c(HERE / "c/layout.c", folder / "layout", *flags))
+    versions, _, layout = ran.output.partition("\n")
+    version = version_of(library / "chanv.h")
+    checks.expect("the header's version", f"{version} {version} {version}", versions)
+    recorded = text_of(LAYOUT).split("\n")
+    recorded = [line for line in recorded if line and line[0] != "#"]
+    shared = run("readelf", "-d", next(library.glob("libchanv.so.*"))).output
+    soname = re.findall(r"SONAME.*\[(.*)\]", shared)
+    checks.expect(f"the soname in {short(LAYOUT)}", [f"soname {it}" for it in soname], recorded[:1])
+    checks.expect(f"the layout in {short(LAYOUT)}", recorded[1:], layout.splitlines())
 
 
 def check_warnings(checks, library):
@@ -92,7 +109,8 @@ def check_warnings(checks, library):
     if run(*look, *IN_CPP, "/dev/null").status != 0:
         say("library: no compiler of C++, so the header wasn't looked at in C++")
         return
-    checks.expect("warnings of the header in C++", Ran(0), run(*look, *IN_CPP, HERE / "c/layout.c"))
+    header = library / "chanv.h"
+    checks.expect("warnings of the header in C++", Ran(0), run(*look, *IN_CPP, header))
 
 
 def check_archive(checks, library):

@@ -1,26 +1,29 @@
 """The worked supervisor over random starts, with others who write what no program in flight keeps.
 
-The program of c/flights.c has a small model of channel and device, and says where a program in
-flight comes to harm. With the supervisor of examples/c/supervisor.c none does, whatever the seed;
-and where the supervisor leaves out one of the things that the law asks for, some program does.
+The program of c/flights.c has a small model of channel and device, and reports when a program in
+flight comes to harm. With the supervisor of examples/c/supervisor.c none does, whatever the seed.
+If the supervisor leaves out one of the checks that the law asks for, some program does.
 """
 
 import tempfile
 from pathlib import Path
 
 from building import FLAGS, HERE, ROOT, compile_c
-from running import run, text_of
+from running import Ran, run, text_of
 
 SUPERVISOR = ROOT / "examples/c/supervisor.c"
 SEEDS, STARTS = range(1, 6), 4000
 
-# What is left out, the text that stands in the supervisor for it, and what stands there instead.
-MEETS = "address < area.start + area.len && area.start < address + length"
+SANITIZED = ["-g", "-fsanitize=address,undefined", "-fno-sanitize-recover=all"]
+NO_ROOM = 11
+MEETS = "address < area.start + area.len && area.start < end"
+IS_LISTED = "!program->is_listed"
+# What a careless supervisor leaves out: a name, the text of the check, and the text in its place.
 CARELESS = [
     ("beside", "(&rows, &other) != CHANV_YES", "(&rows, &other) > CHANV_NO"),
     ("grants", "(job, &rows) != CHANV_YES", "(job, &rows) > CHANV_NO"),
     ("the comparison", "memcmp(job->storage.at + area.start, kept, area.len) != 0", "kept == NULL"),
-    ("hands off", MEETS, "area.len + address + length == 0"),
+    ("hands off", MEETS, "area.len + end == 0"),
 ]
 
 
@@ -49,6 +52,51 @@ def check_careless(checks, library, room):
         checks.expect_that(f"without {name} a program comes to harm", harmed, came)
 
 
+def answers_wanted():
+    """What c/answers.c prints: only a program that was listed starts, and writes know its rows."""
+    for name, answer in [
+        ("2 rows", 0),
+        ("16 rows", 0),
+        ("17 rows", NO_ROOM),
+        ("1024 kept bytes", 0),
+        ("1032 kept bytes", NO_ROOM),
+        ("a code of no command", 1),
+    ]:
+        yield f"{name}: {answer}, {'held back' if answer else 'started'}"
+    yield "emulated listed: 0, there"
+    for answer in range(1, 13):
+        yield f"forced: {answer}, held back"
+        yield f"emulated forced: {answer}, not there"
+    for write, allowed in [
+        ("0 800", True),
+        ("0 801", False),
+        ("80F 1", False),
+        ("810 8", True),
+        ("8 FFFFFFFF", False),
+        ("FFFFFFFF FFFFFFFF", True),
+    ]:
+        yield f"write {write}: {'allowed' if allowed else 'held back'}"
+
+
+def compile_answers(library, supervisor, folder):
+    folder.mkdir()
+    (folder / "supervisor.c").write_text(supervisor)
+    linked = [f"-I{library}", f"-I{folder}", f"-I{ROOT / 'examples/c'}", library / "libchanv.a"]
+    return compile_c(HERE / "c/answers.c", folder / "answers", *FLAGS, *SANITIZED, *linked)
+
+
+def check_answers(checks, library, room):
+    """After each answer of chanv_needs, under the sanitizers: only what was listed starts."""
+    text = text_of(SUPERVISOR)
+    ran = run(compile_answers(library, text, room / "each answer"))
+    wanted = "".join(f"{line}\n" for line in answers_wanted())
+    checks.expect("each answer of chanv_needs", Ran(0, wanted), ran)
+    checks.expect("the supervisor asks whether it was listed, once", 1, text.count(IS_LISTED))
+    careless = text.replace(IS_LISTED, "program == NULL")
+    ran = run(compile_answers(library, careless, room / "any answer"))
+    checks.expect_that("a program that got no answer does harm", ran.status != 0, ran)
+
+
 def check(checks, built):
     library = built.library()
     with tempfile.TemporaryDirectory() as folder:
@@ -56,3 +104,4 @@ def check(checks, built):
         program = compile_flights(library, text_of(SUPERVISOR), room / "careful")
         check_careful(checks, program)
         check_careless(checks, library, room)
+        check_answers(checks, library, room)

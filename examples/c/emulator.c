@@ -5,8 +5,9 @@
 
 enum { MOST_CYLINDERS = 203, MOST_AREAS = 4096 };
 
-/* A program that may run, with what it needs. */
+/* A program, with what it needs. */
 struct asked {
+    int is_listed; /* whether all of this was told; else the program may not start */
     uint8_t *copy; /* as long as storage, with the bytes that are kept; the others mean nothing */
     struct chanv_needed needed;
     struct chanv_extent extents[MOST_CYLINDERS];
@@ -33,6 +34,7 @@ static uint32_t ask(struct asked *asked, const struct chanv_job *job)
 {
     struct chanv_job still = *job;
     uint32_t answer = ask_once(asked, job);
+    asked->is_listed = 0;
     if (answer != CHANV_LISTED)
         return answer;
     for (size_t i = 0; i < asked->needed.keep && i < MOST_AREAS; i++) {
@@ -41,16 +43,19 @@ static uint32_t ask(struct asked *asked, const struct chanv_job *job)
             memcpy(asked->copy + area.start, job->storage.at + area.start, area.len);
     }
     still.storage.at = asked->copy;
-    return ask_once(asked, &still);
+    answer = ask_once(asked, &still);
+    asked->is_listed = answer == CHANV_LISTED;
+    return answer;
 }
 
-/* Whether storage has the bytes that the program keeps. To be asked before each start. */
+/* Whether the program's needs are known and storage has the bytes that it keeps. To be asked before
+ * each start. */
 static int is_there(const struct asked *asked, const uint8_t *storage)
 {
-    for (size_t i = 0; i < asked->needed.keep; i++) {
+    for (size_t i = 0; asked->is_listed && i < asked->needed.keep; i++) {
         struct chanv_area area = asked->keep[i];
         if (memcmp(asked->copy + area.start, storage + area.start, area.len) != 0)
             return 0;
     }
-    return 1;
+    return asked->is_listed;
 }

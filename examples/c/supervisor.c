@@ -8,14 +8,15 @@
 
 enum { DEVICES = 8, MOST_ROWS = 16, MOST_KEPT = 1024 };
 
-/* A program with what was told of it. */
+/* A program with what it needs. */
 struct program {
+    int is_listed; /* whether all of this was told and kept; else the program may not start */
     uint32_t start;
     uint16_t device;
     struct chanv_needed needed;
     struct chanv_extent extents[MOST_ROWS];
     struct chanv_area fetch[MOST_ROWS], store[MOST_ROWS], keep[MOST_ROWS];
-    uint8_t kept[MOST_KEPT]; /* the bytes that are kept, as they were, one area behind the other */
+    uint8_t kept[MOST_KEPT]; /* the kept bytes, as they were, one area after another */
 };
 
 /* The programs in flight, each with a device of its own. */
@@ -34,24 +35,28 @@ static struct chanv_rows rows_of(const struct program *program)
     };
 }
 
-/* Asks what the job's program needs, once, and remembers the bytes that are kept. It isn't in
- * flight then, and nobody writes storage meanwhile. */
+/* Asks what the job's program needs, once, and remembers the bytes that are kept. Only after
+ * CHANV_LISTED may the program start. It isn't in flight now, and nothing writes storage. */
 static uint32_t take_in(struct program *program, const struct chanv_job *job)
 {
     size_t saved = 0;
     uint32_t answer = chanv_needs(job, &program->needed, program->extents, MOST_ROWS,
                                   program->fetch, MOST_ROWS, program->store, MOST_ROWS,
                                   program->keep, MOST_ROWS);
+    program->is_listed = 0;
     program->start = job->start;
     program->device = job->device;
-    for (size_t i = 0; answer == CHANV_LISTED && i < program->needed.keep; i++) {
+    if (answer != CHANV_LISTED)
+        return answer;
+    for (size_t i = 0; i < program->needed.keep; i++) {
         struct chanv_area area = program->keep[i];
         if (MOST_KEPT - saved < area.len)
             return CHANV_NO_ROOM;
         memcpy(program->kept + saved, job->storage.at + area.start, area.len);
         saved += area.len;
     }
-    return answer;
+    program->is_listed = 1;
+    return CHANV_LISTED;
 }
 
 /* Whether the job is still one of the program that was asked about: the same start and device, and
@@ -74,8 +79,11 @@ static int is_as_asked(const struct program *program, const struct chanv_job *jo
 /* Whether the program may start now, under a job. */
 static int may_start(const struct program *program, const struct chanv_job *job)
 {
+    /* Only what was answered CHANV_LISTED has rows and kept bytes. */
+    if (!program->is_listed)
+        return 0;
     struct chanv_rows rows = rows_of(program);
-    /* Its verdict is yes: it was asked once, and what counts stands as it stood. */
+    /* Its verdict is yes: it was asked once, and the bytes that count are as they were. */
     if (!is_as_asked(program, job) || chanv_grants(job, &rows) != CHANV_YES)
         return 0;
     /* It stores over no byte that one in flight keeps, nor one of those over what it keeps. */
@@ -109,13 +117,15 @@ static void leave(int device)
     in_flight[device] = NULL;
 }
 
-/* Whether somebody else, as the processor, may write these bytes now: none in flight keeps any. */
+/* Whether somebody else, such as the processor, may write these bytes now: no program in flight
+ * keeps any of them. */
 static int may_write(uint32_t address, uint32_t length)
 {
+    uint64_t end = (uint64_t)address + length;
     for (int device = 0; device < DEVICES; device++)
         for (size_t i = 0; in_flight[device] != NULL && i < in_flight[device]->needed.keep; i++) {
             struct chanv_area area = in_flight[device]->keep[i];
-            if (address < area.start + area.len && area.start < address + length)
+            if (address < area.start + area.len && area.start < end)
                 return 0;
         }
     return 1;

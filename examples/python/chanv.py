@@ -49,7 +49,7 @@ class NoAnswer(Exception):
 class Job:
     """A channel program before its start, and all that it may use."""
 
-    storage: bytes  # main storage from address 0 on, as it stands
+    storage: bytes  # main storage from address 0 on, as it is now
     start: int  # the address of the first CCW
     extents: list  # the cylinders of the file, as pairs of first and last
     fetch: list = ()  # the areas lent for fetching, as pairs of start and length
@@ -74,7 +74,7 @@ class Verdict:
 
 
 def verify(job):
-    """The verdict on a job. It raises NoAnswer, or OverflowError where C has no such number."""
+    """The verdict on a job. It raises NoAnswer, or OverflowError if C has no such number."""
     told = _Verdict()
     answer = _library.chanv_verify(byref(_job(job)), byref(told))
     if answer not in (YES, NO):
@@ -116,10 +116,16 @@ def _job(job):
 
 
 def _must_be_whole(made, given):
-    """C numbers lose what is too large for them, without a word."""
+    """C cuts a number that is too large for it, without a word."""
     if made != given:
         raise OverflowError(f"not numbers of the header: {given}")
 
 
-_built = Path(__file__).resolve().parents[2] / "out"
-_library = CDLL(os.environ.get("CHANV_LIBRARY") or next(_built.glob("*.so.*"), "libchanv.so.0"))
+def _found():
+    """The path of the library, or its name, by which the loader finds an installed one."""
+    above = Path(__file__).resolve().parents
+    built = sorted((above[2] / "out").glob("libchanv.so.*")) if len(above) > 2 else []
+    return os.environ.get("CHANV_LIBRARY") or (str(built[0]) if built else "libchanv.so.0.4")
+
+
+_library = CDLL(_found())

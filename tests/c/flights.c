@@ -41,7 +41,7 @@ struct flight {
 static uint8_t storage[STORAGE];
 static struct program programs[PROGRAMS];
 static struct chanv_job asked[PROGRAMS]; /* the job about which each was asked */
-static int is_taken_in[PROGRAMS], was_started[PROGRAMS];
+static int was_started[PROGRAMS];
 static struct flight flights[DEVICES];
 static uint64_t seed;
 
@@ -321,8 +321,7 @@ static void write_program(int number)
         .device = below(2) ? 2311 : 2314,
     };
     asked[number] = job, was_started[number] = 0;
-    is_taken_in[number] = take_in(&programs[number], &job) == CHANV_LISTED;
-    is_taken_in[number] ? taken_in++ : refused++;
+    take_in(&programs[number], &job) == CHANV_LISTED ? taken_in++ : refused++;
 }
 
 static int is_in_flight(const struct program *program)
@@ -369,10 +368,11 @@ static void grant(struct flight *flight, const struct program *program)
 static void try_start(int number, int device)
 {
     struct flight *flight = &flights[device];
-    if (!is_taken_in[number] || in_flight[device] != NULL)
+    if (in_flight[device] != NULL)
         return;
     *flight = (struct flight){.job = asked[number], .stage = AT, .is_fresh = 1};
-    grant(flight, &programs[number]);
+    if (programs[number].is_listed)
+        grant(flight, &programs[number]);
     if (!start(&programs[number], device, &flight->job)) {
         held_back++;
         return;
@@ -407,7 +407,7 @@ int main(int argc, char **argv)
     unsigned long wanted = argc < 3 ? 1000 : strtoul(argv[2], NULL, 10);
     while (started < wanted) {
         int number = (int)below(PROGRAMS), device = (int)below(DEVICES);
-        if (!is_in_flight(&programs[number]) && (!is_taken_in[number] || below(64) == 0))
+        if (!is_in_flight(&programs[number]) && (!programs[number].is_listed || below(64) == 0))
             write_program(number);
         try_start(number, device);
         for (int i = 0; i < 4; i++)

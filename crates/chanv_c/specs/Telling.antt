@@ -6,7 +6,7 @@ use Rattle.chan_walk.specs.declared.verdict.Verdict.{Verdict}
 use Rattle.chan_walk.specs.declared.verdict.Verdict.TheVariants.{Yes, No}
 use Rattle.chan_walk.specs.declared.witness.Witness.{Witness}
 use Rattle.chan_walk.specs.Answers.{IsAnswer}
-use Rattle.chan_walk.specs.Explained.{IsEvidenceOf, IsPathOf, IsSecondPathOf, IsWitness}
+use Rattle.chan_walk.specs.Explained.{IsEvidenceOf, IsPathOf, IsSecondPathOf, IsStoredOver, IsWitness}
 use Rattle.chan_walk.specs.Job.{storage_of}
 use Rattle.chan_walk.specs.Offences.{AreOffences, first_verdict}
 use Rattle.chan_deck.specs.Explanation.{explanation}
@@ -27,6 +27,7 @@ pub record IsText (c : CJob) (t : Told) : Type 0 where
   pub path : IsPathOf job t.verdict witness.path.items
   pub shown : IsWitness job t.verdict witness.path.items
   pub evidence : IsEvidenceOf job t.verdict witness.path.items witness.evidence
+  pub stored : IsStoredOver job t.verdict witness.path.items witness.stored_over
   pub second : IsSecondPathOf job witness.evidence witness.second_path.items
   pub text : string_bytes t.text ≡ explanation (storage_of job) offences [] witness
 

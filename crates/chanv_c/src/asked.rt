@@ -20,7 +20,7 @@ pub struct CExtent {
     pub last: u16,
 }
 
-/// `struct chanv_job`. A slice is a pointer and then a length; beside a length of 0 the pointer may
+/// `struct chanv_job`. A slice is a pointer and then a length; with a length of 0 the pointer may
 /// be null, and isn't looked at.
 #[repr(C)]
 #[derive(Clone, Copy)]
@@ -33,7 +33,7 @@ pub struct CJob<'a> {
     pub limit: u32,
     pub device: u16,
     pub mask: u8,
-    /// What a later version gives a meaning, which isn't that of 0.
+    /// Room for fields of a later version, in which 0 means today's behaviour.
     pub reserved: [u64; 4],
 }
 

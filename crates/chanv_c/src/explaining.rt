@@ -35,11 +35,11 @@ pub(crate) struct Found {
     witness: Witness,
 }
 
-/// Why the program may not run: 0 where it may; 1 where it may not, with the verdict, the values of
-/// the cause, the path to a place that offends and, where something is changed, the path to that;
-/// 11 where one of the paths has more places than there are rows for it, with the same but for the
-/// rows. Else it says why there is no answer, as `chanv_verify` does. All else is written as 0.
-/// Only for 1 is anything written to the rows.
+/// Why the program may not run: 0 if it may; 1 if it may not, with the verdict, the values of the
+/// cause, the path to a place that offends and, if something is changed, the path to that; 11 if
+/// one of the paths has more places than rows, with the same except the rows. Otherwise it says why
+/// there is no answer, like `chanv_verify`. All else is written as 0. Only for 1 is anything
+/// written to the rows.
 #[unsafe(no_mangle)]
 pub extern "C" fn chanv_why(
     alloc: Global,

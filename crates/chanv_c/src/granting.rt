@@ -27,9 +27,9 @@ pub struct CRows<'a> {
     pub mask: u8,
 }
 
-/// Whether the job grants what the rows list, where `chanv_needs` gave them: 0 where it does, 1
-/// where it doesn't. Else it says why there is no answer, as `chanv_verify` does. The job's storage
-/// isn't looked at.
+/// Whether the job grants the needs that the rows list, if `chanv_needs` gave them: 0 if it does, 1
+/// if it doesn't. Otherwise it says why there is no answer, like `chanv_verify`. It doesn't look at
+/// the job's storage.
 #[unsafe(no_mangle)]
 pub extern "C" fn chanv_grants(alloc: Global, job: &CJob<'_>, rows: &CRows<'_>) -> u32
     ensures granted { result ≤ 1 → (j : Job) → AreNeeds j (rows_told rows.now)
@@ -51,8 +51,8 @@ pub extern "C" fn chanv_grants(alloc: Global, job: &CJob<'_>, rows: &CRows<'_>) 
     }
 }
 
-/// Whether two programs may run side by side, where `chanv_needs` gave both their rows: 0 where
-/// neither needs to store into what the other keeps, else 1. Of the rows only `store` and `keep`
+/// Whether two programs may run side by side, if `chanv_needs` gave both their rows: 0 if neither
+/// needs to store into bytes that the other keeps, else 1. Of the rows only `store` and `keep`
 /// count. No memory is taken.
 #[unsafe(no_mangle)]
 pub extern "C" fn chanv_beside(rows: &CRows<'_>, other: &CRows<'_>) -> u32

@@ -11,10 +11,10 @@ use crate::rows::{CPlace, write_rows};
 use chan_walk::{Explored, Job, explore};
 use std::alloc::Global;
 
-/// Lists the places that the program can come to, each once, in order: 0 where `rows` took them
-/// all, 11 where they are more than `rows` has room for; then `count` is how many there are. Else
-/// it says why there is no answer, as `chanv_verify` does, and `count` is the index of the extent
-/// that is wrong, or 0. Only for 0 is anything written to `rows`.
+/// Lists the places that the program can come to, each once, in order: 0 if `rows` took them all,
+/// 11 if they are more than `rows` has room for; then `count` is their number. Otherwise it says
+/// why there is no answer, like `chanv_verify`, and `count` is the index of the extent that is
+/// wrong, or 0. Only for 0 is anything written to `rows`.
 #[unsafe(no_mangle)]
 pub extern "C" fn chanv_list(
     alloc: Global,

@@ -43,12 +43,12 @@ pub(crate) enum Found {
     NoJob { address: u32, reason: Reason },
 }
 
-/// What the program of the job needs of each job that it runs under, and what it keeps: 0 where
-/// some job will do and each list took its rows; 1 where none will, with the verdict on the open
-/// job; 11 where a list has more rows than there is room for, with the same as for 0 but for the
-/// rows. Else it says why there is no answer, as `chanv_verify` does; too many places are those
-/// that are reachable where all is granted. All else is written as 0. Only for 0 is anything
-/// written to the lists. What the job grants doesn't matter.
+/// The needs of the job's program in each job that it runs under, and the bytes that it keeps: 0 if
+/// some job will do and each list took its rows; 1 if none will, with the verdict on the open job;
+/// 11 if a list has more rows than room, with the same as for 0 except the rows. Otherwise it says
+/// why there is no answer, like `chanv_verify`; too many places are those that are reachable under
+/// the open job. All else is written as 0. Only for 0 is anything written to the lists. The job's
+/// own grants don't matter.
 #[unsafe(no_mangle)]
 pub extern "C" fn chanv_needs(
     alloc: Global,

@@ -10,7 +10,7 @@ ghost use Rattle.chanv_c.specs.Faults.{HasNoFault, fault_code, fault_extent};
 use crate::asked::CJob;
 use chan_walk::{Job, WalkError};
 
-/// What is wrong with a job as C gives it, in the order in which it counts.
+/// The faults of a job as C gives it, in the order in which they count.
 #[derive(Clone, Copy)]
 pub enum JobFault {
     /// Storage has more than 16,777,216 bytes.

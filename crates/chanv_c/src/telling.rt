@@ -21,10 +21,10 @@ pub(crate) struct Told {
     text: String,
 }
 
-/// Writes the text that explains the verdict on the job, as `chanv why` prints it: 0 where the
-/// program may run, 1 where it may not, 11 where the text is longer than `buffer`; then `count` is
-/// how long it is. Else it says why there is no answer, as `chanv_verify` does, and `count` is 0.
-/// Only for 0 and 1 is anything written to `buffer`.
+/// Writes the text that explains the verdict on the job, as `chanv why` prints it: 0 if the program
+/// may run, 1 if it may not, 11 if the text is longer than `buffer`; then `count` is its length.
+/// Otherwise it says why there is no answer, like `chanv_verify`, and `count` is 0. Only for 0 and
+/// 1 is anything written to `buffer`.
 #[unsafe(no_mangle)]
 pub extern "C" fn chanv_text(
     alloc: Global,

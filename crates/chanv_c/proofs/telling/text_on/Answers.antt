@@ -2,7 +2,7 @@
 use Rattle.std.proofs.Common.{sym, subst}
 use Rattle.chan_walk.specs.declared.verdict.Verdict.{Verdict}
 use Rattle.chan_walk.specs.Answers.{IsAnswer}
-use Rattle.chan_walk.specs.Explained.{IsEvidenceOf, IsPathOf, IsWitness}
+use Rattle.chan_walk.specs.Explained.{IsEvidenceOf, IsPathOf, IsStoredOver, IsWitness}
 use Rattle.chanv_c.proofs.telling.text_on.Goals as goal
 
 pub returns-in-Ok-explanation_text-clause-text : goal.returns-in-Ok-explanation_text-clause-text
@@ -21,6 +21,7 @@ returns-in-Ok-explanation_text-clause-text c =
       path = subst (λ (v : Verdict). IsPathOf j v w.path.items) same c.in-Ok-witness.ensures.path;
       shown = subst (λ (v : Verdict). IsWitness j v w.path.items) same c.in-Ok-witness.ensures.shown;
       evidence = subst (λ (v : Verdict). IsEvidenceOf j v w.path.items w.evidence) same c.in-Ok-witness.ensures.evidence;
+      stored = subst (λ (v : Verdict). IsStoredOver j v w.path.items w.stored_over) same c.in-Ok-witness.ensures.stored;
       second = c.in-Ok-witness.ensures.second;
       text = c.in-Ok-explanation_text.ensures;
     }
