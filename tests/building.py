@@ -85,6 +85,11 @@ def compile_c(source, made, *flags):
     return made
 
 
+def version():
+    """The version of this repository, which the Makefile says; the test of that name compares."""
+    return re.search(r"(?m)^VERSION = (.*)$", (ROOT / "Makefile").read_text())[1]
+
+
 def version_of(header):
     return re.search(r'(?m)^#define CHANV_VERSION "(.*)"$', header.read_text())[1]
 

@@ -4,9 +4,9 @@
     tests/run cases          compares, and says which deck or which verdict differs
     tests/cases.py --write   writes the decks and verdicts.txt anew
 
-The table is cases.rt of the unit tests, which go through it. A case NAME/PART is the deck NAME-PART.
-Decks that the table doesn't have stay as they are: their lines of verdicts.txt stand in OTHERS. And
-the tests that docs/CASES.md names are there.
+The table is cases.rt of the unit tests, which go through it. The case NAME/PART is the deck
+NAME-PART. A line of verdicts.txt has the deck, its verdict, and a text of SHOWS. Decks that the
+table doesn't have stay as they are: their verdicts are in OTHERS.
 """
 
 import re
@@ -21,10 +21,53 @@ from running import text_of  # noqa: E402
 TABLE = "crates/unit_tests/src/walk/judging/cases.rt"
 FOLDER = EXAMPLES / "cases"
 VERDICTS = FOLDER / "verdicts.txt"
-PAGE = ROOT / "docs/CASES.md"
 
-# decks of their own, for what the table has no row
+# decks without a row of the table
 OTHERS = {"no-areas-and-no-words": "no 000800 invalid-code"}
+
+# by the name of the case, without its part
+SHOWS = {
+    "adjoining-areas": "two areas that adjoin cover a range that lies in both",
+    "argument-before-ccw": "a store over both kinds of guarded byte, the argument first",
+    "bad-format": "a low flag bit",
+    "both-guards": "a store over both kinds of guarded byte",
+    "chained-and-fresh": "one CCW entered in two ways, with a fault in one",
+    "chained-search": "under a data chain the code is ignored; the skip goes from the last CCW",
+    "end-of-storage": "both ways on leave storage, and the least address is named",
+    "endless-loop": "a run without end is no fault",
+    "fetch-and-sense": "a search fetches, and sense stores",
+    "idle-chain": "a command that moves no data never chains data",
+    "inhibited-after-skip": "only the skip leads to the write that the mask inhibits",
+    "least-pair-before-the-skip": "the least offence is named, whichever is met first",
+    "loose-transfer": "the count of a transfer is ignored",
+    "mask-table": "four writes under four masks",
+    "misaligned": "at the start, and after a transfer",
+    "no-areas-and-no-words": "a deck without areas and puts",
+    "outside-the-table": "two commands that aren't in the table",
+    "own-fault-first": "a change counts only if no reachable place has an own fault",
+    "search-enters-itself": "a search that leads into its own chain",
+    "search-loop": "the usual loop of search, transfer and read",
+    "seek-mask": "multi-track under a mask that inhibits seeks; the head seek",
+    "seek-through-transfer": "a transfer inside the data chain of a seek",
+    "seek-two-transfers": "two transfers in a row inside the data chain of a seek",
+    "seek-verdicts": "heads, cylinders, bins, short arguments, recalibrate",
+    "set-mask-alone": "Set File Mask under the mask 00, its byte 00",
+    "set-mask-guarded": "a read over the byte that is set, and one over the bytes after it",
+    "set-mask-not-lent": "the mask byte is fetched like any other",
+    "set-mask-strictness": "the byte against the job's mask; only the first byte of a chain counts",
+    "skip-and-range": "skip stores nothing, but the range has to lie in storage",
+    "skipped-store": "a read that skip keeps from storing",
+    "split-argument": "an argument out of three CCWs is guarded, byte by byte",
+    "store-over-ccw": "a later CCW is guarded; the argument of a search isn't",
+    "stores-over-itself": "a read over its own CCW",
+    "top-of-storage": "nothing wraps round at 16,777,216",
+    "transfer-first": "a program may not begin with a transfer",
+    "transfer-to-itself": "a transfer may not lead to itself",
+    "transfer-to-transfer": "a transfer may not lead to another one",
+    "two-faults": "of two faults the first of the table is named",
+    "unreached-store": "a read over a CCW that no run comes to",
+    "zero-count": "a count of zero",
+}
 
 
 def number(text):
@@ -103,7 +146,13 @@ def wanted():
         texts[name] = deck_of(case)
         verdicts[name] = case["verdict"]
     names = sorted(verdicts)
-    return texts, names, "".join(f"{name}.deck\t{verdicts[name]}\n" for name in names)
+    lines = [f"{name}.deck\t{verdicts[name]}\t{shown_by(name)}\n" for name in names]
+    return texts, names, "".join(lines)
+
+
+def shown_by(name):
+    """The deck's case is the longest that its name begins with."""
+    return SHOWS[max((case for case in SHOWS if f"{name}-".startswith(f"{case}-")), key=len)]
 
 
 def write():
@@ -116,33 +165,16 @@ def write():
     VERDICTS.write_text(verdicts)
 
 
-def tests_named():
-    """The tests that the page names, each with its crate, behind which they stand."""
-    for cell in re.findall(r"(?m)^\|.*\| (.*) \|$", text_of(PAGE)):
-        for part in cell.split(";"):
-            crate, *names = re.findall(r"`(\w+)`", part) or [""]
-            if crate and (ROOT / "crates" / crate).is_dir():
-                yield from ((crate, name) for name in names)
-
-
-def tests_of(crate):
-    sources = (ROOT / "crates" / crate / "src").rglob("*.rt")
-    test = r"#\[test\]\n(?:#\[.*\]\n)*fn (\w+)"
-    return {name for source in sources for name in re.findall(test, text_of(source))}
-
-
 def check(checks, _built):
-    named = list(tests_named())
-    checks.expect_that("docs/CASES.md names tests", named, named)
-    for crate, name in named:
-        checks.expect_that(f"{crate} has the test {name}", name in tests_of(crate), name)
     texts, _, verdicts = wanted()
     for name, text in texts.items():
         path = FOLDER / f"{name}.deck"
         seen = text_of(path) if path.is_file() else "there is no such file"
         checks.expect(short(path), text, seen)
     for name in OTHERS:
-        checks.expect_that(f"{name}.deck stands there", (FOLDER / f"{name}.deck").is_file(), None)
+        checks.expect_that(f"there is {name}.deck", (FOLDER / f"{name}.deck").is_file(), None)
+    used = {case["name"].partition("/")[0] for case in cases()} | {*OTHERS}
+    checks.expect("the cases of SHOWS", sorted(used), sorted(SHOWS))
     checks.expect(short(VERDICTS), verdicts, text_of(VERDICTS))
 
 

@@ -23,9 +23,9 @@ def decks_of(folder):
 
 
 def verdicts_of(folder):
-    """The verdict of each deck that the folder's verdicts.txt names."""
+    """The verdict of each deck of the folder's verdicts.txt; a third column is for people."""
     lines = text_of(folder / "verdicts.txt").splitlines()
-    return dict(line.split("\t") for line in lines)
+    return dict(line.split("\t")[:2] for line in lines)
 
 
 def status_of(verdict):

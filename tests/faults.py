@@ -13,7 +13,7 @@ from functools import partial
 from pathlib import Path
 from typing import NamedTuple
 
-from building import HERE, ROOT
+from building import HERE, ROOT, version
 from examples import EXAMPLES, SEARCH_LOOP, status_of, status_of_needs, verdicts_of
 from running import Ran, run_in_bash, text_of
 from words import sections_of
@@ -163,7 +163,7 @@ def over_two_decks(action):
 
 def over_nothing():
     """Words that need no input, and wrong ones."""
-    meaning = sections_of(text_of(ROOT / "docs/VERDICT.md"))["changes-ccw"]
+    meaning = sections_of(text_of(ROOT / "docs/WORDS.md"))["changes-ccw"]
     usage = re.search(r"(?s)Usage: .*?\n\n", texts_of_help()["--help"])[0]
     fault = f"error: unrecognized subcommand 'judge'\n\n{usage}"
     for words, part in [
@@ -173,8 +173,8 @@ def over_nothing():
         (["explain", "nothing"], Ran(4, "", "chanv: no such word\n")),
         (["explain", "masks"], Ran(4, "", "chanv: no such word; the nearest is mask\n")),
         (["judge"], Ran(4, "", f"{fault}For more information, try '--help'.\n")),
-        (["--version"], Ran(0, "chanv 0.3.0\n")),
-        (["-V"], Ran(0, "chanv 0.3.0\n")),
+        (["--version"], Ran(0, f"chanv {version()}\n")),
+        (["-V"], Ran(0, f"chanv {version()}\n")),
         *[(words, Ran(0, text)) for words, text in helps()],
     ]:
         for given in ("yes", "closed"):

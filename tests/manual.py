@@ -1,14 +1,16 @@
-"""Help, version, manual page, and completions for bash: each says what the others say."""
+"""Help, version, manual page, README and completions for bash: they agree with each other."""
 
 import re
+import shutil
 
-from building import ROOT
+from building import ROOT, version
 from examples import EXAMPLES
+from expecting import say
 from running import Ran, run, run_in_bash, text_of
 
-PAGE = ROOT / "docs/chanv.1"
+PAGE, README = ROOT / "docs/chanv.1", ROOT / "README.md"
 COMPLETIONS = ROOT / "docs/chanv.bash"
-VERSION = "chanv 0.3.0\n"
+VERSION = f"chanv {version()}\n"
 COMMANDS = ["show", "verify", "list", "why", "graph", "needs", "deck", "explain"]
 
 # completes the last of the words that stand behind the file's name
@@ -48,6 +50,43 @@ def check_page(checks, program):
     checks.expect("the commands of the manual page", commands, headed)
     named = sorted(set(re.findall(r"(?m)^(?:\.B |\$ )chanv ([a-z]+)", page)))
     checks.expect("the commands that the manual page names", commands, named)
+
+
+def statuses_of_help(program, command):
+    """The text for each exit status."""
+    said = run(program, command, "--help").output.partition("exit status")[2]
+    found = re.findall(r"(?m)^  (\d)  (.*(?:\n   .*)*)$", said)
+    return {status: " ".join(text.split()) for status, text in found}
+
+
+def statuses_of_page():
+    section = text_of(PAGE).partition("\n.SH EXIT STATUS\n")[2].partition("\n.SH ")[0]
+    found = re.findall(r"(?ms)^\.TP\n\.B (\d)\n(.*?)(?=^\.TP|\Z)", section)
+    return {status: " ".join(text.replace("\\-", "-").split()) for status, text in found}
+
+
+def check_statuses(checks, program):
+    """README's table and the manual page have each status, with the words of help."""
+    rows = dict(re.findall(r"(?m)^\| (\d) \| (.*) \|$", text_of(README)))
+    pages = {"README": rows, "the manual page": statuses_of_page()}
+    for command in ("verify", "deck"):
+        said = statuses_of_help(program, command)
+        for name, page in pages.items():
+            checks.expect(f"the statuses of {name}", sorted(said), sorted(page))
+            for status, text in said.items():
+                # a FILE, or the only one
+                plain = text.removeprefix("a ")
+                is_there = plain in page.get(status, "")
+                checks.expect_that(f"{command}: status {status} of {name}", is_there, text)
+
+
+def check_groff(checks):
+    """The page is well formed, if groff is there to say so."""
+    if not shutil.which("groff"):
+        say("manual: no groff, so the page wasn't formatted")
+        return
+    ran = run("groff", "-ww", "-man", "-Tascii", PAGE)
+    checks.expect("groff's warnings", (0, ""), (ran.status, ran.error))
 
 
 def check_example(checks, program):
@@ -91,5 +130,7 @@ def check(checks, built):
     program = built.chanv()
     check_help(checks, program)
     check_page(checks, program)
+    check_statuses(checks, program)
+    check_groff(checks)
     check_example(checks, program)
     check_completions(checks, program)

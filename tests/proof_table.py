@@ -1,13 +1,13 @@
 #!/usr/bin/env python3
-"""docs/PROOF.md has each public function with its clauses and wrong bodies, as they are.
+"""Each wrong body fits the code, each public function has one, and docs/MACHINE.md names each law.
 
-    tests/run proof_table          compares the tables of the page, and looks at each edit
-    tests/proof_table.py --write   writes the tables anew
+    tests/run proof_table   checks that
+    make table              prints the functions with their clauses and wrong bodies
 
-The tables are made of the sources of the crates, and of the edits in must-fail/ and batches/. Each
-edit has to fit: its old texts stand once in their files, and there is a function, a constant or a
-definition that it turns. Each public function has a wrong body, of its own or of what it comes to.
-And docs/MACHINE.md names in its table of laws functions that are there, all of laws.rt among them.
+The tables are made of the sources of the crates, and of the edits in must-fail/ and batches/. An
+edit fits if each of its old texts occurs once in its file, and if it turns some function, constant
+or definition. A function's wrong body may also be one of a function that it calls. The table of
+laws in docs/MACHINE.md names only functions that exist, all of laws.rt among them.
 """
 
 import re
@@ -21,9 +21,7 @@ from building import ROOT, crates, short  # noqa: E402
 from running import text_of  # noqa: E402
 from sources import CRATES, items, uses  # noqa: E402
 
-PAGE, LAWS = ROOT / "docs/PROOF.md", ROOT / "docs/MACHINE.md"
-BEGIN = "<!-- tests/proof_table.py --write writes what follows -->\n\n"
-END = "<!-- up to here -->\n"
+LAWS = ROOT / "docs/MACHINE.md"
 
 # over any type there is no other value that it could give
 HAS_NONE = "watched::Watched::into_inner"
@@ -142,18 +140,6 @@ def tables(some):
     return "".join(part for crate in some for part in crate.tables())
 
 
-def parts_of(page):
-    """What the page has before the tables, the tables, and what it has behind them."""
-    before, _, rest = page.partition(BEGIN)
-    written, _, behind = rest.partition(END)
-    return before, written, behind
-
-
-def write():
-    before, _, behind = parts_of(text_of(PAGE))
-    PAGE.write_text("".join([before, BEGIN, tables(with_public()), END, behind]))
-
-
 def check_edits(checks, crate):
     for edit in crate.edits:
         misfits = list(crate.misfits(edit))
@@ -184,15 +170,13 @@ def check_laws(checks, some):
 
 
 def check(checks, _built):
-    page, some = text_of(PAGE), with_public()
+    some = with_public()
     for crate in some:
         check_edits(checks, crate)
         check_functions(checks, crate)
     check_laws(checks, some)
-    checks.expect("the tables of docs/PROOF.md", tables(some), parts_of(page)[1])
+    checks.expect_that("make table", tables(some), "nothing to print")
 
 
 if __name__ == "__main__":
-    if sys.argv[1:] != ["--write"]:
-        sys.exit(__doc__)
-    write()
+    print(tables(with_public()), end="")

@@ -95,12 +95,20 @@ def check_answers(checks, library):
         checks.expect(f"with {changes}", "OverflowError", answer_on(chanv, job, changes))
 
 
+def check_folder(checks, library):
+    """The module can be imported from any folder, also from one that is right under the root."""
+    at = {"__name__": "chanv", "__file__": "/folder/chanv.py"}
+    script = f"exec(compile({text_of(FOLDER / 'chanv.py')!r}, 'chanv.py', 'exec'), {at!r})"
+    checks.expect("one folder deep", Ran(0), run(sys.executable, "-c", script, env=told(library)))
+
+
 def check(checks, built):
     library = next(built.library().glob("libchanv.so.*"), None)
     if library is None:
         raise CannotRun(f"no libchanv.so in {built.library()}")
     ran = run(sys.executable, "-B", "-m", "doctest", FOLDER / "chanv.py", env=told(library))
     checks.expect("the module's example", Ran(0), ran)
+    check_folder(checks, library)
     check_decks(checks, library)
     check_status(checks, library)
     check_answers(checks, library)

@@ -3,7 +3,7 @@
 Of the search loop's deck, and of the same in version 2, some words stand in place of others:
 `verify` says the line that is refused and why. Then some text stands behind the first lines of a
 deck: `why` says what was found in the line behind them, and what was expected there. The lines, the
-causes and these words follow from docs/DECK.md and docs/FAILURES.md.
+causes and these words follow from docs/DECK.md and docs/WHY.md.
 """
 
 import re

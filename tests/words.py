@@ -1,11 +1,10 @@
-"""The pages that say what words mean say what `chanv` writes of them.
+"""docs/WORDS.md says of each word what `chanv explain` writes.
 
-Each word of the table of reasons in docs/VERDICT.md, of causes in docs/DECK.md, and of what is said
-in place of an answer in docs/FAILURES.md has a section on its page, and that is what `chanv
-explain` writes of it, in any case of its letters, and without a word it lists these words. A word
-that isn't in them is refused, and the nearest is named. And `chanv why` gives the cause of each
-example deck's no in a form that the section of its reason has in docs/VERDICT.md, where each reason
-has an example.
+Its sections are the words of the table of reasons in docs/VERDICT.md, of the table of causes in
+docs/DECK.md, and of its own table of failures. Each is what `chanv explain` writes, in any case of
+the word's letters, and without a word it lists these words. A word without a section is refused,
+and the nearest is named. And `chanv why` gives the cause of each example deck's no in a form that
+the section of its reason has; each reason has an example.
 """
 
 import re
@@ -14,13 +13,13 @@ from building import ROOT, short
 from examples import FOLDERS, TEXTS, verdicts_of
 from running import Ran, run, text_of
 
-VERDICT = "VERDICT.md"
-# how a row of the page's table begins
-PAGES = {
-    VERDICT: r"\| \d+ \| `([a-z-]+)` \|",
-    "DECK.md": r"\| `[A-Z]\w*` \| `([a-z-]+)` \|",
-    "FAILURES.md": r"\| `([a-z-]+)` \| `[a-zA-Z :]+` \| \d \|",
-}
+WORDS = "WORDS.md"
+# the page of each table of words, the heading over it, and how a row begins
+TABLES = [
+    ("VERDICT.md", "The rules", r"\| \d+ \| `([a-z-]+)` \|"),
+    ("DECK.md", "How a text is refused", r"\| `([a-z-]+)` \| (?!may)"),
+    (WORDS, "Lines in place of an answer", r"\| `([a-z-]+)` \| `[a-zA-Z :]+` \| \d \|"),
+]
 
 # words that have no meaning, and what is said of the nearest
 UNKNOWN = {
@@ -51,15 +50,22 @@ VALUES = {
 VALUE = re.compile(r"\b(?:" + "|".join(VALUES) + r")\b")
 
 
+def words_under(page, heading, row):
+    """The words of the table under a heading of a page, up to the next heading."""
+    section = text_of(ROOT / "docs" / page).partition(f"\n## {heading}")[2].partition("\n## ")[0]
+    table = re.search(f"(?m)(?:^{row}.*\n)+", section)
+    return re.findall(f"(?m)^{row}", table[0] if table else "")
+
+
 def sections_of(page):
-    """What stands under each heading that is one word, without its indent."""
+    """The text under each heading that is one word, without its indent."""
     found = re.findall(r"(?m)^### `([a-z-]+)`\n\n((?:    .*\n)+)", page)
     return {word: re.sub(r"(?m)^    ", "", text) for word, text in found}
 
 
 def causes_of(page):
     """The forms of each reason's cause, as patterns."""
-    for word, said in re.findall(r"(?ms)^### `([a-z-]+)`$(.*?)(?=^### |\Z)", page):
+    for word, said in re.findall(r"(?ms)^### `([a-z-]+)`$(.*?)(?=^##+ |\Z)", page):
         forms = re.findall(r"`(because [^`]+)`", " ".join(said.split()))
         plain = [re.sub(r"[()]", r"\\\g<0>", form) for form in forms]
         yield word, [VALUE.sub(lambda found: VALUES[found[0]], form) for form in plain]
@@ -90,19 +96,20 @@ def check_list(checks, program, words):
 
 
 def check(checks, built):
-    program, listed = built.chanv(), []
-    for name, row in PAGES.items():
-        page = text_of(ROOT / "docs" / name)
-        words, said = re.findall(f"(?m)^{row}", page), sections_of(page)
-        is_same = words == list(said) and words
-        checks.expect_that(f"the table and the sections of {name}", is_same, (words, list(said)))
-        for word in words:
-            meaning = Ran(0, said.get(word, ""))
-            checks.expect(word, meaning, run(program, "explain", word))
-            checks.expect(word.upper(), meaning, run(program, "explain", word.upper()))
+    program, page = built.chanv(), text_of(ROOT / "docs" / WORDS)
+    said, listed = sections_of(page), []
+    for table in TABLES:
+        words = words_under(*table)
+        checks.expect_that(f"the table of {table[0]} has words", words, words)
         listed += words
+    checks.expect("the words of the tables, and the sections", listed, list(said))
+    for word in listed:
+        meaning = Ran(0, said.get(word, ""))
+        checks.expect(word, meaning, run(program, "explain", word))
+        checks.expect(word.upper(), meaning, run(program, "explain", word.upper()))
     check_list(checks, program, listed)
     for word, nearest in UNKNOWN.items():
         refused = Ran(4, "", f"chanv: no such word{nearest}\n")
         checks.expect(f"'{word[:20]}'", refused, run(program, "explain", word))
-    check_causes(checks, program, dict(causes_of(text_of(ROOT / "docs" / VERDICT))))
+    causes = {word: forms for word, forms in causes_of(page) if word in words_under(*TABLES[0])}
+    check_causes(checks, program, causes)
