@@ -29,3 +29,8 @@ pub mod Needed
 pub mod Holding
 pub mod Opened
 pub mod StoredOver
+pub mod Tabling
+pub mod Covering
+pub mod Passing
+pub mod Seconds
+pub mod Alike

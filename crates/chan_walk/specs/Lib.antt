@@ -31,6 +31,7 @@ pub mod Explained
 pub mod Notes
 pub mod Needs
 pub mod Rows
+pub mod Programs
 -- What only ties the code to all this.
 pub mod Onward
 pub mod Visit
@@ -46,3 +47,4 @@ pub mod Look
 pub mod Changed
 pub mod Index
 pub mod Surveyed
+pub mod Covered

@@ -1,6 +1,8 @@
 //! The open job of a program, which grants all that can be granted.
 
 ghost use Rattle.std.specs.Prelude.{◌≡◌, ◌↔◌, IfOk, OnErr};
+ghost use Rattle.ccw_core.specs.Held.{bytes_held};
+ghost use Rattle.chan_walk.specs.Job.{storage_of};
 ghost use Rattle.chan_walk.specs.Needs.{open_job};
 ghost use Rattle.chan_walk.specs.Rows.{HoldsOpenJob, IsOpenJob};
 ghost use Rattle.chan_walk.specs.Verdict.{IsVerdict};
@@ -13,7 +15,7 @@ use crate::laws::open_job_is_open;
 use crate::limit::Limit;
 use ccw_core::{Area, Storage};
 use ckd_core::{Device, Extents, FileMask};
-use std::alloc::Global;
+use std::alloc::{AllocError, Global};
 
 /// The open job of a program: no mask inhibits anything, the extents are all cylinders, and all of
 /// storage is lent for fetching and for storing. If its verdict is no, so is that of each job of
@@ -30,27 +32,42 @@ pub struct OpenJob<'a> {
 }
 
 impl<'a> OpenJob<'a> {
+    /// The open job of the program that starts at an address.
+    pub(crate) fn over(
+        alloc: Global,
+        storage: Storage<'a>,
+        start: u32,
+        device: Device,
+        limit: Limit,
+    ) -> Result<OpenJob<'a>, AllocError>
+        ensures { IfOk result (λ o. (j : Job) → storage_of j ≡ bytes_held storage.entry
+            → j.start ≡ start → j.device ≡ device → j.limit ≡ limit → HoldsOpenJob j o) }
+    {
+        let extents = match Extents::new(alloc, &[(0, 202)]) {
+            Ok(extents) => extents,
+            Err(_) => return Err(AllocError),
+        };
+        Ok(OpenJob {
+            storage,
+            start,
+            device,
+            mask: FileMask::new(0xC0).unwrap(),
+            extents,
+            areas: [Area {
+                start: 0,
+                len: storage.len(),
+            }],
+            limit,
+        })
+    }
+
     /// The open job of a job's program, with the job's limit on places.
     pub fn of(alloc: Global, job: &Job<'a>) -> Result<OpenJob<'a>, WalkError>
         ensures open { IfOk result (HoldsOpenJob job.now) }
         ensures memory { OnErr result (result ≡ Err WalkError.Memory) }
     {
-        let extents = match Extents::new(alloc, &[(0, 202)]) {
-            Ok(extents) => extents,
-            Err(_) => return Err(WalkError::Memory),
-        };
-        Ok(OpenJob {
-            storage: job.storage,
-            start: job.start,
-            device: job.device,
-            mask: FileMask::new(0xC0).unwrap(),
-            extents,
-            areas: [Area {
-                start: 0,
-                len: job.storage.len(),
-            }],
-            limit: job.limit,
-        })
+        let open = OpenJob::over(alloc, job.storage, job.start, job.device, job.limit)?;
+        Ok(open)
     }
 
     /// The job, as a view.

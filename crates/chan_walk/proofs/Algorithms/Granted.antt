@@ -66,7 +66,7 @@ module _ (j k : Job) (one : AreOfOneProgram j k) (more : GrantsMore j k) (less :
       go (Some q) e = ap (λ o. option_or o (rest j)) e ∙ sym (ap (λ o. option_or o (rest k)) (sym checks ∙ e))
       go None e = ap (λ o. option_or o (rest j)) checks ∙ ap (λ r. option_or (check (storage_of k) p) r) (rest_alike p x e)
 
-  same_at : (p : Place) → AreSame j k p
+  pub same_at : (p : Place) → AreSame j k p
   same_at p =
       let back = turned j k one in
       record {

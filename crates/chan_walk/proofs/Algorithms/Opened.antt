@@ -11,7 +11,7 @@ use Rattle.chan_walk.specs.Alarm.{IsProper}
 use Rattle.chan_walk.specs.Guarded.{IsGuarded}
 use Rattle.chan_walk.specs.Needs.{AreOfOneProgram, GrantsMore, IsKept, IsNeededForStoring, open_job}
 use Rattle.chan_walk.specs.Reachable.{IsReachable}
-use Rattle.chan_walk.specs.Rows.{BesideIsApart, OpenJobIsOpen}
+use Rattle.chan_walk.specs.Rows.{BesideIsApart, IsOpenJob, OpenJobIsOpen}
 use Rattle.chan_walk.specs.Verdict.{IsVerdict, MayStoreOver}
 use Rattle.chan_walk.proofs.Theory.Faults.{yes_clear}
 use Rattle.chan_walk.proofs.Theory.Granting.{same_under_yes, turned}
@@ -23,27 +23,32 @@ use Rattle.chan_walk.proofs.Algorithms.Needed.{data_over}
 
 -- ---- the open job
 
+-- the open job grants what the one of the definition grants, and no more
+module _ (j k : Job) (o : IsOpenJob j k) where
+  strict : is_at_least 0xC0 0xC0 ≡ true
+  strict = strict_as_itself 0xC0 refl
+
+  pub open_over : AreOfOneProgram k (open_job j)
+  open_over = to_open j k o.program
+
+  pub open_more : GrantsMore k (open_job j)
+  open_more = record {
+    mask = subst (λ m. is_at_least m 0xC0 ≡ true) (sym o.mask) strict;
+    extents = λ n h. subst (λ e. has_cylinder e n ≡ true) o.extents h;
+    fetch = λ b l h. subst (λ (a : List Area). lies_in a b ≡ true) o.fetch h;
+    store = λ b l h. subst (λ (a : List Area). lies_in a b ≡ true) o.store h;
+  }
+
+  pub open_less : GrantsMore (open_job j) k
+  open_less = record {
+    mask = subst (λ m. is_at_least 0xC0 m ≡ true) (sym o.mask) strict;
+    extents = λ n h. subst (λ e. has_cylinder e n ≡ true) (sym o.extents) h;
+    fetch = λ b l h. subst (λ (a : List Area). lies_in a b ≡ true) (sym o.fetch) h;
+    store = λ b l h. subst (λ (a : List Area). lies_in a b ≡ true) (sym o.store) h;
+  }
+
 pub open_job_is_open : OpenJobIsOpen
-open_job_is_open j k o = same_by_grants k (open_job j) (to_open j k o.program) more less
-  where
-    strict : is_at_least 0xC0 0xC0 ≡ true
-    strict = strict_as_itself 0xC0 refl
-
-    more : GrantsMore k (open_job j)
-    more = record {
-      mask = subst (λ m. is_at_least m 0xC0 ≡ true) (sym o.mask) strict;
-      extents = λ n h. subst (λ e. has_cylinder e n ≡ true) o.extents h;
-      fetch = λ b l h. subst (λ (a : List Area). lies_in a b ≡ true) o.fetch h;
-      store = λ b l h. subst (λ (a : List Area). lies_in a b ≡ true) o.store h;
-    }
-
-    less : GrantsMore (open_job j) k
-    less = record {
-      mask = subst (λ m. is_at_least 0xC0 m ≡ true) (sym o.mask) strict;
-      extents = λ n h. subst (λ e. has_cylinder e n ≡ true) (sym o.extents) h;
-      fetch = λ b l h. subst (λ (a : List Area). lies_in a b ≡ true) (sym o.fetch) h;
-      store = λ b l h. subst (λ (a : List Area). lies_in a b ≡ true) (sym o.store) h;
-    }
+open_job_is_open j k o = same_by_grants k (open_job j) (open_over j k o) (open_more j k o) (open_less j k o)
 
 -- ---- side by side
 
