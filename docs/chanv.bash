@@ -1,9 +1,10 @@
 # Completes the words of chanv in bash; `make install` puts it where bash looks for it.
 _chanv() {
     local word=${COMP_WORDS[COMP_CWORD]} before=${COMP_WORDS[COMP_CWORD - 1]}
-    local commands='show verify list why graph needs deck explain help'
+    local commands='show verify list why graph needs find deck explain help'
     local of_deck='--device --mask --start --limit --extent --fetch --store --least --at
         --storage'
+    local of_find='--device --limit --at --storage'
     local reasons='misaligned outside-storage transfer-not-allowed invalid-code bad-format zero-count
         data-outside not-in-table inhibited store-not-lent fetch-not-lent short-seek seek-outside
         changes-ccw changes-argument weakens-mask'
@@ -20,11 +21,11 @@ _chanv() {
         help) words=$commands ;;
         why) words='--all --help' ;;
         explain) [[ $word == -* ]] || words="$reasons $causes $failures" ;;
-        deck)
+        find | deck)
             case $before in
             --device) words='2311 2314' ;;
             --*) return ;;
-            *) words="$of_deck --help" ;;
+            *) [[ ${COMP_WORDS[1]} == find ]] && words="$of_find --help" || words="$of_deck --help" ;;
             esac
             ;;
         esac

@@ -1,5 +1,5 @@
--- The line of a verdict.
-use Rattle.std.specs.Prelude.{ℕ, ◌^◌, nat_lt, List, [], ◌∷◌, ◌++◌, codes, if◌then◌else◌}
+-- The lines of a verdict and of a program that was found.
+use Rattle.std.specs.Prelude.{ℕ, ◌^◌, nat_lt, Option, Some, None, List, [], ◌∷◌, ◌++◌, codes, if◌then◌else◌}
 use Rattle.std.specs.Int.{w32, to_be_bytes}
 use Rattle.hex.specs.Hex.{encode_upper}
 use Rattle.chan_walk.specs.Reason.{word_of}
@@ -19,3 +19,8 @@ abbrev pub verdict_line : Verdict → List ℕ
 verdict_line Yes = codes "yes" ++ 10 ∷ []
 verdict_line (No address reason) =
     codes "no " ++ address_text address ++ codes " " ++ word_of reason ++ 10 ∷ []
+
+-- the line of a program that starts at an address: the address, and the verdict, if there is one
+abbrev pub program_line : ℕ → Option Verdict → List ℕ
+program_line a None = address_text a ++ codes " too many places\n"
+program_line a (Some v) = address_text a ++ (codes " " ++ verdict_line v)

@@ -47,5 +47,5 @@ pub use crate::needs::{in_six_digits, needs_text, write_needs};
 pub use crate::notes::notes_text;
 pub use crate::parts::{Parts, PartsError, place_image, write_parts};
 pub use crate::reading::read_deck;
-pub use crate::texts::verdict_text;
+pub use crate::texts::{program_text, verdict_text};
 pub use crate::writing::write_deck;

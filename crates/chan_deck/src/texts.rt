@@ -1,4 +1,4 @@
-//! The line of a verdict.
+//! The lines of a verdict and of a program that was found.
 
 ghost use Rattle.std.specs.Prelude.{◌≡◌, IfOk, string_bytes};
 ghost use Rattle.hex.specs.Hex.{encode_upper};
@@ -106,6 +106,25 @@ pub fn verdict_text(alloc: Global, verdict: Verdict) -> Result<String, AllocErro
             let address = Address(address);
             let word = reason.word();
             format!(in alloc; "no {address} {word}\n")
+        }
+    }
+}
+
+/// The line of a program that was found: its start in six digits, and the verdict on its open job,
+/// or `too many places` if there is none. An error means that an allocation failed.
+pub fn program_text(
+    alloc: Global,
+    start: u32,
+    verdict: Option<Verdict>,
+) -> Result<String, AllocError>
+    ensures { IfOk result (λ t. string_bytes t ≡ text.program_line start verdict) }
+{
+    let start = Address(start);
+    match verdict {
+        None => format!(in alloc; "{start} too many places\n"),
+        Some(verdict) => {
+            let verdict = verdict_text(alloc, verdict)?;
+            format!(in alloc; "{start} {verdict}")
         }
     }
 }

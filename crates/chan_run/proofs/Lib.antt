@@ -9,3 +9,4 @@ pub mod MeaningLemmas
 mod WordLemmas
 mod NearestLemmas
 mod RoomLemmas
+mod FoundLemmas

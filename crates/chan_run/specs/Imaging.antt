@@ -130,12 +130,16 @@ deck_of o image =
       storage = storage_with o.at image;
     }
 
--- the job is of the program that the options find in an image, with their limit
-pub record IsProgramIn (o : ImageOptions) (image : List ℕ) (j : Job) : Type 0 where
+-- the job is of the program that begins at an address in an image, with the limit of the options
+pub record IsProgramAt (o : ImageOptions) (image : List ℕ) (a : ℕ) (j : Job) : Type 0 where
   pub storage : storage_of j ≡ storage_with o.at image
-  pub start : j.start ≡ o.start
+  pub start : j.start ≡ a
   pub device : j.device ≡ o.device
   pub limit : j.limit ≡ limit_of (version_with o.limit)
+
+-- and it begins where the options say
+abbrev pub IsProgramIn : ImageOptions → List ℕ → Job → Type 0
+IsProgramIn o image j = IsProgramAt o image o.start j
 
 -- this holds of that program's open job
 pub record IsOfOpenJob (o : ImageOptions) (image : List ℕ) (Holds : Job → Type 0) : Type 0 where
@@ -213,16 +217,33 @@ pub record IsReadImage (o : ImageOptions) (old_in new_in old new : Option (List 
   pub input : IsImage o room old_in new_in image
   pub answered : IsDeckAnswer o (filled o.size room image) old new answer
 
+-- why no image was read; nothing was written then
+abbrev pub IsNoImage : ImageOptions → Option (List ℕ) → Option (List ℕ) → ImageError → Type 0
+IsNoImage o old new faults.TooLong =
+    (o.size ≡ None) × (room : ℕ) × IsRoom o room × GaveTooMuch room old new
+IsNoImage o old new faults.PastStorage =
+    (size : ℕ) × (o.size ≡ Some size)
+    × ((size < o.at) ⊎ ((room : ℕ) × IsRoom o room × GaveTooMuch room old new))
+IsNoImage o old new faults.Read = (room : ℕ) × IsRoom o room × GaveOut room old new
+IsNoImage o old new faults.Memory = Unit {0}
+IsNoImage o old new _ = ⊥
+
+-- the input was read to its end, and this is its image, with the zeros that were asked for
+pub record IsWholeImage (o : ImageOptions) (old new : Option (List ℕ)) (whole : List ℕ)
+    : Type 0 where
+  pub image : List ℕ
+  pub room : ℕ
+  pub input : IsImage o room old new image
+  pub is : whole ≡ filled o.size room image
+
 -- what each answer says of the input and the output
 abbrev pub IsImageAnswer : ImageOptions → Option (List ℕ) → Option (List ℕ) → Option (List ℕ)
     → Option (List ℕ) → Result (Unit {0}) ImageError → Type 0
 IsImageAnswer o old_in new_in old new (Err faults.TooLong) =
-    (o.size ≡ None) × (room : ℕ) × IsRoom o room × GaveTooMuch room old_in new_in
+    IsNoImage o old_in new_in faults.TooLong
 IsImageAnswer o old_in new_in old new (Err faults.PastStorage) =
-    (size : ℕ) × (o.size ≡ Some size)
-    × ((size < o.at) ⊎ ((room : ℕ) × IsRoom o room × GaveTooMuch room old_in new_in))
-IsImageAnswer o old_in new_in old new (Err faults.Read) =
-    (room : ℕ) × IsRoom o room × GaveOut room old_in new_in
+    IsNoImage o old_in new_in faults.PastStorage
+IsImageAnswer o old_in new_in old new (Err faults.Read) = IsNoImage o old_in new_in faults.Read
 IsImageAnswer o old_in new_in old new (Err faults.Memory) = Unit {0}
 IsImageAnswer o old_in new_in old new answer = IsReadImage o old_in new_in old new answer
 

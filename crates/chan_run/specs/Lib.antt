@@ -9,6 +9,7 @@ pub mod Nearest
 pub mod Report
 pub mod Options
 pub mod Imaging
+pub mod Finding
 pub mod OptionCause
 pub mod OptionFault
 pub mod Advice

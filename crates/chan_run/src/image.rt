@@ -7,7 +7,8 @@ ghost use Rattle.std.specs.Io.KnownBytes.{Appends};
 ghost use Rattle.ccw_core.specs.Written.{AppendsPrefix};
 ghost use Rattle.chan_deck.specs.Image.{IsDeck, spelling};
 ghost use Rattle.chan_deck.specs.Parts.{HasAddresses, image_of};
-ghost use Rattle.chan_run.specs.Imaging.{IsDeckAnswer, IsEarly, IsImageAnswer, IsRoom, filled};
+ghost use Rattle.chan_run.specs.Imaging.{IsDeckAnswer, IsEarly, IsImageAnswer, IsNoImage, IsRoom};
+ghost use Rattle.chan_run.specs.Imaging.{IsWholeImage, filled};
 
 use crate::image_options::ImageOptions;
 use crate::input::{InputError, read_input};
@@ -85,6 +86,31 @@ pub fn write_image<R: Read, W: Write>(
     ensures read { IsErrOf result ImageError.Read ↔ (from.new.failed ≡ true) }
     ensures write { IsErrOf result ImageError.Write ↔ (to.new.failed ≡ true) }
 {
+    let image = match read_image(alloc, options, from) {
+        Ok(image) => image,
+        Err(error) => return Err(error),
+    };
+    write_image_of(alloc, options, image.as_slice(), to)
+}
+
+/// Reads an image of storage to the end of the input; zeros follow it if a size was asked for.
+///
+/// `PastStorage` comes if the image's address is past that size, or more bytes come than there is
+/// room for; `TooLong` if more come and no size was asked for. `Read` comes exactly if the reader
+/// failed.
+pub(crate) fn read_image<R: Read>(
+    alloc: Global,
+    options: &ImageOptions,
+    from: &mut Watched<R>,
+) -> Result<Vec<u8>, ImageError>
+    requires reader { from.old.failed ≡ false }
+    ensures ok { IfOk result (λ whole. IsWholeImage options.now
+        (R.remaining from.old.device) (R.remaining from.new.device) whole.items) }
+    ensures short { IfOk result (λ whole. options.now.at + length whole.items ≤ 2 ^ 24) }
+    ensures err { IfErr result (IsNoImage options.now
+        (R.remaining from.old.device) (R.remaining from.new.device)) }
+    ensures read { IsErrOf result ImageError.Read ↔ (from.new.failed ≡ true) }
+{
     let Some(room) = room_for(options) else {
         return Err(ImageError::PastStorage);
     };
@@ -94,8 +120,7 @@ pub fn write_image<R: Read, W: Write>(
         Err(InputError::TooLong) => return Err(too_long(options)),
         Err(InputError::Memory) => return Err(ImageError::Memory),
     };
-    let whole = filled(options, image, room)?;
-    write_image_of(alloc, options, whole.as_slice(), to)
+    Ok(filled(options, image, room)?)
 }
 
 /// How many bytes there is room for from the image's address on, if it doesn't lie past storage.

@@ -9,8 +9,8 @@ ghost use Rattle.ccw_core.specs.Held.{bytes_held};
 ghost use Rattle.chan_walk.specs.Needs.{AreOfOneProgram};
 ghost use Rattle.chan_walk.specs.Rows.{AreNeeds, listed};
 ghost use Rattle.chan_walk.specs.declared.job.Job.{Job};
-ghost use Rattle.chan_run.specs.Imaging.{HasNoNeeds, IsDeckAnswer, IsEarly, IsProgramIn};
-ghost use Rattle.chan_run.specs.Imaging.{extents_for};
+ghost use Rattle.chan_run.specs.Imaging.{HasNoNeeds, IsDeckAnswer, IsEarly, IsProgramAt};
+ghost use Rattle.chan_run.specs.Imaging.{IsProgramIn, extents_for};
 ghost use Rattle.chan_run.specs.declared.image_options.ImageOptions.{ImageOptions};
 
 use crate::image::{ImageError, write_right};
@@ -66,18 +66,18 @@ fn needs_in(alloc: Global, options: &ImageOptions, image: &[u8]) -> Result<Needs
     let bytes = place_image(alloc, options.at as usize, image)?;
     // it isn't too large, since the image ends in storage
     let storage = Storage::new(&bytes).unwrap();
-    let job = job_of(options, storage);
+    let job = job_at(options, storage, options.start);
     needs_of(alloc, &job)
 }
 
-/// The job of the program in storage, as the options have it.
-fn job_of<'a>(options: &'a ImageOptions, storage: Storage<'a>) -> Job<'a>
+/// The job of the program that begins at an address in storage, as the options have it.
+pub(crate) fn job_at<'a>(options: &'a ImageOptions, storage: Storage<'a>, start: u32) -> Job<'a>
     ensures { (image : List ℕ) → bytes_held storage.entry ≡ storage_with options.entry.now.at image
-        → IsProgramIn options.entry.now image result }
+        → IsProgramAt options.entry.now image start result }
 {
     Job {
         storage,
-        start: options.start,
+        start,
         device: options.device,
         mask: options.mask,
         extents: &options.extents,

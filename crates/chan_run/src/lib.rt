@@ -18,6 +18,7 @@
 mod advising;
 mod answering;
 mod failure;
+mod finding;
 mod image;
 mod image_options;
 mod input;
@@ -37,6 +38,7 @@ mod word;
 
 pub use crate::answering::{answer, answer_image, note_usual_device};
 pub use crate::failure::Failure;
+pub use crate::finding::find_programs;
 pub use crate::image::{ImageError, write_image};
 pub use crate::image_options::{
     GrantFault, ImageOption, ImageOptions, ImageWords, OptionError, OptionFault,

@@ -274,11 +274,12 @@ named_is_known name words no_help = found_by
     (also (λ _ _. inr (inl (actions.Why false, refl)))
     (also (λ _ _. inr (inl (actions.Graph, refl)))
     (also (λ _ _. inr (inl (actions.Needs, refl)))
+    (also (λ _ _. inr (inr (inr (inr (inr refl)))))
     (also (λ _ _. inr (inr (inr (inl refl))))
-    (also (λ _ _. inr (inr (inr (inr refl))))
-    (also (λ is _. absurd (help is)) tt)))))))))
+    (also (λ _ _. inr (inr (inr (inr (inl refl)))))
+    (also (λ is _. absurd (help is)) tt))))))))))
   where
-    help : answers_to name (label_of (sub_at 8)) ≡ true → ⊥
+    help : answers_to name (label_of (sub_at 9)) ≡ true → ⊥
     help is = cons≢nil (subst (λ n. other_fault app.top (Some n) n nothing_held ≡ [])
         (sym ((bytes_eq-Decides (codes "help") name).0 (or_false _ is))) no_help)
 

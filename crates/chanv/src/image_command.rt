@@ -1,4 +1,4 @@
-//! The command that makes a deck of an image of storage: what its words ask for.
+//! The commands over an image of storage, `find` and `deck`: what their words ask for.
 
 ghost use Rattle.std.specs.Prelude.{◌≡◌, codes, IfOk, option_map};
 ghost use Rattle.clap.specs.Words.{found_of, rows_of};
@@ -89,7 +89,7 @@ fn image_words<'a>(alloc: Global, matches: &ArgMatches<'a>) -> Result<ImageWords
     Ok(ImageWords {
         device: text_or(matches, "device", "2314"),
         mask: text_or(matches, "mask", "00"),
-        start: text_or(matches, "start", ""),
+        start: text_or(matches, "start", "0"),
         limit: text_met(matches, "limit"),
         extents,
         fetch: texts_met(alloc, matches, "fetch")?,
@@ -100,7 +100,8 @@ fn image_words<'a>(alloc: Global, matches: &ArgMatches<'a>) -> Result<ImageWords
     })
 }
 
-/// What the words that clap met ask to make a deck of.
+/// What the words that clap met ask to make a deck of, or to find programs in: `find` has no other
+/// options than the device, the limit, the address and the size.
 pub(crate) fn image_request<'a>(
     alloc: Global,
     matches: &ArgMatches<'a>,

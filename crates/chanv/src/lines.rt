@@ -52,6 +52,7 @@ const USAGE: &str = "chanv verify [FILE]...
        chanv why [--all] [FILE]...
        chanv graph [FILE]
        chanv needs [FILE]
+       chanv find [OPTIONS] [FILE]
        chanv deck --start <ADDRESS> --least [OPTIONS] [FILE]
        chanv deck --start <ADDRESS> --extent <FIRST-LAST> [OPTIONS] [FILE]
        chanv explain [WORD]
@@ -89,6 +90,17 @@ status is 1. Otherwise the exit status is that of `chanv verify`; see its help.
 Mask, extents and areas of the deck don't matter. Its limit counts the places that are reachable
 under the job that grants everything: there may be too many if `chanv verify` says no, and never
 if it says yes.";
+
+/// The end of the help of `find`.
+const OF_FIND: &str = "The output has a line for each program, in order of its start:
+  SSSSSS yes                some job will do: chanv deck --start SSSSSS --least makes a deck
+  SSSSSS no ADDRESS REASON  no job will do
+  SSSSSS too many places    more places are reachable than --limit
+
+A program starts where two clear CCWs follow each other and no other such CCW leads there.
+docs/FIND.md says what that means, and what is missed.
+
+The exit status is 0, also if there is no program, or that of `chanv deck`; see its help.";
 
 /// The end of the help of `deck`.
 const OF_DECK: &str =
@@ -229,6 +241,45 @@ const IMAGE: &[Word] = &[
     },
 ];
 
+/// The options of a search for programs in an image, and the image.
+const SEARCHED: &[Word] = &[
+    Word {
+        name: "device",
+        kind: Kind::Valued("NUMBER"),
+        is_required: false,
+        is_repeated: false,
+        help: "2311 or 2314; 2314 if left out",
+    },
+    Word {
+        name: "limit",
+        kind: Kind::Valued("PLACES"),
+        is_required: false,
+        is_repeated: false,
+        help: "how many places of a program may be reachable; 4096 if left out",
+    },
+    Word {
+        name: "at",
+        kind: Kind::Valued("ADDRESS"),
+        is_required: false,
+        is_repeated: false,
+        help: "the address of the image; 0 if left out",
+    },
+    Word {
+        name: "storage",
+        kind: Kind::Valued("SIZE"),
+        is_required: false,
+        is_repeated: false,
+        help: "how many bytes storage has; as many as the image takes if left out",
+    },
+    Word {
+        name: "FILE",
+        kind: Kind::Plain,
+        is_required: false,
+        is_repeated: false,
+        help: "the bytes of storage; - is standard input, and so is no FILE at all",
+    },
+];
+
 /// The commands, in the order of help.
 const LINES: &[Line] = &[
     Line {
@@ -272,6 +323,12 @@ const LINES: &[Line] = &[
         about: "lists what a job must grant a deck's program, and the bytes that must not change",
         after_help: Some(OF_NEEDS),
         words: DECK,
+    },
+    Line {
+        name: "find",
+        about: "finds every program in an image of storage, and judges each",
+        after_help: Some(OF_FIND),
+        words: SEARCHED,
     },
     Line {
         name: "deck",

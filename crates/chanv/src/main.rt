@@ -22,8 +22,8 @@ use crate::image_command::ImageRequest;
 use ccw_core::{Watched, write_out};
 use chan_run::{
     Action, ImageOptions, OptionError, Outcome, RunError, answer, answer_image, conclude, ends_run,
-    exit_status, explain_word, greater_status, list_words, note_usual_device, options_of, report,
-    report_grants, report_named, report_option, show, shown_word, word_of,
+    exit_status, explain_word, find_programs, greater_status, list_words, note_usual_device,
+    options_of, report, report_grants, report_named, report_option, show, shown_word, word_of,
 };
 use std::alloc::AllocError;
 use std::env::{Env, FillError};
@@ -97,7 +97,8 @@ fn answered(rt: &HostRuntime, words: &[String]) -> u8 {
         Request::Show(text) => shown(rt, text),
         Request::Run(action) => { exit_status(ran(rt, action, None, Input::Standard(rt.stdin()))) }
         Request::RunNamed(action, names) => ran_over(rt, action, names.as_slice()),
-        Request::Image(request) => imaged(rt, &request),
+        Request::Image(request) => imaged(rt, &request, false),
+        Request::Find(request) => imaged(rt, &request, true),
         Request::Grants(fault) => report_grants(fault, &mut Watched::new(rt.stderr())),
         Request::Explain(word) => explained(rt, word),
         Request::Words => listed(rt),
@@ -217,8 +218,8 @@ fn ran(rt: &HostRuntime, action: Action, name: Option<&str>, input: Input) -> Ou
     )
 }
 
-/// Makes a deck of an image of storage, and gives the exit status.
-fn imaged(rt: &HostRuntime, request: &ImageRequest<'_>) -> u8 {
+/// Finds the programs in an image of storage, or makes a deck of it, and gives the exit status.
+fn imaged(rt: &HostRuntime, request: &ImageRequest<'_>, finds: bool) -> u8 {
     let options = match options_of(rt.alloc(), &request.words) {
         Ok(options) => options,
         Err(OptionError::Wrong(fault)) => {
@@ -230,12 +231,34 @@ fn imaged(rt: &HostRuntime, request: &ImageRequest<'_>) -> u8 {
         note_usual_device(&mut Watched::new(rt.stderr()));
     }
     match request.file {
-        None => written(rt, None, &options, Input::Standard(rt.stdin())),
+        None => imaged_from(rt, None, &options, finds, Input::Standard(rt.stdin())),
         Some(name) => match open(rt, name) {
-            Ok(file) => written(rt, Some(name), &options, Input::File(file)),
+            Ok(file) => imaged_from(rt, Some(name), &options, finds, Input::File(file)),
             Err(outcome) => reported(rt, Some(name), outcome),
         },
     }
+}
+
+/// Finds the programs in an image that may have a name, or makes a deck of it.
+fn imaged_from(
+    rt: &HostRuntime,
+    name: Option<&str>,
+    options: &ImageOptions,
+    finds: bool,
+    input: Input,
+) -> u8 {
+    if finds {
+        return found(rt, name, options, input);
+    }
+    written(rt, name, options, input)
+}
+
+/// Finds the programs in an image that may have a name, and gives the exit status.
+fn found(rt: &HostRuntime, name: Option<&str>, options: &ImageOptions, input: Input) -> u8 {
+    let mut input = Watched::new(input);
+    let mut output = Watched::new(rt.stdout());
+    let answer = find_programs(rt.alloc(), options, &mut input, &mut output);
+    ended(rt, name, Outcome::Imaged(answer), &mut output)
 }
 
 /// Makes a deck of an image that may have a name, and gives the exit status.

@@ -34,7 +34,8 @@ known_word rows (inr (inl (actions.Graph, e))) = absurd (true≢false (ap is_sho
 known_word rows (inr (inl (actions.Needs, e))) = absurd (true≢false (ap is_show e))
 known_word rows (inr (inr (inl (e, word)))) = word
 known_word rows (inr (inr (inr (inl e)))) = absurd (true≢false (ap is_show e))
-known_word rows (inr (inr (inr (inr e)))) = absurd (true≢false (ap is_show e))
+known_word rows (inr (inr (inr (inr (inl e))))) = absurd (true≢false (ap is_show e))
+known_word rows (inr (inr (inr (inr (inr e))))) = absurd (true≢false (ap is_show e))
 
 -- two maps in turn are one
 mapped_twice : {T U V : Type 0} (f : T → U) (g : U → V) (o : Option T)
@@ -88,25 +89,27 @@ runs_over action rows (Err e) all runs = tt
 -- what is known has the name of `verify` where it has none of the others
 verify_is : (name : Text) (rows : List Row) → IsKnown (Some (name, rows))
     → (name ≡ codes "show" → ⊥) → (name ≡ codes "list" → ⊥) → (name ≡ codes "why" → ⊥)
-    → (name ≡ codes "graph" → ⊥) → (name ≡ codes "needs" → ⊥) → (name ≡ codes "deck" → ⊥)
-    → (name ≡ codes "explain" → ⊥) → name ≡ codes "verify"
-verify_is name rows (inl none) show list why graph needs deck explain = cc
-verify_is name rows (inr (inl (actions.Verify, e))) show list why graph needs deck explain =
+    → (name ≡ codes "graph" → ⊥) → (name ≡ codes "needs" → ⊥) → (name ≡ codes "find" → ⊥)
+    → (name ≡ codes "deck" → ⊥) → (name ≡ codes "explain" → ⊥) → name ≡ codes "verify"
+verify_is name rows (inl none) show list why graph needs find deck explain = cc
+verify_is name rows (inr (inl (actions.Verify, e))) show list why graph needs find deck explain =
     the_value e
-verify_is name rows (inr (inl (actions.List, e))) show list why graph needs deck explain =
+verify_is name rows (inr (inl (actions.List, e))) show list why graph needs find deck explain =
     absurd (list (the_value e))
-verify_is name rows (inr (inl (actions.Why all, e))) show list why graph needs deck explain =
+verify_is name rows (inr (inl (actions.Why all, e))) show list why graph needs find deck explain =
     absurd (why (the_value e))
-verify_is name rows (inr (inl (actions.Graph, e))) show list why graph needs deck explain =
+verify_is name rows (inr (inl (actions.Graph, e))) show list why graph needs find deck explain =
     absurd (graph (the_value e))
-verify_is name rows (inr (inl (actions.Needs, e))) show list why graph needs deck explain =
+verify_is name rows (inr (inl (actions.Needs, e))) show list why graph needs find deck explain =
     absurd (needs (the_value e))
-verify_is name rows (inr (inr (inl (e, word)))) show list why graph needs deck explain =
+verify_is name rows (inr (inr (inl (e, word)))) show list why graph needs find deck explain =
     absurd (show (the_value e))
-verify_is name rows (inr (inr (inr (inl e)))) show list why graph needs deck explain =
+verify_is name rows (inr (inr (inr (inl e)))) show list why graph needs find deck explain =
     absurd (deck (the_value e))
-verify_is name rows (inr (inr (inr (inr e)))) show list why graph needs deck explain =
+verify_is name rows (inr (inr (inr (inr (inl e))))) show list why graph needs find deck explain =
     absurd (explain (the_value e))
+verify_is name rows (inr (inr (inr (inr (inr e))))) show list why graph needs find deck explain =
+    absurd (find (the_value e))
 
 pub show_request-requires : goal.show_request-requires
 show_request-requires c =
@@ -163,6 +166,14 @@ returns-in-Some-needs-default c =
     (runs_over actions.Needs rows c.request_over-in-Some-needs-default.result tt
     c.request_over-in-Some-needs-default.ensures)
 
+pub returns-in-Some-find-default : goal.returns-in-Some-find-default
+returns-in-Some-find-default c =
+    let at = c.in-Some-find-default in
+    let rows = rows_of (found_of at.inner.now) in
+    let is = met_is c.args.matches.now (codes "find") at.field-0-0.now rows at.ensures.name
+    at.is-find at.ensures.rows in
+    subst (λ m. IfOk c.search_request.result (AsksFor m)) (sym is) c.search_request.ensures
+
 pub returns-in-Some-deck-default : goal.returns-in-Some-deck-default
 returns-in-Some-deck-default c =
     let at = c.in-Some-deck-default in
@@ -193,7 +204,7 @@ returns-in-Some c =
     let same = is_pair (subcommand_rows_of c.args.matches.now) name rows
     (at.ensures.name ∙ name_same c.args.matches.now) at.ensures.rows in
     let verify = verify_is name rows (subst IsKnown same c.requires) (search rules) (search rules)
-    (search rules) (search rules) (search rules) (search rules) (search rules) in
+    (search rules) (search rules) (search rules) (search rules) (search rules) (search rules) in
     let is = met_is c.args.matches.now (codes "verify") name rows at.ensures.name verify
     at.ensures.rows in
     subst (λ m. IfOk c.request_over-in-Some.result (AsksFor m)) (sym is)

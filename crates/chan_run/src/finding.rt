@@ -1,0 +1,117 @@
+//! Finding the programs of an image of storage, a line for each.
+
+ghost use Rattle.std.specs.Prelude.{◌≡◌, ◌↔◌, ◌⊎◌, ◌+◌, ◌≤◌, ◌^◌, false, true, length, IfErr, IfOk};
+ghost use Rattle.std.specs.Prelude.{IsErrOf, List, OnOk, string_bytes, ℕ};
+ghost use Rattle.std.specs.Io.KnownBytes.{Appends};
+ghost use Rattle.ccw_core.specs.Held.{bytes_held};
+ghost use Rattle.ccw_core.specs.Written.{AppendsPrefix};
+ghost use Rattle.chan_deck.specs.Parts.{storage_with};
+ghost use Rattle.chan_run.specs.Finding.{AreStartsIn, IsFindAnswer, IsFoundAnswer, IsLineAt};
+ghost use Rattle.chan_run.specs.Finding.{IsLineOn};
+
+use crate::image::{ImageError, read_image};
+use crate::image_options::ImageOptions;
+use crate::least::job_at;
+use ccw_core::{Storage, Watched, write_out};
+use chan_deck::{place_image, program_text};
+use chan_walk::{Job, OpenJob, WalkError, program_starts, survey};
+use std::alloc::{AllocError, Global};
+use std::io::{Read, Write};
+
+/// Reads an image of storage to the end of the input, and writes a line for each program in it, in
+/// order: the start in six digits, and the verdict on the program's open job, or `too many places`.
+///
+/// Of the options it uses the device, the limit, and the address and size for the image. Each line
+/// is written with one write, as soon as its verdict is known. After a failed write a prefix of the
+/// lines was written, and after a refused allocation the lines of some first programs. The errors
+/// of the input are those of `write_image`; `NoJob` and `TooManyPlaces` never come.
+pub fn find_programs<R: Read, W: Write>(
+    alloc: Global,
+    options: &ImageOptions,
+    from: &mut Watched<R>,
+    to: &mut Watched<W>,
+) -> Result<(), ImageError>
+    requires reader { from.old.failed ≡ false }
+    requires writer { to.old.failed ≡ false }
+    ensures answer { IsFindAnswer options.now
+        (R.remaining from.old.device) (R.remaining from.new.device)
+        (W.contents to.old.device) (W.contents to.new.device) result }
+    ensures read { IsErrOf result ImageError.Read ↔ (from.new.failed ≡ true) }
+    ensures write { IsErrOf result ImageError.Write ↔ (to.new.failed ≡ true) }
+{
+    let image = match read_image(alloc, options, from) {
+        Ok(image) => image,
+        Err(error) => return Err(error),
+    };
+    write_programs(alloc, options, image.as_slice(), to)
+}
+
+/// Writes a line for each program in an image.
+fn write_programs<W: Write>(
+    alloc: Global,
+    options: &ImageOptions,
+    image: &[u8],
+    to: &mut Watched<W>,
+) -> Result<(), ImageError>
+    requires short { options.now.at + length image.now ≤ 2 ^ 24 }
+    requires writer { to.old.failed ≡ false }
+    ensures answer { IsFoundAnswer options.now image.now
+        (W.contents to.old.device) (W.contents to.new.device) result }
+    ensures write { IsErrOf result ImageError.Write ↔ (to.new.failed ≡ true) }
+{
+    let bytes = place_image(alloc, options.at as usize, image)?;
+    // it isn't too large, since the image ends in storage
+    let storage = Storage::new(&bytes).unwrap();
+    let starts = program_starts(alloc, &storage, options.device)?;
+    for start in starts.as_slice() {
+        if let Err(error) = write_program(alloc, options, storage, *start, to) {
+            return Err(error);
+        }
+    }
+    Ok(())
+}
+
+/// Writes the line of the program that begins at an address in storage.
+fn write_program<W: Write>(
+    alloc: Global,
+    options: &ImageOptions,
+    storage: Storage<'_>,
+    start: u32,
+    to: &mut Watched<W>,
+) -> Result<(), ImageError>
+    requires writer { to.old.failed ≡ false }
+    ensures ok { OnOk result ((image : List ℕ)
+        → bytes_held storage.entry ≡ storage_with options.now.at image
+        → (line : List ℕ) × IsLineAt options.now image start line
+        × Appends (W.contents to.old.device) (W.contents to.new.device) line) }
+    ensures failed { IsErrOf result ImageError.Write → (image : List ℕ)
+        → bytes_held storage.entry ≡ storage_with options.now.at image
+        → (line : List ℕ) × IsLineAt options.now image start line
+        × AppendsPrefix (W.contents to.old.device) (W.contents to.new.device) line }
+    ensures err { IfErr result (λ e. (e ≡ ImageError.Write) ⊎ (e ≡ ImageError.Memory)) }
+    ensures write { IsErrOf result ImageError.Write ↔ (to.new.failed ≡ true) }
+    ensures memory { IsErrOf result ImageError.Memory → to.new ≡ to.old }
+{
+    let job = job_at(options, storage, start);
+    let line = program_line(alloc, &job)?;
+    match write_out(line.as_bytes(), to) {
+        Ok(()) => Ok(()),
+        Err(_) => Err(ImageError::Write),
+    }
+}
+
+/// The line of a job's program.
+fn program_line(alloc: Global, job: &Job) -> Result<String, AllocError>
+    ensures { IfOk result (λ line. IsLineOn job.now (string_bytes line)) }
+{
+    let open = match OpenJob::of(alloc, job) {
+        Ok(open) => open,
+        Err(_) => return Err(AllocError),
+    };
+    let open_job = open.job();
+    match survey(alloc, &open_job) {
+        Ok(survey) => program_text(alloc, job.start, Some(survey.verdict())),
+        Err(WalkError::TooManyPlaces) => program_text(alloc, job.start, None),
+        Err(WalkError::Memory) => Err(AllocError),
+    }
+}
