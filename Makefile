@@ -1,6 +1,6 @@
 # `make try DECK=..` judges a deck with nothing proved. `make` proves and builds chanv and runs it,
 # `make test` runs every proof and every test, and `make audit` shows that the proofs mean
-# something: it proves everything again, and tries wrong bodies that the prover has to refuse.
+# something: it proves everything again, and tries mutants, which the prover has to refuse.
 # `make lib` builds the library for C. `make install PREFIX=/usr/local` copies what these two built
 # to where users expect it, and builds nothing; `make uninstall` removes it. `make table` prints
 # the contracts.
@@ -12,6 +12,9 @@ VERSION = 0.4.0
 JOBS ?= $(shell nproc)
 HALF = $(shell expr \( $(JOBS) + 1 \) / 2)
 
+# The kit with which all was proved last, as `rt version` names it.
+KIT = rattle-kit-13f logic dac8208d650f15bf
+
 # The libraries under chanv, lowest first. They are built one by one, each with all processors, so
 # that `rt run` in chanv finds them there, and leaves out its quick pass over all sources.
 LIBRARIES = ccw_core ckd_core chan_walk chan_deck chan_run
@@ -19,38 +22,42 @@ LIBRARIES = ccw_core ckd_core chan_walk chan_deck chan_run
 # The deck that `make try` explains the verdict on.
 DECK ?= examples/changes-argument.deck
 
-.PHONY: run libraries test audit proofs wrong_bodies one_call lib install uninstall try table
+.PHONY: run libraries test audit proofs mutants one_call lib install uninstall try table
+.PHONY: can_prove can_link can_test can_audit
 
 run: libraries
 	cd crates/chanv && rt run --jobs $(JOBS) < stdin
 	crates/chanv/out/chanv why examples/changes-itself.deck || test $$? -eq 1
 
-libraries:
+# What is missing is named at once, and not after a quarter of an hour.
+can_prove can_link can_test can_audit:
+	@KIT='$(KIT)' CC='$(CC)' tests/tools $(@:can_%=%)
+
+libraries: can_prove
 	for crate in $(LIBRARIES); do (cd crates/$$crate && rt lib --jobs $(JOBS)) || exit 1; done
 
 # Explains the verdict on a deck, with nothing proved: it compiles the sources as they are.
 try:
 	@exec < "$(DECK)" && cd crates/chanv && { rt try -- why || test $$? -eq 1; }
 
-# Prints each public function with the clauses of its contract and its wrong bodies.
+# Prints each public function with the clauses of its contract and its mutants.
 table:
 	@tests/proof_table.py
 
-test: libraries
+test: can_test libraries
 	tests/run --all --jobs $(JOBS)
 
-# The two stand side by side, each with half of the processors: a proof reads for a while with one,
-# and with more processes than processors each takes longer.
-audit:
-	RT_JOBS=$(HALF) $(MAKE) --jobs=2 JOBS=$(HALF) proofs wrong_bodies
-	batches/forbidden_words.py
+# Both run at once, each with half of the processors: a proof reads for a while with one, and with
+# more processes than processors each takes longer.
+audit: can_audit
+	RT_JOBS=$(HALF) $(MAKE) --jobs=2 JOBS=$(HALF) proofs mutants
 
-wrong_bodies: run lib
-	batches/try.py --built
+mutants: run lib
+	tests/mutants.py --built
 
-# The kit's gate, from nothing. It gets a copy without must-fail/: to try wrong bodies it would
-# prove each crate that has some once more, and batches/try.py begins with what was built. The lock
-# tells batches/try.py that half of the processors are taken.
+# The kit's gate, from nothing. It gets a copy without must-fail/: to try mutants it would prove each
+# crate that has some once more, and tests/mutants.py begins with what was built. The lock tells
+# tests/mutants.py that half of the processors are taken.
 proofs:
 	mkdir -p out
 	copy=$$(mktemp -d) && trap 'rm -rf "$$copy"' EXIT && \
@@ -59,11 +66,11 @@ proofs:
 
 # The program that the tests of refused memory run.
 one_call: libraries
-	cd crates/one_call && rt run --jobs $(JOBS) -- ccw-text whole
+	cd crates/one_call && rt run --jobs $(JOBS) -- guard-new whole
 
 # The library for C with the kit's runtime, as one object that shows nothing but chanv's calls, in
 # an archive and a shared library, each of which links by itself.
-lib:
+lib: can_link
 	cd crates/chanv_c && rt lib --jobs $(JOBS)
 	mkdir -p out
 	ld -r -o out/chanv.o --whole-archive crates/chanv_c/out/libchanv_c.a --no-whole-archive \
@@ -92,6 +99,9 @@ install:
 	install -D out/libchanv.so.$(VERSION) "$(TO)/lib/libchanv.so.$(VERSION)"
 	ln -sf libchanv.so.$(VERSION) "$(TO)/lib/$(SONAME)"
 	ln -sf $(SONAME) "$(TO)/lib/libchanv.so"
+	install -d "$(TO)/share/doc/chanv/docs"
+	install -m 644 README.md CHANGELOG.md "$(TO)/share/doc/chanv"
+	install -m 644 docs/*.md docs/*.svg "$(TO)/share/doc/chanv/docs"
 	install -d "$(TO)/lib/pkgconfig"
 	sed 's|@PREFIX@|$(PREFIX)|; s|@VERSION@|$(VERSION)|' docs/chanv.pc.in > \
 	  "$(TO)/lib/pkgconfig/chanv.pc"
@@ -101,3 +111,4 @@ uninstall:
 	  "$(TO)/share/bash-completion/completions/chanv" "$(TO)/lib/libchanv.a" \
 	  "$(TO)/lib/libchanv.so" "$(TO)/lib/$(SONAME)" "$(TO)/lib/libchanv.so.$(VERSION)" \
 	  "$(TO)/lib/pkgconfig/chanv.pc"
+	rm -rf "$(TO)/share/doc/chanv"

@@ -8,7 +8,6 @@ import shutil
 
 from building import short
 from examples import EXAMPLES
-from expecting import say
 from pages import check_page
 
 PAGE = EXAMPLES / "assembler/README.md"
@@ -19,4 +18,4 @@ def check(checks, built):
     if shutil.which(ASSEMBLER):
         check_page(checks, PAGE, built.chanv())
     else:
-        say(f"assembler: no {ASSEMBLER}, so not tried: {short(PAGE)}")
+        checks.skip(short(PAGE), f"no {ASSEMBLER}")

@@ -1,6 +1,6 @@
-"""chanv where its input or output is at an edge, and its usage faults.
+"""chanv with input or output at an edge: the longest deck, most places, odd words, little stack.
 
-Status, standard output and standard error are those that the README says.
+Status, standard output and standard error are those of README and docs/OUTPUT.md.
 """
 
 import tempfile
@@ -20,17 +20,6 @@ SHOWN = {
     "0C00000000000000": "0C 000000 -----0 00 0000 read-backward\n",
     "0800080000FF0007": "08 000800 -----0 FF 0007 transfer\n",
 }
-
-USAGE = """\
-chanv verify [FILE]...
-       chanv list [FILE]
-       chanv why [--all] [FILE]...
-       chanv graph [FILE]
-       chanv needs [FILE]
-       chanv deck --start <ADDRESS> --least [OPTIONS] [FILE]
-       chanv deck --start <ADDRESS> --extent <FIRST-LAST> [OPTIONS] [FILE]
-       chanv explain [WORD]
-       chanv show <CCW>"""
 
 
 def longest():
@@ -58,6 +47,9 @@ def check_lengths(checks, program, deck):
     deck.write_text(f"{text}\n")
     refused = Ran(2, "", "chanv: deck too long\n")
     checks.expect("one byte more", refused, run(program, given=deck))
+    for action in ("verify", "list"):
+        endless = run(program, action, given=Path("/dev/zero"))
+        checks.expect(f"{action}, endless input", refused, endless)
 
 
 def check_places(checks, program, deck):
@@ -108,32 +100,11 @@ def check_readers(checks, program, deck):
 
 
 def check_words(checks, program):
-    """The words of the command line: which stream gets a text, and the status."""
     for word, line in SHOWN.items():
         checks.expect(f"show {word}", Ran(0, line), run(program, "show", word))
     for word in ("0800", "", "0600 A0020000050", "06000A00200000500"):
         ran = run(program, "show", word)
         checks.expect(f"show '{word}'", Ran(4, "", "chanv: not a CCW\n"), ran)
-    lacking = "the following required arguments were not provided:\n  "
-    options = "--start <ADDRESS>"
-    twice = "the argument '--start <ADDRESS>' cannot be used multiple times"
-    extra = "unexpected argument 'extra' found"
-    for words, fault, usage in [
-        (["judge"], "unrecognized subcommand 'judge'", USAGE),
-        ([SEARCH_LOOP.name], f"unrecognized subcommand '{SEARCH_LOOP.name}'", USAGE),
-        (["--fast"], "unexpected argument '--fast' found", USAGE),
-        (["show"], f"{lacking}<CCW>", "chanv show <CCW>"),
-        (["explain", "mask", "extra"], extra, "chanv explain [WORD]"),
-        (["deck"], f"{lacking}--start <ADDRESS>", f"chanv deck {options} [FILE]"),
-        (["deck", "--start", "8", "--start", "8"], twice, f"chanv deck [OPTIONS] {options} [FILE]"),
-        (["show", CCW, "extra"], extra, "chanv show <CCW>"),
-        (["list", SEARCH_LOOP, "extra"], extra, "chanv list [FILE]"),
-    ]:
-        error = f"error: {fault}\n\nUsage: {usage}\n\nFor more information, try '--help'.\n"
-        ran = run(program, *words, given=SEARCH_LOOP)
-        checks.expect(f"usage fault: {words}", Ran(4, "", error), ran)
-    ran = run(program, "verify", "--", "--help")
-    checks.expect("a FILE like an option", Ran(3, "", "chanv: --help: cannot open\n"), ran)
 
 
 def check_hostile_words(checks, program):

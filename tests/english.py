@@ -11,7 +11,7 @@ from building import ROOT, short
 from running import text_of
 
 DOCS = [ROOT / "README.md", *sorted((ROOT / "docs").glob("*.md"))]
-OTHERS = [ROOT / name for name in ("CHANGELOG.md", "tests/README.md", "examples/README.md")]
+OTHERS = [ROOT / name for name in ("CHANGELOG.md", "examples/README.md")]
 PAGES = [*DOCS, *OTHERS]
 
 # the most of a thousand words that may be one of these
@@ -50,7 +50,8 @@ def anchors_of(page):
 
 
 def check_links(checks, page):
-    for link in re.findall(r"\]\(([^)\s]+)\)", prose_of(page)):
+    """Tables have links too, but blocks of code have none."""
+    for link in re.findall(r"\]\(([^)\s]+)\)", re.sub(NO_PROSE[0], "", text_of(page))):
         name, _, anchor = link.partition("#")
         to = page.parent / name if name else page
         is_there = to.exists() and (not anchor or anchor in anchors_of(to))
@@ -59,7 +60,7 @@ def check_links(checks, page):
 
 def sources():
     """The texts outside docs/ that may name a page."""
-    for folder in ("crates", "tests", "examples", "bench", "batches"):
+    for folder in ("crates", "tests", "examples", "bench"):
         for path in sorted((ROOT / folder).rglob("*")):
             if path.suffix in SOURCES and "out" not in path.relative_to(ROOT).parts:
                 yield path

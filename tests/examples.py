@@ -1,19 +1,21 @@
 """The decks of examples/ and of examples/cases/, which most tests go through, and of texts/."""
 
+from functools import cache
+
 from building import ROOT
 from running import text_of
 
 EXAMPLES = ROOT / "examples"
 FOLDERS = (EXAMPLES, EXAMPLES / "cases")
 
-# decks that are there for the texts beside them
+# decks that are there for the texts next to them
 TEXTS = EXAMPLES / "texts"
 
 SEARCH_LOOP = EXAMPLES / "search-loop.deck"
 CHANGES_ITSELF = EXAMPLES / "changes-itself.deck"
 CHANGES_BOTH = EXAMPLES / "changes-both.deck"
 
-# What who follows the README leaves in examples/. Git ignores it, and so do the tests.
+# A reader who follows the README leaves this in examples/. Git and the tests ignore it.
 MADE_BY_READERS = "dump.deck"
 
 
@@ -22,10 +24,22 @@ def decks_of(folder):
     return sorted(path for path in folder.glob("*.deck") if path.name != MADE_BY_READERS)
 
 
+@cache
+def rows_of(folder):
+    """The rows of the folder's verdicts.txt: deck, verdict, the endings of the files that have its
+    other answers or `-`, and in cases/ what it shows."""
+    return [line.split("\t") for line in text_of(folder / "verdicts.txt").splitlines()]
+
+
 def verdicts_of(folder):
-    """The verdict of each deck of the folder's verdicts.txt; a third column is for people."""
-    lines = text_of(folder / "verdicts.txt").splitlines()
-    return dict(line.split("\t")[:2] for line in lines)
+    """The verdict of each deck."""
+    return {row[0]: row[1] for row in rows_of(folder)}
+
+
+def listed_with(deck):
+    """The endings of the files that its folder's verdicts.txt lists with a deck."""
+    [row] = [row for row in rows_of(deck.parent) if row[0] == deck.name]
+    return [] if row[2] == "-" else row[2].split(" ")
 
 
 def status_of(verdict):

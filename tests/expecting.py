@@ -27,11 +27,16 @@ class Checks:
     def __init__(self, test):
         self.test = test
         self.passed = self.failed = 0
+        self.skipped = []
         self.could_run = True
 
     def fail(self, name, *details):
         self.failed += 1
         say("\n    ".join([f"FAILED {self.test}: {name}", *details]))
+
+    def skip(self, part, why):
+        """Names a part of the test that isn't tried here, and says why."""
+        self.skipped.append(f"skipped {self.test}: {part}: {why}")
 
     def expect_that(self, name, is_so, seen):
         if is_so:
@@ -79,6 +84,8 @@ def carry_out(name, check, *given):
     began = time.monotonic()
     try:
         check(checks, *given)
+        if not checks.passed and not checks.failed and not checks.skipped:
+            checks.fail("it checks nothing")
     except CannotRun as why:
         checks.could_run = False
         checks.fail("it can't run", *str(why).splitlines())
@@ -89,8 +96,12 @@ def carry_out(name, check, *given):
 
 
 def finish(tests):
-    """The last line over all tests; 0 if all passed, 1 if one failed, 2 if one couldn't run."""
+    """Names what was skipped, and prints the last line over all tests. The status is 0 if all
+    passed, 1 if a check failed or none was made, and 2 if a test couldn't run."""
     whole = Checks("all")
+    for test in tests:
+        for part in test.skipped:
+            say(part)
     whole.passed = sum(test.passed for test in tests)
     whole.failed = sum(test.failed for test in tests)
     say(whole)

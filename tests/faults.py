@@ -14,7 +14,14 @@ from pathlib import Path
 from typing import NamedTuple
 
 from building import HERE, ROOT, version
-from examples import EXAMPLES, SEARCH_LOOP, status_of, status_of_needs, verdicts_of
+from examples import (
+    EXAMPLES,
+    SEARCH_LOOP,
+    listed_with,
+    status_of,
+    status_of_needs,
+    verdicts_of,
+)
 from running import Ran, run_in_bash, text_of
 from words import sections_of
 
@@ -43,7 +50,8 @@ REFUSED = {
     "closed": (3, "read failed\n", ""),
 }
 
-# images of storage that `deck` refuses; `long` is longer than storage may be too
+FIND = ["find", "--device", "2314"]
+# images of storage that `find` and `deck` refuse; `long` is longer than storage may be too
 OF_IMAGE = "deck --device 2314 --start 800 --extent 10-19 --fetch 900+10 --store 900+10".split()
 REFUSED_IMAGES = {**REFUSED, "long": (2, "image too long\n", "")}
 IMAGES = ("core", "empty", "long", "folder", "nowhere", "closed")
@@ -116,7 +124,7 @@ def of_deck(action, deck, name=""):
     if action == "verify":
         return Ran(status_of(verdict), f"{front}{verdict}\n")
     notes = example.with_suffix(".notes")
-    error = text_of(notes) if action == "why" and notes.is_file() else ""
+    error = text_of(notes) if action == "why" and "notes" in listed_with(example) else ""
     text = text_of(example.with_suffix(ENDINGS[action]))
     status = status_of_needs(text) if action == "needs" else status_of(verdict)
     return Ran(status, f"{front}{text}", error)
@@ -130,6 +138,13 @@ def of_image(image, name=""):
     if image == "empty":
         return Ran(0, re.sub(r"(?s)storage .*end", "storage 0000000\nend", deck))
     return refused("deck", REFUSED_IMAGES[image], name)
+
+
+def found_in(image, name=""):
+    """What `find` writes of an image of storage; one of no bytes has no program."""
+    if image in REFUSED_IMAGES and image != "empty":
+        return refused("find", REFUSED_IMAGES[image], name)
+    return Ran(0, "000800 no 000818 changes-argument\n" if image == "core" else "")
 
 
 def over_each(words, inputs, part_of):
@@ -205,6 +220,7 @@ def runs():
     yield from over_two_decks("verify")
     yield from over_two_decks("why")
     yield from over_each(OF_IMAGE, IMAGES, of_image)
+    yield from over_each(FIND, IMAGES, found_in)
     yield from over_nothing()
 
 

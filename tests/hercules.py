@@ -15,7 +15,6 @@ from pathlib import Path
 from assembler import ASSEMBLER
 from building import FLAGS, HERE, compile_c, short
 from examples import EXAMPLES
-from expecting import say
 from running import run, text_of
 
 FOLDER = EXAMPLES / "hercules"
@@ -62,7 +61,7 @@ def check_emulator(checks, library):
     tarball, script = os.environ.get("HERCULES_TARBALL"), FOLDER / "try.sh"
     missing = None if shutil.which(ASSEMBLER) else ASSEMBLER
     if missing or not tarball:
-        say(f"hercules: no {missing or 'HERCULES_TARBALL'}, so not tried: {short(script)}")
+        checks.skip(short(script), f"no {missing or 'HERCULES_TARBALL'}")
         return
     ran = run(script, Path(tarball).absolute(), library, timeout=MOST_SECONDS)
     checks.expect(short(script), (0, ""), (ran.status, ran.error))

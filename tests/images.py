@@ -235,14 +235,15 @@ def taken_apart(text):
 
 
 def made(program, *words, **given):
-    """What `chanv deck` makes, without the note on the device, which has to be there if none is named."""
+    """What `chanv deck` makes, without the note on the device, which only an unnamed one gets."""
     ran = run(program, "deck", *words, **given)
     is_named = any(str(word).startswith("--device") for word in words)
     is_usage_fault = ran.error.startswith("error: ")
     if is_named or is_usage_fault:
         return ran
     note, error = ran.error[: len(USUAL_DEVICE)], ran.error[len(USUAL_DEVICE) :]
-    return ran._replace(error=error if note == USUAL_DEVICE else f"no note on the device: {ran.error}")
+    is_noted = note == USUAL_DEVICE
+    return ran._replace(error=error if is_noted else f"no note on the device: {ran.error}")
 
 
 def check_decks(checks, program):
@@ -376,7 +377,8 @@ def check_least(checks, program):
     said = "chanv: no job will do: no 000800 invalid-code\n"
     ran = made(program, *least, "--at", "800", given=bytes(8))
     checks.expect("zeros alone", Ran(1, "", said), ran)
-    checks.expect("no image", Ran(3, "", "chanv: none: cannot open\n"), made(program, *least, "none"))
+    missing = Ran(3, "", "chanv: none: cannot open\n")
+    checks.expect("no image", missing, made(program, *least, "none"))
 
 
 def fault(option, word, accepted):

@@ -13,7 +13,6 @@ from pathlib import Path
 
 from building import FLAGS, ROOT, compile_c, version_of
 from examples import EXAMPLES
-from expecting import say
 from running import run, text_of
 
 PROGRAM = "crates/chanv/out/chanv"
@@ -68,11 +67,13 @@ def check(checks, built):
         checks.expect("the header's version", f"chanv {there}\n", version)
         _, said = pkg_config(to, "--modversion") if shutil.which("pkg-config") else (0, None)
         if said is None:
-            say("install: no pkg-config, so no example was built with it")
+            checks.skip("the example, built with pkg-config", "no pkg-config")
         else:
             checks.expect("one version", version, f"chanv {said[0]}\n")
             check_example(checks, to, shown)
         check_names(checks, to)
+        page = to / "share/doc/chanv/docs/DECK.md"
+        checks.expect_that("the pages that help cites", page.is_file(), "not there")
         make("install", "/usr", f"DESTDIR={folder / 'stage'}")
         checks.expect_that("a stage", (folder / "stage/usr/bin/chanv").is_file(), "not there")
         made = ["shared", "static"]

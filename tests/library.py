@@ -14,8 +14,16 @@ import tempfile
 from pathlib import Path
 
 from building import HERE, ROOT, c_compiler, compile_c, compile_with, short, version_of
-from examples import EXAMPLES, FOLDERS, TEXTS, decks_of, status_of, status_of_needs, verdicts_of
-from expecting import say
+from examples import (
+    EXAMPLES,
+    FOLDERS,
+    TEXTS,
+    decks_of,
+    listed_with,
+    status_of,
+    status_of_needs,
+    verdicts_of,
+)
 from refusing import Case, Growths
 from running import Ran, run, text_of
 
@@ -49,13 +57,14 @@ def check_document(checks, folder):
 
 
 def check_lines(checks, folder, name):
-    """The program writes the lines that stand beside it. It gives those that it wrote."""
+    """The program writes the lines of its file in c/. Gives those that it wrote."""
     ran = run(folder / name)
     checks.expect(name, (0, ""), (ran.status, ran.error))
     wanted, seen = text_of(HERE / f"c/{name}.out").splitlines(), ran.output.splitlines()
     checks.expect(f"{name}, how many lines", len(wanted), len(seen))
-    for line in zip(wanted, seen):
-        checks.expect(name, *line)
+    for number, (expected, line) in enumerate(zip(wanted, seen), 1):
+        about = expected.partition(": ")[0]
+        checks.expect(f"{name}, line {number}, {about}", expected, line)
     return seen
 
 
@@ -107,7 +116,7 @@ def check_warnings(checks, library):
     ran = run(*look, "-std=c11", EXAMPLES / "c/ask.c")
     checks.expect("warnings of the example", Ran(0), ran)
     if run(*look, *IN_CPP, "/dev/null").status != 0:
-        say("library: no compiler of C++, so the header wasn't looked at in C++")
+        checks.skip("warnings of the header in C++", "no compiler of C++")
         return
     header = library / "chanv.h"
     checks.expect("warnings of the header in C++", Ran(0), run(*look, *IN_CPP, header))
@@ -150,24 +159,24 @@ def check_decks(checks, program):
             granted = "yes" if verdict == "yes" else "no"
             ran = run(program, "grants", given=deck)
             checks.expect(f"grants {short(deck)}", Ran(status, f"{granted}\n"), ran)
-            if deck.with_suffix(".needs").is_file():
+            if "needs" in listed_with(deck):
                 wanted = needs_of(text_of(deck.with_suffix(".needs")))
                 checks.expect(f"needs {short(deck)}", wanted, run(program, "needs", given=deck))
-            if deck.with_suffix(".list").is_file():
+            if "list" in listed_with(deck):
                 check_listing(checks, program, deck)
-            if deck.with_suffix(".why").is_file() or verdict == "yes":
+            if "why" in listed_with(deck) or verdict == "yes":
                 check_text(checks, program, deck, status)
 
 
 def check_texts(checks, program):
     for name, verdict in verdicts_of(TEXTS).items():
-        if (TEXTS / name).with_suffix(".why").is_file():
+        if "why" in listed_with(TEXTS / name):
             check_text(checks, program, TEXTS / name, status_of(verdict))
 
 
 def check_text(checks, program, deck, status):
     """The text is what `chanv why` prints, which of a yes is its line alone."""
-    wanted = text_of(deck.with_suffix(".why")) if deck.with_suffix(".why").is_file() else "yes\n"
+    wanted = text_of(deck.with_suffix(".why")) if "why" in listed_with(deck) else "yes\n"
     checks.expect(f"text {short(deck)}", Ran(status, wanted), run(program, "text", given=deck))
 
 

@@ -5,13 +5,12 @@ import shutil
 
 from building import ROOT, version
 from examples import EXAMPLES
-from expecting import say
 from running import Ran, run, run_in_bash, text_of
 
 PAGE, README = ROOT / "docs/chanv.1", ROOT / "README.md"
 COMPLETIONS = ROOT / "docs/chanv.bash"
 VERSION = f"chanv {version()}\n"
-COMMANDS = ["show", "verify", "list", "why", "graph", "needs", "deck", "explain"]
+COMMANDS = ["show", "verify", "list", "why", "graph", "needs", "find", "deck", "explain"]
 
 # completes the last of the words that stand behind the file's name
 COMPLETE = """
@@ -83,7 +82,7 @@ def check_statuses(checks, program):
 def check_groff(checks):
     """The page is well formed, if groff is there to say so."""
     if not shutil.which("groff"):
-        say("manual: no groff, so the page wasn't formatted")
+        checks.skip("the format of the manual page", "no groff")
         return
     ran = run("groff", "-ww", "-man", "-Tascii", PAGE)
     checks.expect("groff's warnings", (0, ""), (ran.status, ran.error))

@@ -125,7 +125,8 @@ def check_deck(checks, program, path):
     checks.expect(f"the job of {name}", 0 if is_granted else 1, verdict.status)
     least = deck_with(deck, needed)
     checks.expect(f"deck --least: {name}", Ran(0, least), made)
-    checks.expect(f"the least job: {name}", "yes\n", run(program, "verify", given=least.encode()).output)
+    judged = run(program, "verify", given=least.encode())
+    checks.expect(f"the least job: {name}", "yes\n", judged.output)
     for less, job in lesser_jobs(needed):
         judged = run(program, "verify", given=deck_with(deck, job).encode())
         checks.expect(f"{less}: {name}", 1, judged.status)

@@ -11,7 +11,6 @@ import tempfile
 from pathlib import Path
 
 from building import ROOT, short
-from expecting import say
 from running import run_in_bash, text_of
 
 PAGES = [ROOT / "README.md", *sorted((ROOT / "docs").glob("*.md")), ROOT / "examples/README.md"]
@@ -41,7 +40,7 @@ def carry_out(checks, page, chanv, room):
     standing = beside if beside.is_dir() else room
     for command, shown in shown_by(page):
         if " dot " in command and not shutil.which("dot"):
-            say(f"pages: no dot, so not tried: {command}")
+            checks.skip(f"{short(page)}: {command}", "no dot")
             continue
         told = room / "stands"
         ran = run_in_bash(CARRY_OUT, chanv.parent, standing, command, told)

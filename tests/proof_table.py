@@ -1,23 +1,23 @@
 #!/usr/bin/env python3
-"""Each wrong body fits the code, each public function has one, and docs/MACHINE.md names each law.
+"""Each mutant fits the code, each public function has one, and docs/MACHINE.md names each law.
 
     tests/run proof_table   checks that
-    make table              prints the functions with their clauses and wrong bodies
+    make table              prints the functions with their clauses and mutants
 
-The tables are made of the sources of the crates, and of the edits in must-fail/ and batches/. An
-edit fits if each of its old texts occurs once in its file, and if it turns some function, constant
-or definition. A function's wrong body may also be one of a function that it calls. The table of
-laws in docs/MACHINE.md names only functions that exist, all of laws.rt among them.
+The tables are made from the sources of the crates and from the mutants in must-fail/ and
+tests/mutants/. A mutant fits if each of its old texts occurs once in its file, and if it changes
+some function, constant or definition. A function's mutant may also be one of a function that it
+calls. The table of laws in docs/MACHINE.md names only functions that exist, among them all of
+laws.rt. No file of mutants is left out: each belongs to a crate and names what has to refuse it.
 """
 
 import re
 import sys
-from pathlib import Path
-from typing import NamedTuple
 
 sys.dont_write_bytecode = True
 
 from building import ROOT, crates, short  # noqa: E402
+from mutants import MUTANTS, paths_of, read_mutant  # noqa: E402
 from running import text_of  # noqa: E402
 from sources import CRATES, items, uses  # noqa: E402
 
@@ -27,66 +27,44 @@ LAWS = ROOT / "docs/MACHINE.md"
 HAS_NONE = "watched::Watched::into_inner"
 
 
-class Edit(NamedTuple):
-    path: Path
-    # the function that it turns, where it says that
-    function: str
-    # for each change the file, the old text and the new one
-    changes: list
-
-    def shown(self):
-        name = f"`{self.path.stem}`"
-        return f"**{name}**" if self.path.parent.name == "must-fail" else name
-
-    def definitions(self):
-        return sorted({str(file) for file, _, _ in self.changes if file.parts[0] == "specs"})
+def shown(mutant):
+    name = f"`{mutant.path.stem}`"
+    return f"**{name}**" if mutant.path.parent.name == "must-fail" else name
 
 
-def read_edit(path):
-    function, file, old, changes = "", Path(), "", []
-    for line in text_of(path).splitlines():
-        word, _, text = line.removeprefix("# ").partition(":")
-        text = text.removeprefix(" ")
-        if word == "function":
-            function = text
-        elif word == "file":
-            file = Path(text)
-        elif word == "old":
-            old = text
-        elif word == "new":
-            changes.append((file, old, text))
-    return Edit(path, function, changes)
+def definitions(mutant):
+    """The files of definitions that it changes."""
+    return sorted({file for file, _, _ in mutant.changes if file.startswith("specs/")})
 
 
 class Crate:
-    """The functions and constants of a crate, and its edits."""
+    """The functions and constants of a crate, and its mutants."""
 
     def __init__(self, name):
         self.name = name
         self.folder = CRATES / name
         self.items = list(items(name))
-        folders = (self.folder / "must-fail", ROOT / "batches" / name)
-        paths = [path for folder in folders for path in sorted(folder.glob("*.edit"))]
-        self.edits = [read_edit(path) for path in paths]
-        turned = [(edit, self.turned(edit)) for edit in self.edits]
-        self.bodies = {it: [edit for edit, some in turned if it in some] for it in self.items}
+        self.mutants = [read_mutant(path) for path in paths_of(name)]
+        changed = [(mutant, self.changed(mutant)) for mutant in self.mutants]
+        self.bodies = {it: [one for one, some in changed if it in some] for it in self.items}
 
     def text(self, file):
         path = self.folder / file
         return text_of(path) if path.is_file() else ""
 
-    def turned(self, edit):
-        """The items of which it is a wrong body; none where it changes definitions with them."""
-        if edit.definitions():
+    def changed(self, mutant):
+        """The items that it changes; none if it changes definitions with them."""
+        if definitions(mutant):
             return []
-        named = [item for item in self.items if edit.function in ("", item.path())]
-        olds = [(str(file), self.text(file), old) for file, old, _ in edit.changes]
+        function = mutant.function if mutant.is_body else ""
+        named = [item for item in self.items if function in ("", item.path())]
+        olds = [(file, self.text(file), old) for file, old, _ in mutant.changes]
         return [item for item in named if any(item.holds(*old) for old in olds)]
 
-    def misfits(self, edit):
-        """The old texts that don't stand once in their files, as the changes before leave these."""
+    def misfits(self, mutant):
+        """The old texts that aren't in their files exactly once, after the changes before."""
         texts = {}
-        for file, old, new in edit.changes:
+        for file, old, new in mutant.changes:
             text = texts[file] if file in texts else self.text(file)
             if text.count(old) != 1:
                 yield f"{file}: {old}"
@@ -106,23 +84,23 @@ class Crate:
             yield item, found
 
     def tables(self):
-        come_to, functions, others, definitions = dict(self.come_to()), [], [], []
+        come_to, functions, others, wrong = dict(self.come_to()), [], [], []
         for item in self.items:
-            edits = ", ".join(edit.shown() for edit in self.bodies[item]) or "–"
+            mutants = ", ".join(map(shown, self.bodies[item])) or "–"
             if item.is_public:
                 clauses = [f"`{clause}`" if clause else "–" for clause in item.clauses]
-                functions.append((f"`{item.path()}`", ", ".join(clauses), edits))
+                functions.append((f"`{item.path()}`", ", ".join(clauses), mutants))
             elif self.bodies[item]:
                 public = [f"`{it.short()}`" for it, found in come_to.items() if item in found]
-                others.append((f"`{item.path()}`", ", ".join(public) or "–", edits))
-        for edit in self.edits:
-            if edit.definitions():
-                files = ", ".join(f"`{file}`" for file in edit.definitions())
-                definitions.append((edit.shown(), files))
+                others.append((f"`{item.path()}`", ", ".join(public) or "–", mutants))
+        for mutant in self.mutants:
+            if definitions(mutant):
+                files = ", ".join(f"`{file}`" for file in definitions(mutant))
+                wrong.append((shown(mutant), files))
         yield f"### `{self.name}`\n\n"
-        yield table(("function", "clauses", "edits"), functions)
-        yield table(("what these come to", "from", "edits"), others)
-        yield table(("edit of a definition", "file"), definitions)
+        yield table(("function", "clauses", "mutants"), functions)
+        yield table(("reached from these", "from", "mutants"), others)
+        yield table(("mutant of a definition", "file"), wrong)
 
 
 def table(heads, rows):
@@ -140,21 +118,23 @@ def tables(some):
     return "".join(part for crate in some for part in crate.tables())
 
 
-def check_edits(checks, crate):
-    for edit in crate.edits:
-        misfits = list(crate.misfits(edit))
-        checks.expect_that(f"{short(edit.path)} fits", edit.changes and not misfits, misfits)
-        turns = crate.turned(edit) or edit.definitions()
-        seen = edit.function or [str(file) for file, _, _ in edit.changes]
-        checks.expect_that(f"{short(edit.path)} turns something", turns, seen)
+def check_mutants(checks, crate):
+    for mutant in crate.mutants:
+        name, misfits = short(mutant.path), list(crate.misfits(mutant))
+        checks.expect_that(f"{name} fits", mutant.changes and not misfits, misfits)
+        is_change = crate.changed(mutant) or definitions(mutant)
+        checks.expect_that(f"{name} changes something", is_change, mutant)
+        names = {item.path() for item in crate.items}
+        there = mutant.function in names
+        checks.expect_that(f"{name} names what has to refuse it", there, mutant.function)
 
 
 def check_functions(checks, crate):
-    """Each has a wrong body, of its own or of what it comes to."""
+    """Each has a mutant, of its own or of a function that it comes to."""
     for item, found in crate.come_to():
-        edits = [edit for one in (item, *found) for edit in crate.bodies[one]]
-        name = f"{crate.name}::{item.path()} has a wrong body"
-        checks.expect_that(name, edits or item.path() == HAS_NONE, edits)
+        mutants = [mutant for one in (item, *found) for mutant in crate.bodies[one]]
+        name = f"{crate.name}::{item.path()} has a mutant"
+        checks.expect_that(name, mutants or item.path() == HAS_NONE, mutants)
 
 
 def check_laws(checks, some):
@@ -171,8 +151,11 @@ def check_laws(checks, some):
 
 def check(checks, _built):
     some = with_public()
+    tried = [mutant.path for crate in some for mutant in crate.mutants]
+    left_out = {*MUTANTS.rglob("*.*"), *CRATES.glob("*/must-fail/*")} - {*tried}
+    checks.expect("files of mutants that no crate tries", set(), left_out)
     for crate in some:
-        check_edits(checks, crate)
+        check_mutants(checks, crate)
         check_functions(checks, crate)
     check_laws(checks, some)
     checks.expect_that("make table", tables(some), "nothing to print")

@@ -1,14 +1,14 @@
 """The library for C while a second thread rewrites the program that it looks at.
 
-The program of c/race.c makes each call for so many seconds, 60 or what RACE_SECONDS says, over a
-program whose CCWs, arguments and mask a second thread rewrites meanwhile, byte by byte too; four
-calls are tried side by side, each in a process of its own. A call has to return, to leave alone
-what it wasn't handed to write, and to answer with one of its codes: yes, no, too many places or too
-little room, since nothing is wrong with the job itself. Each of these has to come. The calls about
-rows of needs don't look at storage, and always answer yes.
-`ask` of examples/c/emulator.c, which asks about a copy of what the program keeps, has to give an
-answer that stands: a job grants what the program needs exactly where the verdict on the copy is
-yes.
+The program of c/race.c makes each call for so many seconds, 5 or what RACE_SECONDS says, over a
+program whose CCWs, arguments and mask a second thread rewrites meanwhile, also byte by byte; four
+calls run at a time, each in a process of its own. A call has to return, may write only the memory
+that it was handed for that, and has to answer with one of its codes: yes, no, too many places or
+too little room, because the job itself is right. Which of them come is left to chance, except in a
+run of a minute or more: there each has to come. The calls about rows of needs don't look at
+storage, and always answer yes.
+`ask` of examples/c/emulator.c, which asks about a copy of the kept bytes, has to give an answer
+that holds: a job grants the program's needs exactly if the verdict on the copy is yes.
 """
 
 import os
@@ -21,6 +21,9 @@ from building import HERE, compile_with
 from running import MOST_SECONDS, run
 
 AT_ONCE = 4
+SECONDS = 5
+# a run that takes as long sees each code
+LONG = 60
 
 # the codes of chanv.h that each call gives over a job without a fault, while there is memory
 CODES = {
@@ -39,11 +42,12 @@ def check_call(checks, call, seconds, ran):
     ended = ran.status == 0 and not ran.error
     checks.expect_that(f"{call} while storage changes, for {seconds} s", ended, ran)
     codes = {int(code) for code in re.findall(r", \d+ times (\d+)", ran.output)}
-    checks.expect(f"the codes of {call} while storage changes", CODES[call], codes)
+    are_right = codes == CODES[call] if seconds >= LONG else codes and codes <= CODES[call]
+    checks.expect_that(f"the codes of {call} while storage changes", are_right, codes)
 
 
 def check(checks, built):
-    library, seconds = built.library(), int(os.environ.get("RACE_SECONDS") or 60)
+    library, seconds = built.library(), int(os.environ.get("RACE_SECONDS") or SECONDS)
     with tempfile.TemporaryDirectory() as room:
         program = compile_with(library, HERE / "c/race.c", Path(room) / "race")
         most = seconds + MOST_SECONDS

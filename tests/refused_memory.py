@@ -1,9 +1,9 @@
-"""Each growth of memory refused in turn, in calls of crates and commands of the program.
+"""Each growth of memory refused in turn, in commands of the program and in other calls.
 
-Each call is made over its worked case: once with every growth granted, which has to give the case's
+Each is made over its worked case: once with every growth granted, which has to give the case's
 answer; and then with the first growth refused, the second, and so on up to the last, each alone and
 each with all that come after it, which has to give a report of a failed allocation and no other
-answer. The program one_call makes the calls of crates.
+answer. The program one_call makes the calls that chanv doesn't make.
 """
 
 import tempfile
@@ -23,25 +23,40 @@ REFUSED = "chanv: deck line 1: header\n"
 HINT = "found chanv deck 3\nexpected chanv deck 1, chanv deck 2\n"
 
 
-def calls():
-    """Each call that one_call makes, and what it answers over its worked case."""
-    deck, listing = text_of(SEARCH_LOOP), text_of(EXAMPLES / "search-loop.list")
-    return [
-        ("ccw-text", CCW_LINE),
-        ("extents-new", "1\n"),
-        ("explore", "3\n"),
-        ("guard-new", "3\n"),
-        ("verify", "yes\n"),
-        ("read-deck", "1\n"),
-        ("write-deck", deck),
-        ("verdict-text", "yes\n"),
-        ("row-text", listing.splitlines(True)[0]),
-        ("write-listing", listing),
-        ("show", f"{CCW_LINE}\n"),
-        ("run-verify", "yes\n"),
-        ("run-list", listing),
-        ("run-why", text_of(EXAMPLES / "changes-itself.why")),
-    ]
+# one_call has it too: a seek whose argument lies in three pieces
+DECK = """\
+chanv deck 1
+device 2314
+mask 00
+start 000800
+extent 010 019
+fetch 000900 000010
+store 00090A 000002
+storage 0001000
+put 000800 0700090080000002
+put 000808 0000090480000002
+put 000810 0000090840000002
+put 000818 0600090A00000002
+put 000900 00000000000A0000
+end
+"""
+LISTING = """\
+000800 fresh t . 07 000900 D----0 00 0002 control seek
+000808 out - . 00 000904 D----0 00 0002 invalid chained
+000810 out - . 00 000908 -C---0 00 0002 invalid chained
+000818 fresh - . 06 00090A -----0 00 0002 read read-data
+yes
+"""
+FOUND = "000800 no 000818 changes-argument\n"
+
+# each call of one_call, and its answer
+CALLS = {
+    "guard-new": "3\n",
+    "write-deck": DECK,
+    "row-text": LISTING.splitlines(True)[0],
+    "write-listing": LISTING,
+    "run": LISTING,
+}
 
 
 def commands():
@@ -60,17 +75,18 @@ def commands():
         (["why", "--all"], CHANGES_BOTH.read_bytes(), text_of(CHANGES_BOTH.with_suffix(".all"))),
         (["graph"], deck, text_of(EXAMPLES / "search-loop.dot")),
         (["needs"], deck, text_of(EXAMPLES / "search-loop.needs")),
+        (["find", "--device", "2314"], image, FOUND),
         (["deck", *OF_IMAGE], image, text_of(EXAMPLES / "changes-argument.deck")),
     ]
 
 
 def call_cases(one_call):
-    for call, answer in calls():
+    for call, answer in CALLS.items():
         yield Case(
             name=call,
             words=[one_call, call, "whole"],
             expected=Ran(0, answer),
-            begun=answer if call in ("write-listing", "run-list") else "",
+            begun=answer if answer == LISTING else "",
             before=[one_call, call, "setup"],
         )
 
@@ -87,7 +103,7 @@ def command_cases(chanv):
             expected=Ran(1 if answer.startswith("no ") else 0, answer),
             given=given,
             complaints=complaints,
-            begun=answer if words[0] in ("list", "graph") else "",
+            begun=answer if words[0] in ("list", "graph", "find") else "",
             # the complaint stands in place of notes
             may_answer=words[0] == "why" and answer.endswith("yes\n"),
         )

@@ -83,7 +83,7 @@ static int may_start(const struct program *program, const struct chanv_job *job)
     if (!program->is_listed)
         return 0;
     struct chanv_rows rows = rows_of(program);
-    /* Its verdict is yes: it was asked once, and the bytes that count are as they were. */
+    /* Its verdict is yes: chanv was asked once, and the kept bytes are unchanged. */
     if (!is_as_asked(program, job) || chanv_grants(job, &rows) != CHANV_YES)
         return 0;
     /* It stores over no byte that one in flight keeps, nor one of those over what it keeps. */
@@ -99,9 +99,9 @@ static int may_start(const struct program *program, const struct chanv_job *job)
 
 /* Starts the program on a device, if it may. It is in flight until it has ended or was halted.
  *
- * Three premises are the caller's: the arm stands inside the extents of the job; the job's mask is
- * in force; and nobody writes a byte that is kept between `is_as_asked` and the return, from when
- * on `may_write` tells. */
+ * The caller sees to three things: the arm is inside the extents of the job; the job's mask is in
+ * force; and nothing writes a kept byte between `is_as_asked` and the return. From then on
+ * `may_write` answers for the kept bytes. */
 static int start(const struct program *program, int device, const struct chanv_job *job)
 {
     /* Each program in flight has a device of its own. */
@@ -117,8 +117,8 @@ static void leave(int device)
     in_flight[device] = NULL;
 }
 
-/* Whether somebody else, such as the processor, may write these bytes now: no program in flight
- * keeps any of them. */
+/* Whether others, such as the processor, may write these bytes now: no program in flight keeps any
+ * of them. */
 static int may_write(uint32_t address, uint32_t length)
 {
     uint64_t end = (uint64_t)address + length;

@@ -2,9 +2,8 @@
 
 use ccw_core::DeviceFault;
 use chan_deck::{DeckError, ListError};
-use chan_run::{RunError, ShowError};
+use chan_run::RunError;
 use chan_walk::WalkError;
-use ckd_core::ExtentError;
 use std::alloc::{AllocError, AllocFailed};
 use std::io;
 
@@ -46,15 +45,6 @@ impl From<DeviceFault> for Stop {
     }
 }
 
-impl From<ExtentError> for Stop {
-    fn from(error: ExtentError) -> Stop {
-        match error {
-            ExtentError::Memory => Stop::Memory,
-            _ => Stop::Wrong,
-        }
-    }
-}
-
 impl From<DeckError> for Stop {
     fn from(error: DeckError) -> Stop {
         match error {
@@ -77,15 +67,6 @@ impl From<ListError> for Stop {
     fn from(error: ListError) -> Stop {
         match error {
             ListError::Memory => Stop::Memory,
-            _ => Stop::Wrong,
-        }
-    }
-}
-
-impl From<ShowError> for Stop {
-    fn from(error: ShowError) -> Stop {
-        match error {
-            ShowError::Memory => Stop::Memory,
             _ => Stop::Wrong,
         }
     }

@@ -2,7 +2,6 @@
 
 mod explanation;
 mod listing;
-mod needs;
 mod parts;
 mod reading;
 

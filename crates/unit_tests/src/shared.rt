@@ -9,7 +9,7 @@ pub(crate) fn expect(rt: &impl Abort, holds: bool, name: &str) {
     assert!(rt; holds, "{name}");
 }
 
-/// A writer that takes these bytes, one in each call, and fails at any other byte and behind the
+/// A writer that takes these bytes, one in each call, and fails at any other byte and after the
 /// last. It may be that it can't be flushed.
 #[derive(Clone, Copy)]
 pub(crate) struct Paper<'a> {

@@ -4,7 +4,6 @@ mod exploring;
 mod guard;
 mod judging;
 mod needs;
-mod noting;
 mod program;
 mod seek;
 mod witness;

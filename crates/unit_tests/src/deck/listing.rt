@@ -5,8 +5,6 @@ use ccw_core::{Storage, Watched};
 use chan_deck::{ListError, read_deck, row_text, write_listing};
 use chan_walk::{Entry, Explored, Job, Place, Reason, Verdict, explore};
 use std::alloc::Global;
-use std::io;
-use std::io::Write;
 
 /// The lines of a deck up to the start's address, for a 2314 with the mask 00.
 const FRONT: &str = "chanv deck 1\ndevice 2314\nmask 00\nstart ";
@@ -31,55 +29,15 @@ const SEARCH_LOOP_LISTING: &str = "000800 fresh t . 31 000900 -C---0 00 0005 wri
 yes
 ";
 
-const CHAINED_AND_FRESH: &str = "put 000800 3100090080000002
-put 000808 0000090240000003
-put 000810 0800080800000000
-put 000818 06000A0000000010
-";
-
-const CHAINED_AND_FRESH_LISTING: &str =
-    "000800 fresh t . 31 000900 D----0 00 0002 write search-id-equal
-000808 fresh t * 00 000902 -C---0 00 0003 invalid unknown
-000808 search - * 00 000902 -C---0 00 0003 invalid chained
-000810 fresh - . 08 000808 -----0 00 0000 transfer transfer-in-channel
-000818 fresh - . 06 000A00 -----0 00 0010 read read-data
-no 000808 invalid-code
-";
-
 const END_OF_STORAGE: &str = "put 000FF8 3100090040000005\n";
-
-const END_OF_STORAGE_LISTING: &str =
-    "000FF8 fresh t . 31 000900 -C---0 00 0005 write search-id-equal
-001000 fresh - * no-ccw
-001008 fresh - . no-ccw
-no 001000 outside-storage
-";
-
-const SEEK_THROUGH_TRANSFER: &str = "put 000800 0700090080000002
-put 000808 0800082000000000
-put 000820 0000090440000004
-put 000828 0300000000000001
-put 000900 00000000000A0000
-";
-
-const SEEK_THROUGH_TRANSFER_LISTING: &str = "000800 fresh t . 07 000900 D----0 00 0002 control seek
-000808 out - . 08 000820 -----0 00 0000 transfer transfer-in-channel
-000820 out t . 00 000904 -C---0 00 0004 invalid chained
-000828 fresh - . 03 000000 -----0 00 0001 control no-operation
-yes
-";
 
 /// What is asked of the job of a deck.
 #[derive(Clone, Copy)]
 enum Question<'a> {
-    /// Whether this is the listing of its places and of this verdict.
-    Listing(Verdict, &'a [u8]),
     /// Whether these are rows of its storage.
     Rows(&'a [Row]),
     /// Whether the listing is cut off wherever a write fails.
     CutOff(&'a [u8]),
-    /// Whether the listing comes in pieces.
-    Pieces(&'a [u8]),
     /// Whether this is the listing of these places, and of the verdict on `OTHER`.
     Other(&'a Explored, &'a [u8]),
 }
@@ -104,10 +62,8 @@ fn holds_of_deck(alloc: Global, text: &[u8], question: Question) -> bool {
 
 fn holds_of_job(alloc: Global, job: &Job, question: Question) -> bool {
     match question {
-        Question::Listing(verdict, listing) => is_listed(alloc, job, verdict, listing),
         Question::Rows(rows) => are_rows(alloc, job, rows),
         Question::CutOff(listing) => is_cut_off(alloc, job, listing),
-        Question::Pieces(listing) => comes_in_pieces(alloc, job, listing),
         Question::Other(places, listing) => { answers(alloc, job, places, OTHER, Ok(()), listing) }
     }
 }
@@ -124,52 +80,6 @@ fn answers(
     let mut to = Watched::new(paper_of(written));
     let found = write_listing(alloc, job, places, verdict, &mut to);
     found == answer && to.into_inner().left.is_empty()
-}
-
-/// Whether this is the listing of the job's places and of this verdict.
-fn is_listed(alloc: Global, job: &Job, verdict: Verdict, listing: &[u8]) -> bool {
-    match explore(alloc, job) {
-        Ok(places) => answers(alloc, job, &places, verdict, Ok(()), listing),
-        Err(_) => false,
-    }
-}
-
-/// The start, the puts, the verdict, and the listing.
-static LISTINGS: [(&str, &str, Verdict, &str); 4] = [
-    ("000800", SEARCH_LOOP, Verdict::Yes, SEARCH_LOOP_LISTING),
-    (
-        "000800",
-        CHAINED_AND_FRESH,
-        Verdict::No {
-            address: 0x808,
-            reason: Reason::InvalidCode,
-        },
-        CHAINED_AND_FRESH_LISTING,
-    ),
-    (
-        "000FF8",
-        END_OF_STORAGE,
-        Verdict::No {
-            address: 0x1000,
-            reason: Reason::OutsideStorage,
-        },
-        END_OF_STORAGE_LISTING,
-    ),
-    (
-        "000800",
-        SEEK_THROUGH_TRANSFER,
-        Verdict::Yes,
-        SEEK_THROUGH_TRANSFER_LISTING,
-    ),
-];
-
-#[test]
-fn listings(rt: HostRuntime) {
-    for (start, puts, verdict, listing) in &LISTINGS {
-        let question = Question::Listing(*verdict, listing.as_bytes());
-        let listed = holds(rt.alloc(), start, puts, question);
-        expect(&rt, listed, listing);
-    }
 }
 
 /// A place, whether it is marked, and its row.
@@ -325,118 +235,4 @@ fn listing_cut_off_at_each_byte(rt: HostRuntime) {
     let listing = Question::CutOff(SEARCH_LOOP_LISTING.as_bytes());
     let cut_off = holds(rt.alloc(), "000800", SEARCH_LOOP, listing);
     expect(&rt, cut_off, "cut off");
-}
-
-/// Takes these bytes, all of a call, and notes how many calls came, and how many bytes in each of
-/// the first three. It takes none where others come.
-#[derive(Clone, Copy)]
-struct Counting<'a> {
-    left: &'a [u8],
-    calls: usize,
-    pieces: [usize; 3],
-}
-
-impl<'a> Write for Counting<'a> {
-    fn write(&mut self, buf: &[u8]) -> io::Result<usize> {
-        match self.left.strip_prefix(buf) {
-            Some(left) => {
-                self.left = left;
-                if let Some(piece) = self.pieces.get_mut(self.calls) {
-                    *piece = buf.len();
-                }
-                self.calls = self.calls.saturating_add(1);
-                Ok(buf.len())
-            }
-            None => Ok(0),
-        }
-    }
-
-    fn flush(&mut self) -> io::Result<()> {
-        Ok(())
-    }
-}
-
-/// Whether the listing of the job's places comes in three pieces of some four thousand bytes.
-fn comes_in_pieces(alloc: Global, job: &Job, listing: &[u8]) -> bool {
-    match explore(alloc, job) {
-        Ok(places) => are_pieces(alloc, job, &places, listing),
-        Err(_) => false,
-    }
-}
-
-fn are_pieces(alloc: Global, job: &Job, places: &Explored, listing: &[u8]) -> bool {
-    let mut to = Watched::new(Counting {
-        left: listing,
-        calls: 0,
-        pieces: [0, 0, 0],
-    });
-    if write_listing(alloc, job, places, Verdict::Yes, &mut to).is_err() {
-        return false;
-    }
-    let Counting {
-        left,
-        calls,
-        pieces,
-    } = to.into_inner();
-    let [first, second, _] = pieces;
-    let long = first >= 4096 && first < 4200 && second >= 4096 && second < 4200;
-    left.is_empty() && calls == 3 && long
-}
-
-/// What an idle command adds to the puts of a deck, or else to its listing.
-fn add_idle(alloc: Global, text: &mut String, index: u8, last: bool, is_row: bool) -> bool {
-    let Ok(address) = hex::encode_upper(alloc, (0x800 + 8 * u32::from(index)).to_be_bytes()) else {
-        return false;
-    };
-    let Some(digits) = address.as_str().get(2..) else {
-        return false;
-    };
-    let pieces = if is_row {
-        let way = if index == 0 { "t" } else { "-" };
-        let letters = if last { "-----0" } else { "-C---0" };
-        [digits, " fresh ", way, " . 03 000000 ", letters, IDLE_END]
-    } else {
-        let flags = if last { "00" } else { "40" };
-        ["put ", digits, " 03000000", flags, "000001", "\n"]
-    };
-    add(text, &pieces)
-}
-
-const IDLE_END: &str = " 00 0001 control no-operation\n";
-
-fn add(text: &mut String, pieces: &[&str]) -> bool {
-    for piece in pieces {
-        if text.push_str(piece).is_err() {
-            return false;
-        }
-    }
-    true
-}
-
-/// So many idle commands, one behind the other: their puts, or else their rows.
-fn add_idle_commands(alloc: Global, text: &mut String, count: u8, is_row: bool) -> bool {
-    for index in 0..count {
-        if !add_idle(alloc, text, index, index == count - 1, is_row) {
-            return false;
-        }
-    }
-    true
-}
-
-/// Whether the listing of so many idle commands comes in pieces.
-fn idle_commands_come_in_pieces(alloc: Global, count: u8) -> bool {
-    let mut puts = String::new(alloc);
-    add_idle_commands(alloc, &mut puts, count, false) && are_listed(alloc, puts.as_str(), count)
-}
-
-fn are_listed(alloc: Global, puts: &str, count: u8) -> bool {
-    let mut listing = String::new(alloc);
-    add_idle_commands(alloc, &mut listing, count, true)
-        && listing.push_str("yes\n").is_ok()
-        && holds(alloc, "000800", puts, Question::Pieces(listing.as_bytes()))
-}
-
-#[test]
-fn listing_in_pieces(rt: HostRuntime) {
-    expect(&rt, idle_commands_come_in_pieces(rt.alloc(), 150), "pieces");
 }

@@ -43,7 +43,7 @@ const USUAL: Case<'static> = Case {
 };
 
 /// Whether writing the parts of a case answers so, and writes these bytes; a writer that fails does
-/// so behind the last of them.
+/// so after the last of them.
 fn writes(alloc: Global, case: &Case, answer: Result<(), PartsError>, text: &[u8]) -> bool {
     let Some(mask) = FileMask::new(0x00) else {
         return false;
@@ -84,7 +84,7 @@ fn refuses(alloc: Global, case: &Case, error: PartsError) -> bool {
     writes(alloc, case, Err(error), &[])
 }
 
-/// No bytes behind the largest address.
+/// No bytes after the largest address.
 const NO_BYTES: &str = "chanv deck 1
 device 2314
 mask 00
@@ -131,49 +131,20 @@ fn too_long(rt: HostRuntime) {
     }
 }
 
-/// Two areas, of which some number has more than six digits.
-static AREAS: [(&str, [Area; 2]); 4] = [
-    (
-        "the start of the first",
-        [
-            Area {
-                start: 0x100_0000,
-                len: 8,
-            },
-            Area { start: 0, len: 0 },
-        ],
-    ),
-    (
-        "the length of the first",
-        [
-            Area {
-                start: 8,
-                len: 0x100_0000,
-            },
-            Area { start: 0, len: 0 },
-        ],
-    ),
-    (
-        "the start of the second",
-        [
-            Area { start: 0, len: 0 },
-            Area {
-                start: u32::MAX,
-                len: 0,
-            },
-        ],
-    ),
-    (
-        "the length of the second",
-        [
-            Area { start: 0, len: 0 },
-            Area {
-                start: 0,
-                len: u32::MAX,
-            },
-        ],
-    ),
+/// Two areas by start and length, of which some number has more than six digits.
+static AREAS: [(&str, (u32, u32), (u32, u32)); 4] = [
+    ("the first start", (0x100_0000, 8), (0, 0)),
+    ("the first length", (8, 0x100_0000), (0, 0)),
+    ("the second start", (0, 0), (u32::MAX, 0)),
+    ("the second length", (0, 0), (0, u32::MAX)),
 ];
+
+fn area(row: (u32, u32)) -> Area {
+    Area {
+        start: row.0,
+        len: row.1,
+    }
+}
 
 /// Whether the areas are refused as those to be fetched, and as those to be stored into.
 fn are_refused(alloc: Global, areas: &[Area]) -> bool {
@@ -190,8 +161,9 @@ fn are_refused(alloc: Global, areas: &[Area]) -> bool {
 
 #[test]
 fn numbers_of_more_than_six_digits(rt: HostRuntime) {
-    for (name, areas) in &AREAS {
-        expect(&rt, are_refused(rt.alloc(), areas), name);
+    for (name, one, other) in &AREAS {
+        let areas = [area(*one), area(*other)];
+        expect(&rt, are_refused(rt.alloc(), &areas), name);
     }
     let past = Case {
         start: 0x100_0000,

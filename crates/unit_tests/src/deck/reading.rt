@@ -106,7 +106,7 @@ fn has_heading(job: &Job) -> bool {
         && job.store == STORE.as_slice()
 }
 
-/// Whether storage has the word of the first put, and zeros behind the last.
+/// Whether storage has the word of the first put, and zeros after the last.
 fn has_words(storage: &Storage) -> bool {
     storage.len() == 4096
         && storage.range(0x800, 8) == Some(FIRST_WORD.as_slice())

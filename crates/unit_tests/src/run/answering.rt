@@ -27,7 +27,7 @@ note: store 000A00 000700 is used by no reachable CCW
 ";
 
 /// A name, the read that fails, whether the output can be flushed, what comes of it, what stands on
-/// either writer, and whether more was to be told. A write behind that fails.
+/// either writer, and whether more was to be told. A write after that fails.
 #[derive(Clone, Copy)]
 struct Case<'a> {
     name: Option<&'a str>,

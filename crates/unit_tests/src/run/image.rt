@@ -8,7 +8,7 @@ use ccw_core::Watched;
 use chan_run::{ImageError, ImageOptions, ImageWords, options_of, write_image};
 use std::alloc::{AllocError, Global};
 
-/// A No Operation, behind two bytes of the image.
+/// A No Operation, after two bytes of the image.
 const IMAGE: &[u8] = &[0, 0, 0x03, 0, 0, 0, 0, 0, 0, 1];
 
 const DECK: &str = "chanv deck 1
@@ -50,7 +50,7 @@ fn words(alloc: Global, is_least: bool) -> Result<ImageWords<'static>, AllocErro
 }
 
 /// Whether the deck of the image comes to this where a read fails, and this is written. A write
-/// behind that fails.
+/// after that fails.
 fn is_made(alloc: Global, failing: usize, answer: Result<(), ImageError>, text: &[u8]) -> bool {
     is_made_of(alloc, false, failing, answer, text)
 }

@@ -1,8 +1,8 @@
-//! Runs over devices that fail, or seem never to end.
+//! Runs over devices that fail.
 //!
 //! What is written over decks that are judged or refused is seen from outside, in `tests/`.
 
-use crate::run::devices::{Broken, LineFeeds};
+use crate::run::devices::Broken;
 use crate::shared::{expect, paper_of};
 use ccw_core::Watched;
 use chan_deck::Cause;
@@ -63,7 +63,7 @@ const SEARCH_LOOP_PICTURE: &str = r#"digraph program {
 "#;
 
 /// What is asked for, a text, the read that fails, and what comes of it: the answer, and what was
-/// written by then. A write behind that fails.
+/// written by then. A write after that fails.
 #[derive(Clone, Copy)]
 struct Case<'a> {
     action: Action,
@@ -122,42 +122,6 @@ fn each_write_over_a_named_input_failing_in_turn(rt: HostRuntime) {
         ..USUAL
     };
     expect(&rt, is_run_over(rt.alloc(), "a.deck", &case), "whole");
-}
-
-/// Readers of line feeds: how many they give at a time and in all, and what the run answers.
-static LONG_INPUTS: &[(&str, usize, usize, RunError)] = &[
-    ("endless, byte by byte", 1, usize::MAX, RunError::TooLong),
-    (
-        "endless, many at a time",
-        65_536,
-        usize::MAX,
-        RunError::TooLong,
-    ),
-    ("one byte too many", 65_536, 67_108_865, RunError::TooLong),
-    (
-        "as many as a deck may have",
-        65_536,
-        67_108_864,
-        RunError::Read,
-    ),
-    ("a read that fails at once", 65_536, 0, RunError::Read),
-];
-
-/// Whether a run over so many line feeds answers so, and writes nothing.
-fn refuses(alloc: Global, action: Action, at_a_time: usize, left: usize, error: RunError) -> bool {
-    let mut from = Watched::new(LineFeeds { at_a_time, left });
-    let mut to = Watched::new(paper_of(&[]));
-    run(alloc, action, &mut from, &mut to) == Err(error) && !to.failed()
-}
-
-#[test]
-fn long_inputs(rt: HostRuntime) {
-    for (name, at_a_time, left, error) in LONG_INPUTS {
-        for action in [Action::Verify, Action::List] {
-            let refused = refuses(rt.alloc(), action, *at_a_time, *left, *error);
-            expect(&rt, refused, name);
-        }
-    }
 }
 
 /// Whether a run comes to this where all is read, and fails where one of the reads before does.

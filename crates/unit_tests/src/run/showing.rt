@@ -5,7 +5,7 @@ use ccw_core::Watched;
 use chan_run::{ShowError, show};
 use std::alloc::Global;
 
-/// Whether showing a text answers so, and writes this: a write behind that fails.
+/// Whether showing a text answers so, and writes this: a write after that fails.
 fn is_shown(alloc: Global, text: &str, answer: Result<(), ShowError>, line: &[u8]) -> bool {
     let mut to = Watched::new(paper_of(line));
     show(alloc, text, &mut to) == answer && to.into_inner().left.is_empty()

@@ -1,79 +1,40 @@
 //! Worked cases, with the places that follow from the rules of the channel.
 
 use crate::shared::expect;
-use crate::walk::program::{Program, Question, USUAL, holds};
-use chan_walk::{Entry, Explored, Job, Limit, Place, WalkError, explore};
+use crate::walk::program::{
+    CHAINED_AND_FRESH, Program, Question, Row, SEARCH_LOOP, USUAL, holds, place,
+};
+use chan_walk::{Entry, Explored, Job, Limit, WalkError, explore};
 use std::alloc::{AllocError, Global};
 
 /// A program that starts at `800`, its places, and the marks at some addresses.
 struct Case<'a> {
     name: &'a str,
     puts: &'a [(usize, u64)],
-    places: &'a [Place],
+    places: &'a [Row],
     marks: &'a [(u32, u8)],
 }
 
 static CASES: [Case<'static>; 4] = [
     Case {
         name: "search-loop",
-        puts: &[
-            (0x800, 0x3100_0900_4000_0005),
-            (0x808, 0x0800_0800_0000_0000),
-            (0x810, 0x0600_0A00_2000_0050),
-        ],
+        puts: SEARCH_LOOP,
         places: &[
-            Place {
-                address: 0x800,
-                entered: Entry::Fresh,
-                after_transfer: true,
-            },
-            Place {
-                address: 0x808,
-                entered: Entry::Fresh,
-                after_transfer: false,
-            },
-            Place {
-                address: 0x810,
-                entered: Entry::Fresh,
-                after_transfer: false,
-            },
+            (0x800, Entry::Fresh, true),
+            (0x808, Entry::Fresh, false),
+            (0x810, Entry::Fresh, false),
         ],
         marks: &[(0x7F8, 0x00), (0x800, 0x02), (0x808, 0x01), (0x810, 0x01)],
     },
     Case {
         name: "marks",
-        puts: &[
-            (0x800, 0x3100_0900_8000_0002),
-            (0x808, 0x0000_0902_4000_0003),
-            (0x810, 0x0800_0808_0000_0000),
-            (0x818, 0x0600_0A00_0000_0010),
-        ],
+        puts: CHAINED_AND_FRESH,
         places: &[
-            Place {
-                address: 0x800,
-                entered: Entry::Fresh,
-                after_transfer: true,
-            },
-            Place {
-                address: 0x808,
-                entered: Entry::Fresh,
-                after_transfer: true,
-            },
-            Place {
-                address: 0x808,
-                entered: Entry::ChainSearch,
-                after_transfer: false,
-            },
-            Place {
-                address: 0x810,
-                entered: Entry::Fresh,
-                after_transfer: false,
-            },
-            Place {
-                address: 0x818,
-                entered: Entry::Fresh,
-                after_transfer: false,
-            },
+            (0x800, Entry::Fresh, true),
+            (0x808, Entry::Fresh, true),
+            (0x808, Entry::ChainSearch, false),
+            (0x810, Entry::Fresh, false),
+            (0x818, Entry::Fresh, false),
         ],
         marks: &[
             (0x800, 0x02),
@@ -93,26 +54,10 @@ static CASES: [Case<'static>; 4] = [
             (0x900, 0x0000_0000_000A_0000),
         ],
         places: &[
-            Place {
-                address: 0x800,
-                entered: Entry::Fresh,
-                after_transfer: true,
-            },
-            Place {
-                address: 0x808,
-                entered: Entry::ChainOut,
-                after_transfer: false,
-            },
-            Place {
-                address: 0x820,
-                entered: Entry::ChainOut,
-                after_transfer: true,
-            },
-            Place {
-                address: 0x828,
-                entered: Entry::Fresh,
-                after_transfer: false,
-            },
+            (0x800, Entry::Fresh, true),
+            (0x808, Entry::ChainOut, false),
+            (0x820, Entry::ChainOut, true),
+            (0x828, Entry::Fresh, false),
         ],
         marks: &[(0x800, 0x02), (0x808, 0x10), (0x820, 0x20), (0x828, 0x01)],
     },
@@ -123,28 +68,16 @@ static CASES: [Case<'static>; 4] = [
             (0x808, 0x0800_0800_0000_0000),
         ],
         places: &[
-            Place {
-                address: 0x800,
-                entered: Entry::Fresh,
-                after_transfer: true,
-            },
-            Place {
-                address: 0x800,
-                entered: Entry::ChainSearch,
-                after_transfer: true,
-            },
-            Place {
-                address: 0x808,
-                entered: Entry::ChainSearch,
-                after_transfer: false,
-            },
+            (0x800, Entry::Fresh, true),
+            (0x800, Entry::ChainSearch, true),
+            (0x808, Entry::ChainSearch, false),
         ],
         marks: &[(0x800, 0x82), (0x808, 0x40)],
     },
 ];
 
 /// Whether these are the places of a job, and the marks at these addresses.
-pub(crate) fn are_places(alloc: Global, job: &Job, places: &[Place], marks: &[(u32, u8)]) -> bool {
+pub(crate) fn are_places(alloc: Global, job: &Job, places: &[Row], marks: &[(u32, u8)]) -> bool {
     match explore(alloc, job) {
         Ok(explored) => has_places(&explored, places) && has_marks(&explored, marks),
         Err(_) => false,
@@ -152,27 +85,27 @@ pub(crate) fn are_places(alloc: Global, job: &Job, places: &[Place], marks: &[(u
 }
 
 /// Whether the places are these, by `len`, by `place` and one after another.
-fn has_places(explored: &Explored, places: &[Place]) -> bool {
+fn has_places(explored: &Explored, places: &[Row]) -> bool {
     explored.len() == places.len()
         && explored.place(places.len()).is_none()
         && has_each(explored, places)
         && are_in_order(explored, places)
 }
 
-fn has_each(explored: &Explored, places: &[Place]) -> bool {
-    for (index, place) in places.iter().enumerate() {
-        if explored.place(index) != Some(*place) {
+fn has_each(explored: &Explored, places: &[Row]) -> bool {
+    for (index, row) in places.iter().enumerate() {
+        if explored.place(index) != Some(place(*row)) {
             return false;
         }
     }
     true
 }
 
-fn are_in_order(explored: &Explored, places: &[Place]) -> bool {
+fn are_in_order(explored: &Explored, places: &[Row]) -> bool {
     let mut rest = places;
-    for place in explored.places() {
+    for found in explored.places() {
         match rest {
-            [first, left @ ..] if *first == place => rest = left,
+            [first, left @ ..] if place(*first) == found => rest = left,
             _ => return false,
         }
     }

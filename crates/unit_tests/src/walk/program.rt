@@ -1,9 +1,9 @@
 //! Jobs by what differs from case to case, and what is asked of one.
 
 use super::guard::Ranges;
-use super::{exploring, guard, judging, needs, noting, seek, witness};
+use super::{exploring, guard, judging, needs, seek, witness};
 use ccw_core::{Area, Storage};
-use chan_walk::{Job, Limit, Needs, Place, Verdict, WalkError};
+use chan_walk::{Entry, Job, Limit, Place, Reason, Verdict, WalkError};
 use ckd_core::{Device, Extents, FileMask};
 use std::alloc::{AllocError, Global};
 
@@ -41,27 +41,51 @@ pub(crate) const USUAL: Program<'static> = Program {
     puts: &[],
 };
 
+/// The search loop: search for a record by its identifier, try the next one, read what was found.
+pub(crate) const SEARCH_LOOP: &[(usize, u64)] = &[
+    (0x800, 0x3100_0900_4000_0005),
+    (0x808, 0x0800_0800_0000_0000),
+    (0x810, 0x0600_0A00_2000_0050),
+];
+
+/// A search whose second CCW is entered by its data chain, and fresh by a transfer.
+pub(crate) const CHAINED_AND_FRESH: &[(usize, u64)] = &[
+    (0x800, 0x3100_0900_8000_0002),
+    (0x808, 0x0000_0902_4000_0003),
+    (0x810, 0x0800_0808_0000_0000),
+    (0x818, 0x0600_0A00_0000_0010),
+];
+
+/// A place: its address, how it is entered, and whether it counts as reached by a transfer.
+pub(crate) type Row = (u32, Entry, bool);
+
+pub(crate) fn place(row: Row) -> Place {
+    Place {
+        address: row.0,
+        entered: row.1,
+        after_transfer: row.2,
+    }
+}
+
 /// What is asked of the job of a program.
 #[derive(Clone, Copy)]
 pub(crate) enum Question<'a> {
     /// Whether these are its places, and the marks at these addresses.
-    Places(&'a [Place], &'a [(u32, u8)]),
+    Places(&'a [Row], &'a [(u32, u8)]),
     /// Whether it has so many places, or too many.
     Count(Result<usize, WalkError>),
     /// Whether this is the argument of the seek at its start.
     Argument(Option<[u8; 6]>),
     /// Whether these are the ranges of its guard, and what they meet.
     Guard(&'a Ranges<'a>),
-    /// Whether this is its verdict, once the guards were seen to agree.
+    /// Whether this is its verdict.
     Verdict(Result<Verdict, WalkError>),
-    /// Whether it has too many places for a survey.
-    IsTooLarge(bool),
-    /// Whether these are the notes on it.
-    Notes(&'a noting::Case<'a>),
-    /// Whether these are its verdict, its other offences and the path to the first of them.
-    Witness(&'a witness::Case<'a>),
-    /// Whether it grants this.
-    Grants(&'a Needs, bool),
+    /// Whether this is the own fault of a place.
+    Fault(Row, Option<Reason>),
+    /// Whether this is the path to its last row.
+    Path(&'a [Row]),
+    /// Whether its program's needs are so.
+    Needs(needs::Wanted),
 }
 
 /// Whether the job of a program has what is asked for.
@@ -126,9 +150,8 @@ fn answers(alloc: Global, job: &Job, question: Question) -> bool {
         Question::Argument(argument) => seek::is_argument(job, argument),
         Question::Guard(ranges) => guard::has_guard(alloc, job, ranges),
         Question::Verdict(verdict) => judging::is_judged(alloc, job, verdict),
-        Question::IsTooLarge(is_so) => witness::is_too_large(alloc, job, is_so),
-        Question::Notes(case) => noting::is_noted(alloc, job, case),
-        Question::Witness(case) => witness::is_explained(alloc, job, case),
-        Question::Grants(needed, is_so) => needs::grants(alloc, job, needed, is_so),
+        Question::Fault(row, fault) => judging::has_fault(job, place(row), fault),
+        Question::Path(rows) => witness::has_path(alloc, job, rows),
+        Question::Needs(wanted) => needs::has_needs(alloc, job, wanted),
     }
 }

@@ -65,32 +65,6 @@ fn deck_two(rt: HostRuntime) {
     expect(&rt, differ(alloc, SEARCH_LOOP, DECK_OF_TWO), "two versions");
 }
 
-/// Limits that a deck of version 2 may have.
-static LIMITS: [(&str, u32); 4] = [
-    ("limit 00001", 1),
-    ("limit 04097", 4097),
-    ("limit 12345", 12345),
-    ("limit 65536", 65536),
-];
-
-/// Whether the deck of version 2 may have this limit in words.
-fn has_limit(alloc: Global, words: &str, limit: u32) -> bool {
-    let Some((front, back)) = DECK_OF_TWO.split_once("limit 04096") else {
-        return false;
-    };
-    match [front, words, back].concat(alloc) {
-        Ok(text) => { reads_back(alloc, text.as_str()) && reads_as(alloc, text.as_str(), 2, limit) }
-        Err(_) => false,
-    }
-}
-
-#[test]
-fn limits(rt: HostRuntime) {
-    for (words, limit) in &LIMITS {
-        expect(&rt, has_limit(rt.alloc(), words, *limit), words);
-    }
-}
-
 /// Whether the text is read, and upgraded to the deck of another.
 fn upgrades(alloc: Global, from: &str, limit: Limit, to: &str) -> bool {
     match read_deck(alloc, from.as_bytes()) {

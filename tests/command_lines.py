@@ -1,0 +1,186 @@
+"""Command lines: what each asks for, and each usage fault.
+
+Each runs in examples/, with the search loop on standard input. A row names the command line, the
+command that it asks for, and the inputs, of which `-` is standard input. The answers are those of
+the other tests: verdicts.txt and the files next to the decks. A usage fault has its text, the usage
+lines, and an empty line and `For more information, try '--help'.` after them.
+"""
+
+import shlex
+
+from building import version
+from examples import EXAMPLES, SEARCH_LOOP, listed_with, status_of, verdicts_of
+from faults import texts_of_help
+from running import Ran, run, text_of
+
+LOOP, CHANGES, END = "search-loop.deck", "changes-itself.deck", "end-of-storage.deck"
+ENDINGS = {"list": "list", "why": "why", "why --all": "all", "graph": "dot", "needs": "needs"}
+
+# the command line after `chanv`, the command that it asks for, and the inputs
+ASKED = [
+    ("", "verify", []),
+    ("verify", "verify", []),
+    ("verify -", "verify", []),
+    (f"verify {LOOP}", "verify", [LOOP]),
+    (f"verify {CHANGES}", "verify", [CHANGES]),
+    (f"verify {LOOP} {CHANGES} {END}", "verify", [LOOP, CHANGES, END]),
+    (f"verify {CHANGES} -", "verify", [CHANGES, "-"]),
+    (f"verify - {CHANGES}", "verify", ["-", CHANGES]),
+    (f"verify {LOOP} {LOOP}", "verify", [LOOP, LOOP]),
+    (f"verify -- {LOOP}", "verify", [LOOP]),
+    ("list", "list", []),
+    ("list -", "list", []),
+    (f"list {END}", "list", [END]),
+    ("why", "why", []),
+    ("why -", "why", []),
+    (f"why {CHANGES}", "why", [CHANGES]),
+    (f"why {CHANGES} {END}", "why", [CHANGES, END]),
+    (f"why - {CHANGES}", "why", ["-", CHANGES]),
+    ("why --all", "why --all", []),
+    ("why --all -", "why --all", []),
+    ("why - --all", "why --all", []),
+    (f"why --all {END}", "why --all", [END]),
+    (f"why {END} --all", "why --all", [END]),
+    (f"why --all {END} {END}", "why --all", [END, END]),
+    ("graph", "graph", []),
+    ("graph -", "graph", []),
+    (f"graph {END}", "graph", [END]),
+    ("needs", "needs", []),
+    ("needs -", "needs", []),
+    (f"needs {END}", "needs", [END]),
+]
+
+FOUND = "000800 no 000818 changes-argument\n"
+NOTE = "note: no device was named, so it is the 2314\n"
+IS_PAST = "chanv: core.bin: image past storage\n"
+
+CCW, SHOWN = "06000A0020000050", "06 000A00 --L--0 00 0050 read\n"
+OTHERS = [
+    (f"show {CCW}", Ran(0, SHOWN)),
+    (f"show -- {CCW}", Ran(0, SHOWN)),
+    ("show -", Ran(4, "", "chanv: not a CCW\n")),
+    ("show -- -06", Ran(4, "", "chanv: not a CCW\n")),
+    ("explain no-such-word-at-all", Ran(4, "", "chanv: no such word\n")),
+    ("explain -", Ran(4, "", "chanv: no such word\n")),
+    ("find core.bin", Ran(0, FOUND, NOTE)),
+    ("find --device 2314 core.bin", Ran(0, FOUND)),
+    ("find --device=2314 --limit 2 -- core.bin", Ran(0, "000800 too many places\n")),
+    ("find --device 2314 --storage 100 core.bin", Ran(4, "", IS_PAST)),
+    ("verify ./-", Ran(3, "", "chanv: ./-: cannot open\n")),
+    ("verify -- --help", Ran(3, "", "chanv: --help: cannot open\n")),
+    ("list ''", Ran(3, "", "chanv: : cannot open\n")),
+    ("--version", Ran(0, f"chanv {version()}\n")),
+    ("-V", Ran(0, f"chanv {version()}\n")),
+    ("--version --fast", Ran(0, f"chanv {version()}\n")),
+]
+
+# command lines that ask for a help text, and its name in help.txt
+HELP = {"--help": "--help", "-h": "--help", "help": "--help", "--help x": "--help"} | {
+    f"{front}{command}{back}": f"help {command}"
+    for command in ("verify", "list", "why", "graph", "needs", "find", "deck", "explain", "show")
+    for front, back in (("", " --help"), ("", " -h"), ("help ", ""))
+}
+
+PROGRAM = """\
+chanv verify [FILE]...
+       chanv list [FILE]
+       chanv why [--all] [FILE]...
+       chanv graph [FILE]
+       chanv needs [FILE]
+       chanv find [OPTIONS] [FILE]
+       chanv deck --start <ADDRESS> --least [OPTIONS] [FILE]
+       chanv deck --start <ADDRESS> --extent <FIRST-LAST> [OPTIONS] [FILE]
+       chanv explain [WORD]
+       chanv show <CCW>"""
+VERIFY, WHY = "chanv verify [FILE]...", "chanv why [OPTIONS] [FILE]..."
+DECK = "chanv deck [OPTIONS] --start <ADDRESS> [FILE]"
+EXTRA = "unexpected argument 'b' found"
+LACKING = "the following required arguments were not provided:"
+TWICE = "the argument '{}' cannot be used multiple times"
+NO_VALUE = "a value is required for '{}' but none was supplied"
+TIP = "unexpected argument '{0}' found\n\n  tip: to pass '{0}' as a value, use '-- {0}'"
+NO_MORE = "unexpected value '{}' for '{}' found; no more were expected"
+UNKNOWN = "unrecognized subcommand '{}'"
+
+# the command line, the fault, and the usage after it, if any
+FAULTS = [
+    ("judge", UNKNOWN.format("judge"), PROGRAM),
+    (LOOP, UNKNOWN.format(LOOP), PROGRAM),
+    (f"{LOOP} verify", UNKNOWN.format(LOOP), PROGRAM),
+    ("-", UNKNOWN.format("-"), PROGRAM),
+    ("help judge", UNKNOWN.format("judge"), PROGRAM),
+    ("help verify list", UNKNOWN.format("list"), VERIFY),
+    ("--fast", "unexpected argument '--fast' found", PROGRAM),
+    ("--version=x", NO_MORE.format("x", "--version"), PROGRAM),
+    ("verify --fast", TIP.format("--fast"), VERIFY),
+    ("verify --all", TIP.format("--all"), VERIFY),
+    (f"list {LOOP} b", EXTRA, "chanv list [FILE]"),
+    ("list - b", EXTRA, "chanv list [FILE]"),
+    (f"list {LOOP} b c", EXTRA, "chanv list [FILE]"),
+    (f"graph {LOOP} b", EXTRA, "chanv graph [FILE]"),
+    (f"needs {LOOP} b", EXTRA, "chanv needs [FILE]"),
+    ("find core.bin b", EXTRA, "chanv find [OPTIONS] [FILE]"),
+    ("find --quick", TIP.format("--quick"), "chanv find [OPTIONS] [FILE]"),
+    ("find --limit", NO_VALUE.format("--limit <PLACES>"), ""),
+    ("why --all=x", NO_MORE.format("x", "--all"), "chanv why --all [FILE]..."),
+    ("why --all --all", TWICE.format("--all"), WHY),
+    ("show", f"{LACKING}\n  <CCW>", "chanv show <CCW>"),
+    (f"show {CCW} b", EXTRA, "chanv show <CCW>"),
+    ("show -06", TIP.format("-0"), "chanv show <CCW>"),
+    ("explain mask b", EXTRA, "chanv explain [WORD]"),
+    ("deck", f"{LACKING}\n  --start <ADDRESS>", "chanv deck --start <ADDRESS> [FILE]"),
+    (
+        "deck --mask 00",
+        f"{LACKING}\n  --start <ADDRESS>",
+        "chanv deck --start <ADDRESS> --mask <BYTE> [FILE]",
+    ),
+    ("deck --start 8 --extent 0-9 a b", EXTRA, DECK),
+    ("deck --start 8 --start 8", TWICE.format("--start <ADDRESS>"), DECK),
+    ("deck --start 8 --least --least", TWICE.format("--least"), DECK),
+    ("deck --start", NO_VALUE.format("--start <ADDRESS>"), ""),
+    ("deck --start 8 --extent 0-9 --at", NO_VALUE.format("--at <ADDRESS>"), ""),
+    ("deck --start 8", f"{LACKING}\n  <--extent <FIRST-LAST>|--least>", ""),
+]
+
+
+def answer(command, deck, name):
+    """What a command writes about an example deck, which is an input of that name or the only."""
+    path = EXAMPLES / deck
+    verdict, front = verdicts_of(EXAMPLES)[deck], f"{name}: " if name else ""
+    status, text = status_of(verdict), f"{verdict}\n"
+    listed = listed_with(path)
+    if command != "verify" and (ENDINGS[command] in listed or not command.startswith("why")):
+        text = text_of(path.with_suffix(f".{ENDINGS[command]}"))
+    notes = text_of(path.with_suffix(".notes")) if "notes" in listed else ""
+    status = 1 if text.startswith("no ") or command != "needs" and status else 0
+    is_named = command == "verify" or command.startswith("why")
+    return Ran(status, f"{front if is_named else ''}{text}", notes if "why" in command else "")
+
+
+def answers(command, inputs):
+    """What it writes about inputs; without one, standard input is the only one."""
+    each = [answer(command, LOOP if name == "-" else name, name) for name in inputs]
+    each = each or [answer(command, LOOP, "")]
+    texts = ("".join(ran[field] for ran in each) for field in (1, 2))
+    return Ran(max(ran.status for ran in each), *texts)
+
+
+def fault(text, usage):
+    shown = f"\nUsage: {usage}\n" if usage else ""
+    return Ran(4, "", f"error: {text}\n{shown}\nFor more information, try '--help'.\n")
+
+
+def rows():
+    """Each command line, and what comes of it."""
+    yield from ((line, answers(command, inputs)) for line, command, inputs in ASKED)
+    yield from OTHERS
+    texts = texts_of_help()
+    yield from ((line, Ran(0, texts[name])) for line, name in HELP.items())
+    yield from ((line, fault(text, usage)) for line, text, usage in FAULTS)
+
+
+def check(checks, built):
+    program = built.chanv()
+    for line, expected in rows():
+        ran = run(program, *shlex.split(line), given=SEARCH_LOOP, cwd=EXAMPLES)
+        checks.expect(f"chanv {line}", expected, ran)

@@ -1,0 +1,161 @@
+"""`chanv find` lists the programs of docs/FIND.md: a reading of that page over many small images.
+
+The page is read anew here, over the places and faults of model/, and not as the code finds the
+programs. The images are storages of random jobs, two of them in a row, example decks in noise, and
+bytes that are often CCWs. Then come large images of one shape each.
+"""
+
+import sys
+import tempfile
+from pathlib import Path
+from random import Random
+
+from building import HERE
+from examples import EXAMPLES, FOLDERS, decks_of
+from model import Answer, answers_of_each
+from running import Ran, run, text_of
+
+sys.path.insert(0, str(HERE / "model"))
+
+from channel import CHAIN_COMMAND, COMMANDS, ccw_at  # noqa: E402
+from judging import FRESH, Job, Place, own_fault, successors  # noqa: E402
+from making import SIZE, random_job  # noqa: E402
+from writing import job_of  # noqa: E402
+
+SEED, IMAGES, LIMIT = 43, 2400, 200
+MOST_STORAGE = 0x1000
+LARGEST = 16_777_216
+
+
+def start_at(address):
+    return Place(address, FRESH, True)
+
+
+def is_plain(job, place):
+    ccw = ccw_at(job.storage, place.address)
+    return own_fault(job, place) is None and (ccw.is_transfer() or ccw.spare == 0)
+
+
+def next_places(job, place):
+    """The places one step after a plain place; none after any other."""
+    return successors(place, ccw_at(job.storage, place.address)) if is_plain(job, place) else []
+
+
+def is_second(job, start, place):
+    is_elsewhere = place.address != start and is_plain(job, place)
+    return is_elsewhere and not ccw_at(job.storage, place.address).is_transfer()
+
+
+def is_likely(job, start):
+    first = next_places(job, start_at(start))
+    second = [place for before in first for place in next_places(job, before)]
+    return any(is_second(job, start, place) for place in [*first, *second])
+
+
+def led_to(job, start):
+    """The places that plain places lead to from a start."""
+    places, left = set(), [start_at(start)]
+    while left:
+        place = left.pop()
+        if place not in places:
+            places.add(place)
+            left += next_places(job, place)
+            left += [start_at(place.address)] * is_plain(job, place)
+    return places
+
+
+def programs_of(job):
+    likely = [at for at in range(0, len(job.storage), 8) if is_likely(job, at)]
+    led = {start: led_to(job, start) for start in likely}
+    for start in likely:
+        into = [other for other in likely if start_at(start) in led[other]]
+        if all(start_at(other) in led[start] and start <= other for other in into):
+            yield start
+
+
+def lines_of(image, device):
+    """What the page says of an image: a line for each program, with the verdict on it."""
+    storage = image + bytes(-len(image) % 8)
+    job = Job(storage, 0, device, 0, [], [], [], LIMIT).opened()
+    for start in programs_of(job):
+        answer = Answer(job._replace(start=start))
+        verdict = "too many places" if answer.is_too_large else answer.verdict
+        yield f"{start:06X} {verdict}"
+
+
+def noise(random, size, is_ccws):
+    """Random bytes; or words that are often CCWs, chained to the next."""
+    if not is_ccws:
+        return random.randbytes(size)
+    words = []
+    for _ in range(size // 8):
+        code, flags = random.choice(sorted(COMMANDS)), random.choice([0, CHAIN_COMMAND, 0x60])
+        word = bytes([code, 0, 0, random.randrange(256), flags, 0, 0, random.randrange(1, 9)])
+        transfer = bytes([8, 0, 0, 8 * random.randrange(size // 8), 0, 0, 0, 0])
+        words.append(random.choice([word, word, transfer, random.randbytes(8), bytes(8)]))
+    return b"".join(words)
+
+
+def image_of(random, number, storages):
+    kind = number % 4
+    if kind == 0:
+        return random_job(random).storage[: SIZE - random.randrange(9)]
+    if kind == 1:
+        return random_job(random).storage + random_job(random).storage
+    if kind == 2:
+        return noise(random, 8 * random.randrange(1, 33), random.randrange(4) > 0)
+    # the bytes of an example that are zero become noise, but for those of its CCWs
+    storage = bytearray(random.choice(storages))
+    for at in range(0, len(storage), 8):
+        if not any(storage[at : at + 8]):
+            storage[at : at + 8] = random.randbytes(8)
+    return bytes(storage)
+
+
+def check_images(checks, program, device, random, storages):
+    with tempfile.TemporaryDirectory() as room:
+        images = {}
+        for number in range(IMAGES // 2):
+            path = Path(room) / f"image-{number}"
+            images[path] = image_of(random, number, storages)
+            path.write_bytes(images[path])
+        command = f"find --device {device} --limit {LIMIT}"
+        found = 0
+        answers = answers_of_each(program, command, images)
+        for (path, image), lines in zip(images.items(), answers, strict=True):
+            wanted = [*lines_of(image, device), "status 0"]
+            checks.expect(f"{command} {path.name}", wanted, lines)
+            found += len(lines) - 1
+        checks.expect_that(f"there are programs for the {device}", found > IMAGES // 4, found)
+
+
+def check_large(checks, program):
+    """Images as large as storage: of zeros, one chain, and transfers alone."""
+    operation = bytes.fromhex("0300000040000001")
+    last = bytes.fromhex("0300000000000001")
+    transfer = bytes.fromhex("0800000800000000")
+    words = LARGEST // 8
+    for name, image, line in [
+        ("no byte", b"", ""),
+        ("zeros", bytes(LARGEST), ""),
+        ("one chain", operation * (words - 1) + last, "000000 too many places\n"),
+        ("transfers", transfer * words, ""),
+    ]:
+        ran = run(program, "find", "--device", "2314", given=image)
+        checks.expect(f"an image of {name}", Ran(0, line), ran)
+    wanted = Ran(2, "", "chanv: image too long\n")
+    ran = run(program, "find", "--device", "2314", given=bytes(LARGEST + 1))
+    checks.expect("an image that is too long", wanted, ran)
+
+
+def check(checks, built):
+    program, random = built.chanv(), Random(SEED)
+    jobs = [job_of(text_of(deck)) for folder in FOLDERS for deck in decks_of(folder)]
+    storages = [job.storage for job in jobs if len(job.storage) <= MOST_STORAGE]
+    for device in (2311, 2314):
+        check_images(checks, program, device, random, storages)
+    check_large(checks, program)
+    wanted = "000800 no 000818 changes-argument\n"
+    note = "note: no device was named, so it is the 2314\n"
+    ran = run(program, "find", EXAMPLES / "core.bin")
+    checks.expect("the example of the page", Ran(0, wanted, note), ran)

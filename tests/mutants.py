@@ -1,0 +1,315 @@
+#!/usr/bin/env python3
+"""Tries each mutant: those of single functions several with one check, the others alone.
+
+    tests/mutants.py            all crates, lowest first
+    tests/mutants.py CRATE..    only these
+    tests/mutants.py --built    `make` and `make lib` built everything just now
+
+A mutant is an edit that makes the code or a definition wrong, so that the prover has to refuse it.
+Those that a rule or a law names are crates/CRATE/must-fail/NAME.edit, the others
+tests/mutants/CRATE/NAME.edit. `file:` and then pairs of `old:` and `new:` say what it changes. It
+also names what has to refuse it, as `rt check` does but without the crate, in lines that `rt` takes
+for comments:
+
+    # function: extents::judge           for one that changes the body of this function
+    # goals: returns-then-first-last     the goals that the search leaves open there, if any
+    # refused-by: laws::yes_is_safe      for any other: the law or function that has to refuse it
+
+Each crate is first proved as it is, from what out/ has kept, unless --built says that this was just
+done. Then a copy gets a mutant in each of several functions, and only these functions are checked.
+Each has to be refused for a goal of its own: one that the search left open, or one whose written
+answer no longer shows it. If a mutant names goals, it has to be each of these; the copy leaves them
+to the search by name, because `rt check` would else look for what to offer, which takes as long
+again. A call of something that isn't proved, a proof that lost a name, and a text that isn't Rattle
+don't count. A mutant that such a thing hides is tried again without those that were refused with
+it, and in the end alone. What a caller owes rests on the contracts of what it calls, never on their
+bodies, so a function is refused here for its own body alone.
+
+The others are wrong definitions, with the code that computes them, and constants, which several
+functions read. For each of these a copy is checked as far as the law or the function that has to
+refuse it, with the lemmas that its proof cites.
+
+A check runs on each processor. While another process holds out/proofs.lock, as `make proofs` does,
+half of the processors are left to it.
+
+It prints a line for each mutant, with the goals, those of the second sort as (answered), or with
+the first complaint, and the processor time of each check. The last line is `N refused, M failed`,
+and the status is 1 if M isn't 0.
+"""
+
+import argparse
+import collections
+import concurrent.futures
+import contextlib
+import fcntl
+import os
+import re
+import shutil
+import subprocess
+import sys
+import tempfile
+from pathlib import Path
+
+ROOT = Path(__file__).resolve().parent.parent
+CRATES, MUTANTS = ROOT / "crates", ROOT / "tests/mutants"
+# complaints about a text that can't be read, and more about one that rests on something missing
+UNREAD = re.compile(
+    "is not in scope|has no field|is no name|operand is missing|expected the end|cannot continue"
+)
+LOST = re.compile(f"{UNREAD.pattern}|has no `|was not admitted")
+UNFIT = "an old text isn't in its file exactly once"
+LINES = [it.partition(":") for it in (ROOT / "crates.txt").read_text().splitlines()]
+STANDS_ON = {it[0].split()[0]: set(it[2].split()) for it in LINES if it[0][:1] not in ("", "#")}
+# a refusal: the file, and why
+REFUSED = re.compile(r"(?m)^(?:\./)?([^\s:]+):\d+:\d+: error: (.*)")
+OPEN = re.compile(r"(?m)^note: (\S+: it is not proved that .*)")
+
+# is_body: whether it changes the body of the function; changes: file, old and new text of each
+Mutant = collections.namedtuple("Mutant", "path function is_body goals changes")
+
+
+def paths_of(crate):
+    """The files of a crate's mutants, those that a rule or a law names first."""
+    folders = (CRATES / crate / "must-fail", MUTANTS / crate)
+    return [path for folder in folders for path in sorted(folder.glob("*.edit"))]
+
+
+def read_mutant(path):
+    function, is_body, goals, file, old, changes = "", False, [], "", "", []
+    for line in path.read_text().splitlines():
+        word, _, text = line.removeprefix("# ").partition(":")
+        text = text.removeprefix(" ")
+        if word in ("function", "refused-by"):
+            function, is_body = text, word == "function"
+        elif word == "goals":
+            goals = text.split(", ")
+        elif word == "file":
+            file = text
+        elif word == "old":
+            old = text
+        elif word == "new":
+            changes.append((file, old, text))
+    return Mutant(path, function, is_body, goals, changes)
+
+
+def applied(crate, mutant, texts):
+    """The texts of files with the mutant, or None if an old text isn't in one exactly once."""
+    texts = dict(texts)
+    for file, old, new in mutant.changes:
+        path = CRATES / crate / file
+        text = texts.get(file) or (path.read_text() if path.is_file() else "")
+        if text.count(old) != 1:
+            return None
+        texts[file] = text.replace(old, new)
+    return texts
+
+
+def left_to_search(crate, mutant, texts):
+    """These texts, with the goals that the mutant names left to the search by name."""
+    file = f"proofs/{mutant.function.replace('::', '/')}/Answers.antt"
+    path, goals = CRATES / crate / file, f"{mutant.function.replace('::', '.')}.Goals"
+    text = path.read_text() if path.is_file() else ""
+    uses = {
+        rf"Common\.\{{[^}}]*\brules\b": "use Rattle.std.proofs.Common.{rules}",
+        "Goals as goal": f"use Rattle.{crate}.proofs.{goals} as goal",
+    }
+    lines = [line for has, line in uses.items() if not re.search(has, text)]
+    answers = [f"pub {it} : goal.{it}\n{it} c = search rules\n" for it in mutant.goals]
+    return {**texts, file: "\n".join([*lines, text, *answers])} if answers else texts
+
+
+def called(words, folder, what):
+    """The output of a command of `rt` in a crate's folder, and its status."""
+    how = {"stdout": subprocess.PIPE, "stderr": subprocess.STDOUT, "stdin": subprocess.DEVNULL}
+    with subprocess.Popen(["rt", *words], cwd=folder, text=True, errors="replace", **how) as ran:
+        said = ran.stdout.read()
+        _, status, used = os.wait4(ran.pid, 0)
+        ran.returncode = os.waitstatus_to_exitcode(status)
+    spent = used.ru_utime + used.ru_stime
+    print(f"{folder.name}, {what}: {spent:.0f} s of a processor", flush=True)
+    return said, ran.returncode
+
+
+def is_proved(crate):
+    """Whether the crate is proved as it is, which takes no time if `make` has built it."""
+    folder = CRATES / crate
+    command = "lib" if (folder / "src/lib.rt").is_file() else "check"
+    return called([command], folder, "as it is")[1] == 0
+
+
+def below(crate):
+    """The crate and all crates of the repository on which it stands."""
+    found = {crate}
+    for name in STANDS_ON[crate] & STANDS_ON.keys():
+        found |= below(name)
+    return found
+
+
+def link_or_copy(source, target):
+    """Shares a file of out/, which are gigabytes in all: rt replaces such files, and edits none."""
+    if Path(source).relative_to(CRATES).parts[1] == "out":
+        with contextlib.suppress(OSError):
+            return os.link(source, target)
+    return shutil.copy2(source, target)
+
+
+@contextlib.contextmanager
+def copy_of(crate):
+    """A copy of the crates, with the kept work of this one and those below."""
+    needed = below(crate)
+
+    def left_out(folder, names):
+        # another check may be writing to out/ of a crate above
+        above = {"out"} if Path(folder).name not in needed else set()
+        old = set() if folder.endswith(f"/{crate}/out") else {"incremental"}
+        return [it for it in names if it in {"must-fail"} | above | old]
+
+    with tempfile.TemporaryDirectory(prefix="mutants-") as room:
+        copy = Path(room) / "crates"
+        shutil.copytree(CRATES, copy, ignore=left_out, copy_function=link_or_copy)
+        shutil.copy(ROOT / "crates.txt", room)
+        yield copy / crate
+
+
+def check_with(crate, texts, functions, what):
+    """The output of `rt check` on these functions, with these texts in place of the crate's."""
+    only = [word for name in functions for word in ("--only", name)]
+    with copy_of(crate) as copy:
+        for file, text in texts.items():
+            (copy / file).parent.mkdir(parents=True, exist_ok=True)
+            (copy / file).write_text(text)
+        return called(["check", "--jobs=1", *only], copy, what)[0]
+
+
+def own_goals(mutant, line, said):
+    """The goals of its own for which the mutant's function, which has this line, is refused."""
+    left = re.search("`search` did not prove ((?:`[^`]*`(?:, )?)*)", line)
+    # the proof of a function that calls itself has a `+` before its name
+    *above, name = map(re.escape, mutant.function.split("::"))
+    folder = "/".join([*above, rf"\+?{name}"])
+    error = rf"(?m)^(?:\./)?proofs/{folder}/\w+\.antt:\d+:\d+: error: `([^`]*)`: (.*)"
+    refused = [goal for goal, why in re.findall(error, said) if not LOST.search(why)]
+    answers = [it if it in mutant.goals else f"{it} (answered)" for it in refused]
+    found = [*dict.fromkeys((re.findall("`([^`]*)`", left[1]) if left else []) + answers)]
+    return found if set(mutant.goals) <= set(found) else []
+
+
+def tried(crate, mutants):
+    """Gives each mutant with the goals for which it is refused, or with none and the reason."""
+    batch, later, texts = [], [], {}
+    for mutant in mutants:
+        more = applied(crate, mutant, texts)
+        if applied(crate, mutant, {}) is None:
+            yield mutant, [], UNFIT
+        elif more is None or mutant.function in [it.function for it in batch]:
+            later.append(mutant)
+        else:
+            batch, texts = [*batch, mutant], left_to_search(crate, mutant, more)
+    functions = [mutant.function for mutant in batch]
+    what = f"{len(batch)} mutants"
+    said, hidden = check_with(crate, texts, functions, what) if batch else "", []
+    for mutant in batch:
+        line = re.search(rf"(?m)^fn {re.escape(f'{crate}::{mutant.function}')}: (.*)", said)
+        error = re.search(r"(?m)^.*\berror(\[[\w-]+\])?: .*", said)
+        goals = own_goals(mutant, line[1], said) if line else []
+        if goals or len(batch) == 1 or line and line[1].startswith("proved"):
+            told = [it[0] for it in (line, len(batch) == 1 and error) if it]
+            yield mutant, goals, "; ".join(told)[:240] or "`rt check` doesn't name its function"
+        else:
+            hidden.append(mutant)
+    again = [[it] for it in hidden] + [later] if hidden == batch else [hidden + later]
+    for mutants in filter(None, again):
+        yield from tried(crate, mutants)
+
+
+def together(crate, mutants):
+    """Tries mutants of single functions: gives each name, whether it is refused, and why."""
+    for mutant, goals, why in tried(crate, mutants):
+        end = f"refused: {mutant.function}: {', '.join(goals)}" if goals else f"FAILED: {why}"
+        yield mutant.path.stem, bool(goals), end
+
+
+def alone(crate, mutants):
+    """Tries the others, and gives the same for each."""
+    for mutant in mutants:
+        texts = applied(crate, mutant, {})
+        said = check_with(crate, texts, [mutant.function], mutant.path.stem) if texts else UNFIT
+        errors = REFUSED.findall(said)
+        # a mutant that can't be read shows nothing, nor does a proof that only lost a name
+        unread = [
+            why
+            for file, why in errors
+            if UNREAD.search(why) and (file in texts or file.startswith(("src/", "specs/")))
+        ]
+        found = [why for _, why in errors if not LOST.search(why)] + OPEN.findall(said)
+        is_left = f"fn {crate}::{mutant.function}: not proved" in said
+        is_refused = bool(is_left and found and not unread)
+        end = "refused" if is_refused else "FAILED"
+        why = [*unread, *found, said[-240:]][0]
+        yield mutant.path.stem, is_refused, f"{end}: {mutant.function}: {why}"
+
+
+def told(crate, found):
+    """Prints a line for each mutant, and counts both sorts."""
+    found = list(found)
+    print("\n".join(f"{crate}/{name}: {end}" for name, _, end in found), flush=True)
+    refused = sum(is_refused for _, is_refused, _ in found)
+    return refused, len(found) - refused
+
+
+def not_proved(crate):
+    print(f"{crate}: FAILED: it isn't proved as it is", flush=True)
+    return 0, 1
+
+
+def tasks(crate, is_built):
+    """The tasks of a crate."""
+    if not is_built and not is_proved(crate):
+        return [lambda: not_proved(crate)]
+    mutants = [read_mutant(path) for path in paths_of(crate)]
+    bodies = [mutant for mutant in mutants if mutant.is_body]
+    others = [mutant for mutant in mutants if not mutant.is_body]
+    found = [together(crate, bodies)] * bool(bodies) + [alone(crate, others)] * bool(others)
+    return [lambda found=it: told(crate, found) for it in found]
+
+
+def has_mutants(crate):
+    return bool(paths_of(crate))
+
+
+def wait_for_proofs():
+    """Returns when no other process proves the crates."""
+    lock = ROOT / "out/proofs.lock"
+    lock.parent.mkdir(exist_ok=True)
+    with lock.open("a") as file:
+        fcntl.flock(file, fcntl.LOCK_SH)
+
+
+def arguments(crates):
+    said = argparse.ArgumentParser(prog="tests/mutants.py", description=__doc__.splitlines()[0])
+    said.add_argument("crates", nargs="*", metavar="CRATE", help="none: all, lowest first")
+    said.add_argument("--built", action="store_true", help="make and make lib built it just now")
+    given = said.parse_args()
+    for crate in given.crates:
+        if crate not in crates:
+            said.error(f"{crate} has no mutants")
+    return given
+
+
+def main():
+    lowest_first = sorted(filter(has_mutants, STANDS_ON), key=lambda it: len(below(it)))
+    given = arguments(lowest_first)
+    processors = len(os.sched_getaffinity(0))
+    with concurrent.futures.ThreadPoolExecutor(processors) as beside:
+        for _ in range((processors + 1) // 2):
+            beside.submit(wait_for_proofs)
+        counts = []
+        for crate in given.crates or lowest_first:
+            counts += [beside.submit(task) for task in tasks(crate, given.built)]
+    refused, failed = map(sum, zip(*(it.result() for it in counts)))
+    print(f"{refused} refused, {failed} failed")
+    return 1 if failed or not refused else 0
+
+
+if __name__ == "__main__":
+    sys.exit(main())
