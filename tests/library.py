@@ -31,7 +31,7 @@ TESTS = ("decks", "edges", "needs", "nulls", "one_call")
 SOURCES = [EXAMPLES / "c/ask.c", *[HERE / f"c/{name}.c" for name in TESTS]]
 MAY_ASK_FOR = {"memcpy", "memmove", "memset", "malloc", "realloc", "free"}
 OF_THE_RUNTIME = {"rattle_alloc", "rattle_realloc", "rattle_dealloc"}
-NAMES = ("verify", "list", "why", "text", "needs", "grants", "beside", "version")
+NAMES = ("verify", "list", "why", "text", "needs", "grants", "beside", "find", "version")
 CALLS = {f"chanv_{call}" for call in NAMES}
 LAYOUT = ROOT / "crates/chanv_c/include/layout.txt"
 # warnings that a program's own build may ask for
@@ -192,6 +192,7 @@ def check_listing(checks, program, deck):
 def refuse_growths(checks, folder):
     growths, program = Growths(folder), folder / "one_call"
     answers = {"verify": "yes", "list": "3", "why": "2 3", "needs": "1 1 1", "grants": "yes"}
+    answers["find"] = "1"
     answers["text"] = "no"
     setup = [program, "setup"]
     for call, answer in answers.items():

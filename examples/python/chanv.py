@@ -9,6 +9,8 @@
 yes
 >>> print(verify(Job(storage, 0x800, extents=[(10, 19)], fetch=lent["fetch"])))
 no 000810 store-not-lent
+>>> [f"{start:06X}" for start in find(storage)]
+['000800']
 
 The library is the one that CHANV_LIBRARY names, or what `make lib` built, or what is installed.
 """
@@ -19,7 +21,7 @@ from ctypes import c_char_p, c_size_t, c_uint8, c_uint16, c_uint32, c_uint64
 from dataclasses import dataclass
 from pathlib import Path
 
-YES, NO = 0, 1
+YES, NO, NO_ROOM = 0, 1, 11
 NO_ANSWERS = {
     2: "more places are reachable than the limit",
     3: "memory ran out",
@@ -82,7 +84,25 @@ def verify(job):
     return Verdict(told.address, REASONS[told.reason - 1]) if answer == NO else Verdict()
 
 
+def find(storage, device=2314):
+    """The starts of the channel programs in storage, in order. It raises NoAnswer."""
+    storage = bytes(storage)
+    count, starts = c_size_t(), (c_uint32 * 0)()
+    answer = NO_ROOM
+    while answer == NO_ROOM:
+        starts = (c_uint32 * count.value)()
+        image, room = _Bytes(storage, len(storage)), c_size_t(len(starts))
+        answer = _library.chanv_find(image, c_uint16(device), starts, room, byref(count))
+    if answer != YES:
+        raise NoAnswer(answer, 0)
+    return [*starts]
+
+
 _Extent, _Area = c_uint16 * 2, c_uint32 * 2
+
+
+class _Bytes(Structure):
+    _fields_ = [("at", c_char_p), ("len", c_size_t)]
 
 
 class _Job(Structure):  # struct chanv_job, with the two fields of each list in a row

@@ -1,5 +1,5 @@
-/* Each answer of chanv_needs, given to the worked supervisor and to the emulator: what wasn't listed
- * may not start, whatever its struct held before. It prints a line for each case. */
+/* Each answer of chanv_needs, given to the worked supervisor and to the emulator: a program that
+ * wasn't listed may not start, whatever its struct held before. It prints a line for each case. */
 #include <chanv.h>
 
 static uint32_t forced; /* an answer to give in place of CHANV_LISTED, or 0 */
@@ -21,7 +21,8 @@ static uint32_t answer_needs(const struct chanv_job *job, struct chanv_needed *o
 #include <supervisor.c>
 #include <stdio.h>
 
-enum { STORAGE = 0x4000, START = 0x800, DATA = 0x2000, READ = 0x06, NO_OPERATION = 0x03, CHAIN = 0x40 };
+enum { STORAGE = 0x4000, START = 0x800, DATA = 0x2000 };
+enum { READ = 0x06, NO_OPERATION = 0x03, CHAIN = 0x40 };
 
 static uint8_t storage[STORAGE], copy[STORAGE];
 static struct program program;
@@ -64,7 +65,8 @@ static void try_emulated(const char *name)
     memset(&asked, 0xFF, sizeof asked);
     asked.copy = copy;
     uint32_t answer = ask(&asked, &job);
-    printf("emulated %s: %u, %s\n", name, answer, is_there(&asked, storage) ? "there" : "not there");
+    const char *there = is_there(&asked, storage) ? "there" : "not there";
+    printf("emulated %s: %u, %s\n", name, answer, there);
 }
 
 /* Writes that begin or end far from the program, and one past the end of all addresses. */

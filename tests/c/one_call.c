@@ -2,8 +2,8 @@
  * the search loop, and those of `chanv_why` and `chanv_text` about one whose read stores over the
  * CCW behind it.
  *
- *     one_call CALL     verify, list, why, text, needs, grants or beside; prints what it answers,
- *                       and ends with its code, or with 0 where it is the answer that is due
+ *     one_call CALL     verify, list, why, text, needs, grants, beside or find; prints what it
+ *                       answers, and ends with its code, or with 0 if that answer is due
  *     one_call setup    all that comes before the call
  *
  * The status is 99 where something was written that shouldn't be. Nothing here asks for memory.
@@ -131,12 +131,23 @@ static int beside(const struct chanv_job *job)
     return answer == CHANV_YES ? say("yes\n") : (int)answer;
 }
 
+static int find(const struct chanv_job *job)
+{
+    uint32_t starts[] = {7, 7};
+    size_t count = 7;
+    uint32_t answer = chanv_find(job->storage, job->device, starts, 2, &count);
+    int is_listed = answer == CHANV_LISTED;
+    if (count != (size_t)is_listed || starts[0] != (is_listed ? 0x800 : 7) || starts[1] != 7)
+        return 99;
+    return is_listed ? say("1\n") : (int)answer;
+}
+
 static const struct call {
     const char *name;
     int (*make)(const struct chanv_job *job);
 } calls[] = {
     {"verify", verify}, {"list", list},     {"why", why},       {"text", text},
-    {"needs", needs},   {"grants", grants}, {"beside", beside},
+    {"needs", needs},   {"grants", grants}, {"beside", beside}, {"find", find},
 };
 
 int main(int argc, char **argv)

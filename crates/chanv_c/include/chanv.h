@@ -277,6 +277,14 @@ uint32_t chanv_grants(const struct chanv_job *job, const struct chanv_rows *rows
  * for. */
 uint32_t chanv_beside(const struct chanv_rows *rows, const struct chanv_rows *other);
 
+/* Lists the starts of the channel programs in storage, each once, in order; docs/FIND.md says which
+ * they are. CHANV_LISTED: the first `*count` of `starts` are written, and the others keep their
+ * values. CHANV_NO_ROOM: `*count` is how many there would be. Otherwise it is CHANV_MEMORY,
+ * CHANV_STORAGE_TOO_LARGE or CHANV_NOT_A_DEVICE, and `*count` is 0. Only for CHANV_LISTED is a start
+ * written. */
+uint32_t chanv_find(struct chanv_bytes storage, uint16_t device, uint32_t *starts, size_t room,
+                    size_t *count);
+
 /* The library's version: 65,536 times the first number, 256 times the second, and the third. */
 uint32_t chanv_version(void);
 

@@ -4,6 +4,7 @@ pub mod Answers
 pub mod Cause
 pub mod Explained
 pub mod Needed
+pub mod Found
 pub mod Granted
 pub mod Version
 pub mod Telling

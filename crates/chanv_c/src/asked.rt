@@ -54,7 +54,7 @@ struct Parts<'a> {
 }
 
 /// The device of that number.
-fn device_of(number: u16) -> Option<Device>
+pub(crate) fn device_of(number: u16) -> Option<Device>
     ensures { MatchOption result
         ((number ≢ 2311) × (number ≢ 2314))
         (λ device. device_number device ≡ number) }

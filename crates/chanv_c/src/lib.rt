@@ -7,6 +7,7 @@
 mod asked;
 mod evidence;
 mod explaining;
+mod finding;
 mod granting;
 mod listing;
 mod needed;
@@ -19,6 +20,7 @@ mod version;
 pub use crate::asked::{CExtent, CJob};
 pub use crate::evidence::CEvidence;
 pub use crate::explaining::{CExplanation, chanv_why};
+pub use crate::finding::chanv_find;
 pub use crate::granting::{CRows, chanv_beside, chanv_grants};
 pub use crate::listing::chanv_list;
 pub use crate::needed::{CNeeded, chanv_needs};
