@@ -1,6 +1,7 @@
 //! Writing some texts as one line. It takes no memory.
 
-ghost use Rattle.std.specs.Prelude.{◌≡◌, ◌↔◌, ◌≤◌, false, true, length, IfSome, IsErr, IsSome, OnOk};
+ghost use Rattle.std.specs.Prelude.{◌≡◌, ◌↔◌, ◌≤◌, false, true, length, IfSome, IsErr, IsSome};
+ghost use Rattle.std.specs.Prelude.{OnOk};
 ghost use Rattle.std.specs.Io.KnownBytes.{Appends};
 ghost use Rattle.ccw_core.specs.Written.{AppendsPrefix};
 ghost use Rattle.chan_run.specs.Naming.{joined};

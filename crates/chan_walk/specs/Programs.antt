@@ -106,8 +106,8 @@ pub record HasTwoCcws (j : Job) : Type 0 where
   pub spare :
       (p : Place) → IsReachable j p → is_transfer (ccw_of j p) ≡ false → (ccw_of j p).spare ≡ 0
 
--- if a job has a yes and two such CCWs, its start is likely, so that it is the start of a program or
--- led to by one
+-- if a job has a yes and two such CCWs, its start is likely, so that it is the start of a program
+-- or one leads to it
 abbrev pub YesIsLikely : Type 0
 YesIsLikely = (j : Job) → IsVerdict j Yes → HasTwoCcws j → IsLikely j j.start
 

@@ -196,8 +196,8 @@ pub(crate) fn programs_are_apart()
     ensures { ProgramsAreApart }
 {}
 
-/// The start of a job with a yes is likely, if two CCWs that are no transfers are reachable and byte
-/// 5 of each such CCW is zero.
+/// The start of a job with a yes is likely, if two CCWs that are no transfers are reachable and
+/// byte 5 of each such CCW is zero.
 pub(crate) fn yes_is_likely()
     ensures { YesIsLikely }
 {}

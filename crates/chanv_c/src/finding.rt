@@ -9,10 +9,10 @@ use ccw_core::Storage;
 use chan_walk::program_starts;
 use std::alloc::Global;
 
-/// Lists the starts of the programs in storage, each once, in order: 0 if `starts` took them all, 11
-/// if they are more than `starts` has room for; then `count` is their number. Otherwise memory ran
-/// out (3), storage has more than 16,777,216 bytes (4) or there is no such device (5), and `count`
-/// is 0. Only for 0 is anything written to `starts`.
+/// Lists the starts of the programs in storage, each once, in order: 0 if `starts` took them all,
+/// 11 if they are more than `starts` has room for; then `count` is their number. Otherwise memory
+/// ran out (3), storage has more than 16,777,216 bytes (4) or there is no such device (5), and
+/// `count` is 0. Only for 0 is anything written to `starts`.
 #[unsafe(no_mangle)]
 pub extern "C" fn chanv_find(
     alloc: Global,
