@@ -27,6 +27,9 @@ pub mod Existing
 pub mod Seeking
 pub mod Needed
 pub mod Holding
+pub mod Leasts
+pub mod Kept
+pub mod Copied
 pub mod Opened
 pub mod StoredOver
 pub mod Tabling

@@ -14,3 +14,6 @@ pub mod Exact
 pub mod Again
 pub mod Answering
 pub mod Asking
+pub mod Starting
+pub mod Remembering
+pub mod Supervising

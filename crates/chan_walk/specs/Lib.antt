@@ -19,7 +19,7 @@ pub mod History
 pub mod Beside
 pub mod Counted
 pub mod Order
--- What the answers say: lists, paths, causes, notes and needs.
+-- What the answers say: lists, paths, causes, notes, needs, and what a supervisor may do.
 pub mod Limit
 pub mod Explored
 pub mod Answers
@@ -32,6 +32,9 @@ pub mod Notes
 pub mod Needs
 pub mod Rows
 pub mod Programs
+pub mod Starting
+pub mod Remembered
+pub mod Supervised
 -- What only ties the code to all this.
 pub mod Onward
 pub mod Visit

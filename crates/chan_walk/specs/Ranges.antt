@@ -13,6 +13,10 @@ start_of a = a.start
 abbrev pub end_of : Area → ℕ
 end_of a = a.start + a.len
 
+-- the byte at b is one of the area
+abbrev pub IsByteOf : Area → ℕ → Type 0
+IsByteOf a b = (a.start ≤ b) × (b < end_of a)
+
 -- the area ends below n
 abbrev pub EndsBelow : ℕ → Area → Type 0
 EndsBelow n a = end_of a < n

@@ -127,9 +127,9 @@ pub record MayRunBeside (j k : Job) : Type 0 where
   pub one_spares : (b : ℕ) → IsNeededForStoring j b → IsKept k b → ⊥
   pub other_spares : (b : ℕ) → IsNeededForStoring k b → IsKept j b → ⊥
 
--- some byte lies in both lists
-abbrev pub Share : List Area → List Area → Type 0
-Share xs ys = (b : ℕ) × (lies_in xs b ≡ true) × (lies_in ys b ≡ true)
+-- the byte at b lies in both lists
+abbrev pub IsShared : List Area → List Area → ℕ → Type 0
+IsShared xs ys b = (lies_in xs b ≡ true) × (lies_in ys b ≡ true)
 
 -- it is so exactly where two jobs of the programs, each with a yes, are apart
 abbrev pub BesideIsApart : Type 0

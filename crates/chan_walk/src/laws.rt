@@ -15,7 +15,11 @@ ghost use Rattle.chan_walk.specs.Offences.{FirstIsVerdict};
 ghost use Rattle.chan_walk.specs.Order.{NumbersIncrease};
 ghost use Rattle.chan_walk.specs.Programs.{NoneIsMissed, ProgramsAreApart, TwiceIsEnough};
 ghost use Rattle.chan_walk.specs.Programs.{YesIsLikely};
+ghost use Rattle.chan_walk.specs.Remembered.{RowsAreExact};
 ghost use Rattle.chan_walk.specs.Rows.{BesideIsApart, OpenJobIsOpen};
+ghost use Rattle.chan_walk.specs.Starting.{AskedMayStart, EachMayLeave, EachMayStart, EachMayStep};
+ghost use Rattle.chan_walk.specs.Starting.{OthersMayChange};
+ghost use Rattle.chan_walk.specs.Supervised.{SupervisedGoesOn, SupervisedStaysWell};
 
 /// Where the verdict is yes, guarded bytes never change.
 pub(crate) fn guarded_stays()
@@ -200,4 +204,46 @@ pub(crate) fn programs_are_apart()
 /// byte 5 of each such CCW is zero.
 pub(crate) fn yes_is_likely()
     ensures { YesIsLikely }
+{}
+
+/// A program that was asked about, whose kept bytes are the same and whose needs are granted, may
+/// start.
+pub(crate) fn asked_may_start()
+    ensures { AskedMayStart }
+{}
+
+/// Rows of needs list no more than what is needed.
+pub(crate) fn rows_are_exact()
+    ensures { RowsAreExact }
+{}
+
+/// Others may change any bytes that no program in flight guards.
+pub(crate) fn others_may_change()
+    ensures { OthersMayChange }
+{}
+
+/// A program that may start does.
+pub(crate) fn each_may_start()
+    ensures { EachMayStart }
+{}
+
+/// A program in flight may make each step of the machine.
+pub(crate) fn each_may_step()
+    ensures { EachMayStep }
+{}
+
+/// A program in flight may leave at any time.
+pub(crate) fn each_may_leave()
+    ensures { EachMayLeave }
+{}
+
+/// A supervisor that starts programs only after a yes of `may_start`, and lets others write only if
+/// `may_write` names no program, has all programs in flight well.
+pub(crate) fn supervised_stays_well()
+    ensures { SupervisedStaysWell }
+{}
+
+/// What the calls allow may happen, and so may each step and each end.
+pub(crate) fn supervised_goes_on()
+    ensures { SupervisedGoesOn }
 {}

@@ -89,7 +89,7 @@ pub(crate) fn merge(alloc: Global, areas: Vec<Area>) -> Result<Vec<Area>, AllocE
 }
 
 /// The first area of a merged list that ends above an address, by binary search.
-fn next_area(areas: &[Area], address: u32) -> Option<Area>
+pub(crate) fn next_area(areas: &[Area], address: u32) -> Option<Area>
     requires { IsMerged areas.now }
     ensures { IsNextArea areas.now address result }
 {

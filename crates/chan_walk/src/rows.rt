@@ -1,18 +1,21 @@
 //! What a program needs, as rows that somebody holds: whether a job grants it, and whether two
 //! programs may run side by side.
 
-ghost use Rattle.std.specs.Prelude.{◌≡◌, ◌↔◌, ◌≤◌, ◌^◌, ℕ, true, IfOk, IsTrue};
+ghost use Rattle.std.specs.Prelude.{◌≡◌, ◌↔◌, ◌≤◌, ◌^◌, ℕ, true, IfOk, IsTrue, MatchOption};
 ghost use Rattle.ccw_core.specs.Areas.{lies_in};
 ghost use Rattle.ckd_core.specs.Cylinders.{has_cylinder};
+ghost use Rattle.chan_walk.specs.Evidence.{IsLeastOrNone};
 ghost use Rattle.chan_walk.specs.Needs.{Grants, KeepsProgram};
 ghost use Rattle.chan_walk.specs.Ranges.{IsMerged};
 ghost use Rattle.chan_walk.specs.Rows.{AreNeeds, HasStoreAndKeep, LieBelow, MayRunBeside};
-ghost use Rattle.chan_walk.specs.Rows.{Share, rows_of};
+ghost use Rattle.chan_walk.specs.Remembered.{AreBeside, IsConflict, IsKeptIn};
+ghost use Rattle.chan_walk.specs.Rows.{IsShared, rows_of};
 ghost use Rattle.chan_walk.specs.Verdict.{IsVerdict};
 ghost use Rattle.chan_walk.specs.declared.job.Job.{Job};
 ghost use Rattle.chan_walk.specs.declared.verdict.Verdict.TheVariants.{Yes};
 
 use crate::job::Job;
+use crate::least::{least_in, least_shared};
 use crate::lent::clipped;
 use crate::ranges::{end_of, holds, merge};
 use ccw_core::Area;
@@ -21,6 +24,17 @@ use std::alloc::{AllocError, Global};
 
 /// The address after the last that has 24 bits.
 const END_OF_STORAGE: u32 = 16_777_216;
+
+/// Why two programs may not run side by side.
+#[derive(Clone, Copy, PartialEq, Eq, Debug)]
+pub enum Conflict {
+    /// The program stores into the byte at this address, which the other keeps. It is the least
+    /// such byte.
+    Stores(u32),
+    /// The program keeps the byte at this address, and the other stores into it. It is the least
+    /// such byte, and the program stores into none that the other keeps.
+    Keeps(u32),
+}
 
 /// The content of `Needs`, as rows in the caller's memory. Rows from another source do no harm, but
 /// an answer about them means nothing.
@@ -71,7 +85,31 @@ impl Rows<'_> {
         ensures { (j k : Job) → HasStoreAndKeep j (rows_of self.now)
             → HasStoreAndKeep k (rows_of other.now) → IsTrue result ↔ MayRunBeside j k }
     {
-        !share(self.store, other.keep) && !share(other.store, self.keep)
+        share(self.store, other.keep).is_none() && share(other.store, self.keep).is_none()
+    }
+
+    /// Why two programs may not run side by side: `None` exactly if neither stores into a byte that
+    /// the other keeps, as their rows list them. The rows may come from any source.
+    ///
+    /// The cost is one pass over both rows if their lists are merged, as those of `needs` are, and
+    /// otherwise the product of their lengths. No memory is taken.
+    pub fn conflict(&self, other: &Rows) -> Option<Conflict>
+        ensures { MatchOption result (AreBeside (rows_of self.now) (rows_of other.now))
+            (IsConflict (rows_of self.now) (rows_of other.now)) }
+    {
+        if let Some(byte) = least_shared(self.store, other.keep) {
+            return Some(Conflict::Stores(byte));
+        }
+        let byte = least_shared(other.store, self.keep)?;
+        Some(Conflict::Keeps(byte))
+    }
+
+    /// The least byte of an area that the rows list as kept, if there is one. The rows may come
+    /// from any source. The cost is one pass over the areas kept, and no memory is taken.
+    pub fn kept_in(&self, area: Area) -> Option<u32>
+        ensures { IsLeastOrNone (IsKeptIn (rows_of self.now) area) result }
+    {
+        least_in(self.keep, area)
     }
 }
 
@@ -116,9 +154,10 @@ fn are_lent(alloc: Global, areas: &[Area], lent: &[Area]) -> Result<bool, AllocE
     Ok(true)
 }
 
-/// Whether some byte lies in both of two merged lists.
-fn share(one: &[Area], other: &[Area]) -> bool
-    ensures { IsMerged one.now → IsMerged other.now → IsTrue result ↔ Share one.now other.now }
+/// The least byte that lies in both of two merged lists.
+pub(crate) fn share(one: &[Area], other: &[Area]) -> Option<u32>
+    ensures { IsMerged one.now → IsMerged other.now
+        → IsLeastOrNone (IsShared one.now other.now) result }
 {
     let (mut at, mut with) = (0, 0);
     while at < one.len() && with < other.len() {
@@ -128,8 +167,8 @@ fn share(one: &[Area], other: &[Area]) -> bool
         } else if end_of(&against) <= u64::from(area.start) {
             with += 1;
         } else {
-            return true;
+            return Some(area.start.max(against.start));
         }
     }
-    false
+    None
 }

@@ -6,4 +6,5 @@ mod judging;
 mod needs;
 mod program;
 mod seek;
+mod starting;
 mod witness;

@@ -142,7 +142,7 @@ pub record AreSame (j k : Job) (p : Place) : Type 0 where
   pub ccw : IsClear j p → ccw_of j p ≡ ccw_of k p
   pub takes : IsClear j p → (b : ℕ) → (IsSeekByte j p b ⊎ IsMaskByte j p b) ↔ (IsSeekByte k p b ⊎ IsMaskByte k p b)
 
-flipped : (j k : Job) (p : Place) → AreSame j k p → AreSame k j p
+pub flipped : (j k : Job) (p : Place) → AreSame j k p → AreSame k j p
 flipped j k p h = record {
   stands = (h.stands.1, h.stands.0);
   fault = λ r. ((h.fault r).1, (h.fault r).0);
@@ -244,7 +244,7 @@ module _ (j : Job) (t : Storage) (h : IsSameIn (IsCounted j) (storage_of j) (byt
           inl (record { seeks = seeks; chain = k.chain; is_chain = chain; has = subst (λ l. Has l b) (sym (seek_addresses p r seeks k.chain chain)) k.has })
       from (inr k) = inr (record { sets = subst (λ c. begins_set_mask p c ≡ true) (sym same) k.sets; at = subst (λ (c : Fields). c.address ≡ b) (sym same) k.at })
 
-  same_at : (p : Place) → IsReachable j p → AreSame j there p
+  pub same_at : (p : Place) → IsReachable j p → AreSame j there p
   same_at p r = record {
     stands = (stands_there s u p.address h.same_length, stands_there u s p.address (sym h.same_length));
     fault = λ q. (
@@ -272,10 +272,10 @@ reach_over : (j k : Job) → first_place j ≡ first_place k → ((p : Place) �
 reach_over j k first same p r = (r.0, path_over j k first same (p ∷ r.0) r.1)
 
 module _ (j k : Job) (same : (p : Place) → IsReachable j p → AreSame j k p) (on : (p : Place) → IsReachable j p → IsReachable k p) (back : (p : Place) → IsReachable k p → IsReachable j p) where
-  ccw_byte_over : (b : ℕ) → IsCcwByte j b → IsCcwByte k b
+  pub ccw_byte_over : (b : ℕ) → IsCcwByte j b → IsCcwByte k b
   ccw_byte_over b g = record { place = g.place; reached = on g.place g.reached; stands = (same g.place g.reached).stands.0 g.stands; from = g.from; below = g.below }
 
-  argument_byte_over : (b : ℕ) → IsArgumentByte j b → IsArgumentByte k b
+  pub argument_byte_over : (b : ℕ) → IsArgumentByte j b → IsArgumentByte k b
   argument_byte_over b g =
       let here = same g.place g.reached in
       record { place = g.place; reached = on g.place g.reached; clear = (here.fault None).0 g.clear; takes = (here.takes g.clear b).0 g.takes }

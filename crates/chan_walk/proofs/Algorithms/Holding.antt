@@ -5,12 +5,12 @@ use Rattle.ccw_core.specs.declared.areas.Area.{Area}
 use Rattle.ccw_core.specs.Areas.{lies_in, covered}
 use Rattle.ccw_core.proofs.Covering.{lies_in-at}
 use Rattle.ckd_core.specs.Cylinders.{has_cylinder}
+use Rattle.chan_walk.specs.Evidence.{IsLeastOf}
 use Rattle.chan_walk.specs.Lent.{clip}
-use Rattle.chan_walk.specs.Ranges.{HaveSameBytes, IsMerged, end_of}
-use Rattle.chan_walk.specs.Rows.{LieBelow, Share}
+use Rattle.chan_walk.specs.Ranges.{IsByteOf, HaveSameBytes, IsMerged, end_of}
+use Rattle.chan_walk.specs.Rows.{IsShared, LieBelow}
 use Rattle.chan_walk.proofs.Theory.Areas.{covered_at, uncovered}
 use Rattle.chan_walk.proofs.Algorithms.Lending.{lies_in-clip}
-use Rattle.chan_walk.proofs.Algorithms.Merging.{InArea}
 use Rattle.chan_walk.proofs.Algorithms.Searching.{area_at, merged_len, merged_order}
 
 -- ---- runs in extents
@@ -18,7 +18,7 @@ use Rattle.chan_walk.proofs.Algorithms.Searching.{area_at, merged_len, merged_or
 abbrev pub InRun : ℕ × ℕ → ℕ → Type 0
 InRun r n = (r.0 ≤ n) × (n ≤ r.1)
 
-run_at : (runs : List (ℕ × ℕ)) (d : ℕ × ℕ) (n : ℕ) → has_cylinder runs n ≡ true → (k : ℕ) × (k < length runs) × InRun (get_or runs k d) n
+pub run_at : (runs : List (ℕ × ℕ)) (d : ℕ × ℕ) (n : ℕ) → has_cylinder runs n ≡ true → (k : ℕ) × (k < length runs) × InRun (get_or runs k d) n
 unfolding has_cylinder
 run_at [] d n h = absurd (cc)
 run_at (r ∷ runs) d n h = go (or_cases _ _ h) (run_at runs d n)
@@ -27,7 +27,7 @@ run_at (r ∷ runs) d n h = go (or_cases _ _ h) (run_at runs d n)
     go (inl i) f = let p = and_parts _ _ i in (0, omega arith, (leb-true _ _ p.0, leb-true _ _ p.1))
     go (inr m) f = let t = f m in (suc t.0, omega (arith, t.1), t.2)
 
-has_at_run : (runs : List (ℕ × ℕ)) (d : ℕ × ℕ) (k n : ℕ) → k < length runs → InRun (get_or runs k d) n → has_cylinder runs n ≡ true
+pub has_at_run : (runs : List (ℕ × ℕ)) (d : ℕ × ℕ) (k n : ℕ) → k < length runs → InRun (get_or runs k d) n → has_cylinder runs n ≡ true
 unfolding has_cylinder
 has_at_run [] d k n l h = absurd (omega arith)
 has_at_run (r ∷ runs) d zero n l h = or_left _ _ (and_from _ _ (le-leb _ _ h.0) (le-leb _ _ h.1))
@@ -90,7 +90,7 @@ not_lent n lent clipped merged areas i e h low l f g =
 
 -- the byte at b lies in the area of an index from i on
 abbrev LiesFrom : List Area → ℕ → ℕ → Type 0
-LiesFrom xs i b = (k : ℕ) × (i ≤ k) × (k < length xs) × InArea (get_or xs k nowhere) b
+LiesFrom xs i b = (k : ℕ) × (i ≤ k) × (k < length xs) × IsByteOf (get_or xs k nowhere) b
 
 -- each byte that lies in both lies in areas from i and from m on
 abbrev pub AreAhead : List Area → List Area → ℕ → ℕ → Type 0
@@ -118,7 +118,7 @@ past xs ys i m b merged l (k, le, lt, h) (q, from, below, g) = go (cases_lt i k)
     go (inl s) = (k, omega arith, lt, h)
     go (inr s) =
         let e : k ≡ i = omega arith in
-        let t = subst (λ n. InArea (get_or xs n nowhere) b) e h in
+        let t = subst (λ n. IsByteOf (get_or xs n nowhere) b) e h in
         let o = begin_later ys m q merged from below in
         absurd (omega (arith, t.1, g.0))
 
@@ -128,17 +128,21 @@ ahead_one xs ys i m merged l f b h k = let r = f b h k in (past xs ys i m b merg
 pub ahead_other : (xs ys : List Area) (i m : ℕ) → IsMerged xs → end_of (get_or ys m nowhere) ≤ (get_or xs i nowhere).start → AreAhead xs ys i m → AreAhead xs ys i (m + 1)
 ahead_other xs ys i m merged l f b h k = let r = f b h k in (r.0, past ys xs m i b merged l r.1 r.0)
 
-pub share_here : (xs ys : List Area) (i m : ℕ) → IsMerged xs → IsMerged ys → i < length xs → m < length ys → (get_or ys m nowhere).start < end_of (get_or xs i nowhere) → (get_or xs i nowhere).start < end_of (get_or ys m nowhere) → Share xs ys
-share_here xs ys i m f g l k a b =
+pub share_here : (xs ys : List Area) (i m n : ℕ) → IsMerged xs → IsMerged ys → i < length xs → m < length ys → (get_or ys m nowhere).start < end_of (get_or xs i nowhere) → (get_or xs i nowhere).start < end_of (get_or ys m nowhere) → n ≡ max (get_or xs i nowhere).start (get_or ys m nowhere).start → AreAhead xs ys i m → IsLeastOf (IsShared xs ys) n
+share_here xs ys i m n f g l k a b e ahead =
     let d = merged_len xs i nowhere f l in
-    let e = merged_len ys m nowhere g k in
-    let x = (get_or xs i nowhere).start in
-    let y = (get_or ys m nowhere).start in
-    (max x y, lies_in-at xs i nowhere (max x y) l (omega arith) (omega arith), lies_in-at ys m nowhere (max x y) k (omega arith) (omega arith))
+    let h = merged_len ys m nowhere g k in
+    ((lies_in-at xs i nowhere n l (omega arith) (omega arith), lies_in-at ys m nowhere n k (omega arith) (omega arith)), λ c s. least c (ahead c s.0 s.1))
+  where
+    least : (c : ℕ) → LiesFrom xs i c × LiesFrom ys m c → n ≤ c
+    least c ((p, from, lt, h), (q, le, below, w)) =
+        let x = begin_later xs i p f from lt in
+        let y = begin_later ys m q g le below in
+        omega (arith, h.0, w.0)
 
-pub share_none : (xs ys : List Area) (i m : ℕ) → (length xs ≤ i) ⊎ (length ys ≤ m) → AreAhead xs ys i m → Share xs ys → ⊥
-share_none xs ys i m (inl l) f s = let r = (f s.0 s.1 s.2).0 in omega (arith, r.1, r.2)
-share_none xs ys i m (inr l) f s = let r = (f s.0 s.1 s.2).1 in omega (arith, r.1, r.2)
+pub share_none : (xs ys : List Area) (i m : ℕ) → (length xs ≤ i) ⊎ (length ys ≤ m) → AreAhead xs ys i m → (b : ℕ) → IsShared xs ys b → ⊥
+share_none xs ys i m (inl l) f b s = let r = (f b s.0 s.1).0 in omega (arith, r.1, r.2)
+share_none xs ys i m (inr l) f b s = let r = (f b s.0 s.1).1 in omega (arith, r.1, r.2)
 
 -- a test that passes before i, and at i
 pub up_to : (test : ℕ → Bool) (first i : ℕ) → ((n : ℕ) → first ≤ n → n < i → test n ≡ true) → test i ≡ true → (n : ℕ) → first ≤ n → n ≤ i → test n ≡ true

@@ -12,19 +12,15 @@ use Rattle.std.proofs.lemmas.List.Sorted.{list_any-IsPermutation}
 use Rattle.ccw_core.specs.declared.areas.Area.{Area}
 use Rattle.ccw_core.specs.Areas.{lies_in}
 use Rattle.ccw_core.proofs.Covering.{lies_in-nil}
-use Rattle.chan_walk.specs.Ranges.{start_of, end_of, EndsBelow, BeginAbove, IsMerged, HaveSameBytes, AreRuns, MergedIsUnique}
-
--- the byte at b lies in the area
-abbrev pub InArea : Area → ℕ → Type 0
-InArea a b = (a.start ≤ b) × (b < end_of a)
+use Rattle.chan_walk.specs.Ranges.{start_of, end_of, IsByteOf, EndsBelow, BeginAbove, IsMerged, HaveSameBytes, AreRuns, MergedIsUnique}
 
 -- ---- bytes of areas
 
-pub lies_in-cases : (a : Area) (xs : List Area) (b : ℕ) → lies_in (a ∷ xs) b ≡ true → InArea a b ⊎ (lies_in xs b ≡ true)
+pub lies_in-cases : (a : Area) (xs : List Area) (b : ℕ) → lies_in (a ∷ xs) b ≡ true → IsByteOf a b ⊎ (lies_in xs b ≡ true)
 unfolding lies_in
 lies_in-cases a xs b h = search rules
 
-pub lies_in-first : (a : Area) (xs : List Area) (b : ℕ) → InArea a b → lies_in (a ∷ xs) b ≡ true
+pub lies_in-first : (a : Area) (xs : List Area) (b : ℕ) → IsByteOf a b → lies_in (a ∷ xs) b ≡ true
 unfolding lies_in
 lies_in-first a xs b h = or_left _ _ (and_from _ _ (le-leb _ _ h.0) (lt-ltb _ _ h.1))
 
@@ -45,7 +41,7 @@ pub same_before : (xs ys zs : List Area) (b : ℕ) → lies_in xs b ≡ lies_in 
 same_before xs ys zs b e = lies_in-append xs zs b ∙ ap (λ t. t || lies_in zs b) e ∙ sym (lies_in-append ys zs b)
 
 -- one area for two
-pub one_for_two : (x y r : Area) (b : ℕ) → (InArea r b → InArea x b ⊎ InArea y b) → (InArea x b → InArea r b) → (InArea y b → InArea r b) → lies_in (r ∷ []) b ≡ lies_in (x ∷ y ∷ []) b
+pub one_for_two : (x y r : Area) (b : ℕ) → (IsByteOf r b → IsByteOf x b ⊎ IsByteOf y b) → (IsByteOf x b → IsByteOf r b) → (IsByteOf y b → IsByteOf r b) → lies_in (r ∷ []) b ≡ lies_in (x ∷ y ∷ []) b
 one_for_two x y r b f g h = search (rules, lies_in-cases, lies_in-first, lies_in-rest, both_ways, lies_in-nil)
 
 -- in another order
@@ -166,7 +162,7 @@ same_area x y e f = search rules
 rest_within : (x y : Area) (xs ys : List Area) (b : ℕ) → x ≡ y → IsMerged (x ∷ xs) → HaveSameBytes (x ∷ xs) (y ∷ ys) → lies_in xs b ≡ true → lies_in ys b ≡ true
 rest_within x y xs ys b e m s k = go (lies_in-cases y ys b (sym (s b) ∙ lies_in-rest x xs b k))
   where
-    go : InArea y b ⊎ (lies_in ys b ≡ true) → lies_in ys b ≡ true
+    go : IsByteOf y b ⊎ (lies_in ys b ≡ true) → lies_in ys b ≡ true
     go h = search (rules, bytes_above)
 
 pub merged_is_unique : MergedIsUnique
@@ -192,7 +188,7 @@ lies_low : (n : ℕ) (areas : List Area) (b : ℕ) → All (EndsBelow n) areas �
 lies_low n [] b all lies = absurd (both_ways (lies_in [] b) (lies_in-nil b) lies)
 lies_low n (a ∷ rest) b all lies = go (lies_low n rest b (All-tail (EndsBelow n) a rest all)) (lies_in-cases a rest b lies)
   where
-    go : (lies_in rest b ≡ true → b + 1 < n) → InArea a b ⊎ (lies_in rest b ≡ true) → b + 1 < n
+    go : (lies_in rest b ≡ true → b + 1 < n) → IsByteOf a b ⊎ (lies_in rest b ≡ true) → b + 1 < n
     go others (inl here) = omega (arith, here.1, All-head (EndsBelow n) a rest all)
     go others (inr there) = others there
 

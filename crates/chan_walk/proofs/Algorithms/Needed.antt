@@ -1,6 +1,5 @@
 -- What was found under one job's yes is what each job of its program needs.
-use Rattle.std.proofs.Common.{◌≡◌, ℕ, ◌<◌, ◌≤◌, ◌^◌, Bool, true, false, not, IsTrue, List, length, map, Some, refl, sym, ap, ◌∙◌, subst, ◌⊎◌, ◌↔◌, arith, rules}
-use Rattle.std.proofs.lemmas.Bool.{both_ways, not-true, not_from_false}
+use Rattle.std.proofs.Common.{◌≡◌, ℕ, ◌<◌, ◌≤◌, ◌^◌, Bool, true, false, not, IsTrue, List, length, map, Option, None, Some, is_some, refl, sym, ap, ◌∙◌, subst, ◌⊎◌, ◌↔◌, arith}
 use Rattle.ccw_core.specs.declared.areas.Area.{Area}
 use Rattle.ccw_core.specs.Areas.{lies_in}
 use Rattle.ccw_core.specs.Ccw.{Fields, byte, ccw, is_transfer}
@@ -13,7 +12,7 @@ use Rattle.chan_walk.specs.declared.surveyed.Survey.{Survey}
 use Rattle.chan_walk.specs.declared.verdict.Verdict.{Verdict}
 use Rattle.chan_walk.specs.declared.verdict.Verdict.TheVariants.{Yes}
 use Rattle.chan_walk.specs.Argument.{HasArgument}
-use Rattle.chan_walk.specs.Evidence.{SeeksTo, data_of}
+use Rattle.chan_walk.specs.Evidence.{IsLeastOrNone, SeeksTo, data_of}
 use Rattle.chan_walk.specs.Fault.{begins_recalibrate, begins_seek, begins_set_mask, fetches, stores}
 use Rattle.chan_walk.specs.Guarded.{IsGuarded}
 use Rattle.chan_walk.specs.Job.{extents_of, fetch_of, storage_of, store_of}
@@ -25,7 +24,8 @@ use Rattle.chan_walk.specs.Offences.{FirstIsVerdict, first_verdict}
 use Rattle.chan_walk.specs.Place.{ccw_of}
 use Rattle.chan_walk.specs.Ranges.{AreExactly, IsMerged, end_of}
 use Rattle.chan_walk.specs.Reachable.{IsReachable}
-use Rattle.chan_walk.specs.Rows.{AreLooksOfYes, AreNeeds, HasStoreAndKeep, IsSought, LieBelow, Listed, MayRunBeside, Share, run_of}
+use Rattle.chan_walk.specs.Remembered.{GrantsListed, RowsAreExact}
+use Rattle.chan_walk.specs.Rows.{AreLooksOfYes, AreNeeds, HasStoreAndKeep, IsSought, LieBelow, Listed, IsShared, MayRunBeside, run_of}
 use Rattle.chan_walk.specs.Surveyed.{IsSurvey}
 use Rattle.chan_walk.specs.Verdict.{IsVerdict}
 use Rattle.chan_walk.proofs.Theory.Faults.{clear_check, yes_clear}
@@ -130,20 +130,26 @@ survey_looks k s ls is none law e =
 -- ---- what rows of needs say of a job
 
 module _ (j : Job) (n : Listed) (h : AreNeeds j n) where
-  -- each byte that is needed is one of storage, whose addresses have 24 bits
-  low : (test : Place → Fields → Bool) → ((p : Place) (c : Fields) → test p c ≡ true → is_transfer c ≡ false) → (areas : List Area) → AreExactly (IsDataOf test (open_job j)) areas → LieBelow (2 ^ 24) areas
-  low test moves areas are b m =
+  -- each byte that is needed is one of storage
+  inside : (test : Place → Fields → Bool) → ((p : Place) (c : Fields) → test p c ≡ true → is_transfer c ≡ false) → (areas : List Area) → AreExactly (IsDataOf test (open_job j)) areas → (b : ℕ) → lies_in areas b ≡ true → b < length (storage_of j)
+  inside test moves areas are b m =
       let d = (are.bytes b).0 m in
       let c = clear_check (open_job j) d.place (yes_clear (open_job j) h.verdict d.place d.reached) in
       let fits = data_in_storage (storage_of j) d.place (ccw_of j d.place) c refl (moves d.place (ccw_of j d.place) d.passes.1) in
-      let small = j.storage.small in
       omega (arith, d.below)
 
+  fetch_inside : (b : ℕ) → lies_in n.fetch b ≡ true → b < length (storage_of j)
+  fetch_inside = inside fetches (λ p c m. (fetches_parts p c m).0) n.fetch h.fetch
+
+  store_inside : (b : ℕ) → lies_in n.store b ≡ true → b < length (storage_of j)
+  store_inside = inside stores (λ p c m. (stores_parts p c m).0) n.store h.store
+
+  -- whose addresses have 24 bits
   pub fetch_low : LieBelow (2 ^ 24) n.fetch
-  fetch_low = low fetches (λ p c m. (fetches_parts p c m).0) n.fetch h.fetch
+  fetch_low b m = let l = fetch_inside b m in let small = j.storage.small in omega arith
 
   pub store_low : LieBelow (2 ^ 24) n.store
-  store_low = low stores (λ p c m. (stores_parts p c m).0) n.store h.store
+  store_low b m = let l = store_inside b m in let small = j.storage.small in omega arith
 
   module _ (k : Job) where
     -- the areas lent have all bytes of a row
@@ -164,23 +170,44 @@ module _ (j : Job) (n : Listed) (h : AreNeeds j n) where
     pub lent_store : Grants j k → Lent n.store (store_of k)
     lent_store g b m = g.store b ((h.store.bytes b).0 m)
 
+    pub granted : length (storage_of k) ≡ n.storage_len → GrantsListed k n ↔ Grants j k
+    granted e = (
+      (λ g. grants_from g.mask g.extents (λ b m. (g.fetch b m).1) (λ b m. (g.store b m).1)),
+      λ g. record {
+        mask = (needed_mask_is_enough j n.mask k.mask h.mask).0 g.mask;
+        extents = λ c m. g.extents c ((h.extents.cylinders c).0 m);
+        fetch = λ b m. (here b (fetch_inside b m), lent_fetch g b m);
+        store = λ b m. (here b (store_inside b m), lent_store g b m);
+      },
+    )
+      where
+        here : (b : ℕ) → b < length (storage_of j) → b < length (storage_of k)
+        here b l = subst (λ z. b < z) (sym h.storage_len ∙ sym e) l
+
 -- ---- side by side
 
 -- no byte that one program needs for storing is kept by the other, where their rows share none
-spares : (j k : Job) (n m : Listed) → HasStoreAndKeep j n → HasStoreAndKeep k m → (Share n.store m.keep → ⊥) → (b : ℕ) → IsNeededForStoring j b → IsKept k b → ⊥
-spares j k n m f g never b s t = never (b, (f.store.bytes b).1 s, (g.keep.bytes b).1 t)
+spares : (j k : Job) (n m : Listed) → HasStoreAndKeep j n → HasStoreAndKeep k m → ((b : ℕ) → IsShared n.store m.keep b → ⊥) → (b : ℕ) → IsNeededForStoring j b → IsKept k b → ⊥
+spares j k n m f g never b s t = never b ((f.store.bytes b).1 s, (g.keep.bytes b).1 t)
 
-shared : (j k : Job) (n m : Listed) → HasStoreAndKeep j n → HasStoreAndKeep k m → ((b : ℕ) → IsNeededForStoring j b → IsKept k b → ⊥) → Share n.store m.keep → ⊥
-shared j k n m f g never s = never s.0 ((f.store.bytes s.0).0 s.1) ((g.keep.bytes s.0).0 s.2)
+shared : (j k : Job) (n m : Listed) → HasStoreAndKeep j n → HasStoreAndKeep k m → ((b : ℕ) → IsNeededForStoring j b → IsKept k b → ⊥) → (b : ℕ) → IsShared n.store m.keep b → ⊥
+shared j k n m f g never b s = never b ((f.store.bytes b).0 s.0) ((g.keep.bytes b).0 s.1)
 
-pub beside_from : (j k : Job) (n m : Listed) → HasStoreAndKeep j n → HasStoreAndKeep k m → (s t : Bool) → s ≡ false → IsTrue s ↔ Share n.store m.keep → IsTrue t ↔ Share m.store n.keep → IsTrue (not t) ↔ MayRunBeside j k
-beside_from j k n m f g s t e a b = (
-  (λ no. record {
-    one_spares = spares j k n m f g (λ x. both_ways s e (a.1 x));
-    other_spares = spares k j m n g f (λ x. both_ways t (not-true t no) (b.1 x));
-  }),
-  λ may. not_from_false t (never t (λ x. shared k j m n g f may.other_spares (b.0 x))),
-)
-  where
-    never : (t : Bool) → (t ≡ true → ⊥) → t ≡ false
-    never t h = search rules
+-- where rows are true, two that share nothing may run beside one another
+pub may_run_beside : (j k : Job) (n m : Listed) → HasStoreAndKeep j n → HasStoreAndKeep k m → ((b : ℕ) → IsShared n.store m.keep b → ⊥) → ((b : ℕ) → IsShared m.store n.keep b → ⊥) → MayRunBeside j k
+may_run_beside j k n m f g one other = record { one_spares = spares j k n m f g one; other_spares = spares k j m n g f other }
+
+pub beside_from : (j k : Job) (n m : Listed) → HasStoreAndKeep j n → HasStoreAndKeep k m → (o p : Option ℕ) (s t : Bool) → is_some o ≡ not s → is_some p ≡ not t → s ≡ true → IsLeastOrNone (IsShared n.store m.keep) o → IsLeastOrNone (IsShared m.store n.keep) p → IsTrue t ↔ MayRunBeside j k
+beside_from j k n m f g (Some x) p s t d e h a b = absurd cc
+beside_from j k n m f g None None s true d e h a b = ((λ w. may_run_beside j k n m f g a b), λ may. refl)
+beside_from j k n m f g None None s false d e h a b = absurd cc
+beside_from j k n m f g None (Some x) s t d e h a b = ((λ w. absurd cc), λ may. absurd (shared k j m n g f may.other_spares x b.0))
+
+pub rows_are_exact : RowsAreExact
+rows_are_exact = record {
+  grants = λ j k n h e. granted j n h k e;
+  beside = λ j k n m f g. (
+    (λ are. may_run_beside j k n m f g are.one_spares are.other_spares),
+    λ may. record { one_spares = shared j k n m f g may.one_spares; other_spares = shared k j m n g f may.other_spares },
+  );
+}

@@ -27,11 +27,11 @@ use Rattle.chan_walk.specs.Least.{AreReached}
 use Rattle.chan_walk.specs.Look.{IsLook, Seen}
 use Rattle.chan_walk.specs.Notes.{AddsAddress, AreAddressesOf, AreUnused, AreUsed, HoldData, IsDataOf, IsMachineByte, IsSeenByte, IsSeenWith, IsUsed, NothingFollows, Passes}
 use Rattle.chan_walk.specs.Place.{is_fresh, ccw_of}
-use Rattle.chan_walk.specs.Ranges.{end_of, Meets}
+use Rattle.chan_walk.specs.Ranges.{IsByteOf, end_of, Meets}
 use Rattle.chan_walk.proofs.Theory.Commands.{idle_is_no_transfer}
 use Rattle.chan_walk.proofs.Algorithms.Guarding.{HoldBytes, one_more}
 use Rattle.chan_walk.proofs.Theory.Lists.{contains_has, has_contains, has_push}
-use Rattle.chan_walk.proofs.Algorithms.Merging.{InArea, lies_in-cases, lies_in-first, lies_in-rest}
+use Rattle.chan_walk.proofs.Algorithms.Merging.{lies_in-cases, lies_in-first, lies_in-rest}
 
 -- ---- areas that are used, by a test
 
@@ -86,11 +86,11 @@ machine_bytes b = (to, from)
     to : lies_in (status ∷ timer ∷ []) b ≡ true → IsMachineByte b
     to h = go (lies_in-cases status (timer ∷ []) b h)
       where
-        last : InArea timer b ⊎ (lies_in [] b ≡ true) → IsMachineByte b
+        last : IsByteOf timer b ⊎ (lies_in [] b ≡ true) → IsMachineByte b
         last (inl i) = inr (omega (arith, i.0), omega (arith, i.1))
         last (inr e) = absurd (both_ways _ (lies_in-nil b) e)
 
-        go : InArea status b ⊎ (lies_in (timer ∷ []) b ≡ true) → IsMachineByte b
+        go : IsByteOf status b ⊎ (lies_in (timer ∷ []) b ≡ true) → IsMachineByte b
         go (inl i) = inl (omega (arith, i.0), omega (arith, i.1))
         go (inr e) = last (lies_in-cases timer [] b e)
 

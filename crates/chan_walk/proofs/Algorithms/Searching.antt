@@ -6,8 +6,8 @@ use Rattle.std.proofs.lemmas.Bool.{cases_lt, leb-false, both_ways, false_from_ne
 use Rattle.ccw_core.specs.declared.areas.Area.{Area}
 use Rattle.ccw_core.specs.Areas.{lies_in, covered}
 use Rattle.ccw_core.proofs.Covering.{lies_in-at, lies_in-nil, covered-true, covered-false}
-use Rattle.chan_walk.specs.Ranges.{end_of, BeginAbove, IsMerged, IsFirstAbove, IsNextArea, Meets}
-use Rattle.chan_walk.proofs.Algorithms.Merging.{InArea, lies_in-cases}
+use Rattle.chan_walk.specs.Ranges.{IsByteOf, end_of, BeginAbove, IsMerged, IsFirstAbove, IsNextArea, Meets}
+use Rattle.chan_walk.proofs.Algorithms.Merging.{lies_in-cases}
 
 -- ---- merged areas by their places in the list
 
@@ -28,11 +28,11 @@ merged_order (x ∷ xs) zero (suc k) d m l h = above_at (end_of x) xs k d m.1 (o
 merged_order (x ∷ xs) (suc i) (suc k) d m l h = merged_order xs i k d m.2 (omega arith) (omega arith)
 
 -- a byte lies in one of the areas
-pub area_at : (xs : List Area) (d : Area) (b : ℕ) → lies_in xs b ≡ true → (k : ℕ) × (k < length xs) × InArea (get_or xs k d) b
+pub area_at : (xs : List Area) (d : Area) (b : ℕ) → lies_in xs b ≡ true → (k : ℕ) × (k < length xs) × IsByteOf (get_or xs k d) b
 area_at [] d b h = absurd (both_ways (lies_in [] b) (lies_in-nil b) h)
 area_at (x ∷ xs) d b h = go (lies_in-cases x xs b h) (λ m. area_at xs d b m)
   where
-    go : InArea x b ⊎ (lies_in xs b ≡ true) → (lies_in xs b ≡ true → (k : ℕ) × (k < length xs) × InArea (get_or xs k d) b) → (k : ℕ) × (k < length (x ∷ xs)) × InArea (get_or (x ∷ xs) k d) b
+    go : IsByteOf x b ⊎ (lies_in xs b ≡ true) → (lies_in xs b ≡ true → (k : ℕ) × (k < length xs) × IsByteOf (get_or xs k d) b) → (k : ℕ) × (k < length (x ∷ xs)) × IsByteOf (get_or (x ∷ xs) k d) b
     go (inl m) f = (0, omega arith, m)
     go (inr m) f = let r = f m in (suc r.0, omega (arith, r.1), r.2)
 
@@ -46,7 +46,7 @@ abbrev pub IsCut : List Area → ℕ → ℕ → Type 0
 IsCut xs n at = IsPartitionPoint (λ y. leb (end_of y) n ≡ true) (λ y. leb (end_of y) n ≡ false) xs at
 
 -- an area with a byte from n on doesn't stand before it
-not_before : (xs : List Area) (n at k b : ℕ) (d : Area) → IsCut xs n at → at ≤ length xs → n ≤ b → k < length xs → InArea (get_or xs k d) b → at ≤ k
+not_before : (xs : List Area) (n at k b : ℕ) (d : Area) → IsCut xs n at → at ≤ length xs → n ≤ b → k < length xs → IsByteOf (get_or xs k d) b → at ≤ k
 not_before xs n at k b d cut w le l h = search rules
 
 pub found_none : (xs : List Area) (n at : ℕ) → IsCut xs n at → at ≤ length xs → length xs ≤ at → (b : ℕ) → n ≤ b → lies_in xs b ≡ false
@@ -61,10 +61,10 @@ found_some xs n at d m cut l = record {
   after = false_from_ne_true (lies_in xs (end_of (get_or xs at d))) (λ h. let r = area_at xs d (end_of (get_or xs at d)) h in next r.0 r.1 r.2 (cases_lt at r.0) (cases_lt r.0 at));
 }
   where
-    earlier : (k b : ℕ) → at ≤ k → k < length xs → InArea (get_or xs k d) b → b < (get_or xs at d).start → ⊥
+    earlier : (k b : ℕ) → at ≤ k → k < length xs → IsByteOf (get_or xs k d) b → b < (get_or xs at d).start → ⊥
     earlier k b le lt h bl = search (rules, cases_lt, merged_order)
 
-    next : (k : ℕ) → k < length xs → InArea (get_or xs k d) (end_of (get_or xs at d)) → (at < k) ⊎ (k ≤ at) → (k < at) ⊎ (at ≤ k) → ⊥
+    next : (k : ℕ) → k < length xs → IsByteOf (get_or xs k d) (end_of (get_or xs at d)) → (at < k) ⊎ (k ≤ at) → (k < at) ⊎ (at ≤ k) → ⊥
     next k lt h g f = search (rules, merged_order)
 
 -- the area at that place, where there is one

@@ -24,13 +24,13 @@ use Rattle.chan_walk.specs.Least.{AreReached}
 use Rattle.chan_walk.specs.Look.{IsLook, Seen, argument_of}
 use Rattle.chan_walk.specs.Machine.{home}
 use Rattle.chan_walk.specs.Place.{is_fresh, ccw_of}
-use Rattle.chan_walk.specs.Ranges.{AreExactly, BeginAbove, EndsBelow, HaveSameBytes, IsMerged, end_of}
+use Rattle.chan_walk.specs.Ranges.{IsByteOf, AreExactly, BeginAbove, EndsBelow, HaveSameBytes, IsMerged, end_of}
 use Rattle.chan_walk.specs.Rows.{AreRising, AreRunsOf, IsSought, RunsAbove, SeeksCylinder, run_of}
 use Rattle.chan_walk.specs.Visit.{begun}
 use Rattle.chan_walk.proofs.Theory.Chains.{argument_unique}
 use Rattle.chan_walk.proofs.Algorithms.Demanding.{clear_stands, command_at, fresh_from, none_from}
 use Rattle.chan_walk.proofs.Algorithms.Guarding.{HoldBytes, adds_areas, lies_in-bytes}
-use Rattle.chan_walk.proofs.Algorithms.Merging.{InArea, lies_in-cases, lies_in-first, lies_in-rest}
+use Rattle.chan_walk.proofs.Algorithms.Merging.{lies_in-cases, lies_in-first, lies_in-rest}
 use Rattle.chan_walk.proofs.Algorithms.Looking.{argument_read}
 use Rattle.chan_walk.proofs.Algorithms.Noted.{ccw_seen}
 
@@ -135,7 +135,7 @@ lies_below : (n : ℕ) (areas : List Area) (b : ℕ) → All (EndsBelow (suc n))
 lies_below n [] b h l = absurd (both_ways _ (lies_in-nil b) l)
 lies_below n (a ∷ areas) b h l = go (lies_below n areas b (λ k d lt. h (suc k) d (omega arith))) (lies_in-cases a areas b l)
   where
-    go : (lies_in areas b ≡ true → b < n) → InArea a b ⊎ (lies_in areas b ≡ true) → b < n
+    go : (lies_in areas b ≡ true → b < n) → IsByteOf a b ⊎ (lies_in areas b ≡ true) → b < n
     go rest (inl i) = let e : end_of a < suc n = h 0 a (omega arith) in omega (arith, i.1)
     go rest (inr r) = rest r
 
@@ -176,7 +176,7 @@ in_runs (a ∷ areas) n m = (to (in_runs areas n m.2), from (in_runs areas n m.2
     from : InBoth areas n → lies_in (a ∷ areas) n ≡ true → has_cylinder (map run_of (a ∷ areas)) n ≡ true
     from rest h = go (lies_in-cases a areas n h)
       where
-        go : InArea a n ⊎ (lies_in areas n ≡ true) → has_cylinder (map run_of (a ∷ areas)) n ≡ true
+        go : IsByteOf a n ⊎ (lies_in areas n ≡ true) → has_cylinder (map run_of (a ∷ areas)) n ≡ true
         go (inl i) = or_left _ _ (and_from _ _ (le-leb _ _ i.0) (le-leb _ _ (omega (arith, i.1))))
         go (inr r) = or_right _ _ (rest.1 r)
 

@@ -61,7 +61,7 @@ module _ (j : Job) (v : IsVerdict j Yes) where
   along seek r b at_once = record { place = seek; reached = r; address = refl; outward = fresh_out seek (ccw_of j seek) b }
   along seek r b (further c part cd lead) = one_on (along seek r b c) part cd lead
 
-  counted_is_guarded : (b : ℕ) → IsCounted j b → IsGuarded j b
+  pub counted_is_guarded : (b : ℕ) → IsCounted j b → IsGuarded j b
   counted_is_guarded b h = search (rules, along, yes_clear)
 
 pub yes_by_guarded : YesByGuarded

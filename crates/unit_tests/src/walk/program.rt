@@ -1,9 +1,9 @@
 //! Jobs by what differs from case to case, and what is asked of one.
 
 use super::guard::Ranges;
-use super::{exploring, guard, judging, needs, seek, witness};
+use super::{exploring, guard, judging, needs, seek, starting, witness};
 use ccw_core::{Area, Storage};
-use chan_walk::{Entry, Job, Limit, Place, Reason, Verdict, WalkError};
+use chan_walk::{Entry, Job, Limit, Place, Reason, Start, Verdict, WalkError};
 use ckd_core::{Device, Extents, FileMask};
 use std::alloc::{AllocError, Global};
 
@@ -86,6 +86,8 @@ pub(crate) enum Question<'a> {
     Path(&'a [Row]),
     /// Whether its program's needs are so.
     Needs(needs::Wanted),
+    /// Whether this is the answer to a start, with so many right parts remembered.
+    Start(usize, Start),
 }
 
 /// Whether the job of a program has what is asked for.
@@ -153,5 +155,6 @@ fn answers(alloc: Global, job: &Job, question: Question) -> bool {
         Question::Fault(row, fault) => judging::has_fault(job, place(row), fault),
         Question::Path(rows) => witness::has_path(alloc, job, rows),
         Question::Needs(wanted) => needs::has_needs(alloc, job, wanted),
+        Question::Start(right, answer) => starting::is_answered(alloc, job, right, answer),
     }
 }

@@ -1,4 +1,4 @@
-use Rattle.std.proofs.Common.{refl, inl, inr, arith}
+use Rattle.std.proofs.Common.{inl, inr, arith}
 use Rattle.chan_walk.proofs.Algorithms.Holding.{ahead_first, ahead_one, ahead_other, share_here, share_none}
 use Rattle.chan_walk.proofs.rows.share.Goals as goal
 
@@ -12,10 +12,10 @@ pub loop-at-preserved : goal.loop-at-preserved
 loop-at-preserved c f g = ahead_other c.args.one.now c.args.other.now c.loop-at.at c.loop-at.with f (omega arith) (c.loop-at.invariant f g)
 
 pub returns-else-end_of-from-2 : goal.returns-else-end_of-from-2
-returns-else-end_of-from-2 c f g = ((λ _. share_here c.args.one.now c.args.other.now c.loop-at.at c.loop-at.with f g c.loop-at-test.true c.if-with-other.true (omega arith) (omega arith)), λ _. refl)
+returns-else-end_of-from-2 c f g = share_here c.args.one.now c.args.other.now c.loop-at.at c.loop-at.with c.max.result f g c.loop-at-test.true c.if-with-other.true (omega arith) (omega arith) c.max.ensures (c.loop-at.invariant f g)
 
 pub returns-else-with-other : goal.returns-else-with-other
-returns-else-with-other c f g = ((λ t. absurd cc), λ s. absurd (share_none c.args.one.now c.args.other.now c.loop-at.at c.loop-at.with (inr (omega arith)) (c.loop-at.invariant f g) s))
+returns-else-with-other c f g = share_none c.args.one.now c.args.other.now c.loop-at.at c.loop-at.with (inr (omega arith)) (c.loop-at.invariant f g)
 
 pub returns-after-loop-at : goal.returns-after-loop-at
-returns-after-loop-at c f g = ((λ t. absurd cc), λ s. absurd (share_none c.args.one.now c.args.other.now c.loop-at.at c.loop-at.with (inl (omega arith)) (c.loop-at.invariant f g) s))
+returns-after-loop-at c f g = share_none c.args.one.now c.args.other.now c.loop-at.at c.loop-at.with (inl (omega arith)) (c.loop-at.invariant f g)

@@ -1,0 +1,102 @@
+//! Whether a program that is remembered may start, and others may write.
+
+use crate::shared::expect;
+use crate::walk::program::{Program, Question, SEARCH_LOOP, USUAL, holds};
+use ccw_core::{Area, Storage};
+use chan_walk::{Conflict, Job, Refusal, Remembered, Rows, Start, copy_kept, may_start, may_write};
+use ckd_core::{Device, FileMask};
+use std::alloc::Global;
+
+fn area(start: u32, len: u32) -> Area {
+    Area { start, len }
+}
+
+/// A program in flight that stores into some areas and keeps others.
+fn flight<'a>(mask: FileMask, store: &'a [Area], keep: &'a [Area]) -> Remembered<'a> {
+    Remembered {
+        start: 0,
+        device: Device::D2314,
+        rows: Rows {
+            storage_len: 0,
+            mask,
+            extents: &[],
+            fetch: &[],
+            store,
+            keep,
+        },
+        kept: &[],
+    }
+}
+
+/// Copies what the search loop keeps, where there is room and storage.
+fn are_copied(storage: &Storage, kept: &mut [u8; 24]) -> bool {
+    copy_kept(storage, &[area(0x800, 24)], kept) == Some(24)
+        && copy_kept(storage, &[area(0x800, 24)], &mut [0; 23]) == None
+        && copy_kept(storage, &[area(4095, 2)], &mut [0; 24]) == None
+}
+
+/// Whether this is the answer to a start of the search loop. So many of the first parts of what is
+/// remembered are right, and all later ones wrong.
+pub(crate) fn is_answered(alloc: Global, job: &Job, right: usize, answer: Start) -> bool {
+    let Some(mask) = FileMask::new(if right > 4 { 0x00 } else { 0xC0 }) else {
+        return false;
+    };
+    let mut kept = [0; 24];
+    if !are_copied(&job.storage, &mut kept) {
+        return false;
+    }
+    kept[0] = if right > 3 { 0x31 } else { 0 };
+    let cylinders = [(10, if right > 5 { 19 } else { 20 })];
+    let fetch = [area(if right > 6 { 0x900 } else { 0x90C }, 5)];
+    let len = if right > 7 { 80 } else { 0xFFFF_FFFF };
+    let store = [area(0xA08, 8), area(0xA00, len)];
+    let program = Remembered {
+        start: if right > 0 { 0x800 } else { 0x808 },
+        device: [Device::D2311, Device::D2314][usize::from(right > 1)],
+        rows: Rows {
+            storage_len: if right > 2 { 4096 } else { 4095 },
+            mask,
+            extents: &cylinders,
+            fetch: &fetch,
+            store: &store,
+            keep: &[Area {
+                start: 0x800,
+                len: 24,
+            }],
+        },
+        kept: &kept,
+    };
+    let keep = if right > 8 { 0xC00 } else { 0xA4F };
+    let keeps = [area(keep, 8)];
+    let stores = [area(if right > 9 { 0xC00 } else { 0x817 }, 2)];
+    let others = [flight(mask, &[], &[]), flight(mask, &stores, &keeps)];
+    may_start(alloc, job, &program, &others) == Ok(answer)
+        && may_write(&others, area(keep + 7, 0xFFFF_FFFF)) == Some((1, keep + 7))
+        && may_write(&others, area(keep - 1, 1)) == None
+}
+
+static ANSWERS: [Start; 11] = [
+    Start::No(Refusal::OtherStart),
+    Start::No(Refusal::OtherDevice),
+    Start::No(Refusal::OtherLength),
+    Start::No(Refusal::Changed(0x800)),
+    Start::No(Refusal::Mask),
+    Start::No(Refusal::Cylinder(20)),
+    Start::No(Refusal::Fetch(0x910)),
+    Start::No(Refusal::Store(0xB00)),
+    Start::No(Refusal::Beside(1, Conflict::Stores(0xA4F))),
+    Start::No(Refusal::Beside(1, Conflict::Keeps(0x817))),
+    Start::Yes,
+];
+
+#[test]
+fn starts(rt: HostRuntime) {
+    let program = Program {
+        puts: SEARCH_LOOP,
+        ..USUAL
+    };
+    for right in 0..ANSWERS.len() {
+        let asked = Question::Start(right, ANSWERS[right]);
+        expect(&rt, holds(rt.alloc(), &program, asked), "a start");
+    }
+}
