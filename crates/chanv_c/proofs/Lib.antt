@@ -1,4 +1,4 @@
 pub mod Refusals
 pub mod Written
-pub mod Grants
 pub mod Starts
+pub mod Beginnings

@@ -5,6 +5,6 @@ pub mod Cause
 pub mod Explained
 pub mod Needed
 pub mod Found
-pub mod Granted
+pub mod Starting
 pub mod Version
 pub mod Telling

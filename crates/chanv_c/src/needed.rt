@@ -209,7 +209,7 @@ fn found_on(alloc: Global, asked: &CJob<'_>, job: &Job, open: &Job) -> Result<Fo
 }
 
 /// Why a call over the open job of the program that C asks about gave no answer.
-fn no_needs(_asked: &CJob<'_>, _open: &Job, error: WalkError) -> Refusal
+pub(crate) fn no_needs(_asked: &CJob<'_>, _open: &Job, error: WalkError) -> Refusal
     requires open { IsOpenFor _asked.now _open.now }
     requires right { HasNoFault _asked.now }
     requires many { error ≡ walk.TooManyPlaces → HasMoreThan _open.now _open.now.limit }

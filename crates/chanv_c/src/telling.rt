@@ -1,17 +1,21 @@
 //! The text that explains the verdict on a channel program.
 
-ghost use Rattle.std.specs.Prelude.{◌≡◌, ◌≢◌, ℕ, ◌<◌, ◌≤◌, length, string_bytes, IfOk, IfErr, OnOk};
+ghost use Rattle.std.specs.Prelude.{◌≡◌, ◌≢◌, ℕ, ◌<◌, ◌≤◌, ◌⊎◌, length, IfOk, IfErr, OnOk};
+ghost use Rattle.chan_walk.specs.Explored.{HasMoreThan};
+ghost use Rattle.chan_walk.specs.declared.error.WalkError.TheVariants as walk;
 ghost use Rattle.chanv_c.specs.Answers.{HasTooMany, IsRefusal};
 ghost use Rattle.chanv_c.specs.Asked.{IsJobOf};
 ghost use Rattle.chanv_c.specs.declared.telling.Told as declared;
 ghost use Rattle.chanv_c.specs.Faults.{HasNoFault, IsRefused};
-ghost use Rattle.chanv_c.specs.Needed.{StandFirst};
-ghost use Rattle.chanv_c.specs.Telling.{IsText, IsToldWhole, verdict_code};
+ghost use Rattle.chanv_c.specs.Needed.{HasTooManyOpenly, IsOpenRefusal, StandFirst};
+ghost use Rattle.chanv_c.specs.Telling.{IsOpenText, IsText, IsTextOn, IsToldWhole, IsTooLong};
+ghost use Rattle.chanv_c.specs.Telling.{verdict_code};
 
 use crate::asked::{CJob, make_ready};
+use crate::needed::no_needs;
 use crate::refusal::{Refusal, no_answer};
 use chan_deck::explanation_text;
-use chan_walk::{Job, Verdict, survey};
+use chan_walk::{Job, OpenJob, Verdict, WalkError, survey};
 use std::alloc::Global;
 
 /// The verdict on a job, and the text that explains it.
@@ -35,7 +39,7 @@ pub extern "C" fn chanv_text(
     ensures told { result ≤ 1 → (t : declared.Told) × IsText job.now t
         × (result ≡ verdict_code t.verdict) × IsToldWhole t count.new buffer.old buffer.new }
     ensures room { result ≡ 11 → (t : declared.Told) × IsText job.now t
-        × (count.new ≡ length (string_bytes t.text)) × (length buffer.old < count.new) }
+        × IsTooLong t count.new buffer.old }
     ensures kept { 1 < result → buffer.new ≡ buffer.old }
     ensures many { result ≡ 2 → HasTooMany job.now }
 
@@ -47,13 +51,57 @@ pub extern "C" fn chanv_text(
 
     ensures no_count { 1 < result → result ≢ 11 → count.new ≡ 0 }
 {
-    let told = match text_of(alloc, job) {
-        Ok(told) => told,
+    match text_of(alloc, job) {
+        Ok(told) => write_told(&told, buffer, count),
         Err(refusal) => {
             *count = 0;
-            return refusal.code();
+            refusal.code()
         }
-    };
+    }
+}
+
+/// Writes the text that explains the verdict on the open job of the job's program: so it says why
+/// no job will do, if `chanv_needs` answered so. The codes, `buffer` and `count` are those of
+/// `chanv_text`; too many places are those that are reachable under the open job.
+#[unsafe(no_mangle)]
+pub extern "C" fn chanv_open_text(
+    alloc: Global,
+    job: &CJob<'_>,
+    buffer: &mut [u8],
+    count: &mut usize,
+) -> u32
+    ensures told { result ≤ 1 → (t : declared.Told) × IsOpenText job.now t
+        × (result ≡ verdict_code t.verdict) × IsToldWhole t count.new buffer.old buffer.new }
+    ensures room { result ≡ 11 → (t : declared.Told) × IsOpenText job.now t
+        × IsTooLong t count.new buffer.old }
+    ensures kept { 1 < result → buffer.new ≡ buffer.old }
+    ensures many { result ≡ 2 → HasTooManyOpenly job.now }
+
+    // A job is refused by its first fault, and one that has a fault gets no answer.
+    ensures refused { 4 ≤ result → result ≢ 11 → (extent : ℕ) × IsRefused job.now result extent }
+    ensures accepted { result < 3 → HasNoFault job.now }
+    ensures roomless { result ≡ 11 → HasNoFault job.now }
+    ensures codes { result ≤ 12 }
+
+    ensures no_count { 1 < result → result ≢ 11 → count.new ≡ 0 }
+{
+    match open_text_of(alloc, job) {
+        Ok(told) => write_told(&told, buffer, count),
+        Err(refusal) => {
+            *count = 0;
+            refusal.code()
+        }
+    }
+}
+
+/// Writes a text, if there is room, and answers by its verdict's number, or 11.
+fn write_told(told: &Told, buffer: &mut [u8], count: &mut usize) -> u32
+    ensures told { result ≤ 1 → (result ≡ verdict_code told.now.verdict)
+        × IsToldWhole told.now count.new buffer.old buffer.new }
+    ensures room { result ≡ 11 → IsTooLong told.now count.new buffer.old }
+    ensures kept { 1 < result → buffer.new ≡ buffer.old }
+    ensures codes { (result ≤ 1) ⊎ (result ≡ 11) }
+{
     let text = told.text.as_bytes();
     *count = text.len();
     if buffer.len() < text.len() {
@@ -102,18 +150,61 @@ fn text_on(alloc: Global, asked: &CJob<'_>, job: &Job) -> Result<Told, Refusal>
     ensures text { IfOk result (IsText asked.now) }
     ensures refusal { IfErr result (IsRefusal asked.now) }
 {
+    match told_on(alloc, job) {
+        Ok(told) => Ok(told),
+        Err(error) => Err(no_answer(asked, job, error)),
+    }
+}
+
+/// The verdict on the open job of the program that C asks about, with the text that explains it.
+fn open_text_of(alloc: Global, asked: &CJob<'_>) -> Result<Told, Refusal>
+    ensures text { IfOk result (IsOpenText asked.now) }
+    ensures right { OnOk result (HasNoFault asked.now) }
+    ensures refusal { IfErr result (IsOpenRefusal asked.now) }
+{
+    let ready = match make_ready(alloc, asked) {
+        Ok(ready) => ready,
+        Err(refusal) => return Err(refusal),
+    };
+    let job = ready.job(asked);
+    open_text_on(alloc, asked, &job)
+}
+
+/// The same over the open job of a job that is the one that C asks about.
+fn open_text_on(alloc: Global, asked: &CJob<'_>, job: &Job) -> Result<Told, Refusal>
+    requires asked { IsJobOf asked.now job.now }
+    requires right { HasNoFault asked.now }
+    ensures text { IfOk result (IsOpenText asked.now) }
+    ensures refusal { IfErr result (IsOpenRefusal asked.now) }
+{
+    let open = match OpenJob::of(alloc, job) {
+        Ok(open) => open,
+        Err(_) => return Err(Refusal::Memory),
+    };
+    let open_job = open.job();
+    match told_on(alloc, &open_job) {
+        Ok(told) => Ok(told),
+        Err(error) => Err(no_needs(asked, &open_job, error)),
+    }
+}
+
+/// The verdict on a job, with the text that explains it.
+fn told_on(alloc: Global, job: &Job) -> Result<Told, WalkError>
+    ensures text { IfOk result (IsTextOn job.now) }
+    ensures many { IfErr result (λ e. e ≡ walk.TooManyPlaces → HasMoreThan job.now job.now.limit) }
+{
     let survey = match survey(alloc, job) {
         Ok(survey) => survey,
-        Err(error) => return Err(no_answer(asked, job, error)),
+        Err(error) => return Err(error),
     };
     let Ok(witness) = survey.witness(alloc, job) else {
-        return Err(Refusal::Memory);
+        return Err(WalkError::Memory);
     };
     match explanation_text(alloc, job, &survey, &witness, &[]) {
         Ok(text) => Ok(Told {
             verdict: survey.verdict(),
             text,
         }),
-        Err(_) => Err(Refusal::Memory),
+        Err(_) => Err(WalkError::Memory),
     }
 }

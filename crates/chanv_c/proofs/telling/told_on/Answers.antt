@@ -1,9 +1,9 @@
--- What the survey says of the job is said of what C asks about.
+-- What the survey says of the job, with the verdict that is told.
 use Rattle.std.proofs.Common.{sym, subst}
 use Rattle.chan_walk.specs.declared.verdict.Verdict.{Verdict}
 use Rattle.chan_walk.specs.Answers.{IsAnswer}
 use Rattle.chan_walk.specs.Explained.{IsEvidenceOf, IsPathOf, IsStoredOver, IsWitness}
-use Rattle.chanv_c.proofs.telling.text_on.Goals as goal
+use Rattle.chanv_c.proofs.telling.told_on.Goals as goal
 
 pub returns-in-Ok-explanation_text-clause-text : goal.returns-in-Ok-explanation_text-clause-text
 returns-in-Ok-explanation_text-clause-text c =
@@ -11,8 +11,6 @@ returns-in-Ok-explanation_text-clause-text c =
     let w = c.in-Ok-witness.witness in
     let same = sym c.verdict.ensures in
     record {
-      job = j;
-      asked = c.requires.asked;
       answer = subst (λ (v : Verdict). IsAnswer j v) same c.in-Ok.ensures.answer;
       offences = c.in-Ok.survey.offences.items;
       offending = c.in-Ok.ensures.survey.offences;
