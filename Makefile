@@ -15,15 +15,18 @@ HALF = $(shell expr \( $(JOBS) + 1 \) / 2)
 # The kit with which all was proved last, as `rt version` names it.
 KIT = rattle-kit-13f logic dac8208d650f15bf
 
-# The libraries under chanv, lowest first. They are built one by one, each with all processors, so
-# that `rt run` in chanv finds them there, and leaves out its quick pass over all sources.
-LIBRARIES = ccw_core ckd_core chan_walk chan_deck chan_run
+# The libraries under chanv. `rt run` in chanv finds them built, and leaves out its quick pass over
+# all sources.
+LIBRARIES = ccw_core ckd_core chan_walk chan_deck chan_args chan_run
+
+# Two libraries are built at a time, unless a call of make has made that choice already.
+BESIDE = --jobs=2
 
 # The deck that `make try` explains the verdict on.
 DECK ?= examples/changes-argument.deck
 
-.PHONY: run libraries test audit proofs mutants one_call lib install uninstall try table
-.PHONY: can_prove can_link can_test can_audit
+.PHONY: run libraries $(LIBRARIES) test audit proofs mutants one_call lib install uninstall try
+.PHONY: table can_prove can_link can_test can_audit
 
 run: libraries
 	cd crates/chanv && rt run --jobs $(JOBS) < stdin
@@ -34,7 +37,17 @@ can_prove can_link can_test can_audit:
 	@KIT='$(KIT)' CC='$(CC)' tests/tools $(@:can_%=%)
 
 libraries: can_prove
-	for crate in $(LIBRARIES); do (cd crates/$$crate && rt lib --jobs $(JOBS)) || exit 1; done
+	$(MAKE) --no-print-directory $(BESIDE) $(LIBRARIES)
+
+$(LIBRARIES):
+	cd crates/$@ && rt lib --jobs $(JOBS)
+
+# Each is built after those that it stands on. For ckd_core and chan_args, which are small, one
+# processor is enough beside the others.
+chan_walk: ccw_core ckd_core
+chan_deck: chan_walk
+chan_run: chan_args chan_deck
+ckd_core chan_args: JOBS = 1
 
 # Explains the verdict on a deck, with nothing proved: it compiles the sources as they are.
 try:
@@ -50,7 +63,7 @@ test: can_test libraries
 # Both run at once, each with half of the processors: a proof reads for a while with one, and with
 # more processes than processors each takes longer.
 audit: can_audit
-	RT_JOBS=$(HALF) $(MAKE) --jobs=2 JOBS=$(HALF) proofs mutants
+	RT_JOBS=$(HALF) $(MAKE) --jobs=2 JOBS=$(HALF) BESIDE= proofs mutants
 
 mutants: run lib
 	tests/mutants.py --built

@@ -1,8 +1,8 @@
 """Each command with each fault that its input or a stream can have, and the help of each.
 
 The tables say what comes of an input, as the README and docs/ have it. The answers over decks are
-the texts that stand beside them in examples/, and help.txt has the help, written from the commands
-of crates/chanv/src/lines.rt. What becomes of all this where a stream is full or closed follows from
+the texts beside them in examples/, and help.txt has the help, written from the commands of
+crates/chan_args/src/lines.rt. What becomes of all this if a stream is full or closed follows from
 two rules: a failed write to standard output ends the run with status 3, and what standard error
 can't take is left out.
 """

@@ -109,9 +109,9 @@ def table(heads, rows):
     return "".join([*lines, "\n"]) if rows else ""
 
 
-def with_public():
-    """The crates that have a public function, lowest first."""
-    return [crate for crate in map(Crate, crates()) if crate.public()]
+def with_any():
+    """The crates that have a public function or a mutant, lowest first."""
+    return [crate for crate in map(Crate, crates()) if crate.public() or crate.mutants]
 
 
 def tables(some):
@@ -150,7 +150,7 @@ def check_laws(checks, some):
 
 
 def check(checks, _built):
-    some = with_public()
+    some = with_any()
     tried = [mutant.path for crate in some for mutant in crate.mutants]
     left_out = {*MUTANTS.rglob("*.*"), *CRATES.glob("*/must-fail/*")} - {*tried}
     checks.expect("files of mutants that no crate tries", set(), left_out)
@@ -162,4 +162,4 @@ def check(checks, _built):
 
 
 if __name__ == "__main__":
-    print(tables(with_public()), end="")
+    print(tables(with_any()), end="")

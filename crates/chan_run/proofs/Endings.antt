@@ -10,8 +10,8 @@ use Rattle.chan_run.specs.declared.image.ImageError.{ImageError}
 use Rattle.chan_run.specs.declared.image.ImageError.TheVariants as images
 use Rattle.chan_run.specs.declared.image.ImageError.TheVariants.{NoJob}
 use Rattle.chan_walk.specs.declared.reason.Reason.{Reason}
-use Rattle.chan_run.specs.declared.running.Action.{Action}
-use Rattle.chan_run.specs.declared.running.Action.TheVariants as actions
+use Rattle.chan_args.specs.declared.action.Action.{Action}
+use Rattle.chan_args.specs.declared.action.Action.TheVariants as actions
 use Rattle.chan_run.specs.declared.running.RunError.{RunError}
 use Rattle.chan_run.specs.declared.running.RunError.TheVariants.{Deck, TooManyPlaces}
 use Rattle.chan_run.specs.declared.running.Status.{Status}

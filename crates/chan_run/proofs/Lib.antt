@@ -3,7 +3,6 @@ pub mod Outputs
 pub mod NeedLemmas
 pub mod LeastLemmas
 pub mod OptionLemmas
-pub mod ImageLemmas
 pub mod Endings
 pub mod MeaningLemmas
 mod WordLemmas

@@ -12,8 +12,8 @@ use Rattle.chan_walk.specs.declared.reason.Reason.{Reason}
 use Rattle.chan_walk.specs.declared.verdict.Verdict.{Verdict}
 use Rattle.chan_walk.specs.declared.verdict.Verdict.TheVariants.{No}
 use Rattle.chan_walk.specs.Answers.{IsAnswer}
-use Rattle.chan_run.specs.declared.running.Action.{Action}
-use Rattle.chan_run.specs.declared.running.Action.TheVariants as actions
+use Rattle.chan_args.specs.declared.action.Action.{Action}
+use Rattle.chan_args.specs.declared.action.Action.TheVariants as actions
 use Rattle.chan_run.specs.declared.running.RunError.{RunError}
 use Rattle.chan_run.specs.declared.running.RunError.TheVariants.{Deck, TooManyPlaces, Write, Memory}
 use Rattle.chan_run.specs.declared.running.Status.{Status}

@@ -11,8 +11,8 @@ use Rattle.chan_walk.specs.declared.note.Notes.{Notes}
 use Rattle.chan_walk.specs.Job.{fetch_of, store_of}
 use Rattle.chan_walk.specs.Notes.{AreAddressesOf, AreMachineStores, AreUnused, IsFetchedFrom}
 use Rattle.chan_walk.specs.Notes.{IsStoredInto, ends_there, interrupts, reaches_past_storage}
-use Rattle.chan_run.specs.declared.running.Action.{Action}
-use Rattle.chan_run.specs.declared.running.Action.TheVariants as actions
+use Rattle.chan_args.specs.declared.action.Action.{Action}
+use Rattle.chan_args.specs.declared.action.Action.TheVariants as actions
 use Rattle.chan_run.specs.declared.running.RunError.{RunError}
 use Rattle.chan_run.specs.declared.running.RunError.TheVariants.{Deck, TooManyPlaces}
 use Rattle.chan_run.specs.declared.running.Status.{Status}

@@ -12,8 +12,8 @@ use Rattle.chan_run.specs.declared.image.ImageError.TheVariants.{NoJob}
 use Rattle.chan_run.specs.declared.image_options.ImageOptions.{ImageOptions}
 use Rattle.chan_run.specs.declared.reporting.Outcome.{Outcome}
 use Rattle.chan_run.specs.declared.reporting.Outcome.TheVariants.{Imaged, Ran}
-use Rattle.chan_run.specs.declared.running.Action.{Action}
-use Rattle.chan_run.specs.declared.running.Action.TheVariants as actions
+use Rattle.chan_args.specs.declared.action.Action.{Action}
+use Rattle.chan_args.specs.declared.action.Action.TheVariants as actions
 use Rattle.chan_run.specs.declared.running.RunError.{RunError}
 use Rattle.chan_run.specs.declared.running.RunError.TheVariants.{Deck, Memory, TooManyPlaces}
 use Rattle.chan_run.specs.declared.running.Status.{Status}

@@ -1,14 +1,9 @@
--- The options with which a deck is made of an image of storage, and what is written of them.
+-- What is written of an image of storage and the options with which a deck is made of it.
 use Rattle.std.specs.Prelude.{ℕ, ◌+◌, ◌-◌, ◌<◌, ◌≤◌, ◌^◌, ◌≡◌, ◌⊎◌, List, [], ◌∷◌, ◌++◌, length}
-use Rattle.std.specs.Prelude.{Bool, true, false, Option, Some, None, Result, Ok, Err, map}
+use Rattle.std.specs.Prelude.{Bool, true, false, Option, Some, None, Result, Ok, Err}
 use Rattle.std.specs.Prelude.{replicate, unwrap_or}
-use Rattle.std.specs.Borrow.{Bor}
 use Rattle.std.specs.Io.KnownBytes.{Appends}
-use Rattle.std.specs.List.{AllZip}
-use Rattle.ccw_core.specs.declared.areas.Area.{Area}
 use Rattle.ccw_core.specs.Written.{AppendsPrefix}
-use Rattle.ckd_core.specs.Cylinders.{IsExtent}
-use Rattle.ckd_core.specs.declared.device.Device.{Device}
 use Rattle.chan_deck.specs.Image.{Image, IsDeck, limit_of, spelling}
 use Rattle.chan_deck.specs.Needs.{in_six_digits}
 use Rattle.chan_deck.specs.Parts.{storage_with, version_with}
@@ -20,101 +15,10 @@ use Rattle.chan_walk.specs.Job.{storage_of}
 use Rattle.chan_walk.specs.Rows.{AreNeeds, IsOpenJob, Listed}
 use Rattle.chan_walk.specs.Verdict.{IsVerdict}
 use Rattle.chan_run.specs.Input.{GaveAll, GaveOut, GaveTooMuch}
-use Rattle.chan_run.specs.Options.{SaysAddress, SaysArea, SaysCylinders, SaysDevice, SaysLimit}
-use Rattle.chan_run.specs.Options.{SaysMask, SaysSize}
 use Rattle.chan_run.specs.Run.{IsJobOf}
 use Rattle.chan_run.specs.declared.image.ImageError.{ImageError}
 use Rattle.chan_run.specs.declared.image.ImageError.TheVariants as faults
-use Rattle.chan_run.specs.declared.image_options.ImageOption.{ImageOption}
-use Rattle.chan_run.specs.declared.image_options.ImageOption.TheVariants as options
 use Rattle.chan_run.specs.declared.image_options.ImageOptions.{ImageOptions}
-use Rattle.chan_run.specs.declared.image_options.ImageWords.{ImageWords}
-use Rattle.chan_run.specs.declared.image_options.OptionError.{OptionError}
-use Rattle.chan_run.specs.declared.image_options.OptionError.TheVariants.{Wrong, Memory}
-
-abbrev pub texts_of : List (Bor (List ℕ)) → List (List ℕ)
-texts_of = map (λ text. text.now)
-
--- first and last cylinder, in order and on the device
-abbrev pub SaysExtent : List ℕ → ℕ × ℕ → Type 0
-SaysExtent text e = SaysCylinders text e × IsExtent e
-
--- where there is a text, it says this limit, and else there is none
-abbrev pub SaysLimitOrNone : Option (Bor (List ℕ)) → Option ℕ → Type 0
-SaysLimitOrNone None limit = limit ≡ None
-SaysLimitOrNone (Some text) None = ⊥
-SaysLimitOrNone (Some text) (Some n) = SaysLimit text.now n
-
--- where there is a text, it says this size of storage, and else there is none
-abbrev pub SaysSizeOrNone : Option (Bor (List ℕ)) → Option ℕ → Type 0
-SaysSizeOrNone None size = size ≡ None
-SaysSizeOrNone (Some text) None = ⊥
-SaysSizeOrNone (Some text) (Some n) = SaysSize text.now n
-
--- the options are what their texts say
-pub record SaysOptions (w : ImageWords) (o : ImageOptions) : Type 0 where
-  pub device : SaysDevice w.device.now o.device
-  pub mask : SaysMask w.mask.now o.mask
-  pub start : SaysAddress w.start.now o.start
-  pub limit : SaysLimitOrNone w.limit o.limit
-  pub extents : AllZip SaysExtent (texts_of w.extents.items) o.extents
-  pub fetch : AllZip SaysArea (texts_of w.fetch.items) o.fetch.items
-  pub store : AllZip SaysArea (texts_of w.store.items) o.store.items
-  pub at : SaysAddress w.at.now o.at
-  pub size : SaysSizeOrNone w.storage o.size
-  pub least : o.is_least ≡ w.is_least
-
--- the text says something that this option may say
-abbrev pub IsRight : ImageOption × List ℕ → Type 0
-IsRight (options.Device, text) = (d : Device) × SaysDevice text d
-IsRight (options.Mask, text) = (n : ℕ) × SaysMask text n
-IsRight (options.Start, text) = (n : ℕ) × SaysAddress text n
-IsRight (options.Limit, text) = (n : ℕ) × SaysLimit text n
-IsRight (options.Extent, text) = (e : ℕ × ℕ) × SaysExtent text e
-IsRight (options.Fetch, text) = (a : Area) × SaysArea text a
-IsRight (options.Store, text) = (a : Area) × SaysArea text a
-IsRight (options.At, text) = (n : ℕ) × SaysAddress text n
-IsRight (options.Storage, text) = (n : ℕ) × SaysSize text n
-
--- an option that is given any number of times, with its texts
-abbrev pub each_given : ImageOption → List (Bor (List ℕ)) → List (ImageOption × List ℕ)
-each_given option = map (λ text. (option, text.now))
-
--- the option of the limit, where it is given
-abbrev pub limit_given : Option (Bor (List ℕ)) → List (ImageOption × List ℕ)
-limit_given None = []
-limit_given (Some text) = (options.Limit, text.now) ∷ []
-
--- the option of the size of storage, where it is given
-abbrev pub size_given : Option (Bor (List ℕ)) → List (ImageOption × List ℕ)
-size_given None = []
-size_given (Some text) = (options.Storage, text.now) ∷ []
-
--- the options of an extent; where none is given, it is as if an empty text were
-abbrev pub extents_given : List (Bor (List ℕ)) → List (ImageOption × List ℕ)
-extents_given [] = (options.Extent, []) ∷ []
-extents_given texts = each_given options.Extent texts
-
--- the options that are given with their texts, in the order of a deck's lines, and then the
--- address of the image and the size of storage
-abbrev pub given : ImageWords → List (ImageOption × List ℕ)
-given w =
-    (options.Device, w.device.now) ∷ (options.Mask, w.mask.now) ∷ (options.Start, w.start.now)
-    ∷ (limit_given w.limit ++ (extents_given w.extents.items
-    ++ (each_given options.Fetch w.fetch.items
-    ++ (each_given options.Store w.store.items
-    ++ (options.At, w.at.now) ∷ size_given w.storage))))
-
--- the first of some options whose text isn't right
-abbrev pub IsFirstWrong : List (ImageOption × List ℕ) → ImageOption × List ℕ → Type 0
-IsFirstWrong [] wrong = ⊥
-IsFirstWrong (option ∷ rest) wrong =
-    ((wrong ≡ option) × ¬ IsRight option) ⊎ (IsRight option × IsFirstWrong rest wrong)
-
--- the error names the first of some options whose text isn't right
-abbrev pub NamesFirstWrong : List (ImageOption × List ℕ) → OptionError → Type 0
-NamesFirstWrong options (Wrong fault) = IsFirstWrong options (fault.option, fault.text.now)
-NamesFirstWrong options Memory = Unit {0}
 
 -- the deck that the options and an image of storage make
 abbrev pub deck_of : ImageOptions → List ℕ → Image

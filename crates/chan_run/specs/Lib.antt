@@ -8,9 +8,9 @@ pub mod Meaning
 pub mod Nearest
 pub mod Report
 pub mod Options
+pub mod OptionReading
 pub mod Imaging
 pub mod Finding
-pub mod OptionCause
 pub mod OptionFault
 pub mod Advice
 pub mod Answer

@@ -1,9 +1,9 @@
 -- The texts of usage faults that name an option, in the wording of the command line's library.
 use Rattle.std.specs.Prelude.{◌++◌, ◌∷◌, ℕ, List, [], codes}
-use Rattle.chan_run.specs.declared.image_options.GrantFault.{GrantFault}
-use Rattle.chan_run.specs.declared.image_options.GrantFault.TheVariants.{BesideLeast, NoExtent}
-use Rattle.chan_run.specs.declared.image_options.ImageOption.{ImageOption}
-use Rattle.chan_run.specs.declared.image_options.ImageOption.TheVariants as options
+use Rattle.chan_args.specs.declared.image_words.GrantFault.{GrantFault}
+use Rattle.chan_args.specs.declared.image_words.GrantFault.TheVariants.{BesideLeast, NoExtent}
+use Rattle.chan_args.specs.declared.image_words.ImageOption.{ImageOption}
+use Rattle.chan_args.specs.declared.image_words.ImageOption.TheVariants as options
 use Rattle.chan_run.specs.declared.image_options.OptionFault.{OptionFault}
 
 -- how an option is written, with the name of its value
@@ -19,10 +19,10 @@ option_usage options.At = codes "--at <ADDRESS>"
 option_usage options.Storage = codes "--storage <SIZE>"
 
 -- the text that was given, the option, and why it isn't accepted
-abbrev pub fault_text : OptionFault → List ℕ → List ℕ
-fault_text fault why =
+abbrev pub fault_text : OptionFault → List ℕ
+fault_text fault =
     codes "error: invalid value '" ++ (fault.text.now ++ (codes "' for '"
-    ++ (option_usage fault.option ++ (codes "': " ++ (why
+    ++ (option_usage fault.option ++ (codes "': " ++ (fault.why.now
     ++ (10 ∷ 10 ∷ codes "For more information, try '--help'." ++ 10 ∷ []))))))
 
 -- an option, so written, can't stand beside the least job

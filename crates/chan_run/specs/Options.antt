@@ -1,101 +1,138 @@
--- What the texts of the command's options say.
-use Rattle.std.specs.Prelude.{ℕ, ◌+◌, ◌<◌, ◌≤◌, ◌%◌, ◌^◌, ◌≡◌, ◌⊎◌, true, List, ◌++◌, codes}
-use Rattle.std.specs.Prelude.{Option, Some, None}
-use Rattle.std.specs.Str.Parse.{IsNumeral, digits_value}
+-- What the texts of the command's options say: a value, or why the text isn't accepted.
+use Rattle.std.specs.Prelude.{ℕ, ◌+◌, ◌-◌, ◌≤◌, ◌%◌, ◌^◌, ◌≡◌, Bool, ◌&&◌, ◌||◌, not, ◌==◌, nat_eq}
+use Rattle.std.specs.Prelude.{nat_lt, if◌then◌else◌, List, length, drop, codes, Option, Some, None}
+use Rattle.std.specs.Prelude.{Result, Ok, Err, bytes_eq, option_and_then, option_map}
+use Rattle.std.specs.Borrow.{Bor}
+use Rattle.std.specs.Char.{digit_value}
+use Rattle.std.specs.List.{after_first, before_first, list_all, position_or_len, starts_with}
+use Rattle.std.specs.Str.Parse.{digits_value}
 use Rattle.ccw_core.specs.declared.areas.Area.{Area}
 use Rattle.ckd_core.specs.Mask.{is_mask}
 use Rattle.ckd_core.specs.declared.device.Device.{Device}
-use Rattle.chan_walk.specs.Limit.{IsLimit}
-use Rattle.chan_deck.specs.Item.{IsArea, device_digits}
-use Rattle.chan_run.specs.declared.options.Span.{Span}
-use Rattle.chan_run.specs.declared.options.Span.TheVariants as spans
+use Rattle.ckd_core.specs.declared.device.Device.TheVariants.{D2311, D2314}
+use Rattle.chan_deck.specs.Item.{device_digits}
+use Rattle.chan_run.specs.declared.options.TheConstants as texts
 
--- the answer is what the text says, and there is none where it says nothing
-abbrev pub IsRead : {A : Type 0} → (List ℕ → A → Type 0) → List ℕ → Option A → Type 0
-IsRead {A = A} says text None = (x : A) → says text x → ⊥
-IsRead says text (Some x) = says text x
+-- a value, or why there is none
+abbrev pub Said : Type 0 → Type 0
+Said A = Result A (List ℕ)
 
--- one digit or more in a radix, and nothing else, and they write the number; of letters either case
--- is a digit
-abbrev pub SaysNumber : ℕ → List ℕ → ℕ → Type 0
-SaysNumber radix text n = IsNumeral radix text × (digits_value radix text ≡ n)
+-- the same of an answer
+abbrev pub said : {A : Type 0} → Result A (Bor (List ℕ)) → Said A
+said (Ok x) = Ok x
+said (Err why) = Err why.now
 
--- a number of 32 bits
-abbrev pub SaysWord : (List ℕ → ℕ → Type 0) → List ℕ → ℕ → Type 0
-SaysWord says text n = says text n × (n < 2 ^ 32)
+-- what a value that was found says, or else this
+abbrev pub judged_or : {A B : Type 0} → (A → Said B) → Said B → Option A → Said B
+judged_or judge none None = none
+judged_or judge none (Some x) = judge x
 
--- the digits of a hexadecimal number: its whole text, or what stands behind `0x` or `0X`
-abbrev pub AreDigitsOf : List ℕ → List ℕ → Type 0
-AreDigitsOf text digits =
-    (text ≡ digits) ⊎ ((text ≡ codes "0x" ++ digits) ⊎ (text ≡ codes "0X" ++ digits))
+-- or else what is accepted
+abbrev pub judged : {A B : Type 0} → (A → Said B) → List ℕ → Option A → Said B
+judged judge accepted = judged_or judge (Err accepted)
 
--- a hexadecimal number: one digit or more, or `0x` or `0X` and one digit or more
-pub record SaysHexadecimal (text : List ℕ) (n : ℕ) : Type 0 where
-  pub digits : List ℕ
-  pub are : AreDigitsOf text digits
-  pub say : SaysNumber 16 digits n
+-- one digit or more in a radix, and nothing else; of letters either case is a digit
+unfoldable pub is_numeral : ℕ → List ℕ → Bool
+is_numeral radix text = nat_lt 0 (length text) && list_all (λ c. nat_lt (digit_value c) radix) text
+
+-- the number of 32 bits that such digits write
+unfoldable pub number_in : ℕ → List ℕ → Option ℕ
+number_in radix text =
+    if is_numeral radix text && nat_lt (digits_value radix text) (2 ^ 32)
+    then Some (digits_value radix text) else None
+
+-- the digits of a hexadecimal number: what stands after `0x` or `0X`, or else its whole text
+unfoldable pub digits_in : List ℕ → List ℕ
+digits_in text =
+    if starts_with nat_eq text (codes "0x") || starts_with nat_eq text (codes "0X")
+    then drop 2 text else text
+
+-- a hexadecimal number
+abbrev pub hexadecimal_in : List ℕ → Option ℕ
+hexadecimal_in text = number_in 16 (digits_in text)
+
+-- a number before the first such sign, and one after it
+unfoldable pub both_in : (List ℕ → Option ℕ) → ℕ → List ℕ → Option (ℕ × ℕ)
+both_in number sign text =
+    if nat_lt (position_or_len (λ c. c == sign) text) (length text)
+    then option_and_then (λ first. option_map (λ second. (first, second))
+    (number (after_first (λ c. c == sign) text))) (number (before_first (λ c. c == sign) text))
+    else None
+
+-- two hexadecimal numbers with a sign between them
+abbrev pub pair_in : ℕ → List ℕ → Option (ℕ × ℕ)
+pair_in = both_in hexadecimal_in
+
+-- a decimal number of 16 bits
+abbrev pub cylinder_in : List ℕ → Option ℕ
+cylinder_in text =
+    option_and_then (λ n. if nat_lt n (2 ^ 16) then Some n else None) (number_in 10 text)
+
+-- two of them with a hyphen between them
+abbrev pub cylinders_in : List ℕ → Option (ℕ × ℕ)
+cylinders_in = both_in cylinder_in 45
+
+-- a device, by its number
+abbrev pub device_in : List ℕ → Said Device
+device_in text =
+    if bytes_eq text (device_digits D2311) then Ok D2311
+    else if bytes_eq text (device_digits D2314) then Ok D2314 else Err texts.DEVICE_FORM.now
+
+-- a file mask
+abbrev pub mask_in : List ℕ → Said ℕ
+mask_in text = judged (λ n.
+    if nat_lt 255 n then Err texts.MASK_ABOVE.now
+    else if is_mask n then Ok n else Err texts.MASK_BITS.now)
+    texts.MASK_FORM.now (hexadecimal_in text)
 
 -- an address
-abbrev pub SaysAddress : List ℕ → ℕ → Type 0
-SaysAddress text n = SaysHexadecimal text n × (n < 2 ^ 24)
+abbrev pub address_in : List ℕ → Said ℕ
+address_in text = judged (λ n. if nat_lt n (2 ^ 24) then Ok n else Err texts.ADDRESS_ABOVE.now)
+    texts.ADDRESS_FORM.now (hexadecimal_in text)
 
 -- a number of bytes that storage may have
 abbrev pub IsSize : ℕ → Type 0
 IsSize n = (n ≤ 2 ^ 24) × (n % 8 ≡ 0)
 
 -- a size of storage
-abbrev pub SaysSize : List ℕ → ℕ → Type 0
-SaysSize text n = SaysHexadecimal text n × IsSize n
+abbrev pub size_in : List ℕ → Said ℕ
+size_in text = judged (λ n.
+    if nat_lt (2 ^ 24) n then Err texts.SIZE_ABOVE.now
+    else if n % 8 == 0 then Ok n else Err texts.SIZE_ODD.now)
+    texts.SIZE_FORM.now (hexadecimal_in text)
 
--- a file mask
-abbrev pub SaysMask : List ℕ → ℕ → Type 0
-SaysMask text n = SaysHexadecimal text n × (n < 2 ^ 8) × (is_mask n ≡ true)
+-- a limit on places
+abbrev pub limit_in : List ℕ → Said ℕ
+limit_in text = judged (λ n.
+    if n == 0 then Err texts.LIMIT_BELOW.now
+    else if nat_lt 65536 n then Err texts.LIMIT_ABOVE.now else Ok n)
+    texts.LIMIT_FORM.now (number_in 10 text)
 
--- decimal digits of a cylinder, whether or not the device has it
-abbrev pub SaysCylinder : List ℕ → ℕ → Type 0
-SaysCylinder text n = SaysNumber 10 text n × (n < 2 ^ 16)
+-- first and last cylinder of an extent, in order and on the device
+abbrev pub extent_in : List ℕ → Said (ℕ × ℕ)
+extent_in text = judged (λ e.
+    if nat_lt e.1 e.0 then Err texts.EXTENT_BACKWARDS.now
+    else if nat_lt 202 e.1 then Err texts.EXTENT_ABOVE.now else Ok e)
+    texts.EXTENT_FORM.now (cylinders_in text)
 
--- first and last cylinder, in any order, with a hyphen between them
-abbrev pub SaysCylinders : List ℕ → ℕ × ℕ → Type 0
-SaysCylinders text e =
-    (first : List ℕ) × (last : List ℕ) × (text ≡ first ++ (codes "-" ++ last))
-    × SaysCylinder first e.0 × SaysCylinder last e.1
+-- the area with this start and this length
+abbrev pub sized_area : ℕ × ℕ → Said Area
+sized_area (start, len) =
+    if not (nat_lt start (2 ^ 24)) then Err texts.AREA_START_ABOVE.now
+    else if nat_lt len (2 ^ 24) then Ok (record { start = start; len = len })
+    else Err texts.AREA_LENGTH_ABOVE.now
 
--- two hexadecimal numbers with a sign between them
-abbrev pub SaysPair : List ℕ → List ℕ → ℕ × ℕ → Type 0
-SaysPair sign text p =
-    (first : List ℕ) × (second : List ℕ) × (text ≡ first ++ (sign ++ second))
-    × SaysHexadecimal first p.0 × SaysHexadecimal second p.1
+-- the area with this first byte and this last; it isn't all of the largest storage
+abbrev pub area_between : ℕ × ℕ → Said Area
+area_between (first, last) =
+    if nat_lt last first then Err texts.AREA_BACKWARDS.now
+    else if not (nat_lt last (2 ^ 24)) then Err texts.AREA_LAST_ABOVE.now
+    else if nat_lt (last - first + 1) (2 ^ 24)
+    then Ok (record { start = first; len = last - first + 1 })
+    else Err texts.AREA_LONGEST.now
 
--- start and length with a plus between them, or first and last byte with a hyphen
-abbrev pub SaysSpan : List ℕ → Span → Type 0
-SaysSpan text (spans.StartLength start len) = SaysPair (codes "+") text (start, len)
-SaysSpan text (spans.FirstLast first last) = SaysPair (codes "-") text (first, last)
-
--- both numbers of a span have 32 bits
-abbrev pub AreWords : Span → Type 0
-AreWords (spans.StartLength start len) = (start < 2 ^ 32) × (len < 2 ^ 32)
-AreWords (spans.FirstLast first last) = (first < 2 ^ 32) × (last < 2 ^ 32)
-
--- a span of such numbers
-abbrev pub SaysWords : List ℕ → Span → Type 0
-SaysWords text span = SaysSpan text span × AreWords span
-
--- an area has this start and this length, or begins with this byte and ends with that one, of which
--- each has an address
-abbrev pub HasSpan : Area → Span → Type 0
-HasSpan a (spans.StartLength start len) = (a.start ≡ start) × (a.len ≡ len)
-HasSpan a (spans.FirstLast first last) =
-    (a.start ≡ first) × (a.start + a.len ≡ last + 1) × (first ≤ last) × (last < 2 ^ 24)
-
--- an area, whose start and length are at most `FFFFFF` however it is written
-abbrev pub SaysArea : List ℕ → Area → Type 0
-SaysArea text a = IsArea a × ((span : Span) × SaysSpan text span × HasSpan a span)
-
--- decimal digits of a limit on places
-abbrev pub SaysLimit : List ℕ → ℕ → Type 0
-SaysLimit text n = SaysNumber 10 text n × IsLimit n
-
--- the number of a device
-abbrev pub SaysDevice : List ℕ → Device → Type 0
-SaysDevice text d = text ≡ device_digits d
+-- an area: start and length with a plus between them, or first and last byte with a hyphen
+abbrev pub area_in : List ℕ → Said Area
+area_in text =
+    judged_or sized_area (judged area_between texts.AREA_FORM.now (pair_in 45 text))
+    (pair_in 43 text)

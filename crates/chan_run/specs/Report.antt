@@ -5,8 +5,8 @@ use Rattle.std.specs.Prelude.{codes, Ok, Err}
 use Rattle.std.specs.Fmt.{decimal}
 use Rattle.chan_run.specs.declared.image.ImageError.TheVariants as images
 use Rattle.chan_run.specs.declared.meaning.MeaningError.TheVariants as meanings
-use Rattle.chan_run.specs.declared.running.Action.{Action}
-use Rattle.chan_run.specs.declared.running.Action.TheVariants as actions
+use Rattle.chan_args.specs.declared.action.Action.{Action}
+use Rattle.chan_args.specs.declared.action.Action.TheVariants as actions
 use Rattle.chan_run.specs.declared.running.RunError.TheVariants as runs
 use Rattle.chan_run.specs.declared.running.Status.TheVariants as statuses
 use Rattle.chan_run.specs.declared.showing.ShowError.TheVariants.{NotCcw, Memory, Write}

@@ -31,8 +31,8 @@ use Rattle.chan_walk.specs.Needs.{AreOfOneProgram}
 use Rattle.chan_walk.specs.Offences.{AreOffences, first_verdict}
 use Rattle.chan_walk.specs.Place.{first_place}
 use Rattle.chan_walk.specs.Rows.{AreNeeds, IsOpenJob, Listed}
-use Rattle.chan_run.specs.declared.running.Action.{Action}
-use Rattle.chan_run.specs.declared.running.Action.TheVariants as actions
+use Rattle.chan_args.specs.declared.action.Action.{Action}
+use Rattle.chan_args.specs.declared.action.Action.TheVariants as actions
 use Rattle.chan_run.specs.declared.running.Status.{Status}
 use Rattle.chan_run.specs.declared.running.Status.TheVariants as statuses
 use Rattle.chan_run.specs.declared.running.RunError.{RunError}
@@ -96,11 +96,6 @@ IsExplained all j v text =
 abbrev pub IsNeedsText : Job → List ℕ → Type 0
 IsNeedsText j text =
     (n : Listed) × ((k : Job) → AreOfOneProgram k j → AreNeeds k n) × (text ≡ needs_text n)
-
--- the action explains the verdict
-abbrev pub is_why : Action → Bool
-is_why (actions.Why all) = true
-is_why _ = false
 
 -- what an action asks to write of a job and its verdict: the verdict's line, the listing of the
 -- reachable places, the explanation, the picture, or what is needed; where the verdict is no,

@@ -1,4 +1,4 @@
-//! The options with which a deck is made of an image of storage: their texts, and what these say.
+//! What the options say with which a deck is made of an image of storage.
 
 ghost use Rattle.std.specs.List.{All};
 ghost use Rattle.chan_deck.specs.Item.{IsAddress, IsArea};
@@ -6,57 +6,9 @@ ghost use Rattle.std.specs.Prelude.{unwrap_or};
 ghost use Rattle.chan_run.specs.Options.{IsSize};
 
 use ccw_core::Area;
+use chan_args::ImageOption;
 use chan_walk::Limit;
 use ckd_core::{Device, Extents, FileMask};
-
-/// An option with which a deck is made of an image.
-#[derive(Clone, Copy)]
-pub enum ImageOption {
-    /// `--device`: the device that the program runs against.
-    Device,
-    /// `--mask`: the file mask that the supervisor set.
-    Mask,
-    /// `--start`: the address of the first CCW.
-    Start,
-    /// `--limit`: how many places may be reachable, at most.
-    Limit,
-    /// `--extent`: an extent of the file.
-    Extent,
-    /// `--fetch`: an area lent for fetching.
-    Fetch,
-    /// `--store`: an area lent for storing.
-    Store,
-    /// `--at`: the address at which the image begins.
-    At,
-    /// `--storage`: how many bytes storage has.
-    Storage,
-}
-
-/// The texts of the options with which a deck is made of an image, as a command line has them.
-#[derive(Drop)]
-pub struct ImageWords<'a> {
-    /// As `device_of` reads it.
-    pub device: &'a str,
-    /// As `mask_of` reads it.
-    pub mask: &'a str,
-    /// As `address_of` reads it.
-    pub start: &'a str,
-    /// As `limit_of` reads it.
-    pub limit: Option<&'a str>,
-    /// Each as `cylinders_of` reads it. There has to be one, and each has to be in order and on the
-    /// device.
-    pub extents: Vec<&'a str>,
-    /// Each as `area_of` reads it.
-    pub fetch: Vec<&'a str>,
-    /// Each as `area_of` reads it.
-    pub store: Vec<&'a str>,
-    /// As `address_of` reads it.
-    pub at: &'a str,
-    /// As `size_of` reads it.
-    pub storage: Option<&'a str>,
-    /// Whether the deck grants what the program needs, in place of mask, extents and areas.
-    pub is_least: bool,
-}
 
 /// The values of the options: the job of the deck, and the address of the image.
 #[derive(Drop)]
@@ -91,22 +43,15 @@ pub struct ImageOptions {
     pub ghost size_is_size: { IsSize (unwrap_or size 0) },
 }
 
-/// An option whose text isn't accepted, with that text.
+/// An option whose text isn't accepted, with that text and why.
 #[derive(Clone, Copy)]
 pub struct OptionFault<'a> {
     /// Which option.
     pub option: ImageOption,
     /// The text that was given for it.
     pub text: &'a str,
-}
-
-/// Why options don't say one job.
-#[derive(Clone, Copy)]
-pub enum GrantFault {
-    /// This option stands beside `--least`, which grants in its place.
-    BesideLeast(ImageOption),
-    /// There is neither an extent nor `--least`.
-    NoExtent,
+    /// Why that isn't accepted.
+    pub why: &'a str,
 }
 
 /// Why the texts of options weren't read.

@@ -26,7 +26,6 @@ mod least;
 mod meaning;
 mod naming;
 mod nearest;
-mod option_cause;
 mod option_fault;
 mod option_reading;
 mod options;
@@ -40,18 +39,13 @@ pub use crate::answering::{answer, answer_image, note_usual_device};
 pub use crate::failure::Failure;
 pub use crate::finding::find_programs;
 pub use crate::image::{ImageError, write_image};
-pub use crate::image_options::{
-    GrantFault, ImageOption, ImageOptions, ImageWords, OptionError, OptionFault,
-};
+pub use crate::image_options::{ImageOptions, OptionError, OptionFault};
 pub use crate::meaning::{MeaningError, Term, explain_word, list_words, term_of};
 pub use crate::option_fault::{report_grants, report_option};
 pub use crate::option_reading::options_of;
-pub use crate::options::{
-    address_of, area_of, cylinders_of, device_of, limit_of, mask_of, size_of,
-};
 pub use crate::reporting::{
     Outcome, conclude, ends_run, exit_status, greater_status, has_advice, report, report_named,
 };
-pub use crate::running::{Action, RunError, Status, run, run_named};
+pub use crate::running::{RunError, Status, run, run_named};
 pub use crate::showing::{ShowError, show};
 pub use crate::word::{shown_word, word_of};

@@ -3,14 +3,13 @@
 ghost use Rattle.std.specs.Prelude.{◌≡◌, ◌↔◌, List, ℕ, false, true, IsErr, OnOk};
 ghost use Rattle.std.specs.Io.KnownBytes.{Appends};
 ghost use Rattle.ccw_core.specs.Written.{AppendsPrefix};
-ghost use Rattle.chan_run.specs.OptionCause.{IsCause};
 ghost use Rattle.chan_run.specs.OptionFault.{beside_text, fault_text};
 ghost use Rattle.chan_run.specs.OptionFault.{grant_fault_text, option_usage};
 
-use crate::image_options::{GrantFault, ImageOption, OptionFault};
-use crate::option_cause::cause;
+use crate::image_options::OptionFault;
 use crate::texts::write_texts;
 use ccw_core::{DeviceFault, Watched, write_out};
+use chan_args::{GrantFault, ImageOption};
 use std::io::Write;
 
 /// The text of the usage fault where there is neither an extent nor the least job.
@@ -26,13 +25,12 @@ For more information, try '--help'.
 pub fn report_option<W: Write>(fault: OptionFault<'_>, to: &mut Watched<W>) -> u8
     requires { to.old.failed ≡ false }
     ensures status { result ≡ 4 }
-    ensures text { (why : List ℕ) × IsCause fault.entry.option fault.entry.text.now why
-        × (to.new.failed ≡ false → Appends (W.contents to.old.device) (W.contents to.new.device)
-        (fault_text fault.entry why))
-        × AppendsPrefix (W.contents to.old.device) (W.contents to.new.device)
-        (fault_text fault.entry why) }
+    ensures text { to.new.failed ≡ false → Appends (W.contents to.old.device)
+        (W.contents to.new.device) (fault_text fault.entry) }
+    ensures prefix { AppendsPrefix (W.contents to.old.device) (W.contents to.new.device)
+        (fault_text fault.entry) }
 {
-    let _ = write_fault(fault, cause(fault.option, fault.text), to);
+    let _ = write_fault(fault, to);
     4
 }
 
@@ -84,17 +82,13 @@ fn write_beside<W: Write>(usage: &str, to: &mut Watched<W>) -> Result<(), Device
     )
 }
 
-/// Writes the text of a usage fault that names an option, for this cause.
-fn write_fault<W: Write>(
-    fault: OptionFault<'_>,
-    why: &str,
-    to: &mut Watched<W>,
-) -> Result<(), DeviceFault>
+/// Writes the text of a usage fault that names an option.
+fn write_fault<W: Write>(fault: OptionFault<'_>, to: &mut Watched<W>) -> Result<(), DeviceFault>
     requires { to.old.failed ≡ false }
     ensures ok { OnOk result (Appends (W.contents to.old.device) (W.contents to.new.device)
-        (fault_text fault.entry why.now)) }
+        (fault_text fault.entry)) }
     ensures prefix { AppendsPrefix (W.contents to.old.device) (W.contents to.new.device)
-        (fault_text fault.entry why.now) }
+        (fault_text fault.entry) }
     ensures fault { IsErr result ↔ (to.new.failed ≡ true) }
 {
     write_texts(
@@ -104,7 +98,7 @@ fn write_fault<W: Write>(
             "' for '",
             usage(fault.option),
             "': ",
-            why,
+            fault.why,
             "\n\nFor more information, try '--help'.\n",
         ],
         to,

@@ -1,35 +1,69 @@
-//! What the texts of the command's options say.
+//! What the texts of the command's options say, or why one isn't accepted.
 
-ghost use Rattle.std.specs.Prelude.{◌<◌, ◌≤◌, ◌^◌, ◌≡◌, ◌⊎◌, ◌∷◌, [], ℕ, List, MatchOption};
-ghost use Rattle.std.specs.Str.Parse.{AllDigits};
-ghost use Rattle.ccw_core.specs.declared.areas.Area.{Area};
-ghost use Rattle.chan_deck.specs.Item.{IsArea};
-ghost use Rattle.chan_run.specs.Options.{AreDigitsOf, HasSpan, IsRead, SaysAddress, SaysArea};
-ghost use Rattle.chan_run.specs.Options.{SaysCylinder, SaysCylinders, SaysDevice, SaysHexadecimal};
-ghost use Rattle.chan_run.specs.Options.{SaysLimit, SaysMask, SaysNumber, SaysPair, SaysSize};
-ghost use Rattle.chan_run.specs.Options.{SaysWord, SaysWords};
+ghost use Rattle.std.specs.Prelude.{◌≤◌, ◌^◌, ◌≡◌, ◌⊎◌, IfOk};
+ghost use Rattle.chan_deck.specs.Item.{IsAddress, IsArea};
+ghost use Rattle.chan_run.specs.Options.{IsSize, address_in, area_between, area_in, cylinder_in};
+ghost use Rattle.chan_run.specs.Options.{cylinders_in, device_in, digits_in, extent_in};
+ghost use Rattle.chan_run.specs.Options.{hexadecimal_in, limit_in, mask_in, number_in, pair_in};
+ghost use Rattle.chan_run.specs.Options.{said, size_in, sized_area};
 
 use ccw_core::Area;
 use chan_walk::Limit;
-use ckd_core::{Device, FileMask};
+use ckd_core::{Device, FileMask, LAST_CYLINDER};
 
 /// The first number that is no address: addresses have 24 bits.
-pub(crate) const PAST_ADDRESSES: u32 = 0x100_0000;
+const PAST_ADDRESSES: u32 = 0x100_0000;
 
-/// An area as its text writes it.
-#[derive(Clone, Copy)]
-pub(crate) enum Span {
-    /// Its start and its length, as `900+10`.
-    StartLength(u32, u32),
-    /// Its first byte and its last, as `900-90F`.
-    FirstLast(u32, u32),
-}
+// What each option accepts: the cause if its text has another form.
+const DEVICE_FORM: &str = "2311 or 2314";
 
-/// The number that is written by digits in a radix, one or more, without a sign.
-pub(crate) fn number_of(text: &str, radix: u32) -> Option<u32>
+const MASK_FORM: &str = "a hexadecimal byte with no bits on but C0 and 18";
+
+const ADDRESS_FORM: &str = "a hexadecimal address, at most FFFFFF";
+
+const SIZE_FORM: &str = "a hexadecimal multiple of 8, at most 1000000";
+
+const LIMIT_FORM: &str = "a decimal number, 1 to 65536";
+
+const EXTENT_FORM: &str = "decimal cylinders in order, 0 to 202, as 10-19";
+
+const AREA_FORM: &str = "hexadecimal start and length or first and last byte, each at most \
+FFFFFF, as 900+10 or 900-90F";
+
+// Why numbers in the right form aren't accepted.
+const MASK_ABOVE: &str = "above FF";
+
+const MASK_BITS: &str = "a bit on besides C0 and 18";
+
+const ADDRESS_ABOVE: &str = "above FFFFFF";
+
+const SIZE_ABOVE: &str = "above 1000000";
+
+const SIZE_ODD: &str = "not a multiple of 8";
+
+const LIMIT_BELOW: &str = "below 1";
+
+const LIMIT_ABOVE: &str = "above 65536";
+
+const EXTENT_BACKWARDS: &str = "its last cylinder is below its first";
+
+const EXTENT_ABOVE: &str = "its last cylinder is above 202, the device's last";
+
+const AREA_START_ABOVE: &str = "its start is above FFFFFF";
+
+const AREA_LENGTH_ABOVE: &str = "its length is above FFFFFF";
+
+const AREA_BACKWARDS: &str = "its last byte is below its first";
+
+const AREA_LAST_ABOVE: &str = "its last byte is above FFFFFF";
+
+const AREA_LONGEST: &str = "its length, 1000000, is above FFFFFF";
+
+/// The number of 32 bits that digits in a radix write, one or more, without a sign.
+fn number_of(text: &str, radix: u32) -> Option<u32>
     requires lower { 2 ≤ radix }
     requires upper { radix ≤ 16 }
-    ensures { IsRead (SaysWord (SaysNumber radix)) text.now result }
+    ensures { result ≡ number_in radix text.now }
 {
     if text.starts_with('+') {
         return None;
@@ -37,20 +71,10 @@ pub(crate) fn number_of(text: &str, radix: u32) -> Option<u32>
     u32::from_str_radix(text, radix).ok()
 }
 
-/// The hexadecimal number of a text: one digit or more, of either case, with `0x` or `0X` before
-/// them or without. There may be leading zeros, but no sign and no space.
-pub(crate) fn hexadecimal_of(text: &str) -> Option<u32>
-    ensures { IsRead (SaysWord SaysHexadecimal) text.now result }
-{
-    number_of(digits_of(text), 16)
-}
-
-/// What stands behind `0x` or `0X`, or all of a text that doesn't begin so: the digits of a text
+/// What stands after `0x` or `0X`, or all of a text that doesn't begin so: the digits of a text
 /// that is a hexadecimal number.
 fn digits_of(text: &str) -> &str
-    ensures are { AreDigitsOf text.now result.now }
-    ensures alone { (digits : List ℕ) → AreDigitsOf text.now digits → AllDigits 16 digits
-        → digits ≡ result.now }
+    ensures { result.now ≡ digits_in text.now }
 {
     match text.strip_prefix("0x") {
         Some(digits) => digits,
@@ -58,40 +82,75 @@ fn digits_of(text: &str) -> &str
     }
 }
 
-/// An address: a hexadecimal number, as `hexadecimal_of` reads it, that is at most `FFFFFF`.
-pub fn address_of(text: &str) -> Option<u32>
-    ensures { IsRead SaysAddress text.now result }
+/// The hexadecimal number of a text: one digit or more, of either case, with `0x` or `0X` before
+/// them or without. There may be leading zeros, but no sign and no space.
+fn hexadecimal_of(text: &str) -> Option<u32>
+    ensures { result ≡ hexadecimal_in text.now }
 {
-    match hexadecimal_of(text) {
-        Some(number) if number < PAST_ADDRESSES => Some(number),
-        _ => None,
-    }
+    number_of(digits_of(text), 16)
 }
 
-/// A size of storage: a hexadecimal number that is a multiple of 8 and at most `1000000`.
-pub fn size_of(text: &str) -> Option<u32>
-    ensures { IsRead SaysSize text.now result }
+/// A device, by its number: `2311` or `2314`.
+pub(crate) fn device_of(text: &str) -> Result<Device, &str>
+    ensures { said result ≡ device_in text.now }
 {
-    match hexadecimal_of(text) {
-        Some(number) if number <= PAST_ADDRESSES && number % 8 == 0 => Some(number),
-        _ => None,
+    match text {
+        "2311" => Ok(Device::D2311),
+        "2314" => Ok(Device::D2314),
+        _ => Err(DEVICE_FORM),
     }
 }
 
 /// A file mask: a hexadecimal number that is a mask's byte.
-pub fn mask_of(text: &str) -> Option<FileMask>
-    ensures { IsRead SaysMask text.now result }
+pub(crate) fn mask_of(text: &str) -> Result<FileMask, &str>
+    ensures { said result ≡ mask_in text.now }
 {
-    let number = hexadecimal_of(text)?;
-    if number > 0xFF {
-        return None;
+    match hexadecimal_of(text) {
+        Some(number) if number > 0xFF => Err(MASK_ABOVE),
+        Some(number) => FileMask::new(number as u8).ok_or(MASK_BITS),
+        None => Err(MASK_FORM),
     }
-    FileMask::new(number as u8)
+}
+
+/// An address: a hexadecimal number, at most `FFFFFF`.
+pub(crate) fn address_of(text: &str) -> Result<u32, &str>
+    ensures says { said result ≡ address_in text.now }
+    ensures fits { IfOk result IsAddress }
+{
+    match hexadecimal_of(text) {
+        Some(number) if number >= PAST_ADDRESSES => Err(ADDRESS_ABOVE),
+        Some(number) => Ok(number),
+        None => Err(ADDRESS_FORM),
+    }
+}
+
+/// A size of storage: a hexadecimal number that is a multiple of 8 and at most `1000000`.
+pub(crate) fn size_of(text: &str) -> Result<u32, &str>
+    ensures says { said result ≡ size_in text.now }
+    ensures fits { IfOk result IsSize }
+{
+    match hexadecimal_of(text) {
+        Some(number) if number > PAST_ADDRESSES => Err(SIZE_ABOVE),
+        Some(number) if number % 8 != 0 => Err(SIZE_ODD),
+        Some(number) => Ok(number),
+        None => Err(SIZE_FORM),
+    }
+}
+
+/// A limit on places: one decimal digit or more, whose number is from 1 to 65,536.
+pub(crate) fn limit_of(text: &str) -> Result<Limit, &str>
+    ensures { said result ≡ limit_in text.now }
+{
+    match number_of(text, 10) {
+        Some(0) => Err(LIMIT_BELOW),
+        Some(number) => Limit::new(number).ok_or(LIMIT_ABOVE),
+        None => Err(LIMIT_FORM),
+    }
 }
 
 /// A cylinder: one decimal digit or more, whose number is at most 65,535.
 fn cylinder_of(text: &str) -> Option<u16>
-    ensures { IsRead SaysCylinder text.now result }
+    ensures { result ≡ cylinder_in text.now }
 {
     match number_of(text, 10) {
         Some(number) if number < 0x1_0000 => Some(number as u16),
@@ -99,82 +158,81 @@ fn cylinder_of(text: &str) -> Option<u16>
     }
 }
 
-/// First and last cylinder of an extent, as `10-19`: decimal numbers of at most 65,535, with a
-/// hyphen between them. Whether they are in order and on the device isn't asked.
-pub fn cylinders_of(text: &str) -> Option<(u16, u16)>
-    ensures { IsRead SaysCylinders text.now result }
+/// Two cylinders with a hyphen between them.
+fn cylinders_of(text: &str) -> Option<(u16, u16)>
+    ensures { result ≡ cylinders_in text.now }
 {
     let (first, last) = text.split_once('-')?;
     Some((cylinder_of(first)?, cylinder_of(last)?))
 }
 
+/// First and last cylinder of an extent, such as `10-19`: decimal numbers in order, the last one on
+/// the device.
+pub(crate) fn extent_of(text: &str) -> Result<(u16, u16), &str>
+    ensures { said result ≡ extent_in text.now }
+{
+    match cylinders_of(text) {
+        Some((first, last)) if last < first => Err(EXTENT_BACKWARDS),
+        Some((_, last)) if last > LAST_CYLINDER => Err(EXTENT_ABOVE),
+        Some(extent) => Ok(extent),
+        None => Err(EXTENT_FORM),
+    }
+}
+
 /// Two hexadecimal numbers with a sign between them, a plus or a hyphen.
 fn pair_of(text: &str, sign: char) -> Option<(u32, u32)>
     requires { (sign ≡ 43) ⊎ (sign ≡ 45) }
-    ensures { IsRead (λ t p. SaysPair (sign ∷ []) t p × (p.0 < 2 ^ 32) × (p.1 < 2 ^ 32))
-        text.now result }
+    ensures { result ≡ pair_in sign text.now }
 {
     let (first, second) = text.split_once(sign)?;
-    let first = hexadecimal_of(first)?;
-    let second = hexadecimal_of(second)?;
-    Some((first, second))
+    Some((hexadecimal_of(first)?, hexadecimal_of(second)?))
 }
 
-/// Start and length, or first and last byte. Whether an area has them isn't asked.
-pub(crate) fn span_of(text: &str) -> Option<Span>
-    ensures { IsRead SaysWords text.now result }
+/// The area with this start and this length, each at most `FFFFFF`.
+fn sized_area<'a>(start: u32, len: u32) -> Result<Area, &'a str>
+    ensures says { said result ≡ sized_area (start, len) }
+    ensures fits { IfOk result IsArea }
 {
-    if let Some((start, len)) = pair_of(text, '+') {
-        return Some(Span::StartLength(start, len));
+    if start >= PAST_ADDRESSES {
+        Err(AREA_START_ABOVE)
+    } else if len >= PAST_ADDRESSES {
+        Err(AREA_LENGTH_ABOVE)
+    } else {
+        Ok(Area { start, len })
     }
-    let (first, last) = pair_of(text, '-')?;
-    Some(Span::FirstLast(first, last))
 }
 
-/// The area that has a span, if there is one whose start and length are at most `FFFFFF`.
-fn area_over(span: Span) -> Option<Area>
-    ensures { MatchOption result ((a : Area) → IsArea a → HasSpan a span → ⊥)
-        (λ a. IsArea a × HasSpan a span) }
+/// The area with this first byte and this last, in order and each at most `FFFFFF`.
+fn area_between<'a>(first: u32, last: u32) -> Result<Area, &'a str>
+    ensures says { said result ≡ area_between (first, last) }
+    ensures fits { IfOk result IsArea }
 {
-    match span {
-        Span::StartLength(start, len) if start < PAST_ADDRESSES && len < PAST_ADDRESSES => {
-            Some(Area { start, len })
-        }
-        Span::FirstLast(start, last)
-            if start <= last && last < PAST_ADDRESSES && last - start < PAST_ADDRESSES - 1 => {
-            Some(Area {
-                start,
-                len: last - start + 1,
-            })
-        }
-        _ => None,
+    if last < first {
+        Err(AREA_BACKWARDS)
+    } else if last >= PAST_ADDRESSES {
+        Err(AREA_LAST_ABOVE)
+    } else if last - first == PAST_ADDRESSES - 1 {
+        Err(AREA_LONGEST)
+    } else {
+        Ok(Area {
+            start: first,
+            len: last - first + 1,
+        })
     }
 }
 
 /// An area, by its start and its length, such as `900+10`, or by its first byte and its last, such
 /// as `900-90F`: hexadecimal numbers, each at most `FFFFFF`, the last byte not below the first. Its
 /// length is at most `FFFFFF` too.
-pub fn area_of(text: &str) -> Option<Area>
-    ensures { IsRead SaysArea text.now result }
+pub(crate) fn area_of(text: &str) -> Result<Area, &str>
+    ensures says { said result ≡ area_in text.now }
+    ensures fits { IfOk result IsArea }
 {
-    let span = span_of(text)?;
-    area_over(span)
-}
-
-/// A limit on places: one decimal digit or more, whose number is from 1 to 65,536.
-pub fn limit_of(text: &str) -> Option<Limit>
-    ensures { IsRead SaysLimit text.now result }
-{
-    Limit::new(number_of(text, 10)?)
-}
-
-/// A device, by its number: `2311` or `2314`.
-pub fn device_of(text: &str) -> Option<Device>
-    ensures { IsRead SaysDevice text.now result }
-{
-    match text {
-        "2311" => Some(Device::D2311),
-        "2314" => Some(Device::D2314),
-        _ => None,
+    if let Some((start, len)) = pair_of(text, '+') {
+        return sized_area(start, len);
+    }
+    match pair_of(text, '-') {
+        Some((first, last)) => area_between(first, last),
+        None => Err(AREA_FORM),
     }
 }

@@ -12,10 +12,11 @@ ghost use Rattle.chan_run.specs.Report.{status_of, text_of};
 use crate::image::ImageError;
 use crate::meaning::{MeaningError, cause_word, term_word};
 use crate::naming::named;
-use crate::running::{Action, RunError, Status};
+use crate::running::{RunError, Status};
 use crate::showing::ShowError;
 use crate::texts::write_texts;
 use ccw_core::{DeviceFault, Watched};
+use chan_args::Action;
 use itoa::Buffer;
 use std::io::Write;
 

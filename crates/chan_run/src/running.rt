@@ -10,15 +10,16 @@ ghost use Rattle.chan_walk.specs.Surveyed.{IsSurvey};
 ghost use Rattle.chan_run.specs.Advice.{IsBeside, IsBesideJob};
 ghost use Rattle.chan_run.specs.Naming.{name_before, name_in};
 ghost use Rattle.chan_run.specs.Run.{AreTold, IsAnswerBehind, IsAnswerOn, IsEarly, IsExplained};
-ghost use Rattle.chan_run.specs.Run.{IsJobAnswer, is_why};
+ghost use Rattle.chan_run.specs.Run.{IsJobAnswer};
 ghost use Rattle.chan_run.specs.Run.{IsNamedAnswer};
 ghost use Rattle.chan_run.specs.Run.{IsInput, IsReadFault, IsRunAnswer, IsWritten};
 ghost use Rattle.chan_run.specs.Run.{IsTextAnswer, front_of, status_of_verdict};
-ghost use Rattle.chan_run.specs.declared.running.Action.TheVariants as actions;
+ghost use Rattle.chan_args.specs.declared.action.Action.TheVariants as actions;
 
 use crate::advising::{limit_text, notes_on};
 use crate::input::{InputError, TEXT_LIMIT, read_input};
 use ccw_core::{Storage, Watched, write_out};
+use chan_args::Action;
 use chan_deck::{
     Cause, DeckError, ListError, explanation_text, hint_text, read_deck, verdict_text, write_graph,
     write_needs, write_seen,
@@ -27,32 +28,6 @@ use chan_walk::{Evidence, Job, OpenJob, Survey, Verdict, WalkError, first_place,
 use std::alloc::{AllocError, Global};
 use std::io::{Read, Write};
 use thiserror::Error;
-
-/// The action of a run on the deck.
-#[derive(Clone, Copy, PartialEq, Eq)]
-pub enum Action {
-    /// Writes the line of the verdict.
-    Verify,
-    /// Writes a row for each reachable place, and then the line of the verdict.
-    List,
-    /// Writes the explanation of the verdict; with the cause of each offence beside the first, if
-    /// all are asked for.
-    Why { all: bool },
-    /// Writes the picture of the program in Graphviz's language.
-    Graph,
-    /// Writes what the deck's program needs of each job under which it may run, and what it keeps;
-    /// or where no job will do, the explanation of the no that the program's open job has.
-    Needs,
-}
-
-impl Action {
-    /// Whether it explains the verdict.
-    fn is_why(self) -> bool
-        ensures { result ≡ is_why self }
-    {
-        matches!(self, Action::Why { .. })
-    }
-}
 
 /// The kind of a verdict.
 #[derive(Clone, Copy, PartialEq, Eq)]

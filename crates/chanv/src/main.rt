@@ -12,16 +12,10 @@
 ghost use Rattle.std.specs.Prelude.{◌≡◌, ◌↔◌, true};
 ghost use Rattle.chan_run.specs.Report.{IsWriteFailure};
 
-mod command_line;
-mod image_command;
-mod lines;
-mod words_met;
-
-use crate::command_line::{Request, read_request};
-use crate::image_command::ImageRequest;
 use ccw_core::{Watched, write_out};
+use chan_args::{Action, ImageRequest, Request, read_request};
 use chan_run::{
-    Action, ImageOptions, OptionError, Outcome, RunError, answer, answer_image, conclude, ends_run,
+    ImageOptions, OptionError, Outcome, RunError, answer, answer_image, conclude, ends_run,
     exit_status, explain_word, find_programs, greater_status, list_words, note_usual_device,
     options_of, report, report_grants, report_named, report_option, show, shown_word, word_of,
 };

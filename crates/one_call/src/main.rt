@@ -11,8 +11,9 @@ mod stop;
 
 use crate::stop::Stop;
 use ccw_core::{Watched, write_out};
+use chan_args::Action;
 use chan_deck::{Deck, read_deck, row_text, write_deck, write_listing};
-use chan_run::{Action, run};
+use chan_run::run;
 use chan_walk::{Guard, Verdict, explore, first_place};
 use std::process::ExitCode;
 

@@ -5,7 +5,8 @@
 use crate::run::devices::Broken;
 use crate::shared::{Paper, expect, paper_of};
 use ccw_core::Watched;
-use chan_run::{Action, Outcome, RunError, Status, answer, conclude, ends_run};
+use chan_args::Action;
+use chan_run::{Outcome, RunError, Status, answer, conclude, ends_run};
 use std::alloc::Global;
 
 /// A No Operation, with areas that it doesn't use.

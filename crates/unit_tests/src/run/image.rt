@@ -5,7 +5,8 @@
 use crate::run::devices::Broken;
 use crate::shared::{expect, paper_of};
 use ccw_core::Watched;
-use chan_run::{ImageError, ImageOptions, ImageWords, options_of, write_image};
+use chan_args::ImageWords;
+use chan_run::{ImageError, ImageOptions, options_of, write_image};
 use std::alloc::{AllocError, Global};
 
 /// A No Operation, after two bytes of the image.

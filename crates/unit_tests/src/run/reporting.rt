@@ -4,10 +4,11 @@
 
 use crate::shared::{expect, paper_of};
 use ccw_core::Watched;
+use chan_args::Action;
 use chan_deck::Cause;
 use chan_run::{
-    Action, ImageError, Outcome, RunError, ShowError, Status, exit_status, greater_status,
-    has_advice, report, report_named,
+    ImageError, Outcome, RunError, ShowError, Status, exit_status, greater_status, has_advice,
+    report, report_named,
 };
 
 /// An outcome, its status, its line, and its line over an input named `a.deck`.

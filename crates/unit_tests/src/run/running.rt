@@ -5,8 +5,9 @@
 use crate::run::devices::Broken;
 use crate::shared::{expect, paper_of};
 use ccw_core::Watched;
+use chan_args::Action;
 use chan_deck::Cause;
-use chan_run::{Action, RunError, Status, run, run_named};
+use chan_run::{RunError, Status, run, run_named};
 use std::alloc::Global;
 
 /// The search loop: search for a record by its identifier, try the next one, read what was found.

@@ -1,8 +1,12 @@
-use Rattle.std.proofs.Common.{take}
-use Rattle.std.specs.List.{AllZip}
-use Rattle.chan_run.specs.Imaging.{texts_of}
-use Rattle.chan_run.specs.Options.{SaysArea}
+use Rattle.std.proofs.Common.{◌≡◌, [], drop}
+use Rattle.std.specs.List.{All}
+use Rattle.chan_deck.specs.Item.{IsArea}
+use Rattle.chan_run.specs.Options.{area_in}
+use Rattle.chan_run.specs.OptionReading.{read_each}
 use Rattle.chan_run.proofs.option_reading.areas_of.Given as goal
 
 abbrev pub invariant-loop-text : goal.invariant-loop-text
-invariant-loop-text l = AllZip SaysArea (texts_of (take l.text-index l.texts)) l.areas.items
+invariant-loop-text l = record {
+  read : read_each area_in l.option [] l.texts ≡ read_each area_in l.option l.areas.items (drop l.text-index l.texts);
+  fit : All IsArea l.areas.items;
+}

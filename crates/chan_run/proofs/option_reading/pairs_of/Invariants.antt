@@ -1,7 +1,9 @@
-use Rattle.std.proofs.Common.{take}
-use Rattle.std.specs.List.{AllZip}
-use Rattle.chan_run.specs.Imaging.{SaysExtent, texts_of}
+use Rattle.std.proofs.Common.{◌≡◌, [], drop}
+use Rattle.chan_run.specs.Options.{extent_in}
+use Rattle.chan_run.specs.OptionReading.{read_each}
+use Rattle.chan_args.specs.declared.image_words.ImageOption.TheVariants as options
 use Rattle.chan_run.proofs.option_reading.pairs_of.Given as goal
 
 abbrev pub invariant-loop-text : goal.invariant-loop-text
-invariant-loop-text l = AllZip SaysExtent (texts_of (take l.text-index l.texts)) l.pairs.items
+invariant-loop-text l =
+    read_each extent_in options.Extent [] l.texts ≡ read_each extent_in options.Extent l.pairs.items (drop l.text-index l.texts)

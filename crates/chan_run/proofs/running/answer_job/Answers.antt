@@ -1,8 +1,8 @@
 use Rattle.std.proofs.Common.{◌∙◌, ◌≡◌, ℕ, Err, IfOk, Ok, Result, Vec, ap}
 use Rattle.chan_walk.specs.declared.job.Job.{Job}
 use Rattle.chan_walk.specs.Offences.{first_verdict}
-use Rattle.chan_run.specs.declared.running.Action.{Action}
-use Rattle.chan_run.specs.declared.running.Action.TheVariants as actions
+use Rattle.chan_args.specs.declared.action.Action.{Action}
+use Rattle.chan_args.specs.declared.action.Action.TheVariants as actions
 use Rattle.chan_run.specs.declared.running.RunError.TheVariants.{Memory, Write}
 use Rattle.chan_run.specs.Advice.{IsBesideJob}
 use Rattle.chan_run.specs.Run.{status_of_verdict}

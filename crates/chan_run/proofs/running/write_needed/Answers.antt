@@ -3,7 +3,7 @@ use Rattle.chan_deck.specs.Needs.{needs_text}
 use Rattle.chan_walk.specs.declared.verdict.Verdict.TheVariants.{No, Yes}
 use Rattle.chan_walk.specs.Offences.{first_verdict}
 use Rattle.chan_walk.specs.Rows.{listed}
-use Rattle.chan_run.specs.declared.running.Action.TheVariants as actions
+use Rattle.chan_args.specs.declared.action.Action.TheVariants as actions
 use Rattle.chan_run.proofs.NeedLemmas.{needs_extents}
 use Rattle.chan_run.proofs.Outputs.{explained, written}
 use Rattle.chan_run.proofs.running.write_needed.Goals as goal

@@ -6,7 +6,7 @@ use Rattle.chan_walk.specs.declared.offence.Offence.{Offence}
 use Rattle.chan_walk.specs.Look.{places_of_looks}
 use Rattle.chan_walk.specs.Offences.{AreOffences}
 use Rattle.chan_walk.specs.Place.{first_place}
-use Rattle.chan_run.specs.declared.running.Action.TheVariants as actions
+use Rattle.chan_args.specs.declared.action.Action.TheVariants as actions
 use Rattle.chan_run.specs.Run.{IsPicture}
 use Rattle.chan_run.proofs.Outputs.{written}
 use Rattle.chan_run.proofs.running.write_output.Goals as goal

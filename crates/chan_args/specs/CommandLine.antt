@@ -1,0 +1,179 @@
+-- What the command line takes, and what its words ask for.
+use Rattle.std.specs.Prelude.{◌≡◌, ◌≢◌, ◌⊎◌, List, [], Option, Some, None, IsSome, true}
+use Rattle.std.specs.Prelude.{codes, option_map, option_and_then}
+use Rattle.clap.specs.Words.{App, IsAmong, Row, Rule, Text, fault_of, first_of}
+use Rattle.clap.specs.Words.{kind_of, new_app, new_rule, subcommand_of, with_rule, with_subcommand}
+use Rattle.clap.specs.declared.builder.action.ArgAction.TheVariants.{Append}
+use Rattle.clap.specs.declared.error.kind.ErrorKind.TheVariants.{DisplayHelp, DisplayVersion}
+use Rattle.clap.specs.declared.error.kind.ErrorKind.TheVariants.{OutOfMemory}
+use Rattle.chan_args.specs.declared.command_line.Request.{Request}
+use Rattle.chan_args.specs.declared.command_line.Request.TheVariants.{Show, Run, RunNamed, Image}
+use Rattle.chan_args.specs.declared.command_line.Request.TheVariants.{Explain, Find, Grants, Words}
+use Rattle.chan_args.specs.declared.command_line.Request.TheVariants.{Help, Version, Fault}
+use Rattle.chan_args.specs.declared.command_line.Request.TheVariants.{NoMemory}
+use Rattle.chan_args.specs.CommandWords.{IsStandardInput, file_word, files_in, texts_of}
+use Rattle.chan_args.specs.ImageLine.{SaysImage, find_line, flag_word, grant_fault, image_line}
+use Rattle.chan_args.specs.ImageLine.{is_flagged}
+use Rattle.chan_args.specs.declared.action.Action.{Action}
+use Rattle.chan_args.specs.declared.action.Action.TheVariants as actions
+
+-- the word that `show` requires
+abbrev pub ccw_word : Rule
+ccw_word = record (new_rule (codes "CCW")) { required = true }
+
+-- any number of such words
+abbrev pub file_words : Rule
+file_words = record file_word { action = Some Append }
+
+-- the command `show`, with its word
+abbrev pub show_line : App
+show_line = with_rule (new_app (codes "show")) ccw_word
+
+-- a command of this name, with any number of files
+abbrev pub decks_line : Text → App
+decks_line name = with_rule (new_app name) file_words
+
+-- the command `why`, with any number of files, and the option to tell each cause
+abbrev pub why_line : App
+why_line = with_rule (decks_line (codes "why")) (flag_word (codes "all"))
+
+-- a command of this name, with one file or none
+abbrev pub deck_line : Text → App
+deck_line name = with_rule (new_app name) file_word
+
+-- the command `explain`, with one word or none
+abbrev pub explain_line : App
+explain_line = with_rule (new_app (codes "explain")) (new_rule (codes "WORD"))
+
+-- the program alone, which has a version
+abbrev pub program_line : App
+program_line =
+    let app = new_app (codes "chanv") in
+    record app { top = record app.top { has_version = true } }
+
+-- the program with `show` and `verify`
+abbrev pub judging_line : App
+judging_line =
+    with_subcommand (with_subcommand program_line show_line.top) (decks_line (codes "verify")).top
+
+-- a program with `list`, `why`, `graph` and `needs` too
+abbrev pub with_tellers : App → App
+with_tellers app =
+    let listing = with_subcommand app (deck_line (codes "list")).top in
+    let explaining = with_subcommand listing why_line.top in
+    let drawing = with_subcommand explaining (deck_line (codes "graph")).top in
+    with_subcommand drawing (deck_line (codes "needs")).top
+
+-- what the command line takes: `show`, `verify`, `list`, `why`, `graph`, `needs`, `find`, `deck`,
+-- `explain`, or no command
+abbrev pub chanv : App
+chanv =
+    let finding = with_subcommand (with_tellers judging_line) find_line.top in
+    with_subcommand (with_subcommand finding image_line.top) explain_line.top
+
+-- clap finds no fault in the words, of which the first is the program's name, and no call for help
+-- or the version
+abbrev pub IsTaken : List Text → Type 0
+IsTaken words = fault_of chanv words ≡ []
+
+-- the name of the command that clap met
+abbrev pub name_met : Option (Text × List Row) → Option Text
+name_met = option_map (λ p. p.0)
+
+-- the word that it met as the one to explain
+abbrev pub word_asked : Option (Text × List Row) → Option Text
+word_asked = option_and_then (λ p. first_of (codes "WORD") p.1)
+
+-- the word that it met as that command's CCW
+abbrev pub ccw_met : Option (Text × List Row) → Option Text
+ccw_met = option_and_then (λ p. first_of (codes "CCW") p.1)
+
+-- the words that it met as that command's files, in order
+abbrev pub files_met : Option (Text × List Row) → List Text
+files_met None = []
+files_met (Some p) = files_in p.1
+
+-- what it met behind the command
+abbrev pub rows_met : Option (Text × List Row) → List Row
+rows_met None = []
+rows_met (Some p) = p.1
+
+-- the name of the command for each action
+abbrev pub name_of : Action → Text
+name_of actions.Verify = codes "verify"
+name_of actions.List = codes "list"
+name_of (actions.Why all) = codes "why"
+name_of actions.Graph = codes "graph"
+name_of actions.Needs = codes "needs"
+
+-- it met no command, or that of an action, or `show` with its word, or `deck`, `explain` or `find`
+abbrev pub IsKnown : Option (Text × List Row) → Type 0
+IsKnown met = (name_met met ≡ None) ⊎ (((action : Action) × (name_met met ≡ Some (name_of action)))
+    ⊎ (((name_met met ≡ Some (codes "show")) × IsSome (ccw_met met))
+    ⊎ ((name_met met ≡ Some (codes "deck")) ⊎ ((name_met met ≡ Some (codes "explain"))
+    ⊎ (name_met met ≡ Some (codes "find"))))))
+
+-- the command asks for this action; no command asks to verify
+abbrev pub IsFor : Option Text → Action → Type 0
+IsFor None action = action ≡ actions.Verify
+IsFor (Some name) action = name ≡ name_of action
+
+-- the action tells each cause exactly where that option was met
+abbrev pub IsAllAsMet : Action → List Row → Type 0
+IsAllAsMet (actions.Why all) rows = all ≡ is_flagged (codes "all") rows
+IsAllAsMet _ rows = Unit {0}
+
+-- the request is to run over these files
+abbrev pub RunsOver : Action → List Text → Request → Type 0
+RunsOver action files (Run a) = (a ≡ action) × IsStandardInput files
+RunsOver action files (RunNamed a names) =
+    (a ≡ action) × (¬ IsStandardInput files) × (texts_of names.items ≡ files)
+RunsOver action files _ = ⊥
+
+-- the request is to explain the verdicts on the files that were met, with each cause where that
+-- option was
+abbrev pub Explains : List Row → Request → Type 0
+Explains rows r = RunsOver (actions.Why (is_flagged (codes "all") rows)) (files_in rows) r
+
+-- the request is to make the deck of what was met, or says why its options don't say one job
+abbrev pub MakesDeck : List Row → Request → Type 0
+MakesDeck rows (Image asked) = (grant_fault rows ≡ None) × SaysImage rows asked
+MakesDeck rows (Grants fault) = grant_fault rows ≡ Some fault
+MakesDeck rows _ = ⊥
+
+-- what was met asks for this request
+abbrev pub AsksFor : Option (Text × List Row) → Request → Type 0
+AsksFor met (Show word) = (name_met met ≡ Some (codes "show")) × (ccw_met met ≡ Some word.now)
+AsksFor met (Run a) =
+    IsFor (name_met met) a × RunsOver a (files_met met) (Run a) × IsAllAsMet a (rows_met met)
+AsksFor met (RunNamed a names) =
+    IsFor (name_met met) a × RunsOver a (files_met met) (RunNamed a names)
+    × IsAllAsMet a (rows_met met)
+AsksFor met (Image asked) =
+    (name_met met ≡ Some (codes "deck")) × MakesDeck (rows_met met) (Image asked)
+AsksFor met (Find asked) = (name_met met ≡ Some (codes "find")) × SaysImage (rows_met met) asked
+AsksFor met (Grants fault) =
+    (name_met met ≡ Some (codes "deck")) × MakesDeck (rows_met met) (Grants fault)
+AsksFor met (Explain word) =
+    (name_met met ≡ Some (codes "explain")) × (word_asked met ≡ Some word.now)
+AsksFor met Words = (name_met met ≡ Some (codes "explain")) × (word_asked met ≡ None)
+AsksFor met _ = ⊥
+
+-- what each answer says of the words
+abbrev pub IsAnswerTo : List Text → Request → Type 0
+IsAnswerTo words (Show word) = IsTaken words × AsksFor (subcommand_of chanv words) (Show word)
+IsAnswerTo words (Run action) = IsTaken words × AsksFor (subcommand_of chanv words) (Run action)
+IsAnswerTo words (RunNamed action files) =
+    IsTaken words × AsksFor (subcommand_of chanv words) (RunNamed action files)
+IsAnswerTo words (Image asked) = IsTaken words × AsksFor (subcommand_of chanv words) (Image asked)
+IsAnswerTo words (Find asked) = IsTaken words × AsksFor (subcommand_of chanv words) (Find asked)
+IsAnswerTo words (Grants fault) = IsTaken words × AsksFor (subcommand_of chanv words) (Grants fault)
+IsAnswerTo words (Explain word) = IsTaken words × AsksFor (subcommand_of chanv words) (Explain word)
+IsAnswerTo words Words = IsTaken words × AsksFor (subcommand_of chanv words) Words
+IsAnswerTo words (Help e) = (kind_of e ≡ DisplayHelp) × IsAmong DisplayHelp (fault_of chanv words)
+IsAnswerTo words (Version e) =
+    (kind_of e ≡ DisplayVersion) × IsAmong DisplayVersion (fault_of chanv words)
+IsAnswerTo words (Fault e) =
+    (kind_of e ≢ DisplayHelp) × (kind_of e ≢ DisplayVersion) × (kind_of e ≢ OutOfMemory)
+    × IsAmong (kind_of e) (fault_of chanv words)
+IsAnswerTo words NoMemory = Unit {0}

@@ -1,0 +1,118 @@
+-- The commands over an image of storage, `find` and `deck`: their words, and what these ask for.
+use Rattle.std.specs.Prelude.{◌≡◌, List, [], ◌∷◌, Bool, true, Option, Some, None, codes, is_some}
+use Rattle.std.specs.Prelude.{if◌then◌else◌, not, option_map, unwrap_or}
+use Rattle.std.specs.Str.{bytes_eq}
+use Rattle.clap.specs.Words.{App, Row, Rule, Text, all_of, first_of, new_app, new_rule, with_rule}
+use Rattle.clap.specs.declared.builder.action.ArgAction.TheVariants.{Append, SetTrue}
+use Rattle.chan_args.specs.CommandWords.{file_in, file_word, texts_of}
+use Rattle.chan_args.specs.declared.image_command.ImageRequest.{ImageRequest}
+use Rattle.chan_args.specs.declared.image_words.ImageWords.{ImageWords}
+use Rattle.chan_args.specs.declared.image_words.GrantFault.{GrantFault}
+use Rattle.chan_args.specs.declared.image_words.GrantFault.TheVariants.{BesideLeast, NoExtent}
+use Rattle.chan_args.specs.declared.image_words.ImageOption.TheVariants as options
+
+-- an option of this name, whose value has a name in help
+abbrev pub option_word : Text → Rule
+option_word name = record (new_rule name) { long = Some name; value_names = 1 }
+
+-- an option of this name without a value
+abbrev pub flag_word : Text → Rule
+flag_word name = record (new_rule name) { long = Some name; action = Some SetTrue }
+
+-- one that has to be given
+abbrev pub needed : Rule → Rule
+needed rule = record rule { required = true }
+
+-- one that may come any number of times
+abbrev pub repeated : Rule → Rule
+repeated rule = record rule { action = Some Append }
+
+-- a command with the options that say what the program runs against and where it starts
+abbrev pub job_options : App → App
+job_options line =
+    let device = with_rule line (option_word (codes "device")) in
+    let mask = with_rule device (option_word (codes "mask")) in
+    let start = with_rule mask (needed (option_word (codes "start"))) in
+    with_rule start (option_word (codes "limit"))
+
+-- a command with the options that say what the program may use, and where the image begins
+abbrev pub lending_options : App → App
+lending_options line =
+    let extent = with_rule line (repeated (option_word (codes "extent"))) in
+    let fetch = with_rule extent (repeated (option_word (codes "fetch"))) in
+    let store = with_rule fetch (repeated (option_word (codes "store"))) in
+    let least = with_rule store (flag_word (codes "least")) in
+    let at = with_rule least (option_word (codes "at")) in
+    with_rule at (option_word (codes "storage"))
+
+-- the command `deck`, with its options and a file
+abbrev pub image_line : App
+image_line = with_rule (lending_options (job_options (new_app (codes "deck")))) file_word
+
+-- the command `find`, with the options that say how a program is judged and where the image begins,
+-- and a file
+abbrev pub find_line : App
+find_line =
+    let device = with_rule (new_app (codes "find")) (option_word (codes "device")) in
+    let limit = with_rule device (option_word (codes "limit")) in
+    let at = with_rule limit (option_word (codes "at")) in
+    with_rule (with_rule at (option_word (codes "storage"))) file_word
+
+-- the text that clap met for an option, or the usual one
+abbrev pub text_or : Text → Text → List Row → Text
+text_or name usual rows = unwrap_or (first_of name rows) usual
+
+-- the texts that it met for an option, in order
+abbrev pub texts_in : Text → List Row → List Text
+texts_in name rows = unwrap_or (all_of name rows) []
+
+-- clap met the option
+abbrev pub is_met : Text → List Row → Bool
+is_met name rows = is_some (first_of name rows)
+
+-- clap met the option of this name that has no value
+abbrev pub is_flagged : Text → List Row → Bool
+is_flagged name rows = bytes_eq (text_or name (codes "false") rows) (codes "true")
+
+-- the least job is asked for
+abbrev pub is_least : List Row → Bool
+is_least rows = is_flagged (codes "least") rows
+
+-- the first option that grants something beside the least job
+abbrev pub beside_least : List Row → Option GrantFault
+beside_least rows =
+    if is_met (codes "mask") rows then Some (BesideLeast options.Mask)
+    else (if is_met (codes "extent") rows then Some (BesideLeast options.Extent)
+    else (if is_met (codes "fetch") rows then Some (BesideLeast options.Fetch)
+    else (if is_met (codes "store") rows then Some (BesideLeast options.Store) else None)))
+
+-- why the options don't say one job, if they don't: something is granted beside the least job, or
+-- neither an extent nor that
+abbrev pub grant_fault : List Row → Option GrantFault
+grant_fault rows =
+    if is_least rows then beside_least rows
+    else (if is_met (codes "extent") rows then None else Some NoExtent)
+
+-- the texts of the extents; of all cylinders where there is none
+abbrev pub extents_or_all : List Text → List Text
+extents_or_all [] = codes "0-202" ∷ []
+extents_or_all (text ∷ texts) = text ∷ texts
+
+-- the texts are those of the options, the usual ones where an option isn't given
+pub record SaysOptions (rows : List Row) (w : ImageWords) : Type 0 where
+  pub device : w.device.now ≡ text_or (codes "device") (codes "2314") rows
+  pub mask : w.mask.now ≡ text_or (codes "mask") (codes "00") rows
+  pub start : w.start.now ≡ text_or (codes "start") (codes "0") rows
+  pub limit : option_map (λ text. text.now) w.limit ≡ first_of (codes "limit") rows
+  pub extents : texts_of w.extents.items ≡ extents_or_all (texts_in (codes "extent") rows)
+  pub fetch : texts_of w.fetch.items ≡ texts_in (codes "fetch") rows
+  pub store : texts_of w.store.items ≡ texts_in (codes "store") rows
+  pub at : w.at.now ≡ text_or (codes "at") (codes "0") rows
+  pub storage : option_map (λ text. text.now) w.storage ≡ first_of (codes "storage") rows
+  pub least : w.is_least ≡ is_least rows
+
+-- the request has these texts, the file, and whether no device is named
+pub record SaysImage (rows : List Row) (r : ImageRequest) : Type 0 where
+  pub words : SaysOptions rows r.words
+  pub file : option_map (λ name. name.now) r.file ≡ file_in rows
+  pub usual_device : r.is_usual_device ≡ not (is_met (codes "device") rows)

@@ -1,0 +1,30 @@
+//! What a command does with a deck.
+
+ghost use Rattle.std.specs.Prelude.{◌≡◌};
+ghost use Rattle.chan_args.specs.Actions.{is_why};
+
+/// The action of a run on the deck.
+#[derive(Clone, Copy, PartialEq, Eq)]
+pub enum Action {
+    /// Writes the line of the verdict.
+    Verify,
+    /// Writes a row for each reachable place, and then the line of the verdict.
+    List,
+    /// Writes the explanation of the verdict; with the cause of each offence beside the first, if
+    /// all are asked for.
+    Why { all: bool },
+    /// Writes the picture of the program in Graphviz's language.
+    Graph,
+    /// Writes what the deck's program needs of each job under which it may run, and what it keeps;
+    /// or where no job will do, the explanation of the no that the program's open job has.
+    Needs,
+}
+
+impl Action {
+    /// Whether it explains the verdict.
+    pub fn is_why(self) -> bool
+        ensures { result ≡ is_why self }
+    {
+        matches!(self, Action::Why { .. })
+    }
+}

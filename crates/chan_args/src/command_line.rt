@@ -1,0 +1,170 @@
+//! The command line: which words ask for what.
+
+ghost use Rattle.std.specs.Prelude.{◌≡◌, ◌↔◌, IfErr, IfOk, IsSome, IsTrue, OnOk, Some, codes, map};
+ghost use Rattle.std.specs.Prelude.{string_bytes};
+ghost use Rattle.clap.specs.Words.{HasKind, fault_of, first_of, found_of, rows_of};
+ghost use Rattle.clap.specs.Words.{subcommand_of, subcommand_rows_of};
+ghost use Rattle.chan_args.specs.CommandLine.{AsksFor, IsAnswerTo, IsKnown, IsTaken};
+ghost use Rattle.chan_args.specs.CommandLine.{Explains, MakesDeck, RunsOver, chanv};
+ghost use Rattle.chan_args.specs.CommandWords.{IsStandardInput, files_in, texts_of};
+
+use crate::action::Action;
+use crate::image_command::{ImageRequest, grant_fault, image_request};
+use crate::image_words::GrantFault;
+use crate::lines::command;
+use crate::words_met::{is_flagged, text_met, texts_met};
+use clap::error::ErrorKind;
+use clap::{ArgMatches, Error};
+use std::alloc::{AllocError, Global};
+
+/// The request of a command line.
+#[derive(Drop)]
+pub enum Request<'a> {
+    /// To show a CCW. The text is the word that was given for it.
+    Show(&'a str),
+    /// To read a deck from standard input and do this with it.
+    Run(Action),
+    /// To read the deck of each of these in turn and do this with it. Each is the name of a file,
+    /// or `-`, which is standard input; they aren't none, nor `-` alone.
+    RunNamed(Action, Vec<&'a str>),
+    /// To make a deck of an image of storage.
+    Image(ImageRequest<'a>),
+    /// To find the programs in an image of storage.
+    Find(ImageRequest<'a>),
+    /// To say why options that make a deck don't say one job.
+    Grants(GrantFault),
+    /// To say what a word means.
+    Explain(&'a str),
+    /// To list the words that have a meaning.
+    Words,
+    /// Help. Its text is the error's.
+    Help(Error),
+    /// The version. Its text is the error's.
+    Version(Error),
+    /// Nothing: clap doesn't take the words. The text that says why is the error's.
+    Fault(Error),
+    /// It isn't known: an allocation was refused.
+    NoMemory,
+}
+
+/// What the words ask for, or why clap doesn't take them.
+fn asked<'a>(alloc: Global, words: &'a [String]) -> Result<Request<'a>, Error>
+    ensures taken { OnOk result (IsTaken (map string_bytes words.entry.now)) }
+    ensures asked { IfOk result (AsksFor (subcommand_of chanv (map string_bytes words.entry.now))) }
+    ensures err { IfErr result (HasKind (fault_of chanv (map string_bytes words.entry.now))) }
+{
+    let matches = command(alloc)?.try_get_matches_from(words)?;
+    Ok(request_of(alloc, &matches)?)
+}
+
+/// The request for the command that clap met.
+fn request_of<'a>(alloc: Global, matches: &ArgMatches<'a>) -> Result<Request<'a>, AllocError>
+    requires { IsKnown (subcommand_rows_of matches.now) }
+    ensures { IfOk result (AsksFor (subcommand_rows_of matches.now)) }
+{
+    match matches.subcommand() {
+        Some(("show", inner)) => Ok(show_request(inner)),
+        Some(("list", inner)) => request_over(alloc, Action::List, inner),
+        Some(("why", inner)) => why_request(alloc, inner),
+        Some(("graph", inner)) => request_over(alloc, Action::Graph, inner),
+        Some(("needs", inner)) => request_over(alloc, Action::Needs, inner),
+        Some(("find", inner)) => search_request(alloc, inner),
+        Some(("deck", inner)) => deck_request(alloc, inner),
+        Some(("explain", inner)) => Ok(explain_request(inner)),
+        Some((_, inner)) => request_over(alloc, Action::Verify, inner),
+        None => Ok(Request::Run(Action::Verify)),
+    }
+}
+
+/// The request to show the word that clap met as the CCW.
+fn show_request<'a>(matches: &ArgMatches<'a>) -> Request<'a>
+    requires { IsSome (first_of (codes "CCW") (rows_of (found_of matches.now))) }
+    ensures { AsksFor (Some (codes "show", rows_of (found_of matches.now))) result }
+{
+    match text_met(matches, "CCW") {
+        Some(word) => Request::Show(word),
+        // the word is required
+        None => unreachable!(),
+    }
+}
+
+/// The request to say what the word means that clap met, or to list all words where it met none.
+fn explain_request<'a>(matches: &ArgMatches<'a>) -> Request<'a>
+    ensures { AsksFor (Some (codes "explain", rows_of (found_of matches.now))) result }
+{
+    match text_met(matches, "WORD") {
+        Some(word) => Request::Explain(word),
+        None => Request::Words,
+    }
+}
+
+/// The request to explain the verdicts on the decks that clap met.
+fn why_request<'a>(alloc: Global, matches: &ArgMatches<'a>) -> Result<Request<'a>, AllocError>
+    ensures { IfOk result (Explains (rows_of (found_of matches.now))) }
+{
+    let all = is_flagged(matches, "all");
+    request_over(alloc, Action::Why { all }, matches)
+}
+
+/// The request to make a deck of what clap met.
+fn deck_request<'a>(alloc: Global, matches: &ArgMatches<'a>) -> Result<Request<'a>, AllocError>
+    ensures { IfOk result (MakesDeck (rows_of (found_of matches.now))) }
+{
+    match grant_fault(matches) {
+        Some(fault) => Ok(Request::Grants(fault)),
+        None => Ok(Request::Image(image_request(alloc, matches)?)),
+    }
+}
+
+/// The request to find the programs in what clap met.
+fn search_request<'a>(alloc: Global, matches: &ArgMatches<'a>) -> Result<Request<'a>, AllocError>
+    ensures { IfOk result (AsksFor (Some (codes "find", rows_of (found_of matches.now)))) }
+{
+    Ok(Request::Find(image_request(alloc, matches)?))
+}
+
+/// The request to do this with the decks that clap met.
+fn request_over<'a>(
+    alloc: Global,
+    action: Action,
+    matches: &ArgMatches<'a>,
+) -> Result<Request<'a>, AllocError>
+    ensures { IfOk result (RunsOver action (files_in (rows_of (found_of matches.now)))) }
+{
+    let files = texts_met(alloc, matches, "FILE")?;
+    if is_standard_input(files.as_slice()) {
+        return Ok(Request::Run(action));
+    }
+    Ok(Request::RunNamed(action, files))
+}
+
+/// Whether these files are standard input: there is none, or `-` alone.
+fn is_standard_input(files: &[&str]) -> bool
+    ensures { IsTrue result ↔ IsStandardInput (texts_of files.now) }
+{
+    match files {
+        [] => true,
+        [file] => *file == "-",
+        _ => false,
+    }
+}
+
+/// Reads the words; the first is the program's name.
+///
+/// Without a command the request is to verify. If clap accepts the words, the answer is their
+/// request; otherwise it is `Help`, `Version` or `Fault`, by the kind of fault that it finds.
+/// `NoMemory` may come in place of each.
+#[inline(never)]
+pub fn read_request<'a>(alloc: Global, words: &'a [String]) -> Request<'a>
+    ensures answer { IsAnswerTo (map string_bytes words.entry.now) result }
+{
+    match asked(alloc, words) {
+        Ok(request) => request,
+        Err(error) => match error.kind() {
+            ErrorKind::OutOfMemory => Request::NoMemory,
+            ErrorKind::DisplayHelp => Request::Help(error),
+            ErrorKind::DisplayVersion => Request::Version(error),
+            _ => Request::Fault(error),
+        },
+    }
+}

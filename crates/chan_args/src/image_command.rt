@@ -1,0 +1,116 @@
+//! The commands over an image of storage, `find` and `deck`: what their words ask for.
+
+ghost use Rattle.std.specs.Prelude.{◌≡◌, codes, IfOk, option_map};
+ghost use Rattle.clap.specs.Words.{found_of, rows_of};
+ghost use Rattle.chan_args.specs.CommandWords.{file_in, texts_of};
+ghost use Rattle.chan_args.specs.ImageLine.{SaysImage, SaysOptions, beside_least, extents_or_all};
+ghost use Rattle.chan_args.specs.ImageLine.{grant_fault, is_least, texts_in};
+
+use crate::image_words::{GrantFault, ImageOption, ImageWords};
+use crate::words_met::{is_flagged, text_met, text_or, texts_met};
+use clap::ArgMatches;
+use std::alloc::{AllocError, Global};
+
+/// The parts of a deck: the texts of the options, and the file that has the image.
+#[derive(Drop)]
+pub struct ImageRequest<'a> {
+    /// The texts of the options, the usual ones for options that aren't given.
+    pub words: ImageWords<'a>,
+    /// The file that has the image, or `None` for standard input.
+    pub file: Option<&'a str>,
+    /// Whether no device is named, so that it is the usual one.
+    pub is_usual_device: bool,
+}
+
+/// The file that clap met, unless it is standard input.
+fn file<'a>(matches: &ArgMatches<'a>) -> Option<&'a str>
+    ensures { option_map (λ name. name.now) result ≡ file_in (rows_of (found_of matches.now)) }
+{
+    match text_met(matches, "FILE") {
+        Some(name) if name != "-" => Some(name),
+        _ => None,
+    }
+}
+
+/// Whether the least job is asked for.
+fn is_least(matches: &ArgMatches<'_>) -> bool
+    ensures { result ≡ is_least (rows_of (found_of matches.now)) }
+{
+    is_flagged(matches, "least")
+}
+
+/// The first option that grants something beside the least job.
+fn beside_least(matches: &ArgMatches<'_>) -> Option<GrantFault>
+    ensures { result ≡ beside_least (rows_of (found_of matches.now)) }
+{
+    if text_met(matches, "mask").is_some() {
+        Some(GrantFault::BesideLeast(ImageOption::Mask))
+    } else if text_met(matches, "extent").is_some() {
+        Some(GrantFault::BesideLeast(ImageOption::Extent))
+    } else if text_met(matches, "fetch").is_some() {
+        Some(GrantFault::BesideLeast(ImageOption::Fetch))
+    } else if text_met(matches, "store").is_some() {
+        Some(GrantFault::BesideLeast(ImageOption::Store))
+    } else {
+        None
+    }
+}
+
+/// Why the options that clap met don't say one job, if they don't.
+pub(crate) fn grant_fault(matches: &ArgMatches<'_>) -> Option<GrantFault>
+    ensures { result ≡ grant_fault (rows_of (found_of matches.now)) }
+{
+    if is_least(matches) {
+        beside_least(matches)
+    } else if text_met(matches, "extent").is_some() {
+        None
+    } else {
+        Some(GrantFault::NoExtent)
+    }
+}
+
+/// The texts of the extents; of all cylinders where there is none.
+fn extents<'a>(alloc: Global, matches: &ArgMatches<'a>) -> Result<Vec<&'a str>, AllocError>
+    ensures { IfOk result (λ texts. texts_of texts.items
+        ≡ extents_or_all (texts_in (codes "extent") (rows_of (found_of matches.now)))) }
+{
+    let mut texts = texts_met(alloc, matches, "extent")?;
+    if texts.is_empty() {
+        texts.push("0-202")?;
+    }
+    Ok(texts)
+}
+
+/// The texts of the options that clap met, the usual ones where an option isn't given.
+fn image_words<'a>(alloc: Global, matches: &ArgMatches<'a>) -> Result<ImageWords<'a>, AllocError>
+    ensures { IfOk result (SaysOptions (rows_of (found_of matches.now))) }
+{
+    let extents = extents(alloc, matches)?;
+    Ok(ImageWords {
+        device: text_or(matches, "device", "2314"),
+        mask: text_or(matches, "mask", "00"),
+        start: text_or(matches, "start", "0"),
+        limit: text_met(matches, "limit"),
+        extents,
+        fetch: texts_met(alloc, matches, "fetch")?,
+        store: texts_met(alloc, matches, "store")?,
+        at: text_or(matches, "at", "0"),
+        storage: text_met(matches, "storage"),
+        is_least: is_least(matches),
+    })
+}
+
+/// What the words that clap met ask to make a deck of, or to find programs in: `find` has no other
+/// options than the device, the limit, the address and the size.
+pub(crate) fn image_request<'a>(
+    alloc: Global,
+    matches: &ArgMatches<'a>,
+) -> Result<ImageRequest<'a>, AllocError>
+    ensures { IfOk result (SaysImage (rows_of (found_of matches.now))) }
+{
+    Ok(ImageRequest {
+        words: image_words(alloc, matches)?,
+        file: file(matches),
+        is_usual_device: text_met(matches, "device").is_none(),
+    })
+}
