@@ -37,6 +37,72 @@ BESIDE_LEAST = [
 ]
 EITHER = "  <--extent <FIRST-LAST>|--least>"
 
+# options and an image for whose program no job will do, and why
+CURE = "note: --at says where the image lies in storage, and --storage how long storage is\n"
+UNDOABLE = [
+    (
+        "zeros alone",
+        "--start 800 --at 800",
+        "00" * 8,
+        """\
+no 000800 invalid-code
+000800 fresh t * 00 000000 -----0 00 0000 invalid unknown
+because code 00 is invalid
+""",
+    ),
+    (
+        "a start outside storage",
+        "--start 8",
+        "0600000000000008",
+        f"""\
+no 000008 outside-storage
+000008 fresh t * no-ccw
+because 000008-00000F is not in storage of 0000008 bytes
+{CURE}""",
+    ),
+    (
+        "a later CCW outside storage",
+        "--start 0",
+        "0600000040000008",
+        """\
+no 000008 outside-storage
+000000 fresh t . 06 000000 -C---0 00 0008 read read-data
+000008 fresh - * no-ccw
+because 000008-00000F is not in storage of 0000008 bytes
+""",
+    ),
+    (
+        "data that goes on past the end",
+        "--start 0",
+        "0600000000000010",
+        f"""\
+no 000000 data-outside
+000000 fresh t * 06 000000 -----0 00 0010 read read-data
+because 000000-00000F is not in storage of 0000008 bytes
+{CURE}""",
+    ),
+    (
+        "data that begins at the end of the size asked for",
+        "--start 0 --storage 10",
+        "0600001000000001",
+        f"""\
+no 000000 data-outside
+000000 fresh t * 06 000010 -----0 00 0001 read read-data
+because 000010-000010 is not in storage of 0000010 bytes
+{CURE}""",
+    ),
+    (
+        "data that begins past the end",
+        "--start 0",
+        "0600000900000001",
+        """\
+no 000000 data-outside
+000000 fresh t * 06 000009 -----0 00 0001 read read-data
+because 000009-000009 is not in storage of 0000008 bytes
+""",
+    ),
+]
+
 # the search loop's job as options, and the lines of its deck before the line of storage
 JOB = "--start 800 --extent 10-19 --fetch 900+10 --store a00+100".split()
 PREAMBLE = """\
@@ -372,11 +438,11 @@ def check_least(checks, program):
     storage = taken_apart(text_of(SEARCH_LOOP))[1]
     many = Ran(2, "", "chanv: too many places\n")
     checks.expect("few places", many, made(program, *least, "--limit", "2", given=storage))
-    said = f"chanv: {CORE}: no job will do: no 000818 changes-argument\n"
+    said = f"chanv: {CORE}: no job will do: {text_of(EXAMPLES / 'changes-argument.why')}"
     checks.expect("no job will do", Ran(1, "", said), made(program, *least, CORE))
-    said = "chanv: no job will do: no 000800 invalid-code\n"
-    ran = made(program, *least, "--at", "800", given=bytes(8))
-    checks.expect("zeros alone", Ran(1, "", said), ran)
+    for name, words, image, explanation in UNDOABLE:
+        ran = made(program, "--least", *words.split(), given=bytes.fromhex(image))
+        checks.expect(name, Ran(1, "", f"chanv: no job will do: {explanation}"), ran)
     missing = Ran(3, "", "chanv: none: cannot open\n")
     checks.expect("no image", missing, made(program, *least, "none"))
 

@@ -7,10 +7,16 @@ A deck's own verdict is `yes` exactly where its job grants what is written. And 
 `chanv deck --least` makes of the program's storage; where no job will do, it says so.
 """
 
+import re
+
 from building import short
 from examples import FOLDERS, TEXTS, decks_of
 from images import taken_apart
 from running import Ran, run, text_of
+
+CURE = "note: --at says where the image lies in storage, and --storage how long storage is\n"
+# where data begins that goes on outside storage, and how long storage is
+DATA_OUTSIDE = re.compile(r"because (\w+)-\w+ is not in storage of (\w+) bytes")
 
 # both parts of a file mask, from the laxest bits to the strictest
 WRITES, SEEKS = (0xC0, 0x00, 0x80, 0x40), (0x00, 0x08, 0x10, 0x18)
@@ -110,6 +116,15 @@ def made_of_image(program, deck):
     return run(program, "deck", "--least", *kept, given=storage)
 
 
+def cure_of(deck, explanation):
+    """The note on --at and --storage: the program begins outside storage, or data goes on there."""
+    verdict, *lines = explanation.splitlines()
+    _, address, reason = verdict.split()
+    starts_outside = reason == "outside-storage" and f"start {address}\n" in deck
+    found = DATA_OUTSIDE.search(explanation) if reason == "data-outside" else None
+    return CURE if starts_outside or found and int(found[1], 16) <= int(found[2], 16) else ""
+
+
 def check_deck(checks, program, path):
     name, deck = short(path), text_of(path)
     verdict = run(program, "verify", given=path)
@@ -117,7 +132,7 @@ def check_deck(checks, program, path):
     made = made_of_image(program, deck)
     if ran.status == 1:
         checks.expect(f"no job will do: {name}", 1, verdict.status)
-        refused = f"chanv: no job will do: {ran.output.splitlines()[0]}\n"
+        refused = f"chanv: no job will do: {ran.output}{cure_of(deck, ran.output)}"
         checks.expect(f"deck --least: {name}", Ran(1, "", refused), made)
         return
     needed = job_of(ran.output.splitlines())

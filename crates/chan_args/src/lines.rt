@@ -115,7 +115,7 @@ The deck is written to standard output, so you can judge it at once:
   chanv deck --start 3A98 --extent 0-202 core.bin | chanv why
 
 With --least the deck grants exactly the needs of its program, and is judged yes. If no job
-will do, a line on standard error says so, with the verdict on the job that grants everything.
+will do, standard error says so, and explains the verdict on the job that grants everything.
 
 The exit status:
   0  the deck was written

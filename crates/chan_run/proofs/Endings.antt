@@ -17,8 +17,8 @@ use Rattle.chan_run.specs.declared.running.RunError.TheVariants.{Deck, TooManyPl
 use Rattle.chan_run.specs.declared.running.Status.{Status}
 use Rattle.chan_run.specs.declared.running.Status.TheVariants.{Yes}
 use Rattle.chan_run.specs.Advice.{IsBeside}
-use Rattle.chan_run.specs.Answer.{IsAdvice, IsImageEnd, advice_of, image_line}
-use Rattle.chan_run.specs.Imaging.{IsImageAnswer}
+use Rattle.chan_run.specs.Answer.{IsAdvice, IsImageEnd, IsImageTold, advice_of}
+use Rattle.chan_run.specs.Imaging.{IsDeckAnswer}
 use Rattle.chan_run.specs.declared.image_options.ImageOptions.{ImageOptions}
 use Rattle.chan_run.specs.Report.{IsDone, IsEnd, has_advice, line_over}
 use Rattle.chan_run.specs.Run.{IsAnswerOn, IsTextAnswer}
@@ -79,45 +79,33 @@ advised name a t r end advice told ended beside (inr (none, nothing)) = rw nothi
 
 -- ---- an image of storage
 
--- what is said where no job will do
-pub no_job_told : (front name mark text line named verdict : List ℕ) → name ++ mark ≡ named → line ≡ verdict
-    → front ++ (name ++ (mark ++ (text ++ (line ++ [])))) ≡ front ++ (named ++ (text ++ verdict))
-no_job_told front name mark text line named verdict is_named is_line =
-    ap (λ t. front ++ t) (sym (append_assoc name mark (text ++ (line ++ []))) ∙ ap (λ t. t ++ (text ++ (line ++ []))) is_named
-    ∙ ap (λ t. named ++ (text ++ t)) (append-nil line ∙ is_line))
-
--- how an image ends for which a job will do, or that wasn't read, and what is said then
-pub image_ended : (name : Option (List ℕ)) (answer : Result (Unit {0}) ImageError) (end : Outcome)
+-- how an image ends for which a job will do, and what is said then
+pub image_ended : (name : Option (List ℕ)) (o : ImageOptions) (image : List ℕ)
+    (answer : Result (Unit {0}) ImageError) (end : Outcome)
     → ((a : ℕ) (r : Reason) → answer ≡ Err (NoJob a r) → ⊥) → IsEnd (Imaged answer) end
-    → IsImageEnd answer end × (line_over name end ≡ image_line name end)
-image_ended name answer end other (inr flush) = (ended answer flush.0, rw flush.1 refl)
+    → IsImageEnd answer end × IsImageTold name o image end (line_over name end)
+image_ended name o image answer end other (inr flush) = (ended answer flush.0, rw flush.1 refl)
   where
     ended : (r : Result (Unit {0}) ImageError) → IsDone (Imaged r) → IsImageEnd r end
     ended (Ok u) done = inr (tt, flush.1)
     ended (Err e) done = absurd done
-image_ended name (Ok u) end other (inl is) = (inl is, rw is refl)
-image_ended name (Err (NoJob a r)) end other (inl is) = absurd (other a r refl)
-image_ended name (Err images.Read) end other (inl is) = (inl is, rw is refl)
-image_ended name (Err images.TooLong) end other (inl is) = (inl is, rw is refl)
-image_ended name (Err images.PastStorage) end other (inl is) = (inl is, rw is refl)
-image_ended name (Err images.TooManyPlaces) end other (inl is) = (inl is, rw is refl)
-image_ended name (Err images.Write) end other (inl is) = (inl is, rw is refl)
-image_ended name (Err images.Memory) end other (inl is) = (inl is, rw is refl)
+image_ended name o image (Ok u) end other (inl is) = (inl is, rw is refl)
+image_ended name o image (Err (NoJob a r)) end other (inl is) = absurd (other a r refl)
+image_ended name o image (Err images.Read) end other (inl is) = (inl is, rw is refl)
+image_ended name o image (Err images.TooLong) end other (inl is) = (inl is, rw is refl)
+image_ended name o image (Err images.PastStorage) end other (inl is) = (inl is, rw is refl)
+image_ended name o image (Err images.TooManyPlaces) end other (inl is) = (inl is, rw is refl)
+image_ended name o image (Err images.Write) end other (inl is) = (inl is, rw is refl)
+image_ended name o image (Err images.Memory) end other (inl is) = (inl is, rw is refl)
 
 -- if an image was answered, the flush of what was written leaves it answered
-pub image_kept : (o : ImageOptions) (old_in new_in old mid new : Option (List ℕ)) (r : Result (Unit {0}) ImageError)
-    → Keeps mid new → ((IsDone (Imaged r) → ⊥) → new ≡ mid) → IsImageAnswer o old_in new_in old mid r
-    → IsImageAnswer o old_in new_in old new r
-image_kept o old_in new_in old mid new (Ok u) keeps same h =
-    let (deck, asked, is_deck, written) = h.answered in
-    record {
-      image = h.image;
-      room = h.room;
-      input = h.input;
-      answered = (deck, asked, is_deck, Appends-kept old mid new (spelling deck) written keeps);
-    }
-image_kept o old_in new_in old mid new (Err e) keeps same h =
-    subst (λ (x : Option (List ℕ)). IsImageAnswer o old_in new_in old x (Err e)) (sym (same (λ done. done))) h
+pub image_kept : (o : ImageOptions) (image : List ℕ) (old mid new : Option (List ℕ)) (r : Result (Unit {0}) ImageError)
+    → Keeps mid new → ((IsDone (Imaged r) → ⊥) → new ≡ mid) → IsDeckAnswer o image old mid r
+    → IsDeckAnswer o image old new r
+image_kept o image old mid new (Ok u) keeps same (deck, asked, is_deck, written) =
+    (deck, asked, is_deck, Appends-kept old mid new (spelling deck) written keeps)
+image_kept o image old mid new (Err e) keeps same h =
+    subst (λ (x : Option (List ℕ)). IsDeckAnswer o image old x (Err e)) (sym (same (λ done. done))) h
 
 -- what was done where no write failed
 pub written_if_sound : {A : Type 0} {E : Type 0} (r : Result (Unit {0}) E) (failed : _) → OnOk r A

@@ -2,7 +2,7 @@
 use Rattle.std.proofs.Common.{◌≡◌, ◌<◌, ◌≤◌, ◌-◌, ◌++◌, ◌⊎◌, ℕ, List, true, false, Option, Some, None, Result, Ok, Err, arith, inl, length, refl, take}
 use Rattle.std.specs.Prelude.{◌^◌, is_some, replicate, unwrap_or}
 use Rattle.std.proofs.lemmas.List.{take_all}
-use Rattle.chan_run.specs.Imaging.{IsImageAnswer, IsNoImage, IsReadImage, filled}
+use Rattle.chan_run.specs.Imaging.{filled}
 use Rattle.chan_run.specs.declared.image.ImageError.{ImageError}
 use Rattle.chan_run.specs.declared.image.ImageError.TheVariants as faults
 use Rattle.chan_run.specs.declared.image_options.ImageOptions.{ImageOptions}
@@ -25,27 +25,3 @@ pub left_alone : (size : Option ℕ) (room : ℕ) (image : List ℕ) → is_some
     → image ≡ filled size room image
 left_alone None room image none = refl
 left_alone (Some n) room image none = cc
-
--- what is answered of an image that was read is an answer
-pub read_answer : (o : ImageOptions) (old_in new_in old new : Option (List ℕ))
-    (answer : Result (Unit {0}) ImageError) → IsReadImage o old_in new_in old new answer
-    → IsImageAnswer o old_in new_in old new answer
-read_answer o old_in new_in old new (Ok _) h = h
-read_answer o old_in new_in old new (Err faults.Read) h = absurd h.answered.1
-read_answer o old_in new_in old new (Err faults.TooLong) h = absurd h.answered.1
-read_answer o old_in new_in old new (Err faults.PastStorage) h = absurd h.answered.1
-read_answer o old_in new_in old new (Err faults.TooManyPlaces) h = h
-read_answer o old_in new_in old new (Err (faults.NoJob a r)) h = h
-read_answer o old_in new_in old new (Err faults.Write) h = h
-read_answer o old_in new_in old new (Err faults.Memory) h = tt
-
--- why no image was read is an answer
-pub no_image_answer : (o : ImageOptions) (old_in new_in old new : Option (List ℕ)) (fault : ImageError)
-    → IsNoImage o old_in new_in fault → IsImageAnswer o old_in new_in old new (Err fault)
-no_image_answer o old_in new_in old new faults.TooLong h = h
-no_image_answer o old_in new_in old new faults.PastStorage h = h
-no_image_answer o old_in new_in old new faults.Read h = h
-no_image_answer o old_in new_in old new faults.Memory h = tt
-no_image_answer o old_in new_in old new faults.TooManyPlaces h = absurd h
-no_image_answer o old_in new_in old new (faults.NoJob a r) h = absurd h
-no_image_answer o old_in new_in old new faults.Write h = absurd h

@@ -1,11 +1,9 @@
 -- What one input comes to: its answer on one writer, and what is said of it on another.
 use Rattle.std.specs.Prelude.{◌≡◌, ◌⊎◌, ◌++◌, ℕ, Bool, true, false, List, [], Option, Some, None}
-use Rattle.std.specs.Prelude.{codes, Result, Ok, Err, Vec}
+use Rattle.std.specs.Prelude.{Result, Ok, Err, Vec}
 use Rattle.std.specs.Io.KnownBytes.{Appends}
 use Rattle.ccw_core.specs.Written.{AppendsPrefix}
 use Rattle.chan_deck.specs.Hint.{IsHint}
-use Rattle.chan_deck.specs.Texts.{verdict_line}
-use Rattle.chan_walk.specs.declared.verdict.Verdict.TheVariants.{No}
 use Rattle.chan_run.specs.declared.image.ImageError.{ImageError}
 use Rattle.chan_run.specs.declared.image.ImageError.TheVariants as images
 use Rattle.chan_run.specs.declared.image.ImageError.TheVariants.{NoJob}
@@ -19,9 +17,9 @@ use Rattle.chan_run.specs.declared.running.RunError.TheVariants.{Deck, Memory, T
 use Rattle.chan_run.specs.declared.running.Status.{Status}
 use Rattle.chan_run.specs.declared.running.Status.TheVariants as statuses
 use Rattle.chan_run.specs.Advice.{IsNoted, limit_line}
-use Rattle.chan_run.specs.Imaging.{IsImageAnswer}
+use Rattle.chan_run.specs.Imaging.{IsDeckAnswer, IsNoImage, IsWholeImage}
 use Rattle.chan_run.specs.Imaging as imaging
-use Rattle.chan_run.specs.Naming.{name_before}
+use Rattle.chan_run.specs.NoJob.{IsNoJobText}
 use Rattle.chan_run.specs.Report.{IsEnd, line_over}
 use Rattle.chan_run.specs.Run.{IsEarly, IsInput, IsOfJob, IsReadFault, IsTextAnswer, IsUnwritten}
 use Rattle.chan_run.specs.Run.{front_of}
@@ -91,32 +89,48 @@ advice_of name (Some (Err refused)) = memory_line name
 
 -- ---- an image of storage
 
--- what is said of an image: the outcome's line, or the verdict for which no job will do
-abbrev pub image_line : Option (List ℕ) → Outcome → List ℕ
-image_line name (Imaged (Err (NoJob a r))) =
-    codes "chanv: "
-    ++ (name_before name true ++ (codes "no job will do: " ++ verdict_line (No a r)))
-image_line name end = line_over name end
+-- what is said of an image, if it was read: the outcome's line, or why no job will do
+abbrev pub IsImageTold : Option (List ℕ) → ImageOptions → List ℕ → Outcome → List ℕ → Type 0
+IsImageTold name o image (Imaged (Err (NoJob a r))) told = IsNoJobText name o image told
+IsImageTold name o image end told = told ≡ line_over name end
 
 -- an image was answered before anything was written
 abbrev pub IsEarlyImageEnd : Outcome → Type 0
 IsEarlyImageEnd (Imaged answer) = imaging.IsEarly answer
 IsEarlyImageEnd end = ⊥
 
--- how it ends when the answer is this: just so, with a failed flush, or without memory for the line
--- that no job will do
+-- how it ends when the answer is this: just so, with a failed flush, or without memory for the
+-- explanation
 abbrev pub IsImageEnd : Result (Unit {0}) ImageError → Outcome → Type 0
 IsImageEnd (Err (NoJob a r)) end =
     (end ≡ Imaged (Err (NoJob a r))) ⊎ (end ≡ Imaged (Err images.Memory))
 IsImageEnd answer end = IsEnd (Imaged answer) end
 
--- the input was read, its deck was written, and this was said of it; where a write of it failed, a
--- prefix
+-- the input was read to its end, its image was answered, and then this was said
+pub record IsReadImage (name : Option (List ℕ)) (o : ImageOptions)
+    (old_in new_in old new : Option (List ℕ)) (end : Outcome) (told : List ℕ) : Type 0 where
+  pub image : List ℕ
+  pub input : IsWholeImage o old_in new_in image
+  pub answer : Result (Unit {0}) ImageError
+  pub answered : IsDeckAnswer o image old new answer
+  pub ended : IsImageEnd answer end
+  pub is : IsImageTold name o image end told
+
+-- it wasn't, nothing was written, and only that was said
+pub record IsUnreadImage (name : Option (List ℕ)) (o : ImageOptions)
+    (old_in new_in old new : Option (List ℕ)) (end : Outcome) (told : List ℕ) : Type 0 where
+  pub fault : ImageError
+  pub read : IsNoImage o old_in new_in fault
+  pub ended : end ≡ Imaged (Err fault)
+  pub unwritten : IsUnwritten old new
+  pub is : told ≡ line_over name end
+
+-- this was said of the image; if a write of it failed, a prefix
 pub record IsImageHandled (name : Option (List ℕ)) (o : ImageOptions)
     (old_in new_in old new old_err new_err : Option (List ℕ)) (failed : Bool) (end : Outcome)
     : Type 0 where
-  pub answer : Result (Unit {0}) ImageError
-  pub answered : IsImageAnswer o old_in new_in old new answer
-  pub ended : IsImageEnd answer end
-  pub whole : failed ≡ false → Appends old_err new_err (image_line name end)
-  pub prefix : AppendsPrefix old_err new_err (image_line name end)
+  pub told : List ℕ
+  pub of_image : IsReadImage name o old_in new_in old new end told
+      ⊎ IsUnreadImage name o old_in new_in old new end told
+  pub whole : failed ≡ false → Appends old_err new_err told
+  pub prefix : AppendsPrefix old_err new_err told

@@ -113,14 +113,6 @@ IsDeckAnswer o image old new (Err faults.Write) =
 IsDeckAnswer o image old new (Err faults.Memory) = Unit {0}
 IsDeckAnswer o image old new (Err fault) = (o.is_least ≡ true) × HasNoNeeds o image fault
 
--- the input was read to its end, and this is the answer for its image
-pub record IsReadImage (o : ImageOptions) (old_in new_in old new : Option (List ℕ))
-    (answer : Result (Unit {0}) ImageError) : Type 0 where
-  pub image : List ℕ
-  pub room : ℕ
-  pub input : IsImage o room old_in new_in image
-  pub answered : IsDeckAnswer o (filled o.size room image) old new answer
-
 -- why no image was read; nothing was written then
 abbrev pub IsNoImage : ImageOptions → Option (List ℕ) → Option (List ℕ) → ImageError → Type 0
 IsNoImage o old new faults.TooLong =
@@ -139,17 +131,6 @@ pub record IsWholeImage (o : ImageOptions) (old new : Option (List ℕ)) (whole 
   pub room : ℕ
   pub input : IsImage o room old new image
   pub is : whole ≡ filled o.size room image
-
--- what each answer says of the input and the output
-abbrev pub IsImageAnswer : ImageOptions → Option (List ℕ) → Option (List ℕ) → Option (List ℕ)
-    → Option (List ℕ) → Result (Unit {0}) ImageError → Type 0
-IsImageAnswer o old_in new_in old new (Err faults.TooLong) =
-    IsNoImage o old_in new_in faults.TooLong
-IsImageAnswer o old_in new_in old new (Err faults.PastStorage) =
-    IsNoImage o old_in new_in faults.PastStorage
-IsImageAnswer o old_in new_in old new (Err faults.Read) = IsNoImage o old_in new_in faults.Read
-IsImageAnswer o old_in new_in old new (Err faults.Memory) = Unit {0}
-IsImageAnswer o old_in new_in old new answer = IsReadImage o old_in new_in old new answer
 
 -- the answer comes before anything is written
 abbrev pub IsEarly : Result (Unit {0}) ImageError → Type 0

@@ -10,6 +10,7 @@ pub mod Report
 pub mod Options
 pub mod OptionReading
 pub mod Imaging
+pub mod NoJob
 pub mod Finding
 pub mod OptionFault
 pub mod Advice

@@ -12,16 +12,14 @@ ghost use Rattle.chan_run.specs.declared.image.ImageError.TheVariants as images;
 ghost use Rattle.chan_run.specs.declared.reporting.Outcome.TheVariants.{Imaged, Ran};
 ghost use Rattle.chan_run.specs.declared.running.RunError.TheVariants as runs;
 
-use crate::image::{ImageError, write_image};
+use crate::image::{ImageError, read_image, write_image_of};
 use crate::image_options::ImageOptions;
-use crate::naming::named;
+use crate::no_job::no_job_text;
 use crate::reporting::{Outcome, conclude, flushed, has_advice, write_line};
 use crate::running::{RunError, answer_text, read_text};
 use crate::texts::write_texts;
 use ccw_core::{DeviceFault, Watched, write_out};
 use chan_args::Action;
-use chan_deck::verdict_text;
-use chan_walk::Verdict;
 use std::alloc::{AllocError, Global};
 use std::io::{Read, Write};
 
@@ -103,14 +101,20 @@ pub fn note_usual_device<E: Write>(errors: &mut Watched<E>)
     let _ = write_texts(&["note: no device was named, so it is the 2314\n"], errors);
 }
 
-/// Makes a deck of an image of storage that may have a name, and says what came of it.
+/// Reads an image of storage to the end of the input, writes the one text of the deck that it makes
+/// with the options, and says what came of it. The deck's job is that of the options or, if they
+/// ask for it, the least job of the program, under which the verdict is yes.
 ///
-/// On the first writer stands what `write_image` writes, and it is flushed where all of it was
-/// written. On the second stands the outcome's line, as `report_named` writes it; where the least
-/// job was asked for and no job will do, it is `no job will do: ` and the verdict's line.
+/// Storage has the requested size, with zeros after the image; without a size it ends with the
+/// image. It has at most 16,777,216 bytes. Nothing is written before the whole image was read:
+/// after a failed write a prefix of the deck was written, after any other error nothing was. Over an
+/// endless reader it returns, with `TooLong`. If all was written, the output is flushed.
 ///
-/// The outcome is what `write_image` answers, or `FlushFailed`, or that memory ran out for the
-/// verdict's line. A second writer that fails doesn't change it, and a prefix was written there.
+/// The second writer gets the outcome's line, as `report_named` writes it. If no job will do, it
+/// gets `no job will do: ` and the explanation of the verdict on the program's open job; a last line
+/// names the options `--at` and `--storage` if these may cure it. If memory runs out for the
+/// explanation, so does the outcome say. A second writer that fails doesn't change the outcome, and
+/// a prefix was written there.
 pub fn answer_image<R: Read, W: Write, E: Write>(
     alloc: Global,
     name: Option<&str>,
@@ -131,18 +135,18 @@ pub fn answer_image<R: Read, W: Write, E: Write>(
     ensures read { result ≡ Imaged (Err images.Read) ↔ (from.new.failed ≡ true) }
     ensures write { IsWriteFailure result ↔ (to.new.failed ≡ true) }
 {
-    let answer = write_image(alloc, options, from, to);
+    let image = match read_image(alloc, options, from) {
+        Ok(image) => image,
+        Err(error) => return conclude(name, Outcome::Imaged(Err(error)), to, errors),
+    };
+    let answer = write_image_of(alloc, options, image.as_slice(), to);
     let Err(ImageError::NoJob { address, reason }) = answer else {
         return conclude(name, Outcome::Imaged(answer), to, errors);
     };
-    let verdict = Verdict::No { address, reason };
-    let Ok(line) = verdict_text(alloc, verdict) else {
+    // The same job was walked before, so this fails only for want of memory.
+    let Ok(text) = no_job_text(alloc, name, options, image.as_slice()) else {
         return conclude(name, Outcome::Imaged(Err(ImageError::Memory)), to, errors);
     };
-    let (name, mark) = named(name, true);
-    let _ = write_texts(
-        &["chanv: ", name, mark, "no job will do: ", line.as_str()],
-        errors,
-    );
+    let _ = write_out(text.as_bytes(), errors);
     Outcome::Imaged(Err(ImageError::NoJob { address, reason }))
 }

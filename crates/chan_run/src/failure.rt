@@ -42,10 +42,10 @@ runs on through storage reaches one every 8 bytes.
 ";
 
 const NO_JOB_WILL_DO: &str = "\
-The least job was asked for, and there is none: a no stands even where all is
-granted. The verdict behind it says which CCW offends, and why.
-Correct the program. `chanv explain` has the reason. To see the path, make a
-deck that grants everything, and ask `chanv why` about it.
+You asked for the least job, and there is none: the verdict is no even if
+everything is granted. The explanation after it says which CCW offends, and why.
+Correct the program. `chanv explain` has the reason. If the image belongs at
+another address, or storage is longer, say so with --at or --storage.
 ";
 
 const WRITE_FAILED: &str = "\

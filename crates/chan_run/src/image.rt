@@ -7,7 +7,7 @@ ghost use Rattle.std.specs.Io.KnownBytes.{Appends};
 ghost use Rattle.ccw_core.specs.Written.{AppendsPrefix};
 ghost use Rattle.chan_deck.specs.Image.{IsDeck, spelling};
 ghost use Rattle.chan_deck.specs.Parts.{HasAddresses, image_of};
-ghost use Rattle.chan_run.specs.Imaging.{IsDeckAnswer, IsEarly, IsImageAnswer, IsNoImage, IsRoom};
+ghost use Rattle.chan_run.specs.Imaging.{IsDeckAnswer, IsEarly, IsNoImage, IsRoom};
 ghost use Rattle.chan_run.specs.Imaging.{IsWholeImage, filled};
 
 use crate::image_options::ImageOptions;
@@ -60,37 +60,6 @@ impl From<AllocError> for ImageError {
     fn from(_error: AllocError) -> ImageError {
         ImageError::Memory
     }
-}
-
-/// Reads an image of storage to the end of the input, and writes the one text of the deck that it
-/// makes with the options. Its job is the one of the options, or, if they ask for it, the least job
-/// of the program, under which the verdict is yes.
-///
-/// Storage has the requested size, with zeros after the image; without a size it ends with the
-/// image. It has at most 16,777,216 bytes. Nothing is written before the whole image was read:
-/// after a failed write a prefix of the text was written, after any other error nothing was. `Read`
-/// and `Write` come exactly if the device failed, and `Read` only before too many bytes came. Over
-/// an endless reader it returns, with `TooLong`.
-pub fn write_image<R: Read, W: Write>(
-    alloc: Global,
-    options: &ImageOptions,
-    from: &mut Watched<R>,
-    to: &mut Watched<W>,
-) -> Result<(), ImageError>
-    requires reader { from.old.failed ≡ false }
-    requires writer { to.old.failed ≡ false }
-    ensures answer { IsImageAnswer options.now
-        (R.remaining from.old.device) (R.remaining from.new.device)
-        (W.contents to.old.device) (W.contents to.new.device) result }
-    ensures early { IsEarly result → to.new ≡ to.old }
-    ensures read { IsErrOf result ImageError.Read ↔ (from.new.failed ≡ true) }
-    ensures write { IsErrOf result ImageError.Write ↔ (to.new.failed ≡ true) }
-{
-    let image = match read_image(alloc, options, from) {
-        Ok(image) => image,
-        Err(error) => return Err(error),
-    };
-    write_image_of(alloc, options, image.as_slice(), to)
 }
 
 /// Reads an image of storage to the end of the input; zeros follow it if a size was asked for.
@@ -160,7 +129,7 @@ fn too_long(options: &ImageOptions) -> ImageError
 }
 
 /// Writes the deck that an image makes with the job that is asked for.
-fn write_image_of<W: Write>(
+pub(crate) fn write_image_of<W: Write>(
     alloc: Global,
     options: &ImageOptions,
     image: &[u8],

@@ -28,7 +28,7 @@ pub enum Outcome {
     Shown(Result<(), ShowError>),
     /// What `run` answered.
     Ran(Result<Status, RunError>),
-    /// What `write_image` answered.
+    /// What became of the deck that an image makes.
     Imaged(Result<(), ImageError>),
     /// What `explain_word` answered.
     Explained(Result<(), MeaningError>),

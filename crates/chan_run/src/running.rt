@@ -340,7 +340,7 @@ fn write_why<W: Write>(
 
 /// The explanation of the verdict on a job that was surveyed, with the causes of all offences, if
 /// they are asked for.
-fn why_text(alloc: Global, all: bool, job: &Job, survey: &Survey) -> Result<String, AllocError>
+pub(crate) fn why_text(alloc: Global, all: bool, job: &Job, survey: &Survey) -> Result<String, AllocError>
     requires { IsSurvey job.now survey.now }
     ensures { IfOk result (λ text. IsExplained all job.now
         (first_verdict survey.now.offences.items) (string_bytes text)) }

@@ -13,6 +13,8 @@ mod ckd;
 #[cfg(test)]
 mod deck;
 #[cfg(test)]
+mod growing;
+#[cfg(test)]
 mod run;
 #[cfg(test)]
 mod shared;

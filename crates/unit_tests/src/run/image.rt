@@ -6,7 +6,7 @@ use crate::run::devices::Broken;
 use crate::shared::{expect, paper_of};
 use ccw_core::Watched;
 use chan_args::ImageWords;
-use chan_run::{ImageError, ImageOptions, options_of, write_image};
+use chan_run::{ImageError, ImageOptions, Outcome, answer_image, options_of};
 use std::alloc::{AllocError, Global};
 
 /// A No Operation, after two bytes of the image.
@@ -50,51 +50,48 @@ fn words(alloc: Global, is_least: bool) -> Result<ImageWords<'static>, AllocErro
     })
 }
 
-/// Whether the deck of the image comes to this where a read fails, and this is written. A write
-/// after that fails.
-fn is_made(alloc: Global, failing: usize, answer: Result<(), ImageError>, text: &[u8]) -> bool {
-    is_made_of(alloc, false, failing, answer, text)
+/// What comes of an image: the answer, what is written, and what is said.
+#[derive(Clone, Copy)]
+struct Made<'a> {
+    answer: Result<(), ImageError>,
+    text: &'a [u8],
+    said: &'a [u8],
 }
 
-/// The same, with the job that is said or with the least.
-fn is_made_of(
-    alloc: Global,
-    is_least: bool,
-    failing: usize,
-    answer: Result<(), ImageError>,
-    text: &[u8],
-) -> bool {
+/// Whether this comes of the image when a read fails, with the job that is said or with the least.
+/// A write after the text fails.
+fn is_made(alloc: Global, is_least: bool, failing: usize, made: &Made) -> bool {
     let Ok(words) = words(alloc, is_least) else {
         return false;
     };
     match options_of(alloc, &words) {
-        Ok(options) => is_written(alloc, &options, failing, answer, text),
+        Ok(options) => is_answered(alloc, &options, failing, made),
         Err(_) => false,
     }
 }
 
-fn is_written(
-    alloc: Global,
-    options: &ImageOptions,
-    failing: usize,
-    answer: Result<(), ImageError>,
-    text: &[u8],
-) -> bool {
+fn is_answered(alloc: Global, options: &ImageOptions, failing: usize, made: &Made) -> bool {
     let mut from = Watched::new(Broken {
         rest: IMAGE,
         reads: 0,
         failing,
     });
-    let mut to = Watched::new(paper_of(text));
-    let found = write_image(alloc, options, &mut from, &mut to);
-    found == answer && to.into_inner().left.is_empty()
+    let mut to = Watched::new(paper_of(made.text));
+    let mut errors = Watched::new(paper_of(made.said));
+    let found = answer_image(alloc, Some("a.bin"), options, &mut from, &mut to, &mut errors);
+    let all_came = to.into_inner().left.is_empty() && errors.into_inner().left.is_empty();
+    found == Outcome::Imaged(made.answer) && all_came
 }
 
 #[test]
 fn each_read_of_an_image_failing_in_turn(rt: HostRuntime) {
+    let refused = Made {
+        answer: Err(ImageError::Read),
+        text: &[],
+        said: b"chanv: a.bin: read failed\n",
+    };
     for failing in 0..IMAGE.len() + 1 {
-        let refused = is_made(rt.alloc(), failing, Err(ImageError::Read), &[]);
-        expect(&rt, refused, "read");
+        expect(&rt, is_made(rt.alloc(), false, failing, &refused), "read");
     }
 }
 
@@ -102,17 +99,28 @@ fn each_read_of_an_image_failing_in_turn(rt: HostRuntime) {
 fn each_write_of_a_deck_failing_in_turn(rt: HostRuntime) {
     let deck = DECK.as_bytes();
     for room in 0..deck.len() {
-        let front = &deck[..room];
-        let refused = is_made(rt.alloc(), usize::MAX, Err(ImageError::Write), front);
-        expect(&rt, refused, "write");
+        let front = Made {
+            answer: Err(ImageError::Write),
+            text: &deck[..room],
+            said: b"chanv: write failed\n",
+        };
+        expect(&rt, is_made(rt.alloc(), false, usize::MAX, &front), "write");
     }
-    expect(&rt, is_made(rt.alloc(), usize::MAX, Ok(()), deck), "whole");
+    let whole = Made {
+        answer: Ok(()),
+        text: deck,
+        said: &[],
+    };
+    expect(&rt, is_made(rt.alloc(), false, usize::MAX, &whole), "whole");
 }
 
 /// What is granted beside the least job counts for nothing. The program refuses it before.
 #[test]
 fn the_least_job_beside_another(rt: HostRuntime) {
-    let deck = LEAST.as_bytes();
-    let made = is_made_of(rt.alloc(), true, usize::MAX, Ok(()), deck);
-    expect(&rt, made, "least");
+    let least = Made {
+        answer: Ok(()),
+        text: LEAST.as_bytes(),
+        said: &[],
+    };
+    expect(&rt, is_made(rt.alloc(), true, usize::MAX, &least), "least");
 }

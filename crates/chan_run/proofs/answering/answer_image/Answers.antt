@@ -1,55 +1,73 @@
-use Rattle.std.proofs.Common.{◌≡◌, Err, ap, codes, rules, ℕ}
-use Rattle.chan_deck.specs.Texts.{verdict_line}
-use Rattle.chan_walk.specs.declared.verdict.Verdict.TheVariants.{No}
+use Rattle.std.proofs.Common.{◌≡◌, Err, ap, inl, inr, refl, rules, ℕ}
 use Rattle.chan_walk.specs.declared.reason.Reason.{Reason}
 use Rattle.chan_run.specs.declared.image.ImageError.TheVariants.{Memory, NoJob}
 use Rattle.chan_run.specs.Naming.{name_in}
-use Rattle.chan_run.specs.Report.{IsDone}
+use Rattle.chan_run.specs.Report.{IsDone, line_over}
 use Rattle.chan_run.specs.declared.reporting.Outcome.TheVariants.{Imaged}
-use Rattle.chan_run.proofs.Endings.{image_ended, image_kept, no_job_told, written_if_sound}
+use Rattle.chan_run.proofs.Endings.{image_ended, image_kept, written_if_sound}
 use Rattle.chan_run.proofs.answering.answer_image.Goals as goal
 
 pub returns-in_default-clause-answer : goal.returns-in_default-clause-answer
 returns-in_default-clause-answer g c =
-    let other : (a : ℕ) (r : Reason) → c.write_image-answer.result ≡ Err (NoJob a r) → ⊥ = search rules in
-    let old = g.W.Write.contents c.write_image-answer.new.to.device in
-    let new = g.W.Write.contents c.conclude.new.to.device in
-    let same : (IsDone (Imaged c.write_image-answer.result) → ⊥) → new ≡ old =
-    λ unfinished. ap (λ w. g.W.Write.contents w.device) (c.conclude.ensures.early unfinished) in
-    let (ended, line) = image_ended (name_in c.args.name) c.write_image-answer.result c.conclude.result other c.conclude.ensures.end in
+    let o = c.args.options.now in
+    let name = name_in c.args.name in
+    let image = c.in-Ok.image.items in
+    let answer = c.write_image_of-answer.result in
+    let end = c.conclude-in_default.result in
+    let other : (a : ℕ) (r : Reason) → answer ≡ Err (NoJob a r) → ⊥ = search rules in
+    let (ended, told) = image_ended name o image answer end other c.conclude-in_default.ensures.end in
     record {
-      answer = c.write_image-answer.result;
-      answered = image_kept c.args.options.now _ _ _ _ _ c.write_image-answer.result c.conclude.ensures.kept same c.write_image-answer.ensures.answer;
-      ended = ended;
-      whole = rw line at c.conclude.ensures.line;
-      prefix = rw line at c.conclude.ensures.prefix;
+      told = line_over name end;
+      of_image = inl (record {
+        image = image;
+        input = c.in-Ok.ensures.ok;
+        answer = answer;
+        answered = image_kept o image _ _ _ answer c.conclude-in_default.ensures.kept
+            (λ unfinished. ap (λ w. g.W.Write.contents w.device) (c.conclude-in_default.ensures.early unfinished))
+            (rw c.as_slice.ensures.value at c.write_image_of-answer.ensures.answer);
+        ended = ended;
+        is = told;
+      });
+      whole = c.conclude-in_default.ensures.line;
+      prefix = c.conclude-in_default.ensures.prefix;
     }
 
-pub returns-in_default-verdict_text-clause-answer : goal.returns-in_default-verdict_text-clause-answer
-returns-in_default-verdict_text-clause-answer g c =
-    let end = c.conclude-in_default-verdict_text.ensures.end in
-    let now = c.conclude-in_default-verdict_text.new in
-    let old = g.W.Write.contents c.write_image-answer.new.to.device in
-    let new = g.W.Write.contents now.to.device in
-    let same : new ≡ old = ap (λ w. g.W.Write.contents w.device) (c.conclude-in_default-verdict_text.ensures.early (λ done. done)) in
-    let line = (image_ended (name_in c.args.name) (Err Memory) c.conclude-in_default-verdict_text.result (λ a r e. absurd cc) end).1 in
+pub returns-in_default-no_job_text-clause-answer : goal.returns-in_default-no_job_text-clause-answer
+returns-in_default-no_job_text-clause-answer g c =
+    let o = c.args.options.now in
+    let name = name_in c.args.name in
+    let image = c.in-Ok.image.items in
+    let answer = c.write_image_of-answer.result in
+    let concluded = c.conclude-in_default-no_job_text in
+    let (ended, told) = image_ended name o image (Err Memory) concluded.result (λ a r e. absurd cc) concluded.ensures.end in
     record {
-      answer = c.write_image-answer.result;
-      answered = image_kept c.args.options.now _ _ _ _ _ c.write_image-answer.result c.conclude-in_default-verdict_text.ensures.kept
-          (λ unfinished. same) c.write_image-answer.ensures.answer;
-      ended = search rules;
-      whole = rw line at c.conclude-in_default-verdict_text.ensures.line;
-      prefix = rw line at c.conclude-in_default-verdict_text.ensures.prefix;
+      told = line_over name concluded.result;
+      of_image = inl (record {
+        image = image;
+        input = c.in-Ok.ensures.ok;
+        answer = answer;
+        answered = image_kept o image _ _ _ answer concluded.ensures.kept
+            (λ unfinished. ap (λ w. g.W.Write.contents w.device) (concluded.ensures.early (λ done. done)))
+            (rw c.as_slice.ensures.value at c.write_image_of-answer.ensures.answer);
+        ended = search rules;
+        is = told;
+      });
+      whole = concluded.ensures.line;
+      prefix = concluded.ensures.prefix;
     }
 
 pub returns-clause-answer : goal.returns-clause-answer
 returns-clause-answer g c =
-    let line = no_job_told (codes "chanv: ") c.named.result.0.now c.named.result.1.now (codes "no job will do: ") c.as_str.result.now
-    _ (verdict_line (No c.in-Err-NoJob.address c.in-Err-NoJob.reason)) c.named.ensures (search rules) in
     record {
-      answer = c.write_image-answer.result;
-      answered = c.write_image-answer.ensures.answer;
-      ended = search rules;
-      whole = written_if_sound c.write_texts.result c.write_texts.new.to.failed (rw line at c.write_texts.ensures.ok) c.write_texts.ensures.fault;
-      prefix = rw line at c.write_texts.ensures.prefix;
+      told = c.as_bytes.result.now;
+      of_image = inl (record {
+        image = c.in-Ok.image.items;
+        input = c.in-Ok.ensures.ok;
+        answer = c.write_image_of-answer.result;
+        answered = rw c.as_slice.ensures.value at c.write_image_of-answer.ensures.answer;
+        ended = search rules;
+        is = search rules;
+      });
+      whole = written_if_sound c.write_out.result c.write_out.new.to.failed c.write_out.ensures.ok c.write_out.ensures.fault;
+      prefix = c.write_out.ensures.prefix;
     }
