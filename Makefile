@@ -25,7 +25,7 @@ BESIDE = --jobs=2
 # The deck that `make try` explains the verdict on.
 DECK ?= examples/changes-argument.deck
 
-.PHONY: run libraries $(LIBRARIES) test audit proofs mutants one_call lib install uninstall try
+.PHONY: run libraries $(LIBRARIES) test audit proofs mutants unit_tests lib install uninstall try
 .PHONY: table can_prove can_link can_test can_audit
 
 run: libraries
@@ -70,16 +70,18 @@ mutants: run lib
 
 # The kit's gate, from nothing. It gets a copy without must-fail/: to try mutants it would prove each
 # crate that has some once more, and tests/mutants.py begins with what was built. The lock tells
-# tests/mutants.py that half of the processors are taken.
+# tests/mutants.py that half of the processors are taken. What stays is the program of the unit tests,
+# which tests/run would else have to prove once more.
 proofs:
 	mkdir -p out
 	copy=$$(mktemp -d) && trap 'rm -rf "$$copy"' EXIT && \
 	  tar -c --exclude=./.git --exclude=out --exclude=must-fail . | tar -x -C "$$copy" && \
-	  cd "$$copy" && flock "$(CURDIR)/out/proofs.lock" rt ci
+	  cd "$$copy" && flock "$(CURDIR)/out/proofs.lock" rt ci && \
+	  cp crates/unit_tests/out/unit_tests_tests "$(CURDIR)/out/unit_tests"
 
-# The program that the tests of refused memory run.
-one_call: libraries
-	cd crates/one_call && rt run --jobs $(JOBS) -- guard-new whole
+# The program of the unit tests, which tests/refused_memory.py runs too.
+unit_tests: libraries
+	cd crates/unit_tests && rt test --jobs $(JOBS)
 
 # The library for C with the kit's runtime, as one object that shows nothing but chanv's calls, in
 # an archive and a shared library, each of which links by itself.

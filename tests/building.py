@@ -46,18 +46,19 @@ class Built:
     `jobs` says how many crates may be proved at a time; None leaves it to `rt`.
     """
 
-    def __init__(self, program=None, one_call=None, library=None, jobs=None):
+    def __init__(self, program=None, unit_tests=None, library=None, jobs=None):
         self.jobs = jobs
         self._chanv = program or ROOT / "crates/chanv/out/chanv"
-        self._one_call = Made(one_call, "one_call", ROOT / "crates/one_call/out/one_call")
+        made = ROOT / "crates/unit_tests/out/unit_tests_tests"
+        self._unit_tests = Made(unit_tests, "unit_tests", made)
         self._library = Made(library, "lib", ROOT / "out")
 
     def chanv(self):
         return existing(self._chanv)
 
-    def one_call(self):
-        """The program of that crate. `make one_call` builds it, if none was given."""
-        return existing(self._one_call.path())
+    def unit_tests(self):
+        """The program of the unit tests. `make unit_tests` builds it, if none was given."""
+        return existing(self._unit_tests.path())
 
     def library(self):
         """The folder with libchanv.a and chanv.h. `make lib` builds them, if none was given."""

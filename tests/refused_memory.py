@@ -3,11 +3,13 @@
 Each is made over its worked case: once with every growth granted, which has to give the case's
 answer; and then with the first growth refused, the second, and so on up to the last, each alone and
 each with all that come after it, which has to give a report of a failed allocation and no other
-answer. The program one_call makes the calls that chanv doesn't make.
+answer. Unit tests make the calls that chanv doesn't make.
 """
 
+import signal
 import tempfile
 
+from building import ROOT
 from examples import CHANGES_BOTH, CHANGES_ITSELF, EXAMPLES, SEARCH_LOOP
 from refusing import Case, Growths
 from running import Ran, text_of
@@ -23,40 +25,18 @@ REFUSED = "chanv: deck line 1: header\n"
 HINT = "found chanv deck 3\nexpected chanv deck 1, chanv deck 2\n"
 
 
-# one_call has it too: a seek whose argument lies in three pieces
-DECK = """\
-chanv deck 1
-device 2314
-mask 00
-start 000800
-extent 010 019
-fetch 000900 000010
-store 00090A 000002
-storage 0001000
-put 000800 0700090080000002
-put 000808 0000090480000002
-put 000810 0000090840000002
-put 000818 0600090A00000002
-put 000900 00000000000A0000
-end
-"""
-LISTING = """\
-000800 fresh t . 07 000900 D----0 00 0002 control seek
-000808 out - . 00 000904 D----0 00 0002 invalid chained
-000810 out - . 00 000908 -C---0 00 0002 invalid chained
-000818 fresh - . 06 00090A -----0 00 0002 read read-data
-yes
-"""
 FOUND = "000800 no 000818 changes-argument\n"
 
-# each call of one_call, and its answer
-CALLS = {
-    "guard-new": "3\n",
-    "write-deck": DECK,
-    "row-text": LISTING.splitlines(True)[0],
-    "write-listing": LISTING,
-    "run": LISTING,
-}
+# unit tests of calls that chanv doesn't make, each with one of all that comes before
+READ = "growing::the_deck_is_read"
+EXPLORED = "growing::its_job_is_explored"
+CALLS = [
+    ("growing::guard_new", EXPLORED),
+    ("growing::writes_deck", READ),
+    ("growing::tells_row", READ),
+    ("growing::writes_listing", EXPLORED),
+    ("growing::runs", READ),
+]
 
 
 def commands():
@@ -80,15 +60,24 @@ def commands():
     ]
 
 
-def call_cases(one_call):
-    for call, answer in CALLS.items():
+def call_cases(unit_tests):
+    for call, before in CALLS:
         yield Case(
             name=call,
-            words=[one_call, call, "whole"],
-            expected=Ran(0, answer),
-            begun=answer if answer == LISTING else "",
-            before=[one_call, call, "setup"],
+            words=[unit_tests, call],
+            expected=Ran(0, "\ntest result: ok\n"),
+            complaints=("out of memory\n",),
+            begun=stopped(),
+            before=[unit_tests, before],
+            refused=-signal.SIGABRT,
         )
+
+
+def stopped():
+    """What a unit test writes that stops at the one assertion of all."""
+    lines = (ROOT / "crates/unit_tests/src/shared.rt").read_text().splitlines()
+    number = next(n for n, line in enumerate(lines, 1) if "assert!(" in line)
+    return f"\ntest stopped at src/shared.rt:{number}:5\n"
 
 
 def command_cases(chanv):
@@ -129,7 +118,7 @@ def advice_cases(chanv):
 
 def check(checks, built):
     chanv = built.chanv()
-    cases = [*call_cases(built.one_call()), *command_cases(chanv), *advice_cases(chanv)]
+    cases = [*call_cases(built.unit_tests()), *command_cases(chanv), *advice_cases(chanv)]
     with tempfile.TemporaryDirectory() as folder:
         growths = Growths(folder)
         for case in cases:

@@ -24,13 +24,15 @@ class Case(NamedTuple):
     may_answer: bool = False
     # a run of all that comes before; the case has to ask for more memory than that does
     before: list | tuple = ()
+    # the status that goes with a complaint
+    refused: int = OUT_OF_MEMORY
 
     def allows(self, ran):
         if ran.error not in self.complaints:
             return False
         if self.may_answer and ran._replace(error="") == self.expected._replace(error=""):
             return True
-        return ran.status == OUT_OF_MEMORY and self.begun.startswith(ran.output)
+        return ran.status == self.refused and self.begun.startswith(ran.output)
 
 
 class Growths:

@@ -7,20 +7,28 @@
  * The caller's duties:
  *
  * - Each pointer is valid, and aligned for its type, for as many elements as its length says. If
- *   that length is 0 it may be NULL. `job`, `out`, `count`, `length` and the `rows` of
- *   `chanv_grants` and `chanv_beside` are never NULL.
+ *   that length is 0 it may be NULL. `job`, `program`, `area`, `out`, `count` and `length` may not.
  * - The memory that a call writes (`out`, `count`, `length` and the lists that have room) lies
  *   apart from each other, from the job and from everything that the job points to.
- * - From the call to its return, nothing else writes the job, the rows or anything that these point
- *   to, and nothing else touches the memory that the call writes. If storage is written meanwhile,
- *   the answer means nothing at all. The call still returns with one of its codes and writes
- *   nothing else; this is tested, not proved. docs/EMBEDDING.md shows an emulator whose threads
- *   write storage. `chanv_grants` and `chanv_beside` don't look at storage.
+ * - From the call to its return, nothing else writes the job, the programs or anything that these
+ *   point to, and nothing else touches the memory that the call writes. If storage is written
+ *   meanwhile, the answer means nothing at all. The call still returns with one of its codes and
+ *   writes nothing else; this is tested, not proved. docs/EMBEDDING.md shows an emulator whose
+ *   threads write storage.
  * - No call is made from a signal handler, nor, in the child of a process with threads, between
  *   fork and exec.
  * - malloc, realloc and free are those of one allocator, and aligned as C asks.
- * - Start only a program that got CHANV_YES from `chanv_verify`, or CHANV_LISTED from `chanv_needs`
- *   and then CHANV_YES from `chanv_grants`.
+ * - Start only a program that got CHANV_YES from `chanv_verify` or `chanv_may_start`.
+ *
+ * A program that runs alone needs one call, `chanv_verify`. A supervisor with several programs in
+ * flight asks `chanv_needs` once for each program and keeps the answer with `chanv_remember`. It
+ * asks `chanv_may_start` before each start and `chanv_may_write` before each write of others. Then
+ * all programs in flight are safe, always. This is proved, with four premises that no call checks:
+ *
+ * - at each start the arm is inside the extents of the job;
+ * - at each start the job's file mask is in force;
+ * - nothing writes a kept byte between `chanv_may_start` and the start;
+ * - the machine's own stores (PSWs, the CSW, the timer) spare all kept bytes of programs in flight.
  *
  * A call writes only the memory that it was handed for that. It keeps nothing between calls, so
  * several threads may call at once, even about one job.
@@ -30,15 +38,16 @@
 
 #include <stddef.h>
 #include <stdint.h>
+#include <string.h>
 
 #ifdef __cplusplus
 extern "C" {
 #endif
 
 /* The version of this header, as text and number by number; `chanv_version` has the library's. */
-#define CHANV_VERSION "0.4.0"
+#define CHANV_VERSION "0.5.0"
 #define CHANV_VERSION_MAJOR 0
-#define CHANV_VERSION_MINOR 4
+#define CHANV_VERSION_MINOR 5
 #define CHANV_VERSION_PATCH 0
 
 /* An area of storage. It may be empty, and it may reach past storage. */
@@ -87,9 +96,9 @@ enum { CHANV_USUAL_LIMIT = 4096, CHANV_LARGEST_LIMIT = 65536 };
 /* What a call returns. 4 to 10 and 12 are faults of the job itself; if several apply, the least is
  * returned, and a job with a fault gets no answer. CHANV_MEMORY may come in place of any other. */
 enum {
-    CHANV_YES = 0,                /* every run is safe; all needs are granted; apart */
-    CHANV_LISTED = 0,             /* the places, or the needs, are listed */
-    CHANV_NO = 1,                 /* `address` and `reason` say which CCW offends first, and why */
+    CHANV_YES = 0,                /* every run is safe; it may start; others may write */
+    CHANV_LISTED = 0,             /* the places, or the needs, are listed, or the bytes copied */
+    CHANV_NO = 1,                 /* `out` says why not */
     CHANV_TOO_MANY_PLACES = 2,    /* more places are reachable than the limit */
     CHANV_MEMORY = 3,             /* memory ran out */
     CHANV_STORAGE_TOO_LARGE = 4,  /* storage has more than 16,777,216 bytes */
@@ -188,8 +197,7 @@ struct chanv_needed {
 };
 
 /* The needs of a program, as `chanv_needs` gave them: its lists with their lengths, and two
- * fields of `struct chanv_needed`. Other rows do no harm: no call reads or writes outside the
- * lists, or fails to return. But an answer about them means nothing. */
+ * fields of `struct chanv_needed`. */
 struct chanv_rows {
     struct chanv_extents extents;
     struct chanv_areas fetch;
@@ -197,6 +205,43 @@ struct chanv_rows {
     struct chanv_areas keep;
     uint32_t storage_len;
     uint8_t mask;
+};
+
+/* All that a supervisor remembers of a program; `chanv_remember` fills it. A struct of zeros is no
+ * program: it may not start, and it is in no other program's way. So a table of the programs in
+ * flight, indexed by device, may have gaps. A struct with anything else does no harm either: no
+ * call reads or writes outside its lists, or fails to return. But then a CHANV_YES means only what
+ * the call compares. */
+struct chanv_program {
+    struct chanv_rows rows;  /* what it needs and keeps */
+    struct chanv_bytes kept; /* the kept bytes as they were, one area of `rows.keep` after another;
+                                bytes after them don't matter */
+    uint32_t start;          /* the address of the first CCW */
+    uint16_t device;         /* 2311 or 2314 */
+};
+
+/* Why a program may not start, in the order in which `chanv_may_start` looks; and why others may
+ * not write. */
+enum {
+    CHANV_OTHER_START = 1,   /* the job starts at another address */
+    CHANV_OTHER_DEVICE = 2,  /* the job is for another device, or the program's isn't one */
+    CHANV_OTHER_LENGTH = 3,  /* the job's storage has another length */
+    CHANV_CHANGED = 4,       /* the kept byte at `value` has changed; it is the first that has */
+    CHANV_MASK = 5,          /* the job's mask is too strict, or the program's isn't one */
+    CHANV_NO_CYLINDER = 6,   /* cylinder `value`, the least that is needed and not granted */
+    CHANV_NOT_FETCHABLE = 7, /* the byte at `value`, the least that isn't lent for fetching */
+    CHANV_NOT_STORABLE = 8,  /* the byte at `value`, the least that isn't lent for storing */
+    CHANV_STORES = 9,        /* it would store into the byte at `value`, which `program` keeps */
+    CHANV_KEEPS = 10,        /* it keeps the byte at `value`, into which `program` may store */
+    CHANV_KEPT = 11          /* `program` keeps the byte at `value`: others may not write it */
+};
+
+/* A refusal of `chanv_may_start` or `chanv_may_write`; unused fields are 0. */
+struct chanv_refusal {
+    size_t extent;  /* the index of the job's extent that is wrong */
+    size_t program; /* the index in `in_flight` of the first program that is in the way */
+    uint32_t code;  /* which refusal it is */
+    uint32_t value; /* the address or the cylinder */
 };
 
 /* Whether the program may run: CHANV_YES, CHANV_NO, or why there is no answer. A yes has
@@ -247,8 +292,7 @@ uint32_t chanv_text(const struct chanv_job *job, char *buffer, size_t room, size
  * that are set. Each list rises, no row is empty, and between two rows there is a gap. The other
  * rows keep their values. `out->mask` is the strictest file mask that serves: it inhibits no
  * command that may begin, and no byte that is set as a mask is weaker. A job of the program whose
- * limit isn't below the number of its places has CHANV_YES exactly if `chanv_grants` says that it
- * grants all this.
+ * limit isn't below the number of its places has CHANV_YES exactly if it grants all this.
  *
  * CHANV_NO: no job will do; `out->verdict` is the verdict if everything is granted. CHANV_NO_ROOM:
  * the same as for CHANV_LISTED, but a list has more rows than room. Otherwise it returns why there
@@ -263,19 +307,72 @@ uint32_t chanv_needs(const struct chanv_job *job, struct chanv_needed *out,
                      struct chanv_area *store, size_t store_room,
                      struct chanv_area *keep, size_t keep_room);
 
-/* Whether a job grants the needs that the rows list, if `chanv_needs` gave them: CHANV_YES,
- * CHANV_NO, or why there is no answer, like `chanv_verify`; never CHANV_TOO_MANY_PLACES. It
- * doesn't look at the job's storage. CHANV_YES is the verdict on the job too, if its storage is
- * as long as the rows say, each kept byte is as it was when `chanv_needs` was called, start and
- * device are the same, and the job's limit isn't below the number of its places. */
-uint32_t chanv_grants(const struct chanv_job *job, const struct chanv_rows *rows);
+/* Writes the text that explains the verdict on the open job of the job's program, which grants
+ * everything: so after CHANV_NO from `chanv_needs` it says why no job will do. Otherwise it is like
+ * `chanv_text`. */
+uint32_t chanv_open_text(const struct chanv_job *job, char *buffer, size_t room, size_t *length);
 
-/* Whether two programs of one storage may be in flight together, if `chanv_needs` gave the rows
- * of both: CHANV_YES if neither needs to store into a byte that the other keeps, else CHANV_NO.
- * Of the rows only `store` and `keep` count, and no memory is taken. CHANV_YES makes both safe.
- * It says nothing about data: one may read in over bytes that the other writes out or searches
- * for. */
-uint32_t chanv_beside(const struct chanv_rows *rows, const struct chanv_rows *other);
+/* Copies the bytes of storage in some areas into `kept`, one area after another. CHANV_LISTED: the
+ * first `*count` bytes are these, and the others keep their values. CHANV_NO_ROOM: `kept` is too
+ * small, or an area reaches past storage. CHANV_STORAGE_TOO_LARGE is the only other answer. With
+ * both, `*count` is 0, and part of `kept` may be overwritten. */
+uint32_t chanv_copy_kept(struct chanv_bytes storage, const struct chanv_area *areas, size_t number,
+                         uint8_t *kept, size_t room, size_t *count);
+
+/* Fills `program` with what `chanv_needs` has just answered about the job, and copies the kept
+ * bytes of the job's storage into `kept`. CHANV_LISTED: all is remembered. The program refers to
+ * the lists and to `kept`, which you keep as long as the program. Otherwise it returns like
+ * `chanv_copy_kept`, and `program` is zeroed. `kept` needs as many bytes as the areas of `keep`
+ * have together. */
+static inline uint32_t chanv_remember(const struct chanv_job *job,
+                                      const struct chanv_needed *needed,
+                                      const struct chanv_extent *extents,
+                                      const struct chanv_area *fetch,
+                                      const struct chanv_area *store,
+                                      const struct chanv_area *keep, uint8_t *kept, size_t room,
+                                      struct chanv_program *program)
+{
+    size_t count;
+    uint32_t answer = chanv_copy_kept(job->storage, keep, needed->keep, kept, room, &count);
+    memset(program, 0, sizeof *program);
+    if (answer != CHANV_LISTED)
+        return answer;
+    program->rows.extents.at = extents;
+    program->rows.extents.len = needed->extents;
+    program->rows.fetch.at = fetch;
+    program->rows.fetch.len = needed->fetch;
+    program->rows.store.at = store;
+    program->rows.store.len = needed->store;
+    program->rows.keep.at = keep;
+    program->rows.keep.len = needed->keep;
+    program->rows.storage_len = needed->storage_len;
+    program->rows.mask = (uint8_t)needed->mask;
+    program->kept.at = kept;
+    program->kept.len = count;
+    program->start = job->start;
+    program->device = job->device;
+    return CHANV_LISTED;
+}
+
+/* Whether a remembered program may start under the job, with `count` programs in flight.
+ *
+ * CHANV_YES: the job has the program's start, device and length of storage; each kept byte is as it
+ * was; the job grants all needs; and neither this program nor any in flight may store into a byte
+ * that the other keeps. If what is remembered of all of them is true, the program may start: its
+ * verdict is CHANV_YES, and it and all in flight are safe together. CHANV_NO: `out` has the first
+ * refusal. Otherwise it returns why there is no answer, like `chanv_verify`, with the extent that
+ * is wrong if one is; never CHANV_TOO_MANY_PLACES.
+ *
+ * It says nothing about data: one program may read in over bytes that another writes out. */
+uint32_t chanv_may_start(const struct chanv_job *job, const struct chanv_program *in_flight,
+                         size_t count, const struct chanv_program *program,
+                         struct chanv_refusal *out);
+
+/* Whether others, such as the processor, may write to an area of storage now. CHANV_YES: no program
+ * in flight keeps a byte of it. CHANV_NO: `out` has CHANV_KEPT, the first program that keeps one,
+ * and the least such byte. No memory is taken, and there is no other answer. */
+uint32_t chanv_may_write(const struct chanv_program *in_flight, size_t count,
+                         const struct chanv_area *area, struct chanv_refusal *out);
 
 /* Lists the starts of the channel programs in storage, each once, in order; docs/FIND.md says which
  * they are. CHANV_LISTED: the first `*count` of `starts` are written, and the others keep their
@@ -311,6 +408,54 @@ static inline const char *chanv_reason_word(uint32_t reason)
         "weakens-mask",
     };
     return reason < sizeof words / sizeof *words ? words[reason] : "";
+}
+
+/* The word for what a call returned, or "" for any other number. */
+static inline const char *chanv_answer_word(uint32_t answer)
+{
+    static const char *const words[] = {
+        "yes",
+        "no",
+        "too-many-places",
+        "out-of-memory",
+        "storage-too-large",
+        "not-a-device",
+        "not-a-mask",
+        "no-extent",
+        "extent-backwards",
+        "extent-past-device",
+        "not-a-limit",
+        "no-room",
+        "reserved-not-zero",
+    };
+    return answer < sizeof words / sizeof *words ? words[answer] : "";
+}
+
+/* The word for the code of a refusal, or "" for any other number. */
+static inline const char *chanv_refusal_word(uint32_t code)
+{
+    static const char *const words[] = {
+        "",
+        "other-start",
+        "other-device",
+        "other-length",
+        "changed",
+        "mask",
+        "no-cylinder",
+        "not-fetchable",
+        "not-storable",
+        "stores",
+        "keeps",
+        "kept",
+    };
+    return code < sizeof words / sizeof *words ? words[code] : "";
+}
+
+/* The word for how a program enters a CCW, as a listing has it, or "" for any other number. */
+static inline const char *chanv_entered_word(uint32_t entered)
+{
+    static const char *const words[] = {"fresh", "in", "out", "search"};
+    return entered < sizeof words / sizeof *words ? words[entered] : "";
 }
 
 #ifdef __cplusplus
