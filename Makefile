@@ -6,7 +6,7 @@
 # the contracts.
 
 PREFIX ?= /usr/local
-VERSION = 0.4.0
+VERSION = 0.5.0
 
 # How many processors a proof may use; each takes up to 1.5 GB of memory.
 JOBS ?= $(shell nproc)
@@ -114,6 +114,7 @@ install:
 	install -D out/libchanv.so.$(VERSION) "$(TO)/lib/libchanv.so.$(VERSION)"
 	ln -sf libchanv.so.$(VERSION) "$(TO)/lib/$(SONAME)"
 	ln -sf $(SONAME) "$(TO)/lib/libchanv.so"
+	install -D -m 644 examples/python/chanv.py "$(TO)/share/chanv/python/chanv.py"
 	install -d "$(TO)/share/doc/chanv/docs"
 	install -m 644 README.md CHANGELOG.md "$(TO)/share/doc/chanv"
 	install -m 644 docs/*.md docs/*.svg "$(TO)/share/doc/chanv/docs"
@@ -126,4 +127,4 @@ uninstall:
 	  "$(TO)/share/bash-completion/completions/chanv" "$(TO)/lib/libchanv.a" \
 	  "$(TO)/lib/libchanv.so" "$(TO)/lib/$(SONAME)" "$(TO)/lib/libchanv.so.$(VERSION)" \
 	  "$(TO)/lib/pkgconfig/chanv.pc"
-	rm -rf "$(TO)/share/doc/chanv"
+	rm -rf "$(TO)/share/doc/chanv" "$(TO)/share/chanv"

@@ -12,6 +12,7 @@ from running import run
 ROOT = Path(__file__).resolve().parent.parent
 HERE = ROOT / "tests"
 FLAGS = ["-std=c11", "-Wall", "-Wextra", "-Werror", "-O2"]
+SANITIZED = ["-g", "-fsanitize=address,undefined", "-fno-sanitize-recover=all"]
 
 
 def short(path):
@@ -95,10 +96,10 @@ def version_of(header):
     return re.search(r'(?m)^#define CHANV_VERSION "(.*)"$', header.read_text())[1]
 
 
-def compile_with(library, source, made):
+def compile_with(library, source, made, *more):
     """Compiles a program that asks the library for C, which stands in a folder."""
     linked = [f"-I{library}", f"-I{ROOT / 'examples/c'}", library / "libchanv.a", "-pthread"]
-    return compile_c(source, made, *FLAGS, *linked)
+    return compile_c(source, made, *FLAGS, *more, *linked)
 
 
 def must_succeed(*words, **how):

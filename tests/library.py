@@ -1,10 +1,10 @@
 """The library for C: its example, answers, edges, refused memory and archive.
 
 The programs of c/ and examples/c/ ask it. What they should write was worked out from the rules:
-edges.out, needs.out and nulls.out of c/; the verdicts and listings of the decks of examples/ and
+edges.out, needs.out, nulls.out and threads.out of c/; the verdicts and listings of the decks of examples/ and
 examples/cases/; the paths and values of each no among them in why-examples.out and why-cases.out of
 c/; the words of chan_walk's src/reason.rt; and the example of docs/EMBEDDING.md, whose text has to
-be that of ask.c. A deck's job grants what its program needs exactly where its verdict is yes. The
+be that of ask.c. A deck's program may start under its job exactly if its verdict is yes. The
 archive may ask only for what the C library has to have, and each growth of memory in a call is
 refused in turn.
 """
@@ -13,7 +13,7 @@ import re
 import tempfile
 from pathlib import Path
 
-from building import HERE, ROOT, c_compiler, compile_c, compile_with, short, version_of
+from building import HERE, ROOT, SANITIZED, c_compiler, compile_c, compile_with, short, version_of
 from examples import (
     EXAMPLES,
     FOLDERS,
@@ -27,11 +27,14 @@ from examples import (
 from refusing import Case, Growths
 from running import Ran, run, text_of
 
-TESTS = ("decks", "edges", "needs", "nulls", "one_call")
+# the programs whose calls get too little room, foreign rows or threads run under the sanitizers
+LINED = ("edges", "needs", "nulls", "threads")
+TESTS = ("decks", "one_call", *LINED)
 SOURCES = [EXAMPLES / "c/ask.c", *[HERE / f"c/{name}.c" for name in TESTS]]
 MAY_ASK_FOR = {"memcpy", "memmove", "memset", "malloc", "realloc", "free"}
 OF_THE_RUNTIME = {"rattle_alloc", "rattle_realloc", "rattle_dealloc"}
-NAMES = ("verify", "list", "why", "text", "needs", "grants", "beside", "find", "version")
+NAMES = ("verify", "list", "why", "text", "open_text", "needs", "copy_kept", "may_start", "may_write")
+NAMES += ("find", "version")
 CALLS = {f"chanv_{call}" for call in NAMES}
 LAYOUT = ROOT / "crates/chanv_c/include/layout.txt"
 # warnings that a program's own build may ask for
@@ -47,7 +50,7 @@ def check_document(checks, folder):
     blocks = re.findall(r"```(\w*)\n(.*?)```", text_of(ROOT / "docs/EMBEDDING.md"), re.S)
     shown = ("c", text_of(EXAMPLES / "c/ask.c")) in blocks
     checks.expect_that("the document shows the example", shown, "another text")
-    for name, word in (("supervisor", "may_start"), ("emulator", "ask_once")):
+    for name, word in (("supervisor", "chanv_may_start"), ("emulator", "ask_once")):
         parts = [text for language, text in blocks if language == "c" and word in text]
         shown = parts and all(text in text_of(EXAMPLES / f"c/{name}.c") for text in parts)
         checks.expect_that(f"the document shows a part of the {name}", shown, parts)
@@ -137,12 +140,6 @@ def reasons_of(folder):
     return {name: f"{lines}\n" for name, lines in (block.split("\n", 1) for block in blocks)}
 
 
-def needs_of(text):
-    """Where no job will do, the library tells the verdict, and the command explains it, too."""
-    status = status_of_needs(text)
-    return Ran(status, text.splitlines(keepends=True)[0] if status else text)
-
-
 def check_decks(checks, program):
     for folder in FOLDERS:
         verdicts, reasons = verdicts_of(folder), reasons_of(folder)
@@ -156,11 +153,12 @@ def check_decks(checks, program):
             checks.expect(f"verify {short(deck)}", Ran(status, f"{verdict}\n"), ran)
             why = f"{verdict}\n{reasons.get(name, '')}"
             checks.expect(f"why {short(deck)}", Ran(status, why), run(program, "why", given=deck))
-            granted = "yes" if verdict == "yes" else "no"
-            ran = run(program, "grants", given=deck)
-            checks.expect(f"grants {short(deck)}", Ran(status, f"{granted}\n"), ran)
+            may_start = "yes" if verdict == "yes" else "no"
+            ran = run(program, "start", given=deck)
+            checks.expect(f"start {short(deck)}", Ran(status, f"{may_start}\n"), ran)
             if "needs" in listed_with(deck):
-                wanted = needs_of(text_of(deck.with_suffix(".needs")))
+                text = text_of(deck.with_suffix(".needs"))
+                wanted = Ran(status_of_needs(text), text)
                 checks.expect(f"needs {short(deck)}", wanted, run(program, "needs", given=deck))
             if "list" in listed_with(deck):
                 check_listing(checks, program, deck)
@@ -191,15 +189,16 @@ def check_listing(checks, program, deck):
 
 def refuse_growths(checks, folder):
     growths, program = Growths(folder), folder / "one_call"
-    answers = {"verify": "yes", "list": "3", "why": "2 3", "needs": "1 1 1", "grants": "yes"}
-    answers["find"] = "1"
-    answers["text"] = "no"
+    answers = {"verify": "yes", "list": "3", "why": "2 3", "needs": "1 1 1", "may_start": "yes"}
+    answers |= {"find": "1", "text": "no", "open_text": "no"}
     setup = [program, "setup"]
     for call, answer in answers.items():
         case = Case(f"chanv_{call}", [program, call], Ran(0, f"{answer}\n"), before=setup)
         growths.refuse_each(checks, case)
-    before, beside = growths.run(setup)[1], growths.run([program, "beside"])
-    checks.expect("chanv_beside takes no memory", (Ran(0, "yes\n"), before), beside)
+    before = growths.run(setup)[1]
+    for call in ("may_write", "copy_kept"):
+        ran = growths.run([program, call])
+        checks.expect(f"chanv_{call} takes no memory", (Ran(0, "yes\n"), before), ran)
 
 
 def check(checks, built):
@@ -207,11 +206,12 @@ def check(checks, built):
     with tempfile.TemporaryDirectory() as room:
         folder = Path(room)
         for source in SOURCES:
-            compile_with(library, source, folder / source.stem)
+            more = SANITIZED if source.stem in LINED else []
+            compile_with(library, source, folder / source.stem, *more)
         check_document(checks, folder)
         check_edges(checks, folder)
-        check_lines(checks, folder, "needs")
-        check_lines(checks, folder, "nulls")
+        for name in LINED[1:]:
+            check_lines(checks, folder, name)
         check_layout(checks, library, folder)
         check_warnings(checks, library)
         check_archive(checks, library)

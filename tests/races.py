@@ -5,10 +5,10 @@ program whose CCWs, arguments and mask a second thread rewrites meanwhile, also 
 calls run at a time, each in a process of its own. A call has to return, may write only the memory
 that it was handed for that, and has to answer with one of its codes: yes, no, too many places or
 too little room, because the job itself is right. Which of them come is left to chance, except in a
-run of a minute or more: there each has to come. The calls about rows of needs don't look at
-storage, and always answer yes.
+run of a minute or more: there each has to come. `chanv_may_write` doesn't look at storage, and
+always answers yes.
 `ask` of examples/c/emulator.c, which asks about a copy of the kept bytes, has to give an answer
-that holds: a job grants the program's needs exactly if the verdict on the copy is yes.
+that holds: the program may start over the copy exactly if the verdict on the copy is yes.
 """
 
 import os
@@ -32,8 +32,9 @@ CODES = {
     "why": {0, 1, 2, 11},
     "text": {0, 1, 2, 11},
     "needs": {0, 1, 2, 11},
-    "grants": {0},
-    "beside": {0},
+    "may_start": {0, 1},
+    "may_write": {0},
+    "copy_kept": {0, 11},
     "emulator": {0, 1, 2},
 }
 

@@ -8,23 +8,28 @@ If the supervisor leaves out one of the checks that the law asks for, some progr
 import tempfile
 from pathlib import Path
 
-from building import FLAGS, HERE, ROOT, compile_c
+from building import FLAGS, HERE, ROOT, SANITIZED, compile_c
 from running import Ran, run, text_of
 
 SUPERVISOR = ROOT / "examples/c/supervisor.c"
 SEEDS, STARTS = range(1, 6), 4000
 
-SANITIZED = ["-g", "-fsanitize=address,undefined", "-fno-sanitize-recover=all"]
 NO_ROOM = 11
-MEETS = "address < area.start + area.len && area.start < end"
-IS_LISTED = "!program->is_listed"
 # What a careless supervisor leaves out: a name, the text of the check, and the text in its place.
+# The middle two take certain refusals for a yes.
+DENIED = "&refusal) != CHANV_YES)"
 CARELESS = [
-    ("beside", "(&rows, &other) != CHANV_YES", "(&rows, &other) > CHANV_NO"),
-    ("grants", "(job, &rows) != CHANV_YES", "(job, &rows) > CHANV_NO"),
-    ("the comparison", "memcmp(job->storage.at + area.start, kept, area.len) != 0", "kept == NULL"),
-    ("hands off", MEETS, "area.len + end == 0"),
+    ("beside", "(job, in_flight, DEVICES,", "(job, in_flight, 0,"),
+    (
+        "grants",
+        DENIED,
+        "&refusal) == CHANV_NO"
+        " && (refusal.code < CHANV_MASK || refusal.code > CHANV_NOT_STORABLE))",
+    ),
+    ("the comparison", DENIED, "&refusal) == CHANV_NO && refusal.code != CHANV_CHANGED)"),
+    ("hands off", "&refusal) == CHANV_YES;", "&refusal) <= CHANV_NO;"),
 ]
+IS_LISTED = "if (answer != CHANV_LISTED)\n        return answer;\n"
 
 
 def compile_flights(library, supervisor, folder):
@@ -92,7 +97,7 @@ def check_answers(checks, library, room):
     wanted = "".join(f"{line}\n" for line in answers_wanted())
     checks.expect("each answer of chanv_needs", Ran(0, wanted), ran)
     checks.expect("the supervisor asks whether it was listed, once", 1, text.count(IS_LISTED))
-    careless = text.replace(IS_LISTED, "program == NULL")
+    careless = text.replace(IS_LISTED, "")
     ran = run(compile_answers(library, careless, room / "any answer"))
     checks.expect_that("a program that got no answer does harm", ran.status != 0, ran)
 

@@ -25,7 +25,7 @@ enum { STORAGE = 0x4000, START = 0x800, DATA = 0x2000 };
 enum { READ = 0x06, NO_OPERATION = 0x03, CHAIN = 0x40 };
 
 static uint8_t storage[STORAGE], copy[STORAGE];
-static struct program program;
+static struct taken program;
 static struct asked asked;
 static const struct chanv_extent cylinders = {0, 202};
 static const struct chanv_area all = {0, STORAGE};

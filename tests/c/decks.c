@@ -5,10 +5,9 @@
  *     decks count     prints how many places there are, asked with no room for any
  *     decks why       prints the verdict; with a no the path, the values of the cause, each that
  *                     isn't 0 behind its name, and the second path where there is one
- *     decks needs     prints what the program needs, as `chanv needs` does, or the verdict where no
- *                     job will do
- *     decks grants    asks what the program needs, and then whether the job grants it; prints yes
- *                     or no, and no where no job will do
+ *     decks needs     prints what `chanv needs` does
+ *     decks start     takes the program in, and asks whether it may start under the job; prints yes
+ *                     or no, and no if no job will do
  *
  * It reads decks that are known to be decks: it looks for no error in them.
  */
@@ -164,17 +163,24 @@ static uint32_t ask_needs(const struct chanv_job *job, struct chanv_needed *told
     return chanv_needs(job, told, sought, MOST, fetched, MOST, stored, MOST, kept, MOST);
 }
 
+typedef uint32_t telling(const struct chanv_job *job, char *buffer, size_t room, size_t *length);
+
 /* Asks for the length first. */
-static uint32_t text(const struct chanv_job *job)
+static uint32_t tell(telling *call, const struct chanv_job *job)
 {
     static char buffer[0x10000];
     size_t length, again;
-    uint32_t answer = chanv_text(job, NULL, 0, &length);
+    uint32_t answer = call(job, NULL, 0, &length);
     if (answer != CHANV_NO_ROOM || length > sizeof buffer)
         return answer;
-    answer = chanv_text(job, buffer, length, &again);
+    answer = call(job, buffer, length, &again);
     fwrite(buffer, 1, again, stdout);
     return answer;
+}
+
+static uint32_t text(const struct chanv_job *job)
+{
+    return tell(chanv_text, job);
 }
 
 /* A run of 16,777,216 bytes, which six digits don't hold, stands as two. */
@@ -194,8 +200,7 @@ static uint32_t needs(const struct chanv_job *job)
     struct chanv_needed told;
     uint32_t answer = ask_needs(job, &told);
     if (answer == CHANV_NO)
-        printf("no %06" PRIX32 " %s\n", told.verdict.address,
-               chanv_reason_word(told.verdict.reason));
+        return tell(chanv_open_text, job);
     if (answer != CHANV_LISTED)
         return answer;
     printf("mask %02" PRIX32 "\n", told.mask);
@@ -207,20 +212,19 @@ static uint32_t needs(const struct chanv_job *job)
     return answer;
 }
 
-static uint32_t grants(const struct chanv_job *job)
+/* Whether the job may start its own program, which was taken in just now. */
+static uint32_t start(const struct chanv_job *job)
 {
+    static uint8_t bytes[0x100000];
     struct chanv_needed told;
+    struct chanv_program program;
+    struct chanv_refusal refusal;
     uint32_t answer = ask_needs(job, &told);
-    struct chanv_rows rows = {
-        .extents = {sought, told.extents},
-        .fetch = {fetched, told.fetch},
-        .store = {stored, told.store},
-        .keep = {kept, told.keep},
-        .storage_len = told.storage_len,
-        .mask = (uint8_t)told.mask,
-    };
     if (answer == CHANV_LISTED)
-        answer = chanv_grants(job, &rows);
+        answer = chanv_remember(job, &told, sought, fetched, stored, kept, bytes, sizeof bytes,
+                                &program);
+    if (answer == CHANV_LISTED)
+        answer = chanv_may_start(job, NULL, 0, &program, &refusal);
     if (answer <= CHANV_NO)
         puts(answer == CHANV_YES ? "yes" : "no");
     return answer;
@@ -241,8 +245,8 @@ int main(int argc, char **argv)
         return (int)text(&job);
     if (strcmp(action, "needs") == 0)
         return (int)needs(&job);
-    if (strcmp(action, "grants") == 0)
-        return (int)grants(&job);
+    if (strcmp(action, "start") == 0)
+        return (int)start(&job);
     uint32_t answer = chanv_list(&job, NULL, 0, &count);
     printf("%zu\n", count);
     return (int)answer;

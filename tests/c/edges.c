@@ -327,5 +327,8 @@ int main(void)
     ask_at_the_limits();
     for (uint32_t reason = 0; reason < 18; reason++)
         printf("reason %" PRIu32 ": %s\n", reason, chanv_reason_word(reason));
+    for (uint32_t number = 0; number < 14; number++)
+        printf("number %" PRIu32 ": %s, %s, %s\n", number, chanv_answer_word(number),
+               chanv_refusal_word(number), chanv_entered_word(number));
     return 0;
 }

@@ -39,7 +39,7 @@ struct flight {
 };
 
 static uint8_t storage[STORAGE];
-static struct program programs[PROGRAMS];
+static struct taken programs[PROGRAMS];
 static struct chanv_job asked[PROGRAMS]; /* the job about which each was asked */
 static int was_started[PROGRAMS];
 static struct flight flights[DEVICES];
@@ -324,10 +324,20 @@ static void write_program(int number)
     take_in(&programs[number], &job) == CHANV_LISTED ? taken_in++ : refused++;
 }
 
-static int is_in_flight(const struct program *program)
+static int is_listed(const struct taken *taken)
+{
+    return taken->program.device != 0;
+}
+
+static int is_free(int device)
+{
+    return in_flight[device].device == 0;
+}
+
+static int is_in_flight(const struct taken *taken)
 {
     for (int device = 0; device < DEVICES; device++)
-        if (in_flight[device] == program)
+        if (!is_free(device) && in_flight[device].rows.keep.at == taken->keep)
             return 1;
     return 0;
 }
@@ -343,20 +353,20 @@ static size_t copy_areas(struct chanv_area *to, const struct chanv_area *from, s
 }
 
 /* A job that grants just what the program needs, mostly, or it grants about anything. */
-static void grant(struct flight *flight, const struct program *program)
+static void grant(struct flight *flight, const struct taken *taken)
 {
     static const uint8_t masks[] = {0x00, 0xC0, 0x80, 0x40, 0x08, 0x10, 0x18, 0x58};
     struct chanv_job *job = &flight->job;
-    const struct chanv_needed *needed = &program->needed;
-    job->mask = below(4) ? (uint8_t)needed->mask : masks[below(8)];
-    memcpy(flight->extents, program->extents, sizeof flight->extents);
-    job->extents = (struct chanv_extents){flight->extents, needed->extents};
-    if (needed->extents == 0 || below(4) == 0) {
+    const struct chanv_rows *rows = &taken->program.rows;
+    job->mask = below(4) ? rows->mask : masks[below(8)];
+    memcpy(flight->extents, taken->extents, sizeof flight->extents);
+    job->extents = (struct chanv_extents){flight->extents, rows->extents.len};
+    if (rows->extents.len == 0 || below(4) == 0) {
         flight->extents[0] = (struct chanv_extent){(uint16_t)below(16), 202};
         job->extents.len = 1;
     }
-    size_t fetch = copy_areas(flight->fetch, program->fetch, needed->fetch);
-    size_t store = copy_areas(flight->store, program->store, needed->store);
+    size_t fetch = copy_areas(flight->fetch, taken->fetch, rows->fetch.len);
+    size_t store = copy_areas(flight->store, taken->store, rows->store.len);
     job->fetch = (struct chanv_areas){flight->fetch, fetch};
     job->store = (struct chanv_areas){flight->store, store};
     if (below(4) == 0) {
@@ -368,10 +378,10 @@ static void grant(struct flight *flight, const struct program *program)
 static void try_start(int number, int device)
 {
     struct flight *flight = &flights[device];
-    if (in_flight[device] != NULL)
+    if (!is_free(device))
         return;
     *flight = (struct flight){.job = asked[number], .stage = AT, .is_fresh = 1};
-    if (programs[number].is_listed)
+    if (is_listed(&programs[number]))
         grant(flight, &programs[number]);
     if (!start(&programs[number], device, &flight->job)) {
         held_back++;
@@ -387,7 +397,7 @@ static void try_start(int number, int device)
 
 static void step_or_halt(int device)
 {
-    if (in_flight[device] == NULL)
+    if (is_free(device))
         return;
     if (flights[device].stage == ENDED) {
         ended++;
@@ -407,7 +417,7 @@ int main(int argc, char **argv)
     unsigned long wanted = argc < 3 ? 1000 : strtoul(argv[2], NULL, 10);
     while (started < wanted) {
         int number = (int)below(PROGRAMS), device = (int)below(DEVICES);
-        if (!is_in_flight(&programs[number]) && (!programs[number].is_listed || below(64) == 0))
+        if (!is_in_flight(&programs[number]) && (!is_listed(&programs[number]) || below(64) == 0))
             write_program(number);
         try_start(number, device);
         for (int i = 0; i < 4; i++)

@@ -1,7 +1,7 @@
-/* Asks what programs need, and about rows of needs, at the edges: exact room and one row less in
- * each list, NULL for empty lists, no job that will do, a limit that only the open job passes, each
- * fault of a job, rows that nobody gave. Each line is the name of a case, the call's code, and what
- * it told. */
+/* Asks what programs need, and then about starts and writes, at the edges: exact room and one row
+ * less in each list, NULL for empty lists, no job that will do, a limit that only the open job
+ * passes, each fault of a job, each refusal, rows that nobody gave. Each line is the name of a case,
+ * the call's code, and what it told. */
 #include <chanv.h>
 #include <inttypes.h>
 #include <stdio.h>
@@ -183,18 +183,58 @@ static void ask_about_other_jobs(void)
     ask("no job will do", poor, room, &told);
 }
 
+/* The program of a job with these rows, and with the kept bytes as storage has them now. */
+static struct chanv_program program_of(const struct chanv_job *job, const struct chanv_rows *rows)
+{
+    static uint8_t kept[ROOM * 0x28];
+    struct chanv_bytes whole = {storage, sizeof storage};
+    size_t count;
+    chanv_copy_kept(whole, rows->keep.at, rows->keep.len, kept, sizeof kept, &count);
+    return (struct chanv_program){
+        .rows = *rows, .kept = {kept, count}, .start = job->start, .device = job->device};
+}
+
+static void print_refusal(uint32_t answer, const struct chanv_refusal *refusal)
+{
+    printf("%" PRIu32, answer);
+    if (refusal->code != 0)
+        printf(" %s %" PRIX32 " of %zu", chanv_refusal_word(refusal->code), refusal->value,
+               refusal->program);
+    if (refusal->extent != 0)
+        printf(", wrong extent %zu", refusal->extent);
+}
+
+static void try_beside(const struct chanv_job *job, const struct chanv_program *in_flight,
+                       size_t count, const struct chanv_program *program)
+{
+    struct chanv_refusal refusal;
+    memset(&refusal, 0x77, sizeof refusal);
+    uint32_t answer = chanv_may_start(job, in_flight, count, program, &refusal);
+    print_refusal(answer, &refusal);
+}
+
+static void try_start(const char *name, const struct chanv_job *job, const struct chanv_rows *rows)
+{
+    struct chanv_program program = program_of(job, rows);
+    printf("%s: may start ", name);
+    try_beside(job, NULL, 0, &program);
+    printf("\n");
+}
+
 /* A call with a job that has a fault, and the same job's needs. */
-static void ask_with_fault(const char *name, struct chanv_job job, struct chanv_rows rows)
+static void ask_with_fault(const char *name, struct chanv_job job, struct chanv_program program)
 {
     static const struct counts room = {ROOM, ROOM, ROOM, ROOM};
     struct chanv_needed told;
-    printf("%s: grants %" PRIu32 "; ", name, chanv_grants(&job, &rows));
+    printf("%s: may start ", name);
+    try_beside(&job, NULL, 0, &program);
+    printf("; ");
     ask("its program", job, room, &told);
 }
 
 static void ask_with_faults(void)
 {
-    static const struct chanv_rows nothing = {.mask = 0x58};
+    static const struct chanv_program nothing = {.rows = {.mask = 0x58}};
     struct chanv_job job = {.storage = {too_large, sizeof too_large}, .start = 0x800, .mask = 1};
     ask_with_fault("all faults", job, nothing);
     job.storage = poor.storage;
@@ -215,12 +255,15 @@ static void ask_with_faults(void)
     ask_with_fault("a limit, and what is reserved", job, nothing);
 }
 
-static void grant(const char *name, struct chanv_job job, const struct chanv_rows *rows)
+static void try_changed(const char *name, const struct chanv_job *job,
+                        const struct chanv_program *program)
 {
-    printf("%s: grants %" PRIu32 "\n", name, chanv_grants(&job, rows));
+    printf("%s: may start ", name);
+    try_beside(job, NULL, 0, program);
+    printf("\n");
 }
 
-static void ask_who_grants_the_search_loop(void)
+static void try_the_search_loop(void)
 {
     static const struct counts room = {ROOM, ROOM, ROOM, ROOM};
     struct chanv_area two[] = {{0x903, 9}, {0x8FF, 4}}, exact[] = {{0x900, 5}};
@@ -230,24 +273,35 @@ static void ask_who_grants_the_search_loop(void)
     ask("the search loop", poor, room, &told);
     struct chanv_rows rows = rows_of(&told);
     struct chanv_job job = poor;
-    grant("nothing lent, NULL", job, &rows);
+    try_start("nothing lent, NULL", &job, &rows);
     job.fetch = (struct chanv_areas){exact, 1}, job.store = (struct chanv_areas){record, 1};
-    grant("no more than is needed", job, &rows);
+    try_start("no more than is needed", &job, &rows);
     job.storage = (struct chanv_bytes){NULL, 0};
-    grant("without storage, NULL", job, &rows);
+    try_start("without storage, NULL", &job, &rows);
+    job.storage = poor.storage;
     job.fetch = (struct chanv_areas){two, 2};
-    grant("two areas that adjoin", job, &rows);
+    try_start("two areas that adjoin", &job, &rows);
     exact[0].len--, job.fetch = (struct chanv_areas){exact, 1};
-    grant("a byte short for fetching", job, &rows);
+    try_start("a byte short for fetching", &job, &rows);
     exact[0].len++, record[0] = (struct chanv_area){0xA01, 0xFFFFFFFF};
-    grant("a byte short for storing", job, &rows);
+    try_start("a byte short for storing", &job, &rows);
     job.store = (struct chanv_areas){all, 1}, job.fetch = job.store, job.mask = 0x00;
-    grant("more than is needed", job, &rows);
+    try_start("more than is needed", &job, &rows);
     rows.mask = 0x01;
-    grant("rows with a byte that is no mask", job, &rows);
+    try_start("rows with a byte that is no mask", &job, &rows);
+    rows.mask = 0x58;
+    struct chanv_program program = program_of(&job, &rows);
+    program.device = 2313, program.rows.mask = 0x01;
+    try_changed("a device that isn't one, and a mask that isn't one", &job, &program);
+    program.device = 2314, storage[0x817] ^= 1;
+    try_changed("a changed byte, and a mask that isn't one", &job, &program);
+    program.kept.len = 0, storage[0x817] ^= 1;
+    try_changed("no kept bytes", &job, &program);
+    program = (struct chanv_program){.start = 0};
+    try_changed("a program of zeros", &job, &program);
 }
 
-static void ask_who_grants_the_seeks(void)
+static void try_the_seeks(void)
 {
     static const struct counts room = {ROOM, ROOM, ROOM, ROOM};
     struct chanv_extent two[] = {{10, 202}, {0, 0}};
@@ -258,41 +312,99 @@ static void ask_who_grants_the_seeks(void)
     struct chanv_job job = poor;
     job.fetch = job.store = (struct chanv_areas){all, 1};
     job.extents = (struct chanv_extents){all_cylinders, 1}, job.mask = 0x40;
-    grant("all cylinders", job, &rows);
+    try_start("all cylinders", &job, &rows);
     job.mask = 0x48;
-    grant("a mask that inhibits a seek", job, &rows);
+    try_start("a mask that inhibits a seek", &job, &rows);
     job.mask = 0x40, job.extents = (struct chanv_extents){two, 2};
-    grant("two extents", job, &rows);
+    try_start("two extents", &job, &rows);
     two[0].last = 201;
-    grant("without cylinder 202", job, &rows);
+    try_start("without cylinder 202", &job, &rows);
     two[0] = (struct chanv_extent){1, 202}, job.extents.len = 1;
-    grant("without cylinder 0", job, &rows);
+    try_start("without cylinder 0", &job, &rows);
 }
 
-/* Whether a read of eight bytes at 000C00 may run beside the search loop. */
+/* Whether a read of eight bytes at 000C00 may run beside the search loop, which is the second of
+ * two in flight: the first is no program. */
 static void ask_beside(void)
 {
     static const uint64_t reads[] = {0x060007F800000008, 0x060007F900000008, 0x0600081700000008,
                                      0x0600081800000008, 0x0600090000000008, 0x06000A0000000008};
     static const struct counts room = {ROOM, ROOM, ROOM, ROOM};
-    struct chanv_area keep_of_loop[ROOM], store_of_loop[ROOM];
+    static uint8_t kept_of_loop[ROOM * 8];
+    struct chanv_area keep_of_loop[ROOM], store_of_loop[ROOM], fetch_of_loop[ROOM];
+    struct chanv_needed told;
+    struct chanv_job job = poor;
+    struct chanv_program two[2] = {{.start = 0}};
+    job.fetch = job.store = (struct chanv_areas){all, 1};
+    fill(search_loop);
+    ask("the search loop", poor, room, &told);
+    memcpy(keep_of_loop, keep, sizeof keep), memcpy(store_of_loop, store, sizeof store);
+    memcpy(fetch_of_loop, fetch, sizeof fetch);
+    chanv_remember(&job, &told, extents, fetch_of_loop, store_of_loop, keep_of_loop, kept_of_loop,
+                   sizeof kept_of_loop, &two[1]);
+    printf("the search loop beside itself: ");
+    try_beside(&job, two, 2, &two[1]);
+    printf("\n");
+    for (size_t i = 0; i < sizeof reads / sizeof *reads; i++) {
+        const struct word one_read[] = {{0xC00, reads[i]}, {0, 0}};
+        fill(one_read), job.start = 0xC00;
+        ask("a read", job, room, &told);
+        struct chanv_rows rows = rows_of(&told);
+        struct chanv_program read = program_of(&job, &rows), in_flight[2] = {{.start = 0}, read};
+        printf("it beside the search loop: ");
+        try_beside(&job, two, 2, &read);
+        fill(search_loop), job.start = 0x800;
+        printf("; the search loop beside it: ");
+        try_beside(&job, in_flight, 2, &two[1]);
+        printf("\n");
+    }
+}
+
+/* Whether others may write an area, with the search loop in flight after no program. */
+static void ask_who_writes(void)
+{
+    static const struct chanv_area areas[] = {{0x7F8, 8}, {0x7F8, 9},           {0x817, 1},
+                                              {0x818, 8}, {0x810, 0},           {0, 0xFFFFFFFF},
+                                              {0, 0},     {0xFFFFFFFF, 0xFFFFFFFF}};
+    static const struct counts room = {ROOM, ROOM, ROOM, ROOM};
     struct chanv_needed told;
     fill(search_loop);
     ask("the search loop", poor, room, &told);
-    struct chanv_rows loop = rows_of(&told);
-    memcpy(keep_of_loop, keep, sizeof keep), memcpy(store_of_loop, store, sizeof store);
-    loop.keep.at = keep_of_loop, loop.store.at = store_of_loop;
-    printf("the search loop beside itself: %" PRIu32 "\n", chanv_beside(&loop, &loop));
-    for (size_t i = 0; i < sizeof reads / sizeof *reads; i++) {
-        const struct word one_read[] = {{0xC00, reads[i]}, {0, 0}};
-        struct chanv_job job = poor;
-        fill(one_read), job.start = 0xC00;
-        ask("a read", job, room, &told);
-        struct chanv_rows read = rows_of(&told);
-        read.extents = (struct chanv_extents){NULL, 0};
-        printf("beside the search loop: %" PRIu32 " and %" PRIu32 "\n", chanv_beside(&loop, &read),
-               chanv_beside(&read, &loop));
+    struct chanv_rows rows = rows_of(&told);
+    struct chanv_program in_flight[2] = {{.start = 0}, program_of(&poor, &rows)};
+    for (size_t i = 0; i < sizeof areas / sizeof *areas; i++) {
+        struct chanv_refusal refusal;
+        memset(&refusal, 0x77, sizeof refusal);
+        uint32_t answer = chanv_may_write(in_flight, 2, &areas[i], &refusal);
+        printf("others write %" PRIX32 " from %" PRIX32 ": ", areas[i].len, areas[i].start);
+        print_refusal(answer, &refusal);
+        printf("\n");
     }
+}
+
+/* The bytes that are kept, copied into too little room, exact room and more. */
+static void ask_for_kept_bytes(void)
+{
+    static const struct chanv_area two[] = {{0x800, 3}, {0x810, 2}}, past[] = {{0xFFF, 2}};
+    struct chanv_bytes whole = {storage, sizeof storage}, large = {too_large, sizeof too_large};
+    fill(search_loop);
+    for (size_t room = 4; room < 7; room++) {
+        uint8_t bytes[7] = {9, 9, 9, 9, 9, 9, 9};
+        size_t count = 7;
+        uint32_t answer = chanv_copy_kept(whole, two, 2, bytes, room, &count);
+        printf("%zu bytes of room: %" PRIu32 ", %zu:", room, answer, count);
+        for (size_t i = 0; answer == CHANV_LISTED && i < sizeof bytes; i++)
+            printf(" %02X", bytes[i]);
+        printf("\n");
+    }
+    size_t count = 7;
+    uint8_t bytes[7];
+    printf("an area past storage: %" PRIu32, chanv_copy_kept(whole, past, 1, bytes, 7, &count));
+    printf(", %zu\n", count), count = 7;
+    printf("too large a storage: %" PRIu32, chanv_copy_kept(large, two, 2, bytes, 7, &count));
+    printf(", %zu\n", count), count = 7;
+    printf("NULL: %" PRIu32, chanv_copy_kept(whole, NULL, 0, NULL, 0, &count));
+    printf(", %zu\n", count);
 }
 
 /* Rows that `chanv_needs` didn't give do no harm, whatever is answered. */
@@ -308,10 +420,14 @@ static void ask_with_rows_that_nobody_gave(void)
         .storage_len = 0xFFFFFFFF,
         .mask = 0xFF,
     };
+    struct chanv_refusal refusal;
     int answers = 0;
     for (int mask = 0; mask < 256; mask++) {
         rows.mask = (uint8_t)mask;
-        answers += chanv_grants(&poor, &rows) <= CHANV_NO && chanv_beside(&rows, &rows) <= CHANV_NO;
+        struct chanv_program program = {rows, {storage, sizeof storage}, poor.start, 2314};
+        rows.storage_len = mask % 2 ? sizeof storage : 0xFFFFFFFF;
+        answers += chanv_may_start(&poor, &program, 1, &program, &refusal) == CHANV_NO
+                   && chanv_may_write(&program, 1, &areas[0], &refusal) == CHANV_NO;
     }
     printf("rows that nobody gave: %d answers\n", answers);
 }
@@ -321,9 +437,11 @@ int main(void)
     ask_with_little_room();
     ask_about_other_jobs();
     ask_with_faults();
-    ask_who_grants_the_search_loop();
-    ask_who_grants_the_seeks();
+    try_the_search_loop();
+    try_the_seeks();
     ask_beside();
+    ask_who_writes();
+    ask_for_kept_bytes();
     ask_with_rows_that_nobody_gave();
     return 0;
 }

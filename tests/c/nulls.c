@@ -6,7 +6,7 @@
 #include <stdio.h>
 #include <string.h>
 
-enum { ROOM = 4, MOST_LISTS = 4, ALL = MOST_LISTS };
+enum { ROOM = 4, MOST_LISTS = 5, ALL = MOST_LISTS };
 
 static uint8_t storage[0x1000];
 static struct chanv_extent some[] = {{10, 19}}, each[] = {{0, 202}};
@@ -20,6 +20,7 @@ struct told {
     struct chanv_verdict verdict;
     struct chanv_explanation explanation;
     struct chanv_needed needed;
+    struct chanv_refusal refusal;
     size_t count;
     struct chanv_place places[2][ROOM];
     struct chanv_extent extents[ROOM];
@@ -99,18 +100,30 @@ static void needs(struct told *told, struct emptied emptied)
                              told->areas[1], ROOM, told->areas[2], ROOM);
 }
 
-/* Whether the job grants what the search loop needs. */
-static void grants(struct told *told, struct emptied emptied)
+static void open_text(struct told *told, struct emptied emptied)
 {
     struct chanv_job job = job_of(emptied);
-    struct chanv_rows rows = {
-        .fetch = {argument, 1},
-        .store = {record, 1},
-        .keep = {loop, 1},
-        .storage_len = sizeof storage,
-        .mask = 0x58,
+    told->code = chanv_open_text(&job, told->text, sizeof told->text, &told->count);
+}
+
+/* Whether the search loop may start under the job. */
+static void start(struct told *told, struct emptied emptied)
+{
+    struct chanv_job job = job_of(emptied);
+    struct chanv_program program = {
+        .rows =
+            {
+                .fetch = {argument, 1},
+                .store = {record, 1},
+                .keep = {loop, 1},
+                .storage_len = job.storage.len,
+                .mask = 0x58,
+            },
+        .kept = {storage + 0x800, 24},
+        .start = 0x800,
+        .device = 2314,
     };
-    told->code = chanv_grants(&job, &rows);
+    told->code = chanv_may_start(&job, NULL, 0, &program, &told->refusal);
 }
 
 /* Where the lists that are written have no room. */
@@ -155,23 +168,29 @@ static void needs_into(struct told *told, struct emptied emptied)
                              room(emptied, 3));
 }
 
-/* Rows that need and keep all there is, but for the lists that are empty. */
-static struct chanv_rows rows_of(struct emptied emptied)
+/* A program that needs and keeps all there is, but for the lists that are empty. */
+static struct chanv_program program_of(struct emptied emptied)
 {
-    return (struct chanv_rows){
-        .extents = {pointer(each, emptied, 0), !is_empty(emptied, 0)},
-        .fetch = areas(all, emptied, 1),
-        .store = areas(all, emptied, 2),
-        .keep = areas(all, emptied, 3),
-        .storage_len = sizeof storage,
-        .mask = 0x58,
+    return (struct chanv_program){
+        .rows =
+            {
+                .extents = {pointer(each, emptied, 0), !is_empty(emptied, 0)},
+                .fetch = areas(all, emptied, 1),
+                .store = areas(all, emptied, 2),
+                .keep = areas(all, emptied, 3),
+                .storage_len = sizeof storage,
+                .mask = 0x58,
+            },
+        .kept = {pointer(storage, emptied, 4), is_empty(emptied, 4) ? 0 : sizeof storage},
+        .start = 0x800,
+        .device = 2314,
     };
 }
 
 /* The job grants all that the other lists need, and nothing of what the empty one would. */
-static void grants_rows(struct told *told, struct emptied emptied)
+static void start_program(struct told *told, struct emptied emptied)
 {
-    struct chanv_rows rows = rows_of(emptied);
+    struct chanv_program program = program_of(emptied);
     struct chanv_job job = job_of(nothing);
     if (!is_empty(emptied, 0))
         job.extents.at = each;
@@ -179,31 +198,59 @@ static void grants_rows(struct told *told, struct emptied emptied)
         job.fetch.at = all;
     if (!is_empty(emptied, 2))
         job.store.at = all;
-    told->code = chanv_grants(&job, &rows);
+    told->code = chanv_may_start(&job, NULL, 0, &program, &told->refusal);
 }
 
-static void beside_all(struct told *told, struct emptied emptied)
+/* Under a job that grants everything, so that only the two programs count. */
+static void start_beside(struct told *told, struct chanv_program one, struct chanv_program other)
 {
-    struct chanv_rows rows = rows_of(emptied), other = rows_of(nothing);
-    told->code = chanv_beside(&rows, &other);
+    struct chanv_job job = job_of(nothing);
+    job.extents.at = each, job.fetch.at = job.store.at = all;
+    told->code = chanv_may_start(&job, &other, 1, &one, &told->refusal);
 }
 
-static void all_beside(struct told *told, struct emptied emptied)
+static void start_beside_all(struct told *told, struct emptied emptied)
 {
-    struct chanv_rows rows = rows_of(emptied), other = rows_of(nothing);
-    told->code = chanv_beside(&other, &rows);
+    start_beside(told, program_of(emptied), program_of(nothing));
 }
 
-static void beside_alike(struct told *told, struct emptied emptied)
+static void start_all_beside(struct told *told, struct emptied emptied)
 {
-    struct chanv_rows rows = rows_of(emptied), other = rows_of(emptied);
-    told->code = chanv_beside(&rows, &other);
+    start_beside(told, program_of(nothing), program_of(emptied));
+}
+
+static void start_alike(struct told *told, struct emptied emptied)
+{
+    start_beside(told, program_of(emptied), program_of(emptied));
+}
+
+static void write_over(struct told *told, struct emptied emptied)
+{
+    struct chanv_program program = program_of(emptied);
+    told->code = chanv_may_write(&program, 1, all, &told->refusal);
+}
+
+static void write_with_none(struct told *told, struct emptied emptied)
+{
+    struct chanv_program program = program_of(nothing);
+    told->code = chanv_may_write(pointer(&program, emptied, 0), !is_empty(emptied, 0), all,
+                                 &told->refusal);
+}
+
+static void copy_kept(struct told *told, struct emptied emptied)
+{
+    struct chanv_bytes whole = {pointer(storage, emptied, 0),
+                                is_empty(emptied, 0) ? 0 : sizeof storage};
+    void *bytes = (void *)pointer(told->text, emptied, 2);
+    told->code = chanv_copy_kept(whole, pointer(argument, emptied, 1), !is_empty(emptied, 1), bytes,
+                                 is_empty(emptied, 2) ? 0 : sizeof told->text, &told->count);
 }
 
 static const char *const of_job[] = {"storage", "extents", "fetch", "store"};
-static const char *const of_rows[] = {"extents", "fetch", "store", "keep"};
+static const char *const of_rows[] = {"extents", "fetch", "store", "keep", "kept"};
 static const char *const of_list[] = {"rows"}, *const of_why[] = {"path", "second path"};
-static const char *const of_text[] = {"buffer"};
+static const char *const of_text[] = {"buffer"}, *const of_write[] = {"in flight"};
+static const char *const of_copy[] = {"storage", "areas", "kept"};
 
 static const struct call {
     const char *name;
@@ -216,15 +263,19 @@ static const struct call {
     {"why", why, of_job, 4},
     {"text", text, of_job, 4},
     {"needs", needs, of_job, 4},
-    {"grants", grants, of_job, 4},
+    {"open text", open_text, of_job, 4},
+    {"start", start, of_job, 4},
     {"list into", list_into, of_list, 1},
     {"why into", why_into, of_why, 2},
     {"text into", text_into, of_text, 1},
     {"needs into", needs_into, of_rows, 4},
-    {"grants rows", grants_rows, of_rows, 4},
-    {"rows beside all", beside_all, of_rows, 4},
-    {"all beside rows", all_beside, of_rows, 4},
-    {"rows beside alike", beside_alike, of_rows, 4},
+    {"start with rows", start_program, of_rows, 5},
+    {"start beside all", start_beside_all, of_rows, 5},
+    {"start all beside", start_all_beside, of_rows, 5},
+    {"start beside alike", start_alike, of_rows, 5},
+    {"write over", write_over, of_rows, 5},
+    {"write with none in flight", write_with_none, of_write, 1},
+    {"copy kept", copy_kept, of_copy, 3},
 };
 
 static void ask(const struct call *call, int list, const char *name)

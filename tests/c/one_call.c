@@ -1,9 +1,8 @@
 /* Makes one call, so that the growths of memory in that call can be refused one by one. It is about
- * the search loop, and those of `chanv_why` and `chanv_text` about one whose read stores over the
- * CCW behind it.
+ * the search loop; calls that explain a no are about one whose read stores over the CCW after it.
  *
- *     one_call CALL     verify, list, why, text, needs, grants, beside or find; prints what it
- *                       answers, and ends with its code, or with 0 if that answer is due
+ *     one_call CALL     such as verify or may_start; prints what it answers, and ends with its code,
+ *                       or with 0 if that answer is due
  *     one_call setup    all that comes before the call
  *
  * The status is 99 where something was written that shouldn't be. Nothing here asks for memory.
@@ -68,12 +67,14 @@ static int why(const struct chanv_job *job)
     return answer == CHANV_NO ? say("2 3\n") : (int)answer;
 }
 
-static int text(const struct chanv_job *job)
+typedef uint32_t telling(const struct chanv_job *job, char *buffer, size_t room, size_t *length);
+
+static int tell(telling *call, const struct chanv_job *job)
 {
     char buffer[1024];
     size_t length = 7;
     memset(buffer, 7, sizeof buffer);
-    uint32_t answer = chanv_text(job, buffer, sizeof buffer, &length);
+    uint32_t answer = call(job, buffer, sizeof buffer, &length);
     if ((answer == CHANV_NO) != (length != 0) || length >= sizeof buffer
         || (length != 0 && buffer[length - 1] != '\n'))
         return 99;
@@ -81,6 +82,16 @@ static int text(const struct chanv_job *job)
         if (buffer[i] != 7)
             return 99;
     return answer == CHANV_NO ? say("no\n") : (int)answer;
+}
+
+static int text(const struct chanv_job *job)
+{
+    return tell(chanv_text, job);
+}
+
+static int open_text(const struct chanv_job *job)
+{
+    return tell(chanv_open_text, job);
 }
 
 /* Room for four rows in each list, of which so many are written. */
@@ -107,28 +118,51 @@ static int needs(const struct chanv_job *job)
     return answer == CHANV_LISTED ? say("1 1 1\n") : (int)answer;
 }
 
-/* What the search loop needs. */
+/* The search loop, and what it needs. */
 static struct chanv_area fetched[] = {{0x900, 5}}, stored[] = {{0xA00, 0x50}};
 static struct chanv_area kept[] = {{0x800, 0x18}};
-static const struct chanv_rows rows = {
-    .fetch = {fetched, 1},
-    .store = {stored, 1},
-    .keep = {kept, 1},
-    .storage_len = sizeof storage,
-    .mask = 0x58,
+static const struct chanv_program program = {
+    .rows =
+        {
+            .fetch = {fetched, 1},
+            .store = {stored, 1},
+            .keep = {kept, 1},
+            .storage_len = sizeof storage,
+            .mask = 0x58,
+        },
+    .kept = {storage + 0x800, 0x18},
+    .start = 0x800,
+    .device = 2314,
 };
 
-static int grants(const struct chanv_job *job)
+/* With itself in flight: it keeps no byte that it stores into. */
+static int may_start(const struct chanv_job *job)
 {
-    uint32_t answer = chanv_grants(job, &rows);
+    static const struct chanv_refusal none;
+    struct chanv_refusal refusal;
+    memset(&refusal, 7, sizeof refusal);
+    uint32_t answer = chanv_may_start(job, &program, 1, &program, &refusal);
+    if (memcmp(&refusal, &none, sizeof none) != 0)
+        return 99;
     return answer == CHANV_YES ? say("yes\n") : (int)answer;
 }
 
-static int beside(const struct chanv_job *job)
+static int may_write(const struct chanv_job *job)
 {
+    static const struct chanv_area area = {0x900, 5};
+    struct chanv_refusal refusal;
     (void)job;
-    uint32_t answer = chanv_beside(&rows, &rows);
+    uint32_t answer = chanv_may_write(&program, 1, &area, &refusal);
     return answer == CHANV_YES ? say("yes\n") : (int)answer;
+}
+
+static int copy_kept(const struct chanv_job *job)
+{
+    uint8_t bytes[0x18];
+    size_t count;
+    uint32_t answer = chanv_copy_kept(job->storage, kept, 1, bytes, sizeof bytes, &count);
+    int is_same = memcmp(bytes, storage + 0x800, sizeof bytes) == 0;
+    return answer == CHANV_LISTED && is_same ? say("yes\n") : (int)answer + 90;
 }
 
 static int find(const struct chanv_job *job)
@@ -146,8 +180,10 @@ static const struct call {
     const char *name;
     int (*make)(const struct chanv_job *job);
 } calls[] = {
-    {"verify", verify}, {"list", list},     {"why", why},       {"text", text},
-    {"needs", needs},   {"grants", grants}, {"beside", beside}, {"find", find},
+    {"verify", verify},       {"list", list},           {"why", why},
+    {"text", text},           {"open_text", open_text}, {"needs", needs},
+    {"may_start", may_start}, {"may_write", may_write}, {"copy_kept", copy_kept},
+    {"find", find},
 };
 
 int main(int argc, char **argv)
@@ -167,7 +203,7 @@ int main(int argc, char **argv)
     put(0x808, 0x0800080000000000);
     put(0x810, 0x06000A0020000050);
     const char *name = argc < 2 ? "setup" : argv[1];
-    if (strcmp(name, "why") == 0 || strcmp(name, "text") == 0) {
+    if (strcmp(name, "why") == 0 || strstr(name, "text") != NULL) {
         put(0x810, 0x0600081840000008);
         put(0x818, 0x0300000000000001);
         job.store.at = over;

@@ -2,8 +2,7 @@
  * may. What a call answers then means nothing. But it has to return, with one of the codes that the
  * header gives it, and may write only what it was handed for that.
  *
- *     race SECONDS CALL..     each CALL is verify, list, why, text, needs, grants, beside or
- *                             emulator, and is made for so many seconds
+ *     race SECONDS CALL..     each CALL, such as verify or may_start, for so many seconds
  *
  * The last is `ask` of examples/c/emulator.c, whose answer is about its copy. So what it says of
  * the needs has to agree with the verdict on the copy, at any time after.
@@ -296,51 +295,66 @@ static uint32_t needs(size_t room)
     return code;
 }
 
-static struct chanv_rows rows_of(const struct asked *told)
+/* What `ask_once` was told, as a program to remember. */
+static uint32_t remember(const struct asked *told, const struct chanv_job *about, uint8_t *kept,
+                         size_t room, struct chanv_program *program)
 {
-    return (struct chanv_rows){
-        .extents = {told->extents, told->needed.extents},
-        .fetch = {told->fetch, told->needed.fetch},
-        .store = {told->store, told->needed.store},
-        .keep = {told->keep, told->needed.keep},
-        .storage_len = told->needed.storage_len,
-        .mask = (uint8_t)told->needed.mask,
-    };
+    return chanv_remember(about, &told->needed, told->extents, told->fetch, told->store, told->keep,
+                          kept, room, program);
 }
 
-/* What the program needs while it is right, which no call may write. */
-static struct asked right_needs, needs_before;
+/* The program while it is right, with all that is remembered of it, which no call may write. */
+static struct right {
+    struct asked asked;
+    uint8_t kept[STORAGE];
+    struct chanv_program program;
+} remembered, remembered_before;
 
 static void look_at_needs(void)
 {
-    uint32_t code = ask_once(&right_needs, &job);
+    uint32_t code = ask_once(&remembered.asked, &job);
+    if (code == CHANV_LISTED)
+        code = remember(&remembered.asked, &job, remembered.kept, STORAGE, &remembered.program);
     if (code != CHANV_LISTED)
         fail("no needs of the right program", code);
-    needs_before = right_needs;
+    remembered_before = remembered;
 }
 
-static uint32_t with_rows_left_alone(uint32_t code)
+static uint32_t with_all_left_alone(uint32_t code)
 {
-    if (memcmp(&right_needs, &needs_before, sizeof right_needs) != 0)
-        fail("written to the rows handed in", code);
+    if (memcmp(&remembered, &remembered_before, sizeof remembered) != 0)
+        fail("written to the program handed in", code);
     return code;
 }
 
-/* These don't look at storage, so their answer is always the same. */
-static uint32_t grants(size_t room)
+static uint32_t may_start(size_t room)
 {
-    struct chanv_rows rows = rows_of(&right_needs);
+    struct chanv_refusal *refusal = hand(&outcome, sizeof *refusal);
+    const struct chanv_program *program = &remembered.program;
     (void)room;
-    hand(&outcome, 0), hand_last(0, 0);
-    return with_rows_left_alone(chanv_grants(&job, &rows));
+    hand_last(0, 0);
+    return with_all_left_alone(chanv_may_start(&job, program, 1, program, refusal));
 }
 
-static uint32_t beside(size_t room)
+/* This doesn't look at storage, so its answer is always the same. */
+static uint32_t may_write(size_t room)
 {
-    struct chanv_rows rows = rows_of(&right_needs);
+    struct chanv_refusal *refusal = hand(&outcome, sizeof *refusal);
+    const struct chanv_area area = {0, PROGRAM};
     (void)room;
-    hand(&outcome, 0), hand_last(0, 0);
-    return with_rows_left_alone(chanv_beside(&rows, &rows));
+    hand_last(0, 0);
+    return with_all_left_alone(chanv_may_write(&remembered.program, 1, &area, refusal));
+}
+
+static uint32_t copy_kept(size_t room)
+{
+    size_t *count = hand(&outcome, sizeof *count), bytes = MOST_BYTES / MOST_ROWS * room;
+    uint8_t *kept = hand_last(0, bytes);
+    const struct chanv_areas areas = remembered.program.rows.keep;
+    uint32_t code = chanv_copy_kept(job.storage, areas.at, areas.len, kept, bytes, count);
+    if (code == CHANV_LISTED && *count > bytes)
+        fail("more kept bytes than there is room for", code);
+    return with_all_left_alone(code);
 }
 
 /* How often storage had what is kept, and how often it hadn't. */
@@ -357,9 +371,12 @@ static uint32_t emulator(size_t room)
     uint32_t code = ask(&asked_by_it, &job);
     if (code != CHANV_LISTED)
         return code;
-    struct chanv_rows rows = rows_of(&asked_by_it);
+    static uint8_t kept[STORAGE];
+    struct chanv_program program;
+    struct chanv_refusal refusal;
     still.storage.at = copy;
-    if (chanv_grants(&still, &rows) != chanv_verify(&still, &verdict))
+    remember(&asked_by_it, &still, kept, STORAGE, &program);
+    if (chanv_may_start(&still, NULL, 0, &program, &refusal) != chanv_verify(&still, &verdict))
         fail("another verdict on the copy", code);
     is_there(&asked_by_it, storage.bytes) ? there++ : changed++;
     return code;
@@ -376,8 +393,9 @@ static const struct call {
     {"why", why, CODES},
     {"text", text, CODES},
     {"needs", needs, CODES},
-    {"grants", grants, CHANV_TOO_MANY_PLACES},
-    {"beside", beside, CHANV_TOO_MANY_PLACES},
+    {"may_start", may_start, CHANV_TOO_MANY_PLACES},
+    {"may_write", may_write, CHANV_TOO_MANY_PLACES},
+    {"copy_kept", copy_kept, CHANV_NO},
     {"emulator", emulator, CHANV_NO_ROOM},
 };
 

@@ -377,7 +377,7 @@ fn program<'a>(alloc: Global) -> Result<Command<'a>, AllocError>
     Ok(
         Command::new(alloc, "chanv")
             .about("verifies channel programs")
-            .version("0.4.0")
+            .version("0.5.0")
             .override_usage(USAGE),
     )
 }

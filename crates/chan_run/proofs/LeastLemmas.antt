@@ -11,10 +11,10 @@ use Rattle.chan_walk.specs.declared.job.Job.{Job}
 use Rattle.chan_walk.specs.declared.verdict.Verdict.TheVariants.{Yes}
 use Rattle.chan_walk.specs.Job.{storage_of, extents_of, fetch_of, store_of}
 use Rattle.chan_walk.specs.Needs.{AreOfOneProgram, Grants, Serves, all_storage, open_job}
-use Rattle.chan_walk.specs.Ranges.{IsMerged, end_of}
+use Rattle.chan_walk.specs.Ranges.{IsByteOf, IsMerged, end_of}
 use Rattle.chan_walk.specs.Rows.{AreNeeds, IsOpenJob, Listed}
 use Rattle.chan_walk.specs.Verdict.{IsVerdict}
-use Rattle.chan_walk.proofs.Algorithms.Merging.{InArea, lies_in-append, lies_in-cases, lies_in-first, lies_in-rest}
+use Rattle.chan_walk.proofs.Algorithms.Merging.{lies_in-append, lies_in-cases, lies_in-first, lies_in-rest}
 use Rattle.chan_walk.proofs.Theory.Needing.{granted_yes, to_open, yes_grants}
 use Rattle.chan_deck.specs.Image.{Image, IsDeck, limit_of, spelling}
 use Rattle.chan_deck.proofs.PartLemmas.{storage_fits}
@@ -60,7 +60,7 @@ six_are_areas (a ∷ rest) fit =
     areas_append (split a) (in_six_digits rest) (split_area a fit.0 (a.len == 2 ^ 24) refl) (six_are_areas rest fit.1)
 
 -- a byte of an area lies in its parts
-in_split : (a : Area) (b : ℕ) → Fits a → InArea a b → (all : Bool) → (a.len == 2 ^ 24) ≡ all
+in_split : (a : Area) (b : ℕ) → Fits a → IsByteOf a b → (all : Bool) → (a.len == 2 ^ 24) ≡ all
     → lies_in (split a) b ≡ true
 in_split a b fits lies false is = rw is (lies_in-first a [] b lies)
 in_split a b fits lies true is = rw is (go (cases_lt b 0xFFFFFF))
@@ -84,7 +84,7 @@ in_six (a ∷ rest) b fit lies = go (in_six rest b fit.1) (lies_in-cases a rest 
     parts : lies_in (split a ++ in_six_digits rest) b ≡ (lies_in (split a) b || lies_in (in_six_digits rest) b)
     parts = lies_in-append (split a) (in_six_digits rest) b
 
-    go : (lies_in rest b ≡ true → lies_in (in_six_digits rest) b ≡ true) → InArea a b ⊎ (lies_in rest b ≡ true)
+    go : (lies_in rest b ≡ true → lies_in (in_six_digits rest) b ≡ true) → IsByteOf a b ⊎ (lies_in rest b ≡ true)
         → lies_in (in_six_digits (a ∷ rest)) b ≡ true
     go others (inl here) = parts ∙ or_left _ _ (in_split a b fit.0 here (a.len == 2 ^ 24) refl)
     go others (inr there) = parts ∙ or_right _ _ (others there)
@@ -104,7 +104,7 @@ no_cylinder c e = cc
 in_storage : (j : Job) (b : ℕ) → lies_in (all_storage j) b ≡ true → b < length (storage_of j)
 in_storage j b lies = go (lies_in-cases (record { start = 0; len = length (storage_of j) }) [] b lies)
   where
-    go : InArea (record { start = 0; len = length (storage_of j) }) b ⊎ (lies_in [] b ≡ true) → b < length (storage_of j)
+    go : IsByteOf (record { start = 0; len = length (storage_of j) }) b ⊎ (lies_in [] b ≡ true) → b < length (storage_of j)
     go (inl here) = omega (arith, here.1)
     go (inr none) = absurd (no_area b none)
 

@@ -1,0 +1,99 @@
+/* Eight threads ask about starts and writes at once, over the same programs, each about a job of its
+ * own. Each answer has to be the one that was given before, with one thread. It prints how many
+ * answers differed. */
+#include <chanv.h>
+#include <pthread.h>
+#include <stdio.h>
+
+enum { THREADS = 8, ROUNDS = 20000, ROOM = 4 };
+
+static uint8_t storage[0x1000], kept[0x18];
+static const struct chanv_extent cylinders[] = {{0, 202}};
+static const struct chanv_area all[] = {{0, sizeof storage}};
+static const uint8_t masks[THREADS] = {0x00, 0x40, 0x80, 0xC0, 0x08, 0x10, 0x18, 0x58};
+static struct chanv_program in_flight[2], program;
+
+static struct chanv_job job_of(int thread)
+{
+    return (struct chanv_job){
+        .storage = {storage, sizeof storage},
+        .extents = {cylinders, 1},
+        .fetch = {all, 1},
+        .store = {all, thread % 2},
+        .start = 0x800,
+        .limit = CHANV_USUAL_LIMIT,
+        .device = thread == 7 ? 2311 : 2314,
+        .mask = masks[thread],
+    };
+}
+
+struct answers {
+    uint32_t start, write, copy;
+    struct chanv_refusal refusals[2];
+    size_t count;
+    uint8_t bytes[sizeof kept];
+};
+
+static void ask(int thread, struct answers *told)
+{
+    struct chanv_job job = job_of(thread);
+    struct chanv_area area = {0x7F8, 8 + (uint32_t)thread};
+    memset(told, 0, sizeof *told);
+    told->start = chanv_may_start(&job, in_flight, 2, &program, &told->refusals[0]);
+    told->write = chanv_may_write(in_flight, 2, &area, &told->refusals[1]);
+    told->copy = chanv_copy_kept(job.storage, program.rows.keep.at, program.rows.keep.len,
+                                 told->bytes, sizeof told->bytes, &told->count);
+}
+
+struct work {
+    pthread_t id;
+    int thread;
+    unsigned long differed;
+    struct answers before;
+};
+
+static void *ask_often(void *about)
+{
+    struct work *work = about;
+    for (int round = 0; round < ROUNDS; round++) {
+        struct answers told;
+        ask(work->thread, &told);
+        work->differed += memcmp(&told, &work->before, sizeof told) != 0;
+    }
+    return NULL;
+}
+
+int main(void)
+{
+    static const uint8_t loop[] = {0x31, 0, 0x09, 0, 0x40, 0, 0, 5,    8, 0,    8, 0,
+                                   0,    0, 0,    0, 6,    0, 0x0A, 0, 0x20, 0, 0, 0x50};
+    static struct chanv_extent extents[ROOM];
+    static struct chanv_area fetch[ROOM], store[ROOM], keep[ROOM];
+    static struct work works[THREADS];
+    struct chanv_job job = job_of(1);
+    struct chanv_needed needed;
+    unsigned long differed = 0;
+    memcpy(storage + 0x800, loop, sizeof loop);
+    if (chanv_needs(&job, &needed, extents, ROOM, fetch, ROOM, store, ROOM, keep, ROOM)
+            != CHANV_LISTED
+        || chanv_remember(&job, &needed, extents, fetch, store, keep, kept, sizeof kept, &program)
+               != CHANV_LISTED)
+        return 1;
+    in_flight[1] = program;
+    for (int i = 0; i < THREADS; i++) {
+        works[i].thread = i;
+        ask(i, &works[i].before);
+    }
+    for (int i = 0; i < THREADS; i++)
+        if (pthread_create(&works[i].id, NULL, ask_often, &works[i]) != 0)
+            return 1;
+    for (int i = 0; i < THREADS; i++) {
+        pthread_join(works[i].id, NULL);
+        differed += works[i].differed;
+        printf("thread %d: %u %s, %u %s\n", i, works[i].before.start,
+               chanv_refusal_word(works[i].before.refusals[0].code), works[i].before.write,
+               chanv_refusal_word(works[i].before.refusals[1].code));
+    }
+    printf("%lu answers differed\n", differed);
+    return 0;
+}
