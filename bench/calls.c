@@ -146,7 +146,7 @@ enum { PROGRAMS = sizeof programs / sizeof *programs };
 
 struct work {
     const struct chanv_job *job;
-    const struct chanv_rows *rows;
+    const struct chanv_program *in_flight; /* IN_FLIGHT of them, each the program itself */
     struct chanv_place *places;
     uint32_t (*call)(const struct work *work);
     long calls, wrong;
@@ -192,22 +192,41 @@ static uint32_t what_is_needed(const struct work *work)
                        needed_lists[1], MOST_PLACES, needed_lists[2], MOST_PLACES);
 }
 
-static uint32_t grants(const struct work *work)
+enum { IN_FLIGHT = 8 };
+
+static uint32_t may_start(const struct work *work)
 {
-    return chanv_grants(work->job, work->rows);
+    struct chanv_refusal refusal;
+    return chanv_may_start(work->job, work->in_flight, IN_FLIGHT, work->in_flight, &refusal);
 }
 
-static uint32_t beside(const struct work *work)
+static uint32_t may_write(const struct work *work)
 {
-    return chanv_beside(work->rows, work->rows);
+    static const struct chanv_area area = {0, 8};
+    struct chanv_refusal refusal;
+    return chanv_may_write(work->in_flight, IN_FLIGHT, &area, &refusal);
+}
+
+/* The part of a start that compares the kept bytes. */
+static uint32_t compare(const struct work *work)
+{
+    const struct chanv_program *program = work->in_flight;
+    const uint8_t *kept = program->kept.at;
+    int differ = 0;
+    for (size_t i = 0; i < program->rows.keep.len; i++) {
+        struct chanv_area area = program->rows.keep.at[i];
+        differ |= memcmp(work->job->storage.at + area.start, kept, area.len);
+        kept += area.len;
+    }
+    return differ != 0;
 }
 
 static const struct call {
     const char *name;
     uint32_t (*make)(const struct work *work);
 } calls[] = {
-    {"verify", verify},        {"list", list},     {"why", why},       {"text", text},
-    {"needs", what_is_needed}, {"grants", grants}, {"beside", beside},
+    {"verify", verify},        {"list", list},       {"why", why},         {"text", text},
+    {"needs", what_is_needed}, {"start", may_start}, {"write", may_write}, {"compare", compare},
 };
 
 enum { CALLS = sizeof calls / sizeof *calls };
@@ -279,16 +298,14 @@ static void cost(const char *name, const struct call *call, struct work work, lo
     *wrong += work.wrong;
 }
 
-static struct chanv_rows rows_told(void)
+static struct chanv_program remembered(const struct chanv_job *job, long *wrong)
 {
-    return (struct chanv_rows){
-        .extents = {seek_cylinders, needed.extents},
-        .fetch = {needed_lists[0], needed.fetch},
-        .store = {needed_lists[1], needed.store},
-        .keep = {needed_lists[2], needed.keep},
-        .storage_len = needed.storage_len,
-        .mask = (uint8_t)needed.mask,
-    };
+    static uint8_t kept[16 << 20];
+    struct chanv_program program;
+    *wrong += chanv_remember(job, &needed, seek_cylinders, needed_lists[0], needed_lists[1],
+                             needed_lists[2], kept, sizeof kept, &program)
+              != CHANV_LISTED;
+    return program;
 }
 
 static void costs(long *wrong)
@@ -298,8 +315,10 @@ static void costs(long *wrong)
         struct chanv_job job = programs[i].make(programs[i].places);
         struct work work = {.job = &job, .places = places[0]};
         *wrong += what_is_needed(&work) != CHANV_LISTED;
-        struct chanv_rows rows = rows_told();
-        work.rows = &rows;
+        struct chanv_program in_flight[IN_FLIGHT];
+        for (int number = 0; number < IN_FLIGHT; number++)
+            in_flight[number] = remembered(&job, wrong);
+        work.in_flight = in_flight;
         for (int call = 0; call < CALLS; call++)
             cost(programs[i].name, &calls[call], work, wrong);
     }

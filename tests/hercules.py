@@ -25,7 +25,7 @@ MOST_SECONDS = 1800
 
 # What is left out, the text that stands in the header for it, and what stands there instead.
 CARELESS = [
-    ("the comparison", "kept, area.len) != 0", "kept, 0) != 0"),
+    ("the comparison", "dev->mainstor + area.start, area.len", "dev->mainstor + area.start, 0"),
     ("the keys", "(has & STORKEY_KEY) == key", "has < 255"),
     ("fetch protection", "(fetching && !(has & STORKEY_FETCH))", "fetching"),
     ("the arguments", "chanvask_bring(dev, data) | chanvask_bring(dev, data + 5)", "0"),

@@ -11,7 +11,7 @@ import tempfile
 from pathlib import Path
 
 from building import short
-from examples import EXAMPLES, FOLDERS, decks_of, verdicts_of
+from examples import EXAMPLES, FOLDERS, decks_of, listed_with, verdicts_of
 from expecting import CannotRun
 from running import Ran, run, text_of
 
@@ -95,6 +95,54 @@ def check_answers(checks, library):
         checks.expect(f"with {changes}", "OverflowError", answer_on(chanv, job, changes))
 
 
+def check_calls(checks, library):
+    """Over each deck with its own texts: what C and the program say, Python says too."""
+    chanv, judging = importlib.import_module("chanv"), importlib.import_module("judge")
+    for deck in decks_of(EXAMPLES):
+        job, listed = judging.read_deck(text_of(deck)), listed_with(deck)
+        verdict = chanv.verify(job)
+        if "why" in listed:
+            wanted = text_of(deck.with_suffix(".why"))
+            checks.expect(f"text of {deck.name}", wanted, chanv.text(job))
+            told = chanv.why(job) or chanv.Explanation(chanv.Verdict(), {}, [], [])
+            checks.expect(f"verdict of {deck.name}", str(verdict), str(told.verdict))
+            rows = wanted.partition("because")[0].splitlines()[1:]
+            path = [f"{place.address:06X}" for place in told.path]
+            checks.expect(f"path of {deck.name}", [row.split()[0] for row in rows], path)
+        if "list" in listed:
+            rows = [row.split()[:3] for row in text_of(deck.with_suffix(".list")).splitlines()]
+            seen = [
+                [f"{it.address:06X}", it.entered, "t" if it.after_transfer else "-"]
+                for it in chanv.places(job)
+            ]
+            checks.expect(f"places of {deck.name}", rows[:-1], seen)
+        check_needs(checks, chanv, deck, job, verdict)
+
+
+def check_needs(checks, chanv, deck, job, verdict):
+    """The needs are those of the file, and the program may start exactly if its verdict is yes."""
+    wanted = text_of(deck.with_suffix(".needs")) if "needs" in listed_with(deck) else None
+    try:
+        program = chanv.needs(job)
+    except chanv.NoJob as refused:
+        checks.expect(f"no start of {deck.name}", False, bool(verdict))
+        if wanted is not None:
+            checks.expect(f"no job for {deck.name}", wanted, refused.explanation)
+        return
+    if wanted is not None:
+        lines = [f"mask {program.mask:02X}"]
+        lines += [f"extent {first:03} {last:03}" for first, last in program.extents]
+        for word in ("fetch", "store", "keep"):
+            lines += [f"{word} {at:06X} {size:06X}" for at, size in getattr(program, word)]
+        checks.expect(f"needs of {deck.name}", wanted.splitlines(), lines)
+    permission = chanv.may_start(job, program, [None, program])
+    spared = permission.refusal not in ("stores", "keeps")
+    checks.expect(f"start of {deck.name}", bool(verdict), bool(permission) or not spared)
+    at, size = program.keep[0]
+    checks.expect(f"write over {deck.name}", "kept", chanv.may_write((at, size), [program]).refusal)
+    checks.expect_that(f"write beside {deck.name}", chanv.may_write((at, 0), [program]), "kept")
+
+
 def check_folder(checks, library):
     """The module can be imported from any folder, also from one that is right under the root."""
     at = {"__name__": "chanv", "__file__": "/folder/chanv.py"}
@@ -112,3 +160,4 @@ def check(checks, built):
     check_decks(checks, library)
     check_status(checks, library)
     check_answers(checks, library)
+    check_calls(checks, library)

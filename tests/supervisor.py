@@ -29,7 +29,7 @@ CARELESS = [
     ("the comparison", DENIED, "&refusal) == CHANV_NO && refusal.code != CHANV_CHANGED)"),
     ("hands off", "&refusal) == CHANV_YES;", "&refusal) <= CHANV_NO;"),
 ]
-IS_LISTED = "if (answer != CHANV_LISTED)\n        return answer;\n"
+IS_LISTED = "answer != CHANV_LISTED"
 
 
 def compile_flights(library, supervisor, folder):
@@ -97,9 +97,9 @@ def check_answers(checks, library, room):
     wanted = "".join(f"{line}\n" for line in answers_wanted())
     checks.expect("each answer of chanv_needs", Ran(0, wanted), ran)
     checks.expect("the supervisor asks whether it was listed, once", 1, text.count(IS_LISTED))
-    careless = text.replace(IS_LISTED, "")
+    careless = text.replace(IS_LISTED, "answer > CHANV_RESERVED_NOT_ZERO")
     ran = run(compile_answers(library, careless, room / "any answer"))
-    checks.expect_that("a program that got no answer does harm", ran.status != 0, ran)
+    checks.expect_that("or else a program starts without an answer", ran != Ran(0, wanted), ran)
 
 
 def check(checks, built):

@@ -1,8 +1,8 @@
 /* chanvask.h: Hercules asks chanv before it starts a channel program. README.md says how to use it.
  *
  * A program is asked about once, and what it needs is remembered with the bytes that it keeps. At
- * each later start these bytes are compared with what stands in storage, and chanv_grants says
- * whether the extents, the mask and the storage keys grant what is needed.
+ * each start chanv_may_start says whether storage still has these bytes, and whether the extents,
+ * the mask and the storage keys grant what is needed.
  *
  * The library never sees storage itself, which other threads write meanwhile. It sees a copy, into
  * which those blocks were brought that the program comes to.
@@ -32,9 +32,7 @@ enum {
 
 /* A program that was asked about: what it needs, and the bytes that it keeps, as they were. */
 struct chanvask_program {
-    int known;
-    U32 start;
-    struct chanv_needed needed;
+    struct chanv_program program;
     struct chanv_extent extents[CHANVASK_ROWS];
     struct chanv_area fetch[CHANVASK_ROWS], store[CHANVASK_ROWS], keep[CHANVASK_ROWS];
     BYTE kept[CHANVASK_KEPT]; /* one area behind the other */
@@ -194,41 +192,16 @@ static inline struct chanv_job chanvask_look(DEVBLK *dev, U32 start)
 }
 
 /* Asks what the job's program needs, and remembers it with the bytes that it keeps, if it can. */
-static inline void chanvask_take_in(struct chanvask_program *program, const struct chanv_job *job)
+static inline void chanvask_take_in(struct chanvask_program *taken, const struct chanv_job *job)
 {
-    size_t i, saved = 0;
+    struct chanv_needed needed;
 
-    program->start = job->start;
-    program->known = 0;
-    if (chanv_needs(job, &program->needed, program->extents, CHANVASK_ROWS, program->fetch,
-                    CHANVASK_ROWS, program->store, CHANVASK_ROWS, program->keep, CHANVASK_ROWS)
-        != CHANV_LISTED)
-        return;
-    for (i = 0; i < program->needed.keep; i++) {
-        struct chanv_area area = program->keep[i];
-        if (CHANVASK_KEPT - saved < area.len)
-            return;
-        memcpy(program->kept + saved, job->storage.at + area.start, area.len);
-        saved += area.len;
-    }
-    program->known = 1;
-}
-
-/* Whether the program is the one that is remembered, and what it keeps stands as it stood. */
-static inline int chanvask_stands(DEVBLK *dev, const struct chanvask_program *program, U32 start)
-{
-    const BYTE *kept = program->kept;
-    size_t i;
-
-    if (!program->known || program->start != start)
-        return 0;
-    for (i = 0; i < program->needed.keep; i++) {
-        struct chanv_area area = program->keep[i];
-        if (memcmp(dev->mainstor + area.start, kept, area.len) != 0)
-            return 0;
-        kept += area.len;
-    }
-    return 1;
+    memset(&taken->program, 0, sizeof taken->program);
+    if (chanv_needs(job, &needed, taken->extents, CHANVASK_ROWS, taken->fetch, CHANVASK_ROWS,
+                    taken->store, CHANVASK_ROWS, taken->keep, CHANVASK_ROWS)
+        == CHANV_LISTED)
+        chanv_remember(job, &needed, taken->extents, taken->fetch, taken->store, taken->keep,
+                       taken->kept, CHANVASK_KEPT, &taken->program);
 }
 
 /* Of each row those blocks that the key of this start lets a channel fetch from, or store into. */
@@ -263,28 +236,27 @@ static inline void chanvask_grant(DEVBLK *dev, struct chanv_job *job, struct cha
     job->store = chanvask_lent(dev, store, 0, ask->store);
 }
 
-/* Whether the program is remembered, and all that it needs is granted. Storage isn't looked at. */
-static inline int chanvask_is_granted(DEVBLK *dev, struct chanvask_program *program)
+/* Whether a program that was taken in may start here. The kept bytes are compared in the copy, where
+ * they are brought from storage. */
+static inline int chanvask_may_start(DEVBLK *dev, const struct chanvask_program *taken, U32 start,
+                                     struct chanv_refusal *refusal)
 {
-    struct chanv_rows rows = {
-        .extents = {program->extents, program->needed.extents},
-        .fetch = {program->fetch, program->needed.fetch},
-        .store = {program->store, program->needed.store},
-        .keep = {program->keep, program->needed.keep},
-        .storage_len = program->needed.storage_len,
-        .mask = program->needed.mask,
-    };
+    const struct chanv_rows *rows = &taken->program.rows;
+    BYTE *copy = dev->chanvask->copy;
     struct chanv_job job = {
-        .storage = {dev->chanvask->copy, program->needed.storage_len},
-        .start = program->start,
+        .storage = {copy, rows->storage_len},
+        .start = start,
         .limit = CHANV_USUAL_LIMIT,
         .device = dev->devtype == 0x2311 ? 2311 : 2314,
     };
+    size_t i;
 
-    if (!program->known)
-        return 0;
-    chanvask_grant(dev, &job, rows.fetch, rows.store);
-    return chanv_grants(&job, &rows) == CHANV_YES;
+    for (i = 0; i < rows->keep.len; i++) {
+        struct chanv_area area = rows->keep.at[i];
+        memcpy(copy + area.start, dev->mainstor + area.start, area.len);
+    }
+    chanvask_grant(dev, &job, rows->fetch, rows->store);
+    return chanv_may_start(&job, NULL, 0, &taken->program, refusal) == CHANV_YES;
 }
 
 static inline void chanvask_log_path(DEVBLK *dev, const struct chanv_place *path, size_t count)
@@ -349,16 +321,20 @@ static inline void chanvask_ask(DEVBLK *dev)
 {
     struct CHANVASK *ask = dev->chanvask;
     U32 start = fetch_fw(dev->orb.ccwaddr), answer = CHANV_YES;
-    struct chanvask_program *program = &ask->programs[start / 8 % CHANVASK_PROGRAMS];
+    struct chanvask_program *taken = &ask->programs[start / 8 % CHANVASK_PROGRAMS];
+    struct chanv_refusal refusal;
     struct timespec began, ended;
+    int may_start;
     U64 took;
 
     clock_gettime(CLOCK_MONOTONIC, &began);
-    if (!chanvask_stands(dev, program, start)) {
+    may_start = chanvask_may_start(dev, taken, start, &refusal);
+    if (!may_start && refusal.code <= CHANV_CHANGED) { /* it isn't the one that was taken in */
         struct chanv_job job = chanvask_look(dev, start);
-        chanvask_take_in(program, &job);
+        chanvask_take_in(taken, &job);
+        may_start = chanvask_may_start(dev, taken, start, &refusal);
     }
-    if (!chanvask_is_granted(dev, program))
+    if (!may_start)
         answer = chanvask_why(dev, start);
     clock_gettime(CLOCK_MONOTONIC, &ended);
     took = (ended.tv_sec - began.tv_sec) * 1000000000LL + ended.tv_nsec - began.tv_nsec;

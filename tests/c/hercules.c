@@ -88,7 +88,7 @@ static void write_program(U32 at)
 /* Somebody changes something, above all what a program that is remembered keeps. */
 static void change(const struct CHANVASK *ask, U32 start)
 {
-    const struct chanvask_program *program = &ask->programs[start / 8 % CHANVASK_PROGRAMS];
+    const struct chanvask_program *taken = &ask->programs[start / 8 % CHANVASK_PROGRAMS];
     U32 how = below(16);
 
     if (how == 0)
@@ -97,8 +97,8 @@ static void change(const struct CHANVASK *ask, U32 start)
         keys[below(BLOCKS)] = (BYTE)(below(3) << 4 | below(2) << 3);
     else if (how == 2)
         storage[below(STORAGE)] = (BYTE)below(256);
-    else if (how == 3 && program->known) {
-        struct chanv_area area = program->keep[below((U32)program->needed.keep)];
+    else if (how == 3 && taken->program.device != 0) {
+        struct chanv_area area = taken->keep[below((U32)taken->program.rows.keep.len)];
         storage[area.start + below(area.len)] ^= (BYTE)(1 << below(8));
     }
 }
