@@ -140,10 +140,6 @@ BesideIsApart =
 
 -- ---- how they are found
 
--- each byte of the areas is below n
-abbrev pub LieBelow : ℕ → List Area → Type 0
-LieBelow n areas = (b : ℕ) → lies_in areas b ≡ true → b < n
-
 -- the job has a yes, and these are looks at all its reachable places
 pub record AreLooksOfYes (j : Job) (ls : List Seen) : Type 0 where
   pub proper : IsProper j

@@ -10,7 +10,6 @@ ghost use Rattle.chan_walk.specs.Rows.{IsShared};
 
 use crate::lent::clipped;
 use crate::ranges::{end_of, merge, next_area};
-use crate::rows::share;
 use ccw_core::Area;
 use ckd_core::Extents;
 use std::alloc::{AllocError, Global};
@@ -27,18 +26,39 @@ pub(crate) fn least_in(areas: &[Area], range: Area) -> Option<u32>
 }
 
 /// The least byte that lies in both of two lists. The cost is one pass over both if they are
-/// merged, and otherwise the product of their lengths.
+/// merged or one has a single area, and otherwise the product of their lengths.
 pub(crate) fn least_shared(one: &[Area], other: &[Area]) -> Option<u32>
     ensures { IsLeastOrNone (IsShared one.now other.now) result }
 {
-    if are_merged(one) && are_merged(other) {
-        return share(one, other);
+    let are_long = one.len() > 1 && other.len() > 1;
+    if are_long && are_merged(one) && are_merged(other) {
+        return least_of_merged(one, other);
     }
     let mut least = None;
     for area in one {
         least = lesser(least, least_in(other, *area));
     }
     least
+}
+
+/// The least byte that lies in both of two merged lists. The cost is one pass over both.
+fn least_of_merged(one: &[Area], other: &[Area]) -> Option<u32>
+    requires one { IsMerged one.now }
+    requires other { IsMerged other.now }
+    ensures { IsLeastOrNone (IsShared one.now other.now) result }
+{
+    let (mut at, mut with) = (0, 0);
+    while at < one.len() && with < other.len() {
+        let (area, against) = (one[at], other[with]);
+        if end_of(&area) <= u64::from(against.start) {
+            at += 1;
+        } else if end_of(&against) <= u64::from(area.start) {
+            with += 1;
+        } else {
+            return Some(area.start.max(against.start));
+        }
+    }
+    None
 }
 
 /// The least byte of some areas that lies past storage or in no area lent. The cost is that of

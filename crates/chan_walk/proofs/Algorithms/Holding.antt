@@ -1,16 +1,13 @@
--- What lists of rows hold of one another: runs in extents, areas in what was lent, bytes in two lists.
-use Rattle.std.proofs.Common.{◌≡◌, ℕ, zero, suc, ◌+◌, ◌<◌, ◌≤◌, ◌&&◌, Bool, true, false, nat_le, max, List, [], ◌∷◌, map, length, get_or, sym, ap, ◌∙◌, subst, ◌⊎◌, inl, inr, arith}
-use Rattle.std.proofs.lemmas.Bool.{and_from, and_parts, both_ways, cases_lt, le-leb, leb-true, or_cases, or_left, or_right}
+-- What lists of rows hold: the cylinders of runs, and the bytes of two merged lists.
+use Rattle.std.proofs.Common.{◌≡◌, ℕ, zero, suc, ◌+◌, ◌<◌, ◌≤◌, ◌&&◌, true, nat_le, max, List, [], ◌∷◌, length, get_or, subst, ◌⊎◌, inl, inr, arith}
+use Rattle.std.proofs.lemmas.Bool.{and_from, and_parts, cases_lt, le-leb, leb-true, or_cases, or_left, or_right}
 use Rattle.ccw_core.specs.declared.areas.Area.{Area}
-use Rattle.ccw_core.specs.Areas.{lies_in, covered}
+use Rattle.ccw_core.specs.Areas.{lies_in}
 use Rattle.ccw_core.proofs.Covering.{lies_in-at}
 use Rattle.ckd_core.specs.Cylinders.{has_cylinder}
 use Rattle.chan_walk.specs.Evidence.{IsLeastOf}
-use Rattle.chan_walk.specs.Lent.{clip}
-use Rattle.chan_walk.specs.Ranges.{IsByteOf, HaveSameBytes, IsMerged, end_of}
-use Rattle.chan_walk.specs.Rows.{IsShared, LieBelow}
-use Rattle.chan_walk.proofs.Theory.Areas.{covered_at, uncovered}
-use Rattle.chan_walk.proofs.Algorithms.Lending.{lies_in-clip}
+use Rattle.chan_walk.specs.Ranges.{IsByteOf, IsMerged, end_of}
+use Rattle.chan_walk.specs.Rows.{IsShared}
 use Rattle.chan_walk.proofs.Algorithms.Searching.{area_at, merged_len, merged_order}
 
 -- ---- runs in extents
@@ -33,58 +30,9 @@ has_at_run [] d k n l h = absurd (omega arith)
 has_at_run (r ∷ runs) d zero n l h = or_left _ _ (and_from _ _ (le-leb _ _ h.0) (le-leb _ _ h.1))
 has_at_run (r ∷ runs) d (suc k) n l h = or_right _ _ (has_at_run runs d k n (omega arith) h)
 
--- P holds of each number of the first i runs
-abbrev pub HoldsInFirst : (ℕ → Type 0) → List (ℕ × ℕ) → ℕ → Type 0
-HoldsInFirst P runs i = (k n : ℕ) → k < i → InRun (get_or runs k (0, 0)) n → P n
-
-pub first_next : (P : ℕ → Type 0) (runs : List (ℕ × ℕ)) (i : ℕ) → HoldsInFirst P runs i → ((n : ℕ) → (get_or runs i (0, 0)).0 ≤ n → n ≤ (get_or runs i (0, 0)).1 → P n) → HoldsInFirst P runs (i + 1)
-first_next P runs i f g k n l h = go (cases_lt k i)
-  where
-    go : (k < i) ⊎ (i ≤ k) → P n
-    go (inl lt) = f k n lt h
-    go (inr le) = let e : k ≡ i = omega arith in let r = subst (λ m. InRun (get_or runs m (0, 0)) n) e h in g n r.0 r.1
-
-pub first_all : (P : ℕ → Type 0) (runs : List (ℕ × ℕ)) (i : ℕ) → length runs ≤ i → HoldsInFirst P runs i → (n : ℕ) → has_cylinder runs n ≡ true → P n
-first_all P runs i l f n h = let r = run_at runs (0, 0) n h in f r.0 n (omega (arith, r.1)) r.2
-
-pub first_not : (P : ℕ → Type 0) (runs : List (ℕ × ℕ)) (i : ℕ) → i < length runs → ((n : ℕ) → has_cylinder runs n ≡ true → P n) → (n : ℕ) → (get_or runs i (0, 0)).0 ≤ n → n ≤ (get_or runs i (0, 0)).1 → P n
-first_not P runs i l f n a b = f n (has_at_run runs (0, 0) i n l (a, b))
-
--- ---- areas in what was lent
-
 -- no area
 abbrev pub nowhere : Area
 nowhere = record { start = 0; len = 0 }
-
--- the first i areas are covered
-abbrev pub AreCovered : List Area → List Area → ℕ → Type 0
-AreCovered lent areas i = (k : ℕ) → k < i → covered lent (get_or areas k nowhere).start (get_or areas k nowhere).len ≡ true
-
-pub covered_next : (lent areas : List Area) (i : ℕ) → AreCovered lent areas i → covered lent (get_or areas i nowhere).start (get_or areas i nowhere).len ≡ true → AreCovered lent areas (i + 1)
-covered_next lent areas i f h k l = go (cases_lt k i)
-  where
-    go : (k < i) ⊎ (i ≤ k) → covered lent (get_or areas k nowhere).start (get_or areas k nowhere).len ≡ true
-    go (inl lt) = f k lt
-    go (inr le) = let e : i ≡ k = omega arith in subst (λ m. covered lent (get_or areas m nowhere).start (get_or areas m nowhere).len ≡ true) e h
-
--- what a call of `holds` says of the list that was handed to it
-pub as_covered : (given lent : List Area) (a : Area) (t u : Bool) → given ≡ lent → t ≡ covered given a.start a.len → t ≡ u → covered lent a.start a.len ≡ u
-as_covered given lent a t u e f g = sym (ap (λ z. covered z a.start a.len) e) ∙ sym f ∙ g
-
--- a byte below n lies in the merged list where it lies in what was lent
-same_below : (n : ℕ) (lent clipped merged : List Area) → clipped ≡ map (clip n) lent → HaveSameBytes merged clipped → (b : ℕ) → b < n → lies_in merged b ≡ lies_in lent b
-same_below n lent clipped merged e h b l = h b ∙ ap (λ z. lies_in z b) e ∙ lies_in-clip n lent b l
-
-pub all_lent : (n : ℕ) (lent clipped merged areas : List Area) (i : ℕ) → clipped ≡ map (clip n) lent → HaveSameBytes merged clipped → LieBelow n areas → length areas ≤ i → AreCovered merged areas i → (b : ℕ) → lies_in areas b ≡ true → lies_in lent b ≡ true
-all_lent n lent clipped merged areas i e h low l f b m =
-    let r = area_at areas nowhere b m in
-    sym (same_below n lent clipped merged e h b (low b m)) ∙ covered_at merged _ _ b (f r.0 (omega (arith, r.1))) r.2.0 r.2.1
-
-pub not_lent : (n : ℕ) (lent clipped merged areas : List Area) (i : ℕ) → clipped ≡ map (clip n) lent → HaveSameBytes merged clipped → LieBelow n areas → i < length areas → covered merged (get_or areas i nowhere).start (get_or areas i nowhere).len ≡ false → ((b : ℕ) → lies_in areas b ≡ true → lies_in lent b ≡ true) → ⊥
-not_lent n lent clipped merged areas i e h low l f g =
-    let u = uncovered merged (get_or areas i nowhere).start (get_or areas i nowhere).len f in
-    let m = lies_in-at areas i nowhere u.0 l u.1 u.2 in
-    both_ways _ u.3 (same_below n lent clipped merged e h u.0 (low u.0 m) ∙ g u.0 m)
 
 -- ---- a byte in two merged lists
 
@@ -143,11 +91,3 @@ share_here xs ys i m n f g l k a b e ahead =
 pub share_none : (xs ys : List Area) (i m : ℕ) → (length xs ≤ i) ⊎ (length ys ≤ m) → AreAhead xs ys i m → (b : ℕ) → IsShared xs ys b → ⊥
 share_none xs ys i m (inl l) f b s = let r = (f b s.0 s.1).0 in omega (arith, r.1, r.2)
 share_none xs ys i m (inr l) f b s = let r = (f b s.0 s.1).1 in omega (arith, r.1, r.2)
-
--- a test that passes before i, and at i
-pub up_to : (test : ℕ → Bool) (first i : ℕ) → ((n : ℕ) → first ≤ n → n < i → test n ≡ true) → test i ≡ true → (n : ℕ) → first ≤ n → n ≤ i → test n ≡ true
-up_to test first i f h n a b = go (cases_lt n i)
-  where
-    go : (n < i) ⊎ (i ≤ n) → test n ≡ true
-    go (inl l) = f n a l
-    go (inr l) = let e : i ≡ n = omega arith in subst (λ m. test m ≡ true) e h

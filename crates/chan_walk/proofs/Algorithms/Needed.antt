@@ -1,5 +1,5 @@
 -- What was found under one job's yes is what each job of its program needs.
-use Rattle.std.proofs.Common.{◌≡◌, ℕ, ◌<◌, ◌≤◌, ◌^◌, Bool, true, false, not, IsTrue, List, length, map, Option, None, Some, is_some, refl, sym, ap, ◌∙◌, subst, ◌⊎◌, ◌↔◌, arith}
+use Rattle.std.proofs.Common.{◌≡◌, ℕ, ◌<◌, ◌≤◌, Bool, true, false, List, length, map, Some, refl, sym, ap, ◌∙◌, subst, ◌⊎◌, ◌↔◌, arith}
 use Rattle.ccw_core.specs.declared.areas.Area.{Area}
 use Rattle.ccw_core.specs.Areas.{lies_in}
 use Rattle.ccw_core.specs.Ccw.{Fields, byte, ccw, is_transfer}
@@ -12,7 +12,7 @@ use Rattle.chan_walk.specs.declared.surveyed.Survey.{Survey}
 use Rattle.chan_walk.specs.declared.verdict.Verdict.{Verdict}
 use Rattle.chan_walk.specs.declared.verdict.Verdict.TheVariants.{Yes}
 use Rattle.chan_walk.specs.Argument.{HasArgument}
-use Rattle.chan_walk.specs.Evidence.{IsLeastOrNone, SeeksTo, data_of}
+use Rattle.chan_walk.specs.Evidence.{SeeksTo, data_of}
 use Rattle.chan_walk.specs.Fault.{begins_recalibrate, begins_seek, begins_set_mask, fetches, stores}
 use Rattle.chan_walk.specs.Guarded.{IsGuarded}
 use Rattle.chan_walk.specs.Job.{extents_of, fetch_of, storage_of, store_of}
@@ -25,7 +25,7 @@ use Rattle.chan_walk.specs.Place.{ccw_of}
 use Rattle.chan_walk.specs.Ranges.{AreExactly, IsMerged, end_of}
 use Rattle.chan_walk.specs.Reachable.{IsReachable}
 use Rattle.chan_walk.specs.Remembered.{GrantsListed, RowsAreExact}
-use Rattle.chan_walk.specs.Rows.{AreLooksOfYes, AreNeeds, HasStoreAndKeep, IsSought, LieBelow, Listed, IsShared, MayRunBeside, run_of}
+use Rattle.chan_walk.specs.Rows.{AreLooksOfYes, AreNeeds, HasStoreAndKeep, IsSought, Listed, IsShared, MayRunBeside, run_of}
 use Rattle.chan_walk.specs.Surveyed.{IsSurvey}
 use Rattle.chan_walk.specs.Verdict.{IsVerdict}
 use Rattle.chan_walk.proofs.Theory.Faults.{clear_check, yes_clear}
@@ -144,13 +144,6 @@ module _ (j : Job) (n : Listed) (h : AreNeeds j n) where
   store_inside : (b : ℕ) → lies_in n.store b ≡ true → b < length (storage_of j)
   store_inside = inside stores (λ p c m. (stores_parts p c m).0) n.store h.store
 
-  -- whose addresses have 24 bits
-  pub fetch_low : LieBelow (2 ^ 24) n.fetch
-  fetch_low b m = let l = fetch_inside b m in let small = j.storage.small in omega arith
-
-  pub store_low : LieBelow (2 ^ 24) n.store
-  store_low b m = let l = store_inside b m in let small = j.storage.small in omega arith
-
   module _ (k : Job) where
     -- the areas lent have all bytes of a row
     abbrev pub Lent : List Area → List Area → Type 0
@@ -164,20 +157,14 @@ module _ (j : Job) (n : Listed) (h : AreNeeds j n) where
       store = λ b m. store b ((h.store.bytes b).1 m);
     }
 
-    pub lent_fetch : Grants j k → Lent n.fetch (fetch_of k)
-    lent_fetch g b m = g.fetch b ((h.fetch.bytes b).0 m)
-
-    pub lent_store : Grants j k → Lent n.store (store_of k)
-    lent_store g b m = g.store b ((h.store.bytes b).0 m)
-
     pub granted : length (storage_of k) ≡ n.storage_len → GrantsListed k n ↔ Grants j k
     granted e = (
       (λ g. grants_from g.mask g.extents (λ b m. (g.fetch b m).1) (λ b m. (g.store b m).1)),
       λ g. record {
         mask = (needed_mask_is_enough j n.mask k.mask h.mask).0 g.mask;
         extents = λ c m. g.extents c ((h.extents.cylinders c).0 m);
-        fetch = λ b m. (here b (fetch_inside b m), lent_fetch g b m);
-        store = λ b m. (here b (store_inside b m), lent_store g b m);
+        fetch = λ b m. (here b (fetch_inside b m), g.fetch b ((h.fetch.bytes b).0 m));
+        store = λ b m. (here b (store_inside b m), g.store b ((h.store.bytes b).0 m));
       },
     )
       where
@@ -196,12 +183,6 @@ shared j k n m f g never b s = never b ((f.store.bytes b).0 s.0) ((g.keep.bytes 
 -- where rows are true, two that share nothing may run beside one another
 pub may_run_beside : (j k : Job) (n m : Listed) → HasStoreAndKeep j n → HasStoreAndKeep k m → ((b : ℕ) → IsShared n.store m.keep b → ⊥) → ((b : ℕ) → IsShared m.store n.keep b → ⊥) → MayRunBeside j k
 may_run_beside j k n m f g one other = record { one_spares = spares j k n m f g one; other_spares = spares k j m n g f other }
-
-pub beside_from : (j k : Job) (n m : Listed) → HasStoreAndKeep j n → HasStoreAndKeep k m → (o p : Option ℕ) (s t : Bool) → is_some o ≡ not s → is_some p ≡ not t → s ≡ true → IsLeastOrNone (IsShared n.store m.keep) o → IsLeastOrNone (IsShared m.store n.keep) p → IsTrue t ↔ MayRunBeside j k
-beside_from j k n m f g (Some x) p s t d e h a b = absurd cc
-beside_from j k n m f g None None s true d e h a b = ((λ w. may_run_beside j k n m f g a b), λ may. refl)
-beside_from j k n m f g None None s false d e h a b = absurd cc
-beside_from j k n m f g None (Some x) s t d e h a b = ((λ w. absurd cc), λ may. absurd (shared k j m n g f may.other_spares x b.0))
 
 pub rows_are_exact : RowsAreExact
 rows_are_exact = record {

@@ -84,8 +84,8 @@ pub(crate) enum Question<'a> {
     Fault(Row, Option<Reason>),
     /// Whether this is the path to its last row.
     Path(&'a [Row]),
-    /// Whether its program's needs are so.
-    Needs(needs::Wanted),
+    /// Whether its program keeps 24 bytes, and may start.
+    Needs,
     /// Whether this is the answer to a start, with so many right parts remembered.
     Start(usize, Start),
 }
@@ -154,7 +154,7 @@ fn answers(alloc: Global, job: &Job, question: Question) -> bool {
         Question::Verdict(verdict) => judging::is_judged(alloc, job, verdict),
         Question::Fault(row, fault) => judging::has_fault(job, place(row), fault),
         Question::Path(rows) => witness::has_path(alloc, job, rows),
-        Question::Needs(wanted) => needs::has_needs(alloc, job, wanted),
+        Question::Needs => needs::has_needs(alloc, job),
         Question::Start(right, answer) => starting::is_answered(alloc, job, right, answer),
     }
 }

@@ -59,10 +59,7 @@ pub(crate) fn is_answered(alloc: Global, job: &Job, right: usize, answer: Start)
             extents: &cylinders,
             fetch: &fetch,
             store: &store,
-            keep: &[Area {
-                start: 0x800,
-                len: 24,
-            }],
+            keep: &[area(0x800, 24)],
         },
         kept: &kept,
     };
@@ -95,6 +92,8 @@ fn starts(rt: HostRuntime) {
         puts: SEARCH_LOOP,
         ..USUAL
     };
+    let is_granted = holds(rt.alloc(), &program, Question::Needs);
+    expect(&rt, is_granted, "by its own needs");
     for right in 0..ANSWERS.len() {
         let asked = Question::Start(right, ANSWERS[right]);
         expect(&rt, holds(rt.alloc(), &program, asked), "a start");
