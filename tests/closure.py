@@ -25,7 +25,7 @@ VERIFY = CRATES / "chan_walk/src/judging.rt"
 BLOCK = re.compile(r"(<!-- tests/closure.py writes (\w+) -->\n).*?(<!-- up to here -->\n)", re.S)
 
 PROMISED = ["IsSafe", "IsSteady"]
-LAWS = ["StaysWell", "LeastJob"]
+LAWS = ["StaysWell", "LeastJob", "SupervisedStaysWell"]
 QUOTED = ["YesIsSafe", "IsSafe", "IsSteady", "AreSafe", "AreSteady", "IsSafeMoment", "IsSafeEvent"]
 
 DEFINED = re.compile(r"(?:(?:abbrev|unfoldable|pub|record|data|syntax|infix) )+\(?([^\s:(){}]+)")
