@@ -3,12 +3,13 @@
 #include <chanv.h>
 #include <string.h>
 
-enum { MOST_CYLINDERS = 203, MOST_AREAS = 4096 };
+enum { MOST_CYLINDERS = 203, MOST_AREAS = 4096, MOST_KEPT_BYTES = 65536 };
 
-/* A program, with what it needs. */
+/* A program that was asked about. Zeros in `program` are none, which may not start. */
 struct asked {
-    int is_listed; /* whether all of this was told; else the program may not start */
+    struct chanv_program program;
     uint8_t *copy; /* as long as storage, with the bytes that are kept; the others mean nothing */
+    uint8_t kept[MOST_KEPT_BYTES];
     struct chanv_needed needed;
     struct chanv_extent extents[MOST_CYLINDERS];
     struct chanv_area fetch[MOST_AREAS], store[MOST_AREAS], keep[MOST_AREAS];
@@ -34,7 +35,7 @@ static uint32_t ask(struct asked *asked, const struct chanv_job *job)
 {
     struct chanv_job still = *job;
     uint32_t answer = ask_once(asked, job);
-    asked->is_listed = 0;
+    memset(&asked->program, 0, sizeof asked->program);
     if (answer != CHANV_LISTED)
         return answer;
     for (size_t i = 0; i < asked->needed.keep && i < MOST_AREAS; i++) {
@@ -44,18 +45,29 @@ static uint32_t ask(struct asked *asked, const struct chanv_job *job)
     }
     still.storage.at = asked->copy;
     answer = ask_once(asked, &still);
-    asked->is_listed = answer == CHANV_LISTED;
-    return answer;
+    if (answer != CHANV_LISTED)
+        return answer;
+    return chanv_remember(&still, &asked->needed, asked->extents, asked->fetch, asked->store,
+                          asked->keep, asked->kept, MOST_KEPT_BYTES, &asked->program);
 }
 
-/* Whether the program's needs are known and storage has the bytes that it keeps. To be asked before
- * each start. */
+/* Whether storage has the bytes that the program keeps, if there is one. */
 static int is_there(const struct asked *asked, const uint8_t *storage)
 {
-    for (size_t i = 0; asked->is_listed && i < asked->needed.keep; i++) {
-        struct chanv_area area = asked->keep[i];
-        if (memcmp(asked->copy + area.start, storage + area.start, area.len) != 0)
+    const struct chanv_areas keep = asked->program.rows.keep;
+    for (size_t i = 0; i < keep.len; i++)
+        if (memcmp(asked->copy + keep.at[i].start, storage + keep.at[i].start, keep.at[i].len) != 0)
             return 0;
-    }
-    return asked->is_listed;
+    return asked->program.device != 0;
+}
+
+/* Whether the program may start under a job now. Of storage, which is written meanwhile, only the
+ * kept bytes are looked at; chanv sees the copy. */
+static int may_begin(const struct asked *asked, const struct chanv_job *job)
+{
+    struct chanv_job still = *job;
+    struct chanv_refusal refusal;
+    still.storage.at = asked->copy;
+    return is_there(asked, job->storage.at)
+           && chanv_may_start(&still, NULL, 0, &asked->program, &refusal) == CHANV_YES;
 }

@@ -65,7 +65,7 @@ static void try_emulated(const char *name)
     memset(&asked, 0xFF, sizeof asked);
     asked.copy = copy;
     uint32_t answer = ask(&asked, &job);
-    const char *there = is_there(&asked, storage) ? "there" : "not there";
+    const char *there = may_begin(&asked, &job) ? "there" : "not there";
     printf("emulated %s: %u, %s\n", name, answer, there);
 }
 

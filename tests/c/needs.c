@@ -1,6 +1,6 @@
 /* Asks what programs need, and then about starts and writes, at the edges: exact room and one row
  * less in each list, NULL for empty lists, no job that will do, a limit that only the open job
- * passes, each fault of a job, each refusal, rows that nobody gave. Each line is the name of a case,
+ * passes, each fault of a job, each refusal, rows from anywhere. Each line is the name of a case,
  * the call's code, and what it told. */
 #include <chanv.h>
 #include <inttypes.h>

@@ -1,8 +1,8 @@
 /* Makes one call, so that the growths of memory in that call can be refused one by one. It is about
  * the search loop; calls that explain a no are about one whose read stores over the CCW after it.
  *
- *     one_call CALL     such as verify or may_start; prints what it answers, and ends with its code,
- *                       or with 0 if that answer is due
+ *     one_call CALL     such as verify or may_start; prints what it answers, and ends with its
+ *                       code, or with 0 if that answer is due
  *     one_call setup    all that comes before the call
  *
  * The status is 99 where something was written that shouldn't be. Nothing here asks for memory.

@@ -371,12 +371,8 @@ static uint32_t emulator(size_t room)
     uint32_t code = ask(&asked_by_it, &job);
     if (code != CHANV_LISTED)
         return code;
-    static uint8_t kept[STORAGE];
-    struct chanv_program program;
-    struct chanv_refusal refusal;
     still.storage.at = copy;
-    remember(&asked_by_it, &still, kept, STORAGE, &program);
-    if (chanv_may_start(&still, NULL, 0, &program, &refusal) != chanv_verify(&still, &verdict))
+    if (may_begin(&asked_by_it, &still) != (chanv_verify(&still, &verdict) == CHANV_YES))
         fail("another verdict on the copy", code);
     is_there(&asked_by_it, storage.bytes) ? there++ : changed++;
     return code;

@@ -1,4 +1,4 @@
-/* Eight threads ask about starts and writes at once, over the same programs, each about a job of its
+/* Eight threads ask about starts and writes at once, over the same programs, each with a job of its
  * own. Each answer has to be the one that was given before, with one thread. It prints how many
  * answers differed. */
 #include <chanv.h>

@@ -24,7 +24,7 @@ use std::io::{Read, Write};
 /// Of the options it uses the device, the limit, and the address and size for the image. Each line
 /// is written with one write, as soon as its verdict is known. After a failed write a prefix of the
 /// lines was written, and after a refused allocation the lines of some first programs. The errors
-/// of the input are those of `write_image`; `NoJob` and `TooManyPlaces` never come.
+/// of the input are those of `answer_image`; `NoJob` and `TooManyPlaces` never come.
 pub fn find_programs<R: Read, W: Write>(
     alloc: Global,
     options: &ImageOptions,

@@ -59,14 +59,16 @@ pub enum Start {
 /// 4. neither the program nor any in flight stores into a byte that the other keeps.
 ///
 /// `No` names the first that fails. This is so for rows from any source. If what is remembered of
-/// the program and of those in flight is true, a `Yes` means more: the program may start, and what
-/// is remembered of it is true of it in flight.
+/// the program and of those in flight is true, the answer is about the programs themselves. After a
+/// `Yes` the program may start, and what is remembered of it is true of it in flight. A grant or a
+/// program in flight is named only if the needs are really not granted, or the two really can't run
+/// side by side.
 ///
-/// The cost is one pass over the kept bytes, up to 203 look-ups for each run of cylinders, the
-/// sorting of the areas lent, a binary search for each area of the rows, and one pass over the rows
-/// of both programs for each in flight. Rows whose lists aren't merged cost the product of their
-/// lengths there; `needs` gives merged ones. Memory is taken for the areas lent alone, for two
-/// copies of one of their two lists at a time. `Err` means that there was too little.
+/// With k kept bytes, a areas lent, p programs in flight, and n rows at most for each program, the
+/// cost is k + (n + a) log a + p n, and up to 203 look-ups for each run of cylinders. Two programs
+/// whose areas aren't merged cost the product of their numbers; `needs` gives merged ones. Memory
+/// is taken only for the areas lent, for two copies of one of their two lists at a time. `Err`
+/// means that there was too little.
 pub fn may_start(
     alloc: Global,
     job: &Job,

@@ -1,9 +1,10 @@
 //! Listings, byte for byte.
 
+use crate::deck::SEARCH_LOOP_LISTING;
 use crate::shared::{expect, paper_of};
 use ccw_core::{Storage, Watched};
 use chan_deck::{ListError, read_deck, row_text, write_listing};
-use chan_walk::{Entry, Explored, Job, Place, Reason, Verdict, explore};
+use chan_walk::{Entry, Explored, Job, Place, Verdict, explore};
 use std::alloc::Global;
 
 /// The lines of a deck up to the start's address, for a 2314 with the mask 00.
@@ -23,14 +24,6 @@ put 000808 0800080000000000
 put 000810 06000A0020000050
 ";
 
-const SEARCH_LOOP_LISTING: &str = "000800 fresh t . 31 000900 -C---0 00 0005 write search-id-equal
-000808 fresh - . 08 000800 -----0 00 0000 transfer transfer-in-channel
-000810 fresh - . 06 000A00 --L--0 00 0050 read read-data
-yes
-";
-
-const END_OF_STORAGE: &str = "put 000FF8 3100090040000005\n";
-
 /// What is asked of the job of a deck.
 #[derive(Clone, Copy)]
 enum Question<'a> {
@@ -38,8 +31,6 @@ enum Question<'a> {
     Rows(&'a [Row]),
     /// Whether the listing is cut off wherever a write fails.
     CutOff(&'a [u8]),
-    /// Whether this is the listing of these places, and of the verdict on `OTHER`.
-    Other(&'a Explored, &'a [u8]),
 }
 
 /// Whether the job of the deck of a program with these puts has what is asked for.
@@ -64,7 +55,6 @@ fn holds_of_job(alloc: Global, job: &Job, question: Question) -> bool {
     match question {
         Question::Rows(rows) => are_rows(alloc, job, rows),
         Question::CutOff(listing) => is_cut_off(alloc, job, listing),
-        Question::Other(places, listing) => { answers(alloc, job, places, OTHER, Ok(()), listing) }
     }
 }
 
@@ -73,12 +63,11 @@ fn answers(
     alloc: Global,
     job: &Job,
     places: &Explored,
-    verdict: Verdict,
     answer: Result<(), ListError>,
     written: &[u8],
 ) -> bool {
     let mut to = Watched::new(paper_of(written));
-    let found = write_listing(alloc, job, places, verdict, &mut to);
+    let found = write_listing(alloc, job, places, Verdict::Yes, &mut to);
     found == answer && to.into_inner().left.is_empty()
 }
 
@@ -164,50 +153,13 @@ fn rows_of_places_that_no_run_reaches(rt: HostRuntime) {
     expect(&rt, rows, "rows");
 }
 
-/// A verdict that is none of the job's.
-const OTHER: Verdict = Verdict::No {
-    address: 0x808,
-    reason: Reason::BadFormat,
-};
-
-const OTHER_LISTING: &str = "000800 fresh t . 00 000000 -----0 00 0000 invalid unknown
-000808 fresh - * 00 000000 -----0 00 0000 invalid unknown
-000810 fresh - . 00 000000 -----0 00 0000 invalid unknown
-no 000808 bad-format
-";
-
-/// Whether the places of one deck are listed in the storage of another.
-fn lists_another(alloc: Global, text: &[u8]) -> bool {
-    let Ok(deck) = read_deck(alloc, text) else {
-        return false;
-    };
-    let job = deck.job();
-    let _storage: Storage<'_> = job.storage;
-    match explore(alloc, &job) {
-        Ok(places) => holds(
-            alloc,
-            "000FF8",
-            END_OF_STORAGE,
-            Question::Other(&places, OTHER_LISTING.as_bytes()),
-        ),
-        Err(_) => false,
-    }
-}
-
-// The places and the verdict are those handed in, and not the job's.
-#[test]
-fn listing_of_another_program(rt: HostRuntime) {
-    let program = crate::deck::SEARCH_LOOP.as_bytes();
-    expect(&rt, lists_another(rt.alloc(), program), "another program");
-}
-
 /// Whether a writer that takes so many bytes, one in each call, and then fails has taken the front
 /// of the listing, whose write fails but where all was taken.
 fn is_cut_off(alloc: Global, job: &Job, listing: &[u8]) -> bool {
     match explore(alloc, job) {
         Ok(places) => {
             fails_at_each(alloc, job, &places, listing)
-                && answers(alloc, job, &places, Verdict::Yes, Ok(()), listing)
+                && answers(alloc, job, &places, Ok(()), listing)
         }
         Err(_) => false,
     }
@@ -216,14 +168,7 @@ fn is_cut_off(alloc: Global, job: &Job, listing: &[u8]) -> bool {
 fn fails_at_each(alloc: Global, job: &Job, places: &Explored, listing: &[u8]) -> bool {
     for room in 0..listing.len() {
         let front = &listing[..room];
-        if !answers(
-            alloc,
-            job,
-            places,
-            Verdict::Yes,
-            Err(ListError::Write),
-            front,
-        ) {
+        if !answers(alloc, job, places, Err(ListError::Write), front) {
             return false;
         }
     }

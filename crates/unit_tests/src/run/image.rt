@@ -78,7 +78,14 @@ fn is_answered(alloc: Global, options: &ImageOptions, failing: usize, made: &Mad
     });
     let mut to = Watched::new(paper_of(made.text));
     let mut errors = Watched::new(paper_of(made.said));
-    let found = answer_image(alloc, Some("a.bin"), options, &mut from, &mut to, &mut errors);
+    let found = answer_image(
+        alloc,
+        Some("a.bin"),
+        options,
+        &mut from,
+        &mut to,
+        &mut errors,
+    );
     let all_came = to.into_inner().left.is_empty() && errors.into_inner().left.is_empty();
     found == Outcome::Imaged(made.answer) && all_came
 }

@@ -2,34 +2,13 @@
 //!
 //! What is written over decks that are judged or refused is seen from outside, in `tests/`.
 
+use crate::deck::{SEARCH_LOOP, SEARCH_LOOP_LISTING};
 use crate::run::devices::Broken;
 use crate::shared::{expect, paper_of};
 use ccw_core::Watched;
 use chan_args::Action;
-use chan_deck::Cause;
 use chan_run::{RunError, Status, run, run_named};
 use std::alloc::Global;
-
-/// The search loop: search for a record by its identifier, try the next one, read what was found.
-const SEARCH_LOOP: &str = "chanv deck 1
-device 2314
-mask 00
-start 000800
-extent 010 019
-fetch 000900 000010
-store 000A00 000100
-storage 0001000
-put 000800 3100090040000005
-put 000808 0800080000000000
-put 000810 06000A0020000050
-end
-";
-
-const SEARCH_LOOP_LISTING: &str = "000800 fresh t . 31 000900 -C---0 00 0005 write search-id-equal
-000808 fresh - . 08 000800 -----0 00 0000 transfer transfer-in-channel
-000810 fresh - . 06 000A00 --L--0 00 0050 read read-data
-yes
-";
 
 /// A search in the last eight bytes of storage.
 const END_OF_STORAGE: &str = "chanv deck 1
@@ -186,34 +165,5 @@ fn each_write_failing_in_turn(rt: HostRuntime) {
     for (action, text, whole) in &WRITTEN {
         let cut_off = is_cut_off(rt.alloc(), *action, text, whole.as_bytes());
         expect(&rt, cut_off, text);
-    }
-}
-
-static ERRORS: [(RunError, &str); 6] = [
-    (RunError::Read, "read failed"),
-    (RunError::TooLong, "deck too long"),
-    (
-        RunError::Deck {
-            line: 9,
-            cause: Cause::PutAddress,
-        },
-        "deck line 9",
-    ),
-    (RunError::TooManyPlaces, "too many places"),
-    (RunError::Write, "write failed"),
-    (RunError::Memory, "out of memory"),
-];
-
-fn is_error(alloc: Global, error: RunError, text: &str) -> bool {
-    match format!(in alloc; "{error}") {
-        Ok(found) => found.as_str() == text,
-        Err(_) => false,
-    }
-}
-
-#[test]
-fn texts_of_errors(rt: HostRuntime) {
-    for (error, text) in &ERRORS {
-        expect(&rt, is_error(rt.alloc(), *error, text), text);
     }
 }

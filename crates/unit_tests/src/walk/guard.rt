@@ -54,23 +54,6 @@ static SPLIT_RANGES: Ranges<'static> = Ranges {
     meets_arguments: &[(0x902, 2, false), (0x902, 3, true), (0x900, 0, false)],
 };
 
-/// One search, in the last doubleword of storage.
-const AT_THE_END: Program<'static> = Program {
-    start: 0xFF8,
-    puts: &[(0xFF8, 0x3100_0900_4000_0005)],
-    ..USUAL
-};
-
-static RANGES_AT_THE_END: Ranges<'static> = Ranges {
-    ccws: &[Area {
-        start: 0xFF8,
-        len: 8,
-    }],
-    arguments: &[],
-    meets_ccws: &[],
-    meets_arguments: &[],
-};
-
 /// Whether these are the ranges of a job's guard, and what they meet.
 pub(crate) fn has_guard(alloc: Global, job: &Job, ranges: &Ranges) -> bool {
     let Ok(explored) = explore(alloc, job) else {
@@ -111,10 +94,4 @@ fn meets_arguments(guard: &Guard, rows: &[(u32, u32, bool)]) -> bool {
 fn split_guard(rt: HostRuntime) {
     let asked = Question::Guard(&SPLIT_RANGES);
     expect(&rt, holds(rt.alloc(), &SPLIT, asked), "split");
-}
-
-#[test]
-fn guard_at_the_end(rt: HostRuntime) {
-    let asked = Question::Guard(&RANGES_AT_THE_END);
-    expect(&rt, holds(rt.alloc(), &AT_THE_END, asked), "at the end");
 }
