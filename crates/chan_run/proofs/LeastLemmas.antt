@@ -1,5 +1,5 @@
 -- The deck with the least job: its areas have six digits, and the verdict on its job is yes.
-use Rattle.std.proofs.Common.{◌≡◌, ℕ, ◌+◌, ◌-◌, ◌∙◌, ◌<◌, ◌≤◌, ◌==◌, ◌^◌, Bool, ◌||◌, true, false, List, [], ◌∷◌, ◌++◌, length, ◌⊎◌, inl, inr, arith, refl, sym, ap, subst, Option, Result, Ok, Err, IfErr, OnOk}
+use Rattle.std.proofs.Common.{◌≡◌, ℕ, ◌+◌, ◌-◌, ◌∙◌, ◌<◌, ◌≤◌, ◌==◌, ◌^◌, Bool, ◌||◌, true, false, List, [], ◌∷◌, ◌++◌, length, ◌⊎◌, inl, inr, arith, refl, sym, ap, subst, Option}
 use Rattle.std.specs.List.{AllByRecursion}
 use Rattle.std.specs.Io.KnownBytes.{Appends}
 use Rattle.std.proofs.lemmas.Bool.{cases_lt, eqb-false, or_left, or_right}
@@ -22,8 +22,9 @@ use Rattle.chan_deck.specs.Item.{IsArea}
 use Rattle.chan_deck.specs.Needs.{halves, in_six_digits, split}
 use Rattle.chan_run.specs.Imaging.{IsAskedDeck, IsDeckAnswer, IsOfOpenJob, IsProgramIn, deck_of, extents_for, least_deck}
 use Rattle.chan_run.specs.Run.{IsJobOf}
-use Rattle.chan_run.specs.declared.image.ImageError.{ImageError}
-use Rattle.chan_run.specs.declared.image.ImageError.TheVariants as faults
+use Rattle.chan_run.specs.declared.failure.Failure.TheVariants as failures
+use Rattle.chan_run.specs.declared.reporting.Outcome.{Outcome}
+use Rattle.chan_run.specs.declared.reporting.Outcome.TheVariants.{Done, Failed}
 use Rattle.chan_run.specs.declared.image_options.ImageOptions.{ImageOptions}
 
 -- ---- six digits
@@ -191,12 +192,13 @@ is_least_deck o image n extents fetch store one two three = rw (one, two, three)
 
 -- what was written is the deck that is asked for, or a prefix of it
 pub deck_answered : (o : ImageOptions) (image : List ℕ) (d : Image) (old new : Option (List ℕ))
-    (r : Result (Unit {0}) ImageError) → IsAskedDeck o.is_least o image d → OnOk r (IsDeck d)
-    → OnOk r (Appends old new (spelling d)) → AppendsPrefix old new (spelling d)
-    → IfErr r (λ e. (e ≡ faults.Write) ⊎ (e ≡ faults.Memory)) → IsDeckAnswer o image old new r
-deck_answered o image d old new (Ok _) asked deck all prefix err = (d, asked, deck, all)
-deck_answered o image d old new (Err e) asked deck all prefix (inl write) = rw write (d, asked, prefix)
-deck_answered o image d old new (Err e) asked deck all prefix (inr memory) = rw memory tt
+    (end : Outcome) → IsAskedDeck o.is_least o image d → (end ≡ Done → IsDeck d)
+    → (end ≡ Done → Appends old new (spelling d)) → AppendsPrefix old new (spelling d)
+    → (end ≡ Done) ⊎ (end ≡ Failed failures.WriteFailed) ⊎ (end ≡ Failed failures.OutOfMemory)
+    → IsDeckAnswer o image old new end
+deck_answered o image d old new end asked deck all prefix (inl is) = rw is (d, asked, deck is, all is)
+deck_answered o image d old new end asked deck all prefix (inr (inl is)) = rw is (d, asked, prefix)
+deck_answered o image d old new end asked deck all prefix (inr (inr is)) = rw is tt
 
 -- the open job of a program shows something
 pub of_open_job : (o : ImageOptions) (image : List ℕ) (Holds : Job → Type 0) (j k : Job) → IsProgramIn o image j

@@ -1,11 +1,8 @@
 -- Room for an image, and the zeros behind it.
-use Rattle.std.proofs.Common.{◌≡◌, ◌<◌, ◌≤◌, ◌-◌, ◌++◌, ◌⊎◌, ℕ, List, true, false, Option, Some, None, Result, Ok, Err, arith, inl, length, refl, take}
+use Rattle.std.proofs.Common.{◌≡◌, ◌<◌, ◌≤◌, ◌-◌, ◌++◌, ◌⊎◌, ℕ, List, true, false, Option, Some, None, arith, inl, length, refl, take}
 use Rattle.std.specs.Prelude.{◌^◌, is_some, replicate, unwrap_or}
 use Rattle.std.proofs.lemmas.List.{take_all}
 use Rattle.chan_run.specs.Imaging.{filled}
-use Rattle.chan_run.specs.declared.image.ImageError.{ImageError}
-use Rattle.chan_run.specs.declared.image.ImageError.TheVariants as faults
-use Rattle.chan_run.specs.declared.image_options.ImageOptions.{ImageOptions}
 
 -- an address in the largest storage lies past storage only where a smaller size was asked for
 pub past_storage : (X : Type 0) (size : Option ℕ) (at : ℕ) → unwrap_or size (2 ^ 24) < at → at < 2 ^ 24

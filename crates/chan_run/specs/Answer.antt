@@ -1,42 +1,39 @@
 -- What one input comes to: its answer on one writer, and what is said of it on another.
-use Rattle.std.specs.Prelude.{◌≡◌, ◌⊎◌, ◌++◌, ℕ, Bool, true, false, List, [], Option, Some, None}
+use Rattle.std.specs.Prelude.{◌≡◌, ◌⊎◌, ◌++◌, ℕ, Bool, false, List, [], Option, Some, None}
 use Rattle.std.specs.Prelude.{Result, Ok, Err, Vec}
 use Rattle.std.specs.Io.KnownBytes.{Appends}
 use Rattle.ccw_core.specs.Written.{AppendsPrefix}
 use Rattle.chan_deck.specs.Hint.{IsHint}
-use Rattle.chan_run.specs.declared.image.ImageError.{ImageError}
-use Rattle.chan_run.specs.declared.image.ImageError.TheVariants as images
-use Rattle.chan_run.specs.declared.image.ImageError.TheVariants.{NoJob}
+use Rattle.chan_run.specs.declared.failure.Failure.{Failure}
+use Rattle.chan_run.specs.declared.failure.Failure.TheVariants as failures
 use Rattle.chan_run.specs.declared.image_options.ImageOptions.{ImageOptions}
 use Rattle.chan_run.specs.declared.reporting.Outcome.{Outcome}
-use Rattle.chan_run.specs.declared.reporting.Outcome.TheVariants.{Imaged, Ran}
+use Rattle.chan_run.specs.declared.reporting.Outcome.TheVariants.{Done, Failed, NoJob, Refused}
 use Rattle.chan_args.specs.declared.action.Action.{Action}
 use Rattle.chan_args.specs.declared.action.Action.TheVariants as actions
 use Rattle.chan_run.specs.declared.running.RunError.{RunError}
-use Rattle.chan_run.specs.declared.running.RunError.TheVariants.{Deck, Memory, TooManyPlaces}
+use Rattle.chan_run.specs.declared.running.RunError.TheVariants.{Memory}
 use Rattle.chan_run.specs.declared.running.Status.{Status}
-use Rattle.chan_run.specs.declared.running.Status.TheVariants as statuses
 use Rattle.chan_run.specs.Advice.{IsNoted, limit_line}
 use Rattle.chan_run.specs.Imaging.{IsDeckAnswer, IsNoImage, IsWholeImage}
-use Rattle.chan_run.specs.Imaging as imaging
 use Rattle.chan_run.specs.NoJob.{IsNoJobText}
-use Rattle.chan_run.specs.Report.{IsEnd, line_over}
+use Rattle.chan_run.specs.Report.{IsEnd, line_over, ran}
 use Rattle.chan_run.specs.Run.{IsEarly, IsInput, IsOfJob, IsReadFault, IsTextAnswer, IsUnwritten}
 use Rattle.chan_run.specs.Run.{front_of}
 
 -- the line where an allocation was refused over an input that may have a name
 abbrev pub memory_line : Option (List ℕ) → List ℕ
-memory_line name = line_over name (Ran (Err Memory))
+memory_line name = line_over name (Failed failures.OutOfMemory)
 
 -- what is said of an input behind the outcome's line: for an explanation the notes behind a yes,
 -- the hint where the text is refused, and the limit where too many places are reachable, or that
 -- memory ran out for them
 abbrev pub IsAdvice : Option (List ℕ) → Action → List ℕ → Outcome → List ℕ → Type 0
-IsAdvice name (actions.Why all) t (Ran (Ok statuses.Yes)) advice =
+IsAdvice name (actions.Why all) t Done advice =
     IsOfJob t (λ j. IsNoted j advice) ⊎ (advice ≡ memory_line name)
-IsAdvice name (actions.Why all) t (Ran (Err (Deck line cause))) advice =
+IsAdvice name (actions.Why all) t (Refused line cause) advice =
     IsHint t line cause advice ⊎ (advice ≡ memory_line name)
-IsAdvice name (actions.Why all) t (Ran (Err TooManyPlaces)) advice =
+IsAdvice name (actions.Why all) t (Failed failures.TooManyPlaces) advice =
     IsOfJob t (λ j. advice ≡ limit_line j.limit) ⊎ (advice ≡ memory_line name)
 IsAdvice name a t end advice = advice ≡ []
 
@@ -45,7 +42,7 @@ pub record IsTextTold (name : Option (List ℕ)) (a : Action) (t : List ℕ)
     (old new : Option (List ℕ)) (end : Outcome) (told : List ℕ) : Type 0 where
   pub answer : Result Status RunError
   pub answered : IsTextAnswer (front_of name a) a t old new answer
-  pub ended : IsEnd (Ran answer) end
+  pub ended : IsEnd (ran answer) end
   pub advice : List ℕ
   pub advised : IsAdvice name a t end advice
   pub is : told ≡ line_over name end ++ advice
@@ -62,7 +59,7 @@ pub record IsUnread (name : Option (List ℕ)) (old_in new_in old new : Option (
     (end : Outcome) (told : List ℕ) : Type 0 where
   pub fault : RunError
   pub read : IsReadFault old_in new_in fault
-  pub ended : end ≡ Ran (Err fault)
+  pub ended : end ≡ ran (Err fault)
   pub unwritten : IsUnwritten old new
   pub is : told ≡ line_over name end
 
@@ -78,7 +75,11 @@ pub record IsHandled (name : Option (List ℕ)) (a : Action)
 
 -- a run ended before anything was written
 abbrev pub IsEarlyEnd : Action → Outcome → Type 0
-IsEarlyEnd a (Ran answer) = IsEarly a answer
+IsEarlyEnd a (Refused line cause) = Unit {0}
+IsEarlyEnd a (Failed failures.ReadFailed) = Unit {0}
+IsEarlyEnd a (Failed failures.DeckTooLong) = Unit {0}
+IsEarlyEnd a (Failed failures.TooManyPlaces) = Unit {0}
+IsEarlyEnd a (Failed failures.OutOfMemory) = IsEarly a (Err Memory)
 IsEarlyEnd a end = ⊥
 
 -- the advice as it is said, where there is some
@@ -91,37 +92,31 @@ advice_of name (Some (Err refused)) = memory_line name
 
 -- what is said of an image, if it was read: the outcome's line, or why no job will do
 abbrev pub IsImageTold : Option (List ℕ) → ImageOptions → List ℕ → Outcome → List ℕ → Type 0
-IsImageTold name o image (Imaged (Err (NoJob a r))) told = IsNoJobText name o image told
+IsImageTold name o image (NoJob a r) told = IsNoJobText name o image told
 IsImageTold name o image end told = told ≡ line_over name end
 
--- an image was answered before anything was written
-abbrev pub IsEarlyImageEnd : Outcome → Type 0
-IsEarlyImageEnd (Imaged answer) = imaging.IsEarly answer
-IsEarlyImageEnd end = ⊥
-
--- how it ends when the answer is this: just so, with a failed flush, or without memory for the
+-- how it ends when it came to this: just so, with a failed flush, or without memory for the
 -- explanation
-abbrev pub IsImageEnd : Result (Unit {0}) ImageError → Outcome → Type 0
-IsImageEnd (Err (NoJob a r)) end =
-    (end ≡ Imaged (Err (NoJob a r))) ⊎ (end ≡ Imaged (Err images.Memory))
-IsImageEnd answer end = IsEnd (Imaged answer) end
+abbrev pub IsImageEnd : Outcome → Outcome → Type 0
+IsImageEnd (NoJob a r) end = (end ≡ NoJob a r) ⊎ (end ≡ Failed failures.OutOfMemory)
+IsImageEnd came end = IsEnd came end
 
 -- the input was read to its end, its image was answered, and then this was said
 pub record IsReadImage (name : Option (List ℕ)) (o : ImageOptions)
     (old_in new_in old new : Option (List ℕ)) (end : Outcome) (told : List ℕ) : Type 0 where
   pub image : List ℕ
   pub input : IsWholeImage o old_in new_in image
-  pub answer : Result (Unit {0}) ImageError
-  pub answered : IsDeckAnswer o image old new answer
-  pub ended : IsImageEnd answer end
+  pub came : Outcome
+  pub answered : IsDeckAnswer o image old new came
+  pub ended : IsImageEnd came end
   pub is : IsImageTold name o image end told
 
 -- it wasn't, nothing was written, and only that was said
 pub record IsUnreadImage (name : Option (List ℕ)) (o : ImageOptions)
     (old_in new_in old new : Option (List ℕ)) (end : Outcome) (told : List ℕ) : Type 0 where
-  pub fault : ImageError
-  pub read : IsNoImage o old_in new_in fault
-  pub ended : end ≡ Imaged (Err fault)
+  pub failure : Failure
+  pub read : IsNoImage o old_in new_in failure
+  pub ended : end ≡ Failed failure
   pub unwritten : IsUnwritten old new
   pub is : told ≡ line_over name end
 

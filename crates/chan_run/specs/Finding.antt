@@ -1,5 +1,5 @@
 -- The programs that are found in an image of storage, a line for each.
-use Rattle.std.specs.Prelude.{◌≡◌, ◌⊎◌, ℕ, List, [], ◌∷◌, ◌++◌, Option, Some, None, Result, Ok, Err}
+use Rattle.std.specs.Prelude.{◌≡◌, ◌⊎◌, ℕ, List, [], ◌∷◌, ◌++◌, Option, Some, None}
 use Rattle.std.specs.Prelude.{take}
 use Rattle.std.specs.Io.KnownBytes.{Appends}
 use Rattle.ccw_core.specs.Written.{AppendsPrefix}
@@ -14,8 +14,10 @@ use Rattle.chan_walk.specs.Programs.{AreProgramStarts, IsJobOver}
 use Rattle.chan_walk.specs.Rows.{IsOpenJob}
 use Rattle.chan_run.specs.Imaging.{IsNoImage, IsProgramAt, IsWholeImage}
 use Rattle.chan_run.specs.Run.{IsUnwritten}
-use Rattle.chan_run.specs.declared.image.ImageError.{ImageError}
-use Rattle.chan_run.specs.declared.image.ImageError.TheVariants as faults
+use Rattle.chan_run.specs.declared.failure.Failure.{Failure}
+use Rattle.chan_run.specs.declared.failure.Failure.TheVariants as failures
+use Rattle.chan_run.specs.declared.reporting.Outcome.{Outcome}
+use Rattle.chan_run.specs.declared.reporting.Outcome.TheVariants.{Done, Failed}
 use Rattle.chan_run.specs.declared.image_options.ImageOptions.{ImageOptions}
 
 -- the verdict on a job, or none, since more places are reachable than its limit
@@ -58,21 +60,21 @@ pub record AreWritten (Wrote : List ℕ → Type 0) (o : ImageOptions) (image : 
 -- what each answer says of an image and the output: all lines were written; or a prefix of the
 -- lines of the first programs was, when a write failed or memory ran out
 abbrev pub IsFoundAnswer : ImageOptions → List ℕ → Option (List ℕ) → Option (List ℕ)
-    → Result (Unit {0}) ImageError → Type 0
-IsFoundAnswer o image old new (Ok _) =
+    → Outcome → Type 0
+IsFoundAnswer o image old new Done =
     (starts : List ℕ) × AreStartsIn o image starts × AreWritten (Appends old new) o image starts
-IsFoundAnswer o image old new (Err faults.Write) =
+IsFoundAnswer o image old new (Failed failures.WriteFailed) =
     (starts : List ℕ) × AreStartsIn o image starts
     × (n : ℕ) × AreWritten (AppendsPrefix old new) o image (take n starts)
-IsFoundAnswer o image old new (Err faults.Memory) =
+IsFoundAnswer o image old new (Failed failures.OutOfMemory) =
     IsUnwritten old new ⊎ ((starts : List ℕ) × AreStartsIn o image starts
     × (n : ℕ) × AreWritten (Appends old new) o image (take n starts))
-IsFoundAnswer o image old new (Err _) = ⊥
+IsFoundAnswer o image old new _ = ⊥
 
 -- what each answer of a search for programs says of its input and its output
 abbrev pub IsFindAnswer : ImageOptions → Option (List ℕ) → Option (List ℕ) → Option (List ℕ)
-    → Option (List ℕ) → Result (Unit {0}) ImageError → Type 0
+    → Option (List ℕ) → Outcome → Type 0
 IsFindAnswer o old_in new_in old new answer =
     ((whole : List ℕ) × IsWholeImage o old_in new_in whole × IsFoundAnswer o whole old new answer)
-    ⊎ ((fault : ImageError) × (answer ≡ Err fault) × IsNoImage o old_in new_in fault
+    ⊎ ((failure : Failure) × (answer ≡ Failed failure) × IsNoImage o old_in new_in failure
     × IsUnwritten old new)

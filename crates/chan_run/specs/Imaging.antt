@@ -1,6 +1,6 @@
 -- What is written of an image of storage and the options with which a deck is made of it.
 use Rattle.std.specs.Prelude.{ℕ, ◌+◌, ◌-◌, ◌<◌, ◌≤◌, ◌^◌, ◌≡◌, ◌⊎◌, List, [], ◌∷◌, ◌++◌, length}
-use Rattle.std.specs.Prelude.{Bool, true, false, Option, Some, None, Result, Ok, Err}
+use Rattle.std.specs.Prelude.{Bool, true, false, Option, Some, None}
 use Rattle.std.specs.Prelude.{replicate, unwrap_or}
 use Rattle.std.specs.Io.KnownBytes.{Appends}
 use Rattle.ccw_core.specs.Written.{AppendsPrefix}
@@ -16,8 +16,10 @@ use Rattle.chan_walk.specs.Rows.{AreNeeds, IsOpenJob, Listed}
 use Rattle.chan_walk.specs.Verdict.{IsVerdict}
 use Rattle.chan_run.specs.Input.{GaveAll, GaveOut, GaveTooMuch}
 use Rattle.chan_run.specs.Run.{IsJobOf}
-use Rattle.chan_run.specs.declared.image.ImageError.{ImageError}
-use Rattle.chan_run.specs.declared.image.ImageError.TheVariants as faults
+use Rattle.chan_run.specs.declared.failure.Failure.{Failure}
+use Rattle.chan_run.specs.declared.failure.Failure.TheVariants as failures
+use Rattle.chan_run.specs.declared.reporting.Outcome.{Outcome}
+use Rattle.chan_run.specs.declared.reporting.Outcome.TheVariants.{Done, Failed, NoJob}
 use Rattle.chan_run.specs.declared.image_options.ImageOptions.{ImageOptions}
 
 -- the deck that the options and an image of storage make
@@ -97,31 +99,32 @@ pub record IsImage (o : ImageOptions) (room : ℕ) (old new : Option (List ℕ))
   pub short : length image ≤ room
 
 -- why nothing is needed of a job: none will do, too many places are reachable, or memory ran out
-abbrev pub HasNoNeeds : ImageOptions → List ℕ → ImageError → Type 0
-HasNoNeeds o image (faults.NoJob a r) = IsOfOpenJob o image (λ k. IsAnswer k (No a r))
-HasNoNeeds o image faults.TooManyPlaces = IsOfOpenJob o image (λ k. HasMoreThan k k.limit)
-HasNoNeeds o image faults.Memory = Unit {0}
+abbrev pub HasNoNeeds : ImageOptions → List ℕ → Outcome → Type 0
+HasNoNeeds o image (NoJob a r) = IsOfOpenJob o image (λ k. IsAnswer k (No a r))
+HasNoNeeds o image (Failed failures.TooManyPlaces) =
+    IsOfOpenJob o image (λ k. HasMoreThan k k.limit)
+HasNoNeeds o image (Failed failures.OutOfMemory) = Unit {0}
 HasNoNeeds o image _ = ⊥
 
 -- what each answer says of an image and the output
 abbrev pub IsDeckAnswer : ImageOptions → List ℕ → Option (List ℕ) → Option (List ℕ)
-    → Result (Unit {0}) ImageError → Type 0
-IsDeckAnswer o image old new (Ok _) =
+    → Outcome → Type 0
+IsDeckAnswer o image old new Done =
     (d : Image) × IsAskedDeck o.is_least o image d × IsDeck d × Appends old new (spelling d)
-IsDeckAnswer o image old new (Err faults.Write) =
+IsDeckAnswer o image old new (Failed failures.WriteFailed) =
     (d : Image) × IsAskedDeck o.is_least o image d × AppendsPrefix old new (spelling d)
-IsDeckAnswer o image old new (Err faults.Memory) = Unit {0}
-IsDeckAnswer o image old new (Err fault) = (o.is_least ≡ true) × HasNoNeeds o image fault
+IsDeckAnswer o image old new (Failed failures.OutOfMemory) = Unit {0}
+IsDeckAnswer o image old new end = (o.is_least ≡ true) × HasNoNeeds o image end
 
 -- why no image was read; nothing was written then
-abbrev pub IsNoImage : ImageOptions → Option (List ℕ) → Option (List ℕ) → ImageError → Type 0
-IsNoImage o old new faults.TooLong =
+abbrev pub IsNoImage : ImageOptions → Option (List ℕ) → Option (List ℕ) → Failure → Type 0
+IsNoImage o old new failures.ImageTooLong =
     (o.size ≡ None) × (room : ℕ) × IsRoom o room × GaveTooMuch room old new
-IsNoImage o old new faults.PastStorage =
+IsNoImage o old new failures.ImagePastStorage =
     (size : ℕ) × (o.size ≡ Some size)
     × ((size < o.at) ⊎ ((room : ℕ) × IsRoom o room × GaveTooMuch room old new))
-IsNoImage o old new faults.Read = (room : ℕ) × IsRoom o room × GaveOut room old new
-IsNoImage o old new faults.Memory = Unit {0}
+IsNoImage o old new failures.ReadFailed = (room : ℕ) × IsRoom o room × GaveOut room old new
+IsNoImage o old new failures.OutOfMemory = Unit {0}
 IsNoImage o old new _ = ⊥
 
 -- the input was read to its end, and this is its image, with the zeros that were asked for
@@ -131,9 +134,3 @@ pub record IsWholeImage (o : ImageOptions) (old new : Option (List ℕ)) (whole 
   pub room : ℕ
   pub input : IsImage o room old new image
   pub is : whole ≡ filled o.size room image
-
--- the answer comes before anything is written
-abbrev pub IsEarly : Result (Unit {0}) ImageError → Type 0
-IsEarly (Ok _) = ⊥
-IsEarly (Err faults.Write) = ⊥
-IsEarly (Err _) = Unit {0}

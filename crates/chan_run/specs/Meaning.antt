@@ -8,7 +8,7 @@ use Rattle.chan_deck.specs.declared.cause.Cause.TheVariants as causes
 use Rattle.chan_walk.specs.Reason.{word_of}
 use Rattle.chan_walk.specs.declared.reason.Reason.{Reason}
 use Rattle.chan_walk.specs.declared.reason.Reason.TheVariants as reasons
-use Rattle.chan_run.specs.Failure.{brief_of_failure, meaning_of_failure, word_of_failure}
+use Rattle.chan_run.specs.Failure.{row_of}
 use Rattle.chan_run.specs.declared.meaning.Term.{Term}
 use Rattle.chan_run.specs.declared.meaning.Term.TheVariants as terms
 use Rattle.chan_run.specs.declared.meaning.TheConstants as texts
@@ -31,7 +31,7 @@ word_of_cause causes.Limit = codes "limit"
 abbrev pub word_of_term : Term → List ℕ
 word_of_term (terms.Reason reason) = word_of reason
 word_of_term (terms.Cause cause) = word_of_cause cause
-word_of_term (terms.Failure failure) = word_of_failure failure
+word_of_term (terms.Failure failure) = (row_of failure).word
 
 -- the text is the term's word, whatever the case of its letters
 abbrev pub IsWordOf : List ℕ → Term → Type 0
@@ -76,7 +76,7 @@ brief_of_cause causes.Limit = codes "the limit on places is 0 or above 65,536"
 abbrev pub brief_of : Term → List ℕ
 brief_of (terms.Reason reason) = brief_of_reason reason
 brief_of (terms.Cause cause) = brief_of_cause cause
-brief_of (terms.Failure failure) = brief_of_failure failure
+brief_of (terms.Failure failure) = (row_of failure).brief
 
 -- the line of a term in the list: its word, and what it is
 abbrev pub line_of_term : Term → List ℕ
@@ -123,4 +123,4 @@ meaning_of_cause causes.Limit = texts.LIMIT.now
 abbrev pub meaning_of : Term → List ℕ
 meaning_of (terms.Reason reason) = meaning_of_reason reason
 meaning_of (terms.Cause cause) = meaning_of_cause cause
-meaning_of (terms.Failure failure) = meaning_of_failure failure
+meaning_of (terms.Failure failure) = (row_of failure).meaning

@@ -3,10 +3,13 @@ use Rattle.std.specs.Prelude.{◌≡◌, ◌<◌, ◌≤◌, ◌/◌, ◌⊎◌,
 use Rattle.std.specs.Prelude.{List, [], ◌∷◌, length, Option, Some, None}
 use Rattle.std.specs.List.{AllByRecursion}
 use Rattle.std.specs.Str.{str_to_ascii_lowercase}
+use Rattle.std.specs.Io.KnownBytes.{Appends}
+use Rattle.ccw_core.specs.Written.{AppendsPrefix}
 use Rattle.strsim.specs.Edits.{levenshtein_row}
-use Rattle.chan_run.specs.Meaning.{IsWordOf, word_of_term}
-use Rattle.chan_run.specs.declared.meaning.MeaningError.{MeaningError}
-use Rattle.chan_run.specs.declared.meaning.MeaningError.TheVariants.{Unknown, Memory, Write}
+use Rattle.chan_run.specs.Meaning.{IsWordOf, meaning_of, word_of_term}
+use Rattle.chan_run.specs.declared.failure.Failure.TheVariants as failures
+use Rattle.chan_run.specs.declared.reporting.Outcome.{Outcome}
+use Rattle.chan_run.specs.declared.reporting.Outcome.TheVariants.{Done, Failed, Unknown}
 use Rattle.chan_run.specs.declared.meaning.Term.{Term}
 use Rattle.chan_run.specs.declared.meaning.TheConstants as texts
 
@@ -38,9 +41,17 @@ IsNearest ts text (Some t) = IsNearestOf ts text t × (is_near text t ≡ true)
 IsNearest ts text None =
     (ts ≡ []) ⊎ ((t : Term) × IsNearestOf ts text t × (is_near text t ≡ false))
 
--- the error of a text that is no term's word
-abbrev pub IsUnknown : List ℕ → MeaningError → Type 0
-IsUnknown text (Unknown nearest) =
-    ((t : Term) → ¬ IsWordOf text t) × IsNearest texts.TERMS text nearest
-IsUnknown text Memory = (t : Term) → ¬ IsWordOf text t
-IsUnknown text Write = Unit {0}
+-- what is said of a text that is no term's word
+abbrev pub IsUnknown : List ℕ → Outcome → Type 0
+IsUnknown text (Unknown t) = ((t : Term) → ¬ IsWordOf text t) × IsNearest texts.TERMS text (Some t)
+IsUnknown text (Failed failures.NoSuchWord) =
+    ((t : Term) → ¬ IsWordOf text t) × IsNearest texts.TERMS text None
+IsUnknown text (Failed failures.OutOfMemory) = (t : Term) → ¬ IsWordOf text t
+IsUnknown text _ = ⊥
+
+-- the text's meaning was written, or where a write failed a prefix of it
+abbrev pub IsWordAnswer : List ℕ → Option (List ℕ) → Option (List ℕ) → Outcome → Type 0
+IsWordAnswer text old new Done = (t : Term) × IsWordOf text t × Appends old new (meaning_of t)
+IsWordAnswer text old new (Failed failures.WriteFailed) =
+    (t : Term) × IsWordOf text t × AppendsPrefix old new (meaning_of t)
+IsWordAnswer text old new end = IsUnknown text end

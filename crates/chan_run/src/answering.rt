@@ -1,22 +1,21 @@
 //! Answering an input: what the program does with each.
 
-ghost use Rattle.std.specs.Prelude.{◌≡◌, ◌↔◌, ◌++◌, false, true, Err, IsErr, OnOk};
+ghost use Rattle.std.specs.Prelude.{◌≡◌, ◌↔◌, ◌++◌, false, true, IsErr, OnOk};
 ghost use Rattle.std.specs.Io.KnownBytes.{Appends};
 ghost use Rattle.ccw_core.specs.Written.{AppendsPrefix};
 ghost use Rattle.chan_run.specs.Advice.{usual_device_note};
-ghost use Rattle.chan_run.specs.Answer.{IsEarlyEnd, IsEarlyImageEnd, IsHandled, IsImageHandled};
-ghost use Rattle.chan_run.specs.Answer.{advice_of};
+ghost use Rattle.chan_run.specs.Answer.{IsEarlyEnd, IsHandled, IsImageHandled, advice_of};
 ghost use Rattle.chan_run.specs.Naming.{name_in};
 ghost use Rattle.chan_run.specs.Report.{IsDone, IsWriteFailure, line_over};
-ghost use Rattle.chan_run.specs.declared.image.ImageError.TheVariants as images;
-ghost use Rattle.chan_run.specs.declared.reporting.Outcome.TheVariants.{Imaged, Ran};
-ghost use Rattle.chan_run.specs.declared.running.RunError.TheVariants as runs;
+ghost use Rattle.chan_run.specs.declared.failure.Failure.TheVariants as failures;
+ghost use Rattle.chan_run.specs.declared.reporting.Outcome.TheVariants.{Failed};
 
-use crate::image::{ImageError, read_image, write_image_of};
+use crate::failure::Failure;
+use crate::image::{read_image, write_image_of};
 use crate::image_options::ImageOptions;
 use crate::no_job::no_job_text;
 use crate::reporting::{Outcome, conclude, flushed, has_advice, write_line};
-use crate::running::{RunError, answer_text, read_text};
+use crate::running::{answer_text, read_text};
 use crate::texts::write_texts;
 use ccw_core::{DeviceFault, Watched, write_out};
 use chan_args::Action;
@@ -31,8 +30,8 @@ use std::io::{Read, Write};
 /// no deck, and the limit where too many places are reachable; or the line that memory ran out for
 /// these, which doesn't change the outcome.
 ///
-/// The input is read once and its job walked once. The outcome is what `run` answers, or
-/// `FlushFailed`. A second writer that fails doesn't change it, and a prefix was written there.
+/// The input is read once and its job walked once. The outcome is what `run` came to, or a failed
+/// write. A second writer that fails doesn't change it, and a prefix was written there.
 pub fn answer<R: Read, W: Write, E: Write>(
     alloc: Global,
     name: Option<&str>,
@@ -50,15 +49,15 @@ pub fn answer<R: Read, W: Write, E: Write>(
         (E.contents errors.old.device) (E.contents errors.new.device) errors.new.failed result }
     ensures early { IsEarlyEnd action result → to.new ≡ to.old }
     ensures flushed { IsDone result → to.new.flushed ≡ true }
-    ensures read { result ≡ Ran (Err runs.Read) ↔ (from.new.failed ≡ true) }
+    ensures read { result ≡ Failed failures.ReadFailed ↔ (from.new.failed ≡ true) }
     ensures write { IsWriteFailure result ↔ (to.new.failed ≡ true) }
 {
     let text = match read_text(alloc, from) {
         Ok(text) => text,
-        Err(error) => return conclude(name, Outcome::Ran(Err(error)), to, errors),
+        Err(error) => return conclude(name, Outcome::of_run(Err(error)), to, errors),
     };
     let (answer, advice) = answer_text(alloc, name, action, true, text.as_slice(), to);
-    let outcome = flushed(Outcome::Ran(answer), to);
+    let outcome = flushed(Outcome::of_run(answer), to);
     let told = if has_advice(action, outcome) {
         Some(advice)
     } else {
@@ -86,7 +85,7 @@ fn tell<E: Write>(
     match advice {
         None => Ok(()),
         Some(Ok(text)) => write_out(text.as_slice(), errors),
-        Some(Err(AllocError)) => write_line(name, Outcome::Ran(Err(RunError::Memory)), errors),
+        Some(Err(AllocError)) => write_line(name, Outcome::Failed(Failure::OutOfMemory), errors),
     }
 }
 
@@ -107,14 +106,14 @@ pub fn note_usual_device<E: Write>(errors: &mut Watched<E>)
 ///
 /// Storage has the requested size, with zeros after the image; without a size it ends with the
 /// image. It has at most 16,777,216 bytes. Nothing is written before the whole image was read:
-/// after a failed write a prefix of the deck was written, after any other error nothing was. Over an
-/// endless reader it returns, with `TooLong`. If all was written, the output is flushed.
+/// after a failed write a prefix of the deck was written, after any other error nothing was. It
+/// returns over an endless reader, too, with `ImageTooLong`. If all was written, it flushes.
 ///
 /// The second writer gets the outcome's line, as `report_named` writes it. If no job will do, it
-/// gets `no job will do: ` and the explanation of the verdict on the program's open job; a last line
-/// names the options `--at` and `--storage` if these may cure it. If memory runs out for the
-/// explanation, so does the outcome say. A second writer that fails doesn't change the outcome, and
-/// a prefix was written there.
+/// gets `no job will do: ` and the explanation of the verdict on the program's open job; a last
+/// line names the options `--at` and `--storage` if these may cure it. If memory runs out for the
+/// explanation, the outcome says so. A second writer that fails doesn't change the outcome, and a
+/// prefix was written there.
 pub fn answer_image<R: Read, W: Write, E: Write>(
     alloc: Global,
     name: Option<&str>,
@@ -130,23 +129,23 @@ pub fn answer_image<R: Read, W: Write, E: Write>(
         (R.remaining from.old.device) (R.remaining from.new.device)
         (W.contents to.old.device) (W.contents to.new.device)
         (E.contents errors.old.device) (E.contents errors.new.device) errors.new.failed result }
-    ensures early { IsEarlyImageEnd result → to.new ≡ to.old }
+    ensures early { (IsDone result → ⊥) → (IsWriteFailure result → ⊥) → to.new ≡ to.old }
     ensures flushed { IsDone result → to.new.flushed ≡ true }
-    ensures read { result ≡ Imaged (Err images.Read) ↔ (from.new.failed ≡ true) }
+    ensures read { result ≡ Failed failures.ReadFailed ↔ (from.new.failed ≡ true) }
     ensures write { IsWriteFailure result ↔ (to.new.failed ≡ true) }
 {
     let image = match read_image(alloc, options, from) {
         Ok(image) => image,
-        Err(error) => return conclude(name, Outcome::Imaged(Err(error)), to, errors),
+        Err(failure) => return conclude(name, Outcome::Failed(failure), to, errors),
     };
     let answer = write_image_of(alloc, options, image.as_slice(), to);
-    let Err(ImageError::NoJob { address, reason }) = answer else {
-        return conclude(name, Outcome::Imaged(answer), to, errors);
+    let Outcome::NoJob { address, reason } = answer else {
+        return conclude(name, answer, to, errors);
     };
     // The same job was walked before, so this fails only for want of memory.
     let Ok(text) = no_job_text(alloc, name, options, image.as_slice()) else {
-        return conclude(name, Outcome::Imaged(Err(ImageError::Memory)), to, errors);
+        return conclude(name, Outcome::Failed(Failure::OutOfMemory), to, errors);
     };
     let _ = write_out(text.as_bytes(), errors);
-    Outcome::Imaged(Err(ImageError::NoJob { address, reason }))
+    Outcome::NoJob { address, reason }
 }

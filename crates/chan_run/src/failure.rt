@@ -1,74 +1,162 @@
-//! What the program says on standard error in place of an answer, as a word each.
+//! What the program says on standard error in place of an answer.
 
 ghost use Rattle.std.specs.Prelude.{◌≡◌};
-ghost use Rattle.chan_run.specs.Failure.{brief_of_failure, meaning_of_failure, word_of_failure};
+ghost use Rattle.chan_run.specs.Failure.{row_in, row_of};
 
-const CANNOT_OPEN: &str = "\
+/// A failure's word, what it is in a few words, its line, what it means, the exit status, and
+/// whether the line names the input.
+pub(crate) type Row = (
+    &'static str,
+    &'static str,
+    &'static str,
+    &'static str,
+    u8,
+    bool,
+);
+
+const CANNOT_OPEN: Row = (
+    "cannot-open",
+    "a FILE that can't be opened",
+    "cannot open\n",
+    "\
 The FILE can't be opened: there is none of that name, or it may not be read.
 Correct the name, or see to its rights. A FILE whose name isn't UTF-8 can't be
 opened: rename it, or hand it to standard input.
-";
+",
+    3,
+    true,
+);
 
-const READ_FAILED: &str = "\
+const READ_FAILED: Row = (
+    "read-failed",
+    "an input that can't be read to its end",
+    "read failed\n",
+    "\
 Reading the FILE or standard input failed. A folder can be opened, and not
 read; and standard input may be closed.
 Name a file, or see that the input can be read to its end.
-";
+",
+    3,
+    true,
+);
 
-const DECK_TOO_LONG: &str = "\
+const DECK_TOO_LONG: Row = (
+    "deck-too-long",
+    "a text longer than a deck's may be",
+    "deck too long\n",
+    "\
 The deck's text has more than 67,108,864 bytes.
 Merge its areas, and leave out what isn't needed of them. An image of storage
 is no deck yet: `chanv deck` writes the deck of one.
-";
+",
+    2,
+    true,
+);
 
-const IMAGE_TOO_LONG: &str = "\
+const IMAGE_TOO_LONG: Row = (
+    "image-too-long",
+    "an image longer than storage may be",
+    "image too long\n",
+    "\
 The image, from its address on, ends past the 16,777,216 bytes that storage may
 have.
 Cut the image down to what the program needs, or lower its address.
-";
+",
+    2,
+    true,
+);
 
-const IMAGE_PAST_STORAGE: &str = "\
+const IMAGE_PAST_STORAGE: Row = (
+    "image-past-storage",
+    "an image longer than the storage asked for",
+    "image past storage\n",
+    "\
 The image, from its address on, ends past the size of storage that --storage
 says.
 Ask for a larger size, lower the image's address, or leave --storage out: then
 storage ends with the image.
-";
+",
+    4,
+    true,
+);
 
-const TOO_MANY_PLACES: &str = "\
+const TOO_MANY_PLACES: Row = (
+    "too-many-places",
+    "more places reachable than the limit",
+    "too many places\n",
+    "\
 More places are reachable than the limit: 4,096, unless the deck says another.
 A deck of version 2 says it by its line `limit`, of at most 65,536, and so does
 `chanv deck` by --limit. A place is a CCW with a way to enter it: a chain that
 runs on through storage reaches one every 8 bytes.
-";
+",
+    2,
+    true,
+);
 
-const NO_JOB_WILL_DO: &str = "\
+const NO_JOB_WILL_DO: Row = (
+    "no-job-will-do",
+    "a program that no job will do for",
+    "no job will do\n",
+    "\
 You asked for the least job, and there is none: the verdict is no even if
 everything is granted. The explanation after it says which CCW offends, and why.
 Correct the program. `chanv explain` has the reason. If the image belongs at
 another address, or storage is longer, say so with --at or --storage.
-";
+",
+    1,
+    true,
+);
 
-const WRITE_FAILED: &str = "\
+const WRITE_FAILED: Row = (
+    "write-failed",
+    "an output that can't be written",
+    "write failed\n",
+    "\
 Writing to standard output failed: it is full or closed, or its reader has gone
 away. What stands there may be a part of the answer.
 See to it, and run the command again.
-";
+",
+    3,
+    false,
+);
 
-const OUT_OF_MEMORY: &str = "\
+const OUT_OF_MEMORY: Row = (
+    "out-of-memory",
+    "an allocation that was refused",
+    "out of memory\n",
+    "\
 An allocation was refused. Nothing was answered, or not all of it.
 Raise the limit on memory. Judging takes at most a few times the length of the
 deck and of its storage.
-";
+",
+    3,
+    true,
+);
 
-const NOT_A_CCW: &str = "\
+const NOT_A_CCW: Row = (
+    "not-a-ccw",
+    "a word that isn't a CCW's sixteen digits",
+    "not a CCW\n",
+    "\
 The word isn't sixteen hexadecimal digits.
 Write a CCW's eight bytes as two digits each, without spaces.
-";
+",
+    4,
+    false,
+);
 
-const NO_SUCH_WORD: &str = "\
+const NO_SUCH_WORD: Row = (
+    "no-such-word",
+    "a word that has no meaning here",
+    "no such word\n",
+    "\
 The word is no reason, no cause and none of what is said in place of an answer.
 `chanv explain` without a word lists all.
-";
+",
+    4,
+    false,
+);
 
 /// The line in place of an answer.
 #[derive(Clone, Copy, PartialEq, Eq, Debug)]
@@ -97,47 +185,10 @@ pub enum Failure {
     NoSuchWord,
 }
 
-/// The word of a failure.
-pub(crate) fn failure_word(failure: Failure) -> &'static str
-    ensures { result.now ≡ word_of_failure failure }
-{
-    match failure {
-        Failure::CannotOpen => "cannot-open",
-        Failure::ReadFailed => "read-failed",
-        Failure::DeckTooLong => "deck-too-long",
-        Failure::ImageTooLong => "image-too-long",
-        Failure::ImagePastStorage => "image-past-storage",
-        Failure::TooManyPlaces => "too-many-places",
-        Failure::NoJobWillDo => "no-job-will-do",
-        Failure::WriteFailed => "write-failed",
-        Failure::OutOfMemory => "out-of-memory",
-        Failure::NotCcw => "not-a-ccw",
-        Failure::NoSuchWord => "no-such-word",
-    }
-}
-
-/// What a failure is, in a few words.
-pub(crate) fn failure_brief(failure: Failure) -> &'static str
-    ensures { result.now ≡ brief_of_failure failure }
-{
-    match failure {
-        Failure::CannotOpen => "a FILE that can't be opened",
-        Failure::ReadFailed => "an input that can't be read to its end",
-        Failure::DeckTooLong => "a text longer than a deck's may be",
-        Failure::ImageTooLong => "an image longer than storage may be",
-        Failure::ImagePastStorage => "an image longer than the storage asked for",
-        Failure::TooManyPlaces => "more places reachable than the limit",
-        Failure::NoJobWillDo => "a program that no job will do for",
-        Failure::WriteFailed => "an output that can't be written",
-        Failure::OutOfMemory => "an allocation that was refused",
-        Failure::NotCcw => "a word that isn't a CCW's sixteen digits",
-        Failure::NoSuchWord => "a word that has no meaning here",
-    }
-}
-
-/// What a failure means.
-pub(crate) fn failure_meaning(failure: Failure) -> &'static str
-    ensures { result.now ≡ meaning_of_failure failure }
+/// The row of a failure.
+pub(crate) fn row(failure: Failure) -> Row
+    ensures { row_in (result.0.now, result.1.now, result.2.now, result.3.now, result.4, result.5)
+        ≡ row_of failure }
 {
     match failure {
         Failure::CannotOpen => CANNOT_OPEN,

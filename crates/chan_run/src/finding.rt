@@ -1,17 +1,22 @@
 //! Finding the programs of an image of storage, a line for each.
 
-ghost use Rattle.std.specs.Prelude.{◌≡◌, ◌↔◌, ◌⊎◌, ◌+◌, ◌≤◌, ◌^◌, false, true, length, IfErr, IfOk};
-ghost use Rattle.std.specs.Prelude.{IsErrOf, List, OnOk, string_bytes, ℕ};
+ghost use Rattle.std.specs.Prelude.{◌≡◌, ◌↔◌, ◌⊎◌, ◌+◌, ◌≤◌, ◌^◌, false, true, length, IfOk};
+ghost use Rattle.std.specs.Prelude.{List, string_bytes, ℕ};
 ghost use Rattle.std.specs.Io.KnownBytes.{Appends};
 ghost use Rattle.ccw_core.specs.Held.{bytes_held};
 ghost use Rattle.ccw_core.specs.Written.{AppendsPrefix};
 ghost use Rattle.chan_deck.specs.Parts.{storage_with};
-ghost use Rattle.chan_run.specs.Finding.{AreStartsIn, IsFindAnswer, IsFoundAnswer, IsLineAt};
+ghost use Rattle.chan_run.specs.Finding.{IsFindAnswer, IsFoundAnswer, IsLineAt};
 ghost use Rattle.chan_run.specs.Finding.{IsLineOn};
+ghost use Rattle.chan_run.specs.Report.{IsWriteFailure};
+ghost use Rattle.chan_run.specs.declared.failure.Failure.TheVariants as failures;
+ghost use Rattle.chan_run.specs.declared.reporting.Outcome.TheVariants.{Done, Failed};
 
-use crate::image::{ImageError, read_image};
+use crate::failure::Failure;
+use crate::image::read_image;
 use crate::image_options::ImageOptions;
 use crate::least::job_at;
+use crate::reporting::Outcome;
 use ccw_core::{Storage, Watched, write_out};
 use chan_deck::{place_image, program_text};
 use chan_walk::{Job, OpenJob, WalkError, program_starts, survey};
@@ -24,24 +29,24 @@ use std::io::{Read, Write};
 /// Of the options it uses the device, the limit, and the address and size for the image. Each line
 /// is written with one write, as soon as its verdict is known. After a failed write a prefix of the
 /// lines was written, and after a refused allocation the lines of some first programs. The errors
-/// of the input are those of `answer_image`; `NoJob` and `TooManyPlaces` never come.
+/// of the input are those of `answer_image`.
 pub fn find_programs<R: Read, W: Write>(
     alloc: Global,
     options: &ImageOptions,
     from: &mut Watched<R>,
     to: &mut Watched<W>,
-) -> Result<(), ImageError>
+) -> Outcome
     requires reader { from.old.failed ≡ false }
     requires writer { to.old.failed ≡ false }
     ensures answer { IsFindAnswer options.now
         (R.remaining from.old.device) (R.remaining from.new.device)
         (W.contents to.old.device) (W.contents to.new.device) result }
-    ensures read { IsErrOf result ImageError.Read ↔ (from.new.failed ≡ true) }
-    ensures write { IsErrOf result ImageError.Write ↔ (to.new.failed ≡ true) }
+    ensures read { result ≡ Failed failures.ReadFailed ↔ (from.new.failed ≡ true) }
+    ensures write { IsWriteFailure result ↔ (to.new.failed ≡ true) }
 {
     let image = match read_image(alloc, options, from) {
         Ok(image) => image,
-        Err(error) => return Err(error),
+        Err(failure) => return Outcome::Failed(failure),
     };
     write_programs(alloc, options, image.as_slice(), to)
 }
@@ -52,23 +57,28 @@ fn write_programs<W: Write>(
     options: &ImageOptions,
     image: &[u8],
     to: &mut Watched<W>,
-) -> Result<(), ImageError>
+) -> Outcome
     requires short { options.now.at + length image.now ≤ 2 ^ 24 }
     requires writer { to.old.failed ≡ false }
     ensures answer { IsFoundAnswer options.now image.now
         (W.contents to.old.device) (W.contents to.new.device) result }
-    ensures write { IsErrOf result ImageError.Write ↔ (to.new.failed ≡ true) }
+    ensures write { IsWriteFailure result ↔ (to.new.failed ≡ true) }
 {
-    let bytes = place_image(alloc, options.at as usize, image)?;
+    let Ok(bytes) = place_image(alloc, options.at as usize, image) else {
+        return Outcome::Failed(Failure::OutOfMemory);
+    };
     // it isn't too large, since the image ends in storage
     let storage = Storage::new(&bytes).unwrap();
-    let starts = program_starts(alloc, &storage, options.device)?;
+    let Ok(starts) = program_starts(alloc, &storage, options.device) else {
+        return Outcome::Failed(Failure::OutOfMemory);
+    };
     for start in starts.as_slice() {
-        if let Err(error) = write_program(alloc, options, storage, *start, to) {
-            return Err(error);
+        match write_program(alloc, options, storage, *start, to) {
+            Outcome::Done => {}
+            end => return end,
         }
     }
-    Ok(())
+    Outcome::Done
 }
 
 /// Writes the line of the program that begins at an address in storage.
@@ -78,25 +88,25 @@ fn write_program<W: Write>(
     storage: Storage<'_>,
     start: u32,
     to: &mut Watched<W>,
-) -> Result<(), ImageError>
+) -> Outcome
     requires writer { to.old.failed ≡ false }
-    ensures ok { OnOk result ((image : List ℕ)
+    ensures done { result ≡ Done → (image : List ℕ)
         → bytes_held storage.entry ≡ storage_with options.now.at image
         → (line : List ℕ) × IsLineAt options.now image start line
-        × Appends (W.contents to.old.device) (W.contents to.new.device) line) }
-    ensures failed { IsErrOf result ImageError.Write → (image : List ℕ)
+        × Appends (W.contents to.old.device) (W.contents to.new.device) line }
+    ensures failed { IsWriteFailure result → (image : List ℕ)
         → bytes_held storage.entry ≡ storage_with options.now.at image
         → (line : List ℕ) × IsLineAt options.now image start line
         × AppendsPrefix (W.contents to.old.device) (W.contents to.new.device) line }
-    ensures err { IfErr result (λ e. (e ≡ ImageError.Write) ⊎ (e ≡ ImageError.Memory)) }
-    ensures write { IsErrOf result ImageError.Write ↔ (to.new.failed ≡ true) }
-    ensures memory { IsErrOf result ImageError.Memory → to.new ≡ to.old }
+    ensures known { (result ≡ Done) ⊎ IsWriteFailure result
+        ⊎ (result ≡ Failed failures.OutOfMemory) }
+    ensures write { IsWriteFailure result ↔ (to.new.failed ≡ true) }
+    ensures memory { result ≡ Failed failures.OutOfMemory → to.new ≡ to.old }
 {
     let job = job_at(options, storage, start);
-    let line = program_line(alloc, &job)?;
-    match write_out(line.as_bytes(), to) {
-        Ok(()) => Ok(()),
-        Err(_) => Err(ImageError::Write),
+    match program_line(alloc, &job) {
+        Ok(line) => Outcome::of_write(write_out(line.as_bytes(), to)),
+        Err(AllocError) => Outcome::Failed(Failure::OutOfMemory),
     }
 }
 

@@ -1,7 +1,7 @@
 //! The deck of an image of storage with the least job of its program.
 
 ghost use Rattle.std.specs.Prelude.{◌≡◌, ◌↔◌, ◌+◌, ◌≤◌, ◌^◌, List, ℕ, false, true, length, IfErr};
-ghost use Rattle.std.specs.Prelude.{IfOk, IsErrOf, OnOk};
+ghost use Rattle.std.specs.Prelude.{IfOk, OnOk};
 ghost use Rattle.std.specs.List.{AllByRecursion};
 ghost use Rattle.ckd_core.specs.Cylinders.{IsExtent};
 ghost use Rattle.chan_deck.specs.Parts.{storage_with};
@@ -9,17 +9,20 @@ ghost use Rattle.ccw_core.specs.Held.{bytes_held};
 ghost use Rattle.chan_walk.specs.Needs.{AreOfOneProgram};
 ghost use Rattle.chan_walk.specs.Rows.{AreNeeds, listed};
 ghost use Rattle.chan_walk.specs.declared.job.Job.{Job};
-ghost use Rattle.chan_run.specs.Imaging.{HasNoNeeds, IsDeckAnswer, IsEarly, IsProgramAt};
-ghost use Rattle.chan_run.specs.Imaging.{IsProgramIn, extents_for};
+ghost use Rattle.chan_run.specs.Imaging.{HasNoNeeds, IsDeckAnswer, IsProgramAt, IsProgramIn};
+ghost use Rattle.chan_run.specs.Imaging.{extents_for};
+ghost use Rattle.chan_run.specs.Report.{IsDone, IsWriteFailure};
 ghost use Rattle.chan_run.specs.declared.image_options.ImageOptions.{ImageOptions};
 
-use crate::image::{ImageError, write_right};
+use crate::failure::Failure;
+use crate::image::write_right;
 use crate::image_options::ImageOptions;
+use crate::reporting::Outcome;
 use ccw_core::{Storage, Watched};
 use chan_deck::{Parts, in_six_digits, place_image};
 use chan_walk::{Job, Limit, Needs, OpenJob, Verdict, WalkError, survey};
 use ckd_core::Extents;
-use std::alloc::Global;
+use std::alloc::{AllocError, Global};
 use std::io::Write;
 
 /// Writes the deck that an image makes with the options and the least job of its program.
@@ -28,19 +31,28 @@ pub(crate) fn write_least<W: Write>(
     options: &ImageOptions,
     image: &[u8],
     to: &mut Watched<W>,
-) -> Result<(), ImageError>
+) -> Outcome
     requires short { options.now.at + length image.now ≤ 2 ^ 24 }
     requires least { options.now.is_least ≡ true }
     requires writer { to.old.failed ≡ false }
     ensures answer { IsDeckAnswer options.now image.now
         (W.contents to.old.device) (W.contents to.new.device) result }
-    ensures early { IsEarly result → to.new ≡ to.old }
-    ensures write { IsErrOf result ImageError.Write ↔ (to.new.failed ≡ true) }
+    ensures early { (IsDone result → ⊥) → (IsWriteFailure result → ⊥) → to.new ≡ to.old }
+    ensures write { IsWriteFailure result ↔ (to.new.failed ≡ true) }
 {
-    let needs = needs_in(alloc, options, image)?;
-    let extents = extents_over(alloc, &needs.extents)?;
-    let fetch = in_six_digits(alloc, &needs.fetch)?;
-    let store = in_six_digits(alloc, &needs.store)?;
+    let needs = match needs_in(alloc, options, image) {
+        Ok(needs) => needs,
+        Err(end) => return end,
+    };
+    let Ok(extents) = extents_over(alloc, &needs.extents) else {
+        return Outcome::Failed(Failure::OutOfMemory);
+    };
+    let Ok(fetch) = in_six_digits(alloc, &needs.fetch) else {
+        return Outcome::Failed(Failure::OutOfMemory);
+    };
+    let Ok(store) = in_six_digits(alloc, &needs.store) else {
+        return Outcome::Failed(Failure::OutOfMemory);
+    };
     let parts = Parts {
         limit: options.limit,
         device: options.device,
@@ -56,7 +68,7 @@ pub(crate) fn write_least<W: Write>(
 }
 
 /// What the program needs that the options find in an image.
-fn needs_in(alloc: Global, options: &ImageOptions, image: &[u8]) -> Result<Needs, ImageError>
+fn needs_in(alloc: Global, options: &ImageOptions, image: &[u8]) -> Result<Needs, Outcome>
     requires { options.now.at + length image.now ≤ 2 ^ 24 }
     ensures ok { IfOk result (λ n. (j : Job) → IsProgramIn options.now image.now j
         → AreNeeds j (listed n)) }
@@ -88,7 +100,7 @@ pub(crate) fn job_at<'a>(options: &'a ImageOptions, storage: Storage<'a>, start:
 }
 
 /// What the program of a job needs.
-fn needs_of(alloc: Global, job: &Job<'_>) -> Result<Needs, ImageError>
+fn needs_of(alloc: Global, job: &Job<'_>) -> Result<Needs, Outcome>
     ensures ok { IfOk result (λ n. (j : Job) → AreOfOneProgram j job.now
         → AreNeeds j (listed n)) }
     ensures err { IfErr result (λ e. (o : ImageOptions) (image : List ℕ)
@@ -96,26 +108,25 @@ fn needs_of(alloc: Global, job: &Job<'_>) -> Result<Needs, ImageError>
 {
     let open = match OpenJob::of(alloc, job) {
         Ok(open) => open,
-        Err(_) => return Err(ImageError::Memory),
+        Err(_) => return Err(Outcome::Failed(Failure::OutOfMemory)),
     };
     let open_job = open.job();
     let survey = match survey(alloc, &open_job) {
         Ok(survey) => survey,
-        Err(WalkError::TooManyPlaces) => return Err(ImageError::TooManyPlaces),
-        Err(WalkError::Memory) => return Err(ImageError::Memory),
+        Err(WalkError::TooManyPlaces) => return Err(Outcome::Failed(Failure::TooManyPlaces)),
+        Err(WalkError::Memory) => return Err(Outcome::Failed(Failure::OutOfMemory)),
     };
     match survey.verdict() {
-        Verdict::No { address, reason } => Err(ImageError::NoJob { address, reason }),
+        Verdict::No { address, reason } => Err(Outcome::NoJob { address, reason }),
         Verdict::Yes => Ok(survey.needs(alloc, &open_job)?),
     }
 }
 
 /// The extents that grant some runs of cylinders: all of the device's where there is none.
-fn extents_over(alloc: Global, runs: &[(u16, u16)]) -> Result<Extents, ImageError>
+fn extents_over(alloc: Global, runs: &[(u16, u16)]) -> Result<Extents, AllocError>
     requires { AllByRecursion IsExtent runs.now }
-    ensures ok { IfOk result (λ extents. extents ≡ extents_for runs.now) }
-    ensures err { IfErr result (λ e. e ≡ ImageError.Memory) }
+    ensures { IfOk result (λ extents. extents ≡ extents_for runs.now) }
 {
     let runs = if runs.is_empty() { &[(0, 202)] } else { runs };
-    Extents::new(alloc, runs).map_err(|_| ImageError::Memory)
+    Extents::new(alloc, runs).map_err(|_| AllocError)
 }

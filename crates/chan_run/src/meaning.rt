@@ -1,6 +1,6 @@
 //! What the words of verdicts, of refused decks and of failures mean.
 
-ghost use Rattle.std.specs.Prelude.{◌≡◌, ◌≢◌, ◌↔◌, false, true, IfErr, IfSome, IsErr, IsErrOf};
+ghost use Rattle.std.specs.Prelude.{◌≡◌, ◌↔◌, ◌⊎◌, false, true, IfSome, IsErr};
 ghost use Rattle.std.specs.Prelude.{None, OnOk};
 ghost use Rattle.std.specs.List.{All, flat_map};
 ghost use Rattle.std.specs.Io.KnownBytes.{Appends};
@@ -9,17 +9,19 @@ ghost use Rattle.chan_run.specs.Meaning.{IsWordOf, brief_of, brief_of_cause, bri
 ghost use Rattle.chan_run.specs.Meaning.{line_of_term, meaning_of, meaning_of_cause};
 ghost use Rattle.chan_run.specs.Meaning.{meaning_of_reason, word_of_cause, word_of_term};
 ghost use Rattle.chan_run.specs.Meaning.{words_list};
-ghost use Rattle.chan_run.specs.Nearest.{IsUnknown};
+ghost use Rattle.chan_run.specs.Nearest.{IsUnknown, IsWordAnswer};
+ghost use Rattle.chan_run.specs.Report.{IsDone, IsWriteFailure};
+ghost use Rattle.chan_run.specs.declared.reporting.Outcome.TheVariants.{Done};
 
-use crate::failure::{Failure, failure_brief, failure_meaning, failure_word};
+use crate::failure::{Failure, row};
 use crate::nearest::nearest_term;
+use crate::reporting::Outcome;
 use crate::texts::write_texts;
 use ccw_core::{DeviceFault, Watched, write_out};
 use chan_deck::Cause;
 use chan_walk::Reason;
 use std::alloc::{AllocError, Global};
 use std::io::Write;
-use thiserror::Error;
 
 const MISALIGNED: &str = "\
 The CCW's address isn't a multiple of 8, so that no CCW can stand there.
@@ -252,20 +254,6 @@ const TERMS: [Term; 38] = [
     Term::Failure(Failure::NoSuchWord),
 ];
 
-/// Why a word was not explained.
-#[derive(Clone, Copy, PartialEq, Eq, Debug, Error)]
-pub enum MeaningError {
-    /// No term has this word. This one is the nearest, if one is near.
-    #[error("no such word")]
-    Unknown { nearest: Option<Term> },
-    /// An allocation was refused.
-    #[error("out of memory")]
-    Memory,
-    /// The writer failed.
-    #[error("write failed")]
-    Write,
-}
-
 /// The term that has this word, in any case of its letters; none if none has.
 pub fn term_of(word: &str) -> Option<Term>
     ensures named { IfSome result (IsWordOf word.now) }
@@ -292,52 +280,47 @@ fn term_among(terms: &[Term], word: &str) -> Option<Term>
 
 /// Writes the meaning of a word, and how to fix what it names.
 ///
-/// `Unknown` comes if the word, in any case, is no term's, with the term of the nearest word, if
-/// one is near; `Memory` may come in its place. `Write` comes exactly if a write failed, and then a
-/// prefix was written; after another error nothing was.
-pub fn explain_word<W: Write>(
-    alloc: Global,
-    word: &str,
-    to: &mut Watched<W>,
-) -> Result<(), MeaningError>
+/// If the word, in any case, is no term's, `Unknown` comes with the term of the nearest word or, if
+/// none is near, `NoSuchWord`; `OutOfMemory` may come in their place. `WriteFailed` comes exactly
+/// if a write failed, and then a prefix was written. After any other outcome but `Done` nothing was.
+pub fn explain_word<W: Write>(alloc: Global, word: &str, to: &mut Watched<W>) -> Outcome
     requires { to.old.failed ≡ false }
-    ensures ok { OnOk result ((t : Term) × IsWordOf word.now t
-        × Appends (W.contents to.old.device) (W.contents to.new.device) (meaning_of t)) }
-    ensures unknown { IfErr result (λ e. e ≢ MeaningError.Write → IsUnknown word.now e) }
-    ensures early { IfErr result (λ e. e ≢ MeaningError.Write → to.new ≡ to.old) }
-    ensures prefix { IsErrOf result MeaningError.Write → (t : Term) × IsWordOf word.now t
-        × AppendsPrefix (W.contents to.old.device) (W.contents to.new.device) (meaning_of t) }
-    ensures write { IsErrOf result MeaningError.Write ↔ (to.new.failed ≡ true) }
+    ensures answer { IsWordAnswer word.now (W.contents to.old.device) (W.contents to.new.device)
+        result }
+    ensures early { (IsDone result → ⊥) → (IsWriteFailure result → ⊥) → to.new ≡ to.old }
+    ensures write { IsWriteFailure result ↔ (to.new.failed ≡ true) }
 {
     match term_of(word) {
-        Some(term) => write_out(meaning(term).as_bytes(), to).map_err(|_| MeaningError::Write),
-        None => Err(unknown(alloc, word)),
+        Some(term) => Outcome::of_write(write_out(meaning(term).as_bytes(), to)),
+        None => unknown(alloc, word),
     }
 }
 
-/// The error of a word that is no term's.
-fn unknown(alloc: Global, word: &str) -> MeaningError
+/// What is said of a word that is no term's.
+fn unknown(alloc: Global, word: &str) -> Outcome
     requires { (t : Term) → ¬ IsWordOf word.now t }
-    ensures error { IsUnknown word.now result }
-    ensures other { result ≢ MeaningError.Write }
+    ensures is { IsUnknown word.now result }
+    ensures other { IsWriteFailure result → ⊥ }
+    ensures undone { IsDone result → ⊥ }
 {
     match nearest_term(alloc, &TERMS, word) {
-        Ok(nearest) => MeaningError::Unknown { nearest },
-        Err(AllocError) => MeaningError::Memory,
+        Ok(Some(term)) => Outcome::Unknown(term),
+        Ok(None) => Outcome::Failed(Failure::NoSuchWord),
+        Err(AllocError) => Outcome::Failed(Failure::OutOfMemory),
     }
 }
 
 /// Writes a line for each word, with its meaning in a few words. It takes no memory.
-pub fn list_words<W: Write>(to: &mut Watched<W>) -> Result<(), MeaningError>
+pub fn list_words<W: Write>(to: &mut Watched<W>) -> Outcome
     requires { to.old.failed ≡ false }
-    ensures ok { OnOk result
-        (Appends (W.contents to.old.device) (W.contents to.new.device) words_list) }
+    ensures done { IsDone result
+        → Appends (W.contents to.old.device) (W.contents to.new.device) words_list }
     ensures prefix { AppendsPrefix (W.contents to.old.device) (W.contents to.new.device)
         words_list }
-    ensures write { IsErrOf result MeaningError.Write ↔ (to.new.failed ≡ true) }
-    ensures known { IfErr result (λ e. e ≡ MeaningError.Write) }
+    ensures write { IsWriteFailure result ↔ (to.new.failed ≡ true) }
+    ensures known { (result ≡ Done) ⊎ IsWriteFailure result }
 {
-    write_lines(&TERMS, to).map_err(|_| MeaningError::Write)
+    Outcome::of_write(write_lines(&TERMS, to))
 }
 
 /// Writes the lines of some terms.
@@ -378,7 +361,7 @@ pub(crate) fn term_word(term: Term) -> &'static str
     match term {
         Term::Reason(reason) => reason.word(),
         Term::Cause(cause) => cause_word(cause),
-        Term::Failure(failure) => failure_word(failure),
+        Term::Failure(failure) => row(failure).0,
     }
 }
 
@@ -389,7 +372,7 @@ fn brief(term: Term) -> &'static str
     match term {
         Term::Reason(reason) => reason_brief(reason),
         Term::Cause(cause) => cause_brief(cause),
-        Term::Failure(failure) => failure_brief(failure),
+        Term::Failure(failure) => row(failure).1,
     }
 }
 
@@ -462,7 +445,7 @@ fn meaning(term: Term) -> &'static str
     match term {
         Term::Reason(reason) => reason_meaning(reason),
         Term::Cause(cause) => cause_meaning(cause),
-        Term::Failure(failure) => failure_meaning(failure),
+        Term::Failure(failure) => row(failure).3,
     }
 }
 

@@ -1,47 +1,106 @@
 //! How the program ends: its exit status, and its line on standard error.
 
 ghost use Rattle.std.specs.Prelude.{◌≡◌, ◌≤◌, ◌↔◌, ◌⊎◌, ◌++◌, false, true, IsErr, IsTrue, OnOk};
-ghost use Rattle.std.specs.Prelude.{Some};
+ghost use Rattle.std.specs.Prelude.{IsErrOf, IsOk, Some};
 ghost use Rattle.std.specs.Io.KnownBytes.{Appends, Keeps};
 ghost use Rattle.ccw_core.specs.Written.{AppendsPrefix};
 ghost use Rattle.chan_run.specs.Naming.{name_in};
 ghost use Rattle.chan_run.specs.Report.{IsDone, IsEnd, IsWriteFailure, has_advice, is_on_input};
 ghost use Rattle.chan_run.specs.Report.{ending_of, line_of, line_over, number_of, program_of};
+ghost use Rattle.chan_run.specs.Report.{ran, shown, wrote};
 ghost use Rattle.chan_run.specs.Report.{status_of, text_of};
+ghost use Rattle.chan_run.specs.declared.failure.Failure.TheVariants as failures;
+ghost use Rattle.chan_run.specs.declared.reporting.Outcome.TheVariants.{Done, Failed};
 
-use crate::image::ImageError;
-use crate::meaning::{MeaningError, cause_word, term_word};
+use crate::failure::{Failure, row};
+use crate::meaning::{Term, cause_word, term_word};
 use crate::naming::named;
 use crate::running::{RunError, Status};
 use crate::showing::ShowError;
 use crate::texts::write_texts;
 use ccw_core::{DeviceFault, Watched};
 use chan_args::Action;
+use chan_deck::Cause;
+use chan_walk::Reason;
 use itoa::Buffer;
+use std::alloc::AllocError;
 use std::io::Write;
 
 /// How a run of the program ended. The texts of help, of the version, of a usage fault and on a
 /// program that no job will do for are written before.
 #[derive(Clone, Copy, PartialEq, Eq)]
 pub enum Outcome {
-    /// What `show` answered.
-    Shown(Result<(), ShowError>),
-    /// What `run` answered.
-    Ran(Result<Status, RunError>),
-    /// What became of the deck that an image makes.
-    Imaged(Result<(), ImageError>),
-    /// What `explain_word` answered.
-    Explained(Result<(), MeaningError>),
-    /// Help or the version was asked for.
-    HelpAsked,
+    /// All that was asked for was written.
+    Done,
+    /// All was written, and the verdict is no.
+    Denied,
     /// The command line is wrong.
-    UsageFault,
-    /// An allocation for the command line was refused.
-    NoMemoryForCommandLine,
-    /// Standard output couldn't be flushed.
-    FlushFailed,
-    /// The input couldn't be opened.
-    CannotOpen,
+    Usage,
+    /// The text isn't a deck.
+    Refused { line: u64, cause: Cause },
+    /// The least job was asked for, and this is the verdict on the open job.
+    NoJob { address: u32, reason: Reason },
+    /// The word has no meaning, and this one's word is the nearest.
+    Unknown(Term),
+    /// There is no answer, for this reason.
+    Failed(Failure),
+}
+
+impl Outcome {
+    /// What `show` came to.
+    pub fn of_show(answer: Result<(), ShowError>) -> Outcome
+        ensures is { result ≡ shown answer }
+        ensures write { IsWriteFailure result ↔ IsErrOf answer ShowError.Write }
+    {
+        match answer {
+            Ok(()) => Outcome::Done,
+            Err(ShowError::NotCcw) => Outcome::Failed(Failure::NotCcw),
+            Err(ShowError::Memory) => Outcome::Failed(Failure::OutOfMemory),
+            Err(ShowError::Write) => Outcome::Failed(Failure::WriteFailed),
+        }
+    }
+
+    /// What `run` came to.
+    pub fn of_run(answer: Result<Status, RunError>) -> Outcome
+        ensures is { result ≡ ran answer }
+        ensures read { result ≡ Failed failures.ReadFailed ↔ IsErrOf answer RunError.Read }
+        ensures write { IsWriteFailure result ↔ IsErrOf answer RunError.Write }
+    {
+        match answer {
+            Ok(Status::Yes) => Outcome::Done,
+            Ok(Status::No) => Outcome::Denied,
+            Err(RunError::Read) => Outcome::Failed(Failure::ReadFailed),
+            Err(RunError::TooLong) => Outcome::Failed(Failure::DeckTooLong),
+            Err(RunError::Deck { line, cause }) => Outcome::Refused { line, cause },
+            Err(RunError::TooManyPlaces) => Outcome::Failed(Failure::TooManyPlaces),
+            Err(RunError::Write) => Outcome::Failed(Failure::WriteFailed),
+            Err(RunError::Memory) => Outcome::Failed(Failure::OutOfMemory),
+        }
+    }
+
+    /// What a write of all that was asked for came to.
+    pub fn of_write(answer: Result<(), DeviceFault>) -> Outcome
+        ensures is { result ≡ wrote answer }
+        ensures done { result ≡ Done ↔ IsOk answer }
+        ensures write { IsWriteFailure result ↔ IsErr answer }
+    {
+        match answer {
+            Ok(()) => Outcome::Done,
+            Err(_) => Outcome::Failed(Failure::WriteFailed),
+        }
+    }
+}
+
+impl From<AllocError> for Outcome {
+    ghost use Rattle.std.specs.Prelude.{◌≡◌};
+    ghost use Rattle.chan_run.specs.declared.failure.Failure.TheVariants.{OutOfMemory};
+    ghost use Rattle.chan_run.specs.declared.reporting.Outcome.TheVariants.{Failed};
+
+    ghost from_gives = { λ _ end. end ≡ Failed OutOfMemory };
+
+    fn from(_error: AllocError) -> Outcome {
+        Outcome::Failed(Failure::OutOfMemory)
+    }
 }
 
 /// Writes the outcome's line, if it has one, and gives the exit status. It takes no memory. A
@@ -78,14 +137,7 @@ pub fn report_named<W: Write>(name: &str, outcome: Outcome, to: &mut Watched<W>)
 pub fn ends_run(outcome: Outcome) -> bool
     ensures { IsTrue result ↔ IsWriteFailure outcome }
 {
-    matches!(
-        outcome,
-        Outcome::Shown(Err(ShowError::Write))
-            | Outcome::Ran(Err(RunError::Write))
-            | Outcome::Imaged(Err(ImageError::Write))
-            | Outcome::Explained(Err(MeaningError::Write))
-            | Outcome::FlushFailed
-    )
+    matches!(outcome, Outcome::Failed(Failure::WriteFailed))
 }
 
 /// Whether advice follows the answer of an action: it does for the explanation of a yes, for a text
@@ -94,10 +146,9 @@ pub fn has_advice(action: Action, outcome: Outcome) -> bool
     ensures { result ≡ has_advice action outcome }
 {
     match (action, outcome) {
-        (Action::Why { .. }, Outcome::Ran(Ok(Status::Yes)))
-        | (
+        (
             Action::Why { .. },
-            Outcome::Ran(Err(RunError::Deck { .. } | RunError::TooManyPlaces)),
+            Outcome::Done | Outcome::Refused { .. } | Outcome::Failed(Failure::TooManyPlaces),
         ) => true,
         _ => false,
     }
@@ -105,8 +156,8 @@ pub fn has_advice(action: Action, outcome: Outcome) -> bool
 
 /// Ends a command that came to this outcome, and gives its final outcome. It takes no memory.
 ///
-/// If all was done, it flushes the output; the outcome is `FlushFailed` if the flush fails. Then it
-/// writes the line of the outcome, as `report` does or, for an input with a name, `report_named`.
+/// If all was done, it flushes the output; the outcome is a failed write if the flush fails. Then
+/// it writes the outcome's line, as `report` does or, for an input with a name, `report_named`.
 pub fn conclude<W: Write, E: Write>(
     name: Option<&str>,
     outcome: Outcome,
@@ -140,7 +191,7 @@ pub(crate) fn flushed<W: Write>(outcome: Outcome, to: &mut Watched<W>) -> Outcom
     ensures write { IsWriteFailure result ↔ (to.new.failed ≡ true) }
 {
     if is_done(outcome) && to.flush().is_err() {
-        return Outcome::FlushFailed;
+        return Outcome::Failed(Failure::WriteFailed);
     }
     outcome
 }
@@ -149,11 +200,7 @@ pub(crate) fn flushed<W: Write>(outcome: Outcome, to: &mut Watched<W>) -> Outcom
 fn is_done(outcome: Outcome) -> bool
     ensures { IsTrue result ↔ IsDone outcome }
 {
-    match outcome {
-        Outcome::Shown(Ok(())) | Outcome::Ran(Ok(_)) | Outcome::Imaged(Ok(())) => true,
-        Outcome::Explained(Ok(())) | Outcome::HelpAsked => true,
-        _ => false,
-    }
+    matches!(outcome, Outcome::Done | Outcome::Denied)
 }
 
 /// The exit status of a run over several inputs, from that of those before and that of one more:
@@ -170,16 +217,13 @@ pub fn exit_status(outcome: Outcome) -> u8
     ensures { result ≡ status_of outcome }
 {
     match outcome {
-        Outcome::Shown(Ok(())) | Outcome::Imaged(Ok(())) | Outcome::HelpAsked => 0,
-        Outcome::Ran(Ok(Status::Yes)) | Outcome::Explained(Ok(())) => 0,
-        Outcome::Ran(Ok(Status::No)) => 1,
-        Outcome::Ran(Err(RunError::TooLong | RunError::Deck { .. } | RunError::TooManyPlaces)) => 2,
-        Outcome::Imaged(Err(ImageError::TooLong | ImageError::TooManyPlaces)) => 2,
-        Outcome::Imaged(Err(ImageError::NoJob { .. })) => 1,
-        Outcome::Shown(Err(ShowError::NotCcw)) | Outcome::UsageFault => 4,
-        Outcome::Imaged(Err(ImageError::PastStorage)) => 4,
-        Outcome::Explained(Err(MeaningError::Unknown { .. })) => 4,
-        _ => 3,
+        Outcome::Done => 0,
+        Outcome::Denied => 1,
+        Outcome::Usage => 4,
+        Outcome::Refused { .. } => 2,
+        Outcome::NoJob { .. } => row(Failure::NoJobWillDo).4,
+        Outcome::Unknown(_) => row(Failure::NoSuchWord).4,
+        Outcome::Failed(failure) => row(failure).4,
     }
 }
 
@@ -221,7 +265,7 @@ fn number_text(outcome: Outcome, buffer: &mut Buffer) -> &str
     ensures { result.now ≡ number_of outcome }
 {
     match outcome {
-        Outcome::Ran(Err(RunError::Deck { line, .. })) => buffer.format(line),
+        Outcome::Refused { line, .. } => buffer.format(line),
         _ => "",
     }
 }
@@ -232,14 +276,8 @@ fn ending<'a>(outcome: Outcome) -> (&'a str, &'a str, &'a str)
     ensures { result.0.now ++ (result.1.now ++ result.2.now) ≡ ending_of outcome }
 {
     match outcome {
-        Outcome::Ran(Err(RunError::Deck { cause, .. })) => (": ", cause_word(cause), "\n"),
-        Outcome::Explained(
-            Err(
-                MeaningError::Unknown {
-                    nearest: Some(term),
-                },
-            ),
-        ) => ("", term_word(term), "\n"),
+        Outcome::Refused { cause, .. } => (": ", cause_word(cause), "\n"),
+        Outcome::Unknown(term) => ("", term_word(term), "\n"),
         _ => ("", "", ""),
     }
 }
@@ -249,10 +287,8 @@ fn program<'a>(outcome: Outcome) -> &'a str
     ensures { result.now ≡ program_of outcome }
 {
     match outcome {
-        Outcome::Shown(Ok(())) | Outcome::Ran(Ok(_)) | Outcome::Imaged(Ok(())) => "",
-        Outcome::Explained(Ok(())) | Outcome::HelpAsked | Outcome::UsageFault => "",
-        Outcome::Imaged(Err(ImageError::NoJob { .. })) => "",
-        _ => "chanv: ",
+        Outcome::Refused { .. } | Outcome::Unknown(_) | Outcome::Failed(_) => "chanv: ",
+        _ => "",
     }
 }
 
@@ -261,45 +297,20 @@ fn is_on_input(outcome: Outcome) -> bool
     ensures { result ≡ is_on_input outcome }
 {
     match outcome {
-        Outcome::Ran(Err(RunError::Write)) => false,
-        Outcome::Imaged(Err(ImageError::Write | ImageError::NoJob { .. })) => false,
-        Outcome::Ran(Err(_)) | Outcome::Imaged(Err(_)) | Outcome::CannotOpen => true,
+        Outcome::Refused { .. } => true,
+        Outcome::Failed(failure) => row(failure).5,
         _ => false,
     }
 }
 
-/// What the line of an outcome says, or as much of it as comes before the number of a deck's line.
+/// What the line of an outcome says, or as much of it as comes before what it names.
 fn text<'a>(outcome: Outcome) -> &'a str
     ensures { result.now ≡ text_of outcome }
 {
     match outcome {
-        Outcome::Shown(Ok(())) | Outcome::Ran(Ok(_)) | Outcome::Imaged(Ok(())) => "",
-        Outcome::Explained(Ok(())) | Outcome::HelpAsked | Outcome::UsageFault => "",
-        Outcome::Imaged(Err(ImageError::NoJob { .. })) => "",
-        Outcome::Shown(Err(ShowError::NotCcw)) => "not a CCW\n",
-        Outcome::Explained(Err(MeaningError::Unknown { nearest: None })) => "no such word\n",
-        Outcome::Explained(Err(MeaningError::Unknown { nearest: Some(_) })) => {
-            "no such word; the nearest is "
-        }
-        Outcome::Ran(Err(RunError::Read)) | Outcome::Imaged(Err(ImageError::Read)) => {
-            "read failed\n"
-        }
-        Outcome::Ran(Err(RunError::TooLong)) => "deck too long\n",
-        Outcome::Imaged(Err(ImageError::TooLong)) => "image too long\n",
-        Outcome::Imaged(Err(ImageError::PastStorage)) => "image past storage\n",
-        Outcome::Ran(Err(RunError::Deck { .. })) => "deck line ",
-        Outcome::Ran(Err(RunError::TooManyPlaces))
-        | Outcome::Imaged(Err(ImageError::TooManyPlaces)) => "too many places\n",
-        Outcome::Shown(Err(ShowError::Memory))
-        | Outcome::Ran(Err(RunError::Memory))
-        | Outcome::Imaged(Err(ImageError::Memory))
-        | Outcome::Explained(Err(MeaningError::Memory))
-        | Outcome::NoMemoryForCommandLine => "out of memory\n",
-        Outcome::Shown(Err(ShowError::Write))
-        | Outcome::Ran(Err(RunError::Write))
-        | Outcome::Imaged(Err(ImageError::Write))
-        | Outcome::Explained(Err(MeaningError::Write))
-        | Outcome::FlushFailed => "write failed\n",
-        Outcome::CannotOpen => "cannot open\n",
+        Outcome::Refused { .. } => "deck line ",
+        Outcome::Unknown(_) => "no such word; the nearest is ",
+        Outcome::Failed(failure) => row(failure).2,
+        _ => "",
     }
 }

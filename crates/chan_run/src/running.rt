@@ -17,7 +17,8 @@ ghost use Rattle.chan_run.specs.Run.{IsTextAnswer, front_of, status_of_verdict};
 ghost use Rattle.chan_args.specs.declared.action.Action.TheVariants as actions;
 
 use crate::advising::{limit_text, notes_on};
-use crate::input::{InputError, TEXT_LIMIT, read_input};
+use crate::failure::Failure;
+use crate::input::{TEXT_LIMIT, read_input};
 use ccw_core::{Storage, Watched, write_out};
 use chan_args::Action;
 use chan_deck::{
@@ -146,10 +147,10 @@ pub(crate) fn read_text<R: Read>(alloc: Global, from: &mut Watched<R>) -> Result
     ensures read { IsErrOf result RunError.Read ↔ (from.new.failed ≡ true) }
 {
     match read_input(alloc, TEXT_LIMIT, from) {
-        Ok(text) => Ok(text),
-        Err(InputError::Read) => Err(RunError::Read),
-        Err(InputError::TooLong) => Err(RunError::TooLong),
-        Err(InputError::Memory) => Err(RunError::Memory),
+        Ok(Some(text)) => Ok(text),
+        Ok(None) => Err(RunError::TooLong),
+        Err(Failure::ReadFailed) => Err(RunError::Read),
+        Err(_) => Err(RunError::Memory),
     }
 }
 
@@ -340,7 +341,12 @@ fn write_why<W: Write>(
 
 /// The explanation of the verdict on a job that was surveyed, with the causes of all offences, if
 /// they are asked for.
-pub(crate) fn why_text(alloc: Global, all: bool, job: &Job, survey: &Survey) -> Result<String, AllocError>
+pub(crate) fn why_text(
+    alloc: Global,
+    all: bool,
+    job: &Job,
+    survey: &Survey,
+) -> Result<String, AllocError>
     requires { IsSurvey job.now survey.now }
     ensures { IfOk result (λ text. IsExplained all job.now
         (first_verdict survey.now.offences.items) (string_bytes text)) }

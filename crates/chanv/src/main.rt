@@ -15,7 +15,7 @@ ghost use Rattle.chan_run.specs.Report.{IsWriteFailure};
 use ccw_core::{Watched, write_out};
 use chan_args::{Action, ImageRequest, Request, read_request};
 use chan_run::{
-    ImageOptions, OptionError, Outcome, RunError, answer, answer_image, conclude, ends_run,
+    Failure, ImageOptions, OptionError, Outcome, answer, answer_image, conclude, ends_run,
     exit_status, explain_word, find_programs, greater_status, list_words, note_usual_device,
     options_of, report, report_grants, report_named, report_option, show, shown_word, word_of,
 };
@@ -50,7 +50,7 @@ impl Read for Input {
 fn main(rt: HostRuntime) -> ExitCode {
     ExitCode::from(match read_words(&rt) {
         Ok(words) => answered(&rt, words.as_slice()),
-        Err(AllocError) => reported(&rt, None, Outcome::NoMemoryForCommandLine),
+        Err(AllocError) => reported(&rt, None, Outcome::Failed(Failure::OutOfMemory)),
     })
 }
 
@@ -98,13 +98,13 @@ fn answered(rt: &HostRuntime, words: &[String]) -> u8 {
         Request::Words => listed(rt),
         Request::Help(text) | Request::Version(text) => match text.to_string(rt.alloc()) {
             Ok(text) => printed(rt, text.as_str()),
-            Err(AllocError) => reported(rt, None, Outcome::NoMemoryForCommandLine),
+            Err(AllocError) => reported(rt, None, Outcome::Failed(Failure::OutOfMemory)),
         },
         Request::Fault(text) => match text.to_string(rt.alloc()) {
             Ok(text) => warned(rt, text.as_str()),
-            Err(AllocError) => reported(rt, None, Outcome::NoMemoryForCommandLine),
+            Err(AllocError) => reported(rt, None, Outcome::Failed(Failure::OutOfMemory)),
         },
-        Request::NoMemory => reported(rt, None, Outcome::NoMemoryForCommandLine),
+        Request::NoMemory => reported(rt, None, Outcome::Failed(Failure::OutOfMemory)),
     }
 }
 
@@ -127,36 +127,33 @@ fn ended(rt: &HostRuntime, name: Option<&str>, outcome: Outcome, output: &mut Wa
 /// Writes help or the version, and gives the exit status.
 fn printed(rt: &HostRuntime, text: &str) -> u8 {
     let mut output = Watched::new(rt.stdout());
-    let outcome = match write_out(text.as_bytes(), &mut output) {
-        Ok(()) => Outcome::HelpAsked,
-        Err(_) => Outcome::FlushFailed,
-    };
-    ended(rt, None, outcome, &mut output)
+    let answer = write_out(text.as_bytes(), &mut output);
+    ended(rt, None, Outcome::of_write(answer), &mut output)
 }
 
 /// Writes what is wrong with the command line, and gives the exit status.
 fn warned(rt: &HostRuntime, text: &str) -> u8 {
     let mut errors = Watched::new(rt.stderr());
     let _ = write_out(text.as_bytes(), &mut errors);
-    exit_status(Outcome::UsageFault)
+    exit_status(Outcome::Usage)
 }
 
 fn shown(rt: &HostRuntime, text: &str) -> u8 {
     let mut output = Watched::new(rt.stdout());
     let answer = show(rt.alloc(), text, &mut output);
-    ended(rt, None, Outcome::Shown(answer), &mut output)
+    ended(rt, None, Outcome::of_show(answer), &mut output)
 }
 
 fn explained(rt: &HostRuntime, word: &str) -> u8 {
     let mut output = Watched::new(rt.stdout());
     let answer = explain_word(rt.alloc(), word, &mut output);
-    ended(rt, None, Outcome::Explained(answer), &mut output)
+    ended(rt, None, answer, &mut output)
 }
 
 fn listed(rt: &HostRuntime) -> u8 {
     let mut output = Watched::new(rt.stdout());
     let answer = list_words(&mut output);
-    ended(rt, None, Outcome::Explained(answer), &mut output)
+    ended(rt, None, answer, &mut output)
 }
 
 /// Runs over each input in turn, up to a failed write, and gives the greatest status.
@@ -189,12 +186,12 @@ fn opened(rt: &HostRuntime, action: Action, name: &str) -> Outcome {
 /// Opens the file whose name is shown so. One whose name isn't UTF-8 can't be opened.
 fn open(rt: &HostRuntime, name: &str) -> Result<File, Outcome> {
     let Ok(word) = word_of(rt.alloc(), name) else {
-        return Err(Outcome::Ran(Err(RunError::Memory)));
+        return Err(Outcome::Failed(Failure::OutOfMemory));
     };
     let Ok(path) = String::from_utf8(word) else {
-        return Err(Outcome::CannotOpen);
+        return Err(Outcome::Failed(Failure::CannotOpen));
     };
-    File::open(rt, path.as_str()).map_err(|_| Outcome::CannotOpen)
+    File::open(rt, path.as_str()).map_err(|_| Outcome::Failed(Failure::CannotOpen))
 }
 
 /// Runs over an input that may have a name.
@@ -219,7 +216,11 @@ fn imaged(rt: &HostRuntime, request: &ImageRequest<'_>, finds: bool) -> u8 {
         Err(OptionError::Wrong(fault)) => {
             return report_option(fault, &mut Watched::new(rt.stderr()));
         }
-        Err(OptionError::Memory) => return reported(rt, None, Outcome::NoMemoryForCommandLine),
+        Err(OptionError::Memory) => return reported(
+            rt,
+            None,
+            Outcome::Failed(Failure::OutOfMemory),
+        ),
     };
     if request.is_usual_device {
         note_usual_device(&mut Watched::new(rt.stderr()));
@@ -252,7 +253,7 @@ fn found(rt: &HostRuntime, name: Option<&str>, options: &ImageOptions, input: In
     let mut input = Watched::new(input);
     let mut output = Watched::new(rt.stdout());
     let answer = find_programs(rt.alloc(), options, &mut input, &mut output);
-    ended(rt, name, Outcome::Imaged(answer), &mut output)
+    ended(rt, name, answer, &mut output)
 }
 
 /// Makes a deck of an image that may have a name, and gives the exit status.

@@ -1,5 +1,5 @@
 -- What the number of an answer about a start tells, and who is fit beside those in flight.
-use Rattle.std.proofs.Common.{◌≡◌, List, [], ap, arith, map, refl, subst, sym}
+use Rattle.std.proofs.Common.{◌≡◌, List, [], arith, map, refl, subst, sym}
 use Rattle.std.specs.List.{All}
 use Rattle.std.proofs.lemmas.List.Elements.{All-map}
 use Rattle.chan_walk.specs.declared.job.Job.{Job}

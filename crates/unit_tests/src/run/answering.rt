@@ -6,7 +6,7 @@ use crate::run::devices::Broken;
 use crate::shared::{Paper, expect, paper_of};
 use ccw_core::Watched;
 use chan_args::Action;
-use chan_run::{Outcome, RunError, Status, answer, conclude, ends_run};
+use chan_run::{Failure, Outcome, answer, conclude, ends_run};
 use std::alloc::Global;
 
 /// A No Operation, with areas that it doesn't use.
@@ -44,7 +44,7 @@ const USUAL: Case<'static> = Case {
     name: None,
     failing: usize::MAX,
     flushes: true,
-    outcome: Outcome::Ran(Ok(Status::Yes)),
+    outcome: Outcome::Done,
     written: b"yes\n",
     told: b"",
     is_cut_off: false,
@@ -74,7 +74,7 @@ fn is_answered(alloc: Global, case: &Case) -> bool {
 fn a_flush_that_fails(rt: HostRuntime) {
     let case = Case {
         flushes: false,
-        outcome: Outcome::FlushFailed,
+        outcome: Outcome::Failed(Failure::WriteFailed),
         told: b"chanv: write failed\n",
         ..USUAL
     };
@@ -85,7 +85,7 @@ fn a_flush_that_fails(rt: HostRuntime) {
 fn a_write_that_fails(rt: HostRuntime) {
     let case = Case {
         name: Some("a.deck"),
-        outcome: Outcome::Ran(Err(RunError::Write)),
+        outcome: Outcome::Failed(Failure::WriteFailed),
         written: b"a",
         told: b"chanv: write failed\n",
         ..USUAL
@@ -98,7 +98,7 @@ fn a_read_that_fails(rt: HostRuntime) {
     let case = Case {
         name: Some("a.deck"),
         failing: 20,
-        outcome: Outcome::Ran(Err(RunError::Read)),
+        outcome: Outcome::Failed(Failure::ReadFailed),
         written: &[],
         told: b"chanv: a.deck: read failed\n",
         ..USUAL
@@ -121,34 +121,19 @@ fn each_write_of_the_notes_failing_in_turn(rt: HostRuntime) {
 /// What a command came to, and with which outcome and line it ends where the flush fails.
 static ENDS: &[(Outcome, Outcome, &str)] = &[
     (
-        Outcome::Shown(Ok(())),
-        Outcome::FlushFailed,
+        Outcome::Done,
+        Outcome::Failed(Failure::WriteFailed),
         "chanv: write failed\n",
     ),
     (
-        Outcome::Imaged(Ok(())),
-        Outcome::FlushFailed,
+        Outcome::Denied,
+        Outcome::Failed(Failure::WriteFailed),
         "chanv: write failed\n",
     ),
+    (Outcome::Usage, Outcome::Usage, ""),
     (
-        Outcome::Explained(Ok(())),
-        Outcome::FlushFailed,
-        "chanv: write failed\n",
-    ),
-    (
-        Outcome::HelpAsked,
-        Outcome::FlushFailed,
-        "chanv: write failed\n",
-    ),
-    (
-        Outcome::Ran(Ok(Status::No)),
-        Outcome::FlushFailed,
-        "chanv: write failed\n",
-    ),
-    (Outcome::UsageFault, Outcome::UsageFault, ""),
-    (
-        Outcome::CannotOpen,
-        Outcome::CannotOpen,
+        Outcome::Failed(Failure::CannotOpen),
+        Outcome::Failed(Failure::CannotOpen),
         "chanv: a.deck: cannot open\n",
     ),
 ];

@@ -6,7 +6,7 @@ use crate::run::devices::Broken;
 use crate::shared::{expect, paper_of};
 use ccw_core::Watched;
 use chan_args::ImageWords;
-use chan_run::{ImageError, ImageOptions, Outcome, answer_image, options_of};
+use chan_run::{Failure, ImageOptions, Outcome, answer_image, options_of};
 use std::alloc::{AllocError, Global};
 
 /// A No Operation, after two bytes of the image.
@@ -50,10 +50,10 @@ fn words(alloc: Global, is_least: bool) -> Result<ImageWords<'static>, AllocErro
     })
 }
 
-/// What comes of an image: the answer, what is written, and what is said.
+/// What comes of an image: the outcome, what is written, and what is said.
 #[derive(Clone, Copy)]
 struct Made<'a> {
-    answer: Result<(), ImageError>,
+    outcome: Outcome,
     text: &'a [u8],
     said: &'a [u8],
 }
@@ -87,13 +87,13 @@ fn is_answered(alloc: Global, options: &ImageOptions, failing: usize, made: &Mad
         &mut errors,
     );
     let all_came = to.into_inner().left.is_empty() && errors.into_inner().left.is_empty();
-    found == Outcome::Imaged(made.answer) && all_came
+    found == made.outcome && all_came
 }
 
 #[test]
 fn each_read_of_an_image_failing_in_turn(rt: HostRuntime) {
     let refused = Made {
-        answer: Err(ImageError::Read),
+        outcome: Outcome::Failed(Failure::ReadFailed),
         text: &[],
         said: b"chanv: a.bin: read failed\n",
     };
@@ -107,14 +107,14 @@ fn each_write_of_a_deck_failing_in_turn(rt: HostRuntime) {
     let deck = DECK.as_bytes();
     for room in 0..deck.len() {
         let front = Made {
-            answer: Err(ImageError::Write),
+            outcome: Outcome::Failed(Failure::WriteFailed),
             text: &deck[..room],
             said: b"chanv: write failed\n",
         };
         expect(&rt, is_made(rt.alloc(), false, usize::MAX, &front), "write");
     }
     let whole = Made {
-        answer: Ok(()),
+        outcome: Outcome::Done,
         text: deck,
         said: &[],
     };
@@ -125,7 +125,7 @@ fn each_write_of_a_deck_failing_in_turn(rt: HostRuntime) {
 #[test]
 fn the_least_job_beside_another(rt: HostRuntime) {
     let least = Made {
-        answer: Ok(()),
+        outcome: Outcome::Done,
         text: LEAST.as_bytes(),
         said: &[],
     };

@@ -6,40 +6,37 @@ use crate::shared::{expect, paper_of};
 use ccw_core::Watched;
 use chan_args::Action;
 use chan_deck::Cause;
-use chan_run::{
-    ImageError, Outcome, RunError, ShowError, Status, exit_status, greater_status, has_advice,
-    report, report_named,
-};
+use chan_run::{Failure, Outcome, exit_status, greater_status, has_advice, report, report_named};
 
 /// An outcome, its status, its line, and its line over an input named `a.deck`.
 type Row = (Outcome, u8, &'static str, &'static str);
 
 static REPORTS: [Row; 6] = [
-    (Outcome::HelpAsked, 0, "", ""),
-    (Outcome::Ran(Ok(Status::No)), 1, "", ""),
+    (Outcome::Done, 0, "", ""),
+    (Outcome::Denied, 1, "", ""),
     (
-        Outcome::Ran(Err(RunError::Deck {
+        Outcome::Refused {
             line: u64::MAX,
             cause: Cause::PutZero,
-        })),
+        },
         2,
         "chanv: deck line 18446744073709551615: put-zero\n",
         "chanv: a.deck: deck line 18446744073709551615: put-zero\n",
     ),
     (
-        Outcome::Imaged(Err(ImageError::Read)),
+        Outcome::Failed(Failure::ReadFailed),
         3,
         "chanv: read failed\n",
         "chanv: a.deck: read failed\n",
     ),
     (
-        Outcome::Ran(Err(RunError::Write)),
+        Outcome::Failed(Failure::WriteFailed),
         3,
         "chanv: write failed\n",
         "chanv: write failed\n",
     ),
     (
-        Outcome::Shown(Err(ShowError::NotCcw)),
+        Outcome::Failed(Failure::NotCcw),
         4,
         "chanv: not a CCW\n",
         "chanv: not a CCW\n",
@@ -91,7 +88,7 @@ fn greatest_of_statuses(rt: HostRuntime) {
 
 #[test]
 fn outcomes_with_advice(rt: HostRuntime) {
-    let refused = Outcome::Ran(Err(RunError::TooManyPlaces));
+    let refused = Outcome::Failed(Failure::TooManyPlaces);
     let advised = has_advice(Action::Why { all: false }, refused);
     expect(&rt, advised, "too many places");
     expect(&rt, !has_advice(Action::Graph, refused), "a picture");

@@ -8,5 +8,5 @@ returns-clause-answer g c =
     let image = c.args.image.now in
     deck_answered o image (deck_of o image) _ _ c.write_right.result (said_asked o image c.requires.said)
     (rw (c.deref.ensures.value, c.deref-2.ensures.value) at c.write_right.ensures.deck)
-    (rw (c.deref.ensures.value, c.deref-2.ensures.value) at c.write_right.ensures.ok)
-    (rw (c.deref.ensures.value, c.deref-2.ensures.value) at c.write_right.ensures.prefix) c.write_right.ensures.err
+    (rw (c.deref.ensures.value, c.deref-2.ensures.value) at c.write_right.ensures.done)
+    (rw (c.deref.ensures.value, c.deref-2.ensures.value) at c.write_right.ensures.prefix) c.write_right.ensures.known

@@ -9,30 +9,30 @@ use Rattle.chan_run.proofs.least.write_least.Goals as goal
 
 pub extents_over-requires : goal.extents_over-requires
 extents_over-requires g c =
-    let n = listed c.in_ok-needs.needs in
-    let some = c.in_ok-needs.ensures.some in
-    rw c.deref.ensures.value (needs_extents some.0 n (c.in_ok-needs.ensures.ok some.0 some.1))
+    let n = listed c.in-Ok.needs in
+    let some = c.in-Ok.ensures.some in
+    rw c.deref.ensures.value (needs_extents some.0 n (c.in-Ok.ensures.ok some.0 some.1))
 
 pub write_right-requires-clause-addresses : goal.write_right-requires-clause-addresses
 write_right-requires-clause-addresses g c =
     let o = c.args.options.now in
-    let n = listed c.in_ok-needs.needs in
-    let j = c.in_ok-needs.ensures.some.0 in
-    let there = c.in_ok-needs.ensures.some.1 in
-    let needs = c.in_ok-needs.ensures.ok j there in
+    let n = listed c.in-Ok.needs in
+    let j = c.in-Ok.ensures.some.0 in
+    let there = c.in-Ok.ensures.some.1 in
+    let needs = c.in-Ok.ensures.ok j there in
     let short = storage_fits o.at c.args.image.now _ there.storage c.requires.short in
-    let fetch : c.deref-4.result.now ≡ in_six_digits n.fetch = c.deref-4.ensures.value ∙ c.in_ok-fetch.ensures ∙ ap in_six_digits c.deref-2.ensures.value in
-    let store : c.deref-5.result.now ≡ in_six_digits n.store = c.deref-5.ensures.value ∙ c.in_ok-store.ensures ∙ ap in_six_digits c.deref-3.ensures.value in
+    let fetch : c.deref-4.result.now ≡ in_six_digits n.fetch = c.deref-4.ensures.value ∙ c.in-Ok-in_six_digits.ensures ∙ ap in_six_digits c.deref-2.ensures.value in
+    let store : c.deref-5.result.now ≡ in_six_digits n.store = c.deref-5.ensures.value ∙ c.in-Ok-in_six_digits-2.ensures ∙ ap in_six_digits c.deref-3.ensures.value in
     (o.start_is_address, rw fetch (six_are_areas n.fetch (fetch_fits j n needs short)), rw store (six_are_areas n.store (store_fits j n needs short)))
 
 pub returns-clause-answer : goal.returns-clause-answer
 returns-clause-answer g c =
     let o = c.args.options.now in
     let image = c.args.image.now in
-    let n = listed c.in_ok-needs.needs in
-    let extents = c.in_ok-extents.ensures.ok ∙ ap extents_for c.deref.ensures.value in
-    let fetch : c.deref-4.result.now ≡ in_six_digits n.fetch = c.deref-4.ensures.value ∙ c.in_ok-fetch.ensures ∙ ap in_six_digits c.deref-2.ensures.value in
-    let store : c.deref-5.result.now ≡ in_six_digits n.store = c.deref-5.ensures.value ∙ c.in_ok-store.ensures ∙ ap in_six_digits c.deref-3.ensures.value in
+    let n = listed c.in-Ok.needs in
+    let extents = c.in-Ok-extents_over.ensures ∙ ap extents_for c.deref.ensures.value in
+    let fetch : c.deref-4.result.now ≡ in_six_digits n.fetch = c.deref-4.ensures.value ∙ c.in-Ok-in_six_digits.ensures ∙ ap in_six_digits c.deref-2.ensures.value in
+    let store : c.deref-5.result.now ≡ in_six_digits n.store = c.deref-5.ensures.value ∙ c.in-Ok-in_six_digits-2.ensures ∙ ap in_six_digits c.deref-3.ensures.value in
     let is = is_least_deck o image n _ _ _ extents fetch store in
-    deck_answered o image _ _ _ c.write_right.result (least_asked o image n _ c.requires.least c.requires.short c.in_ok-needs.ensures.ok is)
-    c.write_right.ensures.deck c.write_right.ensures.ok c.write_right.ensures.prefix c.write_right.ensures.err
+    deck_answered o image _ _ _ c.write_right.result (least_asked o image n _ c.requires.least c.requires.short c.in-Ok.ensures.ok is)
+    c.write_right.ensures.deck c.write_right.ensures.done c.write_right.ensures.prefix c.write_right.ensures.known

@@ -15,5 +15,5 @@ returns c =
         holds = holds;
       },
       c.in_ok-format.ensures.ok ∙ ap (λ t. codes "chanv: " ++ t)
-        (sym (append_assoc c.named.result.0.now c.named.result.1.now rest) ∙ ap (λ t. t ++ rest) c.named.ensures),
+          (sym (append_assoc c.named.result.0.now c.named.result.1.now rest) ∙ ap (λ t. t ++ rest) c.named.ensures),
     )

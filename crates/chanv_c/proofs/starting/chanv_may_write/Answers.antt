@@ -1,4 +1,3 @@
-use Rattle.std.specs.List.{All}
 use Rattle.std.proofs.lemmas.List.Elements.{All-map}
 use Rattle.chan_walk.specs.Remembered.{KeepsNone}
 use Rattle.chan_walk.proofs.Machine.Remembering.{writes_well}
