@@ -60,8 +60,8 @@ as_in_flight p = record {
   kept = p.kept;
 }
 
--- and the same if the device and the mask may be none: then q has another device than the job, and
--- another mask
+-- the same for any device and mask: q has another device than the job if there is no such device,
+-- and a valid mask if the mask is invalid
 pub record StandsFor (j : Job) (p : CProgram) (q : Remembered) : Type 0 where
   pub start : q.start ≡ p.start
   pub device :
@@ -84,14 +84,14 @@ pub record MayStartUnder (j : Job) (p : CProgram) (fs : List CProgram) : Type 0 
   pub fit : IsFit j remembered []
   pub apart : All (AreApart p) fs
 
--- why a program is refused whose mask is none: for that, or for what is looked at before it
+-- why a program with an invalid mask is refused: for the mask, or for what comes before it
 abbrev pub IsRefusedUnmasked : Job → Remembered → core.Refusal → Type 0
 IsRefusedUnmasked j q r =
     IsOfAnother j q r
     ⊎ (IsOfProgram j q × HasChanged j q r)
     ⊎ (IsOfProgram j q × HoldsKept j q × (r ≡ why.Mask))
 
--- the answer if the mask is none, from the answer under any mask
+-- the answer if the mask is invalid, from the answer under a valid one
 abbrev pub unmasked : Start → Start
 unmasked (answer.No why.OtherStart) = answer.No why.OtherStart
 unmasked (answer.No why.OtherDevice) = answer.No why.OtherDevice
@@ -195,7 +195,7 @@ keeper_told i b = record { extent = 0; program = i; code = 11; value = b }
 
 -- ---- the kept bytes
 
--- the bytes of storage in the areas stand first, so many; what stood behind them stands there still
+-- the buffer begins with the bytes of storage in the areas, so many; the rest is as it was
 pub record AreCopied (s : List ℕ) (areas : List Area) (count : ℕ) (old new : List ℕ) : Type 0 where
   pub inside : All (IsInside s) areas
   pub count_is : count ≡ length (bytes_in s areas)

@@ -35,7 +35,7 @@ pub struct CRows<'a> {
     pub mask: u8,
 }
 
-/// `struct chanv_program`. With zeros alone it is no program, and in nobody's way.
+/// `struct chanv_program`. With zeros alone it is no program, and in no other program's way.
 #[repr(C)]
 #[derive(Clone, Copy)]
 pub struct CProgram<'a> {
@@ -59,8 +59,8 @@ pub struct CRefusal {
 /// may; 1 if not, with the first refusal in `out`. Otherwise it says why there is no answer, like
 /// `chanv_verify`, with the extent that is wrong if one is.
 ///
-/// A device that there isn't is another device, and a mask that is none is refused as the mask. A
-/// zeroed program may not start, and one in flight is in nobody's way.
+/// An unknown device counts as another device, and an invalid mask is refused as the mask. A zeroed
+/// program may not start, and in flight it is in no other program's way.
 #[unsafe(no_mangle)]
 pub extern "C" fn chanv_may_start(
     alloc: Global,
@@ -132,7 +132,7 @@ pub extern "C" fn chanv_may_write(
     }
 }
 
-/// What is told where there is no refusal.
+/// What is told if there is no refusal.
 fn nothing(extent: usize) -> CRefusal
     ensures { result ≡ nothing_told extent }
 {
@@ -280,7 +280,7 @@ fn start_with(
     may_start(alloc, job, &remembered, &[])
 }
 
-/// The answer if the mask is none: what is looked at before it may be wrong first.
+/// The answer if the mask is invalid: what comes before the mask may be wrong first.
 fn unmasked(start: Start) -> Start
     ensures { result ≡ unmasked start }
 {
