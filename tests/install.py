@@ -8,12 +8,13 @@ asks pkg-config is left out, by its name, where there is none.
 
 import re
 import shutil
+import sys
 import tempfile
 from pathlib import Path
 
 from building import FLAGS, ROOT, compile_c, version_of
 from examples import EXAMPLES
-from running import run, text_of
+from running import Ran, run, text_of
 
 PROGRAM = "crates/chanv/out/chanv"
 
@@ -72,6 +73,9 @@ def check(checks, built):
             checks.expect("one version", version, f"chanv {said[0]}\n")
             check_example(checks, to, shown)
         check_names(checks, to)
+        python = ["env", f"PYTHONPATH={to / 'share/chanv/python'}", sys.executable, "-B", "-c"]
+        ran = run(*python, "import chanv; print(chanv.verify(chanv.Job(bytes(8), 0, [(0, 1)])))")
+        checks.expect("the Python module, installed", Ran(0, "no 000000 invalid-code\n"), ran)
         page = to / "share/doc/chanv/docs/DECK.md"
         checks.expect_that("the pages that help cites", page.is_file(), "not there")
         make("install", "/usr", f"DESTDIR={folder / 'stage'}")

@@ -1,0 +1,170 @@
+"""May a program start, and may others write: the library over random rows, and a second reading.
+
+The reading is from docs/EMBEDDING.md and the header: what is compared, in which order, and which
+byte or cylinder is named. Rows come from anywhere: they overlap, aren't sorted, are empty or lie
+past storage; kept bytes are missing; masks and devices are invalid.
+"""
+
+import importlib
+import os
+import random
+import sys
+
+from building import ROOT
+from expecting import CannotRun
+
+CASES, SEED = 4000, 1964
+# both parts of a file mask, from the laxest bits to the strictest
+WRITES, SEEKS = (0xC0, 0x00, 0x80, 0x40), (0x00, 0x08, 0x10, 0x18)
+MASKS = [writes | seeks for writes in WRITES for seeks in SEEKS]
+SIZE = 48
+
+
+def strictness(mask):
+    return WRITES.index(mask & 0xC0), SEEKS.index(mask & 0x18)
+
+
+def bytes_of(areas):
+    return {byte for start, length in areas for byte in range(start, start + length)}
+
+
+def cylinders_of(runs):
+    return {number for first, last in runs for number in range(first, last + 1)}
+
+
+def changed_byte(storage, program):
+    addresses = [byte for start, length in program.keep for byte in range(start, start + length)]
+    for number, byte in enumerate(addresses):
+        is_there = byte < len(storage) and number < len(program.kept)
+        if not is_there or storage[byte] != program.kept[number]:
+            return byte
+    return None
+
+
+def least(found):
+    return min(found, default=None)
+
+
+def lacking(listed, lent, size):
+    return least(byte for byte in bytes_of(listed) if byte not in bytes_of(lent) or byte >= size)
+
+
+def refusal_of(job, program, in_flight):
+    """The first refusal with its value and the number of a program, or None."""
+    size = len(job.storage)
+    if job.start != program.start:
+        return "other-start", 0, 0
+    if job.device != program.device:
+        return "other-device", 0, 0
+    if size != program.storage_len:
+        return "other-length", 0, 0
+    byte = changed_byte(job.storage, program)
+    if byte is not None:
+        return "changed", byte, 0
+    is_mask = program.mask in MASKS
+    needed = strictness(program.mask) if is_mask else (-1, -1)
+    if any(one < other for one, other in zip(needed, strictness(job.mask))):
+        return "mask", 0, 0
+    number = least(cylinders_of(program.extents) - cylinders_of(job.extents))
+    if number is not None:
+        return "no-cylinder", number, 0
+    for word, listed, lent in [
+        ("not-fetchable", program.fetch, job.fetch),
+        ("not-storable", program.store, job.store),
+    ]:
+        byte = lacking(listed, lent, size)
+        if byte is not None:
+            return word, byte, 0
+    return conflict_of(program, in_flight)
+
+
+def conflict_of(program, in_flight):
+    for number, other in enumerate(in_flight):
+        if other is None:
+            continue
+        for word, store, keep in [
+            ("stores", program.store, other.keep),
+            ("keeps", other.store, program.keep),
+        ]:
+            byte = least(bytes_of(store) & bytes_of(keep))
+            if byte is not None:
+                return word, byte, number
+    return None
+
+
+def keeper_of(area, in_flight):
+    for number, other in enumerate(in_flight):
+        byte = least(bytes_of([area]) & bytes_of(other.keep)) if other else None
+        if byte is not None:
+            return "kept", byte, number
+    return None
+
+
+class Dice(random.Random):
+    """What is thrown agrees mostly, so that each refusal has its share."""
+
+    def area(self, most=12):
+        return self.randrange(SIZE - 4), self.choice([0, 1, 2, self.randrange(most)])
+
+    def areas(self, most=4):
+        return [self.area() for _ in range(self.randrange(most))]
+
+    def is_rare(self):
+        return self.randrange(12) == 0
+
+    def job(self, chanv):
+        return chanv.Job(
+            storage=bytes(self.randrange(3) for _ in range(SIZE)),
+            start=8,
+            extents=[(0, 202)] if self.randrange(3) else [(10, 19), (18, 30)],
+            fetch=[(0, SIZE)] if self.randrange(3) else self.areas(6),
+            store=[(0, SIZE)] if self.randrange(3) else self.areas(6),
+            device=2314,
+            mask=self.choice([0xC0, 0xC0, *MASKS]),
+        )
+
+    def program(self, chanv, job):
+        keep = self.areas()
+        addresses = [byte for area in keep for byte in range(area[0], sum(area))]
+        kept = bytes(job.storage[byte] for byte in addresses if byte < SIZE)
+        if self.is_rare():
+            kept = kept[:-1] if self.randrange(2) else bytes(len(kept))
+        return chanv.Program(
+            start=16 if self.is_rare() else 8,
+            device=self.choice([2311, 2313]) if self.is_rare() else 2314,
+            storage_len=SIZE + 8 if self.is_rare() else SIZE,
+            mask=self.randrange(256) if self.is_rare() else self.choice([0x58, *MASKS]),
+            extents=[(12, 15 + self.randrange(9))] if self.randrange(3) else [(15, 11), (30, 31)],
+            fetch=self.areas(),
+            store=self.areas(),
+            keep=keep,
+            kept=kept + bytes(self.randrange(2)),
+        )
+
+    def in_flight(self, chanv, job):
+        count = self.randrange(4)
+        return [None if self.is_rare() else self.program(chanv, job) for _ in range(count)]
+
+
+def told(permission):
+    return None if permission else (permission.refusal, permission.value, permission.program)
+
+
+def check(checks, built):
+    library = next(built.library().glob("libchanv.so.*"), None)
+    if library is None:
+        raise CannotRun(f"no libchanv.so in {built.library()}")
+    os.environ["CHANV_LIBRARY"] = str(library)
+    sys.path.insert(0, str(ROOT / "examples/python"))
+    chanv, dice, seen = importlib.import_module("chanv"), Dice(SEED), set()
+    for number in range(CASES):
+        job = dice.job(chanv)
+        program, in_flight = dice.program(chanv, job), dice.in_flight(chanv, job)
+        wanted = refusal_of(job, program, in_flight)
+        found = told(chanv.may_start(job, program, in_flight))
+        checks.expect(f"start {number}", wanted, found)
+        area = dice.area()
+        wanted_write = keeper_of(area, in_flight)
+        checks.expect(f"write {number}", wanted_write, told(chanv.may_write(area, in_flight)))
+        seen |= {answer[0] if answer else "yes" for answer in (wanted, wanted_write)}
+    checks.expect("each answer comes", {"yes", *chanv.REFUSALS}, seen)
