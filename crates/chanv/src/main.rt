@@ -49,8 +49,8 @@ impl Read for Input {
 
 fn main(rt: HostRuntime) -> ExitCode {
     ExitCode::from(match read_words(&rt) {
-        Ok(words) => answered(&rt, words.as_slice()),
-        Err(AllocError) => reported(&rt, None, Outcome::Failed(Failure::OutOfMemory)),
+        Ok(words) => answer_words(&rt, words.as_slice()),
+        Err(AllocError) => report_on(&rt, None, Outcome::Failed(Failure::OutOfMemory)),
     })
 }
 
@@ -86,30 +86,32 @@ fn read_word(rt: &HostRuntime, number: usize) -> Result<Option<Vec<u8>>, AllocEr
 }
 
 /// Does what the words ask for, and gives the exit status.
-fn answered(rt: &HostRuntime, words: &[String]) -> u8 {
+fn answer_words(rt: &HostRuntime, words: &[String]) -> u8 {
     match read_request(rt.alloc(), words) {
-        Request::Show(text) => shown(rt, text),
-        Request::Run(action) => { exit_status(ran(rt, action, None, Input::Standard(rt.stdin()))) }
-        Request::RunNamed(action, names) => ran_over(rt, action, names.as_slice()),
-        Request::Image(request) => imaged(rt, &request, false),
-        Request::Find(request) => imaged(rt, &request, true),
+        Request::Show(text) => show_ccw(rt, text),
+        Request::Run(action) => {
+            exit_status(run_over(rt, action, None, Input::Standard(rt.stdin())))
+        }
+        Request::RunNamed(action, names) => run_over_each(rt, action, names.as_slice()),
+        Request::Image(request) => answer_request(rt, &request, false),
+        Request::Find(request) => answer_request(rt, &request, true),
         Request::Grants(fault) => report_grants(fault, &mut Watched::new(rt.stderr())),
-        Request::Explain(word) => explained(rt, word),
-        Request::Words => listed(rt),
+        Request::Explain(word) => explain(rt, word),
+        Request::Words => list_terms(rt),
         Request::Help(text) | Request::Version(text) => match text.to_string(rt.alloc()) {
-            Ok(text) => printed(rt, text.as_str()),
-            Err(AllocError) => reported(rt, None, Outcome::Failed(Failure::OutOfMemory)),
+            Ok(text) => print_out(rt, text.as_str()),
+            Err(AllocError) => report_on(rt, None, Outcome::Failed(Failure::OutOfMemory)),
         },
         Request::Fault(text) => match text.to_string(rt.alloc()) {
-            Ok(text) => warned(rt, text.as_str()),
-            Err(AllocError) => reported(rt, None, Outcome::Failed(Failure::OutOfMemory)),
+            Ok(text) => print_fault(rt, text.as_str()),
+            Err(AllocError) => report_on(rt, None, Outcome::Failed(Failure::OutOfMemory)),
         },
-        Request::NoMemory => reported(rt, None, Outcome::Failed(Failure::OutOfMemory)),
+        Request::NoMemory => report_on(rt, None, Outcome::Failed(Failure::OutOfMemory)),
     }
 }
 
 /// Reports what came of an input that may have a name, and gives the exit status.
-fn reported(rt: &HostRuntime, name: Option<&str>, outcome: Outcome) -> u8 {
+fn report_on(rt: &HostRuntime, name: Option<&str>, outcome: Outcome) -> u8 {
     let mut errors = Watched::new(rt.stderr());
     match name {
         Some(name) => report_named(name, outcome, &mut errors),
@@ -118,49 +120,54 @@ fn reported(rt: &HostRuntime, name: Option<&str>, outcome: Outcome) -> u8 {
 }
 
 /// Ends with an outcome of which this is the output, and gives the exit status.
-fn ended(rt: &HostRuntime, name: Option<&str>, outcome: Outcome, output: &mut Watched<Stdout>) -> u8
+fn end_with(
+    rt: &HostRuntime,
+    name: Option<&str>,
+    outcome: Outcome,
+    output: &mut Watched<Stdout>,
+) -> u8
     requires { IsWriteFailure outcome ↔ (output.old.failed ≡ true) }
 {
     exit_status(conclude(name, outcome, output, &mut Watched::new(rt.stderr())))
 }
 
 /// Writes help or the version, and gives the exit status.
-fn printed(rt: &HostRuntime, text: &str) -> u8 {
+fn print_out(rt: &HostRuntime, text: &str) -> u8 {
     let mut output = Watched::new(rt.stdout());
     let answer = write_out(text.as_bytes(), &mut output);
-    ended(rt, None, Outcome::of_write(answer), &mut output)
+    end_with(rt, None, Outcome::of_write(answer), &mut output)
 }
 
 /// Writes what is wrong with the command line, and gives the exit status.
-fn warned(rt: &HostRuntime, text: &str) -> u8 {
+fn print_fault(rt: &HostRuntime, text: &str) -> u8 {
     let mut errors = Watched::new(rt.stderr());
     let _ = write_out(text.as_bytes(), &mut errors);
     exit_status(Outcome::Usage)
 }
 
-fn shown(rt: &HostRuntime, text: &str) -> u8 {
+fn show_ccw(rt: &HostRuntime, text: &str) -> u8 {
     let mut output = Watched::new(rt.stdout());
     let answer = show(rt.alloc(), text, &mut output);
-    ended(rt, None, Outcome::of_show(answer), &mut output)
+    end_with(rt, None, Outcome::of_show(answer), &mut output)
 }
 
-fn explained(rt: &HostRuntime, word: &str) -> u8 {
+fn explain(rt: &HostRuntime, word: &str) -> u8 {
     let mut output = Watched::new(rt.stdout());
     let answer = explain_word(rt.alloc(), word, &mut output);
-    ended(rt, None, answer, &mut output)
+    end_with(rt, None, answer, &mut output)
 }
 
-fn listed(rt: &HostRuntime) -> u8 {
+fn list_terms(rt: &HostRuntime) -> u8 {
     let mut output = Watched::new(rt.stdout());
     let answer = list_words(&mut output);
-    ended(rt, None, answer, &mut output)
+    end_with(rt, None, answer, &mut output)
 }
 
 /// Runs over each input in turn, up to a failed write, and gives the greatest status.
-fn ran_over(rt: &HostRuntime, action: Action, names: &[&str]) -> u8 {
+fn run_over_each(rt: &HostRuntime, action: Action, names: &[&str]) -> u8 {
     let mut greatest = 0;
     for name in names {
-        let outcome = opened(rt, action, name);
+        let outcome = run_over_named(rt, action, name);
         greatest = greater_status(greatest, exit_status(outcome));
         if ends_run(outcome) {
             break;
@@ -170,21 +177,21 @@ fn ran_over(rt: &HostRuntime, action: Action, names: &[&str]) -> u8 {
 }
 
 /// Runs over the input of this name, which is standard input where it is `-`, and else a file.
-fn opened(rt: &HostRuntime, action: Action, name: &str) -> Outcome {
+fn run_over_named(rt: &HostRuntime, action: Action, name: &str) -> Outcome {
     if name == "-" {
-        return ran(rt, action, Some(name), Input::Standard(rt.stdin()));
+        return run_over(rt, action, Some(name), Input::Standard(rt.stdin()));
     }
-    match open(rt, name) {
-        Ok(file) => ran(rt, action, Some(name), Input::File(file)),
+    match open_file(rt, name) {
+        Ok(file) => run_over(rt, action, Some(name), Input::File(file)),
         Err(outcome) => {
-            reported(rt, Some(name), outcome);
+            report_on(rt, Some(name), outcome);
             outcome
         }
     }
 }
 
 /// Opens the file whose name is shown so. One whose name isn't UTF-8 can't be opened.
-fn open(rt: &HostRuntime, name: &str) -> Result<File, Outcome> {
+fn open_file(rt: &HostRuntime, name: &str) -> Result<File, Outcome> {
     let Ok(word) = word_of(rt.alloc(), name) else {
         return Err(Outcome::Failed(Failure::OutOfMemory));
     };
@@ -195,7 +202,7 @@ fn open(rt: &HostRuntime, name: &str) -> Result<File, Outcome> {
 }
 
 /// Runs over an input that may have a name.
-fn ran(rt: &HostRuntime, action: Action, name: Option<&str>, input: Input) -> Outcome {
+fn run_over(rt: &HostRuntime, action: Action, name: Option<&str>, input: Input) -> Outcome {
     let mut input = Watched::new(input);
     let mut output = Watched::new(rt.stdout());
     let mut errors = Watched::new(rt.stderr());
@@ -210,13 +217,13 @@ fn ran(rt: &HostRuntime, action: Action, name: Option<&str>, input: Input) -> Ou
 }
 
 /// Finds the programs in an image of storage, or makes a deck of it, and gives the exit status.
-fn imaged(rt: &HostRuntime, request: &ImageRequest<'_>, finds: bool) -> u8 {
+fn answer_request(rt: &HostRuntime, request: &ImageRequest<'_>, finds: bool) -> u8 {
     let options = match options_of(rt.alloc(), &request.words) {
         Ok(options) => options,
         Err(OptionError::Wrong(fault)) => {
             return report_option(fault, &mut Watched::new(rt.stderr()));
         }
-        Err(OptionError::Memory) => return reported(
+        Err(OptionError::Memory) => return report_on(
             rt,
             None,
             Outcome::Failed(Failure::OutOfMemory),
@@ -226,16 +233,16 @@ fn imaged(rt: &HostRuntime, request: &ImageRequest<'_>, finds: bool) -> u8 {
         note_usual_device(&mut Watched::new(rt.stderr()));
     }
     match request.file {
-        None => imaged_from(rt, None, &options, finds, Input::Standard(rt.stdin())),
-        Some(name) => match open(rt, name) {
-            Ok(file) => imaged_from(rt, Some(name), &options, finds, Input::File(file)),
-            Err(outcome) => reported(rt, Some(name), outcome),
+        None => answer_request_from(rt, None, &options, finds, Input::Standard(rt.stdin())),
+        Some(name) => match open_file(rt, name) {
+            Ok(file) => answer_request_from(rt, Some(name), &options, finds, Input::File(file)),
+            Err(outcome) => report_on(rt, Some(name), outcome),
         },
     }
 }
 
 /// Finds the programs in an image that may have a name, or makes a deck of it.
-fn imaged_from(
+fn answer_request_from(
     rt: &HostRuntime,
     name: Option<&str>,
     options: &ImageOptions,
@@ -243,21 +250,21 @@ fn imaged_from(
     input: Input,
 ) -> u8 {
     if finds {
-        return found(rt, name, options, input);
+        return find_in(rt, name, options, input);
     }
-    written(rt, name, options, input)
+    make_deck(rt, name, options, input)
 }
 
 /// Finds the programs in an image that may have a name, and gives the exit status.
-fn found(rt: &HostRuntime, name: Option<&str>, options: &ImageOptions, input: Input) -> u8 {
+fn find_in(rt: &HostRuntime, name: Option<&str>, options: &ImageOptions, input: Input) -> u8 {
     let mut input = Watched::new(input);
     let mut output = Watched::new(rt.stdout());
     let answer = find_programs(rt.alloc(), options, &mut input, &mut output);
-    ended(rt, name, answer, &mut output)
+    end_with(rt, name, answer, &mut output)
 }
 
 /// Makes a deck of an image that may have a name, and gives the exit status.
-fn written(rt: &HostRuntime, name: Option<&str>, options: &ImageOptions, input: Input) -> u8 {
+fn make_deck(rt: &HostRuntime, name: Option<&str>, options: &ImageOptions, input: Input) -> u8 {
     let mut input = Watched::new(input);
     let mut output = Watched::new(rt.stdout());
     let mut errors = Watched::new(rt.stderr());
