@@ -20,7 +20,10 @@ pub(crate) fn least_in(areas: &[Area], range: Area) -> Option<u32>
 {
     let mut least = None;
     for area in areas {
-        least = lesser(least, overlap(*area, range));
+        let byte = overlap(*area, range);
+        if byte.is_some() {
+            least = lesser(least, byte);
+        }
     }
     least
 }
