@@ -1,4 +1,4 @@
-use Rattle.std.proofs.Common.{◌≡◌, Err, ap, inl, inr, refl, rules, ℕ}
+use Rattle.std.proofs.Common.{◌≡◌, ap, inl, inr, refl, rules, ℕ}
 use Rattle.std.proofs.KnownBytes.{Appends-nil}
 use Rattle.chan_walk.specs.declared.reason.Reason.{Reason}
 use Rattle.chan_run.specs.declared.failure.Failure.TheVariants.{OutOfMemory}
