@@ -28,8 +28,8 @@ may_cure j _ = false
 -- and this says how
 abbrev pub cure_of : Job → Verdict → List ℕ
 cure_of j v =
-    if may_cure j v
-    then codes "note: --at says where the image lies in storage, and --storage how long storage is\n"
+    if may_cure j v then
+    codes "note: --at says where the image lies in storage, and --storage how long storage is\n"
     else []
 
 -- this explains the verdict on an open job, and says what may cure it

@@ -282,7 +282,7 @@ fn term_among(terms: &[Term], word: &str) -> Option<Term>
 ///
 /// If the word, in any case, is no term's, `Unknown` comes with the term of the nearest word or, if
 /// none is near, `NoSuchWord`; `OutOfMemory` may come in their place. `WriteFailed` comes exactly
-/// if a write failed, and then a prefix was written. After any other outcome but `Done` nothing was.
+/// if a write failed, and then a prefix was written. Otherwise nothing was, except for `Done`.
 pub fn explain_word<W: Write>(alloc: Global, word: &str, to: &mut Watched<W>) -> Outcome
     requires { to.old.failed ≡ false }
     ensures answer { IsWordAnswer word.now (W.contents to.old.device) (W.contents to.new.device)

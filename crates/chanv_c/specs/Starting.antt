@@ -1,6 +1,6 @@
 -- What the answers to C about starts, and about writes of others, promise.
-use Rattle.std.specs.Prelude.{◌≡◌, ◌≢◌, ◌==◌, ℕ, ◌<◌, ◌++◌, true, false, List, [], drop, length, map}
-use Rattle.std.specs.Prelude.{if◌then◌else◌, ◌⊎◌}
+use Rattle.std.specs.Prelude.{◌≡◌, ◌≢◌, ◌==◌, ℕ, ◌<◌, ◌++◌, true, false, List, [], drop, length}
+use Rattle.std.specs.Prelude.{if◌then◌else◌, ◌⊎◌, map}
 use Rattle.std.specs.List.{All, AllWithin, HoldsAt}
 use Rattle.ccw_core.specs.declared.areas.Area.{Area}
 use Rattle.ckd_core.specs.declared.device.Device.TheVariants.{D2311, D2314}

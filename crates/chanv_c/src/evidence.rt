@@ -109,6 +109,24 @@ fn set_mask_number(argument: Option<GivenBytes>) -> u32
     u32::from(argument.is_none())
 }
 
+/// A range, and what is told of it.
+fn range_values(range: Area, gap: Area, length: u32, address: u32) -> CEvidence
+    ensures { result ≡ record specs.no_values {
+      range = range;
+      gap = gap;
+      length = length;
+      address = address;
+    } }
+{
+    CEvidence {
+        range,
+        gap,
+        length,
+        address,
+        ..NO_VALUES
+    }
+}
+
 /// The values of a cause, without the reason's number.
 fn values_of(evidence: Evidence) -> CEvidence
     ensures { result ≡ specs.values_of evidence }
@@ -118,11 +136,7 @@ fn values_of(evidence: Evidence) -> CEvidence
             address,
             ..NO_VALUES
         },
-        Evidence::OutsideStorage { ccw, length } => CEvidence {
-            range: ccw,
-            length,
-            ..NO_VALUES
-        },
+        Evidence::OutsideStorage { ccw, length } => range_values(ccw, NO_AREA, length, 0),
         Evidence::TransferNotAllowed { .. } | Evidence::ZeroCount => NO_VALUES,
         Evidence::InvalidCode { code } | Evidence::NotInTable { code } => CEvidence {
             code: u32::from(code),
@@ -132,31 +146,21 @@ fn values_of(evidence: Evidence) -> CEvidence
             bits: u32::from(bits),
             ..NO_VALUES
         },
-        Evidence::DataOutside { data, length } => CEvidence {
-            range: data,
-            length,
-            ..NO_VALUES
-        },
+        Evidence::DataOutside { data, length } => range_values(data, NO_AREA, length, 0),
         Evidence::Inhibited { mask, code } => CEvidence {
             mask: u32::from(mask.byte()),
             code: u32::from(code),
             ..NO_VALUES
         },
-        Evidence::StoreNotLent { data, gap } | Evidence::FetchNotLent { data, gap } => CEvidence {
-            range: data,
-            gap,
-            ..NO_VALUES
-        },
+        Evidence::StoreNotLent { data, gap } | Evidence::FetchNotLent { data, gap } => {
+            range_values(data, gap, 0, 0)
+        }
         Evidence::ShortSeek { given } => given_values(given),
         Evidence::SeekOutside { outside, argument } => outside_values(
             outside,
             argument_values(argument),
         ),
-        Evidence::ChangesCcw { data, ccw } => CEvidence {
-            range: data,
-            address: ccw,
-            ..NO_VALUES
-        },
+        Evidence::ChangesCcw { data, ccw } => range_values(data, NO_AREA, 0, ccw),
         Evidence::ChangesArgument {
             data,
             byte,
