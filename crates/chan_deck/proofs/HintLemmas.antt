@@ -7,7 +7,7 @@ use Rattle.std.proofs.lemmas.Bool.{cases_Bool, le-leb, lt-leb}
 use Rattle.std.proofs.lemmas.List.{append-nil, append_cancel_left, drop_all, take-append-drop, take-append-le}
 use Rattle.std.proofs.Math.Seq.{drop-cons}
 use Rattle.ckd_core.specs.declared.device.Device.TheVariants.{D2311}
-use Rattle.chan_deck.specs.Hint.{AreBehind, IsBehind, IsLastOf, IsSaidBy, all_forms, begun_as, example_of, first_word, form_text, forms_behind, forms_text, is_in_text, is_no_text, order_text, place_of_form, put_address, shown, shown_byte}
+use Rattle.chan_deck.specs.Hint.{AreBehind, IsLastOf, IsSaidBy, all_forms, begun_as, example_of, first_word, forms_behind, put_address}
 use Rattle.chan_deck.specs.Item.{Item, header, device, mask, start, limit, extent, fetch, store, storage, put, end, line, HasForm, Says}
 use Rattle.chan_deck.specs.Refused.{AreSaid, found_behind, found_in, is_second, last_of, lines, part, size_said, split, whole_line}
 use Rattle.chan_deck.specs.declared.hint.Spot.{Spot}
@@ -168,69 +168,6 @@ pub said_behind : (t : List ℕ) (n : ℕ) (last : Option (Bor (List ℕ))) (res
 said_behind t n last rest before h said =
     last_said before last said.0 (subst (λ x. IsLastOf x last) (sym said.1) h.is_last)
 
--- ---- bytes
-
--- a byte that has room is shown, and what follows it in the room that is left
-pub shown_more : (room b : ℕ) (l : List ℕ) → length (shown_byte b (length l)) ≤ room
-    → shown room (b ∷ l)
-    ≡ shown_byte b (length l) ++ shown (room - length (shown_byte b (length l))) l
-unfolding shown
-shown_more room b l h = rw (le-leb (length (shown_byte b (length l))) room h) refl
-
--- and one that has none ends what is shown
-pub shown_no_more : (room b : ℕ) (l : List ℕ) → room < length (shown_byte b (length l)) → shown room (b ∷ l) ≡ []
-unfolding shown
-shown_no_more room b l h = rw (lt-leb (length (shown_byte b (length l))) room h) refl
-
--- the byte at an index, with what is behind it
-byte_at : (l : List ℕ) (at : ℕ) → at < length l
-    → (drop at l ≡ slice_index l at ∷ drop (at + 1) l) × (length l - at - 1 ≡ length (drop (at + 1) l))
-byte_at l at here =
-    let one : suc at ≡ at + 1 = omega arith in
-    let cons : drop at l ≡ slice_index l at ∷ drop (at + 1) l = drop-cons l at 0 here ∙ ap (λ k. slice_index l at ∷ drop k l) one in
-    let more : length l - at - 1 ≡ length (drop (at + 1) l) = omega (arith, length-drop (at + 1) l) in
-    (cons, more)
-
-pub shown_step : (l out old text new : List ℕ) (at left room width : ℕ) → at < length l
-    → text ≡ shown_byte (slice_index l at) (length l - at - 1) → width ≡ length text → width ≤ left → new ≡ out ++ text
-    → out ++ shown left (drop at l) ≡ old ++ shown room l
-    → new ++ shown (left - width) (drop (at + 1) l) ≡ old ++ shown room l
-shown_step l out old text new at left room width here e wide fits is told =
-    let b = slice_index l at in
-    let rest = drop (at + 1) l in
-    let parts = byte_at l at here in
-    let same : text ≡ shown_byte b (length rest) = e ∙ ap (shown_byte b) parts.1 in
-    let byte : length (shown_byte b (length rest)) ≡ width = ap (λ t. length t) (sym same) ∙ sym wide in
-    let front : shown left (drop at l) ≡ text ++ shown (left - width) rest =
-    ap (λ x. shown left x) parts.0 ∙ shown_more left b rest (omega (arith, byte))
-    ∙ ap (λ n. shown_byte b (length rest) ++ shown (left - n) rest) byte
-    ∙ ap (λ t. t ++ shown (left - width) rest) (sym same) in
-    ap (λ t. t ++ shown (left - width) rest) is
-    ∙ append_assoc out text (shown (left - width) rest)
-    ∙ ap (λ t. out ++ t) (sym front) ∙ told
-
-pub shown_stops : (l out old text : List ℕ) (at left room : ℕ) → at < length l
-    → text ≡ shown_byte (slice_index l at) (length l - at - 1) → left < length text
-    → out ++ shown left (drop at l) ≡ old ++ shown room l → out ≡ old ++ shown room l
-shown_stops l out old text at left room here e full told =
-    let b = slice_index l at in
-    let rest = drop (at + 1) l in
-    let parts = byte_at l at here in
-    let byte : left < length (shown_byte b (length rest)) = subst (λ t. left < length t) (e ∙ ap (shown_byte b) parts.1) full in
-    let none : shown left (drop at l) ≡ [] = ap (λ x. shown left x) parts.0 ∙ shown_no_more left b rest byte in
-    sym (append-nil out) ∙ ap (λ t. out ++ t) (sym none) ∙ told
-
-pub shown_all : (l out old : List ℕ) (at left room : ℕ) → length l ≤ at
-    → out ++ shown left (drop at l) ≡ old ++ shown room l → out ≡ old ++ shown room l
-unfolding shown
-shown_all l out old at left room past told =
-    sym (append-nil out) ∙ ap (λ x. out ++ shown left x) (sym (drop_all at l past)) ∙ told
-
-pub if_ok : {A E : Type 0} {P Q : A → Type 0} (r : Result A E) → ((x : A) → P x → Q x) → IfOk r P
-    → IfOk r Q
-if_ok (Ok x) f h = f x h
-if_ok (Err e) f h = tt
-
 -- ---- the size of storage
 
 -- a line that says no number of bytes of storage
@@ -309,46 +246,3 @@ sizeless_all t n count rest before h same said =
     let all : take count (lines t) ≡ take count h.done =
     ap (λ (p : List (List ℕ) × List ℕ). take count p.0) h.parts ∙ take-append-le count h.done (split rest).0 (omega (arith, h.count)) in
     sym (size_none h.done count before h.none said.0 (said.1 ∙ all))
-
--- ---- the order of forms
-
--- a form stands in no header's place before it
-no_earlier : (second other : Bool) (f : Form) → place_of_form second forms.Header [] f ≡ place_of_form other forms.Header [] f
-no_earlier second other forms.Header = refl
-no_earlier second other forms.Device = refl
-no_earlier second other forms.Mask = refl
-no_earlier second other forms.Start = refl
-no_earlier second other forms.Limit = refl
-no_earlier second other forms.Extent = refl
-no_earlier second other forms.Fetch = refl
-no_earlier second other forms.Store = refl
-no_earlier second other forms.Storage = refl
-no_earlier second other forms.Put = refl
-no_earlier second other forms.End = refl
-
-order_at_start : (second other : Bool) (o : Option Form)
-    → order_text second (forms.Header ∷ []) o ≡ order_text other (forms.Header ∷ []) o
-order_at_start second other None = refl
-order_at_start second other (Some f) = no_earlier second other f
-
--- the text behind some lines is that of the spot
-pub forms_told : (before : List Item) (spot : Spot) → IsBehind before spot
-    → form_text (forms_behind spot.is_second (last_of before)) spot.found.now
-    ++ order_text spot.is_second (forms_behind spot.is_second (last_of before)) (begun_as all_forms spot.found.now)
-    ≡ forms_text before spot.found.now
-forms_told [] spot h =
-    ap (λ t. form_text (forms.Header ∷ []) spot.found.now ++ t)
-    (order_at_start spot.is_second false (begun_as all_forms spot.found.now))
-forms_told (i ∷ is) spot h =
-    ap (λ b. form_text (forms_behind b (last_of (i ∷ is))) spot.found.now
-    ++ order_text b (forms_behind b (last_of (i ∷ is))) (begun_as all_forms spot.found.now))
-    (h.second (λ e. cc))
-
--- ---- the start of a text
-
-pub read_at_start : (l : Bor (List ℕ)) (o : Option (Bor (List ℕ))) (last : Option Item) (b : Bool)
-    → is_some o ≡ false → b ≡ list_any (λ c. not (is_in_text c)) (take 60 l.now) → IsSaidBy o last
-    → b ≡ is_no_text last l.now
-read_at_start l None None b none e said = e
-read_at_start l None (Some i) b none e said = absurd said
-read_at_start l (Some k) last b none e said = absurd cc

@@ -11,9 +11,7 @@ pub mod Texts
 pub mod Pieces
 pub mod Listing
 pub mod Explanation
-pub mod Runs
 pub mod Folds
-pub mod Graph
 pub mod Hint
 pub mod Notes
 pub mod Needs

@@ -1,9 +1,7 @@
 //! The explanation of a verdict: what `chanv why` writes.
 
-ghost use Rattle.std.specs.Prelude.{◌≡◌, ◌↔◌, ◌++◌, false, true, string_bytes, IfOk, IsErrOf, OnOk};
+ghost use Rattle.std.specs.Prelude.{◌≡◌, ◌++◌, string_bytes, IfOk, OnOk};
 ghost use Rattle.std.specs.Prelude.{option_map, slice_get};
-ghost use Rattle.std.specs.Io.KnownBytes.{Appends};
-ghost use Rattle.ccw_core.specs.Written.{AppendsPrefix};
 ghost use Rattle.chan_deck.specs.Explanation as texts;
 ghost use Rattle.chan_deck.specs.Listing.{command_name};
 ghost use Rattle.ckd_core.specs.Entries.{entry_of};
@@ -11,14 +9,13 @@ ghost use Rattle.ckd_core.specs.Further as further_codes;
 ghost use Rattle.chan_walk.specs.declared.evidence.Evidence.TheVariants as because;
 ghost use Rattle.chan_walk.specs.Job.{storage_of};
 
-use crate::listing::{ListError, push_row, standing_at};
+use crate::listing::{push_row, standing_at};
 use crate::texts::{Address, Digits, Range, Size, verdict_text};
-use ccw_core::{Area, Watched, write_out};
+use ccw_core::Area;
 use chan_walk::{Evidence, GivenBytes, Job, Offence, Outside, Place, Survey, Witness};
 use ckd_core::{Command, FileMask, further_name, lookup};
 use std::alloc::{AllocError, Global};
 use std::fmt::Write as _;
-use std::io::Write;
 
 /// The name of a command of the table, or `unknown` for a code of none.
 fn name_of_command(command: Option<Command>) -> &'static str
@@ -423,29 +420,4 @@ pub fn explanation_text(
     push_witness(alloc, &mut text, job, witness)?;
     push_others(alloc, &mut text, survey.offences(), causes)?;
     Ok(text)
-}
-
-/// Writes the explanation of a verdict.
-///
-/// `Write` comes exactly if a write failed; then a prefix was written. After `Memory` nothing was.
-pub fn write_explanation<W: Write>(
-    alloc: Global,
-    job: &Job,
-    survey: &Survey,
-    witness: &Witness,
-    causes: &[Evidence],
-    to: &mut Watched<W>,
-) -> Result<(), ListError>
-    requires { to.old.failed ≡ false }
-    ensures ok { OnOk result (Appends (W.contents to.old.device) (W.contents to.new.device)
-        (texts.explanation (storage_of job.now)
-        survey.now.offences.items causes.now witness.now)) }
-    ensures prefix { AppendsPrefix (W.contents to.old.device) (W.contents to.new.device)
-        (texts.explanation (storage_of job.now)
-        survey.now.offences.items causes.now witness.now) }
-    ensures write { IsErrOf result ListError.Write ↔ (to.new.failed ≡ true) }
-    ensures memory { IsErrOf result ListError.Memory → to.new ≡ to.old }
-{
-    let text = explanation_text(alloc, job, survey, witness, causes)?;
-    Ok(write_out(text.as_bytes(), to)?)
 }

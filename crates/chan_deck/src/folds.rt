@@ -1,13 +1,12 @@
 //! Which places stand together in a picture: in a frame or in a box.
 
-ghost use Rattle.std.specs.Prelude.{◌≡◌, ◌++◌, ◌∷◌, ◌<◌, [], List, ℕ, length, map, option_map};
-ghost use Rattle.std.specs.Prelude.{string_bytes, IfOk, OnOk};
-ghost use Rattle.std.specs.List.{flat_map};
+ghost use Rattle.std.specs.Prelude.{◌≡◌, ◌++◌, ◌∷◌, ◌<◌, ◌≤◌, [], List, ℕ, length, map, IfOk, OnOk};
 ghost use Rattle.chan_walk.specs.Explored.{place_number};
+ghost use Rattle.chan_walk.specs.Look.{Seen};
 ghost use Rattle.chan_walk.specs.declared.offence.Offence as offences;
+ghost use Rattle.chan_walk.specs.declared.place.Place as places;
 ghost use Rattle.chan_deck.specs.Folds as fold;
-ghost use Rattle.chan_deck.specs.Folds.{AreCounted, AreFolds, AreMarks};
-ghost use Rattle.chan_deck.specs.Runs.{IsFirstRun};
+ghost use Rattle.chan_deck.specs.Folds.{AreCounted, AreFolds, AreMarked, IsFirstRun};
 
 use chan_walk::{Entry, Look, Next, Offence, Place};
 use std::alloc::{AllocError, Global};
@@ -37,28 +36,21 @@ pub(crate) fn number_of(place: Place) -> u64
     8 * u64::from(place.address) + 2 * entry + u64::from(place.after_transfer)
 }
 
-/// A word below a text, if there is one.
-fn word_below(alloc: Global, text: Option<&String>, word: &str) -> Result<String, AllocError>
-    ensures { IfOk result (λ t. string_bytes t
-        ≡ fold.word_below (option_map (λ s. string_bytes s.now) text.entry) word.now) }
-{
-    match text {
-        Some(text) => format!(in alloc; "{text}\\n{word}"),
-        None => String::from_str(alloc, word),
-    }
-}
-
-/// Adds the reason of an offence to what stands beside its place.
+/// Adds the reason of an offence, below others, to what stands beside its place.
 fn add_reason(
     alloc: Global,
     marks: &mut BTreeMap<u64, String>,
     offence: Offence,
 ) -> Result<(), AllocError>
-    ensures { OnOk result ((os : List offences.Offence) → AreMarks os marks.old
-        → AreMarks (os ++ offence ∷ []) marks.new) }
+    ensures { OnOk result ((os : List offences.Offence) → AreMarked os marks.old
+        → AreMarked (os ++ offence ∷ []) marks.new) }
 {
     let number = number_of(offence.place);
-    let text = word_below(alloc, marks.get(&number), offence.reason.word())?;
+    let word = offence.reason.word();
+    let text = match marks.get(&number) {
+        Some(text) => format!(in alloc; "{text}\\n{word}")?,
+        None => String::from_str(alloc, word)?,
+    };
     marks.insert(number, text)?;
     Ok(())
 }
@@ -66,7 +58,7 @@ fn add_reason(
 /// What stands beside each place that offends, by the place's number: its reasons, one below the
 /// other.
 fn marks_of(alloc: Global, offences: &[Offence]) -> Result<BTreeMap<u64, String>, AllocError>
-    ensures { IfOk result (λ m. AreMarks offences.now m) }
+    ensures { IfOk result (λ m. AreMarked offences.now m) }
 {
     let mut marks = BTreeMap::new(alloc);
     for offence in offences {
@@ -87,7 +79,7 @@ fn count(seen: &mut BTreeMap<u64, bool>, number: u64) -> Result<(), AllocError>
 
 /// Whether a number was counted exactly once.
 fn is_once(seen: &BTreeMap<u64, bool>, number: u64) -> bool
-    ensures { result ≡ fold.once_in seen.now number }
+    ensures { (ns : List ℕ) → AreCounted ns seen.now → result ≡ fold.is_once number ns }
 {
     match seen.get(&number) {
         Some(again) => !*again,
@@ -183,35 +175,36 @@ pub(crate) fn are_beside(look: &Look, other: &Look) -> bool
 
 /// Whether a place may share its box: no other has its address, and it doesn't offend.
 fn may_join(folds: &Folds, look: &Look) -> bool
-    ensures { result ≡ fold.may_join_in folds.now look.now }
+    ensures { (first : places.Place) (ls : List Seen) (os : List offences.Offence)
+        → AreFolds first ls os folds.now → result ≡ fold.may_join ls os look.now }
 {
     let place = look.place();
     is_once(&folds.addresses, u64::from(place.address))
         && folds.marks.get(&number_of(place)).is_none()
 }
 
-/// Whether a place and the one behind it stand in one box.
-fn are_folded(folds: &Folds, look: &Look, behind: &Look) -> bool
-    ensures { result ≡ fold.is_folded_in folds.now look.now behind.now }
-{
-    let to = behind.place();
-    leads_only(look.next(), to)
-        && is_once(&folds.entries, number_of(to))
-        && may_join(folds, look)
-        && may_join(folds, behind)
-}
-
 /// Whether a place and the one behind it stand together: in a frame or in a box.
 fn are_together(folds: &Folds, look: &Look, behind: &Look) -> bool
-    ensures { result ≡ fold.together_in folds.now look.now behind.now }
+    ensures { (first : places.Place) (ls : List Seen) (os : List offences.Offence)
+        → AreFolds first ls os folds.now
+        → result ≡ fold.stand_together first ls os look.now behind.now }
 {
-    are_beside(look, behind) || are_folded(folds, look, behind)
+    let to = behind.place();
+    are_beside(look, behind)
+        || leads_only(look.next(), to)
+            && is_once(&folds.entries, number_of(to))
+            && may_join(folds, look)
+            && may_join(folds, behind)
 }
 
 /// How many of some places, from the first on, stand together.
-pub(crate) fn first_run(folds: &Folds, looks: &[Look]) -> usize
+pub(crate) fn count_together(folds: &Folds, looks: &[Look]) -> usize
     requires { 0 < length looks.now }
-    ensures { IsFirstRun (fold.together_in folds.now) looks.now result }
+    ensures some { 0 < result }
+    ensures within { result ≤ length looks.now }
+    ensures run { (first : places.Place) (ls : List Seen) (os : List offences.Offence)
+        → AreFolds first ls os folds.now
+        → IsFirstRun (fold.stand_together first ls os) looks.now result }
 {
     let last = looks.len() - 1;
     for at in 0..last {

@@ -1,15 +1,10 @@
 //! The forms of a deck's lines, by their keywords.
 
-ghost use Rattle.std.specs.Prelude.{◌≡◌, ◌==◌, ◌<◌, ◌++◌, length, position, IfSome, OnOk};
-ghost use Rattle.std.specs.Prelude.{string_bytes};
-ghost use Rattle.std.specs.List.{list_any};
+ghost use Rattle.std.specs.Prelude.{◌≡◌, ◌==◌, ◌<◌, length, position, IfSome};
 ghost use Rattle.std.specs.Prelude.{Option as Maybe, Some};
 ghost use Rattle.chan_deck.specs.Hint as hint;
-ghost use Rattle.chan_deck.specs.Hint.{IsSaidBy, example_of, keyword_of, pattern_of};
+ghost use Rattle.chan_deck.specs.Hint.{IsSaidBy, example_of, keyword_of};
 ghost use Rattle.chan_deck.specs.Item.{Item};
-
-use std::alloc::AllocError;
-use std::fmt::Write as _;
 
 /// A form of lines.
 #[derive(Clone, Copy)]
@@ -28,7 +23,7 @@ pub(crate) enum Form {
 }
 
 /// The forms, in the order in which they come in a deck.
-const FORMS: [Form; 11] = [
+pub(crate) const FORMS: [Form; 11] = [
     Form::Header,
     Form::Device,
     Form::Mask,
@@ -63,9 +58,7 @@ impl Form {
     }
 
     /// The place of the form among all.
-    fn number(self) -> u8
-        ensures { result ≡ hint.number_of self }
-    {
+    pub(crate) fn number(self) -> u8 {
         match self {
             Form::Header => 0,
             Form::Device => 1,
@@ -82,9 +75,7 @@ impl Form {
     }
 
     /// The form as a pattern, and what its letters stand for.
-    pub(crate) fn pattern(self) -> &'static str
-        ensures { result.now ≡ pattern_of self }
-    {
+    pub(crate) fn pattern(self) -> &'static str {
         match self {
             Form::Header => "chanv deck 1, chanv deck 2",
             Form::Device => "device 2311, device 2314",
@@ -98,66 +89,6 @@ impl Form {
             Form::Put => "put XXXXXX XXXXXXXXXXXXXXXX, where X is 0-9 or A-F",
             Form::End => "end",
         }
-    }
-}
-
-/// Whether a form is one of these.
-fn is_among(forms: &[Form], form: Form) -> bool
-    ensures { result ≡ list_any (λ g. hint.number_of g == hint.number_of form) forms.now }
-{
-    forms.iter().any(|other| other.number() == form.number())
-}
-
-/// Adds where a form stands that comes before those that may stand, in a deck of version 2 or not.
-fn push_earlier(text: &mut String, is_second: bool, form: Form) -> Result<(), AllocError>
-    ensures { OnOk result (string_bytes text.new
-        ≡ string_bytes text.old ++ hint.earlier_text is_second form) }
-{
-    match form {
-        Form::Limit if !is_second => text.push_str("; limit stands in chanv deck 2 alone"),
-        _ => {
-            let word = form.keyword();
-            write!(text, "; {word} comes earlier")
-        }
-    }
-}
-
-/// Adds where a form stands, where it is none of those that may stand.
-fn push_place(
-    text: &mut String,
-    is_second: bool,
-    forms: &[Form],
-    form: Form,
-) -> Result<(), AllocError>
-    ensures { OnOk result (string_bytes text.new
-        ≡ string_bytes text.old ++ hint.order_text is_second forms.now (Some form)) }
-{
-    let Some(first) = forms.first() else {
-        return Ok(());
-    };
-    if form.number() < first.number() {
-        return push_earlier(text, is_second, form);
-    }
-    if is_among(forms, form) {
-        return Ok(());
-    }
-    let word = form.keyword();
-    write!(text, "; {word} comes later")
-}
-
-/// Adds where the form stands that a line begins as, if it is none of those that may stand.
-pub(crate) fn push_order(
-    text: &mut String,
-    is_second: bool,
-    forms: &[Form],
-    line: &[u8],
-) -> Result<(), AllocError>
-    ensures { OnOk result (string_bytes text.new ≡ string_bytes text.old
-        ++ hint.order_text is_second forms.now (hint.begun_as hint.all_forms line.now)) }
-{
-    match begun_as(&FORMS, line) {
-        Some(form) => push_place(text, is_second, forms, form),
-        None => Ok(()),
     }
 }
 

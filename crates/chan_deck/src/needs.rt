@@ -1,19 +1,15 @@
 //! What a program needs as text.
 
-ghost use Rattle.std.specs.Prelude.{◌≡◌, ◌↔◌, ◌++◌, false, true, IfOk, IsErrOf, OnOk};
-ghost use Rattle.std.specs.Io.KnownBytes.{Appends};
+ghost use Rattle.std.specs.Prelude.{◌≡◌, ◌++◌, IfOk, OnOk};
 ghost use Rattle.std.specs.List.{AllByRecursion};
-ghost use Rattle.ccw_core.specs.Written.{AppendsPrefix};
 ghost use Rattle.ckd_core.specs.Cylinders.{IsExtent};
 ghost use Rattle.chan_walk.specs.Rows.{listed};
 ghost use Rattle.chan_deck.specs.Needs as texts;
 
-use crate::listing::ListError;
 use crate::writing::{write_areas, write_extents, write_mask};
-use ccw_core::{Area, Watched, write_out};
+use ccw_core::Area;
 use chan_walk::Needs;
 use std::alloc::{AllocError, Global};
-use std::io::Write;
 
 /// The first number for which six digits aren't enough: that of the bytes of the largest storage.
 const PAST_ADDRESSES: u32 = 0x100_0000;
@@ -70,25 +66,4 @@ pub fn needs_text(alloc: Global, needs: &Needs) -> Result<Vec<u8>, AllocError>
     write_areas(alloc, &mut text, b"store ", &store)?;
     write_areas(alloc, &mut text, b"keep ", &keep)?;
     Ok(text)
-}
-
-/// Writes the needs of a program.
-///
-/// `Write` comes exactly if a write failed; then a prefix was written. After `Memory` nothing was.
-pub fn write_needs<W: Write>(
-    alloc: Global,
-    needs: &Needs,
-    to: &mut Watched<W>,
-) -> Result<(), ListError>
-    requires extents { AllByRecursion IsExtent needs.now.extents.items }
-    requires writer { to.old.failed ≡ false }
-    ensures ok { OnOk result (Appends (W.contents to.old.device) (W.contents to.new.device)
-        (texts.needs_text (listed needs.now))) }
-    ensures prefix { AppendsPrefix (W.contents to.old.device) (W.contents to.new.device)
-        (texts.needs_text (listed needs.now)) }
-    ensures write { IsErrOf result ListError.Write ↔ (to.new.failed ≡ true) }
-    ensures memory { IsErrOf result ListError.Memory → to.new ≡ to.old }
-{
-    let text = needs_text(alloc, needs)?;
-    Ok(write_out(&text, to)?)
 }

@@ -3,12 +3,12 @@ use Rattle.std.specs.BTreeMap.{BTreeMap}
 use Rattle.std.specs.declared.string.String.{String}
 use Rattle.std.proofs.lemmas.List.{take_all, take_more}
 use Rattle.chan_walk.specs.declared.offence.Offence.{Offence}
-use Rattle.chan_deck.specs.Folds.{AreMarks}
+use Rattle.chan_deck.specs.Folds.{AreMarked}
 use Rattle.chan_deck.proofs.folds.marks_of.Goals as goal
 
 -- the marks of the first offences and of one more
 marks_more : {Y : Type 0} (os : List Offence) (i : ℕ) (o d : Offence) (m : BTreeMap ℕ (String Y)) → i < length os → o ≡ get_or os i d
-    → AreMarks (take i os ++ (o ∷ [])) m → AreMarks (take (i + 1) os) m
+    → AreMarked (take i os ++ (o ∷ [])) m → AreMarked (take (i + 1) os) m
 marks_more os i o d m lt is marks = rw (take_more os i d lt, ← is) marks
 
 pub loop-offence-preserved : goal.loop-offence-preserved

@@ -2,8 +2,8 @@ use Rattle.std.proofs.Common.{◌≡◌, ◌∙◌, ◌∷◌, [], ◌++◌, ap,
 use Rattle.std.proofs.lemmas.List.{drop_all}
 use Rattle.ccw_core.specs.declared.areas.Area.{Area}
 use Rattle.chan_deck.specs.Notes.{adjoin, joined_from, together}
-use Rattle.chan_deck.proofs.notes.joined.Goals as goal
-use Rattle.chan_deck.proofs.notes.joined.Goals.{then-adjoin, else-adjoin+in_ok-push}
+use Rattle.chan_deck.proofs.notes.join_neighbours.Goals as goal
+use Rattle.chan_deck.proofs.notes.join_neighbours.Goals.{then-adjoin, else-adjoin+in_ok-push}
 
 -- an area that adjoins goes into the run
 in_run : (runs whole rest : List Area) (run next : Area) (i : ℕ) (d : Area) → i < length rest

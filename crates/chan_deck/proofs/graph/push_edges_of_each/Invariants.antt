@@ -1,8 +1,0 @@
-use Rattle.std.proofs.Common.{◌≡◌, ◌++◌, take, string_bytes}
-use Rattle.std.specs.List.{flat_map}
-use Rattle.chan_deck.specs.Graph.{edges_from}
-use Rattle.chan_deck.proofs.graph.push_edges_of_each.Given as goal
-
-abbrev pub invariant-loop-look : goal.invariant-loop-look
-invariant-loop-look l =
-    string_bytes l.out ≡ string_bytes l.fn.out ++ flat_map (λ m. edges_from m.place m) (take l.look-index l.looks)
