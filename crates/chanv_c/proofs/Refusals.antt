@@ -1,50 +1,52 @@
--- What a refusal's number tells.
-use Rattle.std.proofs.Common.{◌≡◌, ◌≤◌, ◌⊎◌, ℕ, refl, arith, inl, inr}
+-- What the number of an answer says of the job.
+use Rattle.std.proofs.Common.{◌≡◌, ◌≢◌, ◌<◌, ◌≤◌, ◌⊎◌, ℕ, refl, arith, inl, inr}
 use Rattle.chanv_c.specs.declared.asked.CJob.{CJob}
 use Rattle.chanv_c.specs.declared.refusal.JobFault.{JobFault}
 use Rattle.chanv_c.specs.declared.refusal.JobFault.TheVariants.{StorageTooLarge, NotADevice, NotAMask, NoExtent, ExtentBackwards, ExtentPastDevice, NotALimit, ReservedNotZero}
 use Rattle.chanv_c.specs.declared.refusal.Refusal.{Refusal}
 use Rattle.chanv_c.specs.declared.refusal.Refusal.TheVariants.{TooManyPlaces, Memory, Wrong}
-use Rattle.chanv_c.specs.Answers.{HasTooMany, IsRefusal, refusal_code}
-use Rattle.chanv_c.specs.Faults.{IsRefused, fault_code, fault_extent}
-use Rattle.chanv_c.specs.Needed.{HasTooManyOpenly, IsOpenRefusal}
+use Rattle.chanv_c.specs.Answers.{IsNumber, IsRefusal, refusal_code, refusal_extent}
+use Rattle.chanv_c.specs.Faults.{fault_code}
 
--- no fault has the number of too many places
-not_too_many : (f : JobFault) → fault_code f ≡ 2 → ⊥
-not_too_many StorageTooLarge e = omega (arith, e)
-not_too_many NotADevice e = omega (arith, e)
-not_too_many NotAMask e = omega (arith, e)
-not_too_many NoExtent e = omega (arith, e)
-not_too_many (ExtentBackwards i) e = omega (arith, e)
-not_too_many (ExtentPastDevice i) e = omega (arith, e)
-not_too_many NotALimit e = omega (arith, e)
-not_too_many ReservedNotZero e = omega (arith, e)
+-- a fault's number is from 4 to 12, and not that of too little room
+fault_numbers : (f : JobFault) → (4 ≤ fault_code f) × (fault_code f ≤ 12) × (fault_code f ≢ 11)
+fault_numbers StorageTooLarge = (omega arith, omega arith, λ e. omega (arith, e))
+fault_numbers NotADevice = (omega arith, omega arith, λ e. omega (arith, e))
+fault_numbers NotAMask = (omega arith, omega arith, λ e. omega (arith, e))
+fault_numbers NoExtent = (omega arith, omega arith, λ e. omega (arith, e))
+fault_numbers (ExtentBackwards i) = (omega arith, omega arith, λ e. omega (arith, e))
+fault_numbers (ExtentPastDevice i) = (omega arith, omega arith, λ e. omega (arith, e))
+fault_numbers NotALimit = (omega arith, omega arith, λ e. omega (arith, e))
+fault_numbers ReservedNotZero = (omega arith, omega arith, λ e. omega (arith, e))
 
--- a refusal of this number is that of too many places
-pub too_many_by_number : (c : CJob) (r : Refusal) → IsRefusal c r → refusal_code r ≡ 2 → HasTooMany c
-too_many_by_number c TooManyPlaces is e = is.0
-too_many_by_number c Memory is e = absurd (omega (arith, e))
-too_many_by_number c (Wrong f) is e = absurd (not_too_many f e)
+fault_accepts_none : (n : ℕ) {A : Type 0} → 4 ≤ n → n ≢ 11 → (n < 3) ⊎ (n ≡ 11) → A
+fault_accepts_none n four not (inl few) = absurd (omega (arith, four, few))
+fault_accepts_none n four not (inr room) = absurd (not room)
 
--- a refusal of a fault's number is that of the fault
-pub refused_by_number : (c : CJob) (r : Refusal) → IsRefusal c r → 4 ≤ refusal_code r → (extent : ℕ) × IsRefused c (refusal_code r) extent
-refused_by_number c TooManyPlaces is four = absurd (omega (arith, four))
-refused_by_number c Memory is four = absurd (omega (arith, four))
-refused_by_number c (Wrong f) is four = (fault_extent f, record { fault = f; code_is = refl; extent_is = refl; first = is })
+memory_accepts_none : {A : Type 0} (n : ℕ) → n ≡ 3 → (n < 3) ⊎ (n ≡ 11) → A
+memory_accepts_none n three (inl few) = absurd (omega (arith, three, few))
+memory_accepts_none n three (inr room) = absurd (omega (arith, three, room))
 
--- a refusal of this number is that of too many places under the open job
-pub too_many_openly : (c : CJob) (r : Refusal) → IsOpenRefusal c r → refusal_code r ≡ 2 → HasTooManyOpenly c
-too_many_openly c TooManyPlaces is e = is.0
-too_many_openly c Memory is e = absurd (omega (arith, e))
-too_many_openly c (Wrong f) is e = absurd (not_too_many f e)
-
--- a refusal of a fault's number is that of the fault, over the open job too
-pub refused_openly : (c : CJob) (r : Refusal) → IsOpenRefusal c r → 4 ≤ refusal_code r → (extent : ℕ) × IsRefused c (refusal_code r) extent
-refused_openly c TooManyPlaces is four = absurd (omega (arith, four))
-refused_openly c Memory is four = absurd (omega (arith, four))
-refused_openly c (Wrong f) is four = (fault_extent f, record { fault = f; code_is = refl; extent_is = refl; first = is })
-
--- a text that is told, or for which there is no room, isn't too many places
-pub told_is_not_many : (n : ℕ) → (n ≤ 1) ⊎ (n ≡ 11) → n ≡ 2 → ⊥
-told_is_not_many n (inl few) two = omega (arith, few, two)
-told_is_not_many n (inr room) two = omega (arith, room, two)
+-- a refusal's number says why there is no answer
+pub refusal_number : (crowded : Type 0) (c : CJob) (r : Refusal) → IsRefusal crowded c r
+    → IsNumber crowded c (refusal_code r) (refusal_extent r)
+refusal_number crowded c TooManyPlaces is = record {
+  many = λ _. is.0;
+  refused = λ four _. absurd (omega (arith, four));
+  accepted = λ _. is.1;
+  last = omega arith;
+}
+refusal_number crowded c Memory is = record {
+  many = λ two. absurd (omega (arith, two));
+  refused = λ four _. absurd (omega (arith, four));
+  accepted = memory_accepts_none 3 refl;
+  last = omega arith;
+}
+refusal_number crowded c (Wrong f) is =
+    let (four, last, room) = fault_numbers f in
+    record {
+      many = λ two. absurd (omega (arith, four, two));
+      refused = λ _ _. record { fault = f; code_is = refl; extent_is = refl; first = is };
+      accepted = fault_accepts_none (fault_code f) four room;
+      last = last;
+    }

@@ -1,5 +1,5 @@
 -- What the answers to C promise.
-use Rattle.std.specs.Prelude.{◌≡◌, ◌≤◌, ℕ, List, ◌++◌, drop, length, map}
+use Rattle.std.specs.Prelude.{◌≡◌, ◌≢◌, ◌<◌, ◌≤◌, ◌⊎◌, ℕ, List, ◌++◌, drop, length, map}
 use Rattle.chan_walk.specs.declared.job.Job.{Job}
 use Rattle.chan_walk.specs.declared.place.Place.{Place}
 use Rattle.chan_walk.specs.declared.reason.Reason.{Reason}
@@ -13,7 +13,7 @@ use Rattle.chanv_c.specs.declared.refusal.Refusal.{Refusal}
 use Rattle.chanv_c.specs.declared.refusal.Refusal.TheVariants.{TooManyPlaces, Memory, Wrong}
 use Rattle.chanv_c.specs.declared.rows.CPlace.{CPlace}
 use Rattle.chanv_c.specs.Asked.{IsJobOf}
-use Rattle.chanv_c.specs.Faults.{HasNoFault, IsFirstFault, fault_code, fault_extent}
+use Rattle.chanv_c.specs.Faults.{HasNoFault, IsFirstFault, IsRefused, fault_code, fault_extent}
 
 -- the verdict on the job that C asks about, with all that an answer promises
 pub record IsJudged (c : CJob) (v : Verdict) : Type 0 where
@@ -74,8 +74,18 @@ refusal_extent TooManyPlaces = 0
 refusal_extent Memory = 0
 refusal_extent (Wrong f) = fault_extent f
 
--- what a refusal says of the job; that an allocation was refused says nothing of it
-abbrev pub IsRefusal : CJob → Refusal → Type 0
-IsRefusal c TooManyPlaces = HasTooMany c × HasNoFault c
-IsRefusal c Memory = Unit {0}
-IsRefusal c (Wrong f) = IsFirstFault c f
+-- what a refusal says of the job, by what it says that too many places are reachable; that an
+-- allocation was refused says nothing of it
+abbrev pub IsRefusal : Type 0 → CJob → Refusal → Type 0
+IsRefusal crowded c TooManyPlaces = crowded × HasNoFault c
+IsRefusal crowded c Memory = Unit {0}
+IsRefusal crowded c (Wrong f) = IsFirstFault c f
+
+-- what the number of an answer says, and the extent told with it: 2 that too many places are
+-- reachable, and from 4 on, but for 11, that the job has the fault of this number first. A job that
+-- has a fault gets no answer, nor is there too little room for one
+pub record IsNumber (crowded : Type 0) (c : CJob) (code extent : ℕ) : Type 0 where
+  pub many : code ≡ 2 → crowded
+  pub refused : 4 ≤ code → code ≢ 11 → IsRefused c code extent
+  pub accepted : (code < 3) ⊎ (code ≡ 11) → HasNoFault c
+  pub last : code ≤ 12

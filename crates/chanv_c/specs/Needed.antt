@@ -15,12 +15,9 @@ use Rattle.chanv_c.specs.declared.asked.CJob.{CJob}
 use Rattle.chanv_c.specs.declared.needed.CNeeded.{CNeeded}
 use Rattle.chanv_c.specs.declared.needed.Found.{Found}
 use Rattle.chanv_c.specs.declared.needed.Found.TheVariants as found
-use Rattle.chanv_c.specs.declared.refusal.Refusal.{Refusal}
-use Rattle.chanv_c.specs.declared.refusal.Refusal.TheVariants.{TooManyPlaces, Memory, Wrong}
 use Rattle.chanv_c.specs.declared.verifying.CVerdict.{CVerdict}
 use Rattle.chanv_c.specs.Asked.{IsJobOf}
 use Rattle.chanv_c.specs.Explained.{verdict_told}
-use Rattle.chanv_c.specs.Faults.{HasNoFault, IsFirstFault}
 
 -- ---- the open job
 
@@ -52,12 +49,6 @@ pub record AreNeedsOf (c : CJob) (n : Listed) : Type 0 where
 abbrev pub IsFound : CJob → Found → Type 0
 IsFound c (found.Needed n) = AreNeedsOf c (listed n)
 IsFound c (found.NoJob a r) = IsJudgedOpenly c (No a r)
-
--- what a refusal says of the program; that an allocation was refused says nothing of it
-abbrev pub IsOpenRefusal : CJob → Refusal → Type 0
-IsOpenRefusal c TooManyPlaces = HasTooManyOpenly c × HasNoFault c
-IsOpenRefusal c Memory = Unit {0}
-IsOpenRefusal c (Wrong f) = IsFirstFault c f
 
 -- ---- what is told
 

@@ -22,6 +22,7 @@ use Rattle.chanv_c.specs.declared.asked.CJob.{CJob}
 use Rattle.chanv_c.specs.declared.starting.CProgram.{CProgram}
 use Rattle.chanv_c.specs.declared.starting.CRefusal.{CRefusal}
 use Rattle.chanv_c.specs.declared.starting.CRows.{CRows}
+use Rattle.chanv_c.specs.declared.starting.MayStart.{MayStart}
 use Rattle.chanv_c.specs.Asked.{IsJobOf, device_number, pair}
 
 -- ---- what C remembers
@@ -176,6 +177,11 @@ pub record StartsWellFor (c : CJob) (p : CProgram) (fs : List CProgram) : Type 0
   pub remembered : Remembered
   pub is_so : IsRememberedAs p remembered
   pub well : StartsWell job remembered (map as_in_flight fs)
+
+-- the answer to the question, with what a yes says
+pub record IsStart (m : MayStart) (c : CJob) (s : Start) : Type 0 where
+  pub is : IsStartOf c m.program.now m.in_flight.now s
+  pub well : s ≡ answer.Yes → StartsWellFor c m.program.now m.in_flight.now
 
 -- ---- who may write
 

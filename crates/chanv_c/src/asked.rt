@@ -106,8 +106,7 @@ fn extents_of(alloc: Global, asked: &CJob<'_>) -> Result<Extents, Refusal>
     requires { HasNoneBelow asked.now 7 }
     ensures extents { IfOk result (λ extents. extents ≡ extents_asked asked.now) }
     ensures right { OnOk result (HasNoneBelow asked.now 10) }
-    ensures refusal { IfErr result (IsRefusal asked.now) }
-    ensures few { result ≢ Err Refusal.TooManyPlaces }
+    ensures refusal { IfErr result (IsRefusal ⊥ asked.now) }
 {
     let Ok(pairs) = pairs_of(alloc, asked.extents) else {
         return Err(Refusal::Memory);
@@ -133,8 +132,7 @@ pub(crate) struct Ready<'a> {
 pub(crate) fn make_ready<'a>(alloc: Global, asked: &CJob<'a>) -> Result<Ready<'a>, Refusal>
     ensures job { IfOk result (IsReady asked.now) }
     ensures right { OnOk result (HasNoFault asked.now) }
-    ensures refusal { IfErr result (IsRefusal asked.now) }
-    ensures few { result ≢ Err Refusal.TooManyPlaces }
+    ensures refusal { IfErr result (IsRefusal ⊥ asked.now) }
 {
     let parts = match parts_of(asked) {
         Ok(parts) => parts,

@@ -1,17 +1,16 @@
 //! Why a channel program may not run: the path to a place that offends, and the cause's values.
 
-ghost use Rattle.std.specs.Prelude.{◌≡◌, ◌≢◌, ◌<◌, ◌≤◌, ◌⊎◌, length, IfOk, IfErr, OnOk};
+ghost use Rattle.std.specs.Prelude.{◌≡◌, ◌≢◌, ◌<◌};
 ghost use Rattle.chan_walk.specs.declared.verdict.Verdict.TheVariants.{Yes};
-ghost use Rattle.chanv_c.specs.Answers.{HasTooMany, IsJudged, IsRefusal};
-ghost use Rattle.chanv_c.specs.Asked.{IsJobOf};
+ghost use Rattle.chanv_c.specs.Answers.{HasTooMany, IsJudged, IsNumber};
 ghost use Rattle.chanv_c.specs.Explained as specs;
-ghost use Rattle.chanv_c.specs.Explained.{AreInFront, IsExplanation, IsRoomTooSmall, IsTold};
+ghost use Rattle.chanv_c.specs.Explained.{AreInFront, IsRoomTooSmall, IsTold};
 ghost use Rattle.chanv_c.specs.Explained.{told_nothing, verdict_told};
 ghost use Rattle.chanv_c.specs.declared.explaining.Found as declared;
-ghost use Rattle.chanv_c.specs.Faults.{HasNoFault, IsRefused};
 
-use crate::asked::{CJob, make_ready};
+use crate::asked::CJob;
 use crate::evidence::{CEvidence, NO_VALUES, cause_told};
+use crate::question::{Question, answer};
 use crate::refusal::{Refusal, no_answer};
 use crate::rows::{CPlace, write_path};
 use crate::verifying::CVerdict;
@@ -55,18 +54,11 @@ pub extern "C" fn chanv_why(
     ensures room { result ≡ 11 → (x : declared.Found) × IsTold job.now x out.new
         × IsRoomTooSmall x path.old second_path.old }
     ensures kept { result ≢ 1 → (path.new ≡ path.old) × (second_path.new ≡ second_path.old) }
-    ensures many { result ≡ 2 → HasTooMany job.now }
-
-    // A job is refused by its first fault, and one that has a fault gets no answer.
-    ensures refused { 4 ≤ result → result ≢ 11 → IsRefused job.now result out.new.verdict.extent }
-    ensures accepted { result < 3 → HasNoFault job.now }
-    ensures roomless { result ≡ 11 → HasNoFault job.now }
-    ensures codes { result ≤ 12 }
-
+    ensures number { IsNumber (HasTooMany job.now) job.now result out.new.verdict.extent }
     ensures nothing { result ≢ 1 → result ≢ 11 → out.new ≡ told_nothing out.new.verdict.extent }
     ensures no_extent { result < 4 → out.new.verdict.extent ≡ 0 }
 {
-    let found = match explanation_of(alloc, job) {
+    let found = match answer(alloc, &Why, job) {
         Ok(found) => found,
         Err(refusal) => {
             *out = nothing(refusal.extent());
@@ -138,36 +130,28 @@ fn verdict_of(verdict: Verdict) -> CVerdict
     }
 }
 
-/// The explanation of the verdict on the job that C asks about.
-fn explanation_of(alloc: Global, asked: &CJob<'_>) -> Result<Found, Refusal>
-    ensures answer { IfOk result (IsExplanation asked.now) }
-    ensures right { OnOk result (HasNoFault asked.now) }
-    ensures refusal { IfErr result (IsRefusal asked.now) }
-{
-    let ready = match make_ready(alloc, asked) {
-        Ok(ready) => ready,
-        Err(refusal) => return Err(refusal),
-    };
-    let job = ready.job(asked);
-    explanation_on(alloc, asked, &job)
-}
+/// Why may the program not run?
+struct Why;
 
-/// The explanation of the verdict on a job that is the one that C asks about.
-fn explanation_on(alloc: Global, asked: &CJob<'_>, job: &Job) -> Result<Found, Refusal>
-    requires asked { IsJobOf asked.now job.now }
-    requires right { HasNoFault asked.now }
-    ensures answer { IfOk result (IsExplanation asked.now) }
-    ensures refusal { IfErr result (IsRefusal asked.now) }
-{
-    let survey = match survey(alloc, job) {
-        Ok(survey) => survey,
-        Err(error) => return Err(no_answer(asked, job, error)),
-    };
-    match survey.witness(alloc, job) {
-        Ok(witness) => Ok(Found {
-            verdict: survey.verdict(),
-            witness,
-        }),
-        Err(_) => Err(Refusal::Memory),
+impl Question<Found> for Why {
+    ghost use Rattle.chanv_c.specs.Answers.{HasTooMany};
+    ghost use Rattle.chanv_c.specs.Explained.{IsExplanation};
+
+    ghost holds = { λ _. IsExplanation };
+
+    ghost crowded = { HasTooMany };
+
+    fn ask(&self, alloc: Global, asked: &CJob<'_>, job: &Job) -> Result<Found, Refusal> {
+        let survey = match survey(alloc, job) {
+            Ok(survey) => survey,
+            Err(error) => return Err(no_answer(asked, job, error)),
+        };
+        match survey.witness(alloc, job) {
+            Ok(witness) => Ok(Found {
+                verdict: survey.verdict(),
+                witness,
+            }),
+            Err(_) => Err(Refusal::Memory),
+        }
     }
 }

@@ -11,6 +11,7 @@ mod finding;
 mod keeping;
 mod listing;
 mod needed;
+mod question;
 mod refusal;
 mod rows;
 mod starting;

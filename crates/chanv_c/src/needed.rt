@@ -7,13 +7,15 @@ ghost use Rattle.chan_walk.specs.Rows.{IsOpenJob, Listed, listed};
 ghost use Rattle.chan_walk.specs.Verdict.{IsVerdict};
 ghost use Rattle.chan_walk.specs.declared.error.WalkError.TheVariants as walk;
 ghost use Rattle.chan_walk.specs.declared.verdict.Verdict as declared;
+ghost use Rattle.chanv_c.specs.Answers.{IsNumber, IsRefusal};
 ghost use Rattle.chanv_c.specs.Asked.{IsJobOf};
-ghost use Rattle.chanv_c.specs.Faults.{HasNoFault, IsRefused};
+ghost use Rattle.chanv_c.specs.Faults.{HasNoFault};
 ghost use Rattle.chanv_c.specs.Needed.{AreToldNeeds, HasTooManyOpenly, HaveRoom, IsFound};
-ghost use Rattle.chanv_c.specs.Needed.{IsOpenFor, IsOpenRefusal, IsToldNo, StandFirst, run_row};
+ghost use Rattle.chanv_c.specs.Needed.{IsOpenFor, IsToldNo, StandFirst, run_row};
 ghost use Rattle.chanv_c.specs.Needed.{told_alone, told_needs};
 
-use crate::asked::{CExtent, CJob, make_ready};
+use crate::asked::{CExtent, CJob};
+use crate::question::{Question, answer};
 use crate::refusal::Refusal;
 use crate::rows::{write_areas, write_runs};
 use crate::verifying::CVerdict;
@@ -69,19 +71,12 @@ pub extern "C" fn chanv_needs(
         × (HaveRoom n extents.old fetch.old store.old keep.old → ⊥) }
     ensures left { result ≢ 0 → (extents.new ≡ extents.old) × (fetch.new ≡ fetch.old)
         × (store.new ≡ store.old) × (keep.new ≡ keep.old) }
-    ensures many { result ≡ 2 → HasTooManyOpenly job.now }
-
-    // A job is refused by its first fault, and one that has a fault gets no answer.
-    ensures refused { 4 ≤ result → result ≢ 11 → IsRefused job.now result out.new.verdict.extent }
-    ensures accepted { result < 3 → HasNoFault job.now }
-    ensures roomless { result ≡ 11 → HasNoFault job.now }
-    ensures codes { result ≤ 12 }
-
+    ensures number { IsNumber (HasTooManyOpenly job.now) job.now result out.new.verdict.extent }
     ensures nothing { 2 ≤ result → result ≢ 11 → out.new
         ≡ told_alone (record { extent = out.new.verdict.extent; address = 0; reason = 0 }) }
     ensures no_extent { result < 4 → out.new.verdict.extent ≡ 0 }
 {
-    let needs = match found_of(alloc, job) {
+    let needs = match answer(alloc, &WhatIsNeeded, job) {
         Ok(Found::Needed(needs)) => needs,
         Ok(Found::NoJob { address, reason }) => {
             *out = alone(0, address, u32::from(reason.number()));
@@ -158,30 +153,21 @@ fn have_room(
         && needs.keep.len() <= keep.len()
 }
 
-/// What is found of the program of the job that C asks about.
-fn found_of(alloc: Global, asked: &CJob<'_>) -> Result<Found, Refusal>
-    ensures found { IfOk result (IsFound asked.now) }
-    ensures right { OnOk result (HasNoFault asked.now) }
-    ensures refusal { IfErr result (IsOpenRefusal asked.now) }
-{
-    let ready = match make_ready(alloc, asked) {
-        Ok(ready) => ready,
-        Err(refusal) => return Err(refusal),
-    };
-    let job = ready.job(asked);
-    found_for(alloc, asked, &job)
-}
+/// What does the program need?
+struct WhatIsNeeded;
 
-/// What is found of the program of a job that is the one that C asks about.
-fn found_for(alloc: Global, asked: &CJob<'_>, job: &Job) -> Result<Found, Refusal>
-    requires asked { IsJobOf asked.now job.now }
-    requires right { HasNoFault asked.now }
-    ensures found { IfOk result (IsFound asked.now) }
-    ensures refusal { IfErr result (IsOpenRefusal asked.now) }
-{
-    match OpenJob::of(alloc, job) {
-        Ok(open) => found_on(alloc, asked, job, &open.job()),
-        Err(_) => Err(Refusal::Memory),
+impl Question<Found> for WhatIsNeeded {
+    ghost use Rattle.chanv_c.specs.Needed.{HasTooManyOpenly, IsFound};
+
+    ghost holds = { λ _. IsFound };
+
+    ghost crowded = { HasTooManyOpenly };
+
+    fn ask(&self, alloc: Global, asked: &CJob<'_>, job: &Job) -> Result<Found, Refusal> {
+        match OpenJob::of(alloc, job) {
+            Ok(open) => found_on(alloc, asked, job, &open.job()),
+            Err(_) => Err(Refusal::Memory),
+        }
     }
 }
 
@@ -193,7 +179,7 @@ fn found_on(alloc: Global, asked: &CJob<'_>, job: &Job, open: &Job) -> Result<Fo
     requires verdict { (v : declared.Verdict) → IsVerdict open.now v
         ↔ IsVerdict (open_job job.now) v }
     ensures found { IfOk result (IsFound asked.now) }
-    ensures refusal { IfErr result (IsOpenRefusal asked.now) }
+    ensures refusal { IfErr result (IsRefusal (HasTooManyOpenly asked.now) asked.now) }
 {
     let survey = match survey(alloc, open) {
         Ok(survey) => survey,
@@ -213,7 +199,7 @@ pub(crate) fn no_needs(_asked: &CJob<'_>, _open: &Job, error: WalkError) -> Refu
     requires open { IsOpenFor _asked.now _open.now }
     requires right { HasNoFault _asked.now }
     requires many { error ≡ walk.TooManyPlaces → HasMoreThan _open.now _open.now.limit }
-    ensures { IsOpenRefusal _asked.now result }
+    ensures { IsRefusal (HasTooManyOpenly _asked.now) _asked.now result }
 {
     match error {
         WalkError::TooManyPlaces => Refusal::TooManyPlaces,

@@ -3,7 +3,7 @@
 ghost use Rattle.std.specs.Prelude.{◌≡◌};
 ghost use Rattle.chan_walk.specs.Explored.{HasMoreThan};
 ghost use Rattle.chan_walk.specs.declared.error.WalkError.TheVariants as walk;
-ghost use Rattle.chanv_c.specs.Answers.{IsRefusal, refusal_code, refusal_extent};
+ghost use Rattle.chanv_c.specs.Answers.{HasTooMany, IsRefusal, refusal_code, refusal_extent};
 ghost use Rattle.chanv_c.specs.Asked.{IsJobOf};
 ghost use Rattle.chanv_c.specs.Faults.{HasNoFault, fault_code, fault_extent};
 
@@ -98,7 +98,7 @@ pub(crate) fn no_answer(_asked: &CJob<'_>, _job: &Job, error: WalkError) -> Refu
     requires asked { IsJobOf _asked.now _job.now }
     requires right { HasNoFault _asked.now }
     requires many { error ≡ walk.TooManyPlaces → HasMoreThan _job.now _job.now.limit }
-    ensures { IsRefusal _asked.now result }
+    ensures { IsRefusal (HasTooMany _asked.now) _asked.now result }
 {
     match error {
         WalkError::TooManyPlaces => Refusal::TooManyPlaces,

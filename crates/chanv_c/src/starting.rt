@@ -1,22 +1,20 @@
 //! Whether a program that C remembers may start, and whether others may write meanwhile.
 
-ghost use Rattle.std.specs.Prelude.{◌≡◌, ◌≢◌, ◌≤◌, ◌<◌, ◌⊎◌, [], map, Err, IfOk, IfErr};
-ghost use Rattle.std.specs.Prelude.{MatchOption, OnOk};
+ghost use Rattle.std.specs.Prelude.{◌≡◌, ◌≢◌, ◌≤◌, ◌<◌, ◌⊎◌, [], map, IfOk, MatchOption};
 ghost use Rattle.std.specs.List.{All};
 ghost use Rattle.chan_walk.specs.declared.starting.Start as declared;
-ghost use Rattle.chan_walk.specs.declared.starting.Start.TheVariants as answers;
 ghost use Rattle.chan_walk.specs.Remembered.{AreBeside, IsAnswerOf, IsConflict, WritesWell};
 ghost use Rattle.chan_walk.specs.declared.remembered.Remembered.{Remembered};
 ghost use Rattle.chan_walk.specs.Rows.{rows_of};
-ghost use Rattle.chanv_c.specs.Answers.{IsRefusal};
-ghost use Rattle.chanv_c.specs.Asked.{IsJobOf, device_number};
-ghost use Rattle.chanv_c.specs.Faults.{HasNoFault, IsRefused};
+ghost use Rattle.chanv_c.specs.Answers.{IsNumber};
+ghost use Rattle.chanv_c.specs.Asked.{device_number};
 ghost use Rattle.chanv_c.specs.Starting.{AreApart, IsAnswerAlone, IsFirstConflict, IsFirstKeeper};
 ghost use Rattle.chanv_c.specs.Starting.{IsStartOf, SparesArea, StartsWellFor, as_in_flight};
 ghost use Rattle.chanv_c.specs.Starting.{keeper_told, nothing_told};
 ghost use Rattle.chanv_c.specs.Starting.{rows_told, start_code, start_told, unmasked};
 
-use crate::asked::{CExtent, CJob, device_of, make_ready, or_empty, pairs_of};
+use crate::asked::{CExtent, CJob, device_of, or_empty, pairs_of};
+use crate::question::{Question, answer};
 use crate::refusal::Refusal;
 use ccw_core::Area;
 use chan_walk::{Conflict, Job, Refusal as StartRefusal, Remembered, Rows, Start, may_start};
@@ -76,15 +74,12 @@ pub extern "C" fn chanv_may_start(
     // If what is remembered is true, a program with a yes may start.
     ensures well { result ≡ 0 → StartsWellFor job.now program.now in_flight.now }
 
-    // A job is refused by its first fault, and one that has a fault gets no answer.
-    ensures refused { 4 ≤ result → IsRefused job.now result out.new.extent }
-    ensures accepted { result ≤ 1 → HasNoFault job.now }
-    ensures codes { (result ≤ 12) × (result ≢ 2) × (result ≢ 11) }
-
+    ensures number { IsNumber ⊥ job.now result out.new.extent }
+    ensures room { result ≢ 11 }
     ensures nothing { 1 < result → out.new ≡ nothing_told out.new.extent }
     ensures no_extent { result < 4 → out.new.extent ≡ 0 }
 {
-    match start_of(alloc, job, in_flight, program) {
+    match answer(alloc, &MayStart { in_flight, program }, job) {
         Ok(start) => {
             *out = told(start);
             code_of(start)
@@ -179,53 +174,33 @@ fn code_of(start: Start) -> u32
     }
 }
 
-/// Whether the program may start under the job that C asks about.
-fn start_of(
-    alloc: Global,
-    asked: &CJob<'_>,
-    in_flight: &[CProgram<'_>],
-    program: &CProgram<'_>,
-) -> Result<Start, Refusal>
-    ensures start { IfOk result (IsStartOf asked.now program.now in_flight.now) }
-    ensures well { IfOk result (λ s. s ≡ answers.Yes
-        → StartsWellFor asked.now program.now in_flight.now) }
-    ensures right { OnOk result (HasNoFault asked.now) }
-    ensures refusal { IfErr result (IsRefusal asked.now) }
-    ensures few { result ≢ Err Refusal.TooManyPlaces }
-{
-    let ready = match make_ready(alloc, asked) {
-        Ok(ready) => ready,
-        Err(refusal) => return Err(refusal),
-    };
-    let job = ready.job(asked);
-    start_under(alloc, asked, &job, in_flight, program)
+/// May the program start beside those in flight?
+#[derive(Clone, Copy)]
+struct MayStart<'a> {
+    in_flight: &'a [CProgram<'a>],
+    program: &'a CProgram<'a>,
 }
 
-/// Whether the program may start under a job that is the one that C asks about.
-fn start_under(
-    alloc: Global,
-    _asked: &CJob<'_>,
-    job: &Job,
-    in_flight: &[CProgram<'_>],
-    program: &CProgram<'_>,
-) -> Result<Start, Refusal>
-    requires { IsJobOf _asked.now job.now }
-    ensures start { IfOk result (IsStartOf _asked.now program.now in_flight.now) }
-    ensures well { IfOk result (λ s. s ≡ answers.Yes
-        → StartsWellFor _asked.now program.now in_flight.now) }
-    ensures memory { IfErr result (λ refusal. refusal ≡ Refusal.Memory) }
-{
-    // These two calls say that the job is proper, which the law asks for.
-    let _extents = job.extents.pairs();
-    let _mask = job.mask.byte();
-    match start_alone(alloc, job, program) {
-        Ok(Start::Yes) => {}
-        Ok(Start::No(refusal)) => return Ok(Start::No(refusal)),
-        Err(_) => return Err(Refusal::Memory),
-    }
-    match first_conflict(program, or_empty(in_flight)) {
-        None => Ok(Start::Yes),
-        Some((number, conflict)) => Ok(Start::No(StartRefusal::Beside(number, conflict))),
+impl<'a> Question<Start> for MayStart<'a> {
+    ghost use Rattle.chanv_c.specs.Starting.{IsStart};
+
+    ghost holds = { IsStart };
+
+    ghost crowded = { λ _. ⊥ };
+
+    fn ask(&self, alloc: Global, _asked: &CJob<'_>, job: &Job) -> Result<Start, Refusal> {
+        // These two calls say that the job is proper, which the law asks for.
+        let _extents = job.extents.pairs();
+        let _mask = job.mask.byte();
+        match start_alone(alloc, job, self.program) {
+            Ok(Start::Yes) => {}
+            Ok(Start::No(refusal)) => return Ok(Start::No(refusal)),
+            Err(_) => return Err(Refusal::Memory),
+        }
+        match first_conflict(self.program, or_empty(self.in_flight)) {
+            None => Ok(Start::Yes),
+            Some((number, conflict)) => Ok(Start::No(StartRefusal::Beside(number, conflict))),
+        }
     }
 }
 

@@ -1,18 +1,17 @@
 //! The text that explains the verdict on a channel program.
 
-ghost use Rattle.std.specs.Prelude.{◌≡◌, ◌≢◌, ℕ, ◌<◌, ◌≤◌, ◌⊎◌, length, IfOk, IfErr, OnOk};
+ghost use Rattle.std.specs.Prelude.{◌≡◌, ◌≢◌, ℕ, ◌<◌, ◌≤◌, ◌⊎◌, length, IfOk, IfErr};
 ghost use Rattle.chan_walk.specs.Explored.{HasMoreThan};
 ghost use Rattle.chan_walk.specs.declared.error.WalkError.TheVariants as walk;
-ghost use Rattle.chanv_c.specs.Answers.{HasTooMany, IsRefusal};
-ghost use Rattle.chanv_c.specs.Asked.{IsJobOf};
+ghost use Rattle.chanv_c.specs.Answers.{HasTooMany, IsNumber};
 ghost use Rattle.chanv_c.specs.declared.telling.Told as declared;
-ghost use Rattle.chanv_c.specs.Faults.{HasNoFault, IsRefused};
-ghost use Rattle.chanv_c.specs.Needed.{HasTooManyOpenly, IsOpenRefusal, StandFirst};
+ghost use Rattle.chanv_c.specs.Needed.{HasTooManyOpenly, StandFirst};
 ghost use Rattle.chanv_c.specs.Telling.{IsOpenText, IsText, IsTextOn, IsToldWhole, IsTooLong};
 ghost use Rattle.chanv_c.specs.Telling.{verdict_code};
 
-use crate::asked::{CJob, make_ready};
+use crate::asked::CJob;
 use crate::needed::no_needs;
+use crate::question::{Question, answer};
 use crate::refusal::{Refusal, no_answer};
 use chan_deck::explanation_text;
 use chan_walk::{Job, OpenJob, Verdict, WalkError, survey};
@@ -41,17 +40,10 @@ pub extern "C" fn chanv_text(
     ensures room { result ≡ 11 → (t : declared.Told) × IsText job.now t
         × IsTooLong t count.new buffer.old }
     ensures kept { 1 < result → buffer.new ≡ buffer.old }
-    ensures many { result ≡ 2 → HasTooMany job.now }
-
-    // A job is refused by its first fault, and one that has a fault gets no answer.
-    ensures refused { 4 ≤ result → result ≢ 11 → (extent : ℕ) × IsRefused job.now result extent }
-    ensures accepted { result < 3 → HasNoFault job.now }
-    ensures roomless { result ≡ 11 → HasNoFault job.now }
-    ensures codes { result ≤ 12 }
-
+    ensures number { (extent : ℕ) × IsNumber (HasTooMany job.now) job.now result extent }
     ensures no_count { 1 < result → result ≢ 11 → count.new ≡ 0 }
 {
-    match text_of(alloc, job) {
+    match answer(alloc, &WhichText, job) {
         Ok(told) => write_told(&told, buffer, count),
         Err(refusal) => {
             *count = 0;
@@ -75,17 +67,10 @@ pub extern "C" fn chanv_open_text(
     ensures room { result ≡ 11 → (t : declared.Told) × IsOpenText job.now t
         × IsTooLong t count.new buffer.old }
     ensures kept { 1 < result → buffer.new ≡ buffer.old }
-    ensures many { result ≡ 2 → HasTooManyOpenly job.now }
-
-    // A job is refused by its first fault, and one that has a fault gets no answer.
-    ensures refused { 4 ≤ result → result ≢ 11 → (extent : ℕ) × IsRefused job.now result extent }
-    ensures accepted { result < 3 → HasNoFault job.now }
-    ensures roomless { result ≡ 11 → HasNoFault job.now }
-    ensures codes { result ≤ 12 }
-
+    ensures number { (extent : ℕ) × IsNumber (HasTooManyOpenly job.now) job.now result extent }
     ensures no_count { 1 < result → result ≢ 11 → count.new ≡ 0 }
 {
-    match open_text_of(alloc, job) {
+    match answer(alloc, &WhichOpenText, job) {
         Ok(told) => write_told(&told, buffer, count),
         Err(refusal) => {
             *count = 0;
@@ -129,62 +114,46 @@ fn write_text(text: &[u8], buffer: &mut [u8])
     buffer[..text.len()].copy_from_slice(text);
 }
 
-/// The verdict on the job that C asks about, with the text that explains it.
-fn text_of(alloc: Global, asked: &CJob<'_>) -> Result<Told, Refusal>
-    ensures text { IfOk result (IsText asked.now) }
-    ensures right { OnOk result (HasNoFault asked.now) }
-    ensures refusal { IfErr result (IsRefusal asked.now) }
-{
-    let ready = match make_ready(alloc, asked) {
-        Ok(ready) => ready,
-        Err(refusal) => return Err(refusal),
-    };
-    let job = ready.job(asked);
-    text_on(alloc, asked, &job)
-}
+/// By which text is the verdict explained?
+struct WhichText;
 
-/// The verdict on a job that is the one that C asks about, with the text that explains it.
-fn text_on(alloc: Global, asked: &CJob<'_>, job: &Job) -> Result<Told, Refusal>
-    requires asked { IsJobOf asked.now job.now }
-    requires right { HasNoFault asked.now }
-    ensures text { IfOk result (IsText asked.now) }
-    ensures refusal { IfErr result (IsRefusal asked.now) }
-{
-    match told_on(alloc, job) {
-        Ok(told) => Ok(told),
-        Err(error) => Err(no_answer(asked, job, error)),
+impl Question<Told> for WhichText {
+    ghost use Rattle.chanv_c.specs.Answers.{HasTooMany};
+    ghost use Rattle.chanv_c.specs.Telling.{IsText};
+
+    ghost holds = { λ _. IsText };
+
+    ghost crowded = { HasTooMany };
+
+    fn ask(&self, alloc: Global, asked: &CJob<'_>, job: &Job) -> Result<Told, Refusal> {
+        match told_on(alloc, job) {
+            Ok(told) => Ok(told),
+            Err(error) => Err(no_answer(asked, job, error)),
+        }
     }
 }
 
-/// The verdict on the open job of the program that C asks about, with the text that explains it.
-fn open_text_of(alloc: Global, asked: &CJob<'_>) -> Result<Told, Refusal>
-    ensures text { IfOk result (IsOpenText asked.now) }
-    ensures right { OnOk result (HasNoFault asked.now) }
-    ensures refusal { IfErr result (IsOpenRefusal asked.now) }
-{
-    let ready = match make_ready(alloc, asked) {
-        Ok(ready) => ready,
-        Err(refusal) => return Err(refusal),
-    };
-    let job = ready.job(asked);
-    open_text_on(alloc, asked, &job)
-}
+/// By which text is the verdict on the open job explained?
+struct WhichOpenText;
 
-/// The same over the open job of a job that is the one that C asks about.
-fn open_text_on(alloc: Global, asked: &CJob<'_>, job: &Job) -> Result<Told, Refusal>
-    requires asked { IsJobOf asked.now job.now }
-    requires right { HasNoFault asked.now }
-    ensures text { IfOk result (IsOpenText asked.now) }
-    ensures refusal { IfErr result (IsOpenRefusal asked.now) }
-{
-    let open = match OpenJob::of(alloc, job) {
-        Ok(open) => open,
-        Err(_) => return Err(Refusal::Memory),
-    };
-    let open_job = open.job();
-    match told_on(alloc, &open_job) {
-        Ok(told) => Ok(told),
-        Err(error) => Err(no_needs(asked, &open_job, error)),
+impl Question<Told> for WhichOpenText {
+    ghost use Rattle.chanv_c.specs.Needed.{HasTooManyOpenly};
+    ghost use Rattle.chanv_c.specs.Telling.{IsOpenText};
+
+    ghost holds = { λ _. IsOpenText };
+
+    ghost crowded = { HasTooManyOpenly };
+
+    fn ask(&self, alloc: Global, asked: &CJob<'_>, job: &Job) -> Result<Told, Refusal> {
+        let open = match OpenJob::of(alloc, job) {
+            Ok(open) => open,
+            Err(_) => return Err(Refusal::Memory),
+        };
+        let open_job = open.job();
+        match told_on(alloc, &open_job) {
+            Ok(told) => Ok(told),
+            Err(error) => Err(no_needs(asked, &open_job, error)),
+        }
     }
 }
 

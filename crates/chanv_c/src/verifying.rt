@@ -1,12 +1,11 @@
 //! Whether a channel program may run.
 
-ghost use Rattle.std.specs.Prelude.{◌≡◌, ◌≢◌, ◌<◌, ◌≤◌, IfOk, IfErr, OnOk};
+ghost use Rattle.std.specs.Prelude.{◌≡◌, ◌≢◌, ◌<◌};
 ghost use Rattle.chan_walk.specs.declared.verdict.Verdict.TheVariants.{Yes};
-ghost use Rattle.chanv_c.specs.Answers.{HasTooMany, IsDenied, IsJudged, IsRefusal};
-ghost use Rattle.chanv_c.specs.Asked.{IsJobOf};
-ghost use Rattle.chanv_c.specs.Faults.{HasNoFault, IsRefused};
+ghost use Rattle.chanv_c.specs.Answers.{HasTooMany, IsDenied, IsJudged, IsNumber};
 
-use crate::asked::{CJob, make_ready};
+use crate::asked::CJob;
+use crate::question::{Question, answer};
 use crate::refusal::{Refusal, no_answer};
 use chan_walk::{Job, Verdict, verify};
 use std::alloc::Global;
@@ -27,17 +26,12 @@ pub struct CVerdict {
 pub extern "C" fn chanv_verify(alloc: Global, job: &CJob<'_>, out: &mut CVerdict) -> u32
     ensures yes { result ≡ 0 → IsJudged job.now Yes }
     ensures no { result ≡ 1 → IsDenied job.now out.new.address out.new.reason }
-    ensures many { result ≡ 2 → HasTooMany job.now }
-
-    // A job is refused by its first fault, and one that has a fault gets no answer.
-    ensures refused { 4 ≤ result → IsRefused job.now result out.new.extent }
-    ensures accepted { result < 3 → HasNoFault job.now }
-    ensures codes { (result ≤ 12) × (result ≢ 11) }
-
+    ensures number { IsNumber (HasTooMany job.now) job.now result out.new.extent }
+    ensures room { result ≢ 11 }
     ensures no_place { result ≢ 1 → (out.new.address ≡ 0) × (out.new.reason ≡ 0) }
     ensures no_extent { result < 4 → out.new.extent ≡ 0 }
 {
-    match verdict_of(alloc, job) {
+    match answer(alloc, &MayRun, job) {
         Ok(Verdict::Yes) => {
             *out = CVerdict {
                 extent: 0,
@@ -65,29 +59,20 @@ pub extern "C" fn chanv_verify(alloc: Global, job: &CJob<'_>, out: &mut CVerdict
     }
 }
 
-/// The verdict on the job that C asks about.
-fn verdict_of(alloc: Global, asked: &CJob<'_>) -> Result<Verdict, Refusal>
-    ensures answer { IfOk result (IsJudged asked.now) }
-    ensures right { OnOk result (HasNoFault asked.now) }
-    ensures refusal { IfErr result (IsRefusal asked.now) }
-{
-    let ready = match make_ready(alloc, asked) {
-        Ok(ready) => ready,
-        Err(refusal) => return Err(refusal),
-    };
-    let job = ready.job(asked);
-    verdict_on(alloc, asked, &job)
-}
+/// May the program run?
+struct MayRun;
 
-/// The verdict on a job that is the one that C asks about.
-fn verdict_on(alloc: Global, asked: &CJob<'_>, job: &Job) -> Result<Verdict, Refusal>
-    requires asked { IsJobOf asked.now job.now }
-    requires right { HasNoFault asked.now }
-    ensures answer { IfOk result (IsJudged asked.now) }
-    ensures refusal { IfErr result (IsRefusal asked.now) }
-{
-    match verify(alloc, job) {
-        Ok(verdict) => Ok(verdict),
-        Err(error) => Err(no_answer(asked, job, error)),
+impl Question<Verdict> for MayRun {
+    ghost use Rattle.chanv_c.specs.Answers.{HasTooMany, IsJudged};
+
+    ghost holds = { λ _. IsJudged };
+
+    ghost crowded = { HasTooMany };
+
+    fn ask(&self, alloc: Global, asked: &CJob<'_>, job: &Job) -> Result<Verdict, Refusal> {
+        match verify(alloc, job) {
+            Ok(verdict) => Ok(verdict),
+            Err(error) => Err(no_answer(asked, job, error)),
+        }
     }
 }

@@ -3,14 +3,15 @@ use Rattle.std.proofs.Common.{◌≡◌, ◌≢◌, ◌<◌, List, length, inl, 
 use Rattle.chan_walk.specs.declared.place.Place.{Place}
 use Rattle.chan_walk.specs.declared.verdict.Verdict.{Verdict}
 use Rattle.chan_walk.specs.declared.verdict.Verdict.TheVariants.{Yes}
-use Rattle.chanv_c.specs.Answers.{IsJudged}
+use Rattle.chanv_c.specs.Answers.{HasTooMany, IsJudged}
 use Rattle.chanv_c.specs.Explained.{AreInFront}
-use Rattle.chanv_c.proofs.Refusals.{too_many_by_number}
+use Rattle.chanv_c.proofs.Refusals.{refusal_number}
 use Rattle.chanv_c.proofs.explaining.chanv_why.Goals as goal
 use Rattle.chanv_c.proofs.explaining.chanv_why.Goals.{then-path-first-via-then-path-first, then-path-first-via-else-path-first+then-second_path-second}
 
-pub returns-in-Err-clause-many : goal.returns-in-Err-clause-many
-returns-in-Err-clause-many c = λ two. too_many_by_number c.args.job.now c.in-Err.refusal c.in-Err.ensures.refusal (sym c.code.ensures ∙ two)
+pub returns-in-Err-clause-number : goal.returns-in-Err-clause-number
+returns-in-Err-clause-number c =
+    rw (c.code.ensures, c.nothing.ensures, c.extent.ensures) (refusal_number (HasTooMany c.args.job.now) c.args.job.now c.in-Err.refusal c.in-Err.ensures.refusal)
 
 pub returns-in-Yes-clause-yes : goal.returns-in-Yes-clause-yes
 returns-in-Yes-clause-yes c = λ _. subst (IsJudged c.args.job.now) c.in-Yes.is (record { job = c.in-Ok.ensures.answer.job; asked = c.in-Ok.ensures.answer.asked; answer = c.in-Ok.ensures.answer.answer })

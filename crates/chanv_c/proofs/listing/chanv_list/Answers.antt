@@ -1,7 +1,8 @@
--- Too many places, by their number.
-use Rattle.std.proofs.Common.{sym, ◌∙◌}
-use Rattle.chanv_c.proofs.Refusals.{too_many_by_number}
+-- What a refusal's number says.
+use Rattle.chanv_c.specs.Answers.{HasTooMany}
+use Rattle.chanv_c.proofs.Refusals.{refusal_number}
 use Rattle.chanv_c.proofs.listing.chanv_list.Goals as goal
 
-pub returns-in-Err-clause-many : goal.returns-in-Err-clause-many
-returns-in-Err-clause-many c = λ two. too_many_by_number c.args.job.now c.in-Err.refusal c.in-Err.ensures.refusal (sym c.code.ensures ∙ two)
+pub returns-in-Err-clause-number : goal.returns-in-Err-clause-number
+returns-in-Err-clause-number c =
+    rw (c.code.ensures, c.extent.ensures) (refusal_number (HasTooMany c.args.job.now) c.args.job.now c.in-Err.refusal c.in-Err.ensures.refusal)

@@ -5,7 +5,7 @@ use Rattle.chanv_c.proofs.starting.chanv_may_start.Goals as goal
 
 pub returns-in-Ok-clause-well : goal.returns-in-Ok-clause-well
 returns-in-Ok-clause-well c = λ zero.
-    c.in-Ok.ensures.well (yes_by_code c.in-Ok.start (sym c.code_of.ensures ∙ zero))
+    c.in-Ok.ensures.answer.well (yes_by_code c.in-Ok.start (sym c.code_of.ensures ∙ zero))
 
 pub returns-in-Ok-clause-no_extent : goal.returns-in-Ok-clause-no_extent
 returns-in-Ok-clause-no_extent c = λ few.

@@ -1,9 +1,9 @@
 -- What `explore` says of the job is said of what C asks about.
 use Rattle.std.proofs.Common.{◌≤◌, ℕ, length, subst}
-use Rattle.chanv_c.proofs.listing.places_on.Goals as goal
+use Rattle.chanv_c.proofs.listing.WhichPlacesQuestionExplored.ask.Goals as goal
 
-pub returns-in-Ok-clause-places : goal.returns-in-Ok-clause-places
-returns-in-Ok-clause-places c = record {
+pub returns-in-Ok-clause-answer : goal.returns-in-Ok-clause-answer
+returns-in-Ok-clause-answer c = record {
   job = c.args.job.now;
   asked = c.requires.asked;
   are = c.in-Ok.ensures.ok;

@@ -1,5 +1,5 @@
 -- What `verify` says of the job is said of what C asks about.
-use Rattle.chanv_c.proofs.verifying.verdict_on.Goals as goal
+use Rattle.chanv_c.proofs.verifying.MayRunQuestionVerdict.ask.Goals as goal
 
 pub returns-in-Ok-clause-answer : goal.returns-in-Ok-clause-answer
 returns-in-Ok-clause-answer c = record {

@@ -1,7 +1,7 @@
-use Rattle.chanv_c.proofs.telling.open_text_on.Goals as goal
+use Rattle.chanv_c.proofs.telling.WhichOpenTextQuestionTold.ask.Goals as goal
 
-pub returns-in-Ok-told_on-clause-text : goal.returns-in-Ok-told_on-clause-text
-returns-in-Ok-told_on-clause-text c =
+pub returns-in-Ok-told_on-clause-answer : goal.returns-in-Ok-told_on-clause-answer
+returns-in-Ok-told_on-clause-answer c =
     let is_open = c.job-open_job.ensures.open c.args.job.now c.in-Ok.ensures.open in
     (c.job-open_job.result, record { job = c.args.job.now; asked = c.requires.asked; is_open = is_open }, c.in-Ok-told_on.ensures.text)
 
