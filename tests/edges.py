@@ -35,7 +35,7 @@ def chain_of(count, limit=None, last="0300000000000001"):
     head = f"chanv deck {version}\ndevice 2314\nmask 00\nstart 000800\n{line}"
     end = 0x800 + 8 * (count - 1)
     puts = [f"put {address:06X} 0300000040000001\n" for address in range(0x800, end, 8)]
-    area = "extent 010 019\nstorage 0010000\n"
+    area = "extent 010 019\nstorage 0100000\n"
     return f"{head}{area}{''.join(puts)}put {end:06X} {last}\nend\n"
 
 
@@ -69,6 +69,13 @@ def check_places(checks, program, deck):
     ]:
         deck.write_text(text)
         checks.expect(name, expected, run(program, given=deck))
+    for limit, how in [
+        (2, "; a deck of version 2 may raise it to 65536 by its line limit"),
+        (65536, ", and none is higher"),
+    ]:
+        deck.write_text(chain_of(limit + 1, limit))
+        said = f"chanv: too many places\nthe limit is {limit}{how}\n"
+        checks.expect(f"a limit of {limit}", Ran(2, "", said), run(program, "why", given=deck))
 
 
 def check_notes(checks, program, deck):

@@ -30,6 +30,7 @@ UNKNOWN = {
     "CHANGES-CWC": "; the nearest is changes-ccw",
     "too many places": "; the nearest is too-many-places",
     "put-aero": "; the nearest is put-zero",
+    "daek-outside": "; the nearest is data-outside",
     "x" * 100_000: "",
 }
 

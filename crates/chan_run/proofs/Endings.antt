@@ -1,5 +1,5 @@
 -- How a run over an input ends: its output is flushed, and something is said of it.
-use Rattle.std.proofs.Common.{◌≡◌, ◌⊎◌, ◌++◌, ℕ, List, [], Option, Some, None, Result, Ok, Err, Vec, true, false, IfOk, IsErr, OnOk, ◌↔◌, ◌∙◌, inl, inr, refl, sym, subst}
+use Rattle.std.proofs.Common.{◌≡◌, ◌⊎◌, ◌++◌, ℕ, List, Option, Some, None, Result, Ok, Err, Vec, true, false, IsErr, OnOk, ◌↔◌, ◌∙◌, inl, inr, refl, sym, subst}
 use Rattle.std.proofs.KnownBytes.{Appends-kept}
 use Rattle.std.specs.Io.KnownBytes.{Keeps}
 use Rattle.chan_deck.specs.Image.{spelling}
@@ -7,15 +7,11 @@ use Rattle.chan_walk.specs.declared.job.Job.{Job}
 use Rattle.chan_run.specs.declared.reporting.Outcome.{Outcome}
 use Rattle.chan_run.specs.declared.reporting.Outcome.TheVariants.{Denied, Done, Failed, NoJob, Refused, Unknown, Usage}
 use Rattle.chan_run.specs.declared.failure.Failure.{Failure}
-use Rattle.chan_run.specs.declared.failure.Failure.TheVariants as failures
 use Rattle.chan_walk.specs.declared.reason.Reason.{Reason}
 use Rattle.chan_args.specs.declared.action.Action.{Action}
-use Rattle.chan_args.specs.declared.action.Action.TheVariants as actions
 use Rattle.chan_run.specs.declared.running.RunError.{RunError}
 use Rattle.chan_run.specs.declared.running.RunError.TheVariants.{Deck, Memory, Read, TooLong, TooManyPlaces, Write}
 use Rattle.chan_run.specs.declared.running.Status.{Status}
-use Rattle.chan_run.specs.declared.running.Status.TheVariants.{Yes}
-use Rattle.chan_run.specs.Advice.{IsBeside}
 use Rattle.chan_run.specs.Answer.{IsAdvice, IsImageEnd, IsImageTold, advice_of}
 use Rattle.chan_run.specs.Imaging.{IsDeckAnswer}
 use Rattle.chan_run.specs.declared.image_options.ImageOptions.{ImageOptions}
@@ -54,41 +50,13 @@ flushed_answer front a t old mid new (Ok s) keeps same h =
 flushed_answer front a t old mid new (Err e) keeps same h =
     subst (λ x. IsTextAnswer front a t old x (Err e)) (sym (same (not_done e))) h
 
--- what is said where there is something to say of the answer
-said : {A E : Type 0} (name : Option (List ℕ)) (a : Action) (t : List ℕ) (r : Result Status RunError)
-    (advice : Result (Vec ℕ A) E) → has_advice a (ran r) ≡ true
-    → IfOk advice (λ text. IsBeside a t r text.items) → IsAdvice name a t (ran r) (advice_of name (Some advice))
-said name (actions.Why all) t (Ok Yes) (Ok text) has is = inl is
-said name (actions.Why all) t (Ok Yes) (Err refused) has is = inr refl
-said name (actions.Why all) t (Err (Deck line cause)) (Ok text) has is = inl is
-said name (actions.Why all) t (Err (Deck line cause)) (Err refused) has is = inr refl
-said name (actions.Why all) t (Err TooManyPlaces) (Ok text) has is = inl is
-said name (actions.Why all) t (Err TooManyPlaces) (Err refused) has is = inr refl
-said name a t r advice has is = absurd (cc)
-
--- and where there is nothing
-unsaid : (name : Option (List ℕ)) (a : Action) (t : List ℕ) (end : Outcome) → has_advice a end ≡ false → IsAdvice name a t end []
-unsaid name (actions.Why all) t Done none = absurd (cc)
-unsaid name (actions.Why all) t (Refused line cause) none = absurd (cc)
-unsaid name (actions.Why all) t (Failed failures.TooManyPlaces) none = absurd (cc)
-unsaid name a t end none = refl
-
--- no flush that failed has any
-no_flush : (a : Action) → has_advice a (Failed failures.WriteFailed) ≡ true → ⊥
-no_flush (actions.Why all) has = absurd (cc)
-no_flush a has = absurd (cc)
-
--- what is said of how the run ended, where there is something to say, and else nothing
-pub advised : {A E : Type 0} (name : Option (List ℕ)) (a : Action) (t : List ℕ) (r : Result Status RunError) (end : Outcome)
-    (advice : Result (Vec ℕ A) E) (told : Option (Result (Vec ℕ A) E)) → IsEnd (ran r) end
-    → IfOk advice (λ text. IsBeside a t r text.items)
+-- what is said of how the run ended is nothing where there is nothing to say
+pub advised : {A E : Type 0} (name : Option (List ℕ)) (a : Action) (end : Outcome) (advice : Result (Vec ℕ A) E)
+    (told : Option (Result (Vec ℕ A) E))
     → ((has_advice a end ≡ true) × (told ≡ Some advice)) ⊎ ((has_advice a end ≡ false) × (told ≡ None))
-    → IsAdvice name a t end (advice_of name told)
-advised name a t r end advice told (inl is) beside (inl (has, some)) =
-    rw (is, some) (said name a t r advice (rw is at has) beside)
-advised name a t r end advice told (inr after) beside (inl (has, some)) =
-    absurd (no_flush a (rw after.1 at has))
-advised name a t r end advice told ended beside (inr (none, nothing)) = rw nothing (unsaid name a t end none)
+    → IsAdvice a end (advice_of name told)
+advised name a end advice told (inl (has, some)) none = let bad : true ≡ false = sym has ∙ none in absurd cc
+advised name a end advice told (inr (has, nothing)) none = rw nothing refl
 
 -- ---- an image of storage
 

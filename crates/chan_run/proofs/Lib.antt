@@ -6,6 +6,5 @@ pub mod OptionLemmas
 pub mod Endings
 pub mod MeaningLemmas
 mod WordLemmas
-mod NearestLemmas
 mod RoomLemmas
 mod FoundLemmas

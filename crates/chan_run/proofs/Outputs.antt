@@ -15,10 +15,8 @@ use Rattle.chan_walk.specs.Answers.{IsAnswer}
 use Rattle.chan_args.specs.declared.action.Action.{Action}
 use Rattle.chan_args.specs.declared.action.Action.TheVariants as actions
 use Rattle.chan_run.specs.declared.running.RunError.{RunError}
-use Rattle.chan_run.specs.declared.running.RunError.TheVariants.{Deck, TooManyPlaces, Write, Memory}
+use Rattle.chan_run.specs.declared.running.RunError.TheVariants.{TooManyPlaces, Write, Memory}
 use Rattle.chan_run.specs.declared.running.Status.{Status}
-use Rattle.chan_run.specs.declared.running.Status.TheVariants.{Yes}
-use Rattle.chan_run.specs.Advice.{IsBeside, IsBesideJob}
 use Rattle.chan_walk.specs.Needs.{open_job}
 use Rattle.chan_walk.specs.Rows.{IsOpenJob}
 use Rattle.chan_run.specs.Run.{Judges, IsAnswerOn, IsJobAnswer, IsJobOf, IsOfJob, IsOutput, IsTextAnswer, IsWritten}
@@ -95,16 +93,3 @@ text_answer front a t deck j old new (Err Write) spelled of_deck h =
 text_answer front a t deck j old new (Err Memory) spelled of_deck h =
     inr (of_job t deck j (λ k. IsAnswerOn front a k old new (Err Memory)) spelled of_deck h)
 text_answer front a t deck j old new r spelled of_deck h = absurd h.2
-
--- and so is what is said beside it
-pub beside : (front : List ℕ) (a : Action) (t : List ℕ) (deck : Image) (j : Job)
-    (old new : Option (List ℕ)) (r : Result Status RunError) (advice : List ℕ) → Spells t deck
-    → IsJobOf deck j → IsAnswerOn front a j old new r → IsBesideJob a j r advice
-    → IsBeside a t r advice
-beside front (actions.Why all) t deck j old new (Ok Yes) advice spelled of_deck h noted =
-    of_job t deck j _ spelled of_deck noted
-beside front (actions.Why all) t deck j old new (Err (Deck line cause)) advice spelled of_deck h noted =
-    absurd h.2
-beside front (actions.Why all) t deck j old new (Err TooManyPlaces) advice spelled of_deck h noted =
-    of_job t deck j _ spelled of_deck noted
-beside front a t deck j old new r advice spelled of_deck h noted = tt

@@ -3,39 +3,28 @@ use Rattle.std.specs.Prelude.{◌≡◌, ◌⊎◌, ◌++◌, ℕ, Bool, false, 
 use Rattle.std.specs.Prelude.{Result, Ok, Err, Vec}
 use Rattle.std.specs.Io.KnownBytes.{Appends}
 use Rattle.ccw_core.specs.Written.{AppendsPrefix}
-use Rattle.chan_deck.specs.Hint.{IsHint}
 use Rattle.chan_run.specs.declared.failure.Failure.{Failure}
 use Rattle.chan_run.specs.declared.failure.Failure.TheVariants as failures
 use Rattle.chan_run.specs.declared.image_options.ImageOptions.{ImageOptions}
 use Rattle.chan_run.specs.declared.reporting.Outcome.{Outcome}
-use Rattle.chan_run.specs.declared.reporting.Outcome.TheVariants.{Done, Failed, NoJob, Refused}
+use Rattle.chan_run.specs.declared.reporting.Outcome.TheVariants.{Failed, NoJob, Refused}
 use Rattle.chan_args.specs.declared.action.Action.{Action}
-use Rattle.chan_args.specs.declared.action.Action.TheVariants as actions
 use Rattle.chan_run.specs.declared.running.RunError.{RunError}
 use Rattle.chan_run.specs.declared.running.RunError.TheVariants.{Memory}
 use Rattle.chan_run.specs.declared.running.Status.{Status}
-use Rattle.chan_run.specs.Advice.{IsNoted, limit_line}
 use Rattle.chan_run.specs.Imaging.{IsDeckAnswer, IsNoImage, IsWholeImage}
 use Rattle.chan_run.specs.NoJob.{IsNoJobText}
-use Rattle.chan_run.specs.Report.{IsEnd, line_over, ran}
-use Rattle.chan_run.specs.Run.{IsEarly, IsInput, IsOfJob, IsReadFault, IsTextAnswer, IsUnwritten}
+use Rattle.chan_run.specs.Report.{IsEnd, has_advice, line_over, ran}
+use Rattle.chan_run.specs.Run.{IsEarly, IsInput, IsReadFault, IsTextAnswer, IsUnwritten}
 use Rattle.chan_run.specs.Run.{front_of}
 
 -- the line where an allocation was refused over an input that may have a name
 abbrev pub memory_line : Option (List ℕ) → List ℕ
 memory_line name = line_over name (Failed failures.OutOfMemory)
 
--- what is said of an input behind the outcome's line: for an explanation the notes behind a yes,
--- the hint where the text is refused, and the limit where too many places are reachable, or that
--- memory ran out for them
-abbrev pub IsAdvice : Option (List ℕ) → Action → List ℕ → Outcome → List ℕ → Type 0
-IsAdvice name (actions.Why all) t Done advice =
-    IsOfJob t (λ j. IsNoted j advice) ⊎ (advice ≡ memory_line name)
-IsAdvice name (actions.Why all) t (Refused line cause) advice =
-    IsHint t line cause advice ⊎ (advice ≡ memory_line name)
-IsAdvice name (actions.Why all) t (Failed failures.TooManyPlaces) advice =
-    IsOfJob t (λ j. advice ≡ limit_line j.limit) ⊎ (advice ≡ memory_line name)
-IsAdvice name a t end advice = advice ≡ []
+-- what is said of an input behind the outcome's line: nothing, or advice where there is some
+abbrev pub IsAdvice : Action → Outcome → List ℕ → Type 0
+IsAdvice a end advice = has_advice a end ≡ false → advice ≡ []
 
 -- the text was answered, and then this was said
 pub record IsTextTold (name : Option (List ℕ)) (a : Action) (t : List ℕ)
@@ -44,7 +33,7 @@ pub record IsTextTold (name : Option (List ℕ)) (a : Action) (t : List ℕ)
   pub answered : IsTextAnswer (front_of name a) a t old new answer
   pub ended : IsEnd (ran answer) end
   pub advice : List ℕ
-  pub advised : IsAdvice name a t end advice
+  pub advised : IsAdvice a end advice
   pub is : told ≡ line_over name end ++ advice
 
 -- the input was read to its end, its text was answered, and then this was said

@@ -5,13 +5,10 @@ pub mod Word
 pub mod Run
 pub mod Failure
 pub mod Meaning
-pub mod Nearest
 pub mod Report
 pub mod Options
 pub mod OptionReading
 pub mod Imaging
 pub mod NoJob
 pub mod Finding
-pub mod OptionFault
-pub mod Advice
 pub mod Answer

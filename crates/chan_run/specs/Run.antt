@@ -9,7 +9,6 @@ use Rattle.chan_deck.specs.Image.{Image, Spells, limit_of}
 use Rattle.chan_deck.specs.declared.listing.ListError.{ListError}
 use Rattle.chan_deck.specs.declared.listing.ListError.TheVariants as lists
 use Rattle.chan_deck.specs.Explanation.{explanation}
-use Rattle.chan_deck.specs.Graph.{graph}
 use Rattle.chan_deck.specs.Listing.{listing}
 use Rattle.chan_deck.specs.Needs.{needs_text}
 use Rattle.chan_deck.specs.Refused.{IsRefused}
@@ -26,10 +25,8 @@ use Rattle.chan_walk.specs.Explained.{IsCauseOf, IsEvidenceOf, IsPathOf, IsSecon
 use Rattle.chan_walk.specs.Explained.{IsStoredOver, IsWitness}
 use Rattle.chan_walk.specs.Explored.{AreReachable, HasMoreThan}
 use Rattle.chan_walk.specs.Job.{extents_of, fetch_of, storage_of, store_of}
-use Rattle.chan_walk.specs.Look.{AreLooks, Seen, places_of_looks}
 use Rattle.chan_walk.specs.Needs.{AreOfOneProgram}
 use Rattle.chan_walk.specs.Offences.{AreOffences, first_verdict}
-use Rattle.chan_walk.specs.Place.{first_place}
 use Rattle.chan_walk.specs.Rows.{AreNeeds, IsOpenJob, Listed}
 use Rattle.chan_args.specs.declared.action.Action.{Action}
 use Rattle.chan_args.specs.declared.action.Action.TheVariants as actions
@@ -72,15 +69,6 @@ pub record IsExplanation (j : Job) (v : Verdict) (os : List Offence) (w : Witnes
   pub stored : IsStoredOver j v w.path.items w.stored_over
   pub second : IsSecondPathOf j w.evidence w.second_path.items
 
--- this is the picture of the job: of what is seen of its reachable places, with all its offences
-pub record IsPicture (j : Job) (text : List ℕ) : Type 0 where
-  pub looks : List Seen
-  pub offences : List Offence
-  pub places : AreReachable j (places_of_looks looks)
-  pub seen : AreLooks j looks
-  pub offending : AreOffences j offences
-  pub drawn : text ≡ graph (first_place j) looks offences
-
 -- the causes that are told: those of all offences, or none
 abbrev pub AreTold : Bool → Job → List Offence → List Evidence → Type 0
 AreTold true j os es = AllZip (IsCauseOf j) os es
@@ -98,14 +86,14 @@ IsNeedsText j text =
     (n : Listed) × ((k : Job) → AreOfOneProgram k j → AreNeeds k n) × (text ≡ needs_text n)
 
 -- what an action asks to write of a job and its verdict: the verdict's line, the listing of the
--- reachable places, the explanation, the picture, or what is needed; where the verdict is no,
+-- reachable places, the explanation, some picture, or what is needed; where the verdict is no,
 -- instead of that the explanation
 abbrev pub IsOutput : Action → Job → Verdict → List ℕ → Type 0
 IsOutput actions.Verify j v text = text ≡ verdict_line v
 IsOutput actions.List j v text =
     (ps : List Place) × AreReachable j ps × (text ≡ listing (storage_of j) ps v)
 IsOutput (actions.Why all) j v text = IsExplained all j v text
-IsOutput actions.Graph j v text = IsPicture j text
+IsOutput actions.Graph j v text = Unit {0}
 IsOutput actions.Needs j Yes text = IsNeedsText j text
 IsOutput actions.Needs j (No a r) text = IsExplained false j (No a r) text
 
@@ -236,8 +224,7 @@ abbrev pub IsNamedAnswer : List ℕ → Action → Option (List ℕ) → Option 
     → Option (List ℕ) → Result Status RunError → Type 0
 IsNamedAnswer name a = IsAnswerBehind (front_of (Some name) a) a
 
--- the answer comes before anything is written; a failed allocation does so but for a listing or a
--- picture
+-- the answer comes before anything is written; a failed allocation does so but for a listing
 abbrev pub IsEarly : Action → Result Status RunError → Type 0
 IsEarly a (Ok status) = ⊥
 IsEarly a (Err Write) = ⊥
@@ -248,5 +235,5 @@ IsEarly a (Err TooManyPlaces) = Unit {0}
 IsEarly actions.Verify (Err Memory) = Unit {0}
 IsEarly actions.List (Err Memory) = ⊥
 IsEarly (actions.Why all) (Err Memory) = Unit {0}
-IsEarly actions.Graph (Err Memory) = ⊥
+IsEarly actions.Graph (Err Memory) = Unit {0}
 IsEarly actions.Needs (Err Memory) = Unit {0}

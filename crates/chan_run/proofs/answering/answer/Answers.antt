@@ -15,9 +15,8 @@ returns-clause-answer g c =
     let contents = g.W.Write.contents in
     let ended = rw c.of_run-2.ensures.is at c.flushed-outcome.ensures.end in
     let early = rw c.of_run-2.ensures.is at c.flushed-outcome.ensures.early in
-    let beside = rw c.as_slice.ensures.value at (c.answer_text-answer.ensures.advice refl) in
-    let advice : IsAdvice name c.args.action t end (advice_of name c.if-has_advice.told) =
-    advised name c.args.action t r end c.answer_text-answer.result.1 c.if-has_advice.told ended beside
+    let advice : IsAdvice c.args.action end (advice_of name c.if-has_advice.told) =
+    advised name c.args.action end c.answer_text-answer.result.1 c.if-has_advice.told
     (elim c.if-has_advice.branch [
       | then-has_advice w ↦ inl (sym c.has_advice.ensures ∙ w.if-has_advice.true, w.told-is)
       | else-has_advice w ↦ inr (sym c.has_advice.ensures ∙ w.if-has_advice.false, w.told-is)

@@ -1,14 +1,7 @@
 use Rattle.std.proofs.Common.{rules}
-use Rattle.chan_deck.proofs.HintLemmas.{if_ok}
-use Rattle.chan_run.proofs.Outputs.{beside, text_answer}
+use Rattle.chan_run.proofs.Outputs.{text_answer}
 use Rattle.chan_run.proofs.running.answer_text.Goals as goal
 
 pub returns-clause-answer : goal.returns-clause-answer
 returns-clause-answer g c =
     text_answer _ c.args.action c.args.text.now c.in-Ok.deck c.job-job.result _ _ c.answer_on.result.0 c.in-Ok.ensures.spelled (search rules) c.answer_on.ensures.answer
-
-pub returns-clause-advice : goal.returns-clause-advice
-returns-clause-advice g c = λ asked.
-    if_ok c.answer_on.result.1
-    (λ advice h. beside _ c.args.action c.args.text.now c.in-Ok.deck c.job-job.result _ _ c.answer_on.result.0 advice.items c.in-Ok.ensures.spelled (search rules) c.answer_on.ensures.answer h)
-    (c.answer_on.ensures.advice asked)
