@@ -1,34 +1,59 @@
--- How a run over an input ends: its output is flushed, and something is said of it.
-use Rattle.std.proofs.Common.{◌≡◌, ◌⊎◌, ◌++◌, ℕ, List, Option, Some, None, Result, Ok, Err, Vec, true, false, IsErr, OnOk, ◌↔◌, ◌∙◌, inl, inr, refl, sym, subst}
+-- How a run over an input ends: an answer is written, and its output is flushed.
+use Rattle.std.proofs.Common.{◌≡◌, ℕ, List, Option, Result, Ok, Err, true, false, IsErr, OnOk, ◌↔◌, ◌∙◌, inl, inr, refl, sym, subst}
 use Rattle.std.proofs.KnownBytes.{Appends-kept}
 use Rattle.std.specs.Io.KnownBytes.{Keeps}
-use Rattle.chan_deck.specs.Image.{spelling}
+use Rattle.ccw_core.specs.Written.{AppendsPrefix}
+use Rattle.chan_deck.specs.Image.{Image, Spells, spelling}
 use Rattle.chan_walk.specs.declared.job.Job.{Job}
+use Rattle.chan_run.specs.declared.output.Output.{Output}
+use Rattle.chan_run.specs.declared.output.Output.TheVariants.{Listing, Text}
 use Rattle.chan_run.specs.declared.reporting.Outcome.{Outcome}
 use Rattle.chan_run.specs.declared.reporting.Outcome.TheVariants.{Denied, Done, Failed, NoJob, Refused, Unknown, Usage}
 use Rattle.chan_run.specs.declared.failure.Failure.{Failure}
 use Rattle.chan_walk.specs.declared.reason.Reason.{Reason}
 use Rattle.chan_args.specs.declared.action.Action.{Action}
+use Rattle.chan_args.specs.declared.action.Action.TheVariants as actions
 use Rattle.chan_run.specs.declared.running.RunError.{RunError}
 use Rattle.chan_run.specs.declared.running.RunError.TheVariants.{Deck, Memory, Read, TooLong, TooManyPlaces, Write}
 use Rattle.chan_run.specs.declared.running.Status.{Status}
-use Rattle.chan_run.specs.Answer.{IsAdvice, IsImageEnd, IsImageTold, advice_of}
+use Rattle.chan_run.specs.Answer.{IsImageEnd, IsImageTold}
 use Rattle.chan_run.specs.Imaging.{IsDeckAnswer}
 use Rattle.chan_run.specs.declared.image_options.ImageOptions.{ImageOptions}
-use Rattle.chan_run.specs.Report.{IsDone, IsEnd, has_advice, line_over, ran}
-use Rattle.chan_run.specs.Run.{IsAnswerOn, IsTextAnswer}
+use Rattle.chan_run.specs.Report.{IsDone, IsEnd, line_over, ran}
+use Rattle.chan_run.specs.Run.{Answer, IsAnswerOn, IsJobAnswer, IsJobOf, IsListing, IsPut, Judges, IsTextAnswer, text_in}
 
--- what was written of a job stays so where the bytes are kept
-all_kept : (front : List ℕ) (a : Action) (j : Job) (old mid new : Option (List ℕ)) (s : Status)
-    → Keeps mid new → IsAnswerOn front a j old mid (Ok s) → IsAnswerOn front a j old new (Ok s)
-all_kept front a j old mid new s keeps (k, judged, (v, is, answers, w)) = (
-  k,
-  judged,
-  (v, is, answers, record { output = w.output; asked = w.asked; written = Appends-kept old mid new (front ++ w.output) w.written keeps }),
-)
+-- an answer on the job of a deck is one to the text that spells the deck
+pub text_answer : (name : Option (List ℕ)) (a : Action) (t : List ℕ) (deck : Image) (j : Job) (answer : Answer)
+    → Spells t deck → IsJobOf deck j → IsAnswerOn name a j answer → IsTextAnswer name a t answer
+text_answer name a t deck j (Ok said) spelled of_deck h =
+    record { deck = deck; spelled = spelled; job = j; of_deck = of_deck; holds = h }
+text_answer name a t deck j (Err TooManyPlaces) spelled of_deck h =
+    record { deck = deck; spelled = spelled; job = j; of_deck = of_deck; holds = h }
+text_answer name a t deck j (Err Memory) spelled of_deck h = tt
+text_answer name a t deck j answer spelled of_deck h = absurd h.2
+
+-- memory ran out in a listing
+pub ran_out : (s : Status) (output : Output) (old new : Option (List ℕ)) (untouched : Type 0) → IsListing output
+    → AppendsPrefix old new (text_in output) → IsPut (Ok (s, output)) old new untouched (Err Memory)
+ran_out s (Listing looks v) old new untouched is prefix = prefix
+ran_out s (Text text) old new untouched is prefix = is
+
+-- the answer on a job that an action judges is the answer on the job of which it judges that
+pub judged : (name : Option (List ℕ)) (a : Action) (j k : Job) (answer : Answer) → Judges a j k
+    → IsJobAnswer name a k answer → IsAnswerOn name a j answer
+judged name a j k (Err Memory) judges is = tt
+judged name a j k answer judges is = (k, judges, is)
+
+-- an action for which no open job is asked judges the job itself
+pub judges_itself : (a : Action) (j : Job) → (a ≡ actions.Needs → ⊥) → Judges a j j
+judges_itself actions.Verify j other = refl
+judges_itself actions.List j other = refl
+judges_itself (actions.Why all) j other = refl
+judges_itself actions.Graph j other = refl
+judges_itself actions.Needs j other = absurd (other refl)
 
 -- an error isn't done
-not_done : (e : RunError) → IsDone (ran (Err e)) → ⊥
+pub not_done : (e : RunError) → IsDone (ran (Err e)) → ⊥
 not_done Read done = done
 not_done TooLong done = done
 not_done (Deck line cause) done = done
@@ -36,27 +61,16 @@ not_done TooManyPlaces done = done
 not_done Write done = done
 not_done Memory done = done
 
--- so it ends just so
-pub unread_end : (e : RunError) (end : Outcome) → IsEnd (ran (Err e)) end → end ≡ ran (Err e)
-unread_end e end (inl is) = is
-unread_end e end (inr after) = absurd (not_done e after.0)
-
--- where a text was answered, the flush of what was written leaves it answered
-pub flushed_answer : (front : List ℕ) (a : Action) (t : List ℕ) (old mid new : Option (List ℕ))
-    (r : Result Status RunError) → Keeps mid new → ((IsDone (ran r) → ⊥) → new ≡ mid)
-    → IsTextAnswer front a t old mid r → IsTextAnswer front a t old new r
-flushed_answer front a t old mid new (Ok s) keeps same h =
-    record { deck = h.deck; spelled = h.spelled; job = h.job; of_deck = h.of_deck; holds = all_kept front a h.job old mid new s keeps h.holds }
-flushed_answer front a t old mid new (Err e) keeps same h =
-    subst (λ x. IsTextAnswer front a t old x (Err e)) (sym (same (not_done e))) h
-
--- what is said of how the run ended is nothing where there is nothing to say
-pub advised : {A E : Type 0} (name : Option (List ℕ)) (a : Action) (end : Outcome) (advice : Result (Vec ℕ A) E)
-    (told : Option (Result (Vec ℕ A) E))
-    → ((has_advice a end ≡ true) × (told ≡ Some advice)) ⊎ ((has_advice a end ≡ false) × (told ≡ None))
-    → IsAdvice a end (advice_of name told)
-advised name a end advice told (inl (has, some)) none = let bad : true ≡ false = sym has ∙ none in absurd cc
-advised name a end advice told (inr (has, nothing)) none = rw nothing refl
+-- if an answer was written, the flush of its output leaves it written
+pub put_kept : {D : Type 0} (contents : D → Option (List ℕ)) (old mid new : D) (answer : Answer)
+    (r : Result Status RunError) → Keeps (contents mid) (contents new)
+    → ((IsDone (ran r) → ⊥) → new ≡ mid) → IsPut answer (contents old) (contents mid) (mid ≡ old) r
+    → IsPut answer (contents old) (contents new) (new ≡ old) r
+put_kept contents old mid new (Ok (s, output)) (Ok end) keeps same h =
+    (h.0, Appends-kept (contents old) (contents mid) (contents new) (text_in output) h.1 keeps)
+put_kept contents old mid new (Err e) (Ok end) keeps same h = let bad : Ok end ≡ Err e = h.0 in absurd cc
+put_kept contents old mid new answer (Err e) keeps same h =
+    subst (λ x. IsPut answer (contents old) (contents x) (x ≡ old) (Err e)) (sym (same (not_done e))) h
 
 -- ---- an image of storage
 

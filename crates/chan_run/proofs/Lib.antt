@@ -1,5 +1,4 @@
 pub mod Writing
-pub mod Outputs
 pub mod NeedLemmas
 pub mod LeastLemmas
 pub mod OptionLemmas

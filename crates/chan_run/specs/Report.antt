@@ -1,6 +1,6 @@
 -- The exit status of each outcome, and its line on standard error.
 use Rattle.std.specs.Prelude.{◌≡◌, ◌⊎◌, ◌++◌, ◌∷◌, ℕ, Bool, true, false, List, []}
-use Rattle.std.specs.Prelude.{Option, None, Result, Ok, Err, codes}
+use Rattle.std.specs.Prelude.{Option, Result, Ok, Err, codes}
 use Rattle.std.specs.Fmt.{decimal}
 use Rattle.ccw_core.specs.declared.watched.DeviceFault.{DeviceFault}
 use Rattle.chan_args.specs.declared.action.Action.{Action}
@@ -104,9 +104,6 @@ abbrev pub line_over : Option (List ℕ) → Outcome → List ℕ
 line_over name outcome =
     program_of outcome ++ (name_before name (is_on_input outcome)
     ++ (text_of outcome ++ (number_of outcome ++ ending_of outcome)))
-
-abbrev pub line_of : Outcome → List ℕ
-line_of = line_over None
 
 -- a write failed, so that nothing more can be written
 abbrev pub IsWriteFailure : Outcome → Type 0

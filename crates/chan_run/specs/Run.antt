@@ -1,15 +1,13 @@
 -- What a run of the program answers for a text.
-use Rattle.std.specs.Prelude.{◌≡◌, ◌≤◌, ◌++◌, ◌⊎◌, ℕ, Bool, true, false, List, [], Option, Some}
+use Rattle.std.specs.Prelude.{◌≡◌, ◌≤◌, ◌++◌, ◌⊎◌, ℕ, Bool, true, false, List, [], Option}
 use Rattle.std.specs.Prelude.{length}
 use Rattle.std.specs.List.{AllZip}
 use Rattle.std.specs.Prelude.{Result, Ok, Err}
 use Rattle.std.specs.Io.KnownBytes.{Appends}
 use Rattle.ccw_core.specs.Written.{AppendsPrefix}
 use Rattle.chan_deck.specs.Image.{Image, Spells, limit_of}
-use Rattle.chan_deck.specs.declared.listing.ListError.{ListError}
-use Rattle.chan_deck.specs.declared.listing.ListError.TheVariants as lists
 use Rattle.chan_deck.specs.Explanation.{explanation}
-use Rattle.chan_deck.specs.Listing.{listing}
+use Rattle.chan_deck.specs.Listing.{listing, seen_listing}
 use Rattle.chan_deck.specs.Needs.{needs_text}
 use Rattle.chan_deck.specs.Refused.{IsRefused}
 use Rattle.chan_deck.specs.Texts.{verdict_line}
@@ -30,6 +28,8 @@ use Rattle.chan_walk.specs.Offences.{AreOffences, first_verdict}
 use Rattle.chan_walk.specs.Rows.{AreNeeds, IsOpenJob, Listed}
 use Rattle.chan_args.specs.declared.action.Action.{Action}
 use Rattle.chan_args.specs.declared.action.Action.TheVariants as actions
+use Rattle.chan_run.specs.declared.output.Output.{Output}
+use Rattle.chan_run.specs.declared.output.Output.TheVariants as outputs
 use Rattle.chan_run.specs.declared.running.Status.{Status}
 use Rattle.chan_run.specs.declared.running.Status.TheVariants as statuses
 use Rattle.chan_run.specs.declared.running.RunError.{RunError}
@@ -85,24 +85,37 @@ abbrev pub IsNeedsText : Job → List ℕ → Type 0
 IsNeedsText j text =
     (n : Listed) × ((k : Job) → AreOfOneProgram k j → AreNeeds k n) × (text ≡ needs_text n)
 
--- what an action asks to write of a job and its verdict: the verdict's line, the listing of the
--- reachable places, the explanation, some picture, or what is needed; where the verdict is no,
--- instead of that the explanation
-abbrev pub IsOutput : Action → Job → Verdict → List ℕ → Type 0
-IsOutput actions.Verify j v text = text ≡ verdict_line v
-IsOutput actions.List j v text =
-    (ps : List Place) × AreReachable j ps × (text ≡ listing (storage_of j) ps v)
-IsOutput (actions.Why all) j v text = IsExplained all j v text
-IsOutput actions.Graph j v text = Unit {0}
-IsOutput actions.Needs j Yes text = IsNeedsText j text
-IsOutput actions.Needs j (No a r) text = IsExplained false j (No a r) text
+-- what the job's program needs or, where the verdict is no, the explanation
+abbrev pub IsNeeded : Job → Verdict → List ℕ → Type 0
+IsNeeded j Yes text = IsNeedsText j text
+IsNeeded j (No a r) text = IsExplained false j (No a r) text
 
--- what stands before the output: for a verdict and its explanation the name of the input, where it
--- has one
-abbrev pub front_of : Option (List ℕ) → Action → List ℕ
-front_of name actions.Verify = name_before name true
-front_of name (actions.Why all) = name_before name true
-front_of name _ = []
+-- what an action asks for of a job and its verdict: the verdict's line, the listing of the
+-- reachable places, the explanation, some picture, or what is needed; before a verdict and its
+-- explanation stands the name of the input, where it has one
+abbrev pub IsAskedText : Option (List ℕ) → Action → Job → Verdict → List ℕ → Type 0
+IsAskedText name actions.Verify j v text = text ≡ name_before name true ++ verdict_line v
+IsAskedText name actions.List j v text =
+    (ps : List Place) × AreReachable j ps × (text ≡ listing (storage_of j) ps v)
+IsAskedText name (actions.Why all) j v text =
+    (why : List ℕ) × IsExplained all j v why × (text ≡ name_before name true ++ why)
+IsAskedText name actions.Graph j v text = Unit {0}
+IsAskedText name actions.Needs j v text = IsNeeded j v text
+
+-- the text of an output
+abbrev pub text_in : Output → List ℕ
+text_in (outputs.Text text) = text.items
+text_in (outputs.Listing looks v) = seen_listing looks.items v
+
+-- the output is a listing
+abbrev pub IsListing : Output → Type 0
+IsListing (outputs.Text text) = ⊥
+IsListing (outputs.Listing looks v) = Unit {0}
+
+-- the output has what the action asks for; only a listing is written piece by piece
+abbrev pub IsOutput : Option (List ℕ) → Action → Job → Verdict → Output → Type 0
+IsOutput name a j v output =
+    IsAskedText name a j v (text_in output) × (IsListing output → a ≡ actions.List)
 
 -- nothing was written, where the writer tells what it holds
 abbrev pub IsUnwritten : Option (List ℕ) → Option (List ℕ) → Type 0
@@ -112,37 +125,17 @@ abbrev pub status_of_verdict : Verdict → Status
 status_of_verdict Yes = statuses.Yes
 status_of_verdict (No address reason) = statuses.No
 
--- how some bytes came to a writer: all of them, or a prefix
-abbrev pub Writing : Type 1
-Writing = Option (List ℕ) → Option (List ℕ) → List ℕ → Type 0
+-- an answer: the status and the output, or why there are none
+abbrev pub Answer : Type 0
+Answer = Result (Status × Output) RunError
 
--- what the action asks for of the job and its verdict was written so, behind this front
-pub record Writes (Wrote : Writing) (front : List ℕ) (a : Action) (j : Job) (v : Verdict)
-    (old new : Option (List ℕ)) : Type 0 where
-  pub output : List ℕ
-  pub asked : IsOutput a j v output
-  pub written : Wrote old new (front ++ output)
-
--- what each answer of a writing says of what was written
-abbrev pub IsWritten : List ℕ → Action → Job → Verdict → Option (List ℕ) → Option (List ℕ)
-    → Result (Unit {0}) ListError → Type 0
-IsWritten front a j v old new (Ok _) = Writes Appends front a j v old new
-IsWritten front a j v old new (Err lists.Write) = Writes AppendsPrefix front a j v old new
-IsWritten front a j v old new (Err lists.Memory) =
-    IsUnwritten old new ⊎ Writes AppendsPrefix front a j v old new
-
--- what each answer says of a job that was judged and of what was written
-abbrev pub IsJobAnswer : List ℕ → Action → Job → Option (List ℕ) → Option (List ℕ)
-    → Result Status RunError → Type 0
-IsJobAnswer front a j old new (Ok status) =
-    (v : Verdict) × (status ≡ status_of_verdict v) × IsAnswer j v
-    × Writes Appends front a j v old new
-IsJobAnswer front a j old new (Err TooManyPlaces) = HasMoreThan j j.limit
-IsJobAnswer front a j old new (Err Write) =
-    (v : Verdict) × IsAnswer j v × Writes AppendsPrefix front a j v old new
-IsJobAnswer front a j old new (Err Memory) =
-    IsUnwritten old new ⊎ ((v : Verdict) × IsAnswer j v × Writes AppendsPrefix front a j v old new)
-IsJobAnswer front a j old new _ = ⊥
+-- the answer to what an action asks of a job that it judges
+abbrev pub IsJobAnswer : Option (List ℕ) → Action → Job → Answer → Type 0
+IsJobAnswer name a j (Ok (status, output)) =
+    (v : Verdict) × IsAnswer j v × (status ≡ status_of_verdict v) × IsOutput name a j v output
+IsJobAnswer name a j (Err TooManyPlaces) = HasMoreThan j j.limit
+IsJobAnswer name a j (Err Memory) = Unit {0}
+IsJobAnswer name a j (Err e) = ⊥
 
 -- the job that an action judges: for what is needed the open job of the program, else the job
 -- itself
@@ -153,24 +146,28 @@ Judges actions.List j k = k ≡ j
 Judges (actions.Why all) j k = k ≡ j
 Judges actions.Graph j k = k ≡ j
 
--- what each answer says of a job of which the action judges its own, and of what was written
-abbrev pub IsAnswerOn : List ℕ → Action → Job → Option (List ℕ) → Option (List ℕ)
-    → Result Status RunError → Type 0
-IsAnswerOn front a j old new r = (k : Job) × Judges a j k × IsJobAnswer front a k old new r
+-- the answer to what an action asks of a job: that of the job that it judges
+abbrev pub IsAnswerOn : Option (List ℕ) → Action → Job → Answer → Type 0
+IsAnswerOn name a j (Err Memory) = Unit {0}
+IsAnswerOn name a j answer = (k : Job) × Judges a j k × IsJobAnswer name a k answer
 
--- what each answer says of a text and of what was written
-abbrev pub IsTextAnswer : List ℕ → Action → List ℕ → Option (List ℕ) → Option (List ℕ)
-    → Result Status RunError → Type 0
-IsTextAnswer front a t old new (Ok status) =
-    IsOfJob t (λ j. IsAnswerOn front a j old new (Ok status))
-IsTextAnswer front a t old new (Err (Deck line cause)) = IsRefused t line cause
-IsTextAnswer front a t old new (Err TooManyPlaces) =
-    IsOfJob t (λ j. IsAnswerOn front a j old new (Err TooManyPlaces))
-IsTextAnswer front a t old new (Err Write) =
-    IsOfJob t (λ j. IsAnswerOn front a j old new (Err Write))
-IsTextAnswer front a t old new (Err Memory) =
-    IsUnwritten old new ⊎ IsOfJob t (λ j. IsAnswerOn front a j old new (Err Memory))
-IsTextAnswer front a t old new _ = ⊥
+-- the answer to what an action asks of a text
+abbrev pub IsTextAnswer : Option (List ℕ) → Action → List ℕ → Answer → Type 0
+IsTextAnswer name a t (Err (Deck line cause)) = IsRefused t line cause
+IsTextAnswer name a t (Err Memory) = Unit {0}
+IsTextAnswer name a t answer = IsOfJob t (λ j. IsAnswerOn name a j answer)
+
+-- what came of writing an answer: all of the output was written, or where a write failed a prefix,
+-- or where memory ran out in a listing; an answer without output stays, and the writer is untouched
+abbrev pub IsPut : Answer → Option (List ℕ) → Option (List ℕ) → Type 0 → Result Status RunError
+    → Type 0
+IsPut (Ok (status, output)) old new untouched (Ok end) =
+    (end ≡ status) × Appends old new (text_in output)
+IsPut (Ok (status, output)) old new untouched (Err Write) = AppendsPrefix old new (text_in output)
+IsPut (Ok (status, outputs.Listing looks v)) old new untouched (Err Memory) =
+    AppendsPrefix old new (seen_listing looks.items v)
+IsPut (Ok (status, output)) old new untouched (Err e) = ⊥
+IsPut (Err e) old new untouched end = (end ≡ Err e) × untouched
 
 -- the most bytes that a deck's text may have
 abbrev pub text_limit : ℕ
@@ -188,52 +185,22 @@ IsReadFault old new TooLong = GaveTooMuch text_limit old new
 IsReadFault old new Memory = Unit {0}
 IsReadFault old new fault = ⊥
 
--- the input was read to its end, and this is the answer for its text
-pub record IsReadAnswer (front : List ℕ) (a : Action)
-    (old_in new_in old_out new_out : Option (List ℕ)) (answer : Result Status RunError)
-    : Type 0 where
+-- the input was read to its end, this is the answer to its text, and this came of writing it
+pub record IsRun (name : Option (List ℕ)) (a : Action) (old_in new_in old new : Option (List ℕ))
+    (untouched : Type 0) (end : Result Status RunError) : Type 0 where
   pub text : List ℕ
   pub input : IsInput old_in new_in text
-  pub answered : IsTextAnswer front a text old_out new_out answer
+  pub answer : Answer
+  pub answered : IsTextAnswer name a text answer
+  pub put : IsPut answer old new untouched end
 
--- what each answer of a run says of its input and its output, where this front stands before the
--- output
-abbrev pub IsAnswerBehind : List ℕ → Action → Option (List ℕ) → Option (List ℕ) → Option (List ℕ)
-    → Option (List ℕ) → Result Status RunError → Type 0
-IsAnswerBehind front a old_in new_in old_out new_out (Ok status) =
-    IsReadAnswer front a old_in new_in old_out new_out (Ok status)
-IsAnswerBehind front a old_in new_in old_out new_out (Err (Deck line cause)) =
-    IsReadAnswer front a old_in new_in old_out new_out (Err (Deck line cause))
-IsAnswerBehind front a old_in new_in old_out new_out (Err TooManyPlaces) =
-    IsReadAnswer front a old_in new_in old_out new_out (Err TooManyPlaces)
-IsAnswerBehind front a old_in new_in old_out new_out (Err Write) =
-    IsReadAnswer front a old_in new_in old_out new_out (Err Write)
-IsAnswerBehind front a old_in new_in old_out new_out (Err Memory) =
-    IsUnwritten old_out new_out ⊎ IsReadAnswer front a old_in new_in old_out new_out (Err Memory)
-IsAnswerBehind front a old_in new_in old_out new_out (Err TooLong) =
-    GaveTooMuch text_limit old_in new_in
-IsAnswerBehind front a old_in new_in old_out new_out (Err Read) = GaveOut text_limit old_in new_in
+-- the input wasn't read to its end, for this fault, and the writer is untouched
+abbrev pub IsUnread : Option (List ℕ) → Option (List ℕ) → Type 0 → Result Status RunError → Type 0
+IsUnread old_in new_in untouched end =
+    (fault : RunError) × IsReadFault old_in new_in fault × (end ≡ Err fault) × untouched
 
--- the same, where nothing does
-abbrev pub IsRunAnswer : Action → Option (List ℕ) → Option (List ℕ) → Option (List ℕ)
-    → Option (List ℕ) → Result Status RunError → Type 0
-IsRunAnswer = IsAnswerBehind []
-
--- the same over an input of this name
-abbrev pub IsNamedAnswer : List ℕ → Action → Option (List ℕ) → Option (List ℕ) → Option (List ℕ)
-    → Option (List ℕ) → Result Status RunError → Type 0
-IsNamedAnswer name a = IsAnswerBehind (front_of (Some name) a) a
-
--- the answer comes before anything is written; a failed allocation does so but for a listing
-abbrev pub IsEarly : Action → Result Status RunError → Type 0
-IsEarly a (Ok status) = ⊥
-IsEarly a (Err Write) = ⊥
-IsEarly a (Err Read) = Unit {0}
-IsEarly a (Err TooLong) = Unit {0}
-IsEarly a (Err (Deck line cause)) = Unit {0}
-IsEarly a (Err TooManyPlaces) = Unit {0}
-IsEarly actions.Verify (Err Memory) = Unit {0}
-IsEarly actions.List (Err Memory) = ⊥
-IsEarly (actions.Why all) (Err Memory) = Unit {0}
-IsEarly actions.Graph (Err Memory) = Unit {0}
-IsEarly actions.Needs (Err Memory) = Unit {0}
+-- what a run over an input that may have a name comes to, of its input and its output
+abbrev pub IsRunAnswer : Option (List ℕ) → Action → Option (List ℕ) → Option (List ℕ)
+    → Option (List ℕ) → Option (List ℕ) → Type 0 → Result Status RunError → Type 0
+IsRunAnswer name a old_in new_in old new untouched end =
+    IsRun name a old_in new_in old new untouched end ⊎ IsUnread old_in new_in untouched end

@@ -1,11 +1,11 @@
 //! Answering an input: what the program does with each.
 
-ghost use Rattle.std.specs.Prelude.{◌≡◌, ◌↔◌, ◌++◌, false, true, IsErr, OnOk};
+ghost use Rattle.std.specs.Prelude.{◌≡◌, ◌↔◌, false, true};
 ghost use Rattle.std.specs.Io.KnownBytes.{Appends};
 ghost use Rattle.ccw_core.specs.Written.{AppendsPrefix};
-ghost use Rattle.chan_run.specs.Answer.{IsEarlyEnd, IsHandled, IsImageHandled, advice_of};
+ghost use Rattle.chan_run.specs.Answer.{IsAnswered, IsImageHandled, IsTold};
 ghost use Rattle.chan_run.specs.Naming.{name_in};
-ghost use Rattle.chan_run.specs.Report.{IsDone, IsWriteFailure, line_over};
+ghost use Rattle.chan_run.specs.Report.{IsDone, IsWriteFailure, has_advice, line_over};
 ghost use Rattle.chan_run.specs.declared.failure.Failure.TheVariants as failures;
 ghost use Rattle.chan_run.specs.declared.reporting.Outcome.TheVariants.{Failed};
 
@@ -14,7 +14,7 @@ use crate::image::{read_image, write_image_of};
 use crate::image_options::ImageOptions;
 use crate::no_job::no_job_text;
 use crate::reporting::{Outcome, conclude, flushed, has_advice, write_line};
-use crate::running::{answer_text, read_text};
+use crate::running::{answer_text, read_text, write_answer};
 use ccw_core::{DeviceFault, Watched, write_out};
 use chan_args::Action;
 use std::alloc::{AllocError, Global};
@@ -22,11 +22,11 @@ use std::io::{Read, Write};
 
 /// Answers an input, which may have a name, and says what came of it.
 ///
-/// On the first writer stands what `run` and, over a name, `run_named` write, and it is flushed
-/// where all of it was written. On the second stands the outcome's line, as `report_named` writes
-/// it. For `Why` the notes on the job follow where the verdict is yes, the hint where the text is
-/// no deck, and the limit where too many places are reachable; or the line that memory ran out for
-/// these, which doesn't change the outcome.
+/// On the first writer stands what `run` writes, and it is flushed where all of it was written. For
+/// `Verify` and `Why` the name, a colon and a space come before it. On the second stands the
+/// outcome's line, as `report` writes it. For `Why` the notes on the job follow where the verdict
+/// is yes, the hint where the text is no deck, and the limit where too many places are reachable;
+/// or the line that memory ran out for these, which doesn't change the outcome.
 ///
 /// The input is read once and its job walked once. The outcome is what `run` came to, or a failed
 /// write. A second writer that fails doesn't change it, and a prefix was written there.
@@ -41,11 +41,11 @@ pub fn answer<R: Read, W: Write, E: Write>(
     requires reader { from.old.failed ≡ false }
     requires writer { to.old.failed ≡ false }
     requires errors { errors.old.failed ≡ false }
-    ensures answer { IsHandled (name_in name.entry) action
-        (R.remaining from.old.device) (R.remaining from.new.device)
-        (W.contents to.old.device) (W.contents to.new.device)
-        (E.contents errors.old.device) (E.contents errors.new.device) errors.new.failed result }
-    ensures early { IsEarlyEnd action result → to.new ≡ to.old }
+    ensures answer { IsAnswered (name_in name.entry) action (R.remaining from.old.device)
+        (R.remaining from.new.device) (W.contents to.old.device) (W.contents to.new.device)
+        (to.new ≡ to.old) result }
+    ensures told { IsTold (line_over (name_in name.entry) result) (has_advice action result)
+        (E.contents errors.old.device) (E.contents errors.new.device) errors.new.failed }
     ensures flushed { IsDone result → to.new.flushed ≡ true }
     ensures read { result ≡ Failed failures.ReadFailed ↔ (from.new.failed ≡ true) }
     ensures write { IsWriteFailure result ↔ (to.new.failed ≡ true) }
@@ -54,36 +54,33 @@ pub fn answer<R: Read, W: Write, E: Write>(
         Ok(text) => text,
         Err(error) => return conclude(name, Outcome::of_run(Err(error)), to, errors),
     };
-    let (answer, advice) = answer_text(alloc, name, action, true, text.as_slice(), to);
-    let outcome = flushed(Outcome::of_run(answer), to);
-    let told = if has_advice(action, outcome) {
-        Some(advice)
-    } else {
-        None
-    };
-    let _ = tell(name, outcome, told, errors);
+    let (answer, advice) = answer_text(alloc, name, action, true, text.as_slice());
+    let came = write_answer(alloc, answer, to);
+    let outcome = flushed(Outcome::of_run(came), to);
+    let _ = tell(name, outcome, has_advice(action, outcome), advice, errors);
     outcome
 }
 
-/// Writes the line of an outcome, and behind it the advice, if there is some.
+/// Writes the line of an outcome and, if the outcome has advice, that behind it, or the line that
+/// memory ran out for it.
 fn tell<E: Write>(
     name: Option<&str>,
     outcome: Outcome,
-    advice: Option<Result<Vec<u8>, AllocError>>,
+    is_advised: bool,
+    advice: Result<Vec<u8>, AllocError>,
     errors: &mut Watched<E>,
 ) -> Result<(), DeviceFault>
     requires { errors.old.failed ≡ false }
-    ensures ok { OnOk result (Appends (E.contents errors.old.device) (E.contents errors.new.device)
-        (line_over (name_in name.entry) outcome ++ advice_of (name_in name.entry) advice)) }
-    ensures prefix { AppendsPrefix (E.contents errors.old.device) (E.contents errors.new.device)
-        (line_over (name_in name.entry) outcome ++ advice_of (name_in name.entry) advice) }
-    ensures fault { IsErr result ↔ (errors.new.failed ≡ true) }
+    ensures { IsTold (line_over (name_in name.entry) outcome) is_advised
+        (E.contents errors.old.device) (E.contents errors.new.device) errors.new.failed }
 {
     write_line(name, outcome, errors)?;
+    if !is_advised {
+        return Ok(());
+    }
     match advice {
-        None => Ok(()),
-        Some(Ok(text)) => write_out(text.as_slice(), errors),
-        Some(Err(AllocError)) => write_line(name, Outcome::Failed(Failure::OutOfMemory), errors),
+        Ok(text) => write_out(text.as_slice(), errors),
+        Err(AllocError) => write_line(name, Outcome::Failed(Failure::OutOfMemory), errors),
     }
 }
 
@@ -110,7 +107,7 @@ pub fn note_usual_device<E: Write>(errors: &mut Watched<E>)
 /// after a failed write a prefix of the deck was written, after any other error nothing was. It
 /// returns over an endless reader, too, with `ImageTooLong`. If all was written, it flushes.
 ///
-/// The second writer gets the outcome's line, as `report_named` writes it. If no job will do, it
+/// The second writer gets the outcome's line, as `report` writes it. If no job will do, it
 /// gets `no job will do: ` and the explanation of the verdict on the program's open job; a last
 /// line names the options `--at` and `--storage` if these may cure it. If memory runs out for the
 /// explanation, the outcome says so. A second writer that fails doesn't change the outcome, and a

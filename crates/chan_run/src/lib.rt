@@ -30,6 +30,7 @@ mod no_job;
 mod option_fault;
 mod option_reading;
 mod options;
+mod output;
 mod reporting;
 mod running;
 mod showing;
@@ -43,9 +44,7 @@ pub use crate::image_options::{ImageOptions, OptionError, OptionFault};
 pub use crate::meaning::{Term, explain_word, list_words};
 pub use crate::option_fault::{report_grants, report_option};
 pub use crate::option_reading::options_of;
-pub use crate::reporting::{
-    Outcome, conclude, ends_run, exit_status, greater_status, has_advice, report, report_named,
-};
-pub use crate::running::{RunError, Status, run, run_named};
+pub use crate::reporting::{Outcome, conclude, ends_run, exit_status, greater_status, report};
+pub use crate::running::{RunError, Status, run};
 pub use crate::showing::{ShowError, show};
 pub use crate::word::{shown_word, word_of};

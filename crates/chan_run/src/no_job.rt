@@ -10,7 +10,7 @@ ghost use Rattle.chan_walk.specs.declared.job.Job.{Job};
 use crate::image_options::ImageOptions;
 use crate::least::job_at;
 use crate::naming::named;
-use crate::running::why_text;
+use crate::output::why_text;
 use ccw_core::Storage;
 use chan_deck::place_image;
 use chan_walk::{Job, OpenJob, Reason, Verdict, WalkError, survey};

@@ -1,12 +1,12 @@
 //! How the program ends: its exit status, and its line on standard error.
 
 ghost use Rattle.std.specs.Prelude.{◌≡◌, ◌≤◌, ◌↔◌, ◌⊎◌, ◌++◌, false, true, IsErr, IsTrue, OnOk};
-ghost use Rattle.std.specs.Prelude.{IsErrOf, IsOk, Some};
+ghost use Rattle.std.specs.Prelude.{IsErrOf, IsOk};
 ghost use Rattle.std.specs.Io.KnownBytes.{Appends, Keeps};
 ghost use Rattle.ccw_core.specs.Written.{AppendsPrefix};
 ghost use Rattle.chan_run.specs.Naming.{name_in};
 ghost use Rattle.chan_run.specs.Report.{IsDone, IsEnd, IsWriteFailure, has_advice, is_on_input};
-ghost use Rattle.chan_run.specs.Report.{ending_of, line_of, line_over, number_of, program_of};
+ghost use Rattle.chan_run.specs.Report.{ending_of, line_over, number_of, program_of};
 ghost use Rattle.chan_run.specs.Report.{ran, shown, wrote};
 ghost use Rattle.chan_run.specs.Report.{status_of, text_of};
 ghost use Rattle.chan_run.specs.declared.failure.Failure.TheVariants as failures;
@@ -103,33 +103,21 @@ impl From<AllocError> for Outcome {
     }
 }
 
-/// Writes the outcome's line, if it has one, and gives the exit status. It takes no memory. A
-/// writer that fails doesn't change the status, and a prefix of the line was written.
-pub fn report<W: Write>(outcome: Outcome, to: &mut Watched<W>) -> u8
-    requires { to.old.failed ≡ false }
-    ensures status { result ≡ status_of outcome }
-    ensures line { to.new.failed ≡ false
-        → Appends (W.contents to.old.device) (W.contents to.new.device) (line_of outcome) }
-    ensures prefix { AppendsPrefix (W.contents to.old.device) (W.contents to.new.device)
-        (line_of outcome) }
-{
-    let _ = write_line(None, outcome, to);
-    exit_status(outcome)
-}
-
-/// Like `report`, for an input that has a name.
+/// Writes the outcome's line, if it has one, over an input that may have a name, and gives the exit
+/// status. It takes no memory. A writer that fails doesn't change the status, and a prefix of the
+/// line was written.
 ///
-/// If the line is about the input, the name, a colon and a space come after `chanv: `. A line about
+/// If the line is about the input, its name, a colon and a space come after `chanv: `. A line about
 /// a failed allocation for the command line, about help or about a failed write names no input.
-pub fn report_named<W: Write>(name: &str, outcome: Outcome, to: &mut Watched<W>) -> u8
+pub fn report<W: Write>(name: Option<&str>, outcome: Outcome, to: &mut Watched<W>) -> u8
     requires { to.old.failed ≡ false }
     ensures status { result ≡ status_of outcome }
     ensures line { to.new.failed ≡ false → Appends (W.contents to.old.device)
-        (W.contents to.new.device) (line_over (Some name.now) outcome) }
+        (W.contents to.new.device) (line_over (name_in name.entry) outcome) }
     ensures prefix { AppendsPrefix (W.contents to.old.device) (W.contents to.new.device)
-        (line_over (Some name.now) outcome) }
+        (line_over (name_in name.entry) outcome) }
 {
-    let _ = write_line(Some(name), outcome, to);
+    let _ = write_line(name, outcome, to);
     exit_status(outcome)
 }
 
@@ -142,7 +130,7 @@ pub fn ends_run(outcome: Outcome) -> bool
 
 /// Whether advice follows the answer of an action: it does for the explanation of a yes, for a text
 /// that isn't a deck, and if too many places are reachable.
-pub fn has_advice(action: Action, outcome: Outcome) -> bool
+pub(crate) fn has_advice(action: Action, outcome: Outcome) -> bool
     ensures { result ≡ has_advice action outcome }
 {
     match (action, outcome) {
@@ -157,7 +145,7 @@ pub fn has_advice(action: Action, outcome: Outcome) -> bool
 /// Ends a command that came to this outcome, and gives its final outcome. It takes no memory.
 ///
 /// If all was done, it flushes the output; the outcome is a failed write if the flush fails. Then
-/// it writes the outcome's line, as `report` does or, for an input with a name, `report_named`.
+/// it writes the outcome's line, as `report` does.
 pub fn conclude<W: Write, E: Write>(
     name: Option<&str>,
     outcome: Outcome,

@@ -1,30 +1,19 @@
 //! Running over a deck: from the reader's bytes to the writer's.
 
-ghost use Rattle.std.specs.Prelude.{◌≡◌, ◌↔◌, ◌++◌, [], false, true, Err, IfErr, IfOk};
-ghost use Rattle.std.specs.Prelude.{IsErr, IsErrOf, OnOk, string_bytes};
-ghost use Rattle.std.specs.Io.KnownBytes.{Appends};
-ghost use Rattle.ccw_core.specs.Written.{AppendsPrefix};
-ghost use Rattle.chan_deck.specs.Texts.{verdict_line};
+ghost use Rattle.std.specs.Prelude.{◌≡◌, ◌↔◌, false, true, Err, IfErr, IfOk, IsErrOf, None};
 ghost use Rattle.chan_walk.specs.Offences.{first_verdict};
-ghost use Rattle.chan_walk.specs.Surveyed.{IsSurvey};
-ghost use Rattle.chan_run.specs.Naming.{name_before, name_in};
-ghost use Rattle.chan_run.specs.Run.{AreTold, IsAnswerBehind, IsAnswerOn, IsEarly, IsExplained};
-ghost use Rattle.chan_run.specs.Run.{IsJobAnswer};
-ghost use Rattle.chan_run.specs.Run.{IsNamedAnswer};
-ghost use Rattle.chan_run.specs.Run.{IsInput, IsReadFault, IsRunAnswer, IsWritten};
-ghost use Rattle.chan_run.specs.Run.{IsTextAnswer, front_of, status_of_verdict};
-ghost use Rattle.chan_args.specs.declared.action.Action.TheVariants as actions;
+ghost use Rattle.chan_run.specs.Naming.{name_in};
+ghost use Rattle.chan_run.specs.Run.{IsAnswerOn, IsInput, IsJobAnswer, IsPut, IsReadFault};
+ghost use Rattle.chan_run.specs.Run.{IsRunAnswer, IsTextAnswer, status_of_verdict};
 
 use crate::advising::{limit_text, notes_on};
 use crate::failure::Failure;
 use crate::input::{TEXT_LIMIT, read_input};
-use ccw_core::{Storage, Watched, write_out};
+use crate::output::{Output, output_of, write_output};
+use ccw_core::{Storage, Watched};
 use chan_args::Action;
-use chan_deck::{
-    Cause, DeckError, ListError, explanation_text, hint_text, read_deck, verdict_text, write_graph,
-    write_needs, write_seen,
-};
-use chan_walk::{Evidence, Job, OpenJob, Survey, Verdict, WalkError, first_place, survey};
+use chan_deck::{Cause, DeckError, ListError, hint_text, read_deck};
+use chan_walk::{Job, OpenJob, Verdict, WalkError, survey};
 use std::alloc::{AllocError, Global};
 use std::io::{Read, Write};
 use thiserror::Error;
@@ -77,59 +66,42 @@ pub fn run<R: Read, W: Write>(
 ) -> Result<Status, RunError>
     requires reader { from.old.failed ≡ false }
     requires writer { to.old.failed ≡ false }
-    ensures answer { IsRunAnswer action (R.remaining from.old.device) (R.remaining from.new.device)
-        (W.contents to.old.device) (W.contents to.new.device) result }
-    ensures early { IsEarly action result → to.new ≡ to.old }
+    ensures answer { IsRunAnswer None action (R.remaining from.old.device)
+        (R.remaining from.new.device) (W.contents to.old.device) (W.contents to.new.device)
+        (to.new ≡ to.old) result }
     ensures read { IsErrOf result RunError.Read ↔ (from.new.failed ≡ true) }
     ensures write { IsErrOf result RunError.Write ↔ (to.new.failed ≡ true) }
 {
-    run_behind(alloc, None, action, from, to)
+    let text = match read_text(alloc, from) {
+        Ok(text) => text,
+        Err(error) => return Err(error),
+    };
+    let (answer, _advice) = answer_text(alloc, None, action, false, text.as_slice());
+    write_answer(alloc, answer, to)
 }
 
-/// Like `run`, over an input that has a name.
-///
-/// For `Verify` and `Why` the verdict's line comes after the name, a colon and a space. Nothing of
-/// these is written before the whole deck was judged either; after `Write` a prefix of all this was
-/// written. For `List`, `Graph` and `Needs` the text is that of `run`.
-pub fn run_named<R: Read, W: Write>(
+/// Writes an answer, and says what came of it. One without output stays, and nothing is written.
+pub(crate) fn write_answer<W: Write>(
     alloc: Global,
-    name: &str,
-    action: Action,
-    from: &mut Watched<R>,
+    answer: Result<(Status, Output), RunError>,
     to: &mut Watched<W>,
 ) -> Result<Status, RunError>
-    requires reader { from.old.failed ≡ false }
     requires writer { to.old.failed ≡ false }
-    ensures answer { IsNamedAnswer name.now action
-        (R.remaining from.old.device) (R.remaining from.new.device)
-        (W.contents to.old.device) (W.contents to.new.device) result }
-    ensures early { IsEarly action result → to.new ≡ to.old }
-    ensures read { IsErrOf result RunError.Read ↔ (from.new.failed ≡ true) }
+    requires answer { IsErrOf answer RunError.Write → ⊥ }
+    ensures put { IsPut answer (W.contents to.old.device) (W.contents to.new.device)
+        (to.new ≡ to.old) result }
+    ensures read { IsErrOf result RunError.Read → IsErrOf answer RunError.Read }
     ensures write { IsErrOf result RunError.Write ↔ (to.new.failed ≡ true) }
 {
-    run_behind(alloc, Some(name), action, from, to)
-}
-
-/// As `run`, over an input that may have a name.
-fn run_behind<R: Read, W: Write>(
-    alloc: Global,
-    name: Option<&str>,
-    action: Action,
-    from: &mut Watched<R>,
-    to: &mut Watched<W>,
-) -> Result<Status, RunError>
-    requires reader { from.old.failed ≡ false }
-    requires writer { to.old.failed ≡ false }
-    ensures answer { IsAnswerBehind (front_of (name_in name.entry) action) action
-        (R.remaining from.old.device) (R.remaining from.new.device)
-        (W.contents to.old.device) (W.contents to.new.device) result }
-    ensures early { IsEarly action result → to.new ≡ to.old }
-    ensures read { IsErrOf result RunError.Read ↔ (from.new.failed ≡ true) }
-    ensures write { IsErrOf result RunError.Write ↔ (to.new.failed ≡ true) }
-{
-    let text = read_text(alloc, from)?;
-    let (answer, _advice) = answer_text(alloc, name, action, false, text.as_slice(), to);
-    answer
+    let (status, output) = match answer {
+        Ok(answer) => answer,
+        Err(error) => return Err(error),
+    };
+    match write_output(alloc, &output, to) {
+        Ok(()) => Ok(status),
+        Err(ListError::Write) => Err(RunError::Write),
+        Err(ListError::Memory) => Err(RunError::Memory),
+    }
 }
 
 /// The text of the input, read to its end: at most 67,108,864 bytes.
@@ -153,23 +125,21 @@ pub(crate) fn read_text<R: Read>(alloc: Global, from: &mut Watched<R>) -> Result
     }
 }
 
-/// Verifies the job of the deck that a text spells, and writes what the action asks for: what `run`
-/// and, where there is a name, `run_named` do with the text of the input. Behind the answer stands
-/// the advice on the text, if it is asked for and there is some.
-pub(crate) fn answer_text<W: Write>(
+/// The answer to what an action asks of a text. Beside it stands the advice on the text, if it is
+/// asked for and there is some.
+pub(crate) fn answer_text(
     alloc: Global,
     name: Option<&str>,
     action: Action,
     asked: bool,
     text: &[u8],
-    to: &mut Watched<W>,
-) -> (Result<Status, RunError>, Result<Vec<u8>, AllocError>)
-    requires { to.old.failed ≡ false }
-    ensures answer { IsTextAnswer (front_of (name_in name.entry) action) action
-        text.now (W.contents to.old.device) (W.contents to.new.device) result.0 }
-    ensures early { IsEarly action result.0 → to.new ≡ to.old }
+) -> (
+    Result<(Status, Output), RunError>,
+    Result<Vec<u8>, AllocError>,
+)
+    ensures answer { IsTextAnswer (name_in name.entry) action text.now result.0 }
     ensures read { IsErrOf result.0 RunError.Read → ⊥ }
-    ensures write { IsErrOf result.0 RunError.Write ↔ (to.new.failed ≡ true) }
+    ensures write { IsErrOf result.0 RunError.Write → ⊥ }
 {
     let deck = match read_deck(alloc, text) {
         Ok(deck) => deck,
@@ -187,68 +157,48 @@ pub(crate) fn answer_text<W: Write>(
 
     // The borrow checker asks for the type of what a job borrows.
     let _storage: Storage<'_> = job.storage;
-    answer_on(alloc, name, action, asked, &job, to)
+    answer_on(alloc, name, action, asked, &job)
 }
 
-/// Verifies the job that the action judges, given the deck's, and writes what the action asks for.
-/// Behind the answer stands what `answer_job` puts there.
-fn answer_on<W: Write>(
+/// The answer to what an action asks of a job: that of the job that it judges. Beside it stands
+/// what `answer_job` puts there.
+fn answer_on(
     alloc: Global,
     name: Option<&str>,
     action: Action,
     asked: bool,
     job: &Job,
-    to: &mut Watched<W>,
-) -> (Result<Status, RunError>, Result<Vec<u8>, AllocError>)
-    requires { to.old.failed ≡ false }
-    ensures answer { IsAnswerOn (front_of (name_in name.entry) action) action
-        job.now (W.contents to.old.device) (W.contents to.new.device) result.0 }
-    ensures early { IsEarly action result.0 → to.new ≡ to.old }
-    ensures write { IsErrOf result.0 RunError.Write ↔ (to.new.failed ≡ true) }
+) -> (
+    Result<(Status, Output), RunError>,
+    Result<Vec<u8>, AllocError>,
+)
+    ensures { IsAnswerOn (name_in name.entry) action job.now result.0 }
 {
     match action {
-        Action::Needs => answer_open(alloc, job, to),
-        _ => answer_job(alloc, name, action, asked, job, to),
+        Action::Needs => match OpenJob::of(alloc, job) {
+            Ok(open) => {
+                let open_job = open.job();
+                answer_job(alloc, name, Action::Needs, false, &open_job)
+            }
+            Err(_) => (Err(RunError::Memory), Ok(Vec::new(alloc))),
+        },
+        _ => answer_job(alloc, name, action, asked, job),
     }
 }
 
-/// Verifies the open job of a job's program, and writes what the program needs. No advice stands
-/// behind the answer.
-fn answer_open<W: Write>(
-    alloc: Global,
-    job: &Job,
-    to: &mut Watched<W>,
-) -> (Result<Status, RunError>, Result<Vec<u8>, AllocError>)
-    requires { to.old.failed ≡ false }
-    ensures answer { IsAnswerOn [] actions.Needs
-        job.now (W.contents to.old.device) (W.contents to.new.device) result.0 }
-    ensures early { IsEarly actions.Needs result.0 → to.new ≡ to.old }
-    ensures write { IsErrOf result.0 RunError.Write ↔ (to.new.failed ≡ true) }
-{
-    let open = match OpenJob::of(alloc, job) {
-        Ok(open) => open,
-        Err(_) => return (Err(RunError::Memory), Ok(Vec::new(alloc))),
-    };
-    let open_job = open.job();
-    answer_job(alloc, None, Action::Needs, false, &open_job, to)
-}
-
-/// Verifies a job, and writes what the action asks for. Behind the answer stand the notes on the
-/// job, if advice is asked for and the verdict is yes, or its limit where too many places are
-/// reachable.
-fn answer_job<W: Write>(
+/// The answer to what an action asks of a job that it judges. Beside it stand the notes on the job,
+/// if advice is asked for and the verdict is yes, or its limit where too many places are reachable.
+fn answer_job(
     alloc: Global,
     name: Option<&str>,
     action: Action,
     asked: bool,
     job: &Job,
-    to: &mut Watched<W>,
-) -> (Result<Status, RunError>, Result<Vec<u8>, AllocError>)
-    requires { to.old.failed ≡ false }
-    ensures answer { IsJobAnswer (front_of (name_in name.entry) action) action
-        job.now (W.contents to.old.device) (W.contents to.new.device) result.0 }
-    ensures early { IsEarly action result.0 → to.new ≡ to.old }
-    ensures write { IsErrOf result.0 RunError.Write ↔ (to.new.failed ≡ true) }
+) -> (
+    Result<(Status, Output), RunError>,
+    Result<Vec<u8>, AllocError>,
+)
+    ensures { IsJobAnswer (name_in name.entry) action job.now result.0 }
 {
     let survey = match survey(alloc, job) {
         Ok(survey) => survey,
@@ -268,208 +218,9 @@ fn answer_job<W: Write>(
     } else {
         Ok(Vec::new(alloc))
     };
-    match write_output(alloc, name, action, job, survey, to) {
-        Ok(()) => (Ok(status), notes),
-        Err(ListError::Write) => (Err(RunError::Write), notes),
-        Err(ListError::Memory) => (Err(RunError::Memory), notes),
-    }
-}
-
-/// Writes what the action asks for of a job that was surveyed.
-fn write_output<W: Write>(
-    alloc: Global,
-    name: Option<&str>,
-    action: Action,
-    job: &Job,
-    survey: Survey,
-    to: &mut Watched<W>,
-) -> Result<(), ListError>
-    requires writer { to.old.failed ≡ false }
-    requires survey { IsSurvey job.now survey }
-    ensures output { IsWritten (front_of (name_in name.entry) action) action job.now
-        (first_verdict survey.offences.items)
-        (W.contents to.old.device) (W.contents to.new.device) result }
-    ensures write { IsErrOf result ListError.Write ↔ (to.new.failed ≡ true) }
-    ensures early { IsErrOf result ListError.Memory → IsEarly action (Err RunError.Memory)
-        → to.new ≡ to.old }
-{
-    let verdict = survey.verdict();
-    match action {
-        Action::Verify => write_verdict(alloc, name, verdict, to),
-        Action::List => {
-            let (looks, _offences) = survey.into_parts();
-            write_seen(alloc, looks.as_slice(), verdict, to)
-        }
-        Action::Why { all } => write_why(alloc, name, all, job, &survey, to),
-        Action::Needs => write_needed(alloc, job, &survey, to),
-        Action::Graph => write_picture(alloc, job, survey, to),
-    }
-}
-
-/// Writes the picture of a job that was surveyed.
-fn write_picture<W: Write>(
-    alloc: Global,
-    job: &Job,
-    survey: Survey,
-    to: &mut Watched<W>,
-) -> Result<(), ListError>
-    requires writer { to.old.failed ≡ false }
-    requires survey { IsSurvey job.now survey }
-    ensures output { IsWritten [] actions.Graph job.now (first_verdict survey.offences.items)
-        (W.contents to.old.device) (W.contents to.new.device) result }
-    ensures write { IsErrOf result ListError.Write ↔ (to.new.failed ≡ true) }
-    ensures memory { IsErrOf result ListError.Memory → to.new ≡ to.old }
-{
-    let text = picture_of(alloc, job, survey)?;
-    Ok(write_out(text.as_slice(), to)?)
-}
-
-/// The picture of a job that was surveyed. Tests hold its text.
-fn picture_of(alloc: Global, job: &Job, survey: Survey) -> Result<Vec<u8>, AllocError>
-    requires { IsSurvey job.now survey }
-{
-    let (looks, offences) = survey.into_parts();
-    let first = first_place(job);
-    let mut text = Watched::new(Vec::new(alloc));
-    match write_graph(
-        alloc,
-        first,
-        looks.as_slice(),
-        offences.as_slice(),
-        &mut text,
-    ) {
-        Ok(()) => Ok(text.into_inner()),
-        Err(_) => Err(AllocError),
-    }
-}
-
-/// Writes the explanation of the verdict on a job that was surveyed, behind the name that the input
-/// may have.
-fn write_why<W: Write>(
-    alloc: Global,
-    name: Option<&str>,
-    all: bool,
-    job: &Job,
-    survey: &Survey,
-    to: &mut Watched<W>,
-) -> Result<(), ListError>
-    requires writer { to.old.failed ≡ false }
-    requires survey { IsSurvey job.now survey.now }
-    ensures output { IsWritten (front_of (name_in name.entry) (actions.Why all)) (actions.Why all)
-        job.now (first_verdict survey.now.offences.items)
-        (W.contents to.old.device) (W.contents to.new.device) result }
-    ensures write { IsErrOf result ListError.Write ↔ (to.new.failed ≡ true) }
-    ensures memory { IsErrOf result ListError.Memory → to.new ≡ to.old }
-{
-    let text = why_text(alloc, all, job, survey)?;
-    write_named(alloc, name, text, to)
-}
-
-/// The explanation of the verdict on a job that was surveyed, with the causes of all offences, if
-/// they are asked for.
-pub(crate) fn why_text(
-    alloc: Global,
-    all: bool,
-    job: &Job,
-    survey: &Survey,
-) -> Result<String, AllocError>
-    requires { IsSurvey job.now survey.now }
-    ensures { IfOk result (λ text. IsExplained all job.now
-        (first_verdict survey.now.offences.items) (string_bytes text)) }
-{
-    let witness = survey.witness(alloc, job)?;
-    let causes = causes_told(alloc, all, job, survey)?;
-    explanation_text(alloc, job, survey, &witness, causes.as_slice())
-}
-
-/// The causes of all offences, or none, if they aren't asked for.
-fn causes_told(
-    alloc: Global,
-    all: bool,
-    job: &Job,
-    survey: &Survey,
-) -> Result<Vec<Evidence>, AllocError>
-    requires { IsSurvey job.now survey.now }
-    ensures { IfOk result (λ es. AreTold all job.now survey.now.offences.items es.items) }
-{
-    if all {
-        survey.causes(alloc, job)
-    } else {
-        Ok(Vec::new(alloc))
-    }
-}
-
-/// Writes what the program of a job needs that was surveyed, or where the verdict is no, its
-/// explanation.
-fn write_needed<W: Write>(
-    alloc: Global,
-    job: &Job,
-    survey: &Survey,
-    to: &mut Watched<W>,
-) -> Result<(), ListError>
-    requires writer { to.old.failed ≡ false }
-    requires survey { IsSurvey job.now survey.now }
-    ensures output { IsWritten [] actions.Needs job.now
-        (first_verdict survey.now.offences.items)
-        (W.contents to.old.device) (W.contents to.new.device) result }
-    ensures write { IsErrOf result ListError.Write ↔ (to.new.failed ≡ true) }
-    ensures memory { IsErrOf result ListError.Memory → to.new ≡ to.old }
-{
-    match survey.verdict() {
-        Verdict::No { .. } => write_why(alloc, None, false, job, survey, to),
-        Verdict::Yes => {
-            let needs = survey.needs(alloc, job)?;
-            write_needs(alloc, &needs, to)
-        }
-    }
-}
-
-/// Writes the line of a verdict, behind the name that the input may have.
-fn write_verdict<W: Write>(
-    alloc: Global,
-    name: Option<&str>,
-    verdict: Verdict,
-    to: &mut Watched<W>,
-) -> Result<(), ListError>
-    requires { to.old.failed ≡ false }
-    ensures ok { OnOk result (Appends (W.contents to.old.device) (W.contents to.new.device)
-        (front_of (name_in name.entry) actions.Verify ++ verdict_line verdict)) }
-    ensures prefix { AppendsPrefix (W.contents to.old.device) (W.contents to.new.device)
-        (front_of (name_in name.entry) actions.Verify ++ verdict_line verdict) }
-    ensures write { IsErrOf result ListError.Write ↔ (to.new.failed ≡ true) }
-    ensures memory { IsErrOf result ListError.Memory → to.new ≡ to.old }
-{
-    let line = verdict_text(alloc, verdict)?;
-    write_named(alloc, name, line, to)
-}
-
-/// Writes a text after the name that the input may have, with one write.
-fn write_named<W: Write>(
-    alloc: Global,
-    name: Option<&str>,
-    text: String,
-    to: &mut Watched<W>,
-) -> Result<(), ListError>
-    requires { to.old.failed ≡ false }
-    ensures ok { OnOk result (Appends (W.contents to.old.device) (W.contents to.new.device)
-        (name_before (name_in name.entry) true ++ string_bytes text)) }
-    ensures prefix { AppendsPrefix (W.contents to.old.device) (W.contents to.new.device)
-        (name_before (name_in name.entry) true ++ string_bytes text) }
-    ensures write { IsErrOf result ListError.Write ↔ (to.new.failed ≡ true) }
-    ensures memory { IsErrOf result ListError.Memory → to.new ≡ to.old }
-{
-    let named = text_after(alloc, name, text)?;
-    Ok(write_out(named.as_bytes(), to)?)
-}
-
-/// A text after the name that the input may have, a colon and a space.
-fn text_after(alloc: Global, name: Option<&str>, text: String) -> Result<String, AllocError>
-    ensures { IfOk result (λ named. string_bytes named
-        ≡ name_before (name_in name.entry) true ++ string_bytes text) }
-{
-    match name {
-        None => Ok(text),
-        Some(name) => format!(in alloc; "{name}: {text}"),
+    match output_of(alloc, name, action, job, survey) {
+        Ok(output) => (Ok((status, output)), notes),
+        Err(AllocError) => (Err(RunError::Memory), notes),
     }
 }
 

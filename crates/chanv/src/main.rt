@@ -17,7 +17,7 @@ use chan_args::{Action, ImageRequest, Request, read_request};
 use chan_run::{
     Failure, ImageOptions, OptionError, Outcome, answer, answer_image, conclude, ends_run,
     exit_status, explain_word, find_programs, greater_status, list_words, note_usual_device,
-    options_of, report, report_grants, report_named, report_option, show, shown_word, word_of,
+    options_of, report, report_grants, report_option, show, shown_word, word_of,
 };
 use std::alloc::AllocError;
 use std::env::{Env, FillError};
@@ -112,11 +112,7 @@ fn answer_words(rt: &HostRuntime, words: &[String]) -> u8 {
 
 /// Reports what came of an input that may have a name, and gives the exit status.
 fn report_on(rt: &HostRuntime, name: Option<&str>, outcome: Outcome) -> u8 {
-    let mut errors = Watched::new(rt.stderr());
-    match name {
-        Some(name) => report_named(name, outcome, &mut errors),
-        None => report(outcome, &mut errors),
-    }
+    report(name, outcome, &mut Watched::new(rt.stderr()))
 }
 
 /// Ends with an outcome of which this is the output, and gives the exit status.

@@ -82,15 +82,18 @@ fn a_flush_that_fails(rt: HostRuntime) {
 }
 
 #[test]
-fn a_write_that_fails(rt: HostRuntime) {
-    let case = Case {
-        name: Some("a.deck"),
-        outcome: Outcome::Failed(Failure::WriteFailed),
-        written: b"a",
-        told: b"chanv: write failed\n",
-        ..USUAL
-    };
-    expect(&rt, is_answered(rt.alloc(), &case), "write");
+fn each_write_over_a_named_input_failing_in_turn(rt: HostRuntime) {
+    let whole = b"a.deck: yes\n".as_slice();
+    for room in 0..whole.len() {
+        let case = Case {
+            name: Some("a.deck"),
+            outcome: Outcome::Failed(Failure::WriteFailed),
+            written: &whole[..room],
+            told: b"chanv: write failed\n",
+            ..USUAL
+        };
+        expect(&rt, is_answered(rt.alloc(), &case), "write");
+    }
 }
 
 #[test]

@@ -4,9 +4,8 @@
 
 use crate::shared::{expect, paper_of};
 use ccw_core::Watched;
-use chan_args::Action;
 use chan_deck::Cause;
-use chan_run::{Failure, Outcome, exit_status, greater_status, has_advice, report, report_named};
+use chan_run::{Failure, Outcome, exit_status, greater_status, report};
 
 /// An outcome, its status, its line, and its line over an input named `a.deck`.
 type Row = (Outcome, u8, &'static str, &'static str);
@@ -47,14 +46,14 @@ static REPORTS: [Row; 6] = [
 /// after it.
 fn is_reported(outcome: Outcome, status: u8, written: &[u8], fails: bool) -> bool {
     let mut to = Watched::new(paper_of(written));
-    let found = report(outcome, &mut to);
+    let found = report(None, outcome, &mut to);
     found == status && to.failed() == fails && to.into_inner().left.is_empty()
 }
 
 /// Whether the report of an outcome over an input of this name has this status and this line.
 fn is_reported_over(name: &str, outcome: Outcome, status: u8, line: &[u8]) -> bool {
     let mut to = Watched::new(paper_of(line));
-    let found = report_named(name, outcome, &mut to);
+    let found = report(Some(name), outcome, &mut to);
     found == status && !to.failed() && to.into_inner().left.is_empty()
 }
 
@@ -84,12 +83,4 @@ fn greatest_of_statuses(rt: HostRuntime) {
         let is_so = greater_status(*so_far, *status) == *greatest;
         expect(&rt, is_so, "greater");
     }
-}
-
-#[test]
-fn outcomes_with_advice(rt: HostRuntime) {
-    let refused = Outcome::Failed(Failure::TooManyPlaces);
-    let advised = has_advice(Action::Why { all: false }, refused);
-    expect(&rt, advised, "too many places");
-    expect(&rt, !has_advice(Action::Graph, refused), "a picture");
 }

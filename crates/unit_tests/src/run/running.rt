@@ -7,7 +7,7 @@ use crate::run::devices::Broken;
 use crate::shared::{expect, paper_of};
 use ccw_core::Watched;
 use chan_args::Action;
-use chan_run::{RunError, Status, run, run_named};
+use chan_run::{RunError, Status, run};
 use std::alloc::Global;
 
 /// A search in the last eight bytes of storage.
@@ -72,36 +72,6 @@ fn is_run(alloc: Global, case: &Case) -> bool {
     let mut to = Watched::new(paper_of(case.written));
     let answer = run(alloc, case.action, &mut from, &mut to);
     answer == case.answer && to.into_inner().left.is_empty()
-}
-
-/// Whether a run over an input of this name comes to this.
-fn is_run_over(alloc: Global, name: &str, case: &Case) -> bool {
-    let mut from = Watched::new(Broken {
-        rest: case.text.as_bytes(),
-        reads: 0,
-        failing: case.failing,
-    });
-    let mut to = Watched::new(paper_of(case.written));
-    let answer = run_named(alloc, name, case.action, &mut from, &mut to);
-    answer == case.answer && to.into_inner().left.is_empty()
-}
-
-#[test]
-fn each_write_over_a_named_input_failing_in_turn(rt: HostRuntime) {
-    let whole = b"a.deck: yes\n".as_slice();
-    for room in 0..whole.len() {
-        let case = Case {
-            answer: Err(RunError::Write),
-            written: &whole[..room],
-            ..USUAL
-        };
-        expect(&rt, is_run_over(rt.alloc(), "a.deck", &case), "cut off");
-    }
-    let case = Case {
-        written: whole,
-        ..USUAL
-    };
-    expect(&rt, is_run_over(rt.alloc(), "a.deck", &case), "whole");
 }
 
 /// Whether a run comes to this where all is read, and fails where one of the reads before does.

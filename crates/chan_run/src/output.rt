@@ -1,0 +1,159 @@
+//! What an action asks for of a job that was judged, and how it is written.
+
+ghost use Rattle.std.specs.Prelude.{◌≡◌, ◌↔◌, ◌++◌, false, true, IfOk, IsErrOf, OnOk};
+ghost use Rattle.std.specs.Prelude.{string_bytes};
+ghost use Rattle.std.specs.Io.KnownBytes.{Appends};
+ghost use Rattle.ccw_core.specs.Written.{AppendsPrefix};
+ghost use Rattle.chan_walk.specs.Offences.{first_verdict};
+ghost use Rattle.chan_walk.specs.Surveyed.{IsSurvey};
+ghost use Rattle.chan_run.specs.Naming.{name_before, name_in};
+ghost use Rattle.chan_run.specs.Run.{AreTold, IsExplained, IsListing, IsNeeded, IsOutput, text_in};
+
+use ccw_core::{Watched, write_out};
+use chan_args::Action;
+use chan_deck::{ListError, explanation_text, needs_text, verdict_text, write_graph, write_seen};
+use chan_walk::{Evidence, Job, Look, Survey, Verdict, first_place};
+use std::alloc::{AllocError, Global};
+use std::io::Write;
+
+/// What is answered.
+#[derive(Drop)]
+pub(crate) enum Output {
+    /// A text.
+    Text(Vec<u8>),
+    /// The listing of these looks and this verdict, of which no text is held.
+    Listing(Vec<Look>, Verdict),
+}
+
+/// Writes an output: a text with one write, a listing piece by piece.
+///
+/// `Write` comes exactly if a write failed, and `Memory` only for a listing. After both a prefix
+/// was written.
+pub(crate) fn write_output<W: Write>(
+    alloc: Global,
+    output: &Output,
+    to: &mut Watched<W>,
+) -> Result<(), ListError>
+    requires { to.old.failed ≡ false }
+    ensures ok { OnOk result (Appends (W.contents to.old.device) (W.contents to.new.device)
+        (text_in output.now)) }
+    ensures prefix { AppendsPrefix (W.contents to.old.device) (W.contents to.new.device)
+        (text_in output.now) }
+    ensures write { IsErrOf result ListError.Write ↔ (to.new.failed ≡ true) }
+    ensures memory { IsErrOf result ListError.Memory → IsListing output.now }
+{
+    match output {
+        Output::Text(text) => Ok(write_out(text.as_slice(), to)?),
+        Output::Listing(looks, verdict) => write_seen(alloc, looks.as_slice(), *verdict, to),
+    }
+}
+
+/// What an action asks for of a job that was surveyed, whose input may have a name.
+pub(crate) fn output_of(
+    alloc: Global,
+    name: Option<&str>,
+    action: Action,
+    job: &Job,
+    survey: Survey,
+) -> Result<Output, AllocError>
+    requires { IsSurvey job.now survey }
+    ensures { IfOk result (IsOutput (name_in name.entry) action job.now
+        (first_verdict survey.offences.items)) }
+{
+    match action {
+        Action::Verify => {
+            let line = verdict_text(alloc, survey.verdict())?;
+            Ok(Output::Text(text_after(alloc, name, line)?))
+        }
+        Action::List => {
+            let verdict = survey.verdict();
+            let (looks, _offences) = survey.into_parts();
+            Ok(Output::Listing(looks, verdict))
+        }
+        Action::Why { all } => {
+            let why = why_text(alloc, all, job, &survey)?;
+            Ok(Output::Text(text_after(alloc, name, why)?))
+        }
+        Action::Needs => Ok(Output::Text(needed_text(alloc, job, &survey)?)),
+        Action::Graph => Ok(Output::Text(picture_of(alloc, job, survey)?)),
+    }
+}
+
+/// The picture of a job that was surveyed. Tests hold its text.
+fn picture_of(alloc: Global, job: &Job, survey: Survey) -> Result<Vec<u8>, AllocError>
+    requires { IsSurvey job.now survey }
+{
+    let (looks, offences) = survey.into_parts();
+    let first = first_place(job);
+    let mut text = Watched::new(Vec::new(alloc));
+    match write_graph(
+        alloc,
+        first,
+        looks.as_slice(),
+        offences.as_slice(),
+        &mut text,
+    ) {
+        Ok(()) => Ok(text.into_inner()),
+        Err(_) => Err(AllocError),
+    }
+}
+
+/// The explanation of the verdict on a job that was surveyed, with the causes of all offences, if
+/// they are asked for.
+pub(crate) fn why_text(
+    alloc: Global,
+    all: bool,
+    job: &Job,
+    survey: &Survey,
+) -> Result<String, AllocError>
+    requires { IsSurvey job.now survey.now }
+    ensures { IfOk result (λ text. IsExplained all job.now
+        (first_verdict survey.now.offences.items) (string_bytes text)) }
+{
+    let witness = survey.witness(alloc, job)?;
+    let causes = causes_told(alloc, all, job, survey)?;
+    explanation_text(alloc, job, survey, &witness, causes.as_slice())
+}
+
+/// The causes of all offences, or none, if they aren't asked for.
+fn causes_told(
+    alloc: Global,
+    all: bool,
+    job: &Job,
+    survey: &Survey,
+) -> Result<Vec<Evidence>, AllocError>
+    requires { IsSurvey job.now survey.now }
+    ensures { IfOk result (λ es. AreTold all job.now survey.now.offences.items es.items) }
+{
+    if all {
+        survey.causes(alloc, job)
+    } else {
+        Ok(Vec::new(alloc))
+    }
+}
+
+/// What the program of a job needs that was surveyed or, where the verdict is no, its explanation.
+fn needed_text(alloc: Global, job: &Job, survey: &Survey) -> Result<Vec<u8>, AllocError>
+    requires { IsSurvey job.now survey.now }
+    ensures { IfOk result (λ text. IsNeeded job.now
+        (first_verdict survey.now.offences.items) text.items) }
+{
+    match survey.verdict() {
+        Verdict::No { .. } => Ok(why_text(alloc, false, job, survey)?.into_bytes()),
+        Verdict::Yes => {
+            let needs = survey.needs(alloc, job)?;
+            needs_text(alloc, &needs)
+        }
+    }
+}
+
+/// A text after the name that the input may have, a colon and a space.
+fn text_after(alloc: Global, name: Option<&str>, text: String) -> Result<Vec<u8>, AllocError>
+    ensures { IfOk result (λ named. named.items
+        ≡ name_before (name_in name.entry) true ++ string_bytes text) }
+{
+    match name {
+        None => Ok(text.into_bytes()),
+        Some(name) => Ok(format!(in alloc; "{name}: {text}")?.into_bytes()),
+    }
+}
