@@ -1,5 +1,5 @@
 -- Filling storage: the bytes behind the last put are zeros until a put writes there.
-use Rattle.std.proofs.Common.{◌≡◌, ℕ, ◌+◌, ◌-◌, ◌^◌, ◌<◌, ◌≤◌, true, false, List, ◌++◌, length, take, drop, Ok, refl, sym, ap, ◌∙◌, arith, replicate, length-append, length-drop, ◌&&◌, inl}
+use Rattle.std.proofs.Common.{◌≡◌, ℕ, ◌+◌, ◌-◌, ◌^◌, ◌<◌, ◌≤◌, true, false, List, ◌++◌, length, take, drop, Ok, Err, refl, sym, ap, ◌∙◌, arith, replicate, length-append, length-drop, ◌&&◌}
 use Rattle.std.specs.Prelude.{◌==◌, nat_le, ◌%◌}
 use Rattle.std.specs.Int.{w64, to_be_bytes, from_be_bytes}
 use Rattle.std.proofs.lemmas.Bool.{false_from_ne_true, le-leb, leb-true, eqb-true, and_parts}
@@ -7,9 +7,9 @@ use Rattle.std.proofs.lemmas.Nat.{from_be_bytes-to_be_bytes_8}
 use Rattle.std.proofs.lemmas.List.{take-append-drop, length-take, take_at, drop_at, drop-replicate, take-replicate, drop-drop}
 use Rattle.std.proofs.Math.Seq.{take-append-add}
 use Rattle.ccw_core.specs.declared.areas.Area.{Area}
-use Rattle.chan_deck.specs.Item.{put, end, Says}
+use Rattle.chan_deck.specs.Item.{put, end}
 use Rattle.chan_deck.specs.Image.{is_zero}
-use Rattle.chan_deck.specs.Reading.{Filling, Whole, Refuses, step, pad, image_of}
+use Rattle.chan_deck.specs.Reading.{Filling, Whole, step, pad, image_of}
 use Rattle.chan_deck.specs.declared.heading.Heading.{Heading}
 use Rattle.chan_deck.proofs.DeckRuns.{put_step, zeros_is}
 use Rattle.chan_deck.specs.declared.cause.Cause.TheVariants as causes
@@ -31,23 +31,21 @@ some_word n small some = false_from_ne_true (is_zero (to_be_bytes w64 n)) (λ e.
 
 -- ---- refusals
 
-pub bad_place : (h : Heading) (es : List (ℕ × ℕ)) (fs ss : List Area) (size a : ℕ)
-    (front w l : List ℕ)
-    → Says l (put a w) → ((a % 8 ≡ 0) × (length front ≤ a) × (a + 8 ≤ size) → ⊥)
-    → Refuses (Filling h es fs ss size front) l causes.PutAddress
-bad_place h es fs ss size a front w l says bad =
+pub bad_place : (h : Heading) (es : List (ℕ × ℕ)) (fs ss : List Area) (size a : ℕ) (front w : List ℕ)
+    → ((a % 8 ≡ 0) × (length front ≤ a) × (a + 8 ≤ size) → ⊥)
+    → step (Filling h es fs ss size front) (put a w) ≡ Err causes.PutAddress
+bad_place h es fs ss size a front w bad =
     let place = a % 8 == 0 && nat_le (length front) a && nat_le (a + 8) size in
     let wrong = false_from_ne_true place (λ t.
     let x = and_parts (a % 8 == 0 && nat_le (length front) a) (nat_le (a + 8) size) t in
     let y = and_parts (a % 8 == 0) (nat_le (length front) a) x.0 in
     bad (eqb-true _ _ y.0, leb-true _ _ y.1, leb-true _ _ x.1)) in
-    inl (put a w, says, rw wrong refl)
+    rw wrong refl
 
-pub zero_put : (h : Heading) (es : List (ℕ × ℕ)) (fs ss : List Area) (size a : ℕ)
-    (front w l : List ℕ)
-    → Says l (put a w) → a % 8 ≡ 0 → length front ≤ a → a + 8 ≤ size → is_zero w ≡ true
-    → Refuses (Filling h es fs ss size front) l causes.PutZero
-zero_put h es fs ss size a front w l says al low fits z = inl (put a w, says, rw (al, le-leb (length front) a low, le-leb (a + 8) size fits, z) refl)
+pub zero_put : (h : Heading) (es : List (ℕ × ℕ)) (fs ss : List Area) (size a : ℕ) (front w : List ℕ)
+    → a % 8 ≡ 0 → length front ≤ a → a + 8 ≤ size → is_zero w ≡ true
+    → step (Filling h es fs ss size front) (put a w) ≡ Err causes.PutZero
+zero_put h es fs ss size a front w al low fits z = rw (al, le-leb (length front) a low, le-leb (a + 8) size fits, z) refl
 
 -- ---- what a write leaves
 

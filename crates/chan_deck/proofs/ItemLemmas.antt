@@ -1,22 +1,21 @@
 -- A line says one thing, and has no line feed in it.
-use Rattle.std.proofs.Common.{◌≡◌, ℕ, ◌+◌, ◌*◌, ◌/◌, ◌%◌, ◌^◌, ◌<◌, Bool, true, false, cond, List, [], ◌∷◌, ◌++◌, get_or, refl, sym, ap, ◌∙◌, arith}
+use Rattle.std.proofs.Common.{◌≡◌, ℕ, ◌+◌, ◌*◌, ◌/◌, ◌%◌, ◌^◌, ◌<◌, Bool, true, false, cond, ◌-◌, List, [], ◌∷◌, ◌++◌, get_or, take, drop, Result, Ok, Err, refl, sym, ap, ◌∙◌, arith}
 use Rattle.std.specs.Prelude.{◌==◌, ◌&&◌, not, codes}
 use Rattle.std.specs.Int.{bytes_high_first}
 use Rattle.std.specs.List.{AllByRecursion}
-use Rattle.std.proofs.lemmas.Bool.{eqb-false, and_parts, not-true}
+use Rattle.std.proofs.lemmas.Bool.{and_parts, not-true}
 use Rattle.std.proofs.lemmas.Bool.Decides.{nat_tests}
-use Rattle.hex.specs.Hex.{encode_upper}
+use Rattle.hex.specs.Hex.{decode_of, encode_upper, encode_with}
+use Rattle.hex.specs.declared.error.FromHexError.{FromHexError}
+use Rattle.hex.proofs.HexLemmas.{decode_of-encode_upper}
 use Rattle.ccw_core.specs.declared.areas.Area.{Area}
-use Rattle.ckd_core.specs.declared.device.Device.{Device}
 use Rattle.ckd_core.specs.declared.device.Device.TheVariants.{D2311, D2314}
-use Rattle.chan_deck.specs.Item.{Item, header, device, mask, start, limit, extent, fetch, store, storage, put, end, line, HasForm, Says, IsByte, IsAddress, IsArea, device_digits, byte_digits, address_digits, size_digits, limit_digits, cylinder_digits, header_digit, area_digits}
-use Rattle.chan_deck.specs.declared.version.VersionNumber.{VersionNumber}
+use Rattle.chan_deck.specs.Item.{Item, header, device, mask, start, limit, extent, fetch, store, storage, put, end, line, HasForm, Says, IsByte, IsAddress, IsArea, byte_digits, address_digits, size_digits, limit_digits, cylinder_digits, area_digits}
 use Rattle.chan_deck.specs.declared.version.VersionNumber.TheVariants as numbers
 use Rattle.chan_walk.proofs.Theory.Lists.{all_append}
 use Rattle.chan_deck.proofs.Elements.{all_drop}
 use Rattle.chan_deck.proofs.ByteNumbers.{bytes_three, bytes_four}
-use Rattle.chan_deck.proofs.UpperDigits.{encoded_pass, encoded_one, with_zero}
-use Rattle.chan_deck.proofs.FieldLemmas.{cancel, same_fields, length-address_digits}
+use Rattle.chan_deck.proofs.UpperDigits.{bytes_at, encoded_pass, with_zero}
 
 -- ---- no line feeds
 
@@ -72,111 +71,96 @@ line_no_feed (put a word) =
     (no_feed-append (address_digits a) (32 ∷ encode_upper word) (upper_no_feed (bytes_high_first 3 a)) (refl, upper_no_feed word))
 line_no_feed i = from_test (line i) refl
 
--- ---- one number for each field
+-- ---- what a line says, read back
 
-one_byte : (m n : ℕ) → IsByte m → IsByte n → byte_digits m ≡ byte_digits n → m ≡ n
-one_byte m n hm hn e =
-    let same : m ∷ [] ≡ n ∷ [] = encoded_one (m ∷ []) (n ∷ []) (hm, tt) (hn, tt) e in
-    cc
+abbrev bytes_or_none : Result (List ℕ) FromHexError → List ℕ
+bytes_or_none (Ok bytes) = bytes
+bytes_or_none (Err e) = []
 
-at : (i : ℕ) (a b : List ℕ) → a ≡ b → get_or a i 0 ≡ get_or b i 0
-at i a b e = ap (λ t. get_or t i 0) e
+-- the bytes that digits spell
+abbrev bytes_in : List ℕ → List ℕ
+bytes_in digits = bytes_or_none (decode_of digits)
 
-one_address : (m n : ℕ) → IsAddress m → IsAddress n → address_digits m ≡ address_digits n → m ≡ n
-one_address m n hm hn e =
-    let a = bytes_high_first 3 m in
-    let b = bytes_high_first 3 n in
-    let same : a ≡ b = encoded_one a b (bytes_three m) (bytes_three n) e in
-    let high : m / 65536 % 256 ≡ n / 65536 % 256 = at 0 a b same in
-    let middle : m / 256 % 256 ≡ n / 256 % 256 = at 1 a b same in
-    let low : m % 256 ≡ n % 256 = at 2 a b same in
-    omega arith
+bytes_back : (bytes : List ℕ) → AllByRecursion IsByte bytes → bytes_in (encode_upper bytes) ≡ bytes
+bytes_back bytes h = ap bytes_or_none (decode_of-encode_upper bytes (bytes_at bytes h))
 
-one_size : (m n : ℕ) → m < 2 ^ 28 → n < 2 ^ 28 → size_digits m ≡ size_digits n → m ≡ n
-one_size m n hm hn e =
-    let a = bytes_high_first 4 m in
-    let b = bytes_high_first 4 n in
-    let eight : encode_upper a ≡ encode_upper b = sym (with_zero (m / 16777216 % 256) (bytes_high_first 3 m) (omega arith)) ∙ ap (λ (t : List ℕ). 48 ∷ t) e ∙ with_zero (n / 16777216 % 256) (bytes_high_first 3 n) (omega arith) in
-    let same : a ≡ b = encoded_one a b (bytes_four m) (bytes_four n) eight in
-    let first : m / 16777216 % 256 ≡ n / 16777216 % 256 = at 0 a b same in
-    let high : m / 65536 % 256 ≡ n / 65536 % 256 = at 1 a b same in
-    let middle : m / 256 % 256 ≡ n / 256 % 256 = at 2 a b same in
-    let low : m % 256 ≡ n % 256 = at 3 a b same in
-    omega arith
+-- the number that bytes make, the first of them behind a number
+abbrev number_in : ℕ → List ℕ → ℕ
+number_in n [] = n
+number_in n (b ∷ bytes) = number_in (n * 256 + b) bytes
 
-one_cylinder : (m n : ℕ) → cylinder_digits m ≡ cylinder_digits n → m ≡ n
-one_cylinder m n e =
-    let a = cylinder_digits m in
-    let b = cylinder_digits n in
-    let hundreds : 48 + m / 100 ≡ 48 + n / 100 = at 0 a b e in
-    let tens : 48 + m / 10 % 10 ≡ 48 + n / 10 % 10 = at 1 a b e in
-    let ones : 48 + m % 10 ≡ 48 + n % 10 = at 2 a b e in
-    omega arith
+abbrev address_in : List ℕ → ℕ
+address_in digits = number_in 0 (bytes_in digits)
 
-one_limit : (m n : ℕ) → limit_digits m ≡ limit_digits n → m ≡ n
-one_limit m n e =
-    let a = limit_digits m in
-    let b = limit_digits n in
-    let ten_thousands : 48 + m / 10000 ≡ 48 + n / 10000 = at 0 a b e in
-    let thousands : 48 + m / 1000 % 10 ≡ 48 + n / 1000 % 10 = at 1 a b e in
-    let hundreds : 48 + m / 100 % 10 ≡ 48 + n / 100 % 10 = at 2 a b e in
-    let tens : 48 + m / 10 % 10 ≡ 48 + n / 10 % 10 = at 3 a b e in
-    let ones : 48 + m % 10 ≡ 48 + n % 10 = at 4 a b e in
-    omega arith
+byte_back : (n : ℕ) → IsByte n → address_in (byte_digits n) ≡ n
+byte_back n h = ap (number_in 0) (bytes_back (n ∷ []) (h, tt)) ∙ omega arith
 
-one_area : (a b : Area) → IsArea a → IsArea b → area_digits a ≡ area_digits b → a ≡ b
-one_area a b ha hb e =
-    let parts = same_fields (address_digits a.start) (address_digits a.len) (address_digits b.start) (address_digits b.len) (length-address_digits a.start ∙ sym (length-address_digits b.start)) e in
-    let first : a.start ≡ b.start = one_address a.start b.start ha.0 hb.0 parts.0 in
-    let second : a.len ≡ b.len = one_address a.len b.len ha.1 hb.1 parts.1 in
-    ap (λ (x : ℕ). record { start = x; len = a.len }) first ∙ ap (λ (x : ℕ). record { start = b.start; len = x }) second
+address_back : (n : ℕ) → IsAddress n → address_in (address_digits n) ≡ n
+address_back n h = ap (number_in 0) (bytes_back (bytes_high_first 3 n) (bytes_three n)) ∙ omega arith
 
-one_put : (a b : ℕ) (v w : List ℕ) → HasForm (put a v) → HasForm (put b w) → line (put a v) ≡ line (put b w) → put a v ≡ put b w
-one_put a b v w ha hb e =
-    let parts = same_fields (address_digits a) (encode_upper v) (address_digits b) (encode_upper w) (length-address_digits a ∙ sym (length-address_digits b)) (cancel (codes "put ") _ _ e) in
-    let first : a ≡ b = one_address a b ha.0 hb.0 parts.0 in
-    let second : v ≡ w = encoded_one v w ha.1.1 hb.1.1 parts.1 in
-    ap (λ x. put x v) first ∙ ap (λ x. put b x) second
+size_back : (n : ℕ) → n < 2 ^ 28 → address_in (48 ∷ size_digits n) ≡ n
+size_back n h =
+    ap address_in (with_zero (n / 16777216 % 256) (bytes_high_first 3 n) (omega arith))
+    ∙ ap (number_in 0) (bytes_back (bytes_high_first 4 n) (bytes_four n)) ∙ omega arith
 
-one_extent : (a b c d : ℕ) → line (extent a b) ≡ line (extent c d) → extent a b ≡ extent c d
-one_extent a b c d e =
-    let parts = same_fields (cylinder_digits a) (cylinder_digits b) (cylinder_digits c) (cylinder_digits d) refl (cancel (codes "extent ") _ _ e) in
-    ap (λ x. extent x b) (one_cylinder a c parts.0) ∙ ap (λ x. extent c x) (one_cylinder b d parts.1)
+-- the number of decimal digits, behind a number
+abbrev decimal_in : ℕ → List ℕ → ℕ
+decimal_in n [] = n
+decimal_in n (d ∷ digits) = decimal_in (n * 10 + (d - 48)) digits
 
-apart : {A : Type 0} (a b : ℕ) → (a == b) ≡ false → a ≡ b → A
-apart a b h e = absurd (eqb-false a b h e)
+cylinder_back : (n : ℕ) → n < 1000 → decimal_in 0 (cylinder_digits n) ≡ n
+cylinder_back n h = omega arith
 
-one_device : (c d : Device) → device_digits c ≡ device_digits d → c ≡ d
-one_device D2311 D2311 e = refl
-one_device D2314 D2314 e = refl
-one_device D2311 D2314 e = apart 49 52 refl (at 3 (codes "2311") (codes "2314") e)
-one_device D2314 D2311 e = apart 52 49 refl (at 3 (codes "2314") (codes "2311") e)
+limit_back : (n : ℕ) → n < 100000 → decimal_in 0 (limit_digits n) ≡ n
+limit_back n h = omega arith
 
-one_header : (g h : VersionNumber) → header_digit g ≡ header_digit h → g ≡ h
-one_header numbers.One numbers.One e = refl
-one_header numbers.Two numbers.Two e = refl
-one_header numbers.One numbers.Two e = apart 49 50 refl (at 0 (codes "1") (codes "2") e)
-one_header numbers.Two numbers.One e = apart 50 49 refl (at 0 (codes "2") (codes "1") e)
+abbrev area_in : List ℕ → Area
+area_in l = record { start = address_in (take 6 l); len = address_in (drop 7 l) }
 
--- ---- a line says one thing
+area_back : (a : Area) → IsArea a → area_in (area_digits a) ≡ a
+unfolding encode_with
+area_back a h =
+    ap (λ (x : ℕ). record { start = x; len = address_in (address_digits a.len) }) (address_back a.start h.0)
+    ∙ ap (λ (x : ℕ). record { start = a.start; len = x }) (address_back a.len h.1)
 
 -- a number that tells the forms apart, of the first letters of a line
 abbrev tag_of : List ℕ → ℕ
 tag_of l = cond (get_or l 0 0 == 115) (get_or l 2 0 * 1000 + get_or l 4 0) (get_or l 0 0 * 1000 + get_or l 1 0)
 
+-- what a line says, if it says anything
+abbrev pub read : List ℕ → Item
+read l =
+    let is : List ℕ → Bool = λ w. tag_of l == tag_of w in
+    cond (is (codes "chanv")) (header (cond (get_or l 11 0 == 49) numbers.One numbers.Two))
+    (cond (is (codes "device")) (device (cond (get_or l 10 0 == 49) D2311 D2314))
+    (cond (is (codes "mask ")) (mask (address_in (drop 5 l)))
+    (cond (is (codes "start")) (start (address_in (drop 6 l)))
+    (cond (is (codes "limit")) (limit (decimal_in 0 (drop 6 l)))
+    (cond (is (codes "extent")) (extent (decimal_in 0 (take 3 (drop 7 l))) (decimal_in 0 (drop 11 l)))
+    (cond (is (codes "fetch")) (fetch (area_in (drop 6 l)))
+    (cond (is (codes "store")) (store (area_in (drop 6 l)))
+    (cond (is (codes "storage")) (storage (address_in (48 ∷ drop 8 l)))
+    (cond (is (codes "put ")) (put (address_in (take 6 (drop 4 l))) (bytes_in (drop 11 l))) end)))))))))
+
+pub read_back : (i : Item) → HasForm i → read (line i) ≡ i
+unfolding encode_with
+read_back (header numbers.One) h = refl
+read_back (header numbers.Two) h = refl
+read_back (device D2311) h = refl
+read_back (device D2314) h = refl
+read_back (mask m) h = ap mask (byte_back m h)
+read_back (start a) h = ap start (address_back a h)
+read_back (limit n) h = ap limit (limit_back n h)
+read_back (extent a b) h = ap (λ x. extent x (decimal_in 0 (cylinder_digits b))) (cylinder_back a h.0) ∙ ap (λ x. extent a x) (cylinder_back b h.1)
+read_back (fetch a) h = ap fetch (area_back a h)
+read_back (store a) h = ap store (area_back a h)
+read_back (storage n) h = ap storage (size_back n h)
+read_back (put a w) h = ap (λ x. put x (bytes_in (encode_upper w))) (address_back a h.0) ∙ ap (λ x. put a x) (bytes_back w h.1.1)
+read_back end h = refl
+
+-- a line says one thing
 pub one_item : (i j : Item) → HasForm i → HasForm j → line i ≡ line j → i ≡ j
-one_item (header g) (header h) hi hj e = ap header (one_header g h (cancel (codes "chanv deck ") _ _ e))
-one_item (device c) (device d) hi hj e = ap device (one_device c d (cancel (codes "device ") _ _ e))
-one_item (mask m) (mask n) hi hj e = ap mask (one_byte m n hi hj (cancel (codes "mask ") _ _ e))
-one_item (start a) (start b) hi hj e = ap start (one_address a b hi hj (cancel (codes "start ") _ _ e))
-one_item (limit m) (limit n) hi hj e = ap limit (one_limit m n (cancel (codes "limit ") _ _ e))
-one_item (extent a b) (extent c d) hi hj e = one_extent a b c d e
-one_item (fetch a) (fetch b) hi hj e = ap fetch (one_area a b hi hj (cancel (codes "fetch ") _ _ e))
-one_item (store a) (store b) hi hj e = ap store (one_area a b hi hj (cancel (codes "store ") _ _ e))
-one_item (storage m) (storage n) hi hj e = ap storage (one_size m n hi hj (cancel (codes "storage ") _ _ e))
-one_item (put a v) (put b w) hi hj e = one_put a b v w hi hj e
-one_item end end hi hj e = refl
-one_item i j hi hj e = apart (tag_of (line i)) (tag_of (line j)) refl (ap tag_of e)
+one_item i j hi hj e = sym (read_back i hi) ∙ ap read e ∙ read_back j hj
 
 pub says_one : (l : List ℕ) (i j : Item) → Says l i → Says l j → i ≡ j
 says_one l i j hi hj = one_item i j hi.0 hj.0 (sym hi.1 ∙ hj.1)

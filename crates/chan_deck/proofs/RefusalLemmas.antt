@@ -1,5 +1,5 @@
 -- What one line more does to where reading stands: it goes on, or the text is refused there, or it has spelled a deck.
-use Rattle.std.proofs.Common.{◌≡◌, ℕ, ◌+◌, ◌-◌, ◌<◌, ◌⊎◌, false, List, [], ◌∷◌, ◌++◌, length, take, drop, map, Option, Some, None, Result, Ok, refl, sym, ap, subst, ◌∙◌, append_assoc, arith, inl, inr, length-append}
+use Rattle.std.proofs.Common.{◌≡◌, ℕ, ◌+◌, ◌-◌, ◌<◌, ◌⊎◌, false, List, [], ◌∷◌, ◌++◌, length, take, drop, map, Option, Some, None, MatchOption, Result, Ok, Err, refl, sym, ap, subst, ◌∙◌, append_assoc, arith, inl, inr, length-append}
 use Rattle.std.specs.Prelude.{◌==◌, position}
 use Rattle.std.proofs.lemmas.List.{append-nil, length-map, map-append}
 use Rattle.std.proofs.Math.Seq.{take-append_seam, drop-append_seam}
@@ -7,7 +7,7 @@ use Rattle.chan_walk.proofs.Theory.Lists.{all_append}
 use Rattle.chan_deck.specs.Item.{Item, line, text, HasForm, Says}
 use Rattle.chan_deck.specs.Image.{Image, items, Spells}
 use Rattle.chan_deck.specs.Refused.{split, lines, IsRefusedAt, Found, whole_line, part, found_in, found_behind, AreSaid, IsCause, IsRefused, rank}
-use Rattle.chan_deck.specs.Reading.{State, Opening, Whole, HasRead, step, and_then, run, is_whole, Refuses, IsRefusal}
+use Rattle.chan_deck.specs.Reading.{State, Opening, Whole, HasRead, step, taken, and_then, run, is_whole, Refuses, IsRefusal}
 use Rattle.chan_deck.specs.declared.error.DeckError.{DeckError}
 use Rattle.chan_deck.specs.declared.error.DeckError.TheVariants as errors
 use Rattle.chan_deck.proofs.LineFeeds.{some_line, no_line}
@@ -70,6 +70,22 @@ refuses_line t s n rest l after c st e refuses =
       at_line = refused_at_line t s n rest l after c st e all;
       for_cause = with_cause t s n rest (whole_line l) c st (ap (λ (p : List (List ℕ) × List ℕ). found_in p.0 p.1) e) (line_cause s l c (is_state t s n rest st) refuses);
     }
+
+-- a line that says this, or nothing
+abbrev pub IsSaid : List ℕ → Option Item → Type 0 → Type 0
+IsSaid l o P = MatchOption o (P × ((i : Item) → Says l i → ⊥)) (λ i. Says l i)
+
+pub takes_line : (t : List ℕ) (s next : State) (n : ℕ) (rest l after : List ℕ) (o : Option Item) (P : Type 0)
+    → HasRead t s n rest → split rest ≡ (l ∷ (split after).0, (split after).1) → IsSaid l o P
+    → taken s o ≡ Ok next → HasRead t next (n + 1) after
+takes_line t s next n rest l after (Some i) P st e says goes = takes t s next n rest l after i st e says goes
+takes_line t s next n rest l after None P st e none goes = absurd cc
+
+pub refused_line : (t : List ℕ) (s : State) (n : ℕ) (rest l after : List ℕ) (o : Option Item) (P : Type 0) (c : Cause)
+    → HasRead t s n rest → split rest ≡ (l ∷ (split after).0, (split after).1) → IsSaid l o P
+    → taken s o ≡ Err c → IsRefused t n c
+refused_line t s n rest l after (Some i) P c st e says bad = refuses_line t s n rest l after c st e (inl (i, says, bad))
+refused_line t s n rest l after None P c st e none bad = refuses_line t s n rest l after c st e (inr (λ i says. absurd (none.1 i says), cc))
 
 not_whole : {A : Type 0} (s : State) (d : Image) (r : Result State Cause) → is_whole s ≡ false → r ≡ Ok s → r ≡ Ok (Whole d) → A
 not_whole s d r e f g =

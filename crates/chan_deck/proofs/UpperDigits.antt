@@ -1,12 +1,13 @@
--- Upper-case hexadecimal digits: their values, and none is a small letter or a line feed.
-use Rattle.std.proofs.Common.{◌≡◌, ℕ, zero, suc, ◌*◌, ◌/◌, ◌%◌, ◌<◌, Bool, true, ◌&&◌, List, [], ◌∷◌, length, drop, slice_index, Option, Some, None, refl, sym, ap, subst, ◌∙◌, arith, inl, inr}
+-- Upper-case hexadecimal digits: their values, and none is a line feed.
+use Rattle.std.proofs.Common.{◌≡◌, ℕ, zero, suc, ◌*◌, ◌/◌, ◌%◌, ◌<◌, ◌≤◌, Bool, true, ◌&&◌, List, [], ◌∷◌, length, drop, get_or, slice_index, Option, Some, None, if◌then◌else◌, refl, sym, ap, subst, ◌∙◌, arith, inl, inr}
 use Rattle.std.specs.Prelude.{◌==◌, nat_lt, is_some, not}
 use Rattle.std.specs.List.{AllByRecursion}
-use Rattle.std.proofs.lemmas.Bool.{eqb-true, ltb-true, cases_lt, and_parts}
+use Rattle.std.proofs.lemmas.Bool.{eqb-true, ltb-true, lt-ltb, le-ltb, cases_lt, and_parts}
 use Rattle.chan_deck.proofs.Results.{same_ok}
-use Rattle.hex.specs.Hex.{IsBytes, decode_of, hex_digit_value, is_hex_digit, encode_upper, encode_with, upper_digits}
+use Rattle.hex.specs.Hex.{IsBytes, decode_of, encode_upper, encode_with, upper_digits}
 use Rattle.hex.proofs.HexLemmas.{length-encode_with, decode_of-encode_upper}
 use Rattle.chan_deck.specs.Digits.{IsValue}
+use Rattle.chan_deck.specs.declared.digits.TheConstants.{VALUES}
 use Rattle.chan_deck.specs.Item.{IsByte}
 
 -- ---- tests of the table of digits
@@ -23,10 +24,6 @@ passes p (x ∷ t) h z (suc k) = passes p t (and_parts (p x) (all_pass p t) h).1
 -- each digit is a character of ASCII
 pub digit_ascii : (k : ℕ) → slice_index upper_digits k < 128
 digit_ascii k = ltb-true (slice_index upper_digits k) 128 (passes (λ c. nat_lt c 128) upper_digits refl refl k)
-
--- and none is a small letter
-pub digit_capital : (k : ℕ) → slice_index upper_digits k < 97
-digit_capital k = ltb-true (slice_index upper_digits k) 97 (passes (λ c. nat_lt c 97) upper_digits refl refl k)
 
 -- each digit of an encoding passes a test that the table passes
 pub encoded_pass : (p : ℕ → Bool) → all_pass p upper_digits ≡ true → p 0 ≡ true → (bytes : List ℕ) → AllByRecursion (λ c. p c ≡ true) (encode_upper bytes)
@@ -51,20 +48,29 @@ below p (suc n) k h lt =
           subst (λ j. p j ≡ true) e parts.0
     ]
 
--- what `hex` says of a character's value is right by the table
+-- the value that is looked up, if it is one
+abbrev looked_up : ℕ → Option ℕ
+looked_up c = if nat_lt (get_or VALUES c 0) 16 then Some (get_or VALUES c 0) else None
+
 abbrev fits : ℕ → Option ℕ → Bool
 fits c None = true
 fits c (Some v) = nat_lt v 16 && c == slice_index upper_digits v
 
--- the value that `hex` gives to a character that is no small letter
-pub is_value : (c : ℕ) (o : Option ℕ) → c < 97 → hex_digit_value c ≡ o → IsValue c o
+is_value : (c : ℕ) (o : Option ℕ) → c < 256 → looked_up c ≡ o → IsValue c o
 is_value c (Some v) lt h =
-    let right = ap (λ o. fits c o) (sym h) ∙ below (λ d. fits d (hex_digit_value d)) 97 c refl lt in
+    let right = ap (λ o. fits c o) (sym h) ∙ below (λ d. fits d (looked_up d)) 256 c refl lt in
     let parts = and_parts (nat_lt v 16) (c == slice_index upper_digits v) right in
     (ltb-true _ _ parts.0, eqb-true _ _ parts.1)
 is_value c None lt h = λ v small e.
-    let some = below (λ d. is_hex_digit (slice_index upper_digits d)) 16 v refl small in
-    absurd (cc (some, ap is_hex_digit e, ap is_some h))
+    let some = below (λ d. is_some (looked_up (slice_index upper_digits d))) 16 v refl small in
+    absurd (cc (some, ap (λ d. is_some (looked_up d)) e, ap is_some h))
+
+-- a character with a value in the table is a digit, and no other
+pub some_value : (c : ℕ) → c < 256 → get_or VALUES c 0 < 16 → IsValue c (Some (get_or VALUES c 0))
+some_value c lt small = is_value c (Some (get_or VALUES c 0)) lt (rw (lt-ltb _ _ small) refl)
+
+pub no_value : (c : ℕ) → c < 256 → 16 ≤ get_or VALUES c 0 → IsValue c None
+no_value c lt large = is_value c None lt (rw (le-ltb (get_or VALUES c 0) 16 large) refl)
 
 -- ---- encoding
 

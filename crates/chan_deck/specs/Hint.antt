@@ -1,25 +1,20 @@
--- What is said of the line at which a text is refused: the line as it stands, and what may stand
--- in its place or which condition it has to meet.
-use Rattle.std.specs.Prelude.{ℕ, ◌-◌, ◌%◌, ◌≡◌, ◌≢◌, ◌==◌, ◌&&◌, ◌||◌, not, nat_le}
-use Rattle.std.specs.Prelude.{nat_lt, List, [], ◌∷◌, ◌++◌, length, take, MatchBool}
-use Rattle.std.specs.Prelude.{codes, if◌then◌else◌, Bool, true, false, Option, Some, None}
-use Rattle.std.specs.List.{filter, find, flat_map, list_any}
-use Rattle.std.specs.Borrow.{Bor}
-use Rattle.std.specs.Str.{bytes_eq}
+-- The place of a line at which a text is refused: what the lines before it say, what is found, and
+-- which forms may stand there.
+use Rattle.std.specs.Prelude.{ℕ, ◌≡◌, Bool, true, false, List, [], ◌∷◌, ◌++◌, Option, Some, None}
+use Rattle.std.specs.Prelude.{is_some, not, option_and_then, take}
+use Rattle.std.specs.List.{filter}
 use Rattle.ckd_core.specs.declared.device.Device.TheVariants.{D2314}
 use Rattle.chan_deck.specs.Item.{Item, header, device, mask, start, limit, extent, fetch, store}
-use Rattle.chan_deck.specs.Item.{storage, put, end, byte_digits, size_digits, Says}
-use Rattle.chan_deck.specs.Refused.{AreSaid, Found, found_behind, is_second, last_of, lines}
-use Rattle.chan_deck.specs.Refused.{may_stand, part, size_said, split, whole_line}
-use Rattle.chan_deck.specs.Texts.{address_text}
-use Rattle.chan_deck.specs.declared.cause.Cause.{Cause}
-use Rattle.chan_deck.specs.declared.cause.Cause.TheVariants as causes
+use Rattle.chan_deck.specs.Item.{storage, put, end, said_by}
+use Rattle.chan_deck.specs.Reading.{is_empty}
+use Rattle.chan_deck.specs.Refused.{AreSaid, Found, found_behind, is_second, last_of, may_stand}
+use Rattle.chan_deck.specs.Refused.{lines, part, split, whole_line}
+use Rattle.chan_deck.specs.declared.hint.Before.{Before}
+use Rattle.chan_deck.specs.declared.hint.Spot.{Spot}
+use Rattle.chan_deck.specs.declared.item.Item as said
 use Rattle.chan_deck.specs.declared.keyword.Form.{Form}
 use Rattle.chan_deck.specs.declared.keyword.Form.TheVariants as forms
-use Rattle.chan_deck.specs.declared.hint.Spot.{Spot}
 use Rattle.chan_deck.specs.declared.version.VersionNumber.TheVariants as numbers
-
--- ---- what may stand there
 
 -- something that a line of the form says
 abbrev pub example_of : Form → Item
@@ -45,52 +40,28 @@ all_forms =
 abbrev pub forms_behind : Bool → Option Item → List Form
 forms_behind second last = filter (λ f. may_stand second last (example_of f)) all_forms
 
--- the first word of a line of the form
-abbrev pub keyword_of : Form → List ℕ
-keyword_of forms.Header = codes "chanv"
-keyword_of forms.Device = codes "device"
-keyword_of forms.Mask = codes "mask"
-keyword_of forms.Start = codes "start"
-keyword_of forms.Limit = codes "limit"
-keyword_of forms.Extent = codes "extent"
-keyword_of forms.Fetch = codes "fetch"
-keyword_of forms.Store = codes "store"
-keyword_of forms.Storage = codes "storage"
-keyword_of forms.Put = codes "put"
-keyword_of forms.End = codes "end"
+-- what a line says, if there is one and it says something
+abbrev pub item_in : Option said.Item → Option Item
+item_in = option_and_then said_by
 
--- what a line has before its first space
-unfoldable pub first_word : List ℕ → List ℕ
-first_word [] = []
-first_word (b ∷ l) = if b == 32 then [] else b ∷ first_word l
+-- the bytes of storage of the first line that says them
+abbrev pub size_in : List Item → Option ℕ
+size_in [] = None
+size_in (storage n ∷ is) = Some n
+size_in (i ∷ is) = size_in is
 
--- the form whose keyword a line begins with, if it is one of these
-abbrev pub begun_as : List Form → List ℕ → Option Form
-begun_as fs l = find (λ f. bytes_eq (keyword_of f) (first_word l)) fs
+-- this is what the lines before say
+pub record AreBefore (before : List Item) (b : Before) : Type 0 where
+  pub last : item_in b.last ≡ last_of before
+  pub some : is_some b.last ≡ not (is_empty before)
+  pub second : b.is_second ≡ is_second before
+  pub size : b.size ≡ size_in before
 
--- the address of the put that a line may be
-abbrev pub put_address : Option Item → Option ℕ
-put_address (Some (put a word)) = Some a
-put_address last = None
-
--- ---- the place of a line
-
--- the line, if there is one, says this, if anything
-abbrev pub IsSaidBy : Option (Bor (List ℕ)) → Option Item → Type 0
-IsSaidBy None None = Unit {0}
-IsSaidBy (Some l) (Some i) = Says l.now i
-IsSaidBy l i = ⊥
-
--- the last of some lines, if there is one
-abbrev pub IsLastOf : List (List ℕ) → Option (Bor (List ℕ)) → Type 0
-IsLastOf ls None = ls ≡ []
-IsLastOf ls (Some l) = (front : List (List ℕ)) × (ls ≡ front ++ l.now ∷ [])
-
--- the last of the first n whole lines of a text, or of all if there are fewer, and what follows it
-pub record AreBehind (t : List ℕ) (n : ℕ) (last : Option (Bor (List ℕ))) (rest : List ℕ)
-    : Type 0 where
-  pub is_last : IsLastOf (take n (lines t)) last
+-- this is what the first n whole lines of a text say, or all if there are fewer, and what follows
+-- them
+pub record IsBehind (t : List ℕ) (n : ℕ) (b : Before) (rest : List ℕ) : Type 0 where
   pub left : split t ≡ (take n (lines t) ++ (split rest).0, (split rest).1)
+  pub says : (before : List Item) → AreSaid n t before → AreBefore before b
 
 -- what is found, as a whole line or not
 abbrev pub found_as : Bool → List ℕ → Found
@@ -100,8 +71,4 @@ found_as false l = part l
 -- the spot behind n lines of a text
 pub record IsSpot (t : List ℕ) (n : ℕ) (spot : Spot) : Type 0 where
   pub found : found_behind n t ≡ found_as spot.is_whole spot.found.now
-  pub last : (before : List Item) → AreSaid n t before → IsSaidBy spot.last (last_of before)
-  pub second :
-      (i : Item) (before : List Item) → AreSaid n t (i ∷ before)
-      → spot.is_second ≡ is_second (i ∷ before)
-  pub size : (before : List Item) → AreSaid n t before → spot.size ≡ size_said before
+  pub before : (before : List Item) → AreSaid n t before → AreBefore before spot.before

@@ -1,12 +1,14 @@
 -- What a line of a deck says, and the one way to spell it.
 use Rattle.std.specs.Prelude.{ℕ, ◌+◌, ◌/◌, ◌%◌, ◌<◌, ◌^◌, ◌≡◌, List, [], ◌∷◌, ◌++◌, length, drop}
-use Rattle.std.specs.Prelude.{codes}
-use Rattle.std.specs.Int.{bytes_high_first}
+use Rattle.std.specs.Prelude.{codes, Option, Some, None, MatchOption}
+use Rattle.std.specs.Int.{bytes_high_first, w64, to_be_bytes}
 use Rattle.std.specs.List.{flat_map, AllByRecursion}
 use Rattle.hex.specs.Hex.{encode_upper}
 use Rattle.ccw_core.specs.declared.areas.Area.{Area}
 use Rattle.ckd_core.specs.declared.device.Device.{Device}
 use Rattle.ckd_core.specs.declared.device.Device.TheVariants.{D2311, D2314}
+use Rattle.chan_deck.specs.declared.item.Item as said
+use Rattle.chan_deck.specs.declared.item.Item.TheVariants as found
 use Rattle.chan_deck.specs.declared.version.VersionNumber.{VersionNumber}
 use Rattle.chan_deck.specs.declared.version.VersionNumber.TheVariants as numbers
 
@@ -105,6 +107,32 @@ HasForm end = Unit {0}
 -- the line says this
 abbrev pub Says : List ℕ → Item → Type 0
 Says l i = HasForm i × (l ≡ line i)
+
+-- what an item of the reader says, if it says something
+abbrev pub said_by : said.Item → Option Item
+said_by (found.Header h) = Some (header h)
+said_by (found.Device d) = Some (device d)
+said_by (found.Mask m) = Some (mask m)
+said_by (found.Start a) = Some (start a)
+said_by (found.Limit n) = Some (limit n)
+said_by (found.Extent first last) = Some (extent first last)
+said_by (found.Fetch a) = Some (fetch a)
+said_by (found.Store a) = Some (store a)
+said_by (found.Storage n) = Some (storage n)
+said_by (found.Put a n) = Some (put a (to_be_bytes w64 n))
+said_by found.End = Some end
+said_by i = None
+
+-- the number of a put has eight bytes
+abbrev pub Fits : said.Item → Type 0
+Fits (found.Put a n) = n < 2 ^ 64
+Fits i = Unit {0}
+
+-- the line says this, or has none of the forms
+abbrev pub Reads : List ℕ → said.Item → Type 0
+Reads l i =
+    Fits i
+    × MatchOption (said_by i) ((i ≡ found.Formless) × ((j : Item) → Says l j → ⊥)) (λ j. Says l j)
 
 -- lines as a text: each has a line feed at its end
 abbrev pub text : List (List ℕ) → List ℕ

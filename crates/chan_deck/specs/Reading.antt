@@ -1,13 +1,13 @@
 -- Reading a deck line by line: what the lines so far have said, and what one line more does to it.
-use Rattle.std.specs.Prelude.{ℕ, ◌+◌, ◌-◌, ◌%◌, ◌≡◌, ◌==◌, ◌&&◌, ◌⊎◌, nat_lt, nat_le, not, Bool}
+use Rattle.std.specs.Prelude.{ℕ, ◌+◌, ◌-◌, ◌%◌, ◌<◌, ◌≡◌, ◌==◌, ◌&&◌, ◌⊎◌, nat_lt, nat_le, not, Bool}
 use Rattle.std.specs.Prelude.{true, false, List, [], ◌∷◌, ◌++◌, length, replicate, map}
-use Rattle.std.specs.Prelude.{if◌then◌else◌, Result, Ok, Err, MatchResult}
+use Rattle.std.specs.Prelude.{if◌then◌else◌, Option, Some, None, Result, Ok, Err, MatchResult}
 use Rattle.std.specs.List.{AllByRecursion}
 use Rattle.ccw_core.specs.declared.areas.Area.{Area}
 use Rattle.ckd_core.specs.declared.device.Device.{Device}
 use Rattle.ckd_core.specs.Mask.{is_mask}
 use Rattle.chan_deck.specs.Item.{Item, header, device, mask, start, limit, extent, fetch, store}
-use Rattle.chan_deck.specs.Item.{storage, put, end, line, HasForm, Says}
+use Rattle.chan_deck.specs.Item.{storage, put, end, line, HasForm, Says, said_by}
 use Rattle.chan_deck.specs.Image.{Image, is_zero}
 use Rattle.chan_deck.specs.Refused.{split, is_size, is_limit, IsRefused}
 use Rattle.chan_deck.specs.declared.version.VersionNumber.{VersionNumber}
@@ -16,10 +16,12 @@ use Rattle.chan_deck.specs.declared.version.Version.TheVariants.{One, Two}
 use Rattle.chan_deck.specs.declared.cause.Cause.{Cause}
 use Rattle.chan_deck.specs.declared.cause.Cause.TheVariants as causes
 use Rattle.chan_deck.specs.declared.heading.Heading.{Heading}
+use Rattle.chan_deck.specs.declared.item.Item as found
+use Rattle.chan_deck.specs.declared.item.Item.TheVariants.{Missing}
 use Rattle.chan_deck.specs.declared.lines.Cursor.{Cursor}
-use Rattle.chan_deck.specs.declared.list_lines.Lists.{Lists}
-use Rattle.chan_deck.specs.declared.list_lines.ListLine.{ListLine}
-use Rattle.chan_deck.specs.declared.list_lines.ListLine.TheVariants.{Extent, Fetch, Store}
+use Rattle.chan_deck.specs.declared.lists.Lists.{Lists}
+use Rattle.chan_deck.specs.declared.lists.Listed.{Listed}
+use Rattle.chan_deck.specs.declared.lists.Listed.TheVariants.{Taken, Storage, Refused}
 use Rattle.chan_deck.specs.declared.error.DeckError.{DeckError}
 use Rattle.chan_deck.specs.declared.error.DeckError.TheVariants as errors
 
@@ -132,6 +134,11 @@ judged s _ = Err (no_form s)
 abbrev pub step : State → Item → Result State Cause
 step s i = if stands s i then judged s i else Err (no_form s)
 
+-- what a line does that says this, or has none of the forms
+abbrev pub taken : State → Option Item → Result State Cause
+taken s None = Err (no_form s)
+taken s (Some i) = step s i
+
 -- goes on behind a line that was taken, and not behind one that was refused
 abbrev pub and_then : Result State Cause → (State → Result State Cause) → Result State Cause
 and_then (Ok s) more = more s
@@ -184,22 +191,29 @@ abbrev pub is_whole : State → Bool
 is_whole (Whole d) = true
 is_whole _ = false
 
--- the line is what comes next in the text
-pub record IsNextLine (c : Cursor) (l : List ℕ) (d : Cursor) : Type 0 where
-  pub takes :
-      (s next : State) (i : Item) → Says l i → step s i ≡ Ok next → Leads s c next d
-  pub refuses : (s : State) (cause : Cause) → Refuses s l cause → Fails s c (errors.At d.line cause)
+-- the refusal of line n, which was read last, or of the text's end where none was left
+abbrev pub refusal : ℕ → found.Item → Cause → DeckError
+refusal n Missing cause = errors.At (n + 1) causes.Ended
+refusal n i cause = errors.At n cause
 
--- the error is that of a text that ends here before a deck is whole
-abbrev pub FailsAtEnd : Cursor → DeckError → Type 0
-FailsAtEnd c e = (s : State) → is_whole s ≡ false → Fails s c e
+-- the next line of the text says this, or has none of the forms, or none is left
+pub record IsNext (c : Cursor) (i : found.Item) (d : Cursor) : Type 0 where
+  pub takes : (s next : State) → taken s (said_by i) ≡ Ok next → Leads s c next d
+  pub refuses :
+      (s : State) (cause : Cause) → is_whole s ≡ false → taken s (said_by i) ≡ Err cause
+      → Fails s c (refusal d.line i cause)
+
+-- fewer bytes are left, if a line was read
+abbrev pub Shortens : ℕ → found.Item → ℕ → Type 0
+Shortens old Missing new = Unit {0}
+Shortens old i new = new < old
 
 -- what the lists of a deck have so far, and the lines before them
 abbrev pub with_lists : Heading → Lists → State
 with_lists h x = Listing h x.extents.items x.fetch.items x.store.items
 
--- what a line of the lists says
-abbrev pub item_of_line : ListLine → Item
-item_of_line (Extent first last) = extent first last
-item_of_line (Fetch a) = fetch a
-item_of_line (Store a) = store a
+-- what came of a line of the lists
+abbrev pub listed : Heading → Lists → Listed → Result State Cause
+listed h x Taken = Ok (with_lists h x)
+listed h x (Storage n) = Ok (Filling h x.extents.items x.fetch.items x.store.items n [])
+listed h x (Refused c) = Err c

@@ -4,58 +4,49 @@ ghost use Rattle.std.specs.Prelude.{◌≡◌, ◌<◌, ◌^◌, ℕ, List, leng
 ghost use Rattle.std.specs.Bool.{OnTrue, OnFalse};
 ghost use Rattle.std.specs.Int.{w64, to_be_bytes};
 ghost use Rattle.std.specs.List.{AllByRecursion, list_any};
-ghost use Rattle.chan_deck.specs.Digits.{AreValues, IsPair, IsValue};
+ghost use Rattle.chan_deck.specs.Digits.{IsPair, IsValue};
 ghost use Rattle.hex.specs.Hex.{IsBytes, encode_upper};
 ghost use Rattle.chan_deck.specs.Item.{IsAddress, IsByte, IsWord, address_digits, byte_digits};
 ghost use Rattle.chan_deck.specs.Item.{cylinder_digits, limit_digits, size_digits};
 
-/// The first of the small letters, which `hex` takes for digits too.
-const SMALL_LETTERS: u8 = b'a';
+/// The value of each character as a digit, and 255 if it isn't one. It is looked up, because digits
+/// and letters come at random in the words of storage, and a processor can't foresee a comparison.
+const VALUES: [u8; 256] = [
+    255, 255, 255, 255, 255, 255, 255, 255, 255, 255, 255, 255, 255, 255, 255, 255, 255, 255, 255,
+    255, 255, 255, 255, 255, 255, 255, 255, 255, 255, 255, 255, 255, 255, 255, 255, 255, 255, 255,
+    255, 255, 255, 255, 255, 255, 255, 255, 255, 255, 0, 1, 2, 3, 4, 5, 6, 7, 8, 9, 255, 255, 255,
+    255, 255, 255, 255, 10, 11, 12, 13, 14, 15, 255, 255, 255, 255, 255, 255, 255, 255, 255, 255,
+    255, 255, 255, 255, 255, 255, 255, 255, 255, 255, 255, 255, 255, 255, 255, 255, 255, 255, 255,
+    255, 255, 255, 255, 255, 255, 255, 255, 255, 255, 255, 255, 255, 255, 255, 255, 255, 255, 255,
+    255, 255, 255, 255, 255, 255, 255, 255, 255, 255, 255, 255, 255, 255, 255, 255, 255, 255, 255,
+    255, 255, 255, 255, 255, 255, 255, 255, 255, 255, 255, 255, 255, 255, 255, 255, 255, 255, 255,
+    255, 255, 255, 255, 255, 255, 255, 255, 255, 255, 255, 255, 255, 255, 255, 255, 255, 255, 255,
+    255, 255, 255, 255, 255, 255, 255, 255, 255, 255, 255, 255, 255, 255, 255, 255, 255, 255, 255,
+    255, 255, 255, 255, 255, 255, 255, 255, 255, 255, 255, 255, 255, 255, 255, 255, 255, 255, 255,
+    255, 255, 255, 255, 255, 255, 255, 255, 255, 255, 255, 255, 255, 255, 255, 255, 255, 255, 255,
+    255, 255, 255, 255, 255, 255, 255, 255, 255, 255, 255, 255, 255, 255, 255, 255, 255, 255, 255,
+    255, 255, 255, 255,
+];
 
-/// The value of a digit, as `hex` decodes it behind a zero.
+/// The value of a digit.
 fn value_of(digit: u8) -> Option<u8>
     ensures { IsValue digit result }
 {
-    let mut byte = [0u8; 1];
-    if digit >= SMALL_LETTERS
-        || hex::decode_to_slice([b'0', digit].as_slice(), &mut byte).is_err()
-    {
-        return None;
-    }
-    Some(byte[0])
-}
-
-/// The value of each character, where it is a digit.
-pub(crate) type DigitValues = [Option<u8>; 256];
-
-/// Asks `hex` for the value of each character.
-///
-/// `hex` compares a digit to find out its sort, which is slow where letters and figures come at
-/// random, as in the words of storage. So it is asked once for each character, and a deck's digits
-/// are looked up.
-pub(crate) fn digit_values() -> DigitValues
-    ensures { AreValues result }
-{
-    let mut values = [None; 256];
-    for digit in 0..=u8::MAX {
-        values[usize::from(digit)] = value_of(digit);
-    }
-    values
+    let value = VALUES[usize::from(digit)];
+    if value < 16 { Some(value) } else { None }
 }
 
 /// The byte of two digits.
-fn byte_by(high: u8, low: u8, values: &DigitValues) -> Option<u8>
-    requires { AreValues values.now }
+fn byte_by(high: u8, low: u8) -> Option<u8>
     ensures { IsPair high low result }
 {
-    let high = values[usize::from(high)]?;
-    let low = values[usize::from(low)]?;
+    let high = value_of(high)?;
+    let low = value_of(low)?;
     Some(high * 16 + low)
 }
 
 /// Whether these are the upper-case digits of so many bytes, which are then written.
-fn look_up(digits: &[u8], values: &DigitValues, bytes: &mut [u8]) -> bool
-    requires { AreValues values.now }
+fn look_up(digits: &[u8], bytes: &mut [u8]) -> bool
     ensures spelled { OnTrue result (digits.now ≡ encode_upper bytes.new) }
     ensures fits { IsBytes bytes.new }
     ensures len { length bytes.new ≡ length bytes.old }
@@ -66,7 +57,7 @@ fn look_up(digits: &[u8], values: &DigitValues, bytes: &mut [u8]) -> bool
         return false;
     }
     for i in 0..bytes.len() {
-        let Some(byte) = byte_by(digits[2 * i], digits[2 * i + 1], values) else {
+        let Some(byte) = byte_by(digits[2 * i], digits[2 * i + 1]) else {
             return false;
         };
         bytes[i] = byte;
@@ -75,14 +66,13 @@ fn look_up(digits: &[u8], values: &DigitValues, bytes: &mut [u8]) -> bool
 }
 
 /// A byte of two digits.
-pub(crate) fn byte_of(digits: &[u8], values: &DigitValues) -> Option<u8>
-    requires { AreValues values.now }
+pub(crate) fn byte_of(digits: &[u8]) -> Option<u8>
     ensures { MatchOption result
         ((n : ℕ) → IsByte n → digits.now ≡ byte_digits n → ⊥)
         (λ n. IsByte n × (digits.now ≡ byte_digits n)) }
 {
     let mut bytes = [0u8; 1];
-    if look_up(digits, values, &mut bytes) {
+    if look_up(digits, &mut bytes) {
         Some(bytes[0])
     } else {
         None
@@ -90,14 +80,13 @@ pub(crate) fn byte_of(digits: &[u8], values: &DigitValues) -> Option<u8>
 }
 
 /// An address of six digits.
-pub(crate) fn address_of(digits: &[u8], values: &DigitValues) -> Option<u32>
-    requires { AreValues values.now }
+pub(crate) fn address_of(digits: &[u8]) -> Option<u32>
     ensures { MatchOption result
         ((n : ℕ) → IsAddress n → digits.now ≡ address_digits n → ⊥)
         (λ n. IsAddress n × (digits.now ≡ address_digits n)) }
 {
     let mut bytes = [0u8; 3];
-    if look_up(digits, values, &mut bytes) {
+    if look_up(digits, &mut bytes) {
         let [high, middle, low] = bytes;
         Some(u32::from_be_bytes([0, high, middle, low]))
     } else {
@@ -106,8 +95,7 @@ pub(crate) fn address_of(digits: &[u8], values: &DigitValues) -> Option<u32>
 }
 
 /// A number of bytes of storage in seven digits.
-pub(crate) fn size_of(digits: &[u8], values: &DigitValues) -> Option<u32>
-    requires { AreValues values.now }
+pub(crate) fn size_of(digits: &[u8]) -> Option<u32>
     ensures { MatchOption result
         ((n : ℕ) → n < 2 ^ 28 → digits.now ≡ size_digits n → ⊥)
         (λ n. (n < 2 ^ 28) × (digits.now ≡ size_digits n)) }
@@ -118,7 +106,7 @@ pub(crate) fn size_of(digits: &[u8], values: &DigitValues) -> Option<u32>
     let mut eight = *b"00000000";
     eight[1..].copy_from_slice(digits);
     let mut bytes = [0u8; 4];
-    if look_up(&eight, values, &mut bytes) {
+    if look_up(&eight, &mut bytes) {
         Some(u32::from_be_bytes(bytes))
     } else {
         None
@@ -126,14 +114,13 @@ pub(crate) fn size_of(digits: &[u8], values: &DigitValues) -> Option<u32>
 }
 
 /// Eight bytes of sixteen digits, as the number that has them.
-pub(crate) fn word_of(digits: &[u8], values: &DigitValues) -> Option<u64>
-    requires { AreValues values.now }
+pub(crate) fn word_of(digits: &[u8]) -> Option<u64>
     ensures { MatchOption result
         ((word : List ℕ) → IsWord word → digits.now ≡ encode_upper word → ⊥)
         (λ n. digits.now ≡ encode_upper (to_be_bytes w64 n)) }
 {
     let mut bytes = [0u8; 8];
-    if look_up(digits, values, &mut bytes) {
+    if look_up(digits, &mut bytes) {
         Some(u64::from_be_bytes(bytes))
     } else {
         None

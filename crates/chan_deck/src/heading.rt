@@ -1,18 +1,13 @@
 //! The lines before the lists of a deck.
 
-ghost use Rattle.std.specs.Prelude.{◌≡◌, ℕ, [], MatchResult};
+ghost use Rattle.std.specs.Prelude.{◌≡◌, ℕ, []};
 ghost use Rattle.ckd_core.specs.declared.device.Device.{Device};
-ghost use Rattle.chan_deck.specs.Digits.{AreValues};
-ghost use Rattle.chan_deck.specs.Reading.{HasReadTo, IsRefusal, LeadsOrFails, Listing, Masked};
-ghost use Rattle.chan_deck.specs.Reading.{Named, OnDevice, Started, on_start};
-ghost use Rattle.chan_deck.specs.declared.version.Version.TheVariants.{Two};
-ghost use Rattle.chan_deck.specs.declared.version.VersionNumber.{VersionNumber};
+ghost use Rattle.chan_deck.specs.Reading.{LeadsOrFails, Listing, Opening, on_start};
 
 use crate::cause::Cause;
-use crate::digits::DigitValues;
-use crate::error::DeckError::{self, At};
-use crate::forms::{device_of, header_of, limit_of, mask_of, start_of};
-use crate::lines::{Cursor, next_line};
+use crate::error::DeckError;
+use crate::item::Item;
+use crate::lines::Cursor;
 use crate::version::{Version, VersionNumber};
 use chan_walk::Limit;
 use ckd_core::{Device, FileMask};
@@ -26,93 +21,49 @@ pub(crate) struct Heading {
     pub(crate) start: u32,
 }
 
-/// The version that the header names, and a cursor behind its line.
-pub(crate) fn read_header<'a>(
-    text: &'a [u8],
-    values: &'a DigitValues,
-) -> Result<(VersionNumber, Cursor<'a>), DeckError>
-    requires { AreValues values.now }
-    ensures { MatchResult result (λ x. HasReadTo text.now (Named x.0) x.1) (IsRefusal text.now) }
-{
-    let Some((line, rest)) = next_line(text) else {
-        return Err(At {
-            line: 1,
-            cause: Cause::Ended,
-        });
-    };
-    match header_of(line) {
-        Some(number) => Ok((number, Cursor::new(rest, values))),
-        None => Err(At {
-            line: 1,
-            cause: Cause::Header,
-        }),
-    }
-}
-
-fn read_device(cursor: &mut Cursor) -> Result<Device, DeckError>
-    ensures { (h : VersionNumber)
-        → LeadsOrFails (Named h) cursor.old result (λ v. OnDevice h v) cursor.new }
-{
-    let line = cursor.next_line()?;
-    match device_of(line) {
-        Some(device) => Ok(device),
-        None => Err(cursor.refused(Cause::Form)),
-    }
-}
-
-fn read_mask(cursor: &mut Cursor) -> Result<FileMask, DeckError>
-    ensures { (h : VersionNumber) (v : Device)
-        → LeadsOrFails (OnDevice h v) cursor.old result (λ m. Masked h v m) cursor.new }
-{
-    let line = cursor.next_line()?;
-    let Some(byte) = mask_of(line, cursor.values) else {
-        return Err(cursor.refused(Cause::Form));
-    };
-    match FileMask::new(byte) {
-        Some(mask) => Ok(mask),
-        None => Err(cursor.refused(Cause::Mask)),
-    }
-}
-
-/// The address of the first CCW.
-fn read_start(cursor: &mut Cursor) -> Result<u32, DeckError>
-    ensures { (h : VersionNumber) (v : Device) (m : ℕ)
-        → LeadsOrFails (Masked h v m) cursor.old result (λ a. on_start h v m a) cursor.new }
-{
-    let line = cursor.next_line()?;
-    match start_of(line, cursor.values) {
-        Some(start) => Ok(start),
-        None => Err(cursor.refused(Cause::Form)),
-    }
-}
-
-/// The limit on places, which version 2 has.
-fn read_limit(cursor: &mut Cursor) -> Result<Limit, DeckError>
-    ensures { (v : Device) (m a : ℕ) → LeadsOrFails (Started v m a) cursor.old result
-        (λ n. Listing (record { version = Two n; device = v; mask = m; start = a }) [] [] [])
+/// The version, which in version 2 the line of the limit on places completes.
+fn read_version(number: VersionNumber, cursor: &mut Cursor) -> Result<Version, DeckError>
+    ensures { (v : Device) (m a : ℕ) → LeadsOrFails (on_start number v m a) cursor.old result
+        (λ x. Listing (record { version = x; device = v; mask = m; start = a }) [] [] [])
         cursor.new }
 {
-    let line = cursor.next_line()?;
-    let Some(places) = limit_of(line) else {
-        return Err(cursor.refused(Cause::Form));
+    if let VersionNumber::One = number {
+        return Ok(Version::One);
+    }
+    let item = cursor.next_item();
+    let Item::Limit(places) = item else {
+        return Err(cursor.refused(item, Cause::Form));
     };
     match Limit::new(places) {
-        Some(limit) => Ok(limit),
-        None => Err(cursor.refused(Cause::Limit)),
+        Some(limit) => Ok(Version::Two(limit)),
+        None => Err(cursor.refused(item, Cause::Limit)),
     }
 }
 
-/// The lines from that of the device to that of the first extent.
-pub(crate) fn read_heading(number: VersionNumber, cursor: &mut Cursor) -> Result<Heading, DeckError>
-    ensures { LeadsOrFails (Named number) cursor.old result (λ h. Listing h [] [] []) cursor.new }
+/// The lines from the header to that of the start or of the limit.
+pub(crate) fn read_heading(cursor: &mut Cursor) -> Result<Heading, DeckError>
+    ensures { LeadsOrFails Opening cursor.old result (λ h. Listing h [] [] []) cursor.new }
 {
-    let device = read_device(cursor)?;
-    let mask = read_mask(cursor)?;
-    let start = read_start(cursor)?;
-    let version = match number {
-        VersionNumber::One => Version::One,
-        VersionNumber::Two => Version::Two(read_limit(cursor)?),
+    let item = cursor.next_item();
+    let Item::Header(number) = item else {
+        return Err(cursor.refused(item, Cause::Header));
     };
+    let item = cursor.next_item();
+    let Item::Device(device) = item else {
+        return Err(cursor.refused(item, Cause::Form));
+    };
+    let item = cursor.next_item();
+    let Item::Mask(byte) = item else {
+        return Err(cursor.refused(item, Cause::Form));
+    };
+    let Some(mask) = FileMask::new(byte) else {
+        return Err(cursor.refused(item, Cause::Mask));
+    };
+    let item = cursor.next_item();
+    let Item::Start(start) = item else {
+        return Err(cursor.refused(item, Cause::Form));
+    };
+    let version = read_version(number, cursor)?;
     Ok(Heading {
         version,
         device,

@@ -1,16 +1,13 @@
 //! What is said of the line at which a text is refused. Tests hold the text; the place of the line
 //! and the forms that may stand there are proved.
 
-ghost use Rattle.std.specs.Prelude.{◌≡◌, ◌∷◌, ℕ, List, Option as Maybe, Some};
-ghost use Rattle.chan_deck.specs.Digits.{AreValues};
-ghost use Rattle.chan_deck.specs.Hint as hint;
-ghost use Rattle.chan_deck.specs.Hint.{AreBehind, IsSaidBy, IsSpot};
-ghost use Rattle.chan_deck.specs.Item.{Item, Says};
-ghost use Rattle.chan_deck.specs.Refused.{AreSaid, is_second as second, size_said};
+ghost use Rattle.std.specs.Prelude.{◌≡◌, ◌++◌, ◌∷◌, [], List, Option as Maybe, Some};
+ghost use Rattle.chan_deck.specs.Hint.{AreBefore, IsBehind, IsSpot, size_in};
+ghost use Rattle.chan_deck.specs.Item.{Item as Said, said_by};
+ghost use Rattle.chan_deck.specs.Refused.{is_second};
 
 use crate::cause::Cause;
-use crate::digits::{DigitValues, digit_values};
-use crate::forms::{header_of, put_of, storage_of};
+use crate::item::Item;
 use crate::keyword::{FORMS, Form, begun_as, forms_behind};
 use crate::lines::next_line;
 use crate::texts::{Address, Digits, Size};
@@ -21,98 +18,101 @@ use std::fmt::Write as _;
 /// How many characters of a line are shown.
 const SHOWN: usize = 60;
 
+/// What the lines before another say.
+#[derive(Clone, Copy)]
+struct Before {
+    /// What the last of them says.
+    last: Option<Item>,
+    /// Whether the first is the header of version 2.
+    is_second: bool,
+    /// How many bytes of storage there are, where a line says so.
+    size: Option<u32>,
+}
+
 /// The place of a line in a text.
 #[derive(Clone, Copy)]
 struct Spot<'a> {
-    /// Whether the text begins with the header of version 2.
-    is_second: bool,
-    /// The line before.
-    last: Option<&'a [u8]>,
+    before: Before,
     /// What stands there.
     found: &'a [u8],
     /// Whether it has a line feed behind it.
     is_whole: bool,
-    /// How many bytes of storage the lines before say.
-    size: u32,
 }
 
-/// Whether a line is the header of version 2.
-fn is_second_header(line: &[u8]) -> bool
-    ensures { (i : Item) (more : List Item) → Says line.now i → result ≡ second (i ∷ more) }
+/// Whether an item is the header of version 2.
+fn is_second_header(item: Item) -> bool
+    ensures { (i : Said) → said_by item ≡ Some i → result ≡ is_second (i ∷ []) }
 {
-    match header_of(line) {
-        Some(VersionNumber::Two) => true,
-        Some(VersionNumber::One) => false,
-        None => false,
+    match item {
+        Item::Header(VersionNumber::Two) => true,
+        _ => false,
     }
 }
 
-/// Whether a text begins with the header of version 2.
-fn is_second(text: &[u8]) -> bool
-    ensures { (n : ℕ) (i : Item) (before : List Item) → AreSaid n text.now (i ∷ before)
-        → result ≡ second (i ∷ before) }
+/// The bytes of storage that an item says.
+fn size_of(item: Item) -> Option<u32>
+    ensures { (i : Said) → said_by item ≡ Some i → result ≡ size_in (i ∷ []) }
 {
-    match next_line(text) {
-        Some((line, _)) => is_second_header(line),
-        None => false,
+    match item {
+        Item::Storage(size) => Some(size),
+        _ => None,
     }
 }
 
-/// How many bytes of storage so many whole lines say, and 0 where none of them does.
-fn size_behind(text: &[u8], count: u64) -> u32
-    ensures { (before : List Item) → AreSaid count text.now before → result ≡ size_said before }
+/// What some lines and one more say.
+fn one_more(before: Before, item: Item) -> Before
+    ensures { (is : List Said) (i : Said) → AreBefore is before → said_by item ≡ Some i
+        → AreBefore (is ++ i ∷ []) result }
 {
-    let values = digit_values();
+    Before {
+        last: Some(item),
+        is_second: if before.last.is_some() {
+            before.is_second
+        } else {
+            is_second_header(item)
+        },
+        size: match before.size {
+            Some(size) => Some(size),
+            None => size_of(item),
+        },
+    }
+}
+
+/// What so many whole lines say, or all if there are fewer, and what follows them.
+fn skip_lines(text: &[u8], count: u64) -> (Before, &[u8])
+    ensures { IsBehind text.now count result.0 result.1.now }
+{
+    let mut before = Before {
+        last: None,
+        is_second: false,
+        size: None,
+    };
     let mut rest = text;
     for _ in 0..count {
         let Some((line, after)) = next_line(rest) else {
-            return 0;
+            return (before, rest);
         };
-        if let Some(size) = storage_of(line, &values) {
-            return size;
-        }
+        before = one_more(before, Item::read(line));
         rest = after;
     }
-    0
-}
-
-/// The last of so many whole lines, or of all if there are fewer, and what follows it.
-fn skip_lines(text: &[u8], count: u64) -> (Option<&[u8]>, &[u8])
-    ensures { AreBehind text.now count result.0 result.1.now }
-{
-    let mut last = None;
-    let mut rest = text;
-    for _ in 0..count {
-        let Some((line, after)) = next_line(rest) else {
-            return (last, rest);
-        };
-        last = Some(line);
-        rest = after;
-    }
-    (last, rest)
+    (before, rest)
 }
 
 /// The place behind so many lines.
 fn spot_behind(text: &[u8], count: u64) -> Spot<'_>
     ensures { IsSpot text.now count result }
 {
-    let is_second = is_second(text);
-    let size = size_behind(text, count);
-    let (last, rest) = skip_lines(text, count);
+    let (before, rest) = skip_lines(text, count);
     match next_line(rest) {
         Some((line, _)) => Spot {
-            is_second,
-            last,
+            before,
             found: line,
             is_whole: true,
-            size,
         },
         None => Spot {
-            is_second,
-            last,
+            before,
             found: rest,
             is_whole: false,
-            size,
         },
     }
 }
@@ -171,7 +171,7 @@ fn push_order(out: &mut String, spot: &Spot<'_>, forms: &[Form]) -> Result<(), A
     let word = form.keyword();
     if form.number() < first.number() {
         return match form {
-            Form::Limit if !spot.is_second => {
+            Form::Limit if !spot.before.is_second => {
                 out.push_str("; limit stands in chanv deck 2 alone")
             }
             _ => write!(out, "; {word} comes earlier"),
@@ -186,7 +186,7 @@ fn push_order(out: &mut String, spot: &Spot<'_>, forms: &[Form]) -> Result<(), A
 /// Adds the forms that may stand at a spot: the pattern of the only one, or of the one that the
 /// line begins as, or the keywords; and where a form stands that may not.
 fn push_forms(out: &mut String, spot: &Spot<'_>) -> Result<(), AllocError> {
-    let forms = forms_behind(spot.last, spot.is_second);
+    let forms = forms_behind(spot.before.last, spot.before.is_second);
     let only = match forms {
         [form] => Some(*form),
         _ => begun_as(forms, spot.found),
@@ -198,39 +198,22 @@ fn push_forms(out: &mut String, spot: &Spot<'_>) -> Result<(), AllocError> {
     push_order(out, spot, forms)
 }
 
-/// The address of the put that a line is, if it is one.
-fn put_address(line: &[u8], values: &DigitValues) -> Option<u32>
-    requires { AreValues values.now }
-    ensures { (i : Item) → Says line.now i → result ≡ hint.put_address (Some i) }
-{
-    match put_of(line, values) {
-        Some((address, _)) => Some(address),
-        None => None,
-    }
-}
-
-/// The address of the put that stands before, if one does.
-fn last_put(last: Option<&[u8]>, values: &DigitValues) -> Option<u32>
-    requires { AreValues values.now }
-    ensures { (i : Maybe Item) → IsSaidBy last.entry i → result ≡ hint.put_address i }
-{
-    match last {
-        Some(line) => put_address(line, values),
-        None => None,
-    }
-}
-
 /// Adds the condition that a put at a spot doesn't meet by its address.
 fn push_place(out: &mut String, spot: &Spot<'_>) -> Result<(), AllocError> {
-    let values = digit_values();
-    let above = last_put(spot.last, &values);
-    let address = put_address(spot.found, &values).unwrap_or(0);
+    let above = match spot.before.last {
+        Some(Item::Put(above, _)) => Some(above),
+        _ => None,
+    };
+    let address = match Item::read(spot.found) {
+        Item::Put(address, _) => address,
+        _ => 0,
+    };
     let is_above = match above {
         Some(above) => above < address,
         None => true,
     };
     if address % 8 == 0 && is_above {
-        let size = Size(spot.size);
+        let size = Size(spot.before.size.unwrap_or(0));
         return write!(
             out,
             "an address at which storage of {size} bytes has eight bytes"
@@ -260,7 +243,7 @@ fn condition(cause: Cause) -> &'static str {
 
 /// Whether what stands at the start of the input is no text, by its first bytes.
 fn is_no_text(spot: &Spot<'_>) -> bool {
-    spot.last.is_none()
+    spot.before.last.is_none()
         && spot.found.iter().take(SHOWN).any(|byte| {
             !byte.is_ascii_graphic() && *byte != b' ' && *byte != b'\t' && *byte != b'\r'
         })

@@ -1,10 +1,10 @@
 //! The forms of a deck's lines, by their keywords.
 
-ghost use Rattle.std.specs.Prelude.{◌≡◌, ◌==◌, ◌<◌, length, position, IfSome};
-ghost use Rattle.std.specs.Prelude.{Option as Maybe, Some};
+ghost use Rattle.std.specs.Prelude.{◌≡◌};
 ghost use Rattle.chan_deck.specs.Hint as hint;
-ghost use Rattle.chan_deck.specs.Hint.{IsSaidBy, example_of, keyword_of};
-ghost use Rattle.chan_deck.specs.Item.{Item};
+ghost use Rattle.chan_deck.specs.Hint.{item_in};
+
+use crate::item::Item;
 
 /// A form of lines.
 #[derive(Clone, Copy)]
@@ -39,9 +39,7 @@ pub(crate) const FORMS: [Form; 11] = [
 
 impl Form {
     /// The first word of a line of the form.
-    pub(crate) fn keyword(self) -> &'static str
-        ensures { result.now ≡ keyword_of self }
-    {
+    pub(crate) fn keyword(self) -> &'static str {
         match self {
             Form::Header => "chanv",
             Form::Device => "device",
@@ -92,63 +90,34 @@ impl Form {
     }
 }
 
-/// Where the first space of a line is.
-fn first_space(line: &[u8]) -> Option<usize>
-    ensures place { result ≡ position (λ b. b == 32) line.now }
-    ensures within { IfSome result (λ i. i < length line.now) }
-{
-    line.iter().position(|b| *b == b' ')
-}
-
-/// What a line has before its first space.
-fn first_word(line: &[u8]) -> &[u8]
-    ensures { result.now ≡ hint.first_word line.now }
-{
-    match first_space(line) {
+/// The form whose keyword a line begins with, if it is one of these.
+pub(crate) fn begun_as(forms: &[Form], line: &[u8]) -> Option<Form> {
+    let word = match line.iter().position(|b| *b == b' ') {
         Some(end) => &line[..end],
         None => line,
-    }
-}
-
-/// The form whose keyword a line begins with, if it is one of these.
-pub(crate) fn begun_as(forms: &[Form], line: &[u8]) -> Option<Form>
-    ensures { result ≡ hint.begun_as forms.now line.now }
-{
-    let word = first_word(line);
+    };
     forms
         .iter()
         .copied()
         .find(|form| form.keyword().as_bytes() == word)
 }
 
-/// The forms that may stand behind a line of a form, in a deck of version 2 or not.
-fn behind_form(form: Form, is_second: bool) -> &'static [Form]
-    ensures { result.now ≡ hint.forms_behind is_second (Some (example_of form)) }
+/// The forms that may stand behind a line that says this, in a deck of version 2 or not, or at the
+/// start.
+pub(crate) fn forms_behind(last: Option<Item>, is_second: bool) -> &'static [Form]
+    ensures { result.now ≡ hint.forms_behind is_second (item_in last) }
 {
-    match form {
-        Form::Header => &[Form::Device],
-        Form::Device => &[Form::Mask],
-        Form::Mask => &[Form::Start],
-        Form::Start if is_second => &[Form::Limit],
-        Form::Start | Form::Limit => &[Form::Extent],
-        Form::Extent => &[Form::Extent, Form::Fetch, Form::Store, Form::Storage],
-        Form::Fetch => &[Form::Fetch, Form::Store, Form::Storage],
-        Form::Store => &[Form::Store, Form::Storage],
-        Form::Storage | Form::Put => &[Form::Put, Form::End],
-        Form::End => &[],
-    }
-}
-
-/// The forms that may stand behind a line of a deck, of version 2 or not, or at the start.
-pub(crate) fn forms_behind(line: Option<&[u8]>, is_second: bool) -> &'static [Form]
-    ensures { (last : Maybe Item) → IsSaidBy line.entry last
-        → result.now ≡ hint.forms_behind is_second last }
-{
-    let Some(line) = line else {
-        return &[Form::Header];
-    };
-    match begun_as(&FORMS, line) {
-        Some(form) => behind_form(form, is_second),
-        None => &[],
+    match last {
+        None | Some(Item::Formless | Item::Missing) => &[Form::Header],
+        Some(Item::Header(_)) => &[Form::Device],
+        Some(Item::Device(_)) => &[Form::Mask],
+        Some(Item::Mask(_)) => &[Form::Start],
+        Some(Item::Start(_)) if is_second => &[Form::Limit],
+        Some(Item::Start(_) | Item::Limit(_)) => &[Form::Extent],
+        Some(Item::Extent(_, _)) => &[Form::Extent, Form::Fetch, Form::Store, Form::Storage],
+        Some(Item::Fetch(_)) => &[Form::Fetch, Form::Store, Form::Storage],
+        Some(Item::Store(_)) => &[Form::Store, Form::Storage],
+        Some(Item::Storage(_) | Item::Put(_, _)) => &[Form::Put, Form::End],
+        Some(Item::End) => &[],
     }
 }

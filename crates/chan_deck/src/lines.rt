@@ -3,12 +3,11 @@
 ghost use Rattle.std.specs.Prelude.{◌≡◌, ◌+◌, ◌<◌, ◌==◌, ◌^◌, length, position, true, Some};
 ghost use Rattle.std.specs.Prelude.{IfSome, IfNone, [], ◌∷◌};
 ghost use Rattle.std.specs.List.{list_any};
-ghost use Rattle.chan_deck.specs.Digits.{AreValues, AreValues-IsProp};
 ghost use Rattle.chan_deck.specs.Refused.{split};
 
 use crate::cause::Cause;
-use crate::digits::DigitValues;
 use crate::error::DeckError::{self, At};
+use crate::item::Item;
 
 /// The length of a line that puts a doubleword, as nearly all lines of a long deck do.
 pub(crate) const PUT_LINE: usize = 27;
@@ -68,66 +67,65 @@ pub(crate) fn next_line(text: &[u8]) -> Option<(&[u8], &[u8])>
     Some((line, rest))
 }
 
-/// Where reading stands behind the header of a text.
+/// Where reading stands in a text.
 #[derive(Drop)]
 pub(crate) struct Cursor<'a> {
     /// What is left of the text.
     rest: &'a [u8],
-    /// The number of the line that was read last.
+    /// The number of the line that was read last, or 0.
     line: u64,
-    /// The value of each character as a digit.
-    pub(crate) values: &'a DigitValues,
     ghost few: { line + length rest.now + 1 < 2 ^ 64 },
-    ghost sound: { AreValues values.now } by { AreValues-IsProp values.now },
 }
 
 impl<'a> Cursor<'a> {
-    ghost use Rattle.std.specs.Prelude.{ℕ, List, IfOk, MatchResult};
+    ghost use Rattle.std.specs.Prelude.{ℕ, List, MatchResult};
     ghost use Rattle.chan_deck.specs.Image.{Image, Spells};
-    ghost use Rattle.chan_deck.specs.Reading.{FailsAtEnd, IsNextLine, IsRefusal, HasReadTo, Whole};
+    ghost use Rattle.chan_deck.specs.Item.{Fits};
+    ghost use Rattle.chan_deck.specs.Reading.{IsNext, IsRefusal, HasReadTo, Opening, Shortens};
+    ghost use Rattle.chan_deck.specs.Reading.{Whole, refusal};
     ghost use Rattle.chan_deck.specs.declared.error.DeckError.TheVariants as errors;
 
-    /// A cursor behind the header.
-    pub(crate) fn new(rest: &'a [u8], values: &'a DigitValues) -> Cursor<'a>
-        requires few { length rest.now + 2 < 2 ^ 64 }
-        requires values { AreValues values.now }
-        ensures rest { result.rest.now ≡ rest.now }
-        ensures line { result.line ≡ 1 }
+    /// A cursor at the start of a text.
+    pub(crate) fn new(text: &'a [u8]) -> Cursor<'a>
+        ensures { HasReadTo text.now Opening result }
     {
         Cursor {
-            rest,
-            line: 1,
-            values,
+            rest: text,
+            line: 0,
         }
     }
 
-    /// The next whole line without its line feed. Inline, so that a loop over lines that owns its
-    /// cursor keeps it in registers.
+    /// What the next line says. Inline, so that a loop over lines that owns its cursor keeps it in
+    /// registers.
     #[inline(always)]
-    pub(crate) fn next_line(&mut self) -> Result<&'a [u8], DeckError>
-        ensures next { MatchResult result (λ l. IsNextLine self.old l.now self.new)
-            (FailsAtEnd self.old) }
-        ensures shorter { IfOk result (λ l. length self.new.rest.now < length self.old.rest.now) }
+    pub(crate) fn next_item(&mut self) -> Item
+        ensures next { IsNext self.old result self.new }
+        ensures fits { Fits result }
+        ensures shorter { Shortens (length self.old.rest.now) result
+            (length self.new.rest.now) }
     {
         let Some((line, rest)) = next_line(self.rest) else {
-            return Err(self.refused_next(Cause::Ended));
+            return Item::Missing;
         };
         self.rest = rest;
         self.line += 1;
-        Ok(line)
+        Item::read(line)
     }
 
-    /// The refusal of the line that was read last.
-    pub(crate) fn refused(&self, cause: Cause) -> DeckError
-        ensures { result ≡ errors.At self.now.line cause }
+    /// The refusal of the line that was read last, or of the text's end where none was left.
+    pub(crate) fn refused(&self, item: Item, cause: Cause) -> DeckError
+        ensures { result ≡ refusal self.now.line item cause }
     {
-        At {
-            line: self.line,
-            cause,
+        match item {
+            Item::Missing => self.refused_next(Cause::Ended),
+            _ => At {
+                line: self.line,
+                cause,
+            },
         }
     }
 
-    /// The refusal of the line behind it.
+    /// The refusal of the line behind the one that was read last.
     fn refused_next(&self, cause: Cause) -> DeckError
         ensures { result ≡ errors.At (self.now.line + 1) cause }
     {

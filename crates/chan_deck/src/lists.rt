@@ -1,16 +1,18 @@
 //! The lines of the lists, up to the line of storage.
 
-ghost use Rattle.std.specs.Prelude.{◌≡◌, ◌≤◌, ◌^◌, [], IfOk};
+ghost use Rattle.std.specs.Prelude.{◌≡◌, [], IfOk};
+ghost use Rattle.chan_deck.specs.Item.{said_by};
 ghost use Rattle.chan_deck.specs.Refused.{is_size as size_test};
-ghost use Rattle.chan_deck.specs.Reading.{Filling, LeadsOrFails, Listing};
+ghost use Rattle.chan_deck.specs.Reading.{Filling, LeadsOrFails, Listing, listed, taken, with_lists};
 ghost use Rattle.chan_deck.specs.declared.heading.Heading.{Heading};
 
 use crate::cause::Cause;
 use crate::error::DeckError;
-use crate::forms::storage_of;
+use crate::item::Item;
 use crate::lines::Cursor;
-use crate::list_lines::{Lists, list_line_of};
-use std::alloc::Global;
+use ccw_core::Area;
+use ckd_core::LAST_CYLINDER;
+use std::alloc::{AllocError, Global};
 
 /// The most bytes that storage may have: addresses have 24 bits.
 const STORAGE_LIMIT: u32 = 16_777_216;
@@ -22,27 +24,95 @@ fn is_size(n: u32) -> bool
     n % 8 == 0 && n <= STORAGE_LIMIT
 }
 
+/// The lists of a deck, as far as they have been read.
+#[derive(Drop)]
+pub(crate) struct Lists {
+    pub(crate) extents: Vec<(u16, u16)>,
+    pub(crate) fetch: Vec<Area>,
+    pub(crate) store: Vec<Area>,
+}
+
+/// What came of a line of the lists.
+#[derive(Clone, Copy)]
+enum Listed {
+    Taken,
+    /// The line of storage has come, and says so many bytes.
+    Storage(usize),
+    Refused(Cause),
+}
+
+impl Lists {
+    fn new(alloc: Global) -> Lists
+        ensures extents { result.extents.items ≡ [] }
+        ensures fetch { result.fetch.items ≡ [] }
+        ensures store { result.store.items ≡ [] }
+    {
+        Lists {
+            extents: Vec::new(alloc),
+            fetch: Vec::new(alloc),
+            store: Vec::new(alloc),
+        }
+    }
+
+    /// Takes what a line says. Extents come first, and areas for fetching before those for storing.
+    fn take(&mut self, item: Item) -> Result<Listed, AllocError>
+        ensures { IfOk result (λ r. (h : Heading)
+            → taken (with_lists h self.old) (said_by item) ≡ listed h self.new r) }
+    {
+        match item {
+            Item::Extent(first, last) => {
+                if !self.fetch.is_empty() || !self.store.is_empty() {
+                    return Ok(Listed::Refused(Cause::Form));
+                }
+                if last < first {
+                    return Ok(Listed::Refused(Cause::ExtentBackwards));
+                }
+                if last > LAST_CYLINDER {
+                    return Ok(Listed::Refused(Cause::ExtentPastDevice));
+                }
+                self.extents.push((first, last))?;
+                Ok(Listed::Taken)
+            }
+            Item::Fetch(area) => {
+                if self.extents.is_empty() || !self.store.is_empty() {
+                    return Ok(Listed::Refused(Cause::Form));
+                }
+                self.fetch.push(area)?;
+                Ok(Listed::Taken)
+            }
+            Item::Store(area) => {
+                if self.extents.is_empty() {
+                    return Ok(Listed::Refused(Cause::Form));
+                }
+                self.store.push(area)?;
+                Ok(Listed::Taken)
+            }
+            Item::Storage(size) => {
+                if self.extents.is_empty() {
+                    return Ok(Listed::Refused(Cause::Form));
+                }
+                if !is_size(size) {
+                    return Ok(Listed::Refused(Cause::Size));
+                }
+                Ok(Listed::Storage(size as usize))
+            }
+            _ => Ok(Listed::Refused(Cause::Form)),
+        }
+    }
+}
+
 /// Reads the lists, and the number of bytes that the line of storage behind them says.
 pub(crate) fn read_lists(alloc: Global, cursor: &mut Cursor) -> Result<(Lists, usize), DeckError>
-    ensures goes { (h : Heading) → LeadsOrFails (Listing h [] [] []) cursor.old result
+    ensures { (h : Heading) → LeadsOrFails (Listing h [] [] []) cursor.old result
         (λ x. Filling h x.0.extents.items x.0.fetch.items x.0.store.items x.1 []) cursor.new }
-    ensures size { IfOk result (λ x. x.1 ≤ 2 ^ 24) }
 {
     let mut lists = Lists::new(alloc);
     loop {
-        let line = cursor.next_line()?;
-        if let Some(listed) = list_line_of(line, cursor.values) {
-            lists.add(listed, cursor)?;
-        } else if let Some(n) = storage_of(line, cursor.values) {
-            if lists.extents.is_empty() {
-                return Err(cursor.refused(Cause::Form));
-            }
-            if !is_size(n) {
-                return Err(cursor.refused(Cause::Size));
-            }
-            return Ok((lists, n as usize));
-        } else {
-            return Err(cursor.refused(Cause::Form));
+        let item = cursor.next_item();
+        match lists.take(item)? {
+            Listed::Taken => {}
+            Listed::Storage(size) => return Ok((lists, size)),
+            Listed::Refused(cause) => return Err(cursor.refused(item, cause)),
         }
     }
 }

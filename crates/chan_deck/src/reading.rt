@@ -7,11 +7,10 @@ ghost use Rattle.chan_deck.specs.Refused.{IsRefused};
 ghost use Rattle.chan_deck.specs.declared.cause.Cause.{Cause};
 
 use crate::deck::Deck;
-use crate::digits::digit_values;
 use crate::error::DeckError;
-use crate::heading::{Heading, read_header, read_heading};
-use crate::list_lines::Lists;
-use crate::lists::read_lists;
+use crate::heading::{Heading, read_heading};
+use crate::lines::Cursor;
+use crate::lists::{Lists, read_lists};
 use crate::storage::fill;
 use ckd_core::Extents;
 use std::alloc::Global;
@@ -28,9 +27,8 @@ fn read_parts(alloc: Global, text: &[u8]) -> Result<Parts, DeckError>
     ensures { MatchResult result (λ p. Spells text.now (image_of p.heading p.lists.extents.items
         p.lists.fetch.items p.lists.store.items p.storage.items)) (IsRefusal text.now) }
 {
-    let values = digit_values();
-    let (number, mut cursor) = read_header(text, &values)?;
-    let heading = read_heading(number, &mut cursor)?;
+    let mut cursor = Cursor::new(text);
+    let heading = read_heading(&mut cursor)?;
     let (lists, size) = read_lists(alloc, &mut cursor)?;
     let mut storage = vec![in alloc; 0u8; size]?;
     fill(storage.as_mut_slice(), cursor)?;

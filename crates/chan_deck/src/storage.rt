@@ -9,7 +9,7 @@ ghost use Rattle.chan_deck.specs.declared.heading.Heading.{Heading};
 
 use crate::cause::Cause;
 use crate::error::DeckError;
-use crate::forms::{is_end, put_of};
+use crate::item::Item;
 use crate::lines::Cursor;
 
 /// Writes bytes into storage.
@@ -24,8 +24,7 @@ pub(crate) fn write_at(storage: &mut [u8], at: usize, bytes: &[u8])
 /// Puts what follows the line of storage, up to the end of the deck, into storage, which is zero
 /// before.
 pub(crate) fn fill(storage: &mut [u8], mut cursor: Cursor) -> Result<(), DeckError>
-    requires zero { storage.old ≡ replicate (length storage.old) 0 }
-    requires size { length storage.old ≤ 2 ^ 24 }
+    requires { storage.old ≡ replicate (length storage.old) 0 }
     ensures filled { (h : Heading) (es : List (ℕ × ℕ)) (fs ss : List Area) (t : List ℕ)
         → HasReadTo t (Filling h es fs ss (length storage.old) []) cursor.entry → MatchResult result
         (λ done. Spells t (image_of h es fs ss storage.new)) (IsRefusal t) }
@@ -33,21 +32,21 @@ pub(crate) fn fill(storage: &mut [u8], mut cursor: Cursor) -> Result<(), DeckErr
 {
     let mut next = 0usize;
     loop {
-        let line = cursor.next_line()?;
-        if let Some((address, word)) = put_of(line, cursor.values) {
-            let address = address as usize;
-            if address % 8 != 0 || address < next || storage.len() < address + 8 {
-                return Err(cursor.refused(Cause::PutAddress));
+        let item = cursor.next_item();
+        match item {
+            Item::Put(address, word) => {
+                let address = address as usize;
+                if address % 8 != 0 || address < next || storage.len() < address + 8 {
+                    return Err(cursor.refused(item, Cause::PutAddress));
+                }
+                if word == 0 {
+                    return Err(cursor.refused(item, Cause::PutZero));
+                }
+                write_at(storage, address, &word.to_be_bytes());
+                next = address + 8;
             }
-            if word == 0 {
-                return Err(cursor.refused(Cause::PutZero));
-            }
-            write_at(storage, address, &word.to_be_bytes());
-            next = address + 8;
-        } else if is_end(line) {
-            return cursor.end();
-        } else {
-            return Err(cursor.refused(Cause::Form));
+            Item::End => return cursor.end(),
+            _ => return Err(cursor.refused(item, Cause::Form)),
         }
     }
 }

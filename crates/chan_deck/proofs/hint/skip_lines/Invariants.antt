@@ -3,4 +3,4 @@ use Rattle.chan_deck.proofs.hint.skip_lines.Given as goal
 
 -- so many lines were taken
 abbrev pub invariant-loop : goal.invariant-loop
-invariant-loop l = AreTaken l.text l.counter l.last l.rest
+invariant-loop l = AreTaken l.text l.counter l.before l.rest

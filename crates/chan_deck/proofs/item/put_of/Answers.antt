@@ -2,7 +2,7 @@ use Rattle.std.proofs.Common.{length, sym, ap, ◌∙◌}
 use Rattle.hex.specs.Hex.{encode_upper}
 use Rattle.chan_deck.specs.Item.{address_digits}
 use Rattle.chan_deck.proofs.FieldLemmas.{on_none, put_fields, put_length, same_fields, length-address_digits}
-use Rattle.chan_deck.proofs.forms.put_of.Goals as goal
+use Rattle.chan_deck.proofs.item.put_of.Goals as goal
 
 pub returns-then-line-ne-PUT_LINE-clause-line : goal.returns-then-line-ne-PUT_LINE-clause-line
 returns-then-line-ne-PUT_LINE-clause-line c = λ a word says. c.if-line-ne-PUT_LINE.true (ap length says.1 ∙ put_length a word says.0.1)

@@ -1,19 +1,44 @@
-//! The forms of lines.
+//! What a line of a deck says.
 
 ghost use Rattle.std.specs.Prelude.{◌≡◌, ◌<◌, ◌^◌, ℕ, List, length, ◌∷◌, ◌++◌, IfSome, MatchBool};
 ghost use Rattle.std.specs.Prelude.{MatchOption};
 ghost use Rattle.std.specs.Int.{w64, to_be_bytes};
-ghost use Rattle.chan_deck.specs.Item.{IsArea, Says, area_digits, device, end, header, limit, mask};
-ghost use Rattle.chan_deck.specs.Item.{put, start};
+ghost use Rattle.chan_deck.specs.Item.{IsArea, Says, area_digits, device, header, limit, mask};
+ghost use Rattle.chan_deck.specs.Item.{Reads, put, start};
 ghost use Rattle.chan_deck.specs.Item as item;
-ghost use Rattle.chan_deck.specs.Digits.{AreValues};
 ghost use Rattle.chan_deck.specs.declared.version.VersionNumber.{VersionNumber};
 
-use crate::digits::{DigitValues, address_of, byte_of, cylinder_of, places_of, size_of, word_of};
+use crate::digits::{address_of, byte_of, cylinder_of, places_of, size_of, word_of};
 use crate::lines::PUT_LINE;
 use crate::version::VersionNumber;
 use ccw_core::Area;
 use ckd_core::Device;
+
+/// What a line of a deck says.
+#[derive(Clone, Copy)]
+pub(crate) enum Item {
+    Header(VersionNumber),
+    Device(Device),
+    /// The byte of the mask, whether or not it is a file mask.
+    Mask(u8),
+    /// The address of the first CCW.
+    Start(u32),
+    /// The number of places.
+    Limit(u32),
+    /// First and last cylinder.
+    Extent(u16, u16),
+    Fetch(Area),
+    Store(Area),
+    /// The number of bytes of storage.
+    Storage(u32),
+    /// An address, and eight bytes as a number.
+    Put(u32, u64),
+    End,
+    /// The line has none of the forms.
+    Formless,
+    /// No whole line is left.
+    Missing,
+}
 
 /// What follows a word at the front of a line.
 fn behind<'a>(line: &'a [u8], word: &[u8]) -> Option<&'a [u8]>
@@ -60,7 +85,7 @@ pub(crate) fn header_of(line: &[u8]) -> Option<VersionNumber>
     }
 }
 
-pub(crate) fn device_of(line: &[u8]) -> Option<Device>
+fn device_of(line: &[u8]) -> Option<Device>
     ensures { MatchOption result
         ((d : Device) → Says line.now (device d) → ⊥)
         (λ d. Says line.now (device d)) }
@@ -74,28 +99,26 @@ pub(crate) fn device_of(line: &[u8]) -> Option<Device>
     }
 }
 
-pub(crate) fn mask_of(line: &[u8], values: &DigitValues) -> Option<u8>
-    requires { AreValues values.now }
+fn mask_of(line: &[u8]) -> Option<u8>
     ensures { MatchOption result
         ((n : ℕ) → Says line.now (mask n) → ⊥)
         (λ n. Says line.now (mask n)) }
 {
     let digits = behind(line, b"mask ")?;
-    byte_of(digits, values)
+    byte_of(digits)
 }
 
-pub(crate) fn start_of(line: &[u8], values: &DigitValues) -> Option<u32>
-    requires { AreValues values.now }
+fn start_of(line: &[u8]) -> Option<u32>
     ensures { MatchOption result
         ((n : ℕ) → Says line.now (start n) → ⊥)
         (λ n. Says line.now (start n)) }
 {
     let digits = behind(line, b"start ")?;
-    address_of(digits, values)
+    address_of(digits)
 }
 
 /// The number of places.
-pub(crate) fn limit_of(line: &[u8]) -> Option<u32>
+fn limit_of(line: &[u8]) -> Option<u32>
     ensures { MatchOption result
         ((n : ℕ) → Says line.now (limit n) → ⊥)
         (λ n. Says line.now (limit n)) }
@@ -105,7 +128,7 @@ pub(crate) fn limit_of(line: &[u8]) -> Option<u32>
 }
 
 /// First and last cylinder.
-pub(crate) fn extent_of(line: &[u8]) -> Option<(u16, u16)>
+fn extent_of(line: &[u8]) -> Option<(u16, u16)>
     ensures { MatchOption result
         ((first last : ℕ) → Says line.now (item.extent first last) → ⊥)
         (λ pair. Says line.now (item.extent pair.0 pair.1)) }
@@ -118,33 +141,30 @@ pub(crate) fn extent_of(line: &[u8]) -> Option<(u16, u16)>
 }
 
 /// The area behind a word.
-pub(crate) fn area_of(line: &[u8], word: &[u8], values: &DigitValues) -> Option<Area>
-    requires { AreValues values.now }
+fn area_of(line: &[u8], word: &[u8]) -> Option<Area>
     ensures { MatchOption result
         ((a : Area) → IsArea a → line.now ≡ word.now ++ area_digits a → ⊥)
         (λ a. IsArea a × (line.now ≡ word.now ++ area_digits a)) }
 {
     let fields = behind(line, word)?;
     let (start, len) = two_fields(fields, 6)?;
-    let start = address_of(start, values)?;
-    let len = address_of(len, values)?;
+    let start = address_of(start)?;
+    let len = address_of(len)?;
     Some(Area { start, len })
 }
 
 /// The number of bytes of storage.
-pub(crate) fn storage_of(line: &[u8], values: &DigitValues) -> Option<u32>
-    requires { AreValues values.now }
+pub(crate) fn storage_of(line: &[u8]) -> Option<u32>
     ensures { MatchOption result
         ((n : ℕ) → Says line.now (item.storage n) → ⊥)
         (λ n. Says line.now (item.storage n)) }
 {
     let digits = behind(line, b"storage ")?;
-    size_of(digits, values)
+    size_of(digits)
 }
 
 /// The address of a put, and its eight bytes as a number.
-pub(crate) fn put_of(line: &[u8], values: &DigitValues) -> Option<(u32, u64)>
-    requires { AreValues values.now }
+pub(crate) fn put_of(line: &[u8]) -> Option<(u32, u64)>
     ensures line { MatchOption result
         ((a : ℕ) (word : List ℕ) → Says line.now (put a word) → ⊥)
         (λ found. Says line.now (put found.0 (to_be_bytes w64 found.1))) }
@@ -155,13 +175,58 @@ pub(crate) fn put_of(line: &[u8], values: &DigitValues) -> Option<(u32, u64)>
     }
     let fields = behind(line, b"put ")?;
     let (address, word) = two_fields(fields, 6)?;
-    let address = address_of(address, values)?;
-    let word = word_of(word, values)?;
+    let address = address_of(address)?;
+    let word = word_of(word)?;
     Some((address, word))
 }
 
-pub(crate) fn is_end(line: &[u8]) -> bool
-    ensures { MatchBool result (Says line.now end) (Says line.now end → ⊥) }
+/// What a line says that isn't a put.
+fn other_item(line: &[u8]) -> Item
+    requires { (a : ℕ) (word : List ℕ) → Says line.now (put a word) → ⊥ }
+    ensures { Reads line.now result }
 {
-    is_word(line, b"end")
+    if let Some((first, last)) = extent_of(line) {
+        return Item::Extent(first, last);
+    }
+    if let Some(area) = area_of(line, b"fetch ") {
+        return Item::Fetch(area);
+    }
+    if let Some(area) = area_of(line, b"store ") {
+        return Item::Store(area);
+    }
+    if let Some(number) = header_of(line) {
+        return Item::Header(number);
+    }
+    if let Some(device) = device_of(line) {
+        return Item::Device(device);
+    }
+    if let Some(mask) = mask_of(line) {
+        return Item::Mask(mask);
+    }
+    if let Some(start) = start_of(line) {
+        return Item::Start(start);
+    }
+    if let Some(places) = limit_of(line) {
+        return Item::Limit(places);
+    }
+    if let Some(size) = storage_of(line) {
+        return Item::Storage(size);
+    }
+    if is_word(line, b"end") {
+        return Item::End;
+    }
+    Item::Formless
+}
+
+impl Item {
+    /// What a line says. Inline, so that a loop over puts takes them apart at once.
+    #[inline(always)]
+    pub(crate) fn read(line: &[u8]) -> Item
+        ensures { Reads line.now result }
+    {
+        match put_of(line) {
+            Some((address, word)) => Item::Put(address, word),
+            None => other_item(line),
+        }
+    }
 }

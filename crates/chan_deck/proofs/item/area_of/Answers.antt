@@ -1,7 +1,7 @@
 use Rattle.std.proofs.Common.{sym, ◌∙◌}
 use Rattle.chan_deck.specs.Item.{address_digits}
 use Rattle.chan_deck.proofs.FieldLemmas.{on_none, area_fields, same_fields, length-address_digits}
-use Rattle.chan_deck.proofs.forms.area_of.Goals as goal
+use Rattle.chan_deck.proofs.item.area_of.Goals as goal
 
 pub returns-in_err-start : goal.returns-in_err-start
 returns-in_err-start c = on_none _ _ _ c.from_residual-in_err-start.ensures (λ a form same.

@@ -1,7 +1,7 @@
 use Rattle.std.proofs.Common.{sym, ◌∙◌, refl}
 use Rattle.chan_deck.specs.Item.{cylinder_digits}
 use Rattle.chan_deck.proofs.FieldLemmas.{on_none, extent_fields, same_fields}
-use Rattle.chan_deck.proofs.forms.extent_of.Goals as goal
+use Rattle.chan_deck.proofs.item.extent_of.Goals as goal
 
 pub returns-in_err-first : goal.returns-in_err-first
 returns-in_err-first c = on_none _ _ _ c.from_residual-in_err-first.ensures (λ first last says.
