@@ -1,8 +1,8 @@
 -- The words of other crates that several of the proofs use, from one place.
 pub use Rattle.chan_args.specs.declared.action.Action.{Action}
-pub use Rattle.chan_args.specs.CommandWords.{IsCommand, IsStandardInput, file_in, file_word, files_in}
+pub use Rattle.chan_args.specs.CommandWords.{IsCommand, IsStandardInput, file_in, files_in}
 pub use Rattle.chan_args.specs.CommandWords.{other_than_input, texts_of}
-pub use Rattle.chan_args.specs.ImageLine.{SaysImage, image_line, job_options, needed, repeated, text_or}
+pub use Rattle.chan_args.specs.ImageLine.{SaysImage, text_or}
 pub use Rattle.chan_args.specs.ImageLine.{texts_in}
 pub use Rattle.clap.proofs.FaultLemmas.{stopped_fault}
 pub use Rattle.clap.proofs.WalkLemmas.{first_value-rows, raw_values-rows}

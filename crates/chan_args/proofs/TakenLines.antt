@@ -13,7 +13,8 @@ use Rattle.clap.specs.Walk.{bundle_step, finished, first_of, has_long, has_short
 use Rattle.clap.specs.Walk.{long_or_other, nothing_held, plain, settled, short_or_plain}
 use Rattle.clap.specs.Walk.{subcommand_met, subcommand_or_other, to_positional, trailing, value}
 use Rattle.clap.specs.Walk.{walk, walk_from, walked}
-use Rattle.chan_args.specs.CommandLine.{IsKnown, IsTaken, chanv}
+use Rattle.chan_args.specs.CommandLine.{IsKnown, IsTaken}
+use Rattle.chan_args.specs.Lines.{chanv}
 use Rattle.chan_args.proofs.Names.{if◌then◌else◌, App, ErrorKind, Kinds, Rule, Shape, append-nil}
 use Rattle.chan_args.proofs.Names.{append_assoc, argument_words, built, bytes_eq, bytes_eq-Decides}
 use Rattle.chan_args.proofs.Names.{chars, entered, find, fold, help_shape, label_of, long_of, names_of}

@@ -1,9 +1,7 @@
--- What the command line takes, and what its words ask for.
-use Rattle.std.specs.Prelude.{◌≡◌, ◌≢◌, ◌⊎◌, List, [], Option, Some, None, IsSome, true}
+-- What the words of a command line ask for.
+use Rattle.std.specs.Prelude.{◌≡◌, ◌≢◌, ◌⊎◌, List, [], Option, Some, None, IsSome}
 use Rattle.std.specs.Prelude.{codes, option_map, option_and_then}
-use Rattle.clap.specs.Words.{App, IsAmong, Row, Rule, Text, fault_of, first_of}
-use Rattle.clap.specs.Words.{kind_of, new_app, new_rule, subcommand_of, with_rule, with_subcommand}
-use Rattle.clap.specs.declared.builder.action.ArgAction.TheVariants.{Append}
+use Rattle.clap.specs.Words.{IsAmong, Row, Text, fault_of, first_of, kind_of, subcommand_of}
 use Rattle.clap.specs.declared.error.kind.ErrorKind.TheVariants.{DisplayHelp, DisplayVersion}
 use Rattle.clap.specs.declared.error.kind.ErrorKind.TheVariants.{OutOfMemory}
 use Rattle.chan_args.specs.declared.command_line.Request.{Request}
@@ -11,65 +9,11 @@ use Rattle.chan_args.specs.declared.command_line.Request.TheVariants.{Show, Run,
 use Rattle.chan_args.specs.declared.command_line.Request.TheVariants.{Explain, Find, Grants, Words}
 use Rattle.chan_args.specs.declared.command_line.Request.TheVariants.{Help, Version, Fault}
 use Rattle.chan_args.specs.declared.command_line.Request.TheVariants.{NoMemory}
-use Rattle.chan_args.specs.CommandWords.{IsStandardInput, file_word, files_in, texts_of}
-use Rattle.chan_args.specs.ImageLine.{SaysImage, find_line, flag_word, grant_fault, image_line}
-use Rattle.chan_args.specs.ImageLine.{is_flagged}
+use Rattle.chan_args.specs.CommandWords.{IsStandardInput, files_in, texts_of}
+use Rattle.chan_args.specs.ImageLine.{SaysImage, grant_fault, is_flagged}
+use Rattle.chan_args.specs.Lines.{chanv}
 use Rattle.chan_args.specs.declared.action.Action.{Action}
 use Rattle.chan_args.specs.declared.action.Action.TheVariants as actions
-
--- the word that `show` requires
-abbrev pub ccw_word : Rule
-ccw_word = record (new_rule (codes "CCW")) { required = true }
-
--- any number of such words
-abbrev pub file_words : Rule
-file_words = record file_word { action = Some Append }
-
--- the command `show`, with its word
-abbrev pub show_line : App
-show_line = with_rule (new_app (codes "show")) ccw_word
-
--- a command of this name, with any number of files
-abbrev pub decks_line : Text → App
-decks_line name = with_rule (new_app name) file_words
-
--- the command `why`, with any number of files, and the option to tell each cause
-abbrev pub why_line : App
-why_line = with_rule (decks_line (codes "why")) (flag_word (codes "all"))
-
--- a command of this name, with one file or none
-abbrev pub deck_line : Text → App
-deck_line name = with_rule (new_app name) file_word
-
--- the command `explain`, with one word or none
-abbrev pub explain_line : App
-explain_line = with_rule (new_app (codes "explain")) (new_rule (codes "WORD"))
-
--- the program alone, which has a version
-abbrev pub program_line : App
-program_line =
-    let app = new_app (codes "chanv") in
-    record app { top = record app.top { has_version = true } }
-
--- the program with `show` and `verify`
-abbrev pub judging_line : App
-judging_line =
-    with_subcommand (with_subcommand program_line show_line.top) (decks_line (codes "verify")).top
-
--- a program with `list`, `why`, `graph` and `needs` too
-abbrev pub with_tellers : App → App
-with_tellers app =
-    let listing = with_subcommand app (deck_line (codes "list")).top in
-    let explaining = with_subcommand listing why_line.top in
-    let drawing = with_subcommand explaining (deck_line (codes "graph")).top in
-    with_subcommand drawing (deck_line (codes "needs")).top
-
--- what the command line takes: `show`, `verify`, `list`, `why`, `graph`, `needs`, `find`, `deck`,
--- `explain`, or no command
-abbrev pub chanv : App
-chanv =
-    let finding = with_subcommand (with_tellers judging_line) find_line.top in
-    with_subcommand (with_subcommand finding image_line.top) explain_line.top
 
 -- clap finds no fault in the words, of which the first is the program's name, and no call for help
 -- or the version
@@ -161,15 +105,6 @@ AsksFor met _ = ⊥
 
 -- what each answer says of the words
 abbrev pub IsAnswerTo : List Text → Request → Type 0
-IsAnswerTo words (Show word) = IsTaken words × AsksFor (subcommand_of chanv words) (Show word)
-IsAnswerTo words (Run action) = IsTaken words × AsksFor (subcommand_of chanv words) (Run action)
-IsAnswerTo words (RunNamed action files) =
-    IsTaken words × AsksFor (subcommand_of chanv words) (RunNamed action files)
-IsAnswerTo words (Image asked) = IsTaken words × AsksFor (subcommand_of chanv words) (Image asked)
-IsAnswerTo words (Find asked) = IsTaken words × AsksFor (subcommand_of chanv words) (Find asked)
-IsAnswerTo words (Grants fault) = IsTaken words × AsksFor (subcommand_of chanv words) (Grants fault)
-IsAnswerTo words (Explain word) = IsTaken words × AsksFor (subcommand_of chanv words) (Explain word)
-IsAnswerTo words Words = IsTaken words × AsksFor (subcommand_of chanv words) Words
 IsAnswerTo words (Help e) = (kind_of e ≡ DisplayHelp) × IsAmong DisplayHelp (fault_of chanv words)
 IsAnswerTo words (Version e) =
     (kind_of e ≡ DisplayVersion) × IsAmong DisplayVersion (fault_of chanv words)
@@ -177,3 +112,4 @@ IsAnswerTo words (Fault e) =
     (kind_of e ≢ DisplayHelp) × (kind_of e ≢ DisplayVersion) × (kind_of e ≢ OutOfMemory)
     × IsAmong (kind_of e) (fault_of chanv words)
 IsAnswerTo words NoMemory = Unit {0}
+IsAnswerTo words request = IsTaken words × AsksFor (subcommand_of chanv words) request

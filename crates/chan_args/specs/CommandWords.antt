@@ -1,15 +1,11 @@
--- What several commands have in common: the word that names a file, and what clap met for it.
+-- What several commands have in common: the files that clap met.
 use Rattle.std.specs.Prelude.{◌≡◌, ◌⊎◌, List, [], ◌∷◌, Option, Some, None, false}
 use Rattle.std.specs.Prelude.{codes, if◌then◌else◌, map, unwrap_or}
 use Rattle.std.specs.Borrow.{Bor}
 use Rattle.std.specs.Str.{bytes_eq}
-use Rattle.clap.specs.Words.{App, Row, Rule, Text, all_of, app_of, first_of, new_rule}
+use Rattle.clap.specs.Words.{App, Row, Text, all_of, app_of, first_of}
 use Rattle.clap.specs.declared.builder.command.Command.{Command}
 use Rattle.clap.specs.declared.builder.command.Command.TheViews.{out-Command}
-
--- the word that names a file, which may be left out
-abbrev pub file_word : Rule
-file_word = new_rule (codes "FILE")
 
 -- the command takes this line, and none of its words holds for commands below it too
 abbrev pub IsCommand : App → Command → Type 0

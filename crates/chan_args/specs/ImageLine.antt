@@ -1,62 +1,14 @@
--- The commands over an image of storage, `find` and `deck`: their words, and what these ask for.
-use Rattle.std.specs.Prelude.{◌≡◌, List, [], ◌∷◌, Bool, true, Option, Some, None, codes, is_some}
+-- The commands over an image of storage, `find` and `deck`: what their words ask for.
+use Rattle.std.specs.Prelude.{◌≡◌, List, [], ◌∷◌, Bool, Option, Some, None, codes, is_some}
 use Rattle.std.specs.Prelude.{if◌then◌else◌, not, option_map, unwrap_or}
 use Rattle.std.specs.Str.{bytes_eq}
-use Rattle.clap.specs.Words.{App, Row, Rule, Text, all_of, first_of, new_app, new_rule, with_rule}
-use Rattle.clap.specs.declared.builder.action.ArgAction.TheVariants.{Append, SetTrue}
-use Rattle.chan_args.specs.CommandWords.{file_in, file_word, texts_of}
+use Rattle.clap.specs.Words.{Row, Text, all_of, first_of}
+use Rattle.chan_args.specs.CommandWords.{file_in, texts_of}
 use Rattle.chan_args.specs.declared.image_command.ImageRequest.{ImageRequest}
 use Rattle.chan_args.specs.declared.image_words.ImageWords.{ImageWords}
 use Rattle.chan_args.specs.declared.image_words.GrantFault.{GrantFault}
 use Rattle.chan_args.specs.declared.image_words.GrantFault.TheVariants.{BesideLeast, NoExtent}
 use Rattle.chan_args.specs.declared.image_words.ImageOption.TheVariants as options
-
--- an option of this name, whose value has a name in help
-abbrev pub option_word : Text → Rule
-option_word name = record (new_rule name) { long = Some name; value_names = 1 }
-
--- an option of this name without a value
-abbrev pub flag_word : Text → Rule
-flag_word name = record (new_rule name) { long = Some name; action = Some SetTrue }
-
--- one that has to be given
-abbrev pub needed : Rule → Rule
-needed rule = record rule { required = true }
-
--- one that may come any number of times
-abbrev pub repeated : Rule → Rule
-repeated rule = record rule { action = Some Append }
-
--- a command with the options that say what the program runs against and where it starts
-abbrev pub job_options : App → App
-job_options line =
-    let device = with_rule line (option_word (codes "device")) in
-    let mask = with_rule device (option_word (codes "mask")) in
-    let start = with_rule mask (needed (option_word (codes "start"))) in
-    with_rule start (option_word (codes "limit"))
-
--- a command with the options that say what the program may use, and where the image begins
-abbrev pub lending_options : App → App
-lending_options line =
-    let extent = with_rule line (repeated (option_word (codes "extent"))) in
-    let fetch = with_rule extent (repeated (option_word (codes "fetch"))) in
-    let store = with_rule fetch (repeated (option_word (codes "store"))) in
-    let least = with_rule store (flag_word (codes "least")) in
-    let at = with_rule least (option_word (codes "at")) in
-    with_rule at (option_word (codes "storage"))
-
--- the command `deck`, with its options and a file
-abbrev pub image_line : App
-image_line = with_rule (lending_options (job_options (new_app (codes "deck")))) file_word
-
--- the command `find`, with the options that say how a program is judged and where the image begins,
--- and a file
-abbrev pub find_line : App
-find_line =
-    let device = with_rule (new_app (codes "find")) (option_word (codes "device")) in
-    let limit = with_rule device (option_word (codes "limit")) in
-    let at = with_rule limit (option_word (codes "at")) in
-    with_rule (with_rule at (option_word (codes "storage"))) file_word
 
 -- the text that clap met for an option, or the usual one
 abbrev pub text_or : Text → Text → List Row → Text

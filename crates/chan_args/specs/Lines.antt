@@ -1,40 +1,59 @@
--- What the table of commands says, as a value of the command line's definitions.
-use Rattle.std.specs.Prelude.{List, [], ◌∷◌, Bool, true, false, Some}
+-- What the table of commands says, as a value of `clap`'s definitions.
+use Rattle.std.specs.Prelude.{List, [], ◌∷◌, Some, true, codes}
+use Rattle.std.specs.Borrow.{Bor}
 use Rattle.clap.specs.Words.{App, Rule, Text, new_app, new_rule, with_rule, with_subcommand}
 use Rattle.clap.specs.declared.builder.action.ArgAction.TheVariants.{Append, SetTrue}
-use Rattle.chan_args.specs.declared.lines.Kind.{Kind}
-use Rattle.chan_args.specs.declared.lines.Kind.TheVariants.{Flag, Plain, Valued}
-use Rattle.chan_args.specs.declared.lines.Line.{Line}
-use Rattle.chan_args.specs.declared.lines.Word.{Word}
+use Rattle.chan_args.specs.declared.lines.Given.{Given}
+use Rattle.chan_args.specs.declared.lines.Given.TheVariants as given
+use Rattle.chan_args.specs.declared.lines.TheConstants as table
 
--- a word by itself, or an option, with a value or without
-abbrev pub given_as : Kind → Text → Rule → Rule
-given_as Plain name rule = rule
-given_as (Valued value) name rule = record rule { long = Some name; value_names = 1 }
-given_as Flag name rule = record rule { long = Some name; action = Some SetTrue }
+-- an option, whose value has a name in help
+abbrev pub valued : Text → Rule
+valued name = record (new_rule name) { long = Some name; value_names = 1 }
 
--- one that may come any number of times
-abbrev pub repeated_where : Bool → Rule → Rule
-repeated_where true rule = record rule { action = Some Append }
-repeated_where false rule = rule
-
--- the rule of a word
-abbrev pub rule_in : Word → Rule
-rule_in word =
-    repeated_where word.is_repeated
-    (given_as word.kind word.name.now
-    (record (new_rule word.name.now) { required = word.is_required }))
+-- the rule of a word of this name that is given so
+abbrev pub rule_given : Given → Text → Rule
+rule_given given.Plain name = new_rule name
+rule_given given.Required name = record (new_rule name) { required = true }
+rule_given given.Repeated name = record (new_rule name) { action = Some Append }
+rule_given given.Valued name = valued name
+rule_given given.RequiredValued name = record (valued name) { required = true }
+rule_given given.RepeatedValued name = record (valued name) { action = Some Append }
+rule_given given.Flag name = record (new_rule name) { long = Some name; action = Some SetTrue }
 
 -- a command with these words more
-abbrev pub with_words : App → List Word → App
-with_words app [] = app
-with_words app (word ∷ words) = with_words (with_rule app (rule_in word)) words
-
--- the command of a line
-abbrev pub line_in : Line → App
-line_in line = with_words (new_app line.name.now) line.words.now
+abbrev pub with_words : {W : Type 0} → (W → Rule) → App → List W → App
+with_words rule app [] = app
+with_words rule app (word ∷ words) = with_words rule (with_rule app (rule word)) words
 
 -- a program with these commands more
-abbrev pub with_lines : App → List Line → App
-with_lines app [] = app
-with_lines app (line ∷ lines) = with_lines (with_subcommand app (line_in line).top) lines
+abbrev pub with_lines : {L : Type 0} → (L → App) → App → List L → App
+with_lines app_in app [] = app
+with_lines app_in app (line ∷ lines) =
+    with_lines app_in (with_subcommand app (app_in line).top) lines
+
+-- the program alone, which has a version
+abbrev pub program_line : App
+program_line =
+    let app = new_app (codes "chanv") in
+    record app { top = record app.top { has_version = true } }
+
+-- what the command line takes: the commands of the table with their words, or no command
+abbrev pub chanv : App
+chanv =
+    with_lines
+    (λ line. with_words (λ word. rule_given word.1 word.0.now) (new_app line.0.now) line.3.now)
+    program_line table.LINES.now
+
+-- the same of a word and of a line that the code has at hand
+abbrev pub WordRow : Type 0
+WordRow = Bor Text × Given × Bor Text × Bor Text
+
+abbrev pub rule_in : WordRow → Rule
+rule_in word = rule_given word.1 word.0.now
+
+abbrev pub LineRow : Type 0
+LineRow = Bor Text × Bor Text × Bor Text × Bor (List WordRow)
+
+abbrev pub line_in : LineRow → App
+line_in line = with_words rule_in (new_app line.0.now) line.3.now

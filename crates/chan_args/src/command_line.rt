@@ -5,7 +5,8 @@ ghost use Rattle.std.specs.Prelude.{string_bytes};
 ghost use Rattle.clap.specs.Words.{HasKind, fault_of, first_of, found_of, rows_of};
 ghost use Rattle.clap.specs.Words.{subcommand_of, subcommand_rows_of};
 ghost use Rattle.chan_args.specs.CommandLine.{AsksFor, IsAnswerTo, IsKnown, IsTaken};
-ghost use Rattle.chan_args.specs.CommandLine.{Explains, MakesDeck, RunsOver, chanv};
+ghost use Rattle.chan_args.specs.CommandLine.{Explains, MakesDeck, RunsOver};
+ghost use Rattle.chan_args.specs.Lines.{chanv};
 ghost use Rattle.chan_args.specs.CommandWords.{IsStandardInput, files_in, texts_of};
 
 use crate::action::Action;

@@ -2,7 +2,7 @@
 
 ghost use Rattle.std.specs.Prelude.{◌≡◌, false, IfOk, IsOkAnd};
 ghost use Rattle.clap.specs.Words.{App, app_of, new_app, rule_of, with_rule, with_subcommand};
-ghost use Rattle.chan_args.specs.CommandLine.{chanv, program_line};
+ghost use Rattle.chan_args.specs.Lines.{chanv, program_line};
 ghost use Rattle.chan_args.specs.CommandWords.{IsCommand};
 ghost use Rattle.chan_args.specs.Lines.{line_in, rule_in, with_lines};
 
@@ -11,40 +11,30 @@ use std::alloc::{AllocError, Global};
 
 /// How a word of a command is given.
 #[derive(Clone, Copy)]
-pub(crate) enum Kind<'a> {
-    /// By itself.
+pub(crate) enum Given {
+    /// By itself, or not at all.
     Plain,
-    /// As an option with a value, which help calls so.
-    Valued(&'a str),
+    /// By itself.
+    Required,
+    /// By itself, any number of times.
+    Repeated,
+    /// As an option with a value, or not at all.
+    Valued,
+    /// As an option with a value.
+    RequiredValued,
+    /// As an option with a value, any number of times.
+    RepeatedValued,
     /// As an option without a value.
     Flag,
 }
 
-/// A word of a command, or an option.
-pub(crate) struct Word<'a> {
-    /// Its name, and that of the option.
-    name: &'a str,
-    /// How it is given.
-    kind: Kind<'a>,
-    /// Whether it has to be given.
-    is_required: bool,
-    /// Whether it may come any number of times.
-    is_repeated: bool,
-    /// What help says of it.
-    help: &'a str,
-}
+/// A word of a command, or an option: its name, how it is given, what help calls its value, and
+/// what help says of it.
+pub(crate) type Word = (&'static str, Given, &'static str, &'static str);
 
-/// A command.
-pub(crate) struct Line<'a> {
-    /// Its name.
-    name: &'a str,
-    /// What help says of it.
-    about: &'a str,
-    /// What its help says behind its words.
-    after_help: Option<&'a str>,
-    /// Its words and options, in the order of help.
-    words: &'a [Word<'a>],
-}
+/// A command: its name, what help says of it, what its help says behind its words, and its words and
+/// options, in the order of help.
+pub(crate) type Line = (&'static str, &'static str, &'static str, &'static [Word]);
 
 /// The forms of a command line, for help and for a usage fault before any command.
 const USAGE: &str = "chanv verify [FILE]...
@@ -124,230 +114,181 @@ The exit status:
   3  FILE can't be opened, reading or writing failed, or memory ran out
   4  the command line is wrong, or the image ends past --storage";
 
-/// The decks to judge.
-const DECKS: &[Word] = &[Word {
-    name: "FILE",
-    kind: Kind::Plain,
-    is_required: false,
-    is_repeated: true,
-    help: "a deck; - is standard input, and so is no FILE at all",
-}];
+// Words that several commands have.
+const DECKS: Word = (
+    "FILE",
+    Given::Repeated,
+    "",
+    "a deck; - is standard input, and so is no FILE at all",
+);
 
-/// The decks to explain the verdicts on.
-const EXPLAINED: &[Word] = &[
-    Word {
-        name: "FILE",
-        kind: Kind::Plain,
-        is_required: false,
-        is_repeated: true,
-        help: "a deck; - is standard input, and so is no FILE at all",
-    },
-    Word {
-        name: "all",
-        kind: Kind::Flag,
-        is_required: false,
-        is_repeated: false,
-        help: "gives the cause of each line `also` too",
-    },
-];
+const ALL: Word = (
+    "all",
+    Given::Flag,
+    "",
+    "gives the cause of each line `also` too",
+);
 
-/// The deck to tell of.
-const DECK: &[Word] = &[Word {
-    name: "FILE",
-    kind: Kind::Plain,
-    is_required: false,
-    is_repeated: false,
-    help: "a deck; - is standard input, and so is no FILE at all",
-}];
+const DECK: Word = (
+    "FILE",
+    Given::Plain,
+    "",
+    "a deck; - is standard input, and so is no FILE at all",
+);
+
+const DEVICE: Word = (
+    "device",
+    Given::Valued,
+    "NUMBER",
+    "2311 or 2314; 2314 if left out",
+);
+
+const AT: Word = (
+    "at",
+    Given::Valued,
+    "ADDRESS",
+    "the address of the image; 0 if left out",
+);
+
+const STORAGE: Word = (
+    "storage",
+    Given::Valued,
+    "SIZE",
+    "how many bytes storage has; as many as the image takes if left out",
+);
+
+const IMAGE: Word = (
+    "FILE",
+    Given::Plain,
+    "",
+    "the bytes of storage; - is standard input, and so is no FILE at all",
+);
 
 /// The options of a deck that is made of an image, and the image.
-const IMAGE: &[Word] = &[
-    Word {
-        name: "device",
-        kind: Kind::Valued("NUMBER"),
-        is_required: false,
-        is_repeated: false,
-        help: "2311 or 2314; 2314 if left out",
-    },
-    Word {
-        name: "mask",
-        kind: Kind::Valued("BYTE"),
-        is_required: false,
-        is_repeated: false,
-        help: "the file mask; 00 if left out",
-    },
-    Word {
-        name: "start",
-        kind: Kind::Valued("ADDRESS"),
-        is_required: true,
-        is_repeated: false,
-        help: "the address of the first CCW",
-    },
-    Word {
-        name: "limit",
-        kind: Kind::Valued("PLACES"),
-        is_required: false,
-        is_repeated: false,
-        help: "how many places may be reachable; 4096 if left out",
-    },
-    Word {
-        name: "extent",
-        kind: Kind::Valued("FIRST-LAST"),
-        is_required: false,
-        is_repeated: true,
-        help: "cylinders of the file; one at least, unless --least is given",
-    },
-    Word {
-        name: "fetch",
-        kind: Kind::Valued("AREA"),
-        is_required: false,
-        is_repeated: true,
-        help: "an area lent for fetching",
-    },
-    Word {
-        name: "store",
-        kind: Kind::Valued("AREA"),
-        is_required: false,
-        is_repeated: true,
-        help: "an area lent for storing",
-    },
-    Word {
-        name: "least",
-        kind: Kind::Flag,
-        is_required: false,
-        is_repeated: false,
-        help: "grants the program's needs, in place of mask, extents and areas",
-    },
-    Word {
-        name: "at",
-        kind: Kind::Valued("ADDRESS"),
-        is_required: false,
-        is_repeated: false,
-        help: "the address of the image; 0 if left out",
-    },
-    Word {
-        name: "storage",
-        kind: Kind::Valued("SIZE"),
-        is_required: false,
-        is_repeated: false,
-        help: "how many bytes storage has; as many as the image takes if left out",
-    },
-    Word {
-        name: "FILE",
-        kind: Kind::Plain,
-        is_required: false,
-        is_repeated: false,
-        help: "the bytes of storage; - is standard input, and so is no FILE at all",
-    },
+const MAKING: &[Word] = &[
+    DEVICE,
+    (
+        "mask",
+        Given::Valued,
+        "BYTE",
+        "the file mask; 00 if left out",
+    ),
+    (
+        "start",
+        Given::RequiredValued,
+        "ADDRESS",
+        "the address of the first CCW",
+    ),
+    (
+        "limit",
+        Given::Valued,
+        "PLACES",
+        "how many places may be reachable; 4096 if left out",
+    ),
+    (
+        "extent",
+        Given::RepeatedValued,
+        "FIRST-LAST",
+        "cylinders of the file; one at least, unless --least is given",
+    ),
+    (
+        "fetch",
+        Given::RepeatedValued,
+        "AREA",
+        "an area lent for fetching",
+    ),
+    (
+        "store",
+        Given::RepeatedValued,
+        "AREA",
+        "an area lent for storing",
+    ),
+    (
+        "least",
+        Given::Flag,
+        "",
+        "grants the program's needs, in place of mask, extents and areas",
+    ),
+    AT,
+    STORAGE,
+    IMAGE,
 ];
 
 /// The options of a search for programs in an image, and the image.
-const SEARCHED: &[Word] = &[
-    Word {
-        name: "device",
-        kind: Kind::Valued("NUMBER"),
-        is_required: false,
-        is_repeated: false,
-        help: "2311 or 2314; 2314 if left out",
-    },
-    Word {
-        name: "limit",
-        kind: Kind::Valued("PLACES"),
-        is_required: false,
-        is_repeated: false,
-        help: "how many places of a program may be reachable; 4096 if left out",
-    },
-    Word {
-        name: "at",
-        kind: Kind::Valued("ADDRESS"),
-        is_required: false,
-        is_repeated: false,
-        help: "the address of the image; 0 if left out",
-    },
-    Word {
-        name: "storage",
-        kind: Kind::Valued("SIZE"),
-        is_required: false,
-        is_repeated: false,
-        help: "how many bytes storage has; as many as the image takes if left out",
-    },
-    Word {
-        name: "FILE",
-        kind: Kind::Plain,
-        is_required: false,
-        is_repeated: false,
-        help: "the bytes of storage; - is standard input, and so is no FILE at all",
-    },
+const SEARCHING: &[Word] = &[
+    DEVICE,
+    (
+        "limit",
+        Given::Valued,
+        "PLACES",
+        "how many places of a program may be reachable; 4096 if left out",
+    ),
+    AT,
+    STORAGE,
+    IMAGE,
 ];
 
 /// The commands, in the order of help.
-const LINES: &[Line] = &[
-    Line {
-        name: "show",
-        about: "shows one channel command word",
-        after_help: None,
-        words: &[Word {
-            name: "CCW",
-            kind: Kind::Plain,
-            is_required: true,
-            is_repeated: false,
-            help: "sixteen hexadecimal digits",
-        }],
-    },
-    Line {
-        name: "verify",
-        about: "judges each deck: may its channel program run? So does chanv without words",
-        after_help: Some(OF_VERIFY),
-        words: DECKS,
-    },
-    Line {
-        name: "list",
-        about: "lists the reachable CCWs of a deck, with the verdict",
-        after_help: Some(OF_ONE),
-        words: DECK,
-    },
-    Line {
-        name: "why",
-        about: "explains the verdict on each deck: the path to the CCW, and the cause",
-        after_help: Some(OF_ONE),
-        words: EXPLAINED,
-    },
-    Line {
-        name: "graph",
-        about: "draws the program of a deck, in Graphviz's language",
-        after_help: Some(OF_ONE),
-        words: DECK,
-    },
-    Line {
-        name: "needs",
-        about: "lists what a job must grant a deck's program, and the bytes that must not change",
-        after_help: Some(OF_NEEDS),
-        words: DECK,
-    },
-    Line {
-        name: "find",
-        about: "finds every program in an image of storage, and judges each",
-        after_help: Some(OF_FIND),
-        words: SEARCHED,
-    },
-    Line {
-        name: "deck",
-        about: "turns an image of storage into a deck",
-        after_help: Some(OF_DECK),
-        words: IMAGE,
-    },
-    Line {
-        name: "explain",
-        about: "says what a word means, and how to fix it; without WORD, lists all words",
-        after_help: None,
-        words: &[Word {
-            name: "WORD",
-            kind: Kind::Plain,
-            is_required: false,
-            is_repeated: false,
-            help: "a reason, a cause, or a line in place of an answer, in any case of its letters",
-        }],
-    },
+pub(crate) const LINES: &[Line] = &[
+    (
+        "show",
+        "shows one channel command word",
+        "",
+        &[("CCW", Given::Required, "", "sixteen hexadecimal digits")],
+    ),
+    (
+        "verify",
+        "judges each deck: may its channel program run? So does chanv without words",
+        OF_VERIFY,
+        &[DECKS],
+    ),
+    (
+        "list",
+        "lists the reachable CCWs of a deck, with the verdict",
+        OF_ONE,
+        &[DECK],
+    ),
+    (
+        "why",
+        "explains the verdict on each deck: the path to the CCW, and the cause",
+        OF_ONE,
+        &[DECKS, ALL],
+    ),
+    (
+        "graph",
+        "draws the program of a deck, in Graphviz's language",
+        OF_ONE,
+        &[DECK],
+    ),
+    (
+        "needs",
+        "lists what a job must grant a deck's program, and the bytes that must not change",
+        OF_NEEDS,
+        &[DECK],
+    ),
+    (
+        "find",
+        "finds every program in an image of storage, and judges each",
+        OF_FIND,
+        SEARCHING,
+    ),
+    (
+        "deck",
+        "turns an image of storage into a deck",
+        OF_DECK,
+        MAKING,
+    ),
+    (
+        "explain",
+        "says what a word means, and how to fix it; without WORD, lists all words",
+        "",
+        &[(
+            "WORD",
+            Given::Plain,
+            "",
+            "a reason, a cause, or a line in place of an answer, in any case of its letters",
+        )],
+    ),
 ];
 
 /// The command line that the program takes. It isn't inlined, and nor is `line_command`, so that
@@ -360,8 +301,8 @@ pub(crate) fn command<'a>(alloc: Global) -> Result<Command<'a>, AllocError>
 }
 
 /// The program with these commands.
-fn commands_over<'a>(alloc: Global, lines: &[Line<'a>]) -> Result<Command<'a>, AllocError>
-    ensures { IfOk result (λ c. app_of c ≡ with_lines program_line lines.now) }
+fn commands_over<'a>(alloc: Global, lines: &[Line]) -> Result<Command<'a>, AllocError>
+    ensures { IfOk result (λ c. app_of c ≡ with_lines line_in program_line lines.now) }
 {
     let mut command = program(alloc);
     for line in lines {
@@ -387,7 +328,7 @@ fn program<'a>(alloc: Global) -> Result<Command<'a>, AllocError>
 fn with_line<'a>(
     alloc: Global,
     command: Result<Command<'a>, AllocError>,
-    line: &Line<'a>,
+    line: &Line,
 ) -> Result<Command<'a>, AllocError>
     ensures { IfOk result (λ c. IsOkAnd command.entry (λ old. app_of c
         ≡ with_subcommand (app_of old) (line_in line.now).top)) }
@@ -398,32 +339,33 @@ fn with_line<'a>(
 
 /// The command of a line.
 #[inline(never)]
-fn line_command<'a>(alloc: Global, line: &Line<'a>) -> Result<Command<'a>, AllocError>
+fn line_command<'a>(alloc: Global, line: &Line) -> Result<Command<'a>, AllocError>
     ensures { IfOk result (IsCommand (line_in line.now)) }
 {
     let mut command = Ok(titled(alloc, line));
-    for word in line.words {
+    for word in line.3 {
         command = with_word(alloc, command, word);
     }
     command
 }
 
 /// The command of a line without words.
-fn titled<'a>(alloc: Global, line: &Line<'a>) -> Command<'a>
-    ensures { IsCommand (new_app line.now.name.now) result }
+fn titled<'a>(alloc: Global, line: &Line) -> Command<'a>
+    ensures { IsCommand (new_app line.now.0.now) result }
 {
-    let command = Command::new(alloc, line.name).about(line.about);
-    match line.after_help {
-        Some(text) => command.after_help(text),
-        None => command,
+    let (name, about, after_help, _) = *line;
+    let command = Command::new(alloc, name).about(about);
+    if after_help.is_empty() {
+        return command;
     }
+    command.after_help(after_help)
 }
 
 /// Adds a word.
 fn with_word<'a>(
     alloc: Global,
     command: Result<Command<'a>, AllocError>,
-    word: &Word<'a>,
+    word: &Word,
 ) -> Result<Command<'a>, AllocError>
     ensures { IfOk result (λ c. IsOkAnd command.entry (λ old. (line : App) → IsCommand line old
         → IsCommand (with_rule line (rule_in word.now)) c)) }
@@ -432,19 +374,18 @@ fn with_word<'a>(
 }
 
 /// The argument of a word.
-fn arg_of<'a>(alloc: Global, word: &Word<'a>) -> Arg<'a>
+fn arg_of<'a>(alloc: Global, word: &Word) -> Arg<'a>
     ensures { (rule_of result ≡ rule_in word.now) × (result.global ≡ false) }
 {
-    let arg = Arg::new(alloc, word.name)
-        .required(word.is_required)
-        .help(word.help);
-    let arg = match word.kind {
-        Kind::Plain => arg,
-        Kind::Valued(value) => arg.long(word.name).value_name(value),
-        Kind::Flag => arg.long(word.name).action(ArgAction::SetTrue),
-    };
-    if word.is_repeated {
-        return arg.action(ArgAction::Append);
+    let (name, given, value, help) = *word;
+    let arg = Arg::new(alloc, name).help(help);
+    match given {
+        Given::Plain => arg,
+        Given::Required => arg.required(true),
+        Given::Repeated => arg.action(ArgAction::Append),
+        Given::Valued => arg.long(name).value_name(value),
+        Given::RequiredValued => arg.required(true).long(name).value_name(value),
+        Given::RepeatedValued => arg.long(name).value_name(value).action(ArgAction::Append),
+        Given::Flag => arg.long(name).action(ArgAction::SetTrue),
     }
-    arg
 }

@@ -1,7 +1,8 @@
 use Rattle.std.proofs.Common.{◌∙◌, ◌≡◌, List, [], ap, map, rules, string_bytes, subst, sym, true}
 use Rattle.clap.specs.Walk.{Text}
 use Rattle.chan_args.proofs.TakenLines.{taken_is_known}
-use Rattle.chan_args.specs.CommandLine.{AsksFor, IsKnown, IsTaken, chanv}
+use Rattle.chan_args.specs.CommandLine.{AsksFor, IsKnown, IsTaken}
+use Rattle.chan_args.specs.Lines.{chanv}
 use Rattle.chan_args.proofs.Names.{App, ArgMatches, HasKind, HasMatchesOf, fault_of, is_simple}
 use Rattle.chan_args.proofs.Names.{is_simple_and_free, subcommand_of, subcommand_rows_of}
 use Rattle.chan_args.proofs.command_line.asked.Goals as goal

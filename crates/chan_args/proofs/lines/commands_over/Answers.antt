@@ -1,5 +1,5 @@
+use Rattle.chan_args.specs.Lines.{program_line}
 use Rattle.std.proofs.Common.{arith}
-use Rattle.chan_args.specs.CommandLine.{program_line}
 use Rattle.chan_args.proofs.LineSteps.{has_more}
 use Rattle.chan_args.proofs.lines.commands_over.Goals as goal
 
