@@ -2,11 +2,8 @@
 use Rattle.std.proofs.Common.{◌≡◌, ℕ, List, Option, Result, Ok, Err, true, false, IsErr, OnOk, ◌↔◌, ◌∙◌, inl, inr, refl, sym, subst}
 use Rattle.std.proofs.KnownBytes.{Appends-kept}
 use Rattle.std.specs.Io.KnownBytes.{Keeps}
-use Rattle.ccw_core.specs.Written.{AppendsPrefix}
 use Rattle.chan_deck.specs.Image.{Image, Spells, spelling}
 use Rattle.chan_walk.specs.declared.job.Job.{Job}
-use Rattle.chan_run.specs.declared.output.Output.{Output}
-use Rattle.chan_run.specs.declared.output.Output.TheVariants.{Listing, Text}
 use Rattle.chan_run.specs.declared.reporting.Outcome.{Outcome}
 use Rattle.chan_run.specs.declared.reporting.Outcome.TheVariants.{Denied, Done, Failed, NoJob, Refused, Unknown, Usage}
 use Rattle.chan_run.specs.declared.failure.Failure.{Failure}
@@ -20,7 +17,7 @@ use Rattle.chan_run.specs.Answer.{IsImageEnd, IsImageTold}
 use Rattle.chan_run.specs.Imaging.{IsDeckAnswer}
 use Rattle.chan_run.specs.declared.image_options.ImageOptions.{ImageOptions}
 use Rattle.chan_run.specs.Report.{IsDone, IsEnd, line_over, ran}
-use Rattle.chan_run.specs.Run.{Answer, IsAnswerOn, IsJobAnswer, IsJobOf, IsListing, IsPut, Judges, IsTextAnswer, text_in}
+use Rattle.chan_run.specs.Run.{Answer, IsAnswerOn, IsJobAnswer, IsJobOf, IsPut, Judges, IsTextAnswer, text_in}
 
 -- an answer on the job of a deck is one to the text that spells the deck
 pub text_answer : (name : Option (List ℕ)) (a : Action) (t : List ℕ) (deck : Image) (j : Job) (answer : Answer)
@@ -31,12 +28,6 @@ text_answer name a t deck j (Err TooManyPlaces) spelled of_deck h =
     record { deck = deck; spelled = spelled; job = j; of_deck = of_deck; holds = h }
 text_answer name a t deck j (Err Memory) spelled of_deck h = tt
 text_answer name a t deck j answer spelled of_deck h = absurd h.2
-
--- memory ran out in a listing
-pub ran_out : (s : Status) (output : Output) (old new : Option (List ℕ)) (untouched : Type 0) → IsListing output
-    → AppendsPrefix old new (text_in output) → IsPut (Ok (s, output)) old new untouched (Err Memory)
-ran_out s (Listing looks v) old new untouched is prefix = prefix
-ran_out s (Text text) old new untouched is prefix = is
 
 -- the answer on a job that an action judges is the answer on the job of which it judges that
 pub judged : (name : Option (List ℕ)) (a : Action) (j k : Job) (answer : Answer) → Judges a j k

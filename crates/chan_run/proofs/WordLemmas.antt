@@ -1,5 +1,5 @@
 -- Words as they are shown, byte by byte.
-use Rattle.std.proofs.Common.{◌≡◌, ◌≢◌, ◌∙◌, ◌<◌, ◌++◌, ◌∷◌, ◌-◌, Bool, List, [], Ok, ap, arith, codes, drop}
+use Rattle.std.proofs.Common.{◌≡◌, ◌∙◌, ◌<◌, ◌++◌, ◌∷◌, ◌-◌, Bool, List, [], Ok, ap, arith, codes, drop}
 use Rattle.std.proofs.Common.{if◌then◌else◌, false, length, refl, slice_index_or, subst, suc, sym, take, true, zero, ℕ}
 use Rattle.std.specs.List.{AllByRecursion}
 use Rattle.std.proofs.lemmas.List.{append-nil, append_assoc, take_all}
@@ -35,22 +35,6 @@ tail text = take (length text - 1) (drop 1 text)
 
 tail_is : (b : ℕ) (rest : List ℕ) → tail (b ∷ rest) ≡ rest
 tail_is b rest = take_all (length (b ∷ rest) - 1) rest (omega arith)
-
--- of a byte that is shown as itself, or not
-shown_as : (b : ℕ) (p : Bool) → is_plain b ≡ p
-    → shown_byte b ≡ (if p then b ∷ [] else codes "\\x" ++ byte_digits b)
-shown_as b p is = rw is refl
-
--- a text that begins with no backslash shows its first byte as itself
-plain_byte : (text w : List ℕ) (b d : ℕ) (p : Bool) → is_plain b ≡ p → head text d ≢ 92
-    → text ≡ (if p then b ∷ [] else codes "\\x" ++ byte_digits b) ++ shown_word w
-    → (head text d ≡ b) × (tail text ≡ shown_word w)
-plain_byte text w b d true is other e = rw e (refl, tail_is b (shown_word w))
-plain_byte text w b d false is other e = absurd (other (ap (λ t. head t d) e))
-
-pub plain_next : (text w : List ℕ) (b d : ℕ) → head text d ≢ 92
-    → text ≡ shown_byte b ++ shown_word w → (head text d ≡ b) × (tail text ≡ shown_word w)
-plain_next text w b d other e = plain_byte text w b d (is_plain b) refl other e
 
 -- one that begins with a backslash shows an escape of two digits
 escape : (text w : List ℕ) (b d : ℕ) (p : Bool) → is_plain b ≡ p → head text d ≡ 92

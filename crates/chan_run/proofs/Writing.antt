@@ -1,6 +1,5 @@
 -- What a writer got, part by part, where the parts are known by equations.
-use Rattle.std.proofs.Common.{◌≡◌, ◌++◌, ◌≤◌, ◌<◌, ◌+◌, ◌-◌, ◌∷◌, List, [], ℕ, Bor, Option, append_assoc, arith, drop, length, slice_index_or, subst, suc, take, zero}
-use Rattle.std.proofs.KnownBytes.{Appends-trans}
+use Rattle.std.proofs.Common.{◌≡◌, ◌++◌, ◌≤◌, ◌<◌, ◌+◌, ◌-◌, ◌∷◌, List, [], ℕ, Bor, Option, append_assoc, arith, drop, length, slice_index_or, suc, take, zero}
 use Rattle.std.specs.Io.KnownBytes.{Appends}
 use Rattle.std.proofs.lemmas.List.{append-nil, length-append, take_all}
 use Rattle.ccw_core.specs.Written.{AppendsPrefix}
@@ -8,23 +7,6 @@ pub use Rattle.ccw_core.proofs.Prefixes.{prefix_after, prefix_of_more}
 use Rattle.chan_run.specs.declared.reporting.Outcome.{Outcome}
 use Rattle.chan_run.specs.Naming.{joined, name_before}
 use Rattle.chan_run.specs.Report.{ending_of, is_on_input, line_over, number_of, program_of, text_of}
-
--- a prefix was written of bytes that are these, with which more bytes begin
-pub begun : (a b : Option (List ℕ)) (bytes xs ys : List ℕ) → bytes ≡ xs → AppendsPrefix a b bytes
-    → AppendsPrefix a b (xs ++ ys)
-begun a b bytes xs ys is h = prefix_of_more a b xs ys (subst (AppendsPrefix a b) is h)
-
--- bytes that are these were written, and then a prefix of more, which are these
-pub next : (a b c : Option (List ℕ)) (bytes xs more ys : List ℕ) → bytes ≡ xs → more ≡ ys
-    → Appends a b bytes → AppendsPrefix b c more → AppendsPrefix a c (xs ++ ys)
-next a b c bytes xs more ys is are h k =
-    prefix_after a b c xs ys (subst (Appends a b) is h) (subst (AppendsPrefix b c) are k)
-
--- the same where all of it was written
-pub whole : (a b c : Option (List ℕ)) (bytes xs more ys : List ℕ) → bytes ≡ xs → more ≡ ys
-    → Appends a b bytes → Appends b c more → Appends a c (xs ++ ys)
-whole a b c bytes xs more ys is are h k =
-    Appends-trans a b c xs ys (subst (Appends a b) is h) (subst (Appends b c) are k)
 
 -- the parts of an outcome's line, one after another, are the line
 pub line_of_parts : (o : Outcome) (name : Option (List ℕ)) (p n m t d a b e : List ℕ)
