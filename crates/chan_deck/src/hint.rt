@@ -279,12 +279,12 @@ pub fn hint_text(
     text: &[u8],
     line: u64,
     cause: Cause,
-) -> Result<String, AllocError> {
+) -> Result<Vec<u8>, AllocError> {
     let spot = spot_behind(text, line.saturating_sub(1));
     let mut out = String::from_str(alloc, "found ")?;
     push_found(&mut out, &spot)?;
     out.push_str("\nexpected ")?;
     push_expected(&mut out, &spot, cause)?;
     out.push_str("\n")?;
-    Ok(out)
+    Ok(out.into_bytes())
 }

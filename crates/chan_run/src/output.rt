@@ -11,7 +11,7 @@ ghost use Rattle.chan_run.specs.Run.{AreTold, IsExplained, IsListing, IsNeeded, 
 
 use ccw_core::{Watched, write_out};
 use chan_args::Action;
-use chan_deck::{ListError, explanation_text, needs_text, verdict_text, write_graph, write_seen};
+use chan_deck::{ListError, explanation_text, graph_text, needs_text, verdict_text, write_seen};
 use chan_walk::{Evidence, Job, Look, Survey, Verdict, first_place};
 use std::alloc::{AllocError, Global};
 use std::io::Write;
@@ -84,18 +84,8 @@ fn picture_of(alloc: Global, job: &Job, survey: Survey) -> Result<Vec<u8>, Alloc
     requires { IsSurvey job.now survey }
 {
     let (looks, offences) = survey.into_parts();
-    let first = first_place(job);
-    let mut text = Watched::new(Vec::new(alloc));
-    match write_graph(
-        alloc,
-        first,
-        looks.as_slice(),
-        offences.as_slice(),
-        &mut text,
-    ) {
-        Ok(()) => Ok(text.into_inner()),
-        Err(_) => Err(AllocError),
-    }
+    let picture = graph_text(alloc, first_place(job), &looks, &offences)?;
+    Ok(picture.into_bytes())
 }
 
 /// The explanation of the verdict on a job that was surveyed, with the causes of all offences, if

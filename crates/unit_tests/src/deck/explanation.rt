@@ -1,10 +1,10 @@
-//! An explanation, byte for byte, as it is written piece by piece.
+//! An explanation, byte for byte.
 
 ghost use Rattle.chan_walk.specs.Surveyed.{IsSurvey};
 
-use crate::shared::{expect, paper_of};
-use ccw_core::{Storage, Watched};
-use chan_deck::{read_deck, write_explanation};
+use crate::shared::expect;
+use ccw_core::Storage;
+use chan_deck::{explanation_text, read_deck};
 use chan_walk::{Job, Survey, Witness, survey};
 use std::alloc::Global;
 
@@ -57,15 +57,16 @@ fn explains_survey(alloc: Global, job: &Job, survey: &Survey, text: &str) -> boo
     requires { IsSurvey job.now survey.now }
 {
     match survey.witness(alloc, job) {
-        Ok(witness) => is_written(alloc, job, survey, &witness, text),
+        Ok(witness) => is_explained(alloc, job, survey, &witness, text),
         Err(_) => false,
     }
 }
 
-fn is_written(alloc: Global, job: &Job, survey: &Survey, witness: &Witness, text: &str) -> bool {
-    let mut to = Watched::new(paper_of(text.as_bytes()));
-    write_explanation(alloc, job, survey, witness, &[], &mut to).is_ok()
-        && to.into_inner().left.is_empty()
+fn is_explained(alloc: Global, job: &Job, survey: &Survey, witness: &Witness, text: &str) -> bool {
+    match explanation_text(alloc, job, survey, witness, &[]) {
+        Ok(explanation) => explanation.as_str() == text,
+        Err(_) => false,
+    }
 }
 
 #[test]
