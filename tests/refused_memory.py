@@ -92,7 +92,7 @@ def command_cases(chanv):
             expected=Ran(1 if answer.startswith("no ") else 0, answer),
             given=given,
             complaints=complaints,
-            begun=answer if words[0] in ("list", "graph", "find") else "",
+            begun=answer if words[0] in ("list", "find") else "",
             # the complaint stands in place of notes
             may_answer=words[0] == "why" and answer.endswith("yes\n"),
         )

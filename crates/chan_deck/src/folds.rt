@@ -1,14 +1,13 @@
 //! Which places stand together in a picture: in a frame or in a box.
 
 ghost use Rattle.std.specs.Prelude.{◌≡◌, ◌++◌, ◌∷◌, ◌<◌, ◌≤◌, [], List, ℕ, length, map, IfOk, OnOk};
-ghost use Rattle.chan_walk.specs.Explored.{place_number};
 ghost use Rattle.chan_walk.specs.Look.{Seen};
 ghost use Rattle.chan_walk.specs.declared.offence.Offence as offences;
 ghost use Rattle.chan_walk.specs.declared.place.Place as places;
 ghost use Rattle.chan_deck.specs.Folds as fold;
 ghost use Rattle.chan_deck.specs.Folds.{AreCounted, AreFolds, AreMarked, IsFirstRun};
 
-use chan_walk::{Entry, Look, Next, Offence, Place};
+use chan_walk::{Look, Next, Offence, Place};
 use std::alloc::{AllocError, Global};
 use std::collections::BTreeMap;
 
@@ -23,19 +22,6 @@ pub(crate) struct Folds {
     entries: BTreeMap<u64, bool>,
 }
 
-/// The number of a place: places are in order as their numbers are.
-pub(crate) fn number_of(place: Place) -> u64
-    ensures { result ≡ place_number place }
-{
-    let entry = match place.entered {
-        Entry::Fresh => 0,
-        Entry::ChainIn => 1,
-        Entry::ChainOut => 2,
-        Entry::ChainSearch => 3,
-    };
-    8 * u64::from(place.address) + 2 * entry + u64::from(place.after_transfer)
-}
-
 /// Adds the reason of an offence, below others, to what stands beside its place.
 fn add_reason(
     alloc: Global,
@@ -45,7 +31,7 @@ fn add_reason(
     ensures { OnOk result ((os : List offences.Offence) → AreMarked os marks.old
         → AreMarked (os ++ offence ∷ []) marks.new) }
 {
-    let number = number_of(offence.place);
+    let number = offence.place.number();
     let word = offence.reason.word();
     let text = match marks.get(&number) {
         Some(text) => format!(in alloc; "{text}\\n{word}")?,
@@ -93,7 +79,7 @@ fn count_place(seen: &mut BTreeMap<u64, bool>, place: Option<Place>) -> Result<(
         → AreCounted (ns ++ fold.number_if place) seen.new) }
 {
     match place {
-        Some(place) => count(seen, number_of(place)),
+        Some(place) => count(seen, place.number()),
         None => Ok(()),
     }
 }
@@ -129,7 +115,7 @@ fn entries_of(
     ensures { IfOk result (λ m. AreCounted (fold.entries first looks.now) m) }
 {
     let mut seen = BTreeMap::new(alloc);
-    count(&mut seen, number_of(first))?;
+    count(&mut seen, first.number())?;
     for look in looks {
         count_targets(&mut seen, look)?;
     }
@@ -161,7 +147,7 @@ fn leads_only(onward: Next, to: Place) -> bool
     ensures { result ≡ fold.leads_only onward.next onward.skip to }
 {
     match (onward.next, onward.skip) {
-        (Some(next), None) => number_of(next) == number_of(to),
+        (Some(next), None) => next.number() == to.number(),
         _ => false,
     }
 }
@@ -180,7 +166,7 @@ fn may_join(folds: &Folds, look: &Look) -> bool
 {
     let place = look.place();
     is_once(&folds.addresses, u64::from(place.address))
-        && folds.marks.get(&number_of(place)).is_none()
+        && folds.marks.get(&place.number()).is_none()
 }
 
 /// Whether a place and the one behind it stand together: in a frame or in a box.
@@ -192,7 +178,7 @@ fn are_together(folds: &Folds, look: &Look, behind: &Look) -> bool
     let to = behind.place();
     are_beside(look, behind)
         || leads_only(look.next(), to)
-            && is_once(&folds.entries, number_of(to))
+            && is_once(&folds.entries, to.number())
             && may_join(folds, look)
             && may_join(folds, behind)
 }

@@ -2,7 +2,7 @@
 //!
 //! Which places stand together in it is decided, and proved, in `folds`. Its text is held by tests.
 
-use crate::folds::{Folds, are_beside, count_together, folds_of, number_of};
+use crate::folds::{Folds, are_beside, count_together, folds_of};
 use crate::listing::{name_of, transfer_word, way_word};
 use crate::texts::Address;
 use chan_walk::{Look, Offence, Place};
@@ -102,7 +102,7 @@ fn push_nodes(out: &mut String, part: &[Look]) -> Result<(), AllocError> {
 fn push_marks(out: &mut String, folds: &Folds, looks: &[Look]) -> Result<(), AllocError> {
     for look in looks {
         let place = look.place();
-        if let Some(reasons) = folds.marks.get(&number_of(place)) {
+        if let Some(reasons) = folds.marks.get(&place.number()) {
             let name = Node(place);
             write!(
                 out,

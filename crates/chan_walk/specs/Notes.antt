@@ -12,12 +12,13 @@ use Rattle.ckd_core.specs.declared.command.Kind.{Kind}
 use Rattle.ckd_core.specs.declared.command.Kind.TheVariants.{Idle, Inward, Outward, Search}
 use Rattle.ckd_core.specs.Table.{Entry as Command, lookup}
 use Rattle.chan_walk.specs.declared.job.Job.{Job}
+use Rattle.chan_walk.specs.declared.note.Notes.{Notes}
 use Rattle.chan_walk.specs.declared.place.Place.{Place}
 use Rattle.chan_walk.specs.Argument.{Has}
 use Rattle.chan_walk.specs.Evidence.{data_at, data_of}
 use Rattle.chan_walk.specs.Fault.{fetches, kind_of, stores}
 use Rattle.chan_walk.specs.Guarded.{IsGuarded}
-use Rattle.chan_walk.specs.Job.{storage_of}
+use Rattle.chan_walk.specs.Job.{fetch_of, storage_of, store_of}
 use Rattle.chan_walk.specs.Look.{Seen}
 use Rattle.chan_walk.specs.Place.{is_fresh, ccw_of}
 use Rattle.chan_walk.specs.Ranges.{AreExactly, end_of}
@@ -127,6 +128,21 @@ pub record AreMachineStores (j : Job) (areas : List Area) : Type 0 where
   pub kept : List Area
   pub guarded : AreExactly (IsGuarded j) kept
   pub are : AreUsed IsMachineByte kept areas
+
+-- ---- all notes
+
+-- these are the notes on a job: what is lent in vain, what flags ask for, and where the machine itself
+-- stores
+pub record AreNotes (j : Job) (n : Notes) : Type 0 where
+  pub fetch_past_storage :
+      n.fetch_past_storage.items ≡ filter (reaches_past_storage j) (fetch_of j)
+  pub store_past_storage :
+      n.store_past_storage.items ≡ filter (reaches_past_storage j) (store_of j)
+  pub unused_fetch : AreUnused (IsFetchedFrom j) (fetch_of j) n.unused_fetch.items
+  pub unused_store : AreUnused (IsStoredInto j) (store_of j) n.unused_store.items
+  pub interrupting : AreAddressesOf interrupts j n.interrupting.items
+  pub ending : AreAddressesOf ends_there j n.ending.items
+  pub machine_stores : AreMachineStores j n.machine_stores.items
 
 -- ---- place by place
 

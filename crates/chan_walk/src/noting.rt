@@ -9,13 +9,11 @@ ghost use Rattle.ccw_core.specs.Ccw.{Fields};
 ghost use Rattle.chan_walk.specs.Argument.{Has};
 ghost use Rattle.chan_walk.specs.Fault as fault;
 ghost use Rattle.chan_walk.specs.Guard.{AddsBytes, Guards};
-ghost use Rattle.chan_walk.specs.Job.{fetch_of, store_of};
 ghost use Rattle.chan_walk.specs.Least.{AreReached};
 ghost use Rattle.chan_walk.specs.Look.{AreLooks, IsLook, places_of_looks};
 ghost use Rattle.chan_walk.specs.Notes as noted;
-ghost use Rattle.chan_walk.specs.Notes.{AddsAddress, AreAddressesOf, AreMachineStores, AreUnused};
-ghost use Rattle.chan_walk.specs.Notes.{AreUsed, HoldData, IsFetchedFrom, IsSeenByte};
-ghost use Rattle.chan_walk.specs.Notes.{IsSeenWith, IsStoredInto};
+ghost use Rattle.chan_walk.specs.Notes.{AddsAddress, AreAddressesOf, AreMachineStores, AreNotes};
+ghost use Rattle.chan_walk.specs.Notes.{AreUnused, AreUsed, HoldData, IsSeenByte, IsSeenWith};
 ghost use Rattle.chan_walk.specs.Notes.{NothingFollows, reaches_past_storage};
 ghost use Rattle.chan_walk.specs.Ranges.{EndsBelow, IsMerged};
 ghost use Rattle.chan_walk.specs.declared.job.Job.{Job};
@@ -42,25 +40,7 @@ pub(crate) fn notes_of(
     requires guard { Guards job.now guard.now }
     requires looks { AreLooks job.now looks.now }
     requires reached { AreReached job.now (places_of_looks looks.now) }
-
-    // What is lent in vain.
-    ensures fetch_past_storage { IfOk result (λ n. n.fetch_past_storage.items
-        ≡ filter (reaches_past_storage job.now) (fetch_of job.now)) }
-    ensures store_past_storage { IfOk result (λ n. n.store_past_storage.items
-        ≡ filter (reaches_past_storage job.now) (store_of job.now)) }
-    ensures unused_fetch { IfOk result
-        (λ n. AreUnused (IsFetchedFrom job.now) (fetch_of job.now) n.unused_fetch.items) }
-    ensures unused_store { IfOk result
-        (λ n. AreUnused (IsStoredInto job.now) (store_of job.now) n.unused_store.items) }
-
-    // What flags ask for.
-    ensures interrupting { IfOk result
-        (λ n. AreAddressesOf noted.interrupts job.now n.interrupting.items) }
-    ensures ending { IfOk result (λ n. AreAddressesOf noted.ends_there job.now n.ending.items) }
-
-    // Where the machine itself stores.
-    ensures machine_stores { IfOk result
-        (λ n. AreMachineStores job.now n.machine_stores.items) }
+    ensures { IfOk result (AreNotes job.now) }
 {
     let fetched = fetched(alloc, looks)?;
     let stored = stored(alloc, looks)?;

@@ -68,7 +68,7 @@ impl Place {
     }
 
     /// The number by which places are in order.
-    pub(crate) fn number(self) -> u64
+    pub fn number(self) -> u64
         ensures { result ≡ place_number self }
     {
         8 * u64::from(self.address) + u64::from(way_of(self))

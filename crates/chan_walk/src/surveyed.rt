@@ -1,17 +1,14 @@
 //! What a survey of a job tells.
 
 ghost use Rattle.std.specs.Prelude.{◌≡◌, ◌↔◌, map, option_map, vec_items, IfOk};
-ghost use Rattle.std.specs.List.{AllZip, filter};
+ghost use Rattle.std.specs.List.{AllZip};
 ghost use Rattle.std.specs.List.Sorted.{IsStrictlyIncreasing};
 ghost use Rattle.chan_walk.specs.Argument.{Has};
 ghost use Rattle.chan_walk.specs.Explained.{IsEvidenceOf, IsPathOf, IsSecondPathOf, IsStoredOver};
 ghost use Rattle.chan_walk.specs.Explained.{IsCauseOf, IsWitness};
 ghost use Rattle.chan_walk.specs.Explored.{AreApart, AreReachable, place_number};
-ghost use Rattle.chan_walk.specs.Job.{fetch_of, store_of};
 ghost use Rattle.chan_walk.specs.Look.{AreLooks, Seen, places_of_looks};
-ghost use Rattle.chan_walk.specs.Notes as noted;
-ghost use Rattle.chan_walk.specs.Notes.{AreAddressesOf, AreMachineStores, AreUnused};
-ghost use Rattle.chan_walk.specs.Notes.{IsFetchedFrom, IsStoredInto, reaches_past_storage};
+ghost use Rattle.chan_walk.specs.Notes.{AreNotes};
 ghost use Rattle.chan_walk.specs.Needs.{AreOfOneProgram};
 ghost use Rattle.chan_walk.specs.Offences.{first_verdict};
 ghost use Rattle.chan_walk.specs.Paths.{IsPathTo};
@@ -126,25 +123,7 @@ impl Survey {
     /// The notes on the job.
     pub fn notes(&self, alloc: Global, job: &Job) -> Result<Notes, AllocError>
         requires { IsSurvey job.now self.now }
-        // What is lent in vain.
-        ensures fetch_past_storage { IfOk result (λ n. n.fetch_past_storage.items
-            ≡ filter (reaches_past_storage job.now) (fetch_of job.now)) }
-        ensures store_past_storage { IfOk result (λ n. n.store_past_storage.items
-            ≡ filter (reaches_past_storage job.now) (store_of job.now)) }
-        ensures unused_fetch { IfOk result
-            (λ n. AreUnused (IsFetchedFrom job.now) (fetch_of job.now) n.unused_fetch.items) }
-        ensures unused_store { IfOk result
-            (λ n. AreUnused (IsStoredInto job.now) (store_of job.now) n.unused_store.items) }
-
-        // What flags ask for.
-        ensures interrupting { IfOk result
-            (λ n. AreAddressesOf noted.interrupts job.now n.interrupting.items) }
-        ensures ending { IfOk result
-            (λ n. AreAddressesOf noted.ends_there job.now n.ending.items) }
-
-        // Where the machine itself stores.
-        ensures machine_stores { IfOk result
-            (λ n. AreMachineStores job.now n.machine_stores.items) }
+        ensures { IfOk result (AreNotes job.now) }
     {
         notes_of(alloc, job, &self.guard, self.walk.looks.as_slice())
     }

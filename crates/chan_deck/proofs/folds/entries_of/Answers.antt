@@ -5,7 +5,7 @@ use Rattle.chan_deck.proofs.TakenLemmas.{flat_map_more}
 use Rattle.chan_deck.proofs.folds.entries_of.Goals as goal
 
 pub loop-look-init : goal.loop-look-init
-loop-look-init c = rw c.number_of.ensures at c.in_ok-count.ensures [] (search rules)
+loop-look-init c = rw c.number.ensures at c.in_ok-count.ensures [] (search rules)
 
 pub loop-look-preserved : goal.loop-look-preserved
 loop-look-preserved c =
