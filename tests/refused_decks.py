@@ -305,6 +305,13 @@ HINTS = [
         "\\x00\\x00\\x00",
         "a deck, which is text; chanv deck makes one of an image of storage",
     ),
+    (
+        0,
+        "chanv\x00\n",
+        "header",
+        "chanv\\x00",
+        "a deck, which is text; chanv deck makes one of an image of storage",
+    ),
     (1, "\x00\n", "form", "\\x00", "device 2311, device 2314"),
     (0, "chanv deck 1\r\n", "header", "chanv deck 1\\x0D", "chanv deck 1, chanv deck 2"),
     (0, "\tchanv deck 1\n", "header", "\\x09chanv deck 1", "chanv deck 1, chanv deck 2"),
