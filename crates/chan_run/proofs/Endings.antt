@@ -1,22 +1,19 @@
 -- How a run over an input ends: an answer is written, and its output is flushed.
-use Rattle.std.proofs.Common.{◌≡◌, ℕ, List, Option, Result, Ok, Err, true, false, IsErr, OnOk, ◌↔◌, ◌∙◌, inl, inr, refl, sym, subst}
+use Rattle.std.proofs.Common.{◌≡◌, ℕ, List, Option, Result, Ok, Err, true, false, IsErr, OnOk, ◌↔◌, ◌∙◌, refl, sym, subst}
 use Rattle.std.proofs.KnownBytes.{Appends-kept}
 use Rattle.std.specs.Io.KnownBytes.{Keeps}
 use Rattle.chan_deck.specs.Image.{Image, Spells, spelling}
 use Rattle.chan_walk.specs.declared.job.Job.{Job}
 use Rattle.chan_run.specs.declared.reporting.Outcome.{Outcome}
 use Rattle.chan_run.specs.declared.reporting.Outcome.TheVariants.{Denied, Done, Failed, NoJob, Refused, Unknown, Usage}
-use Rattle.chan_run.specs.declared.failure.Failure.{Failure}
-use Rattle.chan_walk.specs.declared.reason.Reason.{Reason}
 use Rattle.chan_args.specs.declared.action.Action.{Action}
 use Rattle.chan_args.specs.declared.action.Action.TheVariants as actions
 use Rattle.chan_run.specs.declared.running.RunError.{RunError}
 use Rattle.chan_run.specs.declared.running.RunError.TheVariants.{Deck, Memory, Read, TooLong, TooManyPlaces, Write}
 use Rattle.chan_run.specs.declared.running.Status.{Status}
-use Rattle.chan_run.specs.Answer.{IsImageEnd, IsImageTold}
 use Rattle.chan_run.specs.Imaging.{IsDeckAnswer}
 use Rattle.chan_run.specs.declared.image_options.ImageOptions.{ImageOptions}
-use Rattle.chan_run.specs.Report.{IsDone, IsEnd, line_over, ran}
+use Rattle.chan_run.specs.Report.{IsDone, ran}
 use Rattle.chan_run.specs.Run.{Answer, IsAnswerOn, IsJobAnswer, IsJobOf, IsPut, Judges, IsTextAnswer, text_in}
 
 -- an answer on the job of a deck is one to the text that spells the deck
@@ -64,29 +61,6 @@ put_kept contents old mid new answer (Err e) keeps same h =
     subst (λ x. IsPut answer (contents old) (contents x) (x ≡ old) (Err e)) (sym (same (not_done e))) h
 
 -- ---- an image of storage
-
--- after a failure it ends just so
-pub failed_end : (f : Failure) (end : Outcome) → IsEnd (Failed f) end → end ≡ Failed f
-failed_end f end (inl is) = is
-failed_end f end (inr flush) = absurd flush.0
-
--- how an image ends for which a job will do, and what is said then
-pub image_ended : (name : Option (List ℕ)) (o : ImageOptions) (image : List ℕ) (came end : Outcome)
-    → ((a : ℕ) (r : Reason) → came ≡ NoJob a r → ⊥) → IsEnd came end
-    → IsImageEnd came end × IsImageTold name o image end (line_over name end)
-image_ended name o image came end other (inr flush) = (ended came flush.0, rw flush.1 refl)
-  where
-    ended : (came : Outcome) → IsDone came → IsImageEnd came end
-    ended Done done = inr (tt, flush.1)
-    ended Denied done = inr (tt, flush.1)
-    ended _ done = absurd done
-image_ended name o image (NoJob a r) end other (inl is) = absurd (other a r refl)
-image_ended name o image Done end other (inl is) = (inl is, rw is refl)
-image_ended name o image Denied end other (inl is) = (inl is, rw is refl)
-image_ended name o image Usage end other (inl is) = (inl is, rw is refl)
-image_ended name o image (Refused line cause) end other (inl is) = (inl is, rw is refl)
-image_ended name o image (Unknown t) end other (inl is) = (inl is, rw is refl)
-image_ended name o image (Failed failure) end other (inl is) = (inl is, rw is refl)
 
 -- if an image was answered, the flush of what was written leaves it answered
 pub image_kept : (o : ImageOptions) (image : List ℕ) (old mid new : Option (List ℕ)) (came : Outcome)

@@ -1,20 +1,10 @@
 -- What a writer got, part by part, where the parts are known by equations.
-use Rattle.std.proofs.Common.{◌≡◌, ◌++◌, ◌≤◌, ◌<◌, ◌+◌, ◌-◌, ◌∷◌, List, [], ℕ, Bor, Option, append_assoc, arith, drop, length, slice_index_or, suc, take, zero}
+use Rattle.std.proofs.Common.{◌≤◌, ◌<◌, ◌+◌, ◌-◌, ◌∷◌, List, [], ℕ, Bor, Option, arith, drop, length, slice_index_or, suc, take, zero}
 use Rattle.std.specs.Io.KnownBytes.{Appends}
-use Rattle.std.proofs.lemmas.List.{append-nil, length-append, take_all}
+use Rattle.std.proofs.lemmas.List.{length-append, take_all}
 use Rattle.ccw_core.specs.Written.{AppendsPrefix}
 pub use Rattle.ccw_core.proofs.Prefixes.{prefix_after, prefix_of_more}
-use Rattle.chan_run.specs.declared.reporting.Outcome.{Outcome}
-use Rattle.chan_run.specs.Naming.{joined, name_before}
-use Rattle.chan_run.specs.Report.{ending_of, is_on_input, line_over, number_of, program_of, text_of}
-
--- the parts of an outcome's line, one after another, are the line
-pub line_of_parts : (o : Outcome) (name : Option (List ℕ)) (p n m t d a b e : List ℕ)
-    → n ++ m ≡ name_before name (is_on_input o) → p ≡ program_of o → t ≡ text_of o
-    → d ≡ number_of o → a ++ (b ++ e) ≡ ending_of o
-    → p ++ (n ++ (m ++ (t ++ (d ++ (a ++ (b ++ (e ++ []))))))) ≡ line_over name o
-line_of_parts o name p n m t d a b e named program text number ends =
-    rw (← named, ← program, ← text, ← number, ← ends) (simp (append-nil, append_assoc))
+use Rattle.chan_run.specs.Naming.{joined}
 
 -- some texts before one, and this one, are no longer than all of them
 pub no_longer : (texts : List (Bor (List ℕ))) (i : ℕ) (d : Bor (List ℕ)) → i < length texts

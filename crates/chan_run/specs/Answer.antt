@@ -34,42 +34,41 @@ pub record IsTold (line : List ℕ) (is_advised : Bool) (old new : Option (List 
 
 -- ---- an image of storage
 
--- what is said of an image, if it was read: the outcome's line, or why no job will do
-abbrev pub IsImageTold : Option (List ℕ) → ImageOptions → List ℕ → Outcome → List ℕ → Type 0
-IsImageTold name o image (NoJob a r) told = IsNoJobText name o image told
-IsImageTold name o image end told = told ≡ line_over name end
+-- how an image that came to this is explained: by why no job will do, if none will and memory
+-- doesn't run out for that, and else by nothing
+abbrev pub IsExplainedImage : Option (List ℕ) → ImageOptions → List ℕ → Outcome → Outcome → List ℕ
+    → Type 0
+IsExplainedImage name o image (NoJob a r) said why =
+    ((said ≡ NoJob a r) × IsNoJobText name o image why)
+    ⊎ ((said ≡ Failed failures.OutOfMemory) × (why ≡ []))
+IsExplainedImage name o image came said why = (said ≡ came) × (why ≡ [])
 
--- how it ends when it came to this: just so, with a failed flush, or without memory for the
--- explanation
-abbrev pub IsImageEnd : Outcome → Outcome → Type 0
-IsImageEnd (NoJob a r) end = (end ≡ NoJob a r) ⊎ (end ≡ Failed failures.OutOfMemory)
-IsImageEnd came end = IsEnd came end
-
--- the input was read to its end, its image was answered, and then this was said
+-- the input was read to its end, its image was answered and explained, and the output was flushed
 pub record IsReadImage (name : Option (List ℕ)) (o : ImageOptions)
-    (old_in new_in old new : Option (List ℕ)) (end : Outcome) (told : List ℕ) : Type 0 where
+    (old_in new_in old new : Option (List ℕ)) (end : Outcome) (why : List ℕ) : Type 0 where
   pub image : List ℕ
   pub input : IsWholeImage o old_in new_in image
   pub came : Outcome
   pub answered : IsDeckAnswer o image old new came
-  pub ended : IsImageEnd came end
-  pub is : IsImageTold name o image end told
+  pub said : Outcome
+  pub explained : IsExplainedImage name o image came said why
+  pub ended : IsEnd said end
 
--- it wasn't, nothing was written, and only that was said
-pub record IsUnreadImage (name : Option (List ℕ)) (o : ImageOptions)
-    (old_in new_in old new : Option (List ℕ)) (end : Outcome) (told : List ℕ) : Type 0 where
+-- it wasn't, and nothing was written
+pub record IsUnreadImage (o : ImageOptions) (old_in new_in old new : Option (List ℕ))
+    (end : Outcome) (why : List ℕ) : Type 0 where
   pub failure : Failure
   pub read : IsNoImage o old_in new_in failure
-  pub ended : end ≡ Failed failure
+  pub ended : IsEnd (Failed failure) end
   pub unwritten : IsUnwritten old new
-  pub is : told ≡ line_over name end
+  pub none : why ≡ []
 
 -- this was said of the image; if a write of it failed, a prefix
 pub record IsImageHandled (name : Option (List ℕ)) (o : ImageOptions)
     (old_in new_in old new old_err new_err : Option (List ℕ)) (failed : Bool) (end : Outcome)
     : Type 0 where
-  pub told : List ℕ
-  pub of_image : IsReadImage name o old_in new_in old new end told
-      ⊎ IsUnreadImage name o old_in new_in old new end told
-  pub whole : failed ≡ false → Appends old_err new_err told
-  pub prefix : AppendsPrefix old_err new_err told
+  pub why : List ℕ
+  pub of_image : IsReadImage name o old_in new_in old new end why
+      ⊎ IsUnreadImage o old_in new_in old new end why
+  pub whole : failed ≡ false → Appends old_err new_err (line_over name end ++ why)
+  pub prefix : AppendsPrefix old_err new_err (line_over name end ++ why)

@@ -67,43 +67,17 @@ IsDone _ = ⊥
 abbrev pub IsEnd : Outcome → Outcome → Type 0
 IsEnd came end = (end ≡ came) ⊎ (IsDone came × (end ≡ Failed failures.WriteFailed))
 
--- what an outcome's line begins with; an outcome that says nothing has no line
-abbrev pub program_of : Outcome → List ℕ
-program_of (Refused line cause) = codes "chanv: "
-program_of (Unknown t) = codes "chanv: "
-program_of (Failed failure) = codes "chanv: "
-program_of _ = []
-
--- the line is on the input, and so names it; any other is on the program or on what it writes
-abbrev pub is_on_input : Outcome → Bool
-is_on_input (Refused line cause) = true
-is_on_input (Failed failure) = (row_of failure).on_input
-is_on_input _ = false
-
--- what the line of an outcome says, or as much of it as comes before what it names
-abbrev pub text_of : Outcome → List ℕ
-text_of (Refused line cause) = codes "deck line "
-text_of (Unknown t) = codes "no such word; the nearest is "
-text_of (Failed failure) = (row_of failure).line
-text_of _ = []
-
--- the number in the line of an outcome: that of a refused line of a deck, in decimal
-abbrev pub number_of : Outcome → List ℕ
-number_of (Refused number cause) = decimal number
-number_of _ = []
-
--- the end of the line: the cause for which a deck's line is refused, or the word that is nearest to
--- an unknown word
-abbrev pub ending_of : Outcome → List ℕ
-ending_of (Refused number cause) = codes ": " ++ (word_of_cause cause ++ 10 ∷ [])
-ending_of (Unknown t) = word_of_term t ++ 10 ∷ []
-ending_of _ = []
-
--- the line of an outcome over an input that may have a name
+-- the line of an outcome over an input that may have a name; an outcome that says nothing has none.
+-- A line on the input names it; any other is on the program or on what it writes
 abbrev pub line_over : Option (List ℕ) → Outcome → List ℕ
-line_over name outcome =
-    program_of outcome ++ (name_before name (is_on_input outcome)
-    ++ (text_of outcome ++ (number_of outcome ++ ending_of outcome)))
+line_over name (Refused number cause) =
+    codes "chanv: " ++ (name_before name true ++ (codes "deck line "
+    ++ (decimal number ++ (codes ": " ++ (word_of_cause cause ++ 10 ∷ [])))))
+line_over name (Unknown t) =
+    codes "chanv: no such word; the nearest is " ++ (word_of_term t ++ 10 ∷ [])
+line_over name (Failed failure) =
+    codes "chanv: " ++ (name_before name (row_of failure).on_input ++ (row_of failure).line)
+line_over name _ = []
 
 -- a write failed, so that nothing more can be written
 abbrev pub IsWriteFailure : Outcome → Type 0

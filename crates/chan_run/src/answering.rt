@@ -1,9 +1,9 @@
 //! Answering an input: what the program does with each.
 
-ghost use Rattle.std.specs.Prelude.{◌≡◌, ◌↔◌, false, true};
+ghost use Rattle.std.specs.Prelude.{◌≡◌, ◌↔◌, ◌+◌, ◌≤◌, ◌^◌, false, length, true};
 ghost use Rattle.std.specs.Io.KnownBytes.{Appends};
 ghost use Rattle.ccw_core.specs.Written.{AppendsPrefix};
-ghost use Rattle.chan_run.specs.Answer.{IsAnswered, IsImageHandled, IsTold};
+ghost use Rattle.chan_run.specs.Answer.{IsAnswered, IsExplainedImage, IsImageHandled, IsTold};
 ghost use Rattle.chan_run.specs.Naming.{name_in};
 ghost use Rattle.chan_run.specs.Report.{IsDone, IsWriteFailure, has_advice, line_over};
 ghost use Rattle.chan_run.specs.declared.failure.Failure.TheVariants as failures;
@@ -52,7 +52,7 @@ pub fn answer<R: Read, W: Write, E: Write>(
 {
     let text = match read_text(alloc, from) {
         Ok(text) => text,
-        Err(error) => return conclude(name, Outcome::of_run(Err(error)), to, errors),
+        Err(error) => return conclude(name, Outcome::of_run(Err(error)), &[], to, errors),
     };
     let (answer, advice) = answer_text(alloc, name, action, true, text.as_slice());
     let came = write_answer(alloc, answer, to);
@@ -134,16 +134,34 @@ pub fn answer_image<R: Read, W: Write, E: Write>(
 {
     let image = match read_image(alloc, options, from) {
         Ok(image) => image,
-        Err(failure) => return conclude(name, Outcome::Failed(failure), to, errors),
+        Err(failure) => return conclude(name, Outcome::Failed(failure), &[], to, errors),
     };
-    let answer = write_image_of(alloc, options, image.as_slice(), to);
-    let Outcome::NoJob { address, reason } = answer else {
-        return conclude(name, answer, to, errors);
+    let came = write_image_of(alloc, options, image.as_slice(), to);
+    let (said, why) = explain_image(alloc, name, options, image.as_slice(), came);
+    conclude(name, said, why.as_slice(), to, errors)
+}
+
+/// What is said of an image that came to this: the outcome, and why no job will do, if none will.
+fn explain_image(
+    alloc: Global,
+    name: Option<&str>,
+    options: &ImageOptions,
+    image: &[u8],
+    came: Outcome,
+) -> (Outcome, Vec<u8>)
+    requires { options.now.at + length image.now ≤ 2 ^ 24 }
+    ensures explained { IsExplainedImage (name_in name.entry) options.now image.now came
+        result.0 result.1.items }
+    ensures done { IsDone result.0 ↔ IsDone came }
+    ensures write { IsWriteFailure result.0 ↔ IsWriteFailure came }
+    ensures read { result.0 ≡ Failed failures.ReadFailed → came ≡ Failed failures.ReadFailed }
+{
+    let Outcome::NoJob { .. } = came else {
+        return (came, Vec::new(alloc));
     };
     // The same job was walked before, so this fails only for want of memory.
-    let Ok(text) = no_job_text(alloc, name, options, image.as_slice()) else {
-        return conclude(name, Outcome::Failed(Failure::OutOfMemory), to, errors);
-    };
-    let _ = write_out(text.as_bytes(), errors);
-    Outcome::NoJob { address, reason }
+    match no_job_text(alloc, name, options, image) {
+        Ok(text) => (came, text.into_bytes()),
+        Err(_) => (Outcome::Failed(Failure::OutOfMemory), Vec::new(alloc)),
+    }
 }

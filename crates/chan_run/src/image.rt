@@ -16,14 +16,12 @@ use crate::failure::Failure;
 use crate::image_options::ImageOptions;
 use crate::input::read_input;
 use crate::least::write_least;
+use crate::options::PAST_ADDRESSES;
 use crate::reporting::Outcome;
 use ccw_core::Watched;
 use chan_deck::{Parts, PartsError, write_parts};
 use std::alloc::{AllocError, Global};
 use std::io::{Read, Write};
-
-/// The most bytes that storage may have: addresses have 24 bits.
-const STORAGE_LIMIT: usize = 16_777_216;
 
 /// Reads an image of storage to the end of the input; zeros follow it if a size was asked for.
 ///
@@ -64,7 +62,7 @@ fn room_for(options: &ImageOptions) -> Option<usize>
 {
     let end = match options.size {
         Some(size) => size as usize,
-        None => STORAGE_LIMIT,
+        None => PAST_ADDRESSES as usize,
     };
     end.checked_sub(options.at as usize)
 }
@@ -108,27 +106,8 @@ pub(crate) fn write_image_of<W: Write>(
     ensures write { IsWriteFailure result ↔ (to.new.failed ≡ true) }
 {
     if options.is_least {
-        write_least(alloc, options, image, to)
-    } else {
-        write_said(alloc, options, image, to)
+        return write_least(alloc, options, image, to);
     }
-}
-
-/// Writes the deck that an image makes with the job that the options say.
-fn write_said<W: Write>(
-    alloc: Global,
-    options: &ImageOptions,
-    image: &[u8],
-    to: &mut Watched<W>,
-) -> Outcome
-    requires short { options.now.at + length image.now ≤ 2 ^ 24 }
-    requires said { options.now.is_least ≡ false }
-    requires writer { to.old.failed ≡ false }
-    ensures answer { IsDeckAnswer options.now image.now
-        (W.contents to.old.device) (W.contents to.new.device) result }
-    ensures early { (IsDone result → ⊥) → (IsWriteFailure result → ⊥) → to.new ≡ to.old }
-    ensures write { IsWriteFailure result ↔ (to.new.failed ≡ true) }
-{
     let parts = Parts {
         limit: options.limit,
         device: options.device,

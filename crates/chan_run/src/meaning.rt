@@ -381,7 +381,7 @@ fn cause_brief(cause: Cause) -> &'static str {
 }
 
 /// The word of a cause.
-pub(crate) fn cause_word(cause: Cause) -> &'static str
+pub(crate) fn cause_word<'a>(cause: Cause) -> &'a str
     ensures { result.now ≡ word_of_cause cause }
 {
     match cause {

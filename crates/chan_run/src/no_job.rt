@@ -54,15 +54,12 @@ fn open_explanation(alloc: Global, job: &Job) -> Result<String, WalkError>
 
 /// The line on the options that may cure a no on an open job, if they may. Tests hold when.
 fn cure_of(job: &Job, verdict: Verdict) -> &'static str {
-    let may_cure = match verdict {
-        Verdict::No {
-            address,
-            reason: Reason::OutsideStorage,
-        } => address == job.start,
-        Verdict::No {
-            address,
-            reason: Reason::DataOutside,
-        } => match job.storage.ccw_at(address) {
+    let Verdict::No { address, reason } = verdict else {
+        return "";
+    };
+    let may_cure = match reason {
+        Reason::OutsideStorage => address == job.start,
+        Reason::DataOutside => match job.storage.ccw_at(address) {
             Some(ccw) => ccw.address() <= job.storage.len(),
             None => false,
         },

@@ -11,8 +11,9 @@ use ccw_core::Area;
 use chan_walk::Limit;
 use ckd_core::{Device, FileMask, LAST_CYLINDER};
 
-/// The first number that is no address: addresses have 24 bits.
-const PAST_ADDRESSES: u32 = 0x100_0000;
+/// The first number that is no address, and the most bytes that storage may have: addresses have
+/// 24 bits.
+pub(crate) const PAST_ADDRESSES: u32 = 0x100_0000;
 
 // What each option accepts: the cause if its text has another form.
 const DEVICE_FORM: &str = "2311 or 2314";

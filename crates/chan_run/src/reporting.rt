@@ -4,13 +4,12 @@ ghost use Rattle.std.specs.Prelude.{◌≡◌, ◌≤◌, ◌↔◌, ◌⊎◌, 
 ghost use Rattle.std.specs.Prelude.{IsErrOf, IsOk};
 ghost use Rattle.std.specs.Io.KnownBytes.{Appends, Keeps};
 ghost use Rattle.ccw_core.specs.Written.{AppendsPrefix};
+ghost use Rattle.chan_run.specs.Failure.{row_of};
 ghost use Rattle.chan_run.specs.Naming.{name_in};
-ghost use Rattle.chan_run.specs.Report.{IsDone, IsEnd, IsWriteFailure, has_advice, is_on_input};
-ghost use Rattle.chan_run.specs.Report.{ending_of, line_over, number_of, program_of};
-ghost use Rattle.chan_run.specs.Report.{ran, shown, wrote};
-ghost use Rattle.chan_run.specs.Report.{status_of, text_of};
+ghost use Rattle.chan_run.specs.Report.{IsDone, IsEnd, IsWriteFailure, has_advice, line_over, ran};
+ghost use Rattle.chan_run.specs.Report.{shown, status_of, wrote};
 ghost use Rattle.chan_run.specs.declared.failure.Failure.TheVariants as failures;
-ghost use Rattle.chan_run.specs.declared.reporting.Outcome.TheVariants.{Done, Failed};
+ghost use Rattle.chan_run.specs.declared.reporting.Outcome.TheVariants.{Done, Failed, Refused};
 
 use crate::failure::{Failure, row};
 use crate::meaning::{Term, cause_word, term_word};
@@ -18,13 +17,16 @@ use crate::naming::named;
 use crate::running::{RunError, Status};
 use crate::showing::ShowError;
 use crate::texts::write_texts;
-use ccw_core::{DeviceFault, Watched};
+use ccw_core::{DeviceFault, Watched, write_out};
 use chan_args::Action;
 use chan_deck::Cause;
 use chan_walk::Reason;
 use itoa::Buffer;
 use std::alloc::AllocError;
 use std::io::Write;
+
+/// What the line on a word without a meaning begins with, if another one's is near.
+const UNKNOWN: &str = "chanv: no such word; the nearest is ";
 
 /// How a run of the program ended. The texts of help, of the version, of a usage fault and on a
 /// program that no job will do for are written before.
@@ -145,10 +147,11 @@ pub(crate) fn has_advice(action: Action, outcome: Outcome) -> bool
 /// Ends a command that came to this outcome, and gives its final outcome. It takes no memory.
 ///
 /// If all was done, it flushes the output; the outcome is a failed write if the flush fails. Then
-/// it writes the outcome's line, as `report` does.
+/// it writes the outcome's line, as `report` does, and more behind it.
 pub fn conclude<W: Write, E: Write>(
     name: Option<&str>,
     outcome: Outcome,
+    more: &[u8],
     to: &mut Watched<W>,
     errors: &mut Watched<E>,
 ) -> Outcome
@@ -160,12 +163,14 @@ pub fn conclude<W: Write, E: Write>(
     ensures early { (IsDone outcome → ⊥) → to.new ≡ to.old }
     ensures write { IsWriteFailure result ↔ (to.new.failed ≡ true) }
     ensures line { errors.new.failed ≡ false → Appends (E.contents errors.old.device)
-        (E.contents errors.new.device) (line_over (name_in name.entry) result) }
+        (E.contents errors.new.device) (line_over (name_in name.entry) result ++ more.now) }
     ensures prefix { AppendsPrefix (E.contents errors.old.device) (E.contents errors.new.device)
-        (line_over (name_in name.entry) result) }
+        (line_over (name_in name.entry) result ++ more.now) }
 {
     let end = flushed(outcome, to);
-    let _ = write_line(name, end, errors);
+    if write_line(name, end, errors).is_ok() {
+        let _ = write_out(more, errors);
+    }
     end
 }
 
@@ -215,7 +220,8 @@ pub fn exit_status(outcome: Outcome) -> u8
     }
 }
 
-/// Writes the line of an outcome over an input that may have a name. It takes no memory.
+/// Writes the line of an outcome over an input that may have a name, if it has one. It takes no
+/// memory.
 pub(crate) fn write_line<W: Write>(
     name: Option<&str>,
     outcome: Outcome,
@@ -228,77 +234,66 @@ pub(crate) fn write_line<W: Write>(
         (line_over (name_in name.entry) outcome) }
     ensures fault { IsErr result ↔ (to.new.failed ≡ true) }
 {
-    let (name, mark) = named(name, is_on_input(outcome));
+    match outcome {
+        Outcome::Refused { line, cause } => write_refusal(name, line, cause, to),
+        Outcome::Unknown(term) => write_texts(&[UNKNOWN, term_word(term), "\n"], to),
+        Outcome::Failed(failure) => write_failure(name, failure, to),
+        _ => Ok(()),
+    }
+}
+
+/// Writes the line on a line of a deck that is refused for this cause.
+fn write_refusal<W: Write>(
+    name: Option<&str>,
+    line: u64,
+    cause: Cause,
+    to: &mut Watched<W>,
+) -> Result<(), DeviceFault>
+    requires { to.old.failed ≡ false }
+    ensures ok { OnOk result (Appends (W.contents to.old.device) (W.contents to.new.device)
+        (line_over (name_in name.entry) (Refused line cause))) }
+    ensures prefix { AppendsPrefix (W.contents to.old.device) (W.contents to.new.device)
+        (line_over (name_in name.entry) (Refused line cause)) }
+    ensures fault { IsErr result ↔ (to.new.failed ≡ true) }
+{
+    let (name, mark) = named(name, true);
     let mut buffer = Buffer::new();
-    let number = number_text(outcome, &mut buffer);
-    let (colon, word, end) = ending(outcome);
+    let number = buffer.format(line);
     write_texts(
         &[
-            program(outcome),
+            "chanv: ",
             name,
             mark,
-            text(outcome),
+            "deck line ",
             number,
-            colon,
-            word,
-            end,
+            ": ",
+            cause_word(cause),
+            "\n",
         ],
         to,
     )
 }
 
-/// The number in an outcome's line, in decimal: that of a refused line of a deck. Other outcomes
-/// have none.
-fn number_text(outcome: Outcome, buffer: &mut Buffer) -> &str
-    ensures { result.now ≡ number_of outcome }
+/// Writes the line of a failure.
+fn write_failure<W: Write>(
+    name: Option<&str>,
+    failure: Failure,
+    to: &mut Watched<W>,
+) -> Result<(), DeviceFault>
+    requires { to.old.failed ≡ false }
+    ensures ok { OnOk result (Appends (W.contents to.old.device) (W.contents to.new.device)
+        (line_over (name_in name.entry) (Failed failure))) }
+    ensures prefix { AppendsPrefix (W.contents to.old.device) (W.contents to.new.device)
+        (line_over (name_in name.entry) (Failed failure)) }
+    ensures fault { IsErr result ↔ (to.new.failed ≡ true) }
 {
-    match outcome {
-        Outcome::Refused { line, .. } => buffer.format(line),
-        _ => "",
-    }
+    let (name, mark) = named(name, row(failure).5);
+    write_texts(&["chanv: ", name, mark, line_of(failure)], to)
 }
 
-/// What ends an outcome's line, in three parts: for a refused line of a deck the cause, for an
-/// unknown word the word that is nearest. Other outcomes have nothing there.
-fn ending<'a>(outcome: Outcome) -> (&'a str, &'a str, &'a str)
-    ensures { result.0.now ++ (result.1.now ++ result.2.now) ≡ ending_of outcome }
+/// What the line of a failure says.
+fn line_of<'a>(failure: Failure) -> &'a str
+    ensures { result.now ≡ (row_of failure).line }
 {
-    match outcome {
-        Outcome::Refused { cause, .. } => (": ", cause_word(cause), "\n"),
-        Outcome::Unknown(term) => ("", term_word(term), "\n"),
-        _ => ("", "", ""),
-    }
-}
-
-/// What an outcome's line begins with, or nothing where there is none.
-fn program<'a>(outcome: Outcome) -> &'a str
-    ensures { result.now ≡ program_of outcome }
-{
-    match outcome {
-        Outcome::Refused { .. } | Outcome::Unknown(_) | Outcome::Failed(_) => "chanv: ",
-        _ => "",
-    }
-}
-
-/// Whether an outcome's line is on the input.
-fn is_on_input(outcome: Outcome) -> bool
-    ensures { result ≡ is_on_input outcome }
-{
-    match outcome {
-        Outcome::Refused { .. } => true,
-        Outcome::Failed(failure) => row(failure).5,
-        _ => false,
-    }
-}
-
-/// What the line of an outcome says, or as much of it as comes before what it names.
-fn text<'a>(outcome: Outcome) -> &'a str
-    ensures { result.now ≡ text_of outcome }
-{
-    match outcome {
-        Outcome::Refused { .. } => "deck line ",
-        Outcome::Unknown(_) => "no such word; the nearest is ",
-        Outcome::Failed(failure) => row(failure).2,
-        _ => "",
-    }
+    row(failure).2
 }

@@ -124,7 +124,7 @@ fn end_with(
 ) -> u8
     requires { IsWriteFailure outcome ↔ (output.old.failed ≡ true) }
 {
-    exit_status(conclude(name, outcome, output, &mut Watched::new(rt.stderr())))
+    exit_status(conclude(name, outcome, &[], output, &mut Watched::new(rt.stderr())))
 }
 
 /// Writes help or the version, and gives the exit status.

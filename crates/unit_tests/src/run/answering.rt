@@ -151,7 +151,7 @@ fn is_concluded(came: Outcome, end: Outcome, line: &[u8]) -> bool {
         flushes: false,
     });
     let mut errors = Watched::new(paper_of(line));
-    let found = conclude(Some("a.deck"), came, &mut to, &mut errors);
+    let found = conclude(Some("a.deck"), came, &[], &mut to, &mut errors);
     found == end && !errors.failed() && errors.into_inner().left.is_empty()
 }
 
