@@ -1,5 +1,5 @@
 -- The cause for which a line is refused is the first of the table that applies.
-use Rattle.std.proofs.Common.{◌≡◌, ℕ, ◌+◌, ◌/◌, ◌%◌, ◌<◌, ◌≤◌, Bool, true, false, cond, ltb, List, [], ◌∷◌, ◌++◌, length, map, Result, Err, Option, MatchBool, refl, sym, ap, subst, ◌∙◌, append_assoc, arith, inl, inr, lit<}
+use Rattle.std.proofs.Common.{◌≡◌, ℕ, ◌+◌, ◌/◌, ◌%◌, ◌<◌, ◌≤◌, Bool, true, false, cond, ltb, List, [], ◌∷◌, ◌++◌, length, map, Result, Err, Option, Some, None, MatchBool, refl, sym, ap, subst, ◌∙◌, append_assoc, arith, lit<}
 use Rattle.std.specs.Prelude.{◌≢◌, ◌==◌, ◌&&◌, nat_lt, nat_le}
 use Rattle.std.specs.Result.{IfErr}
 use Rattle.std.proofs.lemmas.Result.{IfErr-at_err}
@@ -8,10 +8,10 @@ use Rattle.chan_deck.specs.declared.version.VersionNumber.{VersionNumber}
 use Rattle.std.proofs.lemmas.Bool.Decides.{nat_tests}
 use Rattle.ccw_core.specs.declared.areas.Area.{Area}
 use Rattle.ckd_core.specs.Mask.{is_mask}
-use Rattle.chan_deck.specs.Item.{Item, header, device, mask, start, limit, extent, fetch, store, storage, put, end, line, Says}
+use Rattle.chan_deck.specs.Item.{Item, header, device, mask, start, limit, extent, fetch, store, storage, put, end, line, IsSaid, Says}
 use Rattle.chan_deck.specs.Image.{Image, items, puts, is_zero, extent_of, limit_line}
 use Rattle.chan_deck.specs.Refused.{last_of, is_end, is_second, has_ended, may_stand, may_follow, size_said, is_size, is_limit, is_above, is_place, Found, whole_line, part, Applies, AppliesBehindEnd, IsCause, rank}
-use Rattle.chan_deck.specs.Reading.{State, Opening, Named, OnDevice, Masked, Started, Listing, Filling, Whole, step, stands, judged, on_extent, on_put, is_empty, no_form, is_whole, Refuses}
+use Rattle.chan_deck.specs.Reading.{State, Opening, Named, OnDevice, Masked, Started, Listing, Filling, Whole, step, stands, judged, on_extent, on_put, is_empty, no_form, is_whole, taken}
 use Rattle.chan_deck.specs.declared.heading.Heading.{Heading}
 use Rattle.chan_deck.proofs.StepLemmas.{heading, lists, said, IsState, Ends, at_front, at_store, at_storage, at_put, at_end, last_of-push}
 use Rattle.chan_deck.proofs.ItemLemmas.{says_one}
@@ -278,14 +278,14 @@ item_cause s l i is says =
     (λ f. form_cause s l is (λ j other. ap (λ k. stands s k) (says_one l j i other says) ∙ f))
 
 -- a line that is refused has the cause for which it is refused
-pub line_cause : (s : State) (l : List ℕ) (c : Cause) → IsState s → Refuses s l c → IsCause (said s) (whole_line l) c
-line_cause s l c is (inl x) = IfErr-at_err (For s l) x.2 (item_cause s l x.0 is x.1)
-line_cause s l c is (inr x) = rw x.1 (form_cause s l is x.0)
+pub line_cause : (s : State) (l : List ℕ) (o : Option Item) (c : Cause) → IsState s → IsSaid l o → taken s o ≡ Err c → IsCause (said s) (whole_line l) c
+line_cause s l (Some i) c is says e = IfErr-at_err (For s l) e (item_cause s l i is says)
+line_cause s l None c is none e = IfErr-at_err (For s l) e (form_cause s l is (λ i says. absurd (none i says)))
 
 -- whatever it says
-pub all_refused : (s : State) (l : List ℕ) (c : Cause) → Refuses s l c → (i : Item) → Says l i → step s i ≡ Err c
-all_refused s l c (inl x) i says = ap (λ k. step s k) (says_one l i x.0 says x.1) ∙ x.2
-all_refused s l c (inr x) i says = rw (x.0 i says, x.1) refl
+pub all_refused : (s : State) (l : List ℕ) (o : Option Item) (c : Cause) → IsSaid l o → taken s o ≡ Err c → (i : Item) → Says l i → step s i ≡ Err c
+all_refused s l (Some j) c says e i other = ap (λ k. step s k) (says_one l i j other says) ∙ e
+all_refused s l None c none e i says = absurd (none i says)
 
 some_rank : (c : Cause) → 0 < rank c
 some_rank causes.Ended = lit< tt

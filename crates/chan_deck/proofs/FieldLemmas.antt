@@ -1,10 +1,8 @@
 -- The parts of a line: what follows a word, and two fields with a space between them.
-use Rattle.std.proofs.Common.{◌≡◌, ℕ, List, [], ◌∷◌, ◌++◌, length, length-append, Option, Some, None, MatchOption, refl, sym, ap, ◌∙◌, arith}
-use Rattle.std.specs.Prelude.{codes}
+use Rattle.std.proofs.Common.{◌≡◌, ℕ, List, [], ◌∷◌, ◌++◌, length, length-append, Option, Some, None, MatchOption, refl, ap, ◌∙◌, arith}
 use Rattle.std.specs.Int.{bytes_high_first}
 use Rattle.hex.specs.Hex.{encode_upper}
-use Rattle.ccw_core.specs.declared.areas.Area.{Area}
-use Rattle.chan_deck.specs.Item.{IsWord, Says, extent, line, put, address_digits, area_digits, cylinder_digits}
+use Rattle.chan_deck.specs.Item.{IsWord, line, put, address_digits}
 use Rattle.chan_deck.proofs.UpperDigits.{length-encode_upper}
 
 pub on_none : {A : Type 0} (r : Option A) (P : Type 0) (Q : A → Type 0) → r ≡ None → P → MatchOption r P Q
@@ -29,14 +27,9 @@ same_fields (x ∷ a) b (y ∷ c) d len e =
 pub length-address_digits : (n : ℕ) → length (address_digits n) ≡ 6
 length-address_digits n = length-encode_upper (bytes_high_first 3 n)
 
-pub extent_fields : (l fields : List ℕ) (first last : ℕ) → l ≡ codes "extent " ++ fields → Says l (extent first last) → fields ≡ cylinder_digits first ++ 32 ∷ cylinder_digits last
-extent_fields l fields first last e says = cancel (codes "extent ") fields _ (sym e ∙ says.1)
-
-pub put_fields : (l fields : List ℕ) (a : ℕ) (word : List ℕ) → l ≡ codes "put " ++ fields → Says l (put a word) → fields ≡ address_digits a ++ 32 ∷ encode_upper word
-put_fields l fields a word e says = cancel (codes "put ") fields _ (sym e ∙ says.1)
-
-pub area_fields : (w l fields : List ℕ) (a : Area) → l ≡ w ++ fields → l ≡ w ++ area_digits a → fields ≡ address_digits a.start ++ 32 ∷ address_digits a.len
-area_fields w l fields a e says = cancel w fields _ (sym e ∙ says)
+-- two fields behind a word
+pub same_behind : (w a b c d : List ℕ) → length a ≡ length c → w ++ (a ++ 32 ∷ b) ≡ w ++ (c ++ 32 ∷ d) → (a ≡ c) × (b ≡ d)
+same_behind w a b c d len e = same_fields a b c d len (cancel w _ _ e)
 
 -- each line of a put has the same length
 pub put_length : (a : ℕ) (word : List ℕ) → IsWord word → length (line (put a word)) ≡ 27

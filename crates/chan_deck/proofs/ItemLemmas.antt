@@ -1,16 +1,18 @@
 -- A line says one thing, and has no line feed in it.
-use Rattle.std.proofs.Common.{◌≡◌, ℕ, ◌+◌, ◌*◌, ◌/◌, ◌%◌, ◌^◌, ◌<◌, Bool, true, false, cond, ◌-◌, List, [], ◌∷◌, ◌++◌, get_or, take, drop, Result, Ok, Err, refl, sym, ap, ◌∙◌, arith}
+use Rattle.std.proofs.Common.{◌≡◌, ℕ, ◌+◌, ◌*◌, ◌/◌, ◌%◌, ◌^◌, ◌<◌, ◌⊎◌, Bool, true, false, cond, ◌-◌, List, [], ◌∷◌, ◌++◌, get_or, take, drop, length, Option, Some, None, Result, Ok, Err, refl, sym, ap, subst, ◌∙◌, arith, inl, inr}
 use Rattle.std.specs.Prelude.{◌==◌, ◌&&◌, not, codes}
 use Rattle.std.specs.Int.{bytes_high_first}
 use Rattle.std.specs.List.{AllByRecursion}
-use Rattle.std.proofs.lemmas.Bool.{and_parts, not-true}
-use Rattle.std.proofs.lemmas.Bool.Decides.{nat_tests}
+use Rattle.std.specs.Bool.{Decides}
+use Rattle.std.proofs.lemmas.Bool.{and_parts, cases_lt, not-true}
+use Rattle.std.proofs.lemmas.Bool.Decides.{nat_tests, Decides-eqb}
+use Rattle.std.proofs.lemmas.Slice.Eq.{bytes_eq-Decides}
 use Rattle.hex.specs.Hex.{decode_of, encode_upper, encode_with}
 use Rattle.hex.specs.declared.error.FromHexError.{FromHexError}
 use Rattle.hex.proofs.HexLemmas.{decode_of-encode_upper}
 use Rattle.ccw_core.specs.declared.areas.Area.{Area}
 use Rattle.ckd_core.specs.declared.device.Device.TheVariants.{D2311, D2314}
-use Rattle.chan_deck.specs.Item.{Item, header, device, mask, start, limit, extent, fetch, store, storage, put, end, line, HasForm, Says, IsByte, IsAddress, IsArea, byte_digits, address_digits, size_digits, limit_digits, cylinder_digits, area_digits}
+use Rattle.chan_deck.specs.Item.{Item, header, device, mask, start, limit, extent, fetch, store, storage, put, end, line, HasForm, IsSaid, Says, IsByte, IsAddress, IsArea, byte_digits, address_digits, size_digits, limit_digits, cylinder_digits, area_digits}
 use Rattle.chan_deck.specs.declared.version.VersionNumber.TheVariants as numbers
 use Rattle.chan_walk.proofs.Theory.Lists.{all_append}
 use Rattle.chan_deck.proofs.Elements.{all_drop}
@@ -128,7 +130,7 @@ abbrev tag_of : List ℕ → ℕ
 tag_of l = cond (get_or l 0 0 == 115) (get_or l 2 0 * 1000 + get_or l 4 0) (get_or l 0 0 * 1000 + get_or l 1 0)
 
 -- what a line says, if it says anything
-abbrev pub read : List ℕ → Item
+abbrev read : List ℕ → Item
 read l =
     let is : List ℕ → Bool = λ w. tag_of l == tag_of w in
     cond (is (codes "chanv")) (header (cond (get_or l 11 0 == 49) numbers.One numbers.Two))
@@ -142,7 +144,7 @@ read l =
     (cond (is (codes "storage")) (storage (address_in (48 ∷ drop 8 l)))
     (cond (is (codes "put ")) (put (address_in (take 6 (drop 4 l))) (bytes_in (drop 11 l))) end)))))))))
 
-pub read_back : (i : Item) → HasForm i → read (line i) ≡ i
+read_back : (i : Item) → HasForm i → read (line i) ≡ i
 unfolding encode_with
 read_back (header numbers.One) h = refl
 read_back (header numbers.Two) h = refl
@@ -164,3 +166,48 @@ one_item i j hi hj e = sym (read_back i hi) ∙ ap read e ∙ read_back j hj
 
 pub says_one : (l : List ℕ) (i j : Item) → Says l i → Says l j → i ≡ j
 says_one l i j hi hj = one_item i j hi.0 hj.0 (sym hi.1 ∙ hj.1)
+
+-- ---- whether a line says something
+
+-- it holds or it doesn't
+abbrev Settled : Type 0 → Type 0
+Settled P = P ⊎ (P → ⊥)
+
+by_test : (P : Type 0) (b : Bool) → Decides b P → Settled P
+by_test P true d = inl (d.0 refl)
+by_test P false d = inr (λ p. absurd (cc (d.1 p)))
+
+both : (A B : Type 0) → Settled A → Settled B → Settled (A × B)
+both A B (inl a) (inl b) = inl (a, b)
+both A B (inr none) b = inr (λ x. none x.0)
+both A B a (inr none) = inr (λ x. none x.1)
+
+under : (n bound : ℕ) → Settled (n < bound)
+under n bound = elim (cases_lt n bound) [
+  | inl lt ↦ inl lt
+  | inr le ↦ inr (λ lt. omega arith)
+]
+
+bytes_settled : (bytes : List ℕ) → Settled (AllByRecursion IsByte bytes)
+bytes_settled [] = inl tt
+bytes_settled (b ∷ bytes) = both (IsByte b) (AllByRecursion IsByte bytes) (under b 256) (bytes_settled bytes)
+
+form_settled : (i : Item) → Settled (HasForm i)
+form_settled (mask m) = under m 256
+form_settled (start a) = under a (2 ^ 24)
+form_settled (limit n) = under n 100000
+form_settled (extent a b) = both _ _ (under a 1000) (under b 1000)
+form_settled (fetch a) = both _ _ (under a.start (2 ^ 24)) (under a.len (2 ^ 24))
+form_settled (store a) = both _ _ (under a.start (2 ^ 24)) (under a.len (2 ^ 24))
+form_settled (storage n) = under n (2 ^ 28)
+form_settled (put a w) =
+    both _ _ (under a (2 ^ 24)) (both _ _ (by_test (length w ≡ 8) (length w == 8) (Decides-eqb (length w) 8)) (bytes_settled w))
+form_settled i = inl tt
+
+-- a line says something, what it is read as, or nothing
+pub line_read : (l : List ℕ) → (o : Option Item) × IsSaid l o
+line_read l =
+    elim (both (HasForm (read l)) (l ≡ line (read l)) (form_settled (read l)) (by_test _ _ (bytes_eq-Decides l (line (read l))))) [
+      | inl says ↦ (Some (read l), says)
+      | inr none ↦ (None, λ i says. none (subst (λ j. Says l j) (sym (read_back i says.0) ∙ ap read (sym says.1)) says))
+    ]

@@ -1,15 +1,16 @@
 -- What one line more does to where reading stands: it goes on, or the text is refused there, or it has spelled a deck.
-use Rattle.std.proofs.Common.{◌≡◌, ℕ, ◌+◌, ◌-◌, ◌<◌, ◌⊎◌, false, List, [], ◌∷◌, ◌++◌, length, take, drop, map, Option, Some, None, MatchOption, Result, Ok, Err, refl, sym, ap, subst, ◌∙◌, append_assoc, arith, inl, inr, length-append}
+use Rattle.std.proofs.Common.{◌≡◌, ℕ, ◌+◌, ◌-◌, ◌<◌, ◌⊎◌, false, List, [], ◌∷◌, ◌++◌, length, take, drop, map, Option, Some, None, Result, Ok, Err, refl, sym, ap, subst, ◌∙◌, append_assoc, arith, inl, inr, length-append}
 use Rattle.std.specs.Prelude.{◌==◌, position}
 use Rattle.std.proofs.lemmas.List.{append-nil, length-map, map-append}
 use Rattle.std.proofs.Math.Seq.{take-append_seam, drop-append_seam}
 use Rattle.chan_walk.proofs.Theory.Lists.{all_append}
-use Rattle.chan_deck.specs.Item.{Item, line, text, HasForm, Says}
+use Rattle.chan_deck.specs.Item.{Item, line, text, HasForm, IsSaid}
 use Rattle.chan_deck.specs.Image.{Image, items, Spells}
 use Rattle.chan_deck.specs.Refused.{split, lines, IsRefusedAt, Found, whole_line, part, found_in, found_behind, AreSaid, IsCause, IsRefused, rank}
-use Rattle.chan_deck.specs.Reading.{State, Opening, Whole, HasRead, step, taken, and_then, run, is_whole, Refuses, IsRefusal}
+use Rattle.chan_deck.specs.Reading.{State, Opening, Whole, HasRead, taken, and_then, run, is_whole, IsRefusal}
 use Rattle.chan_deck.specs.declared.error.DeckError.{DeckError}
 use Rattle.chan_deck.specs.declared.error.DeckError.TheVariants as errors
+use Rattle.chan_deck.proofs.ItemLemmas.{line_read}
 use Rattle.chan_deck.proofs.LineFeeds.{some_line, no_line}
 use Rattle.chan_deck.proofs.StepLemmas.{said}
 use Rattle.chan_deck.proofs.DeckRuns.{run-append, reads_deck}
@@ -23,10 +24,11 @@ pub starts : (t : List ℕ) → HasRead t Opening 1 t
 starts t = record { said = []; forms = tt; runs = refl; parts = refl; number = refl }
 
 -- a line that is taken
-pub takes : (t : List ℕ) (s next : State) (n : ℕ) (rest l after : List ℕ) (i : Item)
-    → HasRead t s n rest → split rest ≡ (l ∷ (split after).0, (split after).1) → Says l i
-    → step s i ≡ Ok next → HasRead t next (n + 1) after
-takes t s next n rest l after i st e says goes = record {
+pub takes : (t : List ℕ) (s next : State) (n : ℕ) (rest l after : List ℕ) (o : Option Item)
+    → HasRead t s n rest → split rest ≡ (l ∷ (split after).0, (split after).1) → IsSaid l o
+    → taken s o ≡ Ok next → HasRead t next (n + 1) after
+takes t s next n rest l after None st e none goes = absurd cc
+takes t s next n rest l after (Some i) st e says goes = record {
   said = st.said ++ i ∷ [];
   forms = all_append HasForm st.said (i ∷ []) st.forms (says.0, tt);
   runs = run-append Opening st.said (i ∷ []) ∙ ap (λ r. and_then r (λ q. run q (i ∷ []))) st.runs ∙ ap (λ r. and_then r (λ q. Ok q)) goes;
@@ -62,30 +64,16 @@ with_cause t s n rest found c st e h = (
 )
 
 -- a line that is refused
-pub refuses_line : (t : List ℕ) (s : State) (n : ℕ) (rest l after : List ℕ) (c : Cause) → HasRead t s n rest → split rest ≡ (l ∷ (split after).0, (split after).1) → Refuses s l c → IsRefused t n c
-refuses_line t s n rest l after c st e refuses =
-    let all = all_refused s l c refuses in
+pub refuses_line : (t : List ℕ) (s : State) (n : ℕ) (rest l after : List ℕ) (o : Option Item) (c : Cause)
+    → HasRead t s n rest → split rest ≡ (l ∷ (split after).0, (split after).1) → IsSaid l o
+    → taken s o ≡ Err c → IsRefused t n c
+refuses_line t s n rest l after o c st e said bad =
+    let all = all_refused s l o c said bad in
     record {
       none = λ d spells. no_front t s n rest l after c st e all (whole_front t n d spells);
       at_line = refused_at_line t s n rest l after c st e all;
-      for_cause = with_cause t s n rest (whole_line l) c st (ap (λ (p : List (List ℕ) × List ℕ). found_in p.0 p.1) e) (line_cause s l c (is_state t s n rest st) refuses);
+      for_cause = with_cause t s n rest (whole_line l) c st (ap (λ (p : List (List ℕ) × List ℕ). found_in p.0 p.1) e) (line_cause s l o c (is_state t s n rest st) said bad);
     }
-
--- a line that says this, or nothing
-abbrev pub IsSaid : List ℕ → Option Item → Type 0 → Type 0
-IsSaid l o P = MatchOption o (P × ((i : Item) → Says l i → ⊥)) (λ i. Says l i)
-
-pub takes_line : (t : List ℕ) (s next : State) (n : ℕ) (rest l after : List ℕ) (o : Option Item) (P : Type 0)
-    → HasRead t s n rest → split rest ≡ (l ∷ (split after).0, (split after).1) → IsSaid l o P
-    → taken s o ≡ Ok next → HasRead t next (n + 1) after
-takes_line t s next n rest l after (Some i) P st e says goes = takes t s next n rest l after i st e says goes
-takes_line t s next n rest l after None P st e none goes = absurd cc
-
-pub refused_line : (t : List ℕ) (s : State) (n : ℕ) (rest l after : List ℕ) (o : Option Item) (P : Type 0) (c : Cause)
-    → HasRead t s n rest → split rest ≡ (l ∷ (split after).0, (split after).1) → IsSaid l o P
-    → taken s o ≡ Err c → IsRefused t n c
-refused_line t s n rest l after (Some i) P c st e says bad = refuses_line t s n rest l after c st e (inl (i, says, bad))
-refused_line t s n rest l after None P c st e none bad = refuses_line t s n rest l after c st e (inr (λ i says. absurd (none.1 i says), cc))
 
 not_whole : {A : Type 0} (s : State) (d : Image) (r : Result State Cause) → is_whole s ≡ false → r ≡ Ok s → r ≡ Ok (Whole d) → A
 not_whole s d r e f g =
@@ -118,11 +106,17 @@ first_by t None e = inr (no_line t (sym e))
 pub stands_first : (t : List ℕ) → StandsFirst t
 stands_first t = first_by t (position (λ b. b == 10) t) refl
 
+none_more : (d : Image) (o : Option Item) → taken (Whole d) o ≡ Err causes.After
+none_more d None = refl
+none_more d (Some i) = refl
+
 -- a byte follows `end`
 pub refuses_more : (t : List ℕ) (d : Image) (n b : ℕ) (rest : List ℕ) → HasRead t (Whole d) n (b ∷ rest) → IsRefused t n causes.After
 refuses_more t d n b rest st =
     elim (stands_first (b ∷ rest)) [
-      | inl x ↦ refuses_line t (Whole d) n (b ∷ rest) x.0 x.1 causes.After st x.2 (inr (λ i says. refl, refl))
+      | inl x ↦
+          let read = line_read x.0 in
+          refuses_line t (Whole d) n (b ∷ rest) x.0 x.1 read.0 causes.After st x.2 read.1 (none_more d read.0)
       | inr e ↦
           record {
             none = λ f spells. absurd (omega (arith, ap length (sym (ap (λ (p : List (List ℕ) × List ℕ). p.1) e) ∙ (deck_read t (Whole d) n (b ∷ rest) f st spells (ap (λ (p : List (List ℕ) × List ℕ). p.0) e)).1)));

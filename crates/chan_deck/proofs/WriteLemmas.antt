@@ -1,5 +1,5 @@
 -- What is written, line by line.
-use Rattle.std.proofs.Common.{codes, ◌≡◌, ℕ, zero, suc, replicate, ◌%◌, length-append, ◌+◌, ◌-◌, ◌*◌, ◌/◌, ◌<◌, ◌≤◌, Bool, true, false, cond, List, [], ◌∷◌, ◌++◌, length, take, drop, map, get_or, refl, sym, ap, ◌∙◌, append_assoc, arith}
+use Rattle.std.proofs.Common.{codes, ◌≡◌, ℕ, suc, replicate, ◌%◌, length-append, ◌+◌, ◌-◌, ◌*◌, ◌/◌, ◌<◌, ◌≤◌, Bool, true, false, cond, List, [], ◌∷◌, ◌++◌, length, take, drop, map, get_or, refl, sym, ap, ◌∙◌, append_assoc, arith}
 use Rattle.std.specs.List.{flat_map}
 use Rattle.std.proofs.lemmas.List.{take_more, drop-drop, map-append, append-nil, length-replicate}
 use Rattle.ccw_core.specs.declared.areas.Area.{Area}
@@ -8,6 +8,7 @@ use Rattle.chan_deck.specs.Image.{Image, extent_of, is_zero, puts, spelling, hea
 use Rattle.chan_walk.specs.Rows.{Listed}
 use Rattle.chan_deck.specs.Needs.{granting, in_six_digits, keep_line, needs_text}
 use Rattle.chan_deck.proofs.FrontLemmas.{text-append}
+use Rattle.chan_deck.proofs.PutLemmas.{puts-append, puts-zero}
 
 text_parts : (a b : List Item) → text (map line (a ++ b)) ≡ text (map line a) ++ text (map line b)
 text_parts a b = ap text (map-append line a b) ∙ text-append (map line a) (map line b)
@@ -69,18 +70,8 @@ no_puts_left N i a S out le =
 -- zeros in front are passed over
 past_front : (k n a : ℕ) (S : List ℕ)
     → puts (k + n) a (replicate (8 * k) 0 ++ S) ≡ puts n (a + 8 * k) S
-unfolding puts
-past_front zero n a S =
-    let none : zero + n ≡ n = omega arith in
-    let here : a ≡ a + 8 * zero = omega arith in
-    ap (λ m. puts m a S) none ∙ ap (λ b. puts n b S) here
-past_front (suc k) n a S =
-    let one : suc k + n ≡ suc (k + n) = omega arith in
-    let eight : 8 * suc k ≡ suc (suc (suc (suc (suc (suc (suc (suc (8 * k)))))))) = omega arith in
-    let at : a + 8 + 8 * k ≡ a + 8 * suc k = omega arith in
-    ap (λ m. puts m a (replicate (8 * suc k) 0 ++ S)) one
-    ∙ ap (λ m. puts (suc (k + n)) a (replicate m 0 ++ S)) eight
-    ∙ past_front k n (a + 8) S ∙ ap (λ b. puts n b S) at
+past_front k n a S =
+    rw (puts-append k n a (replicate (8 * k) 0) S (length-replicate (8 * k) 0), puts-zero k (8 * k) a) refl
 
 pub length_behind : (at : ℕ) (S : List ℕ) → length (replicate at 0 ++ S) ≡ at + length S
 length_behind at S = length-append (replicate at 0) S ∙ ap (λ m. m + length S) (length-replicate at 0)

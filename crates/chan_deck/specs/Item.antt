@@ -1,5 +1,5 @@
 -- What a line of a deck says, and the one way to spell it.
-use Rattle.std.specs.Prelude.{ℕ, ◌+◌, ◌/◌, ◌%◌, ◌<◌, ◌^◌, ◌≡◌, List, [], ◌∷◌, ◌++◌, length, drop}
+use Rattle.std.specs.Prelude.{ℕ, ◌+◌, ◌/◌, ◌%◌, ◌<◌, ◌^◌, ◌≡◌, ◌≢◌, List, [], ◌∷◌, ◌++◌, length, drop}
 use Rattle.std.specs.Prelude.{codes, Option, Some, None, MatchOption}
 use Rattle.std.specs.Int.{bytes_high_first, w64, to_be_bytes}
 use Rattle.std.specs.List.{flat_map, AllByRecursion}
@@ -123,16 +123,13 @@ said_by (found.Put a n) = Some (put a (to_be_bytes w64 n))
 said_by found.End = Some end
 said_by i = None
 
--- the number of a put has eight bytes
-abbrev pub Fits : said.Item → Type 0
-Fits (found.Put a n) = n < 2 ^ 64
-Fits i = Unit {0}
+-- the line says this, or nothing
+abbrev pub IsSaid : List ℕ → Option Item → Type 0
+IsSaid l o = MatchOption o ((i : Item) → Says l i → ⊥) (λ i. Says l i)
 
--- the line says this, or has none of the forms
+-- this was read of the line
 abbrev pub Reads : List ℕ → said.Item → Type 0
-Reads l i =
-    Fits i
-    × MatchOption (said_by i) ((i ≡ found.Formless) × ((j : Item) → Says l j → ⊥)) (λ j. Says l j)
+Reads l i = (i ≢ found.Missing) × IsSaid l (said_by i)
 
 -- lines as a text: each has a line feed at its end
 abbrev pub text : List (List ℕ) → List ℕ

@@ -1,5 +1,5 @@
 -- Reading a deck line by line: what the lines so far have said, and what one line more does to it.
-use Rattle.std.specs.Prelude.{ℕ, ◌+◌, ◌-◌, ◌%◌, ◌<◌, ◌≡◌, ◌==◌, ◌&&◌, ◌⊎◌, nat_lt, nat_le, not, Bool}
+use Rattle.std.specs.Prelude.{ℕ, ◌+◌, ◌-◌, ◌%◌, ◌<◌, ◌≡◌, ◌==◌, ◌&&◌, nat_lt, nat_le, not, Bool}
 use Rattle.std.specs.Prelude.{true, false, List, [], ◌∷◌, ◌++◌, length, replicate, map}
 use Rattle.std.specs.Prelude.{if◌then◌else◌, Option, Some, None, Result, Ok, Err, MatchResult}
 use Rattle.std.specs.List.{AllByRecursion}
@@ -7,7 +7,7 @@ use Rattle.ccw_core.specs.declared.areas.Area.{Area}
 use Rattle.ckd_core.specs.declared.device.Device.{Device}
 use Rattle.ckd_core.specs.Mask.{is_mask}
 use Rattle.chan_deck.specs.Item.{Item, header, device, mask, start, limit, extent, fetch, store}
-use Rattle.chan_deck.specs.Item.{storage, put, end, line, HasForm, Says, said_by}
+use Rattle.chan_deck.specs.Item.{storage, put, end, line, HasForm, said_by}
 use Rattle.chan_deck.specs.Image.{Image, is_zero}
 use Rattle.chan_deck.specs.Refused.{split, is_size, is_limit, IsRefused}
 use Rattle.chan_deck.specs.declared.version.VersionNumber.{VersionNumber}
@@ -156,13 +156,6 @@ pub record HasRead (t : List ℕ) (s : State) (n : ℕ) (rest : List ℕ) : Type
   pub runs : run Opening said ≡ Ok s
   pub parts : split t ≡ (map line said ++ (split rest).0, (split rest).1)
   pub number : n ≡ length said + 1
-
--- the line is refused in the state: by what it says, or since it has none of the forms that may
--- stand
-abbrev pub Refuses : State → List ℕ → Cause → Type 0
-Refuses s l c =
-    ((i : Item) × Says l i × (step s i ≡ Err c))
-    ⊎ (((i : Item) → Says l i → stands s i ≡ false) × (c ≡ no_form s))
 
 -- the error is that of the text, or says that an allocation failed
 abbrev pub IsRefusal : List ℕ → DeckError → Type 0

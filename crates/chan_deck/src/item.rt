@@ -56,12 +56,15 @@ fn is_word(line: &[u8], word: &[u8]) -> bool
     line == word
 }
 
-/// Two fields with a space between them, the first of a given width.
-fn two_fields(fields: &[u8], width: usize) -> Option<(&[u8], &[u8])>
+/// Two fields behind a word, with a space between them, the first of a given width.
+fn two_fields<'a>(line: &'a [u8], word: &[u8], width: usize) -> Option<(&'a [u8], &'a [u8])>
     ensures { MatchOption result
-        ((first second : List ℕ) → length first ≡ width → fields.now ≡ first ++ 32 ∷ second → ⊥)
-        (λ found. (length found.0.now ≡ width) × (fields.now ≡ found.0.now ++ 32 ∷ found.1.now)) }
+        ((first second : List ℕ) → length first ≡ width
+        → line.now ≡ word.now ++ (first ++ 32 ∷ second) → ⊥)
+        (λ found. (length found.0.now ≡ width)
+        × (line.now ≡ word.now ++ (found.0.now ++ 32 ∷ found.1.now))) }
 {
+    let fields = behind(line, word)?;
     if fields.len() < width {
         return None;
     }
@@ -133,8 +136,7 @@ fn extent_of(line: &[u8]) -> Option<(u16, u16)>
         ((first last : ℕ) → Says line.now (item.extent first last) → ⊥)
         (λ pair. Says line.now (item.extent pair.0 pair.1)) }
 {
-    let fields = behind(line, b"extent ")?;
-    let (first, last) = two_fields(fields, 3)?;
+    let (first, last) = two_fields(line, b"extent ", 3)?;
     let first = cylinder_of(first)?;
     let last = cylinder_of(last)?;
     Some((first, last))
@@ -146,8 +148,7 @@ fn area_of(line: &[u8], word: &[u8]) -> Option<Area>
         ((a : Area) → IsArea a → line.now ≡ word.now ++ area_digits a → ⊥)
         (λ a. IsArea a × (line.now ≡ word.now ++ area_digits a)) }
 {
-    let fields = behind(line, word)?;
-    let (start, len) = two_fields(fields, 6)?;
+    let (start, len) = two_fields(line, word, 6)?;
     let start = address_of(start)?;
     let len = address_of(len)?;
     Some(Area { start, len })
@@ -165,16 +166,14 @@ pub(crate) fn storage_of(line: &[u8]) -> Option<u32>
 
 /// The address of a put, and its eight bytes as a number.
 pub(crate) fn put_of(line: &[u8]) -> Option<(u32, u64)>
-    ensures line { MatchOption result
+    ensures { MatchOption result
         ((a : ℕ) (word : List ℕ) → Says line.now (put a word) → ⊥)
         (λ found. Says line.now (put found.0 (to_be_bytes w64 found.1))) }
-    ensures fits { IfSome result (λ found. found.1 < 2 ^ 64) }
 {
     if line.len() != PUT_LINE {
         return None;
     }
-    let fields = behind(line, b"put ")?;
-    let (address, word) = two_fields(fields, 6)?;
+    let (address, word) = two_fields(line, b"put ", 6)?;
     let address = address_of(address)?;
     let word = word_of(word)?;
     Some((address, word))

@@ -80,7 +80,6 @@ pub(crate) struct Cursor<'a> {
 impl<'a> Cursor<'a> {
     ghost use Rattle.std.specs.Prelude.{ℕ, List, MatchResult};
     ghost use Rattle.chan_deck.specs.Image.{Image, Spells};
-    ghost use Rattle.chan_deck.specs.Item.{Fits};
     ghost use Rattle.chan_deck.specs.Reading.{IsNext, IsRefusal, HasReadTo, Opening, Shortens};
     ghost use Rattle.chan_deck.specs.Reading.{Whole, refusal};
     ghost use Rattle.chan_deck.specs.declared.error.DeckError.TheVariants as errors;
@@ -100,7 +99,6 @@ impl<'a> Cursor<'a> {
     #[inline(always)]
     pub(crate) fn next_item(&mut self) -> Item
         ensures next { IsNext self.old result self.new }
-        ensures fits { Fits result }
         ensures shorter { Shortens (length self.old.rest.now) result
             (length self.new.rest.now) }
     {

@@ -1,9 +1,8 @@
-use Rattle.std.proofs.Common.{refl}
 use Rattle.chan_deck.specs.Item.{header, device, mask, start, limit, extent, fetch, store, storage, put, end}
 use Rattle.chan_deck.proofs.item.other_item.Goals as goal
 
 pub returns : goal.returns
-returns c = (tt, (refl, other))
+returns c = ((λ e. absurd cc), other)
   where
     other : (j : Rattle.chan_deck.specs.Item.Item) → Rattle.chan_deck.specs.Item.Says c.args.line.now j → ⊥
     other (fetch a) says = c.in_default-area_of.ensures a says.0 says.1

@@ -13,7 +13,6 @@ loop-address-preserved c =
     let S = c.loop-address.storage in
     let a = c.in-Put.address in
     let item = rw c.in-Put.is at c.next_item-item.ensures.next in
-    let fits = rw c.in-Put.is at c.next_item-item.ensures.fits in
     let word = to_be_bytes w64 c.in-Put.word in
     let new = c.write_at.new.storage in
     let is : new ≡ (take a S ++ word) ++ drop (a + length word) S = subst (λ w. new ≡ (take a S ++ w) ++ drop (a + length w) S) c.to_be_bytes.ensures c.write_at.ensures in
@@ -21,7 +20,7 @@ loop-address-preserved c =
     record {
       told = λ h es fs ss t st.
           item.takes (Filling h es fs ss (length S) (take c.loop-address.next S)) (Filling h es fs ss (length new) (take (a + 8) new))
-          (put_goes h es fs ss a c.loop-address.next S new word (omega arith) (omega arith) (omega arith) (some_word c.in-Put.word fits c.if-word-eq0.false) w) t (c.loop-address.invariant.told h es fs ss t st);
+          (put_goes h es fs ss a c.loop-address.next S new word (omega arith) (omega arith) (omega arith) (some_word c.in-Put.word (omega arith) c.if-word-eq0.false) w) t (c.loop-address.invariant.told h es fs ss t st);
       behind = w.behind;
       within = omega (arith, w.len);
       same = w.len ∙ c.loop-address.invariant.same;

@@ -4,13 +4,13 @@ use Rattle.chan_deck.specs.Reading.{IsRefusal, refusal}
 use Rattle.chan_deck.specs.declared.cause.Cause.{Cause}
 use Rattle.chan_deck.specs.declared.error.DeckError.TheVariants as errors
 use Rattle.chan_deck.specs.declared.item.Item.{Item}
-use Rattle.chan_deck.specs.declared.item.Item.TheVariants.{Missing, Formless}
-use Rattle.chan_deck.proofs.RefusalLemmas.{takes_line, refused_line, refuses_end}
+use Rattle.chan_deck.specs.declared.item.Item.TheVariants.{Missing}
+use Rattle.chan_deck.proofs.RefusalLemmas.{takes, refuses_line, refuses_end}
 use Rattle.chan_deck.proofs.lines.Cursor.next_item.Goals as goal
 
 -- what was read of a line is refused at that line
 at_line : (n : ℕ) (l : List ℕ) (i : Item) (cause : Cause) → Reads l i → errors.At n cause ≡ refusal n i cause
-at_line n l Missing cause reads = absurd (cc reads.1.0)
+at_line n l Missing cause reads = absurd (reads.0 refl)
 at_line n l i cause reads = refl
 
 pub returns-in_default-clause-next : goal.returns-in_default-clause-next
@@ -25,8 +25,8 @@ returns-clause-next c =
     let parts = rw (c.in-Some.line-is, c.in-Some.rest-is) at c.in-Some.ensures.some in
     let o = said_by c.read.result in
     record {
-      takes = λ s next goes t st. takes_line t s next n c.args.self.now.rest.now c.in-Some.line.now c.in-Some.rest.now o (c.read.result ≡ Formless) st parts c.read.ensures.1 goes;
+      takes = λ s next goes t st. takes t s next n c.args.self.now.rest.now c.in-Some.line.now c.in-Some.rest.now o st parts c.read.ensures.1 goes;
       refuses = λ s cause open_yet bad t st.
           subst (λ e. IsRefusal t e) (at_line n c.in-Some.line.now c.read.result cause c.read.ensures)
-          (refused_line t s n c.args.self.now.rest.now c.in-Some.line.now c.in-Some.rest.now o (c.read.result ≡ Formless) cause st parts c.read.ensures.1 bad);
+          (refuses_line t s n c.args.self.now.rest.now c.in-Some.line.now c.in-Some.rest.now o cause st parts c.read.ensures.1 bad);
     }
