@@ -1,9 +1,9 @@
 -- What the lines before a refused line say, line by line.
-use Rattle.std.proofs.Common.{◌≡◌, ◌≢◌, ℕ, ◌+◌, ◌<◌, ◌≤◌, Bool, true, if◌then◌else◌, List, [], ◌∷◌, ◌++◌, length, take, drop, map, Option, Some, None, MatchOption, is_some, not, refl, sym, ap, subst, ◌∙◌, arith, append_assoc, length-append}
+use Rattle.std.proofs.Common.{◌≡◌, ◌≢◌, ℕ, ◌+◌, ◌<◌, ◌≤◌, Bool, true, if◌then◌else◌, List, [], ◌∷◌, ◌++◌, length, take, drop, map, Option, Some, None, is_some, not, refl, sym, ap, subst, ◌∙◌, arith, append_assoc, length-append}
 use Rattle.std.specs.List.{AllByRecursion}
 use Rattle.std.proofs.lemmas.List.{append-nil, append_cancel_left, take-append-drop, take-append-le, take_all}
 use Rattle.chan_deck.specs.Hint.{AreBefore, IsBehind, item_in, size_in}
-use Rattle.chan_deck.specs.Item.{Item, header, device, mask, start, limit, extent, fetch, store, storage, put, end, line, HasForm, Says, Reads, said_by}
+use Rattle.chan_deck.specs.Item.{Item, header, device, mask, start, limit, extent, fetch, store, storage, put, end, line, HasForm, IsSaid, Says, Reads, said_by}
 use Rattle.chan_deck.specs.Reading.{is_empty}
 use Rattle.chan_deck.specs.Refused.{AreSaid, found_behind, found_in, is_second, last_of, lines, part, split, whole_line}
 use Rattle.chan_deck.specs.declared.hint.Before.{Before}
@@ -74,10 +74,10 @@ last_line (k ∷ ls) l (i ∷ is) forms e =
 
 -- what a line reads as is what it says
 read_as : (l : List ℕ) (r : said.Item) (i : Item) → Reads l r → Says l i → said_by r ≡ Some i
-read_as l r i (fits, reads) says = go (said_by r) reads
+read_as l r i reads says = go (said_by r) reads.1
   where
-    go : (o : Option Item) → MatchOption o ((r ≡ said.TheVariants.Formless) × ((j : Item) → Says l j → ⊥)) (λ j. Says l j) → o ≡ Some i
-    go None none = absurd (none.1 i says)
+    go : (o : Option Item) → IsSaid l o → o ≡ Some i
+    go None none = absurd (none i says)
     go (Some j) is = ap Some (says_one l j i is says)
 
 -- ---- lines
