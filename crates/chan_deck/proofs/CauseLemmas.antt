@@ -37,16 +37,7 @@ never false = refl
 stands_at : (s : State) (o : Option Item) (i : Item) → Ends s o → may_stand (is_second (said s)) o i ≡ stands s i
 stands_at _ _ (extent a b) (at_store h e es fs s ss x) = sym (never (is_empty fs))
 stands_at _ _ (header h) at_front = refl
-stands_at _ _ (device d) at_front = refl
-stands_at _ _ (mask m) at_front = refl
-stands_at _ _ (start a) at_front = refl
-stands_at _ _ (limit n) at_front = refl
-stands_at _ _ (extent a b) at_front = refl
-stands_at _ _ (fetch a) at_front = refl
-stands_at _ _ (store a) at_front = refl
-stands_at _ _ (storage n) at_front = refl
-stands_at _ _ (put a w) at_front = refl
-stands_at _ _ end at_front = refl
+stands_at _ _ i at_front = refl
 stands_at _ _ _ _ = refl
 
 -- the forms that may stand behind what was said are those that may stand where reading stands

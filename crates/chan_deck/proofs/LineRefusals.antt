@@ -3,15 +3,12 @@ use Rattle.std.proofs.Common.{◌≡◌, ℕ, true, cond, List, [], ◌∷◌, l
 use Rattle.chan_deck.specs.Refused.{is_size}
 use Rattle.ccw_core.specs.declared.areas.Area.{Area}
 use Rattle.ckd_core.specs.declared.device.Device.{Device}
-use Rattle.chan_deck.specs.Item.{storage, limit, said_by}
+use Rattle.chan_deck.specs.Item.{storage, said_by}
 use Rattle.chan_deck.specs.Reading.{Opening, Named, OnDevice, Masked, Started, Listing, Filling, step, taken}
 use Rattle.chan_deck.specs.declared.item.Item.{Item}
 use Rattle.chan_deck.specs.declared.item.Item.TheVariants as found
 use Rattle.chan_deck.specs.declared.heading.Heading.{Heading}
 use Rattle.chan_deck.specs.declared.version.VersionNumber.{VersionNumber}
-use Rattle.chan_deck.specs.declared.version.Version.TheVariants.{Two}
-use Rattle.chan_walk.specs.Limit.{IsLimit}
-use Rattle.std.proofs.lemmas.Bool.{le-leb}
 use Rattle.chan_deck.specs.declared.cause.Cause.TheVariants as causes
 
 -- ---- forms that may not stand
@@ -36,27 +33,12 @@ pub no_limit : (v : Device) (m a : ℕ) (i : Item) → ((n : ℕ) → i ≡ foun
 no_limit v m a (found.Limit n) none = absurd (none n refl)
 no_limit v m a i none = refl
 
-pub no_list : (h : Heading) (es : List (ℕ × ℕ)) (fs ss : List Area) (i : Item)
-    → ((a b : ℕ) → i ≡ found.Extent a b → ⊥) → ((a : Area) → i ≡ found.Fetch a → ⊥)
-    → ((a : Area) → i ≡ found.Store a → ⊥) → ((n : ℕ) → i ≡ found.Storage n → ⊥)
-    → taken (Listing h es fs ss) (said_by i) ≡ Err causes.Form
-no_list h es fs ss (found.Extent a b) extents fetches stores sizes = absurd (extents a b refl)
-no_list h es fs ss (found.Fetch a) extents fetches stores sizes = absurd (fetches a refl)
-no_list h es fs ss (found.Store a) extents fetches stores sizes = absurd (stores a refl)
-no_list h es fs ss (found.Storage n) extents fetches stores sizes = absurd (sizes n refl)
-no_list h es fs ss i extents fetches stores sizes = refl
-
 pub no_put : (h : Heading) (es : List (ℕ × ℕ)) (fs ss : List Area) (n : ℕ) (bytes : List ℕ) (i : Item)
     → ((a w : ℕ) → i ≡ found.Put a w → ⊥) → (i ≡ found.End → ⊥)
     → taken (Filling h es fs ss n bytes) (said_by i) ≡ Err causes.Form
 no_put h es fs ss n bytes (found.Put a w) puts ends = absurd (puts a w refl)
 no_put h es fs ss n bytes found.End puts ends = absurd (ends refl)
 no_put h es fs ss n bytes i puts ends = refl
-
--- ---- conditions
-
-pub good_limit : (v : Device) (m a n : ℕ) → IsLimit n → step (Started v m a) (limit n) ≡ Ok (Listing (record { version = Two n; device = v; mask = m; start = a }) [] [] [])
-good_limit v m a n is = rw (le-leb 1 n is.0, le-leb n 65536 is.1) refl
 
 pub good_size : (h : Heading) (fs ss : List Area) (es : List (ℕ × ℕ)) (n : ℕ) → 0 < length es → is_size n ≡ true → step (Listing h es fs ss) (storage n) ≡ Ok (Filling h es fs ss n [])
 good_size h fs ss [] n some e = absurd (omega arith)

@@ -3,9 +3,8 @@ use Rattle.std.proofs.Common.{◌≡◌, ℕ, zero, suc, ◌*◌, ◌/◌, ◌%�
 use Rattle.std.specs.Prelude.{◌==◌, nat_lt, is_some, not}
 use Rattle.std.specs.List.{AllByRecursion}
 use Rattle.std.proofs.lemmas.Bool.{eqb-true, ltb-true, lt-ltb, le-ltb, cases_lt, and_parts}
-use Rattle.chan_deck.proofs.Results.{same_ok}
-use Rattle.hex.specs.Hex.{IsBytes, decode_of, encode_upper, encode_with, upper_digits}
-use Rattle.hex.proofs.HexLemmas.{length-encode_with, decode_of-encode_upper}
+use Rattle.hex.specs.Hex.{IsBytes, encode_upper, encode_with, upper_digits}
+use Rattle.hex.proofs.HexLemmas.{length-encode_with}
 use Rattle.chan_deck.specs.Digits.{IsValue}
 use Rattle.chan_deck.specs.declared.digits.TheConstants.{VALUES}
 use Rattle.chan_deck.specs.Item.{IsByte}
@@ -82,11 +81,6 @@ bytes_at (b ∷ bytes) h (suc i) = bytes_at bytes h.1 i
 
 pub length-encode_upper : (bytes : List ℕ) → length (encode_upper bytes) ≡ 2 * length bytes
 length-encode_upper bytes = length-encode_with upper_digits bytes
-
--- digits are those of one list of bytes
-pub encoded_one : (x y : List ℕ) → AllByRecursion IsByte x → AllByRecursion IsByte y → encode_upper x ≡ encode_upper y → x ≡ y
-encoded_one x y hx hy e =
-    same_ok x y (sym (decode_of-encode_upper x (bytes_at x hx)) ∙ ap decode_of e ∙ decode_of-encode_upper y (bytes_at y hy))
 
 -- ---- the first digit of four bytes
 

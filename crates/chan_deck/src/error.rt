@@ -1,7 +1,7 @@
 //! The error of reading a deck.
 
 use crate::cause::Cause;
-use std::alloc::{AllocError, AllocFailed};
+use std::alloc::AllocError;
 use thiserror::Error;
 
 /// Why a text gives no deck.
@@ -23,17 +23,6 @@ impl From<AllocError> for DeckError {
     ghost from_gives = { λ _ e. e ≡ Memory };
 
     fn from(_error: AllocError) -> DeckError {
-        DeckError::Memory
-    }
-}
-
-impl<T: Drop> From<AllocFailed<T>> for DeckError {
-    ghost use Rattle.std.specs.Prelude.{◌≡◌};
-    ghost use Rattle.chan_deck.specs.declared.error.DeckError.TheVariants.{Memory};
-
-    ghost from_gives = { λ _ e. e ≡ Memory };
-
-    fn from(_error: AllocFailed<T>) -> DeckError {
         DeckError::Memory
     }
 }

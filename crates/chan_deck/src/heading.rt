@@ -21,7 +21,7 @@ pub(crate) struct Heading {
     pub(crate) start: u32,
 }
 
-/// The version, which in version 2 the line of the limit on places completes.
+/// The version. In version 2 the next line says the limit on places.
 fn read_version(number: VersionNumber, cursor: &mut Cursor) -> Result<Version, DeckError>
     ensures { (v : Device) (m a : ℕ) → LeadsOrFails (on_start number v m a) cursor.old result
         (λ x. Listing (record { version = x; device = v; mask = m; start = a }) [] [] [])
@@ -40,7 +40,7 @@ fn read_version(number: VersionNumber, cursor: &mut Cursor) -> Result<Version, D
     }
 }
 
-/// The lines from the header to that of the start or of the limit.
+/// Reads the lines from the header to the start, and in version 2 the limit.
 pub(crate) fn read_heading(cursor: &mut Cursor) -> Result<Heading, DeckError>
     ensures { LeadsOrFails Opening cursor.old result (λ h. Listing h [] [] []) cursor.new }
 {

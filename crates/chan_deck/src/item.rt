@@ -56,7 +56,7 @@ fn is_word(line: &[u8], word: &[u8]) -> bool
     line == word
 }
 
-/// Two fields behind a word, with a space between them, the first of a given width.
+/// Two fields after a word, with a space between them. The first has the given width.
 fn two_fields<'a>(line: &'a [u8], word: &[u8], width: usize) -> Option<(&'a [u8], &'a [u8])>
     ensures { MatchOption result
         ((first second : List ℕ) → length first ≡ width
@@ -179,7 +179,7 @@ pub(crate) fn put_of(line: &[u8]) -> Option<(u32, u64)>
     Some((address, word))
 }
 
-/// What a line says that isn't a put.
+/// What a line says, if it isn't a put.
 fn other_item(line: &[u8]) -> Item
     requires { (a : ℕ) (word : List ℕ) → Says line.now (put a word) → ⊥ }
     ensures { Reads line.now result }

@@ -110,7 +110,7 @@ impl<'a> Cursor<'a> {
         Item::read(line)
     }
 
-    /// The refusal of the line that was read last, or of the text's end where none was left.
+    /// The refusal of the line that was read last; if no whole line was left, of the text's end.
     pub(crate) fn refused(&self, item: Item, cause: Cause) -> DeckError
         ensures { result ≡ refusal self.now.line item cause }
     {
@@ -123,7 +123,7 @@ impl<'a> Cursor<'a> {
         }
     }
 
-    /// The refusal of the line behind the one that was read last.
+    /// The refusal of the line after the one that was read last.
     fn refused_next(&self, cause: Cause) -> DeckError
         ensures { result ≡ errors.At (self.now.line + 1) cause }
     {

@@ -2,7 +2,6 @@
 
 ghost use Rattle.std.specs.Prelude.{◌≡◌, [], IfOk};
 ghost use Rattle.chan_deck.specs.Item.{said_by};
-ghost use Rattle.chan_deck.specs.Refused.{is_size as size_test};
 ghost use Rattle.chan_deck.specs.Reading.{Filling, LeadsOrFails, Listing, listed, taken, with_lists};
 ghost use Rattle.chan_deck.specs.declared.heading.Heading.{Heading};
 
@@ -16,13 +15,6 @@ use std::alloc::{AllocError, Global};
 
 /// The most bytes that storage may have: addresses have 24 bits.
 const STORAGE_LIMIT: u32 = 16_777_216;
-
-/// Whether storage may have so many bytes.
-fn is_size(n: u32) -> bool
-    ensures { result ≡ size_test n }
-{
-    n % 8 == 0 && n <= STORAGE_LIMIT
-}
 
 /// The lists of a deck, as far as they have been read.
 #[derive(Drop)]
@@ -42,18 +34,6 @@ enum Listed {
 }
 
 impl Lists {
-    fn new(alloc: Global) -> Lists
-        ensures extents { result.extents.items ≡ [] }
-        ensures fetch { result.fetch.items ≡ [] }
-        ensures store { result.store.items ≡ [] }
-    {
-        Lists {
-            extents: Vec::new(alloc),
-            fetch: Vec::new(alloc),
-            store: Vec::new(alloc),
-        }
-    }
-
     /// Takes what a line says. Extents come first, and areas for fetching before those for storing.
     fn take(&mut self, item: Item) -> Result<Listed, AllocError>
         ensures { IfOk result (λ r. (h : Heading)
@@ -91,7 +71,7 @@ impl Lists {
                 if self.extents.is_empty() {
                     return Ok(Listed::Refused(Cause::Form));
                 }
-                if !is_size(size) {
+                if size % 8 != 0 || size > STORAGE_LIMIT {
                     return Ok(Listed::Refused(Cause::Size));
                 }
                 Ok(Listed::Storage(size as usize))
@@ -101,12 +81,16 @@ impl Lists {
     }
 }
 
-/// Reads the lists, and the number of bytes that the line of storage behind them says.
+/// Reads the lists, and the number of bytes that the line of storage after them says.
 pub(crate) fn read_lists(alloc: Global, cursor: &mut Cursor) -> Result<(Lists, usize), DeckError>
     ensures { (h : Heading) → LeadsOrFails (Listing h [] [] []) cursor.old result
         (λ x. Filling h x.0.extents.items x.0.fetch.items x.0.store.items x.1 []) cursor.new }
 {
-    let mut lists = Lists::new(alloc);
+    let mut lists = Lists {
+        extents: Vec::new(alloc),
+        fetch: Vec::new(alloc),
+        store: Vec::new(alloc),
+    };
     loop {
         let item = cursor.next_item();
         match lists.take(item)? {

@@ -15,28 +15,17 @@ use crate::storage::fill;
 use ckd_core::Extents;
 use std::alloc::Global;
 
-/// What the lines of a deck say.
-#[derive(Drop)]
-struct Parts {
-    heading: Heading,
-    lists: Lists,
-    storage: Vec<u8>,
-}
-
-fn read_parts(alloc: Global, text: &[u8]) -> Result<Parts, DeckError>
-    ensures { MatchResult result (λ p. Spells text.now (image_of p.heading p.lists.extents.items
-        p.lists.fetch.items p.lists.store.items p.storage.items)) (IsRefusal text.now) }
+/// The heading, the lists and the storage that a text says.
+fn read_parts(alloc: Global, text: &[u8]) -> Result<(Heading, Lists, Vec<u8>), DeckError>
+    ensures { MatchResult result (λ p. Spells text.now (image_of p.0 p.1.extents.items
+        p.1.fetch.items p.1.store.items p.2.items)) (IsRefusal text.now) }
 {
     let mut cursor = Cursor::new(text);
     let heading = read_heading(&mut cursor)?;
     let (lists, size) = read_lists(alloc, &mut cursor)?;
     let mut storage = vec![in alloc; 0u8; size]?;
     fill(storage.as_mut_slice(), cursor)?;
-    Ok(Parts {
-        heading,
-        lists,
-        storage,
-    })
+    Ok((heading, lists, storage))
 }
 
 /// The deck that a text spells.
@@ -56,11 +45,7 @@ pub fn read_deck(alloc: Global, text: &[u8]) -> Result<Deck, DeckError>
         → MatchResult result (λ deck. ⊥)
         (λ e. (e ≡ DeckError.Memory) ⊎ (e ≡ DeckError.At line cause)) }
 {
-    let Parts {
-        heading,
-        lists,
-        storage,
-    } = read_parts(alloc, text)?;
+    let (heading, lists, storage) = read_parts(alloc, text)?;
     let Lists {
         extents,
         fetch,

@@ -2,7 +2,6 @@
 
 ghost use Rattle.std.specs.Prelude.{◌≡◌, ◌+◌, ◌/◌, ◌%◌, ◌<◌, ◌≤◌, ◌^◌, true, [], ◌∷◌, ◌++◌, length};
 ghost use Rattle.std.specs.Prelude.{map, replicate, if◌then◌else◌, IfOk, OnOk};
-ghost use Rattle.std.specs.Int.{bytes_high_first};
 ghost use Rattle.std.specs.List.{flat_map, AllByRecursion};
 ghost use Rattle.hex.specs.Hex.{encode_upper};
 ghost use Rattle.ckd_core.specs.Cylinders.{AreExtents, IsExtent};
@@ -103,32 +102,14 @@ pub(crate) fn write_extents(out: &mut Vec<u8>, extents: &[(u16, u16)]) -> Result
     Ok(())
 }
 
-/// The bytes of an area's start and of its length, three each.
-fn bytes_of(area: Area) -> [u8; 6]
-    ensures { result ≡ bytes_high_first 3 area.start ++ bytes_high_first 3 area.len }
-{
-    let [_, a, b, c] = area.start.to_be_bytes();
-    let [_, d, e, f] = area.len.to_be_bytes();
-    [a, b, c, d, e, f]
-}
-
-/// Start and length of an area, with a space between them. Both take their digits from one text.
-fn push_area_digits(alloc: Global, out: &mut Vec<u8>, area: Area) -> Result<(), AllocError>
-    ensures { OnOk result (out.new.items ≡ out.old.items ++ area_digits area) }
-{
-    let digits = hex::encode_upper(alloc, bytes_of(area))?;
-    let (start, len) = digits.as_bytes().split_at(6);
-    out.extend_from_slice(start)?;
-    out.extend_from_slice(b" ")?;
-    out.extend_from_slice(len)
-}
-
 fn write_area(alloc: Global, out: &mut Vec<u8>, word: &[u8], area: Area) -> Result<(), AllocError>
     ensures { OnOk result (out.new.items
         ≡ out.old.items ++ ((word.now ++ area_digits area) ++ 10 ∷ [])) }
 {
     out.extend_from_slice(word)?;
-    push_area_digits(alloc, out, area)?;
+    push_address(alloc, out, area.start)?;
+    out.extend_from_slice(b" ")?;
+    push_address(alloc, out, area.len)?;
     out.extend_from_slice(b"\n")
 }
 

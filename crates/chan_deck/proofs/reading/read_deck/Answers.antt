@@ -14,8 +14,8 @@ returns-in_err-heading-clause-named c =
 -- where all is read, the text spells what was read
 spelled : (c : goal.After-drop-extents-2)
     → Spells c.args.text.now
-    (image_of c.in_ok-heading.field-0.heading c.in_ok-extents.extents c.in_ok-heading.field-0.lists.fetch.items c.in_ok-heading.field-0.lists.store.items
-    c.in_ok-heading.field-0.storage.items)
+    (image_of c.in_ok-heading.heading c.in_ok-extents.extents c.in_ok-heading.lists.fetch.items c.in_ok-heading.lists.store.items
+    c.in_ok-heading.storage.items)
 spelled c = search rules
 
 pub returns-clause-spelled : goal.returns-clause-spelled
