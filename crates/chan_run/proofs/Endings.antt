@@ -5,11 +5,11 @@ use Rattle.std.specs.Io.KnownBytes.{Keeps}
 use Rattle.chan_deck.specs.Image.{Image, Spells, spelling}
 use Rattle.chan_walk.specs.declared.job.Job.{Job}
 use Rattle.chan_run.specs.declared.reporting.Outcome.{Outcome}
-use Rattle.chan_run.specs.declared.reporting.Outcome.TheVariants.{Denied, Done, Failed, NoJob, Refused, Unknown, Usage}
+use Rattle.chan_run.specs.declared.reporting.Outcome.TheVariants.{Done, Failed}
 use Rattle.chan_args.specs.declared.action.Action.{Action}
 use Rattle.chan_args.specs.declared.action.Action.TheVariants as actions
 use Rattle.chan_run.specs.declared.running.RunError.{RunError}
-use Rattle.chan_run.specs.declared.running.RunError.TheVariants.{Deck, Memory, Read, TooLong, TooManyPlaces, Write}
+use Rattle.chan_run.specs.declared.running.RunError.TheVariants.{Memory, Read, TooManyPlaces}
 use Rattle.chan_run.specs.declared.running.Status.{Status}
 use Rattle.chan_run.specs.Imaging.{IsDeckAnswer}
 use Rattle.chan_run.specs.declared.image_options.ImageOptions.{ImageOptions}
@@ -34,20 +34,13 @@ judged name a j k answer judges is = (k, judges, is)
 
 -- an action for which no open job is asked judges the job itself
 pub judges_itself : (a : Action) (j : Job) → (a ≡ actions.Needs → ⊥) → Judges a j j
-judges_itself actions.Verify j other = refl
-judges_itself actions.List j other = refl
-judges_itself (actions.Why all) j other = refl
-judges_itself actions.Graph j other = refl
 judges_itself actions.Needs j other = absurd (other refl)
+judges_itself a j other = refl
 
 -- an error isn't done
 pub not_done : (e : RunError) → IsDone (ran (Err e)) → ⊥
 not_done Read done = done
-not_done TooLong done = done
-not_done (Deck line cause) done = done
-not_done TooManyPlaces done = done
-not_done Write done = done
-not_done Memory done = done
+not_done e done = done
 
 -- if an answer was written, the flush of its output leaves it written
 pub put_kept : {D : Type 0} (contents : D → Option (List ℕ)) (old mid new : D) (answer : Answer)
@@ -68,13 +61,9 @@ pub image_kept : (o : ImageOptions) (image : List ℕ) (old mid new : Option (Li
     → IsDeckAnswer o image old new came
 image_kept o image old mid new Done keeps same (deck, asked, is_deck, written) =
     (deck, asked, is_deck, Appends-kept old mid new (spelling deck) written keeps)
-image_kept o image old mid new Denied keeps same h = h
-image_kept o image old mid new Usage keeps same h = h
-image_kept o image old mid new (Refused line cause) keeps same h = h
-image_kept o image old mid new (Unknown t) keeps same h = h
-image_kept o image old mid new (NoJob a r) keeps same h = h
 image_kept o image old mid new (Failed failure) keeps same h =
     subst (λ (x : Option (List ℕ)). IsDeckAnswer o image old x (Failed failure)) (sym (same (λ done. done))) h
+image_kept o image old mid new came keeps same h = h
 
 -- what was done where no write failed
 pub written_if_sound : {A : Type 0} {E : Type 0} (r : Result (Unit {0}) E) (failed : _) → OnOk r A

@@ -141,10 +141,7 @@ IsJobAnswer name a j (Err e) = ⊥
 -- itself
 abbrev pub Judges : Action → Job → Job → Type 0
 Judges actions.Needs j k = IsOpenJob j k
-Judges actions.Verify j k = k ≡ j
-Judges actions.List j k = k ≡ j
-Judges (actions.Why all) j k = k ≡ j
-Judges actions.Graph j k = k ≡ j
+Judges a j k = k ≡ j
 
 -- the answer to what an action asks of a job: that of the job that it judges
 abbrev pub IsAnswerOn : Option (List ℕ) → Action → Job → Answer → Type 0

@@ -14,7 +14,7 @@ use crate::image::{read_image, write_image_of};
 use crate::image_options::ImageOptions;
 use crate::no_job::no_job_text;
 use crate::reporting::{Outcome, conclude, flushed, has_advice, write_line};
-use crate::running::{answer_text, read_text, write_answer};
+use crate::running::{Advice, answer_text, read_text, write_answer};
 use ccw_core::{DeviceFault, Watched, write_out};
 use chan_args::Action;
 use std::alloc::{AllocError, Global};
@@ -54,7 +54,7 @@ pub fn answer<R: Read, W: Write, E: Write>(
         Ok(text) => text,
         Err(error) => return conclude(name, Outcome::of_run(Err(error)), &[], to, errors),
     };
-    let (answer, advice) = answer_text(alloc, name, action, true, text.as_slice());
+    let (answer, advice) = answer_text(alloc, name, action, action.is_why(), text.as_slice());
     let came = write_answer(alloc, answer, to);
     let outcome = flushed(Outcome::of_run(came), to);
     let _ = tell(name, outcome, has_advice(action, outcome), advice, errors);
@@ -67,7 +67,7 @@ fn tell<E: Write>(
     name: Option<&str>,
     outcome: Outcome,
     is_advised: bool,
-    advice: Result<Vec<u8>, AllocError>,
+    advice: Advice,
     errors: &mut Watched<E>,
 ) -> Result<(), DeviceFault>
     requires { errors.old.failed ≡ false }

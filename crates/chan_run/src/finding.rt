@@ -1,16 +1,13 @@
 //! Finding the programs of an image of storage, a line for each.
 
-ghost use Rattle.std.specs.Prelude.{◌≡◌, ◌↔◌, ◌⊎◌, ◌+◌, ◌≤◌, ◌^◌, false, true, length, IfOk};
-ghost use Rattle.std.specs.Prelude.{List, string_bytes, ℕ};
-ghost use Rattle.std.specs.Io.KnownBytes.{Appends};
+ghost use Rattle.std.specs.Prelude.{◌≡◌, ◌↔◌, ◌+◌, ◌≤◌, ◌^◌, false, true, length, IfOk, List, ℕ};
+ghost use Rattle.std.specs.Prelude.{string_bytes};
 ghost use Rattle.ccw_core.specs.Held.{bytes_held};
-ghost use Rattle.ccw_core.specs.Written.{AppendsPrefix};
 ghost use Rattle.chan_deck.specs.Parts.{storage_with};
 ghost use Rattle.chan_run.specs.Finding.{IsFindAnswer, IsFoundAnswer, IsLineAt};
-ghost use Rattle.chan_run.specs.Finding.{IsLineOn};
 ghost use Rattle.chan_run.specs.Report.{IsWriteFailure};
 ghost use Rattle.chan_run.specs.declared.failure.Failure.TheVariants as failures;
-ghost use Rattle.chan_run.specs.declared.reporting.Outcome.TheVariants.{Done, Failed};
+ghost use Rattle.chan_run.specs.declared.reporting.Outcome.TheVariants.{Failed};
 
 use crate::failure::Failure;
 use crate::image::read_image;
@@ -19,7 +16,7 @@ use crate::least::job_at;
 use crate::reporting::Outcome;
 use ccw_core::{Storage, Watched, write_out};
 use chan_deck::{place_image, program_text};
-use chan_walk::{Job, OpenJob, WalkError, program_starts, survey};
+use chan_walk::{OpenJob, WalkError, program_starts, survey};
 use std::alloc::{AllocError, Global};
 use std::io::{Read, Write};
 
@@ -73,48 +70,28 @@ fn write_programs<W: Write>(
         return Outcome::Failed(Failure::OutOfMemory);
     };
     for start in starts.as_slice() {
-        match write_program(alloc, options, storage, *start, to) {
-            Outcome::Done => {}
-            end => return end,
+        let Ok(line) = program_line(alloc, options, storage, *start) else {
+            return Outcome::Failed(Failure::OutOfMemory);
+        };
+        if write_out(line.as_bytes(), to).is_err() {
+            return Outcome::Failed(Failure::WriteFailed);
         }
     }
     Outcome::Done
 }
 
-/// Writes the line of the program that begins at an address in storage.
-fn write_program<W: Write>(
+/// The line of the program that begins at an address in storage.
+fn program_line(
     alloc: Global,
     options: &ImageOptions,
     storage: Storage<'_>,
     start: u32,
-    to: &mut Watched<W>,
-) -> Outcome
-    requires writer { to.old.failed ≡ false }
-    ensures done { result ≡ Done → (image : List ℕ)
-        → bytes_held storage.entry ≡ storage_with options.now.at image
-        → (line : List ℕ) × IsLineAt options.now image start line
-        × Appends (W.contents to.old.device) (W.contents to.new.device) line }
-    ensures failed { IsWriteFailure result → (image : List ℕ)
-        → bytes_held storage.entry ≡ storage_with options.now.at image
-        → (line : List ℕ) × IsLineAt options.now image start line
-        × AppendsPrefix (W.contents to.old.device) (W.contents to.new.device) line }
-    ensures known { (result ≡ Done) ⊎ IsWriteFailure result
-        ⊎ (result ≡ Failed failures.OutOfMemory) }
-    ensures write { IsWriteFailure result ↔ (to.new.failed ≡ true) }
-    ensures memory { result ≡ Failed failures.OutOfMemory → to.new ≡ to.old }
+) -> Result<String, AllocError>
+    ensures { (image : List ℕ) → bytes_held storage.entry ≡ storage_with options.now.at image
+        → IfOk result (λ line. IsLineAt options.now image start (string_bytes line)) }
 {
     let job = job_at(options, storage, start);
-    match program_line(alloc, &job) {
-        Ok(line) => Outcome::of_write(write_out(line.as_bytes(), to)),
-        Err(AllocError) => Outcome::Failed(Failure::OutOfMemory),
-    }
-}
-
-/// The line of a job's program.
-fn program_line(alloc: Global, job: &Job) -> Result<String, AllocError>
-    ensures { IfOk result (λ line. IsLineOn job.now (string_bytes line)) }
-{
-    let open = match OpenJob::of(alloc, job) {
+    let open = match OpenJob::of(alloc, &job) {
         Ok(open) => open,
         Err(_) => return Err(AllocError),
     };

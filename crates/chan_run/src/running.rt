@@ -50,14 +50,20 @@ pub enum RunError {
     Memory,
 }
 
+/// An answer: the status and the output, or why there are none.
+pub(crate) type Answered = Result<(Status, Output), RunError>;
+
+/// What is said beside an answer, as lines.
+pub(crate) type Advice = Result<Vec<u8>, AllocError>;
+
 /// Reads a deck to the end of the input, verifies its job, and writes the output of the action. For
 /// `Needs` it verifies the open job of the deck's program in place of the deck's own.
 ///
 /// Nothing is written before the whole deck was judged: after `Read`, `TooLong`, `Deck` and
 /// `TooManyPlaces` nothing was written, and after `Write` a prefix of the text. After `Memory`
-/// nothing was written or, only for `List`, a prefix. `Read` and `Write` come exactly
-/// if the device failed, and `Read` only before more than 67,108,864 bytes came. Over an endless
-/// reader it returns, with `TooLong`.
+/// nothing was written or, only for `List`, a prefix. `Read` and `Write` come exactly if the device
+/// failed, and `Read` only before more than 67,108,864 bytes came. Over an endless reader it
+/// returns, with `TooLong`.
 pub fn run<R: Read, W: Write>(
     alloc: Global,
     action: Action,
@@ -83,7 +89,7 @@ pub fn run<R: Read, W: Write>(
 /// Writes an answer, and says what came of it. One without output stays, and nothing is written.
 pub(crate) fn write_answer<W: Write>(
     alloc: Global,
-    answer: Result<(Status, Output), RunError>,
+    answer: Answered,
     to: &mut Watched<W>,
 ) -> Result<Status, RunError>
     requires writer { to.old.failed ≡ false }
@@ -133,10 +139,7 @@ pub(crate) fn answer_text(
     action: Action,
     asked: bool,
     text: &[u8],
-) -> (
-    Result<(Status, Output), RunError>,
-    Result<Vec<u8>, AllocError>,
-)
+) -> (Answered, Advice)
     ensures answer { IsTextAnswer (name_in name.entry) action text.now result.0 }
     ensures read { IsErrOf result.0 RunError.Read → ⊥ }
     ensures write { IsErrOf result.0 RunError.Write → ⊥ }
@@ -144,7 +147,7 @@ pub(crate) fn answer_text(
     let deck = match read_deck(alloc, text) {
         Ok(deck) => deck,
         Err(DeckError::At { line, cause }) => {
-            let hint = if asked && action.is_why() {
+            let hint = if asked {
                 hint_text(alloc, text, line, cause)
             } else {
                 Ok(Vec::new(alloc))
@@ -168,10 +171,7 @@ fn answer_on(
     action: Action,
     asked: bool,
     job: &Job,
-) -> (
-    Result<(Status, Output), RunError>,
-    Result<Vec<u8>, AllocError>,
-)
+) -> (Answered, Advice)
     ensures { IsAnswerOn (name_in name.entry) action job.now result.0 }
 {
     match action {
@@ -194,16 +194,13 @@ fn answer_job(
     action: Action,
     asked: bool,
     job: &Job,
-) -> (
-    Result<(Status, Output), RunError>,
-    Result<Vec<u8>, AllocError>,
-)
+) -> (Answered, Advice)
     ensures { IsJobAnswer (name_in name.entry) action job.now result.0 }
 {
     let survey = match survey(alloc, job) {
         Ok(survey) => survey,
         Err(WalkError::TooManyPlaces) => {
-            let limit = if asked && action.is_why() {
+            let limit = if asked {
                 limit_text(alloc, job.limit)
             } else {
                 Ok(Vec::new(alloc))
@@ -213,7 +210,7 @@ fn answer_job(
         Err(WalkError::Memory) => return (Err(RunError::Memory), Ok(Vec::new(alloc))),
     };
     let status = status_of(survey.verdict());
-    let notes = if asked && action.is_why() && status == Status::Yes {
+    let notes = if asked && status == Status::Yes {
         notes_on(alloc, job, &survey)
     } else {
         Ok(Vec::new(alloc))

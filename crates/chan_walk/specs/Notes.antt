@@ -131,8 +131,8 @@ pub record AreMachineStores (j : Job) (areas : List Area) : Type 0 where
 
 -- ---- all notes
 
--- these are the notes on a job: what is lent in vain, what flags ask for, and where the machine itself
--- stores
+-- these are the notes on a job: what is lent in vain, what flags ask for, and where the machine
+-- itself stores
 pub record AreNotes (j : Job) (n : Notes) : Type 0 where
   pub fetch_past_storage :
       n.fetch_past_storage.items ≡ filter (reaches_past_storage j) (fetch_of j)
