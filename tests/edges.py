@@ -79,7 +79,8 @@ def check_places(checks, program, deck):
 
 
 def check_notes(checks, program, deck):
-    """Areas lent in vain: those that adjoin have one note, and of a sort a hundred are written."""
+    """Areas lent in vain, of which those that adjoin have one note, and CCWs that interrupt: of a
+    sort a hundred notes are written."""
     head = "chanv deck 1\ndevice 2314\nmask 00\nstart 000800\nextent 010 019\n"
     tail = "storage 0010000\nput 000800 0300000000000001\nend\n"
     more_of = {99: "", 100: "", 101: "note: 1 more such\n", 250: "note: 150 more such\n"}
@@ -91,6 +92,13 @@ def check_notes(checks, program, deck):
         each = [f"note: {line[:-1]} is used by no reachable CCW\n" for line in apart[:100]]
         wanted = Ran(0, "yes\n", "".join([one, *each, more]))
         checks.expect(f"{count} areas lent in vain", wanted, run(program, "why", given=deck))
+    interrupts = " interrupts: the processor may change any byte but those that chanv needs keeps\n"
+    for count in (100, 101):
+        chain = chain_of(count, last="0300000008000001")
+        deck.write_text(chain.replace("40000001", "48000001"))
+        each = [f"note: {0x800 + 8 * at:06X}{interrupts}" for at in range(100)]
+        wanted = Ran(0, "yes\n", "".join([*each, more_of[count]]))
+        checks.expect(f"{count} CCWs that interrupt", wanted, run(program, "why", given=deck))
 
 
 def check_readers(checks, program, deck):
