@@ -4,7 +4,6 @@ use Rattle.std.specs.Prelude.{◌==◌}
 use Rattle.std.specs.List.{AllByRecursion}
 use Rattle.std.proofs.lemmas.Bool.{le-leb, le-ltb, eqb-true, and_parts, cond_both}
 use Rattle.std.proofs.lemmas.List.{append-nil, take-append-drop, replicate-append-replicate, length-take}
-use Rattle.chan_deck.proofs.Results.{same_ok}
 use Rattle.ccw_core.specs.declared.areas.Area.{Area}
 use Rattle.ckd_core.specs.declared.device.Device.TheVariants.{D2311}
 use Rattle.ckd_core.specs.Cylinders.{IsExtent, AreExtents}
@@ -40,7 +39,9 @@ and_then_ok (Err c) f t e = absurd cc
 
 -- a run leads to a state, and says its lines more
 pub run-says : (s t : State) (js : List Item) → IsState s → AllByRecursion HasForm js → run s js ≡ Ok t → IsState t × (said t ≡ said s ++ js)
-run-says s t [] is forms e = subst (λ x. IsState x × (said x ≡ said s ++ [])) (same_ok s t e) (is, sym (append-nil (said s)))
+run-says s t [] is forms e =
+    let same : s ≡ t = cc in
+    subst (λ x. IsState x × (said x ≡ said s ++ [])) same (is, sym (append-nil (said s)))
 run-says s t (i ∷ js) is forms e =
     let r = and_then_ok (step s i) (λ q. run q js) t e in
     let one = step-says s r.0 i is forms.0 r.1 in

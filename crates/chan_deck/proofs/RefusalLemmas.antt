@@ -1,6 +1,7 @@
 -- What one line more does to where reading stands: it goes on, or the text is refused there, or it has spelled a deck.
-use Rattle.std.proofs.Common.{◌≡◌, ℕ, ◌+◌, ◌-◌, ◌<◌, ◌⊎◌, false, List, [], ◌∷◌, ◌++◌, length, take, drop, map, Option, Some, None, Result, Ok, Err, refl, sym, ap, subst, ◌∙◌, append_assoc, arith, inl, inr, length-append}
+use Rattle.std.proofs.Common.{◌≡◌, ℕ, ◌+◌, ◌-◌, ◌<◌, ◌⊎◌, false, List, [], ◌∷◌, ◌++◌, length, take, drop, map, Option, Some, None, MatchBool, Result, Ok, Err, refl, sym, ap, subst, ◌∙◌, append_assoc, arith, inl, inr, length-append}
 use Rattle.std.specs.Prelude.{◌==◌, position}
+use Rattle.std.proofs.lemmas.Bool.Decides.{nat_tests}
 use Rattle.std.proofs.lemmas.List.{append-nil, length-map, map-append}
 use Rattle.std.proofs.Math.Seq.{take-append_seam, drop-append_seam}
 use Rattle.chan_walk.proofs.Theory.Lists.{all_append}
@@ -136,6 +137,14 @@ spells_deck t d n st =
       (is_state t (Whole d) n [] st).right,
       sym (join t) ∙ ap (λ (p : List (List ℕ) × List ℕ). text p.0 ++ p.1) parts ∙ append-nil (text (map line st.said)) ∙ ap (λ x. text (map line x)) (sym said_all),
     )
+
+-- the line `end` was read: a deck ends there, or a byte follows
+pub ends : (t : List ℕ) (d : Image) (n : ℕ) (rest : List ℕ) → HasRead t (Whole d) n rest
+    → MatchBool (length rest == 0) (Spells t d) (IsRefused t n causes.After)
+ends t d n [] st = spells_deck t d n st
+ends t d n (b ∷ rest) st =
+    let some : (length (b ∷ rest) == 0) ≡ false = grind (arith, nat_tests) in
+    rw some (refuses_more t d n b rest st)
 
 -- ---- one refusal
 

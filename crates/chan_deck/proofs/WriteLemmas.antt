@@ -1,7 +1,7 @@
 -- What is written, line by line.
-use Rattle.std.proofs.Common.{codes, ◌≡◌, ℕ, suc, replicate, ◌%◌, length-append, ◌+◌, ◌-◌, ◌*◌, ◌/◌, ◌<◌, ◌≤◌, Bool, true, false, cond, List, [], ◌∷◌, ◌++◌, length, take, drop, map, get_or, refl, sym, ap, ◌∙◌, append_assoc, arith}
+use Rattle.std.proofs.Common.{codes, ◌≡◌, ℕ, suc, replicate, ◌%◌, length-append, ◌+◌, ◌*◌, ◌/◌, ◌<◌, ◌≤◌, Bool, true, false, cond, List, [], ◌∷◌, ◌++◌, length, take, drop, map, refl, sym, ap, ◌∙◌, append_assoc, arith, length-drop}
 use Rattle.std.specs.List.{flat_map}
-use Rattle.std.proofs.lemmas.List.{take_more, drop-drop, map-append, append-nil, length-replicate}
+use Rattle.std.proofs.lemmas.List.{map-append, append-nil, length-replicate}
 use Rattle.ccw_core.specs.declared.areas.Area.{Area}
 use Rattle.chan_deck.specs.Item.{Item, area_digits, header, device, mask, start, fetch, store, storage, put, end, line, text}
 use Rattle.chan_deck.specs.Image.{Image, extent_of, is_zero, puts, spelling, header_of, limit_line}
@@ -13,59 +13,31 @@ use Rattle.chan_deck.proofs.PutLemmas.{puts-append, puts-zero}
 text_parts : (a b : List Item) → text (map line (a ++ b)) ≡ text (map line a) ++ text (map line b)
 text_parts a b = ap text (map-append line a b) ∙ text-append (map line a) (map line b)
 
--- one extent more
-pub extents_more : (es : List (ℕ × ℕ)) (i : ℕ) (old out new : List ℕ) → i < length es
-    → out ≡ old ++ text (map line (map extent_of (take i es)))
-    → new ≡ out ++ (line (extent_of (get_or es i (0, 0))) ++ 10 ∷ [])
-    → new ≡ old ++ text (map line (map extent_of (take (i + 1) es)))
-extents_more es i old out new lt before one =
-    let e = get_or es i (0, 0) in
-    let more = text_parts (map extent_of (take i es)) (extent_of e ∷ []) in
-    rw (take_more es i (0, 0) lt, map-append extent_of (take i es) (e ∷ []), more, ← append_assoc, ← before, append-nil) one
-
 -- ---- puts
-
-next_word : (i : ℕ) (S : List ℕ) → drop 8 (drop (8 * i) S) ≡ drop (8 * (i + 1)) S
-next_word i S = drop-drop 8 (8 * i) S ∙ ap (λ k. drop k S) (omega arith)
-
-step : (N i a : ℕ) (S : List ℕ) → i < N
-    → puts (N - i) (a + 8 * i) (drop (8 * i) S)
-    ≡ cond (is_zero (take 8 (drop (8 * i) S)))
-    (puts (N - (i + 1)) (a + 8 * (i + 1)) (drop (8 * (i + 1)) S))
-    (put (a + 8 * i) (take 8 (drop (8 * i) S))
-    ∷ puts (N - (i + 1)) (a + 8 * (i + 1)) (drop (8 * (i + 1)) S))
-unfolding puts
-step N i a S lt =
-    let more : N - i ≡ suc (N - (i + 1)) = omega arith in
-    let at : a + 8 * i + 8 ≡ a + 8 * (i + 1) = omega arith in
-    let word = take 8 (drop (8 * i) S) in
-    let here = put (a + 8 * i) word in
-    ap (λ n. puts n (a + 8 * i) (drop (8 * i) S)) more
-    ∙ ap (λ b. cond (is_zero word) (puts (N - (i + 1)) b (drop 8 (drop (8 * i) S))) (here ∷ puts (N - (i + 1)) b (drop 8 (drop (8 * i) S)))) at
-    ∙ ap (λ t. cond (is_zero word) (puts (N - (i + 1)) (a + 8 * (i + 1)) t) (here ∷ puts (N - (i + 1)) (a + 8 * (i + 1)) t)) (next_word i S)
 
 put_text : (zeros : Bool) (i : Item) (is : List Item) → text (map line (cond zeros is (i ∷ is))) ≡ cond zeros [] (line i ++ 10 ∷ []) ++ text (map line is)
 put_text true i is = refl
 put_text false i is = refl
 
 -- a doubleword of zeros is passed over, and any other is put
-pub puts_more : (N i a : ℕ) (S out new whole : List ℕ) → i < N
-    → new ≡ out ++ cond (is_zero (take 8 (drop (8 * i) S))) [] (line (put (a + 8 * i) (take 8 (drop (8 * i) S))) ++ 10 ∷ [])
-    → out ++ text (map line (puts (N - i) (a + 8 * i) (drop (8 * i) S))) ≡ whole
-    → new ++ text (map line (puts (N - (i + 1)) (a + 8 * (i + 1)) (drop (8 * (i + 1)) S))) ≡ whole
-puts_more N i a S out new whole lt written told =
-    let word = take 8 (drop (8 * i) S) in
-    let rest = puts (N - (i + 1)) (a + 8 * (i + 1)) (drop (8 * (i + 1)) S) in
-    let more = ap (λ is. text (map line is)) (step N i a S lt) ∙ put_text (is_zero word) (put (a + 8 * i) word) rest in
-    ap (λ t. t ++ text (map line rest)) written ∙ append_assoc out (cond (is_zero word) [] (line (put (a + 8 * i) word) ++ 10 ∷ [])) (text (map line rest))
+pub puts_more : (at : ℕ) (rest out new whole : List ℕ) → 8 ≤ length rest
+    → new ≡ out ++ cond (is_zero (take 8 rest)) [] (line (put at (take 8 rest)) ++ 10 ∷ [])
+    → out ++ text (map line (puts (length rest / 8) at rest)) ≡ whole
+    → new ++ text (map line (puts (length (drop 8 rest) / 8) (at + 8) (drop 8 rest))) ≡ whole
+unfolding puts
+puts_more at rest out new whole some written told =
+    let word = take 8 rest in
+    let left = puts (length (drop 8 rest) / 8) (at + 8) (drop 8 rest) in
+    let one : length rest / 8 ≡ suc (length (drop 8 rest) / 8) = omega (arith, length-drop 8 rest) in
+    let more = ap (λ n. text (map line (puts n at rest))) one ∙ put_text (is_zero word) (put at word) left in
+    ap (λ t. t ++ text (map line left)) written ∙ append_assoc out (cond (is_zero word) [] (line (put at word) ++ 10 ∷ [])) (text (map line left))
     ∙ ap (λ t. out ++ t) (sym more) ∙ told
 
-pub no_puts_left : (N i a : ℕ) (S out : List ℕ) → N ≤ i
-    → out ++ text (map line (puts (N - i) (a + 8 * i) (drop (8 * i) S))) ≡ out
+pub no_puts_left : (at : ℕ) (rest out : List ℕ) → length rest < 8 → out ++ text (map line (puts (length rest / 8) at rest)) ≡ out
 unfolding puts
-no_puts_left N i a S out le =
-    let none : N - i ≡ 0 = omega arith in
-    ap (λ n. out ++ text (map line (puts n (a + 8 * i) (drop (8 * i) S)))) none ∙ append-nil out
+no_puts_left at rest out few =
+    let none : length rest / 8 ≡ 0 = omega arith in
+    ap (λ n. out ++ text (map line (puts n at rest))) none ∙ append-nil out
 
 -- zeros in front are passed over
 past_front : (k n a : ℕ) (S : List ℕ)
@@ -89,9 +61,9 @@ puts_behind at S whole =
 
 -- ---- the whole text
 
-pub area_text : (f : Area → Item) (areas : List Area) → flat_map (λ a. line (f a) ++ 10 ∷ []) areas ≡ text (map line (map f areas))
-area_text f [] = refl
-area_text f (a ∷ areas) = ap (λ t. (line (f a) ++ 10 ∷ []) ++ t) (area_text f areas)
+pub each_text : {X : Type 0} (f : X → Item) (xs : List X) → flat_map (λ x. line (f x) ++ 10 ∷ []) xs ≡ text (map line (map f xs))
+each_text f [] = refl
+each_text f (x ∷ xs) = ap (λ t. (line (f x) ++ 10 ∷ []) ++ t) (each_text f xs)
 
 -- the text of a deck, part by part
 pub spelling_parts : (d : Image)
@@ -143,7 +115,7 @@ needs_parts n F S K f s k =
     ∙ ap (λ t. t ++ text (map line fetched)) (text_parts M E)) in
     five_same (line (mask n.mask) ++ 10 ∷ []) (text (map line M)) (text (map line E)) _ (text (map line fetched)) _ (text (map line stored)) _ (text kept)
     (sym (append-nil (line (mask n.mask) ++ 10 ∷ [])))
-    (area_text fetch F ∙ ap (λ areas. text (map line (map fetch areas))) f)
-    (area_text store S ∙ ap (λ areas. text (map line (map store areas))) s)
+    (each_text fetch F ∙ ap (λ areas. text (map line (map fetch areas))) f)
+    (each_text store S ∙ ap (λ areas. text (map line (map store areas))) s)
     (kept_text K ∙ ap (λ areas. text (map keep_line areas)) k)
     ∙ ap (λ t. t ++ text kept) (sym begun) ∙ sym (text-append (map line (granting n)) kept)

@@ -16,6 +16,10 @@ use Rattle.chan_deck.specs.declared.version.Version.TheVariants.{One, Two}
 use Rattle.chan_deck.specs.declared.cause.Cause.{Cause}
 use Rattle.chan_deck.specs.declared.cause.Cause.TheVariants as causes
 use Rattle.chan_deck.specs.declared.heading.Heading.{Heading}
+use Rattle.chan_deck.specs.declared.heading.Begun.{Begun}
+use Rattle.chan_deck.specs.declared.heading.Begun.TheVariants as heads
+use Rattle.chan_deck.specs.declared.heading.Headed.{Headed}
+use Rattle.chan_deck.specs.declared.heading.Headed.TheVariants as lines
 use Rattle.chan_deck.specs.declared.item.Item as found
 use Rattle.chan_deck.specs.declared.item.Item.TheVariants.{Missing}
 use Rattle.chan_deck.specs.declared.lines.Cursor.{Cursor}
@@ -200,6 +204,20 @@ pub record IsNext (c : Cursor) (i : found.Item) (d : Cursor) : Type 0 where
 abbrev pub Shortens : ℕ → found.Item → ℕ → Type 0
 Shortens old Missing new = Unit {0}
 Shortens old i new = new < old
+
+-- what the lines of a heading have said so far
+abbrev pub begun : Begun → State
+begun heads.Opening = Opening
+begun (heads.Named h) = Named h
+begun (heads.OnDevice h v) = OnDevice h v
+begun (heads.Masked h v m) = Masked h v m
+begun (heads.Started v m a) = Started v m a
+
+-- what came of a line of the heading
+abbrev pub headed : Headed → Result State Cause
+headed (lines.Taken b) = Ok (begun b)
+headed (lines.Whole h) = Ok (Listing h [] [] [])
+headed (lines.Refused c) = Err c
 
 -- what the lists of a deck have so far, and the lines before them
 abbrev pub with_lists : Heading → Lists → State

@@ -1,8 +1,8 @@
 //! The lines before the lists of a deck.
 
-ghost use Rattle.std.specs.Prelude.{◌≡◌, ℕ, []};
-ghost use Rattle.ckd_core.specs.declared.device.Device.{Device};
-ghost use Rattle.chan_deck.specs.Reading.{LeadsOrFails, Listing, Opening, on_start};
+ghost use Rattle.std.specs.Prelude.{◌≡◌, []};
+ghost use Rattle.chan_deck.specs.Item.{said_by};
+ghost use Rattle.chan_deck.specs.Reading.{LeadsOrFails, Listing, Opening, begun, headed, taken};
 
 use crate::cause::Cause;
 use crate::error::DeckError;
@@ -21,22 +21,71 @@ pub(crate) struct Heading {
     pub(crate) start: u32,
 }
 
-/// The version. In version 2 the next line says the limit on places.
-fn read_version(number: VersionNumber, cursor: &mut Cursor) -> Result<Version, DeckError>
-    ensures { (v : Device) (m a : ℕ) → LeadsOrFails (on_start number v m a) cursor.old result
-        (λ x. Listing (record { version = x; device = v; mask = m; start = a }) [] [] [])
-        cursor.new }
-{
-    if let VersionNumber::One = number {
-        return Ok(Version::One);
-    }
-    let item = cursor.next_item();
-    let Item::Limit(places) = item else {
-        return Err(cursor.refused(item, Cause::Form));
-    };
-    match Limit::new(places) {
-        Some(limit) => Ok(Version::Two(limit)),
-        None => Err(cursor.refused(item, Cause::Limit)),
+/// What has been said before the heading is whole.
+#[derive(Clone, Copy)]
+pub(crate) enum Begun {
+    Opening,
+    Named(VersionNumber),
+    OnDevice(VersionNumber, Device),
+    Masked(VersionNumber, Device, FileMask),
+    /// In version 2: the limit comes next.
+    Started(Device, FileMask, u32),
+}
+
+/// What came of a line of the heading.
+#[derive(Clone, Copy)]
+pub(crate) enum Headed {
+    Taken(Begun),
+    Whole(Heading),
+    Refused(Cause),
+}
+
+impl Begun {
+    /// Takes what a line says.
+    fn take(self, item: Item) -> Headed
+        ensures { taken (begun self) (said_by item) ≡ headed result }
+    {
+        match self {
+            Begun::Opening => match item {
+                Item::Header(number) => Headed::Taken(Begun::Named(number)),
+                _ => Headed::Refused(Cause::Header),
+            },
+            Begun::Named(number) => match item {
+                Item::Device(device) => Headed::Taken(Begun::OnDevice(number, device)),
+                _ => Headed::Refused(Cause::Form),
+            },
+            Begun::OnDevice(number, device) => match item {
+                Item::Mask(byte) => match FileMask::new(byte) {
+                    Some(mask) => Headed::Taken(Begun::Masked(number, device, mask)),
+                    None => Headed::Refused(Cause::Mask),
+                },
+                _ => Headed::Refused(Cause::Form),
+            },
+            Begun::Masked(number, device, mask) => match item {
+                Item::Start(start) => match number {
+                    VersionNumber::One => Headed::Whole(Heading {
+                        version: Version::One,
+                        device,
+                        mask,
+                        start,
+                    }),
+                    VersionNumber::Two => Headed::Taken(Begun::Started(device, mask, start)),
+                },
+                _ => Headed::Refused(Cause::Form),
+            },
+            Begun::Started(device, mask, start) => match item {
+                Item::Limit(places) => match Limit::new(places) {
+                    Some(limit) => Headed::Whole(Heading {
+                        version: Version::Two(limit),
+                        device,
+                        mask,
+                        start,
+                    }),
+                    None => Headed::Refused(Cause::Limit),
+                },
+                _ => Headed::Refused(Cause::Form),
+            },
+        }
     }
 }
 
@@ -44,30 +93,13 @@ fn read_version(number: VersionNumber, cursor: &mut Cursor) -> Result<Version, D
 pub(crate) fn read_heading(cursor: &mut Cursor) -> Result<Heading, DeckError>
     ensures { LeadsOrFails Opening cursor.old result (λ h. Listing h [] [] []) cursor.new }
 {
-    let item = cursor.next_item();
-    let Item::Header(number) = item else {
-        return Err(cursor.refused(item, Cause::Header));
-    };
-    let item = cursor.next_item();
-    let Item::Device(device) = item else {
-        return Err(cursor.refused(item, Cause::Form));
-    };
-    let item = cursor.next_item();
-    let Item::Mask(byte) = item else {
-        return Err(cursor.refused(item, Cause::Form));
-    };
-    let Some(mask) = FileMask::new(byte) else {
-        return Err(cursor.refused(item, Cause::Mask));
-    };
-    let item = cursor.next_item();
-    let Item::Start(start) = item else {
-        return Err(cursor.refused(item, Cause::Form));
-    };
-    let version = read_version(number, cursor)?;
-    Ok(Heading {
-        version,
-        device,
-        mask,
-        start,
-    })
+    let mut begun = Begun::Opening;
+    loop {
+        let item = cursor.next_item();
+        match begun.take(item) {
+            Headed::Taken(more) => begun = more,
+            Headed::Whole(heading) => return Ok(heading),
+            Headed::Refused(cause) => return Err(cursor.refused(item, cause)),
+        }
+    }
 }

@@ -169,9 +169,13 @@ fn write_puts(alloc: Global, out: &mut Vec<u8>, at: u32, bytes: &[u8]) -> Result
     ensures { OnOk result (out.new.items
         ≡ out.old.items ++ text (map line (puts (length bytes.now / 8) at bytes.now))) }
 {
-    for i in 0..bytes.len() / 8 {
-        let address = at + (8 * i) as u32;
-        write_word(alloc, out, address, &bytes[8 * i..8 * i + 8])?;
+    let mut address = at;
+    let mut rest = bytes;
+    while rest.len() >= 8 {
+        let (word, after) = rest.split_at(8);
+        write_word(alloc, out, address, word)?;
+        address += 8;
+        rest = after;
     }
     Ok(())
 }

@@ -1,17 +1,10 @@
-use Rattle.std.proofs.Common.{◌≡◌, ◌<◌, ℕ, Ok, refl}
-use Rattle.chan_deck.specs.Item.{said_by}
-use Rattle.chan_deck.specs.Reading.{State, Shortens, taken, with_lists}
-use Rattle.chan_deck.specs.declared.item.Item.{Item}
-use Rattle.chan_deck.specs.declared.item.Item.TheVariants.{Missing}
+use Rattle.std.proofs.Common.{refl}
+use Rattle.chan_deck.specs.Reading.{with_lists}
 use Rattle.chan_deck.specs.declared.heading.Heading.{Heading}
 use Rattle.chan_deck.specs.declared.version.Version.TheVariants.{One}
 use Rattle.ckd_core.specs.declared.device.Device.TheVariants.{D2311}
+use Rattle.chan_deck.proofs.LineRefusals.{was_read}
 use Rattle.chan_deck.proofs.lists.read_lists.Goals as goal
-
--- a line that was taken was read
-was_read : (s next : State) (m n : ℕ) (i : Item) → taken s (said_by i) ≡ Ok next → Shortens m i n → n < m
-was_read s next m n Missing e h = absurd cc
-was_read s next m n i e h = h
 
 pub loop-lists-preserved : goal.loop-lists-preserved
 loop-lists-preserved c =

@@ -1,7 +1,7 @@
 use Rattle.std.proofs.Common.{◌++◌, replicate}
 use Rattle.chan_deck.specs.Item.{fetch, store}
 use Rattle.chan_deck.specs.Preamble.{image_with}
-use Rattle.chan_deck.proofs.WriteLemmas.{area_text, length_behind, puts_behind, spelling_parts}
+use Rattle.chan_deck.proofs.WriteLemmas.{each_text, length_behind, puts_behind, spelling_parts}
 use Rattle.chan_deck.proofs.writing.text_of.Goals as goal
 
 pub returns-clause-text : goal.returns-clause-text
@@ -16,8 +16,8 @@ returns-clause-text c =
       c.in_ok-write_heading.ensures.text,
       c.new-out.ensures.items,
       c.pairs.ensures.value,
-      area_text fetch it.fetch,
-      area_text store it.store,
+      each_text fetch it.fetch,
+      each_text store it.store,
       ← length_behind c.args.at c.args.bytes.now,
       ← puts_behind c.args.at c.args.bytes.now c.requires.whole,
     ) (spelling_parts it)

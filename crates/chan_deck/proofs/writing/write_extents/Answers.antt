@@ -1,6 +1,9 @@
-use Rattle.std.proofs.Common.{arith}
+use Rattle.std.proofs.Common.{◌∙◌, ◌∷◌, ◌++◌, [], ap, arith}
 use Rattle.ckd_core.proofs.CylinderLemmas.{extent_at}
-use Rattle.chan_deck.proofs.WriteLemmas.{extents_more}
+use Rattle.chan_deck.specs.Item.{line}
+use Rattle.chan_deck.specs.Image.{extent_of}
+use Rattle.chan_deck.proofs.Parted.{no_more, one_more}
+use Rattle.chan_deck.proofs.WriteLemmas.{each_text}
 use Rattle.chan_deck.proofs.writing.write_extents.Goals as goal
 
 pub write_extent-requires-clause-first : goal.write_extent-requires-clause-first
@@ -14,4 +17,10 @@ write_extent-requires-clause-last c =
     omega (arith, e.1)
 
 pub loop-pair-preserved : goal.loop-pair-preserved
-loop-pair-preserved c = extents_more c.args.extents.now c.loop-pair.pair-index _ _ _ c.loop-pair-test.true c.loop-pair.invariant c.in_ok-write_extent.ensures
+loop-pair-preserved c =
+    one_more (λ e. line (extent_of e) ++ 10 ∷ []) c.args.extents.now c.loop-pair.pair-index (0, 0) _ _ _ c.loop-pair-test.true c.loop-pair.invariant c.in_ok-write_extent.ensures
+
+pub returns : goal.returns
+returns c =
+    no_more (λ e. line (extent_of e) ++ 10 ∷ []) c.args.extents.now c.loop-pair.pair-index _ _ c.loop-pair-test.false c.loop-pair.invariant
+    ∙ ap (λ t. c.args.out.now.items ++ t) (each_text extent_of c.args.extents.now)

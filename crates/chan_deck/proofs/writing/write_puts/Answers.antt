@@ -1,12 +1,15 @@
-use Rattle.std.proofs.Common.{◌≡◌, ◌+◌, ◌-◌, ◌*◌, ◌/◌, ◌∙◌, sym, arith, length}
+use Rattle.std.proofs.Common.{◌∙◌, sym, arith}
 use Rattle.chan_deck.proofs.WriteLemmas.{puts_more, no_puts_left}
 use Rattle.chan_deck.proofs.writing.write_puts.Goals as goal
 
-pub loop-i-preserved : goal.loop-i-preserved
-loop-i-preserved c =
-    let eight : 8 * c.loop-i.i + 8 - 8 * c.loop-i.i ≡ 8 = omega arith in
-    puts_more (length c.args.bytes.now / 8) c.loop-i.i c.args.at c.args.bytes.now _ _ _ c.loop-i-test.true (rw eight at c.in_ok-write_word.ensures) c.loop-i.invariant
+pub loop-rest-preserved : goal.loop-rest-preserved
+loop-rest-preserved c =
+    let l = c.loop-rest in
+    let written = rw c.split_at.ensures.front at c.in_ok-write_word.ensures in
+    record {
+      told = rw c.split_at.ensures.back (puts_more l.address l.rest.now l.out.items _ _ c.loop-rest-test.true written l.invariant.told);
+      fits = omega (arith, l.invariant.fits, c.split_at.ensures.back_len, c.loop-rest-test.true);
+    }
 
 pub returns : goal.returns
-returns c =
-    sym (no_puts_left (length c.args.bytes.now / 8) c.loop-i.i c.args.at c.args.bytes.now c.loop-i.out.items c.loop-i-test.false) ∙ c.loop-i.invariant
+returns c = sym (no_puts_left c.loop-rest.address c.loop-rest.rest.now c.loop-rest.out.items c.loop-rest-test.false) ∙ c.loop-rest.invariant.told

@@ -1,8 +1,16 @@
-use Rattle.std.proofs.Common.{◌≡◌, ◌+◌, ◌++◌, ◌*◌, ◌-◌, ◌/◌, length, drop, map}
+use Rattle.std.proofs.Common.{◌≡◌, ◌+◌, ◌++◌, ◌/◌, ◌≤◌, ◌^◌, length, map}
 use Rattle.chan_deck.specs.Item.{line, text}
 use Rattle.chan_deck.specs.Image.{puts}
 use Rattle.chan_deck.proofs.writing.write_puts.Given as goal
 
 -- what is written and what is left to write are all
-abbrev pub invariant-loop-i : goal.invariant-loop-i
-invariant-loop-i l = l.out.items ++ text (map line (puts (length l.bytes / 8 - l.i) (l.at + 8 * l.i) (drop (8 * l.i) l.bytes))) ≡ l.fn.out.items ++ text (map line (puts (length l.bytes / 8) l.at l.bytes))
+abbrev pub invariant-loop-rest : goal.invariant-loop-rest
+invariant-loop-rest l = record {
+  told :
+      l.out.items ++ text (map line (puts (length l.rest / 8) l.address l.rest))
+      ≡ l.fn.out.items ++ text (map line (puts (length l.bytes / 8) l.at l.bytes));
+  fits : l.address + length l.rest ≤ 2 ^ 24;
+}
+
+abbrev pub decreases-loop-rest : goal.decreases-loop-rest
+decreases-loop-rest l = length l.rest
