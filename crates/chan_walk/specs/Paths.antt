@@ -46,8 +46,3 @@ pub record ArePathWhere (j : Job) (P : Place → Type 0) (places : List Place) :
   pub before : List Place
   pub is : places ≡ reverse (last ∷ before)
   pub path : IsPathWhere j P last before
-
--- the path to p, from the first place on; none where p isn't reachable
-abbrev pub IsPathTo : Job → Place → Option (List Place) → Type 0
-IsPathTo j p None = IsReachable j p → ⊥
-IsPathTo j p (Some places) = ArePathWhere j (λ q. q ≡ p) places

@@ -117,11 +117,6 @@ pub record IsPathAt (j : Job) (ps : List Place) (k : ℕ) (places : List Place) 
   pub is : places ≡ reverse (last ∷ before)
   pub best : IsBest j ps k last before
 
--- p stands at the index k, or nowhere in the list
-abbrev pub IsIndexOf : List Place → Place → Option ℕ → Type 0
-IsIndexOf ps p None = Has ps p → ⊥
-IsIndexOf ps p (Some k) = slice_get ps k ≡ Some p
-
 -- the index of the first of the places for which P holds, or that it holds for none
 abbrev pub IsFirstWhere : (Place → Type 0) → List Place → Option ℕ → Type 0
 IsFirstWhere P ps None = (k : ℕ) (p : Place) → slice_get ps k ≡ Some p → P p → ⊥

@@ -1,6 +1,6 @@
 //! What a survey of a job tells.
 
-ghost use Rattle.std.specs.Prelude.{◌≡◌, ◌↔◌, map, option_map, vec_items, IfOk};
+ghost use Rattle.std.specs.Prelude.{◌≡◌, ◌↔◌, map, IfOk};
 ghost use Rattle.std.specs.List.{AllZip};
 ghost use Rattle.std.specs.List.Sorted.{IsStrictlyIncreasing};
 ghost use Rattle.chan_walk.specs.Argument.{Has};
@@ -11,7 +11,6 @@ ghost use Rattle.chan_walk.specs.Look.{AreLooks, Seen, places_of_looks};
 ghost use Rattle.chan_walk.specs.Notes.{AreNotes};
 ghost use Rattle.chan_walk.specs.Needs.{AreOfOneProgram};
 ghost use Rattle.chan_walk.specs.Offences.{first_verdict};
-ghost use Rattle.chan_walk.specs.Paths.{IsPathTo};
 ghost use Rattle.chan_walk.specs.Rows.{AreNeeds, listed};
 ghost use Rattle.chan_walk.specs.Surveyed.{IsSurvey};
 ghost use Rattle.chan_walk.specs.declared.job.Job.{Job};
@@ -27,7 +26,6 @@ use crate::needs::{Needs, needs_of};
 use crate::note::Notes;
 use crate::noting::notes_of;
 use crate::offence::Offence;
-use crate::path::{Path, index_of, path_at};
 use crate::place::{Place, order_is_by_number};
 use crate::verdict::Verdict;
 use crate::witness::{Witness, causes_of, witness_of};
@@ -63,23 +61,6 @@ impl Survey {
         ensures { result.now ≡ self.now.offences.items }
     {
         self.offences.as_slice()
-    }
-
-    /// The path from the first place to a place: the shortest list of successors. Of several that
-    /// are equally short it is the one that goes on to `next`, not to `skip`, at the first place at
-    /// which they part. So there is exactly one. `None` comes exactly if the place isn't reachable.
-    pub fn path_to(&self, alloc: Global, place: Place) -> Result<Option<Vec<Place>>, AllocError>
-        requires { (j : Job) × IsSurvey j self.now }
-        ensures { IfOk result (λ path. (j : Job) → IsSurvey j self.now
-            → IsPathTo j place (option_map vec_items path)) }
-    {
-        match index_of(self.walk.looks.as_slice(), place) {
-            Some(at) => {
-                let Path { places, .. } = path_at(alloc, &self.walk, at)?;
-                Ok(Some(places))
-            }
-            None => Ok(None),
-        }
     }
 
     /// The witness of the first offence.

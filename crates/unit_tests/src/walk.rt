@@ -7,4 +7,3 @@ mod needs;
 mod program;
 mod seek;
 mod starting;
-mod witness;

@@ -1,7 +1,7 @@
 //! Jobs by what differs from case to case, and what is asked of one.
 
 use super::guard::Ranges;
-use super::{exploring, guard, judging, needs, seek, starting, witness};
+use super::{exploring, guard, judging, needs, seek, starting};
 use ccw_core::{Area, Storage};
 use chan_walk::{Entry, Job, Limit, Place, Reason, Start, Verdict, WalkError};
 use ckd_core::{Device, Extents, FileMask};
@@ -82,8 +82,6 @@ pub(crate) enum Question<'a> {
     Verdict(Result<Verdict, WalkError>),
     /// Whether this is the own fault of a place.
     Fault(Row, Option<Reason>),
-    /// Whether this is the path to its last row.
-    Path(&'a [Row]),
     /// Whether its program keeps 24 bytes, and may start.
     Needs,
     /// Whether this is the answer to a start, with so many right parts remembered.
@@ -153,7 +151,6 @@ fn answers(alloc: Global, job: &Job, question: Question) -> bool {
         Question::Guard(ranges) => guard::has_guard(alloc, job, ranges),
         Question::Verdict(verdict) => judging::is_judged(alloc, job, verdict),
         Question::Fault(row, fault) => judging::has_fault(job, place(row), fault),
-        Question::Path(rows) => witness::has_path(alloc, job, rows),
         Question::Needs => needs::has_needs(alloc, job),
         Question::Start(right, answer) => starting::is_answered(alloc, job, right, answer),
     }
