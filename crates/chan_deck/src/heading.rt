@@ -23,7 +23,7 @@ pub(crate) struct Heading {
 
 /// What has been said before the heading is whole.
 #[derive(Clone, Copy)]
-pub(crate) enum Begun {
+enum Begun {
     Opening,
     Named(VersionNumber),
     OnDevice(VersionNumber, Device),
@@ -34,7 +34,7 @@ pub(crate) enum Begun {
 
 /// What came of a line of the heading.
 #[derive(Clone, Copy)]
-pub(crate) enum Headed {
+enum Headed {
     Taken(Begun),
     Whole(Heading),
     Refused(Cause),
