@@ -32,8 +32,8 @@ pub(crate) enum Given {
 /// what help says of it.
 pub(crate) type Word = (&'static str, Given, &'static str, &'static str);
 
-/// A command: its name, what help says of it, what its help says behind its words, and its words and
-/// options, in the order of help.
+/// A command: its name, what help says of it, what its help says behind its words, and its words
+/// and options, in the order of help.
 pub(crate) type Line = (&'static str, &'static str, &'static str, &'static [Word]);
 
 /// The forms of a command line, for help and for a usage fault before any command.

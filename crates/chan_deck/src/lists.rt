@@ -2,7 +2,8 @@
 
 ghost use Rattle.std.specs.Prelude.{◌≡◌, [], IfOk};
 ghost use Rattle.chan_deck.specs.Item.{said_by};
-ghost use Rattle.chan_deck.specs.Reading.{Filling, LeadsOrFails, Listing, listed, taken, with_lists};
+ghost use Rattle.chan_deck.specs.Reading.{Filling, LeadsOrFails, Listing, listed, taken};
+ghost use Rattle.chan_deck.specs.Reading.{with_lists};
 ghost use Rattle.chan_deck.specs.declared.heading.Heading.{Heading};
 
 use crate::cause::Cause;
