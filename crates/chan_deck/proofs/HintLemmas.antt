@@ -1,11 +1,11 @@
 -- What the lines before a refused line say, line by line.
-use Rattle.std.proofs.Common.{◌≡◌, ◌≢◌, ℕ, ◌+◌, ◌<◌, ◌≤◌, Bool, true, if◌then◌else◌, List, [], ◌∷◌, ◌++◌, length, take, drop, map, Option, Some, None, is_some, not, refl, sym, ap, subst, ◌∙◌, arith, append_assoc, length-append}
+use Rattle.std.proofs.Common.{◌≡◌, ℕ, ◌+◌, ◌<◌, Bool, true, if◌then◌else◌, List, [], ◌∷◌, ◌++◌, length, take, drop, map, Option, Some, None, is_some, not, refl, sym, ap, subst, ◌∙◌, arith, append_assoc, length-append}
 use Rattle.std.specs.List.{AllByRecursion}
 use Rattle.std.proofs.lemmas.List.{append-nil, append_cancel_left, take-append-drop, take-append-le, take_all}
-use Rattle.chan_deck.specs.Hint.{AreBefore, IsBehind, item_in, size_in}
-use Rattle.chan_deck.specs.Item.{Item, header, device, mask, start, limit, extent, fetch, store, storage, put, end, line, HasForm, IsSaid, Says, Reads, said_by}
+use Rattle.chan_deck.specs.Hint.{AreBefore, IsBehind, size_in}
+use Rattle.chan_deck.specs.Item.{Item, header, storage, line, HasForm, IsSaid, Says, Reads, said_by}
 use Rattle.chan_deck.specs.Reading.{is_empty}
-use Rattle.chan_deck.specs.Refused.{AreSaid, found_behind, found_in, is_second, last_of, lines, part, split, whole_line}
+use Rattle.chan_deck.specs.Refused.{found_behind, found_in, is_second, last_of, lines, part, split, whole_line}
 use Rattle.chan_deck.specs.declared.hint.Before.{Before}
 use Rattle.chan_deck.specs.declared.item.Item as said
 use Rattle.chan_deck.specs.declared.version.VersionNumber.TheVariants as numbers

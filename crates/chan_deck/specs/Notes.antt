@@ -1,5 +1,5 @@
 -- Areas on which notes are given: neighbours that adjoin count as one.
-use Rattle.std.specs.Prelude.{ℕ, ◌+◌, nat_eq, nat_lt, Bool, ◌&&◌, if◌then◌else◌, List, [], ◌∷◌}
+use Rattle.std.specs.Prelude.{◌+◌, nat_eq, nat_lt, Bool, ◌&&◌, if◌then◌else◌, List, [], ◌∷◌}
 use Rattle.ccw_core.specs.declared.areas.Area.{Area}
 
 -- an area begins where another ends, and both together have a length that an area may have

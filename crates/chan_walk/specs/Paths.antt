@@ -1,11 +1,11 @@
 -- The path to a place: the shortest, and of several the one that goes to next where another goes to
 -- skip.
-use Rattle.std.specs.Prelude.{◌≡◌, ◌<◌, List, [], ◌∷◌, length, reverse, Option, None, Some, ◌⊎◌}
+use Rattle.std.specs.Prelude.{◌≡◌, ◌<◌, List, [], ◌∷◌, length, reverse, Some, ◌⊎◌}
 use Rattle.chan_walk.specs.declared.job.Job.{Job}
 use Rattle.chan_walk.specs.declared.place.Place.{Place}
 use Rattle.chan_walk.specs.Fault.{kind_of}
 use Rattle.chan_walk.specs.Place.{ccw_of}
-use Rattle.chan_walk.specs.Reachable.{IsPath, IsReachable}
+use Rattle.chan_walk.specs.Reachable.{IsPath}
 use Rattle.chan_walk.specs.Successors.{next_of, skip_of}
 
 -- q is the next place after p

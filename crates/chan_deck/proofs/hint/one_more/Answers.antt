@@ -1,6 +1,4 @@
-use Rattle.std.proofs.Common.{◌∙◌, ◌++◌, ◌∷◌, [], ◌≡◌, List, Some, sym, true, false}
-use Rattle.chan_deck.specs.Hint.{AreBefore}
-use Rattle.chan_deck.specs.Item.{Item, said_by}
+use Rattle.std.proofs.Common.{◌∙◌, ◌++◌, ◌∷◌, [], ◌≡◌, Some, sym, true, false}
 use Rattle.chan_deck.specs.Refused.{is_second}
 use Rattle.chan_deck.proofs.HintLemmas.{item_told, second_told, size_of_one, size_stays}
 use Rattle.chan_deck.proofs.hint.one_more.Goals as goal
