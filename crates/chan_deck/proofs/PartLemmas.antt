@@ -15,37 +15,6 @@ use Rattle.chan_deck.specs.Parts.{HasAddresses, image_of, storage_with, version_
 use Rattle.chan_deck.specs.declared.parts.Parts.{Parts}
 use Rattle.chan_deck.proofs.StepLemmas.{bytes_pad, bytes_zeros}
 
--- six digits are enough for both numbers of an area
-abbrev pub is_area : Area → Bool
-is_area a = nat_lt a.start (2 ^ 24) && nat_lt a.len (2 ^ 24)
-
-areas_right : (areas : List Area) → list_all is_area areas ≡ true → AllByRecursion IsArea areas
-areas_right [] e = tt
-areas_right (a ∷ areas) e =
-    let x = and_parts (is_area a) (list_all is_area areas) e in
-    let y = and_parts (nat_lt a.start (2 ^ 24)) (nat_lt a.len (2 ^ 24)) x.0 in
-    ((ltb-true a.start (2 ^ 24) y.0, ltb-true a.len (2 ^ 24) y.1), areas_right areas x.1)
-
-areas_pass : (areas : List Area) → AllByRecursion IsArea areas → list_all is_area areas ≡ true
-areas_pass [] h = refl
-areas_pass (a ∷ areas) h = rw (lt-ltb a.start (2 ^ 24) h.0.0, lt-ltb a.len (2 ^ 24) h.0.1, areas_pass areas h.1) refl
-
--- the test decides whether six digits are enough for each area
-pub areas_decided : (areas : List Area) (b : Bool)
-    → b ≡ list_all (λ a. nat_lt a.start (2 ^ 24) && nat_lt a.len (2 ^ 24)) areas
-    → MatchBool b (AllByRecursion IsArea areas) (AllByRecursion IsArea areas → ⊥)
-areas_decided areas true e = areas_right areas (sym e)
-areas_decided areas false e = λ right.
-    let both : false ≡ true = e ∙ areas_pass areas right in
-    absurd cc
-
--- where start and areas for fetching have six digits, those for storing decide
-pub by_store : (p : Parts) (b : Bool) → IsAddress p.start → AllByRecursion IsArea p.fetch.now
-    → b ≡ list_all (λ a. nat_lt a.start (2 ^ 24) && nat_lt a.len (2 ^ 24)) p.store.now
-    → MatchBool b (HasAddresses p) (HasAddresses p → ⊥)
-by_store p true start fetch e = (start, fetch, areas_decided p.store.now true e)
-by_store p false start fetch e = λ right. areas_decided p.store.now false e right.2
-
 -- an image that was put into zeros, with what stands before and behind it
 pub storage_is : (at : ℕ) (image bytes : List ℕ)
     → bytes ≡ (take at (zeros (next_multiple_of (at + length image) 8)) ++ image)

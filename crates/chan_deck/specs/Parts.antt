@@ -41,10 +41,6 @@ image_of p =
       storage = storage_with p.at p.image.now;
     }
 
--- the image ends past 16,777,216 bytes, which is as large as storage can be
-abbrev pub IsTooLong : Parts → Type 0
-IsTooLong p = 2 ^ 24 < p.at + length p.image.now
-
 -- six digits are enough for the start, and for the start and the length of each area
 abbrev pub HasAddresses : Parts → Type 0
 HasAddresses p =

@@ -44,7 +44,7 @@ pub use crate::hint::hint_text;
 pub use crate::listing::{ListError, row_text, write_listing, write_seen};
 pub use crate::needs::{in_six_digits, needs_text};
 pub use crate::notes::notes_text;
-pub use crate::parts::{Parts, PartsError, place_image, write_parts};
+pub use crate::parts::{Parts, parts_text, place_image};
 pub use crate::reading::read_deck;
 pub use crate::texts::{program_text, verdict_text};
 pub use crate::writing::write_deck;

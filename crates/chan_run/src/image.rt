@@ -18,8 +18,8 @@ use crate::input::read_input;
 use crate::least::write_least;
 use crate::options::PAST_ADDRESSES;
 use crate::reporting::Outcome;
-use ccw_core::Watched;
-use chan_deck::{Parts, PartsError, write_parts};
+use ccw_core::{Watched, write_out};
+use chan_deck::{Parts, parts_text};
 use std::alloc::{AllocError, Global};
 use std::io::{Read, Write};
 
@@ -141,13 +141,8 @@ pub(crate) fn write_right<W: Write>(
     ensures write { IsWriteFailure result ↔ (to.new.failed ≡ true) }
     ensures memory { result ≡ Failed failures.OutOfMemory → to.new ≡ to.old }
 {
-    match write_parts(alloc, parts, to) {
-        Ok(()) => Outcome::Done,
-        Err(PartsError::Write) => Outcome::Failed(Failure::WriteFailed),
-        Err(PartsError::Memory) => Outcome::Failed(Failure::OutOfMemory),
-        // the image ends in storage
-        Err(PartsError::TooLong) => unreachable!(),
-        // each number has six digits
-        Err(PartsError::Address) => unreachable!(),
+    match parts_text(alloc, parts) {
+        Ok(text) => Outcome::of_write(write_out(text.as_slice(), to)),
+        Err(AllocError) => Outcome::Failed(Failure::OutOfMemory),
     }
 }

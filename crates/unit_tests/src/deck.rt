@@ -2,7 +2,6 @@
 
 mod explanation;
 mod listing;
-mod parts;
 mod reading;
 
 /// The search loop: search for a record by its identifier, try the next one, read what was found.

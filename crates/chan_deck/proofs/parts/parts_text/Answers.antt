@@ -3,7 +3,7 @@ use Rattle.chan_deck.specs.Image.{HasLimit, spelling}
 use Rattle.chan_deck.specs.Parts.{image_of, storage_with}
 use Rattle.chan_deck.specs.declared.version.Version.{Version}
 use Rattle.chan_deck.proofs.PartLemmas.{from_facts, parts_deck}
-use Rattle.chan_deck.proofs.parts.text_of_parts.Goals as goal
+use Rattle.chan_deck.proofs.parts.parts_text.Goals as goal
 
 pub returns : goal.returns
 returns c =
