@@ -2,7 +2,7 @@
 use Rattle.std.proofs.Common.{◌≡◌, ℕ, List, Option, Result, Ok, Err, true, false, IsErr, OnOk, ◌↔◌, ◌∙◌, refl, sym, subst}
 use Rattle.std.proofs.KnownBytes.{Appends-kept}
 use Rattle.std.specs.Io.KnownBytes.{Keeps}
-use Rattle.chan_deck.specs.Image.{Image, Spells, spelling}
+use Rattle.chan_deck.specs.Image.{Image, Spells}
 use Rattle.chan_walk.specs.declared.job.Job.{Job}
 use Rattle.chan_run.specs.declared.reporting.Outcome.{Outcome}
 use Rattle.chan_run.specs.declared.reporting.Outcome.TheVariants.{Done, Failed}
@@ -59,8 +59,7 @@ put_kept contents old mid new answer (Err e) keeps same h =
 pub image_kept : (o : ImageOptions) (image : List ℕ) (old mid new : Option (List ℕ)) (came : Outcome)
     → Keeps mid new → ((IsDone came → ⊥) → new ≡ mid) → IsDeckAnswer o image old mid came
     → IsDeckAnswer o image old new came
-image_kept o image old mid new Done keeps same (deck, asked, is_deck, written) =
-    (deck, asked, is_deck, Appends-kept old mid new (spelling deck) written keeps)
+image_kept o image old mid new Done keeps same (text, is, written) = (text, is, Appends-kept old mid new text written keeps)
 image_kept o image old mid new (Failed failure) keeps same h =
     subst (λ (x : Option (List ℕ)). IsDeckAnswer o image old x (Failed failure)) (sym (same (λ done. done))) h
 image_kept o image old mid new came keeps same h = h

@@ -1,5 +1,5 @@
 -- The deck with the least job: its areas have six digits, and the verdict on its job is yes.
-use Rattle.std.proofs.Common.{◌≡◌, ℕ, ◌+◌, ◌-◌, ◌∙◌, ◌<◌, ◌≤◌, ◌==◌, ◌^◌, Bool, ◌||◌, true, false, List, [], ◌∷◌, ◌++◌, length, ◌⊎◌, inl, inr, arith, refl, sym, ap, subst, Option}
+use Rattle.std.proofs.Common.{◌≡◌, ℕ, ◌+◌, ◌-◌, ◌∙◌, ◌<◌, ◌≤◌, ◌==◌, ◌^◌, Bool, ◌||◌, true, false, List, [], ◌∷◌, ◌++◌, length, ◌⊎◌, inl, inr, arith, refl, sym, ap, subst, Option, Result, Ok, Err, OnOk}
 use Rattle.std.specs.List.{AllByRecursion}
 use Rattle.std.specs.Io.KnownBytes.{Appends}
 use Rattle.std.proofs.lemmas.Bool.{cases_lt, eqb-false, or_left, or_right}
@@ -16,11 +16,13 @@ use Rattle.chan_walk.specs.Rows.{AreNeeds, IsOpenJob, Listed}
 use Rattle.chan_walk.specs.Verdict.{IsVerdict}
 use Rattle.chan_walk.proofs.Algorithms.Merging.{lies_in-append, lies_in-cases, lies_in-first, lies_in-rest}
 use Rattle.chan_walk.proofs.Theory.Needing.{granted_yes, to_open, yes_grants}
-use Rattle.chan_deck.specs.Image.{Image, IsDeck, limit_of, spelling}
+use Rattle.chan_deck.specs.Image.{Image, limit_of}
 use Rattle.chan_deck.proofs.PartLemmas.{storage_fits}
 use Rattle.chan_deck.specs.Item.{IsArea}
 use Rattle.chan_deck.specs.Needs.{halves, in_six_digits, split}
-use Rattle.chan_run.specs.Imaging.{IsAskedDeck, IsDeckAnswer, IsOfOpenJob, IsProgramIn, deck_of, extents_for, least_deck}
+use Rattle.chan_run.specs.Imaging.{IsAskedDeck, IsDeckAnswer, IsDeckText, IsNoDeck, IsOfOpenJob, IsProgramIn, deck_of, extents_for, least_deck}
+use Rattle.chan_run.specs.Report.{wrote}
+use Rattle.ccw_core.specs.declared.watched.DeviceFault.{DeviceFault}
 use Rattle.chan_run.specs.Run.{IsJobOf}
 use Rattle.chan_run.specs.declared.failure.Failure.TheVariants as failures
 use Rattle.chan_run.specs.declared.reporting.Outcome.{Outcome}
@@ -190,15 +192,19 @@ pub is_least_deck : (o : ImageOptions) (image : List ℕ) (n : Listed) (extents 
     → record (deck_of o image) { mask = n.mask; extents = extents; fetch = fetch; store = store } ≡ least_deck o image n
 is_least_deck o image n extents fetch store one two three = rw (one, two, three) refl
 
--- what was written is the deck that is asked for, or a prefix of it
-pub deck_answered : (o : ImageOptions) (image : List ℕ) (d : Image) (old new : Option (List ℕ))
-    (end : Outcome) → IsAskedDeck o.is_least o image d → (end ≡ Done → IsDeck d)
-    → (end ≡ Done → Appends old new (spelling d)) → AppendsPrefix old new (spelling d)
-    → (end ≡ Done) ⊎ (end ≡ Failed failures.WriteFailed) ⊎ (end ≡ Failed failures.OutOfMemory)
+-- a text of that deck that is written is answered, or a prefix of it
+pub deck_answered : (o : ImageOptions) (image text : List ℕ) (old new : Option (List ℕ)) (r : Result (Unit {0}) DeviceFault)
+    → IsDeckText o image text → OnOk r (Appends old new text) → AppendsPrefix old new text
+    → IsDeckAnswer o image old new (wrote r)
+deck_answered o image text old new (Ok x) is all prefix = (text, is, all)
+deck_answered o image text old new (Err e) is all prefix = (text, is, prefix)
+
+-- and so is why there is none
+pub none_answered : (end : Outcome) (o : ImageOptions) (image : List ℕ) (old new : Option (List ℕ)) → IsNoDeck o image end
     → IsDeckAnswer o image old new end
-deck_answered o image d old new end asked deck all prefix (inl is) = rw is (d, asked, deck is, all is)
-deck_answered o image d old new end asked deck all prefix (inr (inl is)) = rw is (d, asked, prefix)
-deck_answered o image d old new end asked deck all prefix (inr (inr is)) = rw is tt
+none_answered Done o image old new none = absurd none.1
+none_answered (Failed failures.WriteFailed) o image old new none = absurd none.1
+none_answered end o image old new none = none
 
 -- the open job of a program shows something
 pub of_open_job : (o : ImageOptions) (image : List ℕ) (Holds : Job → Type 0) (j k : Job) → IsProgramIn o image j

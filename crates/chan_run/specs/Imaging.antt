@@ -4,7 +4,7 @@ use Rattle.std.specs.Prelude.{Bool, true, false, Option, Some, None}
 use Rattle.std.specs.Prelude.{replicate, unwrap_or}
 use Rattle.std.specs.Io.KnownBytes.{Appends}
 use Rattle.ccw_core.specs.Written.{AppendsPrefix}
-use Rattle.chan_deck.specs.Image.{Image, IsDeck, limit_of, spelling}
+use Rattle.chan_deck.specs.Image.{Image, Spells, limit_of}
 use Rattle.chan_deck.specs.Needs.{in_six_digits}
 use Rattle.chan_deck.specs.Parts.{storage_with, version_with}
 use Rattle.chan_walk.specs.declared.job.Job.{Job}
@@ -106,15 +106,23 @@ HasNoNeeds o image (Failed failures.TooManyPlaces) =
 HasNoNeeds o image (Failed failures.OutOfMemory) = Unit {0}
 HasNoNeeds o image _ = ⊥
 
+-- the text is that of the deck that is asked for
+abbrev pub IsDeckText : ImageOptions → List ℕ → List ℕ → Type 0
+IsDeckText o image text = (d : Image) × IsAskedDeck o.is_least o image d × Spells text d
+
+-- why there is no such deck; it was the least job that was asked for, unless memory ran out
+abbrev pub IsNoDeck : ImageOptions → List ℕ → Outcome → Type 0
+IsNoDeck o image (Failed failures.OutOfMemory) = Unit {0}
+IsNoDeck o image end = (o.is_least ≡ true) × HasNoNeeds o image end
+
 -- what each answer says of an image and the output
 abbrev pub IsDeckAnswer : ImageOptions → List ℕ → Option (List ℕ) → Option (List ℕ)
     → Outcome → Type 0
 IsDeckAnswer o image old new Done =
-    (d : Image) × IsAskedDeck o.is_least o image d × IsDeck d × Appends old new (spelling d)
+    (text : List ℕ) × IsDeckText o image text × Appends old new text
 IsDeckAnswer o image old new (Failed failures.WriteFailed) =
-    (d : Image) × IsAskedDeck o.is_least o image d × AppendsPrefix old new (spelling d)
-IsDeckAnswer o image old new (Failed failures.OutOfMemory) = Unit {0}
-IsDeckAnswer o image old new end = (o.is_least ≡ true) × HasNoNeeds o image end
+    (text : List ℕ) × IsDeckText o image text × AppendsPrefix old new text
+IsDeckAnswer o image old new end = IsNoDeck o image end
 
 -- why no image was read; nothing was written then
 abbrev pub IsNoImage : ImageOptions → Option (List ℕ) → Option (List ℕ) → Failure → Type 0

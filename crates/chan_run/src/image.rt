@@ -1,21 +1,17 @@
 //! Making a deck of an image of storage: from the reader's bytes to the writer's.
 
-ghost use Rattle.std.specs.Prelude.{◌≡◌, ◌↔◌, ◌⊎◌, ◌+◌, ◌≤◌, ◌^◌, false, true, length, Err, IfErr};
+ghost use Rattle.std.specs.Prelude.{◌≡◌, ◌↔◌, ◌+◌, ◌≤◌, ◌^◌, false, true, length, IfErr};
 ghost use Rattle.std.specs.Prelude.{◌<◌, if◌then◌else◌, is_some, IfOk, IfSome, IsErrOf, None};
 ghost use Rattle.std.specs.Prelude.{unwrap_or};
-ghost use Rattle.std.specs.Io.KnownBytes.{Appends};
-ghost use Rattle.ccw_core.specs.Written.{AppendsPrefix};
-ghost use Rattle.chan_deck.specs.Image.{IsDeck, spelling};
-ghost use Rattle.chan_deck.specs.Parts.{HasAddresses, image_of};
-ghost use Rattle.chan_run.specs.Imaging.{IsDeckAnswer, IsNoImage, IsRoom, IsWholeImage, filled};
+ghost use Rattle.chan_run.specs.Imaging.{IsDeckAnswer, IsDeckText, IsNoDeck, IsNoImage, IsRoom};
+ghost use Rattle.chan_run.specs.Imaging.{IsWholeImage, filled};
 ghost use Rattle.chan_run.specs.Report.{IsDone, IsWriteFailure};
 ghost use Rattle.chan_run.specs.declared.failure.Failure.TheVariants as failures;
-ghost use Rattle.chan_run.specs.declared.reporting.Outcome.TheVariants.{Done, Failed};
 
 use crate::failure::Failure;
 use crate::image_options::ImageOptions;
 use crate::input::read_input;
-use crate::least::write_least;
+use crate::least::least_text;
 use crate::options::PAST_ADDRESSES;
 use crate::reporting::Outcome;
 use ccw_core::{Watched, write_out};
@@ -105,8 +101,20 @@ pub(crate) fn write_image_of<W: Write>(
     ensures early { (IsDone result → ⊥) → (IsWriteFailure result → ⊥) → to.new ≡ to.old }
     ensures write { IsWriteFailure result ↔ (to.new.failed ≡ true) }
 {
+    match deck_text(alloc, options, image) {
+        Ok(text) => Outcome::of_write(write_out(text.as_slice(), to)),
+        Err(end) => end,
+    }
+}
+
+/// The text of the deck that an image makes with the job that is asked for.
+fn deck_text(alloc: Global, options: &ImageOptions, image: &[u8]) -> Result<Vec<u8>, Outcome>
+    requires { options.now.at + length image.now ≤ 2 ^ 24 }
+    ensures text { IfOk result (λ text. IsDeckText options.now image.now text.items) }
+    ensures none { IfErr result (IsNoDeck options.now image.now) }
+{
     if options.is_least {
-        return write_least(alloc, options, image, to);
+        return least_text(alloc, options, image);
     }
     let parts = Parts {
         limit: options.limit,
@@ -119,30 +127,5 @@ pub(crate) fn write_image_of<W: Write>(
         at: options.at,
         image,
     };
-    write_right(alloc, &parts, to)
-}
-
-/// Writes the deck that parts make which have a text.
-pub(crate) fn write_right<W: Write>(
-    alloc: Global,
-    parts: &Parts<'_>,
-    to: &mut Watched<W>,
-) -> Outcome
-    requires short { parts.now.at + length parts.now.image.now ≤ 2 ^ 24 }
-    requires addresses { HasAddresses parts.now }
-    requires writer { to.old.failed ≡ false }
-    ensures deck { result ≡ Done → IsDeck (image_of parts.now) }
-    ensures done { result ≡ Done → Appends (W.contents to.old.device) (W.contents to.new.device)
-        (spelling (image_of parts.now)) }
-    ensures prefix { AppendsPrefix (W.contents to.old.device) (W.contents to.new.device)
-        (spelling (image_of parts.now)) }
-    ensures known { (result ≡ Done) ⊎ IsWriteFailure result
-        ⊎ (result ≡ Failed failures.OutOfMemory) }
-    ensures write { IsWriteFailure result ↔ (to.new.failed ≡ true) }
-    ensures memory { result ≡ Failed failures.OutOfMemory → to.new ≡ to.old }
-{
-    match parts_text(alloc, parts) {
-        Ok(text) => Outcome::of_write(write_out(text.as_slice(), to)),
-        Err(AllocError) => Outcome::Failed(Failure::OutOfMemory),
-    }
+    Ok(parts_text(alloc, &parts)?)
 }

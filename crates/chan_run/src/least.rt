@@ -1,6 +1,6 @@
 //! The deck of an image of storage with the least job of its program.
 
-ghost use Rattle.std.specs.Prelude.{◌≡◌, ◌↔◌, ◌+◌, ◌≤◌, ◌^◌, List, ℕ, false, true, length, IfErr};
+ghost use Rattle.std.specs.Prelude.{◌≡◌, ◌+◌, ◌≤◌, ◌^◌, List, ℕ, true, length, IfErr};
 ghost use Rattle.std.specs.Prelude.{IfOk, OnOk};
 ghost use Rattle.std.specs.List.{AllByRecursion};
 ghost use Rattle.ckd_core.specs.Cylinders.{IsExtent};
@@ -9,50 +9,37 @@ ghost use Rattle.ccw_core.specs.Held.{bytes_held};
 ghost use Rattle.chan_walk.specs.Needs.{AreOfOneProgram};
 ghost use Rattle.chan_walk.specs.Rows.{AreNeeds, listed};
 ghost use Rattle.chan_walk.specs.declared.job.Job.{Job};
-ghost use Rattle.chan_run.specs.Imaging.{HasNoNeeds, IsDeckAnswer, IsProgramAt, IsProgramIn};
-ghost use Rattle.chan_run.specs.Imaging.{extents_for};
-ghost use Rattle.chan_run.specs.Report.{IsDone, IsWriteFailure};
+ghost use Rattle.chan_run.specs.Imaging.{HasNoNeeds, IsDeckText, IsNoDeck, IsProgramAt};
+ghost use Rattle.chan_run.specs.Imaging.{IsProgramIn, extents_for};
 ghost use Rattle.chan_run.specs.declared.image_options.ImageOptions.{ImageOptions};
 
 use crate::failure::Failure;
-use crate::image::write_right;
 use crate::image_options::ImageOptions;
 use crate::reporting::Outcome;
-use ccw_core::{Storage, Watched};
-use chan_deck::{Parts, in_six_digits, place_image};
+use ccw_core::Storage;
+use chan_deck::{Parts, in_six_digits, parts_text, place_image};
 use chan_walk::{Job, Limit, Needs, OpenJob, Verdict, WalkError, survey};
 use ckd_core::Extents;
 use std::alloc::{AllocError, Global};
-use std::io::Write;
 
-/// Writes the deck that an image makes with the options and the least job of its program.
-pub(crate) fn write_least<W: Write>(
+/// The text of the deck that an image makes with the options and the least job of its program.
+pub(crate) fn least_text(
     alloc: Global,
     options: &ImageOptions,
     image: &[u8],
-    to: &mut Watched<W>,
-) -> Outcome
+) -> Result<Vec<u8>, Outcome>
     requires short { options.now.at + length image.now ≤ 2 ^ 24 }
     requires least { options.now.is_least ≡ true }
-    requires writer { to.old.failed ≡ false }
-    ensures answer { IsDeckAnswer options.now image.now
-        (W.contents to.old.device) (W.contents to.new.device) result }
-    ensures early { (IsDone result → ⊥) → (IsWriteFailure result → ⊥) → to.new ≡ to.old }
-    ensures write { IsWriteFailure result ↔ (to.new.failed ≡ true) }
+    ensures text { IfOk result (λ text. IsDeckText options.now image.now text.items) }
+    ensures none { IfErr result (IsNoDeck options.now image.now) }
 {
     let needs = match needs_in(alloc, options, image) {
         Ok(needs) => needs,
-        Err(end) => return end,
+        Err(end) => return Err(end),
     };
-    let Ok(extents) = extents_over(alloc, &needs.extents) else {
-        return Outcome::Failed(Failure::OutOfMemory);
-    };
-    let Ok(fetch) = in_six_digits(alloc, &needs.fetch) else {
-        return Outcome::Failed(Failure::OutOfMemory);
-    };
-    let Ok(store) = in_six_digits(alloc, &needs.store) else {
-        return Outcome::Failed(Failure::OutOfMemory);
-    };
+    let extents = extents_over(alloc, &needs.extents)?;
+    let fetch = in_six_digits(alloc, &needs.fetch)?;
+    let store = in_six_digits(alloc, &needs.store)?;
     let parts = Parts {
         limit: options.limit,
         device: options.device,
@@ -64,7 +51,7 @@ pub(crate) fn write_least<W: Write>(
         at: options.at,
         image,
     };
-    write_right(alloc, &parts, to)
+    Ok(parts_text(alloc, &parts)?)
 }
 
 /// What the program needs that the options find in an image.
