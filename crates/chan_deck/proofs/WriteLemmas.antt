@@ -89,7 +89,7 @@ five_parts o a b c d e = simp append_assoc
 
 -- ---- the text of needs
 
-kept_text : (areas : List Area) → flat_map (λ a. (codes "keep " ++ area_digits a) ++ 10 ∷ []) areas ≡ text (map keep_line areas)
+pub kept_text : (areas : List Area) → flat_map (λ a. (codes "keep " ++ area_digits a) ++ 10 ∷ []) areas ≡ text (map keep_line areas)
 kept_text [] = refl
 kept_text (a ∷ areas) = ap (λ t. (keep_line a ++ 10 ∷ []) ++ t) (kept_text areas)
 
@@ -101,9 +101,7 @@ five_same m n e f g s t k l first second third fourth = rw (first, second, third
 pub needs_parts : (n : Listed) (F S K : List Area) → F ≡ in_six_digits n.fetch → S ≡ in_six_digits n.store
     → K ≡ in_six_digits n.keep
     → ((((line (mask n.mask) ++ 10 ∷ []) ++ text (map line (map extent_of n.extents)))
-    ++ flat_map (λ a. (codes "fetch " ++ area_digits a) ++ 10 ∷ []) F)
-    ++ flat_map (λ a. (codes "store " ++ area_digits a) ++ 10 ∷ []) S)
-    ++ flat_map (λ a. (codes "keep " ++ area_digits a) ++ 10 ∷ []) K ≡ needs_text n
+    ++ text (map line (map fetch F))) ++ text (map line (map store S))) ++ text (map keep_line K) ≡ needs_text n
 needs_parts n F S K f s k =
     let M = mask n.mask ∷ [] in
     let E = map extent_of n.extents in
@@ -115,7 +113,7 @@ needs_parts n F S K f s k =
     ∙ ap (λ t. t ++ text (map line fetched)) (text_parts M E)) in
     five_same (line (mask n.mask) ++ 10 ∷ []) (text (map line M)) (text (map line E)) _ (text (map line fetched)) _ (text (map line stored)) _ (text kept)
     (sym (append-nil (line (mask n.mask) ++ 10 ∷ [])))
-    (each_text fetch F ∙ ap (λ areas. text (map line (map fetch areas))) f)
-    (each_text store S ∙ ap (λ areas. text (map line (map store areas))) s)
-    (kept_text K ∙ ap (λ areas. text (map keep_line areas)) k)
+    (ap (λ areas. text (map line (map fetch areas))) f)
+    (ap (λ areas. text (map line (map store areas))) s)
+    (ap (λ areas. text (map keep_line areas)) k)
     ∙ ap (λ t. t ++ text kept) (sym begun) ∙ sym (text-append (map line (granting n)) kept)

@@ -123,6 +123,17 @@ said_by (found.Put a n) = Some (put a (to_be_bytes w64 n))
 said_by found.End = Some end
 said_by i = None
 
+-- what such a line is, without its line feed
+abbrev pub spelled : Option Item → List ℕ
+spelled (Some i) = line i
+spelled None = []
+
+-- three decimal digits are enough for each cylinder, and five for the number of places
+abbrev pub HasDecimals : said.Item → Type 0
+HasDecimals (found.Limit n) = n < 100000
+HasDecimals (found.Extent first last) = (first < 1000) × (last < 1000)
+HasDecimals i = Unit {0}
+
 -- the line says this, or nothing
 abbrev pub IsSaid : List ℕ → Option Item → Type 0
 IsSaid l o = MatchOption o ((i : Item) → Says l i → ⊥) (λ i. Says l i)

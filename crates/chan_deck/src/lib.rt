@@ -30,6 +30,7 @@ mod needs;
 mod notes;
 mod parts;
 mod reading;
+mod spelling;
 mod storage;
 mod texts;
 mod version;

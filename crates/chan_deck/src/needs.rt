@@ -1,12 +1,15 @@
 //! What a program needs as text.
 
-ghost use Rattle.std.specs.Prelude.{◌≡◌, ◌++◌, IfOk, OnOk};
+ghost use Rattle.std.specs.Prelude.{◌≡◌, [], ◌∷◌, ◌++◌, map, IfOk, OnOk};
 ghost use Rattle.std.specs.List.{AllByRecursion};
 ghost use Rattle.ckd_core.specs.Cylinders.{IsExtent};
 ghost use Rattle.chan_walk.specs.Rows.{listed};
+ghost use Rattle.chan_deck.specs.Item.{text};
 ghost use Rattle.chan_deck.specs.Needs as texts;
 
-use crate::writing::{write_areas, write_extents, write_mask};
+use crate::item::Item;
+use crate::spelling::push_area_digits;
+use crate::writing::{write_extents, write_fetch, write_store};
 use ccw_core::Area;
 use chan_walk::Needs;
 use std::alloc::{AllocError, Global};
@@ -49,6 +52,25 @@ pub fn in_six_digits(alloc: Global, areas: &[Area]) -> Result<Vec<Area>, AllocEr
     Ok(parts)
 }
 
+/// The line of an area that is kept.
+fn write_keep(alloc: Global, out: &mut Vec<u8>, area: Area) -> Result<(), AllocError>
+    ensures { OnOk result (out.new.items ≡ out.old.items ++ (texts.keep_line area ++ 10 ∷ [])) }
+{
+    out.extend_from_slice(b"keep ")?;
+    push_area_digits(alloc, out, area)?;
+    out.extend_from_slice(b"\n")
+}
+
+/// A line for each area that is kept.
+fn write_kept(alloc: Global, out: &mut Vec<u8>, areas: &[Area]) -> Result<(), AllocError>
+    ensures { OnOk result (out.new.items ≡ out.old.items ++ text (map texts.keep_line areas.now)) }
+{
+    for area in areas {
+        write_keep(alloc, out, *area)?;
+    }
+    Ok(())
+}
+
 /// The needs of a program as text: in a deck's grammar the lines `mask`, `extent`, `fetch` and
 /// `store` of a job that grants just these, and a line `keep` for each area that is kept. An error
 /// means that an allocation failed.
@@ -60,10 +82,10 @@ pub fn needs_text(alloc: Global, needs: &Needs) -> Result<Vec<u8>, AllocError>
     let store = in_six_digits(alloc, &needs.store)?;
     let keep = in_six_digits(alloc, &needs.keep)?;
     let mut text = Vec::new(alloc);
-    write_mask(alloc, &mut text, needs.mask)?;
-    write_extents(&mut text, &needs.extents)?;
-    write_areas(alloc, &mut text, b"fetch ", &fetch)?;
-    write_areas(alloc, &mut text, b"store ", &store)?;
-    write_areas(alloc, &mut text, b"keep ", &keep)?;
+    Item::Mask(needs.mask.byte()).push(alloc, &mut text)?;
+    write_extents(alloc, &mut text, &needs.extents)?;
+    write_fetch(alloc, &mut text, &fetch)?;
+    write_store(alloc, &mut text, &store)?;
+    write_kept(alloc, &mut text, &keep)?;
     Ok(text)
 }

@@ -77,8 +77,8 @@ fn version_of(limit: Option<Limit>) -> Version
 /// and six digits are enough for the start and for each area. An error means that an allocation
 /// failed.
 ///
-/// The cost is one pass over the image, whatever its address, and the memory is that of the image and
-/// of the text.
+/// The cost is one pass over the image, whatever its address, and the memory is that of the image
+/// and of the text.
 pub fn parts_text(alloc: Global, parts: &Parts<'_>) -> Result<Vec<u8>, AllocError>
     requires size { parts.now.at + length parts.now.image.now ≤ 2 ^ 24 }
     requires addresses { HasAddresses parts.now }

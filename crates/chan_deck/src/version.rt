@@ -1,7 +1,7 @@
 //! The versions of a deck.
 
 ghost use Rattle.std.specs.Prelude.{◌≡◌};
-ghost use Rattle.chan_deck.specs.Image.{limit_of, number_of};
+ghost use Rattle.chan_deck.specs.Image.{header_of, limit_of, number_of};
 
 use chan_walk::Limit;
 
@@ -26,6 +26,16 @@ impl Version {
         match self {
             Version::One => 1,
             Version::Two(_) => 2,
+        }
+    }
+
+    /// What the header of a deck in this version says.
+    pub(crate) fn header(self) -> VersionNumber
+        ensures { result ≡ header_of self }
+    {
+        match self {
+            Version::One => VersionNumber::One,
+            Version::Two(_) => VersionNumber::Two,
         }
     }
 

@@ -1,20 +1,19 @@
 //! Writing a deck.
 
-ghost use Rattle.std.specs.Prelude.{◌≡◌, ◌+◌, ◌/◌, ◌%◌, ◌<◌, ◌≤◌, ◌^◌, true, [], ◌∷◌, ◌++◌, length};
-ghost use Rattle.std.specs.Prelude.{map, replicate, if◌then◌else◌, IfOk, OnOk};
-ghost use Rattle.std.specs.List.{flat_map, AllByRecursion};
-ghost use Rattle.hex.specs.Hex.{encode_upper};
+ghost use Rattle.std.specs.Prelude.{◌≡◌, ◌+◌, ◌/◌, ◌%◌, ◌≤◌, ◌^◌, true, [], ◌∷◌, ◌++◌, length, map};
+ghost use Rattle.std.specs.Prelude.{replicate, if◌then◌else◌, IfOk, OnOk};
+ghost use Rattle.std.specs.Int.{w64, to_be_bytes};
+ghost use Rattle.std.specs.List.{AllByRecursion};
 ghost use Rattle.ckd_core.specs.Cylinders.{AreExtents, IsExtent};
 ghost use Rattle.ckd_core.specs.Mask.{is_mask};
-ghost use Rattle.chan_deck.specs.Item.{IsByte, address_digits, area_digits, cylinder_digits};
-ghost use Rattle.chan_deck.specs.Item.{device, extent, header, limit_digits, line, mask, put};
-ghost use Rattle.chan_deck.specs.Item.{size_digits, start, text};
+ghost use Rattle.chan_deck.specs.Item.{IsByte, device, header, line, mask, put, start, text};
 ghost use Rattle.chan_deck.specs.Item as item;
 ghost use Rattle.chan_deck.specs.Image.{HasLimit, Spells, extent_of, header_of, is_zero as zeros};
 ghost use Rattle.chan_deck.specs.Image.{limit_line, puts, spelling};
 ghost use Rattle.chan_deck.specs.Preamble.{image_with};
 
 use crate::deck::Deck;
+use crate::item::Item;
 use crate::version::Version;
 use ccw_core::Area;
 use ckd_core::{Device, Extents, FileMask};
@@ -32,135 +31,74 @@ pub(crate) struct Preamble<'a> {
     pub(crate) store: &'a [Area],
 }
 
-/// The digits of some bytes.
-fn push_digits(alloc: Global, out: &mut Vec<u8>, bytes: &[u8]) -> Result<(), AllocError>
-    ensures { OnOk result (out.new.items ≡ out.old.items ++ encode_upper bytes.now) }
-{
-    let digits = hex::encode_upper(alloc, bytes)?;
-    out.extend_from_slice(digits.as_bytes())
-}
-
-/// The six digits of an address.
-fn push_address(alloc: Global, out: &mut Vec<u8>, address: u32) -> Result<(), AllocError>
-    ensures { OnOk result (out.new.items ≡ out.old.items ++ address_digits address) }
-{
-    let [_, high, middle, low] = address.to_be_bytes();
-    push_digits(alloc, out, &[high, middle, low])
-}
-
-/// The seven digits of a number of bytes.
-fn push_size(alloc: Global, out: &mut Vec<u8>, size: u32) -> Result<(), AllocError>
-    ensures { OnOk result (out.new.items ≡ out.old.items ++ size_digits size) }
-{
-    let digits = hex::encode_upper(alloc, size.to_be_bytes())?;
-    let (_, seven) = digits.as_bytes().split_at(1);
-    out.extend_from_slice(seven)
-}
-
-/// The three digits of a cylinder.
-fn push_cylinder(out: &mut Vec<u8>, cylinder: u16) -> Result<(), AllocError>
-    requires { cylinder < 1000 }
-    ensures { OnOk result (out.new.items ≡ out.old.items ++ cylinder_digits cylinder) }
-{
-    let hundreds = b'0' + (cylinder / 100) as u8;
-    let tens = b'0' + (cylinder / 10 % 10) as u8;
-    let ones = b'0' + (cylinder % 10) as u8;
-    out.extend_from_slice(&[hundreds, tens, ones])
-}
-
-fn write_device(out: &mut Vec<u8>, device: Device) -> Result<(), AllocError>
-    ensures { OnOk result (out.new.items
-        ≡ out.old.items ++ (line (item.device device) ++ 10 ∷ [])) }
-{
-    match device {
-        Device::D2311 => out.extend_from_slice(b"device 2311\n"),
-        Device::D2314 => out.extend_from_slice(b"device 2314\n"),
-    }
-}
-
-fn write_extent(out: &mut Vec<u8>, first: u16, last: u16) -> Result<(), AllocError>
-    requires first { first < 1000 }
-    requires last { last < 1000 }
-    ensures { OnOk result (out.new.items ≡ out.old.items ++ (line (extent first last) ++ 10 ∷ [])) }
-{
-    out.extend_from_slice(b"extent ")?;
-    push_cylinder(out, first)?;
-    out.extend_from_slice(b" ")?;
-    push_cylinder(out, last)?;
-    out.extend_from_slice(b"\n")
-}
-
-pub(crate) fn write_extents(out: &mut Vec<u8>, extents: &[(u16, u16)]) -> Result<(), AllocError>
+/// A line for each extent.
+pub(crate) fn write_extents(
+    alloc: Global,
+    out: &mut Vec<u8>,
+    extents: &[(u16, u16)],
+) -> Result<(), AllocError>
     requires { AllByRecursion IsExtent extents.now }
     ensures { OnOk result (out.new.items
         ≡ out.old.items ++ text (map line (map extent_of extents.now))) }
 {
     for pair in extents {
         let (first, last) = *pair;
-        write_extent(out, first, last)?;
+        Item::Extent(first, last).push(alloc, out)?;
     }
     Ok(())
 }
 
-fn write_area(alloc: Global, out: &mut Vec<u8>, word: &[u8], area: Area) -> Result<(), AllocError>
-    ensures { OnOk result (out.new.items
-        ≡ out.old.items ++ ((word.now ++ area_digits area) ++ 10 ∷ [])) }
-{
-    out.extend_from_slice(word)?;
-    push_address(alloc, out, area.start)?;
-    out.extend_from_slice(b" ")?;
-    push_address(alloc, out, area.len)?;
-    out.extend_from_slice(b"\n")
-}
-
-/// A line for each area, which begins with a word.
-pub(crate) fn write_areas(
+/// A line for each area lent for fetching.
+pub(crate) fn write_fetch(
     alloc: Global,
     out: &mut Vec<u8>,
-    word: &[u8],
     areas: &[Area],
 ) -> Result<(), AllocError>
     ensures { OnOk result (out.new.items
-        ≡ out.old.items ++ flat_map (λ a. (word.now ++ area_digits a) ++ 10 ∷ []) areas.now) }
+        ≡ out.old.items ++ text (map line (map item.fetch areas.now))) }
 {
     for area in areas {
-        write_area(alloc, out, word, *area)?;
+        Item::Fetch(*area).push(alloc, out)?;
     }
     Ok(())
 }
 
-fn write_put(alloc: Global, out: &mut Vec<u8>, address: u32, word: &[u8]) -> Result<(), AllocError>
+/// A line for each area lent for storing.
+pub(crate) fn write_store(
+    alloc: Global,
+    out: &mut Vec<u8>,
+    areas: &[Area],
+) -> Result<(), AllocError>
     ensures { OnOk result (out.new.items
-        ≡ out.old.items ++ (line (put address word.now) ++ 10 ∷ [])) }
+        ≡ out.old.items ++ text (map line (map item.store areas.now))) }
 {
-    out.extend_from_slice(b"put ")?;
-    push_address(alloc, out, address)?;
-    out.extend_from_slice(b" ")?;
-    push_digits(alloc, out, word)?;
-    out.extend_from_slice(b"\n")
+    for area in areas {
+        Item::Store(*area).push(alloc, out)?;
+    }
+    Ok(())
 }
 
-/// Whether all bytes are zero.
-fn is_zero(bytes: &[u8]) -> bool
-    ensures { result ≡ zeros bytes.now }
+/// The number that a doubleword is.
+fn number_of(word: &[u8]) -> u64
+    requires { length word.now ≡ 8 }
+    ensures { to_be_bytes w64 result ≡ word.now }
 {
-    for byte in bytes {
-        if *byte != 0 {
-            return false;
-        }
-    }
-    true
+    u64::from_be_bytes([
+        word[0], word[1], word[2], word[3], word[4], word[5], word[6], word[7],
+    ])
 }
 
 /// A put for a doubleword, if it isn't zero.
 fn write_word(alloc: Global, out: &mut Vec<u8>, address: u32, word: &[u8]) -> Result<(), AllocError>
+    requires { length word.now ≡ 8 }
     ensures { OnOk result (out.new.items ≡ out.old.items
         ++ (if zeros word.now then [] else line (put address word.now) ++ 10 ∷ [])) }
 {
-    if is_zero(word) {
+    let number = number_of(word);
+    if number == 0 {
         return Ok(());
     }
-    write_put(alloc, out, address, word)
+    Item::Put(address, number).push(alloc, out)
 }
 
 /// A put for each doubleword that isn't zero, of bytes that stand at an address.
@@ -180,54 +118,8 @@ fn write_puts(alloc: Global, out: &mut Vec<u8>, at: u32, bytes: &[u8]) -> Result
     Ok(())
 }
 
-pub(crate) fn write_mask(
-    alloc: Global,
-    out: &mut Vec<u8>,
-    file_mask: FileMask,
-) -> Result<(), AllocError>
-    ensures text { OnOk result (out.new.items
-        ≡ out.old.items ++ (line (mask file_mask) ++ 10 ∷ [])) }
-    ensures right { OnOk result (IsByte file_mask × (is_mask file_mask ≡ true)) }
-{
-    let byte = file_mask.byte();
-    out.extend_from_slice(b"mask ")?;
-    push_digits(alloc, out, &[byte])?;
-    out.extend_from_slice(b"\n")
-}
-
-fn write_start(alloc: Global, out: &mut Vec<u8>, address: u32) -> Result<(), AllocError>
-    ensures { OnOk result (out.new.items ≡ out.old.items ++ (line (start address) ++ 10 ∷ [])) }
-{
-    out.extend_from_slice(b"start ")?;
-    push_address(alloc, out, address)?;
-    out.extend_from_slice(b"\n")
-}
-
-fn write_header(out: &mut Vec<u8>, version: Version) -> Result<(), AllocError>
-    ensures { OnOk result (out.new.items
-        ≡ out.old.items ++ (line (header (header_of version)) ++ 10 ∷ [])) }
-{
-    match version {
-        Version::One => out.extend_from_slice(b"chanv deck 1\n"),
-        Version::Two(_) => out.extend_from_slice(b"chanv deck 2\n"),
-    }
-}
-
-/// The five digits of a number of places.
-fn push_places(out: &mut Vec<u8>, places: u32) -> Result<(), AllocError>
-    requires { places < 100000 }
-    ensures { OnOk result (out.new.items ≡ out.old.items ++ limit_digits places) }
-{
-    let ten_thousands = b'0' + (places / 10_000) as u8;
-    let thousands = b'0' + (places / 1_000 % 10) as u8;
-    let hundreds = b'0' + (places / 100 % 10) as u8;
-    let tens = b'0' + (places / 10 % 10) as u8;
-    let ones = b'0' + (places % 10) as u8;
-    out.extend_from_slice(&[ten_thousands, thousands, hundreds, tens, ones])
-}
-
 /// The line of the limit, in a version that has one.
-fn write_limit(out: &mut Vec<u8>, version: Version) -> Result<(), AllocError>
+fn write_limit(alloc: Global, out: &mut Vec<u8>, version: Version) -> Result<(), AllocError>
     ensures text { OnOk result (out.new.items
         ≡ out.old.items ++ text (map line (limit_line version))) }
     ensures limit { OnOk result (HasLimit version) }
@@ -235,9 +127,7 @@ fn write_limit(out: &mut Vec<u8>, version: Version) -> Result<(), AllocError>
     let Version::Two(limit) = version else {
         return Ok(());
     };
-    out.extend_from_slice(b"limit ")?;
-    push_places(out, limit.get())?;
-    out.extend_from_slice(b"\n")
+    Item::Limit(limit.get()).push(alloc, out)
 }
 
 /// The lines before the lists.
@@ -253,11 +143,11 @@ fn write_heading(
     ensures limit { OnOk result (HasLimit preamble.now.version) }
     ensures mask { OnOk result (IsByte preamble.now.mask × (is_mask preamble.now.mask ≡ true)) }
 {
-    write_header(out, preamble.version)?;
-    write_device(out, preamble.device)?;
-    write_mask(alloc, out, preamble.mask)?;
-    write_start(alloc, out, preamble.start)?;
-    write_limit(out, preamble.version)
+    Item::Header(preamble.version.header()).push(alloc, out)?;
+    Item::Device(preamble.device).push(alloc, out)?;
+    Item::Mask(preamble.mask.byte()).push(alloc, out)?;
+    Item::Start(preamble.start).push(alloc, out)?;
+    write_limit(alloc, out, preamble.version)
 }
 
 /// The line of storage, which is zero up to an address and has some bytes from there on, and the
@@ -268,9 +158,7 @@ fn write_storage(alloc: Global, out: &mut Vec<u8>, at: u32, bytes: &[u8]) -> Res
         ≡ out.old.items ++ text (map line (item.storage (at + length bytes.now)
         ∷ puts (length bytes.now / 8) at bytes.now))) }
 {
-    out.extend_from_slice(b"storage ")?;
-    push_size(alloc, out, at + bytes.len() as u32)?;
-    out.extend_from_slice(b"\n")?;
+    Item::Storage(at + bytes.len() as u32).push(alloc, out)?;
     write_puts(alloc, out, at, bytes)
 }
 
@@ -292,11 +180,11 @@ pub(crate) fn text_of(
 {
     let mut out = Vec::new(alloc);
     write_heading(alloc, &mut out, preamble)?;
-    write_extents(&mut out, preamble.extents.pairs())?;
-    write_areas(alloc, &mut out, b"fetch ", preamble.fetch)?;
-    write_areas(alloc, &mut out, b"store ", preamble.store)?;
+    write_extents(alloc, &mut out, preamble.extents.pairs())?;
+    write_fetch(alloc, &mut out, preamble.fetch)?;
+    write_store(alloc, &mut out, preamble.store)?;
     write_storage(alloc, &mut out, at, bytes)?;
-    out.extend_from_slice(b"end\n")?;
+    Item::End.push(alloc, &mut out)?;
     Ok(out)
 }
 

@@ -5,11 +5,12 @@ use Rattle.chan_deck.proofs.needs.needs_text.Goals as goal
 pub returns : goal.returns
 returns c =
     rw (
-      c.in_ok-write_areas-3.ensures,
-      c.in_ok-write_areas-2.ensures,
-      c.in_ok-write_areas.ensures,
+      c.in_ok-write_kept.ensures,
+      c.in_ok-write_store.ensures,
+      c.in_ok-write_fetch.ensures,
       c.in_ok-write_extents.ensures,
-      c.in_ok-write_mask.ensures.text,
+      c.in_ok-push.ensures,
+      c.byte.ensures.value,
       c.new-text.ensures.items,
       c.deref-4.ensures.value,
       c.deref-5.ensures.value,

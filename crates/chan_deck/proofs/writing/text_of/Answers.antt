@@ -1,23 +1,20 @@
 use Rattle.std.proofs.Common.{◌++◌, replicate}
-use Rattle.chan_deck.specs.Item.{fetch, store}
 use Rattle.chan_deck.specs.Preamble.{image_with}
-use Rattle.chan_deck.proofs.WriteLemmas.{each_text, length_behind, puts_behind, spelling_parts}
+use Rattle.chan_deck.proofs.WriteLemmas.{length_behind, puts_behind, spelling_parts}
 use Rattle.chan_deck.proofs.writing.text_of.Goals as goal
 
 pub returns-clause-text : goal.returns-clause-text
 returns-clause-text c =
     let it = image_with c.args.preamble.now (replicate c.args.at 0 ++ c.args.bytes.now) in
     rw (
-      c.in_ok-extend_from_slice.ensures.items,
+      c.in_ok-push.ensures,
       c.in_ok-write_storage.ensures,
-      c.in_ok-write_areas-2.ensures,
-      c.in_ok-write_areas.ensures,
+      c.in_ok-write_store.ensures,
+      c.in_ok-write_fetch.ensures,
       c.in_ok-write_extents.ensures,
       c.in_ok-write_heading.ensures.text,
       c.new-out.ensures.items,
       c.pairs.ensures.value,
-      each_text fetch it.fetch,
-      each_text store it.store,
       ← length_behind c.args.at c.args.bytes.now,
       ← puts_behind c.args.at c.args.bytes.now c.requires.whole,
     ) (spelling_parts it)

@@ -6,19 +6,14 @@ use Rattle.chan_deck.proofs.Parted.{no_more, one_more}
 use Rattle.chan_deck.proofs.WriteLemmas.{each_text}
 use Rattle.chan_deck.proofs.writing.write_extents.Goals as goal
 
-pub write_extent-requires-clause-first : goal.write_extent-requires-clause-first
-write_extent-requires-clause-first c =
+pub push-requires : goal.push-requires
+push-requires c =
     let e = extent_at c.args.extents.now c.loop-pair.pair-index c.requires c.loop-pair-test.true in
-    omega (arith, e.0, e.1)
-
-pub write_extent-requires-clause-last : goal.write_extent-requires-clause-last
-write_extent-requires-clause-last c =
-    let e = extent_at c.args.extents.now c.loop-pair.pair-index c.requires c.loop-pair-test.true in
-    omega (arith, e.1)
+    (omega (arith, e.0, e.1), omega (arith, e.1))
 
 pub loop-pair-preserved : goal.loop-pair-preserved
 loop-pair-preserved c =
-    one_more (λ e. line (extent_of e) ++ 10 ∷ []) c.args.extents.now c.loop-pair.pair-index (0, 0) _ _ _ c.loop-pair-test.true c.loop-pair.invariant c.in_ok-write_extent.ensures
+    one_more (λ e. line (extent_of e) ++ 10 ∷ []) c.args.extents.now c.loop-pair.pair-index (0, 0) _ _ _ c.loop-pair-test.true c.loop-pair.invariant c.in_ok-push.ensures
 
 pub returns : goal.returns
 returns c =

@@ -1,4 +1,4 @@
-use Rattle.std.proofs.Common.{◌∷◌, [], ◌++◌, ◌∙◌, map}
+use Rattle.std.proofs.Common.{◌∷◌, [], ◌++◌, ◌∙◌, arith, map}
 use Rattle.std.proofs.lemmas.Result.{on_ok_weaker}
 use Rattle.chan_deck.specs.Item.{line, text, header, device, mask, start}
 use Rattle.chan_deck.specs.Image.{header_of, limit_line}
@@ -13,7 +13,9 @@ returns-clause-text c =
     five_parts c.args.out.now.items (line (header (header_of p.version)) ++ feed) (line (device p.device) ++ feed) (line (mask p.mask) ++ feed)
     (line (start p.start) ++ feed) (text (map line (limit_line p.version))) in
     on_ok_weaker c.write_limit.result (λ limits. limits
-    ∙ rw (c.in_ok-write_start.ensures, c.in_ok-write_mask.ensures.text, c.in_ok-write_device.ensures, c.in_ok-write_header.ensures) parts) c.write_limit.ensures.text
+    ∙ rw (c.in_ok-push-4.ensures, c.in_ok-push-3.ensures, c.in_ok-push-2.ensures, c.in_ok-push.ensures, c.byte.ensures.value, c.header.ensures) parts) c.write_limit.ensures.text
 
 pub returns-clause-mask : goal.returns-clause-mask
-returns-clause-mask c = on_ok_weaker c.write_limit.result (λ _. c.in_ok-write_mask.ensures.right) c.write_limit.ensures.text
+returns-clause-mask c =
+    let right = rw c.byte.ensures.value at c.byte.ensures.mask in
+    on_ok_weaker c.write_limit.result (λ _. (omega (arith, c.byte.ensures.value, c.byte.type_inv), right)) c.write_limit.ensures.text

@@ -2,7 +2,7 @@ use Rattle.std.proofs.Common.{◌∙◌, ap, arith, length}
 use Rattle.std.specs.Int.{w32, to_be_bytes}
 use Rattle.hex.specs.Hex.{encode_upper}
 use Rattle.chan_deck.proofs.UpperDigits.{length-encode_upper}
-use Rattle.chan_deck.proofs.writing.push_size.Goals as goal
+use Rattle.chan_deck.proofs.spelling.push_size.Goals as goal
 
 pub split_at-requires : goal.split_at-requires
 split_at-requires c =
