@@ -15,7 +15,7 @@ use ckd_core::LAST_CYLINDER;
 use std::alloc::{AllocError, Global};
 
 /// The most bytes that storage may have: addresses have 24 bits.
-const STORAGE_LIMIT: u32 = 16_777_216;
+pub(crate) const STORAGE_LIMIT: u32 = 16_777_216;
 
 /// The lists of a deck, as far as they have been read.
 #[derive(Drop)]

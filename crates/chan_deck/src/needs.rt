@@ -8,16 +8,14 @@ ghost use Rattle.chan_deck.specs.Item.{text};
 ghost use Rattle.chan_deck.specs.Needs as texts;
 
 use crate::item::Item;
+use crate::lists::STORAGE_LIMIT;
 use crate::spelling::push_area_digits;
 use crate::writing::{write_extents, write_fetch, write_store};
 use ccw_core::Area;
 use chan_walk::Needs;
 use std::alloc::{AllocError, Global};
 
-/// The first number for which six digits aren't enough: that of the bytes of the largest storage.
-const PAST_ADDRESSES: u32 = 0x100_0000;
-
-/// All of the largest storage, as two areas.
+/// All of the largest storage, as two areas: six digits aren't enough for its length.
 const HALVES: [Area; 2] = [
     Area {
         start: 0,
@@ -33,7 +31,7 @@ const HALVES: [Area; 2] = [
 fn push_area(areas: &mut Vec<Area>, area: Area) -> Result<(), AllocError>
     ensures { OnOk result (areas.new.items ≡ areas.old.items ++ texts.split area) }
 {
-    if area.len == PAST_ADDRESSES {
+    if area.len == STORAGE_LIMIT {
         return areas.extend_from_slice(&HALVES);
     }
     areas.push(area)?;
