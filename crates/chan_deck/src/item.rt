@@ -1,18 +1,22 @@
-//! What a line of a deck says.
+//! What a line of a deck says, read and written.
 
-ghost use Rattle.std.specs.Prelude.{◌≡◌, ◌<◌, ◌^◌, ℕ, List, length, ◌∷◌, ◌++◌, IfSome, MatchBool};
-ghost use Rattle.std.specs.Prelude.{MatchOption};
+ghost use Rattle.std.specs.Prelude.{◌≡◌, ◌<◌, ◌^◌, ℕ, List, [], length, ◌∷◌, ◌++◌, IfSome, MatchBool};
+ghost use Rattle.std.specs.Prelude.{MatchOption, OnOk};
 ghost use Rattle.std.specs.Int.{w64, to_be_bytes};
-ghost use Rattle.chan_deck.specs.Item.{IsArea, Says, area_digits, device, header, limit, mask};
-ghost use Rattle.chan_deck.specs.Item.{Reads, put, start};
+ghost use Rattle.chan_deck.specs.Item.{HasDecimals, IsArea, Reads, Says, area_digits, device};
+ghost use Rattle.chan_deck.specs.Item.{header, limit, mask, put, said_by, spelled, start};
 ghost use Rattle.chan_deck.specs.Item as item;
 ghost use Rattle.chan_deck.specs.declared.version.VersionNumber.{VersionNumber};
 
 use crate::digits::{address_of, byte_of, cylinder_of, places_of, size_of, word_of};
 use crate::lines::PUT_LINE;
+use crate::spelling::{
+    cylinder_digits, limit_digits, push_address, push_area_digits, push_digits, push_size,
+};
 use crate::version::VersionNumber;
 use ccw_core::Area;
 use ckd_core::Device;
+use std::alloc::{AllocError, Global};
 
 /// What a line of a deck says.
 #[derive(Clone, Copy)]
@@ -226,6 +230,67 @@ impl Item {
         match put_of(line) {
             Some((address, word)) => Item::Put(address, word),
             None => other_item(line),
+        }
+    }
+
+    /// Appends the line that says this. What says nothing makes an empty line.
+    pub(crate) fn push(self, alloc: Global, out: &mut Vec<u8>) -> Result<(), AllocError>
+        requires { HasDecimals self }
+        ensures { OnOk result (out.new.items
+            ≡ out.old.items ++ (spelled (said_by self) ++ 10 ∷ [])) }
+    {
+        self.spell(alloc, out)?;
+        out.extend_from_slice(b"\n")
+    }
+
+    /// Appends the line without its line feed.
+    fn spell(self, alloc: Global, out: &mut Vec<u8>) -> Result<(), AllocError>
+        requires { HasDecimals self }
+        ensures { OnOk result (out.new.items ≡ out.old.items ++ spelled (said_by self)) }
+    {
+        match self {
+            Item::Header(VersionNumber::One) => out.extend_from_slice(b"chanv deck 1"),
+            Item::Header(VersionNumber::Two) => out.extend_from_slice(b"chanv deck 2"),
+            Item::Device(Device::D2311) => out.extend_from_slice(b"device 2311"),
+            Item::Device(Device::D2314) => out.extend_from_slice(b"device 2314"),
+            Item::Mask(mask) => {
+                out.extend_from_slice(b"mask ")?;
+                push_digits(alloc, out, &[mask])
+            }
+            Item::Start(address) => {
+                out.extend_from_slice(b"start ")?;
+                push_address(alloc, out, address)
+            }
+            Item::Limit(places) => {
+                out.extend_from_slice(b"limit ")?;
+                out.extend_from_slice(&limit_digits(places))
+            }
+            Item::Extent(first, last) => {
+                out.extend_from_slice(b"extent ")?;
+                out.extend_from_slice(&cylinder_digits(first))?;
+                out.extend_from_slice(b" ")?;
+                out.extend_from_slice(&cylinder_digits(last))
+            }
+            Item::Fetch(area) => {
+                out.extend_from_slice(b"fetch ")?;
+                push_area_digits(alloc, out, area)
+            }
+            Item::Store(area) => {
+                out.extend_from_slice(b"store ")?;
+                push_area_digits(alloc, out, area)
+            }
+            Item::Storage(size) => {
+                out.extend_from_slice(b"storage ")?;
+                push_size(alloc, out, size)
+            }
+            Item::Put(address, word) => {
+                out.extend_from_slice(b"put ")?;
+                push_address(alloc, out, address)?;
+                out.extend_from_slice(b" ")?;
+                push_digits(alloc, out, &word.to_be_bytes())
+            }
+            Item::End => out.extend_from_slice(b"end"),
+            Item::Formless | Item::Missing => Ok(()),
         }
     }
 }
