@@ -1,7 +1,7 @@
 //! What a line of a deck says, read and written.
 
-ghost use Rattle.std.specs.Prelude.{◌≡◌, ◌<◌, ◌^◌, ℕ, List, [], length, ◌∷◌, ◌++◌, IfSome, MatchBool};
-ghost use Rattle.std.specs.Prelude.{MatchOption, OnOk};
+ghost use Rattle.std.specs.Prelude.{◌≡◌, ◌<◌, ◌^◌, ℕ, List, [], length, ◌∷◌, ◌++◌, IfSome, OnOk};
+ghost use Rattle.std.specs.Prelude.{MatchBool, MatchOption};
 ghost use Rattle.std.specs.Int.{w64, to_be_bytes};
 ghost use Rattle.chan_deck.specs.Item.{HasDecimals, IsArea, Reads, Says, area_digits, device};
 ghost use Rattle.chan_deck.specs.Item.{header, limit, mask, put, said_by, spelled, start};
