@@ -3,7 +3,7 @@ use Rattle.std.proofs.Common.{◌≡◌, ◌∙◌, ◌<◌, ◌++◌, ◌∷◌
 use Rattle.chan_deck.specs.Parts.{storage_with}
 use Rattle.chan_walk.specs.declared.job.Job.{Job}
 use Rattle.chan_walk.specs.Needs.{open_job}
-use Rattle.chan_walk.specs.Programs.{AreProgramStarts, IsJobOver}
+use Rattle.chan_find.specs.Programs.{AreProgramStarts, IsJobOver}
 use Rattle.chan_run.specs.Finding.{AreLinesAt, AreStartsIn, IsLineAt}
 use Rattle.chan_run.specs.declared.image_options.ImageOptions.{ImageOptions}
 

@@ -10,7 +10,7 @@ use Rattle.chan_walk.specs.declared.verdict.Verdict.{Verdict}
 use Rattle.chan_walk.specs.Answers.{IsAnswer}
 use Rattle.chan_walk.specs.Explored.{HasMoreThan}
 use Rattle.chan_walk.specs.Needs.{open_job}
-use Rattle.chan_walk.specs.Programs.{AreProgramStarts, IsJobOver}
+use Rattle.chan_find.specs.Programs.{AreProgramStarts, IsJobOver}
 use Rattle.chan_walk.specs.Rows.{IsOpenJob}
 use Rattle.chan_run.specs.Imaging.{IsNoImage, IsProgramAt, IsWholeImage}
 use Rattle.chan_run.specs.Run.{IsUnwritten}

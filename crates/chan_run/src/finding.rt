@@ -16,7 +16,8 @@ use crate::least::job_at;
 use crate::reporting::Outcome;
 use ccw_core::{Storage, Watched, write_out};
 use chan_deck::{place_image, program_text};
-use chan_walk::{OpenJob, WalkError, program_starts, survey};
+use chan_find::program_starts;
+use chan_walk::{OpenJob, WalkError, survey};
 use std::alloc::{AllocError, Global};
 use std::io::{Read, Write};
 

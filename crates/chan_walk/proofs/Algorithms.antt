@@ -32,8 +32,3 @@ pub mod Kept
 pub mod Copied
 pub mod Opened
 pub mod StoredOver
-pub mod Tabling
-pub mod Covering
-pub mod Passing
-pub mod Seconds
-pub mod Alike

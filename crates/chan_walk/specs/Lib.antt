@@ -31,7 +31,6 @@ pub mod Explained
 pub mod Notes
 pub mod Needs
 pub mod Rows
-pub mod Programs
 pub mod Starting
 pub mod Remembered
 pub mod Supervised
@@ -50,4 +49,3 @@ pub mod Look
 pub mod Changed
 pub mod Index
 pub mod Surveyed
-pub mod Covered

@@ -10,7 +10,7 @@ use crate::error::WalkError;
 use crate::explored::Explored;
 use crate::job::Job;
 use crate::lent::{Lending, Lent};
-use crate::look::{Look, look_at};
+use crate::look::{Look, look_by};
 use crate::place::{Place, first_place};
 use crate::ways::{is_marked, mark};
 use std::alloc::Global;
@@ -52,7 +52,7 @@ impl Walk {
                 if self.looks.len() >= job.limit.get() as usize {
                     return Err(WalkError::TooManyPlaces);
                 }
-                self.looks.push(look_at(job, Lending::Merged(lent), place))?;
+                self.looks.push(look_by(job, Lending::Merged(lent), place))?;
                 self.found_from.push(from)?;
                 mark(&mut self.marks, place)?;
             }

@@ -13,7 +13,7 @@ ghost use Rattle.chan_walk.specs.declared.job.Job.{Job};
 use crate::explored::Explored;
 use crate::job::Job;
 use crate::lent::{Lending, Lent};
-use crate::look::{Look, look_at};
+use crate::look::{Look, look_by};
 use crate::ranges::{meets, merge};
 use ccw_core::Area;
 use std::alloc::{AllocError, Global};
@@ -47,7 +47,7 @@ impl Guard {
         let lent = Lent::new(alloc, job)?;
         let mut looks = Vec::new(alloc);
         for place in explored.places() {
-            looks.push(look_at(job, Lending::Merged(&lent), place))?;
+            looks.push(look_by(job, Lending::Merged(&lent), place))?;
         }
         Guard::of(alloc, looks.as_slice())
     }

@@ -13,8 +13,6 @@ ghost use Rattle.chan_walk.specs.Needs.{NeededMaskExists, NeededMaskIsOne, NoJob
 ghost use Rattle.chan_walk.specs.Needs.{SafeIsGranted, SameUnderYes};
 ghost use Rattle.chan_walk.specs.Offences.{FirstIsVerdict};
 ghost use Rattle.chan_walk.specs.Order.{NumbersIncrease};
-ghost use Rattle.chan_walk.specs.Programs.{NoneIsMissed, ProgramsAreApart, TwiceIsEnough};
-ghost use Rattle.chan_walk.specs.Programs.{YesIsLikely};
 ghost use Rattle.chan_walk.specs.Remembered.{RowsAreExact};
 ghost use Rattle.chan_walk.specs.Rows.{BesideIsApart, OpenJobIsOpen};
 ghost use Rattle.chan_walk.specs.Starting.{AskedMayStart, EachMayLeave, EachMayStart, EachMayStep};
@@ -183,27 +181,6 @@ pub(crate) fn open_job_is_open()
 /// Two programs may run side by side exactly where two of their jobs, each with a yes, are apart.
 pub(crate) fn beside_is_apart()
     ensures { BesideIsApart }
-{}
-
-/// What is left of the likely starts upwards, and of these downwards, is the starts of programs.
-pub(crate) fn twice_is_enough()
-    ensures { TwiceIsEnough }
-{}
-
-/// And each likely start is led to by the start of a program.
-pub(crate) fn none_is_missed()
-    ensures { NoneIsMissed }
-{}
-
-/// No program's start leads to another's.
-pub(crate) fn programs_are_apart()
-    ensures { ProgramsAreApart }
-{}
-
-/// The start of a job with a yes is likely, if two CCWs that are no transfers are reachable and
-/// byte 5 of each such CCW is zero.
-pub(crate) fn yes_is_likely()
-    ensures { YesIsLikely }
 {}
 
 /// A program that was asked about, whose kept bytes are the same and whose needs are granted, may

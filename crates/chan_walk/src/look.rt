@@ -283,9 +283,20 @@ fn look_at_ccw(job: &Job, lending: Lending, place: Place, ccw: Ccw) -> Look
     }
 }
 
+/// Looks at a place, which may be any, reached or not.
+///
+/// It takes no memory. The cost is that of `covers` over the areas lent, at most the square of
+/// their number.
+pub fn look_at(job: &Job, place: Place) -> Look
+    ensures place { result.place ≡ place }
+    ensures look { IsLook job.now result }
+{
+    look_by(job, Lending::Given, place)
+}
+
 /// Looks at a place: the command table is asked once, and the argument of a seek is gathered once,
 /// along its chain.
-pub(crate) fn look_at(job: &Job, lending: Lending, place: Place) -> Look
+pub(crate) fn look_by(job: &Job, lending: Lending, place: Place) -> Look
     requires { Lends job.now lending }
     ensures place { result.place ≡ place }
     ensures look { IsLook job.now result }

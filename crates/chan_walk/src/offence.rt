@@ -22,7 +22,6 @@ use crate::look::Look;
 use crate::place::Place;
 use crate::ranges::meets;
 use crate::reason::Reason;
-use crate::ways::way_of;
 use ccw_core::Area;
 use std::alloc::{AllocError, Global};
 
@@ -43,7 +42,7 @@ impl Offence {
     {
         let address = u64::from(self.place.address);
         let reason = u64::from(self.reason.number());
-        (address * 32 + reason) * 8 + u64::from(way_of(self.place))
+        (address * 32 + reason) * 8 + u64::from(self.place.way())
     }
 
     /// The number of its address and its reason.

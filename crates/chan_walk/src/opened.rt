@@ -33,7 +33,7 @@ pub struct OpenJob<'a> {
 
 impl<'a> OpenJob<'a> {
     /// The open job of the program that starts at an address.
-    pub(crate) fn over(
+    pub fn over(
         alloc: Global,
         storage: Storage<'a>,
         start: u32,

@@ -1,12 +1,11 @@
 //! Places: a CCW together with the way in which it is entered.
 
-ghost use Rattle.std.specs.Prelude.{◌≡◌};
+ghost use Rattle.std.specs.Prelude.{◌≡◌, ◌<◌};
 ghost use Rattle.std.specs.Ordering.{nat_cmp};
-ghost use Rattle.chan_walk.specs.Explored.{place_number};
+ghost use Rattle.chan_walk.specs.Explored.{place_number, way_of};
 ghost use Rattle.chan_walk.specs.Place as place;
 
 use crate::job::Job;
-use crate::ways::way_of;
 
 /// How a CCW is entered.
 #[derive(Clone, Copy, PartialEq, Eq, PartialOrd, Ord)]
@@ -67,11 +66,26 @@ impl Place {
         }
     }
 
+    /// The way in which it is entered, 0 to 7: twice the entry's number in the order of `Entry`,
+    /// counted from 0, and 1 more if it counts as reached by a transfer in channel.
+    pub fn way(self) -> u32
+        ensures value { result ≡ way_of self }
+        ensures small { result < 8 }
+    {
+        let entry = match self.entered {
+            Entry::Fresh => 0,
+            Entry::ChainIn => 1,
+            Entry::ChainOut => 2,
+            Entry::ChainSearch => 3,
+        };
+        2 * entry + u32::from(self.after_transfer)
+    }
+
     /// The number by which places are in order.
     pub fn number(self) -> u64
         ensures { result ≡ place_number self }
     {
-        8 * u64::from(self.address) + u64::from(way_of(self))
+        8 * u64::from(self.address) + u64::from(self.way())
     }
 }
 

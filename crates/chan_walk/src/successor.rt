@@ -8,7 +8,6 @@ ghost use Rattle.chan_walk.specs.Visit.{IsBegun};
 
 use crate::bits::{chains_command, chains_data};
 use crate::job::Job;
-use crate::lent::Lending;
 use crate::look::look_at;
 use crate::place::{Entry, Place};
 use crate::visit::Visit;
@@ -42,7 +41,7 @@ impl Next {
 pub fn successors(job: &Job, place: Place) -> Next
     ensures { AreSuccessors job.now place result }
 {
-    look_at(job, Lending::Given, place).next()
+    look_at(job, place).next()
 }
 
 /// Where a program goes on after a place that has no own fault.

@@ -1,7 +1,6 @@
 //! The ways in which a CCW is entered, kept as a bit for each.
 
 ghost use Rattle.std.specs.Prelude.{◌≡◌, ◌<◌, ◌++◌, ◌↔◌, IsTrue, OnOk, OnErr};
-ghost use Rattle.chan_walk.specs.Explored.{way_of as way};
 ghost use Rattle.chan_walk.specs.Marks as marked;
 ghost use Rattle.chan_walk.specs.Marks.{HasMark, ways};
 ghost use Rattle.chan_walk.specs.Walk.{Marks};
@@ -12,20 +11,6 @@ use std::collections::BTreeMap;
 
 /// In how many ways a CCW can be entered.
 const WAYS: u32 = 8;
-
-/// The way in which a place is entered, 0 to 7.
-pub(crate) fn way_of(place: Place) -> u32
-    ensures value { result ≡ way place }
-    ensures small { result < 8 }
-{
-    let entry = match place.entered {
-        Entry::Fresh => 0,
-        Entry::ChainIn => 1,
-        Entry::ChainOut => 2,
-        Entry::ChainSearch => 3,
-    };
-    2 * entry + u32::from(place.after_transfer)
-}
 
 /// The place at an address that is entered in a way.
 fn place_at(address: u32, way: u32) -> Place
@@ -72,7 +57,7 @@ pub(crate) fn is_marked(marks: &BTreeMap<u32, u8>, place: Place) -> bool
     ensures { IsTrue result ↔ HasMark marks.now place }
 {
     let bits = bits_at(marks, place.address);
-    (bits >> way_of(place)) & 1 == 1
+    (bits >> place.way()) & 1 == 1
 }
 
 /// Marks a place.
@@ -81,6 +66,6 @@ pub(crate) fn mark(marks: &mut BTreeMap<u32, u8>, place: Place) -> Result<(), Wa
     ensures memory { OnErr result (result ≡ Err WalkError.Memory) }
 {
     let bits = bits_at(marks, place.address);
-    marks.insert(place.address, bits | (1 << way_of(place)))?;
+    marks.insert(place.address, bits | (1 << place.way()))?;
     Ok(())
 }

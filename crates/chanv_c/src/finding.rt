@@ -6,7 +6,7 @@ ghost use Rattle.chanv_c.specs.Needed.{StandFirst};
 
 use crate::asked::{device_of, or_empty};
 use ccw_core::Storage;
-use chan_walk::program_starts;
+use chan_find::program_starts;
 use std::alloc::Global;
 
 /// Lists the starts of the programs in storage, each once, in order: 0 if `starts` took them all,

@@ -1,0 +1,233 @@
+-- What starts lead to: what a look tells of a plain place, and how the marks grow.
+use Rattle.std.proofs.Common.{◌≡◌, ℕ, ◌/◌, ◌%◌, ◌<◌, true, List, [], ◌∷◌, ◌++◌, length, Option, Some, None, refl, sym, ap, ◌∙◌, subst, ◌⊎◌, inl, inr, ◌↔◌, arith, length-append}
+use Rattle.ccw_core.specs.Ccw.{Fields}
+use Rattle.ccw_core.specs.Storage.{Stands, is_inside}
+use Rattle.chan_walk.specs.declared.job.Job.{Job}
+use Rattle.chan_walk.specs.declared.place.Place.{Place}
+use Rattle.chan_walk.specs.declared.successor.Next.{Next}
+use Rattle.chan_walk.specs.Argument.{Has}
+use Rattle.chan_find.specs.Covered.{HasByte, IsMarked, IsPut, IsGrown, AreClosed, IsCovered}
+use Rattle.chan_walk.specs.Job.{storage_of}
+use Rattle.chan_walk.specs.Look.{IsLook, Seen}
+use Rattle.chan_walk.specs.Place.{ccw_of}
+use Rattle.chan_find.specs.Programs.{start_at, IsPlain, StepsTo, HasTrail}
+use Rattle.chan_walk.specs.Successors.{AreSuccessors}
+use Rattle.chan_walk.proofs.Theory.Faults.{fault_unique}
+use Rattle.chan_walk.proofs.Theory.Lists.{has_left, has_push}
+use Rattle.chan_walk.proofs.Algorithms.Demanding.{clear_stands}
+use Rattle.chan_walk.proofs.Algorithms.Noted.{ccw_seen}
+use Rattle.chan_find.proofs.Tabling.{aligned_rest, inside_low, marked_byte}
+
+-- ---- plain places
+
+pub plain_fault : (j : Job) (l : Seen) → IsLook j l → IsPlain j l.place → l.fault ≡ None
+plain_fault j l look p = fault_unique j l.place l.fault None look.fault p.clear
+
+pub plain_seen : (j : Job) (l : Seen) → IsLook j l → IsPlain j l.place → l.ccw ≡ Some (ccw_of j l.place)
+plain_seen j l look p = ccw_seen j l look (clear_stands j l.place p.clear)
+
+pub plain_not_none : (j : Job) (l : Seen) (o : Option Fields) → IsLook j l → o ≡ l.ccw → o ≡ None → IsPlain j l.place → ⊥
+plain_not_none j l o look e n p = let s = plain_seen j l look p in let same : Some (ccw_of j l.place) ≡ None = sym s ∙ sym e ∙ n in absurd (cc)
+
+-- ---- growing
+
+pub grown_put : (o : Option Place) (q : Place) (m : List ℕ) (ps : List Place) (n : List ℕ) (qs : List Place) → o ≡ Some q → length n ≡ length m → IsPut q m n → qs ≡ ps ++ q ∷ [] → IsGrown (λ p. o ≡ Some p) m ps n qs
+grown_put o q m ps n qs e len put is = record {
+  len = len;
+  keeps = λ p h. (put.marks p).1 (inl h);
+  only = λ p h. only p ((put.marks p).0 h);
+  each = λ p f b. (put.marks p).1 (inr (same p f));
+  stays = λ p h. subst (λ z. Has z p) (sym is) (has_left ps (q ∷ []) p h);
+  pending = λ p h. pending p ((has_push ps q p).0 (subst (λ z. Has z p) is h));
+  fewer = omega (arith, put.fewer, ap length is, length-append ps (q ∷ []));
+}
+  where
+    same : (p : Place) → o ≡ Some p → q ≡ p
+    same p f = let s : Some q ≡ Some p = sym e ∙ f in cc
+
+    last : Has qs q
+    last = subst (λ z. Has z q) (sym is) ((has_push ps q q).1 (inr refl))
+
+    only : (p : Place) → IsMarked m p ⊎ (q ≡ p) → IsMarked m p ⊎ ((o ≡ Some p) × Has qs p)
+    only p (inl h) = inl h
+    only p (inr f) = inr (e ∙ ap Some f, subst (Has qs) f last)
+
+    pending : (p : Place) → Has ps p ⊎ (q ≡ p) → Has ps p ⊎ IsMarked n p
+    pending p (inl h) = inl h
+    pending p (inr f) = inr ((put.marks p).1 (inr f))
+
+-- nothing is marked anew
+pub grown_not : (P : Place → Type 0) (m : List ℕ) (ps : List Place) (n : List ℕ) (qs : List Place) → n ≡ m → qs ≡ ps → ((p : Place) → P p → HasByte m p → IsMarked m p) → IsGrown P m ps n qs
+grown_not P m ps n qs e f there = subst (λ z. IsGrown P m ps z qs) (sym e) (subst (λ z. IsGrown P m ps m z) (sym f) (record {
+  len = refl;
+  keeps = λ p h. h;
+  only = λ p h. inl h;
+  each = there;
+  stays = λ p h. h;
+  pending = λ p h. inl h;
+  fewer = omega arith;
+}))
+
+pub grown_both : (P Q : Place → Type 0) (m : List ℕ) (ps : List Place) (n : List ℕ) (qs : List Place) (o : List ℕ) (rs : List Place) → IsGrown P m ps n qs → IsGrown Q n qs o rs → IsGrown (λ p. P p ⊎ Q p) m ps o rs
+grown_both P Q m ps n qs o rs one other = record {
+  len = other.len ∙ one.len;
+  keeps = λ p h. other.keeps p (one.keeps p h);
+  only = λ p h. only p (other.only p h);
+  each = each;
+  stays = λ p h. other.stays p (one.stays p h);
+  pending = λ p h. pending p (other.pending p h);
+  fewer = omega (arith, one.fewer, other.fewer);
+}
+  where
+    first : (p : Place) → IsMarked m p ⊎ (P p × Has qs p) → IsMarked m p ⊎ ((P p ⊎ Q p) × Has rs p)
+    first p (inl h) = inl h
+    first p (inr h) = inr (inl h.0, other.stays p h.1)
+
+    only : (p : Place) → IsMarked n p ⊎ (Q p × Has rs p) → IsMarked m p ⊎ ((P p ⊎ Q p) × Has rs p)
+    only p (inl h) = first p (one.only p h)
+    only p (inr h) = inr (inr h.0, h.1)
+
+    each : (p : Place) → P p ⊎ Q p → HasByte m p → IsMarked o p
+    each p (inl h) b = other.keeps p (one.each p h b)
+    each p (inr h) b = other.each p h (record { aligned = b.aligned; within = omega (arith, b.within, one.len) })
+
+    pending : (p : Place) → Has qs p ⊎ IsMarked o p → Has ps p ⊎ IsMarked o p
+    pending p (inr h) = inr h
+    pending p (inl h) = second (one.pending p h)
+      where
+        second : Has ps p ⊎ IsMarked n p → Has ps p ⊎ IsMarked o p
+        second (inl k) = inl k
+        second (inr k) = inr (other.keeps p k)
+
+pub grown_as : (P Q : Place → Type 0) (m : List ℕ) (ps : List Place) (n : List ℕ) (qs : List Place) → ((p : Place) → P p ↔ Q p) → IsGrown P m ps n qs → IsGrown Q m ps n qs
+grown_as P Q m ps n qs same g = record {
+  len = g.len;
+  keeps = g.keeps;
+  only = λ p h. only p (g.only p h);
+  each = λ p h b. g.each p ((same p).1 h) b;
+  stays = g.stays;
+  pending = g.pending;
+  fewer = g.fewer;
+}
+  where
+    only : (p : Place) → IsMarked m p ⊎ (P p × Has qs p) → IsMarked m p ⊎ (Q p × Has qs p)
+    only p (inl h) = inl h
+    only p (inr h) = inr ((same p).0 h.0, h.1)
+
+-- ---- what one place steps to
+
+-- a plain place steps to its successors and to the same CCW as a start, and to nothing else
+pub steps_exactly : (j : Job) (p : Place) (n : Next) → AreSuccessors j p n → IsPlain j p → (q : Place) → (((n.next ≡ Some q) ⊎ (n.skip ≡ Some q)) ⊎ (Some (start_at p.address) ≡ Some q)) ↔ StepsTo j p q
+steps_exactly j p n are plain q = (to, from)
+  where
+    to : ((n.next ≡ Some q) ⊎ (n.skip ≡ Some q)) ⊎ (Some (start_at p.address) ≡ Some q) → StepsTo j p q
+    to (inl (inl e)) = (plain, inl (inl (sym (are.next plain.clear) ∙ e)))
+    to (inl (inr e)) = (plain, inl (inr (sym (are.skip plain.clear) ∙ e)))
+    to (inr e) = let same : start_at p.address ≡ q = cc in (plain, inr (sym same))
+
+    from : StepsTo j p q → ((n.next ≡ Some q) ⊎ (n.skip ≡ Some q)) ⊎ (Some (start_at p.address) ≡ Some q)
+    from (f, inl (inl e)) = inl (inl (are.next plain.clear ∙ e))
+    from (f, inl (inr e)) = inl (inr (are.skip plain.clear ∙ e))
+    from (f, inr e) = inr (ap Some (sym e))
+
+pub stepped : (j : Job) (p : Place) (next : Next) (m : List ℕ) (ps : List Place) (n : List ℕ) (qs : List Place) (o : List ℕ) (rs : List Place) (u : List ℕ) (ts : List Place) → AreSuccessors j p next → IsPlain j p
+    → IsGrown (λ q. next.next ≡ Some q) m ps n qs → IsGrown (λ q. next.skip ≡ Some q) n qs o rs → IsGrown (λ q. Some (start_at p.address) ≡ Some q) o rs u ts → IsGrown (StepsTo j p) m ps u ts
+stepped j p next m ps n qs o rs u ts are plain a b c =
+    grown_as _ (StepsTo j p) m ps u ts (steps_exactly j p next are plain)
+    (grown_both (λ q. (next.next ≡ Some q) ⊎ (next.skip ≡ Some q)) (λ q. Some (start_at p.address) ≡ Some q) m ps o rs u ts (grown_both (λ q. next.next ≡ Some q) (λ q. next.skip ≡ Some q) m ps n qs o rs a b) c)
+
+-- a place that isn't plain steps to nothing
+pub stepped_nowhere : (j : Job) (p : Place) (m : List ℕ) (ps : List Place) → (IsPlain j p → ⊥) → IsGrown (StepsTo j p) m ps m ps
+stepped_nowhere j p m ps n = grown_not (StepsTo j p) m ps m ps refl refl (λ q s b. absurd (n s.0))
+
+-- ---- what one start leads to
+
+-- what holds while a start is followed: n grows from m, and what its places step to is marked, but for the pending places
+pub record IsFollowed (j : Job) (a : ℕ) (m n : List ℕ) (ps : List Place) : Type 0 where
+  pub len : length n ≡ length m
+  pub keeps : (p : Place) → IsMarked m p → IsMarked n p
+  pub begins : HasByte m (start_at a) → IsMarked n (start_at a)
+  pub only : (p : Place) → IsMarked n p → IsMarked m p ⊎ HasTrail j a p
+  pub marked : (p : Place) → Has ps p → IsMarked n p
+  pub closed : (p q : Place) → IsMarked n p → StepsTo j p q → HasByte n q → IsMarked n q ⊎ Has ps p
+
+byte_of : (m n : List ℕ) (p : Place) → length n ≡ length m → HasByte m p → HasByte n p
+byte_of m n p e b = record { aligned = b.aligned; within = omega (arith, b.within, e) }
+
+pub followed_first : (j : Job) (a : ℕ) (m n : List ℕ) (ps qs : List Place) → AreClosed j m → ps ≡ [] → IsGrown (λ q. Some (start_at a) ≡ Some q) m ps n qs → IsFollowed j a m n qs
+followed_first j a m n ps qs closed none g = record {
+  len = g.len;
+  keeps = g.keeps;
+  begins = λ b. g.each (start_at a) refl b;
+  only = λ p h. only p (g.only p h);
+  marked = λ p h. marked p (g.pending p h);
+  closed = λ p q h s b. close p q (g.only p h) s b;
+}
+  where
+    only : (p : Place) → IsMarked m p ⊎ ((Some (start_at a) ≡ Some p) × Has qs p) → IsMarked m p ⊎ HasTrail j a p
+    only p (inl h) = inl h
+    only p (inr h) = let e = h.0 in let same : start_at a ≡ p = cc in inr ([], sym same)
+
+    marked : (p : Place) → Has ps p ⊎ IsMarked n p → IsMarked n p
+    marked p (inl h) = absurd (subst (λ z. Has z p) none h)
+    marked p (inr h) = h
+
+    close : (p q : Place) → IsMarked m p ⊎ ((Some (start_at a) ≡ Some p) × Has qs p) → StepsTo j p q → HasByte n q → IsMarked n q ⊎ Has qs p
+    close p q (inl h) s b = inl (g.keeps q (closed p q h s (byte_of n m q (sym g.len) b)))
+    close p q (inr h) s b = inr h.1
+
+-- the last pending place is followed
+pub followed_on : (j : Job) (a : ℕ) (m n o : List ℕ) (ps qs rs : List Place) (p : Place) → AreClosed j m → IsFollowed j a m n ps → ps ≡ qs ++ p ∷ [] → IsGrown (StepsTo j p) n qs o rs → IsFollowed j a m o rs
+followed_on j a m n o ps qs rs p closed f is g = record {
+  len = g.len ∙ f.len;
+  keeps = λ q h. g.keeps q (f.keeps q h);
+  begins = λ b. g.keeps (start_at a) (f.begins b);
+  only = λ q h. only q h (g.only q h);
+  marked = λ q h. marked q (g.pending q h);
+  closed = λ q r h s b. close q r (g.only q h) s b;
+}
+  where
+    last : IsMarked n p
+    last = f.marked p (subst (λ z. Has z p) (sym is) ((has_push qs p p).1 (inr refl)))
+
+    -- what the last one steps to has a trail too, or was marked before
+    from : (q : Place) → StepsTo j p q → HasByte m q → IsMarked m p ⊎ HasTrail j a p → IsMarked m q ⊎ HasTrail j a q
+    from q s b (inl h) = inl (closed p q h s b)
+    from q s b (inr t) = inr (p ∷ t.0, (t.1, s))
+
+    only : (q : Place) → IsMarked o q → IsMarked n q ⊎ (StepsTo j p q × Has rs q) → IsMarked m q ⊎ HasTrail j a q
+    only q k (inl h) = f.only q h
+    only q k (inr h) = from q h.0 (byte_of o m q (sym f.len ∙ sym g.len) (marked_byte o q k)) (f.only p last)
+
+    marked : (q : Place) → Has qs q ⊎ IsMarked o q → IsMarked o q
+    marked q (inl h) = g.keeps q (f.marked q (subst (λ z. Has z q) (sym is) (has_left qs (p ∷ []) q h)))
+    marked q (inr h) = h
+
+    close : (q r : Place) → IsMarked n q ⊎ (StepsTo j p q × Has rs q) → StepsTo j q r → HasByte o r → IsMarked o r ⊎ Has rs q
+    close q r (inr h) s b = inr h.1
+    close q r (inl h) s b = one (f.closed q r h s (byte_of o n r (sym g.len) b))
+      where
+        two : Has qs q ⊎ (p ≡ q) → IsMarked o r ⊎ Has rs q
+        two (inl k) = inr (g.stays q k)
+        two (inr e) = inl (g.each r (subst (λ z. StepsTo j z r) (sym e) s) (byte_of o n r (sym g.len) b))
+
+        one : IsMarked n r ⊎ Has ps q → IsMarked o r ⊎ Has rs q
+        one (inl k) = inl (g.keeps r k)
+        one (inr k) = two ((has_push qs p q).0 (subst (λ z. Has z q) is k))
+
+-- nothing is pending any more
+pub followed_all : (j : Job) (a : ℕ) (m n : List ℕ) (ps : List Place) → IsFollowed j a m n ps → ps ≡ [] → AreClosed j n × IsCovered j a m n
+followed_all j a m n ps f none = ((λ p q h s b. end p q (f.closed p q h s b)), record { keeps = f.keeps; begins = f.begins; only = f.only })
+  where
+    end : (p q : Place) → IsMarked n q ⊎ Has ps p → IsMarked n q
+    end p q (inl h) = h
+    end p q (inr h) = absurd (subst (λ z. Has z p) none h)
+
+-- ---- the table is as long as storage
+
+-- a CCW has a byte
+pub stands_byte : (j : Job) (m : List ℕ) (p : Place) → length m ≡ length (storage_of j) / 8 → Stands (storage_of j) p.address → HasByte m p
+stands_byte j m p e s = record { aligned = s.0; within = below (length (storage_of j)) p.address (length m) (aligned_rest p.address s.0) s.1 e }
+  where
+    below : (n a k : ℕ) → a % 8 ≡ 0 → is_inside n a ≡ true → k ≡ n / 8 → a / 8 < k
+    below n a k h i e = let l = inside_low n a i in omega (arith, h, l, e)

@@ -1,0 +1,12 @@
+use Rattle.chan_find.specs.Covered.{IsSettled}
+use Rattle.chan_find.proofs.Passing.{IsDownTo}
+use Rattle.chan_find.proofs.programs.highest_apart.Given as goal
+
+abbrev pub invariant-loop-start : goal.invariant-loop-start
+invariant-loop-start l = record {
+  settled : IsSettled l.job l.covered;
+  down : IsDownTo l.job l.covered.marks.bytes.items l.rest.items l.kept.items;
+}
+
+abbrev pub decreases-loop-start : goal.decreases-loop-start
+decreases-loop-start l = l.rest.len

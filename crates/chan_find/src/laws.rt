@@ -1,0 +1,26 @@
+//! The laws of finding programs: each is the contract of a function that does nothing, so that it is
+//! proved.
+
+ghost use Rattle.chan_find.specs.Programs.{NoneIsMissed, ProgramsAreApart, TwiceIsEnough};
+ghost use Rattle.chan_find.specs.Programs.{YesIsLikely};
+
+/// What is left of the likely starts upwards, and of these downwards, is the starts of programs.
+pub(crate) fn twice_is_enough()
+    ensures { TwiceIsEnough }
+{}
+
+/// And each likely start is led to by the start of a program.
+pub(crate) fn none_is_missed()
+    ensures { NoneIsMissed }
+{}
+
+/// No program's start leads to another's.
+pub(crate) fn programs_are_apart()
+    ensures { ProgramsAreApart }
+{}
+
+/// The start of a job with a yes is likely, if two CCWs that are no transfers are reachable and
+/// byte 5 of each such CCW is zero.
+pub(crate) fn yes_is_likely()
+    ensures { YesIsLikely }
+{}

@@ -1,0 +1,74 @@
+//! A flat table of marks: for each doubleword of storage the ways in which its CCW is entered.
+
+ghost use Rattle.std.specs.Prelude.{◌≡◌, ◌/◌, ◌↔◌, ◌<◌, length, IfOk, IsTrue, MatchOption};
+ghost use Rattle.std.specs.Bool.{MatchBool};
+ghost use Rattle.chan_find.specs.Covered.{HasByte, IsMarked, IsPut};
+ghost use Rattle.chan_walk.specs.declared.place.Place as places;
+
+use chan_walk::Place;
+use std::alloc::{AllocError, Global};
+
+/// A set of places at which CCWs stand: a byte for each doubleword of storage, with a bit for each
+/// way of entry.
+#[derive(Drop)]
+pub(crate) struct MarkTable {
+    bytes: Vec<u8>,
+}
+
+impl MarkTable {
+    /// No place at all, for storage of a length.
+    pub(crate) fn new(alloc: Global, storage_len: u32) -> Result<MarkTable, AllocError>
+        ensures len { IfOk result (λ t. length t.bytes.items ≡ storage_len / 8) }
+        ensures none { IfOk result (λ t. (p : places.Place) → IsMarked t.bytes.items p → ⊥) }
+    {
+        let mut bytes = Vec::new(alloc);
+        bytes.resize((storage_len / 8) as usize, 0)?;
+        Ok(MarkTable { bytes })
+    }
+
+    /// The index of a place's byte, if a CCW stands there.
+    fn index_of(&self, place: Place) -> Option<usize>
+        ensures { MatchOption result (HasByte self.now.bytes.items place → ⊥)
+            (λ at. HasByte self.now.bytes.items place × (at ≡ place.address / 8)) }
+    {
+        if place.address % 8 != 0 {
+            return None;
+        }
+        let at = (place.address / 8) as usize;
+        if at < self.bytes.len() {
+            Some(at)
+        } else {
+            None
+        }
+    }
+
+    /// Whether a place is marked.
+    pub(crate) fn has(&self, place: Place) -> bool
+        ensures { IsTrue result ↔ IsMarked self.now.bytes.items place }
+    {
+        match self.index_of(place) {
+            Some(at) => (self.bytes[at] >> place.way()) & 1 == 1,
+            None => false,
+        }
+    }
+
+    /// Marks a place, unless it is marked already or no CCW stands there; and whether it did.
+    pub(crate) fn put(&mut self, place: Place) -> bool
+        ensures len { length self.new.bytes.items ≡ length self.old.bytes.items }
+        ensures put { MatchBool result
+            (IsPut place self.old.bytes.items self.new.bytes.items)
+            (self.new.bytes.items ≡ self.old.bytes.items) }
+        ensures marked { HasByte self.old.bytes.items place
+            → IsMarked self.new.bytes.items place }
+    {
+        let Some(at) = self.index_of(place) else {
+            return false;
+        };
+        let (bits, way) = (self.bytes[at], place.way());
+        if (bits >> way) & 1 == 1 {
+            return false;
+        }
+        self.bytes[at] = bits | (1 << way);
+        true
+    }
+}

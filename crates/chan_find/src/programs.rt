@@ -1,0 +1,158 @@
+//! Finds the programs in storage whose starts aren't known.
+
+ghost use Rattle.std.specs.Prelude.{◌≡◌, ◌∷◌, ◌++◌, [], IsTrue, IfOk, OnOk, IsSomeAnd, ◌↔◌};
+ghost use Rattle.ccw_core.specs.Held.{bytes_held};
+ghost use Rattle.chan_find.specs.Covered.{AreRoots, IsCovered, IsMarked, IsSettled};
+ghost use Rattle.chan_walk.specs.Look.{IsLook};
+ghost use Rattle.chan_walk.specs.Needs.{open_job};
+ghost use Rattle.chan_find.specs.Programs.{AreProgramStarts, HasSecondFrom, HasTwoCcws, IsJobOver};
+ghost use Rattle.chan_find.specs.Programs.{IsLedTo, IsLikely, IsSecond, LeadToNoOther};
+ghost use Rattle.chan_walk.specs.Verdict.{IsVerdict};
+ghost use Rattle.chan_walk.specs.declared.job.Job.{Job};
+ghost use Rattle.chan_walk.specs.declared.verdict.Verdict.TheVariants as verdict;
+
+use crate::covered::{Covered, is_plain, start_at};
+use crate::laws::{programs_are_apart, yes_is_likely};
+use ccw_core::Storage;
+use chan_walk::{Job, Limit, Look, OpenJob, Place, look_at};
+use ckd_core::Device;
+use std::alloc::{AllocError, Global};
+
+/// Whether a second CCW stands at a place: it is plain, no transfer, and at another address than
+/// the start.
+fn is_second(look: &Look, start: u32) -> bool
+    ensures { (j : Job) → IsLook j look.now → IsTrue result ↔ IsSecond j start look.now.place }
+{
+    match look.ccw() {
+        Some(ccw) => is_plain(look) && !ccw.is_transfer() && look.place().address != start,
+        None => false,
+    }
+}
+
+/// Whether there is a place, and a second CCW stands at it.
+fn is_second_at(job: &Job, start: u32, place: Option<Place>) -> bool
+    ensures { IsTrue result ↔ IsSomeAnd place (IsSecond job.now start) }
+{
+    match place {
+        Some(place) => is_second(&look_at(job, place), start),
+        None => false,
+    }
+}
+
+/// Whether there is a plain place, and a second CCW stands at it or at a successor.
+fn has_second_from(job: &Job, start: u32, place: Option<Place>) -> bool
+    ensures { IsTrue result ↔ IsSomeAnd place (HasSecondFrom job.now start) }
+{
+    let Some(place) = place else {
+        return false;
+    };
+    let look = look_at(job, place);
+    if !is_plain(&look) {
+        return false;
+    }
+    if is_second(&look, start) {
+        return true;
+    }
+    let next = look.next();
+    is_second_at(job, start, next.next) || is_second_at(job, start, next.skip)
+}
+
+/// Whether a start is likely: it is plain, and a second CCW stands one or two successors on.
+fn is_likely(job: &Job, start: u32) -> bool
+    ensures { IsTrue result ↔ IsLikely job.now start }
+{
+    let look = look_at(job, start_at(start));
+    if !is_plain(&look) {
+        return false;
+    }
+    let next = look.next();
+    has_second_from(job, start, next.next) || has_second_from(job, start, next.skip)
+}
+
+/// Takes a start, and covers all that it leads to.
+fn take(
+    covered: &mut Covered,
+    job: &Job,
+    start: u32,
+    taken: &mut Vec<u32>,
+) -> Result<(), AllocError>
+    requires { IsSettled job.now covered.old }
+    ensures settled { OnOk result (IsSettled job.now covered.new) }
+    ensures covered { OnOk result (IsCovered job.now start
+        covered.old.marks.bytes.items covered.new.marks.bytes.items) }
+    ensures taken { OnOk result (taken.new.items ≡ taken.old.items ++ start ∷ []) }
+{
+    covered.cover(job, start)?;
+    taken.push(start)?;
+    Ok(())
+}
+
+/// The likely starts that no lower one leads to, in order.
+fn roots(alloc: Global, job: &Job) -> Result<Vec<u32>, AllocError>
+    ensures { IfOk result (λ v. AreRoots job.now v.items) }
+{
+    let mut covered = Covered::new(alloc, job)?;
+    let mut roots = Vec::new(alloc);
+    let mut address = 0;
+    while address < job.storage.len() {
+        if !covered.has(start_at(address)) && is_likely(job, address) {
+            take(&mut covered, job, address, &mut roots)?;
+        }
+        address += 8;
+    }
+    Ok(roots)
+}
+
+/// Of these, from the highest down, those that no higher one leads to, in order.
+fn highest_apart(alloc: Global, job: &Job, roots: Vec<u32>) -> Result<Vec<u32>, AllocError>
+    requires { AreRoots job.now roots.items }
+    ensures { IfOk result (λ v. AreProgramStarts job.now v.items) }
+{
+    let mut rest = roots;
+    let mut covered = Covered::new(alloc, job)?;
+    let mut kept = Vec::new(alloc);
+    while let Some(start) = rest.pop() {
+        if !covered.has(start_at(start)) {
+            take(&mut covered, job, start, &mut kept)?;
+        }
+    }
+    kept.reverse();
+    Ok(kept)
+}
+
+/// The starts of the programs of a job's storage.
+fn starts_of(alloc: Global, job: &Job) -> Result<Vec<u32>, AllocError>
+    ensures { IfOk result (λ v. AreProgramStarts job.now v.items) }
+{
+    let roots = roots(alloc, job)?;
+    highest_apart(alloc, job, roots)
+}
+
+/// The starts of all programs in storage, each once, in order. Its CCWs are judged under the
+/// device's open job.
+///
+/// A program starts where nothing likely leads in from outside; of a ring of starts, each of which
+/// leads to the others, the lowest counts. A job with a yes has its start in the list or is led to
+/// by one of the list, unless its program has a single CCW or keeps something in byte 5 of one.
+///
+/// `AllocError` comes only if a growth was refused. The call takes a byte for each doubleword of
+/// storage, the list, and room for the places from which it has yet to step on. With n bytes of
+/// storage the cost is n: a few looks for each doubleword and each way in which it can be entered.
+pub fn program_starts(
+    alloc: Global,
+    storage: &Storage,
+    device: Device,
+) -> Result<Vec<u32>, AllocError>
+    ensures starts { IfOk result (λ v. (j : Job) → IsJobOver (bytes_held storage.now) device j
+        → AreProgramStarts (open_job j) v.items) }
+    ensures apart { IfOk result (λ v. (j : Job) → IsJobOver (bytes_held storage.now) device j
+        → LeadToNoOther (open_job j) v.items) }
+    ensures yes { IfOk result (λ v. (j : Job) → IsJobOver (bytes_held storage.now) device j
+        → IsVerdict (open_job j) verdict.Yes → HasTwoCcws (open_job j)
+        → IsLedTo (open_job j) v.items j.start) }
+{
+    programs_are_apart();
+    yes_is_likely();
+    let open = OpenJob::over(alloc, *storage, 0, device, Limit::usual())?;
+    starts_of(alloc, &open.job())
+}
