@@ -3,7 +3,7 @@
 use Rattle.std.specs.Prelude.{ℕ, ◌^◌, ◌==◌, List, [], ◌∷◌, ◌++◌, codes, map, if◌then◌else◌}
 use Rattle.std.specs.List.{flat_map}
 use Rattle.ccw_core.specs.declared.areas.Area.{Area}
-use Rattle.chan_walk.specs.Rows.{Listed}
+use Rattle.chan_needs.specs.Rows.{Listed}
 use Rattle.chan_deck.specs.Image.{extent_of}
 use Rattle.chan_deck.specs.Item.{Item, area_digits, fetch, line, mask, store, text}
 

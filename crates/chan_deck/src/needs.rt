@@ -3,7 +3,7 @@
 ghost use Rattle.std.specs.Prelude.{◌≡◌, [], ◌∷◌, ◌++◌, map, IfOk, OnOk};
 ghost use Rattle.std.specs.List.{AllByRecursion};
 ghost use Rattle.ckd_core.specs.Cylinders.{IsExtent};
-ghost use Rattle.chan_walk.specs.Rows.{listed};
+ghost use Rattle.chan_needs.specs.Rows.{listed};
 ghost use Rattle.chan_deck.specs.Item.{text};
 ghost use Rattle.chan_deck.specs.Needs as texts;
 
@@ -12,7 +12,7 @@ use crate::lists::STORAGE_LIMIT;
 use crate::spelling::push_area_digits;
 use crate::writing::{write_extents, write_fetch, write_store};
 use ccw_core::Area;
-use chan_walk::Needs;
+use chan_needs::Needs;
 use std::alloc::{AllocError, Global};
 
 /// All of the largest storage, as two areas: six digits aren't enough for its length.

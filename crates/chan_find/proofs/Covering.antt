@@ -14,8 +14,8 @@ use Rattle.chan_find.specs.Programs.{start_at, IsPlain, StepsTo, HasTrail}
 use Rattle.chan_walk.specs.Successors.{AreSuccessors}
 use Rattle.chan_walk.proofs.Theory.Faults.{fault_unique}
 use Rattle.chan_walk.proofs.Theory.Lists.{has_left, has_push}
-use Rattle.chan_walk.proofs.Algorithms.Demanding.{clear_stands}
-use Rattle.chan_walk.proofs.Algorithms.Noted.{ccw_seen}
+use Rattle.chan_walk.proofs.Theory.Faults.{clear_stands}
+use Rattle.chan_walk.proofs.Algorithms.Looking.{ccw_seen}
 use Rattle.chan_find.proofs.Tabling.{aligned_rest, inside_low, marked_byte}
 
 -- ---- plain places

@@ -13,7 +13,7 @@ use Rattle.chan_find.specs.Programs.{start_at, IsTrail, HasTrail, LeadsTo, IsLik
 use Rattle.chan_walk.proofs.Theory.Lists.{has_left, has_push}
 use Rattle.chan_find.proofs.Starts.{leads_on, high_is_program, program_is_high}
 use Rattle.chan_find.proofs.Covering.{stands_byte}
-use Rattle.chan_walk.proofs.Algorithms.Demanding.{clear_stands}
+use Rattle.chan_walk.proofs.Theory.Faults.{clear_stands}
 use Rattle.chan_find.proofs.Tabling.{inside_low}
 
 -- ---- likely starts stand in storage

@@ -4,7 +4,7 @@ ghost use Rattle.std.specs.Prelude.{◌≡◌, ◌∷◌, ◌++◌, [], IsTrue, 
 ghost use Rattle.ccw_core.specs.Held.{bytes_held};
 ghost use Rattle.chan_find.specs.Covered.{AreRoots, IsCovered, IsMarked, IsSettled};
 ghost use Rattle.chan_walk.specs.Look.{IsLook};
-ghost use Rattle.chan_walk.specs.Needs.{open_job};
+ghost use Rattle.chan_walk.specs.Open.{open_job};
 ghost use Rattle.chan_find.specs.Programs.{AreProgramStarts, HasSecondFrom, HasTwoCcws, IsJobOver};
 ghost use Rattle.chan_find.specs.Programs.{IsLedTo, IsLikely, IsSecond, LeadToNoOther};
 ghost use Rattle.chan_walk.specs.Verdict.{IsVerdict};

@@ -2,7 +2,7 @@
 use Rattle.std.proofs.Common.{◌≡◌, ◌∙◌, ◌<◌, ◌++◌, ◌∷◌, [], List, ap, arith, append_assoc, append-nil, length, refl, slice_index_or, suc, sym, take, zero, ℕ}
 use Rattle.chan_deck.specs.Parts.{storage_with}
 use Rattle.chan_walk.specs.declared.job.Job.{Job}
-use Rattle.chan_walk.specs.Needs.{open_job}
+use Rattle.chan_walk.specs.Open.{open_job}
 use Rattle.chan_find.specs.Programs.{AreProgramStarts, IsJobOver}
 use Rattle.chan_run.specs.Finding.{AreLinesAt, AreStartsIn, IsLineAt}
 use Rattle.chan_run.specs.declared.image_options.ImageOptions.{ImageOptions}

@@ -10,12 +10,15 @@ use Rattle.ckd_core.specs.Cylinders.{has_cylinder}
 use Rattle.chan_walk.specs.declared.job.Job.{Job}
 use Rattle.chan_walk.specs.declared.verdict.Verdict.TheVariants.{Yes}
 use Rattle.chan_walk.specs.Job.{storage_of, extents_of, fetch_of, store_of}
-use Rattle.chan_walk.specs.Needs.{AreOfOneProgram, Grants, Serves, all_storage, open_job}
-use Rattle.chan_walk.specs.Ranges.{IsByteOf, IsMerged, end_of}
-use Rattle.chan_walk.specs.Rows.{AreNeeds, IsOpenJob, Listed}
+use Rattle.chan_walk.specs.Open.{AreOfOneProgram, all_storage, open_job}
+use Rattle.chan_needs.specs.Needs.{Grants, Serves}
+use Rattle.chan_areas.specs.Ranges.{IsByteOf, IsMerged, end_of}
+use Rattle.chan_needs.specs.Rows.{AreNeeds, Listed}
+use Rattle.chan_walk.specs.Open.{IsOpenJob}
 use Rattle.chan_walk.specs.Verdict.{IsVerdict}
-use Rattle.chan_walk.proofs.Algorithms.Merging.{lies_in-append, lies_in-cases, lies_in-first, lies_in-rest}
-use Rattle.chan_walk.proofs.Theory.Needing.{granted_yes, to_open, yes_grants}
+use Rattle.chan_areas.proofs.Merging.{lies_in-append, lies_in-cases, lies_in-first, lies_in-rest}
+use Rattle.chan_needs.proofs.Needing.{granted_yes, yes_grants}
+use Rattle.chan_walk.proofs.Algorithms.Opened.{to_open}
 use Rattle.chan_deck.specs.Image.{Image, limit_of}
 use Rattle.chan_deck.proofs.PartLemmas.{storage_fits}
 use Rattle.chan_deck.specs.Item.{IsArea}

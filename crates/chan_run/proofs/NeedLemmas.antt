@@ -5,9 +5,10 @@ use Rattle.std.proofs.lemmas.Bool.{both_ways, cases_lt, le-leb}
 use Rattle.ckd_core.specs.Cylinders.{has_cylinder, IsExtent}
 use Rattle.ckd_core.proofs.CylinderLemmas.{has_cylinder-past}
 use Rattle.chan_walk.specs.declared.job.Job.{Job}
-use Rattle.chan_walk.specs.Needs.{AreOfOneProgram, open_job}
-use Rattle.chan_walk.specs.Rows.{AreNeeds, AreRising, Listed}
-use Rattle.chan_walk.proofs.Theory.Needing.{to_open, yes_grants}
+use Rattle.chan_walk.specs.Open.{AreOfOneProgram, open_job}
+use Rattle.chan_needs.specs.Rows.{AreNeeds, AreRising, Listed}
+use Rattle.chan_walk.proofs.Algorithms.Opened.{to_open}
+use Rattle.chan_needs.proofs.Needing.{yes_grants}
 
 -- a cylinder in all of the device is on it
 on_device : (n : ℕ) → has_cylinder ((0, 202) ∷ []) n ≡ true → n ≤ 202

@@ -9,9 +9,9 @@ use Rattle.chan_walk.specs.declared.job.Job.{Job}
 use Rattle.chan_walk.specs.declared.verdict.Verdict.{Verdict}
 use Rattle.chan_walk.specs.Answers.{IsAnswer}
 use Rattle.chan_walk.specs.Explored.{HasMoreThan}
-use Rattle.chan_walk.specs.Needs.{open_job}
+use Rattle.chan_walk.specs.Open.{open_job}
 use Rattle.chan_find.specs.Programs.{AreProgramStarts, IsJobOver}
-use Rattle.chan_walk.specs.Rows.{IsOpenJob}
+use Rattle.chan_walk.specs.Open.{IsOpenJob}
 use Rattle.chan_run.specs.Imaging.{IsNoImage, IsProgramAt, IsWholeImage}
 use Rattle.chan_run.specs.Run.{IsUnwritten}
 use Rattle.chan_run.specs.declared.failure.Failure.{Failure}

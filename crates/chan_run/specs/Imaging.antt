@@ -12,7 +12,8 @@ use Rattle.chan_walk.specs.declared.verdict.Verdict.TheVariants.{Yes, No}
 use Rattle.chan_walk.specs.Answers.{IsAnswer}
 use Rattle.chan_walk.specs.Explored.{HasMoreThan}
 use Rattle.chan_walk.specs.Job.{storage_of}
-use Rattle.chan_walk.specs.Rows.{AreNeeds, IsOpenJob, Listed}
+use Rattle.chan_needs.specs.Rows.{AreNeeds, Listed}
+use Rattle.chan_walk.specs.Open.{IsOpenJob}
 use Rattle.chan_walk.specs.Verdict.{IsVerdict}
 use Rattle.chan_run.specs.Input.{GaveAll, GaveOut, GaveTooMuch}
 use Rattle.chan_run.specs.Run.{IsJobOf}

@@ -23,9 +23,10 @@ use Rattle.chan_walk.specs.Explained.{IsCauseOf, IsEvidenceOf, IsPathOf, IsSecon
 use Rattle.chan_walk.specs.Explained.{IsStoredOver, IsWitness}
 use Rattle.chan_walk.specs.Explored.{AreReachable, HasMoreThan}
 use Rattle.chan_walk.specs.Job.{extents_of, fetch_of, storage_of, store_of}
-use Rattle.chan_walk.specs.Needs.{AreOfOneProgram}
+use Rattle.chan_walk.specs.Open.{AreOfOneProgram}
 use Rattle.chan_walk.specs.Offences.{AreOffences, first_verdict}
-use Rattle.chan_walk.specs.Rows.{AreNeeds, IsOpenJob, Listed}
+use Rattle.chan_needs.specs.Rows.{AreNeeds, Listed}
+use Rattle.chan_walk.specs.Open.{IsOpenJob}
 use Rattle.chan_args.specs.declared.action.Action.{Action}
 use Rattle.chan_args.specs.declared.action.Action.TheVariants as actions
 use Rattle.chan_run.specs.declared.output.Output.{Output}

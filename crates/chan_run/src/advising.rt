@@ -3,6 +3,7 @@
 ghost use Rattle.chan_walk.specs.Surveyed.{IsSurvey};
 
 use chan_deck::notes_text;
+use chan_needs::notes_from;
 use chan_walk::{Job, Limit, Survey};
 use std::alloc::{AllocError, Global};
 
@@ -10,7 +11,7 @@ use std::alloc::{AllocError, Global};
 pub(crate) fn notes_on(alloc: Global, job: &Job, survey: &Survey) -> Result<Vec<u8>, AllocError>
     requires { IsSurvey job.now survey.now }
 {
-    let notes = survey.notes(alloc, job)?;
+    let notes = notes_from(alloc, job, survey)?;
     Ok(notes_text(alloc, &notes)?.into_bytes())
 }
 

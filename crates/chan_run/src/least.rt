@@ -6,8 +6,8 @@ ghost use Rattle.std.specs.List.{AllByRecursion};
 ghost use Rattle.ckd_core.specs.Cylinders.{IsExtent};
 ghost use Rattle.chan_deck.specs.Parts.{storage_with};
 ghost use Rattle.ccw_core.specs.Held.{bytes_held};
-ghost use Rattle.chan_walk.specs.Needs.{AreOfOneProgram};
-ghost use Rattle.chan_walk.specs.Rows.{AreNeeds, listed};
+ghost use Rattle.chan_walk.specs.Open.{AreOfOneProgram};
+ghost use Rattle.chan_needs.specs.Rows.{AreNeeds, listed};
 ghost use Rattle.chan_walk.specs.declared.job.Job.{Job};
 ghost use Rattle.chan_run.specs.Imaging.{HasNoNeeds, IsDeckText, IsNoDeck, IsProgramAt};
 ghost use Rattle.chan_run.specs.Imaging.{IsProgramIn, extents_for};
@@ -18,7 +18,8 @@ use crate::image_options::ImageOptions;
 use crate::reporting::Outcome;
 use ccw_core::Storage;
 use chan_deck::{Parts, in_six_digits, parts_text, place_image};
-use chan_walk::{Job, Limit, Needs, OpenJob, Verdict, WalkError, survey};
+use chan_needs::{Needs, needs_from};
+use chan_walk::{Job, Limit, OpenJob, Verdict, WalkError, survey};
 use ckd_core::Extents;
 use std::alloc::{AllocError, Global};
 
@@ -105,7 +106,7 @@ fn needs_of(alloc: Global, job: &Job<'_>) -> Result<Needs, Outcome>
     };
     match survey.verdict() {
         Verdict::No { address, reason } => Err(Outcome::NoJob { address, reason }),
-        Verdict::Yes => Ok(survey.needs(alloc, &open_job)?),
+        Verdict::Yes => Ok(needs_from(alloc, &open_job, &survey)?),
     }
 }
 

@@ -4,7 +4,7 @@ ghost use Rattle.std.specs.Prelude.{◌≡◌, ◌+◌, ◌≤◌, ◌^◌, code
 ghost use Rattle.chan_run.specs.Imaging.{IsOfOpenJob};
 ghost use Rattle.chan_run.specs.Naming.{name_in};
 ghost use Rattle.chan_run.specs.NoJob.{IsExplainedOpenly, IsNoJobText};
-ghost use Rattle.chan_walk.specs.Rows.{IsOpenJob};
+ghost use Rattle.chan_walk.specs.Open.{IsOpenJob};
 ghost use Rattle.chan_walk.specs.declared.job.Job.{Job};
 
 use crate::image_options::ImageOptions;

@@ -12,6 +12,7 @@ ghost use Rattle.chan_run.specs.Run.{AreTold, IsExplained, IsListing, IsNeeded, 
 use ccw_core::{Watched, write_out};
 use chan_args::Action;
 use chan_deck::{ListError, explanation_text, graph_text, needs_text, verdict_text, write_seen};
+use chan_needs::needs_from;
 use chan_walk::{Evidence, Job, Look, Survey, Verdict, first_place};
 use std::alloc::{AllocError, Global};
 use std::io::Write;
@@ -131,7 +132,7 @@ fn needed_text(alloc: Global, job: &Job, survey: &Survey) -> Result<Vec<u8>, All
     match survey.verdict() {
         Verdict::No { .. } => Ok(why_text(alloc, false, job, survey)?.into_bytes()),
         Verdict::Yes => {
-            let needs = survey.needs(alloc, job)?;
+            let needs = needs_from(alloc, job, survey)?;
             needs_text(alloc, &needs)
         }
     }

@@ -6,8 +6,6 @@ pub mod InOrder
 pub mod Verdicts
 pub mod Counted
 pub mod Granted
-pub mod Merging
-pub mod Searching
 pub mod Lending
 pub mod Guarding
 pub mod Looking
@@ -17,18 +15,8 @@ pub mod Tracing
 pub mod Backward
 pub mod Finding
 pub mod Explaining
-pub mod Gaps
 pub mod Indexing
 pub mod Changing
 pub mod Given
-pub mod Noted
-pub mod Demanding
-pub mod Existing
-pub mod Seeking
-pub mod Needed
-pub mod Holding
-pub mod Leasts
-pub mod Kept
-pub mod Copied
 pub mod Opened
 pub mod StoredOver

@@ -4,8 +4,6 @@ pub mod Storing
 pub mod Invariant
 pub mod Waiting
 pub mod Yes
-pub mod History
-pub mod Beside
 pub mod Quiet
 pub mod Paths
 pub mod Operations
@@ -13,7 +11,3 @@ pub mod Alarm
 pub mod Exact
 pub mod Again
 pub mod Answering
-pub mod Asking
-pub mod Starting
-pub mod Remembering
-pub mod Supervising

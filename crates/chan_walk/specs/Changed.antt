@@ -6,9 +6,10 @@ use Rattle.chan_walk.specs.declared.evidence.Evidence.TheVariants as because
 use Rattle.chan_walk.specs.declared.job.Job.{Job}
 use Rattle.chan_walk.specs.declared.place.Place.{Place}
 use Rattle.chan_walk.specs.declared.seek.GivenBytes.{GivenBytes}
-use Rattle.chan_walk.specs.Evidence.{IsArgumentIn, IsLeastOf, IsTakenAt}
+use Rattle.chan_walk.specs.Evidence.{IsArgumentIn, IsTakenAt}
+use Rattle.chan_areas.specs.Ranges.{IsLeastOf}
 use Rattle.chan_walk.specs.Guard.{IsArgumentByteOf}
-use Rattle.chan_walk.specs.Ranges.{end_of}
+use Rattle.chan_areas.specs.Ranges.{end_of}
 use Rattle.chan_walk.specs.Walk.{IsFirstWhere}
 
 -- the data has one of the eight bytes from a on

@@ -1,9 +1,8 @@
 -- The evidence for an offence: the values of its cause, and the path that shows what is changed.
 use Rattle.std.specs.Prelude.{◌≡◌, ℕ, ◌+◌, ◌*◌, ◌%◌, ◌<◌, ◌≤◌, true, false, List, [], length}
-use Rattle.std.specs.Prelude.{slice_index, Option, Some, None, ◌⊎◌, ◌↔◌, IsTrue}
+use Rattle.std.specs.Prelude.{slice_index, Option, Some, None, ◌↔◌, IsTrue}
 use Rattle.ccw_core.specs.declared.areas.Area.{Area}
-use Rattle.ccw_core.specs.Areas.{lies_in}
-use Rattle.ccw_core.specs.Ccw.{Fields, byte}
+use Rattle.ccw_core.specs.Ccw.{byte}
 use Rattle.ccw_core.specs.Storage.{Stands}
 use Rattle.ckd_core.specs.Argument.{has_no_bin, cylinder_of, head_of}
 use Rattle.ckd_core.specs.Cylinders.{has_cylinder}
@@ -18,45 +17,22 @@ use Rattle.chan_walk.specs.declared.reason.Reason.{Reason}
 use Rattle.chan_walk.specs.declared.reason.Reason.TheVariants as reasons
 use Rattle.chan_walk.specs.declared.seek.GivenBytes.{GivenBytes}
 use Rattle.chan_walk.specs.Argument.{Gives, HasArgument}
-use Rattle.chan_walk.specs.Fault.{allows, begins_recalibrate, begins_seek}
+use Rattle.chan_walk.specs.Fault.{allows, begins_seek}
 use Rattle.chan_walk.specs.Given.{AreArgument, AreGiven}
 use Rattle.chan_walk.specs.Guard.{IsArgumentByteOf}
 use Rattle.chan_walk.specs.Guarded.{IsArgumentByte}
 use Rattle.chan_walk.specs.Job.{extents_of, fetch_of, heads, storage_of, store_of}
-use Rattle.chan_walk.specs.Machine.{home}
 use Rattle.chan_walk.specs.Paths.{ArePathWhere, IsPathWhere}
-use Rattle.chan_walk.specs.Place.{ccw_of, first_place}
-use Rattle.chan_walk.specs.Ranges.{end_of}
+use Rattle.chan_walk.specs.Place.{ccw_of, data_at, first_place}
+use Rattle.chan_walk.specs.Seeks.{SeeksTo}
+use Rattle.chan_areas.specs.Ranges.{IsFirstGap, IsLeastOf, end_of}
 use Rattle.chan_walk.specs.Reachable.{IsReachable}
 
 -- ---- what a cause says
 
--- the data range of a CCW
-abbrev pub data_of : Fields → Area
-data_of c = record { start = c.address; len = c.count }
-
--- that of the CCW at a place
-abbrev pub data_at : Job → Place → Area
-data_at j p = data_of (ccw_of j p)
-
--- the first bytes in a row of some data that lie in no area
-pub record IsFirstGap (areas : List Area) (range gap : Area) : Type 0 where
-  pub from : range.start ≤ gap.start
-  pub filled : 0 < gap.len
-  pub within : end_of gap ≤ end_of range
-  pub before : (b : ℕ) → range.start ≤ b → b < gap.start → lies_in areas b ≡ true
-  pub inside : (b : ℕ) → gap.start ≤ b → b < end_of gap → lies_in areas b ≡ false
-  pub after : end_of gap < end_of range → lies_in areas (end_of gap) ≡ true
-
 -- the two bytes of bin
 abbrev pub bin_of : List ℕ → ℕ
 bin_of x = slice_index x 0 * 256 + slice_index x 1
-
--- where the seek or the Recalibrate that begins at p goes
-abbrev pub SeeksTo : Job → Place → List ℕ → Type 0
-SeeksTo j p x =
-    ((begins_seek p (ccw_of j p) ≡ true) × HasArgument (storage_of j) p.address (Some x))
-    ⊎ ((begins_recalibrate p (ccw_of j p) ≡ true) × (x ≡ home))
 
 -- what is wrong with the seek or the Recalibrate that begins at p: no argument, or one that the job
 -- doesn't allow
@@ -97,15 +73,6 @@ pub record IsArgumentIn (j : Job) (range : Area) (b : ℕ) : Type 0 where
   pub from : range.start ≤ b
   pub below : b < end_of range
   pub argument : IsArgumentByte j b
-
--- the least number for which P holds
-abbrev pub IsLeastOf : (ℕ → Type 0) → ℕ → Type 0
-IsLeastOf P n = P n × ((m : ℕ) → P m → n ≤ m)
-
--- the same, or that there is none
-abbrev pub IsLeastOrNone : (ℕ → Type 0) → Option ℕ → Type 0
-IsLeastOrNone P None = (n : ℕ) → P n → ⊥
-IsLeastOrNone P (Some n) = IsLeastOf P n
 
 -- before lead to taker on the path to a place that takes the byte at b as its argument
 abbrev pub IsPathToTaker : Job → ℕ → Place → List Place → Type 0

@@ -8,7 +8,7 @@ use Rattle.chan_walk.specs.declared.finder.Finder.{Finder}
 use Rattle.chan_walk.specs.declared.job.Job.{Job}
 use Rattle.chan_walk.specs.declared.offence.Offence.{Offence}
 use Rattle.chan_walk.specs.Argument.{Has}
-use Rattle.chan_walk.specs.Evidence.{IsLeastOrNone}
+use Rattle.chan_areas.specs.Ranges.{IsLeastOrNone}
 use Rattle.chan_walk.specs.Explored.{place_number}
 use Rattle.chan_walk.specs.Lent.{AreLent}
 use Rattle.chan_walk.specs.Look.{Seen}

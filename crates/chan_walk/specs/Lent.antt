@@ -1,5 +1,5 @@
 -- The areas lent to a program as they are kept for searching.
-use Rattle.std.specs.Prelude.{◌≡◌, ℕ, ◌+◌, ◌-◌, ◌≤◌, min, List, length}
+use Rattle.std.specs.Prelude.{◌≡◌, ℕ, ◌+◌, ◌≤◌, List, length}
 use Rattle.ccw_core.specs.declared.areas.Area.{Area}
 use Rattle.ccw_core.specs.Areas.{covered}
 use Rattle.chan_walk.specs.declared.job.Job.{Job}
@@ -9,11 +9,6 @@ use Rattle.chan_walk.specs.Job.{storage_of, fetch_of, store_of}
 pub record LentAreas : Type 0 where
   pub fetch : List Area
   pub store : List Area
-
--- the part of an area that lies in n bytes of storage; empty and at their end for one that begins
--- past them
-abbrev pub clip : ℕ → Area → Area
-clip n a = record { start = min a.start n; len = min a.len (n - a.start) }
 
 -- these areas cover the same ranges of storage as those that the job was lent
 pub record AreLent (j : Job) (l : LentAreas) : Type 0 where

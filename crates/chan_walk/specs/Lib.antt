@@ -15,32 +15,25 @@ pub mod Runs
 -- The laws: what a verdict means for every run.
 pub mod Headline
 pub mod Alarm
-pub mod History
-pub mod Beside
 pub mod Counted
 pub mod Order
+pub mod Open
 -- What the answers say: lists, paths, causes, notes, needs, and what a supervisor may do.
 pub mod Limit
 pub mod Explored
 pub mod Answers
 pub mod Offences
 pub mod Paths
+pub mod Seeks
 pub mod Given
 pub mod Evidence
 pub mod Explained
-pub mod Notes
-pub mod Needs
-pub mod Rows
-pub mod Starting
-pub mod Remembered
-pub mod Supervised
 -- What only ties the code to all this.
 pub mod Onward
 pub mod Visit
 pub mod Tables
 pub mod Marks
 pub mod Walk
-pub mod Ranges
 pub mod Least
 pub mod Lent
 pub mod Lending

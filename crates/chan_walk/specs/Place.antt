@@ -7,6 +7,7 @@ use Rattle.chan_walk.specs.declared.place.Entry.{Entry}
 use Rattle.chan_walk.specs.declared.place.Entry.TheVariants.{Fresh, ChainIn, ChainOut, ChainSearch}
 use Rattle.chan_walk.specs.declared.place.Place.{Place}
 use Rattle.chan_walk.specs.Job.{storage_of}
+use Rattle.ccw_core.specs.declared.areas.Area.{Area}
 
 -- a new operation begins there, so that the command code counts
 abbrev pub is_fresh : Entry → Bool
@@ -32,3 +33,11 @@ first_place j = transferred_to j.start Fresh
 -- the CCW at a place, in the initial storage
 abbrev pub ccw_of : Job → Place → Fields
 ccw_of j p = ccw (storage_of j) p.address
+
+-- the data range of a CCW
+abbrev pub data_of : Fields → Area
+data_of c = record { start = c.address; len = c.count }
+
+-- that of the CCW at a place
+abbrev pub data_at : Job → Place → Area
+data_at j p = data_of (ccw_of j p)

@@ -3,7 +3,6 @@
 ghost use Rattle.std.specs.Prelude.{◌≡◌, length};
 ghost use Rattle.ccw_core.specs.Ccw as specs;
 ghost use Rattle.ccw_core.specs.Held.{bytes_held};
-ghost use Rattle.chan_walk.specs.Notes as noted;
 
 use bitflags::Flags;
 use ccw_core::{Ccw, CcwFlags, Group, Storage};
@@ -30,14 +29,6 @@ pub(crate) fn skips(ccw: &Ccw) -> bool
     ensures { result ≡ specs.skips ccw.now }
 {
     ccw.flags() & CcwFlags::SKIP.bits() != 0
-}
-
-/// Program-controlled interruption: the channel asks for an interruption when it takes up the CCW.
-#[tactic(auto, unfolding(crate::specs::Notes::asks_interruption))]
-pub(crate) fn asks_interruption(ccw: &Ccw) -> bool
-    ensures { result ≡ noted.asks_interruption ccw.now }
-{
-    ccw.flags() & CcwFlags::PCI.bits() != 0
 }
 
 /// The three low flag bits, which have to be zero, are zero.

@@ -5,7 +5,8 @@ ghost use Rattle.ccw_core.specs.Areas.{covered};
 ghost use Rattle.ccw_core.specs.Storage.{ccw_at as ccw_in};
 ghost use Rattle.ccw_core.specs.declared.areas.Area as areas;
 ghost use Rattle.chan_walk.specs.Evidence as specs;
-ghost use Rattle.chan_walk.specs.Evidence.{FailsToSeek, IsEvidence, IsFirstGap};
+ghost use Rattle.chan_walk.specs.Evidence.{FailsToSeek, IsEvidence};
+ghost use Rattle.chan_areas.specs.Ranges.{IsFirstGap};
 ghost use Rattle.chan_walk.specs.Evidence.{IsOutside};
 ghost use Rattle.chan_walk.specs.Fault.{allows};
 ghost use Rattle.chan_walk.specs.Guard.{Guards};
@@ -14,6 +15,7 @@ ghost use Rattle.chan_walk.specs.Job.{fetch_of, storage_of, store_of};
 ghost use Rattle.chan_walk.specs.Lent.{AreLent};
 ghost use Rattle.chan_walk.specs.Look.{IsLook, IsRead};
 ghost use Rattle.chan_walk.specs.Offences.{Offending, seen_offence};
+ghost use Rattle.chan_walk.specs.Place as placed;
 ghost use Rattle.chan_walk.specs.Walk.{HasFound};
 ghost use Rattle.chan_walk.specs.declared.evidence.Evidence.TheVariants as because;
 
@@ -256,7 +258,7 @@ fn eight_bytes(address: u32) -> Area
 
 /// The range of a CCW's data.
 pub(crate) fn data_of(ccw: &Ccw) -> Area
-    ensures { result ≡ specs.data_of ccw.now }
+    ensures { result ≡ placed.data_of ccw.now }
 {
     Area {
         start: ccw.address(),

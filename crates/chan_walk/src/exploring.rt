@@ -18,11 +18,13 @@ use std::collections::BTreeMap;
 
 /// What is seen of the places found, in the order in which they were, and the same places as marks.
 #[derive(Drop)]
-pub(crate) struct Walk {
-    pub(crate) looks: Vec<Look>,
+pub struct Walk {
+    /// A look at each place.
+    pub looks: Vec<Look>,
     /// For each place the index of the one that it was found from; of the first place 0.
-    pub(crate) found_from: Vec<u32>,
-    pub(crate) marks: BTreeMap<u32, u8>,
+    pub found_from: Vec<u32>,
+    /// For each address the ways in which it is entered, as `Explored::marks_at` has them.
+    pub marks: BTreeMap<u32, u8>,
 }
 
 impl Walk {

@@ -7,15 +7,15 @@ ghost use Rattle.chan_walk.specs.Guard.{AddsBytes, GuardAreas, Guards, IsArgumen
 ghost use Rattle.chan_walk.specs.Guard.{IsCcwByteOf, byte_area};
 ghost use Rattle.chan_walk.specs.Least.{AreReached};
 ghost use Rattle.chan_walk.specs.Look.{AreLooks, IsLook, places_of_looks};
-ghost use Rattle.chan_walk.specs.Ranges.{EndsBelow, IsMerged, Meets};
+ghost use Rattle.chan_areas.specs.Ranges.{EndsBelow, IsMerged, Meets};
 ghost use Rattle.chan_walk.specs.declared.job.Job.{Job};
 
 use crate::explored::Explored;
 use crate::job::Job;
 use crate::lent::{Lending, Lent};
 use crate::look::{Look, look_by};
-use crate::ranges::{meets, merge};
 use ccw_core::Area;
+use chan_areas::{meets, merge};
 use std::alloc::{AllocError, Global};
 use std::marker::Model;
 

@@ -3,21 +3,12 @@
 
 ghost use Rattle.chan_walk.specs.Alarm.{EachPathIsRun, EachPathShows, GuardedIsUsed};
 ghost use Rattle.chan_walk.specs.Alarm.{HeadlineAloneIsEnough, NoFalseAlarm, SafeIsYes, StaysSafe};
-ghost use Rattle.chan_walk.specs.Beside.{SafeSideBySide};
 ghost use Rattle.chan_walk.specs.Counted.{SameVerdict, YesByGuarded, YesStays};
 ghost use Rattle.chan_walk.specs.Headline.{GathersArguments, GuardedStays, StaysReachable};
 ghost use Rattle.chan_walk.specs.Headline.{YesIsSafe, YesIsSafeAmong};
-ghost use Rattle.chan_walk.specs.History.{StaysWell};
-ghost use Rattle.chan_walk.specs.Needs.{AskedOnce, LeastJob, MoreIsYes, NeededMaskIsEnough};
-ghost use Rattle.chan_walk.specs.Needs.{NeededMaskExists, NeededMaskIsOne, NoJobWillDo};
-ghost use Rattle.chan_walk.specs.Needs.{SafeIsGranted, SameUnderYes};
 ghost use Rattle.chan_walk.specs.Offences.{FirstIsVerdict};
+ghost use Rattle.chan_walk.specs.Open.{MoreIsYes, OpenJobIsOpen, SameUnderYes};
 ghost use Rattle.chan_walk.specs.Order.{NumbersIncrease};
-ghost use Rattle.chan_walk.specs.Remembered.{RowsAreExact};
-ghost use Rattle.chan_walk.specs.Rows.{BesideIsApart, OpenJobIsOpen};
-ghost use Rattle.chan_walk.specs.Starting.{AskedMayStart, EachMayLeave, EachMayStart, EachMayStep};
-ghost use Rattle.chan_walk.specs.Starting.{OthersMayChange};
-ghost use Rattle.chan_walk.specs.Supervised.{SupervisedGoesOn, SupervisedStaysWell};
 
 /// Where the verdict is yes, guarded bytes never change.
 pub(crate) fn guarded_stays()
@@ -44,19 +35,6 @@ pub(crate) fn yes_is_safe()
 /// the job is steady in them.
 pub(crate) fn yes_is_safe_among()
     ensures { YesIsSafeAmong }
-{}
-
-/// Programs may start and leave at any time on one storage, while others change what none in flight
-/// guards: where each that starts has a yes and is apart from those in flight, each in flight is
-/// safe, and what it guards is as it was when its verdict was given.
-pub(crate) fn stays_well()
-    ensures { StaysWell }
-{}
-
-/// So are two programs that run side by side, where both verdicts are yes and neither may store
-/// over what the other guards.
-pub(crate) fn safe_side_by_side()
-    ensures { SafeSideBySide }
 {}
 
 /// Each path is the places of a run that begins at the first cylinder of the first extent and
@@ -125,33 +103,6 @@ pub(crate) fn yes_stays()
     ensures { YesStays }
 {}
 
-/// The least job: for each job of a program the verdict is yes exactly where it is for the open job
-/// and the job grants what the program needs.
-pub(crate) fn least_job()
-    ensures { LeastJob }
-{}
-
-/// It need be asked only once: the same answer serves over another storage that is as long and the
-/// same in each kept byte.
-pub(crate) fn asked_once()
-    ensures { AskedOnce }
-{}
-
-/// The needed mask says all that is asked of a job's mask.
-pub(crate) fn needed_mask_is_enough()
-    ensures { NeededMaskIsEnough }
-{}
-
-/// There is no other needed mask.
-pub(crate) fn needed_mask_is_one()
-    ensures { NeededMaskIsOne }
-{}
-
-/// Where the verdict on the open job is yes, there is a needed mask.
-pub(crate) fn needed_mask_exists()
-    ensures { NeededMaskExists }
-{}
-
 /// Granting more never turns a yes into a no.
 pub(crate) fn more_is_yes()
     ensures { MoreIsYes }
@@ -162,65 +113,7 @@ pub(crate) fn same_under_yes()
     ensures { SameUnderYes }
 {}
 
-/// Where the verdict on the open job is no, it is yes under no job of the program.
-pub(crate) fn no_job_will_do()
-    ensures { NoJobWillDo }
-{}
-
-/// Every run is safe and the job is steady exactly where the verdict on the open job is yes and
-/// what is needed is granted.
-pub(crate) fn safe_is_granted()
-    ensures { SafeIsGranted }
-{}
-
 /// The open job that a job's program is asked about is the one by which its needs are defined.
 pub(crate) fn open_job_is_open()
     ensures { OpenJobIsOpen }
-{}
-
-/// Two programs may run side by side exactly where two of their jobs, each with a yes, are apart.
-pub(crate) fn beside_is_apart()
-    ensures { BesideIsApart }
-{}
-
-/// A program that was asked about, whose kept bytes are the same and whose needs are granted, may
-/// start.
-pub(crate) fn asked_may_start()
-    ensures { AskedMayStart }
-{}
-
-/// Rows of needs list no more than what is needed.
-pub(crate) fn rows_are_exact()
-    ensures { RowsAreExact }
-{}
-
-/// Others may change any bytes that no program in flight guards.
-pub(crate) fn others_may_change()
-    ensures { OthersMayChange }
-{}
-
-/// A program that may start does.
-pub(crate) fn each_may_start()
-    ensures { EachMayStart }
-{}
-
-/// A program in flight may make each step of the machine.
-pub(crate) fn each_may_step()
-    ensures { EachMayStep }
-{}
-
-/// A program in flight may leave at any time.
-pub(crate) fn each_may_leave()
-    ensures { EachMayLeave }
-{}
-
-/// A supervisor that starts programs only after a yes of `may_start`, and lets others write only if
-/// `may_write` names no program, has all programs in flight well.
-pub(crate) fn supervised_stays_well()
-    ensures { SupervisedStaysWell }
-{}
-
-/// What the calls allow may happen, and so may each step and each end.
-pub(crate) fn supervised_goes_on()
-    ensures { SupervisedGoesOn }
 {}

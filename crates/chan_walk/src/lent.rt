@@ -2,16 +2,16 @@
 
 ghost use Rattle.std.specs.Prelude.{◌≡◌, ◌+◌, ◌≤◌, ◌^◌, false, map, length, IfOk};
 ghost use Rattle.ccw_core.specs.Areas.{covered};
-ghost use Rattle.chan_walk.specs.Evidence.{IsFirstGap};
+ghost use Rattle.chan_areas.specs.Ranges.{IsFirstGap};
 ghost use Rattle.chan_walk.specs.Job.{fetch_of, storage_of, store_of};
 ghost use Rattle.chan_walk.specs.Lent as lent;
 ghost use Rattle.chan_walk.specs.Lent.{AreLent};
 ghost use Rattle.chan_walk.specs.Lending.{Lends};
-ghost use Rattle.chan_walk.specs.Ranges.{EndsBelow};
+ghost use Rattle.chan_areas.specs.Ranges.{EndsBelow};
 
 use crate::job::Job;
-use crate::ranges::{first_gap, holds, merge};
 use ccw_core::{Area, covers};
+use chan_areas::{clipped, first_gap, holds, merge};
 use std::alloc::{AllocError, Global};
 use std::marker::Model;
 
@@ -25,7 +25,7 @@ pub(crate) struct Lent {
 
 impl Model for Lent {
     ghost use Rattle.chan_walk.specs.Lent.{LentAreas};
-    ghost use Rattle.chan_walk.specs.Ranges.{IsMerged};
+    ghost use Rattle.chan_areas.specs.Ranges.{IsMerged};
 
     ghost Value = { LentAreas };
 
@@ -113,25 +113,4 @@ impl Lending<'_> {
             Lending::Merged(lent) => lent.stores_in(start, len),
         }
     }
-}
-
-/// The part of an area that lies in storage of a length.
-fn clip(area: Area, length: u32) -> Area
-    ensures { result ≡ lent.clip length area }
-{
-    Area {
-        start: area.start.min(length),
-        len: area.len.min(length.saturating_sub(area.start)),
-    }
-}
-
-/// The parts of some areas that lie in storage of a length.
-pub(crate) fn clipped(alloc: Global, areas: &[Area], length: u32) -> Result<Vec<Area>, AllocError>
-    ensures { IfOk result (λ v. v.items ≡ map (lent.clip length) areas.now) }
-{
-    let mut parts = Vec::new(alloc);
-    for area in areas {
-        parts.push(clip(*area, length))?;
-    }
-    Ok(parts)
 }

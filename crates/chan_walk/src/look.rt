@@ -4,7 +4,8 @@ ghost use Rattle.std.specs.Prelude.{◌≡◌, ◌<◌, ◌^◌, ℕ, Some, None
 ghost use Rattle.ccw_core.specs.Held.{bytes_held};
 ghost use Rattle.ccw_core.specs.Storage.{ccw_at as ccw_in};
 ghost use Rattle.ckd_core.specs.Entries.{entry_of};
-ghost use Rattle.chan_walk.specs.Fault.{begins_seek};
+ghost use Rattle.ccw_core.specs.Ccw.{Fields};
+ghost use Rattle.chan_walk.specs.Fault.{begins_seek, fetches};
 ghost use Rattle.chan_walk.specs.Job.{storage_of};
 ghost use Rattle.chan_walk.specs.Lending.{Lends};
 ghost use Rattle.chan_walk.specs.Look.{IsLook, IsRead, addresses_of, argument_of, byte_of};
@@ -19,7 +20,7 @@ use crate::place::Place;
 use crate::reason::Reason;
 use crate::seek::{GivenBytes, argument_addresses, byte_at, front_at, whole_at};
 use crate::successor::{Next, next_after};
-use crate::visit::Visit;
+use crate::visit::{Visit, fetches_at};
 use ccw_core::{Ccw, Storage};
 use ckd_core::Command;
 use std::marker::Model;
@@ -50,7 +51,7 @@ impl Argument {
 
 /// What was read of the argument of the operation that begins at a place.
 #[derive(Clone, Copy)]
-pub(crate) enum Read {
+pub enum Read {
     /// Neither a seek nor Set File Mask begins there.
     Nothing,
     /// What the seek's data chain gives of its argument: fewer than six bytes.
@@ -63,7 +64,7 @@ pub(crate) enum Read {
 
 impl Read {
     /// The whole argument of a seek, if it was read.
-    pub(crate) fn whole(self) -> Option<GivenBytes>
+    pub fn whole(self) -> Option<GivenBytes>
         ensures { result ≡ whole_of self }
     {
         match self {
@@ -73,7 +74,7 @@ impl Read {
     }
 
     /// The bytes of a seek's argument, if all six were read.
-    pub(crate) fn argument(self) -> Option<[u8; 6]>
+    pub fn argument(self) -> Option<[u8; 6]>
         ensures { result ≡ argument_of self }
     {
         match self {
@@ -83,7 +84,7 @@ impl Read {
     }
 
     /// The byte that Set File Mask sets, and 0 where none was read.
-    pub(crate) fn byte(self) -> u8
+    pub fn byte(self) -> u8
         ensures { result ≡ byte_of self }
     {
         match self {
@@ -164,24 +165,34 @@ impl Look {
 
     /// The addresses of the bytes that are guarded because the operation takes them as its
     /// argument.
-    pub(crate) fn argument(&self) -> &[u32]
+    pub fn argument(&self) -> &[u32]
         ensures { result.now ≡ self.now.argument }
     {
         self.argument.addresses()
     }
 
     /// What was read of its argument.
-    pub(crate) fn read(&self) -> Read
+    pub fn read(&self) -> Read
         ensures { result ≡ self.now.read }
     {
         self.read
     }
 
     /// Whether the CCW stores.
-    pub(crate) fn stores(&self) -> bool
+    pub fn stores(&self) -> bool
         ensures { result ≡ self.now.stores }
     {
         self.stores
+    }
+
+    /// Whether the CCW fetches.
+    pub fn fetches(&self) -> bool
+        ensures { (c : Fields) → self.now.ccw ≡ Some c → result ≡ fetches self.now.place c }
+    {
+        match self.ccw {
+            Some(ccw) => fetches_at(self.place, ccw),
+            None => false,
+        }
     }
 }
 

@@ -12,7 +12,7 @@ ghost use Rattle.chan_walk.specs.Look.{AreLooks, IsLook, places_of_looks};
 ghost use Rattle.chan_walk.specs.Offences as listed;
 ghost use Rattle.chan_walk.specs.Offences.{AddsOffences, AreAllOffences, AreOffences, HasOffences};
 ghost use Rattle.chan_walk.specs.Offences.{StoresInto};
-ghost use Rattle.chan_walk.specs.Ranges.{IsMerged};
+ghost use Rattle.chan_areas.specs.Ranges.{IsMerged};
 ghost use Rattle.chan_walk.specs.Verdict.{AreClear, Changes};
 ghost use Rattle.chan_walk.specs.declared.job.Job.{Job};
 ghost use Rattle.chan_walk.specs.declared.offence.Offence as declared;
@@ -20,9 +20,9 @@ ghost use Rattle.chan_walk.specs.declared.offence.Offence as declared;
 use crate::guard::Guard;
 use crate::look::Look;
 use crate::place::Place;
-use crate::ranges::meets;
 use crate::reason::Reason;
 use ccw_core::Area;
+use chan_areas::meets;
 use std::alloc::{AllocError, Global};
 
 /// A reachable place that offends, and a reason by which it does.

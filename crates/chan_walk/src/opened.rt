@@ -3,8 +3,8 @@
 ghost use Rattle.std.specs.Prelude.{◌≡◌, ◌↔◌, IfOk, OnErr};
 ghost use Rattle.ccw_core.specs.Held.{bytes_held};
 ghost use Rattle.chan_walk.specs.Job.{storage_of};
-ghost use Rattle.chan_walk.specs.Needs.{open_job};
-ghost use Rattle.chan_walk.specs.Rows.{HoldsOpenJob, IsOpenJob};
+ghost use Rattle.chan_walk.specs.Open.{open_job};
+ghost use Rattle.chan_walk.specs.Open.{HoldsOpenJob, IsOpenJob};
 ghost use Rattle.chan_walk.specs.Verdict.{IsVerdict};
 ghost use Rattle.chan_walk.specs.declared.job.Job.{Job};
 ghost use Rattle.chan_walk.specs.declared.verdict.Verdict.{Verdict};

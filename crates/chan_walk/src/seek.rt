@@ -197,7 +197,7 @@ pub(crate) fn argument_addresses(
 }
 
 /// The byte at an address of storage, and zero past its end.
-pub(crate) fn byte_at(storage: &Storage, address: u32) -> u8
+pub fn byte_at(storage: &Storage, address: u32) -> u8
     ensures { result ≡ byte (bytes_held storage.now) address }
 {
     match storage.range(address, 1) {

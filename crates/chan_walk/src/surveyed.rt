@@ -8,23 +8,16 @@ ghost use Rattle.chan_walk.specs.Explained.{IsEvidenceOf, IsPathOf, IsSecondPath
 ghost use Rattle.chan_walk.specs.Explained.{IsCauseOf, IsWitness};
 ghost use Rattle.chan_walk.specs.Explored.{AreApart, AreReachable, place_number};
 ghost use Rattle.chan_walk.specs.Look.{AreLooks, Seen, places_of_looks};
-ghost use Rattle.chan_walk.specs.Notes.{AreNotes};
-ghost use Rattle.chan_walk.specs.Needs.{AreOfOneProgram};
 ghost use Rattle.chan_walk.specs.Offences.{first_verdict};
-ghost use Rattle.chan_walk.specs.Rows.{AreNeeds, listed};
 ghost use Rattle.chan_walk.specs.Surveyed.{IsSurvey};
 ghost use Rattle.chan_walk.specs.declared.job.Job.{Job};
-ghost use Rattle.chan_walk.specs.declared.verdict.Verdict.TheVariants.{Yes};
 
 use crate::evidence::Evidence;
 use crate::exploring::Walk;
 use crate::guard::Guard;
 use crate::job::Job;
-use crate::laws::{each_path_shows, first_is_verdict};
+use crate::laws::each_path_shows;
 use crate::look::Look;
-use crate::needs::{Needs, needs_of};
-use crate::note::Notes;
-use crate::noting::notes_of;
 use crate::offence::Offence;
 use crate::place::{Place, order_is_by_number};
 use crate::verdict::Verdict;
@@ -35,9 +28,12 @@ use std::alloc::{AllocError, Global};
 /// was found from, and then the guard and all offences.
 #[derive(Drop)]
 pub struct Survey {
-    pub(crate) walk: Walk,
-    pub(crate) guard: Guard,
-    pub(crate) offences: Vec<Offence>,
+    /// What the walk has found.
+    pub walk: Walk,
+    /// The guard.
+    pub guard: Guard,
+    /// All offences, in order.
+    pub offences: Vec<Offence>,
 }
 
 impl Survey {
@@ -99,27 +95,6 @@ impl Survey {
     {
         let offences = self.offences();
         causes_of(alloc, job, &self.walk, &self.guard, offences)
-    }
-
-    /// The notes on the job.
-    pub fn notes(&self, alloc: Global, job: &Job) -> Result<Notes, AllocError>
-        requires { IsSurvey job.now self.now }
-        ensures { IfOk result (AreNotes job.now) }
-    {
-        notes_of(alloc, job, &self.guard, self.walk.looks.as_slice())
-    }
-
-    /// The needs of the program in each job that it runs under, if the verdict is yes. Each job of
-    /// the program that has a yes gives the same; the open job has one if any has.
-    ///
-    /// With n places, the cost is n log n.
-    pub fn needs(&self, alloc: Global, job: &Job) -> Result<Needs, AllocError>
-        requires survey { IsSurvey job.now self.now }
-        requires yes { first_verdict self.now.offences.items ≡ Yes }
-        ensures { IfOk result (λ n. (j : Job) → AreOfOneProgram j job.now → AreNeeds j (listed n)) }
-    {
-        first_is_verdict();
-        needs_of(alloc, job, &self.guard, self.walk.looks.as_slice())
     }
 
     /// The looks at the places, in order of place, and all offences.

@@ -3,13 +3,13 @@ use Rattle.std.proofs.Common.{◌≡◌, List, [], arith, map, refl, subst, sym}
 use Rattle.std.specs.List.{All}
 use Rattle.std.proofs.lemmas.List.Elements.{All-map}
 use Rattle.chan_walk.specs.declared.job.Job.{Job}
-use Rattle.chan_walk.specs.declared.remembered.Remembered.{Remembered}
-use Rattle.chan_walk.specs.declared.rows.Conflict.TheVariants as way
-use Rattle.chan_walk.specs.declared.starting.Refusal.TheVariants as why
-use Rattle.chan_walk.specs.declared.starting.Start.{Start}
-use Rattle.chan_walk.specs.declared.starting.Start.TheVariants as answer
-use Rattle.chan_walk.specs.Remembered.{AreBeside, IsBeside, IsFit}
-use Rattle.chan_walk.specs.Rows.{Listed}
+use Rattle.chan_needs.specs.declared.remembered.Remembered.{Remembered}
+use Rattle.chan_needs.specs.declared.rows.Conflict.TheVariants as way
+use Rattle.chan_needs.specs.declared.starting.Refusal.TheVariants as why
+use Rattle.chan_needs.specs.declared.starting.Start.{Start}
+use Rattle.chan_needs.specs.declared.starting.Start.TheVariants as answer
+use Rattle.chan_needs.specs.Remembered.{AreBeside, IsBeside, IsFit}
+use Rattle.chan_needs.specs.Rows.{Listed}
 use Rattle.chanv_c.specs.declared.starting.CProgram.{CProgram}
 use Rattle.chanv_c.specs.Starting.{AreApart, IsRememberedAs, as_in_flight, rows_told, start_code, start_told}
 

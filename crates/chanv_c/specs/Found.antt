@@ -2,7 +2,7 @@
 use Rattle.std.specs.Prelude.{◌≡◌, ℕ, List, length}
 use Rattle.chan_walk.specs.declared.job.Job.{Job}
 use Rattle.chan_walk.specs.Job.{storage_of}
-use Rattle.chan_walk.specs.Needs.{open_job}
+use Rattle.chan_walk.specs.Open.{open_job}
 use Rattle.chan_find.specs.Programs.{AreProgramStarts}
 use Rattle.chanv_c.specs.Asked.{device_number}
 use Rattle.chanv_c.specs.Needed.{StandFirst}

@@ -7,8 +7,9 @@ use Rattle.chan_walk.specs.declared.verdict.Verdict.{Verdict}
 use Rattle.chan_walk.specs.declared.verdict.Verdict.TheVariants.{Yes, No}
 use Rattle.chan_walk.specs.Answers.{IsAnswer}
 use Rattle.chan_walk.specs.Explored.{HasMoreThan}
-use Rattle.chan_walk.specs.Needs.{open_job}
-use Rattle.chan_walk.specs.Rows.{AreNeeds, IsOpenJob, Listed, listed}
+use Rattle.chan_walk.specs.Open.{open_job}
+use Rattle.chan_needs.specs.Rows.{AreNeeds, Listed, listed}
+use Rattle.chan_walk.specs.Open.{IsOpenJob}
 use Rattle.chan_walk.specs.Verdict.{IsVerdict}
 use Rattle.chanv_c.specs.declared.asked.CExtent.{CExtent}
 use Rattle.chanv_c.specs.declared.asked.CJob.{CJob}

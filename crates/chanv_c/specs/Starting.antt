@@ -6,18 +6,18 @@ use Rattle.ccw_core.specs.declared.areas.Area.{Area}
 use Rattle.ckd_core.specs.declared.device.Device.TheVariants.{D2311, D2314}
 use Rattle.ckd_core.specs.Mask.{is_mask}
 use Rattle.chan_walk.specs.declared.job.Job.{Job}
-use Rattle.chan_walk.specs.declared.remembered.Remembered.{Remembered}
-use Rattle.chan_walk.specs.declared.rows.Conflict.{Conflict}
-use Rattle.chan_walk.specs.declared.rows.Conflict.TheVariants as way
-use Rattle.chan_walk.specs.declared.starting.Refusal as core
-use Rattle.chan_walk.specs.declared.starting.Refusal.TheVariants as why
-use Rattle.chan_walk.specs.declared.starting.Start.{Start}
-use Rattle.chan_walk.specs.declared.starting.Start.TheVariants as answer
-use Rattle.chan_walk.specs.Evidence.{IsLeastOf}
-use Rattle.chan_walk.specs.Remembered.{AreBeside, HasChanged, HoldsKept, IsConflict, IsFit}
-use Rattle.chan_walk.specs.Remembered.{IsInside, IsKeptIn, IsOfAnother, IsOfProgram, IsRefused}
-use Rattle.chan_walk.specs.Remembered.{StartsWell, bytes_in}
-use Rattle.chan_walk.specs.Rows.{Listed, rows_of}
+use Rattle.chan_needs.specs.declared.remembered.Remembered.{Remembered}
+use Rattle.chan_needs.specs.declared.rows.Conflict.{Conflict}
+use Rattle.chan_needs.specs.declared.rows.Conflict.TheVariants as way
+use Rattle.chan_needs.specs.declared.starting.Refusal as core
+use Rattle.chan_needs.specs.declared.starting.Refusal.TheVariants as why
+use Rattle.chan_needs.specs.declared.starting.Start.{Start}
+use Rattle.chan_needs.specs.declared.starting.Start.TheVariants as answer
+use Rattle.chan_areas.specs.Ranges.{IsLeastOf}
+use Rattle.chan_needs.specs.Remembered.{AreBeside, HasChanged, HoldsKept, IsConflict, IsFit}
+use Rattle.chan_needs.specs.Remembered.{IsInside, IsKeptIn, IsOfAnother, IsOfProgram, IsRefused}
+use Rattle.chan_needs.specs.Remembered.{StartsWell, bytes_in}
+use Rattle.chan_needs.specs.Rows.{Listed, rows_of}
 use Rattle.chanv_c.specs.declared.asked.CJob.{CJob}
 use Rattle.chanv_c.specs.declared.starting.CProgram.{CProgram}
 use Rattle.chanv_c.specs.declared.starting.CRefusal.{CRefusal}

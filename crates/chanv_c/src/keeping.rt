@@ -2,12 +2,12 @@
 
 ghost use Rattle.std.specs.Prelude.{◌≡◌, ◌≢◌, ◌<◌, ◌≤◌, ◌^◌, ◌⊎◌, length};
 ghost use Rattle.std.specs.List.{All};
-ghost use Rattle.chan_walk.specs.Remembered.{IsInside, bytes_in};
+ghost use Rattle.chan_needs.specs.Remembered.{IsInside, bytes_in};
 ghost use Rattle.chanv_c.specs.Starting.{AreCopied};
 
 use crate::asked::or_empty;
 use ccw_core::{Area, Storage};
-use chan_walk::copy_kept;
+use chan_needs::copy_kept;
 
 /// Copies the bytes of storage in some areas into `kept`, one area after another: 0 if all were
 /// copied, and then `count` is how many there are. Otherwise `count` is 0, a part of `kept` may be

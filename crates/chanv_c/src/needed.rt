@@ -2,8 +2,9 @@
 
 ghost use Rattle.std.specs.Prelude.{◌≡◌, ◌≢◌, ◌<◌, ◌≤◌, ◌↔◌, map, IfOk, IfErr, IsTrue, OnOk};
 ghost use Rattle.chan_walk.specs.Explored.{HasMoreThan};
-ghost use Rattle.chan_walk.specs.Needs.{open_job};
-ghost use Rattle.chan_walk.specs.Rows.{IsOpenJob, Listed, listed};
+ghost use Rattle.chan_walk.specs.Open.{open_job};
+ghost use Rattle.chan_walk.specs.Open.{IsOpenJob};
+ghost use Rattle.chan_needs.specs.Rows.{Listed, listed};
 ghost use Rattle.chan_walk.specs.Verdict.{IsVerdict};
 ghost use Rattle.chan_walk.specs.declared.error.WalkError.TheVariants as walk;
 ghost use Rattle.chan_walk.specs.declared.verdict.Verdict as declared;
@@ -20,7 +21,8 @@ use crate::refusal::Refusal;
 use crate::rows::{write_areas, write_runs};
 use crate::verifying::CVerdict;
 use ccw_core::Area;
-use chan_walk::{Job, Needs, OpenJob, Reason, Verdict, WalkError, survey};
+use chan_needs::{Needs, needs_from};
+use chan_walk::{Job, OpenJob, Reason, Verdict, WalkError, survey};
 use std::alloc::Global;
 
 /// `struct chanv_needed`.
@@ -186,7 +188,7 @@ fn found_on(alloc: Global, asked: &CJob<'_>, job: &Job, open: &Job) -> Result<Fo
         Err(error) => return Err(no_needs(asked, open, error)),
     };
     match survey.verdict() {
-        Verdict::Yes => match survey.needs(alloc, open) {
+        Verdict::Yes => match needs_from(alloc, open, &survey) {
             Ok(needs) => Ok(Found::Needed(needs)),
             Err(_) => Err(Refusal::Memory),
         },

@@ -2,10 +2,10 @@
 
 ghost use Rattle.std.specs.Prelude.{◌≡◌, ◌≢◌, ◌≤◌, ◌<◌, ◌⊎◌, [], map, IfOk, MatchOption};
 ghost use Rattle.std.specs.List.{All};
-ghost use Rattle.chan_walk.specs.declared.starting.Start as declared;
-ghost use Rattle.chan_walk.specs.Remembered.{AreBeside, IsAnswerOf, IsConflict, WritesWell};
-ghost use Rattle.chan_walk.specs.declared.remembered.Remembered.{Remembered};
-ghost use Rattle.chan_walk.specs.Rows.{rows_of};
+ghost use Rattle.chan_needs.specs.declared.starting.Start as declared;
+ghost use Rattle.chan_needs.specs.Remembered.{AreBeside, IsAnswerOf, IsConflict, WritesWell};
+ghost use Rattle.chan_needs.specs.declared.remembered.Remembered.{Remembered};
+ghost use Rattle.chan_needs.specs.Rows.{rows_of};
 ghost use Rattle.chanv_c.specs.Answers.{IsNumber};
 ghost use Rattle.chanv_c.specs.Asked.{device_number};
 ghost use Rattle.chanv_c.specs.Starting.{AreApart, IsAnswerAlone, IsFirstConflict, IsFirstKeeper};
@@ -17,7 +17,8 @@ use crate::asked::{CExtent, CJob, device_of, or_empty, pairs_of};
 use crate::question::{Question, answer};
 use crate::refusal::Refusal;
 use ccw_core::Area;
-use chan_walk::{Conflict, Job, Refusal as StartRefusal, Remembered, Rows, Start, may_start};
+use chan_needs::{Conflict, Refusal as StartRefusal, Remembered, Rows, Start, may_start};
+use chan_walk::Job;
 use ckd_core::{Device, FileMask};
 use std::alloc::{AllocError, Global};
 

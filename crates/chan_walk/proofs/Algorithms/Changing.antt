@@ -12,7 +12,8 @@ use Rattle.ccw_core.specs.Ccw.{Fields}
 use Rattle.ccw_core.specs.Storage.{Stands, is_aligned}
 use Rattle.chan_walk.specs.Changed.{IsFirstChanged}
 use Rattle.chan_walk.specs.declared.seek.GivenBytes.{GivenBytes}
-use Rattle.chan_walk.specs.Evidence.{IsArgumentAt, IsArgumentIn, IsCause, IsCcwIn, IsLeastOf, IsLeastOrNone, IsSecondPath, IsTakenAt}
+use Rattle.chan_walk.specs.Evidence.{IsArgumentAt, IsArgumentIn, IsCause, IsCcwIn, IsSecondPath, IsTakenAt}
+use Rattle.chan_areas.specs.Ranges.{IsLeastOf, IsLeastOrNone}
 use Rattle.chan_walk.specs.declared.look.Read.{Read}
 use Rattle.chan_walk.specs.declared.look.Read.TheVariants as read
 use Rattle.chan_walk.specs.Fault.{IsClear, begins_seek, begins_set_mask}
@@ -21,12 +22,12 @@ use Rattle.chan_walk.specs.Guarded.{IsArgumentByte, IsCcwByte}
 use Rattle.chan_walk.specs.Job.{storage_of}
 use Rattle.chan_walk.specs.Look.{IsLook, IsRead, IsReadOfSeek, Seen, places_of_looks, whole_of}
 use Rattle.chan_walk.specs.Place.{ccw_of}
-use Rattle.chan_walk.specs.Ranges.{IsByteIn, end_of}
+use Rattle.chan_areas.specs.Ranges.{IsByteIn, end_of}
 use Rattle.chan_walk.specs.Walk.{HasFound, IsFirstWhere, IsPathAt}
 use Rattle.chan_walk.proofs.Algorithms.Backward.{within_looks}
 use Rattle.chan_walk.proofs.Algorithms.Finding.{best_where, path_where, reached_at}
-use Rattle.chan_walk.proofs.Algorithms.Demanding.{clear_stands}
-use Rattle.chan_walk.proofs.Algorithms.Noted.{ccw_seen}
+use Rattle.chan_walk.proofs.Theory.Faults.{clear_stands}
+use Rattle.chan_walk.proofs.Algorithms.Looking.{ccw_seen}
 use Rattle.chan_walk.proofs.Algorithms.Looking.{place_at, seek_or_mask}
 
 -- ---- the least address of a CCW

@@ -12,8 +12,7 @@ use Rattle.chan_walk.specs.Explained.{IsCauseOf, IsEvidenceOf, IsLike, IsPathOf,
 use Rattle.chan_walk.specs.declared.reason.Reason.{Reason}
 use Rattle.chan_walk.specs.declared.verdict.Verdict.TheVariants.{No}
 use Rattle.chan_walk.specs.Reason.{is_no_command}
-use Rattle.chan_walk.specs.Least.{AreReached}
-use Rattle.chan_walk.specs.Look.{AreLooks, Seen, places_of_looks}
+use Rattle.chan_walk.specs.Look.{places_of_looks}
 use Rattle.chan_walk.specs.Evidence.{IsEvidence}
 use Rattle.chan_walk.specs.Offences.{AreOffences, Offending, first_verdict}
 use Rattle.chan_walk.specs.Reachable.{IsReachable}
@@ -21,7 +20,6 @@ use Rattle.chan_walk.specs.Walk.{HasFound, IsFirstWhere, IsPathAt}
 use Rattle.chan_walk.proofs.Algorithms.Listing.{offence}
 use Rattle.chan_walk.proofs.Theory.Lists.{has_at}
 use Rattle.chan_walk.proofs.Algorithms.Finding.{best_where, path_where, reached_at}
-use Rattle.chan_walk.proofs.Algorithms.Walking.{reached_all}
 
 -- ---- an offence, and the first place that is like it
 
@@ -90,7 +88,3 @@ verdict_first (t ∷ os) o e = let is : o ≡ t = cc in ap (λ (z : Offence). No
 pub witness : (j : Job) (os : List Offence) (path : List Place) → IsProper j → EachPathShows → IsPathOf j (first_verdict os) path → IsWitness j (first_verdict os) path
 witness j [] path proper law h = tt
 witness j (o ∷ os) path proper law h = (h.last, h.before, h.is, h.path.holds.0, law j h.last h.before o.reason proper h.path.path h.path.holds.1)
-
--- what a walk found, as the places that were looked at
-pub reached_looks : (j : Job) (w : Walk) (ls : List Seen) → HasFound j w → ls ≡ w.looks.items → AreLooks j ls × AreReached j (places_of_looks ls)
-reached_looks j w ls f e = (subst (AreLooks j) (sym e) f.looks, subst (AreReached j) (ap places_of_looks (sym e)) (reached_all j w f))

@@ -16,7 +16,7 @@ use Rattle.chan_walk.specs.Check.{first_reason, check}
 use Rattle.chan_walk.specs.Fault.{is_refused, table_of_own, fault_with}
 use Rattle.chan_walk.specs.Guarded.{IsSeekByte, IsMaskByte}
 use Rattle.chan_walk.specs.Job.{storage_of, extents_of, fetch_of, store_of}
-use Rattle.chan_walk.specs.Needs.{AreOfOneProgram, GrantsMore}
+use Rattle.chan_walk.specs.Open.{AreOfOneProgram, GrantsMore}
 use Rattle.chan_walk.specs.Reachable.{IsReachable}
 use Rattle.chan_walk.specs.Verdict.{IsVerdict}
 use Rattle.chan_walk.specs.Place.{transferred_to, ccw_of}

@@ -1,5 +1,5 @@
 -- The areas of a guard while they are gathered, place by place.
-use Rattle.std.proofs.Common.{◌≡◌, ℕ, ◌+◌, ◌<◌, ◌≤◌, ◌^◌, true, ◌++◌, List, [], ◌∷◌, map, length, get_or, Option, is_some, refl, sym, ap, ◌∙◌, subst, ◌⊎◌, inl, inr, ◌↔◌, Result, Ok, Err, IfOk, arith, rules}
+use Rattle.std.proofs.Common.{◌≡◌, ℕ, ◌+◌, ◌<◌, ◌≤◌, ◌^◌, true, ◌++◌, List, [], ◌∷◌, map, length, get_or, Option, is_some, refl, sym, ap, ◌∙◌, subst, ◌⊎◌, inl, inr, ◌↔◌, arith, rules}
 use Rattle.std.specs.List.{All}
 use Rattle.std.proofs.lemmas.Bool.{or_cases, or_left, or_right, both_ways, leb-true}
 use Rattle.std.proofs.lemmas.List.Elements.{All-append, All-map}
@@ -17,10 +17,10 @@ use Rattle.chan_walk.specs.Guarded.{IsCcwByte, IsArgumentByte}
 use Rattle.chan_walk.specs.Job.{storage_of}
 use Rattle.chan_walk.specs.Least.{AreReached}
 use Rattle.chan_walk.specs.Place.{ccw_of}
-use Rattle.chan_walk.specs.Ranges.{EndsBelow, HaveSameBytes}
+use Rattle.chan_areas.specs.Ranges.{EndsBelow, HaveSameBytes}
 use Rattle.chan_walk.proofs.Theory.Chains.{chain_unique}
 use Rattle.chan_walk.proofs.Theory.Lists.{has_left, has_right, has_cases}
-use Rattle.chan_walk.proofs.Algorithms.Merging.{lies_in-append, lies_in-cases, lies_in-first, lies_in-rest, get_any}
+use Rattle.chan_areas.proofs.Merging.{lies_in-append, lies_in-cases, lies_in-first, lies_in-rest, get_any}
 
 -- the areas have exactly the bytes that are P's at some place of the list
 abbrev pub HoldBytes : (Place → ℕ → Type 0) → List Place → List Area → Type 0
@@ -92,8 +92,3 @@ stands_from s a o e h = search rules
 pub stands_low : (s : List ℕ) (a : ℕ) → length s ≤ 2 ^ 24 → Stands s a → EndsBelow (2 ^ 32) (record { start = a; len = 8 })
 unfolding is_inside
 stands_low s a l h = let k = leb-true (a + 8) (length s) h.1 in omega arith
-
--- what follows from two things that a call says of its value
-pub IfOk-two : {T E : Type 0} (r : Result T E) (P Q R : T → Type 0) → ((x : T) → P x → Q x → R x) → IfOk r P → IfOk r Q → IfOk r R
-IfOk-two (Ok x) P Q R f p q = f x p q
-IfOk-two (Err e) P Q R f p q = tt

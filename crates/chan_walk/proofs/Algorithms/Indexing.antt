@@ -7,7 +7,7 @@ use Rattle.std.proofs.lemmas.Bool.{cases_eq, cases_lt}
 use Rattle.chan_walk.specs.declared.offence.Offence.{Offence}
 use Rattle.chan_walk.specs.declared.place.Place.{Place}
 use Rattle.chan_walk.specs.Argument.{Has}
-use Rattle.chan_walk.specs.Evidence.{IsLeastOf, IsLeastOrNone}
+use Rattle.chan_areas.specs.Ranges.{IsLeastOf, IsLeastOrNone}
 use Rattle.chan_walk.specs.Explored.{AreApart, place_number}
 use Rattle.chan_walk.specs.Index.{IsAtPlace, IsIndex, IsLesserOf, IsOfKind, KeepsLeast, TakesByte, TakesSoFar, kind_number}
 use Rattle.chan_walk.specs.Look.{AreLooks, Seen, places_of_looks}

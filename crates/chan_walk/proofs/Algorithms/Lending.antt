@@ -4,9 +4,9 @@ use Rattle.std.specs.List.{All}
 use Rattle.std.proofs.lemmas.List.Elements.{All-map}
 use Rattle.ccw_core.specs.declared.areas.Area.{Area}
 use Rattle.ccw_core.specs.Areas.{lies_in, covered}
-use Rattle.chan_walk.specs.Lent.{clip}
-use Rattle.chan_walk.specs.Ranges.{EndsBelow, HaveSameBytes}
-use Rattle.chan_walk.proofs.Algorithms.Merging.{lies_in-cases, lies_in-first, lies_in-rest}
+use Rattle.chan_areas.specs.Clip.{clip}
+use Rattle.chan_areas.specs.Ranges.{EndsBelow, HaveSameBytes}
+use Rattle.chan_areas.proofs.Merging.{lies_in-cases, lies_in-first, lies_in-rest}
 
 -- a range is covered alike where its bytes lie alike
 pub same_cover : (xs ys : List Area) (a n : ℕ) → ((b : ℕ) → b < a + n → lies_in xs b ≡ lies_in ys b) → covered xs a n ≡ covered ys a n

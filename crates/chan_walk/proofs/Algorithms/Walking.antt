@@ -205,3 +205,7 @@ all_found j n ps i w h p r = go p r.0 r.1
 -- a walk's places are the reachable ones
 pub reached_all : (j : Job) (w : Walk) → HasFound j w → AreReached j (places_of_looks w.looks.items)
 reached_all j w f = (all_found j j.limit (places_of_looks w.looks.items) f.at f.walked f.all, f.walked.only)
+
+-- what a walk found, as the places that were looked at
+pub reached_looks : (j : Job) (w : Walk) (ls : List Seen) → HasFound j w → ls ≡ w.looks.items → AreLooks j ls × AreReached j (places_of_looks ls)
+reached_looks j w ls f e = (subst (AreLooks j) (sym e) f.looks, subst (AreReached j) (ap places_of_looks (sym e)) (reached_all j w f))

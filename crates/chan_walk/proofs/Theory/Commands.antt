@@ -8,14 +8,13 @@ use Rattle.ckd_core.specs.declared.command.Kind.TheVariants.{Idle, Inward, Outwa
 use Rattle.ckd_core.specs.declared.command.MaskClass.{MaskClass}
 use Rattle.ckd_core.specs.Table.{Entry as Command, table, find_code, lookup, class_is_seek, class_recalibrates, class_sets_mask, class_passes, is_seek, recalibrates, sets_mask}
 use Rattle.chan_walk.specs.Fault.{kind_of_command}
-use Rattle.chan_walk.specs.Notes.{is_idle, moves_nothing}
 
 -- a command that was looked up passes a test; so does none
-abbrev Passes : (Command → Bool) → Option Command → Type 0
+abbrev pub Passes : (Command → Bool) → Option Command → Type 0
 Passes test None = Unit {0}
 Passes test (Some e) = test e ≡ true
 
-found_passes : (test : Command → Bool) (code : ℕ) (es : List Command) → list_all test es ≡ true → Passes test (find_code code es)
+pub found_passes : (test : Command → Bool) (code : ℕ) (es : List Command) → list_all test es ≡ true → Passes test (find_code code es)
 found_passes test code [] h = tt
 found_passes test code (e ∷ es) h = search (rules, and_parts, cond_both, found_passes test code es)
 
@@ -50,7 +49,7 @@ unfolding sets_mask lookup
 mask_is_outward code h = mask_at (lookup code) (found_passes masks_go_out code table masks_keep) h
 
 -- what was looked up has the code
-found_code : (code : ℕ) (es : List Command) → Passes (λ e. e.code == code) (find_code code es)
+pub found_code : (code : ℕ) (es : List Command) → Passes (λ e. e.code == code) (find_code code es)
 found_code code [] = tt
 found_code code (e ∷ es) = cond_both (e.code == code) (Some e) (find_code code es) (Passes (λ x. x.code == code)) (λ h. h) (λ _. found_code code es)
 
@@ -89,20 +88,6 @@ unset_at o h k = search rules
 pub seek_sets_no_mask : (code : ℕ) → is_seek code ≡ true → sets_mask code ≡ false
 unfolding is_seek sets_mask lookup
 seek_sets_no_mask code h = unset_at (lookup code) (found_passes seeks_set_no_mask code table seeks_apart) h
-
-abbrev idle_are_no_transfers : Command → Bool
-idle_are_no_transfers e = not (moves_nothing e.kind) || not (e.code % 16 == 8)
-
-idle_apart : list_all idle_are_no_transfers table ≡ true
-unfolding table
-idle_apart = refl
-
-idle_at : (code : ℕ) (o : Option Command) → Passes idle_are_no_transfers o → Passes (λ e. e.code == code) o → is_idle o ≡ true → (kind_of_command o ≡ Idle) × ((code % 16 == 8) ≡ false)
-idle_at code o h same k = search rules
-
-pub idle_is_no_transfer : (c : Fields) → is_idle (lookup c.command) ≡ true → (kind_of_command (lookup c.command) ≡ Idle) × (is_transfer c ≡ false)
-unfolding lookup is_transfer
-idle_is_no_transfer c h = idle_at c.command (lookup c.command) (found_passes idle_are_no_transfers c.command table idle_apart) (found_code c.command table) h
 
 -- no command of the table is a transfer
 abbrev is_no_transfer : Command → Bool

@@ -16,6 +16,8 @@ use Rattle.chan_walk.specs.Place.{is_fresh, ccw_of}
 use Rattle.chan_walk.specs.Verdict.{IsVerdict, AreClear}
 use Rattle.chan_walk.proofs.Theory.Chains.{argument_exists, argument_unique}
 use Rattle.chan_walk.proofs.Theory.Checks.{cond_none, or_none}
+use Rattle.ccw_core.specs.Storage.{Stands}
+use Rattle.chan_walk.proofs.Theory.Checks.{check_stands}
 
 -- where the first of two tests is true, a fault that doesn't apply says something of the second
 pub then_false : (a b : Bool) → (a && b) ≡ false → a ≡ true → b ≡ false
@@ -60,3 +62,6 @@ yes_clear j v p m = let f = fault_exists j p in go f.0 f.1
 -- a place has one own fault, or none
 pub fault_unique : (j : Job) (p : Place) (r t : Option Reason) → HasFault j p r → HasFault j p t → r ≡ t
 fault_unique j p r t h k = sym h.2 ∙ ap (fault_with j p) (argument_unique (storage_of j) p.address h.0 k.0 h.1 k.1) ∙ k.2
+
+pub clear_stands : (j : Job) (p : Place) → IsClear j p → Stands (storage_of j) p.address
+clear_stands j p f = check_stands (storage_of j) p (clear_check j p f)

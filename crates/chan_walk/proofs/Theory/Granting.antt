@@ -20,7 +20,7 @@ use Rattle.chan_walk.specs.Check.{first_reason, check}
 use Rattle.chan_walk.specs.Fault.{kind_of, goes_in, goes_out, stores, fetches, is_known, begins_seek, begins_recalibrate, begins_set_mask, allows, is_refused, table_of_own, IsClear}
 use Rattle.chan_walk.specs.Guarded.{IsCcwByte, IsSeekByte, IsMaskByte, IsArgumentByte, IsGuarded}
 use Rattle.chan_walk.specs.Job.{storage_of, extents_of, fetch_of, store_of, heads}
-use Rattle.chan_walk.specs.Needs.{AreOfOneProgram, GrantsMore, MoreIsYes, SameUnderYes}
+use Rattle.chan_walk.specs.Open.{AreOfOneProgram, GrantsMore, MoreIsYes, SameUnderYes}
 use Rattle.chan_walk.specs.Place.{is_fresh, transferred_to, ccw_of}
 use Rattle.chan_walk.specs.Reachable.{IsPath, IsReachable}
 use Rattle.chan_walk.specs.Successors.{next_of, skip_of}

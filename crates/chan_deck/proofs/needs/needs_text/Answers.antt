@@ -1,4 +1,4 @@
-use Rattle.chan_walk.specs.Rows.{listed}
+use Rattle.chan_needs.specs.Rows.{listed}
 use Rattle.chan_deck.proofs.WriteLemmas.{needs_parts}
 use Rattle.chan_deck.proofs.needs.needs_text.Goals as goal
 

@@ -1,5 +1,5 @@
 use Rattle.std.proofs.Common.{◌∙◌, ◌≡◌, ap}
-use Rattle.chan_walk.specs.Rows.{listed}
+use Rattle.chan_needs.specs.Rows.{listed}
 use Rattle.chan_deck.specs.Needs.{in_six_digits}
 use Rattle.chan_run.specs.Imaging.{extents_for}
 use Rattle.chan_run.proofs.LeastLemmas.{fetch_fits, is_least_deck, least_asked, six_are_areas, store_fits}

@@ -1,7 +1,7 @@
 use Rattle.std.proofs.Common.{List, ◌-◌, ◌%◌, refl, subst}
 use Rattle.ccw_core.specs.declared.areas.Area.{Area}
-use Rattle.chan_walk.specs.Evidence.{IsLeastOrNone}
-use Rattle.chan_walk.specs.Ranges.{IsByteIn}
+use Rattle.chan_areas.specs.Ranges.{IsLeastOrNone}
+use Rattle.chan_areas.specs.Ranges.{IsByteIn}
 use Rattle.chan_walk.proofs.Algorithms.Changing.{least_ccw, one_ccw}
 use Rattle.chan_walk.proofs.changed.changed_ccw.Goals as goal
 

@@ -3,7 +3,7 @@ use Rattle.chan_walk.specs.Changed.{IsFirstChanged}
 use Rattle.chan_walk.specs.Index.{IsIndex, TakesByte}
 use Rattle.chan_walk.specs.Look.{Seen, places_of_looks}
 use Rattle.chan_walk.proofs.Algorithms.Changing.{changed_within, none_found, second_found}
-use Rattle.chan_walk.proofs.Algorithms.Explaining.{reached_looks}
+use Rattle.chan_walk.proofs.Algorithms.Walking.{reached_looks}
 use Rattle.chan_walk.proofs.changed.second_path.Goals as goal
 
 pub path_at-requires-clause-within : goal.path_at-requires-clause-within

@@ -1,7 +1,7 @@
 use Rattle.std.proofs.Common.{◌≡◌, ◌+◌, length, get_or, refl, sym, ap, ◌∙◌, subst, arith}
 use Rattle.std.specs.Ordering.{nat_cmp}
 use Rattle.std.specs.BTreeMap as tree
-use Rattle.chan_walk.specs.Evidence.{IsLeastOrNone}
+use Rattle.chan_areas.specs.Ranges.{IsLeastOrNone}
 use Rattle.chan_walk.specs.Explored.{place_number}
 use Rattle.chan_walk.specs.Index.{IsAtPlace, IsIndex, IsOfKind}
 use Rattle.chan_walk.proofs.Algorithms.Indexing.{kind_more, note_more, some_place}

@@ -3,7 +3,7 @@ use Rattle.ckd_core.specs.Cylinders.{AreExtents}
 use Rattle.ckd_core.specs.Mask.{is_mask}
 use Rattle.chan_walk.specs.Offences.{first_verdict}
 use Rattle.chan_walk.proofs.Machine.Answering.{at_most, covers, covers_among, only_yes, shown}
-use Rattle.chan_walk.proofs.Algorithms.Explaining.{reached_looks}
+use Rattle.chan_walk.proofs.Algorithms.Walking.{reached_looks}
 use Rattle.chan_walk.proofs.judging.survey.Goals as goal
 
 pub of-requires : goal.of-requires

@@ -2,7 +2,7 @@
 use Rattle.std.proofs.Common.{ℕ, List, map, subst}
 use Rattle.std.proofs.lemmas.Bool.{both_ways}
 use Rattle.ccw_core.specs.declared.areas.Area.{Area}
-use Rattle.chan_walk.specs.Rows.{listed}
+use Rattle.chan_needs.specs.Rows.{listed}
 use Rattle.chanv_c.specs.Needed.{HasTooManyOpenly, IsFound, StandFirst, run_row}
 use Rattle.chanv_c.proofs.Refusals.{refusal_number}
 use Rattle.chanv_c.proofs.needed.chanv_needs.Goals as goal

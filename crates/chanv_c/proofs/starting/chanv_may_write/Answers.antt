@@ -1,6 +1,6 @@
 use Rattle.std.proofs.lemmas.List.Elements.{All-map}
-use Rattle.chan_walk.specs.Remembered.{KeepsNone}
-use Rattle.chan_walk.proofs.Machine.Remembering.{writes_well}
+use Rattle.chan_needs.specs.Remembered.{KeepsNone}
+use Rattle.chan_needs.proofs.Remembering.{writes_well}
 use Rattle.chanv_c.specs.Starting.{as_in_flight}
 use Rattle.chanv_c.proofs.starting.chanv_may_write.Goals as goal
 

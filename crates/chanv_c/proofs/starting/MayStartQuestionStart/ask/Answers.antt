@@ -1,7 +1,7 @@
 use Rattle.std.proofs.Common.{◌≡◌, inl, inr, map, subst, true}
 use Rattle.ckd_core.specs.Cylinders.{AreExtents}
 use Rattle.ckd_core.specs.Mask.{is_mask}
-use Rattle.chan_walk.proofs.Machine.Remembering.{starts_well}
+use Rattle.chan_needs.proofs.Remembering.{starts_well}
 use Rattle.chanv_c.specs.Starting.{as_in_flight}
 use Rattle.chanv_c.proofs.Beginnings.{fit_beside}
 use Rattle.chanv_c.proofs.starting.MayStartQuestionStart.ask.Goals as goal

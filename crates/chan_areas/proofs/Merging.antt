@@ -1,0 +1,228 @@
+-- Bytes of areas, how they stay the same while areas are merged, and that there is one merged list for them.
+use Rattle.std.proofs.Common.{◌≡◌, ℕ, zero, suc, ◌+◌, ◌-◌, ◌++◌, ◌↔◌, inl, inr, ◌<◌, ◌≤◌, true, ◌||◌, ◌&&◌, nat_le, nat_lt, List, [], ◌∷◌, length, get_or, take, refl, sym, ap, ◌∙◌, subst, ◌⊎◌, arith, append_assoc, IsPermutation, rules}
+use Rattle.std.proofs.lemmas.Grind.{common_steps}
+use Rattle.std.specs.Cmp.Derive.{one_truth}
+use Rattle.std.specs.List.{All}
+use Rattle.std.specs.List.Sorted.{IsNonDecreasingBy}
+use Rattle.std.proofs.lemmas.Bool.{cases_lt, or_cases, or_left, or_right, and_from, le-leb, lt-ltb, both_ways}
+use Rattle.std.proofs.lemmas.List.{take_more}
+use Rattle.std.proofs.lemmas.List.Elements.{All-append, All-cons, All-head, All-nil, All-tail}
+use Rattle.std.proofs.lemmas.List.Folds.{list_any-append}
+use Rattle.std.proofs.lemmas.List.Sorted.{list_any-IsPermutation}
+use Rattle.ccw_core.specs.declared.areas.Area.{Area}
+use Rattle.ccw_core.specs.Areas.{lies_in}
+use Rattle.ccw_core.proofs.Covering.{lies_in-nil}
+use Rattle.chan_areas.specs.Ranges.{start_of, end_of, IsByteOf, EndsBelow, BeginAbove, IsMerged, HaveSameBytes, AreRuns, MergedIsUnique}
+use Rattle.std.proofs.Common.{Result, Ok, Err, IfOk}
+
+-- ---- bytes of areas
+
+pub lies_in-cases : (a : Area) (xs : List Area) (b : ℕ) → lies_in (a ∷ xs) b ≡ true → IsByteOf a b ⊎ (lies_in xs b ≡ true)
+unfolding lies_in
+lies_in-cases a xs b h = search rules
+
+pub lies_in-first : (a : Area) (xs : List Area) (b : ℕ) → IsByteOf a b → lies_in (a ∷ xs) b ≡ true
+unfolding lies_in
+lies_in-first a xs b h = or_left _ _ (and_from _ _ (le-leb _ _ h.0) (lt-ltb _ _ h.1))
+
+pub lies_in-rest : (a : Area) (xs : List Area) (b : ℕ) → lies_in xs b ≡ true → lies_in (a ∷ xs) b ≡ true
+unfolding lies_in
+lies_in-rest a xs b h = or_right _ _ h
+
+pub lies_in-append : (xs ys : List Area) (b : ℕ) → lies_in (xs ++ ys) b ≡ (lies_in xs b || lies_in ys b)
+unfolding lies_in
+lies_in-append xs ys b = list_any-append (λ x. nat_le x.start b && nat_lt b (x.start + x.len)) xs ys
+
+-- what stands in front doesn't matter
+pub same_after : (zs xs ys : List Area) (b : ℕ) → lies_in xs b ≡ lies_in ys b → lies_in (zs ++ xs) b ≡ lies_in (zs ++ ys) b
+same_after zs xs ys b e = lies_in-append zs xs b ∙ ap (λ t. lies_in zs b || t) e ∙ sym (lies_in-append zs ys b)
+
+-- nor what comes after
+pub same_before : (xs ys zs : List Area) (b : ℕ) → lies_in xs b ≡ lies_in ys b → lies_in (xs ++ zs) b ≡ lies_in (ys ++ zs) b
+same_before xs ys zs b e = lies_in-append xs zs b ∙ ap (λ t. t || lies_in zs b) e ∙ sym (lies_in-append ys zs b)
+
+-- one area for two
+pub one_for_two : (x y r : Area) (b : ℕ) → (IsByteOf r b → IsByteOf x b ⊎ IsByteOf y b) → (IsByteOf x b → IsByteOf r b) → (IsByteOf y b → IsByteOf r b) → lies_in (r ∷ []) b ≡ lies_in (x ∷ y ∷ []) b
+one_for_two x y r b f g h = search (rules, lies_in-cases, lies_in-first, lies_in-rest, both_ways, lies_in-nil)
+
+-- in another order
+pub bytes_moved : (xs ys : List Area) (b : ℕ) → IsPermutation xs ys → lies_in xs b ≡ lies_in ys b
+unfolding lies_in
+bytes_moved xs ys b p = list_any-IsPermutation (λ x. nat_le x.start b && nat_lt b (x.start + x.len)) xs ys p
+
+-- ---- the run that grows
+
+-- the run has the area's bytes already
+pub run_stays : (xs : List Area) (run area : Area) → run.start ≤ area.start → (area.len ≡ 0) ⊎ (end_of area ≤ end_of run) → HaveSameBytes (xs ++ run ∷ []) (xs ++ run ∷ area ∷ [])
+run_stays xs run area order w b = search (rules, same_after, one_for_two)
+
+-- the run is empty
+pub run_begins : (xs : List Area) (run area : Area) → run.len ≡ 0 → HaveSameBytes (xs ++ area ∷ []) (xs ++ run ∷ area ∷ [])
+run_begins xs run area e b = search (rules, same_after, one_for_two)
+
+-- the run is done
+pub run_ends : (xs ys : List Area) (run area : Area) → ys ≡ xs ++ run ∷ [] → HaveSameBytes (ys ++ area ∷ []) (xs ++ run ∷ area ∷ [])
+run_ends xs ys run area e b = ap (λ z. lies_in (z ++ area ∷ []) b) e ∙ ap (λ z. lies_in z b) (append_assoc xs (run ∷ []) (area ∷ []))
+
+-- the run grows
+pub run_grows : (xs : List Area) (run area r : Area) → r.start ≡ run.start → end_of r ≡ end_of area → run.start ≤ area.start → area.start ≤ end_of run → end_of run ≤ end_of area → HaveSameBytes (xs ++ r ∷ []) (xs ++ run ∷ area ∷ [])
+run_grows xs run area r s e order near far b = search (rules, same_after, one_for_two, cases_lt)
+
+-- ---- what is merged so far
+
+above_push : (n : ℕ) (xs : List Area) (a : Area) → BeginAbove n xs → n < a.start → BeginAbove n (xs ++ a ∷ [])
+above_push n [] a h l = (l, tt)
+above_push n (x ∷ xs) a h l = (h.0, above_push n xs a h.1 l)
+
+-- what holds of each of a list holds of the rest
+all_rest : (P : Area → Type 0) (x : Area) (xs : List Area) → All P (x ∷ xs) → All P xs
+all_rest P x xs h i d l = h (suc i) d (omega arith)
+
+pub all_one : (P : Area → Type 0) (x : Area) → P x → All P (x ∷ [])
+all_one P x h k d l = search rules
+
+pub merged_push : (xs : List Area) (a : Area) → IsMerged xs → All (EndsBelow a.start) xs → 0 < a.len → IsMerged (xs ++ a ∷ [])
+merged_push [] a m e p = (p, tt, tt)
+merged_push (x ∷ xs) a m e p = (m.0, above_push (end_of x) xs a m.1 (e 0 x (omega arith)), merged_push xs a m.2 (all_rest (EndsBelow a.start) x xs e) p)
+
+pub runs_first : (xs : List Area) (run : Area) → xs ≡ [] → AreRuns xs run
+runs_first xs run e = subst (λ z. AreRuns z run) (sym e) (record { merged = tt; before = λ i d l. absurd (omega arith) })
+
+-- the run at a later start
+pub runs_later : (xs : List Area) (run area : Area) → run.start ≤ area.start → AreRuns xs run → AreRuns xs area
+runs_later xs run area l r = record { merged = r.merged; before = λ i d k. let e = r.before i d k in omega arith }
+
+pub runs_push : (xs ys : List Area) (run area : Area) → ys ≡ xs ++ run ∷ [] → 0 < run.len → end_of run < area.start → AreRuns xs run → AreRuns ys area
+runs_push xs ys run area e p l r = grind (arith, common_steps, All-append, runs_later, all_one, merged_push)
+
+-- ---- over areas in order of start
+
+pub get_any : {X : Type 0} (xs : List X) (i : ℕ) (d e : X) → i < length xs → get_or xs i d ≡ get_or xs i e
+get_any [] i d e l = absurd (omega arith)
+get_any (x ∷ xs) zero d e l = refl
+get_any (x ∷ xs) (suc i) d e l = get_any xs i d e (omega arith)
+
+-- the areas to come begin no earlier than the run
+pub order_next : (xs : List Area) (i k r : ℕ) (z d : Area) → IsNonDecreasingBy start_of xs → r ≤ (get_or xs i z).start → i + 1 ≤ k → k < length xs → r ≤ (get_or xs k d).start
+order_next xs i k r z d s l h b = let e = s i k z (omega arith) b in let f = ap start_of (get_any xs k z d b) in omega arith
+
+-- the bytes so far, with those of the next area
+pub bytes_next : (merged now xs : List Area) (run r area : Area) (i b : ℕ) → i < length xs → get_or xs i area ≡ area → lies_in (merged ++ run ∷ []) b ≡ lies_in (take i xs) b → lies_in (now ++ r ∷ []) b ≡ lies_in (merged ++ run ∷ area ∷ []) b → lies_in (now ++ r ∷ []) b ≡ lies_in (take (i + 1) xs) b
+bytes_next merged now xs run r area i b l e f g =
+    g
+    ∙ ap (λ z. lies_in z b) (sym (append_assoc merged (run ∷ []) (area ∷ [])))
+    ∙ same_before (merged ++ run ∷ []) (take i xs) (area ∷ []) b f
+    ∙ ap (λ z. lies_in (take i xs ++ z ∷ []) b) (sym e)
+    ∙ ap (λ z. lies_in z b) (sym (take_more xs i area l))
+
+take_whole : (xs : List Area) → take (length xs) xs ≡ xs
+take_whole [] = refl
+take_whole (x ∷ xs) = ap (λ z. x ∷ z) (take_whole xs)
+
+-- at the end, with a run
+pub bytes_end : (now all xs : List Area) (i b : ℕ) → i ≡ length xs → now ≡ all → lies_in all b ≡ lies_in (take i xs) b → lies_in now b ≡ lies_in xs b
+bytes_end now all xs i b e f g = ap (λ z. lies_in z b) f ∙ g ∙ ap (λ n. lies_in (take n xs) b) e ∙ ap (λ z. lies_in z b) (take_whole xs)
+
+-- an empty run has no bytes
+pub bytes_empty : (xs : List Area) (run : Area) (b : ℕ) → run.len ≡ 0 → lies_in xs b ≡ lies_in (xs ++ run ∷ []) b
+bytes_empty xs run b e = search (rules, lies_in-append, or_left, or_cases, both_ways, lies_in-nil, lies_in-cases)
+
+-- none so far
+pub bytes_first : (now : List Area) (run : Area) (xs : List Area) (b : ℕ) → now ≡ [] → run.len ≡ 0 → lies_in (take 0 xs) b ≡ lies_in (now ++ run ∷ []) b
+bytes_first now run xs b e f = ap (λ z. lies_in z b) (sym e) ∙ bytes_empty now run b f
+
+-- ---- there is one
+
+-- each byte of areas that begin above n lies above n
+pub bytes_above : (n : ℕ) (xs : List Area) (b : ℕ) → BeginAbove n xs → lies_in xs b ≡ true → n < b
+bytes_above n [] b h k = absurd (both_ways (lies_in [] b) (lies_in-nil b) k)
+bytes_above n (x ∷ xs) b h k = search (rules, lies_in-cases, bytes_above n xs b h.1)
+
+-- no byte of a merged list lies before its first area
+bytes_from : (x : Area) (xs : List Area) (b : ℕ) → IsMerged (x ∷ xs) → lies_in (x ∷ xs) b ≡ true → x.start ≤ b
+bytes_from x xs b m h = search (rules, lies_in-cases, bytes_above)
+
+first_byte : (x : Area) (xs : List Area) → IsMerged (x ∷ xs) → lies_in (x ∷ xs) x.start ≡ true
+first_byte x xs m = let p = m.0 in lies_in-first x xs x.start (omega arith, omega arith)
+
+-- the byte after the first area lies in none
+after_first : (x : Area) (xs : List Area) → IsMerged (x ∷ xs) → lies_in (x ∷ xs) (end_of x) ≡ true → ⊥
+after_first x xs m h = search (rules, lies_in-cases, bytes_above)
+
+same_starts : (x y : Area) (xs ys : List Area) → IsMerged (x ∷ xs) → IsMerged (y ∷ ys) → HaveSameBytes (x ∷ xs) (y ∷ ys) → x.start ≤ y.start
+same_starts x y xs ys m n s = bytes_from x xs y.start m (s y.start ∙ first_byte y ys n)
+
+-- the first area of one list doesn't end after that of the other
+same_ends : (x y : Area) (xs ys : List Area) → IsMerged (x ∷ xs) → IsMerged (y ∷ ys) → HaveSameBytes (x ∷ xs) (y ∷ ys) → x.start ≡ y.start → end_of x ≤ end_of y
+same_ends x y xs ys m n s e = search (rules, cases_lt, after_first, lies_in-first)
+
+same_area : (x y : Area) → x.start ≡ y.start → x.len ≡ y.len → x ≡ y
+same_area x y e f = search rules
+
+-- the rests have the same bytes
+rest_within : (x y : Area) (xs ys : List Area) (b : ℕ) → x ≡ y → IsMerged (x ∷ xs) → HaveSameBytes (x ∷ xs) (y ∷ ys) → lies_in xs b ≡ true → lies_in ys b ≡ true
+rest_within x y xs ys b e m s k = go (lies_in-cases y ys b (sym (s b) ∙ lies_in-rest x xs b k))
+  where
+    go : IsByteOf y b ⊎ (lies_in ys b ≡ true) → lies_in ys b ≡ true
+    go h = search (rules, bytes_above)
+
+pub merged_is_unique : MergedIsUnique
+merged_is_unique [] [] m n s = refl
+merged_is_unique [] (y ∷ ys) m n s = absurd (both_ways (lies_in [] y.start) (lies_in-nil y.start) (s y.start ∙ first_byte y ys n))
+merged_is_unique (x ∷ xs) [] m n s = absurd (both_ways (lies_in [] x.start) (lies_in-nil x.start) (sym (s x.start) ∙ first_byte x xs m))
+merged_is_unique (x ∷ xs) (y ∷ ys) m n s =
+    let back : HaveSameBytes (y ∷ ys) (x ∷ xs) = λ b. sym (s b) in
+    let a = same_starts x y xs ys m n s in
+    let b = same_starts y x ys xs n m back in
+    let start : x.start ≡ y.start = omega arith in
+    let c = same_ends x y xs ys m n s start in
+    let d = same_ends y x ys xs n m back (sym start) in
+    let len : x.len ≡ y.len = omega arith in
+    let e = same_area x y start len in
+    let rests = merged_is_unique xs ys m.2 n.2 (λ b. one_truth (lies_in xs b) (lies_in ys b) (λ k. rest_within x y xs ys b e m s k) (λ k. rest_within y x ys xs b (sym e) n back k)) in
+    ap (λ z. z ∷ xs) e ∙ ap (λ z. y ∷ z) rests
+
+-- ---- where areas end
+
+-- a byte lies before the end of its area
+lies_low : (n : ℕ) (areas : List Area) (b : ℕ) → All (EndsBelow n) areas → lies_in areas b ≡ true → b + 1 < n
+lies_low n [] b all lies = absurd (both_ways (lies_in [] b) (lies_in-nil b) lies)
+lies_low n (a ∷ rest) b all lies = go (lies_low n rest b (All-tail (EndsBelow n) a rest all)) (lies_in-cases a rest b lies)
+  where
+    go : (lies_in rest b ≡ true → b + 1 < n) → IsByteOf a b ⊎ (lies_in rest b ≡ true) → b + 1 < n
+    go others (inl here) = omega (arith, here.1, All-head (EndsBelow n) a rest all)
+    go others (inr there) = others there
+
+-- and the last byte of each area of a merged list lies in it
+ends_low : (n : ℕ) (areas : List Area) → IsMerged areas → ((b : ℕ) → lies_in areas b ≡ true → b + 1 < n)
+    → All (EndsBelow n) areas
+ends_low n [] merged low = All-nil (EndsBelow n)
+ends_low n (a ∷ rest) merged low =
+    let last = low (a.start + (a.len - 1)) (lies_in-first a rest _ (omega (arith, merged.0), omega (arith, merged.0))) in
+    All-cons (EndsBelow n) a rest (omega (arith, last, merged.0)) (ends_low n rest merged.2 (λ b lies. low b (lies_in-rest a rest b lies)))
+
+-- so merged areas end where the areas do that they have the bytes of
+pub merged_low : (n : ℕ) (merged areas : List Area) → IsMerged merged → HaveSameBytes merged areas
+    → All (EndsBelow n) areas → All (EndsBelow n) merged
+merged_low n merged areas is same low = ends_low n merged is (λ b lies. lies_low n areas b low (sym (same b) ∙ lies))
+
+-- the bytes of two lists, merged
+pub merged_both : {P Q : ℕ → Type 0} (xs ys merged : List Area) → HaveSameBytes merged (xs ++ ys)
+    → ((b : ℕ) → (lies_in xs b ≡ true) ↔ P b) → ((b : ℕ) → (lies_in ys b ≡ true) ↔ Q b) → (b : ℕ)
+    → (lies_in merged b ≡ true) ↔ (P b ⊎ Q b)
+merged_both {P} {Q} xs ys merged same first second b =
+    let both = same b ∙ lies_in-append xs ys b in (
+      λ lies. elim (or_cases (lies_in xs b) (lies_in ys b) (sym both ∙ lies)) [
+        | inl l ↦ inl ((first b).0 l)
+        | inr l ↦ inr ((second b).0 l)
+      ],
+      λ is. both ∙ elim is [
+        | inl p ↦ or_left (lies_in xs b) (lies_in ys b) ((first b).1 p)
+        | inr q ↦ or_right (lies_in xs b) (lies_in ys b) ((second b).1 q)
+      ],
+    )
+
+-- what follows from two things that a call says of its value
+pub IfOk-two : {T E : Type 0} (r : Result T E) (P Q R : T → Type 0) → ((x : T) → P x → Q x → R x) → IfOk r P → IfOk r Q → IfOk r R
+IfOk-two (Ok x) P Q R f p q = f x p q
+IfOk-two (Err e) P Q R f p q = tt

@@ -1,0 +1,51 @@
+-- The bytes that are kept, compared area by area.
+use Rattle.std.proofs.Common.{◌≡◌, ℕ, zero, suc, ◌+◌, ◌-◌, ◌<◌, ◌≤◌, ◌^◌, List, [], ◌∷◌, length, get_or, drop, sym, subst, ◌⊎◌, inl, inr, arith}
+use Rattle.std.proofs.lemmas.Bool.{cases_lt}
+use Rattle.std.proofs.lemmas.List.{drop_all}
+use Rattle.std.proofs.Math.Seq.{drop-cons}
+use Rattle.ccw_core.specs.declared.areas.Area.{Area}
+use Rattle.chan_needs.specs.Remembered.{Holds, HoldsArea, IsFirstChanged, IsFirstChangedIn}
+use Rattle.chan_needs.proofs.Holding.{nowhere}
+
+-- the address of a byte after one of storage fits
+pub address_fits : (start i n : ℕ) → start < 2 ^ 32 → n ≤ 2 ^ 24 → (0 < i → start + (i - 1) < n) → start + i < 2 ^ 32
+address_fits start zero n a b h = omega arith
+address_fits start (suc i) n a b h = let l = h (omega arith) in omega arith
+
+-- what the areas from i on say of the bytes that are left is what all say of all
+pub record IsLeft (s : List ℕ) (areas : List Area) (kept : List ℕ) (i : ℕ) (rest : List ℕ) : Type 0 where
+  pub holds : Holds s (drop i areas) rest → Holds s areas kept
+  pub changed : (b : ℕ) → IsFirstChanged s (drop i areas) rest b → IsFirstChanged s areas kept b
+
+module _ (s : List ℕ) (areas : List Area) (kept : List ℕ) (i : ℕ) (rest : List ℕ) (l : i < length areas) (left : IsLeft s areas kept i rest) where
+  next : drop i areas ≡ get_or areas i nowhere ∷ drop (suc i) areas
+  next = drop-cons areas i nowhere l
+
+  pub left_found : (b : ℕ) → IsFirstChangedIn s (get_or areas i nowhere) rest b → IsFirstChanged s areas kept b
+  left_found b h = left.changed b (subst (λ (xs : List Area). IsFirstChanged s xs rest b) (sym next) (inl h))
+
+  pub left_more : (more : List ℕ) → more ≡ drop (get_or areas i nowhere).len rest → HoldsArea s (get_or areas i nowhere) rest → IsLeft s areas kept (i + 1) more
+  left_more more e h = record {
+    holds = λ k. left.holds (subst (λ (xs : List Area). Holds s xs rest) (sym next) (h, subst (λ n. Holds s (drop n areas) (drop (get_or areas i nowhere).len rest)) one (subst (λ z. Holds s (drop (i + 1) areas) z) e k)));
+    changed = λ b k. left.changed b (subst (λ (xs : List Area). IsFirstChanged s xs rest b) (sym next) (inr (h, subst (λ n. IsFirstChanged s (drop n areas) (drop (get_or areas i nowhere).len rest) b) one (subst (λ z. IsFirstChanged s (drop (i + 1) areas) z b) e k))));
+  }
+    where
+      one : i + 1 ≡ suc i
+      one = omega arith
+
+-- the bytes of an area that storage holds are among those that are left
+pub len_fits : (s : List ℕ) (a : Area) (rest : List ℕ) → HoldsArea s a rest → a.len ≤ length rest
+len_fits s a rest h = go (cases_lt (length rest) a.len)
+  where
+    go : (length rest < a.len) ⊎ (a.len ≤ length rest) → a.len ≤ length rest
+    go (inl l) = let t = (h (length rest) l).1 in omega arith
+    go (inr l) = l
+
+pub left_none : (s : List ℕ) (areas : List Area) (kept : List ℕ) (i : ℕ) (rest : List ℕ) → length areas ≤ i → IsLeft s areas kept i rest → Holds s areas kept
+left_none s areas kept i rest l left = left.holds (subst (λ (xs : List Area). Holds s xs rest) (sym (drop_all i areas l)) tt)
+
+-- where all is as it was nothing has changed
+pub never_changed : (s : List ℕ) (areas : List Area) (kept : List ℕ) (b : ℕ) → IsFirstChanged s areas kept b → Holds s areas kept → ⊥
+never_changed s [] kept b c h = c
+never_changed s (a ∷ areas) kept b (inl c) h = c.changed (h.0 c.number c.within)
+never_changed s (a ∷ areas) kept b (inr c) h = never_changed s areas (drop a.len kept) b c.1 h.1

@@ -1,0 +1,197 @@
+-- What was found under one job's yes is what each job of its program needs.
+use Rattle.std.proofs.Common.{◌≡◌, ℕ, ◌<◌, ◌≤◌, Bool, true, false, List, length, map, Some, refl, sym, ap, ◌∙◌, subst, ◌⊎◌, ◌↔◌, arith}
+use Rattle.ccw_core.specs.declared.areas.Area.{Area}
+use Rattle.ccw_core.specs.Areas.{lies_in}
+use Rattle.ccw_core.specs.Ccw.{Fields, byte, ccw, is_transfer}
+use Rattle.ccw_core.specs.Storage.{Stands}
+use Rattle.ckd_core.specs.Cylinders.{has_cylinder}
+use Rattle.ckd_core.specs.Mask.{inhibits, is_at_least}
+use Rattle.chan_walk.specs.declared.job.Job.{Job}
+use Rattle.chan_walk.specs.declared.place.Place.{Place}
+use Rattle.chan_walk.specs.declared.surveyed.Survey.{Survey}
+use Rattle.chan_walk.specs.declared.verdict.Verdict.{Verdict}
+use Rattle.chan_walk.specs.declared.verdict.Verdict.TheVariants.{Yes}
+use Rattle.chan_walk.specs.Argument.{HasArgument}
+use Rattle.chan_walk.specs.Seeks.{SeeksTo}
+use Rattle.chan_walk.specs.Place.{data_of}
+use Rattle.chan_walk.specs.Fault.{begins_recalibrate, begins_seek, begins_set_mask, fetches, stores}
+use Rattle.chan_walk.specs.Guarded.{IsGuarded}
+use Rattle.chan_walk.specs.Job.{extents_of, fetch_of, storage_of, store_of}
+use Rattle.chan_walk.specs.Look.{Seen, places_of_looks}
+use Rattle.chan_walk.specs.Machine.{home}
+use Rattle.chan_walk.specs.Open.{AreOfOneProgram, open_job}
+use Rattle.chan_needs.specs.Needs.{Grants, IsKept, IsNeededCylinder, IsNeededForStoring, IsStrictest, Serves, ServesAt, begins}
+use Rattle.chan_needs.specs.Notes.{IsDataOf, HoldData}
+use Rattle.chan_walk.specs.Offences.{FirstIsVerdict, first_verdict}
+use Rattle.chan_walk.specs.Place.{ccw_of}
+use Rattle.chan_areas.specs.Ranges.{AreExactly, IsMerged, end_of}
+use Rattle.chan_walk.specs.Reachable.{IsReachable}
+use Rattle.chan_needs.specs.Remembered.{GrantsListed, RowsAreExact}
+use Rattle.chan_needs.specs.Rows.{AreLooksOfYes, AreNeeds, HasStoreAndKeep, IsSought, Listed, IsShared, MayRunBeside, run_of}
+use Rattle.chan_walk.specs.Surveyed.{IsSurvey}
+use Rattle.chan_walk.specs.Verdict.{IsVerdict}
+use Rattle.chan_walk.proofs.Theory.Faults.{clear_check, yes_clear}
+use Rattle.chan_walk.proofs.Theory.Granting.{fetches_parts, same_under_yes, stores_parts, turned, ccw_over}
+use Rattle.chan_needs.proofs.Masking.{strictest_same}
+use Rattle.chan_needs.proofs.Needing.{needed_mask_is_enough, yes_opens}
+use Rattle.chan_walk.proofs.Algorithms.Opened.{to_open}
+use Rattle.chan_walk.proofs.Theory.OwnFaults.{data_in_storage}
+use Rattle.chan_needs.proofs.Demanding.{ServesEach}
+use Rattle.chan_walk.proofs.Algorithms.Walking.{reached_looks}
+use Rattle.chan_needs.proofs.Seeking.{runs_of}
+
+-- ---- from one job to another of its program
+
+module _ (j k : Job) (one : AreOfOneProgram j k) where
+  serves_over : (p : Place) (m : ℕ) → ServesAt j p m → ServesAt k p m
+  serves_over p m h = record {
+    permits = subst (λ c. begins p c ≡ true → inhibits m c.command ≡ false) (ccw_over j k one p) h.permits;
+    admits = subst (λ s. begins_set_mask p (ccw s p.address) ≡ true → is_at_least (byte s (ccw s p.address).address) m ≡ true) one.storage h.admits;
+  }
+
+  seeks_over : (p : Place) (x : List ℕ) → SeeksTo j p x → SeeksTo k p x
+  seeks_over p x h = subst (λ s. ((begins_seek p (ccw s p.address) ≡ true) × HasArgument s p.address (Some x)) ⊎ ((begins_recalibrate p (ccw s p.address) ≡ true) × (x ≡ home))) one.storage h
+
+  pub data_over : (test : Place → Fields → Bool) → ((p : Place) → IsReachable j p → IsReachable k p) → (b : ℕ) → IsDataOf test j b → IsDataOf test k b
+  data_over test on b h = record {
+    place = h.place;
+    reached = on h.place h.reached;
+    passes = (subst (λ s. Stands s h.place.address) one.storage h.passes.0, subst (λ c. test h.place c ≡ true) (ccw_over j k one h.place) h.passes.1);
+    from = subst (λ c. (data_of c).start ≤ b) (ccw_over j k one h.place) h.from;
+    below = subst (λ c. b < end_of (data_of c)) (ccw_over j k one h.place) h.below;
+  }
+
+-- ---- what was found
+
+-- what was found under a job with a yes, where these are its places
+pub record AreFound (k : Job) (ps : List Place) (n : Listed) (cylinders : List Area) : Type 0 where
+  pub storage_len : n.storage_len ≡ length (storage_of k)
+  pub mask : IsStrictest (ServesEach k ps) n.mask
+  pub sought : AreExactly (IsSought k) cylinders
+  pub runs : n.extents ≡ map run_of cylinders
+  pub fetch_merged : IsMerged n.fetch
+  pub fetch : HoldData fetches k n.fetch
+  pub store_merged : IsMerged n.store
+  pub store : HoldData stores k n.store
+  pub keep : AreExactly (IsGuarded k) n.keep
+
+pub are_needs : (j k : Job) (ls : List Seen) (n : Listed) (cylinders : List Area) → AreOfOneProgram j k → AreLooksOfYes k ls → AreFound k (places_of_looks ls) n cylinders → AreNeeds j n
+are_needs j k ls n cylinders one are found = record {
+  verdict = granted;
+  storage_len = found.storage_len ∙ ap length (sym one.storage);
+  mask = strictest_same (ServesEach k ps) (Serves j) n.mask served found.mask;
+  extents = runs_of (IsSought k) (IsNeededCylinder j) cylinders n.extents sought found.sought found.runs;
+  fetch = record { merged = found.fetch_merged; bytes = λ b. both (found.fetch b) (moved fetches b) };
+  store = record { merged = found.store_merged; bytes = λ b. both (found.store b) (moved stores b) };
+  keep = record { merged = found.keep.merged; bytes = λ b. both (found.keep.bytes b) (same.1 b) };
+}
+  where
+    ps : List Place
+    ps = places_of_looks ls
+
+    granted : IsVerdict (open_job j) Yes
+    granted = yes_opens j k one are.proper are.verdict
+
+    there : AreOfOneProgram k (open_job j)
+    there = to_open j k one
+
+    back : AreOfOneProgram (open_job j) k
+    back = turned k (open_job j) there
+
+    same : ((p : Place) → IsReachable k p ↔ IsReachable (open_job j) p) × ((b : ℕ) → IsGuarded k b ↔ IsGuarded (open_job j) b)
+    same = same_under_yes k (open_job j) there are.verdict granted
+
+    both : {A B C : Type 0} → A ↔ B → B ↔ C → A ↔ C
+    both f g = ((λ a. g.0 (f.0 a)), λ c. f.1 (g.1 c))
+
+    moved : (test : Place → Fields → Bool) (b : ℕ) → IsDataOf test k b ↔ IsDataOf test (open_job j) b
+    moved test b = (data_over k (open_job j) there test (λ p. (same.0 p).0) b, data_over (open_job j) k back test (λ p. (same.0 p).1) b)
+
+    served : (m : ℕ) → ServesEach k ps m ↔ Serves j m
+    served m = (
+      (λ f p r. let h = f p (are.reached.0 p ((same.0 p).1 r)) in let t = serves_over k (open_job j) there p m h in record { permits = t.permits; admits = t.admits }),
+      λ f p h. let t = f p ((same.0 p).0 (are.reached.1 p h)) in serves_over j k one p m t,
+    )
+
+    sought : (c : ℕ) → IsSought k c ↔ IsNeededCylinder j c
+    sought c = (
+      (λ h. record { place = h.0; reached = (same.0 h.0).0 h.1; argument = h.2.0; seeks = seeks_over k j (turned j k one) h.0 h.2.0 h.2.1; at = h.2.2 }),
+      λ h. (h.place, (same.0 h.place).1 h.reached, (h.argument, seeks_over j k one h.place h.argument h.seeks, h.at)),
+    )
+
+-- the looks of a survey, where the first offence is none
+pub survey_looks : (k : Job) (s : Survey) (ls : List Seen) → IsSurvey k s → first_verdict s.offences.items ≡ Yes → FirstIsVerdict → ls ≡ s.walk.looks.items → AreLooksOfYes k ls
+survey_looks k s ls is none law e =
+    let r = reached_looks k s.walk ls is.found e in
+    record {
+      proper = is.proper;
+      verdict = subst (λ (v : Verdict). IsVerdict k v) none (law k s.offences.items is.offences);
+      looks = r.0;
+      reached = r.1;
+    }
+
+-- ---- what rows of needs say of a job
+
+module _ (j : Job) (n : Listed) (h : AreNeeds j n) where
+  -- each byte that is needed is one of storage
+  inside : (test : Place → Fields → Bool) → ((p : Place) (c : Fields) → test p c ≡ true → is_transfer c ≡ false) → (areas : List Area) → AreExactly (IsDataOf test (open_job j)) areas → (b : ℕ) → lies_in areas b ≡ true → b < length (storage_of j)
+  inside test moves areas are b m =
+      let d = (are.bytes b).0 m in
+      let c = clear_check (open_job j) d.place (yes_clear (open_job j) h.verdict d.place d.reached) in
+      let fits = data_in_storage (storage_of j) d.place (ccw_of j d.place) c refl (moves d.place (ccw_of j d.place) d.passes.1) in
+      omega (arith, d.below)
+
+  fetch_inside : (b : ℕ) → lies_in n.fetch b ≡ true → b < length (storage_of j)
+  fetch_inside = inside fetches (λ p c m. (fetches_parts p c m).0) n.fetch h.fetch
+
+  store_inside : (b : ℕ) → lies_in n.store b ≡ true → b < length (storage_of j)
+  store_inside = inside stores (λ p c m. (stores_parts p c m).0) n.store h.store
+
+  module _ (k : Job) where
+    -- the areas lent have all bytes of a row
+    abbrev pub Lent : List Area → List Area → Type 0
+    Lent areas lent = (b : ℕ) → lies_in areas b ≡ true → lies_in lent b ≡ true
+
+    pub grants_from : is_at_least n.mask k.mask ≡ true → ((c : ℕ) → has_cylinder n.extents c ≡ true → has_cylinder (extents_of k) c ≡ true) → Lent n.fetch (fetch_of k) → Lent n.store (store_of k) → Grants j k
+    grants_from mask extents fetch store = record {
+      mask = (needed_mask_is_enough j n.mask k.mask h.mask).1 mask;
+      extents = λ c m. extents c ((h.extents.cylinders c).1 m);
+      fetch = λ b m. fetch b ((h.fetch.bytes b).1 m);
+      store = λ b m. store b ((h.store.bytes b).1 m);
+    }
+
+    pub granted : length (storage_of k) ≡ n.storage_len → GrantsListed k n ↔ Grants j k
+    granted e = (
+      (λ g. grants_from g.mask g.extents (λ b m. (g.fetch b m).1) (λ b m. (g.store b m).1)),
+      λ g. record {
+        mask = (needed_mask_is_enough j n.mask k.mask h.mask).0 g.mask;
+        extents = λ c m. g.extents c ((h.extents.cylinders c).0 m);
+        fetch = λ b m. (here b (fetch_inside b m), g.fetch b ((h.fetch.bytes b).0 m));
+        store = λ b m. (here b (store_inside b m), g.store b ((h.store.bytes b).0 m));
+      },
+    )
+      where
+        here : (b : ℕ) → b < length (storage_of j) → b < length (storage_of k)
+        here b l = subst (λ z. b < z) (sym h.storage_len ∙ sym e) l
+
+-- ---- side by side
+
+-- no byte that one program needs for storing is kept by the other, where their rows share none
+spares : (j k : Job) (n m : Listed) → HasStoreAndKeep j n → HasStoreAndKeep k m → ((b : ℕ) → IsShared n.store m.keep b → ⊥) → (b : ℕ) → IsNeededForStoring j b → IsKept k b → ⊥
+spares j k n m f g never b s t = never b ((f.store.bytes b).1 s, (g.keep.bytes b).1 t)
+
+shared : (j k : Job) (n m : Listed) → HasStoreAndKeep j n → HasStoreAndKeep k m → ((b : ℕ) → IsNeededForStoring j b → IsKept k b → ⊥) → (b : ℕ) → IsShared n.store m.keep b → ⊥
+shared j k n m f g never b s = never b ((f.store.bytes b).0 s.0) ((g.keep.bytes b).0 s.1)
+
+-- where rows are true, two that share nothing may run beside one another
+pub may_run_beside : (j k : Job) (n m : Listed) → HasStoreAndKeep j n → HasStoreAndKeep k m → ((b : ℕ) → IsShared n.store m.keep b → ⊥) → ((b : ℕ) → IsShared m.store n.keep b → ⊥) → MayRunBeside j k
+may_run_beside j k n m f g one other = record { one_spares = spares j k n m f g one; other_spares = spares k j m n g f other }
+
+pub rows_are_exact : RowsAreExact
+rows_are_exact = record {
+  grants = λ j k n h e. granted j n h k e;
+  beside = λ j k n m f g. (
+    (λ are. may_run_beside j k n m f g are.one_spares are.other_spares),
+    λ may. record { one_spares = shared j k n m f g may.one_spares; other_spares = shared k j m n g f may.other_spares },
+  );
+}

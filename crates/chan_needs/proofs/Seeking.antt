@@ -1,0 +1,194 @@
+-- The cylinders that seeks go to: at one look, and as runs.
+use Rattle.std.proofs.Common.{◌≡◌, ℕ, suc, ◌+◌, ◌-◌, ◌<◌, ◌&&◌, ◌++◌, zero, Bool, true, false, nat_le, List, [], ◌∷◌, map, length, get_or, take, option_map, Option, Some, None, refl, sym, ap, ◌∙◌, subst, ◌⊎◌, inl, inr, ◌↔◌, arith, rules}
+use Rattle.std.specs.List.{All}
+use Rattle.std.proofs.lemmas.Grind.{common_steps}
+use Rattle.std.proofs.lemmas.List.{map-append}
+use Rattle.std.proofs.Math.Seq.{take-suc}
+use Rattle.std.proofs.lemmas.Bool.{and_from, and_parts, both_ways, le-leb, leb-true, or_cases, or_left, or_right}
+use Rattle.ccw_core.specs.declared.areas.Area.{Area}
+use Rattle.ccw_core.specs.Areas.{lies_in}
+use Rattle.ccw_core.specs.Ccw.{Fields}
+use Rattle.ccw_core.proofs.Covering.{lies_in-nil}
+use Rattle.ckd_core.specs.declared.command.MaskClass.{MaskClass}
+use Rattle.ckd_core.specs.declared.command.MaskClass.TheVariants.{Recalibrate, Seek, SeekCylinder, SeekHead}
+use Rattle.ckd_core.specs.Argument.{cylinder_of}
+use Rattle.ckd_core.specs.Cylinders.{has_cylinder}
+use Rattle.ckd_core.specs.Table.{Entry as Command, class_is_seek, class_passes, class_recalibrates, is_seek, lookup, recalibrates}
+use Rattle.chan_walk.specs.declared.job.Job.{Job}
+use Rattle.chan_walk.specs.declared.place.Place.{Place}
+use Rattle.chan_walk.specs.Argument.{Has, HasArgument}
+use Rattle.chan_walk.specs.Fault.{begins_recalibrate, begins_seek, IsClear}
+use Rattle.chan_walk.specs.Guard.{AddsBytes, byte_area}
+use Rattle.chan_walk.specs.Job.{storage_of}
+use Rattle.chan_walk.specs.Least.{AreReached}
+use Rattle.chan_walk.specs.Look.{IsLook, Seen, argument_of}
+use Rattle.chan_walk.specs.Machine.{home}
+use Rattle.chan_walk.specs.Place.{is_fresh, ccw_of}
+use Rattle.chan_areas.specs.Ranges.{IsByteOf, AreExactly, BeginAbove, EndsBelow, HaveSameBytes, IsMerged, end_of}
+use Rattle.chan_needs.specs.Rows.{AreRising, AreRunsOf, IsSought, RunsAbove, SeeksCylinder, run_of}
+use Rattle.chan_walk.specs.Visit.{begun}
+use Rattle.chan_walk.proofs.Theory.Chains.{argument_unique}
+use Rattle.chan_walk.proofs.Theory.Faults.{clear_stands}
+use Rattle.chan_needs.proofs.Demanding.{command_at, fresh_from, none_from}
+use Rattle.chan_walk.proofs.Algorithms.Guarding.{HoldBytes, adds_areas, lies_in-bytes}
+use Rattle.chan_areas.proofs.Merging.{lies_in-cases, lies_in-first, lies_in-rest}
+use Rattle.chan_walk.proofs.Algorithms.Looking.{argument_read}
+use Rattle.chan_walk.proofs.Algorithms.Looking.{ccw_seen}
+
+-- ---- at one look
+
+-- the seek that begins at p goes to the cylinder o, or none begins there
+abbrev pub GoesTo : Job → Place → Option ℕ → Type 0
+GoesTo j p o = (n : ℕ) → (o ≡ Some n) ↔ SeeksCylinder j p n
+
+goes_nowhere : (j : Job) (p : Place) → ((n : ℕ) → SeeksCylinder j p n → ⊥) → GoesTo j p None
+goes_nowhere j p f n = ((λ e. absurd cc), λ h. absurd (f n h))
+
+no_seek : (j : Job) (p : Place) → begins_seek p (ccw_of j p) ≡ false → begins_recalibrate p (ccw_of j p) ≡ false → GoesTo j p None
+no_seek j p e f = goes_nowhere j p none
+  where
+    none : (n : ℕ) → SeeksCylinder j p n → ⊥
+    none n (x, inl s, at) = both_ways _ e s.0
+    none n (x, inr s, at) = both_ways _ f s.0
+
+never : (a b : Bool) → (a ≡ true → b ≡ false) → (a && b) ≡ false
+never a b h = search rules
+
+module _ (j : Job) (l : Seen) (look : IsLook j l) (clear : IsClear j l.place) where
+  abbrev p : Place
+  p = l.place
+
+  abbrev c : Fields
+  c = ccw_of j l.place
+
+  pub goes_by_none : l.command ≡ None → GoesTo j l.place None
+  unfolding is_seek recalibrates
+  goes_by_none e =
+      let h : begun p c ≡ None = sym (command_at j l look clear) ∙ e in
+      no_seek j p (never _ _ (λ f. ap (class_passes class_is_seek) (none_from p c h f))) (never _ _ (λ f. ap (class_passes class_recalibrates) (none_from p c h f)))
+
+  module _ (k : Command) (e : l.command ≡ Some k) where
+    abbrev found : (is_fresh p.entered ≡ true) × (lookup c.command ≡ Some k)
+    found = fresh_from p c k (sym (command_at j l look clear) ∙ e)
+
+    seeks_it : begins_seek p c ≡ class_is_seek k.class
+    unfolding is_seek
+    seeks_it = rw found.0 (ap (class_passes class_is_seek) found.1)
+
+    homes_it : begins_recalibrate p c ≡ class_recalibrates k.class
+    unfolding recalibrates
+    homes_it = rw found.0 (ap (class_passes class_recalibrates) found.1)
+
+    pub goes_by_other : class_is_seek k.class ≡ false → class_recalibrates k.class ≡ false → GoesTo j l.place None
+    goes_by_other f g = no_seek j p (seeks_it ∙ f) (homes_it ∙ g)
+
+    pub goes_home : k.class ≡ Recalibrate → GoesTo j l.place (Some 0)
+    goes_home f n = (to, from)
+      where
+        to : Some 0 ≡ Some n → SeeksCylinder j p n
+        to d = let is : 0 ≡ n = cc in (home, inr (homes_it ∙ ap class_recalibrates f, refl), is)
+
+        from : SeeksCylinder j p n → Some 0 ≡ Some n
+        from (x, inl s, at) = absurd (both_ways _ (seeks_it ∙ ap class_is_seek f) s.0)
+        from (x, inr s, at) = ap Some (sym (ap cylinder_of s.1) ∙ at)
+
+    pub goes_seeking : class_is_seek k.class ≡ true → class_recalibrates k.class ≡ false → GoesTo j l.place (option_map cylinder_of (argument_of l.read))
+    goes_seeking f g n = (to (argument_of l.read) has, from)
+      where
+        has : HasArgument (storage_of j) p.address (argument_of l.read)
+        has = argument_read (storage_of j) p l.read ((look.read c (ccw_seen j l look (clear_stands j p clear))).seek (seeks_it ∙ f))
+
+        to : (o : Option (List ℕ)) → HasArgument (storage_of j) p.address o → option_map cylinder_of o ≡ Some n → SeeksCylinder j p n
+        to None h d = absurd cc
+        to (Some x) h d = let is : cylinder_of x ≡ n = cc in (x, inl (seeks_it ∙ f, h), is)
+
+        from : SeeksCylinder j p n → option_map cylinder_of (argument_of l.read) ≡ Some n
+        from (x, inl s, at) = ap (option_map cylinder_of) (argument_unique (storage_of j) p.address (argument_of l.read) (Some x) has s.1) ∙ ap Some at
+        from (x, inr s, at) = absurd (both_ways _ (homes_it ∙ g) s.0)
+
+pub is_other : (k : MaskClass) → (k ≡ Seek → ⊥) → (k ≡ SeekCylinder → ⊥) → (k ≡ SeekHead → ⊥) → (k ≡ Recalibrate → ⊥) → (class_is_seek k ≡ false) × (class_recalibrates k ≡ false)
+is_other k a b d e = search rules
+
+pub is_seek_of : (k : MaskClass) → (k ≡ Seek) ⊎ ((k ≡ SeekCylinder) ⊎ (k ≡ SeekHead)) → (class_is_seek k ≡ true) × (class_recalibrates k ≡ false)
+is_seek_of k h = search rules
+
+-- the cylinder counts as an area of one byte
+pub adds_cylinder : (j : Job) (p : Place) (o : Option ℕ) (m : ℕ) (old new : List Area) → GoesTo j p o → o ≡ Some m → new ≡ old ++ byte_area m ∷ [] → AddsBytes old new (SeeksCylinder j p)
+adds_cylinder j p o m old new goes e is = adds_areas old (byte_area m ∷ []) new (SeeksCylinder j p) is (λ b. ((λ h. to b ((lies_in-bytes (m ∷ []) b).0 h)), λ h. (lies_in-bytes (m ∷ []) b).1 (from b h)))
+  where
+    to : (b : ℕ) → Has (m ∷ []) b → SeeksCylinder j p b
+    to b (inl d) = (goes b).0 (e ∙ ap Some d)
+    to b (inr h) = absurd h
+
+    from : (b : ℕ) → SeeksCylinder j p b → Has (m ∷ []) b
+    from b h = let s : Some m ≡ Some b = sym e ∙ (goes b).1 h in let d : m ≡ b = cc in inl d
+
+pub adds_nothing : (j : Job) (p : Place) (o : Option ℕ) (areas : List Area) → GoesTo j p o → o ≡ None → AddsBytes areas areas (SeeksCylinder j p)
+adds_nothing j p o areas goes e b = ((λ h. inl h), from)
+  where
+    from : (lies_in areas b ≡ true) ⊎ SeeksCylinder j p b → lies_in areas b ≡ true
+    from (inl h) = h
+    from (inr h) = let s : None ≡ Some b = sym e ∙ (goes b).1 h in absurd cc
+
+-- ---- a merged list stays as low as what was merged
+
+lies_below : (n : ℕ) (areas : List Area) (b : ℕ) → All (EndsBelow (suc n)) areas → lies_in areas b ≡ true → b < n
+lies_below n [] b h l = absurd (both_ways _ (lies_in-nil b) l)
+lies_below n (a ∷ areas) b h l = go (lies_below n areas b (λ k d lt. h (suc k) d (omega arith))) (lies_in-cases a areas b l)
+  where
+    go : (lies_in areas b ≡ true → b < n) → IsByteOf a b ⊎ (lies_in areas b ≡ true) → b < n
+    go rest (inl i) = let e : end_of a < suc n = h 0 a (omega arith) in omega (arith, i.1)
+    go rest (inr r) = rest r
+
+low_by_bytes : (n : ℕ) (areas : List Area) → IsMerged areas → ((b : ℕ) → lies_in areas b ≡ true → b < n) → All (EndsBelow (suc n)) areas
+low_by_bytes n [] m h k d l = absurd (omega arith)
+low_by_bytes n (a ∷ areas) m h zero d l = let t = h (a.start + (a.len - 1)) (lies_in-first a areas _ (omega (arith, m.0), omega (arith, m.0))) in omega (arith, m.0)
+low_by_bytes n (a ∷ areas) m h (suc k) d l = low_by_bytes n areas m.2 (λ b r. h b (lies_in-rest a areas b r)) k d (omega arith)
+
+pub merged_low : (n : ℕ) (merged areas : List Area) → IsMerged merged → HaveSameBytes merged areas → All (EndsBelow (suc n)) areas → All (EndsBelow (suc n)) merged
+merged_low n merged areas m same low = low_by_bytes n merged m (λ b h. lies_below n areas b low (sym (same b) ∙ h))
+
+-- ---- the runs of a merged list
+
+above_runs : (n m : ℕ) (areas : List Area) → n ≡ m → BeginAbove m areas → RunsAbove n (map run_of areas)
+above_runs n m [] e h = tt
+above_runs n m (a ∷ areas) e h = (omega (arith, h.0), above_runs n m areas e h.1)
+
+rising_runs : (areas : List Area) → IsMerged areas → AreRising (map run_of areas)
+rising_runs [] m = tt
+rising_runs (a ∷ areas) m = (omega (arith, m.0), above_runs (a.start + a.len - 1 + 1) (end_of a) areas (omega (arith, m.0)) m.1, rising_runs areas m.2)
+
+-- a number is in the areas exactly where it is in their runs
+abbrev InBoth : List Area → ℕ → Type 0
+InBoth areas n = (has_cylinder (map run_of areas) n ≡ true) ↔ (lies_in areas n ≡ true)
+
+in_runs : (areas : List Area) (n : ℕ) → IsMerged areas → InBoth areas n
+unfolding has_cylinder
+in_runs [] n m = ((λ h. absurd cc), λ h. absurd (both_ways _ (lies_in-nil n) h))
+in_runs (a ∷ areas) n m = (to (in_runs areas n m.2), from (in_runs areas n m.2))
+  where
+    to : InBoth areas n → has_cylinder (map run_of (a ∷ areas)) n ≡ true → lies_in (a ∷ areas) n ≡ true
+    to rest h = go (or_cases _ _ h)
+      where
+        go : ((nat_le a.start n && nat_le n (a.start + a.len - 1)) ≡ true) ⊎ (has_cylinder (map run_of areas) n ≡ true) → lies_in (a ∷ areas) n ≡ true
+        go (inl i) = let b = and_parts _ _ i in let f = leb-true _ _ b.0 in let g = leb-true _ _ b.1 in lies_in-first a areas n (f, omega (arith, m.0))
+        go (inr r) = lies_in-rest a areas n (rest.0 r)
+
+    from : InBoth areas n → lies_in (a ∷ areas) n ≡ true → has_cylinder (map run_of (a ∷ areas)) n ≡ true
+    from rest h = go (lies_in-cases a areas n h)
+      where
+        go : IsByteOf a n ⊎ (lies_in areas n ≡ true) → has_cylinder (map run_of (a ∷ areas)) n ≡ true
+        go (inl i) = or_left _ _ (and_from _ _ (le-leb _ _ i.0) (le-leb _ _ (omega (arith, i.1))))
+        go (inr r) = or_right _ _ (rest.1 r)
+
+pub runs_of : (P Q : ℕ → Type 0) (areas : List Area) (runs : List (ℕ × ℕ)) → ((n : ℕ) → P n ↔ Q n) → AreExactly P areas → runs ≡ map run_of areas → AreRunsOf Q runs
+runs_of P Q areas runs f h e = subst (AreRunsOf Q) (sym e) (record {
+  rising = rising_runs areas h.merged;
+  cylinders = λ n. let r = in_runs areas n h.merged in let b = h.bytes n in ((λ t. (f n).0 (b.0 (r.0 t))), λ q. r.1 (b.1 ((f n).1 q)));
+})
+
+pub runs_next : (areas : List Area) (i : ℕ) (d : Area) (old new : List (ℕ × ℕ)) → i < length areas → old ≡ map run_of (take i areas) → new ≡ old ++ run_of (get_or areas i d) ∷ [] → new ≡ map run_of (take (i + 1) areas)
+runs_next areas i d old new l e f = grind (arith, common_steps, take-suc, map-append)
+
+pub sought_all : (j : Job) (ps : List Place) (areas : List Area) → AreReached j ps → HoldBytes (SeeksCylinder j) ps areas → (n : ℕ) → (lies_in areas n ≡ true) ↔ IsSought j n
+sought_all j ps areas r f n = search rules

@@ -1,0 +1,174 @@
+-- A supervisor that keeps to the answers of its calls makes a history.
+use Rattle.std.proofs.Common.{◌≡◌, ◌≢◌, ◌==◌, ℕ, true, false, List, [], ◌∷◌, map, Option, Some, None, IsSome, refl, sym, ap, ◌∙◌, subst, ◌⊎◌, inl, inr}
+use Rattle.std.proofs.lemmas.Bool.{eq-eqb}
+use Rattle.std.proofs.lemmas.Bool.Decides.{eqb_tells}
+use Rattle.chan_needs.specs.declared.remembered.Remembered.{Remembered}
+use Rattle.chan_needs.specs.History.{Acts, ComesNext, Flight, IsHistory, MayStart, Rests, Situation, Spares}
+use Rattle.chan_needs.specs.Remembered.{AreInFlight, IsInFlight}
+use Rattle.chan_needs.specs.Supervised.{GoesOn, GoesOnAt, IsAllowed, IsSupervised, IsWriting, Lists, RestsAt, StartsAt, SupervisedGoesOn, SupervisedStaysWell, Watch}
+use Rattle.chan_needs.proofs.History.{stays_well}
+use Rattle.chan_needs.proofs.Remembering.{spared_by, starts_well}
+use Rattle.chan_needs.proofs.Beginning.{after, here, moved_rests, others, picked, rewritten, shares_of}
+
+abbrev situations : List Watch → List Situation
+situations run = map (λ (v : Watch). v.situation) run
+
+-- what is remembered under number i is true of a program
+abbrev IsNoted : Watch → ℕ → Flight → Type 0
+IsNoted v i g = (p : Remembered) × (v.programs i ≡ Some p) × IsInFlight p g.job
+
+-- what is remembered is true of the programs in flight
+abbrev IsTrueAt : Watch → Type 0
+IsTrueAt v = (i : ℕ) (g : Flight) → v.situation.at i ≡ Some g → IsNoted v i g
+
+listed_in_flight : (v : Watch) (fs : List Remembered) → IsTrueAt v → Lists v.programs fs → AreInFlight v.situation fs
+listed_in_flight v fs h lists i g e = let t = h i g e in let n = lists i t.0 t.1 in (n.0, t.0, n.1, t.2)
+
+-- ---- one moment on
+
+module _ (v w : Watch) (h : IsTrueAt v) where
+  -- one that waits or makes a step stays as it was remembered
+  stayed : (i : ℕ) (f g : Flight) → v.situation.at i ≡ Some f → g.job ≡ f.job → w.programs i ≡ v.programs i → IsNoted w i g
+  stayed i f g e same noted = let t = h i f e in (t.0, noted ∙ t.1, subst (IsInFlight t.0) (sym same) t.2)
+
+  rested : (k : ℕ) (g : Flight) (x : Option Flight) → v.situation.at k ≡ x → Rests x (Some g) → w.programs k ≡ v.programs k → IsNoted w k g
+  rested k g None e r noted = absurd r
+  rested k g (Some f) e r noted = stayed k f g e r.0 noted
+
+  rested_at : (k : ℕ) (g : Flight) → w.situation.at k ≡ Some g → RestsAt v w k → IsNoted w k g
+  rested_at k g e r = rested k g (v.situation.at k) refl (subst (Rests (v.situation.at k)) e r.0) r.1
+
+  -- a start
+  module _ (i : ℕ) (s : StartsAt v w i) where
+    abbrev now : IsAllowed v i
+    now = s.allowed
+
+    started : MayStart v.situation now.flight × IsInFlight now.program now.flight.job
+    started = starts_well now.flight.job now.program now.in_flight now.proper now.answer now.asked v.situation now.flight.moment now.remembered (listed_in_flight v now.in_flight h now.lists) now.start
+
+    starts : Acts v.situation w.situation (v.situation.at i) (w.situation.at i)
+    starts = subst (λ x. Acts v.situation w.situation x (w.situation.at i)) (sym now.free) (subst (λ x. Acts v.situation w.situation None x) (sym s.there) (started.0, s.storage))
+
+    starts_true : (g : Flight) → w.situation.at i ≡ Some g → IsNoted w i g
+    starts_true g e = let q : Some now.flight ≡ Some g = sym s.there ∙ e in let t : now.flight ≡ g = cc in (now.program, s.noted, subst (λ (f : Flight). IsInFlight now.program f.job) t started.1)
+
+  -- a step, or the end
+  acted : (i : ℕ) (g : Flight) (x : Option Flight) → v.situation.at i ≡ x → IsSome x → Acts v.situation w.situation x (Some g) → w.programs i ≡ v.programs i → IsNoted w i g
+  acted i g None e some acts noted = absurd cc
+  acted i g (Some f) e some acts noted = stayed i f g e acts.0 noted
+
+  goes_true : (i : ℕ) (s : GoesOnAt v w i) (g : Flight) → w.situation.at i ≡ Some g → IsNoted w i g
+  goes_true i s g e = acted i g (v.situation.at i) refl s.there (subst (Acts v.situation w.situation (v.situation.at i)) e s.acts) (s.noted (subst IsSome (sym e) refl))
+
+  -- a write
+  spares : (r : IsWriting v w) (k : ℕ) (x : Option Flight) → v.situation.at k ≡ x → Spares x v.situation.storage w.situation.storage
+  spares r k None e = tt
+  spares r k (Some f) e = spared_by r.0.in_flight r.0.area r.0.answer v.situation w.situation.storage (listed_in_flight v r.0.in_flight h r.0.lists) r.0.written k f e
+
+  -- the program under number i starts, makes a step or leaves
+  module _ (i : ℕ) where
+    acts : StartsAt v w i ⊎ GoesOnAt v w i → Acts v.situation w.situation (v.situation.at i) (w.situation.at i)
+    acts (inl s) = starts i s
+    acts (inr s) = s.acts
+
+    rests : (k : ℕ) → (k ≡ i) ⊎ RestsAt v w k → (k ≡ i) ⊎ Rests (v.situation.at k) (w.situation.at k)
+    rests k (inl e) = inl e
+    rests k (inr r) = inr r.0
+
+    noted_at : (g : Flight) → StartsAt v w i ⊎ GoesOnAt v w i → w.situation.at i ≡ Some g → IsNoted w i g
+    noted_at g (inl s) e = starts_true i s g e
+    noted_at g (inr s) e = goes_true i s g e
+
+    each_noted : (k : ℕ) (g : Flight) → StartsAt v w i ⊎ GoesOnAt v w i → w.situation.at k ≡ Some g → (k ≡ i) ⊎ RestsAt v w k → IsNoted w k g
+    each_noted k g s e (inl same) = subst (λ n. IsNoted w n g) (sym same) (noted_at g s (sym (ap w.situation.at same) ∙ e))
+    each_noted k g s e (inr r) = rested_at k g e r
+
+  comes_next : GoesOn v w → ComesNext v.situation w.situation
+  comes_next (inl (i, s, others)) = inl (i, acts i s, λ k. rests i k (others k))
+  comes_next (inr r) = inr (λ k. ((r.1 k).0, spares r k (v.situation.at k) refl))
+
+  stays_true : GoesOn v w → IsTrueAt w
+  stays_true (inl (i, s, others)) k g e = each_noted i k g s e (others k)
+  stays_true (inr r) k g e = rested_at k g e (r.1 k)
+
+-- ---- always
+
+supervised : (v : Watch) (before : List Watch) → IsSupervised (v ∷ before) → IsHistory (v.situation ∷ situations before) × IsTrueAt v
+supervised v [] none = (none, λ i g e. let s : None ≡ Some g = sym (none i) ∙ e in absurd cc)
+supervised w (v ∷ before) (run, goes) = let t = supervised v before run in ((t.0, comes_next v w t.1 goes), stays_true v w t.1 goes)
+
+pub supervised_stays_well : SupervisedStaysWell
+supervised_stays_well [] h = absurd h
+supervised_stays_well (v ∷ before) h = stays_well (v.situation ∷ situations before) (supervised v before h).0
+
+-- ---- nothing in vain
+
+module _ (v : Watch) (i : ℕ) (x : Option Flight) (p : Option Remembered) (t : List ℕ) (shares : (f : Flight) → x ≡ Some f → f.moment.storage ≡ t) where
+  abbrev next : Watch
+  next = record { situation = after v.situation i x t shares; programs = λ k. picked (k == i) p (v.programs k) }
+
+  noted_here : next.programs i ≡ p
+  noted_here = ap (λ z. picked z p (v.programs i)) (eq-eqb i i refl)
+
+  rest_others : (k : ℕ) → (k ≡ i) ⊎ RestsAt v next k
+  rest_others k = go (eqb_tells k i) (others v.situation i x t shares k)
+    where
+      go : (((k == i) ≡ true) × (k ≡ i)) ⊎ (((k == i) ≡ false) × (k ≢ i)) → (k ≡ i) ⊎ Rests (v.situation.at k) (next.situation.at k) → (k ≡ i) ⊎ RestsAt v next k
+      go (inl e) r = inl e.1
+      go (inr e) (inl r) = inl r
+      go (inr e) (inr r) = inr (r, ap (λ z. picked z p (v.programs k)) e.0)
+
+  here_next : next.situation.at i ≡ x
+  here_next = here v.situation i x t shares
+
+-- a program in flight goes on, or leaves
+acts_on : (v : Watch) (before : List Watch) (i : ℕ) (x : Option Flight) (p : Option Remembered) (t : List ℕ) (shares : (f : Flight) → x ≡ Some f → f.moment.storage ≡ t) → IsSupervised (v ∷ before) → IsSome (v.situation.at i)
+    → Acts v.situation (next v i x p t shares).situation (v.situation.at i) x → (IsSome x → p ≡ v.programs i) → IsSupervised (next v i x p t shares ∷ v ∷ before)
+acts_on v before i x p t shares run there acts noted = (
+  run,
+  inl (
+    i,
+    inr (record {
+      there = there;
+      acts = subst (λ y. Acts v.situation (next v i x p t shares).situation (v.situation.at i) y) (sym (here_next v i x p t shares)) acts;
+      noted = λ some. noted_here v i x p t shares ∙ noted (subst IsSome (here_next v i x p t shares) some);
+    }),
+    rest_others v i x p t shares,
+  ),
+)
+
+pub supervised_goes_on : SupervisedGoesOn
+supervised_goes_on = record {
+  starts = λ v before i run s.
+      let shares = shares_of s.flight v.situation.storage s.storage in
+      let x = Some s.flight in
+      let p = Some s.program in (
+        next v i x p v.situation.storage shares,
+        here_next v i x p v.situation.storage shares,
+        (run, inl (i, inl (record { allowed = s; there = here_next v i x p v.situation.storage shares; noted = noted_here v i x p v.situation.storage shares; storage = refl }), rest_others v i x p v.situation.storage shares)),
+      );
+  steps = λ v before i f n run there step.
+      let g : Flight = record f { moment = n } in
+      let shares = shares_of g n.storage refl in (
+        next v i (Some g) (v.programs i) n.storage shares,
+        here_next v i (Some g) (v.programs i) n.storage shares,
+        acts_on v before i (Some g) (v.programs i) n.storage shares run (subst IsSome (sym there) refl) (subst (λ y. Acts v.situation (next v i (Some g) (v.programs i) n.storage shares).situation y (Some g)) (sym there) (refl, step)) (λ some. refl),
+      );
+  leaves = λ v before i run there. (
+    next v i None None v.situation.storage (none_shares v),
+    here_next v i None None v.situation.storage (none_shares v),
+    noted_here v i None None v.situation.storage (none_shares v),
+    acts_on v before i None None v.situation.storage (none_shares v) run there (leaves v i (v.situation.at i) there) (λ some. absurd (none_some some)),
+  );
+  writes = λ v before t run m. (record { situation = rewritten v.situation t; programs = v.programs }, refl, (run, inr (m, λ k. (moved_rests t (v.situation.at k), refl))));
+}
+  where
+    none_shares : (v : Watch) (f : Flight) → None ≡ Some f → f.moment.storage ≡ v.situation.storage
+    none_shares v f e = absurd cc
+
+    none_some : IsSome {T = Flight} None → ⊥
+    none_some e = absurd cc
+
+    leaves : (v : Watch) (i : ℕ) (y : Option Flight) → IsSome y → Acts v.situation (next v i None None v.situation.storage (none_shares v)).situation y None
+    leaves v i None some = absurd cc
+    leaves v i (Some f) some = refl

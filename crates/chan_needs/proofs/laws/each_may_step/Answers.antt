@@ -1,0 +1,5 @@
+use Rattle.chan_needs.proofs.Beginning.{each_may_step}
+use Rattle.chan_needs.proofs.laws.each_may_step.Goals as goal
+
+pub returns : goal.returns
+returns c = each_may_step

@@ -1,0 +1,31 @@
+use Rattle.std.proofs.Common.{◌≡◌, ◌∙◌, None, Option, Some, false, refl, arith, sym, ℕ}
+use Rattle.std.specs.Prelude.{is_some}
+use Rattle.chan_areas.specs.Ranges.{IsByteOf}
+use Rattle.chan_needs.specs.Remembered.{lesser_of}
+use Rattle.chan_needs.proofs.Holding.{nowhere}
+use Rattle.chan_needs.proofs.Leasts.{least_first, least_in_areas, least_next}
+use Rattle.chan_needs.proofs.least.least_in.Goals.{then-is_some, else-is_some}
+use Rattle.chan_needs.proofs.least.least_in.Goals as goal
+
+-- nothing is no lesser
+kept : (o p : Option ℕ) → is_some p ≡ false → o ≡ lesser_of o p
+kept None None none = refl
+kept (Some m) None none = refl
+kept o (Some n) none = cc
+
+pub loop-area-init : goal.loop-area-init
+loop-area-init c = least_first IsByteOf nowhere c.args.areas.now (IsByteOf c.args.range) _ refl
+
+pub loop-area-preserved : goal.loop-area-preserved
+loop-area-preserved c =
+    let byte = c.overlap-byte.result in
+    let joined : c.if-is_some.least ≡ lesser_of c.loop-area.least byte =
+    elim c.if-is_some.branch [
+      | then-is_some w ↦ w.least-is ∙ w.lesser-least.ensures
+      | else-is_some w ↦ w.least-is ∙ kept c.loop-area.least byte (sym c.is_some.ensures ∙ w.if-is_some.false)
+    ] in
+    least_next IsByteOf nowhere c.args.areas.now c.loop-area.area-index (IsByteOf c.args.range) c.loop-area.least byte c.if-is_some.least
+    c.loop-area-test.true joined c.loop-area.invariant c.overlap-byte.ensures
+
+pub returns : goal.returns
+returns c = least_in_areas c.args.areas.now c.loop-area.area-index (IsByteOf c.args.range) c.loop-area.least (omega arith) c.loop-area.invariant

@@ -1,0 +1,47 @@
+use Rattle.std.proofs.Common.{◌^◌, List, take, sym, subst, arith, rules}
+use Rattle.chan_walk.specs.declared.place.Place.{Place}
+use Rattle.chan_walk.specs.Look.{places_of_looks}
+use Rattle.chan_needs.specs.Rows.{SeeksCylinder}
+use Rattle.chan_needs.proofs.Demanding.{clear_at}
+use Rattle.chan_walk.proofs.Algorithms.Guarding.{HoldBytes, hold_more, hold_none, hold_same, low_none}
+use Rattle.chan_areas.proofs.Merging.{IfOk-two}
+use Rattle.chan_walk.proofs.Algorithms.Looking.{look_of, places_next, places_taken}
+use Rattle.chan_needs.proofs.Seeking.{merged_low, sought_all}
+use Rattle.chan_needs.proofs.needs.sought.Goals as goal
+
+pub loop-look-init : goal.loop-look-init
+loop-look-init c = search (rules, low_none, hold_none)
+
+pub add_cylinder-requires : goal.add_cylinder-requires
+add_cylinder-requires c = c.loop-look.invariant.low
+
+pub loop-look-preserved : goal.loop-look-preserved
+loop-look-preserved c =
+    let ls = c.args.looks.now in
+    let i = c.loop-look.look-index in
+    let l = c.look-item.result in
+    record {
+      low = c.in_ok-add_cylinder.ensures.low;
+      bytes = λ j are.
+          let h = look_of j ls i l are.looks c.loop-look-test.true c.look-item.is in
+          let f = clear_at j ls i l are c.loop-look-test.true c.look-item.is in
+          subst (λ (ps : List Place). HoldBytes (SeeksCylinder j) ps c.add_cylinder.new.cylinders.items) (sym (places_next ls i l c.loop-look-test.true c.look-item.is))
+          (hold_more (SeeksCylinder j) (places_of_looks (take i ls)) l.place c.loop-look.cylinders.items c.add_cylinder.new.cylinders.items (c.loop-look.invariant.bytes j are) (c.in_ok-add_cylinder.ensures.cylinder j h f));
+    }
+
+pub merge-requires : goal.merge-requires
+merge-requires c k d l = let e = c.loop-look.invariant.low k d l in omega arith
+
+pub returns-clause-low : goal.returns-clause-low
+returns-clause-low c = IfOk-two c.merge.result _ _ _ (λ v m h. merged_low (2 ^ 16) v.items c.loop-look.cylinders.items m h c.loop-look.invariant.low) c.merge.ensures.merged c.merge.ensures.bytes
+
+pub returns-clause-cylinders : goal.returns-clause-cylinders
+returns-clause-cylinders c =
+    let ls = c.args.looks.now in
+    IfOk-two c.merge.result _ _ _
+    (λ v m h j are. record {
+      merged = m;
+      bytes = sought_all j (places_of_looks ls) v.items are.reached
+          (hold_same (SeeksCylinder j) _ (places_of_looks ls) c.loop-look.cylinders.items v.items (places_taken ls c.loop-look.look-index (omega arith)) (c.loop-look.invariant.bytes j are) h);
+    })
+    c.merge.ensures.merged c.merge.ensures.bytes

@@ -1,0 +1,14 @@
+use Rattle.std.proofs.Common.{◌+◌, ◌^◌, take}
+use Rattle.std.specs.List.{All}
+use Rattle.chan_walk.specs.declared.job.Job.{Job}
+use Rattle.chan_walk.specs.Look.{places_of_looks}
+use Rattle.chan_areas.specs.Ranges.{EndsBelow}
+use Rattle.chan_needs.specs.Rows.{AreLooksOfYes, SeeksCylinder}
+use Rattle.chan_walk.proofs.Algorithms.Guarding.{HoldBytes}
+use Rattle.chan_needs.proofs.needs.sought.Given as goal
+
+abbrev pub invariant-loop-look : goal.invariant-loop-look
+invariant-loop-look l = record {
+  low : All (EndsBelow (2 ^ 16 + 1)) l.cylinders.items;
+  bytes : (j : Job) → AreLooksOfYes j l.looks → HoldBytes (SeeksCylinder j) (places_of_looks (take l.look-index l.looks)) l.cylinders.items;
+}

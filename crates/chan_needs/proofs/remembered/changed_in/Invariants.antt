@@ -1,0 +1,7 @@
+use Rattle.std.proofs.Common.{ℕ, ◌<◌}
+use Rattle.ccw_core.specs.Held.{bytes_held}
+use Rattle.chan_needs.specs.Remembered.{HoldsByte}
+use Rattle.chan_needs.proofs.remembered.changed_in.Given as goal
+
+abbrev pub invariant-loop-i : goal.invariant-loop-i
+invariant-loop-i l = (k : ℕ) → k < l.i → HoldsByte (bytes_held l.storage) l.area l.kept k

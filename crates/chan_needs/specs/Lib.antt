@@ -1,0 +1,8 @@
+pub mod History
+pub mod Beside
+pub mod Notes
+pub mod Needs
+pub mod Rows
+pub mod Starting
+pub mod Remembered
+pub mod Supervised

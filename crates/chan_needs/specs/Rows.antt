@@ -1,0 +1,143 @@
+-- Rows of needs: what they say of a program, and what follows from them.
+use Rattle.std.specs.Prelude.{◌≡◌, ℕ, ◌+◌, ◌-◌, ◌<◌, ◌≤◌, ◌==◌, ◌||◌, true, List, [], ◌∷◌, ◌↔◌}
+use Rattle.std.specs.Prelude.{length, if◌then◌else◌}
+use Rattle.ccw_core.specs.declared.areas.Area.{Area}
+use Rattle.ccw_core.specs.Areas.{lies_in}
+use Rattle.ckd_core.specs.Argument.{cylinder_of}
+use Rattle.ckd_core.specs.Cylinders.{has_cylinder}
+use Rattle.ckd_core.specs.Mask.{is_at_least}
+use Rattle.chan_walk.specs.declared.job.Job.{Job}
+use Rattle.chan_needs.specs.declared.needs.Needs.{Needs}
+use Rattle.chan_walk.specs.declared.place.Place.{Place}
+use Rattle.chan_needs.specs.declared.rows.Rows.{Rows}
+use Rattle.chan_walk.specs.declared.verdict.Verdict.TheVariants.{Yes}
+use Rattle.chan_walk.specs.Alarm.{IsProper}
+use Rattle.chan_needs.specs.Beside.{AreApart}
+use Rattle.chan_walk.specs.Seeks.{SeeksTo}
+use Rattle.chan_walk.specs.Job.{storage_of}
+use Rattle.chan_walk.specs.Least.{AreReached}
+use Rattle.chan_walk.specs.Look.{AreLooks, Seen, places_of_looks}
+use Rattle.chan_walk.specs.Open.{AreOfOneProgram}
+use Rattle.chan_needs.specs.Needs.{IsKept, IsNeededCylinder, IsNeededForFetching}
+use Rattle.chan_needs.specs.Needs.{IsNeededForStoring, IsNeededMask}
+use Rattle.chan_walk.specs.Open.{open_job}
+use Rattle.chan_areas.specs.Ranges.{AreExactly}
+use Rattle.chan_walk.specs.Reachable.{IsReachable}
+use Rattle.chan_walk.specs.Verdict.{IsVerdict}
+
+-- ---- the open job
+
+-- ---- what rows say
+
+-- how long storage is, a mask, runs of cylinders as pairs of first and last, and three lists of
+-- areas
+pub record Listed : Type 0 where
+  pub storage_len : ℕ
+  pub mask : ℕ
+  pub extents : List (ℕ × ℕ)
+  pub fetch : List Area
+  pub store : List Area
+  pub keep : List Area
+
+-- what needs list
+abbrev pub listed : Needs → Listed
+listed n = record {
+  storage_len = n.storage_len;
+  mask = n.mask;
+  extents = n.extents.items;
+  fetch = n.fetch.items;
+  store = n.store.items;
+  keep = n.keep.items;
+}
+
+-- what rows list
+abbrev pub rows_of : Rows → Listed
+rows_of r = record {
+  storage_len = r.storage_len;
+  mask = r.mask;
+  extents = r.extents.now;
+  fetch = r.fetch.now;
+  store = r.store.now;
+  keep = r.keep.now;
+}
+
+-- each run begins above n
+abbrev pub RunsAbove : ℕ → List (ℕ × ℕ) → Type 0
+RunsAbove n [] = Unit {0}
+RunsAbove n (r ∷ rest) = (n < r.0) × RunsAbove n rest
+
+-- runs of first and last: each is in order, they rise, and at least one number lies between two
+abbrev pub AreRising : List (ℕ × ℕ) → Type 0
+AreRising [] = Unit {0}
+AreRising (r ∷ rest) = (r.0 ≤ r.1) × RunsAbove (r.1 + 1) rest × AreRising rest
+
+-- the runs are the one such list of the cylinders for which P holds
+pub record AreRunsOf (P : ℕ → Type 0) (runs : List (ℕ × ℕ)) : Type 0 where
+  pub rising : AreRising runs
+  pub cylinders : (n : ℕ) → (has_cylinder runs n ≡ true) ↔ P n
+
+-- some job will do for the program of j, and this is what it needs and keeps: no more, and no less
+pub record AreNeeds (j : Job) (n : Listed) : Type 0 where
+  pub verdict : IsVerdict (open_job j) Yes
+  pub storage_len : n.storage_len ≡ length (storage_of j)
+  pub mask : IsNeededMask j n.mask
+  pub extents : AreRunsOf (IsNeededCylinder j) n.extents
+  pub fetch : AreExactly (IsNeededForFetching j) n.fetch
+  pub store : AreExactly (IsNeededForStoring j) n.store
+  pub keep : AreExactly (IsKept j) n.keep
+
+-- ---- side by side
+
+-- the rows list exactly what the program of j stores into, and what it keeps: all that counts of
+-- them beside another program
+pub record HasStoreAndKeep (j : Job) (n : Listed) : Type 0 where
+  pub store : AreExactly (IsNeededForStoring j) n.store
+  pub keep : AreExactly (IsKept j) n.keep
+
+-- neither program stores, where it needs to, over what the other keeps
+pub record MayRunBeside (j k : Job) : Type 0 where
+  pub one_spares : (b : ℕ) → IsNeededForStoring j b → IsKept k b → ⊥
+  pub other_spares : (b : ℕ) → IsNeededForStoring k b → IsKept j b → ⊥
+
+-- the byte at b lies in both lists
+abbrev pub IsShared : List Area → List Area → ℕ → Type 0
+IsShared xs ys b = (lies_in xs b ≡ true) × (lies_in ys b ≡ true)
+
+-- it is so exactly where two jobs of the programs, each with a yes, are apart
+abbrev pub BesideIsApart : Type 0
+BesideIsApart =
+    (j k one other : Job) → AreOfOneProgram j one → AreOfOneProgram k other → IsProper one
+    → IsProper other → IsVerdict one Yes → IsVerdict other Yes
+    → MayRunBeside j k ↔ AreApart one other
+
+-- ---- how they are found
+
+-- the job has a yes, and these are looks at all its reachable places
+pub record AreLooksOfYes (j : Job) (ls : List Seen) : Type 0 where
+  pub proper : IsProper j
+  pub verdict : IsVerdict j Yes
+  pub looks : AreLooks j ls
+  pub reached : AreReached j (places_of_looks ls)
+
+-- the seek or the Recalibrate that begins at p goes to this cylinder
+abbrev pub SeeksCylinder : Job → Place → ℕ → Type 0
+SeeksCylinder j p n = (x : List ℕ) × SeeksTo j p x × (cylinder_of x ≡ n)
+
+-- and a reachable place begins it
+abbrev pub IsSought : Job → ℕ → Type 0
+IsSought j n = (p : Place) × IsReachable j p × SeeksCylinder j p n
+
+-- the first and the last number of an area
+abbrev pub run_of : Area → ℕ × ℕ
+run_of a = (a.start, a.start + a.len - 1)
+
+-- the laxer of the bits of two masks that decide over writes: from lax to strict they are C0, 00,
+-- 80, 40
+abbrev pub laxer_writes : ℕ → ℕ → ℕ
+laxer_writes a b =
+    if a == 0xC0 || b == 0xC0 then 0xC0 else if a == 0x00 || b == 0x00 then 0x00 else
+    if a == 0x80 || b == 0x80 then 0x80 else 0x40
+
+-- both masks are at least as strict as m
+abbrev pub IsLaxerThan : ℕ → ℕ → ℕ → Type 0
+IsLaxerThan a b m = (is_at_least a m ≡ true) × (is_at_least b m ≡ true)

@@ -1,0 +1,28 @@
+//! What a program needs of each job that it runs under, and what a supervisor may do with that: run
+//! two programs side by side, start one that was asked about, and let others write meanwhile.
+//!
+//! ```
+//! fn may_run_beside(alloc: Global, needs: &Needs, other: &Needs) -> bool {
+//!     needs.rows().conflict(&other.rows()) == None
+//! }
+//! ```
+#![tactic(auto)]
+
+mod bits;
+mod demand;
+mod laws;
+mod least;
+mod needs;
+mod note;
+mod noting;
+mod remembered;
+mod rows;
+mod starting;
+mod surveyed;
+
+pub use crate::needs::Needs;
+pub use crate::note::Notes;
+pub use crate::remembered::{Remembered, copy_kept, may_write};
+pub use crate::rows::{Conflict, Rows};
+pub use crate::starting::{Refusal, Start, may_start};
+pub use crate::surveyed::{needs_from, notes_from};

@@ -1,0 +1,150 @@
+//! What a program needs of each job that it runs under, and what it keeps.
+
+ghost use Rattle.std.specs.Prelude.{◌≡◌, ◌↔◌, ◌+◌, ◌^◌, ℕ, Some, map, IfOk, OnOk};
+ghost use Rattle.std.specs.List.{All};
+ghost use Rattle.chan_walk.specs.Fault.{IsClear};
+ghost use Rattle.chan_walk.specs.Guard.{AddsBytes, Guards};
+ghost use Rattle.chan_walk.specs.Guarded.{IsGuarded};
+ghost use Rattle.chan_walk.specs.Look.{IsLook};
+ghost use Rattle.chan_walk.specs.Open.{AreOfOneProgram};
+ghost use Rattle.chan_areas.specs.Ranges.{AreExactly, EndsBelow, IsMerged};
+ghost use Rattle.chan_needs.specs.Rows.{AreLooksOfYes, AreNeeds, IsSought};
+ghost use Rattle.chan_needs.specs.Rows.{SeeksCylinder, listed, rows_of, run_of};
+ghost use Rattle.chan_walk.specs.declared.job.Job.{Job};
+
+use crate::demand::needed_mask;
+use crate::noting::{fetched, stored};
+use crate::rows::Rows;
+use ccw_core::Area;
+use chan_areas::merge;
+use chan_walk::{Guard, Job, Look};
+use ckd_core::{FileMask, MaskClass};
+use std::alloc::{AllocError, Global};
+
+/// The needs of a program in each job that it runs under, and the bytes that it keeps: no more, and
+/// no less. A job of the program has the verdict yes exactly if it grants all this.
+#[derive(Drop)]
+pub struct Needs {
+    /// How many bytes storage has: the answer holds over storage that is as long and the same in
+    /// each kept byte.
+    pub storage_len: u32,
+    /// The strictest mask that serves: it inhibits no command that may begin, and each byte that
+    /// Set File Mask may take is at least as strict.
+    pub mask: FileMask,
+    /// The cylinders that seeks go to: runs of first and last without a gap, rising.
+    pub extents: Vec<(u16, u16)>,
+    /// The bytes that are fetched: areas without a gap, rising.
+    pub fetch: Vec<Area>,
+    /// The bytes that are stored into, as such a list.
+    pub store: Vec<Area>,
+    /// The bytes that may not change while the program runs, as such a list.
+    pub keep: Vec<Area>,
+}
+
+impl Needs {
+    /// The same, as a view.
+    pub fn rows(&self) -> Rows<'_>
+        ensures { rows_of result ≡ listed self.now }
+    {
+        Rows {
+            storage_len: self.storage_len,
+            mask: self.mask,
+            extents: &self.extents,
+            fetch: &self.fetch,
+            store: &self.store,
+            keep: &self.keep,
+        }
+    }
+}
+
+/// What a program needs, where these are the guard of a job of it whose verdict is yes, and the
+/// looks at all its places.
+pub(crate) fn needs_of(
+    alloc: Global,
+    job: &Job,
+    guard: &Guard,
+    looks: &[Look],
+) -> Result<Needs, AllocError>
+    requires looks { AreLooksOfYes job.now looks.now }
+    requires guard { Guards job.now guard.now }
+    ensures { IfOk result (λ n. (j : Job) → AreOfOneProgram j job.now → AreNeeds j (listed n)) }
+{
+    let sought = sought(alloc, looks)?;
+    Ok(Needs {
+        storage_len: job.storage.len(),
+        mask: needed_mask(looks),
+        extents: runs(alloc, sought.as_slice())?,
+        fetch: fetched(alloc, looks)?,
+        store: stored(alloc, looks)?,
+        keep: kept(alloc, guard)?,
+    })
+}
+
+/// The guarded bytes, as a merged list.
+pub(crate) fn kept(alloc: Global, guard: &Guard) -> Result<Vec<Area>, AllocError>
+    ensures { IfOk result (λ v. (j : Job) → Guards j guard.now → AreExactly (IsGuarded j) v.items) }
+{
+    let mut areas = Vec::new(alloc);
+    areas.extend_from_slice(guard.ccw_ranges())?;
+    areas.extend_from_slice(guard.argument_ranges())?;
+    merge(alloc, areas)
+}
+
+/// The cylinders that seeks go to, as a merged list in which a cylinder counts as a byte.
+fn sought(alloc: Global, looks: &[Look]) -> Result<Vec<Area>, AllocError>
+    ensures low { IfOk result (λ v. All (EndsBelow (2 ^ 16 + 1)) v.items) }
+    ensures cylinders { IfOk result (λ v. (j : Job) → AreLooksOfYes j looks.now
+        → AreExactly (IsSought j) v.items) }
+    ensures merged { IfOk result (λ v. IsMerged v.items) }
+{
+    let mut cylinders = Vec::new(alloc);
+    for look in looks {
+        add_cylinder(&mut cylinders, look)?;
+    }
+    merge(alloc, cylinders)
+}
+
+/// Adds the cylinder that the seek goes to that begins at a place, if one does.
+fn add_cylinder(cylinders: &mut Vec<Area>, look: &Look) -> Result<(), AllocError>
+    requires { All (EndsBelow (2 ^ 16 + 1)) cylinders.old.items }
+    ensures low { OnOk result (All (EndsBelow (2 ^ 16 + 1)) cylinders.new.items) }
+    ensures cylinder { OnOk result ((j : Job) → IsLook j look.now → IsClear j look.now.place
+        → AddsBytes cylinders.old.items cylinders.new.items (SeeksCylinder j look.now.place)) }
+{
+    if let Some(cylinder) = cylinder(look) {
+        cylinders.push(Area {
+            start: u32::from(cylinder),
+            len: 1,
+        })?;
+    }
+    Ok(())
+}
+
+/// The cylinder that the seek goes to that begins at a place; Recalibrate goes to cylinder 0.
+fn cylinder(look: &Look) -> Option<u16>
+    ensures { (j : Job) → IsLook j look.now → IsClear j look.now.place
+        → (n : ℕ) → (result ≡ Some n) ↔ SeeksCylinder j look.now.place n }
+{
+    match look.command()?.class() {
+        MaskClass::Seek | MaskClass::SeekCylinder | MaskClass::SeekHead => {
+            let argument = look.read().argument()?;
+            Some(u16::from_be_bytes([argument[2], argument[3]]))
+        }
+        MaskClass::Recalibrate => Some(0),
+        _ => None,
+    }
+}
+
+/// The first and the last cylinder of each area of a merged list of cylinders.
+fn runs(alloc: Global, cylinders: &[Area]) -> Result<Vec<(u16, u16)>, AllocError>
+    requires merged { IsMerged cylinders.now }
+    requires low { All (EndsBelow (2 ^ 16 + 1)) cylinders.now }
+    ensures { IfOk result (λ v. v.items ≡ map run_of cylinders.now) }
+{
+    let mut runs = Vec::new(alloc);
+    for area in cylinders {
+        let last = area.start + area.len - 1;
+        runs.push((area.start as u16, last as u16))?;
+    }
+    Ok(runs)
+}

@@ -1,0 +1,137 @@
+//! What a supervisor remembers of a program, and whether others may write while programs run.
+
+ghost use Rattle.std.specs.Prelude.{◌≡◌, ◌+◌, ◌++◌, ◌<◌, ◌≤◌, ◌↔◌, IfSome, IsSome, IsTrue, None};
+ghost use Rattle.std.specs.Prelude.{MatchOption, drop, length, take};
+ghost use Rattle.std.specs.List.{All};
+ghost use Rattle.ccw_core.specs.Ccw.{byte};
+ghost use Rattle.ccw_core.specs.Held.{bytes_held};
+ghost use Rattle.chan_needs.specs.Remembered.{Holds, HoldsArea, IsFirstChanged, IsFirstChangedIn};
+ghost use Rattle.chan_needs.specs.Remembered.{IsInside, IsKeeperOf, WritesWell, bytes_in};
+
+use crate::rows::Rows;
+use ccw_core::{Area, Storage};
+use chan_walk::byte_at;
+use ckd_core::Device;
+
+/// All that a supervisor remembers of a program that it has asked about, so that the program may
+/// start later, and beside others. It may hold anything: the calls that take it say what their
+/// answers mean then.
+#[derive(Clone, Copy)]
+pub struct Remembered<'a> {
+    /// The address of the first CCW.
+    pub start: u32,
+    /// The device.
+    pub device: Device,
+    /// What the program needs and keeps, as `needs` gave it.
+    pub rows: Rows<'a>,
+    /// The kept bytes as they were, one area after another. What follows them doesn't matter.
+    pub kept: &'a [u8],
+}
+
+/// Whether others, such as the processor, may write to an area now. `None` comes exactly if no
+/// program in flight keeps a byte of it. Otherwise the answer is the number of the first program
+/// that does, and the least such byte.
+///
+/// The cost is one pass over the areas that are kept, and no memory is taken.
+pub fn may_write(in_flight: &[Remembered], area: Area) -> Option<(usize, u32)>
+    ensures keeper { IsKeeperOf in_flight.now area result }
+
+    // If what is remembered of those in flight is true, the history goes on with what is written.
+    ensures well { result ≡ None → WritesWell in_flight.now area }
+{
+    for i in 0..in_flight.len() {
+        if let Some(byte) = in_flight[i].rows.kept_in(area) {
+            return Some((i, byte));
+        }
+    }
+    None
+}
+
+/// Copies the bytes of storage in some areas into a buffer, one area after another, as `kept` wants
+/// them, and answers how many there are. `None` comes exactly if an area reaches past storage or
+/// the buffer is too small. Part of the buffer may then be overwritten. No memory is taken.
+pub fn copy_kept(storage: &Storage, areas: &[Area], into: &mut [u8]) -> Option<usize>
+    ensures count { IfSome result (λ n. n
+        ≡ length (bytes_in (bytes_held storage.now) areas.now)) }
+    ensures copied { IfSome result (λ n. into.new
+        ≡ bytes_in (bytes_held storage.now) areas.now ++ drop n into.old) }
+    ensures some { IsSome result ↔ (All (IsInside (bytes_held storage.now)) areas.now
+        × (length (bytes_in (bytes_held storage.now) areas.now) ≤ length into.old)) }
+
+    // Storage then holds them, until one of them changes.
+    ensures held { IsSome result → Holds (bytes_held storage.now) areas.now into.new }
+{
+    let mut at = 0;
+    for area in areas {
+        let bytes = storage.range(area.start, area.len)?;
+        if into.len() - at < bytes.len() {
+            return None;
+        }
+        write_at(into, at, bytes);
+        at += bytes.len();
+    }
+    Some(at)
+}
+
+/// Writes some bytes into a buffer.
+fn write_at(into: &mut [u8], at: usize, bytes: &[u8])
+    requires { at + length bytes.now ≤ length into.old }
+    ensures { into.new ≡ (take at into.old ++ bytes.now) ++ drop (at + length bytes.now) into.old }
+{
+    into[at..at + bytes.len()].copy_from_slice(bytes);
+}
+
+/// The first of the bytes that are kept, in the order of the areas, that isn't what it was.
+pub(crate) fn first_changed(storage: &Storage, areas: &[Area], kept: &[u8]) -> Option<u32>
+    ensures { MatchOption result (Holds (bytes_held storage.now) areas.now kept.now)
+        (IsFirstChanged (bytes_held storage.now) areas.now kept.now) }
+{
+    let mut rest = kept;
+    for area in areas {
+        if let Some(address) = changed_in(storage, *area, rest) {
+            return Some(address);
+        }
+        rest = &rest[area.len as usize..];
+    }
+    None
+}
+
+/// The first byte of an area that isn't what it was.
+fn changed_in(storage: &Storage, area: Area, kept: &[u8]) -> Option<u32>
+    ensures { MatchOption result (HoldsArea (bytes_held storage.now) area kept.now)
+        (IsFirstChangedIn (bytes_held storage.now) area kept.now) }
+{
+    if is_held(storage, area, kept) {
+        return None;
+    }
+    for i in 0..area.len {
+        let address = area.start + i;
+        if !is_same(storage, address, kept, i) {
+            return Some(address);
+        }
+    }
+    None
+}
+
+/// Whether an area holds these bytes, compared all at once.
+fn is_held(storage: &Storage, area: Area, kept: &[u8]) -> bool
+    ensures { IsTrue result → HoldsArea (bytes_held storage.now) area kept.now }
+{
+    match (
+        storage.range(area.start, area.len),
+        kept.get(..area.len as usize),
+    ) {
+        (Some(now), Some(then)) => now == then,
+        _ => false,
+    }
+}
+
+/// Whether the byte at an address of storage is the kept byte with this number.
+fn is_same(storage: &Storage, address: u32, kept: &[u8], number: u32) -> bool
+    ensures { IsTrue result ↔ ((address < length (bytes_held storage.now))
+        × (number < length kept.now)
+        × (byte (bytes_held storage.now) address ≡ byte kept.now number)) }
+{
+    let number = number as usize;
+    address < storage.len() && number < kept.len() && byte_at(storage, address) == kept[number]
+}

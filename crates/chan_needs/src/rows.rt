@@ -1,0 +1,66 @@
+//! What a program needs, as rows in the caller's memory, and whether two programs may run side by
+//! side.
+
+ghost use Rattle.std.specs.Prelude.{MatchOption};
+ghost use Rattle.chan_areas.specs.Ranges.{IsLeastOrNone};
+ghost use Rattle.chan_needs.specs.Remembered.{AreBeside, IsConflict, IsKeptIn};
+ghost use Rattle.chan_needs.specs.Rows.{rows_of};
+
+use crate::least::{least_in, least_shared};
+use ccw_core::Area;
+use ckd_core::FileMask;
+
+/// Why two programs may not run side by side.
+#[derive(Clone, Copy, PartialEq, Eq, Debug)]
+pub enum Conflict {
+    /// The program stores into the byte at this address, which the other keeps. It is the least
+    /// such byte.
+    Stores(u32),
+    /// The program keeps the byte at this address, and the other stores into it. It is the least
+    /// such byte, and the program stores into none that the other keeps.
+    Keeps(u32),
+}
+
+/// The content of `Needs`, as rows in the caller's memory. Rows from another source do no harm: the
+/// calls answer for what they list.
+#[derive(Clone, Copy)]
+pub struct Rows<'a> {
+    /// How many bytes storage has.
+    pub storage_len: u32,
+    /// The mask.
+    pub mask: FileMask,
+    /// The runs of cylinders, as first and last.
+    pub extents: &'a [(u16, u16)],
+    /// The areas to be lent for fetching.
+    pub fetch: &'a [Area],
+    /// The areas to be lent for storing.
+    pub store: &'a [Area],
+    /// The areas that are kept.
+    pub keep: &'a [Area],
+}
+
+impl Rows<'_> {
+    /// Why two programs may not run side by side: `None` exactly if neither stores into a byte that
+    /// the other keeps, as their rows list them. The rows may come from any source.
+    ///
+    /// The cost is one pass over both rows if their lists are merged, as those of `needs` are, and
+    /// otherwise the product of their lengths. No memory is taken.
+    pub fn conflict(&self, other: &Rows) -> Option<Conflict>
+        ensures { MatchOption result (AreBeside (rows_of self.now) (rows_of other.now))
+            (IsConflict (rows_of self.now) (rows_of other.now)) }
+    {
+        if let Some(byte) = least_shared(self.store, other.keep) {
+            return Some(Conflict::Stores(byte));
+        }
+        let byte = least_shared(other.store, self.keep)?;
+        Some(Conflict::Keeps(byte))
+    }
+
+    /// The least byte of an area that the rows list as kept, if there is one. The rows may come
+    /// from any source. The cost is one pass over the areas kept, and no memory is taken.
+    pub fn kept_in(&self, area: Area) -> Option<u32>
+        ensures { IsLeastOrNone (IsKeptIn (rows_of self.now) area) result }
+    {
+        least_in(self.keep, area)
+    }
+}

@@ -1,6 +1,0 @@
-use Rattle.std.proofs.Common.{◌≡◌, map, take}
-use Rattle.chan_walk.specs.Rows.{run_of}
-use Rattle.chan_walk.proofs.needs.runs.Given as goal
-
-abbrev pub invariant-loop-area : goal.invariant-loop-area
-invariant-loop-area l = l.runs.items ≡ map run_of (take l.area-index l.cylinders)

@@ -1,6 +1,0 @@
-use Rattle.std.proofs.Common.{rules}
-use Rattle.chan_walk.proofs.Algorithms.Searching.{meets_next}
-use Rattle.chan_walk.proofs.ranges.meets.Goals as goal
-
-pub returns-in-Some : goal.returns-in-Some
-returns-in-Some c = search (rules, meets_next)

@@ -1,6 +1,0 @@
-use Rattle.ccw_core.specs.Held.{bytes_held}
-use Rattle.chan_walk.proofs.Algorithms.Copied.{AreCopied}
-use Rattle.chan_walk.proofs.remembered.copy_kept.Given as goal
-
-abbrev pub invariant-loop-area : goal.invariant-loop-area
-invariant-loop-area l = AreCopied (bytes_held l.storage) l.areas l.area-index l.initial.into l.at l.into

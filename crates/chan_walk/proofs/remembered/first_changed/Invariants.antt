@@ -1,6 +1,0 @@
-use Rattle.ccw_core.specs.Held.{bytes_held}
-use Rattle.chan_walk.proofs.Algorithms.Kept.{IsLeft}
-use Rattle.chan_walk.proofs.remembered.first_changed.Given as goal
-
-abbrev pub invariant-loop-area : goal.invariant-loop-area
-invariant-loop-area l = IsLeft (bytes_held l.storage) l.areas l.kept l.area-index l.rest

@@ -1,6 +1,0 @@
-use Rattle.std.proofs.Common.{arith}
-use Rattle.chan_walk.proofs.Machine.Remembering.{writes_well}
-use Rattle.chan_walk.proofs.remembered.may_write.Goals as goal
-
-pub returns-clause-well : goal.returns-clause-well
-returns-clause-well c = λ e. writes_well c.args.in_flight.now c.args.area (λ k d l. c.loop-i.invariant k d (omega arith) (omega arith))

@@ -1,6 +1,0 @@
-use Rattle.std.specs.List.{AllWithin}
-use Rattle.chan_walk.specs.Remembered.{KeepsNone}
-use Rattle.chan_walk.proofs.remembered.may_write.Given as goal
-
-abbrev pub invariant-loop-i : goal.invariant-loop-i
-invariant-loop-i l = AllWithin (KeepsNone l.area) l.in_flight 0 l.i
