@@ -17,7 +17,7 @@ KIT = rattle-kit-13f logic dac8208d650f15bf
 
 # The libraries under chanv. `rt run` in chanv finds them built, and leaves out its quick pass over
 # all sources.
-LIBRARIES = ccw_core ckd_core chan_areas chan_walk chan_find chan_needs chan_deck chan_args chan_run
+LIBRARIES = ccw_core ckd_core chan_areas chan_walk chan_find chan_needs chan_why chan_deck chan_args chan_run
 
 # Two libraries are built at a time, unless a call of make has made that choice already.
 BESIDE = --jobs=2
@@ -46,8 +46,8 @@ $(LIBRARIES):
 # processor is enough beside the others.
 chan_areas: ccw_core
 chan_walk: chan_areas ckd_core
-chan_find chan_needs: chan_walk
-chan_deck: chan_needs
+chan_find chan_needs chan_why: chan_walk
+chan_deck: chan_needs chan_why
 chan_run: chan_args chan_find chan_deck
 ckd_core chan_args: JOBS = 1
 

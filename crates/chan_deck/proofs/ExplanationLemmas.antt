@@ -8,9 +8,9 @@ use Rattle.ccw_core.specs.Ccw.{Fields}
 use Rattle.ccw_core.specs.Storage.{ccw_at}
 use Rattle.ckd_core.specs.Table.{Entry as TableEntry}
 use Rattle.ckd_core.specs.Mask.{is_mask, least_permitted}
-use Rattle.chan_walk.specs.declared.evidence.Outside.TheVariants.{Bin, Head}
+use Rattle.chan_why.specs.declared.evidence.Outside.TheVariants.{Bin, Head}
 use Rattle.chan_walk.specs.declared.offence.Offence.{Offence}
-use Rattle.chan_walk.specs.declared.evidence.Evidence.{Evidence}
+use Rattle.chan_why.specs.declared.evidence.Evidence.{Evidence}
 use Rattle.chan_walk.specs.declared.place.Place.{Place}
 use Rattle.chan_walk.specs.declared.seek.GivenBytes.{GivenBytes}
 use Rattle.chan_walk.specs.Given.{addresses_given}

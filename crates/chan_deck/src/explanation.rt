@@ -6,13 +6,14 @@ ghost use Rattle.chan_deck.specs.Explanation as texts;
 ghost use Rattle.chan_deck.specs.Listing.{command_name};
 ghost use Rattle.ckd_core.specs.Entries.{entry_of};
 ghost use Rattle.ckd_core.specs.Further as further_codes;
-ghost use Rattle.chan_walk.specs.declared.evidence.Evidence.TheVariants as because;
+ghost use Rattle.chan_why.specs.declared.evidence.Evidence.TheVariants as because;
 ghost use Rattle.chan_walk.specs.Job.{storage_of};
 
 use crate::listing::{push_row, standing_at};
 use crate::texts::{Address, Digits, Range, Size, verdict_text};
 use ccw_core::Area;
-use chan_walk::{Evidence, GivenBytes, Job, Offence, Outside, Place, Survey, Witness};
+use chan_walk::{GivenBytes, Job, Offence, Place, Survey};
+use chan_why::{Evidence, Outside, Witness};
 use ckd_core::{Command, FileMask, further_name, lookup};
 use std::alloc::{AllocError, Global};
 use std::fmt::Write as _;

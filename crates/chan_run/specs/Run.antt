@@ -11,16 +11,16 @@ use Rattle.chan_deck.specs.Listing.{listing, seen_listing}
 use Rattle.chan_deck.specs.Needs.{needs_text}
 use Rattle.chan_deck.specs.Refused.{IsRefused}
 use Rattle.chan_deck.specs.Texts.{verdict_line}
-use Rattle.chan_walk.specs.declared.evidence.Evidence.{Evidence}
+use Rattle.chan_why.specs.declared.evidence.Evidence.{Evidence}
 use Rattle.chan_walk.specs.declared.job.Job.{Job}
 use Rattle.chan_walk.specs.declared.offence.Offence.{Offence}
 use Rattle.chan_walk.specs.declared.place.Place.{Place}
 use Rattle.chan_walk.specs.declared.verdict.Verdict.{Verdict}
 use Rattle.chan_walk.specs.declared.verdict.Verdict.TheVariants.{Yes, No}
-use Rattle.chan_walk.specs.declared.witness.Witness.{Witness}
+use Rattle.chan_why.specs.declared.witness.Witness.{Witness}
 use Rattle.chan_walk.specs.Answers.{IsAnswer}
-use Rattle.chan_walk.specs.Explained.{IsCauseOf, IsEvidenceOf, IsPathOf, IsSecondPathOf}
-use Rattle.chan_walk.specs.Explained.{IsStoredOver, IsWitness}
+use Rattle.chan_why.specs.Explained.{IsCauseOf, IsEvidenceOf, IsPathOf, IsSecondPathOf}
+use Rattle.chan_why.specs.Explained.{IsStoredOver, IsWitness}
 use Rattle.chan_walk.specs.Explored.{AreReachable, HasMoreThan}
 use Rattle.chan_walk.specs.Job.{extents_of, fetch_of, storage_of, store_of}
 use Rattle.chan_walk.specs.Open.{AreOfOneProgram}

@@ -13,7 +13,8 @@ use ccw_core::{Watched, write_out};
 use chan_args::Action;
 use chan_deck::{ListError, explanation_text, graph_text, needs_text, verdict_text, write_seen};
 use chan_needs::needs_from;
-use chan_walk::{Evidence, Job, Look, Survey, Verdict, first_place};
+use chan_walk::{Job, Look, Survey, Verdict, first_place};
+use chan_why::{Evidence, causes_from, witness_from};
 use std::alloc::{AllocError, Global};
 use std::io::Write;
 
@@ -101,7 +102,7 @@ pub(crate) fn why_text(
     ensures { IfOk result (λ text. IsExplained all job.now
         (first_verdict survey.now.offences.items) (string_bytes text)) }
 {
-    let witness = survey.witness(alloc, job)?;
+    let witness = witness_from(alloc, job, survey)?;
     let causes = causes_told(alloc, all, job, survey)?;
     explanation_text(alloc, job, survey, &witness, causes.as_slice())
 }
@@ -117,7 +118,7 @@ fn causes_told(
     ensures { IfOk result (λ es. AreTold all job.now survey.now.offences.items es.items) }
 {
     if all {
-        survey.causes(alloc, job)
+        causes_from(alloc, job, survey)
     } else {
         Ok(Vec::new(alloc))
     }

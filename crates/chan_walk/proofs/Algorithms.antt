@@ -12,11 +12,5 @@ pub mod Looking
 pub mod Sorting
 pub mod Listing
 pub mod Tracing
-pub mod Backward
-pub mod Finding
-pub mod Explaining
-pub mod Indexing
-pub mod Changing
 pub mod Given
 pub mod Opened
-pub mod StoredOver

@@ -26,8 +26,6 @@ pub mod Offences
 pub mod Paths
 pub mod Seeks
 pub mod Given
-pub mod Evidence
-pub mod Explained
 -- What only ties the code to all this.
 pub mod Onward
 pub mod Visit
@@ -39,6 +37,4 @@ pub mod Lent
 pub mod Lending
 pub mod Guard
 pub mod Look
-pub mod Changed
-pub mod Index
 pub mod Surveyed

@@ -1,11 +1,10 @@
 -- The path to a place: the shortest, and of several the one that goes to next where another goes to
 -- skip.
-use Rattle.std.specs.Prelude.{◌≡◌, ◌<◌, List, [], ◌∷◌, length, reverse, Some, ◌⊎◌}
+use Rattle.std.specs.Prelude.{◌≡◌, ◌<◌, List, [], ◌∷◌, length, Some, ◌⊎◌}
 use Rattle.chan_walk.specs.declared.job.Job.{Job}
 use Rattle.chan_walk.specs.declared.place.Place.{Place}
 use Rattle.chan_walk.specs.Fault.{kind_of}
 use Rattle.chan_walk.specs.Place.{ccw_of}
-use Rattle.chan_walk.specs.Reachable.{IsPath}
 use Rattle.chan_walk.specs.Successors.{next_of, skip_of}
 
 -- q is the next place after p
@@ -30,19 +29,3 @@ PartsByNext j (p ∷ a ∷ ps) (q ∷ b ∷ qs) =
 abbrev pub IsFirstOf : Job → List Place → List Place → Type 0
 IsFirstOf j ps qs =
     (length ps < length qs) ⊎ ((length ps ≡ length qs) × ((ps ≡ qs) ⊎ PartsByNext j ps qs))
-
--- the path to a place for which P holds: before lead to last, and they are the first of all such
--- paths
-pub record IsPathWhere (j : Job) (P : Place → Type 0) (last : Place) (before : List Place)
-    : Type 0 where
-  pub path : IsPath j (last ∷ before)
-  pub holds : P last
-  pub first : (q : Place) (qs : List Place) → IsPath j (q ∷ qs) → P q
-      → IsFirstOf j (last ∷ before) (q ∷ qs)
-
--- these places, from the first place on, are the path to a place for which P holds
-pub record ArePathWhere (j : Job) (P : Place → Type 0) (places : List Place) : Type 0 where
-  pub last : Place
-  pub before : List Place
-  pub is : places ≡ reverse (last ∷ before)
-  pub path : IsPathWhere j P last before

@@ -1,5 +1,5 @@
 -- A walk from place to place: which places are found, and of how many the successors are found too.
-use Rattle.std.specs.Prelude.{◌≡◌, ℕ, ◌<◌, ◌≤◌, List, [], ◌∷◌, ◌++◌, length, reverse, slice_get}
+use Rattle.std.specs.Prelude.{◌≡◌, ℕ, ◌<◌, ◌≤◌, List, [], ◌∷◌, ◌++◌, length, slice_get}
 use Rattle.std.specs.Prelude.{slice_index, ◌⊎◌, ◌↔◌, Option, Some, None}
 use Rattle.std.specs.BTreeMap.{BTreeMap}
 use Rattle.chan_walk.specs.declared.exploring.Walk.{Walk}
@@ -109,17 +109,3 @@ pub record IsBest (j : Job) (ps : List Place) (k : ℕ) (p : Place) (before : Li
   pub path : IsPath j (p ∷ before)
   pub first : (l : ℕ) (q : Place) (qs : List Place) → k ≤ l → slice_get ps l ≡ Some q
       → IsPath j (q ∷ qs) → IsFirstOf j (p ∷ before) (q ∷ qs)
-
--- these places, from the first place on, are this path to the place at k
-pub record IsPathAt (j : Job) (ps : List Place) (k : ℕ) (places : List Place) : Type 0 where
-  pub last : Place
-  pub before : List Place
-  pub is : places ≡ reverse (last ∷ before)
-  pub best : IsBest j ps k last before
-
--- the index of the first of the places for which P holds, or that it holds for none
-abbrev pub IsFirstWhere : (Place → Type 0) → List Place → Option ℕ → Type 0
-IsFirstWhere P ps None = (k : ℕ) (p : Place) → slice_get ps k ≡ Some p → P p → ⊥
-IsFirstWhere P ps (Some i) =
-    ((p : Place) × (slice_get ps i ≡ Some p) × P p)
-    × ((k : ℕ) (p : Place) → k < i → slice_get ps k ≡ Some p → P p → ⊥)

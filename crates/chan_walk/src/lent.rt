@@ -18,7 +18,7 @@ use std::marker::Model;
 /// The parts of the areas lent that lie in storage, merged. Bytes past storage never matter, since
 /// no data range that passes the channel's checks has any.
 #[derive(Drop)]
-pub(crate) struct Lent {
+pub struct Lent {
     fetch: Vec<Area>,
     store: Vec<Area>,
 }
@@ -36,7 +36,7 @@ impl Model for Lent {
 
 impl Lent {
     /// The areas lent to a job. The cost is that of sorting them.
-    pub(crate) fn new(alloc: Global, job: &Job) -> Result<Lent, AllocError>
+    pub fn new(alloc: Global, job: &Job) -> Result<Lent, AllocError>
         ensures { IfOk result (AreLent job.now) }
     {
         let length = job.storage.len();
@@ -61,7 +61,7 @@ impl Lent {
 
     /// The first bytes in a row of some data that weren't lent for fetching. The cost is that of
     /// two binary searches.
-    pub(crate) fn fetch_gap(&self, range: Area) -> Area
+    pub fn fetch_gap(&self, range: Area) -> Area
         requires low { EndsBelow (2 ^ 32) range }
         requires uncovered { covered self.now.fetch range.start range.len ≡ false }
         ensures { IsFirstGap self.now.fetch range result }
@@ -71,7 +71,7 @@ impl Lent {
 
     /// The first bytes in a row of some data that weren't lent for storing. The cost is that of two
     /// binary searches.
-    pub(crate) fn store_gap(&self, range: Area) -> Area
+    pub fn store_gap(&self, range: Area) -> Area
         requires low { EndsBelow (2 ^ 32) range }
         requires uncovered { covered self.now.store range.start range.len ≡ false }
         ensures { IsFirstGap self.now.store range result }

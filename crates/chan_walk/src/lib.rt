@@ -11,13 +11,10 @@
 #![tactic(auto)]
 
 mod bits;
-mod changed;
 mod error;
-mod evidence;
 mod explored;
 mod exploring;
 mod fault;
-mod finder;
 mod guard;
 mod job;
 mod judging;
@@ -27,7 +24,6 @@ mod limit;
 mod look;
 mod offence;
 mod opened;
-mod path;
 mod place;
 mod reason;
 mod seek;
@@ -37,16 +33,15 @@ mod surveyed;
 mod verdict;
 mod visit;
 mod ways;
-mod witness;
 
 pub use crate::error::WalkError;
-pub use crate::evidence::{Evidence, Outside};
 pub use crate::explored::{Explored, Places};
 pub use crate::exploring::{Walk, explore};
 pub use crate::fault::fault_at;
 pub use crate::guard::Guard;
 pub use crate::job::Job;
 pub use crate::judging::{survey, verify};
+pub use crate::lent::Lent;
 pub use crate::limit::Limit;
 pub use crate::look::{Look, Read, look_at};
 pub use crate::offence::Offence;
@@ -57,4 +52,4 @@ pub use crate::seek::{GivenBytes, byte_at, seek_argument};
 pub use crate::successor::{Next, successors};
 pub use crate::surveyed::Survey;
 pub use crate::verdict::Verdict;
-pub use crate::witness::Witness;
+pub use crate::visit::recalibrates_at;

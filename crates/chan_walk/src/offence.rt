@@ -6,7 +6,6 @@ ghost use Rattle.chan_walk.specs.Argument.{Has};
 ghost use Rattle.chan_walk.specs.Explored.{AreApart};
 ghost use Rattle.chan_walk.specs.Fault.{IsClear};
 ghost use Rattle.chan_walk.specs.Guard.{Guards};
-ghost use Rattle.chan_walk.specs.Index.{kind_number};
 ghost use Rattle.chan_walk.specs.Least.{AreReached, IsOwn};
 ghost use Rattle.chan_walk.specs.Look.{AreLooks, IsLook, places_of_looks};
 ghost use Rattle.chan_walk.specs.Offences as listed;
@@ -43,13 +42,6 @@ impl Offence {
         let address = u64::from(self.place.address);
         let reason = u64::from(self.reason.number());
         (address * 32 + reason) * 8 + u64::from(self.place.way())
-    }
-
-    /// The number of its address and its reason.
-    pub(crate) fn kind_number(&self) -> u64
-        ensures { result ≡ kind_number self.now }
-    {
-        u64::from(self.place.address) * 32 + u64::from(self.reason.number())
     }
 }
 

@@ -69,7 +69,7 @@ impl Reason {
     /// Whether it says that no command of the table stands there that the channel can carry out. So
     /// it is where a program is read in only while this one runs.
     #[tactic(auto, unfolding(crate::specs::Reason::is_no_command))]
-    pub(crate) fn is_no_command(self) -> bool
+    pub fn is_no_command(self) -> bool
         ensures { result ≡ is_no_command self }
     {
         self.number() <= 8

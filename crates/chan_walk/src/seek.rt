@@ -28,13 +28,6 @@ pub struct GivenBytes {
 }
 
 impl GivenBytes {
-    /// No byte.
-    pub(crate) const NONE: GivenBytes = GivenBytes {
-        count: 0,
-        bytes: [0; 6],
-        addresses: [0; 6],
-    };
-
     /// The bytes.
     pub fn bytes(&self) -> &[u8]
         ensures { result.now ≡ bytes_given self.now }

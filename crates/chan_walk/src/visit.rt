@@ -88,7 +88,7 @@ impl Visit {
 }
 
 /// Recalibrate begins at a place whose CCW is `ccw`.
-pub(crate) fn recalibrates_at(place: Place, ccw: Ccw) -> bool
+pub fn recalibrates_at(place: Place, ccw: Ccw) -> bool
     ensures { result ≡ fault.begins_recalibrate place ccw }
 {
     match begun_command(place, &ccw) {

@@ -4,10 +4,10 @@ use Rattle.chan_walk.specs.declared.job.Job.{Job}
 use Rattle.chan_walk.specs.declared.offence.Offence.{Offence}
 use Rattle.chan_walk.specs.declared.verdict.Verdict.{Verdict}
 use Rattle.chan_walk.specs.declared.verdict.Verdict.TheVariants.{Yes, No}
-use Rattle.chan_walk.specs.declared.witness.Witness.{Witness}
+use Rattle.chan_why.specs.declared.witness.Witness.{Witness}
 use Rattle.chan_walk.specs.Answers.{IsAnswer}
-use Rattle.chan_walk.specs.Explained.{IsEvidenceOf, IsPathOf, IsSecondPathOf, IsStoredOver}
-use Rattle.chan_walk.specs.Explained.{IsWitness}
+use Rattle.chan_why.specs.Explained.{IsEvidenceOf, IsPathOf, IsSecondPathOf, IsStoredOver}
+use Rattle.chan_why.specs.Explained.{IsWitness}
 use Rattle.chan_walk.specs.Job.{storage_of}
 use Rattle.chan_walk.specs.Offences.{AreOffences, first_verdict}
 use Rattle.chan_deck.specs.Explanation.{explanation}

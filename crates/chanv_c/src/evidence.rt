@@ -4,7 +4,8 @@ ghost use Rattle.std.specs.Prelude.{◌≡◌};
 ghost use Rattle.chanv_c.specs.Cause as specs;
 
 use ccw_core::Area;
-use chan_walk::{Evidence, GivenBytes, Outside};
+use chan_walk::GivenBytes;
+use chan_why::{Evidence, Outside};
 
 /// `struct chanv_evidence`.
 #[repr(C)]

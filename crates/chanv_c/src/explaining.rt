@@ -14,7 +14,8 @@ use crate::question::{Question, answer};
 use crate::refusal::{Refusal, no_answer};
 use crate::rows::{CPlace, write_path};
 use crate::verifying::CVerdict;
-use chan_walk::{Job, Verdict, Witness, survey};
+use chan_walk::{Job, Verdict, survey};
+use chan_why::{Witness, witness_from};
 use std::alloc::Global;
 
 /// `struct chanv_explanation`.
@@ -146,7 +147,7 @@ impl Question<Found> for Why {
             Ok(survey) => survey,
             Err(error) => return Err(no_answer(asked, job, error)),
         };
-        match survey.witness(alloc, job) {
+        match witness_from(alloc, job, &survey) {
             Ok(witness) => Ok(Found {
                 verdict: survey.verdict(),
                 witness,

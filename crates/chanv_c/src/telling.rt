@@ -15,6 +15,7 @@ use crate::question::{Question, answer};
 use crate::refusal::{Refusal, no_answer};
 use chan_deck::explanation_text;
 use chan_walk::{Job, OpenJob, Verdict, WalkError, survey};
+use chan_why::witness_from;
 use std::alloc::Global;
 
 /// The verdict on a job, and the text that explains it.
@@ -166,7 +167,7 @@ fn told_on(alloc: Global, job: &Job) -> Result<Told, WalkError>
         Ok(survey) => survey,
         Err(error) => return Err(error),
     };
-    let Ok(witness) = survey.witness(alloc, job) else {
+    let Ok(witness) = witness_from(alloc, job, &survey) else {
         return Err(WalkError::Memory);
     };
     match explanation_text(alloc, job, &survey, &witness, &[]) {

@@ -1,5 +1,0 @@
-use Rattle.chan_walk.specs.Index.{IsIndex, TakesSoFar}
-use Rattle.chan_walk.proofs.finder.note_bytes.Given as goal
-
-abbrev pub invariant-loop-byte : goal.invariant-loop-byte
-invariant-loop-byte l = IsIndex (TakesSoFar l.looks l.at l.byte-items l.byte-index) l.first

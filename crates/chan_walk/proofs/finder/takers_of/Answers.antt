@@ -1,8 +1,0 @@
-use Rattle.std.proofs.Common.{◌≡◌, length, subst, arith}
-use Rattle.chan_walk.specs.Index.{IsIndex, TakesByte}
-use Rattle.chan_walk.proofs.finder.takers_of.Goals as goal
-
-pub returns : goal.returns
-returns c =
-    let e : c.loop-at.at ≡ length c.args.looks.now = omega arith in
-    subst (λ n. IsIndex (TakesByte c.args.looks.now n) c.loop-at.first) e c.loop-at.invariant

@@ -1,5 +1,0 @@
-use Rattle.chan_walk.specs.Index.{IsIndex, TakesByte}
-use Rattle.chan_walk.proofs.finder.takers_of.Given as goal
-
-abbrev pub invariant-loop-at : goal.invariant-loop-at
-invariant-loop-at l = IsIndex (TakesByte l.looks l.at) l.first

@@ -1,0 +1,93 @@
+-- Reading a path backwards, from a place to the one that it was found from.
+use Rattle.std.proofs.Common.{◌≡◌, Bool, true, eqb, ◌&&◌, ℕ, ◌<◌, List, [], ◌∷◌, ◌++◌, append_assoc, length, reverse, slice_index, Option, Some, refl, sym, ap, ◌∙◌, subst, arith, rules}
+use Rattle.std.specs.List.{slice_get}
+use Rattle.std.proofs.lemmas.Bool.{and_from, eq-eqb}
+use denote.Enum.Bare.{sameb}
+use mathlib.Core.Bool.{beq}
+use Rattle.chan_walk.specs.declared.exploring.Walk.{Walk}
+use Rattle.chan_walk.specs.declared.job.Job.{Job}
+use Rattle.chan_walk.specs.declared.place.Entry.{Entry}
+use Rattle.chan_walk.specs.declared.place.Place.{Place}
+use Rattle.chan_walk.specs.contracts.place.Entry.{the_type}
+use Rattle.chan_walk.specs.Look.{Seen, places_of_looks}
+use Rattle.chan_walk.specs.Place.{first_place}
+use Rattle.chan_walk.specs.Walk.{HasFound, IsBest}
+use Rattle.chan_why.specs.Paths.{IsPathAt}
+use Rattle.chan_walk.proofs.Algorithms.Looking.{number_of_places}
+use Rattle.chan_walk.proofs.Algorithms.Tracing.{best_first, best_next, get_within}
+use Rattle.chan_walk.proofs.Algorithms.Walking.{all_found}
+
+-- the path that front ends, and whose front part is rest, is the best to the place of the index to
+pub record Ends (j : Job) (ps : List Place) (to : ℕ) (whole : List Place) : Type 0 where
+  pub last : Place
+  pub before : List Place
+  pub is : whole ≡ last ∷ before
+  pub best : IsBest j ps to last before
+
+-- the path was read back from the index to up to the index at
+pub record IsWayBack (j : Job) (ps : List Place) (to at : ℕ) (path : List Place) : Type 0 where
+  pub current : Place
+  pub front : List Place
+  pub is : path ≡ front ++ current ∷ []
+  pub there : slice_get ps at ≡ Some current
+  pub goes : (rest : List Place) → IsBest j ps at current rest → Ends j ps to (front ++ current ∷ rest)
+
+module _ (j : Job) (w : Walk) (f : HasFound j w) where
+  abbrev ps : List Place
+  ps = places_of_looks w.looks.items
+
+  abbrev fs : List ℕ
+  fs = w.found_from.items
+
+  pub back_next : (to at : ℕ) (p : Place) (path more : List Place) → 0 < at → slice_get ps (slice_index fs at) ≡ Some p → more ≡ path ++ p ∷ [] → IsWayBack j ps to at path → IsWayBack j ps to (slice_index fs at) more
+  back_next to at p path more pos e d b = record {
+    current = p;
+    front = b.front ++ b.current ∷ [];
+    is = d ∙ ap (λ z. z ++ p ∷ []) b.is;
+    there = e;
+    goes = λ rest best.
+        let r = b.goes (p ∷ rest) (best_next j ps fs f.at f.traced f.all f.walked.apart (all_found j j.limit ps f.at f.walked f.all) at b.current p rest pos b.there best) in
+        record { last = r.last; before = r.before; is = append_assoc b.front (b.current ∷ []) (p ∷ rest) ∙ r.is; best = r.best };
+  }
+
+  pub back_end : (to : ℕ) (path turned : List Place) → turned ≡ reverse path → IsWayBack j ps to 0 path → IsPathAt j ps to turned
+  back_end to path turned d b =
+      let same : ◌≡◌ {A = Option Place} (Some (first_place j)) (Some b.current) = sym f.traced.begins ∙ b.there in
+      let is : first_place j ≡ b.current = cc in
+      let r = b.goes [] (subst (λ z. IsBest j ps 0 z []) is (best_first j ps fs f.at f.traced f.all f.walked.apart (all_found j j.limit ps f.at f.walked f.all))) in
+      record { last = r.last; before = r.before; is = d ∙ ap reverse (b.is ∙ r.is); best = r.best }
+
+  -- where the place at an index was found from
+  pub from_earlier : (at : ℕ) → 0 < at → at < length w.looks.items → (slice_index fs at < at) × (slice_index fs at < length w.looks.items) × (at < length fs)
+  from_earlier at pos low =
+      let r = f.traced.from at pos (omega (arith, number_of_places w.looks.items)) in
+      let e = r.earlier in
+      (omega arith, omega arith, omega (arith, f.traced.each, number_of_places w.looks.items))
+
+-- ---- the index of a place
+
+-- what the comparison of two places computes
+abbrev pub are_same : Place → Place → Bool
+are_same p q = eqb p.address q.address && (sameb the_type p.entered q.entered && beq p.after_transfer q.after_transfer)
+
+same_entry : (e : Entry) → sameb the_type e e ≡ true
+same_entry e = search rules
+
+same_flag : (b : Bool) → beq b b ≡ true
+same_flag b = search rules
+
+pub same_place : (p q : Place) → p ≡ q → are_same p q ≡ true
+same_place p q e = subst (λ (z : Place). are_same p z ≡ true) e (and_from _ _ (eq-eqb p.address p.address refl) (and_from _ _ (same_entry p.entered) (same_flag p.after_transfer)))
+
+pub within_looks : (ls : List Seen) (p : Place) (k : ℕ) → slice_get (places_of_looks ls) k ≡ Some p → k < length ls
+within_looks ls p k e = omega (arith, number_of_places ls, get_within (places_of_looks ls) k p e)
+
+-- before the first step back the path is the place itself
+pub back_begin : (j : Job) (qs : List Place) (to : ℕ) (p : Place) (path : List Place) → slice_get qs to ≡ Some p → path ≡ p ∷ [] → IsWayBack j qs to to path
+back_begin j _ to p path e d = record {
+  current = p;
+  front = [];
+  is = d;
+  there = e;
+  goes = λ rest best. record { last = p; before = rest; is = refl; best = best };
+}

@@ -1,0 +1,91 @@
+-- The path to a place that offends by the verdict's reason.
+use Rattle.std.proofs.Common.{◌≡◌, ℕ, zero, suc, ◌<◌, List, [], ◌∷◌, ◌++◌, take, length, get_or, reverse, slice_get, Option, Some, None, IsSome, true, false, refl, sym, ap, ◌∙◌, subst, inl, arith}
+use Rattle.std.specs.List.{AllZip}
+use Rattle.chan_why.specs.declared.evidence.Evidence.{Evidence}
+use Rattle.chan_walk.specs.declared.exploring.Walk.{Walk}
+use Rattle.chan_walk.specs.declared.job.Job.{Job}
+use Rattle.chan_walk.specs.declared.offence.Offence.{Offence}
+use Rattle.chan_walk.specs.declared.place.Place.{Place}
+use Rattle.chan_walk.specs.Alarm.{EachPathShows, IsProper}
+use Rattle.chan_walk.specs.Argument.{Has}
+use Rattle.chan_why.specs.Explained.{IsCauseOf, IsEvidenceOf, IsLike, IsPathOf, IsStoredBefore, IsStoredOver, IsWitness, OffendsAt}
+use Rattle.chan_walk.specs.declared.reason.Reason.{Reason}
+use Rattle.chan_walk.specs.declared.verdict.Verdict.TheVariants.{No}
+use Rattle.chan_walk.specs.Reason.{is_no_command}
+use Rattle.chan_walk.specs.Look.{places_of_looks}
+use Rattle.chan_why.specs.Evidence.{IsEvidence}
+use Rattle.chan_walk.specs.Offences.{AreOffences, Offending, first_verdict}
+use Rattle.chan_walk.specs.Reachable.{IsReachable}
+use Rattle.chan_walk.specs.Walk.{HasFound}
+use Rattle.chan_why.specs.Paths.{IsFirstWhere, IsPathAt}
+use Rattle.chan_walk.proofs.Algorithms.Listing.{offence}
+use Rattle.chan_walk.proofs.Theory.Lists.{has_at}
+use Rattle.chan_why.proofs.Finding.{best_where, path_where, reached_at}
+
+-- ---- an offence, and the first place that is like it
+
+module _ (j : Job) (w : Walk) (f : HasFound j w) (os : List Offence) (are : AreOffences j os) (o : Offence) (listed : Has os o) where
+  abbrev ps : List Place
+  ps = places_of_looks w.looks.items
+
+  -- a reachable place offends as the offence does exactly where it is like it
+  like : (p : Place) → IsReachable j p → OffendsAt j o.place.address o.reason p → IsLike os o p
+  like p r off = (off.0, are.each (offence p o.reason) (r, off.1))
+
+  offends : (p : Place) → IsLike os o p → OffendsAt j o.place.address o.reason p
+  offends p h = (h.0, (are.only (offence p o.reason) h.1).1)
+
+  first_offending : (i : ℕ) → IsFirstWhere (IsLike os o) ps (Some i) → IsFirstWhere (OffendsAt j o.place.address o.reason) ps (Some i)
+  first_offending i h = ((h.0.0, h.0.1, offends h.0.0 h.0.2), λ k p l e off. h.1 k p l e (like p (f.walked.only p (has_at ps k p e)) off))
+
+  pub path_found : (i : ℕ) (path : List Place) → IsPathAt j ps i path → IsFirstWhere (IsLike os o) ps (Some i) → IsPathOf j (No o.place.address o.reason) path
+  path_found i path a h = path_where j w f (OffendsAt j o.place.address o.reason) i path (first_offending i h) a
+
+  -- the offence's own place is like it
+  pub some_found : (at : Option ℕ) → IsFirstWhere (IsLike os o) ps at → IsSome at
+  some_found None n = absurd (reached_at j w f (IsLike os o) n o.place (are.only o listed).0 (refl, listed))
+  some_found (Some i) n = refl
+
+  pub offending_found : (i : ℕ) (p : Place) → slice_get ps i ≡ Some p → IsFirstWhere (IsLike os o) ps (Some i) → Offending j (offence p o.reason)
+  offending_found i p e h =
+      let same : ◌≡◌ {A = Option Place} (Some h.0.0) (Some p) = sym h.0.1 ∙ e in
+      let is : h.0.0 ≡ p = cc in
+      subst (λ (q : Place). Offending j (offence q o.reason)) is (are.only (offence h.0.0 o.reason) h.0.2.1)
+
+  pub evidence_found : (i : ℕ) (p : Place) (path : List Place) (e : Evidence) → slice_get ps i ≡ Some p → IsPathAt j ps i path → IsEvidence j (offence p o.reason) e → IsEvidenceOf j (No o.place.address o.reason) path (Some e)
+  evidence_found i p path e here a v =
+      let same : ◌≡◌ {A = Option Place} (Some p) (Some a.last) = sym here ∙ a.best.here in
+      let is : p ≡ a.last = cc in
+      (a.last, a.before, a.is, subst (λ (q : Place). IsEvidence j (offence q o.reason) e) is v)
+
+  pub cause_found : (i : ℕ) (p : Place) (e : Evidence) → slice_get ps i ≡ Some p → IsFirstWhere (IsLike os o) ps (Some i) → IsEvidence j (offence p o.reason) e → IsCauseOf j o e
+  cause_found i p e here h v =
+      let b = best_where j w f (OffendsAt j o.place.address o.reason) i p (first_offending i h) here in
+      (reverse (p ∷ b.0), record { last = p; before = b.0; is = refl; path = b.1 }, (p, b.0, refl, v))
+
+-- one more cause
+pub cause_more : (j : Job) (os : List Offence) (i n : ℕ) (d : Offence) (es : List Evidence) (e : Evidence) → i < length os → n ≡ suc i → AllZip (IsCauseOf j) (take i os) es → IsCauseOf j (get_or os i d) e
+    → AllZip (IsCauseOf j) (take n os) (es ++ e ∷ [])
+cause_more j [] i n d es e lt next each cause = absurd (omega (arith, lt))
+cause_more j (o ∷ os) zero n d [] e lt next each cause = rw next (cause, tt)
+cause_more j (o ∷ os) zero n d (v ∷ vs) e lt next each cause = absurd each
+cause_more j (o ∷ os) (suc i) n d [] e lt next each cause = absurd each
+cause_more j (o ∷ os) (suc i) n d (v ∷ vs) e lt next each cause = rw next (each.0, cause_more j os i (suc i) d vs e (omega (arith, lt)) refl each.1 cause)
+
+-- the place that stores over what stands at the path's end
+pub stored_told : (j : Job) (a : ℕ) (r : Reason) (path : List Place) (by shown : Option Place) → IsStoredBefore j (reverse path) by → (is_no_command r ≡ true → shown ≡ by) → (is_no_command r ≡ false → shown ≡ None) → IsStoredOver j (No a r) path shown
+stored_told j a r path by shown s told other = ((λ e. subst (IsStoredBefore j (reverse path)) (sym (told e)) s), other)
+
+-- the first offence is the verdict
+pub first_listed : (os : List Offence) (o : Offence) → Some o ≡ slice_get os 0 → Has os o
+first_listed [] o e = absurd (cc)
+first_listed (t ∷ os) o e = let is : t ≡ o = cc in inl is
+
+pub verdict_first : (os : List Offence) (o : Offence) → Some o ≡ slice_get os 0 → No o.place.address o.reason ≡ first_verdict os
+verdict_first [] o e = absurd (cc)
+verdict_first (t ∷ os) o e = let is : o ≡ t = cc in ap (λ (z : Offence). No z.place.address z.reason) is
+
+-- a run over the path shows the reason
+pub witness : (j : Job) (os : List Offence) (path : List Place) → IsProper j → EachPathShows → IsPathOf j (first_verdict os) path → IsWitness j (first_verdict os) path
+witness j [] path proper law h = tt
+witness j (o ∷ os) path proper law h = (h.last, h.before, h.is, h.path.holds.0, law j h.last h.before o.reason proper h.path.path h.path.holds.1)

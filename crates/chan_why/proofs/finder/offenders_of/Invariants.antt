@@ -1,0 +1,5 @@
+use Rattle.chan_why.specs.Index.{IsIndex, IsOfKind}
+use Rattle.chan_why.proofs.finder.offenders_of.Given as goal
+
+abbrev pub invariant-loop-offence : goal.invariant-loop-offence
+invariant-loop-offence l = IsIndex (IsOfKind l.looks l.offences l.offence-index) l.first

@@ -1,0 +1,8 @@
+use Rattle.std.proofs.Common.{◌≡◌, length, subst, arith}
+use Rattle.chan_why.specs.Index.{IsIndex, TakesByte}
+use Rattle.chan_why.proofs.finder.takers_of.Goals as goal
+
+pub returns : goal.returns
+returns c =
+    let e : c.loop-at.at ≡ length c.args.looks.now = omega arith in
+    subst (λ n. IsIndex (TakesByte c.args.looks.now n) c.loop-at.first) e c.loop-at.invariant

@@ -1,0 +1,5 @@
+pub mod Paths
+pub mod Evidence
+pub mod Changed
+pub mod Explained
+pub mod Index

@@ -1,0 +1,147 @@
+//! What the causes of offences are found with: for a key, the first place of a walk that has it.
+
+ghost use Rattle.std.specs.Prelude.{◌≡◌, ◌+◌, ◌<◌, length, IfOk, OnOk};
+ghost use Rattle.std.specs.BTreeMap as tree;
+ghost use Rattle.std.specs.Ordering.{nat_cmp};
+ghost use Rattle.chan_walk.specs.Argument.{Has};
+ghost use Rattle.chan_walk.specs.Explored.{AreApart};
+ghost use Rattle.chan_why.specs.Index.{Finds, IsAtPlace, IsIndex, IsLesserOf, IsOfKind};
+ghost use Rattle.chan_why.specs.Index.{KeepsLeast, TakesByte};
+ghost use Rattle.chan_why.specs.Index as index;
+ghost use Rattle.chan_walk.specs.Look.{places_of_looks};
+ghost use Rattle.chan_walk.specs.Offences.{AreOffences};
+ghost use Rattle.chan_walk.specs.Walk.{HasFound};
+ghost use Rattle.chan_walk.specs.declared.offence.Offence as declared;
+
+use chan_walk::{Job, Lent, Look, Offence, Walk};
+use std::alloc::{AllocError, Global};
+use std::collections::BTreeMap;
+
+/// What the causes of a job's offences are found with. Each question costs the logarithm of the
+/// number of places, or of areas lent.
+#[derive(Drop)]
+pub(crate) struct Finder {
+    /// The areas lent.
+    pub(crate) lent: Lent,
+    /// For each byte of an argument the index of the first place that takes it.
+    takers: BTreeMap<u64, usize>,
+    /// For each address and reason the index of the first place that so offends.
+    offenders: BTreeMap<u64, usize>,
+}
+
+impl Finder {
+    /// What the causes of all offences of a job are found with, whose reachable places a walk has
+    /// found.
+    pub(crate) fn new(
+        alloc: Global,
+        job: &Job,
+        walk: &Walk,
+        offences: &[Offence],
+    ) -> Result<Finder, AllocError>
+        requires found { HasFound job.now walk.now }
+        requires offences { AreOffences job.now offences.now }
+        ensures { IfOk result (Finds job.now walk.now.looks.items offences.now) }
+    {
+        let looks = walk.looks.as_slice();
+        Ok(Finder {
+            lent: Lent::new(alloc, job)?,
+            takers: takers_of(alloc, looks)?,
+            offenders: offenders_of(alloc, looks, offences)?,
+        })
+    }
+
+    /// The index of the first place that takes the byte at an address as its argument.
+    pub(crate) fn taker(&self, byte: u32) -> Option<usize>
+        ensures { result ≡ tree.get nat_cmp self.now.takers byte }
+    {
+        self.takers.get(&u64::from(byte)).copied()
+    }
+
+    /// The index of the first place that offends with the address and the reason of an offence.
+    pub(crate) fn offender(&self, offence: Offence) -> Option<usize>
+        ensures { result ≡ tree.get nat_cmp self.now.offenders (index.kind_number offence) }
+    {
+        self.offenders.get(&kind_number(offence)).copied()
+    }
+}
+
+/// The number of an offence's address and its reason.
+fn kind_number(offence: Offence) -> u64
+    ensures { result ≡ index.kind_number offence }
+{
+    u64::from(offence.place.address) * 32 + u64::from(offence.reason.number())
+}
+
+/// The lesser of an index found so far and another one.
+fn lesser(best: Option<usize>, at: usize) -> usize
+    ensures { IsLesserOf best at result }
+{
+    match best {
+        Some(best) => best.min(at),
+        None => at,
+    }
+}
+
+/// Keeps that the look of an index has a key, unless an earlier one is known to have it.
+fn note(first: &mut BTreeMap<u64, usize>, key: u64, at: usize) -> Result<(), AllocError>
+    ensures { OnOk result (KeepsLeast key at first.old first.new) }
+{
+    let least = lesser(first.get(&key).copied(), at);
+    first.insert(key, least)?;
+    Ok(())
+}
+
+/// The index of the look at each place.
+fn places_of(alloc: Global, looks: &[Look]) -> Result<BTreeMap<u64, usize>, AllocError>
+    ensures { IfOk result (IsIndex (IsAtPlace looks.now (length looks.now))) }
+{
+    let mut first = BTreeMap::new(alloc);
+    for at in 0..looks.len() {
+        note(&mut first, looks[at].place().number(), at)?;
+    }
+    Ok(first)
+}
+
+/// Keeps the bytes that the look of an index takes as its argument.
+fn note_bytes(first: &mut BTreeMap<u64, usize>, looks: &[Look], at: usize) -> Result<(), AllocError>
+    requires within { at < length looks.now }
+    requires index { IsIndex (TakesByte looks.now at) first.old }
+    ensures { OnOk result (IsIndex (TakesByte looks.now (at + 1)) first.new) }
+{
+    for byte in looks[at].argument() {
+        note(first, u64::from(*byte), at)?;
+    }
+    Ok(())
+}
+
+/// For each byte of an argument the index of the first place that takes it.
+fn takers_of(alloc: Global, looks: &[Look]) -> Result<BTreeMap<u64, usize>, AllocError>
+    ensures { IfOk result (IsIndex (TakesByte looks.now (length looks.now))) }
+{
+    let mut first = BTreeMap::new(alloc);
+    for at in 0..looks.len() {
+        note_bytes(&mut first, looks, at)?;
+    }
+    Ok(first)
+}
+
+/// For each address and reason the index of the first place that so offends.
+fn offenders_of(
+    alloc: Global,
+    looks: &[Look],
+    offences: &[Offence],
+) -> Result<BTreeMap<u64, usize>, AllocError>
+    requires apart { AreApart (places_of_looks looks.now) }
+    requires seen { (o : declared.Offence) → Has offences.now o
+        → Has (places_of_looks looks.now) o.place }
+    ensures { IfOk result (IsIndex (IsOfKind looks.now offences.now (length offences.now))) }
+{
+    let places = places_of(alloc, looks)?;
+    let mut first = BTreeMap::new(alloc);
+    for offence in offences {
+        // The place of each offence was looked at.
+        let at = places.get(&offence.place.number()).copied().unwrap();
+        note(&mut first, kind_number(*offence), at)?;
+    }
+    Ok(first)
+}

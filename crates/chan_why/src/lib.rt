@@ -1,0 +1,23 @@
+//! Why a channel program may not run: the path to a place that offends, the values of the cause, and
+//! the path to what is changed.
+//!
+//! ```
+//! fn shows(alloc: Global, job: &Job, survey: &Survey) -> Result<Vec<Place>, AllocError>
+//!     requires { IsSurvey job.now survey.now }
+//! {
+//!     let witness = witness_from(alloc, job, survey)?;
+//!     Ok(witness.path)
+//! }
+//! ```
+#![tactic(auto)]
+
+mod changed;
+mod evidence;
+mod finder;
+mod path;
+mod surveyed;
+mod witness;
+
+pub use crate::evidence::{Evidence, Outside};
+pub use crate::surveyed::{causes_from, witness_from};
+pub use crate::witness::Witness;

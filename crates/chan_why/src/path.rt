@@ -1,0 +1,73 @@
+//! Paths: how a program comes to a place.
+
+ghost use Rattle.std.specs.Prelude.{◌≡◌, ◌<◌, ◌↔◌, ◌++◌, ◌∷◌, [], List, length, reverse};
+ghost use Rattle.std.specs.Prelude.{IfOk, IsTrue};
+ghost use Rattle.chan_why.specs.Explained.{IsLastStore, IsStoredBefore, StoresAt};
+ghost use Rattle.chan_walk.specs.Look.{IsLook, places_of_looks};
+ghost use Rattle.chan_walk.specs.Walk.{HasFound};
+ghost use Rattle.chan_why.specs.Paths.{IsPathAt};
+ghost use Rattle.chan_walk.specs.declared.job.Job.{Job};
+ghost use Rattle.chan_walk.specs.declared.place.Place as places;
+
+use crate::changed::has_byte_of;
+use crate::evidence::data_of;
+use chan_walk::{Look, Place, Walk};
+use std::alloc::{AllocError, Global};
+
+/// The path to a place, its end.
+#[derive(Drop)]
+pub(crate) struct Path {
+    /// Its places, from the first place on.
+    pub(crate) places: Vec<Place>,
+    /// The last place before its end that stores one of the eight bytes from the end's address on.
+    pub(crate) stored_by: Option<Place>,
+}
+
+/// The path to the place of an index, read backwards from it: each place was found from the one
+/// before it.
+pub(crate) fn path_at(alloc: Global, walk: &Walk, at: usize) -> Result<Path, AllocError>
+    requires found { (j : Job) × HasFound j walk.now }
+    requires within { at < length walk.now.looks.items }
+    ensures path { IfOk result (λ path. (j : Job) → HasFound j walk.now
+        → IsPathAt j (places_of_looks walk.now.looks.items) at path.places.items) }
+    ensures stored { IfOk result (λ path. (j : Job) → HasFound j walk.now
+        → IsStoredBefore j (reverse path.places.items) path.stored_by) }
+{
+    let end = walk.looks[at].place();
+    let mut places = Vec::new(alloc);
+    places.push(end)?;
+    let mut stored_by = None;
+    let mut from = at;
+    while from > 0 {
+        from = walk.found_from[from] as usize;
+        let look = &walk.looks[from];
+        stored_by = first_store(stored_by, look, end.address);
+        places.push(look.place())?;
+    }
+    places.reverse();
+    Ok(Path { places, stored_by })
+}
+
+/// The place that was found to store at an address, and else the one looked at, if it does.
+fn first_store(found: Option<Place>, look: &Look, address: u32) -> Option<Place>
+    ensures { (j : Job) → IsLook j look.now → (qs : List places.Place)
+        → IsLastStore j address qs found
+        → IsLastStore j address (qs ++ look.now.place ∷ []) result }
+{
+    match found {
+        Some(place) => Some(place),
+        None if stores_at(look, address) => Some(look.place()),
+        None => None,
+    }
+}
+
+/// Whether the CCW at a place stores one of the eight bytes from an address on.
+fn stores_at(look: &Look, address: u32) -> bool
+    ensures { (j : Job) → IsLook j look.now
+        → IsTrue result ↔ StoresAt j address look.now.place }
+{
+    match look.ccw() {
+        Some(ccw) => look.stores() && has_byte_of(data_of(&ccw), address),
+        None => false,
+    }
+}
