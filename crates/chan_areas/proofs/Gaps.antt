@@ -1,9 +1,9 @@
--- The first bytes of a range that lie in no area of a merged list.
-use Rattle.std.proofs.Common.{◌≡◌, ℕ, ◌+◌, ◌-◌, ◌<◌, ◌≤◌, false, max, List, rules}
+-- The first bytes of a range that lie in no area of a merged list, and other leasts.
+use Rattle.std.proofs.Common.{◌≡◌, ℕ, ◌+◌, ◌-◌, ◌<◌, ◌≤◌, false, max, List, Option, Some, None, rules}
 use Rattle.std.proofs.lemmas.Bool.{cases_lt, both_ways}
 use Rattle.ccw_core.specs.declared.areas.Area.{Area}
 use Rattle.ccw_core.specs.Areas.{lies_in, covered}
-use Rattle.chan_areas.specs.Ranges.{IsFirstGap, IsLeastOf}
+use Rattle.chan_areas.specs.Ranges.{IsFirstGap, IsLeastOf, IsLeastOrNone}
 use Rattle.chan_areas.specs.Ranges.{IsByteIn, IsGapEnd, IsGapStart, IsFirstAbove, end_of}
 use Rattle.chan_areas.proofs.Searching.{covered_next}
 
@@ -31,3 +31,10 @@ module _ (xs : List Area) (r : Area) (u : covered xs r.start r.len ≡ false) wh
 
 pub gap : (xs : List Area) (r : Area) (a n : ℕ) → IsGapStart xs r a → IsGapEnd xs a (end_of r) n → IsFirstGap xs r (record { start = a; len = n - a })
 gap xs r a n s e = search rules
+
+-- ---- of any numbers
+
+-- the same of what says the same
+pub least_same : (P Q : ℕ → Type 0) (o : Option ℕ) → ((b : ℕ) → P b → Q b) → ((b : ℕ) → Q b → P b) → IsLeastOrNone P o → IsLeastOrNone Q o
+least_same P Q None f g h = λ b q. h b (g b q)
+least_same P Q (Some n) f g h = (f n h.0, λ m q. h.1 m (g m q))

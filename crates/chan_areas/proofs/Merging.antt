@@ -1,11 +1,11 @@
 -- Bytes of areas, how they stay the same while areas are merged, and that there is one merged list for them.
-use Rattle.std.proofs.Common.{◌≡◌, ℕ, zero, suc, ◌+◌, ◌-◌, ◌++◌, ◌↔◌, inl, inr, ◌<◌, ◌≤◌, true, ◌||◌, ◌&&◌, nat_le, nat_lt, List, [], ◌∷◌, length, get_or, take, refl, sym, ap, ◌∙◌, subst, ◌⊎◌, arith, append_assoc, IsPermutation, rules}
+use Rattle.std.proofs.Common.{◌≡◌, ℕ, suc, ◌+◌, ◌-◌, ◌++◌, ◌↔◌, inl, inr, ◌<◌, ◌≤◌, true, ◌||◌, ◌&&◌, nat_le, nat_lt, List, [], ◌∷◌, length, get_or, take, refl, sym, ap, ◌∙◌, subst, ◌⊎◌, arith, append_assoc, IsPermutation, rules}
 use Rattle.std.proofs.lemmas.Grind.{common_steps}
 use Rattle.std.specs.Cmp.Derive.{one_truth}
 use Rattle.std.specs.List.{All}
 use Rattle.std.specs.List.Sorted.{IsNonDecreasingBy}
 use Rattle.std.proofs.lemmas.Bool.{cases_lt, or_cases, or_left, or_right, and_from, le-leb, lt-ltb, both_ways}
-use Rattle.std.proofs.lemmas.List.{take_more}
+use Rattle.std.proofs.lemmas.List.{take_more, get_or_default}
 use Rattle.std.proofs.lemmas.List.Elements.{All-append, All-cons, All-head, All-nil, All-tail}
 use Rattle.std.proofs.lemmas.List.Folds.{list_any-append}
 use Rattle.std.proofs.lemmas.List.Sorted.{list_any-IsPermutation}
@@ -14,6 +14,7 @@ use Rattle.ccw_core.specs.Areas.{lies_in}
 use Rattle.ccw_core.proofs.Covering.{lies_in-nil}
 use Rattle.chan_areas.specs.Ranges.{start_of, end_of, IsByteOf, EndsBelow, BeginAbove, IsMerged, HaveSameBytes, AreRuns, MergedIsUnique}
 use Rattle.std.proofs.Common.{Result, Ok, Err, IfOk}
+use Rattle.std.proofs.Math.Seq.{take-length}
 
 -- ---- bytes of areas
 
@@ -97,14 +98,9 @@ runs_push xs ys run area e p l r = grind (arith, common_steps, All-append, runs_
 
 -- ---- over areas in order of start
 
-pub get_any : {X : Type 0} (xs : List X) (i : ℕ) (d e : X) → i < length xs → get_or xs i d ≡ get_or xs i e
-get_any [] i d e l = absurd (omega arith)
-get_any (x ∷ xs) zero d e l = refl
-get_any (x ∷ xs) (suc i) d e l = get_any xs i d e (omega arith)
-
 -- the areas to come begin no earlier than the run
 pub order_next : (xs : List Area) (i k r : ℕ) (z d : Area) → IsNonDecreasingBy start_of xs → r ≤ (get_or xs i z).start → i + 1 ≤ k → k < length xs → r ≤ (get_or xs k d).start
-order_next xs i k r z d s l h b = let e = s i k z (omega arith) b in let f = ap start_of (get_any xs k z d b) in omega arith
+order_next xs i k r z d s l h b = let e = s i k z (omega arith) b in let f = ap start_of (get_or_default xs k z d b) in omega arith
 
 -- the bytes so far, with those of the next area
 pub bytes_next : (merged now xs : List Area) (run r area : Area) (i b : ℕ) → i < length xs → get_or xs i area ≡ area → lies_in (merged ++ run ∷ []) b ≡ lies_in (take i xs) b → lies_in (now ++ r ∷ []) b ≡ lies_in (merged ++ run ∷ area ∷ []) b → lies_in (now ++ r ∷ []) b ≡ lies_in (take (i + 1) xs) b
@@ -115,13 +111,9 @@ bytes_next merged now xs run r area i b l e f g =
     ∙ ap (λ z. lies_in (take i xs ++ z ∷ []) b) (sym e)
     ∙ ap (λ z. lies_in z b) (sym (take_more xs i area l))
 
-take_whole : (xs : List Area) → take (length xs) xs ≡ xs
-take_whole [] = refl
-take_whole (x ∷ xs) = ap (λ z. x ∷ z) (take_whole xs)
-
 -- at the end, with a run
 pub bytes_end : (now all xs : List Area) (i b : ℕ) → i ≡ length xs → now ≡ all → lies_in all b ≡ lies_in (take i xs) b → lies_in now b ≡ lies_in xs b
-bytes_end now all xs i b e f g = ap (λ z. lies_in z b) f ∙ g ∙ ap (λ n. lies_in (take n xs) b) e ∙ ap (λ z. lies_in z b) (take_whole xs)
+bytes_end now all xs i b e f g = ap (λ z. lies_in z b) f ∙ g ∙ ap (λ n. lies_in (take n xs) b) e ∙ ap (λ z. lies_in z b) (take-length xs)
 
 -- an empty run has no bytes
 pub bytes_empty : (xs : List Area) (run : Area) (b : ℕ) → run.len ≡ 0 → lies_in xs b ≡ lies_in (xs ++ run ∷ []) b

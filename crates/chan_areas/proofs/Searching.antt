@@ -91,3 +91,5 @@ covered_next xs start len a n s e = covered-true xs start len (λ b l h. n.insid
 
 pub uncovered_end : (xs : List Area) (start len : ℕ) (a : Area) → IsFirstAbove xs start a → end_of a < start + len → covered xs start len ≡ false
 uncovered_end xs start len a n e = let s = n.ends in covered-false xs start len (end_of a) (omega arith) e n.after
+
+pub ruleset covers_or_not = (uncovered_end, covered_next, cases_lt)

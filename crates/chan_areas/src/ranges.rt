@@ -22,6 +22,7 @@ pub fn end_of(area: &Area) -> u64
 
 /// Takes an area to the run that may still grow, and puts a run that is done to those merged. Two
 /// areas are one run where no byte lies between them.
+#[tactic(auto, using(crate::proofs::Merging::run_stays, crate::proofs::Merging::runs_later, crate::proofs::Merging::run_begins, crate::proofs::Merging::run_ends, crate::proofs::Merging::run_grows))]
 fn join(merged: &mut Vec<Area>, run: Area, area: Area) -> Result<Area, AllocError>
     requires runs { AreRuns merged.old.items run }
     requires order { run.start ≤ area.start }
@@ -55,6 +56,7 @@ fn join(merged: &mut Vec<Area>, run: Area, area: Area) -> Result<Area, AllocErro
 }
 
 /// The merged list of areas that are in order of start.
+#[tactic(auto, using(crate::proofs::Merging::bytes_end))]
 fn merge_sorted(alloc: Global, areas: &[Area]) -> Result<Vec<Area>, AllocError>
     requires sorted { IsNonDecreasingBy start_of areas.now }
     requires low { All (EndsBelow (2 ^ 32)) areas.now }
@@ -99,6 +101,7 @@ pub fn next_area(areas: &[Area], address: u32) -> Option<Area>
 
 /// Whether a byte of a range lies in some area of a merged list. The cost is that of a binary
 /// search.
+#[tactic(auto, using(crate::proofs::Searching::meets_next))]
 pub fn meets(areas: &[Area], start: u32, len: u32) -> bool
     requires { IsMerged areas.now }
     ensures { IsTrue result ↔ Meets areas.now start len }
@@ -115,6 +118,7 @@ pub fn meets(areas: &[Area], start: u32, len: u32) -> bool
 
 /// Whether each byte of a range lies in some area of a merged list: then one area has them all, or
 /// the range is empty. The cost is that of a binary search.
+#[tactic(auto, using(crate::proofs::Searching::covers_or_not))]
 pub fn holds(areas: &[Area], start: u32, len: u32) -> bool
     requires { IsMerged areas.now }
     ensures { result ≡ covered areas.now start len }
@@ -131,6 +135,7 @@ pub fn holds(areas: &[Area], start: u32, len: u32) -> bool
 
 /// The first byte of a range that lies in some area of a merged list. The cost is that of a binary
 /// search.
+#[tactic(auto, using(crate::proofs::Gaps::first_of_next, crate::proofs::Gaps::none_from_next))]
 pub fn first_in(areas: &[Area], start: u32, len: u32) -> Option<u32>
     requires { IsMerged areas.now }
     ensures { IsLeastOrNone (λ b. IsByteIn areas.now start len b) result }
@@ -146,6 +151,7 @@ pub fn first_in(areas: &[Area], start: u32, len: u32) -> Option<u32>
 }
 
 /// The first byte of a range that lies in no area of a merged list.
+#[tactic(auto, using(crate::proofs::Gaps::start_after))]
 fn gap_start(areas: &[Area], range: Area) -> u32
     requires merged { IsMerged areas.now }
     requires low { EndsBelow (2 ^ 32) range }
@@ -189,6 +195,7 @@ pub fn first_gap(areas: &[Area], range: Area) -> Area
 }
 
 /// A law: two merged lists that have the same bytes are the same list.
+#[tactic(auto, using(crate::proofs::Merging::merged_is_unique))]
 fn merged_is_unique()
     ensures { MergedIsUnique }
 {}

@@ -43,6 +43,10 @@ second_exactly j a p n are plain none = ((λ h. go h.second), λ h. record { pla
     go (inl h) = absurd (none h)
     go (inr h) = e.0 h
 
+-- what a test that is false denies
+pub untrue : (P : Type 0) (b : Bool) → IsTrue b ↔ P → b ≡ false → P → ⊥
+untrue P b is e h = both_ways b e (is.1 h)
+
 -- two tests, one after the other
 pub first_test : {A B C : Type 0} (b : Bool) → IsTrue b ↔ A → b ≡ true → C ↔ (A ⊎ B) → IsTrue b ↔ C
 first_test b is t e = ((λ h. e.1 (inl (is.0 h))), λ h. t)

@@ -41,10 +41,6 @@ pub aligned_rest : (a : ℕ) → is_aligned a ≡ true → a % 8 ≡ 0
 unfolding is_aligned
 aligned_rest a h = grind (arith, h)
 
-pub rest_aligned : (a : ℕ) → a % 8 ≡ 0 → is_aligned a ≡ true
-unfolding is_aligned
-rest_aligned a h = grind (arith, h)
-
 pub inside_low : (n a : ℕ) → is_inside n a ≡ true → a + 8 ≤ n
 unfolding is_inside
 inside_low n a e = grind (arith, e)

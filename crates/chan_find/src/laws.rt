@@ -10,6 +10,7 @@ pub(crate) fn twice_is_enough()
 {}
 
 /// And each likely start is led to by the start of a program.
+#[tactic(auto, using(crate::proofs::Starts::none_is_missed))]
 pub(crate) fn none_is_missed()
     ensures { NoneIsMissed }
 {}

@@ -1,5 +1,5 @@
 -- What a place that was looked at asks of the mask, and the strictest mask that serves many.
-use Rattle.std.proofs.Common.{◌≡◌, ℕ, ◌<◌, true, false, List, [], ◌∷◌, ◌++◌, length, get_or, Option, Some, None, refl, sym, ap, ◌∙◌, subst, ◌⊎◌, inl, inr, ◌↔◌, rules}
+use Rattle.std.proofs.Common.{◌≡◌, ℕ, ◌<◌, true, false, List, [], ◌∷◌, ◌++◌, length, get_or, Option, Some, None, refl, sym, ap, ◌∙◌, subst, ◌⊎◌, inl, inr, ◌↔◌, rules, ◌≤◌, min, arith}
 use Rattle.std.proofs.lemmas.Bool.{and_from, and_parts, both_ways, not_from_false}
 use Rattle.ccw_core.specs.Ccw.{byte, Fields}
 use Rattle.ckd_core.specs.declared.command.MaskClass.{MaskClass}
@@ -12,17 +12,19 @@ use Rattle.chan_walk.specs.Argument.{Has}
 use Rattle.chan_walk.specs.Fault.{begins_set_mask, IsClear}
 use Rattle.chan_walk.specs.Job.{storage_of}
 use Rattle.chan_walk.specs.Look.{IsLook, Seen, byte_of, places_of_looks}
-use Rattle.chan_needs.specs.Needs.{IsStrictest, ServesAt, begins}
+use Rattle.chan_needs.specs.Needs.{ServesAt, begins}
 use Rattle.chan_walk.specs.Place.{is_fresh, ccw_of}
-use Rattle.chan_needs.specs.Rows.{AreLooksOfYes, IsLaxerThan}
+use Rattle.chan_needs.specs.Rows.{AreLooksOfYes, AreBounds}
 use Rattle.chan_walk.specs.Visit.{begun, begun_at}
 use Rattle.chan_walk.proofs.Theory.Commands.{known_is_no_transfer, mask_is_no_transfer}
 use Rattle.chan_walk.proofs.Theory.Faults.{clear_good, yes_clear}
 use Rattle.chan_walk.proofs.Theory.Lists.{has_at, has_cases, has_left, has_right}
-use Rattle.chan_needs.proofs.Masking.{IsDown, cap_of, laxer, lax_both, mask_of, serves_down, strictest_for, strictest_of_any, strictest_of_byte, strictest_of_two, strictest_same}
 use Rattle.chan_walk.proofs.Algorithms.Looking.{place_at}
 use Rattle.chan_walk.proofs.Algorithms.Looking.{ccw_seen}
 use Rattle.chan_walk.proofs.Theory.Faults.{clear_stands}
+use Rattle.ckd_core.specs.Levels.{seek_level, seeks_up_to, write_level, writes_up_to}
+use Rattle.ckd_core.proofs.LevelLemmas.{permits_when, seek_level-le, seeks_up_to-le, strict-permits, strict-levels, write_level-le, writes_up_to-le}
+use Rattle.chan_needs.proofs.Masking.{bounds_of_any, bounds_of_both, bounds_same}
 
 -- ---- at one place
 
@@ -71,11 +73,14 @@ module _ (j : Job) (p : Place) (k : Command) (h : begun p (ccw_of j p) ≡ Some 
       plain : (m : ℕ) → inhibits_class m SetMask ≡ false
       plain m = refl
 
-  pub demanded_byte : k.class ≡ SetMask → IsClear j p → IsStrictest (ServesAt j p) (byte (storage_of j) c.address)
-  demanded_byte same clear =
+  pub bounds_at_command : class_sets_mask k.class ≡ false → AreBounds (ServesAt j p) (writes_up_to k.class) (seeks_up_to k.class)
+  bounds_at_command other = bounds_same _ (ServesAt j p) _ _ (serves_command other) (λ m. permits_when m k.class)
+
+  pub bounds_at_byte : k.class ≡ SetMask → IsClear j p → AreBounds (ServesAt j p) (write_level (byte (storage_of j) c.address)) (seek_level (byte (storage_of j) c.address))
+  bounds_at_byte same clear =
       let sets : begins_set_mask p c ≡ true = sets_it ∙ ap class_sets_mask same in
       let strict = (clear_good j p clear (mask_is_no_transfer c (and_parts _ _ sets).1)).strict sets in
-      strictest_same _ (ServesAt j p) _ (serves_byte same) (strictest_of_byte _ (mask_of _ j.mask strict) (j.storage.fits c.address))
+      bounds_same _ (ServesAt j p) _ _ (serves_byte same) (λ m. strict-levels _ m ((strict-permits _ j.mask).0 strict).0)
 
 -- no command of the table
 pub serves_none : (j : Job) (p : Place) → begun p (ccw_of j p) ≡ None → (m : ℕ) → ServesAt j p m
@@ -88,22 +93,22 @@ serves_none j p h m = record {
 -- ---- at one look
 
 module _ (j : Job) (l : Seen) (look : IsLook j l) (clear : IsClear j l.place) where
-  pub demands_nothing : l.command ≡ None → IsStrictest (ServesAt j l.place) 0x58
-  demands_nothing e = strictest_of_any (ServesAt j l.place) (serves_none j l.place (sym (command_at j l look clear) ∙ e))
+  pub bounds_nothing : l.command ≡ None → AreBounds (ServesAt j l.place) 3 3
+  bounds_nothing e = bounds_of_any (ServesAt j l.place) (serves_none j l.place (sym (command_at j l look clear) ∙ e))
 
   other_class : (k : MaskClass) → (k ≡ SetMask → ⊥) → class_sets_mask k ≡ false
   other_class k f = search rules
 
-  pub demands_class : (k : Command) (n : ℕ) → l.command ≡ Some k → (k.class ≡ SetMask → ⊥) → IsStrictest (λ m. inhibits_class m k.class ≡ false) n → IsStrictest (ServesAt j l.place) n
-  demands_class k n e other s = strictest_same _ (ServesAt j l.place) n (serves_command j l.place k (sym (command_at j l look clear) ∙ e) (other_class k.class other)) s
+  pub bounds_class : (k : Command) → l.command ≡ Some k → (k.class ≡ SetMask → ⊥) → AreBounds (ServesAt j l.place) (writes_up_to k.class) (seeks_up_to k.class)
+  bounds_class k e other = bounds_at_command j l.place k (sym (command_at j l look clear) ∙ e) (other_class k.class other)
 
-  pub demands_byte : (k : Command) → l.command ≡ Some k → k.class ≡ SetMask → IsStrictest (ServesAt j l.place) (byte_of l.read)
-  demands_byte k e same =
+  pub bounds_byte : (k : Command) → l.command ≡ Some k → k.class ≡ SetMask → AreBounds (ServesAt j l.place) (write_level (byte_of l.read)) (seek_level (byte_of l.read))
+  bounds_byte k e same =
       let h = sym (command_at j l look clear) ∙ e in
       let sets : begins_set_mask l.place (ccw_of j l.place) ≡ true = sets_it j l.place k h ∙ ap class_sets_mask same in
       let ccw = ccw_seen j l look (clear_stands j l.place clear) in
       let is : byte_of l.read ≡ byte (storage_of j) (ccw_of j l.place).address = ap byte_of ((look.read (ccw_of j l.place) ccw).mask sets) in
-      subst (IsStrictest (ServesAt j l.place)) (sym is) (demanded_byte j l.place k h same clear)
+      subst (λ b. AreBounds (ServesAt j l.place) (write_level b) (seek_level b)) (sym is) (bounds_at_byte j l.place k h same clear)
 
 -- ---- at many
 
@@ -111,16 +116,11 @@ module _ (j : Job) (l : Seen) (look : IsLook j l) (clear : IsClear j l.place) wh
 abbrev pub ServesEach : Job → List Place → ℕ → Type 0
 ServesEach j ps m = (p : Place) → Has ps p → ServesAt j p m
 
-pub strictest_first : (j : Job) (n : ℕ) → n ≡ 0x58 → IsStrictest (ServesEach j []) n
-strictest_first j n e = subst (IsStrictest (ServesEach j [])) (sym e) (strictest_of_any (ServesEach j []) (λ m p h. absurd h))
+pub bounds_first : (j : Job) → AreBounds (ServesEach j []) 3 3
+bounds_first j = bounds_of_any (ServesEach j []) (λ m p h. absurd h)
 
-each_down : (j : Job) (ps : List Place) → IsDown (ServesEach j ps)
-each_down j ps m x h f p k = serves_down j p m x h (f p k)
-
-pub strictest_next : (j : Job) (ps : List Place) (p : Place) (a b m : ℕ) → IsStrictest (ServesEach j ps) a → IsStrictest (ServesAt j p) b → IsStrictest (IsLaxerThan a b) m → IsStrictest (ServesEach j (ps ++ p ∷ [])) m
-strictest_next j ps p a b m f g h =
-    strictest_same (λ x. ServesEach j ps x × ServesAt j p x) (ServesEach j (ps ++ p ∷ [])) m (λ x. (both x, parts x))
-    (strictest_of_two (ServesEach j ps) (ServesAt j p) a b m (each_down j ps) (serves_down j p) f g h)
+pub bounds_next : (j : Job) (ps : List Place) (p : Place) (w s v t : ℕ) → AreBounds (ServesEach j ps) w s → AreBounds (ServesAt j p) v t → AreBounds (ServesEach j (ps ++ p ∷ [])) (min w v) (min s t)
+bounds_next j ps p w s v t f g = bounds_same (λ x. ServesEach j ps x × ServesAt j p x) (ServesEach j (ps ++ p ∷ [])) _ _ (λ x. (both x, parts x)) (bounds_of_both (ServesEach j ps) (ServesAt j p) w s v t f g)
   where
     both : (x : ℕ) → ServesEach j ps x × ServesAt j p x → ServesEach j (ps ++ p ∷ []) x
     both x w q k = search (rules, has_cases)
@@ -130,9 +130,13 @@ strictest_next j ps p a b m f g h =
 
 -- ---- at any clear place
 
-demand_of_command : (j : Job) (p : Place) (k : Command) → begun p (ccw_of j p) ≡ Some k → IsClear j p → (k.class ≡ SetMask) ⊎ (class_sets_mask k.class ≡ false) → (m : ℕ) × IsStrictest (ServesAt j p) m
-demand_of_command j p k h clear (inl same) = (byte (storage_of j) (ccw_of j p).address, demanded_byte j p k h same clear)
-demand_of_command j p k h clear (inr other) = (cap_of k.class, strictest_same _ (ServesAt j p) _ (serves_command j p k h other) (strictest_for k.class k.class refl))
+-- there are such bounds
+pub record HasBounds (P : ℕ → Type 0) : Type 0 where
+  pub writes : ℕ
+  pub seeks : ℕ
+  pub few_writes : writes ≤ 3
+  pub few_seeks : seeks ≤ 3
+  pub are : AreBounds P writes seeks
 
 sets_or_not : (c : MaskClass) → (c ≡ SetMask) ⊎ (class_sets_mask c ≡ false)
 sets_or_not SetMask = inl refl
@@ -145,23 +149,29 @@ sets_or_not WriteHome = inr refl
 sets_or_not WriteFormat = inr refl
 sets_or_not WriteUpdate = inr refl
 
-demand_of : (j : Job) (p : Place) → IsClear j p → (m : ℕ) × IsStrictest (ServesAt j p) m
+demand_of : (j : Job) (p : Place) → IsClear j p → HasBounds (ServesAt j p)
 demand_of j p clear = go (begun p (ccw_of j p)) refl
   where
-    go : (o : Option Command) → begun p (ccw_of j p) ≡ o → (m : ℕ) × IsStrictest (ServesAt j p) m
-    go None e = (0x58, strictest_of_any (ServesAt j p) (serves_none j p e))
-    go (Some k) e = demand_of_command j p k e clear (sets_or_not k.class)
+    of_command : (k : Command) → begun p (ccw_of j p) ≡ Some k → (k.class ≡ SetMask) ⊎ (class_sets_mask k.class ≡ false) → HasBounds (ServesAt j p)
+    of_command k h (inl same) = record { writes = write_level (byte (storage_of j) (ccw_of j p).address); seeks = seek_level (byte (storage_of j) (ccw_of j p).address); few_writes = write_level-le (byte (storage_of j) (ccw_of j p).address); few_seeks = seek_level-le (byte (storage_of j) (ccw_of j p).address); are = bounds_at_byte j p k h same clear }
+    of_command k h (inr other) = record { writes = writes_up_to k.class; seeks = seeks_up_to k.class; few_writes = writes_up_to-le k.class; few_seeks = seeks_up_to-le k.class; are = bounds_at_command j p k h other }
 
-pub demand_of_each : (j : Job) (ps : List Place) → ((p : Place) → Has ps p → IsClear j p) → (m : ℕ) × IsStrictest (ServesEach j ps) m
-demand_of_each j [] clear = (0x58, strictest_first j 0x58 refl)
+    go : (o : Option Command) → begun p (ccw_of j p) ≡ o → HasBounds (ServesAt j p)
+    go None e = record { writes = 3; seeks = 3; few_writes = omega arith; few_seeks = omega arith; are = bounds_of_any (ServesAt j p) (serves_none j p e) }
+    go (Some k) e = of_command k e (sets_or_not k.class)
+
+pub demand_of_each : (j : Job) (ps : List Place) → ((p : Place) → Has ps p → IsClear j p) → HasBounds (ServesEach j ps)
+demand_of_each j [] clear = record { writes = 3; seeks = 3; few_writes = omega arith; few_seeks = omega arith; are = bounds_first j }
 demand_of_each j (p ∷ ps) clear =
     let a = demand_of j p (clear p (inl refl)) in
     let b = demand_of_each j ps (λ q h. clear q (inr h)) in
-    let two = laxer a.0 b.0 a.1.small b.1.small a.1.right b.1.right in (
-      lax_both a.0 b.0,
-      strictest_same (λ x. ServesAt j p x × ServesEach j ps x) (ServesEach j (p ∷ ps)) (lax_both a.0 b.0) (λ x. (both x, parts x))
-          (strictest_of_two (ServesAt j p) (ServesEach j ps) a.0 b.0 (lax_both a.0 b.0) (serves_down j p) (each_down j ps) a.1 b.1 two),
-    )
+    record {
+      writes = min a.writes b.writes;
+      seeks = min a.seeks b.seeks;
+      few_writes = omega (arith, a.few_writes);
+      few_seeks = omega (arith, a.few_seeks);
+      are = bounds_same (λ x. ServesAt j p x × ServesEach j ps x) (ServesEach j (p ∷ ps)) _ _ (λ x. (both x, parts x)) (bounds_of_both (ServesAt j p) (ServesEach j ps) a.writes a.seeks b.writes b.seeks a.are b.are);
+    }
   where
     both : (x : ℕ) → ServesAt j p x × ServesEach j ps x → ServesEach j (p ∷ ps) x
     both x w q (inl e) = subst (λ r. ServesAt j r x) e w.0

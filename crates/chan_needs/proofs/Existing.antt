@@ -12,7 +12,7 @@ use Rattle.chan_walk.specs.Explored.{AreApart, HasMoreThan, place_number}
 use Rattle.chan_walk.specs.Fault.{kind_of}
 use Rattle.chan_walk.specs.Job.{storage_of}
 use Rattle.chan_walk.specs.Least.{AreReached}
-use Rattle.chan_needs.specs.Needs.{IsStrictest, NeededMaskExists, Serves}
+use Rattle.chan_needs.specs.Needs.{NeededMaskExists, Serves}
 use Rattle.chan_walk.specs.Open.{open_job}
 use Rattle.chan_walk.specs.Place.{ccw_of, first_place}
 use Rattle.chan_walk.specs.Reachable.{IsReachable}
@@ -20,13 +20,15 @@ use Rattle.chan_walk.specs.Successors.{AreSuccessors, next_of, skip_of}
 use Rattle.chan_walk.specs.Verdict.{AreClear}
 use Rattle.chan_walk.specs.Walk.{Adds, IsWalked, Overflows}
 use Rattle.chan_walk.proofs.Theory.Faults.{fault_unique, yes_clear}
-use Rattle.chan_walk.proofs.Theory.Lists.{get_there, has_at}
-use Rattle.chan_needs.proofs.Masking.{strictest_same}
-use Rattle.chan_needs.proofs.Demanding.{ServesEach, demand_of_each}
+use Rattle.chan_walk.proofs.Theory.Lists.{has_at}
+use Rattle.chan_needs.proofs.Demanding.{ServesEach, demand_of_each, HasBounds}
 use Rattle.chan_walk.proofs.Theory.Faults.{clear_stands}
 use Rattle.chan_walk.proofs.Algorithms.InOrder.{distinct, has_number}
 use Rattle.chan_walk.proofs.Algorithms.Marks.{same_number, way_small}
 use Rattle.chan_walk.proofs.Algorithms.Walking.{Leads, all_found, follows_exactly, next_overflows, skip_overflows, walked_first, walked_on}
+use Rattle.std.proofs.lemmas.Option.{slice_get-get_or}
+use Rattle.ckd_core.specs.Levels.{mask_of}
+use Rattle.chan_needs.proofs.Masking.{bounds_same, strictest}
 
 -- ---- one place more, or no room
 
@@ -64,7 +66,7 @@ module _ (j : Job) (clear : AreClear j) where
 
   few : (ps : List Place) → AreApart ps → ((p : Place) → Has ps p → IsReachable j p) → length ps ≤ bound
   few ps apart only =
-      let l : length (map place_number ps) ≤ bound = length-le_from_distinct_below (map place_number ps) bound (distinct ps apart) (λ k h. let r = has_number k ps h in subst (λ n. n < bound) r.2 (below r.0 (only r.0 r.1))) in
+      let l : length (map place_number ps) ≤ bound = length-le_from_distinct_below (map place_number ps) bound (distinct place_number same_number ps apart) (λ k h. let r = has_number k ps h in subst (λ n. n < bound) r.2 (below r.0 (only r.0 r.1))) in
       omega (arith, l, length-map ps place_number)
 
   no_more : HasMoreThan j bound → ⊥
@@ -83,10 +85,10 @@ module _ (j : Job) (clear : AreClear j) where
       p = get_or ps i (first_place j)
 
       n : (n : Next) × AreSuccessors j p n
-      n = next_at p (w.only p (has_at ps i p (get_there ps i (first_place j) h)))
+      n = next_at p (w.only p (has_at ps i p (slice_get-get_or ps i (first_place j) h)))
 
       leads : Leads j ps i n.0
-      leads = record { from = p; there = get_there ps i (first_place j) h; each = follows_exactly j p n.0 n.1 }
+      leads = record { from = p; there = slice_get-get_or ps i (first_place j) h; each = follows_exactly j p n.0 n.1 }
 
       on : (a : (qs : List Place) × (gs : List ℕ) × Adds bound n.0.next 0 ps qs [] gs) → ((rs : List Place) × (hs : List ℕ) × Adds bound n.0.skip 0 a.0 rs a.1 hs) ⊎ Overflows bound n.0.skip a.0 → (qs : List Place) × IsWalked j bound qs (i + 1)
       on a (inl b) = (b.0, walked_on j bound n.0 0 ps a.0 b.0 [] a.1 b.1 i w h leads a.2 b.2)
@@ -116,7 +118,7 @@ module _ (j : Job) (clear : AreClear j) where
 -- ---- the needed mask
 
 pub needed_mask_exists : NeededMaskExists
-needed_mask_exists j v = (mask.0, strictest_same (ServesEach k all.0) (Serves j) mask.0 (λ m. (to m, from m)) mask.1)
+needed_mask_exists j v = (mask_of b.writes b.seeks, strictest (Serves j) b.writes b.seeks b.few_writes b.few_seeks (bounds_same (ServesEach k all.0) (Serves j) b.writes b.seeks (λ m. (to m, from m)) b.are))
   where
     k : Job
     k = open_job j
@@ -124,8 +126,8 @@ needed_mask_exists j v = (mask.0, strictest_same (ServesEach k all.0) (Serves j)
     all : (ps : List Place) × AreReached k ps
     all = all_reached k (yes_clear k v)
 
-    mask : (m : ℕ) × IsStrictest (ServesEach k all.0) m
-    mask = demand_of_each k all.0 (λ p h. yes_clear k v p (all.1.1 p h))
+    b : HasBounds (ServesEach k all.0)
+    b = demand_of_each k all.0 (λ p h. yes_clear k v p (all.1.1 p h))
 
     to : (m : ℕ) → ServesEach k all.0 m → Serves j m
     to m s p r = let at = s p (all.1.0 p r) in record { permits = at.permits; admits = at.admits }

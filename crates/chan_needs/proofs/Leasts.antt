@@ -11,6 +11,7 @@ use Rattle.chan_areas.specs.Ranges.{IsByteOf, BeginAbove, HaveSameBytes, IsMerge
 use Rattle.chan_needs.specs.Remembered.{lesser_of}
 use Rattle.chan_needs.proofs.Holding.{InRun, has_at_run, nowhere, run_at}
 use Rattle.chan_walk.proofs.Algorithms.Lending.{lies_in-clip}
+use Rattle.chan_areas.proofs.Gaps.{least_same}
 use Rattle.chan_areas.proofs.Merging.{lies_in-cases}
 use Rattle.chan_areas.proofs.Searching.{area_at}
 
@@ -37,11 +38,6 @@ least_either P Q R split one other (Some m) (Some n) h k =
     holds : (n < m) ⊎ (m ≤ n) → R (min m n)
     holds (inl l) = let e : n ≡ min m n = omega arith in subst R e (other n k.0)
     holds (inr l) = let e : m ≡ min m n = omega arith in subst R e (one m h.0)
-
--- the same of what says the same
-pub least_same : (P Q : ℕ → Type 0) (o : Option ℕ) → ((b : ℕ) → P b → Q b) → ((b : ℕ) → Q b → P b) → IsLeastOrNone P o → IsLeastOrNone Q o
-least_same P Q None f g h = λ b q. h b (g b q)
-least_same P Q (Some n) f g h = (f n h.0, λ m q. h.1 m (g m q))
 
 -- ---- row by row
 

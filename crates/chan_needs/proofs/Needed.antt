@@ -32,13 +32,13 @@ use Rattle.chan_walk.specs.Surveyed.{IsSurvey}
 use Rattle.chan_walk.specs.Verdict.{IsVerdict}
 use Rattle.chan_walk.proofs.Theory.Faults.{clear_check, yes_clear}
 use Rattle.chan_walk.proofs.Theory.Granting.{fetches_parts, same_under_yes, stores_parts, turned, ccw_over}
-use Rattle.chan_needs.proofs.Masking.{strictest_same}
 use Rattle.chan_needs.proofs.Needing.{needed_mask_is_enough, yes_opens}
 use Rattle.chan_walk.proofs.Algorithms.Opened.{to_open}
 use Rattle.chan_walk.proofs.Theory.OwnFaults.{data_in_storage}
 use Rattle.chan_needs.proofs.Demanding.{ServesEach}
 use Rattle.chan_walk.proofs.Algorithms.Walking.{reached_looks}
 use Rattle.chan_needs.proofs.Seeking.{runs_of}
+use Rattle.chan_needs.proofs.Masking.{strictest_same}
 
 -- ---- from one job to another of its program
 

@@ -28,9 +28,10 @@ use Rattle.chan_walk.proofs.Theory.Areas.{covered_at, allows_cylinder}
 use Rattle.chan_walk.proofs.Theory.Chains.{argument_unique}
 use Rattle.chan_walk.proofs.Theory.Commands.{mask_is_no_transfer, seek_is_no_transfer, recalibrate_is_no_transfer}
 use Rattle.chan_walk.proofs.Theory.Faults.{IsGood, clear_check, clear_good, yes_clear, stores_from}
-use Rattle.chan_walk.proofs.Theory.Granting.{ccw_over, same_heads, stores_parts, fetches_parts, covered_from, allows_from, clear_over, reach_over, yes_over, more_is_yes, same_under_yes}
-use Rattle.chan_walk.proofs.Theory.Strictness.{laxer_permits, strict_as_laxer, strict_as_open}
+use Rattle.chan_walk.proofs.Theory.Granting.{ccw_over, same_heads, stores_parts, fetches_parts, allows_from, clear_over, reach_over, yes_over, more_is_yes, same_under_yes}
 use Rattle.chan_walk.proofs.Algorithms.Opened.{from_open, to_open}
+use Rattle.ccw_core.proofs.Covering.{covered-true}
+use Rattle.chan_walk.proofs.Theory.Masks.{laxer_permits, strict_as_laxer, strict_as_open}
 
 -- ---- the open job
 
@@ -107,8 +108,8 @@ module _ (j k : Job) (one : AreOfOneProgram j k) (grants : Grants j k) where
   good_under p r at x a t g = record {
     known = g.known;
     permitted = λ f. (grants.mask p r).permits (and_from _ _ f (not_from_false _ t));
-    store_lent = λ f n. covered_from (store_of k) _ _ (λ b le lt. grants.store b (record { place = p; reached = r; passes = (at, stores_from _ _ _ t f n); from = le; below = lt }));
-    fetch_lent = λ f. covered_from (fetch_of k) _ _ (λ b le lt. grants.fetch b (record { place = p; reached = r; passes = (at, and_from _ _ (not_from_false _ t) f); from = le; below = lt }));
+    store_lent = λ f n. covered-true (store_of k) _ _ (λ b le lt. grants.store b (record { place = p; reached = r; passes = (at, stores_from _ _ _ t f n); from = le; below = lt }));
+    fetch_lent = λ f. covered-true (fetch_of k) _ _ (λ b le lt. grants.fetch b (record { place = p; reached = r; passes = (at, and_from _ _ (not_from_false _ t) f); from = le; below = lt }));
     argued = g.argued;
     allowed = λ s. allowed_under p r x a s (g.allowed s);
     home = λ s. grants.extents 0 (record { place = p; reached = r; argument = home; seeks = inr (s, refl); at = refl });

@@ -1,6 +1,5 @@
 -- The cylinders that seeks go to: at one look, and as runs.
-use Rattle.std.proofs.Common.{◌≡◌, ℕ, suc, ◌+◌, ◌-◌, ◌<◌, ◌&&◌, ◌++◌, zero, Bool, true, false, nat_le, List, [], ◌∷◌, map, length, get_or, take, option_map, Option, Some, None, refl, sym, ap, ◌∙◌, subst, ◌⊎◌, inl, inr, ◌↔◌, arith, rules}
-use Rattle.std.specs.List.{All}
+use Rattle.std.proofs.Common.{◌≡◌, ℕ, ◌+◌, ◌-◌, ◌<◌, ◌&&◌, ◌++◌, true, false, nat_le, List, [], ◌∷◌, map, length, get_or, take, option_map, Option, Some, None, refl, sym, ap, ◌∙◌, subst, ◌⊎◌, inl, inr, ◌↔◌, arith, rules}
 use Rattle.std.proofs.lemmas.Grind.{common_steps}
 use Rattle.std.proofs.lemmas.List.{map-append}
 use Rattle.std.proofs.Math.Seq.{take-suc}
@@ -24,7 +23,7 @@ use Rattle.chan_walk.specs.Least.{AreReached}
 use Rattle.chan_walk.specs.Look.{IsLook, Seen, argument_of}
 use Rattle.chan_walk.specs.Machine.{home}
 use Rattle.chan_walk.specs.Place.{is_fresh, ccw_of}
-use Rattle.chan_areas.specs.Ranges.{IsByteOf, AreExactly, BeginAbove, EndsBelow, HaveSameBytes, IsMerged, end_of}
+use Rattle.chan_areas.specs.Ranges.{IsByteOf, AreExactly, BeginAbove, IsMerged, end_of}
 use Rattle.chan_needs.specs.Rows.{AreRising, AreRunsOf, IsSought, RunsAbove, SeeksCylinder, run_of}
 use Rattle.chan_walk.specs.Visit.{begun}
 use Rattle.chan_walk.proofs.Theory.Chains.{argument_unique}
@@ -34,6 +33,7 @@ use Rattle.chan_walk.proofs.Algorithms.Guarding.{HoldBytes, adds_areas, lies_in-
 use Rattle.chan_areas.proofs.Merging.{lies_in-cases, lies_in-first, lies_in-rest}
 use Rattle.chan_walk.proofs.Algorithms.Looking.{argument_read}
 use Rattle.chan_walk.proofs.Algorithms.Looking.{ccw_seen}
+use Rattle.chan_walk.proofs.Theory.Granting.{avoids}
 
 -- ---- at one look
 
@@ -51,9 +51,6 @@ no_seek j p e f = goes_nowhere j p none
     none n (x, inl s, at) = both_ways _ e s.0
     none n (x, inr s, at) = both_ways _ f s.0
 
-never : (a b : Bool) → (a ≡ true → b ≡ false) → (a && b) ≡ false
-never a b h = search rules
-
 module _ (j : Job) (l : Seen) (look : IsLook j l) (clear : IsClear j l.place) where
   abbrev p : Place
   p = l.place
@@ -65,7 +62,7 @@ module _ (j : Job) (l : Seen) (look : IsLook j l) (clear : IsClear j l.place) wh
   unfolding is_seek recalibrates
   goes_by_none e =
       let h : begun p c ≡ None = sym (command_at j l look clear) ∙ e in
-      no_seek j p (never _ _ (λ f. ap (class_passes class_is_seek) (none_from p c h f))) (never _ _ (λ f. ap (class_passes class_recalibrates) (none_from p c h f)))
+      no_seek j p (avoids _ _ (λ f. ap (class_passes class_is_seek) (none_from p c h f))) (avoids _ _ (λ f. ap (class_passes class_recalibrates) (none_from p c h f)))
 
   module _ (k : Command) (e : l.command ≡ Some k) where
     abbrev found : (is_fresh p.entered ≡ true) × (lookup c.command ≡ Some k)
@@ -129,24 +126,6 @@ adds_nothing j p o areas goes e b = ((λ h. inl h), from)
     from : (lies_in areas b ≡ true) ⊎ SeeksCylinder j p b → lies_in areas b ≡ true
     from (inl h) = h
     from (inr h) = let s : None ≡ Some b = sym e ∙ (goes b).1 h in absurd cc
-
--- ---- a merged list stays as low as what was merged
-
-lies_below : (n : ℕ) (areas : List Area) (b : ℕ) → All (EndsBelow (suc n)) areas → lies_in areas b ≡ true → b < n
-lies_below n [] b h l = absurd (both_ways _ (lies_in-nil b) l)
-lies_below n (a ∷ areas) b h l = go (lies_below n areas b (λ k d lt. h (suc k) d (omega arith))) (lies_in-cases a areas b l)
-  where
-    go : (lies_in areas b ≡ true → b < n) → IsByteOf a b ⊎ (lies_in areas b ≡ true) → b < n
-    go rest (inl i) = let e : end_of a < suc n = h 0 a (omega arith) in omega (arith, i.1)
-    go rest (inr r) = rest r
-
-low_by_bytes : (n : ℕ) (areas : List Area) → IsMerged areas → ((b : ℕ) → lies_in areas b ≡ true → b < n) → All (EndsBelow (suc n)) areas
-low_by_bytes n [] m h k d l = absurd (omega arith)
-low_by_bytes n (a ∷ areas) m h zero d l = let t = h (a.start + (a.len - 1)) (lies_in-first a areas _ (omega (arith, m.0), omega (arith, m.0))) in omega (arith, m.0)
-low_by_bytes n (a ∷ areas) m h (suc k) d l = low_by_bytes n areas m.2 (λ b r. h b (lies_in-rest a areas b r)) k d (omega arith)
-
-pub merged_low : (n : ℕ) (merged areas : List Area) → IsMerged merged → HaveSameBytes merged areas → All (EndsBelow (suc n)) areas → All (EndsBelow (suc n)) merged
-merged_low n merged areas m same low = low_by_bytes n merged m (λ b h. lies_below n areas b low (sym (same b) ∙ h))
 
 -- ---- the runs of a merged list
 

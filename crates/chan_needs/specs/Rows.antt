@@ -1,11 +1,10 @@
 -- Rows of needs: what they say of a program, and what follows from them.
-use Rattle.std.specs.Prelude.{◌≡◌, ℕ, ◌+◌, ◌-◌, ◌<◌, ◌≤◌, ◌==◌, ◌||◌, true, List, [], ◌∷◌, ◌↔◌}
-use Rattle.std.specs.Prelude.{length, if◌then◌else◌}
+use Rattle.std.specs.Prelude.{◌≡◌, ℕ, ◌+◌, ◌-◌, ◌<◌, ◌≤◌, true, List, [], ◌∷◌, ◌↔◌}
+use Rattle.std.specs.Prelude.{length}
 use Rattle.ccw_core.specs.declared.areas.Area.{Area}
 use Rattle.ccw_core.specs.Areas.{lies_in}
 use Rattle.ckd_core.specs.Argument.{cylinder_of}
 use Rattle.ckd_core.specs.Cylinders.{has_cylinder}
-use Rattle.ckd_core.specs.Mask.{is_at_least}
 use Rattle.chan_walk.specs.declared.job.Job.{Job}
 use Rattle.chan_needs.specs.declared.needs.Needs.{Needs}
 use Rattle.chan_walk.specs.declared.place.Place.{Place}
@@ -24,6 +23,7 @@ use Rattle.chan_walk.specs.Open.{open_job}
 use Rattle.chan_areas.specs.Ranges.{AreExactly}
 use Rattle.chan_walk.specs.Reachable.{IsReachable}
 use Rattle.chan_walk.specs.Verdict.{IsVerdict}
+use Rattle.ckd_core.specs.Levels.{write_level, seek_level}
 
 -- ---- the open job
 
@@ -131,13 +131,7 @@ IsSought j n = (p : Place) × IsReachable j p × SeeksCylinder j p n
 abbrev pub run_of : Area → ℕ × ℕ
 run_of a = (a.start, a.start + a.len - 1)
 
--- the laxer of the bits of two masks that decide over writes: from lax to strict they are C0, 00,
--- 80, 40
-abbrev pub laxer_writes : ℕ → ℕ → ℕ
-laxer_writes a b =
-    if a == 0xC0 || b == 0xC0 then 0xC0 else if a == 0x00 || b == 0x00 then 0x00 else
-    if a == 0x80 || b == 0x80 then 0x80 else 0x40
-
--- both masks are at least as strict as m
-abbrev pub IsLaxerThan : ℕ → ℕ → ℕ → Type 0
-IsLaxerThan a b m = (is_at_least a m ≡ true) × (is_at_least b m ≡ true)
+-- the masks for which P holds are those up to these levels
+abbrev pub AreBounds : (ℕ → Type 0) → ℕ → ℕ → Type 0
+AreBounds P writes seeks =
+    (m : ℕ) → P m ↔ ((write_level m ≤ writes) × (seek_level m ≤ seeks))

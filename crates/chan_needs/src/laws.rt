@@ -15,12 +15,14 @@ ghost use Rattle.chan_needs.specs.Supervised.{SupervisedGoesOn, SupervisedStaysW
 /// Programs may start and leave at any time on one storage, while others change what none in flight
 /// guards: where each that starts has a yes and is apart from those in flight, each in flight is
 /// safe, and what it guards is as it was when its verdict was given.
+#[tactic(auto, using(crate::proofs::History::stays_well))]
 pub(crate) fn stays_well()
     ensures { StaysWell }
 {}
 
 /// So are two programs that run side by side, where both verdicts are yes and neither may store
 /// over what the other guards.
+#[tactic(auto, using(crate::proofs::Beside::safe_side_by_side))]
 pub(crate) fn safe_side_by_side()
     ensures { SafeSideBySide }
 {}
@@ -48,6 +50,7 @@ pub(crate) fn needed_mask_is_one()
 {}
 
 /// Where the verdict on the open job is yes, there is a needed mask.
+#[tactic(auto, using(crate::proofs::Existing::needed_mask_exists))]
 pub(crate) fn needed_mask_exists()
     ensures { NeededMaskExists }
 {}
@@ -64,6 +67,7 @@ pub(crate) fn safe_is_granted()
 {}
 
 /// Two programs may run side by side exactly where two of their jobs, each with a yes, are apart.
+#[tactic(auto, using(crate::proofs::Apart::beside_is_apart))]
 pub(crate) fn beside_is_apart()
     ensures { BesideIsApart }
 {}
@@ -75,6 +79,7 @@ pub(crate) fn asked_may_start()
 {}
 
 /// Rows of needs list no more than what is needed.
+#[tactic(auto, using(crate::proofs::Needed::rows_are_exact))]
 pub(crate) fn rows_are_exact()
     ensures { RowsAreExact }
 {}
@@ -101,11 +106,13 @@ pub(crate) fn each_may_leave()
 
 /// A supervisor that starts programs only after a yes of `may_start`, and lets others write only if
 /// `may_write` names no program, has all programs in flight well.
+#[tactic(auto, using(crate::proofs::Supervising::supervised_stays_well))]
 pub(crate) fn supervised_stays_well()
     ensures { SupervisedStaysWell }
 {}
 
 /// What the calls allow may happen, and so may each step and each end.
+#[tactic(auto, using(crate::proofs::Supervising::supervised_goes_on))]
 pub(crate) fn supervised_goes_on()
     ensures { SupervisedGoesOn }
 {}

@@ -14,6 +14,7 @@ use ckd_core::Extents;
 use std::alloc::{AllocError, Global};
 
 /// The least byte of an area that lies in one of some areas.
+#[tactic(auto, using(crate::proofs::Leasts::least_first, crate::proofs::Leasts::least_in_areas))]
 pub(crate) fn least_in(areas: &[Area], range: Area) -> Option<u32>
     ensures { IsLeastOrNone (λ b. (lies_in areas.now b ≡ true) × IsByteOf range b) result }
 {
@@ -29,6 +30,7 @@ pub(crate) fn least_in(areas: &[Area], range: Area) -> Option<u32>
 
 /// The least byte that lies in both of two lists. The cost is one pass over both if they are
 /// merged or one has a single area, and otherwise the product of their lengths.
+#[tactic(auto, using(crate::proofs::Leasts::least_first, crate::proofs::Leasts::least_in_areas))]
 pub(crate) fn least_shared(one: &[Area], other: &[Area]) -> Option<u32>
     ensures { IsLeastOrNone (IsShared one.now other.now) result }
 {
@@ -44,6 +46,7 @@ pub(crate) fn least_shared(one: &[Area], other: &[Area]) -> Option<u32>
 }
 
 /// The least byte that lies in both of two merged lists. The cost is one pass over both.
+#[tactic(auto, using(crate::proofs::Holding::ahead_first, crate::proofs::Holding::ahead_one, crate::proofs::Holding::share_none))]
 fn least_of_merged(one: &[Area], other: &[Area]) -> Option<u32>
     requires one { IsMerged one.now }
     requires other { IsMerged other.now }
@@ -80,6 +83,7 @@ pub(crate) fn least_unlent(
 }
 
 /// The least byte of some areas that lies in no area of a merged list, whose bytes have 24 bits.
+#[tactic(auto, using(crate::proofs::Leasts::least_first, crate::proofs::Leasts::least_in_areas))]
 fn least_beyond(areas: &[Area], lent: &[Area]) -> Option<u32>
     requires merged { IsMerged lent.now }
     requires low { (b : ℕ) → lies_in lent.now b ≡ true → b < 2 ^ 24 }
@@ -94,6 +98,7 @@ fn least_beyond(areas: &[Area], lent: &[Area]) -> Option<u32>
 }
 
 /// The least cylinder of some runs that lies in no extent.
+#[tactic(auto, using(crate::proofs::Leasts::least_first, crate::proofs::Leasts::least_in_runs))]
 pub(crate) fn least_outside(runs: &[(u16, u16)], extents: &Extents) -> Option<u16>
     ensures { IsLeastOrNone (λ n. (has_cylinder runs.now n ≡ true)
         × (has_cylinder extents.now n ≡ false)) result }

@@ -136,6 +136,7 @@ fn cylinder(look: &Look) -> Option<u16>
 }
 
 /// The first and the last cylinder of each area of a merged list of cylinders.
+#[tactic(auto, using(crate::proofs::Seeking::runs_next))]
 fn runs(alloc: Global, cylinders: &[Area]) -> Result<Vec<(u16, u16)>, AllocError>
     requires merged { IsMerged cylinders.now }
     requires low { All (EndsBelow (2 ^ 16 + 1)) cylinders.now }

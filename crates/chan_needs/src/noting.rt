@@ -156,6 +156,7 @@ fn add_range(ranges: &mut Vec<Area>, look: &Look, is_so: bool) -> Result<(), All
 
 /// The addresses of the reachable CCWs, transfers apart, whose flag for a program-controlled
 /// interruption is on.
+#[tactic(auto, using(crate::proofs::Noted::addresses_none))]
 fn interrupting(alloc: Global, looks: &[Look]) -> Result<Vec<u32>, AllocError>
     ensures { IfOk result (λ v. (j : Job) → AreLooks j looks.now
         → AreReached j (places_of_looks looks.now) → AreAddressesOf noted.interrupts j v.items) }
@@ -168,6 +169,7 @@ fn interrupting(alloc: Global, looks: &[Look]) -> Result<Vec<u32>, AllocError>
 }
 
 /// The addresses of the reachable No Operations and Recalibrates with both chaining flags on.
+#[tactic(auto, using(crate::proofs::Noted::addresses_none))]
 fn ending(alloc: Global, looks: &[Look]) -> Result<Vec<u32>, AllocError>
     ensures { IfOk result (λ v. (j : Job) → AreLooks j looks.now
         → AreReached j (places_of_looks looks.now) → AreAddressesOf noted.ends_there j v.items) }
@@ -227,6 +229,7 @@ fn ends_there(look: &Look) -> bool
 
 /// A law, like those of `laws`: where No Operation or Recalibrate begins with both chaining flags
 /// on, the program ends.
+#[tactic(auto, using(crate::proofs::Noted::nothing_follows))]
 fn nothing_follows()
     ensures { NothingFollows }
 {}

@@ -11,40 +11,47 @@ ghost use Rattle.chan_walk.specs.Open.{MoreIsYes, OpenJobIsOpen, SameUnderYes};
 ghost use Rattle.chan_walk.specs.Order.{NumbersIncrease};
 
 /// Where the verdict is yes, guarded bytes never change.
+#[tactic(auto, using(crate::proofs::Machine::Yes::guarded_stays))]
 pub(crate) fn guarded_stays()
     ensures { GuardedStays }
 {}
 
 /// Where the verdict is yes, every place of every run is reachable.
+#[tactic(auto, using(crate::proofs::Machine::Yes::stays_reachable))]
 pub(crate) fn stays_reachable()
     ensures { StaysReachable }
 {}
 
 /// Where the verdict is yes, what a seek under way has gathered, followed by the rest of its chain,
 /// is the allowed argument of a reachable seek.
+#[tactic(auto, using(crate::proofs::Machine::Yes::gathers_arguments))]
 pub(crate) fn gathers_arguments()
     ensures { GathersArguments }
 {}
 
 /// Where the verdict is yes, every run is safe and the job is steady.
+#[tactic(auto, using(crate::proofs::Machine::Yes::yes_is_safe))]
 pub(crate) fn yes_is_safe()
     ensures { YesIsSafe }
 {}
 
 /// Where the verdict is yes, every run among others that change no guarded byte is safe too, and
 /// the job is steady in them.
+#[tactic(auto, using(crate::proofs::Machine::Yes::yes_is_safe_among))]
 pub(crate) fn yes_is_safe_among()
     ensures { YesIsSafeAmong }
 {}
 
 /// Each path is the places of a run that begins at the first cylinder of the first extent and
 /// stores only what storage already held.
+#[tactic(auto, using(crate::proofs::Machine::Paths::each_path_is_run))]
 pub(crate) fn each_path_is_run()
     ensures { EachPathIsRun }
 {}
 
 /// Each path to an offending place is a witness: a run over exactly this path, which changes
 /// nothing on the way, shows the reason there.
+#[tactic(auto, using(crate::proofs::Machine::Alarm::each_path_shows))]
 pub(crate) fn each_path_shows()
     ensures { EachPathShows }
 {}
@@ -55,6 +62,7 @@ pub(crate) fn first_is_verdict()
 {}
 
 /// Where the verdict is no, a run comes to a place with its address and shows its reason there.
+#[tactic(auto, using(crate::proofs::Machine::Alarm::no_false_alarm))]
 pub(crate) fn no_false_alarm()
     ensures { NoFalseAlarm }
 {}
@@ -72,6 +80,7 @@ pub(crate) fn guarded_is_used()
 
 /// A job that is safe in every run and steady is so among others too, if they change no byte that
 /// some run of it uses.
+#[tactic(auto, using(crate::proofs::Machine::Exact::stays_safe))]
 pub(crate) fn stays_safe()
     ensures { StaysSafe }
 {}
@@ -99,6 +108,7 @@ pub(crate) fn yes_by_guarded()
 
 /// Where the verdict is yes, it is yes over what storage holds at any moment of any run, so that
 /// the program may start again.
+#[tactic(auto, using(crate::proofs::Machine::Again::yes_stays))]
 pub(crate) fn yes_stays()
     ensures { YesStays }
 {}

@@ -197,6 +197,7 @@ impl Look {
 }
 
 /// What is seen of a place where no CCW stands.
+#[tactic(auto, using(crate::proofs::Algorithms::Looking::taken_faulty, crate::proofs::Algorithms::Looking::next_faulty, crate::proofs::Theory::OwnFaults::fault_of_check))]
 fn look_at_nothing(place: Place) -> Look
     ensures place { result.place ≡ place }
     ensures look { (j : Job) → ccw_in (storage_of j) place.address ≡ None → IsLook j result }

@@ -77,6 +77,7 @@ fn unordered(alloc: Global, guard: &Guard, looks: &[Look]) -> Result<Vec<Offence
 }
 
 /// The own faults of the places that were looked at.
+#[tactic(auto, using(crate::proofs::Algorithms::Listing::offences_none))]
 fn faults_of(alloc: Global, looks: &[Look]) -> Result<Vec<Offence>, AllocError>
     requires { AreApart (places_of_looks looks.now) }
     ensures { IfOk result (λ v. (j : Job) → AreLooks j looks.now
@@ -104,6 +105,7 @@ fn add_fault(faults: &mut Vec<Offence>, look: &Look) -> Result<(), AllocError>
 }
 
 /// What the places that were looked at, none of which has an own fault, change that is guarded.
+#[tactic(auto, using(crate::proofs::Algorithms::Listing::offences_none))]
 fn changes_of(alloc: Global, guard: &Guard, looks: &[Look]) -> Result<Vec<Offence>, AllocError>
     requires { AreApart (places_of_looks looks.now) }
     ensures { IfOk result (λ v. (j : Job) → AreLooks j looks.now
@@ -151,6 +153,7 @@ fn stores_into(areas: &[Area], look: &Look) -> bool
 }
 
 /// The same offences, in order.
+#[tactic(auto, using(crate::proofs::Algorithms::Listing::same_offences))]
 fn in_order(offences: Vec<Offence>) -> Vec<Offence>
     requires { AreApart offences.items }
     ensures ordered { IsStrictlyIncreasing (map listed.offence_number result.items) }

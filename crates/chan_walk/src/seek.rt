@@ -215,6 +215,7 @@ fn bytes_of(storage: &Storage, count: usize, addresses: [u32; 6]) -> [u8; 6]
 }
 
 /// The whole argument, at the addresses of its bytes.
+#[tactic(auto, using(crate::proofs::Algorithms::Given::whole_argument))]
 pub(crate) fn whole_at(storage: &Storage, addresses: [u32; 6]) -> GivenBytes
     ensures argument { (address : ℕ)
         → HasAddresses (bytes_held storage.now) address (Some addresses)

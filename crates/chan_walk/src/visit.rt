@@ -1,4 +1,5 @@
 //! A CCW at a place, with the command that begins there: the command table is asked for it once.
+#![tactic(auto, using(crate::proofs::Algorithms::Visiting::begun_tells))]
 
 ghost use Rattle.std.specs.Prelude.{◌≡◌, option_map};
 ghost use Rattle.ckd_core.specs.Entries.{entry_of};

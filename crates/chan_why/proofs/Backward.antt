@@ -2,8 +2,6 @@
 use Rattle.std.proofs.Common.{◌≡◌, Bool, true, eqb, ◌&&◌, ℕ, ◌<◌, List, [], ◌∷◌, ◌++◌, append_assoc, length, reverse, slice_index, Option, Some, refl, sym, ap, ◌∙◌, subst, arith, rules}
 use Rattle.std.specs.List.{slice_get}
 use Rattle.std.proofs.lemmas.Bool.{and_from, eq-eqb}
-use denote.Enum.Bare.{sameb}
-use mathlib.Core.Bool.{beq}
 use Rattle.chan_walk.specs.declared.exploring.Walk.{Walk}
 use Rattle.chan_walk.specs.declared.job.Job.{Job}
 use Rattle.chan_walk.specs.declared.place.Entry.{Entry}
@@ -14,8 +12,11 @@ use Rattle.chan_walk.specs.Place.{first_place}
 use Rattle.chan_walk.specs.Walk.{HasFound, IsBest}
 use Rattle.chan_why.specs.Paths.{IsPathAt}
 use Rattle.chan_walk.proofs.Algorithms.Looking.{number_of_places}
-use Rattle.chan_walk.proofs.Algorithms.Tracing.{best_first, best_next, get_within}
+use Rattle.chan_walk.proofs.Algorithms.Tracing.{best_first, best_next}
 use Rattle.chan_walk.proofs.Algorithms.Walking.{all_found}
+use Rattle.std.proofs.lemmas.Option.{slice_get_within}
+use denote.Enum.Bare.{sameb}
+use mathlib.Core.Bool.{beq}
 
 -- the path that front ends, and whose front part is rest, is the best to the place of the index to
 pub record Ends (j : Job) (ps : List Place) (to : ℕ) (whole : List Place) : Type 0 where
@@ -80,7 +81,7 @@ pub same_place : (p q : Place) → p ≡ q → are_same p q ≡ true
 same_place p q e = subst (λ (z : Place). are_same p z ≡ true) e (and_from _ _ (eq-eqb p.address p.address refl) (and_from _ _ (same_entry p.entered) (same_flag p.after_transfer)))
 
 pub within_looks : (ls : List Seen) (p : Place) (k : ℕ) → slice_get (places_of_looks ls) k ≡ Some p → k < length ls
-within_looks ls p k e = omega (arith, number_of_places ls, get_within (places_of_looks ls) k p e)
+within_looks ls p k e = omega (arith, number_of_places ls, slice_get_within (places_of_looks ls) k p e)
 
 -- before the first step back the path is the place itself
 pub back_begin : (j : Job) (qs : List Place) (to : ℕ) (p : Place) (path : List Place) → slice_get qs to ≡ Some p → path ≡ p ∷ [] → IsWayBack j qs to to path

@@ -10,8 +10,10 @@ use Rattle.chan_walk.specs.Reachable.{IsReachable}
 use Rattle.chan_walk.specs.Walk.{HasFound, IsBest}
 use Rattle.chan_why.specs.Paths.{IsFirstWhere, IsPathAt}
 use Rattle.chan_walk.proofs.Algorithms.Looking.{number_of_places, place_at}
-use Rattle.chan_walk.proofs.Algorithms.Tracing.{best_first, best_next, get_within}
-use Rattle.chan_walk.proofs.Algorithms.Walking.{all_found, at_has}
+use Rattle.chan_walk.proofs.Algorithms.Tracing.{best_first, best_next}
+use Rattle.chan_walk.proofs.Algorithms.Walking.{all_found}
+use Rattle.std.proofs.lemmas.Option.{slice_get_within}
+use Rattle.chan_walk.proofs.Theory.Lists.{at_has}
 
 -- ---- the loop that looks for it
 
@@ -23,7 +25,7 @@ pub none_more : (P : Place → Type 0) (ls : List Seen) (i : ℕ) (l : Seen) →
 none_more P ls i l h e n old k p lt d holds = search (rules, cases_lt, place_at)
 
 pub none_at_all : (P : Place → Type 0) (ls : List Seen) (i : ℕ) → length ls ≤ i → NoneBefore P (places_of_looks ls) i → IsFirstWhere P (places_of_looks ls) None
-none_at_all P ls i h n k p e holds = n k p (omega (arith, number_of_places ls, get_within (places_of_looks ls) k p e)) e holds
+none_at_all P ls i h n k p e holds = n k p (omega (arith, number_of_places ls, slice_get_within (places_of_looks ls) k p e)) e holds
 
 pub first_there : (P : Place → Type 0) (ls : List Seen) (i : ℕ) (l : Seen) → i < length ls → l ≡ get_or ls i l → P l.place → NoneBefore P (places_of_looks ls) i → IsFirstWhere P (places_of_looks ls) (Some i)
 first_there P ls i l h e holds none = ((l.place, place_at ls i l h e, holds), none)
@@ -44,7 +46,7 @@ module _ (j : Job) (w : Walk) (f : HasFound j w) where
   best_at zero k p h e = absurd (omega arith)
   best_at (suc n) zero p h e = search (rules, best_first, all_found)
   best_at (suc n) (suc k) p h e =
-      let r = f.traced.from (suc k) (omega arith) (get_within ps (suc k) p e) in
+      let r = f.traced.from (suc k) (omega arith) (slice_get_within ps (suc k) p e) in
       let b = best_at n (slice_index w.found_from.items (suc k)) r.parent (omega (arith, r.earlier)) r.there in
       (r.parent ∷ b.0, best_next j ps w.found_from.items f.at f.traced f.all f.walked.apart (all_found j j.limit ps f.at f.walked f.all) (suc k) p r.parent b.0 (omega arith) e b.1)
 

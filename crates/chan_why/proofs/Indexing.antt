@@ -17,12 +17,14 @@ use Rattle.chan_why.specs.Explained.{IsLike}
 use Rattle.chan_walk.specs.Guard.{IsArgumentByteOf}
 use Rattle.chan_walk.specs.Reason.{number_of}
 use Rattle.chan_why.specs.Paths.{IsFirstWhere}
-use Rattle.chan_walk.proofs.Theory.Lists.{get_there, has_at}
+use Rattle.chan_walk.proofs.Theory.Lists.{has_at, at_has}
 use Rattle.chan_walk.proofs.Algorithms.Listing.{offence}
 use Rattle.chan_walk.proofs.Algorithms.Looking.{number_of_places}
 use Rattle.chan_walk.proofs.Algorithms.Marks.{same_number}
-use Rattle.chan_walk.proofs.Algorithms.Tracing.{get_within, same_index}
-use Rattle.chan_walk.proofs.Algorithms.Walking.{at_has, place_there}
+use Rattle.chan_walk.proofs.Algorithms.Tracing.{same_index}
+use Rattle.chan_walk.proofs.Algorithms.Walking.{place_there}
+use Rattle.chan_areas.proofs.Gaps.{least_same}
+use Rattle.std.proofs.lemmas.Option.{slice_get-get_or, slice_get_within}
 
 -- ---- one more
 
@@ -43,10 +45,6 @@ least_noted P at n (Some b) old is Q q = (held (cases_lt at b), λ a h. from a (
     from a (inl p) = let l = old.1 a p in omega (arith, is)
     from a (inr e) = omega (arith, is, e)
 
-same_least : (P Q : ℕ → Type 0) → ((a : ℕ) → P a ↔ Q a) → (o : Option ℕ) → IsLeastOrNone P o → IsLeastOrNone Q o
-same_least P Q e None n = λ a h. n a ((e a).1 h)
-same_least P Q e (Some b) h = ((e b).0 h.0, λ a k. h.1 a ((e a).1 k))
-
 -- an index with one more look that has a key
 pub note_more : (H G : ℕ → ℕ → Type 0) (key at : ℕ) (old new : BTreeMap ℕ ℕ) → ((k a : ℕ) → G k a ↔ (H k a ⊎ ((k ≡ key) × (a ≡ at)))) → IsIndex H old → KeepsLeast key at old new → IsIndex G new
 note_more H G key at old new more h n k = go (cases_eq k key)
@@ -64,28 +62,23 @@ note_more H G key at old new more h n k = go (cases_eq k key)
         back : (a : ℕ) → H k a ⊎ (a ≡ at) → G k a
         back a (inl x) = (more k a).1 (inl x)
         back a (inr x) = (more k a).1 (inr (e, x))
-    go (inr d) = subst (IsLeastOrNone (G k)) (sym (n.others k d)) (same_least (H k) (G k) (λ a. (λ x. (more k a).1 (inl x), λ g. only a ((more k a).0 g))) (tree.get nat_cmp old k) (h k))
+    go (inr d) = subst (IsLeastOrNone (G k)) (sym (n.others k d)) (least_same (H k) (G k) (tree.get nat_cmp old k) (λ a x. (more k a).1 (inl x)) (λ a g. only a ((more k a).0 g)) (h k))
       where
         only : (a : ℕ) → H k a ⊎ ((k ≡ key) × (a ≡ at)) → H k a
         only a (inl x) = x
         only a (inr x) = absurd (d x.0)
 
 pub same_keys : (H G : ℕ → ℕ → Type 0) (m : BTreeMap ℕ ℕ) → ((k a : ℕ) → H k a ↔ G k a) → IsIndex H m → IsIndex G m
-same_keys H G m e h k = same_least (H k) (G k) (e k) (tree.get nat_cmp m k) (h k)
+same_keys H G m e h k = least_same (H k) (G k) (tree.get nat_cmp m k) (λ a. (e k a).0) (λ a. (e k a).1) (h k)
 
 -- ---- the keys of the looks
-
-byte_at : (xs : List ℕ) (b : ℕ) → Has xs b → (i : ℕ) × (i < length xs) × (slice_get xs i ≡ Some b)
-byte_at [] b h = absurd h
-byte_at (x ∷ xs) b (inl e) = (0, omega arith, ap Some e)
-byte_at (x ∷ xs) b (inr h) = let r = byte_at xs b h in (suc r.0, omega (arith, r.1), r.2)
 
 -- one byte more of those that a look takes
 pub byte_more : (ls : List Seen) (at : ℕ) (xs : List ℕ) (i x d : ℕ) → i < length xs → x ≡ get_or xs i d → (k a : ℕ) → TakesSoFar ls at xs (i + 1) k a ↔ (TakesSoFar ls at xs i k a ⊎ ((k ≡ x) × (a ≡ at)))
 byte_more ls at xs i x d h is k a = (to, from)
   where
     there : slice_get xs i ≡ Some x
-    there = get_there xs i d h ∙ ap Some (sym is)
+    there = slice_get-get_or xs i d h ∙ ap Some (sym is)
 
     to : TakesSoFar ls at xs (i + 1) k a → TakesSoFar ls at xs i k a ⊎ ((k ≡ x) × (a ≡ at))
     to (inl g) = inl (inl g)
@@ -116,7 +109,7 @@ bytes_begin ls at xs m h = same_keys (TakesByte ls at) (TakesSoFar ls at xs 0) m
 
 module _ (ls : List Seen) (i : ℕ) (l : Seen) (h : i < length ls) (is : l ≡ get_or ls i l) where
   here : slice_get ls i ≡ Some l
-  here = get_there ls i l h ∙ ap Some (sym is)
+  here = slice_get-get_or ls i l h ∙ ap Some (sym is)
 
   same_look : (m : Seen) → slice_get ls i ≡ Some m → m ≡ l
   same_look m e = let s : ◌≡◌ {A = Option Seen} (Some m) (Some l) = sym e ∙ here in cc
@@ -154,7 +147,7 @@ module _ (ls : List Seen) (i : ℕ) (l : Seen) (h : i < length ls) (is : l ≡ g
           at (inr c) =
               let d : a ≡ i = omega (arith, g.0) in
               let s = same_look g.1.0 (subst (λ z. slice_get ls z ≡ Some g.1.0) d g.1.1) in
-              let x = byte_at l.argument k (subst (λ (m : Seen). Has m.argument k) s g.1.2) in
+              let x = at_has l.argument k (subst (λ (m : Seen). Has m.argument k) s g.1.2) in
               inr (d, (x.0, omega (arith, x.1), x.2))
 
 -- ---- the kinds of the offences
@@ -174,7 +167,7 @@ some_place ls p (Some b) is h = refl
 
 module _ (ls : List Seen) (apart : AreApart (places_of_looks ls)) (os : List Offence) (i : ℕ) (o d : Offence) (h : i < length os) (is : o ≡ get_or os i d) (at : ℕ) (found : IsLeastOf (IsAtPlace ls (length ls) (place_number o.place)) at) where
   there : slice_get os i ≡ Some o
-  there = get_there os i d h ∙ ap Some (sym is)
+  there = slice_get-get_or os i d h ∙ ap Some (sym is)
 
   abbrev seen : Seen
   seen = found.0.1.0
@@ -217,7 +210,7 @@ taker_found j ls b m o looks index is = first_where (λ q. IsArgumentByteOf j q 
     to : (k : ℕ) (p : Place) → slice_get (places_of_looks ls) k ≡ Some p → IsArgumentByteOf j p b → TakesByte ls (length ls) b k
     to k p e h =
         let l = look_there ls k p e in
-        let n = get_within (places_of_looks ls) k p e in
+        let n = slice_get_within (places_of_looks ls) k p e in
         (omega (arith, n, number_of_places ls), (l.0, l.1, ((looks l.0 (has_at ls k l.0 l.1)).argument b).1 (subst (λ (q : Place). IsArgumentByteOf j q b) (sym l.2) h)))
 
     back : (k : ℕ) → TakesByte ls (length ls) b k → (p : Place) × (slice_get (places_of_looks ls) k ≡ Some p) × IsArgumentByteOf j p b
@@ -228,11 +221,6 @@ taker_found j ls b m o looks index is = first_where (λ q. IsArgumentByteOf j q 
 same_kind : (o t : Offence) → kind_number o ≡ kind_number t → (o.place.address ≡ t.place.address) × (o.reason ≡ t.reason)
 same_kind o t e = search rules
 
-offence_there : (os : List Offence) (o : Offence) → Has os o → (k : ℕ) × (k < length os) × (slice_get os k ≡ Some o)
-offence_there [] o h = absurd h
-offence_there (t ∷ os) o (inl e) = (0, omega arith, ap Some e)
-offence_there (t ∷ os) o (inr h) = let r = offence_there os o h in (suc r.0, omega (arith, r.1), r.2)
-
 -- what the index has of an address and a reason is the first place that so offends
 pub like_found : (ls : List Seen) (os : List Offence) (o : Offence) (m : BTreeMap ℕ ℕ) (at : Option ℕ) → IsIndex (IsOfKind ls os (length os)) m → at ≡ tree.get nat_cmp m (kind_number o) → IsFirstWhere (IsLike os o) (places_of_looks ls) at
 like_found ls os o m at index is = first_where (IsLike os o) (places_of_looks ls) (IsOfKind ls os (length os) (kind_number o)) to back at (subst (IsLeastOrNone (IsOfKind ls os (length os) (kind_number o))) (sym is) (index (kind_number o)))
@@ -240,7 +228,7 @@ like_found ls os o m at index is = first_where (IsLike os o) (places_of_looks ls
     to : (k : ℕ) (p : Place) → slice_get (places_of_looks ls) k ≡ Some p → IsLike os o p → IsOfKind ls os (length os) (kind_number o) k
     to k p e h =
         let l = look_there ls k p e in
-        let x = offence_there os (offence p o.reason) h.1 in
+        let x = at_has os (offence p o.reason) h.1 in
         record { number = x.0; offence = offence p o.reason; look = l.0; below = x.1; listed = x.2; kind = ap (λ a. a * 32 + number_of o.reason) (sym h.0); seen = l.1; place = l.2 }
 
     back : (k : ℕ) → IsOfKind ls os (length os) (kind_number o) k → (p : Place) × (slice_get (places_of_looks ls) k ≡ Some p) × IsLike os o p

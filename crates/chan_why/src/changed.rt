@@ -47,6 +47,7 @@ pub(crate) fn changed_ccw(guard: &Guard, range: Area) -> Evidence
 }
 
 /// The index of the first place with an address.
+#[tactic(auto, using(crate::proofs::Finding::none_at_all))]
 fn first_at(looks: &[Look], address: u32) -> Option<usize>
     ensures { IsFirstWhere (λ q. q.address ≡ address) (places_of_looks looks.now) result }
 {

@@ -1,4 +1,5 @@
 pub mod TableLemmas
 mod Permitting
+pub mod LevelLemmas
 pub mod CylinderLemmas
 pub mod ArgumentLemmas

@@ -3,6 +3,7 @@ pub mod Table
 pub mod Entries
 pub mod Further
 pub mod Mask
+pub mod Levels
 pub mod Cylinders
 pub mod HeldCylinders
 pub mod Faults

@@ -25,6 +25,7 @@ mod command;
 mod device;
 mod extents;
 mod further;
+mod levels;
 mod mask;
 mod track;
 
@@ -32,5 +33,6 @@ pub use crate::command::{Command, Kind, MaskClass, lookup};
 pub use crate::device::Device;
 pub use crate::extents::{ExtentError, Extents, LAST_CYLINDER};
 pub use crate::further::further_name;
+pub use crate::levels::Levels;
 pub use crate::mask::FileMask;
 pub use crate::track::{Track, allowed};

@@ -3,6 +3,7 @@
 ghost use Rattle.std.specs.Prelude.{◌≡◌, ◌↔◌, true, None, IsSome, IfSome, option_map};
 ghost use Rattle.std.specs.Prelude.{if◌then◌else◌};
 ghost use Rattle.ckd_core.specs.Entries.{entry_of};
+ghost use Rattle.ckd_core.specs.Levels.{mask_of};
 ghost use Rattle.ckd_core.specs.Mask as specs;
 ghost use Rattle.ckd_core.specs.Mask.{StrictnessIsByClass, inhibits_class, is_at_least, is_mask};
 ghost use Rattle.ckd_core.specs.Mask.{permits_beyond};
@@ -10,6 +11,7 @@ ghost use Rattle.ckd_core.specs.Table.{class_passes};
 ghost use Rattle.ckd_core.specs.Table as table;
 
 use crate::command::{Command, MaskClass, lookup};
+use crate::levels::Levels;
 use std::marker::Model;
 
 /// The bits that decide over writes.
@@ -17,17 +19,6 @@ const WRITES: u8 = 0xC0;
 
 /// The bits that decide over seeks.
 const SEEKS: u8 = 0x18;
-
-/// The classes of commands that some mask inhibits.
-const INHIBITABLE: [MaskClass; 7] = [
-    MaskClass::Seek,
-    MaskClass::SeekCylinder,
-    MaskClass::SeekHead,
-    MaskClass::Recalibrate,
-    MaskClass::WriteHome,
-    MaskClass::WriteFormat,
-    MaskClass::WriteUpdate,
-];
 
 /// A file mask: one byte, of which the bits `C0` decide over writes and the bits `18` over seeks.
 ///
@@ -95,9 +86,24 @@ impl FileMask {
     pub fn at_least(&self, than: FileMask) -> bool
         ensures { result ≡ is_at_least self.now than }
     {
-        // This tells the prover that the byte of a mask is a mask.
-        let FileMask { byte: _byte } = *self;
-        INHIBITABLE.iter().all(|class| !than.inhibits_class(*class) || self.inhibits_class(*class))
+        let FileMask { byte } = *self;
+        let (levels, least) = (Levels::of(byte), Levels::of(than.byte()));
+        least.writes <= levels.writes && least.seeks <= levels.seeks
+    }
+
+    /// The mask of these levels.
+    pub fn of_levels(levels: Levels) -> FileMask
+        ensures { result ≡ mask_of levels.writes levels.seeks }
+    {
+        let writes = match levels.writes {
+            0 => 0xC0,
+            1 => 0x00,
+            2 => 0x80,
+            _ => 0x40,
+        };
+        FileMask {
+            byte: writes + 8 * levels.seeks,
+        }
     }
 
     /// The command with the least code that another mask inhibits and this one permits. If this one
@@ -129,18 +135,8 @@ impl FileMask {
     fn inhibits_class(&self, class: MaskClass) -> bool
         ensures { result ≡ inhibits_class self.now class }
     {
-        let FileMask { byte } = *self;
-        let writes = byte & WRITES;
-        let seeks = byte & SEEKS;
-        match class {
-            MaskClass::Plain | MaskClass::SetMask => false,
-            MaskClass::Seek | MaskClass::Recalibrate => seeks != 0x00,
-            MaskClass::SeekCylinder => seeks == 0x10 || seeks == 0x18,
-            MaskClass::SeekHead => seeks == 0x18,
-            MaskClass::WriteHome => writes != 0xC0,
-            MaskClass::WriteFormat => writes == 0x40 || writes == 0x80,
-            MaskClass::WriteUpdate => writes == 0x40,
-        }
+        let (levels, most) = (Levels::of(self.byte), Levels::permitting(class));
+        most.writes < levels.writes || most.seeks < levels.seeks
     }
 }
 

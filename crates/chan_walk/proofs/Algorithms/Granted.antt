@@ -23,7 +23,7 @@ use Rattle.chan_walk.specs.Place.{transferred_to, ccw_of}
 use Rattle.chan_walk.proofs.Algorithms.Counted.{AreSame, verdict_both}
 use Rattle.chan_walk.proofs.Theory.Granting.{turned, ccw_over, seek_byte_over, mask_byte_over, covered_more, refused_more}
 use Rattle.chan_walk.proofs.Theory.OwnFaults.{data_in_storage}
-use Rattle.chan_walk.proofs.Theory.Strictness.{laxer_permits, strict_as_laxer}
+use Rattle.chan_walk.proofs.Theory.Masks.{laxer_permits, strict_as_laxer}
 
 alike : (a b : Bool) → (a ≡ true → b ≡ true) → (b ≡ true → a ≡ true) → a ≡ b
 alike a b h k = search rules

@@ -20,7 +20,8 @@ use Rattle.chan_walk.specs.Place.{ccw_of}
 use Rattle.chan_areas.specs.Ranges.{EndsBelow, HaveSameBytes}
 use Rattle.chan_walk.proofs.Theory.Chains.{chain_unique}
 use Rattle.chan_walk.proofs.Theory.Lists.{has_left, has_right, has_cases}
-use Rattle.chan_areas.proofs.Merging.{lies_in-append, lies_in-cases, lies_in-first, lies_in-rest, get_any}
+use Rattle.chan_areas.proofs.Merging.{lies_in-append, lies_in-cases, lies_in-first, lies_in-rest}
+use Rattle.std.proofs.lemmas.List.{get_or_default}
 
 -- the areas have exactly the bytes that are P's at some place of the list
 abbrev pub HoldBytes : (Place → ℕ → Type 0) → List Place → List Area → Type 0
@@ -77,7 +78,7 @@ lies_in-bytes [] b = ((λ h. absurd (both_ways (lies_in [] b) (lies_in-nil b) h)
 lies_in-bytes (x ∷ xs) b = search (rules, lies_in-cases, lies_in-first, lies_in-rest, lies_in-bytes xs b)
 
 pub low_bytes : (xs : List ℕ) → ((i : ℕ) → get_or xs i 0 < 2 ^ 24) → All (EndsBelow (2 ^ 32)) (map byte_area xs)
-low_bytes xs h = All-map (EndsBelow (2 ^ 32)) byte_area xs (λ i d l. let k = h i in let e = get_any xs i d 0 l in omega arith)
+low_bytes xs h = All-map (EndsBelow (2 ^ 32)) byte_area xs (λ i d l. let k = h i in let e = get_or_default xs i d 0 l in omega arith)
 
 -- the argument at a place that begins a seek and has no own fault
 pub bytes_of_argument : (j : Job) (p : Place) (l x : List ℕ) → begins_seek p (ccw_of j p) ≡ true → IsClear j p → IsChain (storage_of j) 6 p.address l → x ≡ argument_addresses (storage_of j) l → (b : ℕ) → Has x b ↔ IsSeekByteOf j p b

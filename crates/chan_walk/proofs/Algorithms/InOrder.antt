@@ -220,14 +220,14 @@ bit_is_way m qs a w l h = (to, from)
 
 -- ---- how many
 
-pub distinct : (ps : List Place) → AreApart ps → IsDistinct eqb (map place_number ps)
+pub distinct : {X : Type 0} (number : X → ℕ) → ((x y : X) → number x ≡ number y → x ≡ y) → (xs : List X) → AreApart xs → IsDistinct eqb (map number xs)
 unfolding IsDistinct
-distinct [] a = tt
-distinct (p ∷ ps) a = (all ps a.0, distinct ps a.1)
+distinct number same [] a = tt
+distinct {X} number same (x ∷ xs) a = (all xs a.0, distinct number same xs a.1)
   where
-    all : (qs : List Place) → (Has qs p → ⊥) → AllByRecursion (λ y. eqb (place_number p) y ≡ false) (map place_number qs)
+    all : (ys : List X) → (Has ys x → ⊥) → AllByRecursion (λ n. eqb (number x) n ≡ false) (map number ys)
     all [] n = tt
-    all (q ∷ qs) n = (ne_eqb (place_number p) (place_number q) (λ e. n (inl (sym (same_number p q e)))), all qs (λ h. n (inr h)))
+    all (y ∷ ys) n = (ne_eqb (number x) (number y) (λ e. n (inl (sym (same x y e)))), all ys (λ h. n (inr h)))
 
 pub has_number : (k : ℕ) (ps : List Place) → list_any (λ y. eqb k y) (map place_number ps) ≡ true → (p : Place) × Has ps p × (place_number p ≡ k)
 has_number k [] h = absurd (cc)
@@ -241,7 +241,7 @@ number_has k (q ∷ ps) p (inr h) e = or_right _ _ (number_has k ps p h e)
 -- places that are apart, each of which the second list has, are no more than it has
 pub fewer : (ps qs : List Place) → AreApart ps → ((p : Place) → Has ps p → Has qs p) → length ps ≤ length qs
 fewer ps qs a f =
-    let l : length (map place_number ps) ≤ length (map place_number qs) = length-le_from_is_member nat_eq_equiv (map place_number ps) (map place_number qs) (distinct ps a) (λ k h. let r = has_number k ps h in number_has k qs r.0 (f r.0 r.1) r.2) in
+    let l : length (map place_number ps) ≤ length (map place_number qs) = length-le_from_is_member nat_eq_equiv (map place_number ps) (map place_number qs) (distinct place_number same_number ps a) (λ k h. let r = has_number k ps h in number_has k qs r.0 (f r.0 r.1) r.2) in
     omega (arith, length-map ps place_number, length-map qs place_number)
 
 pub listed_few : (j : Job) (n : ℕ) (m : BTreeMap ℕ ℕ) (ps qs : List Place) (i : ℕ) → ListsMarks m qs → Agrees m ps → IsWalked j n ps i → length qs ≤ n

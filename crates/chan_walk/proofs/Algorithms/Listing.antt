@@ -1,11 +1,11 @@
 -- The first of a job's offences is the verdict.
-use Rattle.std.proofs.Common.{◌≡◌, Bool, IsTrue, true, false, eqb, ◌==◌, min, ℕ, ◌<◌, ◌≤◌, List, [], ◌∷◌, ◌++◌, append_assoc, append-nil, map, take, drop, length, get_or, slice_get, Option, Some, None, refl, sym, ap, ◌∙◌, subst, ◌⊎◌, inl, inr, ◌↔◌, arith, Less, rules}
+use Rattle.std.proofs.Common.{◌≡◌, Bool, IsTrue, true, false, ◌==◌, min, ℕ, ◌<◌, ◌≤◌, List, [], ◌∷◌, ◌++◌, append_assoc, append-nil, map, take, drop, length, get_or, slice_get, Option, Some, None, refl, sym, ap, ◌∙◌, subst, ◌⊎◌, inl, inr, ◌↔◌, arith, Less, rules}
 use Rattle.std.proofs.lemmas.Grind.{common_steps}
-use Rattle.std.specs.List.Sorted.{IsNonDecreasing, IsNonDecreasingBy, IsPermutation, IsStrictlyIncreasing, IsStrictlySortedBy}
-use Rattle.std.specs.List.{AllByRecursion, IsDistinct}
+use Rattle.std.specs.List.Sorted.{IsNonDecreasingBy, IsPermutation, IsStrictlyIncreasing, IsStrictlySortedBy}
+use Rattle.std.specs.List.{AllByRecursion}
 use Rattle.std.specs.Ordering.{nat_cmp}
-use Rattle.std.proofs.lemmas.Bool.{both_ways, cases_lt, eq-eqb, eqb-true, ne_eqb}
-use Rattle.std.proofs.lemmas.List.{get_or-map, length-map, length-take, map-append, take-append-drop}
+use Rattle.std.proofs.lemmas.Bool.{both_ways, cases_lt, eq-eqb, eqb-true}
+use Rattle.std.proofs.lemmas.List.{length-take, map-append, take-append-drop}
 use Rattle.std.proofs.lemmas.List.Sorted.{Contains-permutation, IsPermutation-map, IsPermutation-sym}
 use Rattle.std.proofs.lemmas.Map.Keys.{IsDistinct-IsPermutation, IsStrictlyIncreasing-from_distinct, sorted_from_strictly_increasing}
 use Rattle.ccw_core.specs.declared.areas.Area.{Area}
@@ -28,14 +28,14 @@ use Rattle.chan_walk.specs.Reason.{number_of}
 use Rattle.chan_walk.specs.Verdict.{Changes, ComesFirst, Offends, StoresOver}
 use Rattle.chan_walk.proofs.Theory.Checks.{check_stands}
 use Rattle.chan_walk.proofs.Theory.Faults.{clear_check, fault_unique}
-use Rattle.chan_walk.proofs.Algorithms.InOrder.{cmp_less}
-use Rattle.chan_walk.proofs.Theory.Lists.{contains_has, has_cases, has_contains, has_left, has_push, has_right}
+use Rattle.chan_walk.proofs.Algorithms.InOrder.{cmp_less, distinct}
+use Rattle.chan_walk.proofs.Theory.Lists.{contains_has, has_cases, has_contains, has_left, has_push, has_right, at_has}
 use Rattle.chan_walk.proofs.Algorithms.Looking.{number_of_places, place_at}
 use Rattle.chan_walk.proofs.Algorithms.Marks.{same_place, way_small}
-use Rattle.chan_walk.proofs.Algorithms.Sorting.{eqb_flips}
+use Rattle.chan_walk.proofs.Algorithms.Sorting.{eqb_flips, non_decreasing}
 use Rattle.chan_walk.proofs.Algorithms.Tracing.{same_index}
 use Rattle.chan_walk.proofs.Algorithms.Verdicts.{change_of, clear_all, meets_from_over, not_clear, over_from_meets}
-use Rattle.chan_walk.proofs.Algorithms.Walking.{at_has, slice_get-append}
+use Rattle.chan_walk.proofs.Algorithms.Walking.{slice_get-append}
 
 -- an offence by its place and its reason
 abbrev pub offence : Place → Reason → Offence
@@ -111,29 +111,10 @@ same_offence o t e =
     let reason = same_reason o.reason t.reason number in
     ap (λ z. offence z o.reason) place ∙ ap (offence t.place) reason
 
-distinct : (os : List Offence) → AreApart os → IsDistinct eqb (map offence_number os)
-unfolding IsDistinct
-distinct [] a = tt
-distinct (o ∷ os) a = (all os a.0, distinct os a.1)
-  where
-    all : (ts : List Offence) → (Has ts o → ⊥) → AllByRecursion (λ y. eqb (offence_number o) y ≡ false) (map offence_number ts)
-    all [] n = tt
-    all (t ∷ ts) n = (ne_eqb (offence_number o) (offence_number t) (λ e. n (inl (sym (same_offence o t e)))), all ts (λ h. n (inr h)))
-
 -- ---- put in order
 
-non_decreasing : (os : List Offence) → IsNonDecreasingBy offence_number os → IsNonDecreasing (map offence_number os)
-non_decreasing [] up i j d le lt = absurd (omega arith)
-non_decreasing (o ∷ os) up i j d le lt =
-    let n : length (map offence_number (o ∷ os)) ≡ length (o ∷ os) = length-map (o ∷ os) offence_number in
-    let below : j < length (o ∷ os) = omega arith in
-    let a = get_or-map offence_number (o ∷ os) i o d (omega arith) in
-    let b = get_or-map offence_number (o ∷ os) j o d below in
-    let h = up i j o le below in
-    omega (arith, a, b, h)
-
 pub increasing : (os ts : List Offence) → IsNonDecreasingBy offence_number ts → IsPermutation os ts → AreApart os → IsStrictlyIncreasing (map offence_number ts)
-increasing os ts up moved apart = search (rules, distinct, IsDistinct-IsPermutation, eqb_flips, IsPermutation-map, IsStrictlyIncreasing-from_distinct, non_decreasing)
+increasing os ts up moved apart = search (rules, distinct offence_number same_offence, IsDistinct-IsPermutation, eqb_flips, IsPermutation-map, IsStrictlyIncreasing-from_distinct, non_decreasing offence_number)
 
 pub same_offences : (os ts : List Offence) (o : Offence) → IsPermutation os ts → Has ts o ↔ Has os o
 same_offences os ts o moved = search (rules, contains_has, Contains-permutation, IsPermutation-sym, has_contains)

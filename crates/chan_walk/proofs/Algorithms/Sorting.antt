@@ -12,6 +12,7 @@ use Rattle.chan_walk.specs.Explored.{AreApart, place_number}
 use Rattle.chan_walk.specs.Look.{Seen, place_of, places_of_looks}
 use Rattle.chan_walk.proofs.Algorithms.InOrder.{distinct}
 use Rattle.chan_walk.proofs.Theory.Lists.{contains_has, has_contains}
+use Rattle.chan_walk.proofs.Algorithms.Marks.{same_number}
 
 -- the number of a look's place
 abbrev number : Seen → ℕ
@@ -25,14 +26,14 @@ by_number : (cmp : Place → Place → Ordering) (ls : List Seen) → ((p q : Pl
     → IsSortedByKey place_of cmp ls → IsNonDecreasingBy number ls
 by_number cmp ls same up = IsNonDecreasingBy-from_sort number ls (λ k d low high. ap is_lt (sym (same (get_or ls (k + 1) d).place (get_or ls k d).place)) ∙ up k d low high)
 
-non_decreasing : (ls : List Seen) → IsNonDecreasingBy number ls → IsNonDecreasing (map number ls)
-non_decreasing [] up i j d le lt = absurd (omega arith)
-non_decreasing (l ∷ ls) up i j d le lt =
-    let n : length (map number (l ∷ ls)) ≡ length (l ∷ ls) = length-map (l ∷ ls) number in
-    let below : j < length (l ∷ ls) = omega arith in
-    let a = get_or-map number (l ∷ ls) i l d (omega arith) in
-    let b = get_or-map number (l ∷ ls) j l d below in
-    let h = up i j l le below in
+pub non_decreasing : {X : Type 0} (n : X → ℕ) (xs : List X) → IsNonDecreasingBy n xs → IsNonDecreasing (map n xs)
+non_decreasing n [] up i j d le lt = absurd (omega arith)
+non_decreasing n (x ∷ xs) up i j d le lt =
+    let e : length (map n (x ∷ xs)) ≡ length (x ∷ xs) = length-map (x ∷ xs) n in
+    let below : j < length (x ∷ xs) = omega arith in
+    let a = get_or-map n (x ∷ xs) i x d (omega arith) in
+    let b = get_or-map n (x ∷ xs) j x d below in
+    let h = up i j x le below in
     omega (arith, a, b, h)
 
 pub eqb_flips : (x y : ℕ) → eqb x y ≡ eqb y x
@@ -41,7 +42,7 @@ eqb_flips x y = search rules
 -- sorted by place, and no place twice
 pub increasing : (cmp : Place → Place → Ordering) (ls ms : List Seen) → ((p q : Place) → cmp p q ≡ nat_cmp (place_number p) (place_number q))
     → IsSortedByKey place_of cmp ms → IsPermutation ls ms → AreApart (places_of_looks ls) → IsStrictlyIncreasing (map place_number (places_of_looks ms))
-increasing cmp ls ms same up moved apart = search (rules, numbers_of_places, distinct, IsDistinct-IsPermutation, eqb_flips, IsPermutation-map, IsStrictlyIncreasing-from_distinct, non_decreasing, by_number)
+increasing cmp ls ms same up moved apart = search (rules, numbers_of_places, distinct place_number same_number, IsDistinct-IsPermutation, eqb_flips, IsPermutation-map, IsStrictlyIncreasing-from_distinct, non_decreasing number, by_number)
 
 pub same_looks : (ls ms : List Seen) (l : Seen) → IsPermutation ls ms → Has ms l ↔ Has ls l
 same_looks ls ms l moved = search (rules, contains_has, Contains-permutation, IsPermutation-sym, has_contains)

@@ -15,15 +15,13 @@ use Rattle.chan_walk.specs.Reachable.{IsPath, IsReachable}
 use Rattle.chan_walk.specs.Successors.{AreSuccessors}
 use Rattle.chan_walk.specs.Walk.{Adds, AreSiblings, Follows, IsAmong, IsBest, IsFoundBy, IsFrom, IsTraced}
 use Rattle.chan_walk.proofs.Theory.Faults.{fault_exists}
-use Rattle.chan_walk.proofs.Theory.Lists.{has_at}
-use Rattle.chan_walk.proofs.Algorithms.Walking.{at_has, follows_exactly, slice_get-append}
+use Rattle.chan_walk.proofs.Theory.Lists.{has_at, at_has}
+use Rattle.chan_walk.proofs.Algorithms.Walking.{follows_exactly, slice_get-append}
+use Rattle.std.proofs.Math.Seq.{get_or-append_seam}
+use Rattle.std.proofs.Math.ListN.{get_or-append}
+use Rattle.std.proofs.lemmas.Option.{slice_get_within}
 
 -- ---- lists by their index
-
-pub get_within : (ps : List Place) (k : ℕ) (p : Place) → slice_get ps k ≡ Some p → k < length ps
-get_within [] k p e = absurd (cc)
-get_within (q ∷ ps) zero p e = omega arith
-get_within (q ∷ ps) (suc k) p e = let r = get_within ps k p e in omega (arith, r)
 
 get_last : (ps : List Place) (q : Place) (k : ℕ) → k ≡ length ps → slice_get (ps ++ q ∷ []) k ≡ Some q
 get_last [] q zero e = refl
@@ -32,15 +30,10 @@ get_last (p ∷ ps) q zero e = absurd (omega arith)
 get_last (p ∷ ps) q (suc k) e = get_last ps q k (omega arith)
 
 index_old : (fs : List ℕ) (x k : ℕ) → k < length fs → slice_index (fs ++ x ∷ []) k ≡ slice_index fs k
-index_old [] x k h = absurd (omega arith)
-index_old (f ∷ fs) x zero h = refl
-index_old (f ∷ fs) x (suc k) h = index_old fs x k (omega arith)
+index_old fs x k h = get_or-append fs (x ∷ []) 0 k h
 
 index_last : (fs : List ℕ) (x k : ℕ) → k ≡ length fs → slice_index (fs ++ x ∷ []) k ≡ x
-index_last [] x zero e = refl
-index_last [] x (suc k) e = absurd (omega arith)
-index_last (f ∷ fs) x zero e = absurd (omega arith)
-index_last (f ∷ fs) x (suc k) e = index_last fs x k (omega arith)
+index_last fs x k e = ap (slice_index (fs ++ x ∷ [])) e ∙ get_or-append_seam fs x [] 0
 
 pub same_index : (ps : List Place) (p : Place) (k l : ℕ) → AreApart ps → slice_get ps k ≡ Some p → slice_get ps l ≡ Some p → k ≡ l
 same_index [] p k l a e f = absurd (cc)
@@ -53,7 +46,7 @@ same_index (q ∷ ps) p (suc k) (suc l) a e f = ap suc (same_index ps p k l a.1 
 
 found_push : (ps : List Place) (fs : List ℕ) (q r : Place) (x k : ℕ) → length fs ≡ length ps → IsFoundBy ps fs k q → IsFoundBy (ps ++ r ∷ []) (fs ++ x ∷ []) k q
 found_push ps fs q r x k same f =
-    let within = get_within ps f.0 q f.1 in
+    let within = slice_get_within ps f.0 q f.1 in
     (f.0, slice_get-append ps (r ∷ []) f.0 within ∙ f.1, λ h. subst (λ n. n ≤ k) (sym (index_old fs x f.0 (omega arith))) (f.2 h))
 
 module _ (j : Job) (ps : List Place) (fs : List ℕ) (i : ℕ) (p q : Place) (t : IsTraced j ps fs i (i + 1)) (there : slice_get ps i ≡ Some p) (follows : Follows j p q)
@@ -74,7 +67,7 @@ module _ (j : Job) (ps : List Place) (fs : List ℕ) (i : ℕ) (p q : Place) (t 
   new = index_last fs i (length ps) (sym t.each)
 
   within : i < length ps
-  within = get_within ps i p there
+  within = slice_get_within ps i p there
 
   there' : slice_get more i ≡ Some p
   there' = slice_get-append ps (q ∷ []) i within ∙ there
@@ -121,7 +114,7 @@ module _ (j : Job) (ps : List Place) (fs : List ℕ) (i : ℕ) (p q : Place) (t 
         parent = r.parent;
         elder = r.elder;
         younger = r.younger;
-        there = ap (slice_get more) f ∙ slice_get-append ps (q ∷ []) (slice_index fs k) (get_within ps (slice_index fs k) r.parent r.there) ∙ r.there;
+        there = ap (slice_get more) f ∙ slice_get-append ps (q ∷ []) (slice_index fs k) (slice_get_within ps (slice_index fs k) r.parent r.there) ∙ r.there;
         one = slice_get-append ps (q ∷ []) k (omega arith) ∙ r.one;
         other = slice_get-append ps (q ∷ []) l c ∙ r.other;
         next = r.next;
@@ -152,7 +145,7 @@ module _ (j : Job) (ps : List Place) (fs : List ℕ) (i : ℕ) (p q : Place) (t 
     rising = λ k l h o b. rising k l h o b (cases_lt l (length ps)) (cases_lt k (length ps));
     siblings = λ k l h o b e. siblings k l h o b e (cases_lt l (length ps));
     found = λ k a s h e f.
-        let w = get_within more k a e in
+        let w = slice_get_within more k a e in
         let low : k < length ps = omega (arith, within) in
         found_push ps fs s q i k t.each (t.found k a s h (sym (slice_get-append ps (q ∷ []) k low) ∙ e) f);
   }
@@ -205,7 +198,7 @@ module _ (j : Job) (p : Place) (n : Next) (i : ℕ) (are : AreSuccessors j p n) 
   next_found l ps qs fs gs t there o e a = go o e a
     where
       none : (k : ℕ) (s : Place) → 0 < k → slice_get ps k ≡ Some s → slice_index fs k ≡ i → ⊥
-      none k s h g f = let m = (t.from k h (get_within ps k s g)).among in omega arith
+      none k s h g f = let m = (t.from k h (slice_get_within ps k s g)).among in omega arith
 
       same : ((q : Place) → n.next ≡ Some q → IsFoundBy ps fs i q) → HasNext j p n i ps fs
       same has = record { traced = traced_more j ps fs i t; there = there; only = λ k s h g f. absurd (none k s h g f); has = has }
@@ -227,14 +220,14 @@ module _ (j : Job) (p : Place) (n : Next) (i : ℕ) (are : AreSuccessors j p n) 
           only : (k : ℕ) (s : Place) → 0 < k → slice_get (ps ++ q ∷ []) k ≡ Some s → slice_index (fs ++ i ∷ []) k ≡ i → (k < length ps) ⊎ (length ps ≤ k) → n.next ≡ Some s
           only k s h g f (inl b) = absurd (none k s h (sym (slice_get-append ps (q ∷ []) k b) ∙ g) (sym (index_old fs i k (omega (arith, t.each))) ∙ f))
           only k s h g f (inr b) =
-              let w = get_within (ps ++ q ∷ []) k s g in
+              let w = slice_get_within (ps ++ q ∷ []) k s g in
               let last = get_last ps q k (omega (arith, length-append ps (q ∷ []))) in
               e ∙ sym last ∙ g
 
           more : HasNext j p n i (ps ++ q ∷ []) (fs ++ i ∷ [])
           more = record {
             traced = traced_push j ps fs i p q t' there follows (λ k s h g f. absurd (none k s h g f));
-            there = slice_get-append ps (q ∷ []) i (get_within ps i p there) ∙ there;
+            there = slice_get-append ps (q ∷ []) i (slice_get_within ps i p there) ∙ there;
             only = λ k s h g f. only k s h g f (cases_lt k (length ps));
             has = λ r g. let d : q ≡ r = cc in (length ps, get_last ps q (length ps) refl ∙ ap Some d, λ z. let m = index_last fs i (length ps) (sym t.each) in omega arith);
           }
@@ -269,7 +262,7 @@ module _ (j : Job) (p : Place) (n : Next) (i : ℕ) (are : AreSuccessors j p n) 
           more : HasBoth j p n i (qs ++ q ∷ []) (gs ++ i ∷ [])
           more = record {
             traced = traced_push j qs gs i p q m.traced m.there follows (λ k s h g f. (by_next j p n s are (m.only k s h g f), by_skip j p n q are e));
-            there = slice_get-append qs (q ∷ []) i (get_within qs i p m.there) ∙ m.there;
+            there = slice_get-append qs (q ∷ []) i (slice_get_within qs i p m.there) ∙ m.there;
             has = each;
           }
 
@@ -304,7 +297,7 @@ module _ (j : Job) (ps : List Place) (fs : List ℕ) (i : ℕ) (t : IsTraced j p
   best_next k c p rest pos here b = record { here = here; path = (b.path, follows.0, follows.1); first = λ l q qs h e f. first l q qs h e f }
     where
       low : k < length ps
-      low = get_within ps k c here
+      low = slice_get_within ps k c here
 
       r : IsFrom j ps fs i k
       r = t.from k pos low
@@ -335,8 +328,8 @@ module _ (j : Job) (ps : List Place) (fs : List ℕ) (i : ℕ) (t : IsTraced j p
               let one : c ≡ q = cc in
               inr (ap suc n, inl (ap (λ z. z ∷ p ∷ rest) one ∙ ap (λ z. q ∷ z) s))
           go (inl lt) =
-              let up = t.rising k l pos h (get_within ps l q e) in
-              let z = t.siblings k l pos lt (get_within ps l q e) (omega (arith, at, up, o)) in
+              let up = t.rising k l pos h (slice_get_within ps l q e) in
+              let z = t.siblings k l pos lt (slice_get_within ps l q e) (omega (arith, at, up, o)) in
               let d : ◌≡◌ {A = Option Place} (Some z.parent) (Some p) = sym z.there ∙ b.here in
               let f : ◌≡◌ {A = Option Place} (Some z.elder) (Some c) = sym z.one ∙ here in
               let g : ◌≡◌ {A = Option Place} (Some z.younger) (Some q) = sym z.other ∙ e in
@@ -352,5 +345,5 @@ module _ (j : Job) (ps : List Place) (fs : List ℕ) (i : ℕ) (t : IsTraced j p
           let by = t.found a.0 x q (omega (arith, a.1)) a.2 (f.1, f.2) in
           let same = same_index ps q by.0 l apart by.1 e in
           let lo : slice_index fs l ≤ a.0 = subst (λ z. slice_index fs z ≤ a.0) same (by.2 (omega arith)) in
-          let up = t.rising k l pos h (get_within ps l q e) in
+          let up = t.rising k l pos h (slice_get_within ps l q e) in
           meet l a.0 q x qs h e a.2 lo (b.first a.0 x qs (omega arith) a.2 f.0)

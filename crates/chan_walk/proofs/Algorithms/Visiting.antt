@@ -27,3 +27,6 @@ begins_set_mask-begun p c = fresh_passes (is_fresh p.entered) class_sets_mask (l
 -- a fresh place's command is the one that the table has for its code
 pub begun-fresh : (p : Place) (c : Fields) → is_fresh p.entered ≡ true → begun p c ≡ lookup c.command
 begun-fresh p c e = rw e refl
+
+-- what a command that begins tells of its place
+pub ruleset begun_tells = (begins_seek-begun, begins_recalibrate-begun, begins_set_mask-begun)

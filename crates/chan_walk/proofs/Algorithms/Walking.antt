@@ -18,7 +18,7 @@ use Rattle.chan_walk.specs.Reachable.{IsPath, IsReachable}
 use Rattle.chan_walk.specs.Successors.{AreSuccessors, Successor}
 use Rattle.chan_walk.specs.Walk.{Follows, IsAmong, Adds, HasFound, Overflows, IsWalked}
 use Rattle.chan_walk.proofs.Theory.Faults.{fault_exists, fault_unique}
-use Rattle.chan_walk.proofs.Theory.Lists.{has_at, has_left, has_push}
+use Rattle.chan_walk.proofs.Theory.Lists.{has_at, has_left, has_push, at_has}
 
 -- ---- places by their index
 
@@ -26,11 +26,6 @@ pub slice_get-append : (ps qs : List Place) (k : ℕ) → k < length ps → slic
 slice_get-append [] qs k h = absurd (omega arith)
 slice_get-append (p ∷ ps) qs zero h = refl
 slice_get-append (p ∷ ps) qs (suc k) h = slice_get-append ps qs k (omega arith)
-
-pub at_has : (ps : List Place) (p : Place) → Has ps p → (k : ℕ) × (k < length ps) × (slice_get ps k ≡ Some p)
-at_has [] p h = absurd h
-at_has (q ∷ ps) p (inl e) = (0, omega arith, ap Some e)
-at_has (q ∷ ps) p (inr h) = let r = at_has ps p h in (suc r.0, omega (arith, r.1), r.2)
 
 apart_push : (q : Place) (ps : List Place) → AreApart ps → (Has ps q → ⊥) → AreApart (ps ++ q ∷ [])
 apart_push q [] a n = ((λ h. h), tt)

@@ -1,5 +1,5 @@
 -- Where the verdict is yes, only guarded bytes count, and as these never change, it is yes again.
-use Rattle.std.proofs.Common.{◌≡◌, ℕ, ◌+◌, true, false, ◌∷◌, length, refl, sym, ap, ◌∙◌, subst, inl, inr, rules}
+use Rattle.std.proofs.Common.{◌≡◌, ℕ, ◌+◌, true, false, length, refl, sym, ap, ◌∙◌, subst, inl, inr, rules}
 use Rattle.ccw_core.specs.Ccw.{byte, Fields, ccw, is_transfer, chains_data}
 use Rattle.ckd_core.specs.declared.command.Kind.TheVariants.{Outward}
 use Rattle.chan_walk.specs.declared.job.Job.{Job}
@@ -18,13 +18,10 @@ use Rattle.chan_walk.specs.Verdict.{IsVerdict}
 use Rattle.chan_walk.proofs.Theory.Chains.{part_is_no_transfer}
 use Rattle.chan_walk.proofs.Algorithms.Counted.{same_verdict}
 use Rattle.chan_walk.proofs.Theory.Faults.{yes_clear}
-use Rattle.chan_walk.proofs.Theory.Follows.{Follows, by_transfer, by_data, succeeds}
-use Rattle.chan_walk.proofs.Machine.Yes.{fresh_out, all_kept}
+use Rattle.chan_walk.proofs.Theory.Follows.{by_transfer, by_data}
+use Rattle.chan_walk.proofs.Machine.Yes.{fresh_out, all_kept, onward}
 
 module _ (j : Job) (v : IsVerdict j Yes) where
-  onward : (p q : Place) → IsReachable j p → Follows p (ccw_of j p) (kind_of p.entered (ccw_of j p)) q → IsReachable j q
-  onward p q r f = (p ∷ r.0, (r.1, yes_clear j v p r, succeeds _ _ _ _ f))
-
   -- a reachable place at the address, at which an operation that goes out begins or goes on
   record Out (a : ℕ) : Type 0 where
     place : Place
@@ -42,7 +39,7 @@ module _ (j : Job) (v : IsVerdict j Yes) where
       next = straight_to (here.place.address + 8) ChainOut
 
       reached : IsReachable j next
-      reached = onward here.place next here.reached (by_data other (subst (λ n. chains_data (ccw (storage_of j) n) ≡ true) (sym here.address) cd) (ap chained here.outward))
+      reached = onward j v here.place next here.reached (by_data other (subst (λ n. chains_data (ccw (storage_of j) n) ≡ true) (sym here.address) cd) (ap chained here.outward))
 
       go : Leads (storage_of j) from to → Out to
       go (inl e) = record { place = next; reached = reached; address = ap (λ n. n + 8) here.address ∙ sym e; outward = refl }
@@ -51,7 +48,7 @@ module _ (j : Job) (v : IsVerdict j Yes) where
           let there : Place = transferred_to (ccw_of j next).address ChainOut in
           record {
             place = there;
-            reached = onward next there reached (by_transfer (subst (λ c. is_transfer c ≡ true) same e.1));
+            reached = onward j v next there reached (by_transfer (subst (λ c. is_transfer c ≡ true) same e.1));
             address = sym (subst (λ (c : Fields). to ≡ c.address) same e.2);
             outward = refl;
           }

@@ -3,7 +3,7 @@ use Rattle.std.proofs.Common.{◌≡◌, ℕ, ◌+◌, ◌<◌, true, false, not
 use Rattle.std.proofs.lemmas.Bool.{and_parts, or_cases, not-true, ltb-true}
 use Rattle.std.proofs.lemmas.List.FromFn.{length-map-range_with_len}
 use Rattle.ccw_core.specs.Areas.{covered}
-use Rattle.ccw_core.specs.Ccw.{byte, Fields, is_transfer, is_counted, skips}
+use Rattle.ccw_core.specs.Ccw.{byte, Fields, is_transfer, is_counted}
 use Rattle.ckd_core.specs.declared.command.Kind.TheVariants.{Outward}
 use Rattle.ckd_core.specs.Cylinders.{has_cylinder}
 use Rattle.ckd_core.specs.Mask.{inhibits, is_at_least}
@@ -14,7 +14,7 @@ use Rattle.chan_walk.specs.declared.reason.Reason.TheVariants.{StoreNotLent, Fet
 use Rattle.chan_walk.specs.Alarm.{IsProper, first_cylinder, ShowsInStep, StoresOn, ShowsCheck, Shows, EachPathShows, NoFalseAlarm}
 use Rattle.chan_walk.specs.Argument.{IsChain, HasArgument, argument}
 use Rattle.chan_walk.specs.Check.{table_of_every_ccw, table_of_non_transfer, check}
-use Rattle.chan_walk.specs.Fault.{kind_of, goes_in, goes_out, stores, fetches, is_known, begins_seek, begins_recalibrate, begins_set_mask, allows, is_refused, table_of_own, HasFault, IsClear}
+use Rattle.chan_walk.specs.Fault.{kind_of, goes_out, stores, fetches, is_known, begins_seek, begins_recalibrate, begins_set_mask, allows, is_refused, table_of_own, HasFault, IsClear}
 use Rattle.chan_walk.specs.Guarded.{IsCcwByte, IsSeekByte, IsMaskByte, IsArgumentByte}
 use Rattle.chan_walk.specs.Job.{storage_of, extents_of, fetch_of, store_of}
 use Rattle.chan_walk.specs.Machine.{Stage, At, Ended, Event, home, ends, Step, checked, unknown}
@@ -32,6 +32,7 @@ use Rattle.chan_walk.proofs.Machine.Gathering.{begin}
 use Rattle.chan_walk.proofs.Machine.Operations.{moment, Finished, finish, stop, ready_fresh}
 use Rattle.chan_walk.proofs.Machine.Paths.{few_at, Runs, path_runs}
 use Rattle.chan_walk.proofs.Machine.Quiet.{full_count, bytes_at, there, Known, Carried, seek_at, carry_out}
+use Rattle.chan_walk.proofs.Theory.Granting.{stores_parts}
 
 show_next : {j : Job} {y : ℕ} {p : Place} {ps : List Place} {es : List Event} {st : Stage} {P : List Event → Stage → Type 0} (r : Runs j y p ps) → Step (storage_of j) y j.mask p r.gathered es (storage_of j) y j.mask st → P es st → ShowsInStep j p ps P
 show_next {j = j} {y = y} {p = p} {es = es} {st = st} r step shows = record {
@@ -43,10 +44,6 @@ show_next {j = j} {y = y} {p = p} {es = es} {st = st} r step shows = record {
   quiet = r.quiet;
   shows = shows;
 }
-
--- a place that stores, and not into an area; its parts
-pub stores_parts : (p : Place) (c : Fields) → stores p c ≡ true → (is_transfer c ≡ false) × (goes_in (kind_of p.entered c) ≡ true) × (skips c ≡ false)
-stores_parts p c h = search (rules, and_parts, not-true)
 
 missing : (s : List ℕ) (a : ℕ) (x : Option (List ℕ)) → HasArgument s a x → is_none x ≡ true → (l : List ℕ) → IsChain s 6 a l → ⊥
 missing s a x h e = search rules

@@ -20,13 +20,14 @@ use Rattle.chan_walk.specs.Place.{ccw_of}
 use Rattle.chan_walk.specs.Reachable.{IsReachable}
 use Rattle.chan_walk.specs.Runs.{Moment, IsRun, IsRunAmong, Uses}
 use Rattle.chan_walk.specs.Verdict.{StoresOver}
-use Rattle.chan_walk.proofs.Machine.Alarm.{stores_parts, start, run_to, shows_fault, ccw_used, argument_used}
+use Rattle.chan_walk.proofs.Machine.Alarm.{start, run_to, shows_fault, ccw_used, argument_used}
 use Rattle.chan_walk.proofs.Theory.Checks.{passed, data_fits, each_case, table_case, check_case}
 use Rattle.chan_walk.proofs.Theory.Faults.{clear_check, clear_good}
 use Rattle.chan_walk.proofs.Theory.Lists.{byte-map-range}
 use Rattle.chan_walk.proofs.Machine.Paths.{few_at}
 use Rattle.chan_walk.proofs.Machine.Yes.{each_ok, used_guarded, yes_is_safe_among, alone}
 use Rattle.chan_walk.proofs.Machine.Quiet.{full_count, inward_from, kind_at, bytes_at, can_home, can_mask, seek_at}
+use Rattle.chan_walk.proofs.Theory.Granting.{stores_parts}
 
 -- ---- what a run shows for an own fault isn't safe
 

@@ -40,7 +40,7 @@ module _ (j : Job) (v : IsVerdict j Yes) where
   clear_at : (p : Place) → IsReachable j p → IsClear j p
   clear_at = yes_clear j v
 
-  onward : (p q : Place) → IsReachable j p → Follows p (ccw_of j p) (kind_of p.entered (ccw_of j p)) q → IsReachable j q
+  pub onward : (p q : Place) → IsReachable j p → Follows p (ccw_of j p) (kind_of p.entered (ccw_of j p)) q → IsReachable j q
   onward p q r f = (p ∷ r.0, (r.1, clear_at p r, succeeds _ _ _ _ f))
 
   apart_at : (P : ℕ → Type 0) → (MayStoreOver j P → ⊥) → (p : Place) → IsReachable j p → (b : ℕ) → P b → StoresAt p (ccw_of j p) b → ⊥

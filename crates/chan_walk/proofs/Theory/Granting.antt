@@ -1,5 +1,5 @@
 -- Two jobs of one program: where one has the verdict yes, the other has it exactly if all that is reachable is clear.
-use Rattle.std.proofs.Common.{◌≡◌, ℕ, zero, suc, ◌+◌, ◌<◌, ◌≤◌, Bool, true, false, not, ◌&&◌, ◌||◌, cond, if◌then◌else◌, nat_lt, List, [], ◌∷◌, length, Option, Some, None, is_none, refl, sym, ap, ◌∙◌, subst, ◌⊎◌, inl, inr, arith, rules}
+use Rattle.std.proofs.Common.{◌≡◌, ℕ, ◌+◌, ◌<◌, ◌≤◌, Bool, true, false, not, ◌&&◌, ◌||◌, cond, if◌then◌else◌, nat_lt, List, [], ◌∷◌, length, Option, Some, None, is_none, refl, sym, ap, ◌∙◌, subst, ◌⊎◌, inl, inr, arith, rules}
 use Rattle.std.specs.Option.{option_or}
 use Rattle.std.proofs.lemmas.Bool.{and_from, and_parts, or_from, not-true, not-false, not_from_true}
 use Rattle.ccw_core.specs.declared.areas.Area.{Area}
@@ -28,14 +28,15 @@ use Rattle.chan_walk.specs.Verdict.{AreClear, StoresOver, Offends, IsVerdict}
 use Rattle.chan_walk.proofs.Theory.Areas.{covered_at, allows_cylinder}
 use Rattle.chan_walk.proofs.Theory.Faults.{IsGood, clear_check, clear_good, fault_unique, yes_clear}
 use Rattle.chan_walk.proofs.Theory.OwnFaults.{data_in_storage}
-use Rattle.chan_walk.proofs.Theory.Strictness.{laxer_permits, strict_as_laxer}
+use Rattle.ccw_core.proofs.Covering.{covered-true}
+use Rattle.chan_walk.proofs.Theory.Masks.{laxer_permits, strict_as_laxer}
 
 -- ---- one place
 
 passes : (a b : Bool) → (a ≡ true → b ≡ true) → (a && not b) ≡ false
 passes a b h = search rules
 
-avoids : (a b : Bool) → (a ≡ true → b ≡ false) → (a && b) ≡ false
+pub avoids : (a b : Bool) → (a ≡ true → b ≡ false) → (a && b) ≡ false
 avoids a b h = search rules
 
 pub stores_parts : (p : Place) (c : Fields) → stores p c ≡ true → (is_transfer c ≡ false) × (goes_in (kind_of p.entered c) ≡ true) × (skips c ≡ false)
@@ -66,10 +67,6 @@ good_rest k p x g = go (is_transfer (ccw_of k p)) refl
 clear_from : (k : Job) (p : Place) (x : Option (List ℕ)) → HasArgument (storage_of k) p.address x → check (storage_of k) p ≡ None
     → (is_transfer (ccw_of k p) ≡ false → IsGood k p (ccw_of k p) x) → IsClear k p
 clear_from k p x a h g = (x, a, ap (λ o. option_or o (if is_transfer (ccw_of k p) then None else first_reason (table_of_own k p (ccw_of k p) x))) h ∙ good_rest k p x g)
-
-pub covered_from : (areas : List Area) (a n : ℕ) → ((b : ℕ) → a ≤ b → b < a + n → lies_in areas b ≡ true) → covered areas a n ≡ true
-covered_from areas a zero h = refl
-covered_from areas a (suc n) h = and_from _ _ (h a (omega arith) (omega arith)) (covered_from areas (suc a) n (λ b le lt. h b (omega arith) (omega arith)))
 
 pub allows_from : (j k : Job) (x : List ℕ) → heads j ≡ heads k → allows j x ≡ true → has_cylinder (extents_of k) (cylinder_of x) ≡ true → allows k x ≡ true
 unfolding is_allowed
@@ -149,7 +146,7 @@ module _ (j k : Job) (one : AreOfOneProgram j k) where
   -- k grants all that j grants
   module _ (more : GrantsMore j k) where
     pub covered_more : (xs ys : List Area) (a n l : ℕ) → ((b : ℕ) → b < l → lies_in xs b ≡ true → lies_in ys b ≡ true) → a + n ≤ l → covered xs a n ≡ true → covered ys a n ≡ true
-    covered_more xs ys a n l f fits h = covered_from ys a n (λ b le lt. f b (omega arith) (covered_at xs a n b h le lt))
+    covered_more xs ys a n l f fits h = covered-true ys a n (λ b le lt. f b (omega arith) (covered_at xs a n b h le lt))
 
     pub refused_more : (x : Option (List ℕ)) → is_refused j x ≡ false → is_refused k x ≡ false
     refused_more None h = refl

@@ -1,12 +1,9 @@
-use Rattle.std.proofs.Common.{◌≡◌, Bool, IsTrue, false, subst, ◌↔◌, arith}
-use Rattle.std.proofs.lemmas.Bool.{both_ways}
+use Rattle.std.proofs.Common.{subst, arith}
 use Rattle.chan_find.specs.Covered.{IsMarked}
 use Rattle.chan_walk.specs.declared.place.Place.{Place}
 use Rattle.chan_find.proofs.Passing.{down_from, down_turn, down_stays, down_end}
+use Rattle.chan_find.proofs.Seconds.{untrue}
 use Rattle.chan_find.proofs.programs.highest_apart.Goals as goal
-
-not : (P : Type 0) (b : Bool) → IsTrue b ↔ P → b ≡ false → P → ⊥
-not P b is e h = both_ways b e (is.1 h)
 
 pub loop-start-init : goal.loop-start-init
 loop-start-init c = record {
@@ -18,7 +15,7 @@ pub loop-start-preserved-in-Continue-branch-2 : goal.loop-start-preserved-in-Con
 loop-start-preserved-in-Continue-branch-2 c =
     let i = c.loop-start.invariant in
     let m = c.loop-start.covered.marks.bytes.items in
-    let free = subst (λ (p : Place). IsMarked m p → ⊥) c.start_at.ensures (not (IsMarked m c.start_at.result) c.has.result c.has.ensures (search)) in
+    let free = subst (λ (p : Place). IsMarked m p → ⊥) c.start_at.ensures (untrue (IsMarked m c.start_at.result) c.has.result c.has.ensures (search)) in
     record {
       settled = c.in_ok-take.ensures.settled;
       down = down_turn c.args.job.now m c.take.new.covered.marks.bytes.items c.loop-start.rest.items c.pop.new.self.items c.loop-start.kept.items c.take.new.taken.items c.in-Some.start c.in-Some.ensures.items i.settled.len i.settled.closed i.down free c.in_ok-take.ensures.covered c.in_ok-take.ensures.taken;

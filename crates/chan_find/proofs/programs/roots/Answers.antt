@@ -1,14 +1,11 @@
-use Rattle.std.proofs.Common.{◌≡◌, ℕ, ◌+◌, ◌*◌, ◌≤◌, Bool, false, IsTrue, sym, subst, ◌↔◌, arith}
-use Rattle.std.proofs.lemmas.Bool.{both_ways}
+use Rattle.std.proofs.Common.{◌≡◌, ℕ, ◌+◌, ◌*◌, ◌≤◌, sym, subst, arith}
 use Rattle.chan_walk.specs.declared.place.Place.{Place}
 use Rattle.chan_find.specs.Covered.{IsMarked, IsSettled}
 use Rattle.chan_find.specs.Programs.{IsLikely, start_at}
 use Rattle.chan_find.proofs.Passing.{IsUpTo, up_turn, up_passes, up_all}
+use Rattle.chan_find.proofs.Seconds.{untrue}
 use Rattle.chan_find.proofs.programs.roots.Goals.{then-not-has+then-is_likely+in_ok-take, else-not-has, else-not-has-via-then-not-has+else-is_likely, else-not-has-via-else-not-has}
 use Rattle.chan_find.proofs.programs.roots.Goals as goal
-
-not : (P : Type 0) (b : Bool) → IsTrue b ↔ P → b ≡ false → P → ⊥
-not P b is e h = both_ways b e (is.1 h)
 
 next_aligned : (a : ℕ) → (k : ℕ) × (a ≡ k * 8) → (k : ℕ) × (a + 8 ≡ k * 8)
 next_aligned a h = (h.0 + 1, omega (arith, h.1))
@@ -22,7 +19,7 @@ loop-address-preserved c =
     let low : c.loop-address.address + 8 ≤ 16777216 + 8 = omega (arith, c.loop-address-test.true, c.len.ensures.below) in
     elim c.if-not-has.branch [
       | then-not-has+then-is_likely+in_ok-take w ↦
-          let free = subst (λ (p : Place). IsMarked m p → ⊥) c.start_at.ensures (not (IsMarked m c.start_at.result) c.has.result c.has.ensures (search)) in
+          let free = subst (λ (p : Place). IsMarked m p → ⊥) c.start_at.ensures (untrue (IsMarked m c.start_at.result) c.has.result c.has.ensures (search)) in
           let likely = w.is_likely.ensures.0 (search) in
           record {
             settled = subst (IsSettled j) (sym w.covered-is) w.in_ok-take.ensures.settled;
@@ -33,7 +30,7 @@ loop-address-preserved c =
           }
       | else-not-has w ↦
           let stays : IsLikely j a → IsMarked m (start_at a) = elim w.else-not-has.branch [
-            | else-not-has-via-then-not-has+else-is_likely v ↦ λ l. absurd (not (IsLikely j a) v.is_likely.result v.is_likely.ensures v.if-is_likely.false l)
+            | else-not-has-via-then-not-has+else-is_likely v ↦ λ l. absurd (untrue (IsLikely j a) v.is_likely.result v.is_likely.ensures v.if-is_likely.false l)
             | else-not-has-via-else-not-has v ↦ λ l. subst (IsMarked m) c.start_at.ensures (c.has.ensures.0 (search))
           ] in
           record {

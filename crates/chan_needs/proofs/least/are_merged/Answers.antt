@@ -1,5 +1,4 @@
-use Rattle.std.proofs.Common.{◌≡◌, ◌+◌, ◌<◌, ℕ, suc, length, get_or, drop, refl, sym, subst, arith}
-use Rattle.std.proofs.lemmas.List.{drop_all}
+use Rattle.std.proofs.Common.{◌≡◌, ◌+◌, ◌<◌, ℕ, suc, length, get_or, drop, subst, arith}
 use Rattle.chan_areas.specs.Ranges.{IsMerged, end_of}
 use Rattle.chan_needs.proofs.Holding.{nowhere}
 use Rattle.chan_needs.proofs.Leasts.{merged_from}
@@ -19,6 +18,3 @@ loop-i-preserved c m =
     let one : i + 1 ≡ suc i = omega arith in
     let apart : suc i < length xs → end_of (get_or xs i nowhere) < (get_or xs (suc i) nowhere).start = grind (arith, c.else-i-areas) in
     c.loop-i.invariant (merged_from xs i c.loop-i-test.true (omega arith) apart (subst (λ (n : ℕ). IsMerged (drop n xs)) one m))
-
-pub returns : goal.returns
-returns c = ((λ t. c.loop-i.invariant (subst IsMerged (sym (drop_all c.loop-i.i c.args.areas.now (omega arith))) tt)), λ m. refl)

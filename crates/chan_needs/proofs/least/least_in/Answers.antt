@@ -1,9 +1,9 @@
-use Rattle.std.proofs.Common.{◌≡◌, ◌∙◌, None, Option, Some, false, refl, arith, sym, ℕ}
+use Rattle.std.proofs.Common.{◌≡◌, ◌∙◌, None, Option, Some, false, refl, sym, ℕ}
 use Rattle.std.specs.Prelude.{is_some}
 use Rattle.chan_areas.specs.Ranges.{IsByteOf}
 use Rattle.chan_needs.specs.Remembered.{lesser_of}
 use Rattle.chan_needs.proofs.Holding.{nowhere}
-use Rattle.chan_needs.proofs.Leasts.{least_first, least_in_areas, least_next}
+use Rattle.chan_needs.proofs.Leasts.{least_next}
 use Rattle.chan_needs.proofs.least.least_in.Goals.{then-is_some, else-is_some}
 use Rattle.chan_needs.proofs.least.least_in.Goals as goal
 
@@ -12,9 +12,6 @@ kept : (o p : Option ℕ) → is_some p ≡ false → o ≡ lesser_of o p
 kept None None none = refl
 kept (Some m) None none = refl
 kept o (Some n) none = cc
-
-pub loop-area-init : goal.loop-area-init
-loop-area-init c = least_first IsByteOf nowhere c.args.areas.now (IsByteOf c.args.range) _ refl
 
 pub loop-area-preserved : goal.loop-area-preserved
 loop-area-preserved c =
@@ -26,6 +23,3 @@ loop-area-preserved c =
     ] in
     least_next IsByteOf nowhere c.args.areas.now c.loop-area.area-index (IsByteOf c.args.range) c.loop-area.least byte c.if-is_some.least
     c.loop-area-test.true joined c.loop-area.invariant c.overlap-byte.ensures
-
-pub returns : goal.returns
-returns c = least_in_areas c.args.areas.now c.loop-area.area-index (IsByteOf c.args.range) c.loop-area.least (omega arith) c.loop-area.invariant

@@ -1,19 +1,16 @@
-use Rattle.std.proofs.Common.{◌^◌, List, take, sym, subst, arith, rules}
+use Rattle.std.proofs.Common.{◌^◌, List, take, sym, subst, arith, rules, ◌+◌}
 use Rattle.chan_walk.specs.declared.place.Place.{Place}
 use Rattle.chan_walk.specs.Look.{places_of_looks}
 use Rattle.chan_needs.specs.Rows.{SeeksCylinder}
 use Rattle.chan_needs.proofs.Demanding.{clear_at}
 use Rattle.chan_walk.proofs.Algorithms.Guarding.{HoldBytes, hold_more, hold_none, hold_same, low_none}
-use Rattle.chan_areas.proofs.Merging.{IfOk-two}
+use Rattle.chan_areas.proofs.Merging.{IfOk-two, merged_low}
 use Rattle.chan_walk.proofs.Algorithms.Looking.{look_of, places_next, places_taken}
-use Rattle.chan_needs.proofs.Seeking.{merged_low, sought_all}
+use Rattle.chan_needs.proofs.Seeking.{sought_all}
 use Rattle.chan_needs.proofs.needs.sought.Goals as goal
 
 pub loop-look-init : goal.loop-look-init
 loop-look-init c = search (rules, low_none, hold_none)
-
-pub add_cylinder-requires : goal.add_cylinder-requires
-add_cylinder-requires c = c.loop-look.invariant.low
 
 pub loop-look-preserved : goal.loop-look-preserved
 loop-look-preserved c =
@@ -33,7 +30,7 @@ pub merge-requires : goal.merge-requires
 merge-requires c k d l = let e = c.loop-look.invariant.low k d l in omega arith
 
 pub returns-clause-low : goal.returns-clause-low
-returns-clause-low c = IfOk-two c.merge.result _ _ _ (λ v m h. merged_low (2 ^ 16) v.items c.loop-look.cylinders.items m h c.loop-look.invariant.low) c.merge.ensures.merged c.merge.ensures.bytes
+returns-clause-low c = IfOk-two c.merge.result _ _ _ (λ v m h. merged_low (2 ^ 16 + 1) v.items c.loop-look.cylinders.items m h c.loop-look.invariant.low) c.merge.ensures.merged c.merge.ensures.bytes
 
 pub returns-clause-cylinders : goal.returns-clause-cylinders
 returns-clause-cylinders c =

@@ -4,11 +4,8 @@ use Rattle.chan_walk.specs.Argument.{Has}
 use Rattle.chan_walk.specs.Look.{places_of_looks}
 use Rattle.chan_needs.specs.Notes.{ends_there}
 use Rattle.chan_walk.proofs.Algorithms.Looking.{look_of, places_next, places_taken}
-use Rattle.chan_needs.proofs.Noted.{HasAddress, HoldAddresses, addresses_more, addresses_none, adds_address, all_addresses}
+use Rattle.chan_needs.proofs.Noted.{HasAddress, HoldAddresses, addresses_more, adds_address, all_addresses}
 use Rattle.chan_needs.proofs.noting.ending.Goals as goal
-
-pub loop-look-init : goal.loop-look-init
-loop-look-init c j are = addresses_none (HasAddress ends_there j) c.new-addresses.result.items c.new-addresses.ensures.items
 
 pub loop-look-preserved : goal.loop-look-preserved
 loop-look-preserved c j are =

@@ -1,6 +1,6 @@
 use Rattle.std.proofs.Common.{get_or, refl, arith}
 use Rattle.ccw_core.specs.Held.{bytes_held}
-use Rattle.chan_needs.proofs.Copied.{all_counted, all_fit, all_held, all_written, copied_more, range_read, too_many}
+use Rattle.chan_needs.proofs.Copied.{all_fit, copied_more, range_read, too_many}
 use Rattle.chan_needs.proofs.Holding.{nowhere}
 use Rattle.chan_needs.proofs.remembered.copy_kept.Goals as goal
 
@@ -19,15 +19,6 @@ loop-area-preserved c =
     let fits = c.loop-area.invariant.fits in
     copied_more s c.args.areas.now c.loop-area.area-index c.args.into.now c.loop-area.at c.loop-area.into c.loop-area.invariant c.in_ok-bytes.bytes.now c.loop-area-test.true read.1 c.write_at.new.into read.0 (omega arith) c.write_at.ensures
 
-pub returns-clause-count : goal.returns-clause-count
-returns-clause-count c = all_counted (bytes_held c.args.storage.now) c.args.areas.now c.loop-area.area-index c.args.into.now c.loop-area.at c.loop-area.into (omega arith) c.loop-area.invariant
-
-pub returns-clause-copied : goal.returns-clause-copied
-returns-clause-copied c = all_written (bytes_held c.args.storage.now) c.args.areas.now c.loop-area.area-index c.args.into.now c.loop-area.at c.loop-area.into (omega arith) c.loop-area.invariant
-
 pub returns-clause-some : goal.returns-clause-some
 returns-clause-some c =
     let fit = all_fit (bytes_held c.args.storage.now) c.args.areas.now c.loop-area.area-index c.args.into.now c.loop-area.at c.loop-area.into (omega arith) c.loop-area.invariant in ((λ e. fit), λ h. refl)
-
-pub returns-clause-held : goal.returns-clause-held
-returns-clause-held c e = all_held (bytes_held c.args.storage.now) c.args.areas.now c.loop-area.area-index c.args.into.now c.loop-area.at c.loop-area.into (omega arith) c.loop-area.invariant

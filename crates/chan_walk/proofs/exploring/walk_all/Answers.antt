@@ -1,12 +1,11 @@
-use Rattle.std.proofs.Common.{◌≡◌, ℕ, ◌<◌, List, [], ◌∷◌, Some, refl, sym, ap, ◌∙◌, subst, inl, inr, arith, rules}
-use Rattle.std.proofs.lemmas.Result.{err_from_is_err_and}
+use Rattle.std.proofs.Common.{◌≡◌, ℕ, ◌<◌, List, [], ◌∷◌, Some, refl, sym, ap, ◌∙◌, subst, inl, inr, arith}
 use Rattle.chan_walk.specs.declared.job.Job.{Job}
 use Rattle.chan_walk.specs.declared.place.Place.{Place}
 use Rattle.chan_walk.specs.Look.{places_of_looks}
 use Rattle.chan_walk.specs.Place.{first_place}
 use Rattle.chan_walk.specs.Walk.{Adds, IsTraced, IsWalked}
 use Rattle.chan_walk.proofs.Algorithms.Looking.{number_of_places}
-use Rattle.chan_walk.proofs.Algorithms.Walking.{first_overflows, walked_first}
+use Rattle.chan_walk.proofs.Algorithms.Walking.{walked_first}
 use Rattle.chan_walk.proofs.exploring.walk_all.Goals as goal
 
 -- where there was no place, the one added is alone
@@ -56,9 +55,3 @@ pub returns-clause-found : goal.returns-clause-found
 returns-clause-found c =
     let i = c.loop-at.invariant in
     record { looks = i.looks; agrees = i.agrees; at = c.loop-at.at; walked = i.walked; all = omega (arith, number_of_places c.loop-at.walk.looks.items, c.loop-at.walk.looks.ok.0); traced = i.traced }
-
-pub returns-in_err-add-clause-many : goal.returns-in_err-add-clause-many
-returns-in_err-add-clause-many c e = search (rules, err_from_is_err_and, first_overflows)
-
-pub add_successors-requires-clause-small : goal.add_successors-requires-clause-small
-add_successors-requires-clause-small c = search (rules, number_of_places)

@@ -5,12 +5,9 @@ use Rattle.chan_walk.specs.Look.{places_of_looks}
 use Rattle.chan_walk.specs.Offences.{HasOffences}
 use Rattle.chan_walk.specs.Verdict.{Changes}
 use Rattle.chan_walk.proofs.Theory.Lists.{has_at}
-use Rattle.chan_walk.proofs.Algorithms.Listing.{adds_changes, new_place, offences_more, offences_none, stores_both}
+use Rattle.chan_walk.proofs.Algorithms.Listing.{adds_changes, new_place, offences_more, stores_both}
 use Rattle.chan_walk.proofs.Algorithms.Looking.{look_of, place_at, places_next, places_taken}
 use Rattle.chan_walk.proofs.offence.changes_of.Goals as goal
-
-pub loop-look-init : goal.loop-look-init
-loop-look-init c j are reached guards clear = offences_none (Changes j) c.new-changes.result.items c.new-changes.ensures.items
 
 pub loop-look-preserved : goal.loop-look-preserved
 loop-look-preserved c j are reached guards clear =

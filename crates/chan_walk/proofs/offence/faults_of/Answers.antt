@@ -3,12 +3,9 @@ use Rattle.chan_walk.specs.declared.place.Place.{Place}
 use Rattle.chan_walk.specs.Least.{IsOwn}
 use Rattle.chan_walk.specs.Look.{places_of_looks}
 use Rattle.chan_walk.specs.Offences.{HasOffences}
-use Rattle.chan_walk.proofs.Algorithms.Listing.{new_place, offences_more, offences_none}
+use Rattle.chan_walk.proofs.Algorithms.Listing.{new_place, offences_more}
 use Rattle.chan_walk.proofs.Algorithms.Looking.{look_of, places_next, places_taken}
 use Rattle.chan_walk.proofs.offence.faults_of.Goals as goal
-
-pub loop-look-init : goal.loop-look-init
-loop-look-init c j are = offences_none (IsOwn j) c.new-faults.result.items c.new-faults.ensures.items
 
 pub loop-look-preserved : goal.loop-look-preserved
 loop-look-preserved c j are =

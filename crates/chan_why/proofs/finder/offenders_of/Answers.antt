@@ -5,14 +5,15 @@ use Rattle.chan_areas.specs.Ranges.{IsLeastOrNone}
 use Rattle.chan_walk.specs.Explored.{place_number}
 use Rattle.chan_why.specs.Index.{IsAtPlace, IsIndex, IsOfKind}
 use Rattle.chan_why.proofs.Indexing.{kind_more, note_more, some_place}
-use Rattle.chan_walk.proofs.Theory.Lists.{get_there, has_at}
+use Rattle.chan_walk.proofs.Theory.Lists.{has_at}
+use Rattle.std.proofs.lemmas.Option.{slice_get-get_or}
 use Rattle.chan_why.proofs.finder.offenders_of.Goals as goal
 
 pub unwrap-at-requires : goal.unwrap-at-requires
 unwrap-at-requires c =
     let os = c.args.offences.now in
     let o = get_or os c.loop-offence.offence-index _ in
-    let there = get_there os c.loop-offence.offence-index _ c.loop-offence-test.true in
+    let there = slice_get-get_or os c.loop-offence.offence-index _ c.loop-offence-test.true in
     let found = c.copied.ensures ∙ c.get.ensures.value ∙ ap (λ k. tree.get nat_cmp c.in_ok-places.places k) c.number.ensures in
     some_place c.args.looks.now o.place c.copied.result
     (subst (IsLeastOrNone (IsAtPlace c.args.looks.now (length c.args.looks.now) (place_number o.place))) (sym found) (c.in_ok-places.ensures (place_number o.place)))

@@ -6,7 +6,8 @@ use Rattle.chan_why.proofs.Changing.{first_within}
 use Rattle.chan_why.proofs.Explaining.{cause_found, cause_more, offending_found, some_found}
 use Rattle.chan_why.proofs.Indexing.{like_found}
 use Rattle.chan_walk.proofs.Algorithms.Looking.{look_of, place_at}
-use Rattle.chan_walk.proofs.Theory.Lists.{get_there, has_at}
+use Rattle.chan_walk.proofs.Theory.Lists.{has_at}
+use Rattle.std.proofs.lemmas.Option.{slice_get-get_or}
 use Rattle.chan_why.proofs.witness.causes_of.Goals as goal
 
 pub unwrap-requires : goal.unwrap-requires
@@ -14,7 +15,7 @@ unwrap-requires c =
     let os = c.args.offences.now in
     let i = c.loop-offence.offence-index in
     let o = get_or os i _ in
-    let listed = has_at os i o (get_there os i _ c.loop-offence-test.true) in
+    let listed = has_at os i o (slice_get-get_or os i _ c.loop-offence-test.true) in
     let at = like_found c.args.walk.now.looks.items os o c.in_ok-finder.finder.offenders c.offender.result c.in_ok-finder.ensures.offenders c.offender.ensures in
     some_found c.args.job.now c.args.walk.now c.requires.found os c.requires.offences o listed c.offender.result at
 
@@ -41,7 +42,7 @@ evidence_at-requires-clause-offends c =
     let os = c.args.offences.now in
     let i = c.loop-offence.offence-index in
     let o = get_or os i _ in
-    let listed = has_at os i o (get_there os i _ c.loop-offence-test.true) in
+    let listed = has_at os i o (slice_get-get_or os i _ c.loop-offence-test.true) in
     let ls = c.args.walk.now.looks.items in
     let at = subst (IsFirstWhere (IsLike os o) (places_of_looks ls)) c.unwrap.ensures (like_found ls os o c.in_ok-finder.finder.offenders c.offender.result c.in_ok-finder.ensures.offenders c.offender.ensures) in
     let here = place_at ls c.unwrap.result c.index-look.result.now (first_within (IsLike os o) ls c.unwrap.result at) c.index-look.ensures in
@@ -52,7 +53,7 @@ loop-offence-preserved c =
     let os = c.args.offences.now in
     let i = c.loop-offence.offence-index in
     let o = get_or os i _ in
-    let listed = has_at os i o (get_there os i _ c.loop-offence-test.true) in
+    let listed = has_at os i o (slice_get-get_or os i _ c.loop-offence-test.true) in
     let ls = c.args.walk.now.looks.items in
     let at = subst (IsFirstWhere (IsLike os o) (places_of_looks ls)) c.unwrap.ensures (like_found ls os o c.in_ok-finder.finder.offenders c.offender.result c.in_ok-finder.ensures.offenders c.offender.ensures) in
     let here = place_at ls c.unwrap.result c.index-look.result.now (first_within (IsLike os o) ls c.unwrap.result at) c.index-look.ensures in

@@ -1,7 +1,0 @@
-use Rattle.std.proofs.Common.{rules}
-use Rattle.chan_walk.proofs.Algorithms.Looking.{next_faulty, taken_faulty}
-use Rattle.chan_walk.proofs.Theory.OwnFaults.{fault_of_check}
-use Rattle.chan_walk.proofs.look.look_at_nothing.Goals as goal
-
-pub returns-clause-look : goal.returns-clause-look
-returns-clause-look c j none = search (rules, fault_of_check, taken_faulty, next_faulty)
