@@ -5,7 +5,7 @@ ghost use Rattle.chan_deck.specs.Notes as adjoining;
 
 use crate::texts::Address;
 use ccw_core::Area;
-use chan_needs::Notes;
+use chan_why::Notes;
 use std::alloc::{AllocError, Global};
 use std::fmt::Write;
 

@@ -1,4 +1,3 @@
-pub mod Idle
 pub mod Needing
 pub mod Masking
 pub mod Asking
@@ -8,7 +7,6 @@ pub mod Remembering
 pub mod Beginning
 pub mod Supervising
 pub mod Needed
-pub mod Noted
 pub mod Demanding
 pub mod Existing
 pub mod Holding

@@ -21,7 +21,7 @@ use Rattle.chan_walk.specs.Look.{Seen, places_of_looks}
 use Rattle.chan_walk.specs.Machine.{home}
 use Rattle.chan_walk.specs.Open.{AreOfOneProgram, open_job}
 use Rattle.chan_needs.specs.Needs.{Grants, IsKept, IsNeededCylinder, IsNeededForStoring, IsStrictest, Serves, ServesAt, begins}
-use Rattle.chan_needs.specs.Notes.{IsDataOf, HoldData}
+use Rattle.chan_walk.specs.Moved.{IsDataOf, HoldData}
 use Rattle.chan_walk.specs.Offences.{FirstIsVerdict, first_verdict}
 use Rattle.chan_walk.specs.Place.{ccw_of}
 use Rattle.chan_areas.specs.Ranges.{AreExactly, IsMerged, end_of}

@@ -18,7 +18,7 @@ use Rattle.chan_needs.specs.History.{Flight, Situation}
 use Rattle.chan_walk.specs.Job.{storage_of}
 use Rattle.chan_walk.specs.Open.{AreOfOneProgram, open_job}
 use Rattle.chan_needs.specs.Needs.{Grants, IsKept, IsNeededForStoring, KeepsProgram}
-use Rattle.chan_needs.specs.Notes.{IsDataOf}
+use Rattle.chan_walk.specs.Moved.{IsDataOf}
 use Rattle.chan_walk.specs.Place.{ccw_of}
 use Rattle.chan_areas.specs.Ranges.{IsByteOf, end_of}
 use Rattle.chan_walk.specs.Reachable.{IsReachable}

@@ -1,6 +1,5 @@
 pub mod History
 pub mod Beside
-pub mod Notes
 pub mod Needs
 pub mod Rows
 pub mod Starting

@@ -16,7 +16,7 @@ use Rattle.chan_walk.specs.Fault.{begins_set_mask}
 use Rattle.chan_walk.specs.Guarded.{IsGuarded}
 use Rattle.chan_walk.specs.Headline.{IsSafe, IsSteady}
 use Rattle.chan_walk.specs.Job.{storage_of, extents_of, fetch_of, store_of}
-use Rattle.chan_needs.specs.Notes.{IsFetchedFrom, IsStoredInto}
+use Rattle.chan_walk.specs.Moved.{IsFetchedFrom, IsStoredInto}
 use Rattle.chan_walk.specs.Place.{is_fresh, ccw_of}
 use Rattle.chan_walk.specs.Open.{AreOfOneProgram, open_job}
 use Rattle.chan_walk.specs.Reachable.{IsReachable}

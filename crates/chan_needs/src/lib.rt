@@ -8,21 +8,17 @@
 //! ```
 #![tactic(auto)]
 
-mod bits;
 mod demand;
 mod laws;
 mod least;
 mod needs;
-mod note;
-mod noting;
 mod remembered;
 mod rows;
 mod starting;
 mod surveyed;
 
 pub use crate::needs::Needs;
-pub use crate::note::Notes;
 pub use crate::remembered::{Remembered, copy_kept, may_write};
 pub use crate::rows::{Conflict, Rows};
 pub use crate::starting::{Refusal, Start, may_start};
-pub use crate::surveyed::{needs_from, notes_from};
+pub use crate::surveyed::needs_from;

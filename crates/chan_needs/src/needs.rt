@@ -4,7 +4,6 @@ ghost use Rattle.std.specs.Prelude.{◌≡◌, ◌↔◌, ◌+◌, ◌^◌, ℕ,
 ghost use Rattle.std.specs.List.{All};
 ghost use Rattle.chan_walk.specs.Fault.{IsClear};
 ghost use Rattle.chan_walk.specs.Guard.{AddsBytes, Guards};
-ghost use Rattle.chan_walk.specs.Guarded.{IsGuarded};
 ghost use Rattle.chan_walk.specs.Look.{IsLook};
 ghost use Rattle.chan_walk.specs.Open.{AreOfOneProgram};
 ghost use Rattle.chan_areas.specs.Ranges.{AreExactly, EndsBelow, IsMerged};
@@ -13,11 +12,10 @@ ghost use Rattle.chan_needs.specs.Rows.{SeeksCylinder, listed, rows_of, run_of};
 ghost use Rattle.chan_walk.specs.declared.job.Job.{Job};
 
 use crate::demand::needed_mask;
-use crate::noting::{fetched, stored};
 use crate::rows::Rows;
 use ccw_core::Area;
 use chan_areas::merge;
-use chan_walk::{Guard, Job, Look};
+use chan_walk::{Guard, Job, Look, fetched, kept, stored};
 use ckd_core::{FileMask, MaskClass};
 use std::alloc::{AllocError, Global};
 
@@ -78,16 +76,6 @@ pub(crate) fn needs_of(
         store: stored(alloc, looks)?,
         keep: kept(alloc, guard)?,
     })
-}
-
-/// The guarded bytes, as a merged list.
-pub(crate) fn kept(alloc: Global, guard: &Guard) -> Result<Vec<Area>, AllocError>
-    ensures { IfOk result (λ v. (j : Job) → Guards j guard.now → AreExactly (IsGuarded j) v.items) }
-{
-    let mut areas = Vec::new(alloc);
-    areas.extend_from_slice(guard.ccw_ranges())?;
-    areas.extend_from_slice(guard.argument_ranges())?;
-    merge(alloc, areas)
 }
 
 /// The cylinders that seeks go to, as a merged list in which a cylinder counts as a byte.

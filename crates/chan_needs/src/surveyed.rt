@@ -1,7 +1,6 @@
-//! What a survey tells of needs, and what it leaves open.
+//! What a survey tells of needs.
 
 ghost use Rattle.std.specs.Prelude.{◌≡◌, IfOk};
-ghost use Rattle.chan_needs.specs.Notes.{AreNotes};
 ghost use Rattle.chan_needs.specs.Rows.{AreNeeds, listed};
 ghost use Rattle.chan_walk.specs.Offences.{first_verdict};
 ghost use Rattle.chan_walk.specs.Open.{AreOfOneProgram};
@@ -10,18 +9,8 @@ ghost use Rattle.chan_walk.specs.declared.job.Job.{Job};
 ghost use Rattle.chan_walk.specs.declared.verdict.Verdict.TheVariants.{Yes};
 
 use crate::needs::{Needs, needs_of};
-use crate::note::Notes;
-use crate::noting::notes_of;
 use chan_walk::{Job, Survey};
 use std::alloc::{AllocError, Global};
-
-/// The notes on a job.
-pub fn notes_from(alloc: Global, job: &Job, survey: &Survey) -> Result<Notes, AllocError>
-    requires { IsSurvey job.now survey.now }
-    ensures { IfOk result (AreNotes job.now) }
-{
-    notes_of(alloc, job, &survey.guard, survey.walk.looks.as_slice())
-}
 
 /// The needs of a program in each job that it runs under, where the verdict on this one is yes. Each
 /// job of the program that has a yes gives the same; the open job has one if any has.

@@ -3,8 +3,8 @@
 ghost use Rattle.chan_walk.specs.Surveyed.{IsSurvey};
 
 use chan_deck::notes_text;
-use chan_needs::notes_from;
 use chan_walk::{Job, Limit, Survey};
+use chan_why::notes_from;
 use std::alloc::{AllocError, Global};
 
 /// The notes on a job that was surveyed.

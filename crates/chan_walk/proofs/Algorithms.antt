@@ -14,3 +14,4 @@ pub mod Listing
 pub mod Tracing
 pub mod Given
 pub mod Opened
+pub mod Moved

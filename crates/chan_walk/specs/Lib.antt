@@ -38,3 +38,4 @@ pub mod Lending
 pub mod Guard
 pub mod Look
 pub mod Surveyed
+pub mod Moved

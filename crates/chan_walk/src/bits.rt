@@ -9,7 +9,7 @@ use ccw_core::{Ccw, CcwFlags, Group, Storage};
 
 /// Chain data: the operation goes on with the next CCW.
 #[tactic(auto, unfolding(ccw_core::specs::Ccw::chains_data))]
-pub(crate) fn chains_data(ccw: &Ccw) -> bool
+pub fn chains_data(ccw: &Ccw) -> bool
     ensures { result ≡ specs.chains_data ccw.now }
 {
     ccw.flags() & CcwFlags::CD.bits() != 0
@@ -17,7 +17,7 @@ pub(crate) fn chains_data(ccw: &Ccw) -> bool
 
 /// Chain command: the next CCW begins an operation of its own.
 #[tactic(auto, unfolding(ccw_core::specs::Ccw::chains_command))]
-pub(crate) fn chains_command(ccw: &Ccw) -> bool
+pub fn chains_command(ccw: &Ccw) -> bool
     ensures { result ≡ specs.chains_command ccw.now }
 {
     ccw.flags() & CcwFlags::CC.bits() != 0

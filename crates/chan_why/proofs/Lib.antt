@@ -5,3 +5,5 @@ pub mod Explaining
 pub mod Indexing
 pub mod Changing
 pub mod StoredOver
+pub mod Idle
+pub mod Noted

@@ -3,3 +3,4 @@ pub mod Evidence
 pub mod Changed
 pub mod Explained
 pub mod Index
+pub mod Notes

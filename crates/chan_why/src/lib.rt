@@ -1,5 +1,5 @@
 //! Why a channel program may not run: the path to a place that offends, the values of the cause, and
-//! the path to what is changed.
+//! the path to what is changed; and what a verdict leaves open, the notes.
 //!
 //! ```
 //! fn shows(alloc: Global, job: &Job, survey: &Survey) -> Result<Vec<Place>, AllocError>
@@ -14,10 +14,13 @@
 mod changed;
 mod evidence;
 mod finder;
+mod note;
+mod noting;
 mod path;
 mod surveyed;
 mod witness;
 
 pub use crate::evidence::{Evidence, Outside};
-pub use crate::surveyed::{causes_from, witness_from};
+pub use crate::note::Notes;
+pub use crate::surveyed::{causes_from, notes_from, witness_from};
 pub use crate::witness::Witness;

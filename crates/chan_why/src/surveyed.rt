@@ -1,4 +1,4 @@
-//! What a survey tells of the causes of a verdict.
+//! What a survey tells of the causes of a verdict, and of what it leaves open.
 
 ghost use Rattle.std.specs.Prelude.{IfOk};
 ghost use Rattle.std.specs.List.{AllZip};
@@ -6,8 +6,11 @@ ghost use Rattle.chan_walk.specs.Offences.{first_verdict};
 ghost use Rattle.chan_walk.specs.Surveyed.{IsSurvey};
 ghost use Rattle.chan_why.specs.Explained.{IsCauseOf, IsEvidenceOf, IsPathOf, IsSecondPathOf};
 ghost use Rattle.chan_why.specs.Explained.{IsStoredOver, IsWitness};
+ghost use Rattle.chan_why.specs.Notes.{AreNotes};
 
 use crate::evidence::Evidence;
+use crate::note::Notes;
+use crate::noting::notes_of;
 use crate::witness::{Witness, causes_of, witness_of};
 use chan_walk::{Job, Survey};
 use std::alloc::{AllocError, Global};
@@ -47,4 +50,12 @@ pub fn causes_from(alloc: Global, job: &Job, survey: &Survey) -> Result<Vec<Evid
 {
     let offences = survey.offences.as_slice();
     causes_of(alloc, job, &survey.walk, &survey.guard, offences)
+}
+
+/// The notes on a job.
+pub fn notes_from(alloc: Global, job: &Job, survey: &Survey) -> Result<Notes, AllocError>
+    requires { IsSurvey job.now survey.now }
+    ensures { IfOk result (AreNotes job.now) }
+{
+    notes_of(alloc, job, &survey.guard, survey.walk.looks.as_slice())
 }

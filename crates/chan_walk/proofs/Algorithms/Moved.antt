@@ -1,0 +1,55 @@
+-- The data of reachable CCWs, place by place.
+use Rattle.std.proofs.Common.{◌≡◌, ℕ, ◌<◌, ◌≤◌, Bool, true, List, [], ◌∷◌, length, Some, sym, ap, ◌∙◌, subst, ◌⊎◌, inl, inr, ◌↔◌, rules}
+use Rattle.std.proofs.lemmas.Bool.{both_ways}
+use Rattle.std.proofs.lemmas.Option.{same_Some}
+use Rattle.ccw_core.specs.declared.areas.Area.{Area}
+use Rattle.ccw_core.specs.Areas.{lies_in}
+use Rattle.ccw_core.specs.Ccw.{Fields}
+use Rattle.ccw_core.specs.Storage.{is_aligned, is_inside}
+use Rattle.ccw_core.proofs.Covering.{lies_in-nil}
+use Rattle.ccw_core.proofs.StorageLemmas.{ccw_at-some}
+use Rattle.chan_walk.specs.declared.job.Job.{Job}
+use Rattle.chan_walk.specs.declared.place.Place.{Place}
+use Rattle.chan_walk.specs.Place.{data_at, data_of}
+use Rattle.chan_walk.specs.Guard.{AddsBytes}
+use Rattle.chan_walk.specs.Job.{storage_of}
+use Rattle.chan_walk.specs.Least.{AreReached}
+use Rattle.chan_walk.specs.Look.{IsLook, Seen}
+use Rattle.chan_walk.specs.Moved.{HoldData, IsSeenByte, Passes}
+use Rattle.chan_walk.specs.Place.{ccw_of}
+use Rattle.chan_areas.specs.Ranges.{end_of}
+use Rattle.chan_walk.proofs.Algorithms.Guarding.{HoldBytes}
+use Rattle.chan_areas.proofs.Merging.{lies_in-cases, lies_in-first}
+use Rattle.chan_walk.proofs.Algorithms.Looking.{ccw_seen}
+
+-- the CCW at p passes the test, and its data range has the byte at b
+abbrev pub HasData : (Place → Fields → Bool) → Job → Place → ℕ → Type 0
+HasData test j p b = Passes test j p × ((data_at j p).start ≤ b) × (b < end_of (data_at j p))
+
+-- what was seen is the CCW that stands there
+pub seen_at : (j : Job) (l : Seen) (c : Fields) → IsLook j l → l.ccw ≡ Some c → (is_aligned l.place.address ≡ true) × (is_inside (length (storage_of j)) l.place.address ≡ true) × (c ≡ ccw_of j l.place)
+seen_at j l c look e = ccw_at-some (storage_of j) l.place.address c (sym look.ccw ∙ e)
+
+pub adds_data : (test : Place → Fields → Bool) (j : Job) (l : Seen) (so : Bool) (old new : List Area) → IsLook j l → ((c : Fields) → l.ccw ≡ Some c → so ≡ test l.place c) → AddsBytes old new (IsSeenByte l so) → AddsBytes old new (HasData test j l.place)
+adds_data test j l so old new look same adds b = ((λ h. to ((adds b).0 h)), λ h. (adds b).1 (from h))
+  where
+    to : (lies_in old b ≡ true) ⊎ IsSeenByte l so b → (lies_in old b ≡ true) ⊎ HasData test j l.place b
+    to (inl h) = inl h
+    to (inr h) =
+        let at = seen_at j l h.ccw look h.seen in
+        let is = at.2 in
+        inr (((at.0, at.1), ap (test l.place) (sym is) ∙ sym (same h.ccw h.seen) ∙ h.so), subst (λ (c : Fields). c.address ≤ b) is h.from, subst (λ c. b < end_of (data_of c)) is h.below)
+
+    from : (lies_in old b ≡ true) ⊎ HasData test j l.place b → (lies_in old b ≡ true) ⊎ IsSeenByte l so b
+    from (inl h) = inl h
+    from (inr h) =
+        let seen = ccw_seen j l look h.0.0 in
+        inr (record { ccw = ccw_of j l.place; seen = seen; so = same (ccw_of j l.place) seen ∙ h.0.1; from = h.1; below = h.2 })
+
+-- over the reachable places
+pub all_data : (test : Place → Fields → Bool) (j : Job) (ps : List Place) (areas : List Area) → AreReached j ps → HoldBytes (HasData test j) ps areas → HoldData test j areas
+all_data test j ps areas r f b = search rules
+
+-- the bytes of the data range of the CCW that was seen
+pub seen_bytes : (l : Seen) (so : Bool) (c : Fields) → l.ccw ≡ Some c → so ≡ true → (b : ℕ) → (lies_in (data_of c ∷ []) b ≡ true) ↔ IsSeenByte l so b
+seen_bytes l so c e s b = search (rules, lies_in-cases, both_ways, lies_in-nil, same_Some, lies_in-first)

@@ -1,0 +1,22 @@
+use Rattle.std.proofs.Common.{◌≡◌, ◌∙◌, ◌++◌, ◌^◌, List, ap, rules, subst, sym}
+use Rattle.std.specs.List.{All}
+use Rattle.std.proofs.lemmas.List.Elements.{All-append}
+use Rattle.ccw_core.specs.declared.areas.Area.{Area}
+use Rattle.chan_areas.specs.Ranges.{EndsBelow}
+use Rattle.chan_areas.proofs.Merging.{IfOk-two}
+use Rattle.chan_areas.proofs.Merging.{merged_both}
+use Rattle.chan_walk.proofs.moved.kept.Goals as goal
+
+pub merge-requires : goal.merge-requires
+merge-requires c =
+    let ccws = c.ccw_ranges.result.now in
+    let arguments = c.argument_ranges.result.now in
+    let first : c.extend_from_slice.new.self.items ≡ ccws = c.in_ok-extend_from_slice.ensures.items ∙ ap (λ (xs : List Area). xs ++ ccws) c.new-areas.ensures.items in
+    let both : c.extend_from_slice-2.new.self.items ≡ ccws ++ arguments = c.in_ok-extend_from_slice-2.ensures.items ∙ ap (λ (xs : List Area). xs ++ arguments) first in
+    subst (All (EndsBelow (2 ^ 32))) (sym both) (All-append (EndsBelow (2 ^ 32)) ccws arguments c.ccw_ranges.ensures.low c.argument_ranges.ensures.low)
+
+pub returns : goal.returns
+returns c =
+    IfOk-two c.merge.result _ _ _
+    (λ v m h j guards. record { merged = m; bytes = merged_both c.args.guard.now.ccws c.args.guard.now.arguments v.items (search (h, rules)) guards.ccws guards.arguments })
+    c.merge.ensures.merged c.merge.ensures.bytes

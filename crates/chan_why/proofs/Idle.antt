@@ -1,0 +1,23 @@
+-- Commands that move nothing are no transfers.
+use Rattle.std.proofs.Common.{◌≡◌, ℕ, Bool, true, false, not, ◌||◌, ◌==◌, ◌%◌, Option, refl, rules}
+use Rattle.std.specs.List.{list_all}
+use Rattle.ccw_core.specs.Ccw.{Fields, is_transfer}
+use Rattle.ckd_core.specs.declared.command.Kind.TheVariants.{Idle}
+use Rattle.ckd_core.specs.Table.{Entry as Command, table, lookup}
+use Rattle.chan_walk.specs.Fault.{kind_of_command}
+use Rattle.chan_why.specs.Notes.{is_idle, moves_nothing}
+use Rattle.chan_walk.proofs.Theory.Commands.{Passes, found_passes, found_code}
+
+abbrev idle_are_no_transfers : Command → Bool
+idle_are_no_transfers e = not (moves_nothing e.kind) || not (e.code % 16 == 8)
+
+idle_apart : list_all idle_are_no_transfers table ≡ true
+unfolding table
+idle_apart = refl
+
+idle_at : (code : ℕ) (o : Option Command) → Passes idle_are_no_transfers o → Passes (λ e. e.code == code) o → is_idle o ≡ true → (kind_of_command o ≡ Idle) × ((code % 16 == 8) ≡ false)
+idle_at code o h same k = search rules
+
+pub idle_is_no_transfer : (c : Fields) → is_idle (lookup c.command) ≡ true → (kind_of_command (lookup c.command) ≡ Idle) × (is_transfer c ≡ false)
+unfolding lookup is_transfer
+idle_is_no_transfer c h = idle_at c.command (lookup c.command) (found_passes idle_are_no_transfers c.command table idle_apart) (found_code c.command table) h
