@@ -5,11 +5,12 @@ ghost use Rattle.ccw_core.specs.Held.{bytes_held};
 ghost use Rattle.ccw_core.specs.Storage.{ccw_at as ccw_in};
 ghost use Rattle.ckd_core.specs.Entries.{entry_of};
 ghost use Rattle.ccw_core.specs.Ccw.{Fields};
-ghost use Rattle.chan_walk.specs.Fault.{begins_seek, fetches};
+ghost use Rattle.chan_walk.specs.Fault.{HasFault, begins_seek, fetches};
 ghost use Rattle.chan_walk.specs.Job.{storage_of};
 ghost use Rattle.chan_walk.specs.Lending.{Lends};
 ghost use Rattle.chan_walk.specs.Look.{IsLook, IsRead, addresses_of, argument_of, byte_of};
 ghost use Rattle.chan_walk.specs.Look.{mask_addresses, whole_of};
+ghost use Rattle.chan_walk.specs.Successors.{AreSuccessors};
 ghost use Rattle.chan_walk.specs.Tables.{HasAddresses};
 ghost use Rattle.chan_walk.specs.Visit.{IsBegun, IsVisit};
 
@@ -317,4 +318,24 @@ pub(crate) fn look_by(job: &Job, lending: Lending, place: Place) -> Look
         Some(ccw) => look_at_ccw(job, lending, place, ccw),
         None => look_at_nothing(place),
     }
+}
+
+/// The own fault of a place, one of the reasons 1 to 13 and 16: the first that applies; `None` if
+/// there is none. The place may be any, reached or not.
+///
+/// It takes no memory. The cost is that of `covers` over the areas lent, at most the square of
+/// their number.
+pub fn fault_at(job: &Job, place: Place) -> Option<Reason>
+    ensures { HasFault job.now place result }
+{
+    look_at(job, place).fault()
+}
+
+/// The successors of a place: none if it has an own fault. The place may be any, reached or not.
+///
+/// It takes no memory. The cost is that of `fault_at`.
+pub fn successors(job: &Job, place: Place) -> Next
+    ensures { AreSuccessors job.now place result }
+{
+    look_at(job, place).next()
 }

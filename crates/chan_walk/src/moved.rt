@@ -9,11 +9,12 @@ ghost use Rattle.chan_walk.specs.Guarded.{IsGuarded};
 ghost use Rattle.chan_walk.specs.Least.{AreReached};
 ghost use Rattle.chan_walk.specs.Look.{AreLooks, places_of_looks};
 ghost use Rattle.chan_walk.specs.Moved.{HoldData, IsSeenByte};
+ghost use Rattle.chan_walk.specs.Place as placed;
 ghost use Rattle.chan_walk.specs.declared.job.Job.{Job};
 
 use crate::guard::Guard;
 use crate::look::Look;
-use ccw_core::Area;
+use ccw_core::{Area, Ccw};
 use chan_areas::merge;
 use std::alloc::{AllocError, Global};
 
@@ -43,6 +44,17 @@ pub fn stored(alloc: Global, looks: &[Look]) -> Result<Vec<Area>, AllocError>
     merge(alloc, ranges)
 }
 
+/// The range of a CCW's data.
+pub fn data_of(ccw: &Ccw) -> Area
+    ensures range { result ≡ placed.data_of ccw.now }
+    ensures low { EndsBelow (2 ^ 32) result }
+{
+    Area {
+        start: ccw.address(),
+        len: u32::from(ccw.count()),
+    }
+}
+
 /// Adds the data range of the CCW at a place, if the CCW moves its data.
 fn add_range(ranges: &mut Vec<Area>, look: &Look, is_so: bool) -> Result<(), AllocError>
     requires { All (EndsBelow (2 ^ 32)) ranges.old.items }
@@ -51,10 +63,7 @@ fn add_range(ranges: &mut Vec<Area>, look: &Look, is_so: bool) -> Result<(), All
         (IsSeenByte look.now is_so)) }
 {
     match look.ccw() {
-        Some(ccw) if is_so => ranges.push(Area {
-            start: ccw.address(),
-            len: u32::from(ccw.count()),
-        })?,
+        Some(ccw) if is_so => ranges.push(data_of(&ccw))?,
         _ => {}
     }
     Ok(())

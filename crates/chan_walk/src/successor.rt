@@ -3,12 +3,10 @@
 ghost use Rattle.std.specs.Prelude.{◌≡◌, ◌<◌, ◌^◌, None};
 ghost use Rattle.chan_walk.specs.Fault.{kind_of as kind};
 ghost use Rattle.chan_walk.specs.Successors as chain;
-ghost use Rattle.chan_walk.specs.Successors.{AreSuccessors, next_of, skip_of};
+ghost use Rattle.chan_walk.specs.Successors.{next_of, skip_of};
 ghost use Rattle.chan_walk.specs.Visit.{IsBegun};
 
 use crate::bits::{chains_command, chains_data};
-use crate::job::Job;
-use crate::look::look_at;
 use crate::place::{Entry, Place};
 use crate::visit::Visit;
 use ckd_core::Kind;
@@ -33,15 +31,6 @@ impl Next {
             skip: None,
         }
     }
-}
-
-/// The successors of a place: none if it has an own fault. The place may be any, reached or not.
-///
-/// It takes no memory. The cost is that of `fault_at`.
-pub fn successors(job: &Job, place: Place) -> Next
-    ensures { AreSuccessors job.now place result }
-{
-    look_at(job, place).next()
 }
 
 /// Where a program goes on after a place that has no own fault.

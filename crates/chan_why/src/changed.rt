@@ -1,50 +1,20 @@
-//! What a store changes: the least address of a guarded byte, and the place to which it belongs.
+//! What a store changes: the place to which a guarded byte belongs, and the path to it.
 
-ghost use Rattle.std.specs.Prelude.{◌≡◌, ◌↔◌, ℕ, length, IfOk, IsTrue};
-ghost use Rattle.chan_why.specs.Changed.{HasByteOf, IsArgumentChange, IsFirstChanged};
-ghost use Rattle.chan_why.specs.Evidence.{IsArgumentIn, IsCause, IsCcwIn};
-ghost use Rattle.chan_areas.specs.Ranges.{IsLeastOf};
-ghost use Rattle.chan_why.specs.Evidence.{IsSecondPath};
-ghost use Rattle.chan_walk.specs.Guard.{Guards};
+ghost use Rattle.std.specs.Prelude.{◌≡◌, length, IfOk};
+ghost use Rattle.chan_why.specs.Changed.{IsFirstChanged};
+ghost use Rattle.chan_why.specs.Evidence.{IsCause, IsSecondPath};
 ghost use Rattle.chan_why.specs.Index.{IsIndex, TakesByte};
 ghost use Rattle.chan_walk.specs.Look.{AreLooks, places_of_looks};
-ghost use Rattle.chan_walk.specs.Verdict.{AreClear};
 ghost use Rattle.chan_walk.specs.Walk.{HasFound};
 ghost use Rattle.chan_why.specs.Paths.{IsFirstWhere};
-ghost use Rattle.chan_why.specs.declared.evidence.Evidence.TheVariants as because;
 ghost use Rattle.chan_walk.specs.declared.job.Job.{Job};
 ghost use Rattle.chan_walk.specs.declared.place.Place as places;
 
 use crate::evidence::Evidence;
 use crate::finder::Finder;
 use crate::path::{Path, path_at};
-use ccw_core::Area;
-use chan_areas::first_in;
-use chan_walk::{Guard, Look, Place, Walk};
+use chan_walk::{Look, Place, Walk};
 use std::alloc::{AllocError, Global};
-
-/// Whether some data has a byte of the eight from an address on.
-pub(crate) fn has_byte_of(range: Area, address: u32) -> bool
-    ensures { IsTrue result ↔ HasByteOf range address }
-{
-    let end = u64::from(range.start) + u64::from(range.len);
-    u64::from(range.start) < u64::from(address) + 8 && u64::from(address) < end
-}
-
-/// The evidence that some data is stored over a CCW: of the CCWs that have a byte of it, the one
-/// that has the least. CCWs stand at multiples of 8.
-pub(crate) fn changed_ccw(guard: &Guard, range: Area) -> Evidence
-    requires { (j : Job) × Guards j guard.now × ((a : ℕ) × IsCcwIn j range a) }
-    ensures { (j : Job) → Guards j guard.now → (a : ℕ) × (result ≡ because.ChangesCcw range a)
-        × IsLeastOf (IsCcwIn j range) a }
-{
-    // The data has a byte of such a CCW.
-    let byte = first_in(guard.ccw_ranges(), range.start, range.len).unwrap();
-    Evidence::ChangesCcw {
-        data: range,
-        ccw: byte - byte % 8,
-    }
-}
 
 /// The index of the first place with an address.
 #[tactic(auto, using(crate::proofs::Finding::none_at_all))]
@@ -57,26 +27,6 @@ fn first_at(looks: &[Look], address: u32) -> Option<usize>
         }
     }
     None
-}
-
-/// The evidence that some data is stored over an argument, where no place has an own fault.
-pub(crate) fn changed_argument(walk: &Walk, guard: &Guard, finder: &Finder, range: Area) -> Evidence
-    requires { (j : Job) × HasFound j walk.now × Guards j guard.now
-        × IsIndex (TakesByte walk.now.looks.items (length walk.now.looks.items)) finder.now.takers
-        × AreClear j × ((b : ℕ) × IsArgumentIn j range b) }
-    ensures { (j : Job) → HasFound j walk.now → Guards j guard.now → AreClear j
-        → IsIndex (TakesByte walk.now.looks.items (length walk.now.looks.items)) finder.now.takers
-        → IsArgumentChange j range result }
-{
-    // The data has a guarded byte, and some place takes it.
-    let byte = first_in(guard.argument_ranges(), range.start, range.len).unwrap();
-    let taker = &walk.looks[finder.taker(byte).unwrap()];
-    Evidence::ChangesArgument {
-        data: range,
-        byte,
-        taker: taker.place().address,
-        argument: taker.read().whole(),
-    }
 }
 
 /// The index of the place to which the second path leads.

@@ -1,29 +1,31 @@
 //! Evidence: the values of an offence's cause.
 
-ghost use Rattle.std.specs.Prelude.{◌≡◌, ◌+◌, ◌≤◌, false, length, None, Some};
+ghost use Rattle.std.specs.Prelude.{◌≡◌, ◌+◌, ◌≤◌, ℕ, false, length, None, Some};
 ghost use Rattle.ccw_core.specs.Areas.{covered};
 ghost use Rattle.ccw_core.specs.Storage.{ccw_at as ccw_in};
 ghost use Rattle.ccw_core.specs.declared.areas.Area as areas;
+ghost use Rattle.chan_areas.specs.Ranges.{IsFirstGap, IsLeastOf};
+ghost use Rattle.chan_why.specs.Changed.{IsArgumentChange};
 ghost use Rattle.chan_why.specs.Evidence as specs;
-ghost use Rattle.chan_why.specs.Evidence.{FailsToSeek, IsEvidence};
-ghost use Rattle.chan_areas.specs.Ranges.{IsFirstGap};
-ghost use Rattle.chan_why.specs.Evidence.{IsOutside};
+ghost use Rattle.chan_why.specs.Evidence.{FailsToSeek, IsArgumentIn, IsCcwIn, IsEvidence, IsOutside};
 ghost use Rattle.chan_walk.specs.Fault.{allows};
 ghost use Rattle.chan_walk.specs.Guard.{Guards};
-ghost use Rattle.chan_why.specs.Index.{FindsCauses};
+ghost use Rattle.chan_why.specs.Index.{FindsCauses, IsIndex, TakesByte};
 ghost use Rattle.chan_walk.specs.Job.{fetch_of, storage_of, store_of};
 ghost use Rattle.chan_walk.specs.Lent.{AreLent};
 ghost use Rattle.chan_walk.specs.Look.{IsLook, IsRead};
 ghost use Rattle.chan_walk.specs.Offences.{Offending, seen_offence};
-ghost use Rattle.chan_walk.specs.Place as placed;
+ghost use Rattle.chan_walk.specs.Verdict.{AreClear};
 ghost use Rattle.chan_walk.specs.Walk.{HasFound};
 ghost use Rattle.chan_why.specs.declared.evidence.Evidence.TheVariants as because;
+ghost use Rattle.chan_walk.specs.declared.job.Job.{Job};
 
-use crate::changed::{changed_argument, changed_ccw};
 use crate::finder::Finder;
 use ccw_core::{Area, Ccw};
+use chan_areas::first_in;
 use chan_walk::{
-    GivenBytes, Guard, Job, Lent, Look, Offence, Read, Reason, Walk, first_place, recalibrates_at,
+    GivenBytes, Guard, Job, Lent, Look, Offence, Read, Reason, Walk, data_of, first_place,
+    recalibrates_at,
 };
 use ckd_core::{FileMask, Track};
 
@@ -256,16 +258,6 @@ fn eight_bytes(address: u32) -> Area
     }
 }
 
-/// The range of a CCW's data.
-pub(crate) fn data_of(ccw: &Ccw) -> Area
-    ensures { result ≡ placed.data_of ccw.now }
-{
-    Area {
-        start: ccw.address(),
-        len: u32::from(ccw.count()),
-    }
-}
-
 /// What of some data isn't lent for storing.
 fn not_lent_for_storing(job: &Job, lent: &Lent, range: Area) -> Evidence
     requires lent { AreLent job.now lent.now }
@@ -332,5 +324,40 @@ fn outside_of(job: &Job, argument: [u8; 6]) -> Outside
     Outside::Head {
         head: track.head,
         heads: job.device.heads(),
+    }
+}
+
+/// The evidence that some data is stored over a CCW: of the CCWs that have a byte of it, the one
+/// that has the least. CCWs stand at multiples of 8.
+fn changed_ccw(guard: &Guard, range: Area) -> Evidence
+    requires { (j : Job) × Guards j guard.now × ((a : ℕ) × IsCcwIn j range a) }
+    ensures { (j : Job) → Guards j guard.now → (a : ℕ) × (result ≡ because.ChangesCcw range a)
+        × IsLeastOf (IsCcwIn j range) a }
+{
+    // The data has a byte of such a CCW.
+    let byte = first_in(guard.ccw_ranges(), range.start, range.len).unwrap();
+    Evidence::ChangesCcw {
+        data: range,
+        ccw: byte - byte % 8,
+    }
+}
+
+/// The evidence that some data is stored over an argument, where no place has an own fault.
+fn changed_argument(walk: &Walk, guard: &Guard, finder: &Finder, range: Area) -> Evidence
+    requires { (j : Job) × HasFound j walk.now × Guards j guard.now
+        × IsIndex (TakesByte walk.now.looks.items (length walk.now.looks.items)) finder.now.takers
+        × AreClear j × ((b : ℕ) × IsArgumentIn j range b) }
+    ensures { (j : Job) → HasFound j walk.now → Guards j guard.now → AreClear j
+        → IsIndex (TakesByte walk.now.looks.items (length walk.now.looks.items)) finder.now.takers
+        → IsArgumentChange j range result }
+{
+    // The data has a guarded byte, and some place takes it.
+    let byte = first_in(guard.argument_ranges(), range.start, range.len).unwrap();
+    let taker = &walk.looks[finder.taker(byte).unwrap()];
+    Evidence::ChangesArgument {
+        data: range,
+        byte,
+        taker: taker.place().address,
+        argument: taker.read().whole(),
     }
 }

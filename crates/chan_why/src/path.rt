@@ -2,6 +2,7 @@
 
 ghost use Rattle.std.specs.Prelude.{◌≡◌, ◌<◌, ◌↔◌, ◌++◌, ◌∷◌, [], List, length, reverse};
 ghost use Rattle.std.specs.Prelude.{IfOk, IsTrue};
+ghost use Rattle.chan_why.specs.Changed.{HasByteOf};
 ghost use Rattle.chan_why.specs.Explained.{IsLastStore, IsStoredBefore, StoresAt};
 ghost use Rattle.chan_walk.specs.Look.{IsLook, places_of_looks};
 ghost use Rattle.chan_walk.specs.Walk.{HasFound};
@@ -9,9 +10,8 @@ ghost use Rattle.chan_why.specs.Paths.{IsPathAt};
 ghost use Rattle.chan_walk.specs.declared.job.Job.{Job};
 ghost use Rattle.chan_walk.specs.declared.place.Place as places;
 
-use crate::changed::has_byte_of;
-use crate::evidence::data_of;
-use chan_walk::{Look, Place, Walk};
+use ccw_core::Area;
+use chan_walk::{Look, Place, Walk, data_of};
 use std::alloc::{AllocError, Global};
 
 /// The path to a place, its end.
@@ -70,4 +70,12 @@ fn stores_at(look: &Look, address: u32) -> bool
         Some(ccw) => look.stores() && has_byte_of(data_of(&ccw), address),
         None => false,
     }
+}
+
+/// Whether some data has a byte of the eight from an address on.
+fn has_byte_of(range: Area, address: u32) -> bool
+    ensures { IsTrue result ↔ HasByteOf range address }
+{
+    let end = u64::from(range.start) + u64::from(range.len);
+    u64::from(range.start) < u64::from(address) + 8 && u64::from(address) < end
 }

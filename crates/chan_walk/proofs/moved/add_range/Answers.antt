@@ -1,13 +1,10 @@
-use Rattle.std.proofs.Common.{ℕ, ◌++◌, [], ◌∷◌, sym, ap, ◌∙◌}
+use Rattle.std.proofs.Common.{◌++◌, [], ◌∷◌, sym, ap, ◌∙◌}
 use Rattle.ccw_core.specs.declared.areas.Area.{Area}
-use Rattle.chan_walk.specs.Place.{data_of}
 use Rattle.chan_walk.specs.Moved.{IsSeenByte}
+use Rattle.chan_walk.specs.Place.{data_of}
 use Rattle.chan_walk.proofs.Algorithms.Guarding.{adds_areas}
 use Rattle.chan_walk.proofs.Algorithms.Moved.{seen_bytes}
 use Rattle.chan_walk.proofs.moved.add_range.Goals as goal
-
-abbrev area : ℕ → ℕ → Area
-area start len = record { start = start; len = len }
 
 pub returns-in_ok-push-in-Some-clause-bytes : goal.returns-in_ok-push-in-Some-clause-bytes
 returns-in_ok-push-in-Some-clause-bytes c =
@@ -15,5 +12,5 @@ returns-in_ok-push-in-Some-clause-bytes c =
     let ccw = c.in-Some.ccw in
     let old = c.args.ranges.now.items in
     adds_areas old (data_of ccw ∷ []) c.push.new.self.items (IsSeenByte l c.args.is_so)
-    (c.in_ok-push-in-Some.ensures.items ∙ ap (λ z. old ++ area z c.from.result ∷ []) c.address.ensures.value ∙ ap (λ z. old ++ area ccw.address z ∷ []) (c.from.ensures ∙ c.count.ensures))
+    (c.in_ok-push-in-Some.ensures.items ∙ ap (λ (a : Area). old ++ a ∷ []) c.data_of.ensures.range)
     (seen_bytes l c.args.is_so ccw (sym c.ccw.ensures ∙ c.in-Some.is) c.if-is_so.true)

@@ -9,7 +9,7 @@ use Rattle.chan_walk.proofs.Algorithms.Moved.{HasData, adds_data, all_data}
 use Rattle.chan_walk.proofs.moved.fetched.Goals as goal
 
 pub loop-look-init : goal.loop-look-init
-loop-look-init c = search (rules, low_none, hold_none, HasData)
+loop-look-init c = search (rules, low_none, hold_none)
 
 pub loop-look-preserved : goal.loop-look-preserved
 loop-look-preserved c =

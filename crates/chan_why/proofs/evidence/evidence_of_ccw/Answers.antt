@@ -17,7 +17,7 @@ not_lent_for_storing-requires-clause-inside c =
     let p = c.args.offence.place in
     let all = told j p c.args.offence.reason c.requires.offends.0 c.requires.offends.1 in
     let ccw = (ccw_at-some (storage_of j) p.address c.args.ccw c.requires.stands).2 in
-    let area : c.data_of-data.result ≡ data_at j p = c.data_of-data.ensures ∙ ap data_of ccw in
+    let area : c.data_of-data.result ≡ data_at j p = c.data_of-data.ensures.range ∙ ap data_of ccw in
     subst (λ (r : Area). r.start + r.len ≤ length (storage_of j)) (sym area) (subst (Told j p) c.in-StoreNotLent.is all).1.0
 
 pub not_lent_for_storing-requires-clause-uncovered : goal.not_lent_for_storing-requires-clause-uncovered
@@ -26,7 +26,7 @@ not_lent_for_storing-requires-clause-uncovered c =
     let p = c.args.offence.place in
     let all = told j p c.args.offence.reason c.requires.offends.0 c.requires.offends.1 in
     let ccw = (ccw_at-some (storage_of j) p.address c.args.ccw c.requires.stands).2 in
-    let area : c.data_of-data.result ≡ data_at j p = c.data_of-data.ensures ∙ ap data_of ccw in
+    let area : c.data_of-data.result ≡ data_at j p = c.data_of-data.ensures.range ∙ ap data_of ccw in
     subst (λ (r : Area). covered (store_of j) r.start r.len ≡ false) (sym area) (subst (Told j p) c.in-StoreNotLent.is all).1.1
 
 pub not_lent_for_fetching-requires-clause-inside : goal.not_lent_for_fetching-requires-clause-inside
@@ -35,7 +35,7 @@ not_lent_for_fetching-requires-clause-inside c =
     let p = c.args.offence.place in
     let all = told j p c.args.offence.reason c.requires.offends.0 c.requires.offends.1 in
     let ccw = (ccw_at-some (storage_of j) p.address c.args.ccw c.requires.stands).2 in
-    let area : c.data_of-data.result ≡ data_at j p = c.data_of-data.ensures ∙ ap data_of ccw in
+    let area : c.data_of-data.result ≡ data_at j p = c.data_of-data.ensures.range ∙ ap data_of ccw in
     subst (λ (r : Area). r.start + r.len ≤ length (storage_of j)) (sym area) (subst (Told j p) c.in-FetchNotLent.is all).1.0
 
 pub not_lent_for_fetching-requires-clause-uncovered : goal.not_lent_for_fetching-requires-clause-uncovered
@@ -44,7 +44,7 @@ not_lent_for_fetching-requires-clause-uncovered c =
     let p = c.args.offence.place in
     let all = told j p c.args.offence.reason c.requires.offends.0 c.requires.offends.1 in
     let ccw = (ccw_at-some (storage_of j) p.address c.args.ccw c.requires.stands).2 in
-    let area : c.data_of-data.result ≡ data_at j p = c.data_of-data.ensures ∙ ap data_of ccw in
+    let area : c.data_of-data.result ≡ data_at j p = c.data_of-data.ensures.range ∙ ap data_of ccw in
     subst (λ (r : Area). covered (fetch_of j) r.start r.len ≡ false) (sym area) (subst (Told j p) c.in-FetchNotLent.is all).1.1
 
 pub evidence_of_seek-requires-clause-fails : goal.evidence_of_seek-requires-clause-fails
@@ -56,7 +56,7 @@ changed_ccw-requires c =
     let p = c.args.offence.place in
     let all = told j p c.args.offence.reason c.requires.offends.0 c.requires.offends.1 in
     let ccw = (ccw_at-some (storage_of j) p.address c.args.ccw c.requires.stands).2 in
-    let area : c.data_of-data.result ≡ data_at j p = c.data_of-data.ensures ∙ ap data_of ccw in
+    let area : c.data_of-data.result ≡ data_at j p = c.data_of-data.ensures.range ∙ ap data_of ccw in
     let over = over_ccw j p (subst (Told j p) c.in-ChangesCcw.is all).2 in
     (j, c.requires.guards, (over.0, subst (λ (r : Area). IsCcwIn j r over.0) (sym area) over.1))
 
@@ -66,7 +66,7 @@ changed_argument-requires c =
     let p = c.args.offence.place in
     let all = told j p c.args.offence.reason c.requires.offends.0 c.requires.offends.1 in
     let ccw = (ccw_at-some (storage_of j) p.address c.args.ccw c.requires.stands).2 in
-    let area : c.data_of-data.result ≡ data_at j p = c.data_of-data.ensures ∙ ap data_of ccw in
+    let area : c.data_of-data.result ≡ data_at j p = c.data_of-data.ensures.range ∙ ap data_of ccw in
     let h = subst (Told j p) c.in-ChangesArgument.is all in
     let over = over_argument j p h.2 in
     (j, c.requires.found, c.requires.guards, c.requires.finds.takers, h.1, (over.0, subst (λ (r : Area). IsArgumentIn j r over.0) (sym area) over.1))
@@ -75,7 +75,7 @@ pub returns-in-ChangesCcw : goal.returns-in-ChangesCcw
 returns-in-ChangesCcw c =
     let j = c.args.job.now in
     let ccw = (ccw_at-some (storage_of j) c.args.offence.place.address c.args.ccw c.requires.stands).2 in
-    let area : c.data_of-data.result ≡ data_at j c.args.offence.place = c.data_of-data.ensures ∙ ap data_of ccw in
+    let area : c.data_of-data.result ≡ data_at j c.args.offence.place = c.data_of-data.ensures.range ∙ ap data_of ccw in
     let g = c.changed_ccw.ensures j c.requires.guards in
     subst (λ e. IsEvidence j c.args.offence e) (sym g.1) (sym c.in-ChangesCcw.is, (area, g.2))
 
@@ -85,7 +85,7 @@ returns-in-ChangesArgument c =
     let p = c.args.offence.place in
     let all = told j p c.args.offence.reason c.requires.offends.0 c.requires.offends.1 in
     let ccw = (ccw_at-some (storage_of j) p.address c.args.ccw c.requires.stands).2 in
-    let area : c.data_of-data.result ≡ data_at j p = c.data_of-data.ensures ∙ ap data_of ccw in
+    let area : c.data_of-data.result ≡ data_at j p = c.data_of-data.ensures.range ∙ ap data_of ccw in
     let h = subst (Told j p) c.in-ChangesArgument.is all in
     let g = c.changed_argument.ensures j c.requires.found c.requires.guards h.1 c.requires.finds.takers in
     subst (λ e. IsEvidence j c.args.offence e) (sym g.3) (sym c.in-ChangesArgument.is, (area, g.4, g.5))

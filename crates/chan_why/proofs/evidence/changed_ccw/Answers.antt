@@ -3,7 +3,7 @@ use Rattle.ccw_core.specs.declared.areas.Area.{Area}
 use Rattle.chan_areas.specs.Ranges.{IsLeastOrNone}
 use Rattle.chan_areas.specs.Ranges.{IsByteIn}
 use Rattle.chan_why.proofs.Changing.{least_ccw, one_ccw}
-use Rattle.chan_why.proofs.changed.changed_ccw.Goals as goal
+use Rattle.chan_why.proofs.evidence.changed_ccw.Goals as goal
 
 pub unwrap-byte-requires : goal.unwrap-byte-requires
 unwrap-byte-requires c =

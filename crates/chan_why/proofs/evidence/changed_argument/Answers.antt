@@ -9,7 +9,7 @@ use Rattle.chan_why.specs.Paths.{IsFirstWhere}
 use Rattle.chan_why.proofs.Changing.{first_within, found_least, one_argument, one_taker, taken_at, taken_whole}
 use Rattle.chan_why.proofs.Indexing.{taker_found}
 use Rattle.chan_walk.proofs.Algorithms.Looking.{look_of}
-use Rattle.chan_why.proofs.changed.changed_argument.Goals as goal
+use Rattle.chan_why.proofs.evidence.changed_argument.Goals as goal
 
 pub unwrap-byte-requires : goal.unwrap-byte-requires
 unwrap-byte-requires c =
