@@ -1,5 +1,5 @@
 -- The two passes over starts: upwards over all, and downwards over what was left.
-use Rattle.std.proofs.Common.{◌≡◌, true, ℕ, zero, suc, ◌+◌, ◌*◌, ◌/◌, ◌<◌, ◌≤◌, List, [], ◌∷◌, ◌++◌, length, reverse, slice_index, refl, sym, ap, ◌∙◌, subst, ◌⊎◌, inl, inr, ◌↔◌, arith}
+use Rattle.std.proofs.Common.{◌≡◌, true, ℕ, zero, suc, ◌+◌, ◌*◌, ◌/◌, ◌<◌, ◌≤◌, List, [], ◌∷◌, ◌++◌, length, reverse, slice_index, refl, sym, subst, ◌⊎◌, inl, inr, ◌↔◌, arith}
 use Rattle.std.specs.List.Sorted.{IsStrictlyIncreasing}
 use Rattle.std.proofs.lemmas.Bool.{cases_lt}
 use Rattle.std.proofs.lemmas.List.{reverse-append}
@@ -7,9 +7,9 @@ use Rattle.ccw_core.specs.Storage.{Stands, is_aligned}
 use Rattle.chan_walk.specs.declared.job.Job.{Job}
 use Rattle.chan_walk.specs.declared.place.Place.{Place}
 use Rattle.chan_walk.specs.Argument.{Has}
-use Rattle.chan_find.specs.Covered.{HasByte, IsMarked, AreClosed, IsCovered, AreComeTo, AreRoots}
+use Rattle.chan_find.specs.Covered.{HasByte, IsMarked, AreClosed, IsCovered, IsTaken, IsOffered, AreComeTo, AreRoots}
 use Rattle.chan_walk.specs.Job.{storage_of}
-use Rattle.chan_find.specs.Programs.{start_at, IsTrail, HasTrail, LeadsTo, IsLikely, AreProgramStarts, IsHigh, AreLedTo, IsRoot}
+use Rattle.chan_find.specs.Programs.{start_at, IsTrail, HasTrail, LeadsTo, IsLikely, AreProgramStarts, IsFirst, AreLedTo, IsRoot}
 use Rattle.chan_walk.proofs.Theory.Lists.{has_left, has_push}
 use Rattle.chan_find.proofs.Starts.{leads_on, high_is_program, program_is_high}
 use Rattle.chan_find.proofs.Covering.{stands_byte}
@@ -42,12 +42,26 @@ come_more j starts a m n come c p h = go (c.only p h)
     go (inl k) = let r = come p k in (r.0, has_left starts (a ∷ []) r.0 r.1, r.2)
     go (inr k) = (a, (has_push starts a a).1 (inr refl), k)
 
--- ---- rising lists
+-- ---- ordered lists
 
--- each number is below all that come after it
+-- each number comes before all that stand after it
+abbrev pub IsOrdered : (ℕ → ℕ → Type 0) → List ℕ → Type 0
+IsOrdered Before [] = Unit {0}
+IsOrdered Before (x ∷ xs) = ((y : ℕ) → Has xs y → Before x y) × IsOrdered Before xs
+
+pub ordered_push : (Before : ℕ → ℕ → Type 0) (xs : List ℕ) (x : ℕ) → IsOrdered Before xs → ((y : ℕ) → Has xs y → Before y x) → IsOrdered Before (xs ++ x ∷ [])
+ordered_push Before [] x r f = ((λ y h. absurd h), tt)
+ordered_push Before (y ∷ xs) x r f = (above, ordered_push Before xs x r.1 (λ z h. f z (inr h)))
+  where
+    pick : (z : ℕ) → Has xs z ⊎ (x ≡ z) → Before y z
+    pick z (inl h) = r.0 z h
+    pick z (inr e) = subst (Before y) e (f y (inl refl))
+
+    above : (z : ℕ) → Has (xs ++ x ∷ []) z → Before y z
+    above z h = pick z ((has_push xs x z).0 h)
+
 abbrev pub IsRising : List ℕ → Type 0
-IsRising [] = Unit {0}
-IsRising (x ∷ xs) = ((y : ℕ) → Has xs y → x < y) × IsRising xs
+IsRising xs = IsOrdered (λ a b. a < b) xs
 
 pub rising_increases : (xs : List ℕ) → IsRising xs → IsStrictlyIncreasing xs
 rising_increases [] r k l = absurd (omega arith)
@@ -73,17 +87,6 @@ increasing_above x (z ∷ xs) h y (inr k) =
 pub increasing_rises : (xs : List ℕ) → IsStrictlyIncreasing xs → IsRising xs
 increasing_rises [] h = tt
 increasing_rises (x ∷ xs) h = (increasing_above x xs h, increasing_rises xs (increasing_rest x xs h))
-
-pub rising_push : (xs : List ℕ) (x : ℕ) → IsRising xs → ((y : ℕ) → Has xs y → y < x) → IsRising (xs ++ x ∷ [])
-rising_push [] x r f = ((λ y h. absurd h), tt)
-rising_push (y ∷ xs) x r f = (above, rising_push xs x r.1 (λ z h. f z (inr h)))
-  where
-    pick : (z : ℕ) → Has xs z ⊎ (x ≡ z) → y < z
-    pick z (inl h) = r.0 z h
-    pick z (inr e) = subst (λ w. y < w) e (f y (inl refl))
-
-    above : (z : ℕ) → Has (xs ++ x ∷ []) z → y < z
-    above z h = pick z ((has_push xs x z).0 h)
 
 pub rising_front : (xs : List ℕ) (x : ℕ) → IsRising (xs ++ x ∷ []) → IsRising xs × ((y : ℕ) → Has xs y → y < x)
 rising_front [] x r = (tt, λ y h. absurd h)
@@ -112,24 +115,103 @@ has_reverse (x ∷ xs) b = turned x xs b (has_reverse xs b)
         from (inl e) = (has_push (reverse xs) x b).1 (inr e)
         from (inr h) = (has_push (reverse xs) x b).1 (inl (rest.1 h))
 
+pub rising_reverse : (xs : List ℕ) → IsOrdered (λ a b. b < a) xs → IsRising (reverse xs)
+rising_reverse [] h = tt
+rising_reverse (x ∷ xs) h = subst IsRising (sym (reverse-append (x ∷ []) xs)) (ordered_push (λ a b. a < b) (reverse xs) x (rising_reverse xs h.1) (λ y k. h.0 y ((has_reverse xs y).0 k)))
+
+-- ---- a pass
+
+-- a pass over the numbers for which P holds: what holds once those are done for which Done does
+pub record IsPassed (j : Job) (Before : ℕ → ℕ → Type 0) (P Done : ℕ → Type 0) (ms ys : List ℕ) : Type 0 where
+  pub come : AreComeTo j ys ms
+  pub each : (b : ℕ) → P b → Done b → IsMarked ms (start_at b)
+  pub all : (b : ℕ) → IsFirst j Before P b → Done b → Has ys b
+  pub only : (b : ℕ) → Has ys b → IsFirst j Before P b × Done b
+  pub ordered : IsOrdered Before ys
+
+-- the number a is the next one
+pub record IsNext (Before : ℕ → ℕ → Type 0) (P Done Then : ℕ → Type 0) (a : ℕ) : Type 0 where
+  pub parts : (b : ℕ) → P b → Then b → Done b ⊎ (b ≡ a)
+  pub on : (b : ℕ) → P b → Done b → Then b
+  pub here : Then a
+  pub before : (b : ℕ) → P b → Done b → Before b a
+  pub done : (b : ℕ) → P b → Before b a → Done b
+
+pub passed_none : (j : Job) (Before : ℕ → ℕ → Type 0) (P Done : ℕ → Type 0) (ms ys : List ℕ) → ((b : ℕ) → P b → Done b → ⊥) → ((p : Place) → IsMarked ms p → ⊥) → ys ≡ [] → IsPassed j Before P Done ms ys
+passed_none j Before P Done ms ys undone none d = subst (λ z. IsPassed j Before P Done ms z) (sym d) (record {
+  come = λ p h. absurd (none p h);
+  each = λ b p k. absurd (undone b p k);
+  all = λ b f k. absurd (undone b f.holds k);
+  only = λ b h. absurd h;
+  ordered = tt;
+})
+
+module _ (j : Job) (Before : ℕ → ℕ → Type 0) (P Done Then : ℕ → Type 0) (a : ℕ) (likely : (b : ℕ) → P b → IsLikely j b) (x : IsNext Before P Done Then a) (ms ys : List ℕ) (u : IsPassed j Before P Done ms ys) where
+  -- it is taken: nothing before it leads to it
+  passed_more : (ns zs : List ℕ) → P a → length ms ≡ length (storage_of j) / 8 → AreClosed j ms → IsTaken j a ms ys ns zs → IsPassed j Before P Then ns zs
+  passed_more ns zs here len closed t = subst (λ z. IsPassed j Before P Then ns z) (sym t.taken) (record {
+    come = come_more j ys a ms ns u.come t.covered;
+    each = λ b p d. each b p (x.parts b p d);
+    all = λ b f d. all b f (x.parts b f.holds d);
+    only = λ b h. only b ((has_push ys a b).0 h);
+    ordered = ordered_push Before ys a u.ordered (λ y h. let o = u.only y h in x.before y o.0.holds o.1);
+  })
+    where
+      each : (b : ℕ) → P b → Done b ⊎ (b ≡ a) → IsMarked ns (start_at b)
+      each b p (inl d) = t.covered.keeps (start_at b) (u.each b p d)
+      each b p (inr e) = subst (λ z. IsMarked ns (start_at z)) (sym e) (t.covered.begins (likely_byte j ms a len t.likely))
+
+      all : (b : ℕ) → IsFirst j Before P b → Done b ⊎ (b ≡ a) → Has (ys ++ a ∷ []) b
+      all b f (inl d) = has_left ys (a ∷ []) b (u.all b f d)
+      all b f (inr e) = (has_push ys a b).1 (inr (sym e))
+
+      first : IsFirst j Before P a
+      first = record { holds = here; none = λ b p before l. t.new (closed_has j ms b (start_at a) len closed (u.each b p (x.done b p before)) l (likely_stands j a t.likely)) }
+
+      only : (b : ℕ) → Has ys b ⊎ (a ≡ b) → IsFirst j Before P b × Then b
+      only b (inl h) = let o = u.only b h in (o.0, x.on b o.0.holds o.1)
+      only b (inr e) = subst (λ z. IsFirst j Before P z × Then z) e (first, x.here)
+
+  -- it is come to, if P holds for it: something before it leads to it
+  passed_by : (P a → IsMarked ms (start_at a)) → IsPassed j Before P Then ms ys
+  passed_by stays = record {
+    come = u.come;
+    each = λ b p d. each b p (x.parts b p d);
+    all = λ b f d. all b f (x.parts b f.holds d);
+    only = λ b h. let o = u.only b h in (o.0, x.on b o.0.holds o.1);
+    ordered = u.ordered;
+  }
+    where
+      each : (b : ℕ) → P b → Done b ⊎ (b ≡ a) → IsMarked ms (start_at b)
+      each b p (inl d) = u.each b p d
+      each b p (inr e) = subst (λ z. IsMarked ms (start_at z)) (sym e) (stays (subst P e p))
+
+      none : (b : ℕ) → IsFirst j Before P b → b ≡ a → ⊥
+      none b f e =
+          let c = u.come (start_at b) (each b f.holds (inr e)) in
+          let o = u.only c.0 c.1 in
+          f.none c.0 o.0.holds (subst (Before c.0) (sym e) (x.before c.0 o.0.holds o.1)) c.2
+
+      all : (b : ℕ) → IsFirst j Before P b → Done b ⊎ (b ≡ a) → Has ys b
+      all b f (inl d) = u.all b f d
+      all b f (inr e) = absurd (none b f e)
+
+  pub passed : (ns zs : List ℕ) → (IsLikely j a → P a) → length ms ≡ length (storage_of j) / 8 → AreClosed j ms → IsOffered j a ms ys ns zs → IsPassed j Before P Then ns zs
+  passed ns zs here len closed (inl t) = passed_more ns zs (here t.likely) len closed t
+  passed ns zs here len closed (inr (stays, m, y)) = subst (λ z. IsPassed j Before P Then z zs) (sym m) (subst (λ z. IsPassed j Before P Then ms z) (sym y) (passed_by (λ p. stays (likely a p))))
+
+-- what is done is led to by what was taken
+pub passed_led : (j : Job) (Before : ℕ → ℕ → Type 0) (P Done : ℕ → Type 0) (ms ys : List ℕ) → IsPassed j Before P Done ms ys → (b : ℕ) → P b → Done b → (a : ℕ) × Has ys a × LeadsTo j a b
+passed_led j Before P Done ms ys u b p d = u.come (start_at b) (u.each b p d)
+
 -- ---- upwards
 
--- what holds below the address n: the roots below it, and what they come to
-pub record IsUpTo (j : Job) (ms roots : List ℕ) (n : ℕ) : Type 0 where
-  pub come : AreComeTo j roots ms
-  pub each : (b : ℕ) → IsLikely j b → b < n → IsMarked ms (start_at b)
-  pub all : (b : ℕ) → IsRoot j b → b < n → Has roots b
-  pub only : (b : ℕ) → Has roots b → IsRoot j b × (b < n)
-  pub rising : IsRising roots
+-- the roots below the address n are taken
+abbrev pub IsUpTo : Job → List ℕ → List ℕ → ℕ → Type 0
+IsUpTo j ms roots n = IsPassed j (λ b c. b < c) (IsLikely j) (λ b. b < n) ms roots
 
-pub up_to_none : (j : Job) (ms roots : List ℕ) → ((p : Place) → IsMarked ms p → ⊥) → roots ≡ [] → IsUpTo j ms roots 0
-up_to_none j ms roots none d = subst (λ z. IsUpTo j ms z 0) (sym d) (record {
-  come = λ p h. absurd (none p h);
-  each = λ b k l. absurd (omega arith);
-  all = λ b k l. absurd (omega arith);
-  only = λ b h. absurd h;
-  rising = tt;
-})
+pub up_none : (j : Job) (ms roots : List ℕ) → ((p : Place) → IsMarked ms p → ⊥) → roots ≡ [] → IsUpTo j ms roots 0
+up_none j ms roots none d = passed_none j (λ b c. b < c) (IsLikely j) (λ b. b < 0) ms roots (λ b l k. omega (arith, k)) none d
 
 aligned_next : (k b : ℕ) → is_aligned b ≡ true → b < k * 8 + 8 → (b < k * 8) ⊎ (b ≡ k * 8)
 unfolding is_aligned
@@ -139,62 +221,21 @@ aligned_next k b e l = pick (cases_lt b (k * 8))
     pick (inl h) = inl h
     pick (inr h) = inr (grind (arith, e, h, l))
 
--- nothing is taken at an address that isn't likely or is come to
-pub up_stays : (j : Job) (ms roots : List ℕ) (k : ℕ) → IsUpTo j ms roots (k * 8) → (IsLikely j (k * 8) → IsMarked ms (start_at (k * 8))) → IsUpTo j ms roots (k * 8 + 8)
-up_stays j ms roots k u h = record {
-  come = u.come;
-  each = λ b l m. each b l (aligned_next k b (likely_stands j b l).0 m);
-  all = λ b r m. all b r (aligned_next k b (likely_stands j b r.holds).0 m);
-  only = λ b m. ((u.only b m).0, omega (arith, (u.only b m).1));
-  rising = u.rising;
-}
+pub up_turn : (j : Job) (ms ns old new : List ℕ) (a : ℕ) → (k : ℕ) × (a ≡ k * 8) → length ms ≡ length (storage_of j) / 8 → AreClosed j ms → IsUpTo j ms old a → IsOffered j a ms old ns new → IsUpTo j ns new (a + 8)
+up_turn j ms ns old new a at len closed u o = passed j (λ b c. b < c) (IsLikely j) (λ b. b < a) (λ b. b < a + 8) a (λ b l. l) next ms old u ns new (λ l. l) len closed o
   where
-    each : (b : ℕ) → IsLikely j b → (b < k * 8) ⊎ (b ≡ k * 8) → IsMarked ms (start_at b)
-    each b l (inl m) = u.each b l m
-    each b l (inr e) = subst (λ z. IsMarked ms (start_at z)) (sym e) (h (subst (IsLikely j) e l))
+    parts : (b : ℕ) → IsLikely j b → b < a + 8 → (b < a) ⊎ (b ≡ a)
+    parts b l m = subst (λ z. (b < z) ⊎ (b ≡ z)) (sym at.1) (aligned_next at.0 b (likely_stands j b l).0 (omega (arith, at.1, m)))
 
-    -- what is come to is no root
-    none : (b : ℕ) → IsRoot j b → b ≡ k * 8 → ⊥
-    none b r e =
-        let c = u.come (start_at b) (each b r.holds (inr e)) in
-        let o = u.only c.0 c.1 in
-        r.none c.0 o.0.holds (subst (λ z. c.0 < z) (sym e) o.1) c.2
-
-    all : (b : ℕ) → IsRoot j b → (b < k * 8) ⊎ (b ≡ k * 8) → Has roots b
-    all b r (inl m) = u.all b r m
-    all b r (inr e) = absurd (none b r e)
-
--- a likely start that isn't come to is a root
-pub up_more : (j : Job) (ms ns roots more : List ℕ) (k : ℕ) → length ms ≡ length (storage_of j) / 8 → AreClosed j ms → IsUpTo j ms roots (k * 8) → IsLikely j (k * 8) → (IsMarked ms (start_at (k * 8)) → ⊥) → IsCovered j (k * 8) ms ns → more ≡ roots ++ k * 8 ∷ [] → IsUpTo j ns more (k * 8 + 8)
-up_more j ms ns roots more k len closed u l new c is = subst (λ z. IsUpTo j ns z (k * 8 + 8)) (sym is) (record {
-  come = come_more j roots (k * 8) ms ns u.come c;
-  each = λ b m n. each b m (aligned_next k b (likely_stands j b m).0 n);
-  all = λ b r n. all b r (aligned_next k b (likely_stands j b r.holds).0 n);
-  only = λ b h. only b ((has_push roots (k * 8) b).0 h);
-  rising = rising_push roots (k * 8) u.rising (λ y h. (u.only y h).1);
-})
-  where
-    each : (b : ℕ) → IsLikely j b → (b < k * 8) ⊎ (b ≡ k * 8) → IsMarked ns (start_at b)
-    each b m (inl n) = c.keeps (start_at b) (u.each b m n)
-    each b m (inr e) = subst (λ z. IsMarked ns (start_at z)) (sym e) (c.begins (likely_byte j ms (k * 8) len l))
-
-    all : (b : ℕ) → IsRoot j b → (b < k * 8) ⊎ (b ≡ k * 8) → Has (roots ++ k * 8 ∷ []) b
-    all b r (inl n) = has_left roots (k * 8 ∷ []) b (u.all b r n)
-    all b r (inr e) = (has_push roots (k * 8) b).1 (inr (sym e))
-
-    root : IsRoot j (k * 8)
-    root = record { holds = l; none = λ b m n t. new (closed_has j ms b (start_at (k * 8)) len closed (u.each b m n) t (likely_stands j (k * 8) l)) }
-
-    only : (b : ℕ) → Has roots b ⊎ (k * 8 ≡ b) → IsRoot j b × (b < k * 8 + 8)
-    only b (inl h) = let o = u.only b h in (o.0, omega (arith, o.1))
-    only b (inr e) = subst (λ z. IsRoot j z × (z < k * 8 + 8)) e (root, omega arith)
+    next : IsNext (λ b c. b < c) (IsLikely j) (λ b. b < a) (λ b. b < a + 8) a
+    next = record { parts = parts; on = λ b l m. omega (arith, m); here = omega arith; before = λ b l m. m; done = λ b l m. m }
 
 pub up_all : (j : Job) (ms roots : List ℕ) (n : ℕ) → IsUpTo j ms roots n → length (storage_of j) ≤ n → AreRoots j roots
 up_all j ms roots n u l = record {
-  ordered = rising_increases roots u.rising;
+  ordered = rising_increases roots u.ordered;
   each = λ a r. u.all a r (low a r.holds);
   only = λ a h. (u.only a h).0;
-  led = λ b m. let c = u.come (start_at b) (u.each b m (low b m)) in (c.0, (u.only c.0 c.1).0, c.2);
+  led = λ b m. let c = passed_led j (λ b c. b < c) (IsLikely j) (λ b. b < n) ms roots u b m (low b m) in (c.0, (u.only c.0 c.1).0, c.2);
 }
   where
     low : (b : ℕ) → IsLikely j b → b < n
@@ -202,175 +243,90 @@ up_all j ms roots n u l = record {
 
 -- ---- downwards
 
--- what holds while the roots rest are left
-pub record IsDownTo (j : Job) (ms rest kept : List ℕ) : Type 0 where
-  pub come : AreComeTo j kept ms
-  pub left : (b : ℕ) → IsRoot j b → Has rest b ⊎ IsMarked ms (start_at b)
-  pub all : (b : ℕ) → IsHigh j (IsRoot j) b → Has rest b ⊎ Has kept b
+-- b is above all of the list
+abbrev pub IsAbove : List ℕ → ℕ → Type 0
+IsAbove rest b = (y : ℕ) → Has rest y → y < b
+
+-- these roots are left, and the others are above them
+pub record IsRest (j : Job) (rest : List ℕ) : Type 0 where
   pub roots : (b : ℕ) → Has rest b → IsRoot j b
-  pub high : (b : ℕ) → Has kept b → IsHigh j (IsRoot j) b
-  pub below : (b r : ℕ) → Has rest b → Has kept r → b < r
+  pub left : (b : ℕ) → IsRoot j b → Has rest b ⊎ IsAbove rest b
   pub rising : IsRising rest
-  pub turned : IsRising (reverse kept)
 
-pub down_from : (j : Job) (ms rest kept : List ℕ) → AreRoots j rest → ((p : Place) → IsMarked ms p → ⊥) → kept ≡ [] → IsDownTo j ms rest kept
-down_from j ms rest kept r none d = subst (λ z. IsDownTo j ms rest z) (sym d) (record {
-  come = λ p h. absurd (none p h);
-  left = λ b k. inl (r.each b k);
-  all = λ b k. inl (r.each b k.holds);
-  roots = r.only;
-  high = λ b h. absurd h;
-  below = λ b s h k. absurd k;
-  rising = increasing_rises rest r.ordered;
-  turned = tt;
-})
+-- of those above, the ones that none above leads to are taken
+abbrev pub IsDownTo : Job → List ℕ → List ℕ → List ℕ → Type 0
+IsDownTo j ms rest kept = IsPassed j (λ b c. c < b) (IsRoot j) (IsAbove rest) ms kept
 
--- the highest root left is come to: it is no start of a program
-pub down_stays : (j : Job) (ms rest front kept : List ℕ) (s : ℕ) → rest ≡ front ++ s ∷ [] → IsDownTo j ms rest kept → IsMarked ms (start_at s) → IsDownTo j ms front kept
-down_stays j ms rest front kept s is d h = record {
-  come = d.come;
-  left = λ b r. left b (d.left b r);
-  all = λ b k. all b k (d.all b k);
-  roots = λ b k. d.roots b (to b k);
-  high = d.high;
-  below = λ b r k m. d.below b r (to b k) m;
-  rising = (rising_front front s (subst IsRising is d.rising)).0;
-  turned = d.turned;
-}
-  where
-    to : (b : ℕ) → Has front b → Has rest b
-    to b k = subst (λ z. Has z b) (sym is) (has_left front (s ∷ []) b k)
+pub rest_all : (j : Job) (rest : List ℕ) → AreRoots j rest → IsRest j rest
+rest_all j rest r = record { roots = r.only; left = λ b k. inl (r.each b k); rising = increasing_rises rest r.ordered }
 
-    from : (b : ℕ) → Has rest b → Has front b ⊎ (s ≡ b)
-    from b k = (has_push front s b).0 (subst (λ z. Has z b) is k)
+pub down_none : (j : Job) (ms rest kept : List ℕ) → AreRoots j rest → ((p : Place) → IsMarked ms p → ⊥) → kept ≡ [] → IsDownTo j ms rest kept
+down_none j ms rest kept r none d = passed_none j (λ b c. c < b) (IsRoot j) (IsAbove rest) ms kept (λ b k above. let l = above b (r.each b k) in omega (arith, l)) none d
 
-    last : Has rest s
-    last = subst (λ z. Has z s) (sym is) ((has_push front s s).1 (inr refl))
+-- the last one is the next
+module _ (j : Job) (rest front : List ℕ) (s : ℕ) (is : rest ≡ front ++ s ∷ []) (r : IsRest j rest) where
+  parted : IsRising front × IsAbove front s
+  parted = rising_front front s (subst IsRising is r.rising)
 
-    left : (b : ℕ) → Has rest b ⊎ IsMarked ms (start_at b) → Has front b ⊎ IsMarked ms (start_at b)
-    left b (inr k) = inr k
-    left b (inl k) = one (from b k)
-      where
-        one : Has front b ⊎ (s ≡ b) → Has front b ⊎ IsMarked ms (start_at b)
-        one (inl m) = inl m
-        one (inr e) = inr (subst (λ z. IsMarked ms (start_at z)) e h)
+  to : (b : ℕ) → Has front b → Has rest b
+  to b k = subst (λ z. Has z b) (sym is) (has_left front (s ∷ []) b k)
 
-    none : IsHigh j (IsRoot j) s → ⊥
-    none k = let c = d.come (start_at s) h in k.none c.0 (d.high c.0 c.1).holds (d.below s c.0 last c.1) c.2
+  from : (b : ℕ) → Has rest b → Has front b ⊎ (s ≡ b)
+  from b k = (has_push front s b).0 (subst (λ z. Has z b) is k)
 
-    all : (b : ℕ) → IsHigh j (IsRoot j) b → Has rest b ⊎ Has kept b → Has front b ⊎ Has kept b
-    all b k (inr m) = inr m
-    all b k (inl m) = one (from b m)
-      where
-        one : Has front b ⊎ (s ≡ b) → Has front b ⊎ Has kept b
-        one (inl n) = inl n
-        one (inr e) = absurd (none (subst (IsHigh j (IsRoot j)) (sym e) k))
+  pub last : Has rest s
+  last = subst (λ z. Has z s) (sym is) ((has_push front s s).1 (inr refl))
 
--- it is not come to: it is one
-pub down_more : (j : Job) (ms ns rest front kept more : List ℕ) (s : ℕ) → rest ≡ front ++ s ∷ [] → reverse more ≡ s ∷ reverse kept → ((r : ℕ) → Has (reverse kept) r → Has kept r) → length ms ≡ length (storage_of j) / 8 → AreClosed j ms → IsDownTo j ms rest kept → (IsMarked ms (start_at s) → ⊥) → IsCovered j s ms ns → more ≡ kept ++ s ∷ [] → IsDownTo j ns front more
-down_more j ms ns rest front kept more s is turn back len closed d new c was = record {
-  come = subst (λ z. AreComeTo j z ns) (sym was) (come_more j kept s ms ns d.come c);
-  left = λ b r. left b (d.left b r);
-  all = λ b k. all b (d.all b k);
-  roots = λ b k. d.roots b (to b k);
-  high = λ b k. high b (push b k);
-  below = λ b r k m. below b r k (push r m);
-  rising = front_of.0;
-  turned = subst IsRising (sym turn) ((λ y k. d.below s y last (back y k)), d.turned);
-}
-  where
-    front_of : IsRising front × ((y : ℕ) → Has front y → y < s)
-    front_of = rising_front front s (subst IsRising is d.rising)
+  next : IsNext (λ b c. c < b) (IsRoot j) (IsAbove rest) (IsAbove front) s
+  next = record {
+    parts = λ b k above. parts b above (r.left b k);
+    on = λ b k above y h. above y (to y h);
+    here = parted.1;
+    before = λ b k above. above s last;
+    done = λ b k l. done b l (r.left b k);
+  }
+    where
+      one : (b : ℕ) → IsAbove front b → Has front b ⊎ (s ≡ b) → IsAbove rest b ⊎ (b ≡ s)
+      one b above (inl h) = let l = above b h in absurd (omega (arith, l))
+      one b above (inr e) = inr (sym e)
 
-    to : (b : ℕ) → Has front b → Has rest b
-    to b k = subst (λ z. Has z b) (sym is) (has_left front (s ∷ []) b k)
+      parts : (b : ℕ) → IsAbove front b → Has rest b ⊎ IsAbove rest b → IsAbove rest b ⊎ (b ≡ s)
+      parts b above (inl h) = one b above (from b h)
+      parts b above (inr a) = inl a
 
-    from : (b : ℕ) → Has rest b → Has front b ⊎ (s ≡ b)
-    from b k = (has_push front s b).0 (subst (λ z. Has z b) is k)
+      low : (b : ℕ) → s < b → Has front b ⊎ (s ≡ b) → ⊥
+      low b l (inl h) = let m = parted.1 b h in omega (arith, l, m)
+      low b l (inr e) = omega (arith, l, e)
 
-    last : Has rest s
-    last = subst (λ z. Has z s) (sym is) ((has_push front s s).1 (inr refl))
+      done : (b : ℕ) → s < b → Has rest b ⊎ IsAbove rest b → IsAbove rest b
+      done b l (inl h) = absurd (low b l (from b h))
+      done b l (inr a) = a
 
-    likely : IsLikely j s
-    likely = (d.roots s last).holds
+  pub rest_on : IsRest j front
+  rest_on = record { roots = λ b h. r.roots b (to b h); left = λ b k. left b (r.left b k); rising = parted.0 }
+    where
+      one : (b : ℕ) → Has front b ⊎ (s ≡ b) → Has front b ⊎ IsAbove front b
+      one b (inl h) = inl h
+      one b (inr e) = inr (subst (IsAbove front) e parted.1)
 
-    push : (b : ℕ) → Has more b → Has kept b ⊎ (s ≡ b)
-    push b k = (has_push kept s b).0 (subst (λ z. Has z b) was k)
+      left : (b : ℕ) → Has rest b ⊎ IsAbove rest b → Has front b ⊎ IsAbove front b
+      left b (inl h) = one b (from b h)
+      left b (inr a) = inr (λ y h. a y (to y h))
 
-    pull : (b : ℕ) → Has kept b ⊎ (s ≡ b) → Has more b
-    pull b k = subst (λ z. Has z b) (sym was) ((has_push kept s b).1 k)
+  pub down_turn : (ms ns old new : List ℕ) → length ms ≡ length (storage_of j) / 8 → AreClosed j ms → IsDownTo j ms rest old → IsOffered j s ms old ns new → IsDownTo j ns front new
+  down_turn ms ns old new len closed u o = passed j (λ b c. c < b) (IsRoot j) (IsAbove rest) (IsAbove front) s (λ b k. k.holds) next ms old u ns new (λ l. r.roots s last) len closed o
 
-    left : (b : ℕ) → Has rest b ⊎ IsMarked ms (start_at b) → Has front b ⊎ IsMarked ns (start_at b)
-    left b (inr k) = inr (c.keeps (start_at b) k)
-    left b (inl k) = one (from b k)
-      where
-        one : Has front b ⊎ (s ≡ b) → Has front b ⊎ IsMarked ns (start_at b)
-        one (inl m) = inl m
-        one (inr e) = inr (subst (λ z. IsMarked ns (start_at z)) e (c.begins (likely_byte j ms s len likely)))
-
-    all : (b : ℕ) → Has rest b ⊎ Has kept b → Has front b ⊎ Has more b
-    all b (inr m) = inr (pull b (inl m))
-    all b (inl m) = one (from b m)
-      where
-        one : Has front b ⊎ (s ≡ b) → Has front b ⊎ Has more b
-        one (inl n) = inl n
-        one (inr e) = inr (pull b (inr e))
-
-    -- a root above s is come to, so that it doesn't lead to s
-    none : (b : ℕ) → IsRoot j b → s < b → LeadsTo j b s → ⊥
-    none b r m t = one (d.left b r)
-      where
-        two : Has front b ⊎ (s ≡ b) → ⊥
-        two (inl k) = let l = front_of.1 b k in absurd (omega (arith, l, m))
-        two (inr e) = absurd (omega (arith, e, m))
-
-        one : Has rest b ⊎ IsMarked ms (start_at b) → ⊥
-        one (inl k) = two (from b k)
-        one (inr k) = new (closed_has j ms b (start_at s) len closed k t (likely_stands j s likely))
-
-    high : (b : ℕ) → Has kept b ⊎ (s ≡ b) → IsHigh j (IsRoot j) b
-    high b (inl k) = d.high b k
-    high b (inr e) = subst (IsHigh j (IsRoot j)) e (record { holds = d.roots s last; none = none })
-
-    below : (b r : ℕ) → Has front b → Has kept r ⊎ (s ≡ r) → b < r
-    below b r k (inl m) = d.below b r (to b k) m
-    below b r k (inr e) = subst (λ z. b < z) e (front_of.1 b k)
-
-pub down_all : (j : Job) (ms : List ℕ) (kept turned : List ℕ) → AreLedTo j (IsLikely j) (IsRoot j) → IsDownTo j ms [] kept → turned ≡ reverse kept → ((r : ℕ) → Has turned r ↔ Has kept r) → AreProgramStarts j turned
-down_all j ms kept turned covered d e same = record {
-  ordered = rising_increases turned (subst IsRising (sym e) d.turned);
-  each = λ a s. (same a).1 (one a (d.all a (program_is_high j a s)));
-  only = λ a h. high_is_program j covered a (d.high a ((same a).0 h));
+pub down_all : (j : Job) (ms rest kept turned : List ℕ) → AreLedTo j (IsLikely j) (IsRoot j) → IsDownTo j ms rest kept → length rest ≡ 0 → turned ≡ reverse kept → AreProgramStarts j turned
+down_all j ms [] kept turned covered d none e = subst (AreProgramStarts j) (sym e) (record {
+  ordered = rising_increases (reverse kept) (rising_reverse kept d.ordered);
+  each = λ a s. (has_reverse kept a).1 (d.all a (program_is_high j a s) (λ y h. absurd h));
+  only = λ a h. high_is_program j covered a (d.only a ((has_reverse kept a).0 h)).0;
   all = all;
-}
+})
   where
-    one : (a : ℕ) → Has [] a ⊎ Has kept a → Has kept a
-    one a (inl h) = absurd h
-    one a (inr h) = h
-
-    come : (b : ℕ) → Has [] b ⊎ IsMarked ms (start_at b) → IsMarked ms (start_at b)
-    come b (inl h) = absurd h
-    come b (inr h) = h
-
-    all : (b : ℕ) → IsLikely j b → (a : ℕ) × Has turned a × LeadsTo j a b
+    all : (b : ℕ) → IsLikely j b → (a : ℕ) × Has (reverse kept) a × LeadsTo j a b
     all b l =
         let r = covered b l in
-        let c = d.come (start_at r.0) (come r.0 (d.left r.0 r.1)) in
-        (c.0, (same c.0).1 c.1, leads_on j c.0 r.0 b c.2 r.2)
-
--- ---- one turn
-
-pub up_turn : (j : Job) (ms ns old new : List ℕ) (a : ℕ) → (k : ℕ) × (a ≡ k * 8) → length ms ≡ length (storage_of j) / 8 → AreClosed j ms → IsUpTo j ms old a → IsLikely j a → (IsMarked ms (start_at a) → ⊥) → IsCovered j a ms ns → new ≡ old ++ a ∷ [] → IsUpTo j ns new (a + 8)
-up_turn j ms ns old new a at len closed u l free c is =
-    subst (λ z. IsUpTo j ns new (z + 8)) (sym at.1)
-    (up_more j ms ns old new at.0 len closed (subst (IsUpTo j ms old) at.1 u) (subst (IsLikely j) at.1 l) (subst (λ z. IsMarked ms (start_at z) → ⊥) at.1 free) (subst (λ z. IsCovered j z ms ns) at.1 c) (is ∙ ap (λ z. old ++ z ∷ []) at.1))
-
-pub up_passes : (j : Job) (ms roots : List ℕ) (a : ℕ) → (k : ℕ) × (a ≡ k * 8) → IsUpTo j ms roots a → (IsLikely j a → IsMarked ms (start_at a)) → IsUpTo j ms roots (a + 8)
-up_passes j ms roots a at u f = subst (λ z. IsUpTo j ms roots (z + 8)) (sym at.1) (up_stays j ms roots at.0 (subst (IsUpTo j ms roots) at.1 u) (subst (λ z. IsLikely j z → IsMarked ms (start_at z)) at.1 f))
-
-pub down_turn : (j : Job) (ms ns rest front old new : List ℕ) (s : ℕ) → rest ≡ front ++ s ∷ [] → length ms ≡ length (storage_of j) / 8 → AreClosed j ms → IsDownTo j ms rest old → (IsMarked ms (start_at s) → ⊥) → IsCovered j s ms ns → new ≡ old ++ s ∷ [] → IsDownTo j ns front new
-down_turn j ms ns rest front old new s is len closed d free c e = down_more j ms ns rest front old new s is (ap reverse e ∙ reverse-append old (s ∷ [])) (λ r k. (has_reverse old r).0 k) len closed d free c e
-
-pub down_end : (j : Job) (ms : List ℕ) (rest kept turned : List ℕ) → AreLedTo j (IsLikely j) (IsRoot j) → IsDownTo j ms rest kept → length rest ≡ 0 → turned ≡ reverse kept → AreProgramStarts j turned
-down_end j ms [] kept turned covered d none e = down_all j ms kept turned covered d e (λ r. subst (λ z. Has z r ↔ Has kept r) (sym e) (has_reverse kept r))
-down_end j ms (x ∷ rest) kept turned covered d none e = absurd (omega (arith, none))
+        let c = passed_led j (λ b c. c < b) (IsRoot j) (IsAbove []) ms kept d r.0 r.1 (λ y h. absurd h) in
+        (c.0, (has_reverse kept c.0).1 c.1, leads_on j c.0 r.0 b c.2 r.2)
+down_all j ms (x ∷ rest) kept turned covered d none e = absurd (omega (arith, none))

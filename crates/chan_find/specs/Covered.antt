@@ -1,7 +1,7 @@
 -- What starts lead to, as marks: a byte for each doubleword of storage, whose bit w is on where the
 -- CCW there is come to in the way w.
 use Rattle.std.specs.Prelude.{◌≡◌, ℕ, zero, suc, ◌+◌, ◌-◌, ◌*◌, ◌/◌, ◌<◌, ◌≤◌, true, List, []}
-use Rattle.std.specs.Prelude.{length, slice_index, ◌⊎◌, ◌↔◌}
+use Rattle.std.specs.Prelude.{length, slice_index, ◌∷◌, ◌++◌, ◌⊎◌, ◌↔◌}
 use Rattle.std.specs.Int.{bit_at}
 use Rattle.std.specs.List.{sum_by}
 use Rattle.std.specs.List.Sorted.{IsStrictlyIncreasing}
@@ -71,6 +71,20 @@ pub record IsCovered (j : Job) (a : ℕ) (m n : List ℕ) : Type 0 where
   pub only : (p : Place) → IsMarked n p → IsMarked m p ⊎ HasTrail j a p
 
 -- ---- the passes
+
+-- the start a is taken, as it is likely and not come to: the marks are n in the place of m, and the
+-- starts taken zs in the place of ys
+pub record IsTaken (j : Job) (a : ℕ) (m ys n zs : List ℕ) : Type 0 where
+  pub likely : IsLikely j a
+  pub new : IsMarked m (start_at a) → ⊥
+  pub covered : IsCovered j a m n
+  pub taken : zs ≡ ys ++ a ∷ []
+
+-- it is offered: it is taken, or else it isn't likely or is come to, and all stays
+abbrev pub IsOffered : Job → ℕ → List ℕ → List ℕ → List ℕ → List ℕ → Type 0
+IsOffered j a m ys n zs =
+    IsTaken j a m ys n zs
+    ⊎ ((IsLikely j a → IsMarked m (start_at a)) × (n ≡ m) × (zs ≡ ys))
 
 -- each marked place has a trail from a start of the list
 abbrev pub AreComeTo : Job → List ℕ → List ℕ → Type 0

@@ -113,15 +113,18 @@ YesIsLikely = (j : Job) → IsVerdict j Yes → HasTwoCcws j → IsLikely j j.st
 
 -- ---- how they are found: upwards, and downwards over what was left
 
--- P holds for a, and for no lower number that leads to it
-pub record IsLow (j : Job) (P : ℕ → Type 0) (a : ℕ) : Type 0 where
+-- P holds for a, and for no number that comes before it and leads to it
+pub record IsFirst (j : Job) (Before : ℕ → ℕ → Type 0) (P : ℕ → Type 0) (a : ℕ) : Type 0 where
   pub holds : P a
-  pub none : (b : ℕ) → P b → b < a → LeadsTo j b a → ⊥
+  pub none : (b : ℕ) → P b → Before b a → LeadsTo j b a → ⊥
 
--- P holds for a, and for no higher number that leads to it
-pub record IsHigh (j : Job) (P : ℕ → Type 0) (a : ℕ) : Type 0 where
-  pub holds : P a
-  pub none : (b : ℕ) → P b → a < b → LeadsTo j b a → ⊥
+-- upwards a lower number comes before
+abbrev pub IsLow : Job → (ℕ → Type 0) → ℕ → Type 0
+IsLow j P a = IsFirst j (λ b c. b < c) P a
+
+-- and downwards a higher one
+abbrev pub IsHigh : Job → (ℕ → Type 0) → ℕ → Type 0
+IsHigh j P a = IsFirst j (λ b c. c < b) P a
 
 -- each number for which P holds is led to by one for which Q holds
 abbrev pub AreLedTo : Job → (ℕ → Type 0) → (ℕ → Type 0) → Type 0

@@ -2,7 +2,7 @@
 
 ghost use Rattle.std.specs.Prelude.{◌≡◌, ◌∷◌, ◌++◌, [], IsTrue, IfOk, OnOk, IsSomeAnd, ◌↔◌};
 ghost use Rattle.ccw_core.specs.Held.{bytes_held};
-ghost use Rattle.chan_find.specs.Covered.{AreRoots, IsCovered, IsMarked, IsSettled};
+ghost use Rattle.chan_find.specs.Covered.{AreRoots, IsOffered, IsSettled};
 ghost use Rattle.chan_walk.specs.Look.{IsLook};
 ghost use Rattle.chan_walk.specs.Open.{open_job};
 ghost use Rattle.chan_find.specs.Programs.{AreProgramStarts, HasSecondFrom, HasTwoCcws, IsJobOver};
@@ -69,8 +69,8 @@ fn is_likely(job: &Job, start: u32) -> bool
     has_second_from(job, start, next.next) || has_second_from(job, start, next.skip)
 }
 
-/// Takes a start, and covers all that it leads to.
-fn take(
+/// Takes a start, if it is likely and nothing taken leads to it, and covers all that it leads to.
+fn offer(
     covered: &mut Covered,
     job: &Job,
     start: u32,
@@ -78,10 +78,13 @@ fn take(
 ) -> Result<(), AllocError>
     requires { IsSettled job.now covered.old }
     ensures settled { OnOk result (IsSettled job.now covered.new) }
-    ensures covered { OnOk result (IsCovered job.now start
-        covered.old.marks.bytes.items covered.new.marks.bytes.items) }
-    ensures taken { OnOk result (taken.new.items ≡ taken.old.items ++ start ∷ []) }
+    ensures offered { OnOk result (IsOffered job.now start
+        covered.old.marks.bytes.items taken.old.items
+        covered.new.marks.bytes.items taken.new.items) }
 {
+    if covered.has(start_at(start)) || !is_likely(job, start) {
+        return Ok(());
+    }
     covered.cover(job, start)?;
     taken.push(start)?;
     Ok(())
@@ -95,9 +98,7 @@ fn roots(alloc: Global, job: &Job) -> Result<Vec<u32>, AllocError>
     let mut roots = Vec::new(alloc);
     let mut address = 0;
     while address < job.storage.len() {
-        if !covered.has(start_at(address)) && is_likely(job, address) {
-            take(&mut covered, job, address, &mut roots)?;
-        }
+        offer(&mut covered, job, address, &mut roots)?;
         address += 8;
     }
     Ok(roots)
@@ -112,9 +113,7 @@ fn highest_apart(alloc: Global, job: &Job, roots: Vec<u32>) -> Result<Vec<u32>, 
     let mut covered = Covered::new(alloc, job)?;
     let mut kept = Vec::new(alloc);
     while let Some(start) = rest.pop() {
-        if !covered.has(start_at(start)) {
-            take(&mut covered, job, start, &mut kept)?;
-        }
+        offer(&mut covered, job, start, &mut kept)?;
     }
     kept.reverse();
     Ok(kept)
