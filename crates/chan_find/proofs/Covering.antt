@@ -1,18 +1,21 @@
 -- What starts lead to: what a look tells of a plain place, and how the marks grow.
 use Rattle.std.proofs.Common.{◌≡◌, ℕ, ◌/◌, ◌%◌, ◌<◌, true, List, [], ◌∷◌, ◌++◌, length, Option, Some, None, refl, sym, ap, ◌∙◌, subst, ◌⊎◌, inl, inr, ◌↔◌, arith, length-append}
 use Rattle.ccw_core.specs.Ccw.{Fields}
-use Rattle.ccw_core.specs.Storage.{Stands, is_inside}
+use Rattle.ccw_core.specs.Storage.{Stands, ccw_at, is_inside}
+use Rattle.ccw_core.proofs.StorageLemmas.{ccw_at-some}
 use Rattle.chan_walk.specs.declared.job.Job.{Job}
 use Rattle.chan_walk.specs.declared.place.Place.{Place}
 use Rattle.chan_walk.specs.declared.successor.Next.{Next}
 use Rattle.chan_walk.specs.Argument.{Has}
 use Rattle.chan_find.specs.Covered.{HasByte, IsMarked, IsPut, IsGrown, AreClosed, IsCovered}
+use Rattle.chan_walk.specs.Fault.{is_known}
 use Rattle.chan_walk.specs.Job.{storage_of}
 use Rattle.chan_walk.specs.Look.{IsLook, Seen}
 use Rattle.chan_walk.specs.Place.{ccw_of}
 use Rattle.chan_find.specs.Programs.{start_at, IsPlain, StepsTo, HasTrail}
 use Rattle.chan_walk.specs.Successors.{AreSuccessors}
-use Rattle.chan_walk.proofs.Theory.Faults.{fault_unique}
+use Rattle.chan_walk.proofs.Theory.Checks.{no_second_transfer}
+use Rattle.chan_walk.proofs.Theory.Faults.{clear_check, clear_good, fault_unique}
 use Rattle.chan_walk.proofs.Theory.Lists.{has_left, has_push}
 use Rattle.chan_walk.proofs.Theory.Faults.{clear_stands}
 use Rattle.chan_walk.proofs.Algorithms.Looking.{ccw_seen}
@@ -28,6 +31,16 @@ plain_seen j l look p = ccw_seen j l look (clear_stands j l.place p.clear)
 
 pub plain_not_none : (j : Job) (l : Seen) (o : Option Fields) → IsLook j l → o ≡ l.ccw → o ≡ None → IsPlain j l.place → ⊥
 plain_not_none j l o look e n p = let s = plain_seen j l look p in let same : Some (ccw_of j l.place) ≡ None = sym s ∙ sym e ∙ n in absurd (cc)
+
+-- the CCW of a plain start is no transfer: its code is a command's, and its byte 5 is zero
+pub plain_start : (j : Job) (a : ℕ) → IsPlain j (start_at a) → (is_known (ccw_of j (start_at a)).command ≡ true) × ((ccw_of j (start_at a)).spare ≡ 0)
+plain_start j a p =
+    let t = no_second_transfer (storage_of j) (start_at a) (clear_check j (start_at a) p.clear) refl in
+    ((clear_good j (start_at a) p.clear t).known refl, p.spare t)
+
+-- so is the one that was read there
+pub plain_read : (j : Job) (a : ℕ) (c : Fields) → ccw_at (storage_of j) a ≡ Some c → IsPlain j (start_at a) → (is_known c.command ≡ true) × (c.spare ≡ 0)
+plain_read j a c e p = subst (λ (c : Fields). (is_known c.command ≡ true) × (c.spare ≡ 0)) (sym (ccw_at-some (storage_of j) a c e).2) (plain_start j a p)
 
 -- ---- growing
 

@@ -5,8 +5,9 @@ ghost use Rattle.ccw_core.specs.Held.{bytes_held};
 ghost use Rattle.chan_find.specs.Covered.{AreRoots, IsOffered, IsSettled};
 ghost use Rattle.chan_walk.specs.Look.{IsLook};
 ghost use Rattle.chan_walk.specs.Open.{open_job};
+ghost use Rattle.chan_find.specs.Programs as program;
 ghost use Rattle.chan_find.specs.Programs.{AreProgramStarts, HasSecondFrom, HasTwoCcws, IsJobOver};
-ghost use Rattle.chan_find.specs.Programs.{IsLedTo, IsLikely, IsSecond, LeadToNoOther};
+ghost use Rattle.chan_find.specs.Programs.{IsLedTo, IsLikely, IsPlain, IsSecond, LeadToNoOther};
 ghost use Rattle.chan_walk.specs.Verdict.{IsVerdict};
 ghost use Rattle.chan_walk.specs.declared.job.Job.{Job};
 ghost use Rattle.chan_walk.specs.declared.verdict.Verdict.TheVariants as verdict;
@@ -15,7 +16,7 @@ use crate::covered::{Covered, is_plain, start_at};
 use crate::laws::{programs_are_apart, yes_is_likely};
 use ccw_core::Storage;
 use chan_walk::{Job, Limit, Look, OpenJob, Place, look_at};
-use ckd_core::Device;
+use ckd_core::{Device, lookup};
 use std::alloc::{AllocError, Global};
 
 /// Whether a second CCW stands at a place: it is plain, no transfer, and at another address than
@@ -57,10 +58,24 @@ fn has_second_from(job: &Job, start: u32, place: Option<Place>) -> bool
     is_second_at(job, start, next.next) || is_second_at(job, start, next.skip)
 }
 
+/// Whether the CCW at an address, by two of its bytes alone, may be a plain start: its code is a
+/// command's and its byte 5 is zero. Most of what is no program fails here, before a look.
+fn may_be_plain(job: &Job, start: u32) -> bool
+    ensures { IsPlain job.now (program.start_at start) → IsTrue result }
+{
+    match job.storage.ccw_at(start) {
+        Some(ccw) => ccw.spare() == 0 && lookup(ccw.command()).is_some(),
+        None => false,
+    }
+}
+
 /// Whether a start is likely: it is plain, and a second CCW stands one or two successors on.
 fn is_likely(job: &Job, start: u32) -> bool
     ensures { IsTrue result ↔ IsLikely job.now start }
 {
+    if !may_be_plain(job, start) {
+        return false;
+    }
     let look = look_at(job, start_at(start));
     if !is_plain(&look) {
         return false;
