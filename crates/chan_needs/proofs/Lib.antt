@@ -6,6 +6,7 @@ pub mod History
 pub mod Remembering
 pub mod Beginning
 pub mod Supervising
+pub mod GoingOn
 pub mod Needed
 pub mod Demanding
 pub mod Existing

@@ -112,7 +112,7 @@ pub(crate) fn supervised_stays_well()
 {}
 
 /// What the calls allow may happen, and so may each step and each end.
-#[tactic(auto, using(crate::proofs::Supervising::supervised_goes_on))]
+#[tactic(auto, using(crate::proofs::GoingOn::supervised_goes_on))]
 pub(crate) fn supervised_goes_on()
     ensures { SupervisedGoesOn }
 {}
