@@ -5,7 +5,8 @@ ghost use Rattle.chan_walk.specs.Surveyed.{IsSurvey};
 use crate::shared::expect;
 use ccw_core::Storage;
 use chan_deck::{explanation_text, read_deck};
-use chan_walk::{Job, Survey, Witness, survey};
+use chan_walk::{Job, Survey, survey};
+use chan_why::{Witness, witness_from};
 use std::alloc::Global;
 
 /// The search loop, whose read stores over the CCW that comes next.
@@ -56,7 +57,7 @@ fn explains_job(alloc: Global, job: &Job, text: &str) -> bool {
 fn explains_survey(alloc: Global, job: &Job, survey: &Survey, text: &str) -> bool
     requires { IsSurvey job.now survey.now }
 {
-    match survey.witness(alloc, job) {
+    match witness_from(alloc, job, survey) {
         Ok(witness) => is_explained(alloc, job, survey, &witness, text),
         Err(_) => false,
     }

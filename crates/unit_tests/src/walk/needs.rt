@@ -2,9 +2,8 @@
 
 ghost use Rattle.chan_walk.specs.Surveyed.{IsSurvey};
 
-use chan_walk::{
-    Job, Needs, OpenJob, Remembered, Start, Survey, Verdict, copy_kept, may_start, survey,
-};
+use chan_needs::{Needs, Remembered, Start, copy_kept, may_start, needs_from};
+use chan_walk::{Job, OpenJob, Survey, Verdict, survey};
 use std::alloc::Global;
 
 /// Whether a job's program keeps 24 bytes, its first CCW among them, and may start.
@@ -28,7 +27,7 @@ fn are_surveyed(alloc: Global, open: &Job, survey: &Survey, job: &Job) -> bool
     if survey.verdict() != Verdict::Yes {
         return false;
     }
-    match survey.needs(alloc, open) {
+    match needs_from(alloc, open, survey) {
         Ok(needs) => are_so(alloc, &needs, job),
         Err(_) => false,
     }

@@ -3,7 +3,8 @@
 use super::guard::Ranges;
 use super::{exploring, guard, judging, needs, seek, starting};
 use ccw_core::{Area, Storage};
-use chan_walk::{Entry, Job, Limit, Place, Reason, Start, Verdict, WalkError};
+use chan_needs::Start;
+use chan_walk::{Entry, Job, Limit, Place, Reason, Verdict, WalkError};
 use ckd_core::{Device, Extents, FileMask};
 use std::alloc::{AllocError, Global};
 

@@ -3,7 +3,8 @@
 use crate::shared::expect;
 use crate::walk::program::{Program, Question, SEARCH_LOOP, USUAL, holds};
 use ccw_core::{Area, Storage};
-use chan_walk::{Conflict, Job, Refusal, Remembered, Rows, Start, copy_kept, may_start, may_write};
+use chan_needs::{Conflict, Refusal, Remembered, Rows, Start, copy_kept, may_start, may_write};
+use chan_walk::Job;
 use ckd_core::{Device, FileMask};
 use std::alloc::Global;
 
