@@ -1,12 +1,15 @@
 -- Binary search in merged areas.
-use Rattle.std.proofs.Common.{◌≡◌, ℕ, zero, suc, ◌+◌, ◌<◌, ◌≤◌, true, false, leb, max, List, [], ◌∷◌, length, get_or, Option, Some, None, sym, subst, ◌⊎◌, inl, inr, ◌↔◌, arith, Bor, MatchOption, option_copied, rules}
+use Rattle.std.proofs.Common.{◌≡◌, ℕ, zero, suc, ◌+◌, ◌<◌, ◌≤◌, true, false, leb, max, List, []}
+use Rattle.std.proofs.Common.{◌∷◌, length, get_or, Option, Some, None, sym, subst, ◌⊎◌, inl, inr}
+use Rattle.std.proofs.Common.{◌↔◌, arith, Bor, MatchOption, option_copied, rules}
 use Rattle.std.specs.List.{HoldsAt}
 use Rattle.std.specs.List.Sorted.{IsNonDecreasingBy, IsPartitionPoint}
 use Rattle.std.proofs.lemmas.Bool.{cases_lt, leb-false, both_ways, false_from_ne_true}
 use Rattle.ccw_core.specs.declared.areas.Area.{Area}
 use Rattle.ccw_core.specs.Areas.{lies_in, covered}
 use Rattle.ccw_core.proofs.Covering.{lies_in-at, lies_in-nil, covered-true, covered-false}
-use Rattle.chan_areas.specs.Ranges.{IsByteOf, end_of, BeginAbove, IsMerged, IsFirstAbove, IsNextArea, Meets}
+use Rattle.chan_areas.specs.Ranges.{IsByteOf, end_of, BeginAbove, IsMerged, IsFirstAbove}
+use Rattle.chan_areas.specs.Ranges.{IsNextArea, Meets}
 use Rattle.chan_areas.proofs.Merging.{lies_in-cases}
 
 -- ---- merged areas by their places in the list

@@ -1,5 +1,6 @@
 -- The table of commands, word by word and line by line.
-use Rattle.std.proofs.Common.{◌≡◌, ◌∙◌, ℕ, zero, suc, ◌<◌, List, [], ◌∷◌, length, take, arith, ap, refl, subst, Result, Ok, Err}
+use Rattle.std.proofs.Common.{◌≡◌, ◌∙◌, ℕ, zero, suc, ◌<◌, List, [], ◌∷◌, length, take, arith, ap}
+use Rattle.std.proofs.Common.{refl, subst, Result, Ok, Err}
 use Rattle.std.specs.Prelude.{IfOk, IsOkAnd}
 use Rattle.chan_args.specs.Lines.{LineRow, WordRow, line_in, rule_in, with_lines, with_words}
 use Rattle.chan_args.proofs.Names.{App, Command, IsCommand, app_of}

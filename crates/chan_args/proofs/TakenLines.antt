@@ -13,11 +13,12 @@ use Rattle.clap.specs.Walk.{bundle_step, finished, first_of, has_long, has_short
 use Rattle.clap.specs.Walk.{long_or_other, nothing_held, plain, settled, short_or_plain}
 use Rattle.clap.specs.Walk.{subcommand_met, subcommand_or_other, to_positional, trailing, value}
 use Rattle.clap.specs.Walk.{walk, walk_from, walked}
-use Rattle.chan_args.specs.CommandLine.{IsKnown, IsTaken}
+use Rattle.chan_args.specs.CommandLine.{IsKnown, IsAccepted}
 use Rattle.chan_args.specs.Lines.{chanv}
 use Rattle.chan_args.proofs.Names.{if◌then◌else◌, App, ErrorKind, Kinds, Rule, Shape, append-nil}
 use Rattle.chan_args.proofs.Names.{append_assoc, argument_words, built, bytes_eq, bytes_eq-Decides}
-use Rattle.chan_args.proofs.Names.{chars, entered, find, fold, help_shape, label_of, long_of, names_of}
+use Rattle.chan_args.proofs.Names.{chars, entered, find, fold, help_shape, label_of, long_of}
+use Rattle.chan_args.proofs.Names.{names_of}
 use Rattle.chan_args.proofs.Names.{option_map, option_map_or, or_else, rows_at, short_of, slice_get}
 use Rattle.chan_args.proofs.Names.{slice_index_or, subcommand_of, topic_rule}
 use Rattle.chan_args.specs.declared.action.Action.TheVariants as actions
@@ -310,7 +311,7 @@ leads_to_known is_trailing (word ∷ rest) none below =
         (named_is_known name rest no_help)
 
 -- what words that are taken name is known
-pub taken_is_known : (words : List Text) → IsTaken words → IsKnown (subcommand_of chanv words)
+pub taken_is_known : (words : List Text) → IsAccepted words → IsKnown (subcommand_of chanv words)
 taken_is_known words taken =
     let after = argument_words chanv words in
     let level = or_else_none

@@ -17,8 +17,8 @@ use Rattle.chan_args.specs.declared.action.Action.TheVariants as actions
 
 -- clap finds no fault in the words, of which the first is the program's name, and no call for help
 -- or the version
-abbrev pub IsTaken : List Text → Type 0
-IsTaken words = fault_of chanv words ≡ []
+abbrev pub IsAccepted : List Text → Type 0
+IsAccepted words = fault_of chanv words ≡ []
 
 -- the name of the command that clap met
 abbrev pub name_met : Option (Text × List Row) → Option Text
@@ -43,16 +43,16 @@ rows_met None = []
 rows_met (Some p) = p.1
 
 -- the name of the command for each action
-abbrev pub name_of : Action → Text
-name_of actions.Verify = codes "verify"
-name_of actions.List = codes "list"
-name_of (actions.Why all) = codes "why"
-name_of actions.Graph = codes "graph"
-name_of actions.Needs = codes "needs"
+abbrev pub action_name : Action → Text
+action_name actions.Verify = codes "verify"
+action_name actions.List = codes "list"
+action_name (actions.Why all) = codes "why"
+action_name actions.Graph = codes "graph"
+action_name actions.Needs = codes "needs"
 
 -- it met no command, or that of an action, or `show` with its word, or `deck`, `explain` or `find`
 abbrev pub IsKnown : Option (Text × List Row) → Type 0
-IsKnown met = (name_met met ≡ None) ⊎ (((action : Action) × (name_met met ≡ Some (name_of action)))
+IsKnown met = (name_met met ≡ None) ⊎ (((action : Action) × (name_met met ≡ Some (action_name action)))
     ⊎ (((name_met met ≡ Some (codes "show")) × IsSome (ccw_met met))
     ⊎ ((name_met met ≡ Some (codes "deck")) ⊎ ((name_met met ≡ Some (codes "explain"))
     ⊎ (name_met met ≡ Some (codes "find"))))))
@@ -60,7 +60,7 @@ IsKnown met = (name_met met ≡ None) ⊎ (((action : Action) × (name_met met �
 -- the command asks for this action; no command asks to verify
 abbrev pub IsFor : Option Text → Action → Type 0
 IsFor None action = action ≡ actions.Verify
-IsFor (Some name) action = name ≡ name_of action
+IsFor (Some name) action = name ≡ action_name action
 
 -- the action tells each cause exactly where that option was met
 abbrev pub IsAllAsMet : Action → List Row → Type 0
@@ -112,4 +112,4 @@ IsAnswerTo words (Fault e) =
     (kind_of e ≢ DisplayHelp) × (kind_of e ≢ DisplayVersion) × (kind_of e ≢ OutOfMemory)
     × IsAmong (kind_of e) (fault_of chanv words)
 IsAnswerTo words NoMemory = Unit {0}
-IsAnswerTo words request = IsTaken words × AsksFor (subcommand_of chanv words) request
+IsAnswerTo words request = IsAccepted words × AsksFor (subcommand_of chanv words) request

@@ -33,8 +33,8 @@ with_lines app_in app (line ∷ lines) =
     with_lines app_in (with_subcommand app (app_in line).top) lines
 
 -- the program alone, which has a version
-abbrev pub program_line : App
-program_line =
+abbrev pub bare_program : App
+bare_program =
     let app = new_app (codes "chanv") in
     record app { top = record app.top { has_version = true } }
 
@@ -43,7 +43,7 @@ abbrev pub chanv : App
 chanv =
     with_lines
     (λ line. with_words (λ word. rule_given word.1 word.0.now) (new_app line.0.now) line.3.now)
-    program_line table.LINES.now
+    bare_program table.LINES.now
 
 -- the same of a word and of a line that the code has at hand
 abbrev pub WordRow : Type 0

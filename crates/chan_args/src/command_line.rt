@@ -4,7 +4,7 @@ ghost use Rattle.std.specs.Prelude.{◌≡◌, ◌↔◌, IfErr, IfOk, IsSome, I
 ghost use Rattle.std.specs.Prelude.{string_bytes};
 ghost use Rattle.clap.specs.Words.{HasKind, fault_of, first_of, found_of, rows_of};
 ghost use Rattle.clap.specs.Words.{subcommand_of, subcommand_rows_of};
-ghost use Rattle.chan_args.specs.CommandLine.{AsksFor, IsAnswerTo, IsKnown, IsTaken};
+ghost use Rattle.chan_args.specs.CommandLine.{AsksFor, IsAnswerTo, IsKnown, IsAccepted};
 ghost use Rattle.chan_args.specs.CommandLine.{Explains, MakesDeck, RunsOver};
 ghost use Rattle.chan_args.specs.Lines.{chanv};
 ghost use Rattle.chan_args.specs.CommandWords.{IsStandardInput, files_in, texts_of};
@@ -50,7 +50,7 @@ pub enum Request<'a> {
 
 /// What the words ask for, or why clap doesn't take them.
 fn asked<'a>(alloc: Global, words: &'a [String]) -> Result<Request<'a>, Error>
-    ensures taken { OnOk result (IsTaken (map string_bytes words.entry.now)) }
+    ensures taken { OnOk result (IsAccepted (map string_bytes words.entry.now)) }
     ensures asked { IfOk result (AsksFor (subcommand_of chanv (map string_bytes words.entry.now))) }
     ensures err { IfErr result (HasKind (fault_of chanv (map string_bytes words.entry.now))) }
 {

@@ -2,7 +2,7 @@
 
 ghost use Rattle.std.specs.Prelude.{◌≡◌, false, IfOk, IsOkAnd};
 ghost use Rattle.clap.specs.Words.{App, app_of, new_app, rule_of, with_rule, with_subcommand};
-ghost use Rattle.chan_args.specs.Lines.{chanv, program_line};
+ghost use Rattle.chan_args.specs.Lines.{chanv, bare_program};
 ghost use Rattle.chan_args.specs.CommandWords.{IsCommand};
 ghost use Rattle.chan_args.specs.Lines.{line_in, rule_in, with_lines};
 
@@ -302,7 +302,7 @@ pub(crate) fn command<'a>(alloc: Global) -> Result<Command<'a>, AllocError>
 
 /// The program with these commands.
 fn commands_over<'a>(alloc: Global, lines: &[Line]) -> Result<Command<'a>, AllocError>
-    ensures { IfOk result (λ c. app_of c ≡ with_lines line_in program_line lines.now) }
+    ensures { IfOk result (λ c. app_of c ≡ with_lines line_in bare_program lines.now) }
 {
     let mut command = program(alloc);
     for line in lines {
@@ -313,7 +313,7 @@ fn commands_over<'a>(alloc: Global, lines: &[Line]) -> Result<Command<'a>, Alloc
 
 /// The program without commands.
 fn program<'a>(alloc: Global) -> Result<Command<'a>, AllocError>
-    ensures { IfOk result (λ c. app_of c ≡ program_line) }
+    ensures { IfOk result (λ c. app_of c ≡ bare_program) }
 {
     Ok(
         Command::new(alloc, "chanv")

@@ -1,5 +1,7 @@
 -- The cause for which a line is refused is the first of the table that applies.
-use Rattle.std.proofs.Common.{◌≡◌, ℕ, ◌+◌, ◌/◌, ◌%◌, ◌<◌, ◌≤◌, Bool, true, false, cond, ltb, List, [], ◌∷◌, ◌++◌, length, map, Result, Err, Option, Some, None, MatchBool, refl, sym, ap, subst, ◌∙◌, append_assoc, arith, lit<}
+use Rattle.std.proofs.Common.{◌≡◌, ℕ, ◌+◌, ◌/◌, ◌%◌, ◌<◌, ◌≤◌, Bool, true, false, cond, ltb, List}
+use Rattle.std.proofs.Common.{[], ◌∷◌, ◌++◌, length, map, Result, Err, Option, Some, None}
+use Rattle.std.proofs.Common.{MatchBool, refl, sym, ap, subst, ◌∙◌, append_assoc, arith, lit<}
 use Rattle.std.specs.Prelude.{◌≢◌, ◌==◌, ◌&&◌, nat_lt, nat_le}
 use Rattle.std.specs.Result.{IfErr}
 use Rattle.std.proofs.lemmas.Result.{IfErr-at_err}
@@ -8,12 +10,18 @@ use Rattle.chan_deck.specs.declared.version.VersionNumber.{VersionNumber}
 use Rattle.std.proofs.lemmas.Bool.Decides.{nat_tests}
 use Rattle.ccw_core.specs.declared.areas.Area.{Area}
 use Rattle.ckd_core.specs.Mask.{is_mask}
-use Rattle.chan_deck.specs.Item.{Item, header, device, mask, start, limit, extent, fetch, store, storage, put, end, line, IsSaid, Says}
+use Rattle.chan_deck.specs.Item.{Item, header, device, mask, start, limit, extent, fetch, store}
+use Rattle.chan_deck.specs.Item.{storage, put, end, line, IsSaid, Says}
 use Rattle.chan_deck.specs.Image.{Image, items, puts, is_zero, extent_of, limit_line}
-use Rattle.chan_deck.specs.Refused.{last_of, is_end, is_second, has_ended, may_stand, may_follow, size_said, is_size, is_limit, is_above, is_place, Found, whole_line, part, Applies, AppliesBehindEnd, IsCause, rank}
-use Rattle.chan_deck.specs.Reading.{State, Opening, Named, OnDevice, Masked, Started, Listing, Filling, Whole, step, stands, judged, on_extent, on_put, is_empty, no_form, is_whole, taken}
+use Rattle.chan_deck.specs.Refused.{last_of, is_end, is_second, has_ended, may_stand, may_follow}
+use Rattle.chan_deck.specs.Refused.{size_said, is_size, is_limit, is_above, is_place, Found}
+use Rattle.chan_deck.specs.Refused.{whole_line, part, Applies, AppliesBehindEnd, IsDeckCause, rank}
+use Rattle.chan_deck.specs.Reading.{State, Opening, Named, OnDevice, Masked, Started, Listing}
+use Rattle.chan_deck.specs.Reading.{Filling, Whole, step, stands, after_item, on_extent, on_put}
+use Rattle.chan_deck.specs.Reading.{is_empty, no_form, is_whole, after_line}
 use Rattle.chan_deck.specs.declared.heading.Heading.{Heading}
-use Rattle.chan_deck.proofs.StepLemmas.{heading, lists, said, IsState, Ends, at_front, at_store, at_storage, at_put, at_end, last_of-push}
+use Rattle.chan_deck.proofs.StepLemmas.{heading, lists, said, IsState, Ends, at_front, at_store}
+use Rattle.chan_deck.proofs.StepLemmas.{at_storage, at_put, at_end, last_of-push}
 use Rattle.chan_deck.proofs.ItemLemmas.{says_one}
 use Rattle.chan_deck.specs.declared.version.Version.{Version}
 use Rattle.chan_deck.specs.declared.version.Version.TheVariants.{One, Two}
@@ -62,7 +70,7 @@ one_rank b c e = sym (ranked-rank b) ∙ ap ranked e ∙ ranked-rank c
 -- ---- the first cause that applies
 
 is_cause : (before : List Item) (found : Found) (c : Cause) → has_ended before ≡ false → Applies before found c
-    → ((other : Cause) → rank other < rank c → Applies before found other → ⊥) → IsCause before found c
+    → ((other : Cause) → rank other < rank c → Applies before found other → ⊥) → IsDeckCause before found c
 is_cause before found c e h earlier = record { applies = rw e h; first = λ other lt k. earlier other lt (rw e at k) }
 
 -- a line that may stand behind some others, and what it says
@@ -160,7 +168,7 @@ place_said h es fs ss n bytes a is =
 -- ---- the cause of a line that may stand
 
 abbrev For : State → List ℕ → Cause → Type 0
-For s l c = IsCause (said s) (whole_line l) c
+For s l c = IsDeckCause (said s) (whole_line l) c
 
 -- why a line is refused, if it is
 abbrev Judges : State → List ℕ → Result State Cause → Type 0
@@ -202,7 +210,7 @@ put_cause h es fs ss n bytes l a w is told =
     (λ away. blamed s l (put a w) causes.PutAddress is refl told (a, w, told.says, sym place ∙ away) (λ other lt h. omega (arith, least other h)))
 
 -- the cause of a line that may stand and is refused for what it says
-told_cause : (s : State) (l : List ℕ) (i : Item) → IsState s → IsTold (said s) l i → stands s i ≡ true → Judges s l (judged s i)
+told_cause : (s : State) (l : List ℕ) (i : Item) → IsState s → IsTold (said s) l i → stands s i ≡ true → Judges s l (after_item s i)
 told_cause (OnDevice h v) l (mask m) is told f =
     let s = OnDevice h v in
     cond_both (is_mask m) _ _ (Judges s l) (λ _. tt)
@@ -233,7 +241,7 @@ follows_after (whole_line l) causes.After h = refl
 follows_after (part (b ∷ rest)) causes.After h = refl
 follows_after found c h = absurd h
 
-pub after_cause : (d : Image) (found : Found) → AppliesBehindEnd found causes.After → IsCause (items d) found causes.After
+pub after_cause : (d : Image) (found : Found) → AppliesBehindEnd found causes.After → IsDeckCause (items d) found causes.After
 after_cause d found applies =
     let h : Heading = record { version = d.version; device = d.device; mask = d.mask; start = d.start } in
     let opened = lists h d.extents d.fetch d.store ++ storage (length d.storage) ∷ puts (length d.storage / 8) 0 d.storage in
@@ -269,12 +277,12 @@ item_cause s l i is says =
     (λ f. form_cause s l is (λ j other. ap (λ k. stands s k) (says_one l j i other says) ∙ f))
 
 -- a line that is refused has the cause for which it is refused
-pub line_cause : (s : State) (l : List ℕ) (o : Option Item) (c : Cause) → IsState s → IsSaid l o → taken s o ≡ Err c → IsCause (said s) (whole_line l) c
+pub line_cause : (s : State) (l : List ℕ) (o : Option Item) (c : Cause) → IsState s → IsSaid l o → after_line s o ≡ Err c → IsDeckCause (said s) (whole_line l) c
 line_cause s l (Some i) c is says e = IfErr-at_err (For s l) e (item_cause s l i is says)
 line_cause s l None c is none e = IfErr-at_err (For s l) e (form_cause s l is (λ i says. absurd (none i says)))
 
 -- whatever it says
-pub all_refused : (s : State) (l : List ℕ) (o : Option Item) (c : Cause) → IsSaid l o → taken s o ≡ Err c → (i : Item) → Says l i → step s i ≡ Err c
+pub all_refused : (s : State) (l : List ℕ) (o : Option Item) (c : Cause) → IsSaid l o → after_line s o ≡ Err c → (i : Item) → Says l i → step s i ≡ Err c
 all_refused s l (Some j) c says e i other = ap (λ k. step s k) (says_one l i j other says) ∙ e
 all_refused s l None c none e i says = absurd (none i says)
 
@@ -283,5 +291,5 @@ some_rank causes.Ended = lit< tt
 some_rank c = lit< tt
 
 -- the text ends before `end`
-pub end_cause : (s : State) (rest : List ℕ) → IsState s → is_whole s ≡ false → IsCause (said s) (part rest) causes.Ended
+pub end_cause : (s : State) (rest : List ℕ) → IsState s → is_whole s ≡ false → IsDeckCause (said s) (part rest) causes.Ended
 end_cause s rest is open_yet = is_cause (said s) (part rest) causes.Ended (ended_said s is ∙ open_yet) tt (λ other lt h. omega (arith, some_rank other))

@@ -1,15 +1,22 @@
 -- A deck's lines are read as that deck, and whatever has been read can go on to be a deck.
-use Rattle.std.proofs.Common.{◌≡◌, ℕ, zero, suc, ◌+◌, ◌-◌, ◌*◌, ◌/◌, ◌%◌, ◌^◌, ◌≤◌, true, false, List, [], ◌∷◌, ◌++◌, length, take, drop, map, Result, Ok, Err, refl, sym, ap, subst, ◌∙◌, append_assoc, arith, replicate, length-append, length-drop, lit<}
+use Rattle.std.proofs.Common.{◌≡◌, ℕ, zero, suc, ◌+◌, ◌-◌, ◌*◌, ◌/◌, ◌%◌, ◌^◌, ◌≤◌, true, false}
+use Rattle.std.proofs.Common.{List, [], ◌∷◌, ◌++◌, length, take, drop, map, Result, Ok, Err, refl}
+use Rattle.std.proofs.Common.{sym, ap, subst, ◌∙◌, append_assoc, arith, replicate, length-append}
+use Rattle.std.proofs.Common.{length-drop, lit<}
 use Rattle.std.specs.Prelude.{◌==◌}
 use Rattle.std.specs.List.{AllByRecursion}
 use Rattle.std.proofs.lemmas.Bool.{le-leb, le-ltb, eqb-true, and_parts, cond_both}
-use Rattle.std.proofs.lemmas.List.{append-nil, take-append-drop, replicate-append-replicate, length-take}
+use Rattle.std.proofs.lemmas.List.{append-nil, take-append-drop, replicate-append-replicate}
+use Rattle.std.proofs.lemmas.List.{length-take}
 use Rattle.ccw_core.specs.declared.areas.Area.{Area}
 use Rattle.ckd_core.specs.declared.device.Device.TheVariants.{D2311}
 use Rattle.ckd_core.specs.Cylinders.{IsExtent, AreExtents}
-use Rattle.chan_deck.specs.Item.{Item, header, device, mask, start, limit, extent, fetch, store, storage, put, end, HasForm}
-use Rattle.chan_deck.specs.Image.{Image, IsDeck, HasLimit, header_of, limit_line, items, puts, is_zero, extent_of}
-use Rattle.chan_deck.specs.Reading.{State, Opening, Named, OnDevice, Masked, Started, Listing, Filling, Whole, step, and_then, run, pad, image_of}
+use Rattle.chan_deck.specs.Item.{Item, header, device, mask, start, limit, extent, fetch, store}
+use Rattle.chan_deck.specs.Item.{storage, put, end, HasForm}
+use Rattle.chan_deck.specs.Image.{Image, IsDeck, HasLimit, header_of, limit_line, items, puts}
+use Rattle.chan_deck.specs.Image.{is_zero, extent_of}
+use Rattle.chan_deck.specs.Reading.{State, Opening, Named, OnDevice, Masked, Started, Listing}
+use Rattle.chan_deck.specs.Reading.{Filling, Whole, step, and_then, run, pad, image_of}
 use Rattle.chan_deck.specs.declared.heading.Heading.{Heading}
 use Rattle.chan_deck.specs.Refused.{is_size}
 use Rattle.chan_deck.proofs.PutLemmas.{length_pad}

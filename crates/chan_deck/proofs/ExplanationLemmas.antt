@@ -1,5 +1,8 @@
 -- The explanation, row by row and line by line.
-use Rattle.std.proofs.Common.{◌≡◌, ◌∷◌, [], ◌++◌, ◌∙◌, ◌+◌, ◌-◌, ◌<◌, ◌≤◌, ap, sym, List, ℕ, zero, suc, true, false, Option, Some, refl, nat_eq, append_assoc, append-nil, arith, codes, drop, drop-cons, get_or, length, length-drop, slice_get}
+use Rattle.std.proofs.Common.{◌≡◌, ◌∷◌, [], ◌++◌, ◌∙◌, ◌+◌, ◌-◌, ◌<◌, ◌≤◌, ap, sym, List, ℕ, zero}
+use Rattle.std.proofs.Common.{suc, true, false, Option, Some, refl, nat_eq, append_assoc}
+use Rattle.std.proofs.Common.{append-nil, arith, codes, drop, drop-cons, get_or, length}
+use Rattle.std.proofs.Common.{length-drop, slice_get}
 use Rattle.std.proofs.lemmas.Bool.Decides.{nat_tests}
 use Rattle.std.specs.Fmt.{decimal}
 use Rattle.std.specs.Int.{w16, to_be_bytes}
@@ -14,7 +17,9 @@ use Rattle.chan_why.specs.declared.evidence.Evidence.{Evidence}
 use Rattle.chan_walk.specs.declared.place.Place.{Place}
 use Rattle.chan_walk.specs.declared.seek.GivenBytes.{GivenBytes}
 use Rattle.chan_walk.specs.Given.{addresses_given}
-use Rattle.chan_deck.specs.Explanation.{also_after, also_lines, next_lines, argument_text, given_text, path_rows, ranges_text, seek_text, taken_text, weaker_text}
+use Rattle.chan_deck.specs.Explanation.{also_after, also_lines, next_lines, argument_text}
+use Rattle.chan_deck.specs.Explanation.{given_text, path_rows, ranges_text, seek_text, taken_text}
+use Rattle.chan_deck.specs.Explanation.{weaker_text}
 use Rattle.chan_deck.specs.Texts.{address_text}
 use Rattle.chan_deck.specs.Item.{byte_digits}
 use Rattle.chan_deck.specs.Listing.{command_name, command_of, row, row_with}

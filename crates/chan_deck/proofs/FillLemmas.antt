@@ -1,10 +1,13 @@
 -- Filling storage: the bytes behind the last put are zeros until a put writes there.
-use Rattle.std.proofs.Common.{◌≡◌, ℕ, ◌+◌, ◌-◌, ◌^◌, ◌<◌, ◌≤◌, true, false, List, ◌++◌, length, take, drop, Ok, Err, refl, sym, ap, ◌∙◌, arith, replicate, length-append, length-drop, ◌&&◌}
+use Rattle.std.proofs.Common.{◌≡◌, ℕ, ◌+◌, ◌-◌, ◌^◌, ◌<◌, ◌≤◌, true, false, List, ◌++◌, length}
+use Rattle.std.proofs.Common.{take, drop, Ok, Err, refl, sym, ap, ◌∙◌, arith, replicate}
+use Rattle.std.proofs.Common.{length-append, length-drop, ◌&&◌}
 use Rattle.std.specs.Prelude.{◌==◌, nat_le, ◌%◌}
 use Rattle.std.specs.Int.{w64, to_be_bytes, from_be_bytes}
 use Rattle.std.proofs.lemmas.Bool.{false_from_ne_true, le-leb, leb-true, eqb-true, and_parts}
 use Rattle.std.proofs.lemmas.Nat.{from_be_bytes-to_be_bytes_8}
-use Rattle.std.proofs.lemmas.List.{take-append-drop, length-take, take_at, drop_at, drop-replicate, take-replicate, drop-drop}
+use Rattle.std.proofs.lemmas.List.{take-append-drop, length-take, take_at, drop_at, drop-replicate}
+use Rattle.std.proofs.lemmas.List.{take-replicate, drop-drop}
 use Rattle.std.proofs.Math.Seq.{take-append-add}
 use Rattle.ccw_core.specs.declared.areas.Area.{Area}
 use Rattle.chan_deck.specs.Item.{put, end}

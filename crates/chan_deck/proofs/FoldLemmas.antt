@@ -1,5 +1,6 @@
 -- How a run of places that stand together goes on, and ends.
-use Rattle.std.proofs.Common.{◌≡◌, ◌∙◌, ◌+◌, ◌-◌, ◌<◌, ap, arith, Bool, false, true, ℕ, List, get_or, inl, inr, length, sym}
+use Rattle.std.proofs.Common.{◌≡◌, ◌∙◌, ◌+◌, ◌-◌, ◌<◌, ap, arith, Bool, false, true, ℕ, List}
+use Rattle.std.proofs.Common.{get_or, inl, inr, length, sym}
 use Rattle.std.proofs.lemmas.Bool.{cases_lt}
 use Rattle.std.proofs.lemmas.List.{get_or_default}
 use Rattle.chan_deck.specs.Folds.{IsFirstRun}

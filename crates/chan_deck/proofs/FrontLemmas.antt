@@ -1,17 +1,23 @@
 -- The lines of a text, and where it is refused.
-use Rattle.std.proofs.Common.{◌≡◌, ℕ, zero, suc, ◌+◌, ◌*◌, ◌/◌, ◌^◌, ◌<◌, ◌≤◌, false, cond, List, [], ◌∷◌, ◌++◌, length, take, drop, map, Result, Ok, Err, refl, sym, ap, ◌∙◌, append_assoc, arith, length-append, length-drop}
+use Rattle.std.proofs.Common.{◌≡◌, ℕ, zero, suc, ◌+◌, ◌*◌, ◌/◌, ◌^◌, ◌<◌, ◌≤◌, false, cond, List}
+use Rattle.std.proofs.Common.{[], ◌∷◌, ◌++◌, length, take, drop, map, Result, Ok, Err, refl, sym}
+use Rattle.std.proofs.Common.{ap, ◌∙◌, append_assoc, arith, length-append, length-drop}
 use Rattle.std.specs.Prelude.{◌==◌}
 use Rattle.std.specs.List.{AllByRecursion}
-use Rattle.std.proofs.lemmas.List.{append-nil, take-append-drop, take-append-le, length-take, length-map, map-append}
+use Rattle.std.proofs.lemmas.List.{append-nil, take-append-drop, take-append-le, length-take}
+use Rattle.std.proofs.lemmas.List.{length-map, map-append}
 use Rattle.std.proofs.lemmas.Grind.{flat_map-append}
 use Rattle.std.proofs.lemmas.Bool.{eqb-true, cond_both}
 use Rattle.std.proofs.Math.Seq.{take-append-add}
 use Rattle.chan_walk.proofs.Theory.Lists.{all_append}
 use Rattle.chan_deck.proofs.Elements.{all_take, all_drop, all_map}
 use Rattle.ckd_core.specs.Cylinders.{IsExtent}
-use Rattle.chan_deck.specs.Item.{Item, header, device, mask, start, fetch, store, storage, end, line, text, HasForm, Says, IsByte, IsArea}
-use Rattle.chan_deck.specs.Image.{Image, IsDeck, HasLimit, header_of, limit_line, items, puts, is_zero, extent_of, spelling, Spells}
-use Rattle.chan_deck.specs.Refused.{split, lines, first_lines, onto_first, BeginsSomeDeck, IsRefusedAt}
+use Rattle.chan_deck.specs.Item.{Item, header, device, mask, start, fetch, store, storage, end}
+use Rattle.chan_deck.specs.Item.{line, text, HasForm, Says, IsByte, IsArea}
+use Rattle.chan_deck.specs.Image.{Image, IsDeck, HasLimit, header_of, limit_line, items, puts}
+use Rattle.chan_deck.specs.Image.{is_zero, extent_of, spelling, Spells}
+use Rattle.chan_deck.specs.Refused.{split, lines, first_lines, onto_first, BeginsSomeDeck}
+use Rattle.chan_deck.specs.Refused.{IsRefusedAt}
 use Rattle.chan_deck.specs.Reading.{State, Opening, Whole, HasRead, step, and_then, run}
 use Rattle.chan_deck.proofs.ItemLemmas.{HasNoFeed, line_no_feed, one_item}
 use Rattle.chan_deck.proofs.StepLemmas.{said, IsState, at_front}

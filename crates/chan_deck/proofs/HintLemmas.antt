@@ -1,11 +1,15 @@
 -- What the lines before a refused line say, line by line.
-use Rattle.std.proofs.Common.{◌≡◌, ℕ, ◌+◌, ◌<◌, Bool, true, if◌then◌else◌, List, [], ◌∷◌, ◌++◌, length, take, drop, map, Option, Some, None, is_some, not, refl, sym, ap, subst, ◌∙◌, arith, append_assoc, length-append}
+use Rattle.std.proofs.Common.{◌≡◌, ℕ, ◌+◌, ◌<◌, Bool, true, if◌then◌else◌, List, [], ◌∷◌, ◌++◌}
+use Rattle.std.proofs.Common.{length, take, drop, map, Option, Some, None, is_some, not, refl, sym}
+use Rattle.std.proofs.Common.{ap, subst, ◌∙◌, arith, append_assoc, length-append}
 use Rattle.std.specs.List.{AllByRecursion}
-use Rattle.std.proofs.lemmas.List.{append-nil, append_cancel_left, take-append-drop, take-append-le, take_all}
-use Rattle.chan_deck.specs.Hint.{AreBefore, IsBehind, size_in}
+use Rattle.std.proofs.lemmas.List.{append-nil, append_cancel_left, take-append-drop, take-append-le}
+use Rattle.std.proofs.lemmas.List.{take_all}
+use Rattle.chan_deck.specs.Hint.{AreBefore, IsBehind, storage_said}
 use Rattle.chan_deck.specs.Item.{Item, header, storage, line, HasForm, IsSaid, Says, Reads, said_by}
 use Rattle.chan_deck.specs.Reading.{is_empty}
-use Rattle.chan_deck.specs.Refused.{found_behind, found_in, is_second, last_of, lines, part, split, whole_line}
+use Rattle.chan_deck.specs.Refused.{found_behind, found_in, is_second, last_of, lines, part, split}
+use Rattle.chan_deck.specs.Refused.{whole_line}
 use Rattle.chan_deck.specs.declared.hint.Before.{Before}
 use Rattle.chan_deck.specs.declared.item.Item as said
 use Rattle.chan_deck.specs.declared.version.VersionNumber.TheVariants as numbers
@@ -34,12 +38,12 @@ second_more (header numbers.One ∷ is) i = refl
 second_more (header numbers.Two ∷ is) i = refl
 second_more (_ ∷ is) i = refl
 
-pub size_of_one : (is : List Item) (i : Item) → size_in is ≡ None → size_in (is ++ i ∷ []) ≡ size_in (i ∷ [])
+pub size_of_one : (is : List Item) (i : Item) → storage_said is ≡ None → storage_said (is ++ i ∷ []) ≡ storage_said (i ∷ [])
 size_of_one [] i none = refl
 size_of_one (storage n ∷ is) i none = absurd cc
 size_of_one (_ ∷ is) i none = size_of_one is i none
 
-pub size_stays : (is : List Item) (i : Item) (n : ℕ) → size_in is ≡ Some n → size_in (is ++ i ∷ []) ≡ Some n
+pub size_stays : (is : List Item) (i : Item) (n : ℕ) → storage_said is ≡ Some n → storage_said (is ++ i ∷ []) ≡ Some n
 size_stays [] i n some = absurd cc
 size_stays (storage m ∷ is) i n some = some
 size_stays (_ ∷ is) i n some = size_stays is i n some
@@ -52,7 +56,7 @@ second_told is i b some before e =
     ∙ ap (λ x. if not (is_empty is) then x else is_second (i ∷ [])) before.second ∙ sym (second_more is i)
 
 pub item_told : (is : List Item) (i : Item) (r : said.Item) (second : Bool) (size : Option ℕ) → said_by r ≡ Some i
-    → second ≡ is_second (is ++ i ∷ []) → size ≡ size_in (is ++ i ∷ [])
+    → second ≡ is_second (is ++ i ∷ []) → size ≡ storage_said (is ++ i ∷ [])
     → AreBefore (is ++ i ∷ []) (record { last = Some r; is_second = second; size = size })
 item_told is i r second size says e f = record {
   last = says ∙ sym (last_more is i);

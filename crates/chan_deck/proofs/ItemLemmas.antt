@@ -1,5 +1,7 @@
 -- A line says one thing, and has no line feed in it.
-use Rattle.std.proofs.Common.{◌≡◌, ℕ, ◌+◌, ◌*◌, ◌/◌, ◌%◌, ◌^◌, ◌<◌, ◌⊎◌, Bool, true, false, cond, ◌-◌, List, [], ◌∷◌, ◌++◌, get_or, take, drop, length, Option, Some, None, Result, Ok, Err, refl, sym, ap, subst, ◌∙◌, arith, inl, inr}
+use Rattle.std.proofs.Common.{◌≡◌, ℕ, ◌+◌, ◌*◌, ◌/◌, ◌%◌, ◌^◌, ◌<◌, ◌⊎◌, Bool, true, false, cond}
+use Rattle.std.proofs.Common.{◌-◌, List, [], ◌∷◌, ◌++◌, get_or, take, drop, length, Option, Some}
+use Rattle.std.proofs.Common.{None, Result, Ok, Err, refl, sym, ap, subst, ◌∙◌, arith, inl, inr}
 use Rattle.std.specs.Prelude.{◌==◌, ◌&&◌, not, codes}
 use Rattle.std.specs.Int.{bytes_high_first}
 use Rattle.std.specs.List.{AllByRecursion}
@@ -12,7 +14,10 @@ use Rattle.hex.specs.declared.error.FromHexError.{FromHexError}
 use Rattle.hex.proofs.HexLemmas.{decode_of-encode_upper}
 use Rattle.ccw_core.specs.declared.areas.Area.{Area}
 use Rattle.ckd_core.specs.declared.device.Device.TheVariants.{D2311, D2314}
-use Rattle.chan_deck.specs.Item.{Item, header, device, mask, start, limit, extent, fetch, store, storage, put, end, line, HasForm, IsSaid, Says, IsByte, IsAddress, IsArea, byte_digits, address_digits, size_digits, limit_digits, cylinder_digits, area_digits}
+use Rattle.chan_deck.specs.Item.{Item, header, device, mask, start, limit, extent, fetch, store}
+use Rattle.chan_deck.specs.Item.{storage, put, end, line, HasForm, IsSaid, Says, IsByte, IsAddress}
+use Rattle.chan_deck.specs.Item.{IsArea, byte_digits, address_digits, size_digits, limit_digits}
+use Rattle.chan_deck.specs.Item.{cylinder_digits, area_digits}
 use Rattle.chan_deck.specs.declared.version.VersionNumber.TheVariants as numbers
 use Rattle.chan_walk.proofs.Theory.Lists.{all_append}
 use Rattle.chan_deck.proofs.Elements.{all_drop}

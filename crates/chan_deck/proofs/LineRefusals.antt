@@ -1,9 +1,10 @@
 -- What a line does to where reading stands, by the item that it is read as.
-use Rattle.std.proofs.Common.{◌≡◌, ℕ, true, cond, List, [], ◌∷◌, length, Ok, Err, refl, ap, arith, ◌<◌}
+use Rattle.std.proofs.Common.{◌≡◌, ℕ, true, cond, List, [], ◌∷◌, length, Ok, Err, refl, ap, arith}
+use Rattle.std.proofs.Common.{◌<◌}
 use Rattle.chan_deck.specs.Refused.{is_size}
 use Rattle.ccw_core.specs.declared.areas.Area.{Area}
 use Rattle.chan_deck.specs.Item.{storage, said_by}
-use Rattle.chan_deck.specs.Reading.{State, Shortens, Listing, Filling, step, taken}
+use Rattle.chan_deck.specs.Reading.{State, Shortens, Listing, Filling, step, after_line}
 use Rattle.chan_deck.specs.declared.item.Item.{Item}
 use Rattle.chan_deck.specs.declared.item.Item.TheVariants as found
 use Rattle.chan_deck.specs.declared.heading.Heading.{Heading}
@@ -13,7 +14,7 @@ use Rattle.chan_deck.specs.declared.cause.Cause.TheVariants as causes
 
 pub no_put : (h : Heading) (es : List (ℕ × ℕ)) (fs ss : List Area) (n : ℕ) (bytes : List ℕ) (i : Item)
     → ((a w : ℕ) → i ≡ found.Put a w → ⊥) → (i ≡ found.End → ⊥)
-    → taken (Filling h es fs ss n bytes) (said_by i) ≡ Err causes.Form
+    → after_line (Filling h es fs ss n bytes) (said_by i) ≡ Err causes.Form
 no_put h es fs ss n bytes (found.Put a w) puts ends = absurd (puts a w refl)
 no_put h es fs ss n bytes found.End puts ends = absurd (ends refl)
 no_put h es fs ss n bytes i puts ends = refl
@@ -23,6 +24,6 @@ good_size h fs ss [] n some e = absurd (omega arith)
 good_size h fs ss (x ∷ es) n some e = ap (λ b. cond b (Ok (Filling h (x ∷ es) fs ss n [])) (Err causes.Size)) e
 
 -- a line that was taken was read
-pub was_read : (s next : State) (m n : ℕ) (i : Item) → taken s (said_by i) ≡ Ok next → Shortens m i n → n < m
+pub was_read : (s next : State) (m n : ℕ) (i : Item) → after_line s (said_by i) ≡ Ok next → Shortens m i n → n < m
 was_read s next m n found.Missing e h = absurd cc
 was_read s next m n i e h = h

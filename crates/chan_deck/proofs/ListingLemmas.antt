@@ -1,5 +1,6 @@
 -- What was seen of a job is listed as the job's places are.
-use Rattle.std.proofs.Common.{◌≡◌, ◌∷◌, [], ◌++◌, ◌∙◌, ap, List, Option, Some, None, refl, inl, inr, codes, if◌then◌else◌}
+use Rattle.std.proofs.Common.{◌≡◌, ◌∷◌, [], ◌++◌, ◌∙◌, ap, List, Option, Some, None, refl, inl, inr}
+use Rattle.std.proofs.Common.{codes, if◌then◌else◌}
 use Rattle.std.specs.List.{flat_map}
 use Rattle.ccw_core.specs.Ccw.{Fields}
 use Rattle.ccw_core.specs.Storage.{ccw_at}
@@ -13,7 +14,8 @@ use Rattle.chan_walk.specs.Job.{storage_of}
 use Rattle.chan_walk.specs.Look.{Seen, IsLook, AreLooks, places_of_looks}
 use Rattle.chan_walk.specs.Place.{is_fresh}
 use Rattle.chan_walk.specs.Visit.{begun_at}
-use Rattle.chan_deck.specs.Listing.{listing, row_of, row_with, command_of, is_named, seen_row, seen_listing, word_text, way_word, transfer_word, mark_word}
+use Rattle.chan_deck.specs.Listing.{listing, marked_row, row_with, command_of, is_named, seen_row}
+use Rattle.chan_deck.specs.Listing.{seen_listing, word_text, way_word, transfer_word, mark_word}
 use Rattle.chan_deck.specs.Texts.{address_text, verdict_line}
 
 named_by : (e : Entry) (c : Fields) → word_text e (Some c) (if is_fresh e then lookup c.command else None) ≡ word_text e (Some c) (lookup c.command)
@@ -26,7 +28,7 @@ word_seen : (p : Place) (o : Option Fields) → word_text p.entered o (begun_at 
 word_seen p None = refl
 word_seen p (Some c) = named_by p.entered c
 
-row_seen : (j : Job) (v : Verdict) (l : Seen) → IsLook j l → seen_row v l ≡ row_of (storage_of j) v l.place
+row_seen : (j : Job) (v : Verdict) (l : Seen) → IsLook j l → seen_row v l ≡ marked_row (storage_of j) v l.place
 row_seen j v l h =
     let p = l.place in
     let marked = is_named v p.address in
@@ -35,11 +37,11 @@ row_seen j v l h =
     ∙ ap (λ w. address_text p.address ++ codes " " ++ way_word p.entered ++ codes " " ++ transfer_word p.after_transfer ++ codes " " ++ mark_word marked ++ codes " " ++ w ++ 10 ∷ [])
     (word_seen p (ccw_at (storage_of j) p.address))
 
-rows_seen : (j : Job) (v : Verdict) (ls : List Seen) → AreLooks j ls → flat_map (seen_row v) ls ≡ flat_map (row_of (storage_of j) v) (places_of_looks ls)
+rows_seen : (j : Job) (v : Verdict) (ls : List Seen) → AreLooks j ls → flat_map (seen_row v) ls ≡ flat_map (marked_row (storage_of j) v) (places_of_looks ls)
 rows_seen j v [] h = refl
 rows_seen j v (l ∷ ls) h =
     ap (λ t. t ++ flat_map (seen_row v) ls) (row_seen j v l (h l (inl refl)))
-    ∙ ap (λ t. row_of (storage_of j) v l.place ++ t) (rows_seen j v ls (λ m k. h m (inr k)))
+    ∙ ap (λ t. marked_row (storage_of j) v l.place ++ t) (rows_seen j v ls (λ m k. h m (inr k)))
 
 pub listing_seen : (j : Job) (v : Verdict) (ls : List Seen) → AreLooks j ls → seen_listing ls v ≡ listing (storage_of j) (places_of_looks ls) v
 listing_seen j v ls h = ap (λ t. t ++ verdict_line v) (rows_seen j v ls h)

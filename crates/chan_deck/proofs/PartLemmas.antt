@@ -1,14 +1,18 @@
 -- The parts of a deck: its areas, and the storage of an image.
-use Rattle.std.proofs.Common.{◌≡◌, ℕ, zero, suc, ◌+◌, ◌-◌, ◌*◌, ◌/◌, ◌%◌, ◌<◌, ◌≤◌, ◌^◌, true, List, [], ◌∷◌, ◌++◌, Result, Ok, Err, IfOk, OnOk, length, get_or, take, drop, sym, ap, ◌∙◌, append_assoc, arith, length-append}
+use Rattle.std.proofs.Common.{◌≡◌, ℕ, zero, suc, ◌+◌, ◌-◌, ◌*◌, ◌/◌, ◌%◌, ◌<◌, ◌≤◌, ◌^◌, true, List}
+use Rattle.std.proofs.Common.{[], ◌∷◌, ◌++◌, Result, Ok, Err, IfOk, OnOk, length, get_or, take}
+use Rattle.std.proofs.Common.{drop, sym, ap, ◌∙◌, append_assoc, arith, length-append}
 use Rattle.std.specs.Int.{next_multiple_of}
 use Rattle.std.specs.List.{AllByRecursion}
-use Rattle.std.proofs.lemmas.List.{length-replicate, take-replicate, drop-replicate, replicate-append-replicate}
+use Rattle.std.proofs.lemmas.List.{length-replicate, take-replicate, drop-replicate}
+use Rattle.std.proofs.lemmas.List.{replicate-append-replicate}
 use Rattle.ckd_core.specs.Cylinders.{AreExtents}
 use Rattle.ckd_core.specs.Mask.{is_mask}
 use Rattle.chan_walk.proofs.Theory.Lists.{all_append}
 use Rattle.chan_deck.specs.Image.{HasLimit, IsDeck}
 use Rattle.chan_deck.specs.Item.{IsByte}
-use Rattle.chan_deck.specs.Parts.{HasAddresses, image_of, storage_with, version_with, zeros}
+use Rattle.chan_deck.specs.Parts.{HasShortAddresses, image_of_parts, storage_with, version_with}
+use Rattle.chan_deck.specs.Parts.{zeros}
 use Rattle.chan_deck.specs.declared.parts.Parts.{Parts}
 use Rattle.chan_deck.proofs.StepLemmas.{bytes_pad, bytes_zeros}
 
@@ -62,9 +66,9 @@ length_storage at image =
     omega (arith, all, length-append front (zeros rest), length-replicate {A = ℕ} rest 0)
 
 -- parts whose image isn't too long, and whose numbers have six digits, make a deck
-pub parts_deck : (p : Parts) → p.at + length p.image.now ≤ 2 ^ 24 → HasAddresses p
+pub parts_deck : (p : Parts) → p.at + length p.image.now ≤ 2 ^ 24 → HasShortAddresses p
     → HasLimit (version_with p.limit) → IsByte p.mask × (is_mask p.mask ≡ true)
-    → AreExtents p.extents.now → AllByRecursion IsByte p.image.now → IsDeck (image_of p)
+    → AreExtents p.extents.now → AllByRecursion IsByte p.image.now → IsDeck (image_of_parts p)
 parts_deck p short right limited masked cylinders bytes =
     let len = length_storage p.at p.image.now in
     let front = zeros p.at ++ p.image.now in

@@ -1,5 +1,7 @@
 -- What a text that is written in pieces becomes, piece by piece.
-use Rattle.std.proofs.Common.{◌≡◌, ◌∙◌, ◌∷◌, [], ◌++◌, ap, sym, subst, List, ℕ, suc, Option, arith, add-one, append_assoc, append-nil, get_or, length, take, drop, ◌+◌, ◌<◌}
+use Rattle.std.proofs.Common.{◌≡◌, ◌∙◌, ◌∷◌, [], ◌++◌, ap, sym, subst, List, ℕ, suc, Option, arith}
+use Rattle.std.proofs.Common.{add-one, append_assoc, append-nil, get_or, length, take, drop, ◌+◌}
+use Rattle.std.proofs.Common.{◌<◌}
 use Rattle.std.proofs.lemmas.Grind.{flat_map-append}
 use Rattle.std.proofs.lemmas.List.{take-append-drop}
 use Rattle.std.proofs.Math.Seq.{drop-cons, take-length, take-suc}
@@ -8,7 +10,7 @@ use Rattle.std.specs.List.{flat_map}
 use Rattle.std.proofs.KnownBytes.{Appends-nil, Appends-trans}
 use Rattle.ccw_core.proofs.Prefixes.{prefix_of_more, prefix_after}
 use Rattle.ccw_core.specs.Written.{AppendsPrefix}
-use Rattle.chan_deck.specs.Pieces.{IsHeldBack, GoesOn, BreaksOff}
+use Rattle.chan_deck.specs.Pieces.{IsHeldBack, AppendsInPieces, BreaksOff}
 
 -- a text of which nothing was written
 pub all_held : {a : Option (List ℕ)} {text held : List ℕ} → held ≡ text → IsHeldBack a a text held
@@ -47,8 +49,8 @@ written_more a b c {text} {held} more is written =
 -- one line more
 pub line_added : {X : Type 0} (f : X → List ℕ) (done : List X) (x : X)
     {old mid new : Option (List ℕ)} {before held left : List ℕ}
-    → GoesOn old before (flat_map f done) mid held → IsHeldBack mid new (held ++ f x) left
-    → GoesOn old before (flat_map f (done ++ x ∷ [])) new left
+    → AppendsInPieces old before (flat_map f done) mid held → IsHeldBack mid new (held ++ f x) left
+    → AppendsInPieces old before (flat_map f (done ++ x ∷ [])) new left
 line_added f done x lines line = record {
   behind = λ a text h.
       rw (flat_map-append f done (x ∷ []), append-nil (f x), ← append_assoc) (held_more (f x) (lines.behind a text h) line);
@@ -57,7 +59,7 @@ line_added f done x lines line = record {
 -- a line was written in part
 pub line_begun : {X : Type 0} (f : X → List ℕ) (done : List X) (x : X) (rest : List X)
     {old mid new : Option (List ℕ)} {before held : List ℕ}
-    → GoesOn old before (flat_map f done) mid held → AppendsPrefix mid new (held ++ f x)
+    → AppendsInPieces old before (flat_map f done) mid held → AppendsPrefix mid new (held ++ f x)
     → BreaksOff old before (flat_map f (done ++ x ∷ rest)) new
 line_begun f done x rest {new = new} lines line = record {
   behind = λ a text h.
@@ -69,21 +71,21 @@ line_begun f done x rest {new = new} lines line = record {
 pub next_added : {X : Type 0} (f : X → List ℕ) (xs : List X) (i : ℕ) (x d : X)
     {old mid new : Option (List ℕ)} {before held left : List ℕ}
     → i < length xs → x ≡ get_or xs i d
-    → GoesOn old before (flat_map f (take i xs)) mid held → IsHeldBack mid new (held ++ f x) left
-    → GoesOn old before (flat_map f (take (i + 1) xs)) new left
+    → AppendsInPieces old before (flat_map f (take i xs)) mid held → IsHeldBack mid new (held ++ f x) left
+    → AppendsInPieces old before (flat_map f (take (i + 1) xs)) new left
 next_added f xs i x d lt is lines line = rw (add-one, take-suc xs i d lt, ← is) (line_added f (take i xs) x lines line)
 
 pub next_begun : {X : Type 0} (f : X → List ℕ) (xs : List X) (i : ℕ) (x d : X)
     {old mid new : Option (List ℕ)} {before held : List ℕ}
     → i < length xs → x ≡ get_or xs i d
-    → GoesOn old before (flat_map f (take i xs)) mid held → AppendsPrefix mid new (held ++ f x)
+    → AppendsInPieces old before (flat_map f (take i xs)) mid held → AppendsPrefix mid new (held ++ f x)
     → BreaksOff old before (flat_map f xs) new
 next_begun f xs i x d {old} {new = new} {before = before} lt is lines line =
     let parts : take i xs ++ (x ∷ drop (suc i) xs) ≡ xs = rw (is, ← drop-cons xs i d lt) (take-append-drop i xs) in
     subst (λ ys. BreaksOff old before (flat_map f ys) new) parts (line_begun f (take i xs) x (drop (suc i) xs) lines line)
 
 -- all lines were added, and perhaps not all of them were written
-pub lines_begun : {old new : Option (List ℕ)} {before more left : List ℕ} → GoesOn old before more new left → BreaksOff old before more new
+pub lines_begun : {old new : Option (List ℕ)} {before more left : List ℕ} → AppendsInPieces old before more new left → BreaksOff old before more new
 lines_begun {new = new} {left = left} lines = record {
   behind = λ a text h.
       let is = lines.behind a text h in

@@ -1,6 +1,9 @@
 -- The puts of storage: those of two parts, of zeros, and of one doubleword more.
-use Rattle.std.proofs.Common.{◌≡◌, ℕ, zero, suc, ◌+◌, ◌-◌, ◌*◌, ◌/◌, ◌%◌, ◌≤◌, Bool, true, false, cond, List, [], ◌∷◌, ◌++◌, length, take, drop, refl, sym, ap, ◌∙◌, arith, replicate, length-append, length-drop, add-zero, zero-add}
-use Rattle.std.proofs.lemmas.List.{length-replicate, nil_from_length, take-append-le, drop-append-le, drop-replicate, append-nil, take_at}
+use Rattle.std.proofs.Common.{◌≡◌, ℕ, zero, suc, ◌+◌, ◌-◌, ◌*◌, ◌/◌, ◌%◌, ◌≤◌, Bool, true, false}
+use Rattle.std.proofs.Common.{cond, List, [], ◌∷◌, ◌++◌, length, take, drop, refl, sym, ap, ◌∙◌}
+use Rattle.std.proofs.Common.{arith, replicate, length-append, length-drop, add-zero, zero-add}
+use Rattle.std.proofs.lemmas.List.{length-replicate, nil_from_length, take-append-le}
+use Rattle.std.proofs.lemmas.List.{drop-append-le, drop-replicate, append-nil, take_at}
 use Rattle.chan_deck.specs.Item.{Item, put}
 use Rattle.chan_deck.specs.Image.{puts, is_zero}
 use Rattle.chan_deck.specs.Reading.{pad}

@@ -1,5 +1,7 @@
 -- The ranges of some addresses, address by address.
-use Rattle.std.proofs.Common.{◌≡◌, ◌∷◌, [], ◌++◌, ◌∙◌, ◌+◌, ◌-◌, ◌<◌, ◌≤◌, ap, sym, List, ℕ, suc, refl, append_assoc, arith, codes, drop, drop-cons, get_or, length, length-drop}
+use Rattle.std.proofs.Common.{◌≡◌, ◌∷◌, [], ◌++◌, ◌∙◌, ◌+◌, ◌-◌, ◌<◌, ◌≤◌, ap, sym, List, ℕ, suc}
+use Rattle.std.proofs.Common.{refl, append_assoc, arith, codes, drop, drop-cons, get_or, length}
+use Rattle.std.proofs.Common.{length-drop}
 use Rattle.chan_deck.specs.Explanation.{between, ranges_behind}
 use Rattle.chan_deck.specs.Texts.{address_text}
 

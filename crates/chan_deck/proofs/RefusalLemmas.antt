@@ -1,5 +1,7 @@
 -- What one line more does to where reading stands: it goes on, or the text is refused there, or it has spelled a deck.
-use Rattle.std.proofs.Common.{◌≡◌, ℕ, ◌+◌, ◌-◌, ◌<◌, ◌⊎◌, false, List, [], ◌∷◌, ◌++◌, length, take, drop, map, Option, Some, None, MatchBool, Result, Ok, Err, refl, sym, ap, subst, ◌∙◌, append_assoc, arith, inl, inr, length-append}
+use Rattle.std.proofs.Common.{◌≡◌, ℕ, ◌+◌, ◌-◌, ◌<◌, ◌⊎◌, false, List, [], ◌∷◌, ◌++◌, length, take}
+use Rattle.std.proofs.Common.{drop, map, Option, Some, None, MatchBool, Result, Ok, Err, refl, sym}
+use Rattle.std.proofs.Common.{ap, subst, ◌∙◌, append_assoc, arith, inl, inr, length-append}
 use Rattle.std.specs.Prelude.{◌==◌, position}
 use Rattle.std.proofs.lemmas.Bool.Decides.{nat_tests}
 use Rattle.std.proofs.lemmas.List.{append-nil, length-map, map-append}
@@ -7,15 +9,19 @@ use Rattle.std.proofs.Math.Seq.{take-append_seam, drop-append_seam}
 use Rattle.chan_walk.proofs.Theory.Lists.{all_append}
 use Rattle.chan_deck.specs.Item.{Item, line, text, HasForm, IsSaid}
 use Rattle.chan_deck.specs.Image.{Image, items, Spells}
-use Rattle.chan_deck.specs.Refused.{split, lines, IsRefusedAt, Found, whole_line, part, found_in, found_behind, AreSaid, IsCause, IsRefused, rank}
-use Rattle.chan_deck.specs.Reading.{State, Opening, Whole, HasRead, taken, and_then, run, is_whole, IsRefusal}
+use Rattle.chan_deck.specs.Refused.{split, lines, IsRefusedAt, Found, whole_line, part, found_in}
+use Rattle.chan_deck.specs.Refused.{found_behind, AreSaid, IsDeckCause, IsRefused, rank}
+use Rattle.chan_deck.specs.Reading.{State, Opening, Whole, HasRead, after_line, and_then, run}
+use Rattle.chan_deck.specs.Reading.{is_whole, IsDeckError}
 use Rattle.chan_deck.specs.declared.error.DeckError.{DeckError}
 use Rattle.chan_deck.specs.declared.error.DeckError.TheVariants as errors
 use Rattle.chan_deck.proofs.ItemLemmas.{line_read}
 use Rattle.chan_deck.proofs.LineFeeds.{some_line, no_line}
 use Rattle.chan_deck.proofs.StepLemmas.{said}
 use Rattle.chan_deck.proofs.DeckRuns.{run-append, reads_deck}
-use Rattle.chan_deck.proofs.FrontLemmas.{one_deck, is_state, says_said, refused_at_line, refused_at_end, whole_front, no_front, split_deck, items_form, said_once, join}
+use Rattle.chan_deck.proofs.FrontLemmas.{one_deck, is_state, says_said, refused_at_line}
+use Rattle.chan_deck.proofs.FrontLemmas.{refused_at_end, whole_front, no_front, split_deck}
+use Rattle.chan_deck.proofs.FrontLemmas.{items_form, said_once, join}
 use Rattle.chan_deck.proofs.CauseLemmas.{one_rank, line_cause, all_refused, end_cause, after_cause}
 use Rattle.chan_deck.specs.declared.cause.Cause.{Cause}
 use Rattle.chan_deck.specs.declared.cause.Cause.TheVariants as causes
@@ -27,7 +33,7 @@ starts t = record { said = []; forms = tt; runs = refl; parts = refl; number = r
 -- a line that is taken
 pub takes : (t : List ℕ) (s next : State) (n : ℕ) (rest l after : List ℕ) (o : Option Item)
     → HasRead t s n rest → split rest ≡ (l ∷ (split after).0, (split after).1) → IsSaid l o
-    → taken s o ≡ Ok next → HasRead t next (n + 1) after
+    → after_line s o ≡ Ok next → HasRead t next (n + 1) after
 takes t s next n rest l after None st e none goes = absurd cc
 takes t s next n rest l after (Some i) st e says goes = record {
   said = st.said ++ i ∷ [];
@@ -56,18 +62,18 @@ are_said t s n rest st =
 
 with_cause : (t : List ℕ) (s : State) (n : ℕ) (rest : List ℕ) (found : Found) (c : Cause)
     (st : HasRead t s n rest)
-    → found_in (split rest).0 (split rest).1 ≡ found → IsCause (said s) found c
-    → (before : List Item) × AreSaid (n - 1) t before × IsCause before (found_behind (n - 1) t) c
+    → found_in (split rest).0 (split rest).1 ≡ found → IsDeckCause (said s) found c
+    → (before : List Item) × AreSaid (n - 1) t before × IsDeckCause before (found_behind (n - 1) t) c
 with_cause t s n rest found c st e h = (
   st.said,
   are_said t s n rest st,
-  subst (λ f. IsCause st.said f c) (sym (behind_said t s n rest st ∙ e)) (subst (λ b. IsCause b found c) (says_said t s n rest st) h),
+  subst (λ f. IsDeckCause st.said f c) (sym (behind_said t s n rest st ∙ e)) (subst (λ b. IsDeckCause b found c) (says_said t s n rest st) h),
 )
 
 -- a line that is refused
 pub refuses_line : (t : List ℕ) (s : State) (n : ℕ) (rest l after : List ℕ) (o : Option Item) (c : Cause)
     → HasRead t s n rest → split rest ≡ (l ∷ (split after).0, (split after).1) → IsSaid l o
-    → taken s o ≡ Err c → IsRefused t n c
+    → after_line s o ≡ Err c → IsRefused t n c
 refuses_line t s n rest l after o c st e said bad =
     let all = all_refused s l o c said bad in
     record {
@@ -107,7 +113,7 @@ first_by t None e = inr (no_line t (sym e))
 pub stands_first : (t : List ℕ) → StandsFirst t
 stands_first t = first_by t (position (λ b. b == 10) t) refl
 
-none_more : (d : Image) (o : Option Item) → taken (Whole d) o ≡ Err causes.After
+none_more : (d : Image) (o : Option Item) → after_line (Whole d) o ≡ Err causes.After
 none_more d None = refl
 none_more d (Some i) = refl
 
@@ -148,7 +154,7 @@ ends t d n (b ∷ rest) st =
 
 -- ---- one refusal
 
-one_cause : (before : List Item) (found : Found) (b c : Cause) → IsCause before found b → IsCause before found c → b ≡ c
+one_cause : (before : List Item) (found : Found) (b c : Cause) → IsDeckCause before found b → IsDeckCause before found c → b ≡ c
 one_cause before found b c hb hc =
     let no_less : rank b < rank c → ⊥ = λ lower. hc.first b lower hb.applies in
     let no_more : rank c < rank b → ⊥ = λ lower. hb.first c lower hc.applies in
@@ -161,22 +167,22 @@ one_line : (t : List ℕ) (n m : ℕ) → IsRefusedAt t n → IsRefusedAt t m �
 one_line t n m hn hm = omega (arith, not_later t n m hn hm, not_later t m n hm hn)
 
 for_cause_at : (t : List ℕ) (n : ℕ) (b c : Cause)
-    → (before : List Item) × AreSaid (n - 1) t before × IsCause before (found_behind (n - 1) t) b
-    → (before : List Item) × AreSaid (n - 1) t before × IsCause before (found_behind (n - 1) t) c
+    → (before : List Item) × AreSaid (n - 1) t before × IsDeckCause before (found_behind (n - 1) t) b
+    → (before : List Item) × AreSaid (n - 1) t before × IsDeckCause before (found_behind (n - 1) t) c
     → b ≡ c
 for_cause_at t n b c hb hc =
     let same = said_once hb.0 hc.0 hb.1.0 hc.1.0 (hb.1.1 ∙ sym hc.1.1) in
-    one_cause hc.0 (found_behind (n - 1) t) b c (subst (λ is. IsCause is (found_behind (n - 1) t) b) same hb.2) hc.2
+    one_cause hc.0 (found_behind (n - 1) t) b c (subst (λ is. IsDeckCause is (found_behind (n - 1) t) b) same hb.2) hc.2
 
 -- a text is refused at one line, and for one cause
 pub one_refusal : (t : List ℕ) (n m : ℕ) (b c : Cause) → IsRefused t n b → IsRefused t m c → (n ≡ m) × (b ≡ c)
 one_refusal t n m b c hn hm =
     let lines_same = one_line t n m hn.at_line hm.at_line in
-    (lines_same, for_cause_at t m b c (subst (λ k. (before : List Item) × AreSaid (k - 1) t before × IsCause before (found_behind (k - 1) t) b) lines_same hn.for_cause) hm.for_cause)
+    (lines_same, for_cause_at t m b c (subst (λ k. (before : List Item) × AreSaid (k - 1) t before × IsDeckCause before (found_behind (k - 1) t) b) lines_same hn.for_cause) hm.for_cause)
 
 -- ---- what an answer of reading tells
 
-pub refusal_only : (t : List ℕ) (e : DeckError) (n : ℕ) (c : Cause) → IsRefusal t e → IsRefused t n c → (e ≡ errors.Memory) ⊎ (e ≡ errors.At n c)
+pub refusal_only : (t : List ℕ) (e : DeckError) (n : ℕ) (c : Cause) → IsDeckError t e → IsRefused t n c → (e ≡ errors.Memory) ⊎ (e ≡ errors.At n c)
 refusal_only t (errors.At m b) n c h refused =
     let one = one_refusal t m n b c h refused in
     inr (ap (λ x. errors.At x b) one.0 ∙ ap (λ x. errors.At n x) one.1)

@@ -9,10 +9,11 @@ use Rattle.ccw_core.specs.declared.areas.Area.{Area}
 use Rattle.ckd_core.specs.Cylinders.{same_extents}
 use Rattle.ckd_core.specs.declared.device.Device.{Device}
 use Rattle.ckd_core.specs.declared.device.Device.TheVariants.{D2311, D2314}
-use Rattle.chan_deck.specs.Image.{Image, number_of, limit_of}
+use Rattle.chan_deck.specs.Image.{Image, version_number, limit_of}
 use Rattle.chan_deck.specs.declared.version.Version.{Version}
 use Rattle.chan_deck.specs.declared.version.Version.TheVariants.{One, Two}
-use Rattle.chan_deck.specs.Same.{model_of, same_areas, same_versions, same_decks, same_decks-IsEquivalence}
+use Rattle.chan_deck.specs.Same.{model_of, same_areas, same_versions, same_decks}
+use Rattle.chan_deck.specs.Same.{same_decks-IsEquivalence}
 
 abbrev pair : ℕ → ℕ → ℕ × ℕ
 pair a b = (a, b)
@@ -34,7 +35,7 @@ one_model D2314 D2314 e = refl
 one_model D2311 D2314 e = absurd (omega arith)
 one_model D2314 D2311 e = absurd (omega arith)
 
-one_version : (a b : Version) → number_of a ≡ number_of b → limit_of a ≡ limit_of b → a ≡ b
+one_version : (a b : Version) → version_number a ≡ version_number b → limit_of a ≡ limit_of b → a ≡ b
 one_version One One n l = refl
 one_version (Two a) (Two b) n l = ap Two l
 one_version One (Two b) n l = absurd (omega arith)
@@ -43,7 +44,7 @@ one_version (Two a) One n l = absurd (omega arith)
 pub same_is : (d e : Image) → same_decks d e ≡ true → d ≡ e
 same_is d e h =
     let v = and_parts (same_versions d.version e.version) _ h in
-    let n = and_parts (nat_eq (number_of d.version) (number_of e.version)) _ v.0 in
+    let n = and_parts (nat_eq (version_number d.version) (version_number e.version)) _ v.0 in
     let a = and_parts (nat_eq (model_of d.device) (model_of e.device)) _ v.1 in
     let version : d.version ≡ e.version = one_version d.version e.version (eqb-true _ _ n.0) (eqb-true _ _ n.1) in
     let b = and_parts (nat_eq d.mask e.mask) _ a.1 in

@@ -1,5 +1,8 @@
 -- What has been said where reading stands, and that a step says one line more.
-use Rattle.std.proofs.Common.{◌≡◌, ℕ, zero, suc, ◌+◌, ◌-◌, ◌/◌, ◌%◌, ◌^◌, ◌<◌, ◌≤◌, true, false, ltb, List, [], ◌∷◌, ◌++◌, length, map, Result, Ok, Option, Some, None, refl, sym, ap, subst, ◌∙◌, append_assoc, arith, replicate, length-append, lit<, ◌&&◌}
+use Rattle.std.proofs.Common.{◌≡◌, ℕ, zero, suc, ◌+◌, ◌-◌, ◌/◌, ◌%◌, ◌^◌, ◌<◌, ◌≤◌, true, false}
+use Rattle.std.proofs.Common.{ltb, List, [], ◌∷◌, ◌++◌, length, map, Result, Ok, Option, Some, None}
+use Rattle.std.proofs.Common.{refl, sym, ap, subst, ◌∙◌, append_assoc, arith, replicate}
+use Rattle.std.proofs.Common.{length-append, lit<, ◌&&◌}
 use Rattle.std.specs.Prelude.{◌==◌, nat_le}
 use Rattle.std.proofs.lemmas.Bool.Decides.{nat_tests}
 use Rattle.std.proofs.lemmas.Bool.{ltb-false, leb-true, eqb-true, and_parts, cond_both}
@@ -13,10 +16,14 @@ use Rattle.ccw_core.specs.declared.areas.Area.{Area}
 use Rattle.ckd_core.specs.declared.device.Device.{Device}
 use Rattle.ckd_core.specs.Cylinders.{IsExtent}
 use Rattle.ckd_core.specs.Mask.{is_mask}
-use Rattle.chan_deck.specs.Item.{Item, header, device, mask, start, limit, extent, fetch, store, storage, put, end, HasForm, IsByte, IsAddress, IsArea}
-use Rattle.chan_deck.specs.Image.{Image, IsDeck, HasLimit, header_of, limit_line, items, puts, is_zero, extent_of}
+use Rattle.chan_deck.specs.Item.{Item, header, device, mask, start, limit, extent, fetch, store}
+use Rattle.chan_deck.specs.Item.{storage, put, end, HasForm, IsByte, IsAddress, IsArea}
+use Rattle.chan_deck.specs.Image.{Image, IsDeck, HasLimit, header_of, limit_line, items, puts}
+use Rattle.chan_deck.specs.Image.{is_zero, extent_of}
 use Rattle.chan_deck.specs.Refused.{last_of, is_size, is_limit}
-use Rattle.chan_deck.specs.Reading.{State, Opening, Named, OnDevice, Masked, Started, Listing, Filling, Whole, step, pad, image_of, stands, judged, on_extent, on_storage, on_put}
+use Rattle.chan_deck.specs.Reading.{State, Opening, Named, OnDevice, Masked, Started, Listing}
+use Rattle.chan_deck.specs.Reading.{Filling, Whole, step, pad, image_of, stands, after_item}
+use Rattle.chan_deck.specs.Reading.{on_extent, on_storage, on_put}
 use Rattle.chan_deck.specs.declared.heading.Heading.{Heading}
 use Rattle.chan_walk.specs.Limit.{IsLimit}
 use Rattle.chan_deck.specs.declared.version.Version.TheVariants.{One, Two}
@@ -275,7 +282,7 @@ opened : (h : Heading) → IsHeading h → AreLists h [] [] []
 opened h is = record { heading = is; after = (refl, refl); extents = tt; fetch = tt; store = tt }
 
 -- a line that may stand leads to what is right, and says one line more
-judged_more : (s : State) (i : Item) → IsRight s → HasForm i → stands s i ≡ true → Goes s i (judged s i)
+judged_more : (s : State) (i : Item) → IsRight s → HasForm i → stands s i ≡ true → Goes s i (after_item s i)
 judged_more Opening (header h) is form f = (tt, at_header h, refl)
 judged_more (Named h) (device v) is form f = (tt, at_device h v, refl)
 judged_more (OnDevice h v) (mask m) is form f = cond_both (is_mask m) _ _ (Goes (OnDevice h v) (mask m)) (λ right. ((form, right), at_mask h v m, refl)) (λ _. tt)

@@ -1,5 +1,6 @@
 -- What is made of the first elements of a list, as a loop over it goes on.
-use Rattle.std.proofs.Common.{◌≡◌, ◌∙◌, ◌∷◌, [], ◌++◌, ap, sym, List, ℕ, add-one, append_assoc, append-nil, get_or, length, map, take, ◌+◌, ◌<◌}
+use Rattle.std.proofs.Common.{◌≡◌, ◌∙◌, ◌∷◌, [], ◌++◌, ap, sym, List, ℕ, add-one, append_assoc}
+use Rattle.std.proofs.Common.{append-nil, get_or, length, map, take, ◌+◌, ◌<◌}
 use Rattle.std.proofs.lemmas.Grind.{flat_map-append}
 use Rattle.std.proofs.lemmas.List.{map-append}
 use Rattle.std.proofs.Math.Seq.{take-suc}

@@ -1,9 +1,12 @@
 -- What is written, line by line.
-use Rattle.std.proofs.Common.{codes, ◌≡◌, ℕ, suc, replicate, ◌%◌, length-append, ◌+◌, ◌*◌, ◌/◌, ◌<◌, ◌≤◌, Bool, true, false, cond, List, [], ◌∷◌, ◌++◌, length, take, drop, map, refl, sym, ap, ◌∙◌, append_assoc, arith, length-drop}
+use Rattle.std.proofs.Common.{codes, ◌≡◌, ℕ, suc, replicate, ◌%◌, length-append, ◌+◌, ◌*◌, ◌/◌, ◌<◌}
+use Rattle.std.proofs.Common.{◌≤◌, Bool, true, false, cond, List, [], ◌∷◌, ◌++◌, length, take, drop}
+use Rattle.std.proofs.Common.{map, refl, sym, ap, ◌∙◌, append_assoc, arith, length-drop}
 use Rattle.std.specs.List.{flat_map}
 use Rattle.std.proofs.lemmas.List.{map-append, append-nil, length-replicate}
 use Rattle.ccw_core.specs.declared.areas.Area.{Area}
-use Rattle.chan_deck.specs.Item.{Item, area_digits, header, device, mask, start, fetch, store, storage, put, end, line, text}
+use Rattle.chan_deck.specs.Item.{Item, area_digits, header, device, mask, start, fetch, store}
+use Rattle.chan_deck.specs.Item.{storage, put, end, line, text}
 use Rattle.chan_deck.specs.Image.{Image, extent_of, is_zero, puts, spelling, header_of, limit_line}
 use Rattle.chan_needs.specs.Rows.{Listed}
 use Rattle.chan_deck.specs.Needs.{granting, in_six_digits, keep_line, needs_text}

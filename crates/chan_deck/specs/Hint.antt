@@ -45,17 +45,17 @@ abbrev pub item_in : Option said.Item → Option Item
 item_in = option_and_then said_by
 
 -- the bytes of storage of the first line that says them
-abbrev pub size_in : List Item → Option ℕ
-size_in [] = None
-size_in (storage n ∷ is) = Some n
-size_in (i ∷ is) = size_in is
+abbrev pub storage_said : List Item → Option ℕ
+storage_said [] = None
+storage_said (storage n ∷ is) = Some n
+storage_said (i ∷ is) = storage_said is
 
 -- this is what the lines before say
 pub record AreBefore (before : List Item) (b : Before) : Type 0 where
   pub last : item_in b.last ≡ last_of before
   pub some : is_some b.last ≡ not (is_empty before)
   pub second : b.is_second ≡ is_second before
-  pub size : b.size ≡ size_in before
+  pub size : b.size ≡ storage_said before
 
 -- this is what the first n whole lines of a text say, or all if there are fewer, and what follows
 -- them

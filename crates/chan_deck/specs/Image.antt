@@ -15,9 +15,9 @@ use Rattle.chan_deck.specs.declared.version.Version.{Version}
 use Rattle.chan_deck.specs.declared.version.Version.TheVariants.{One, Two}
 
 -- the number of a version
-abbrev pub number_of : Version → ℕ
-number_of One = 1
-number_of (Two n) = 2
+abbrev pub version_number : Version → ℕ
+version_number One = 1
+version_number (Two n) = 2
 
 -- the limit on places in a version: in the first the usual one
 abbrev pub limit_of : Version → ℕ

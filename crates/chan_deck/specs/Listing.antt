@@ -45,8 +45,8 @@ command_of (Some c) = lookup c.command
 
 -- what a CCW is to the operation: a transfer, a part of a data chain, where its code is ignored, or
 -- this command
-abbrev pub name_of : Entry → Fields → Option table.Entry → List ℕ
-name_of entered c command =
+abbrev pub operation_name : Entry → Fields → Option table.Entry → List ℕ
+operation_name entered c command =
     if is_transfer c then codes "transfer-in-channel"
     else if is_fresh entered then command_name command
     else codes "chained"
@@ -54,7 +54,7 @@ name_of entered c command =
 -- the CCW and its name, where one stands
 abbrev pub word_text : Entry → Option Fields → Option table.Entry → List ℕ
 word_text entered None command = codes "no-ccw"
-word_text entered (Some c) command = ccw_text c ++ codes " " ++ name_of entered c command
+word_text entered (Some c) command = ccw_text c ++ codes " " ++ operation_name entered c command
 
 -- `address way transfer mark ccw name`, for a place at which this CCW stands with this command,
 -- with its line feed
@@ -74,12 +74,12 @@ is_named Yes a = false
 is_named (No address reason) a = address == a
 
 -- the row of a place, which is marked where the verdict names its address
-abbrev pub row_of : List ℕ → Verdict → Place → List ℕ
-row_of s v p = row s p (is_named v p.address)
+abbrev pub marked_row : List ℕ → Verdict → Place → List ℕ
+marked_row s v p = row s p (is_named v p.address)
 
 -- a row for each of these places
 abbrev pub rows : List ℕ → Verdict → List Place → List ℕ
-rows s v ps = flat_map (row_of s v) ps
+rows s v ps = flat_map (marked_row s v) ps
 
 -- the whole listing
 abbrev pub listing : List ℕ → List Place → Verdict → List ℕ

@@ -12,12 +12,12 @@ abbrev pub halves : List Area
 halves = (record { start = 0; len = 0xFFFFFF }) ∷ (record { start = 0xFFFFFF; len = 1 }) ∷ []
 
 -- an area of storage in six digits
-abbrev pub split : Area → List Area
-split a = if a.len == 2 ^ 24 then halves else a ∷ []
+abbrev pub six_digit_parts : Area → List Area
+six_digit_parts a = if a.len == 2 ^ 24 then halves else a ∷ []
 
 -- areas of storage in six digits: the same bytes
 abbrev pub in_six_digits : List Area → List Area
-in_six_digits areas = flat_map split areas
+in_six_digits areas = flat_map six_digit_parts areas
 
 -- what the lines of a deck say that grant what is needed
 abbrev pub granting : Listed → List Item

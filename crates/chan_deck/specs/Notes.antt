@@ -17,6 +17,6 @@ joined_from a (b ∷ bs) =
     if adjoin a b then joined_from (together a b) bs else a ∷ joined_from b bs
 
 -- areas, neighbours that adjoin as one
-abbrev pub joined : List Area → List Area
-joined [] = []
-joined (a ∷ rest) = joined_from a rest
+abbrev pub with_neighbours_joined : List Area → List Area
+with_neighbours_joined [] = []
+with_neighbours_joined (a ∷ rest) = joined_from a rest

@@ -28,8 +28,8 @@ version_with None = One
 version_with (Some n) = Two n
 
 -- what the parts make; it has a text where the image ends in storage and each number has six digits
-abbrev pub image_of : Parts → Image
-image_of p =
+abbrev pub image_of_parts : Parts → Image
+image_of_parts p =
     record {
       version = version_with p.limit;
       device = p.device;
@@ -42,6 +42,6 @@ image_of p =
     }
 
 -- six digits are enough for the start, and for the start and the length of each area
-abbrev pub HasAddresses : Parts → Type 0
-HasAddresses p =
+abbrev pub HasShortAddresses : Parts → Type 0
+HasShortAddresses p =
     IsAddress p.start × AllByRecursion IsArea p.fetch.now × AllByRecursion IsArea p.store.now

@@ -10,7 +10,7 @@ pub record IsHeldBack (old new : Option (List ℕ)) (text held : List ℕ) : Typ
   pub whole : sent ++ held ≡ text
 
 -- whatever text was written in pieces, it is now with this behind it
-pub record GoesOn (old : Option (List ℕ)) (held more : List ℕ) (new : Option (List ℕ))
+pub record AppendsInPieces (old : Option (List ℕ)) (held more : List ℕ) (new : Option (List ℕ))
     (left : List ℕ) : Type 0 where
   pub behind : (a : Option (List ℕ)) (text : List ℕ)
       → IsHeldBack a old text held → IsHeldBack a new (text ++ more) left

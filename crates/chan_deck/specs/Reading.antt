@@ -120,28 +120,28 @@ no_form (Whole d) = causes.After
 no_form _ = causes.Form
 
 -- what a line that may stand does to what the lines before it said
-abbrev pub judged : State → Item → Result State Cause
-judged Opening (header h) = Ok (Named h)
-judged (Named h) (device v) = Ok (OnDevice h v)
-judged (OnDevice h v) (mask m) = if is_mask m then Ok (Masked h v m) else Err causes.Mask
-judged (Masked h v m) (start a) = Ok (on_start h v m a)
-judged (Started v m a) (limit n) = on_limit v m a n
-judged (Listing h es fs ss) (extent first last) = on_extent h es first last
-judged (Listing h es fs ss) (fetch a) = Ok (Listing h es (fs ++ a ∷ []) ss)
-judged (Listing h es fs ss) (store a) = Ok (Listing h es fs (ss ++ a ∷ []))
-judged (Listing h es fs ss) (storage n) = on_storage h es fs ss n
-judged (Filling h es fs ss n bytes) (put a word) = on_put h es fs ss n bytes a word
-judged (Filling h es fs ss n bytes) end = Ok (Whole (image_of h es fs ss (pad bytes n)))
-judged s _ = Err (no_form s)
+abbrev pub after_item : State → Item → Result State Cause
+after_item Opening (header h) = Ok (Named h)
+after_item (Named h) (device v) = Ok (OnDevice h v)
+after_item (OnDevice h v) (mask m) = if is_mask m then Ok (Masked h v m) else Err causes.Mask
+after_item (Masked h v m) (start a) = Ok (on_start h v m a)
+after_item (Started v m a) (limit n) = on_limit v m a n
+after_item (Listing h es fs ss) (extent first last) = on_extent h es first last
+after_item (Listing h es fs ss) (fetch a) = Ok (Listing h es (fs ++ a ∷ []) ss)
+after_item (Listing h es fs ss) (store a) = Ok (Listing h es fs (ss ++ a ∷ []))
+after_item (Listing h es fs ss) (storage n) = on_storage h es fs ss n
+after_item (Filling h es fs ss n bytes) (put a word) = on_put h es fs ss n bytes a word
+after_item (Filling h es fs ss n bytes) end = Ok (Whole (image_of h es fs ss (pad bytes n)))
+after_item s _ = Err (no_form s)
 
 -- what a line does to what the lines before it said
 abbrev pub step : State → Item → Result State Cause
-step s i = if stands s i then judged s i else Err (no_form s)
+step s i = if stands s i then after_item s i else Err (no_form s)
 
 -- what a line does that says this, or has none of the forms
-abbrev pub taken : State → Option Item → Result State Cause
-taken s None = Err (no_form s)
-taken s (Some i) = step s i
+abbrev pub after_line : State → Option Item → Result State Cause
+after_line s None = Err (no_form s)
+after_line s (Some i) = step s i
 
 -- goes on behind a line that was taken, and not behind one that was refused
 abbrev pub and_then : Result State Cause → (State → Result State Cause) → Result State Cause
@@ -162,26 +162,26 @@ pub record HasRead (t : List ℕ) (s : State) (n : ℕ) (rest : List ℕ) : Type
   pub number : n ≡ length said + 1
 
 -- the error is that of the text, or says that an allocation failed
-abbrev pub IsRefusal : List ℕ → DeckError → Type 0
-IsRefusal t (errors.At n c) = IsRefused t n c
-IsRefusal t errors.Memory = Unit {0}
+abbrev pub IsDeckError : List ℕ → DeckError → Type 0
+IsDeckError t (errors.At n c) = IsRefused t n c
+IsDeckError t errors.Memory = Unit {0}
 
 -- what was read is the state, and the cursor stands behind it
 abbrev pub HasReadTo : List ℕ → State → Cursor → Type 0
 HasReadTo t s c = HasRead t s (c.line + 1) c.rest.now
 
 -- wherever reading stands so, it goes on to stand otherwise
-abbrev pub Leads : State → Cursor → State → Cursor → Type 0
-Leads s c next d = (t : List ℕ) → HasReadTo t s c → HasReadTo t next d
+abbrev pub ReadsOn : State → Cursor → State → Cursor → Type 0
+ReadsOn s c next d = (t : List ℕ) → HasReadTo t s c → HasReadTo t next d
 
 -- wherever reading stands so, the error is that of the text, or says that an allocation failed
 abbrev pub Fails : State → Cursor → DeckError → Type 0
-Fails s c e = (t : List ℕ) → HasReadTo t s c → IsRefusal t e
+Fails s c e = (t : List ℕ) → HasReadTo t s c → IsDeckError t e
 
 -- reading goes on to what is made of what was read, or it fails
 abbrev pub LeadsOrFails : {X : Type 0} → State → Cursor → Result X DeckError → (X → State)
     → Cursor → Type 0
-LeadsOrFails s c result next d = MatchResult result (λ x. Leads s c (next x) d) (Fails s c)
+LeadsOrFails s c result next d = MatchResult result (λ x. ReadsOn s c (next x) d) (Fails s c)
 
 -- a deck is whole
 abbrev pub is_whole : State → Bool
@@ -194,10 +194,10 @@ refusal n Missing cause = errors.At (n + 1) causes.Ended
 refusal n i cause = errors.At n cause
 
 -- the next line of the text says this, or has none of the forms, or none is left
-pub record IsNext (c : Cursor) (i : found.Item) (d : Cursor) : Type 0 where
-  pub takes : (s next : State) → taken s (said_by i) ≡ Ok next → Leads s c next d
+pub record IsNextLine (c : Cursor) (i : found.Item) (d : Cursor) : Type 0 where
+  pub takes : (s next : State) → after_line s (said_by i) ≡ Ok next → ReadsOn s c next d
   pub refuses :
-      (s : State) (cause : Cause) → is_whole s ≡ false → taken s (said_by i) ≡ Err cause
+      (s : State) (cause : Cause) → is_whole s ≡ false → after_line s (said_by i) ≡ Err cause
       → Fails s c (refusal d.line i cause)
 
 -- fewer bytes are left, if a line was read
@@ -206,16 +206,16 @@ Shortens old Missing new = Unit {0}
 Shortens old i new = new < old
 
 -- what the lines of a heading have said so far
-abbrev pub begun : Begun → State
-begun heads.Opening = Opening
-begun (heads.Named h) = Named h
-begun (heads.OnDevice h v) = OnDevice h v
-begun (heads.Masked h v m) = Masked h v m
-begun (heads.Started v m a) = Started v m a
+abbrev pub begun_state : Begun → State
+begun_state heads.Opening = Opening
+begun_state (heads.Named h) = Named h
+begun_state (heads.OnDevice h v) = OnDevice h v
+begun_state (heads.Masked h v m) = Masked h v m
+begun_state (heads.Started v m a) = Started v m a
 
 -- what came of a line of the heading
 abbrev pub headed : Headed → Result State Cause
-headed (lines.Taken b) = Ok (begun b)
+headed (lines.Taken b) = Ok (begun_state b)
 headed (lines.Whole h) = Ok (Listing h [] [] [])
 headed (lines.Refused c) = Err c
 
@@ -224,7 +224,7 @@ abbrev pub with_lists : Heading → Lists → State
 with_lists h x = Listing h x.extents.items x.fetch.items x.store.items
 
 -- what came of a line of the lists
-abbrev pub listed : Heading → Lists → Listed → Result State Cause
-listed h x Taken = Ok (with_lists h x)
-listed h x (Storage n) = Ok (Filling h x.extents.items x.fetch.items x.store.items n [])
-listed h x (Refused c) = Err c
+abbrev pub after_list_line : Heading → Lists → Listed → Result State Cause
+after_list_line h x Taken = Ok (with_lists h x)
+after_list_line h x (Storage n) = Ok (Filling h x.extents.items x.fetch.items x.store.items n [])
+after_list_line h x (Refused c) = Err c

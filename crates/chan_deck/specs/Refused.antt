@@ -163,7 +163,7 @@ rank After = 10
 rank Limit = 11
 
 -- the first cause of the table that applies
-pub record IsCause (before : List Item) (found : Found) (cause : Cause) : Type 0 where
+pub record IsDeckCause (before : List Item) (found : Found) (cause : Cause) : Type 0 where
   pub applies : CountsAgainst before found cause
   pub first : (other : Cause) → rank other < rank cause → CountsAgainst before found other → ⊥
 
@@ -186,8 +186,8 @@ pub record IsRefused (t : List ℕ) (n : ℕ) (cause : Cause) : Type 0 where
   pub at_line : IsRefusedAt t n
   pub for_cause :
       (before : List Item) × AreSaid (n - 1) t before
-      × IsCause before (found_behind (n - 1) t) cause
+      × IsDeckCause before (found_behind (n - 1) t) cause
 
 -- the text spells a deck, or it is refused at some line for some cause
-abbrev pub IsJudged : List ℕ → Type 0
-IsJudged t = ((d : Image) × Spells t d) ⊎ ((n : ℕ) × (cause : Cause) × IsRefused t n cause)
+abbrev pub IsDeckOrRefused : List ℕ → Type 0
+IsDeckOrRefused t = ((d : Image) × Spells t d) ⊎ ((n : ℕ) × (cause : Cause) × IsRefused t n cause)

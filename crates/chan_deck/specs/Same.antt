@@ -7,12 +7,12 @@ use Rattle.ccw_core.specs.declared.areas.Area.{Area}
 use Rattle.ckd_core.specs.Cylinders.{same_extents, same_extents-IsEquivalence}
 use Rattle.ckd_core.specs.declared.device.Device.{Device}
 use Rattle.ckd_core.specs.declared.device.Device.TheVariants.{D2311, D2314}
-use Rattle.chan_deck.specs.Image.{Image, number_of, limit_of}
+use Rattle.chan_deck.specs.Image.{Image, version_number, limit_of}
 use Rattle.chan_deck.specs.declared.version.Version.{Version}
 
 -- the same number and limit
 abbrev pub same_versions : Version → Version → Bool
-same_versions = eq_of_both (on number_of nat_eq) (on limit_of nat_eq)
+same_versions = eq_of_both (on version_number nat_eq) (on limit_of nat_eq)
 
 -- the number of the device's model
 abbrev pub model_of : Device → ℕ
@@ -35,7 +35,7 @@ same_decks =
 
 pub same_versions-IsEquivalence : IsEquivalence same_versions
 same_versions-IsEquivalence =
-    let number : Version → ℕ = λ v. number_of v in
+    let number : Version → ℕ = λ v. version_number v in
     let limit : Version → ℕ = λ v. limit_of v in
     and_equiv (on_equiv number nat_eq_equiv) (on_equiv limit nat_eq_equiv)
 

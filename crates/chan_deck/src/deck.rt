@@ -1,7 +1,7 @@
 //! Decks.
 
 ghost use Rattle.std.specs.Prelude.{◌≡◌};
-ghost use Rattle.chan_deck.specs.Image.{limit_of, number_of};
+ghost use Rattle.chan_deck.specs.Image.{limit_of, version_number};
 ghost use Rattle.chan_deck.specs.declared.version.Version.TheVariants.{Two};
 ghost use Rattle.chan_walk.specs.Job.{extents_of, fetch_of, storage_of, store_of};
 
@@ -39,7 +39,7 @@ impl Model for Deck {
 impl Deck {
     /// The version in which the deck is spelled: 1 or 2.
     pub fn version(&self) -> u8
-        ensures { result ≡ number_of self.now.version }
+        ensures { result ≡ version_number self.now.version }
     {
         self.version.number()
     }

@@ -2,7 +2,8 @@
 
 ghost use Rattle.std.specs.Prelude.{◌≡◌, []};
 ghost use Rattle.chan_deck.specs.Item.{said_by};
-ghost use Rattle.chan_deck.specs.Reading.{LeadsOrFails, Listing, Opening, begun, headed, taken};
+ghost use Rattle.chan_deck.specs.Reading.{LeadsOrFails, Listing, Opening, begun_state, headed};
+ghost use Rattle.chan_deck.specs.Reading.{after_line};
 
 use crate::cause::Cause;
 use crate::error::DeckError;
@@ -43,7 +44,7 @@ enum Headed {
 impl Begun {
     /// Takes what a line says.
     fn take(self, item: Item) -> Headed
-        ensures { taken (begun self) (said_by item) ≡ headed result }
+        ensures { after_line (begun_state self) (said_by item) ≡ headed result }
     {
         match self {
             Begun::Opening => match item {

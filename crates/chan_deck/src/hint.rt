@@ -2,7 +2,7 @@
 //! and the forms that may stand there are proved.
 
 ghost use Rattle.std.specs.Prelude.{◌≡◌, ◌++◌, ◌∷◌, [], List, Option as Maybe, Some};
-ghost use Rattle.chan_deck.specs.Hint.{AreBefore, IsBehind, IsSpot, size_in};
+ghost use Rattle.chan_deck.specs.Hint.{AreBefore, IsBehind, IsSpot, storage_said};
 ghost use Rattle.chan_deck.specs.Item.{Item as Said, said_by};
 ghost use Rattle.chan_deck.specs.Refused.{is_second};
 
@@ -51,7 +51,7 @@ fn is_second_header(item: Item) -> bool
 
 /// The bytes of storage that an item says.
 fn size_of(item: Item) -> Option<u32>
-    ensures { (i : Said) → said_by item ≡ Some i → result ≡ size_in (i ∷ []) }
+    ensures { (i : Said) → said_by item ≡ Some i → result ≡ storage_said (i ∷ []) }
 {
     match item {
         Item::Storage(size) => Some(size),

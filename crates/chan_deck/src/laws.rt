@@ -2,7 +2,7 @@
 
 ghost use Rattle.std.specs.Prelude.{◌≡◌, ℕ, true, List};
 ghost use Rattle.chan_deck.specs.Image.{Image, Spells};
-ghost use Rattle.chan_deck.specs.Refused.{IsJudged, IsRefused};
+ghost use Rattle.chan_deck.specs.Refused.{IsDeckOrRefused, IsRefused};
 ghost use Rattle.chan_deck.specs.Same.{same_decks};
 ghost use Rattle.chan_deck.specs.declared.cause.Cause.{Cause};
 
@@ -29,5 +29,5 @@ fn one_refusal()
 
 /// Each text spells a deck or is refused, at some line and for some cause.
 fn each_text()
-    ensures { (t : List ℕ) → IsJudged t }
+    ensures { (t : List ℕ) → IsDeckOrRefused t }
 {}

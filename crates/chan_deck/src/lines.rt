@@ -80,7 +80,8 @@ pub(crate) struct Cursor<'a> {
 impl<'a> Cursor<'a> {
     ghost use Rattle.std.specs.Prelude.{ℕ, List, MatchResult};
     ghost use Rattle.chan_deck.specs.Image.{Image, Spells};
-    ghost use Rattle.chan_deck.specs.Reading.{IsNext, IsRefusal, HasReadTo, Opening, Shortens};
+    ghost use Rattle.chan_deck.specs.Reading.{IsNextLine, IsDeckError, HasReadTo, Opening};
+    ghost use Rattle.chan_deck.specs.Reading.{Shortens};
     ghost use Rattle.chan_deck.specs.Reading.{Whole, refusal};
     ghost use Rattle.chan_deck.specs.declared.error.DeckError.TheVariants as errors;
 
@@ -98,7 +99,7 @@ impl<'a> Cursor<'a> {
     /// registers.
     #[inline(always)]
     pub(crate) fn next_item(&mut self) -> Item
-        ensures next { IsNext self.old result self.new }
+        ensures next { IsNextLine self.old result self.new }
         ensures shorter { Shortens (length self.old.rest.now) result
             (length self.new.rest.now) }
     {
@@ -136,7 +137,7 @@ impl<'a> Cursor<'a> {
     /// Nothing follows the line that was read last, which ends a deck.
     pub(crate) fn end(&self) -> Result<(), DeckError>
         ensures { (t : List ℕ) (d : Image) → HasReadTo t (Whole d) self.now
-            → MatchResult result (λ done. Spells t d) (IsRefusal t) }
+            → MatchResult result (λ done. Spells t d) (IsDeckError t) }
     {
         if self.rest.is_empty() {
             return Ok(());

@@ -8,7 +8,7 @@ ghost use Rattle.std.specs.Io.KnownBytes.{Appends};
 ghost use Rattle.ccw_core.specs.Written.{AppendsPrefix};
 ghost use Rattle.ccw_core.specs.Storage.{ccw_at};
 ghost use Rattle.chan_deck.specs.Listing as list;
-ghost use Rattle.chan_deck.specs.Pieces.{IsHeldBack, GoesOn, BreaksOff};
+ghost use Rattle.chan_deck.specs.Pieces.{IsHeldBack, AppendsInPieces, BreaksOff};
 ghost use Rattle.chan_deck.specs.Texts.{verdict_line};
 ghost use Rattle.chan_walk.specs.Job.{storage_of};
 ghost use Rattle.chan_walk.specs.Look.{AreLooks, places_of_looks};
@@ -87,7 +87,7 @@ fn mark_word(marked: bool) -> &'static str
 
 /// What a CCW is to the operation: a transfer, a part of a data chain, or this command.
 pub(crate) fn name_of(entered: Entry, ccw: &Ccw, command: Option<Command>) -> &'static str
-    ensures { result.now ≡ list.name_of entered ccw.now (option_map entry_of command) }
+    ensures { result.now ≡ list.operation_name entered ccw.now (option_map entry_of command) }
 {
     if ccw.is_transfer() {
         return "transfer-in-channel";
@@ -233,7 +233,7 @@ fn write_places<W: Write>(
     to: &mut Watched<W>,
 ) -> Result<(), ListError>
     requires { to.old.failed ≡ false }
-    ensures ok { OnOk result (GoesOn (W.contents to.old.device) (string_bytes piece.old)
+    ensures ok { OnOk result (AppendsInPieces (W.contents to.old.device) (string_bytes piece.old)
         (list.rows (storage_of job.now) verdict explored.now)
         (W.contents to.new.device) (string_bytes piece.new)) }
     ensures prefix { BreaksOff (W.contents to.old.device) (string_bytes piece.old)
@@ -257,7 +257,7 @@ fn write_looks<W: Write>(
     to: &mut Watched<W>,
 ) -> Result<(), ListError>
     requires { to.old.failed ≡ false }
-    ensures ok { OnOk result (GoesOn (W.contents to.old.device) (string_bytes piece.old)
+    ensures ok { OnOk result (AppendsInPieces (W.contents to.old.device) (string_bytes piece.old)
         (flat_map (list.seen_row named) looks.now)
         (W.contents to.new.device) (string_bytes piece.new)) }
     ensures prefix { BreaksOff (W.contents to.old.device) (string_bytes piece.old)

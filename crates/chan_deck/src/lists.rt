@@ -2,7 +2,8 @@
 
 ghost use Rattle.std.specs.Prelude.{◌≡◌, [], IfOk};
 ghost use Rattle.chan_deck.specs.Item.{said_by};
-ghost use Rattle.chan_deck.specs.Reading.{Filling, LeadsOrFails, Listing, listed, taken};
+ghost use Rattle.chan_deck.specs.Reading.{Filling, LeadsOrFails, Listing, after_list_line};
+ghost use Rattle.chan_deck.specs.Reading.{after_line};
 ghost use Rattle.chan_deck.specs.Reading.{with_lists};
 ghost use Rattle.chan_deck.specs.declared.heading.Heading.{Heading};
 
@@ -38,7 +39,7 @@ impl Lists {
     /// Takes what a line says. Extents come first, and areas for fetching before those for storing.
     fn take(&mut self, item: Item) -> Result<Listed, AllocError>
         ensures { IfOk result (λ r. (h : Heading)
-            → taken (with_lists h self.old) (said_by item) ≡ listed h self.new r) }
+            → after_line (with_lists h self.old) (said_by item) ≡ after_list_line h self.new r) }
     {
         match item {
             Item::Extent(first, last) => {

@@ -29,7 +29,7 @@ const HALVES: [Area; 2] = [
 
 /// Adds an area of storage in six digits.
 fn push_area(areas: &mut Vec<Area>, area: Area) -> Result<(), AllocError>
-    ensures { OnOk result (areas.new.items ≡ areas.old.items ++ texts.split area) }
+    ensures { OnOk result (areas.new.items ≡ areas.old.items ++ texts.six_digit_parts area) }
 {
     if area.len == STORAGE_LIMIT {
         return areas.extend_from_slice(&HALVES);

@@ -38,7 +38,7 @@ fn adjoin(one: Area, other: Area) -> bool
 
 /// The areas, neighbours that adjoin as one.
 fn join_neighbours(alloc: Global, areas: &[Area]) -> Result<Vec<Area>, AllocError>
-    ensures { IfOk result (λ v. v.items ≡ adjoining.joined areas.now) }
+    ensures { IfOk result (λ v. v.items ≡ adjoining.with_neighbours_joined areas.now) }
 {
     let mut runs = Vec::new(alloc);
     let Some((first, rest)) = areas.split_first() else {

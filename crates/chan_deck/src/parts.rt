@@ -4,7 +4,8 @@ ghost use Rattle.std.specs.Prelude.{◌≡◌, ◌+◌, ◌*◌, ◌/◌, ◌≤
 ghost use Rattle.std.specs.List.{AllByRecursion};
 ghost use Rattle.chan_deck.specs.Image.{Spells};
 ghost use Rattle.chan_deck.specs.Item.{IsByte};
-ghost use Rattle.chan_deck.specs.Parts.{HasAddresses, image_of, storage_with, version_with, zeros};
+ghost use Rattle.chan_deck.specs.Parts.{HasShortAddresses, image_of_parts, storage_with};
+ghost use Rattle.chan_deck.specs.Parts.{version_with, zeros};
 
 use crate::storage::write_at;
 use crate::version::Version;
@@ -81,8 +82,8 @@ fn version_of(limit: Option<Limit>) -> Version
 /// and of the text.
 pub fn parts_text(alloc: Global, parts: &Parts<'_>) -> Result<Vec<u8>, AllocError>
     requires size { parts.now.at + length parts.now.image.now ≤ 2 ^ 24 }
-    requires addresses { HasAddresses parts.now }
-    ensures { IfOk result (λ text. Spells text.items (image_of parts.now)) }
+    requires addresses { HasShortAddresses parts.now }
+    ensures { IfOk result (λ text. Spells text.items (image_of_parts parts.now)) }
 {
     let preamble = Preamble {
         version: version_of(parts.limit),

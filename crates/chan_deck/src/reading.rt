@@ -2,7 +2,7 @@
 
 ghost use Rattle.std.specs.Prelude.{◌≡◌, ◌⊎◌, ℕ, IfErr, IfOk, MatchResult};
 ghost use Rattle.chan_deck.specs.Image.{Image, Spells};
-ghost use Rattle.chan_deck.specs.Reading.{IsRefusal, image_of};
+ghost use Rattle.chan_deck.specs.Reading.{IsDeckError, image_of};
 ghost use Rattle.chan_deck.specs.Refused.{IsRefused};
 ghost use Rattle.chan_deck.specs.declared.cause.Cause.{Cause};
 
@@ -18,7 +18,7 @@ use std::alloc::Global;
 /// The heading, the lists and the storage that a text says.
 fn read_parts(alloc: Global, text: &[u8]) -> Result<(Heading, Lists, Vec<u8>), DeckError>
     ensures { MatchResult result (λ p. Spells text.now (image_of p.0 p.1.extents.items
-        p.1.fetch.items p.1.store.items p.2.items)) (IsRefusal text.now) }
+        p.1.fetch.items p.1.store.items p.2.items)) (IsDeckError text.now) }
 {
     let mut cursor = Cursor::new(text);
     let heading = read_heading(&mut cursor)?;
@@ -35,7 +35,7 @@ fn read_parts(alloc: Global, text: &[u8]) -> Result<(Heading, Lists, Vec<u8>), D
 /// a growth was refused. Each line is looked at once, after its line feed was found.
 pub fn read_deck(alloc: Global, text: &[u8]) -> Result<Deck, DeckError>
     ensures spelled { IfOk result (Spells text.now) }
-    ensures refused { IfErr result (IsRefusal text.now) }
+    ensures refused { IfErr result (IsDeckError text.now) }
 
     // A text that spells a deck gives that deck, memory aside; one that spells none gives its
     // refusal.

@@ -4,7 +4,7 @@ ghost use Rattle.std.specs.Prelude.{◌≡◌, ◌+◌, ◌≤◌, ◌^◌, ℕ,
 ghost use Rattle.std.specs.Prelude.{take, drop, MatchResult};
 ghost use Rattle.ccw_core.specs.declared.areas.Area.{Area};
 ghost use Rattle.chan_deck.specs.Image.{Spells};
-ghost use Rattle.chan_deck.specs.Reading.{Filling, IsRefusal, HasReadTo, image_of};
+ghost use Rattle.chan_deck.specs.Reading.{Filling, IsDeckError, HasReadTo, image_of};
 ghost use Rattle.chan_deck.specs.declared.heading.Heading.{Heading};
 
 use crate::cause::Cause;
@@ -27,7 +27,7 @@ pub(crate) fn fill(storage: &mut [u8], mut cursor: Cursor) -> Result<(), DeckErr
     requires { storage.old ≡ replicate (length storage.old) 0 }
     ensures filled { (h : Heading) (es : List (ℕ × ℕ)) (fs ss : List Area) (t : List ℕ)
         → HasReadTo t (Filling h es fs ss (length storage.old) []) cursor.entry → MatchResult result
-        (λ done. Spells t (image_of h es fs ss storage.new)) (IsRefusal t) }
+        (λ done. Spells t (image_of h es fs ss storage.new)) (IsDeckError t) }
     ensures len { length storage.new ≡ length storage.old }
 {
     let mut next = 0usize;

@@ -1,7 +1,7 @@
 //! The versions of a deck.
 
 ghost use Rattle.std.specs.Prelude.{◌≡◌};
-ghost use Rattle.chan_deck.specs.Image.{header_of, limit_of, number_of};
+ghost use Rattle.chan_deck.specs.Image.{header_of, limit_of, version_number};
 
 use chan_walk::Limit;
 
@@ -21,7 +21,7 @@ pub(crate) enum Version {
 
 impl Version {
     pub(crate) fn number(self) -> u8
-        ensures { result ≡ number_of self }
+        ensures { result ≡ version_number self }
     {
         match self {
             Version::One => 1,

@@ -7,7 +7,8 @@ use Rattle.chan_walk.specs.Fault.{IsClear, kind_of}
 use Rattle.chan_walk.specs.Limit.{usual_limit}
 use Rattle.chan_walk.specs.Open.{open_job}
 use Rattle.chan_walk.specs.Place.{ccw_of}
-use Rattle.chan_find.specs.Programs.{start_at, IsPlain, StepsTo, IsTrail, LeadsTo, IsSecond, HasSecondFrom, IsLikely, IsProgramStart, AreProgramStarts}
+use Rattle.chan_find.specs.Programs.{start_at, IsPlain, StepsTo, IsTrail, LeadsTo, IsSecond}
+use Rattle.chan_find.specs.Programs.{HasSecondFrom, IsLikely, IsProgramStart, AreProgramStarts}
 use Rattle.chan_walk.specs.Open.{IsOpenJob}
 use Rattle.chan_walk.specs.Successors.{Successor, next_of, skip_of}
 use Rattle.chan_walk.proofs.Theory.Granting.{ccw_over}

@@ -1,9 +1,12 @@
 -- Starts of programs: what leads to what, and that two passes find them.
-use Rattle.std.proofs.Common.{◌≡◌, ℕ, ◌<◌, ◌≤◌, List, [], ◌∷◌, refl, sym, subst, ◌⊎◌, inl, inr, arith}
+use Rattle.std.proofs.Common.{◌≡◌, ℕ, ◌<◌, ◌≤◌, List, [], ◌∷◌, refl, sym, subst, ◌⊎◌, inl, inr}
+use Rattle.std.proofs.Common.{arith}
 use Rattle.std.proofs.lemmas.Bool.{cases_lt}
 use Rattle.chan_walk.specs.declared.job.Job.{Job}
 use Rattle.chan_walk.specs.declared.place.Place.{Place}
-use Rattle.chan_find.specs.Programs.{start_at, IsTrail, HasTrail, LeadsTo, IsLikely, IsProgramStart, IsHigh, AreLedTo, IsRoot, TwiceIsEnough, NoneIsMissed, ProgramsAreApart}
+use Rattle.chan_find.specs.Programs.{start_at, IsTrail, HasTrail, LeadsTo, IsLikely, IsProgramStart}
+use Rattle.chan_find.specs.Programs.{IsHigh, AreLedTo, IsRoot, TwiceIsEnough, NoneIsMissed}
+use Rattle.chan_find.specs.Programs.{ProgramsAreApart}
 
 -- ---- leading is a preorder
 

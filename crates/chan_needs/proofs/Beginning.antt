@@ -1,5 +1,6 @@
 -- What is asked once, compared and granted is enough for a start.
-use Rattle.std.proofs.Common.{◌≡◌, ℕ, List, [], ◌∷◌, Bool, true, false, Option, Some, None, IsSome, ◌==◌, ap, refl, sym, subst, ◌⊎◌, inl, inr, ◌≢◌}
+use Rattle.std.proofs.Common.{◌≡◌, ℕ, List, [], ◌∷◌, Bool, true, false, Option, Some, None, IsSome}
+use Rattle.std.proofs.Common.{◌==◌, ap, refl, sym, subst, ◌⊎◌, inl, inr, ◌≢◌}
 use Rattle.std.proofs.lemmas.Bool.{eq-eqb}
 use Rattle.std.proofs.lemmas.Bool.Decides.{eqb_tells}
 use Rattle.chan_walk.specs.declared.verdict.Verdict.TheVariants.{Yes}
@@ -9,7 +10,8 @@ use Rattle.chan_needs.specs.History.{Acts, Flight, IsHistory, Rests, Situation, 
 use Rattle.chan_walk.specs.Job.{storage_of}
 use Rattle.chan_walk.specs.Open.{open_job}
 use Rattle.chan_walk.specs.Runs.{IsSameIn}
-use Rattle.chan_needs.specs.Starting.{AskedMayStart, EachMayLeave, EachMayStart, EachMayStep, OthersMayChange}
+use Rattle.chan_needs.specs.Starting.{AskedMayStart, EachMayLeave, EachMayStart, EachMayStep}
+use Rattle.chan_needs.specs.Starting.{OthersMayChange}
 use Rattle.chan_walk.specs.Verdict.{IsVerdict}
 use Rattle.chan_needs.proofs.Apart.{beside_is_apart}
 use Rattle.chan_walk.proofs.Theory.Granting.{same_under_yes}

@@ -1,13 +1,17 @@
 -- Copying the bytes that are kept, area by area.
-use Rattle.std.proofs.Common.{◌≡◌, ℕ, suc, ◌+◌, ◌-◌, ◌<◌, ◌≤◌, List, [], ◌∷◌, ◌++◌, length, get_or, take, drop, refl, sym, ap, ◌∙◌, subst, arith, append_assoc, Some, None, Bool, true, false, nat_le, if◌then◌else◌}
+use Rattle.std.proofs.Common.{◌≡◌, ℕ, suc, ◌+◌, ◌-◌, ◌<◌, ◌≤◌, List, [], ◌∷◌, ◌++◌, length, get_or}
+use Rattle.std.proofs.Common.{take, drop, refl, sym, ap, ◌∙◌, subst, arith, append_assoc, Some}
+use Rattle.std.proofs.Common.{None, Bool, true, false, nat_le, if◌then◌else◌}
 use Rattle.std.proofs.lemmas.Bool.{leb-true}
 use Rattle.std.specs.List.{All}
-use Rattle.std.proofs.lemmas.List.{append-nil, drop-drop, drop_all, get_or-drop, get_or-take, get_or_append_left, length-append, length-take, length-drop, take-append-drop}
+use Rattle.std.proofs.lemmas.List.{append-nil, drop-drop, drop_all, get_or-drop, get_or-take}
+use Rattle.std.proofs.lemmas.List.{get_or_append_left, length-append, length-take, length-drop}
+use Rattle.std.proofs.lemmas.List.{take-append-drop}
 use Rattle.std.proofs.lemmas.List.Elements.{All-cons, All-head, All-nil, All-tail}
 use Rattle.std.proofs.Math.Seq.{drop-append_seam, drop-cons, take-append_seam}
 use Rattle.ccw_core.specs.declared.areas.Area.{Area}
 use Rattle.ccw_core.specs.Storage.{range_at}
-use Rattle.chan_needs.specs.Remembered.{Holds, HoldsArea, IsInside, bytes_in}
+use Rattle.chan_needs.specs.Remembered.{HoldsAreas, HoldsArea, IsInside, bytes_in}
 use Rattle.chan_needs.proofs.Holding.{nowhere}
 
 -- the bytes of storage in an area
@@ -92,11 +96,11 @@ holds_area s a more h i l =
       sym (get_or_append_left (bytes_of s a) more 0 i b ∙ get_or-take a.len (drop a.start s) i 0 l ∙ get_or-drop a.start s i 0),
     )
 
-copied_holds : (s : List ℕ) (areas : List Area) (more : List ℕ) → All (IsInside s) areas → Holds s areas (bytes_in s areas ++ more)
+copied_holds : (s : List ℕ) (areas : List Area) (more : List ℕ) → All (IsInside s) areas → HoldsAreas s areas (bytes_in s areas ++ more)
 copied_holds s [] more h = tt
 copied_holds s (a ∷ areas) more h = (
   subst (HoldsArea s a) (sym (append_assoc (bytes_of s a) (bytes_in s areas) more)) (holds_area s a (bytes_in s areas ++ more) (All-head (IsInside s) a areas h)),
-  subst (Holds s areas) (sym rest) (copied_holds s areas more (All-tail (IsInside s) a areas h)),
+  subst (HoldsAreas s areas) (sym rest) (copied_holds s areas more (All-tail (IsInside s) a areas h)),
 )
   where
     rest : drop a.len ((bytes_of s a ++ bytes_in s areas) ++ more) ≡ bytes_in s areas ++ more
@@ -120,8 +124,8 @@ module _ (s : List ℕ) (areas : List Area) (i : ℕ) (old : List ℕ) (n : ℕ)
   pub all_fit : All (IsInside s) areas × (length (bytes_in s areas) ≤ length old)
   all_fit = (h.inside (subst (All (IsInside s)) (sym (drop_all i areas l)) (All-nil (IsInside s))), let c = all_counted in let f = h.fits in let e = h.same_length in omega arith)
 
-  pub all_held : Holds s areas now
-  all_held = subst (Holds s areas) (sym all_written) (copied_holds s areas (drop n old) all_fit.0)
+  pub all_held : HoldsAreas s areas now
+  all_held = subst (HoldsAreas s areas) (sym all_written) (copied_holds s areas (drop n old) all_fit.0)
 
 -- a range of storage that was read
 pub range_read : (s : List ℕ) (a : Area) (bytes : List ℕ) → Some bytes ≡ range_at s a.start a.len → IsInside s a × (bytes ≡ bytes_of s a)

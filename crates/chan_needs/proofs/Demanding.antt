@@ -1,9 +1,14 @@
 -- What a place that was looked at asks of the mask, and the strictest mask that serves many.
-use Rattle.std.proofs.Common.{◌≡◌, ℕ, ◌<◌, true, false, List, [], ◌∷◌, ◌++◌, length, get_or, Option, Some, None, refl, sym, ap, ◌∙◌, subst, ◌⊎◌, inl, inr, ◌↔◌, rules, ◌≤◌, min, arith}
+use Rattle.std.proofs.Common.{◌≡◌, ℕ, ◌<◌, true, false, List, [], ◌∷◌, ◌++◌, length, get_or, Option}
+use Rattle.std.proofs.Common.{Some, None, refl, sym, ap, ◌∙◌, subst, ◌⊎◌, inl, inr, ◌↔◌, rules, ◌≤◌}
+use Rattle.std.proofs.Common.{min, arith}
 use Rattle.std.proofs.lemmas.Bool.{and_from, and_parts, both_ways, not_from_false}
 use Rattle.ccw_core.specs.Ccw.{byte, Fields}
 use Rattle.ckd_core.specs.declared.command.MaskClass.{MaskClass}
-use Rattle.ckd_core.specs.declared.command.MaskClass.TheVariants.{Plain, Recalibrate, Seek, SeekCylinder, SeekHead, SetMask, WriteFormat, WriteHome, WriteUpdate}
+use Rattle.ckd_core.specs.declared.command.MaskClass.TheVariants.{Plain, Recalibrate, Seek}
+use Rattle.ckd_core.specs.declared.command.MaskClass.TheVariants.{SeekCylinder, SeekHead, SetMask}
+use Rattle.ckd_core.specs.declared.command.MaskClass.TheVariants.{WriteFormat, WriteHome}
+use Rattle.ckd_core.specs.declared.command.MaskClass.TheVariants.{WriteUpdate}
 use Rattle.ckd_core.specs.Mask.{inhibits, inhibits_class, is_at_least}
 use Rattle.ckd_core.specs.Table.{Entry as Command, lookup, class_passes, class_sets_mask, sets_mask}
 use Rattle.chan_walk.specs.declared.job.Job.{Job}
@@ -23,7 +28,8 @@ use Rattle.chan_walk.proofs.Algorithms.Looking.{place_at}
 use Rattle.chan_walk.proofs.Algorithms.Looking.{ccw_seen}
 use Rattle.chan_walk.proofs.Theory.Faults.{clear_stands}
 use Rattle.ckd_core.specs.Levels.{seek_level, seeks_up_to, write_level, writes_up_to}
-use Rattle.ckd_core.proofs.LevelLemmas.{permits_when, seek_level-le, seeks_up_to-le, strict-permits, strict-levels, write_level-le, writes_up_to-le}
+use Rattle.ckd_core.proofs.LevelLemmas.{permits_when, seek_level-le, seeks_up_to-le, strict-permits}
+use Rattle.ckd_core.proofs.LevelLemmas.{strict-levels, write_level-le, writes_up_to-le}
 use Rattle.chan_needs.proofs.Masking.{bounds_of_any, bounds_of_both, bounds_same}
 
 -- ---- at one place

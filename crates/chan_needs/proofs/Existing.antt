@@ -1,5 +1,7 @@
 -- The needed mask exists where the open job has a yes: each reachable place stands in storage, so that a list has them all.
-use Rattle.std.proofs.Common.{◌≡◌, ℕ, zero, suc, ◌+◌, ◌*◌, ◌<◌, ◌≤◌, true, false, List, [], ◌∷◌, ◌++◌, length, get_or, map, Option, Some, None, refl, subst, ◌⊎◌, inl, inr, arith, eqb}
+use Rattle.std.proofs.Common.{◌≡◌, ℕ, zero, suc, ◌+◌, ◌*◌, ◌<◌, ◌≤◌, true, false, List, [], ◌∷◌}
+use Rattle.std.proofs.Common.{◌++◌, length, get_or, map, Option, Some, None, refl, subst, ◌⊎◌, inl}
+use Rattle.std.proofs.Common.{inr, arith, eqb}
 use Rattle.std.proofs.lemmas.Bool.{both_ways, cases_Bool, cases_lt, eq-eqb, eqb-true, leb-true}
 use Rattle.std.proofs.lemmas.List.{length-map}
 use Rattle.std.proofs.lemmas.Map.Steps.{length-le_from_distinct_below}
@@ -8,7 +10,7 @@ use Rattle.chan_walk.specs.declared.job.Job.{Job}
 use Rattle.chan_walk.specs.declared.place.Place.{Place}
 use Rattle.chan_walk.specs.declared.successor.Next.{Next}
 use Rattle.chan_walk.specs.Argument.{Has}
-use Rattle.chan_walk.specs.Explored.{AreApart, HasMoreThan, place_number}
+use Rattle.chan_walk.specs.Explored.{AreDistinct, HasMoreThan, place_number}
 use Rattle.chan_walk.specs.Fault.{kind_of}
 use Rattle.chan_walk.specs.Job.{storage_of}
 use Rattle.chan_walk.specs.Least.{AreReached}
@@ -25,7 +27,8 @@ use Rattle.chan_needs.proofs.Demanding.{ServesEach, demand_of_each, HasBounds}
 use Rattle.chan_walk.proofs.Theory.Faults.{clear_stands}
 use Rattle.chan_walk.proofs.Algorithms.InOrder.{distinct, has_number}
 use Rattle.chan_walk.proofs.Algorithms.Marks.{same_number, way_small}
-use Rattle.chan_walk.proofs.Algorithms.Walking.{Leads, all_found, follows_exactly, next_overflows, skip_overflows, walked_first, walked_on}
+use Rattle.chan_walk.proofs.Algorithms.Walking.{Leads, all_found, follows_exactly, next_overflows}
+use Rattle.chan_walk.proofs.Algorithms.Walking.{skip_overflows, walked_first, walked_on}
 use Rattle.std.proofs.lemmas.Option.{slice_get-get_or}
 use Rattle.ckd_core.specs.Levels.{mask_of}
 use Rattle.chan_needs.proofs.Masking.{bounds_same, strictest}
@@ -64,7 +67,7 @@ module _ (j : Job) (clear : AreClear j) where
   unfolding is_inside
   below p r = let at : p.address + 8 ≤ length (storage_of j) = leb-true _ _ (clear_stands j p (clear p r)).1 in omega (arith, at, way_small p)
 
-  few : (ps : List Place) → AreApart ps → ((p : Place) → Has ps p → IsReachable j p) → length ps ≤ bound
+  few : (ps : List Place) → AreDistinct ps → ((p : Place) → Has ps p → IsReachable j p) → length ps ≤ bound
   few ps apart only =
       let l : length (map place_number ps) ≤ bound = length-le_from_distinct_below (map place_number ps) bound (distinct place_number same_number ps apart) (λ k h. let r = has_number k ps h in subst (λ n. n < bound) r.2 (below r.0 (only r.0 r.1))) in
       omega (arith, l, length-map ps place_number)

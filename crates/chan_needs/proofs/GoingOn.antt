@@ -1,14 +1,16 @@
 -- What the calls allow a supervisor may happen, and so may each step and each end.
-use Rattle.std.proofs.Common.{◌≡◌, ◌≢◌, ◌==◌, ℕ, true, false, List, ◌∷◌, Option, Some, None, IsSome, refl, sym, ap, ◌∙◌, subst, ◌⊎◌, inl, inr}
+use Rattle.std.proofs.Common.{◌≡◌, ◌≢◌, ◌==◌, ℕ, true, false, List, ◌∷◌, Option, Some, None, IsSome}
+use Rattle.std.proofs.Common.{refl, sym, ap, ◌∙◌, subst, ◌⊎◌, inl, inr}
 use Rattle.std.proofs.lemmas.Bool.{eq-eqb}
 use Rattle.std.proofs.lemmas.Bool.Decides.{eqb_tells}
 use Rattle.chan_needs.specs.declared.remembered.Remembered.{Remembered}
 use Rattle.chan_needs.specs.History.{Acts, Flight, Rests}
-use Rattle.chan_needs.specs.Supervised.{IsSupervised, RestsAt, SupervisedGoesOn, Watch}
-use Rattle.chan_needs.proofs.Beginning.{after, here, moved_rests, others, picked, rewritten, shares_of}
+use Rattle.chan_needs.specs.Supervised.{IsSupervised, RestsAt, SupervisedGoesOn, Supervision}
+use Rattle.chan_needs.proofs.Beginning.{after, here, moved_rests, others, picked, rewritten}
+use Rattle.chan_needs.proofs.Beginning.{shares_of}
 
-module _ (v : Watch) (i : ℕ) (x : Option Flight) (p : Option Remembered) (t : List ℕ) (shares : (f : Flight) → x ≡ Some f → f.moment.storage ≡ t) where
-  abbrev next : Watch
+module _ (v : Supervision) (i : ℕ) (x : Option Flight) (p : Option Remembered) (t : List ℕ) (shares : (f : Flight) → x ≡ Some f → f.moment.storage ≡ t) where
+  abbrev next : Supervision
   next = record { situation = after v.situation i x t shares; programs = λ k. picked (k == i) p (v.programs k) }
 
   noted_here : next.programs i ≡ p
@@ -26,7 +28,7 @@ module _ (v : Watch) (i : ℕ) (x : Option Flight) (p : Option Remembered) (t : 
   here_next = here v.situation i x t shares
 
 -- a program in flight goes on, or leaves
-acts_on : (v : Watch) (before : List Watch) (i : ℕ) (x : Option Flight) (p : Option Remembered) (t : List ℕ) (shares : (f : Flight) → x ≡ Some f → f.moment.storage ≡ t) → IsSupervised (v ∷ before) → IsSome (v.situation.at i)
+acts_on : (v : Supervision) (before : List Supervision) (i : ℕ) (x : Option Flight) (p : Option Remembered) (t : List ℕ) (shares : (f : Flight) → x ≡ Some f → f.moment.storage ≡ t) → IsSupervised (v ∷ before) → IsSome (v.situation.at i)
     → Acts v.situation (next v i x p t shares).situation (v.situation.at i) x → (IsSome x → p ≡ v.programs i) → IsSupervised (next v i x p t shares ∷ v ∷ before)
 acts_on v before i x p t shares run there acts noted = (
   run,
@@ -67,12 +69,12 @@ supervised_goes_on = record {
   writes = λ v before t run m. (record { situation = rewritten v.situation t; programs = v.programs }, refl, (run, inr (m, λ k. (moved_rests t (v.situation.at k), refl))));
 }
   where
-    none_shares : (v : Watch) (f : Flight) → None ≡ Some f → f.moment.storage ≡ v.situation.storage
+    none_shares : (v : Supervision) (f : Flight) → None ≡ Some f → f.moment.storage ≡ v.situation.storage
     none_shares v f e = absurd cc
 
     none_some : IsSome {T = Flight} None → ⊥
     none_some e = absurd cc
 
-    leaves : (v : Watch) (i : ℕ) (y : Option Flight) → IsSome y → Acts v.situation (next v i None None v.situation.storage (none_shares v)).situation y None
+    leaves : (v : Supervision) (i : ℕ) (y : Option Flight) → IsSome y → Acts v.situation (next v i None None v.situation.storage (none_shares v)).situation y None
     leaves v i None some = absurd cc
     leaves v i (Some f) some = refl

@@ -1,10 +1,11 @@
 -- The bytes that are kept, compared area by area.
-use Rattle.std.proofs.Common.{◌≡◌, ℕ, zero, suc, ◌+◌, ◌-◌, ◌<◌, ◌≤◌, ◌^◌, List, [], ◌∷◌, length, get_or, drop, sym, subst, ◌⊎◌, inl, inr, arith}
+use Rattle.std.proofs.Common.{◌≡◌, ℕ, zero, suc, ◌+◌, ◌-◌, ◌<◌, ◌≤◌, ◌^◌, List, [], ◌∷◌, length}
+use Rattle.std.proofs.Common.{get_or, drop, sym, subst, ◌⊎◌, inl, inr, arith}
 use Rattle.std.proofs.lemmas.Bool.{cases_lt}
 use Rattle.std.proofs.lemmas.List.{drop_all}
 use Rattle.std.proofs.Math.Seq.{drop-cons}
 use Rattle.ccw_core.specs.declared.areas.Area.{Area}
-use Rattle.chan_needs.specs.Remembered.{Holds, HoldsArea, IsFirstChanged, IsFirstChangedIn}
+use Rattle.chan_needs.specs.Remembered.{HoldsAreas, HoldsArea, IsFirstChanged, IsFirstChangedIn}
 use Rattle.chan_needs.proofs.Holding.{nowhere}
 
 -- the address of a byte after one of storage fits
@@ -14,7 +15,7 @@ address_fits start (suc i) n a b h = let l = h (omega arith) in omega arith
 
 -- what the areas from i on say of the bytes that are left is what all say of all
 pub record IsLeft (s : List ℕ) (areas : List Area) (kept : List ℕ) (i : ℕ) (rest : List ℕ) : Type 0 where
-  pub holds : Holds s (drop i areas) rest → Holds s areas kept
+  pub holds : HoldsAreas s (drop i areas) rest → HoldsAreas s areas kept
   pub changed : (b : ℕ) → IsFirstChanged s (drop i areas) rest b → IsFirstChanged s areas kept b
 
 module _ (s : List ℕ) (areas : List Area) (kept : List ℕ) (i : ℕ) (rest : List ℕ) (l : i < length areas) (left : IsLeft s areas kept i rest) where
@@ -26,7 +27,7 @@ module _ (s : List ℕ) (areas : List Area) (kept : List ℕ) (i : ℕ) (rest : 
 
   pub left_more : (more : List ℕ) → more ≡ drop (get_or areas i nowhere).len rest → HoldsArea s (get_or areas i nowhere) rest → IsLeft s areas kept (i + 1) more
   left_more more e h = record {
-    holds = λ k. left.holds (subst (λ (xs : List Area). Holds s xs rest) (sym next) (h, subst (λ n. Holds s (drop n areas) (drop (get_or areas i nowhere).len rest)) one (subst (λ z. Holds s (drop (i + 1) areas) z) e k)));
+    holds = λ k. left.holds (subst (λ (xs : List Area). HoldsAreas s xs rest) (sym next) (h, subst (λ n. HoldsAreas s (drop n areas) (drop (get_or areas i nowhere).len rest)) one (subst (λ z. HoldsAreas s (drop (i + 1) areas) z) e k)));
     changed = λ b k. left.changed b (subst (λ (xs : List Area). IsFirstChanged s xs rest b) (sym next) (inr (h, subst (λ n. IsFirstChanged s (drop n areas) (drop (get_or areas i nowhere).len rest) b) one (subst (λ z. IsFirstChanged s (drop (i + 1) areas) z b) e k))));
   }
     where
@@ -41,11 +42,11 @@ len_fits s a rest h = go (cases_lt (length rest) a.len)
     go (inl l) = let t = (h (length rest) l).1 in omega arith
     go (inr l) = l
 
-pub left_none : (s : List ℕ) (areas : List Area) (kept : List ℕ) (i : ℕ) (rest : List ℕ) → length areas ≤ i → IsLeft s areas kept i rest → Holds s areas kept
-left_none s areas kept i rest l left = left.holds (subst (λ (xs : List Area). Holds s xs rest) (sym (drop_all i areas l)) tt)
+pub left_none : (s : List ℕ) (areas : List Area) (kept : List ℕ) (i : ℕ) (rest : List ℕ) → length areas ≤ i → IsLeft s areas kept i rest → HoldsAreas s areas kept
+left_none s areas kept i rest l left = left.holds (subst (λ (xs : List Area). HoldsAreas s xs rest) (sym (drop_all i areas l)) tt)
 
 -- where all is as it was nothing has changed
-pub never_changed : (s : List ℕ) (areas : List Area) (kept : List ℕ) (b : ℕ) → IsFirstChanged s areas kept b → Holds s areas kept → ⊥
+pub never_changed : (s : List ℕ) (areas : List Area) (kept : List ℕ) (b : ℕ) → IsFirstChanged s areas kept b → HoldsAreas s areas kept → ⊥
 never_changed s [] kept b c h = c
 never_changed s (a ∷ areas) kept b (inl c) h = c.changed (h.0 c.number c.within)
 never_changed s (a ∷ areas) kept b (inr c) h = never_changed s areas (drop a.len kept) b c.1 h.1

@@ -1,7 +1,8 @@
 -- Bounds of levels, and the strictest mask within them.
 use Rattle.std.proofs.Common.{◌≡◌, ℕ, ◌≤◌, min, sym, ap, ◌∙◌, ◌↔◌, arith}
 use Rattle.ckd_core.specs.Levels.{mask_of, seek_level, write_level}
-use Rattle.ckd_core.proofs.LevelLemmas.{levels-mask_of, mask_of-levels, seek_level-le, strict-levels, write_level-le}
+use Rattle.ckd_core.proofs.LevelLemmas.{levels-mask_of, mask_of-levels, seek_level-le}
+use Rattle.ckd_core.proofs.LevelLemmas.{strict-levels, write_level-le}
 use Rattle.chan_needs.specs.Needs.{IsStrictest, NeededMaskIsOne}
 use Rattle.chan_needs.specs.Rows.{AreBounds}
 

@@ -1,5 +1,6 @@
 -- What was found under one job's yes is what each job of its program needs.
-use Rattle.std.proofs.Common.{◌≡◌, ℕ, ◌<◌, ◌≤◌, Bool, true, false, List, length, map, Some, refl, sym, ap, ◌∙◌, subst, ◌⊎◌, ◌↔◌, arith}
+use Rattle.std.proofs.Common.{◌≡◌, ℕ, ◌<◌, ◌≤◌, Bool, true, false, List, length, map, Some, refl}
+use Rattle.std.proofs.Common.{sym, ap, ◌∙◌, subst, ◌⊎◌, ◌↔◌, arith}
 use Rattle.ccw_core.specs.declared.areas.Area.{Area}
 use Rattle.ccw_core.specs.Areas.{lies_in}
 use Rattle.ccw_core.specs.Ccw.{Fields, byte, ccw, is_transfer}
@@ -20,18 +21,21 @@ use Rattle.chan_walk.specs.Job.{extents_of, fetch_of, storage_of, store_of}
 use Rattle.chan_walk.specs.Look.{Seen, places_of_looks}
 use Rattle.chan_walk.specs.Machine.{home}
 use Rattle.chan_walk.specs.Open.{AreOfOneProgram, open_job}
-use Rattle.chan_needs.specs.Needs.{Grants, IsKept, IsNeededCylinder, IsNeededForStoring, IsStrictest, Serves, ServesAt, begins}
+use Rattle.chan_needs.specs.Needs.{Grants, IsKept, IsNeededCylinder, IsNeededForStoring}
+use Rattle.chan_needs.specs.Needs.{IsStrictest, Serves, ServesAt, begins}
 use Rattle.chan_walk.specs.Moved.{IsDataOf, HoldData}
 use Rattle.chan_walk.specs.Offences.{FirstIsVerdict, first_verdict}
 use Rattle.chan_walk.specs.Place.{ccw_of}
 use Rattle.chan_areas.specs.Ranges.{AreExactly, IsMerged, end_of}
 use Rattle.chan_walk.specs.Reachable.{IsReachable}
 use Rattle.chan_needs.specs.Remembered.{GrantsListed, RowsAreExact}
-use Rattle.chan_needs.specs.Rows.{AreLooksOfYes, AreNeeds, HasStoreAndKeep, IsSought, Listed, IsShared, MayRunBeside, run_of}
+use Rattle.chan_needs.specs.Rows.{AreLooksOfYes, AreNeeds, HasStoreAndKeep, IsSought, Listed}
+use Rattle.chan_needs.specs.Rows.{IsShared, MayRunBeside, run_of}
 use Rattle.chan_walk.specs.Surveyed.{IsSurvey}
 use Rattle.chan_walk.specs.Verdict.{IsVerdict}
 use Rattle.chan_walk.proofs.Theory.Faults.{clear_check, yes_clear}
-use Rattle.chan_walk.proofs.Theory.Granting.{fetches_parts, same_under_yes, stores_parts, turned, ccw_over}
+use Rattle.chan_walk.proofs.Theory.Granting.{fetches_parts, same_under_yes, stores_parts, turned}
+use Rattle.chan_walk.proofs.Theory.Granting.{ccw_over}
 use Rattle.chan_needs.proofs.Needing.{needed_mask_is_enough, yes_opens}
 use Rattle.chan_walk.proofs.Algorithms.Opened.{to_open}
 use Rattle.chan_walk.proofs.Theory.OwnFaults.{data_in_storage}

@@ -1,5 +1,6 @@
 -- What is remembered of a program stays true while what is kept does, and is enough for a start.
-use Rattle.std.proofs.Common.{◌≡◌, ℕ, ◌+◌, ◌-◌, ◌<◌, ◌≤◌, true, List, [], ◌∷◌, length, drop, Some, refl, sym, ap, ◌∙◌, subst, ◌⊎◌, ◌↔◌, inl, inr, arith, rules}
+use Rattle.std.proofs.Common.{◌≡◌, ℕ, ◌+◌, ◌-◌, ◌<◌, ◌≤◌, true, List, [], ◌∷◌, length, drop, Some}
+use Rattle.std.proofs.Common.{refl, sym, ap, ◌∙◌, subst, ◌⊎◌, ◌↔◌, inl, inr, arith, rules}
 use Rattle.std.specs.List.{All}
 use Rattle.ccw_core.specs.declared.areas.Area.{Area}
 use Rattle.ccw_core.specs.Areas.{lies_in}
@@ -22,13 +23,15 @@ use Rattle.chan_walk.specs.Moved.{IsDataOf}
 use Rattle.chan_walk.specs.Place.{ccw_of}
 use Rattle.chan_areas.specs.Ranges.{IsByteOf, end_of}
 use Rattle.chan_walk.specs.Reachable.{IsReachable}
-use Rattle.chan_needs.specs.Remembered.{AreInFlight, Holds, IsBeside, IsFit, IsInFlight, KeepsNone, IsNumber, IsWritten, StartsWell, WritesWell}
+use Rattle.chan_needs.specs.Remembered.{AreInFlight, HoldsAreas, IsBeside, IsFit, IsInFlight}
+use Rattle.chan_needs.specs.Remembered.{KeepsNone, IsInFlightAt, IsWritten, StartsWell, WritesWell}
 use Rattle.chan_needs.specs.Rows.{HasStoreAndKeep, Listed, MayRunBeside, rows_of}
 use Rattle.chan_walk.specs.Runs.{IsSameIn}
 use Rattle.chan_needs.specs.Starting.{IsFlightOf}
 use Rattle.chan_walk.specs.Verdict.{IsVerdict}
 use Rattle.std.proofs.lemmas.Bool.{both_ways}
-use Rattle.chan_walk.proofs.Algorithms.Counted.{AreSame, argument_byte_over, ccw_byte_over, flipped, same_at, same_verdict}
+use Rattle.chan_walk.proofs.Algorithms.Counted.{AreSame, argument_byte_over, ccw_byte_over, flipped}
+use Rattle.chan_walk.proofs.Algorithms.Counted.{same_at, same_verdict}
 use Rattle.chan_areas.proofs.Merging.{lies_in-cases}
 use Rattle.chan_needs.proofs.Needed.{data_over, grants_from, may_run_beside}
 use Rattle.chan_walk.proofs.Machine.Again.{counted_is_guarded, yes_by_guarded}
@@ -133,7 +136,7 @@ module _ (p : Remembered) (k : Job) (h : IsInFlight p k) where
   guarded_listed b g = (rows_in_flight.keep.bytes b).1 (((yes_is_open k h.proper h.verdict).1 b).0 g)
 
 -- what holds of all holds of number n
-at_number : (P : Remembered → Type 0) (fs : List Remembered) (n : ℕ) (f : Remembered) → All P fs → IsNumber fs n f → P f
+at_number : (P : Remembered → Type 0) (fs : List Remembered) (n : ℕ) (f : Remembered) → All P fs → IsInFlightAt fs n f → P f
 at_number P fs n f all number = subst P (number.1 f) (all n f number.0)
 
 -- ---- who may write
@@ -142,7 +145,7 @@ at_number P fs n f all number = subst P (number.1 f) (all n f number.0)
 pub spared_by : (fs : List Remembered) (area : Area) → All (KeepsNone area) fs → (a : Situation) (t : List ℕ) → AreInFlight a fs → IsWritten area a.storage t → (i : ℕ) (g : Flight) → a.at i ≡ Some g → IsSameIn (IsGuarded g.job) a.storage t
 spared_by fs area none a t flying written i g e = go (flying i g e)
   where
-    go : (n : ℕ) × (f : Remembered) × IsNumber fs n f × IsInFlight f g.job → IsSameIn (IsGuarded g.job) a.storage t
+    go : (n : ℕ) × (f : Remembered) × IsInFlightAt fs n f × IsInFlight f g.job → IsSameIn (IsGuarded g.job) a.storage t
     go (n, f, number, flight) = record {
       same_length = written.same_length;
       same = λ b guarded. written.same b (λ within. at_number (KeepsNone area) fs n f none number b (guarded_listed f g.job flight b guarded, within));
@@ -154,7 +157,7 @@ writes_well fs area none a before t history flying written = others_may_change a
 -- ---- what may start
 
 -- two storages that hold the same bytes are the same there
-pub same_held : (s t : List ℕ) (areas : List Area) (kept : List ℕ) (b : ℕ) → Holds s areas kept → Holds t areas kept → lies_in areas b ≡ true → byte t b ≡ byte s b
+pub same_held : (s t : List ℕ) (areas : List Area) (kept : List ℕ) (b : ℕ) → HoldsAreas s areas kept → HoldsAreas t areas kept → lies_in areas b ≡ true → byte t b ≡ byte s b
 same_held s t [] kept b h k m = absurd (both_ways (lies_in [] b) (lies_in-nil b) m)
 same_held s t (a ∷ areas) kept b h k m = go (same_held s t areas (drop a.len kept) b h.1 k.1) (lies_in-cases a areas b m)
   where
@@ -207,7 +210,7 @@ starts_well j p fs proper fit asked a m remembered flying start = (
     least : IsVerdict (open_job j) Yes × Grants j j
     least = (least_job j j itself proper).0 verdict
 
-    beside : (g : Flight) → (n : ℕ) × (f : Remembered) × IsNumber fs n f × IsInFlight f g.job → (k : Job) × IsFlightOf k g × MayRunBeside j k
+    beside : (g : Flight) → (n : ℕ) × (f : Remembered) × IsInFlightAt fs n f × IsInFlight f g.job → (k : Job) × IsFlightOf k g × MayRunBeside j k
     beside g (n, f, number, flight) =
         let b : IsBeside p f = at_number (IsBeside p) fs n f fit.beside number in (
           g.job,

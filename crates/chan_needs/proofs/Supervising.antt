@@ -1,30 +1,33 @@
 -- A supervisor that keeps to the answers of its calls makes a history.
-use Rattle.std.proofs.Common.{◌≡◌, ℕ, List, [], ◌∷◌, map, Option, Some, None, IsSome, refl, sym, ap, ◌∙◌, subst, ◌⊎◌, inl, inr}
+use Rattle.std.proofs.Common.{◌≡◌, ℕ, List, [], ◌∷◌, map, Option, Some, None, IsSome, refl, sym, ap}
+use Rattle.std.proofs.Common.{◌∙◌, subst, ◌⊎◌, inl, inr}
 use Rattle.chan_needs.specs.declared.remembered.Remembered.{Remembered}
-use Rattle.chan_needs.specs.History.{Acts, ComesNext, Flight, IsHistory, MayStart, Rests, Situation, Spares}
+use Rattle.chan_needs.specs.History.{Acts, ComesNext, Flight, IsHistory, MayStart, Rests, Situation}
+use Rattle.chan_needs.specs.History.{Spares}
 use Rattle.chan_needs.specs.Remembered.{AreInFlight, IsInFlight}
-use Rattle.chan_needs.specs.Supervised.{GoesOn, GoesOnAt, IsAllowed, IsSupervised, IsWriting, Lists, RestsAt, StartsAt, SupervisedStaysWell, Watch}
+use Rattle.chan_needs.specs.Supervised.{GoesOn, GoesOnAt, IsAllowed, IsSupervised, IsWriting, Lists}
+use Rattle.chan_needs.specs.Supervised.{RestsAt, StartsAt, SupervisedStaysWell, Supervision}
 use Rattle.chan_needs.proofs.History.{stays_well}
 use Rattle.chan_needs.proofs.Remembering.{spared_by, starts_well}
 use Rattle.chan_needs.proofs.Beginning.{others}
 
-abbrev situations : List Watch → List Situation
-situations run = map (λ (v : Watch). v.situation) run
+abbrev situations : List Supervision → List Situation
+situations run = map (λ (v : Supervision). v.situation) run
 
 -- what is remembered under number i is true of a program
-abbrev IsNoted : Watch → ℕ → Flight → Type 0
+abbrev IsNoted : Supervision → ℕ → Flight → Type 0
 IsNoted v i g = (p : Remembered) × (v.programs i ≡ Some p) × IsInFlight p g.job
 
 -- what is remembered is true of the programs in flight
-abbrev IsTrueAt : Watch → Type 0
+abbrev IsTrueAt : Supervision → Type 0
 IsTrueAt v = (i : ℕ) (g : Flight) → v.situation.at i ≡ Some g → IsNoted v i g
 
-listed_in_flight : (v : Watch) (fs : List Remembered) → IsTrueAt v → Lists v.programs fs → AreInFlight v.situation fs
+listed_in_flight : (v : Supervision) (fs : List Remembered) → IsTrueAt v → Lists v.programs fs → AreInFlight v.situation fs
 listed_in_flight v fs h lists i g e = let t = h i g e in let n = lists i t.0 t.1 in (n.0, t.0, n.1, t.2)
 
 -- ---- one moment on
 
-module _ (v w : Watch) (h : IsTrueAt v) where
+module _ (v w : Supervision) (h : IsTrueAt v) where
   -- one that waits or makes a step stays as it was remembered
   stayed : (i : ℕ) (f g : Flight) → v.situation.at i ≡ Some f → g.job ≡ f.job → w.programs i ≡ v.programs i → IsNoted w i g
   stayed i f g e same noted = let t = h i f e in (t.0, noted ∙ t.1, subst (IsInFlight t.0) (sym same) t.2)
@@ -91,7 +94,7 @@ module _ (v w : Watch) (h : IsTrueAt v) where
 
 -- ---- always
 
-supervised : (v : Watch) (before : List Watch) → IsSupervised (v ∷ before) → IsHistory (v.situation ∷ situations before) × IsTrueAt v
+supervised : (v : Supervision) (before : List Supervision) → IsSupervised (v ∷ before) → IsHistory (v.situation ∷ situations before) × IsTrueAt v
 supervised v [] none = (none, λ i g e. let s : None ≡ Some g = sym (none i) ∙ e in absurd cc)
 supervised w (v ∷ before) (run, goes) = let t = supervised v before run in ((t.0, comes_next v w t.1 goes), stays_true v w t.1 goes)
 

@@ -23,7 +23,8 @@ use Rattle.chan_needs.specs.History.{Flight, IsHistory, MayStart, Situation}
 use Rattle.chan_walk.specs.Job.{storage_of, extents_of, fetch_of, store_of}
 use Rattle.chan_needs.specs.Needs.{Grants, KeepsProgram}
 use Rattle.chan_areas.specs.Ranges.{IsByteOf, end_of}
-use Rattle.chan_needs.specs.Rows.{AreNeeds, HasStoreAndKeep, IsShared, Listed, MayRunBeside, rows_of}
+use Rattle.chan_needs.specs.Rows.{AreNeeds, HasStoreAndKeep, IsShared, Listed, MayRunBeside}
+use Rattle.chan_needs.specs.Rows.{rows_of}
 use Rattle.chan_walk.specs.Runs.{IsSameIn, IsStart, Moment}
 use Rattle.chan_walk.specs.Verdict.{IsVerdict}
 
@@ -39,9 +40,9 @@ abbrev pub HoldsArea : List ℕ → Area → List ℕ → Type 0
 HoldsArea s a kept = (i : ℕ) → i < a.len → HoldsByte s a kept i
 
 -- storage holds these bytes in the areas, one area after another; those after them don't matter
-abbrev pub Holds : List ℕ → List Area → List ℕ → Type 0
-Holds s [] kept = Unit {0}
-Holds s (a ∷ areas) kept = HoldsArea s a kept × Holds s areas (drop a.len kept)
+abbrev pub HoldsAreas : List ℕ → List Area → List ℕ → Type 0
+HoldsAreas s [] kept = Unit {0}
+HoldsAreas s (a ∷ areas) kept = HoldsArea s a kept × HoldsAreas s areas (drop a.len kept)
 
 -- b is the first byte of an area that isn't what it was
 pub record IsFirstChangedIn (s : List ℕ) (a : Area) (kept : List ℕ) (b : ℕ) : Type 0 where
@@ -77,7 +78,7 @@ pub record IsOfProgram (j : Job) (p : Remembered) : Type 0 where
 
 -- storage holds what was kept
 abbrev pub HoldsKept : Job → Remembered → Type 0
-HoldsKept j p = Holds (storage_of j) p.rows.keep.now p.kept.now
+HoldsKept j p = HoldsAreas (storage_of j) p.rows.keep.now p.kept.now
 
 -- the byte at b is one of storage, and lies in an area lent
 abbrev pub IsLent : Job → List Area → ℕ → Type 0
@@ -159,8 +160,8 @@ IsNotGranted j n (why.Store b) =
 IsNotGranted j n _ = ⊥
 
 -- f is number i of those in flight
-abbrev pub IsNumber : List Remembered → ℕ → Remembered → Type 0
-IsNumber fs i f = (i < length fs) × HoldsAt (λ (g : Remembered). g ≡ f) fs i
+abbrev pub IsInFlightAt : List Remembered → ℕ → Remembered → Type 0
+IsInFlightAt fs i f = (i < length fs) × HoldsAt (λ (g : Remembered). g ≡ f) fs i
 
 -- why two programs may not run side by side: the least byte that the first stores into and the
 -- other keeps, or without one the least that the first keeps and the other stores into
@@ -172,13 +173,13 @@ IsConflict n m (way.Keeps b) =
 -- with the programs in flight: the first that it isn't beside
 abbrev pub IsNotBeside : Remembered → List Remembered → Refusal → Type 0
 IsNotBeside p fs (why.Beside i c) =
-    (f : Remembered) × IsNumber fs i f × AllWithin (IsBeside p) fs 0 i
+    (f : Remembered) × IsInFlightAt fs i f × AllWithin (IsBeside p) fs 0 i
     × IsConflict (rows_of p.rows) (rows_of f.rows) c
 IsNotBeside p fs _ = ⊥
 
 -- the first of the four that fails, and what is wrong
-abbrev pub IsRefused : Job → Remembered → List Remembered → Refusal → Type 0
-IsRefused j p fs r =
+abbrev pub IsStartRefusal : Job → Remembered → List Remembered → Refusal → Type 0
+IsStartRefusal j p fs r =
     IsOfAnother j p r
     ⊎ (IsOfProgram j p × HasChanged j p r)
     ⊎ (IsOfProgram j p × HoldsKept j p × IsNotGranted j (rows_of p.rows) r)
@@ -187,7 +188,7 @@ IsRefused j p fs r =
 -- the answer
 abbrev pub IsAnswerOf : Job → Remembered → List Remembered → Start → Type 0
 IsAnswerOf j p fs answer.Yes = IsFit j p fs
-IsAnswerOf j p fs (answer.No r) = IsRefused j p fs r
+IsAnswerOf j p fs (answer.No r) = IsStartRefusal j p fs r
 
 -- ---- writes by others
 
@@ -203,7 +204,7 @@ KeepsNone a f = (b : ℕ) → IsKeptIn (rows_of f.rows) a b → ⊥
 abbrev pub IsKeeperOf : List Remembered → Area → Option (ℕ × ℕ) → Type 0
 IsKeeperOf fs a None = All (KeepsNone a) fs
 IsKeeperOf fs a (Some (i, b)) =
-    (f : Remembered) × IsNumber fs i f
+    (f : Remembered) × IsInFlightAt fs i f
     × AllWithin (KeepsNone a) fs 0 i × IsLeastOf (IsKeptIn (rows_of f.rows) a) b
 
 -- ---- if what is remembered is true
@@ -229,7 +230,7 @@ pub record IsInFlight (p : Remembered) (k : Job) : Type 0 where
 abbrev pub AreInFlight : Situation → List Remembered → Type 0
 AreInFlight a fs =
     (i : ℕ) (g : Flight) → a.at i ≡ Some g
-    → (n : ℕ) × (f : Remembered) × IsNumber fs n f × IsInFlight f g.job
+    → (n : ℕ) × (f : Remembered) × IsInFlightAt fs n f × IsInFlight f g.job
 
 -- the program may then start at each moment at which a run of the job may begin, and what is
 -- remembered is true of it in flight

@@ -9,21 +9,22 @@ use Rattle.chan_needs.specs.declared.remembered.Remembered.{Remembered}
 use Rattle.chan_needs.specs.declared.starting.Start.TheVariants.{Yes}
 use Rattle.chan_walk.specs.Alarm.{IsProper}
 use Rattle.chan_needs.specs.History.{Acts, AreWell, Flight, Rests, Situation}
-use Rattle.chan_needs.specs.Remembered.{IsAnswerOf, IsKeeperOf, IsNumber, IsRemembered, IsWritten}
+use Rattle.chan_needs.specs.Remembered.{IsAnswerOf, IsKeeperOf, IsInFlightAt, IsRemembered}
+use Rattle.chan_needs.specs.Remembered.{IsWritten}
 use Rattle.chan_walk.specs.Runs.{IsStart, Moment, Steps}
 
 -- a situation, and what the supervisor remembers under each number
-pub record Watch : Type 0 where
+pub record Supervision : Type 0 where
   pub situation : Situation
   pub programs : ℕ → Option Remembered
 
 -- the list has all that is remembered
 abbrev pub Lists : (ℕ → Option Remembered) → List Remembered → Type 0
-Lists programs fs = (i : ℕ) (p : Remembered) → programs i ≡ Some p → (n : ℕ) × IsNumber fs n p
+Lists programs fs = (i : ℕ) (p : Remembered) → programs i ≡ Some p → (n : ℕ) × IsInFlightAt fs n p
 
 -- a program that was asked about is about to start under number i, where nothing is in flight, and
 -- `may_start` answers yes
-pub record IsAllowed (v : Watch) (i : ℕ) : Type 0 where
+pub record IsAllowed (v : Supervision) (i : ℕ) : Type 0 where
   pub asked : Job
   pub program : Remembered
   pub remembered : IsRemembered asked program
@@ -37,25 +38,25 @@ pub record IsAllowed (v : Watch) (i : ℕ) : Type 0 where
   pub free : v.situation.at i ≡ None
 
 -- the program starts, and is remembered
-pub record StartsAt (v w : Watch) (i : ℕ) : Type 0 where
+pub record StartsAt (v w : Supervision) (i : ℕ) : Type 0 where
   pub allowed : IsAllowed v i
   pub there : w.situation.at i ≡ Some allowed.flight
   pub noted : w.programs i ≡ Some allowed.program
   pub storage : w.situation.storage ≡ v.situation.storage
 
 -- the program under number i makes a step, or it leaves; only then it may be forgotten
-pub record GoesOnAt (v w : Watch) (i : ℕ) : Type 0 where
+pub record GoesOnAt (v w : Supervision) (i : ℕ) : Type 0 where
   pub there : IsSome (v.situation.at i)
   pub acts : Acts v.situation w.situation (v.situation.at i) (w.situation.at i)
   pub noted : IsSome (w.situation.at i) → w.programs i ≡ v.programs i
 
 -- the program under number k waits, if there is one
-abbrev pub RestsAt : Watch → Watch → ℕ → Type 0
+abbrev pub RestsAt : Supervision → Supervision → ℕ → Type 0
 RestsAt v w k = Rests (v.situation.at k) (w.situation.at k) × (w.programs k ≡ v.programs k)
 
 -- others are about to write, so that storage becomes t: only into an area of which, as `may_write`
 -- says, no program keeps a byte
-pub record MayWrite (v : Watch) (t : List ℕ) : Type 0 where
+pub record MayWrite (v : Supervision) (t : List ℕ) : Type 0 where
   pub area : Area
   pub in_flight : List Remembered
   pub lists : Lists v.programs in_flight
@@ -63,17 +64,17 @@ pub record MayWrite (v : Watch) (t : List ℕ) : Type 0 where
   pub written : IsWritten area v.situation.storage t
 
 -- others write, and all programs wait
-abbrev pub IsWriting : Watch → Watch → Type 0
+abbrev pub IsWriting : Supervision → Supervision → Type 0
 IsWriting v w = MayWrite v w.situation.storage × ((k : ℕ) → RestsAt v w k)
 
 -- one program starts, makes a step or leaves, and each other waits; or others write
-abbrev pub GoesOn : Watch → Watch → Type 0
+abbrev pub GoesOn : Supervision → Supervision → Type 0
 GoesOn v w =
     ((i : ℕ) × (StartsAt v w i ⊎ GoesOnAt v w i) × ((k : ℕ) → (k ≡ i) ⊎ RestsAt v w k))
     ⊎ IsWriting v w
 
 -- the newest first; at first no program is in flight
-abbrev pub IsSupervised : List Watch → Type 0
+abbrev pub IsSupervised : List Supervision → Type 0
 IsSupervised [] = ⊥
 IsSupervised (v ∷ []) = (i : ℕ) → v.situation.at i ≡ None
 IsSupervised (w ∷ v ∷ before) = IsSupervised (v ∷ before) × GoesOn v w
@@ -81,24 +82,24 @@ IsSupervised (w ∷ v ∷ before) = IsSupervised (v ∷ before) × GoesOn v w
 -- in each situation all programs in flight are well
 abbrev pub SupervisedStaysWell : Type 0
 SupervisedStaysWell =
-    (run : List Watch) → IsSupervised run
-    → AllByRecursion AreWell (map (λ (v : Watch). v.situation) run)
+    (run : List Supervision) → IsSupervised run
+    → AllByRecursion AreWell (map (λ (v : Supervision). v.situation) run)
 
 -- what the calls allow may happen, and so may each step and each end
 pub record SupervisedGoesOn : Type 0 where
   pub starts :
-      (v : Watch) (before : List Watch) (i : ℕ) → IsSupervised (v ∷ before) → (s : IsAllowed v i)
-      → (w : Watch) × (w.situation.at i ≡ Some s.flight) × IsSupervised (w ∷ v ∷ before)
+      (v : Supervision) (before : List Supervision) (i : ℕ) → IsSupervised (v ∷ before) → (s : IsAllowed v i)
+      → (w : Supervision) × (w.situation.at i ≡ Some s.flight) × IsSupervised (w ∷ v ∷ before)
   pub steps :
-      (v : Watch) (before : List Watch) (i : ℕ) (f : Flight) (n : Moment)
+      (v : Supervision) (before : List Supervision) (i : ℕ) (f : Flight) (n : Moment)
       → IsSupervised (v ∷ before) → v.situation.at i ≡ Some f → Steps f.moment n
-      → (w : Watch) × (w.situation.at i ≡ Some (record f { moment = n }))
+      → (w : Supervision) × (w.situation.at i ≡ Some (record f { moment = n }))
       × IsSupervised (w ∷ v ∷ before)
   pub leaves :
-      (v : Watch) (before : List Watch) (i : ℕ) → IsSupervised (v ∷ before)
+      (v : Supervision) (before : List Supervision) (i : ℕ) → IsSupervised (v ∷ before)
       → IsSome (v.situation.at i)
-      → (w : Watch) × (w.situation.at i ≡ None) × (w.programs i ≡ None)
+      → (w : Supervision) × (w.situation.at i ≡ None) × (w.programs i ≡ None)
       × IsSupervised (w ∷ v ∷ before)
   pub writes :
-      (v : Watch) (before : List Watch) (t : List ℕ) → IsSupervised (v ∷ before) → MayWrite v t
-      → (w : Watch) × (w.situation.storage ≡ t) × IsSupervised (w ∷ v ∷ before)
+      (v : Supervision) (before : List Supervision) (t : List ℕ) → IsSupervised (v ∷ before) → MayWrite v t
+      → (w : Supervision) × (w.situation.storage ≡ t) × IsSupervised (w ∷ v ∷ before)

@@ -5,7 +5,8 @@ ghost use Rattle.std.specs.Prelude.{MatchOption, drop, length, take};
 ghost use Rattle.std.specs.List.{All};
 ghost use Rattle.ccw_core.specs.Ccw.{byte};
 ghost use Rattle.ccw_core.specs.Held.{bytes_held};
-ghost use Rattle.chan_needs.specs.Remembered.{Holds, HoldsArea, IsFirstChanged, IsFirstChangedIn};
+ghost use Rattle.chan_needs.specs.Remembered.{HoldsAreas, HoldsArea, IsFirstChanged};
+ghost use Rattle.chan_needs.specs.Remembered.{IsFirstChangedIn};
 ghost use Rattle.chan_needs.specs.Remembered.{IsInside, IsKeeperOf, WritesWell, bytes_in};
 
 use crate::rows::Rows;
@@ -60,7 +61,7 @@ pub fn copy_kept(storage: &Storage, areas: &[Area], into: &mut [u8]) -> Option<u
         × (length (bytes_in (bytes_held storage.now) areas.now) ≤ length into.old)) }
 
     // Storage then holds them, until one of them changes.
-    ensures held { IsSome result → Holds (bytes_held storage.now) areas.now into.new }
+    ensures held { IsSome result → HoldsAreas (bytes_held storage.now) areas.now into.new }
 {
     let mut at = 0;
     for area in areas {
@@ -84,7 +85,7 @@ fn write_at(into: &mut [u8], at: usize, bytes: &[u8])
 
 /// The first of the bytes that are kept, in the order of the areas, that isn't what it was.
 pub(crate) fn first_changed(storage: &Storage, areas: &[Area], kept: &[u8]) -> Option<u32>
-    ensures { MatchOption result (Holds (bytes_held storage.now) areas.now kept.now)
+    ensures { MatchOption result (HoldsAreas (bytes_held storage.now) areas.now kept.now)
         (IsFirstChanged (bytes_held storage.now) areas.now kept.now) }
 {
     let mut rest = kept;

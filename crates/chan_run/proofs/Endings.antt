@@ -1,5 +1,6 @@
 -- How a run over an input ends: an answer is written, and its output is flushed.
-use Rattle.std.proofs.Common.{◌≡◌, ℕ, List, Option, Result, Ok, Err, true, false, IsErr, OnOk, ◌↔◌, ◌∙◌, refl, sym, subst}
+use Rattle.std.proofs.Common.{◌≡◌, ℕ, List, Option, Result, Ok, Err, true, false, IsErr, OnOk, ◌↔◌}
+use Rattle.std.proofs.Common.{◌∙◌, refl, sym, subst}
 use Rattle.std.proofs.KnownBytes.{Appends-kept}
 use Rattle.std.specs.Io.KnownBytes.{Keeps}
 use Rattle.chan_deck.specs.Image.{Image, Spells}
@@ -14,11 +15,12 @@ use Rattle.chan_run.specs.declared.running.Status.{Status}
 use Rattle.chan_run.specs.Imaging.{IsDeckAnswer}
 use Rattle.chan_run.specs.declared.image_options.ImageOptions.{ImageOptions}
 use Rattle.chan_run.specs.Report.{IsDone, ran}
-use Rattle.chan_run.specs.Run.{Answer, IsAnswerOn, IsJobAnswer, IsJobOf, IsPut, Judges, IsTextAnswer, text_in}
+use Rattle.chan_run.specs.Run.{Answer, IsAnswerOn, IsJobAnswer, IsDeckJob, IsWrittenOut, Judges}
+use Rattle.chan_run.specs.Run.{IsTextAnswer, text_in}
 
 -- an answer on the job of a deck is one to the text that spells the deck
 pub text_answer : (name : Option (List ℕ)) (a : Action) (t : List ℕ) (deck : Image) (j : Job) (answer : Answer)
-    → Spells t deck → IsJobOf deck j → IsAnswerOn name a j answer → IsTextAnswer name a t answer
+    → Spells t deck → IsDeckJob deck j → IsAnswerOn name a j answer → IsTextAnswer name a t answer
 text_answer name a t deck j (Ok said) spelled of_deck h =
     record { deck = deck; spelled = spelled; job = j; of_deck = of_deck; holds = h }
 text_answer name a t deck j (Err TooManyPlaces) spelled of_deck h =
@@ -45,13 +47,13 @@ not_done e done = done
 -- if an answer was written, the flush of its output leaves it written
 pub put_kept : {D : Type 0} (contents : D → Option (List ℕ)) (old mid new : D) (answer : Answer)
     (r : Result Status RunError) → Keeps (contents mid) (contents new)
-    → ((IsDone (ran r) → ⊥) → new ≡ mid) → IsPut answer (contents old) (contents mid) (mid ≡ old) r
-    → IsPut answer (contents old) (contents new) (new ≡ old) r
+    → ((IsDone (ran r) → ⊥) → new ≡ mid) → IsWrittenOut answer (contents old) (contents mid) (mid ≡ old) r
+    → IsWrittenOut answer (contents old) (contents new) (new ≡ old) r
 put_kept contents old mid new (Ok (s, output)) (Ok end) keeps same h =
     (h.0, Appends-kept (contents old) (contents mid) (contents new) (text_in output) h.1 keeps)
 put_kept contents old mid new (Err e) (Ok end) keeps same h = let bad : Ok end ≡ Err e = h.0 in absurd cc
 put_kept contents old mid new answer (Err e) keeps same h =
-    subst (λ x. IsPut answer (contents old) (contents x) (x ≡ old) (Err e)) (sym (same (not_done e))) h
+    subst (λ x. IsWrittenOut answer (contents old) (contents x) (x ≡ old) (Err e)) (sym (same (not_done e))) h
 
 -- ---- an image of storage
 

@@ -1,10 +1,11 @@
 -- The lines of programs that are found, one after another.
-use Rattle.std.proofs.Common.{◌≡◌, ◌∙◌, ◌<◌, ◌++◌, ◌∷◌, [], List, ap, arith, append_assoc, append-nil, length, refl, slice_index_or, suc, sym, take, zero, ℕ}
+use Rattle.std.proofs.Common.{◌≡◌, ◌∙◌, ◌<◌, ◌++◌, ◌∷◌, [], List, ap, arith, append_assoc}
+use Rattle.std.proofs.Common.{append-nil, length, refl, slice_index_or, suc, sym, take, zero, ℕ}
 use Rattle.chan_deck.specs.Parts.{storage_with}
 use Rattle.chan_walk.specs.declared.job.Job.{Job}
 use Rattle.chan_walk.specs.Open.{open_job}
 use Rattle.chan_find.specs.Programs.{AreProgramStarts, IsJobOver}
-use Rattle.chan_run.specs.Finding.{AreLinesAt, AreStartsIn, IsLineAt}
+use Rattle.chan_run.specs.Finding.{AreLinesAt, AreStartsInImage, IsLineAt}
 use Rattle.chan_run.specs.declared.image_options.ImageOptions.{ImageOptions}
 
 -- a line more
@@ -27,6 +28,6 @@ lines_more o image (a ∷ starts) (suc i) d text line lt (first, rest, at, are, 
 pub starts_over : (o : ImageOptions) (image held starts items : List ℕ)
     → held ≡ storage_with o.at image → items ≡ starts
     → ((j : Job) → IsJobOver held o.device j → AreProgramStarts (open_job j) starts)
-    → AreStartsIn o image items
+    → AreStartsInImage o image items
 starts_over o image held starts items is same are j over =
     rw same (are j (record { storage = over.storage ∙ sym is; device = over.device }))

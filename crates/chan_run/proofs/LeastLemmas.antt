@@ -1,5 +1,7 @@
 -- The deck with the least job: its areas have six digits, and the verdict on its job is yes.
-use Rattle.std.proofs.Common.{◌≡◌, ℕ, ◌+◌, ◌-◌, ◌∙◌, ◌<◌, ◌≤◌, ◌==◌, ◌^◌, Bool, ◌||◌, true, false, List, [], ◌∷◌, ◌++◌, length, ◌⊎◌, inl, inr, arith, refl, sym, ap, subst, Option, Result, Ok, Err, OnOk}
+use Rattle.std.proofs.Common.{◌≡◌, ℕ, ◌+◌, ◌-◌, ◌∙◌, ◌<◌, ◌≤◌, ◌==◌, ◌^◌, Bool, ◌||◌, true, false}
+use Rattle.std.proofs.Common.{List, [], ◌∷◌, ◌++◌, length, ◌⊎◌, inl, inr, arith, refl, sym, ap}
+use Rattle.std.proofs.Common.{subst, Option, Result, Ok, Err, OnOk}
 use Rattle.std.specs.List.{AllByRecursion}
 use Rattle.std.specs.Io.KnownBytes.{Appends}
 use Rattle.std.proofs.lemmas.Bool.{cases_lt, eqb-false, or_left, or_right}
@@ -22,11 +24,12 @@ use Rattle.chan_walk.proofs.Algorithms.Opened.{to_open}
 use Rattle.chan_deck.specs.Image.{Image, limit_of}
 use Rattle.chan_deck.proofs.PartLemmas.{storage_fits}
 use Rattle.chan_deck.specs.Item.{IsArea}
-use Rattle.chan_deck.specs.Needs.{halves, in_six_digits, split}
-use Rattle.chan_run.specs.Imaging.{IsAskedDeck, IsDeckAnswer, IsDeckText, IsNoDeck, IsOfOpenJob, IsProgramIn, deck_of, extents_for, least_deck}
+use Rattle.chan_deck.specs.Needs.{halves, in_six_digits, six_digit_parts}
+use Rattle.chan_run.specs.Imaging.{IsAskedDeck, IsDeckAnswer, IsDeckText, IsNoDeck, IsOfOpenJob}
+use Rattle.chan_run.specs.Imaging.{IsProgramIn, deck_of, extents_for, least_deck}
 use Rattle.chan_run.specs.Report.{wrote}
 use Rattle.ccw_core.specs.declared.watched.DeviceFault.{DeviceFault}
-use Rattle.chan_run.specs.Run.{IsJobOf}
+use Rattle.chan_run.specs.Run.{IsDeckJob}
 use Rattle.chan_run.specs.declared.failure.Failure.TheVariants as failures
 use Rattle.chan_run.specs.declared.reporting.Outcome.{Outcome}
 use Rattle.chan_run.specs.declared.reporting.Outcome.TheVariants.{Done, Failed}
@@ -47,7 +50,7 @@ merged_fit (a ∷ rest) (some, above, merged) below =
     ((some, omega (arith, last, some)), merged_fit rest merged (λ b lies. below b (lies_in-rest a rest b lies)))
 
 -- and so its start and its length have six digits, in two parts if it is all of that storage
-split_area : (a : Area) → Fits a → (b : Bool) → (a.len == 2 ^ 24) ≡ b → AllByRecursion IsArea (split a)
+split_area : (a : Area) → Fits a → (b : Bool) → (a.len == 2 ^ 24) ≡ b → AllByRecursion IsArea (six_digit_parts a)
 split_area a fits true is = rw is ((omega arith, omega arith), ((omega arith, omega arith), tt))
 split_area a fits false is = rw is ((omega (arith, fits.0, fits.1), below (cases_lt a.len (2 ^ 24))), tt)
   where
@@ -63,11 +66,11 @@ areas_append (x ∷ xs) ys all more = (all.0, areas_append xs ys all.1 more)
 pub six_are_areas : (areas : List Area) → AllByRecursion Fits areas → AllByRecursion IsArea (in_six_digits areas)
 six_are_areas [] fit = tt
 six_are_areas (a ∷ rest) fit =
-    areas_append (split a) (in_six_digits rest) (split_area a fit.0 (a.len == 2 ^ 24) refl) (six_are_areas rest fit.1)
+    areas_append (six_digit_parts a) (in_six_digits rest) (split_area a fit.0 (a.len == 2 ^ 24) refl) (six_are_areas rest fit.1)
 
 -- a byte of an area lies in its parts
 in_split : (a : Area) (b : ℕ) → Fits a → IsByteOf a b → (all : Bool) → (a.len == 2 ^ 24) ≡ all
-    → lies_in (split a) b ≡ true
+    → lies_in (six_digit_parts a) b ≡ true
 in_split a b fits lies false is = rw is (lies_in-first a [] b lies)
 in_split a b fits lies true is = rw is (go (cases_lt b 0xFFFFFF))
   where
@@ -87,8 +90,8 @@ pub in_six : (areas : List Area) (b : ℕ) → AllByRecursion Fits areas → lie
 in_six [] b fit lies = lies
 in_six (a ∷ rest) b fit lies = go (in_six rest b fit.1) (lies_in-cases a rest b lies)
   where
-    parts : lies_in (split a ++ in_six_digits rest) b ≡ (lies_in (split a) b || lies_in (in_six_digits rest) b)
-    parts = lies_in-append (split a) (in_six_digits rest) b
+    parts : lies_in (six_digit_parts a ++ in_six_digits rest) b ≡ (lies_in (six_digit_parts a) b || lies_in (in_six_digits rest) b)
+    parts = lies_in-append (six_digit_parts a) (in_six_digits rest) b
 
     go : (lies_in rest b ≡ true → lies_in (in_six_digits rest) b ≡ true) → IsByteOf a b ⊎ (lies_in rest b ≡ true)
         → lies_in (in_six_digits (a ∷ rest)) b ≡ true
@@ -163,7 +166,7 @@ least_is_yes j n needs short mask extents fetch store =
 
 -- so it is on the job of the deck, whose program is the one that the options find
 program_of : (o : ImageOptions) (image : List ℕ) (n : Listed) (d : Image) (j : Job) → d ≡ least_deck o image n
-    → IsJobOf d j → IsProgramIn o image j
+    → IsDeckJob d j → IsProgramIn o image j
 program_of o image n d j is of = record {
   storage = of.storage ∙ ap (λ (x : Image). x.storage) is;
   start = of.start ∙ ap (λ (x : Image). x.start) is;
@@ -177,7 +180,7 @@ pub least_asked : (o : ImageOptions) (image : List ℕ) (n : Listed) (d : Image)
 least_asked o image n d least short needs is =
     subst (λ b. IsAskedDeck b o image d) (sym least) (record { needed = n; needs = needs; is = is; yes = yes })
   where
-    yes : (j : Job) → IsJobOf d j → IsVerdict j Yes
+    yes : (j : Job) → IsDeckJob d j → IsVerdict j Yes
     yes j of =
         let there = program_of o image n d j is of in
         least_is_yes j n (needs j there) (storage_fits o.at image (storage_of j) there.storage short)

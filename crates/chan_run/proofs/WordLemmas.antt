@@ -1,6 +1,8 @@
 -- Words as they are shown, byte by byte.
-use Rattle.std.proofs.Common.{◌≡◌, ◌∙◌, ◌<◌, ◌++◌, ◌∷◌, ◌-◌, Bool, List, [], Ok, ap, arith, codes, drop}
-use Rattle.std.proofs.Common.{if◌then◌else◌, false, length, refl, slice_index_or, subst, suc, sym, take, true, zero, ℕ}
+use Rattle.std.proofs.Common.{◌≡◌, ◌∙◌, ◌<◌, ◌++◌, ◌∷◌, ◌-◌, Bool, List, [], Ok, ap, arith, codes}
+use Rattle.std.proofs.Common.{drop}
+use Rattle.std.proofs.Common.{if◌then◌else◌, false, length, refl, slice_index_or, subst, suc, sym}
+use Rattle.std.proofs.Common.{take, true, zero, ℕ}
 use Rattle.std.specs.List.{AllByRecursion}
 use Rattle.std.proofs.lemmas.List.{append-nil, append_assoc, take_all}
 use Rattle.hex.proofs.HexLemmas.{decode_of-encode_upper, decode_sized-twice}

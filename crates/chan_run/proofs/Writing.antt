@@ -1,25 +1,26 @@
 -- What a writer got, part by part, where the parts are known by equations.
-use Rattle.std.proofs.Common.{◌≤◌, ◌<◌, ◌+◌, ◌-◌, ◌∷◌, List, [], ℕ, Bor, Option, arith, drop, length, slice_index_or, suc, take, zero}
+use Rattle.std.proofs.Common.{◌≤◌, ◌<◌, ◌+◌, ◌-◌, ◌∷◌, List, [], ℕ, Bor, Option, arith, drop}
+use Rattle.std.proofs.Common.{length, slice_index_or, suc, take, zero}
 use Rattle.std.specs.Io.KnownBytes.{Appends}
 use Rattle.std.proofs.lemmas.List.{length-append, take_all}
 use Rattle.ccw_core.specs.Written.{AppendsPrefix}
 pub use Rattle.ccw_core.proofs.Prefixes.{prefix_after, prefix_of_more}
-use Rattle.chan_run.specs.Naming.{joined}
+use Rattle.chan_run.specs.Naming.{concatenated}
 
 -- some texts before one, and this one, are no longer than all of them
 pub no_longer : (texts : List (Bor (List ℕ))) (i : ℕ) (d : Bor (List ℕ)) → i < length texts
-    → length (joined (take i texts)) + length (slice_index_or texts i d).now ≤ length (joined texts)
+    → length (concatenated (take i texts)) + length (slice_index_or texts i d).now ≤ length (concatenated texts)
 no_longer [] i d lt = absurd (omega (arith, lt))
-no_longer (text ∷ texts) zero d lt = rw (length-append text.now (joined texts)) (omega arith)
+no_longer (text ∷ texts) zero d lt = rw (length-append text.now (concatenated texts)) (omega arith)
 no_longer (text ∷ texts) (suc i) d lt =
     let more = no_longer texts i d (omega (arith, lt)) in
-    rw (length-append text.now (joined (take i texts)), length-append text.now (joined texts)) (omega (arith, more))
+    rw (length-append text.now (concatenated (take i texts)), length-append text.now (concatenated texts)) (omega (arith, more))
 
 -- the first of some texts was written, and then a prefix of the others
 pub after_first : (texts : List (Bor (List ℕ))) (d : Bor (List ℕ)) (a b c : Option (List ℕ))
     → 1 ≤ length texts → Appends a b (slice_index_or texts 0 d).now
-    → AppendsPrefix b c (joined (take (length texts - 1) (drop 1 texts)))
-    → AppendsPrefix a c (joined texts)
+    → AppendsPrefix b c (concatenated (take (length texts - 1) (drop 1 texts)))
+    → AppendsPrefix a c (concatenated texts)
 after_first [] d a b c some h k = absurd (omega (arith, some))
 after_first (text ∷ texts) d a b c some h k =
-    prefix_after a b c text.now (joined texts) h (rw (take_all (length (text ∷ texts) - 1) texts (omega arith)) at k)
+    prefix_after a b c text.now (concatenated texts) h (rw (take_all (length (text ∷ texts) - 1) texts (omega arith)) at k)

@@ -25,7 +25,7 @@ IsAnswered name a old_in new_in old new untouched end =
 
 -- what is said of an input: this line and, only if there is advice, more behind it; a prefix of
 -- that if a write failed
-pub record IsTold (line : List ℕ) (is_advised : Bool) (old new : Option (List ℕ)) (failed : Bool)
+pub record IsSaidWithAdvice (line : List ℕ) (is_advised : Bool) (old new : Option (List ℕ)) (failed : Bool)
     : Type 0 where
   pub advice : List ℕ
   pub none : is_advised ≡ false → advice ≡ []

@@ -45,8 +45,8 @@ AreLinesAt o image (a ∷ starts) text =
     × AreLinesAt o image starts rest × (text ≡ line ++ rest)
 
 -- the starts of all programs in an image
-abbrev pub AreStartsIn : ImageOptions → List ℕ → List ℕ → Type 0
-AreStartsIn o image starts =
+abbrev pub AreStartsInImage : ImageOptions → List ℕ → List ℕ → Type 0
+AreStartsInImage o image starts =
     (j : Job) → IsJobOver (storage_with o.at image) o.device j
     → AreProgramStarts (open_job j) starts
 
@@ -62,12 +62,12 @@ pub record AreWritten (Wrote : List ℕ → Type 0) (o : ImageOptions) (image : 
 abbrev pub IsFoundAnswer : ImageOptions → List ℕ → Option (List ℕ) → Option (List ℕ)
     → Outcome → Type 0
 IsFoundAnswer o image old new Done =
-    (starts : List ℕ) × AreStartsIn o image starts × AreWritten (Appends old new) o image starts
+    (starts : List ℕ) × AreStartsInImage o image starts × AreWritten (Appends old new) o image starts
 IsFoundAnswer o image old new (Failed failures.WriteFailed) =
-    (starts : List ℕ) × AreStartsIn o image starts
+    (starts : List ℕ) × AreStartsInImage o image starts
     × (n : ℕ) × AreWritten (AppendsPrefix old new) o image (take n starts)
 IsFoundAnswer o image old new (Failed failures.OutOfMemory) =
-    IsUnwritten old new ⊎ ((starts : List ℕ) × AreStartsIn o image starts
+    IsUnwritten old new ⊎ ((starts : List ℕ) × AreStartsInImage o image starts
     × (n : ℕ) × AreWritten (Appends old new) o image (take n starts))
 IsFoundAnswer o image old new _ = ⊥
 

@@ -16,7 +16,7 @@ use Rattle.chan_needs.specs.Rows.{AreNeeds, Listed}
 use Rattle.chan_walk.specs.Open.{IsOpenJob}
 use Rattle.chan_walk.specs.Verdict.{IsVerdict}
 use Rattle.chan_run.specs.Input.{GaveAll, GaveOut, GaveTooMuch}
-use Rattle.chan_run.specs.Run.{IsJobOf}
+use Rattle.chan_run.specs.Run.{IsDeckJob}
 use Rattle.chan_run.specs.declared.failure.Failure.{Failure}
 use Rattle.chan_run.specs.declared.failure.Failure.TheVariants as failures
 use Rattle.chan_run.specs.declared.reporting.Outcome.{Outcome}
@@ -75,7 +75,7 @@ pub record IsLeastDeck (o : ImageOptions) (image : List ℕ) (d : Image) : Type 
   pub needed : Listed
   pub needs : (j : Job) → IsProgramIn o image j → AreNeeds j needed
   pub is : d ≡ least_deck o image needed
-  pub yes : (j : Job) → IsJobOf d j → IsVerdict j Yes
+  pub yes : (j : Job) → IsDeckJob d j → IsVerdict j Yes
 
 -- the deck that is asked for: its job is what the options say, or the least
 abbrev pub IsAskedDeck : Bool → ImageOptions → List ℕ → Image → Type 0

@@ -15,5 +15,5 @@ name_before (Some name) true = name ++ codes ": "
 name_before (Some name) false = []
 
 -- some texts, one behind the other
-abbrev pub joined : List (Bor (List ℕ)) → List ℕ
-joined = flat_map (λ text. text.now)
+abbrev pub concatenated : List (Bor (List ℕ)) → List ℕ
+concatenated = flat_map (λ text. text.now)

@@ -15,7 +15,7 @@ use Rattle.chan_run.specs.declared.showing.ShowError.TheVariants as shows
 use Rattle.chan_run.specs.declared.reporting.Outcome.{Outcome}
 use Rattle.chan_run.specs.declared.reporting.Outcome.TheVariants.{Done, Denied, Usage, Refused}
 use Rattle.chan_run.specs.declared.reporting.Outcome.TheVariants.{NoJob, Unknown, Failed}
-use Rattle.chan_run.specs.Failure.{row_of}
+use Rattle.chan_run.specs.Failure.{row_of_failure}
 use Rattle.chan_run.specs.Meaning.{word_of_cause, word_of_term}
 use Rattle.chan_run.specs.Naming.{name_before}
 
@@ -45,9 +45,9 @@ status_of Done = 0
 status_of Denied = 1
 status_of Usage = 4
 status_of (Refused line cause) = 2
-status_of (NoJob a r) = (row_of failures.NoJobWillDo).status
-status_of (Unknown t) = (row_of failures.NoSuchWord).status
-status_of (Failed failure) = (row_of failure).status
+status_of (NoJob a r) = (row_of_failure failures.NoJobWillDo).status
+status_of (Unknown t) = (row_of_failure failures.NoSuchWord).status
+status_of (Failed failure) = (row_of_failure failure).status
 
 -- what is written beside the explanation of a yes, where the text is no deck, and where too many
 -- places are reachable
@@ -76,7 +76,7 @@ line_over name (Refused number cause) =
 line_over name (Unknown t) =
     codes "chanv: no such word; the nearest is " ++ (word_of_term t ++ 10 ∷ [])
 line_over name (Failed failure) =
-    codes "chanv: " ++ (name_before name (row_of failure).on_input ++ (row_of failure).line)
+    codes "chanv: " ++ (name_before name (row_of_failure failure).on_input ++ (row_of_failure failure).line)
 line_over name _ = []
 
 -- a write failed, so that nothing more can be written

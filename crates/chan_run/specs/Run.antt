@@ -40,7 +40,7 @@ use Rattle.chan_run.specs.Input.{GaveAll, GaveOut, GaveTooMuch}
 use Rattle.chan_run.specs.Naming.{name_before}
 
 -- the job is that of the deck, its limit on places with it
-pub record IsJobOf (d : Image) (j : Job) : Type 0 where
+pub record IsDeckJob (d : Image) (j : Job) : Type 0 where
   pub storage : storage_of j ≡ d.storage
   pub start : j.start ≡ d.start
   pub device : j.device ≡ d.device
@@ -55,7 +55,7 @@ pub record IsOfJob (t : List ℕ) (Holds : Job → Type 0) : Type 0 where
   pub deck : Image
   pub spelled : Spells t deck
   pub job : Job
-  pub of_deck : IsJobOf deck job
+  pub of_deck : IsDeckJob deck job
   pub holds : Holds job
 
 -- this explains the verdict on the job: all offences, of which the first is the verdict, the path
@@ -157,15 +157,15 @@ IsTextAnswer name a t answer = IsOfJob t (λ j. IsAnswerOn name a j answer)
 
 -- what came of writing an answer: all of the output was written, or where a write failed a prefix,
 -- or where memory ran out in a listing; an answer without output stays, and the writer is untouched
-abbrev pub IsPut : Answer → Option (List ℕ) → Option (List ℕ) → Type 0 → Result Status RunError
+abbrev pub IsWrittenOut : Answer → Option (List ℕ) → Option (List ℕ) → Type 0 → Result Status RunError
     → Type 0
-IsPut (Ok (status, output)) old new untouched (Ok end) =
+IsWrittenOut (Ok (status, output)) old new untouched (Ok end) =
     (end ≡ status) × Appends old new (text_in output)
-IsPut (Ok (status, output)) old new untouched (Err Write) = AppendsPrefix old new (text_in output)
-IsPut (Ok (status, outputs.Listing looks v)) old new untouched (Err Memory) =
+IsWrittenOut (Ok (status, output)) old new untouched (Err Write) = AppendsPrefix old new (text_in output)
+IsWrittenOut (Ok (status, outputs.Listing looks v)) old new untouched (Err Memory) =
     AppendsPrefix old new (seen_listing looks.items v)
-IsPut (Ok (status, output)) old new untouched (Err e) = ⊥
-IsPut (Err e) old new untouched end = (end ≡ Err e) × untouched
+IsWrittenOut (Ok (status, output)) old new untouched (Err e) = ⊥
+IsWrittenOut (Err e) old new untouched end = (end ≡ Err e) × untouched
 
 -- the most bytes that a deck's text may have
 abbrev pub text_limit : ℕ
@@ -184,13 +184,13 @@ IsReadFault old new Memory = Unit {0}
 IsReadFault old new fault = ⊥
 
 -- the input was read to its end, this is the answer to its text, and this came of writing it
-pub record IsRun (name : Option (List ℕ)) (a : Action) (old_in new_in old new : Option (List ℕ))
+pub record AnswersInput (name : Option (List ℕ)) (a : Action) (old_in new_in old new : Option (List ℕ))
     (untouched : Type 0) (end : Result Status RunError) : Type 0 where
   pub text : List ℕ
   pub input : IsInput old_in new_in text
   pub answer : Answer
   pub answered : IsTextAnswer name a text answer
-  pub put : IsPut answer old new untouched end
+  pub put : IsWrittenOut answer old new untouched end
 
 -- the input wasn't read to its end, for this fault, and the writer is untouched
 abbrev pub IsUnread : Option (List ℕ) → Option (List ℕ) → Type 0 → Result Status RunError → Type 0
@@ -201,4 +201,4 @@ IsUnread old_in new_in untouched end =
 abbrev pub IsRunAnswer : Option (List ℕ) → Action → Option (List ℕ) → Option (List ℕ)
     → Option (List ℕ) → Option (List ℕ) → Type 0 → Result Status RunError → Type 0
 IsRunAnswer name a old_in new_in old new untouched end =
-    IsRun name a old_in new_in old new untouched end ⊎ IsUnread old_in new_in untouched end
+    AnswersInput name a old_in new_in old new untouched end ⊎ IsUnread old_in new_in untouched end

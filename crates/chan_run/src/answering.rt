@@ -3,7 +3,8 @@
 ghost use Rattle.std.specs.Prelude.{◌≡◌, ◌↔◌, ◌+◌, ◌≤◌, ◌^◌, false, length, true};
 ghost use Rattle.std.specs.Io.KnownBytes.{Appends};
 ghost use Rattle.ccw_core.specs.Written.{AppendsPrefix};
-ghost use Rattle.chan_run.specs.Answer.{IsAnswered, IsExplainedImage, IsImageHandled, IsTold};
+ghost use Rattle.chan_run.specs.Answer.{IsAnswered, IsExplainedImage, IsImageHandled};
+ghost use Rattle.chan_run.specs.Answer.{IsSaidWithAdvice};
 ghost use Rattle.chan_run.specs.Naming.{name_in};
 ghost use Rattle.chan_run.specs.Report.{IsDone, IsWriteFailure, has_advice, line_over};
 ghost use Rattle.chan_run.specs.declared.failure.Failure.TheVariants as failures;
@@ -44,7 +45,7 @@ pub fn answer<R: Read, W: Write, E: Write>(
     ensures answer { IsAnswered (name_in name.entry) action (R.remaining from.old.device)
         (R.remaining from.new.device) (W.contents to.old.device) (W.contents to.new.device)
         (to.new ≡ to.old) result }
-    ensures told { IsTold (line_over (name_in name.entry) result) (has_advice action result)
+    ensures told { IsSaidWithAdvice (line_over (name_in name.entry) result) (has_advice action result)
         (E.contents errors.old.device) (E.contents errors.new.device) errors.new.failed }
     ensures flushed { IsDone result → to.new.flushed ≡ true }
     ensures read { result ≡ Failed failures.ReadFailed ↔ (from.new.failed ≡ true) }
@@ -71,7 +72,7 @@ fn tell<E: Write>(
     errors: &mut Watched<E>,
 ) -> Result<(), DeviceFault>
     requires { errors.old.failed ≡ false }
-    ensures { IsTold (line_over (name_in name.entry) outcome) is_advised
+    ensures { IsSaidWithAdvice (line_over (name_in name.entry) outcome) is_advised
         (E.contents errors.old.device) (E.contents errors.new.device) errors.new.failed }
 {
     write_line(name, outcome, errors)?;

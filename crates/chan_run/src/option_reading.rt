@@ -4,7 +4,7 @@ ghost use Rattle.std.specs.Prelude.{[], IfOk, unwrap_or};
 ghost use Rattle.std.specs.List.{All};
 ghost use Rattle.chan_args.specs.declared.image_words.ImageOption.TheVariants as options;
 ghost use Rattle.chan_deck.specs.Item.{IsArea};
-ghost use Rattle.chan_run.specs.OptionReading.{Gives, asked, extents_in, named, options_in};
+ghost use Rattle.chan_run.specs.OptionReading.{HoldsReading, asked, extents_in, named, options_in};
 ghost use Rattle.chan_run.specs.OptionReading.{read_each, read_if};
 ghost use Rattle.chan_run.specs.Options.{IsSize, area_in, extent_in, limit_in, said, size_in};
 
@@ -23,7 +23,7 @@ fn named<'a, T>(
     text: &'a str,
     answer: Result<T, &'a str>,
 ) -> Result<T, OptionError<'a>>
-    ensures { Gives (λ x. x) (named option text.entry.now (said answer.entry)) result }
+    ensures { HoldsReading (λ x. x) (named option text.entry.now (said answer.entry)) result }
 {
     match answer {
         Ok(value) => Ok(value),
@@ -37,7 +37,7 @@ fn areas_of<'a>(
     option: ImageOption,
     texts: &[&'a str],
 ) -> Result<Vec<Area>, OptionError<'a>>
-    ensures gives { Gives (λ areas. areas.items) (read_each area_in option [] texts.now) result }
+    ensures gives { HoldsReading (λ areas. areas.items) (read_each area_in option [] texts.now) result }
     ensures fit { IfOk result (λ areas. All IsArea areas.items) }
 {
     let mut areas = Vec::new(alloc);
@@ -50,7 +50,7 @@ fn areas_of<'a>(
 
 /// The pairs of cylinders that the texts of extents say.
 fn pairs_of<'a>(alloc: Global, texts: &[&'a str]) -> Result<Vec<(u16, u16)>, OptionError<'a>>
-    ensures { Gives (λ pairs. pairs.items) (read_each extent_in options.Extent [] texts.now)
+    ensures { HoldsReading (λ pairs. pairs.items) (read_each extent_in options.Extent [] texts.now)
         result }
 {
     let mut pairs = Vec::new(alloc);
@@ -63,7 +63,7 @@ fn pairs_of<'a>(alloc: Global, texts: &[&'a str]) -> Result<Vec<(u16, u16)>, Opt
 
 /// The extents that their texts say.
 fn extents_of<'a>(alloc: Global, texts: &[&'a str]) -> Result<Extents, OptionError<'a>>
-    ensures { Gives (λ extents. extents) (extents_in texts.now) result }
+    ensures { HoldsReading (λ extents. extents) (extents_in texts.now) result }
 {
     let texts = if texts.is_empty() { &[""] } else { texts };
     let pairs = pairs_of(alloc, texts)?;
@@ -73,7 +73,7 @@ fn extents_of<'a>(alloc: Global, texts: &[&'a str]) -> Result<Extents, OptionErr
 
 /// The limit that its text says, where there is one.
 fn limit_or_none<'a>(text: Option<&'a str>) -> Result<Option<Limit>, OptionError<'a>>
-    ensures { Gives (λ limit. limit) (read_if limit_in options.Limit text.entry) result }
+    ensures { HoldsReading (λ limit. limit) (read_if limit_in options.Limit text.entry) result }
 {
     match text {
         Some(text) => Ok(Some(named(ImageOption::Limit, text, limit_of(text))?)),
@@ -83,7 +83,7 @@ fn limit_or_none<'a>(text: Option<&'a str>) -> Result<Option<Limit>, OptionError
 
 /// The size of storage that its text says, where there is one.
 fn size_or_none<'a>(text: Option<&'a str>) -> Result<Option<u32>, OptionError<'a>>
-    ensures gives { Gives (λ size. size) (read_if size_in options.Storage text.entry) result }
+    ensures gives { HoldsReading (λ size. size) (read_if size_in options.Storage text.entry) result }
     ensures fits { IfOk result (λ size. IsSize (unwrap_or size 0)) }
 {
     match text {
@@ -102,7 +102,7 @@ pub fn options_of<'a>(
     alloc: Global,
     words: &ImageWords<'a>,
 ) -> Result<ImageOptions, OptionError<'a>>
-    ensures { Gives asked (options_in words.now) result }
+    ensures { HoldsReading asked (options_in words.now) result }
 {
     let device = named(ImageOption::Device, words.device, device_of(words.device))?;
     let mask = named(ImageOption::Mask, words.mask, mask_of(words.mask))?;

@@ -4,7 +4,7 @@ ghost use Rattle.std.specs.Prelude.{◌≡◌, ◌≤◌, ◌↔◌, ◌⊎◌, 
 ghost use Rattle.std.specs.Prelude.{IsErrOf, IsOk};
 ghost use Rattle.std.specs.Io.KnownBytes.{Appends, Keeps};
 ghost use Rattle.ccw_core.specs.Written.{AppendsPrefix};
-ghost use Rattle.chan_run.specs.Failure.{row_of};
+ghost use Rattle.chan_run.specs.Failure.{row_of_failure};
 ghost use Rattle.chan_run.specs.Naming.{name_in};
 ghost use Rattle.chan_run.specs.Report.{IsDone, IsEnd, IsWriteFailure, has_advice, line_over, ran};
 ghost use Rattle.chan_run.specs.Report.{shown, status_of, wrote};
@@ -293,7 +293,7 @@ fn write_failure<W: Write>(
 
 /// What the line of a failure says.
 fn line_of<'a>(failure: Failure) -> &'a str
-    ensures { result.now ≡ (row_of failure).line }
+    ensures { result.now ≡ (row_of_failure failure).line }
 {
     row(failure).2
 }

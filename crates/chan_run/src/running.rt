@@ -3,7 +3,7 @@
 ghost use Rattle.std.specs.Prelude.{◌≡◌, ◌↔◌, false, true, Err, IfErr, IfOk, IsErrOf, None};
 ghost use Rattle.chan_walk.specs.Offences.{first_verdict};
 ghost use Rattle.chan_run.specs.Naming.{name_in};
-ghost use Rattle.chan_run.specs.Run.{IsAnswerOn, IsInput, IsJobAnswer, IsPut, IsReadFault};
+ghost use Rattle.chan_run.specs.Run.{IsAnswerOn, IsInput, IsJobAnswer, IsWrittenOut, IsReadFault};
 ghost use Rattle.chan_run.specs.Run.{IsRunAnswer, IsTextAnswer, status_of_verdict};
 
 use crate::advising::{limit_text, notes_on};
@@ -94,7 +94,7 @@ pub(crate) fn write_answer<W: Write>(
 ) -> Result<Status, RunError>
     requires writer { to.old.failed ≡ false }
     requires answer { IsErrOf answer RunError.Write → ⊥ }
-    ensures put { IsPut answer (W.contents to.old.device) (W.contents to.new.device)
+    ensures put { IsWrittenOut answer (W.contents to.old.device) (W.contents to.new.device)
         (to.new ≡ to.old) result }
     ensures read { IsErrOf result RunError.Read → IsErrOf answer RunError.Read }
     ensures write { IsErrOf result RunError.Write ↔ (to.new.failed ≡ true) }

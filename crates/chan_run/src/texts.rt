@@ -4,7 +4,7 @@ ghost use Rattle.std.specs.Prelude.{◌≡◌, ◌↔◌, ◌≤◌, false, true
 ghost use Rattle.std.specs.Prelude.{OnOk};
 ghost use Rattle.std.specs.Io.KnownBytes.{Appends};
 ghost use Rattle.ccw_core.specs.Written.{AppendsPrefix};
-ghost use Rattle.chan_run.specs.Naming.{joined};
+ghost use Rattle.chan_run.specs.Naming.{concatenated};
 
 use arrayvec::ArrayString;
 use ccw_core::{DeviceFault, Watched, write_out};
@@ -16,9 +16,9 @@ use std::io::Write;
 pub(crate) fn write_texts<W: Write>(texts: &[&str], to: &mut Watched<W>) -> Result<(), DeviceFault>
     requires { to.old.failed ≡ false }
     ensures ok { OnOk result (Appends (W.contents to.old.device) (W.contents to.new.device)
-        (joined texts.now)) }
+        (concatenated texts.now)) }
     ensures prefix { AppendsPrefix (W.contents to.old.device) (W.contents to.new.device)
-        (joined texts.now) }
+        (concatenated texts.now) }
     ensures fault { IsErr result ↔ (to.new.failed ≡ true) }
 {
     match line_of(texts) {
@@ -29,8 +29,8 @@ pub(crate) fn write_texts<W: Write>(texts: &[&str], to: &mut Watched<W>) -> Resu
 
 /// Some texts, one after another; `None` if together they have more than 4,096 bytes.
 fn line_of(texts: &[&str]) -> Option<ArrayString<4096>>
-    ensures line { IfSome result (λ line. line.bytes ≡ joined texts.now) }
-    ensures room { length (joined texts.now) ≤ 4096 → IsSome result }
+    ensures line { IfSome result (λ line. line.bytes ≡ concatenated texts.now) }
+    ensures room { length (concatenated texts.now) ≤ 4096 → IsSome result }
 {
     let mut line = ArrayString::new();
     for text in texts {
@@ -46,9 +46,9 @@ fn line_of(texts: &[&str]) -> Option<ArrayString<4096>>
 fn write_each<W: Write>(texts: &[&str], to: &mut Watched<W>) -> Result<(), DeviceFault>
     requires { to.old.failed ≡ false }
     ensures ok { OnOk result (Appends (W.contents to.old.device) (W.contents to.new.device)
-        (joined texts.now)) }
+        (concatenated texts.now)) }
     ensures prefix { AppendsPrefix (W.contents to.old.device) (W.contents to.new.device)
-        (joined texts.now) }
+        (concatenated texts.now) }
     ensures fault { IsErr result ↔ (to.new.failed ≡ true) }
 {
     match texts {

@@ -36,13 +36,13 @@ pub record AreReachable (j : Job) (ps : List Place) : Type 0 where
   pub only : (p : Place) → Has ps p → IsReachable j p
 
 -- nothing stands twice
-abbrev pub AreApart : {X : Type 0} → List X → Type 0
-AreApart [] = Unit {0}
-AreApart (p ∷ ps) = (Has ps p → ⊥) × AreApart ps
+abbrev pub AreDistinct : {X : Type 0} → List X → Type 0
+AreDistinct [] = Unit {0}
+AreDistinct (p ∷ ps) = (Has ps p → ⊥) × AreDistinct ps
 
 -- there are more than n reachable places
 pub record HasMoreThan (j : Job) (n : ℕ) : Type 0 where
   pub places : List Place
-  pub apart : AreApart places
+  pub apart : AreDistinct places
   pub many : n < length places
   pub only : (p : Place) → Has places p → IsReachable j p

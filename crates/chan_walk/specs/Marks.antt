@@ -20,13 +20,13 @@ pub record HasWay (ps : List Place) (a w : ℕ) : Type 0 where
   pub entered : way_of place ≡ w
 
 -- the entry of a number
-abbrev pub entry_of : ℕ → Entry
-entry_of n =
+abbrev pub entry_numbered : ℕ → Entry
+entry_numbered n =
     if n == 0 then Fresh else if n == 1 then ChainIn else if n == 2 then ChainOut else ChainSearch
 
 -- the place at the address a that is entered in the way w
 abbrev pub place_at : ℕ → ℕ → Place
-place_at a w = record { address = a; entered = entry_of (w / 2); after_transfer = w % 2 == 1 }
+place_at a w = record { address = a; entered = entry_numbered (w / 2); after_transfer = w % 2 == 1 }
 
 -- the marks, none where there is no entry
 abbrev pub or_none : Option ℕ → ℕ

@@ -7,7 +7,7 @@ use Rattle.chan_walk.specs.declared.job.Job.{Job}
 use Rattle.chan_walk.specs.declared.place.Place.{Place}
 use Rattle.chan_walk.specs.declared.successor.Next.{Next}
 use Rattle.chan_walk.specs.Argument.{Has}
-use Rattle.chan_walk.specs.Explored.{AreApart}
+use Rattle.chan_walk.specs.Explored.{AreDistinct}
 use Rattle.chan_walk.specs.Fault.{IsClear}
 use Rattle.chan_walk.specs.Look.{AreLooks, places_of_looks}
 use Rattle.chan_walk.specs.Marks.{HasMark}
@@ -50,7 +50,7 @@ Overflows n (Some p) ps = (Has ps p → ⊥) × (n ≤ length ps)
 pub record IsWalked (j : Job) (n : ℕ) (ps : List Place) (i : ℕ) : Type 0 where
   pub few : length ps ≤ n
   pub within : i ≤ length ps
-  pub apart : AreApart ps
+  pub apart : AreDistinct ps
   pub begins : Has ps (first_place j)
   pub only : (p : Place) → Has ps p → IsReachable j p
   pub closed : (k : ℕ) (p q : Place) → k < i → slice_get ps k ≡ Some p → Follows j p q → Has ps q

@@ -3,7 +3,7 @@
 ghost use Rattle.std.specs.Prelude.{◌≡◌, ◌↔◌, map, IfOk, IsTrue, OnOk};
 ghost use Rattle.std.specs.List.Sorted.{IsStrictlyIncreasing};
 ghost use Rattle.chan_walk.specs.Argument.{Has};
-ghost use Rattle.chan_walk.specs.Explored.{AreApart};
+ghost use Rattle.chan_walk.specs.Explored.{AreDistinct};
 ghost use Rattle.chan_walk.specs.Fault.{IsClear};
 ghost use Rattle.chan_walk.specs.Guard.{Guards};
 ghost use Rattle.chan_walk.specs.Least.{AreReached, IsOwn};
@@ -54,7 +54,7 @@ pub(crate) fn offences_of(
 ) -> Result<Vec<Offence>, AllocError>
     requires looks { (j : Job) × AreLooks j looks.now × AreReached j (places_of_looks looks.now)
         × Guards j guard.now }
-    requires apart { AreApart (places_of_looks looks.now) }
+    requires apart { AreDistinct (places_of_looks looks.now) }
     ensures { IfOk result (λ v. (j : Job) → AreLooks j looks.now
         → AreReached j (places_of_looks looks.now) → Guards j guard.now → AreOffences j v.items) }
 {
@@ -64,7 +64,7 @@ pub(crate) fn offences_of(
 
 /// The same offences, not in order yet.
 fn unordered(alloc: Global, guard: &Guard, looks: &[Look]) -> Result<Vec<Offence>, AllocError>
-    requires { AreApart (places_of_looks looks.now) }
+    requires { AreDistinct (places_of_looks looks.now) }
     ensures { IfOk result (λ v. (j : Job) → AreLooks j looks.now
         → AreReached j (places_of_looks looks.now) → Guards j guard.now
         → AreAllOffences j v.items) }
@@ -79,7 +79,7 @@ fn unordered(alloc: Global, guard: &Guard, looks: &[Look]) -> Result<Vec<Offence
 /// The own faults of the places that were looked at.
 #[tactic(auto, using(crate::proofs::Algorithms::Listing::offences_none))]
 fn faults_of(alloc: Global, looks: &[Look]) -> Result<Vec<Offence>, AllocError>
-    requires { AreApart (places_of_looks looks.now) }
+    requires { AreDistinct (places_of_looks looks.now) }
     ensures { IfOk result (λ v. (j : Job) → AreLooks j looks.now
         → HasOffences (IsOwn j) (places_of_looks looks.now) v.items) }
 {
@@ -107,7 +107,7 @@ fn add_fault(faults: &mut Vec<Offence>, look: &Look) -> Result<(), AllocError>
 /// What the places that were looked at, none of which has an own fault, change that is guarded.
 #[tactic(auto, using(crate::proofs::Algorithms::Listing::offences_none))]
 fn changes_of(alloc: Global, guard: &Guard, looks: &[Look]) -> Result<Vec<Offence>, AllocError>
-    requires { AreApart (places_of_looks looks.now) }
+    requires { AreDistinct (places_of_looks looks.now) }
     ensures { IfOk result (λ v. (j : Job) → AreLooks j looks.now
         → AreReached j (places_of_looks looks.now) → Guards j guard.now → AreClear j
         → HasOffences (Changes j) (places_of_looks looks.now) v.items) }
@@ -155,7 +155,7 @@ fn stores_into(areas: &[Area], look: &Look) -> bool
 /// The same offences, in order.
 #[tactic(auto, using(crate::proofs::Algorithms::Listing::same_offences))]
 fn in_order(offences: Vec<Offence>) -> Vec<Offence>
-    requires { AreApart offences.items }
+    requires { AreDistinct offences.items }
     ensures ordered { IsStrictlyIncreasing (map listed.offence_number result.items) }
     ensures same { (o : declared.Offence) → Has result.items o ↔ Has offences.items o }
 {

@@ -3,7 +3,7 @@
 ghost use Rattle.std.specs.Prelude.{◌≡◌, ◌↔◌, map};
 ghost use Rattle.std.specs.List.Sorted.{IsStrictlyIncreasing};
 ghost use Rattle.chan_walk.specs.Argument.{Has};
-ghost use Rattle.chan_walk.specs.Explored.{AreApart, AreReachable, place_number};
+ghost use Rattle.chan_walk.specs.Explored.{AreDistinct, AreReachable, place_number};
 ghost use Rattle.chan_walk.specs.Look.{AreLooks, Seen, places_of_looks};
 ghost use Rattle.chan_walk.specs.Offences.{first_verdict};
 ghost use Rattle.chan_walk.specs.Surveyed.{IsSurvey};
@@ -68,7 +68,7 @@ impl Survey {
 /// The same looks, in order of place.
 #[tactic(auto, using(crate::proofs::Algorithms::Sorting::same_looks))]
 fn in_order(looks: Vec<Look>) -> Vec<Look>
-    requires { AreApart (places_of_looks looks.items) }
+    requires { AreDistinct (places_of_looks looks.items) }
     ensures ordered { IsStrictlyIncreasing (map place_number (places_of_looks result.items)) }
     ensures same { (l : Seen) → Has result.items l ↔ Has looks.items l }
 {

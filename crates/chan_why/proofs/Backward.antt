@@ -1,5 +1,7 @@
 -- Reading a path backwards, from a place to the one that it was found from.
-use Rattle.std.proofs.Common.{◌≡◌, Bool, true, eqb, ◌&&◌, ℕ, ◌<◌, List, [], ◌∷◌, ◌++◌, append_assoc, length, reverse, slice_index, Option, Some, refl, sym, ap, ◌∙◌, subst, arith, rules}
+use Rattle.std.proofs.Common.{◌≡◌, Bool, true, eqb, ◌&&◌, ℕ, ◌<◌, List, [], ◌∷◌, ◌++◌, append_assoc}
+use Rattle.std.proofs.Common.{length, reverse, slice_index, Option, Some, refl, sym, ap, ◌∙◌, subst}
+use Rattle.std.proofs.Common.{arith, rules}
 use Rattle.std.specs.List.{slice_get}
 use Rattle.std.proofs.lemmas.Bool.{and_from, eq-eqb}
 use Rattle.chan_walk.specs.declared.exploring.Walk.{Walk}

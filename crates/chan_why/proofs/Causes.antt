@@ -1,5 +1,7 @@
 -- What it says of a place that it offends by a reason.
-use Rattle.std.proofs.Common.{◌≡◌, ℕ, ◌+◌, ◌≤◌, Bool, true, false, not, ◌&&◌, ◌||◌, List, length, Option, Some, None, is_none, refl, sym, ◌∙◌, subst, ◌⊎◌, inl, inr, arith, rules}
+use Rattle.std.proofs.Common.{◌≡◌, ℕ, ◌+◌, ◌≤◌, Bool, true, false, not, ◌&&◌, ◌||◌, List, length}
+use Rattle.std.proofs.Common.{Option, Some, None, is_none, refl, sym, ◌∙◌, subst, ◌⊎◌, inl, inr}
+use Rattle.std.proofs.Common.{arith, rules}
 use Rattle.std.proofs.lemmas.Grind.{common_steps}
 use Rattle.std.proofs.lemmas.Bool.{and_parts, both_ways, cases_Bool, not-false, not-true, or_cases}
 use Rattle.ccw_core.specs.declared.areas.Area.{Area}
@@ -13,14 +15,21 @@ use Rattle.ckd_core.specs.Cylinders.{has_cylinder}
 use Rattle.chan_walk.specs.declared.job.Job.{Job}
 use Rattle.chan_walk.specs.declared.place.Place.{Place}
 use Rattle.chan_walk.specs.declared.reason.Reason.{Reason}
-use Rattle.chan_walk.specs.declared.reason.Reason.TheVariants.{Misaligned, OutsideStorage, TransferNotAllowed, InvalidCode, BadFormat, ZeroCount, DataOutside, NotInTable, Inhibited, StoreNotLent, FetchNotLent, ShortSeek, SeekOutside, ChangesCcw, ChangesArgument, WeakensMask}
+use Rattle.chan_walk.specs.declared.reason.Reason.TheVariants.{Misaligned, OutsideStorage}
+use Rattle.chan_walk.specs.declared.reason.Reason.TheVariants.{TransferNotAllowed, InvalidCode}
+use Rattle.chan_walk.specs.declared.reason.Reason.TheVariants.{BadFormat, ZeroCount, DataOutside}
+use Rattle.chan_walk.specs.declared.reason.Reason.TheVariants.{NotInTable, Inhibited, StoreNotLent}
+use Rattle.chan_walk.specs.declared.reason.Reason.TheVariants.{FetchNotLent, ShortSeek, SeekOutside}
+use Rattle.chan_walk.specs.declared.reason.Reason.TheVariants.{ChangesCcw, ChangesArgument}
+use Rattle.chan_walk.specs.declared.reason.Reason.TheVariants.{WeakensMask}
 use Rattle.chan_walk.specs.Argument.{HasArgument}
 use Rattle.chan_walk.specs.Check.{check, check_of, first_reason, table_of_every_ccw}
 use Rattle.chan_why.specs.Evidence.{FailsToSeek, IsArgumentIn, IsCcwIn}
 use Rattle.chan_areas.specs.Ranges.{IsFirstGap}
 use Rattle.chan_walk.specs.Seeks.{SeeksTo}
 use Rattle.chan_walk.specs.Place.{data_at}
-use Rattle.chan_walk.specs.Fault.{HasFault, allows, begins_recalibrate, begins_seek, begins_set_mask, is_refused, table_of_own}
+use Rattle.chan_walk.specs.Fault.{HasFault, allows, begins_recalibrate, begins_seek}
+use Rattle.chan_walk.specs.Fault.{begins_set_mask, is_refused, table_of_own}
 use Rattle.chan_walk.specs.Guarded.{IsArgumentByte, IsCcwByte}
 use Rattle.chan_walk.specs.Job.{extents_of, fetch_of, heads, storage_of, store_of}
 use Rattle.chan_walk.specs.Machine.{home}
@@ -30,7 +39,8 @@ use Rattle.chan_walk.specs.Reachable.{IsReachable}
 use Rattle.chan_walk.specs.Verdict.{AreClear, Offends, StoresOver}
 use Rattle.chan_walk.proofs.Theory.Areas.{allows_home, home_refused}
 use Rattle.chan_walk.proofs.Theory.Chains.{argument_unique}
-use Rattle.chan_walk.proofs.Theory.Checks.{Cases, check_stands, cond_none, each_case, first_case, table_case}
+use Rattle.chan_walk.proofs.Theory.Checks.{Cases, check_stands, cond_none, each_case, first_case}
+use Rattle.chan_walk.proofs.Theory.Checks.{table_case}
 use Rattle.chan_walk.proofs.Theory.Commands.{seek_no_recalibrate}
 use Rattle.chan_walk.proofs.Theory.Faults.{clear_check}
 use Rattle.chan_walk.proofs.Theory.OwnFaults.{data_in_storage}

@@ -1,5 +1,7 @@
 -- What a store changes, among the places that were looked at.
-use Rattle.std.proofs.Common.{◌≡◌, ℕ, ◌+◌, ◌-◌, ◌%◌, ◌<◌, ◌≤◌, true, false, List, [], length, get_or, Option, Some, None, IsSome, refl, sym, subst, ◌⊎◌, inl, inr, ◌↔◌, arith, rules}
+use Rattle.std.proofs.Common.{◌≡◌, ℕ, ◌+◌, ◌-◌, ◌%◌, ◌<◌, ◌≤◌, true, false, List, [], length}
+use Rattle.std.proofs.Common.{get_or, Option, Some, None, IsSome, refl, sym, subst, ◌⊎◌, inl, inr}
+use Rattle.std.proofs.Common.{◌↔◌, arith, rules}
 use Rattle.std.proofs.lemmas.Bool.{cases_Bool, cases_lt, eqb-true}
 use Rattle.ccw_core.specs.declared.areas.Area.{Area}
 use Rattle.ccw_core.specs.Areas.{lies_in}
@@ -10,9 +12,10 @@ use Rattle.chan_walk.specs.declared.job.Job.{Job}
 use Rattle.chan_walk.specs.declared.place.Place.{Place}
 use Rattle.ccw_core.specs.Ccw.{Fields}
 use Rattle.ccw_core.specs.Storage.{Stands, is_aligned}
-use Rattle.chan_why.specs.Changed.{IsFirstChanged}
+use Rattle.chan_why.specs.Changed.{IsSecondPathEnd}
 use Rattle.chan_walk.specs.declared.seek.GivenBytes.{GivenBytes}
-use Rattle.chan_why.specs.Evidence.{IsArgumentAt, IsArgumentIn, IsCause, IsCcwIn, IsSecondPath, IsTakenAt}
+use Rattle.chan_why.specs.Evidence.{IsArgumentAt, IsArgumentIn, IsCause, IsCcwIn, IsSecondPath}
+use Rattle.chan_why.specs.Evidence.{IsTakenAt}
 use Rattle.chan_areas.specs.Ranges.{IsLeastOf, IsLeastOrNone}
 use Rattle.chan_walk.specs.declared.look.Read.{Read}
 use Rattle.chan_walk.specs.declared.look.Read.TheVariants as read
@@ -135,17 +138,17 @@ first_within P ls i h = within_looks ls h.0.0 i h.0.1
 -- ---- the second path
 
 module _ (j : Job) (w : Walk) (f : HasFound j w) where
-  pub second_found : (e : Evidence) (i : ℕ) (places : List Place) → IsFirstChanged j e (places_of_looks w.looks.items) (Some i) → IsPathAt j (places_of_looks w.looks.items) i places → IsSecondPath j e places
+  pub second_found : (e : Evidence) (i : ℕ) (places : List Place) → IsSecondPathEnd j e (places_of_looks w.looks.items) (Some i) → IsPathAt j (places_of_looks w.looks.items) i places → IsSecondPath j e places
   second_found (because.ChangesCcw d a) i places n at = path_where j w f (λ q. q.address ≡ a) i places n at
   second_found (because.ChangesArgument d b t s) i places n at = path_where j w f (λ q. IsArgumentByteOf j q b) i places n at
   second_found e i places n at = absurd (cc)
 
-  pub none_found : (e : Evidence) (p : Place) (places : List Place) → IsCause j p e → IsFirstChanged j e (places_of_looks w.looks.items) None → places ≡ [] → IsSecondPath j e places
+  pub none_found : (e : Evidence) (p : Place) (places : List Place) → IsCause j p e → IsSecondPathEnd j e (places_of_looks w.looks.items) None → places ≡ [] → IsSecondPath j e places
   none_found (because.ChangesCcw d a) p places h n is = absurd (reached_at j w f (λ q. q.address ≡ a) n h.1.0.place h.1.0.reached h.1.0.address)
   none_found (because.ChangesArgument d b t s) p places h n is = absurd (reached_at j w f (λ q. IsArgumentByteOf j q b) n h.1.0.argument.place h.1.0.argument.reached (takes_of j b h.1.0.argument))
   none_found e p places h n is = is
 
-  pub changed_within : (e : Evidence) (i : ℕ) → IsFirstChanged j e (places_of_looks w.looks.items) (Some i) → i < length w.looks.items
+  pub changed_within : (e : Evidence) (i : ℕ) → IsSecondPathEnd j e (places_of_looks w.looks.items) (Some i) → i < length w.looks.items
   changed_within (because.ChangesCcw d a) i n = first_within (λ q. q.address ≡ a) w.looks.items i n
   changed_within (because.ChangesArgument d b t s) i n = first_within (λ q. IsArgumentByteOf j q b) w.looks.items i n
   changed_within e i n = absurd (cc)

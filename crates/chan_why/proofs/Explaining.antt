@@ -1,5 +1,7 @@
 -- The path to a place that offends by the verdict's reason.
-use Rattle.std.proofs.Common.{◌≡◌, ℕ, zero, suc, ◌<◌, List, [], ◌∷◌, ◌++◌, take, length, get_or, reverse, slice_get, Option, Some, None, IsSome, true, false, refl, sym, ap, ◌∙◌, subst, inl, arith}
+use Rattle.std.proofs.Common.{◌≡◌, ℕ, zero, suc, ◌<◌, List, [], ◌∷◌, ◌++◌, take, length, get_or}
+use Rattle.std.proofs.Common.{reverse, slice_get, Option, Some, None, IsSome, true, false, refl}
+use Rattle.std.proofs.Common.{sym, ap, ◌∙◌, subst, inl, arith}
 use Rattle.std.specs.List.{AllZip}
 use Rattle.chan_why.specs.declared.evidence.Evidence.{Evidence}
 use Rattle.chan_walk.specs.declared.exploring.Walk.{Walk}
@@ -8,7 +10,8 @@ use Rattle.chan_walk.specs.declared.offence.Offence.{Offence}
 use Rattle.chan_walk.specs.declared.place.Place.{Place}
 use Rattle.chan_walk.specs.Alarm.{EachPathShows, IsProper}
 use Rattle.chan_walk.specs.Argument.{Has}
-use Rattle.chan_why.specs.Explained.{IsCauseOf, IsEvidenceOf, IsLike, IsPathOf, IsStoredBefore, IsStoredOver, IsWitness, OffendsAt}
+use Rattle.chan_why.specs.Explained.{IsCauseOf, IsEvidenceOf, IsLike, IsPathOf, IsStoredBefore}
+use Rattle.chan_why.specs.Explained.{IsStoredOver, IsWitness, OffendsAt}
 use Rattle.chan_walk.specs.declared.reason.Reason.{Reason}
 use Rattle.chan_walk.specs.declared.verdict.Verdict.TheVariants.{No}
 use Rattle.chan_walk.specs.Reason.{is_no_command}

@@ -1,5 +1,7 @@
 -- Indexes of what a walk has looked at.
-use Rattle.std.proofs.Common.{◌≡◌, ℕ, zero, suc, ◌+◌, ◌*◌, ◌<◌, ◌≤◌, List, [], ◌∷◌, length, get_or, slice_get, Option, Some, None, IsSome, refl, sym, ap, ◌∙◌, subst, ◌⊎◌, inl, inr, ◌↔◌, arith, rules}
+use Rattle.std.proofs.Common.{◌≡◌, ℕ, zero, suc, ◌+◌, ◌*◌, ◌<◌, ◌≤◌, List, [], ◌∷◌, length, get_or}
+use Rattle.std.proofs.Common.{slice_get, Option, Some, None, IsSome, refl, sym, ap, ◌∙◌, subst, ◌⊎◌}
+use Rattle.std.proofs.Common.{inl, inr, ◌↔◌, arith, rules}
 use Rattle.std.specs.Ordering.{nat_cmp}
 use Rattle.std.specs.BTreeMap.{BTreeMap}
 use Rattle.std.specs.BTreeMap as tree
@@ -8,8 +10,9 @@ use Rattle.chan_walk.specs.declared.offence.Offence.{Offence}
 use Rattle.chan_walk.specs.declared.place.Place.{Place}
 use Rattle.chan_walk.specs.Argument.{Has}
 use Rattle.chan_areas.specs.Ranges.{IsLeastOf, IsLeastOrNone}
-use Rattle.chan_walk.specs.Explored.{AreApart, place_number}
-use Rattle.chan_why.specs.Index.{IsAtPlace, IsIndex, IsLesserOf, IsOfKind, KeepsLeast, TakesByte, TakesSoFar, kind_number}
+use Rattle.chan_walk.specs.Explored.{AreDistinct, place_number}
+use Rattle.chan_why.specs.Index.{IsAtPlace, IsIndex, IsLesserOf, IsOfKind, KeepsLeast, TakesByte}
+use Rattle.chan_why.specs.Index.{TakesSoFar, kind_number}
 use Rattle.chan_walk.specs.Look.{AreLooks, Seen, places_of_looks}
 use Rattle.chan_walk.specs.declared.job.Job.{Job}
 use Rattle.chan_walk.specs.declared.reason.Reason.{Reason}
@@ -165,7 +168,7 @@ some_place ls p None none h =
     absurd (none k.0 (omega (arith, k.1, number_of_places ls), (l.0, l.1, ap place_number (sym l.2))))
 some_place ls p (Some b) is h = refl
 
-module _ (ls : List Seen) (apart : AreApart (places_of_looks ls)) (os : List Offence) (i : ℕ) (o d : Offence) (h : i < length os) (is : o ≡ get_or os i d) (at : ℕ) (found : IsLeastOf (IsAtPlace ls (length ls) (place_number o.place)) at) where
+module _ (ls : List Seen) (apart : AreDistinct (places_of_looks ls)) (os : List Offence) (i : ℕ) (o d : Offence) (h : i < length os) (is : o ≡ get_or os i d) (at : ℕ) (found : IsLeastOf (IsAtPlace ls (length ls) (place_number o.place)) at) where
   there : slice_get os i ≡ Some o
   there = slice_get-get_or os i d h ∙ ap Some (sym is)
 

@@ -1,5 +1,7 @@
 -- Notes: areas lent in vain, and the addresses of CCWs that pass a test.
-use Rattle.std.proofs.Common.{◌≡◌, ℕ, zero, suc, ◌+◌, ◌<◌, ◌≤◌, Bool, true, false, not, ◌||◌, IsTrue, List, [], ◌∷◌, ◌++◌, append-nil, length, get_or, take, sym, ap, ◌∙◌, subst, ◌⊎◌, inl, inr, ◌↔◌, arith, eqb, rules}
+use Rattle.std.proofs.Common.{◌≡◌, ℕ, zero, suc, ◌+◌, ◌<◌, ◌≤◌, Bool, true, false, not, ◌||◌}
+use Rattle.std.proofs.Common.{IsTrue, List, [], ◌∷◌, ◌++◌, append-nil, length, get_or, take, sym}
+use Rattle.std.proofs.Common.{ap, ◌∙◌, subst, ◌⊎◌, inl, inr, ◌↔◌, arith, eqb, rules}
 use Rattle.std.proofs.lemmas.Grind.{common_steps}
 use Rattle.std.specs.List.{dedup, filter}
 use Rattle.std.specs.List.Sorted.{IsPermutation, IsStrictlyIncreasing}
@@ -19,7 +21,8 @@ use Rattle.chan_walk.specs.Argument.{Has}
 use Rattle.chan_walk.specs.Fault.{kind_of, kind_of_command}
 use Rattle.chan_walk.specs.Least.{AreReached}
 use Rattle.chan_walk.specs.Look.{IsLook, Seen}
-use Rattle.chan_why.specs.Notes.{AddsAddress, AreAddressesOf, AreUnused, AreUsed, IsMachineByte, IsSeenWith, IsUsed, NothingFollows}
+use Rattle.chan_why.specs.Notes.{AddsAddress, AreAddressesOf, AreUnused, AreUsed, IsMachineByte}
+use Rattle.chan_why.specs.Notes.{IsSeenWith, HasUsedByte, NothingFollows}
 use Rattle.chan_walk.specs.Moved.{HoldData, IsDataOf, Passes}
 use Rattle.chan_walk.specs.Place.{is_fresh, ccw_of}
 use Rattle.chan_areas.specs.Ranges.{IsByteOf, Meets}
@@ -57,10 +60,10 @@ abbrev pub misses : List Area → Area → Bool
 misses used a = not (meets_any used a.start a.len)
 
 -- an area meets the bytes exactly where it has one of them
-right : (used : List Area) (a : Area) → (meets_any used a.start a.len ≡ true) ↔ IsUsed (λ b. lies_in used b ≡ true) a
+right : (used : List Area) (a : Area) → (meets_any used a.start a.len ≡ true) ↔ HasUsedByte (λ b. lies_in used b ≡ true) a
 right used a = (to, λ h. any_at used a.start a.len h.0 h.1 h.2 h.3)
   where
-    to : meets_any used a.start a.len ≡ true → IsUsed (λ b. lies_in used b ≡ true) a
+    to : meets_any used a.start a.len ≡ true → HasUsedByte (λ b. lies_in used b ≡ true) a
     to h = let m = any_meets used a.start a.len h in (m.at, m.from, m.below, m.lies)
 
 -- the test that leaves the used areas

@@ -24,8 +24,8 @@ IsArgumentChange j range e =
     × IsLeastOf (IsArgumentIn j range) b × IsTakenAt j b taker argument
 
 -- the first of the places that the second path may lead to, or that there is none
-abbrev pub IsFirstChanged : Job → Evidence → List Place → Option ℕ → Type 0
-IsFirstChanged j (because.ChangesCcw range ccw) ps at = IsFirstWhere (λ q. q.address ≡ ccw) ps at
-IsFirstChanged j (because.ChangesArgument range b taker argument) ps at =
+abbrev pub IsSecondPathEnd : Job → Evidence → List Place → Option ℕ → Type 0
+IsSecondPathEnd j (because.ChangesCcw range ccw) ps at = IsFirstWhere (λ q. q.address ≡ ccw) ps at
+IsSecondPathEnd j (because.ChangesArgument range b taker argument) ps at =
     IsFirstWhere (λ q. IsArgumentByteOf j q b) ps at
-IsFirstChanged j _ ps at = at ≡ None
+IsSecondPathEnd j _ ps at = at ≡ None

@@ -30,13 +30,13 @@ abbrev pub reaches_past_storage : Job → Area → Bool
 reaches_past_storage j a = nat_lt (length (storage_of j)) (end_of a)
 
 -- the area has a byte that is used
-abbrev pub IsUsed : (ℕ → Type 0) → Area → Type 0
-IsUsed Used a = (b : ℕ) × (a.start ≤ b) × (b < end_of a) × Used b
+abbrev pub HasUsedByte : (ℕ → Type 0) → Area → Type 0
+HasUsedByte Used a = (b : ℕ) × (a.start ≤ b) × (b < end_of a) × Used b
 
 -- the second list has the areas of the first that are not used, in their order
 pub record AreUnused (Used : ℕ → Type 0) (areas unused : List Area) : Type 0 where
   pub is_used : Area → Bool
-  pub right : (a : Area) → (is_used a ≡ true) ↔ IsUsed Used a
+  pub right : (a : Area) → (is_used a ≡ true) ↔ HasUsedByte Used a
   pub are : unused ≡ filter (λ a. not (is_used a)) areas
 
 -- ---- CCWs
@@ -97,7 +97,7 @@ IsMachineByte b = ((0x18 ≤ b) × (b ≤ 0x47)) ⊎ ((0x50 ≤ b) × (b ≤ 0x5
 -- the second list has the areas of the first that are used, in their order
 pub record AreUsed (Used : ℕ → Type 0) (areas used : List Area) : Type 0 where
   pub is_used : Area → Bool
-  pub right : (a : Area) → (is_used a ≡ true) ↔ IsUsed Used a
+  pub right : (a : Area) → (is_used a ≡ true) ↔ HasUsedByte Used a
   pub are : used ≡ filter is_used areas
 
 -- of the kept areas, which are the one merged list of the guarded bytes, these are the ones that

@@ -1,7 +1,7 @@
 //! What a store changes: the place to which a guarded byte belongs, and the path to it.
 
 ghost use Rattle.std.specs.Prelude.{◌≡◌, length, IfOk};
-ghost use Rattle.chan_why.specs.Changed.{IsFirstChanged};
+ghost use Rattle.chan_why.specs.Changed.{IsSecondPathEnd};
 ghost use Rattle.chan_why.specs.Evidence.{IsCause, IsSecondPath};
 ghost use Rattle.chan_why.specs.Index.{IsIndex, TakesByte};
 ghost use Rattle.chan_walk.specs.Look.{AreLooks, places_of_looks};
@@ -33,7 +33,7 @@ fn first_at(looks: &[Look], address: u32) -> Option<usize>
 fn changed_place(looks: &[Look], finder: &Finder, evidence: &Evidence) -> Option<usize>
     ensures { (j : Job) → AreLooks j looks.now
         → IsIndex (TakesByte looks.now (length looks.now)) finder.now.takers
-        → IsFirstChanged j evidence.now (places_of_looks looks.now) result }
+        → IsSecondPathEnd j evidence.now (places_of_looks looks.now) result }
 {
     match evidence {
         Evidence::ChangesCcw { ccw, .. } => first_at(looks, *ccw),

@@ -4,7 +4,7 @@ ghost use Rattle.std.specs.Prelude.{◌≡◌, ◌+◌, ◌<◌, length, IfOk, O
 ghost use Rattle.std.specs.BTreeMap as tree;
 ghost use Rattle.std.specs.Ordering.{nat_cmp};
 ghost use Rattle.chan_walk.specs.Argument.{Has};
-ghost use Rattle.chan_walk.specs.Explored.{AreApart};
+ghost use Rattle.chan_walk.specs.Explored.{AreDistinct};
 ghost use Rattle.chan_why.specs.Index.{Finds, IsAtPlace, IsIndex, IsLesserOf, IsOfKind};
 ghost use Rattle.chan_why.specs.Index.{KeepsLeast, TakesByte};
 ghost use Rattle.chan_why.specs.Index as index;
@@ -131,7 +131,7 @@ fn offenders_of(
     looks: &[Look],
     offences: &[Offence],
 ) -> Result<BTreeMap<u64, usize>, AllocError>
-    requires apart { AreApart (places_of_looks looks.now) }
+    requires apart { AreDistinct (places_of_looks looks.now) }
     requires seen { (o : declared.Offence) → Has offences.now o
         → Has (places_of_looks looks.now) o.place }
     ensures { IfOk result (IsIndex (IsOfKind looks.now offences.now (length offences.now))) }

@@ -11,7 +11,8 @@ use Rattle.chan_needs.specs.declared.starting.Start.TheVariants as answer
 use Rattle.chan_needs.specs.Remembered.{AreBeside, IsBeside, IsFit}
 use Rattle.chan_needs.specs.Rows.{Listed}
 use Rattle.chanv_c.specs.declared.starting.CProgram.{CProgram}
-use Rattle.chanv_c.specs.Starting.{AreApart, IsRememberedAs, as_in_flight, rows_told, start_code, start_told}
+use Rattle.chanv_c.specs.Starting.{SpareEachOther, IsRememberedAs, as_in_flight, rows_told}
+use Rattle.chanv_c.specs.Starting.{start_code, start_told}
 
 -- the number 0 is that of yes
 pub yes_by_code : (s : Start) → start_code s ≡ 0 → s ≡ answer.Yes
@@ -34,7 +35,7 @@ no_extent_told (answer.No (why.Beside i (way.Keeps b))) = refl
 
 -- what is fit alone, and apart from each in flight, is fit beside them
 pub fit_beside : (j : Job) (p : CProgram) (q : Remembered) (fs : List CProgram) → IsRememberedAs p q
-    → IsFit j q [] → All (AreApart p) fs → IsFit j q (map as_in_flight fs)
+    → IsFit j q [] → All (SpareEachOther p) fs → IsFit j q (map as_in_flight fs)
 fit_beside j p q fs is_so fit apart = record {
   program = fit.program;
   kept = fit.kept;

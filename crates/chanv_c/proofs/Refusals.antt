@@ -2,10 +2,13 @@
 use Rattle.std.proofs.Common.{◌≡◌, ◌≢◌, ◌<◌, ◌≤◌, ◌⊎◌, ℕ, refl, arith, inl, inr}
 use Rattle.chanv_c.specs.declared.asked.CJob.{CJob}
 use Rattle.chanv_c.specs.declared.refusal.JobFault.{JobFault}
-use Rattle.chanv_c.specs.declared.refusal.JobFault.TheVariants.{StorageTooLarge, NotADevice, NotAMask, NoExtent, ExtentBackwards, ExtentPastDevice, NotALimit, ReservedNotZero}
+use Rattle.chanv_c.specs.declared.refusal.JobFault.TheVariants.{StorageTooLarge, NotADevice}
+use Rattle.chanv_c.specs.declared.refusal.JobFault.TheVariants.{NotAMask, NoExtent, ExtentBackwards}
+use Rattle.chanv_c.specs.declared.refusal.JobFault.TheVariants.{ExtentPastDevice, NotALimit}
+use Rattle.chanv_c.specs.declared.refusal.JobFault.TheVariants.{ReservedNotZero}
 use Rattle.chanv_c.specs.declared.refusal.Refusal.{Refusal}
 use Rattle.chanv_c.specs.declared.refusal.Refusal.TheVariants.{TooManyPlaces, Memory, Wrong}
-use Rattle.chanv_c.specs.Answers.{IsNumber, IsRefusal, refusal_code, refusal_extent}
+use Rattle.chanv_c.specs.Answers.{IsAnswerCode, IsRefusal, refusal_code, refusal_extent}
 use Rattle.chanv_c.specs.Faults.{fault_code}
 
 -- a fault's number is from 4 to 12, and not that of too little room
@@ -29,7 +32,7 @@ memory_accepts_none n three (inr room) = absurd (omega (arith, three, room))
 
 -- a refusal's number says why there is no answer
 pub refusal_number : (crowded : Type 0) (c : CJob) (r : Refusal) → IsRefusal crowded c r
-    → IsNumber crowded c (refusal_code r) (refusal_extent r)
+    → IsAnswerCode crowded c (refusal_code r) (refusal_extent r)
 refusal_number crowded c TooManyPlaces is = record {
   many = λ _. is.0;
   refused = λ four _. absurd (omega (arith, four));

@@ -12,13 +12,13 @@ use Rattle.chanv_c.specs.declared.asked.CJob.{CJob}
 use Rattle.chanv_c.specs.declared.refusal.Refusal.{Refusal}
 use Rattle.chanv_c.specs.declared.refusal.Refusal.TheVariants.{TooManyPlaces, Memory, Wrong}
 use Rattle.chanv_c.specs.declared.rows.CPlace.{CPlace}
-use Rattle.chanv_c.specs.Asked.{IsJobOf}
-use Rattle.chanv_c.specs.Faults.{HasNoFault, IsFirstFault, IsRefused, fault_code, fault_extent}
+use Rattle.chanv_c.specs.Asked.{IsAskedJob}
+use Rattle.chanv_c.specs.Faults.{HasNoFault, IsFirstFault, HasFaultCode, fault_code, fault_extent}
 
 -- the verdict on the job that C asks about, with all that an answer promises
 pub record IsJudged (c : CJob) (v : Verdict) : Type 0 where
   pub job : Job
-  pub asked : IsJobOf c job
+  pub asked : IsAskedJob c job
   pub answer : IsAnswer job v
 
 -- the verdict is no, with this address and the reason of this number
@@ -30,12 +30,12 @@ pub record IsDenied (c : CJob) (address number : ℕ) : Type 0 where
 -- more places are reachable than the limit
 pub record HasTooMany (c : CJob) : Type 0 where
   pub job : Job
-  pub asked : IsJobOf c job
+  pub asked : IsAskedJob c job
   pub many : HasMoreThan job c.limit
 
 -- the row of a place
-abbrev pub row : Place → CPlace
-row p =
+abbrev pub place_row : Place → CPlace
+place_row p =
     record {
       address = p.address;
       entered = entry_number p.entered;
@@ -45,7 +45,7 @@ row p =
 -- the reachable places, each once, in order; no more than the job's limit
 pub record AreFound (c : CJob) (places : List Place) : Type 0 where
   pub job : Job
-  pub asked : IsJobOf c job
+  pub asked : IsAskedJob c job
   pub are : AreReachable job places
   pub few : length places ≤ c.limit
 
@@ -60,7 +60,7 @@ pub record AreListed (c : CJob) (count : ℕ) (old new : List CPlace) : Type 0 w
   pub places : List Place
   pub found : AreFound c places
   pub count_is : length places ≡ count
-  pub rows : new ≡ map row places ++ drop count old
+  pub rows : new ≡ map place_row places ++ drop count old
 
 -- the number of a refusal in the header
 abbrev pub refusal_code : Refusal → ℕ
@@ -84,8 +84,8 @@ IsRefusal crowded c (Wrong f) = IsFirstFault c f
 -- what the number of an answer says, and the extent told with it: 2 that too many places are
 -- reachable, and from 4 on, but for 11, that the job has the fault of this number first. A job that
 -- has a fault gets no answer, nor is there too little room for one
-pub record IsNumber (crowded : Type 0) (c : CJob) (code extent : ℕ) : Type 0 where
+pub record IsAnswerCode (crowded : Type 0) (c : CJob) (code extent : ℕ) : Type 0 where
   pub many : code ≡ 2 → crowded
-  pub refused : 4 ≤ code → code ≢ 11 → IsRefused c code extent
+  pub refused : 4 ≤ code → code ≢ 11 → HasFaultCode c code extent
   pub accepted : (code < 3) ⊎ (code ≡ 11) → HasNoFault c
   pub last : code ≤ 12

@@ -23,7 +23,7 @@ device_number D2311 = 2311
 device_number D2314 = 2314
 
 -- the job is the one that C asks about, field by field
-pub record IsJobOf (c : CJob) (j : Job) : Type 0 where
+pub record IsAskedJob (c : CJob) (j : Job) : Type 0 where
   pub storage : storage_of j ≡ c.storage.now
   pub start : j.start ≡ c.start
   pub device : device_number j.device ≡ c.device

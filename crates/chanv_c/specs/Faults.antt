@@ -13,15 +13,15 @@ use Rattle.chanv_c.specs.Asked.{extents_asked}
 
 -- this is wrong with the job; of the extents only the first from the left that is wrong is named,
 -- counted from 0
-abbrev pub Applies : CJob → JobFault → Type 0
-Applies c StorageTooLarge = 16777216 < length c.storage.now
-Applies c NotADevice = (c.device ≢ 2311) × (c.device ≢ 2314)
-Applies c NotAMask = is_mask c.mask ≡ false
-Applies c NoExtent = extents_asked c ≡ []
-Applies c (ExtentBackwards i) = IsFirstWrong IsBackwards (extents_asked c) i
-Applies c (ExtentPastDevice i) = IsFirstWrong IsPastDevice (extents_asked c) i
-Applies c NotALimit = IsLimit c.limit → ⊥
-Applies c ReservedNotZero = c.reserved ≢ 0 ∷ 0 ∷ 0 ∷ 0 ∷ []
+abbrev pub HasJobFault : CJob → JobFault → Type 0
+HasJobFault c StorageTooLarge = 16777216 < length c.storage.now
+HasJobFault c NotADevice = (c.device ≢ 2311) × (c.device ≢ 2314)
+HasJobFault c NotAMask = is_mask c.mask ≡ false
+HasJobFault c NoExtent = extents_asked c ≡ []
+HasJobFault c (ExtentBackwards i) = IsFirstWrong IsBackwards (extents_asked c) i
+HasJobFault c (ExtentPastDevice i) = IsFirstWrong IsPastDevice (extents_asked c) i
+HasJobFault c NotALimit = IsLimit c.limit → ⊥
+HasJobFault c ReservedNotZero = c.reserved ≢ 0 ∷ 0 ∷ 0 ∷ 0 ∷ []
 
 -- the number of a fault in the header, by whose order the first fault is the one that counts
 abbrev pub fault_code : JobFault → ℕ
@@ -47,19 +47,19 @@ fault_extent ReservedNotZero = 0
 
 -- no fault with a number below n applies
 abbrev pub HasNoneBelow : CJob → ℕ → Type 0
-HasNoneBelow c n = (f : JobFault) → fault_code f < n → Applies c f → ⊥
+HasNoneBelow c n = (f : JobFault) → fault_code f < n → HasJobFault c f → ⊥
 
 -- nothing is wrong with the job
 abbrev pub HasNoFault : CJob → Type 0
-HasNoFault c = (f : JobFault) → Applies c f → ⊥
+HasNoFault c = (f : JobFault) → HasJobFault c f → ⊥
 
 -- the fault applies, and none before it
 pub record IsFirstFault (c : CJob) (f : JobFault) : Type 0 where
-  pub applies : Applies c f
+  pub applies : HasJobFault c f
   pub first : HasNoneBelow c (fault_code f)
 
 -- the first fault of the job has this number, and names this extent
-pub record IsRefused (c : CJob) (code extent : ℕ) : Type 0 where
+pub record HasFaultCode (c : CJob) (code extent : ℕ) : Type 0 where
   pub fault : JobFault
   pub code_is : fault_code fault ≡ code
   pub extent_is : fault_extent fault ≡ extent

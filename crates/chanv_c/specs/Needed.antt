@@ -17,7 +17,7 @@ use Rattle.chanv_c.specs.declared.needed.CNeeded.{CNeeded}
 use Rattle.chanv_c.specs.declared.needed.Found.{Found}
 use Rattle.chanv_c.specs.declared.needed.Found.TheVariants as found
 use Rattle.chanv_c.specs.declared.verifying.CVerdict.{CVerdict}
-use Rattle.chanv_c.specs.Asked.{IsJobOf}
+use Rattle.chanv_c.specs.Asked.{IsAskedJob}
 use Rattle.chanv_c.specs.Explained.{verdict_told}
 
 -- ---- the open job
@@ -25,7 +25,7 @@ use Rattle.chanv_c.specs.Explained.{verdict_told}
 -- this is the open job of the program that C asks about, with the limit that C names
 pub record IsOpenFor (c : CJob) (opened : Job) : Type 0 where
   pub job : Job
-  pub asked : IsJobOf c job
+  pub asked : IsAskedJob c job
   pub is_open : IsOpenJob job opened
 
 -- more places than the limit are reachable where all is granted

@@ -15,7 +15,8 @@ use Rattle.chan_needs.specs.declared.starting.Start.{Start}
 use Rattle.chan_needs.specs.declared.starting.Start.TheVariants as answer
 use Rattle.chan_areas.specs.Ranges.{IsLeastOf}
 use Rattle.chan_needs.specs.Remembered.{AreBeside, HasChanged, HoldsKept, IsConflict, IsFit}
-use Rattle.chan_needs.specs.Remembered.{IsInside, IsKeptIn, IsOfAnother, IsOfProgram, IsRefused}
+use Rattle.chan_needs.specs.Remembered.{IsInside, IsKeptIn, IsOfAnother, IsOfProgram}
+use Rattle.chan_needs.specs.Remembered.{IsStartRefusal}
 use Rattle.chan_needs.specs.Remembered.{StartsWell, bytes_in}
 use Rattle.chan_needs.specs.Rows.{Listed, rows_of}
 use Rattle.chanv_c.specs.declared.asked.CJob.{CJob}
@@ -23,7 +24,7 @@ use Rattle.chanv_c.specs.declared.starting.CProgram.{CProgram}
 use Rattle.chanv_c.specs.declared.starting.CRefusal.{CRefusal}
 use Rattle.chanv_c.specs.declared.starting.CRows.{CRows}
 use Rattle.chanv_c.specs.declared.starting.MayStart.{MayStart}
-use Rattle.chanv_c.specs.Asked.{IsJobOf, device_number, pair}
+use Rattle.chanv_c.specs.Asked.{IsAskedJob, device_number, pair}
 
 -- ---- what C remembers
 
@@ -73,8 +74,8 @@ pub record StandsFor (j : Job) (p : CProgram) (q : Remembered) : Type 0 where
   pub kept : q.kept.now ≡ p.kept.now
 
 -- neither program stores into a byte that the other keeps
-abbrev pub AreApart : CProgram → CProgram → Type 0
-AreApart p f = AreBeside (rows_told p.rows) (rows_told f.rows)
+abbrev pub SpareEachOther : CProgram → CProgram → Type 0
+SpareEachOther p f = AreBeside (rows_told p.rows) (rows_told f.rows)
 
 -- ---- whether a program may start
 
@@ -83,7 +84,7 @@ pub record MayStartUnder (j : Job) (p : CProgram) (fs : List CProgram) : Type 0 
   pub remembered : Remembered
   pub is_so : IsRememberedAs p remembered
   pub fit : IsFit j remembered []
-  pub apart : All (AreApart p) fs
+  pub apart : All (SpareEachOther p) fs
 
 -- why a program with an invalid mask is refused: for the mask, or for what comes before it
 abbrev pub IsRefusedUnmasked : Job → Remembered → core.Refusal → Type 0
@@ -105,7 +106,7 @@ pub record IsRefusedAlone (j : Job) (p : CProgram) (r : core.Refusal) : Type 0 w
   pub remembered : Remembered
   pub stands : StandsFor j p remembered
   pub refused :
-      ((is_mask p.rows.mask ≡ true) × IsRefused j remembered [] r)
+      ((is_mask p.rows.mask ≡ true) × IsStartRefusal j remembered [] r)
       ⊎ ((is_mask p.rows.mask ≡ false) × IsRefusedUnmasked j remembered r)
 
 -- the answer with nothing in flight
@@ -115,13 +116,13 @@ IsAnswerAlone j p answer.Yes =
 IsAnswerAlone j p (answer.No r) = IsRefusedAlone j p r
 
 -- f is number i of those in flight
-abbrev pub IsNumber : List CProgram → ℕ → CProgram → Type 0
-IsNumber fs i f = (i < length fs) × HoldsAt (λ (g : CProgram). g ≡ f) fs i
+abbrev pub IsListedAt : List CProgram → ℕ → CProgram → Type 0
+IsListedAt fs i f = (i < length fs) × HoldsAt (λ (g : CProgram). g ≡ f) fs i
 
 -- number i is the first in flight that the program isn't apart from, for this conflict
 abbrev pub IsFirstConflict : CProgram → List CProgram → ℕ → Conflict → Type 0
 IsFirstConflict p fs i c =
-    (f : CProgram) × IsNumber fs i f × AllWithin (AreApart p) fs 0 i
+    (f : CProgram) × IsListedAt fs i f × AllWithin (SpareEachOther p) fs 0 i
     × IsConflict (rows_told p.rows) (rows_told f.rows) c
 
 -- why a program is refused for one in flight: it may start but for that
@@ -167,19 +168,19 @@ start_told (answer.No r) = refusal_told r
 -- the answer for what C asks
 pub record IsStartOf (c : CJob) (p : CProgram) (fs : List CProgram) (s : Start) : Type 0 where
   pub job : Job
-  pub asked : IsJobOf c job
+  pub asked : IsAskedJob c job
   pub answer : IsStartUnder job p fs s
 
 -- if what C remembers is true, the program may start
 pub record StartsWellFor (c : CJob) (p : CProgram) (fs : List CProgram) : Type 0 where
   pub job : Job
-  pub asked : IsJobOf c job
+  pub asked : IsAskedJob c job
   pub remembered : Remembered
   pub is_so : IsRememberedAs p remembered
   pub well : StartsWell job remembered (map as_in_flight fs)
 
 -- the answer to the question, with what a yes says
-pub record IsStart (m : MayStart) (c : CJob) (s : Start) : Type 0 where
+pub record IsStartAnswer (m : MayStart) (c : CJob) (s : Start) : Type 0 where
   pub is : IsStartOf c m.program.now m.in_flight.now s
   pub well : s ≡ answer.Yes → StartsWellFor c m.program.now m.in_flight.now
 
@@ -192,7 +193,7 @@ SparesArea a f = (b : ℕ) → IsKeptIn (rows_told f.rows) a b → ⊥
 -- number i is the first that keeps a byte of the area, and b is the least such byte
 abbrev pub IsFirstKeeper : List CProgram → Area → ℕ → ℕ → Type 0
 IsFirstKeeper fs a i b =
-    (f : CProgram) × IsNumber fs i f × AllWithin (SparesArea a) fs 0 i
+    (f : CProgram) × IsListedAt fs i f × AllWithin (SparesArea a) fs 0 i
     × IsLeastOf (IsKeptIn (rows_told f.rows) a) b
 
 -- what is told of it

@@ -13,7 +13,7 @@ use Rattle.chan_walk.specs.Offences.{AreOffences, first_verdict}
 use Rattle.chan_deck.specs.Explanation.{explanation}
 use Rattle.chanv_c.specs.declared.asked.CJob.{CJob}
 use Rattle.chanv_c.specs.declared.telling.Told.{Told}
-use Rattle.chanv_c.specs.Asked.{IsJobOf}
+use Rattle.chanv_c.specs.Asked.{IsAskedJob}
 use Rattle.chanv_c.specs.Needed.{IsOpenFor}
 
 -- the verdict on a job, with all that an answer promises, and the text that explains it: of all
@@ -33,7 +33,7 @@ pub record IsTextOn (job : Job) (t : Told) : Type 0 where
 
 -- it is on the job that C asks about
 abbrev pub IsText : CJob → Told → Type 0
-IsText c t = (job : Job) × IsJobOf c job × IsTextOn job t
+IsText c t = (job : Job) × IsAskedJob c job × IsTextOn job t
 
 -- it is on the open job of the program that C asks about
 abbrev pub IsOpenText : CJob → Told → Type 0

@@ -3,7 +3,7 @@
 ghost use Rattle.std.specs.Prelude.{◌≡◌, ◌≢◌, map, IfOk, IfErr, IfSome, OnOk, MatchOption};
 ghost use Rattle.ccw_core.specs.Held.{bytes_held};
 ghost use Rattle.chanv_c.specs.Answers.{IsRefusal};
-ghost use Rattle.chanv_c.specs.Asked.{IsJobOf, IsReady, device_number, extents_asked, pair};
+ghost use Rattle.chanv_c.specs.Asked.{IsAskedJob, IsReady, device_number, extents_asked, pair};
 ghost use Rattle.chanv_c.specs.Faults.{HasNoFault, HasNoneBelow, IsFirstFault};
 
 use crate::refusal::{JobFault, Refusal};
@@ -159,7 +159,7 @@ impl<'a> Ready<'a> {
     /// The job that C asks about. Nothing is copied.
     pub(crate) fn job<'s>(&'s self, asked: &'s CJob<'s>) -> Job<'s>
         requires { IsReady asked.now self.now }
-        ensures { IsJobOf asked.now result }
+        ensures { IsAskedJob asked.now result }
     {
         Job {
             storage: self.parts.storage,

@@ -2,7 +2,7 @@
 
 ghost use Rattle.std.specs.Prelude.{◌≡◌, ◌≢◌, ◌<◌};
 ghost use Rattle.chan_walk.specs.declared.verdict.Verdict.TheVariants.{Yes};
-ghost use Rattle.chanv_c.specs.Answers.{HasTooMany, IsJudged, IsNumber};
+ghost use Rattle.chanv_c.specs.Answers.{HasTooMany, IsJudged, IsAnswerCode};
 ghost use Rattle.chanv_c.specs.Explained as specs;
 ghost use Rattle.chanv_c.specs.Explained.{AreInFront, IsRoomTooSmall, IsTold};
 ghost use Rattle.chanv_c.specs.Explained.{told_nothing, verdict_told};
@@ -55,7 +55,7 @@ pub extern "C" fn chanv_why(
     ensures room { result ≡ 11 → (x : declared.Found) × IsTold job.now x out.new
         × IsRoomTooSmall x path.old second_path.old }
     ensures kept { result ≢ 1 → (path.new ≡ path.old) × (second_path.new ≡ second_path.old) }
-    ensures number { IsNumber (HasTooMany job.now) job.now result out.new.verdict.extent }
+    ensures number { IsAnswerCode (HasTooMany job.now) job.now result out.new.verdict.extent }
     ensures nothing { result ≢ 1 → result ≢ 11 → out.new ≡ told_nothing out.new.verdict.extent }
     ensures no_extent { result < 4 → out.new.verdict.extent ≡ 0 }
 {
@@ -136,9 +136,9 @@ struct Why;
 
 impl Question<Found> for Why {
     ghost use Rattle.chanv_c.specs.Answers.{HasTooMany};
-    ghost use Rattle.chanv_c.specs.Explained.{IsExplanation};
+    ghost use Rattle.chanv_c.specs.Explained.{IsExplanationFor};
 
-    ghost holds = { λ _. IsExplanation };
+    ghost holds = { λ _. IsExplanationFor };
 
     ghost crowded = { HasTooMany };
 

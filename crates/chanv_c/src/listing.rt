@@ -1,7 +1,7 @@
 //! Which CCWs a channel program can come to.
 
 ghost use Rattle.std.specs.Prelude.{◌≡◌, ◌≢◌, ◌<◌, ◌≤◌, length};
-ghost use Rattle.chanv_c.specs.Answers.{AreListed, HasPlaces, HasTooMany, IsNumber};
+ghost use Rattle.chanv_c.specs.Answers.{AreListed, HasPlaces, HasTooMany, IsAnswerCode};
 
 use crate::asked::CJob;
 use crate::question::{Question, answer};
@@ -24,7 +24,7 @@ pub extern "C" fn chanv_list(
     ensures listed { result ≡ 0 → AreListed job.now count.new rows.old rows.new }
     ensures room { result ≡ 11 → HasPlaces job.now count.new × (length rows.old < count.new) }
     ensures kept { result ≢ 0 → rows.new ≡ rows.old }
-    ensures number { IsNumber (HasTooMany job.now) job.now result count.new }
+    ensures number { IsAnswerCode (HasTooMany job.now) job.now result count.new }
     ensures no_verdict { result ≢ 1 }
     ensures no_count { 2 ≤ result → result ≤ 3 → count.new ≡ 0 }
 {

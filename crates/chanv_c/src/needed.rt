@@ -8,8 +8,8 @@ ghost use Rattle.chan_needs.specs.Rows.{Listed, listed};
 ghost use Rattle.chan_walk.specs.Verdict.{IsVerdict};
 ghost use Rattle.chan_walk.specs.declared.error.WalkError.TheVariants as walk;
 ghost use Rattle.chan_walk.specs.declared.verdict.Verdict as declared;
-ghost use Rattle.chanv_c.specs.Answers.{IsNumber, IsRefusal};
-ghost use Rattle.chanv_c.specs.Asked.{IsJobOf};
+ghost use Rattle.chanv_c.specs.Answers.{IsAnswerCode, IsRefusal};
+ghost use Rattle.chanv_c.specs.Asked.{IsAskedJob};
 ghost use Rattle.chanv_c.specs.Faults.{HasNoFault};
 ghost use Rattle.chanv_c.specs.Needed.{AreToldNeeds, HasTooManyOpenly, HaveRoom, IsFound};
 ghost use Rattle.chanv_c.specs.Needed.{IsOpenFor, IsToldNo, StandFirst, run_row};
@@ -73,7 +73,7 @@ pub extern "C" fn chanv_needs(
         × (HaveRoom n extents.old fetch.old store.old keep.old → ⊥) }
     ensures left { result ≢ 0 → (extents.new ≡ extents.old) × (fetch.new ≡ fetch.old)
         × (store.new ≡ store.old) × (keep.new ≡ keep.old) }
-    ensures number { IsNumber (HasTooManyOpenly job.now) job.now result out.new.verdict.extent }
+    ensures number { IsAnswerCode (HasTooManyOpenly job.now) job.now result out.new.verdict.extent }
     ensures nothing { 2 ≤ result → result ≢ 11 → out.new
         ≡ told_alone (record { extent = out.new.verdict.extent; address = 0; reason = 0 }) }
     ensures no_extent { result < 4 → out.new.verdict.extent ≡ 0 }
@@ -175,7 +175,7 @@ impl Question<Found> for WhatIsNeeded {
 
 /// What is found of a program by its open job.
 fn found_on(alloc: Global, asked: &CJob<'_>, job: &Job, open: &Job) -> Result<Found, Refusal>
-    requires asked { IsJobOf asked.now job.now }
+    requires asked { IsAskedJob asked.now job.now }
     requires right { HasNoFault asked.now }
     requires open { IsOpenJob job.now open.now }
     requires verdict { (v : declared.Verdict) → IsVerdict open.now v

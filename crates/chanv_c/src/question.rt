@@ -13,7 +13,7 @@ use std::alloc::Global;
 pub(crate) trait Question<T> {
     ghost use Rattle.std.specs.Prelude.{IfErr, IfOk};
     ghost use Rattle.chanv_c.specs.Answers.{IsRefusal};
-    ghost use Rattle.chanv_c.specs.Asked.{IsJobOf};
+    ghost use Rattle.chanv_c.specs.Asked.{IsAskedJob};
     ghost use Rattle.chanv_c.specs.Faults.{HasNoFault};
     ghost use Rattle.chanv_c.specs.declared.asked.CJob as c;
 
@@ -25,7 +25,7 @@ pub(crate) trait Question<T> {
 
     /// Asks it of a job that is the one that C asks about.
     fn ask(&self, alloc: Global, asked: &CJob<'_>, job: &Job) -> Result<T, Refusal>
-        requires asked { IsJobOf asked.now job.now }
+        requires asked { IsAskedJob asked.now job.now }
         requires right { HasNoFault asked.now }
         ensures answer { IfOk result (holds self.now asked.now) }
         ensures refusal { IfErr result (IsRefusal (crowded asked.now) asked.now) };

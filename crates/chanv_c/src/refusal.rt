@@ -4,7 +4,7 @@ ghost use Rattle.std.specs.Prelude.{◌≡◌};
 ghost use Rattle.chan_walk.specs.Explored.{HasMoreThan};
 ghost use Rattle.chan_walk.specs.declared.error.WalkError.TheVariants as walk;
 ghost use Rattle.chanv_c.specs.Answers.{HasTooMany, IsRefusal, refusal_code, refusal_extent};
-ghost use Rattle.chanv_c.specs.Asked.{IsJobOf};
+ghost use Rattle.chanv_c.specs.Asked.{IsAskedJob};
 ghost use Rattle.chanv_c.specs.Faults.{HasNoFault, fault_code, fault_extent};
 
 use crate::asked::CJob;
@@ -95,7 +95,7 @@ impl Refusal {
 
 /// Why a call over the job that C asks about gave no answer.
 pub(crate) fn no_answer(_asked: &CJob<'_>, _job: &Job, error: WalkError) -> Refusal
-    requires asked { IsJobOf _asked.now _job.now }
+    requires asked { IsAskedJob _asked.now _job.now }
     requires right { HasNoFault _asked.now }
     requires many { error ≡ walk.TooManyPlaces → HasMoreThan _job.now _job.now.limit }
     ensures { IsRefusal (HasTooMany _asked.now) _asked.now result }

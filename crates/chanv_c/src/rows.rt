@@ -1,7 +1,7 @@
 //! The rows that C is told.
 
 ghost use Rattle.std.specs.Prelude.{◌≡◌, ◌≤◌, ◌++◌, drop, length, map};
-ghost use Rattle.chanv_c.specs.Answers.{row};
+ghost use Rattle.chanv_c.specs.Answers.{place_row};
 ghost use Rattle.chanv_c.specs.Needed.{StandFirst, run_row};
 
 use crate::asked::CExtent;
@@ -19,7 +19,7 @@ pub struct CPlace {
 
 /// The row of a place.
 fn row_of(place: Place) -> CPlace
-    ensures { result ≡ row place }
+    ensures { result ≡ place_row place }
 {
     CPlace {
         address: place.address,
@@ -36,7 +36,7 @@ fn row_of(place: Place) -> CPlace
 /// Writes the rows of the places, and leaves what is behind them as it is.
 pub(crate) fn write_rows(found: &Explored, rows: &mut [CPlace])
     requires { length found.now ≤ length rows.old }
-    ensures { rows.new ≡ map row found.now ++ drop (length found.now) rows.old }
+    ensures { rows.new ≡ map place_row found.now ++ drop (length found.now) rows.old }
 {
     for index in 0..found.len() {
         if let Some(place) = found.place(index) {
@@ -48,7 +48,7 @@ pub(crate) fn write_rows(found: &Explored, rows: &mut [CPlace])
 /// Writes the rows of the places of a path, and leaves what is behind them as it is.
 pub(crate) fn write_path(path: &[Place], rows: &mut [CPlace])
     requires { length path.now ≤ length rows.old }
-    ensures { rows.new ≡ map row path.now ++ drop (length path.now) rows.old }
+    ensures { rows.new ≡ map place_row path.now ++ drop (length path.now) rows.old }
 {
     for index in 0..path.len() {
         rows[index] = row_of(path[index]);

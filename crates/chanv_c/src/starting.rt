@@ -6,9 +6,10 @@ ghost use Rattle.chan_needs.specs.declared.starting.Start as declared;
 ghost use Rattle.chan_needs.specs.Remembered.{AreBeside, IsAnswerOf, IsConflict, WritesWell};
 ghost use Rattle.chan_needs.specs.declared.remembered.Remembered.{Remembered};
 ghost use Rattle.chan_needs.specs.Rows.{rows_of};
-ghost use Rattle.chanv_c.specs.Answers.{IsNumber};
+ghost use Rattle.chanv_c.specs.Answers.{IsAnswerCode};
 ghost use Rattle.chanv_c.specs.Asked.{device_number};
-ghost use Rattle.chanv_c.specs.Starting.{AreApart, IsAnswerAlone, IsFirstConflict, IsFirstKeeper};
+ghost use Rattle.chanv_c.specs.Starting.{SpareEachOther, IsAnswerAlone, IsFirstConflict};
+ghost use Rattle.chanv_c.specs.Starting.{IsFirstKeeper};
 ghost use Rattle.chanv_c.specs.Starting.{IsStartOf, SparesArea, StartsWellFor, as_in_flight};
 ghost use Rattle.chanv_c.specs.Starting.{keeper_told, nothing_told};
 ghost use Rattle.chanv_c.specs.Starting.{rows_told, start_code, start_told, unmasked};
@@ -75,7 +76,7 @@ pub extern "C" fn chanv_may_start(
     // If what is remembered is true, a program with a yes may start.
     ensures well { result ≡ 0 → StartsWellFor job.now program.now in_flight.now }
 
-    ensures number { IsNumber ⊥ job.now result out.new.extent }
+    ensures number { IsAnswerCode ⊥ job.now result out.new.extent }
     ensures room { result ≢ 11 }
     ensures nothing { 1 < result → out.new ≡ nothing_told out.new.extent }
     ensures no_extent { result < 4 → out.new.extent ≡ 0 }
@@ -183,9 +184,9 @@ struct MayStart<'a> {
 }
 
 impl<'a> Question<Start> for MayStart<'a> {
-    ghost use Rattle.chanv_c.specs.Starting.{IsStart};
+    ghost use Rattle.chanv_c.specs.Starting.{IsStartAnswer};
 
-    ghost holds = { IsStart };
+    ghost holds = { IsStartAnswer };
 
     ghost crowded = { λ _. ⊥ };
 
@@ -299,7 +300,7 @@ fn as_rows<'s>(rows: &'s CRows<'s>, mask: FileMask, extents: &'s [(u16, u16)]) -
 
 /// The first in flight that the program isn't apart from, and their conflict.
 fn first_conflict(program: &CProgram<'_>, in_flight: &[CProgram<'_>]) -> Option<(usize, Conflict)>
-    ensures { MatchOption result (All (AreApart program.now) in_flight.now)
+    ensures { MatchOption result (All (SpareEachOther program.now) in_flight.now)
         (λ f. IsFirstConflict program.now in_flight.now f.0 f.1) }
 {
     for i in 0..in_flight.len() {

@@ -3,7 +3,7 @@
 ghost use Rattle.std.specs.Prelude.{◌≡◌, ◌≢◌, ℕ, ◌<◌, ◌≤◌, ◌⊎◌, length, IfOk, IfErr};
 ghost use Rattle.chan_walk.specs.Explored.{HasMoreThan};
 ghost use Rattle.chan_walk.specs.declared.error.WalkError.TheVariants as walk;
-ghost use Rattle.chanv_c.specs.Answers.{HasTooMany, IsNumber};
+ghost use Rattle.chanv_c.specs.Answers.{HasTooMany, IsAnswerCode};
 ghost use Rattle.chanv_c.specs.declared.telling.Told as declared;
 ghost use Rattle.chanv_c.specs.Needed.{HasTooManyOpenly, StandFirst};
 ghost use Rattle.chanv_c.specs.Telling.{IsOpenText, IsText, IsTextOn, IsToldWhole, IsTooLong};
@@ -41,7 +41,7 @@ pub extern "C" fn chanv_text(
     ensures room { result ≡ 11 → (t : declared.Told) × IsText job.now t
         × IsTooLong t count.new buffer.old }
     ensures kept { 1 < result → buffer.new ≡ buffer.old }
-    ensures number { (extent : ℕ) × IsNumber (HasTooMany job.now) job.now result extent }
+    ensures number { (extent : ℕ) × IsAnswerCode (HasTooMany job.now) job.now result extent }
     ensures no_count { 1 < result → result ≢ 11 → count.new ≡ 0 }
 {
     match answer(alloc, &WhichText, job) {
@@ -68,7 +68,7 @@ pub extern "C" fn chanv_open_text(
     ensures room { result ≡ 11 → (t : declared.Told) × IsOpenText job.now t
         × IsTooLong t count.new buffer.old }
     ensures kept { 1 < result → buffer.new ≡ buffer.old }
-    ensures number { (extent : ℕ) × IsNumber (HasTooManyOpenly job.now) job.now result extent }
+    ensures number { (extent : ℕ) × IsAnswerCode (HasTooManyOpenly job.now) job.now result extent }
     ensures no_count { 1 < result → result ≢ 11 → count.new ≡ 0 }
 {
     match answer(alloc, &WhichOpenText, job) {

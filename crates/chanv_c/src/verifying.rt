@@ -2,7 +2,7 @@
 
 ghost use Rattle.std.specs.Prelude.{◌≡◌, ◌≢◌, ◌<◌};
 ghost use Rattle.chan_walk.specs.declared.verdict.Verdict.TheVariants.{Yes};
-ghost use Rattle.chanv_c.specs.Answers.{HasTooMany, IsDenied, IsJudged, IsNumber};
+ghost use Rattle.chanv_c.specs.Answers.{HasTooMany, IsDenied, IsJudged, IsAnswerCode};
 
 use crate::asked::CJob;
 use crate::question::{Question, answer};
@@ -26,7 +26,7 @@ pub struct CVerdict {
 pub extern "C" fn chanv_verify(alloc: Global, job: &CJob<'_>, out: &mut CVerdict) -> u32
     ensures yes { result ≡ 0 → IsJudged job.now Yes }
     ensures no { result ≡ 1 → IsDenied job.now out.new.address out.new.reason }
-    ensures number { IsNumber (HasTooMany job.now) job.now result out.new.extent }
+    ensures number { IsAnswerCode (HasTooMany job.now) job.now result out.new.extent }
     ensures room { result ≢ 11 }
     ensures no_place { result ≢ 1 → (out.new.address ≡ 0) × (out.new.reason ≡ 0) }
     ensures no_extent { result < 4 → out.new.extent ≡ 0 }

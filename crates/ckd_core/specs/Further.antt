@@ -7,47 +7,47 @@ pub record Named : Type 0 where
   pub code : ℕ
   pub name : List ℕ
 
-abbrev named : ℕ → List ℕ → Named
-named code name = record { code = code; name = name }
+abbrev further : ℕ → List ℕ → Named
+further code name = record { code = code; name = name }
 
 -- thirty-five codes; `-mt` stands behind a name where the multi-track bit is on
 abbrev pub further_codes : List Named
 further_codes =
-    named 0x02 (codes "read-ipl") ∷
-    named 0x14 (codes "unconditional-reserve") ∷
-    named 0x94 (codes "release") ∷
-    named 0xB4 (codes "reserve") ∷
-    named 0x17 (codes "restore") ∷
-    named 0x22 (codes "read-sector") ∷
-    named 0x23 (codes "set-sector") ∷
-    named 0x2D (codes "search-key-data-equal") ∷
-    named 0xAD (codes "search-key-data-equal-mt") ∷
-    named 0x4D (codes "search-key-data-high") ∷
-    named 0xCD (codes "search-key-data-high-mt") ∷
-    named 0x6D (codes "search-key-data-equal-or-high") ∷
-    named 0xED (codes "search-key-data-equal-or-high-mt") ∷
-    named 0x25 (codes "continue-scan-equal") ∷
-    named 0xA5 (codes "continue-scan-equal-mt") ∷
-    named 0x45 (codes "continue-scan-high") ∷
-    named 0xC5 (codes "continue-scan-high-mt") ∷
-    named 0x65 (codes "continue-scan-equal-or-high") ∷
-    named 0xE5 (codes "continue-scan-equal-or-high-mt") ∷
-    named 0x35 (codes "continue-scan-set") ∷
-    named 0xB5 (codes "continue-scan-set-mt") ∷
-    named 0x75 (codes "continue-scan-no-set") ∷
-    named 0xF5 (codes "continue-scan-no-set-mt") ∷
-    named 0x27 (codes "perform-subsystem-function") ∷
-    named 0x3E (codes "read-subsystem-data") ∷
-    named 0x47 (codes "locate-record") ∷
-    named 0x63 (codes "define-extent") ∷
-    named 0xE7 (codes "prefix") ∷
-    named 0x54 (codes "sense-subsystem-status") ∷
-    named 0x64 (codes "read-device-characteristics") ∷
-    named 0xE4 (codes "sense-id") ∷
-    named 0xFA (codes "read-configuration-data") ∷
-    named 0x5E (codes "read-multiple-count-key-data") ∷
-    named 0xDE (codes "read-track") ∷
-    named 0xA4 (codes "read-and-reset-buffered-log") ∷
+    further 0x02 (codes "read-ipl") ∷
+    further 0x14 (codes "unconditional-reserve") ∷
+    further 0x94 (codes "release") ∷
+    further 0xB4 (codes "reserve") ∷
+    further 0x17 (codes "restore") ∷
+    further 0x22 (codes "read-sector") ∷
+    further 0x23 (codes "set-sector") ∷
+    further 0x2D (codes "search-key-data-equal") ∷
+    further 0xAD (codes "search-key-data-equal-mt") ∷
+    further 0x4D (codes "search-key-data-high") ∷
+    further 0xCD (codes "search-key-data-high-mt") ∷
+    further 0x6D (codes "search-key-data-equal-or-high") ∷
+    further 0xED (codes "search-key-data-equal-or-high-mt") ∷
+    further 0x25 (codes "continue-scan-equal") ∷
+    further 0xA5 (codes "continue-scan-equal-mt") ∷
+    further 0x45 (codes "continue-scan-high") ∷
+    further 0xC5 (codes "continue-scan-high-mt") ∷
+    further 0x65 (codes "continue-scan-equal-or-high") ∷
+    further 0xE5 (codes "continue-scan-equal-or-high-mt") ∷
+    further 0x35 (codes "continue-scan-set") ∷
+    further 0xB5 (codes "continue-scan-set-mt") ∷
+    further 0x75 (codes "continue-scan-no-set") ∷
+    further 0xF5 (codes "continue-scan-no-set-mt") ∷
+    further 0x27 (codes "perform-subsystem-function") ∷
+    further 0x3E (codes "read-subsystem-data") ∷
+    further 0x47 (codes "locate-record") ∷
+    further 0x63 (codes "define-extent") ∷
+    further 0xE7 (codes "prefix") ∷
+    further 0x54 (codes "sense-subsystem-status") ∷
+    further 0x64 (codes "read-device-characteristics") ∷
+    further 0xE4 (codes "sense-id") ∷
+    further 0xFA (codes "read-configuration-data") ∷
+    further 0x5E (codes "read-multiple-count-key-data") ∷
+    further 0xDE (codes "read-track") ∷
+    further 0xA4 (codes "read-and-reset-buffered-log") ∷
     []
 
 -- the name of a code, where the list has it

@@ -1,10 +1,13 @@
 -- Over another storage that is the same in the bytes that count, everything that the verdict asks is the same.
-use Rattle.std.proofs.Common.{◌≡◌, ℕ, ◌+◌, ◌<◌, ◌≤◌, Bool, true, false, not, ◌&&◌, if◌then◌else◌, List, [], ◌∷◌, ◌++◌, length, map, take, Option, Some, None, refl, sym, ap, ◌∙◌, subst, ◌⊎◌, ◌↔◌, inl, inr, rules}
+use Rattle.std.proofs.Common.{◌≡◌, ℕ, ◌+◌, ◌<◌, ◌≤◌, Bool, true, false, not, ◌&&◌, if◌then◌else◌}
+use Rattle.std.proofs.Common.{List, [], ◌∷◌, ◌++◌, length, map, take, Option, Some, None, refl, sym}
+use Rattle.std.proofs.Common.{ap, ◌∙◌, subst, ◌⊎◌, ◌↔◌, inl, inr, rules}
 use Rattle.std.specs.List.{AllByRecursion, range_with_len}
 use Rattle.std.specs.Option.{option_or}
 use Rattle.std.proofs.lemmas.Bool.{and_parts}
 use Rattle.ccw_core.specs.declared.storage.Storage.{Storage}
-use Rattle.ccw_core.specs.Ccw.{byte, Fields, ccw, is_transfer, is_formed, is_counted, has_data_in, chains_data}
+use Rattle.ccw_core.specs.Ccw.{byte, Fields, ccw, is_transfer, is_formed, is_counted, has_data_in}
+use Rattle.ccw_core.specs.Ccw.{chains_data}
 use Rattle.ccw_core.specs.Held.{bytes_held}
 use Rattle.ccw_core.specs.Storage.{Stands, is_aligned, is_inside}
 use Rattle.chan_walk.specs.declared.job.Job.{Job}
@@ -12,10 +15,15 @@ use Rattle.chan_walk.specs.declared.place.Place.{Place}
 use Rattle.chan_walk.specs.declared.reason.Reason.{Reason}
 use Rattle.chan_walk.specs.declared.verdict.Verdict.{Verdict}
 use Rattle.chan_walk.specs.declared.verdict.Verdict.TheVariants.{Yes, No}
-use Rattle.chan_walk.specs.Argument.{Has, is_part, Leads, data_addresses, joined, total, but_last, AreLinked, BeginsAt, IsChain, argument_addresses, argument, HasArgument}
+use Rattle.chan_walk.specs.Argument.{Has, is_part, Leads, data_addresses, joined, total, but_last}
+use Rattle.chan_walk.specs.Argument.{AreLinked, BeginsAt, IsChain, argument_addresses, argument}
+use Rattle.chan_walk.specs.Argument.{HasArgument}
 use Rattle.chan_walk.specs.Check.{first_reason, check_of, check}
-use Rattle.chan_walk.specs.Counted.{IsChained, at_once, further, IsCounted, with_storage, SameVerdict}
-use Rattle.chan_walk.specs.Fault.{kind_of, begins_seek, begins_set_mask, command_faults, lent_faults, seek_faults, mask_faults, table_of_own, fault_with, HasFault, IsClear}
+use Rattle.chan_walk.specs.Counted.{IsChained, at_once, further, IsCounted, with_storage}
+use Rattle.chan_walk.specs.Counted.{SameVerdict}
+use Rattle.chan_walk.specs.Fault.{kind_of, begins_seek, begins_set_mask, command_faults}
+use Rattle.chan_walk.specs.Fault.{lent_faults, seek_faults, mask_faults, table_of_own, fault_with}
+use Rattle.chan_walk.specs.Fault.{HasFault, IsClear}
 use Rattle.chan_walk.specs.Guarded.{IsCcwByte, IsSeekByte, IsMaskByte, IsArgumentByte}
 use Rattle.chan_walk.specs.Job.{storage_of}
 use Rattle.chan_walk.specs.Place.{ccw_of, first_place}

@@ -1,5 +1,8 @@
 -- Following the chain of a seek, CCW by CCW.
-use Rattle.std.proofs.Common.{◌≡◌, ℕ, zero, suc, ◌+◌, ◌-◌, ◌<◌, ◌≤◌, true, false, List, [], ◌∷◌, ◌++◌, take, length, get_or, None, Some, Option, Result, IfOk, IfErr, refl, sym, ap, ◌∙◌, subst, ◌⊎◌, inl, inr, arith, append_assoc, append-nil, length-append, length-take-le, rules}
+use Rattle.std.proofs.Common.{◌≡◌, ℕ, zero, suc, ◌+◌, ◌-◌, ◌<◌, ◌≤◌, true, false, List, [], ◌∷◌}
+use Rattle.std.proofs.Common.{◌++◌, take, length, get_or, None, Some, Option, Result, IfOk, IfErr}
+use Rattle.std.proofs.Common.{refl, sym, ap, ◌∙◌, subst, ◌⊎◌, inl, inr, arith, append_assoc}
+use Rattle.std.proofs.Common.{append-nil, length-append, length-take-le, rules}
 use Rattle.std.proofs.lemmas.List.{ext_get_or, get_or-append-add}
 use Rattle.std.specs.Result.{result_ok}
 use Rattle.std.specs.List.{range_with_len, AllByRecursion}
@@ -9,10 +12,12 @@ use Rattle.std.proofs.lemmas.List.FromFn.{get_or-range_with_len, length-range_wi
 use Rattle.ccw_core.specs.Ccw.{Fields, ccw, has_data_in, chains_data}
 use Rattle.ccw_core.specs.Storage.{ccw_at, is_inside}
 use Rattle.ccw_core.proofs.StorageLemmas.{ccw_at-some}
-use Rattle.chan_walk.specs.Argument.{is_part, AreLinked, IsChain, argument_addresses, joined, total, data_addresses}
+use Rattle.chan_walk.specs.Argument.{is_part, AreLinked, IsChain, argument_addresses, joined, total}
+use Rattle.chan_walk.specs.Argument.{data_addresses}
 use Rattle.chan_walk.specs.Onward.{onward}
 use Rattle.chan_walk.specs.Tables.{HasAddresses}
-use Rattle.chan_walk.proofs.Theory.Chains.{chain_cons, chain_tail, chain_begins_with_part, onward_leads, onward_only, part_counts}
+use Rattle.chan_walk.proofs.Theory.Chains.{chain_cons, chain_tail, chain_begins_with_part}
+use Rattle.chan_walk.proofs.Theory.Chains.{onward_leads, onward_only, part_counts}
 use Rattle.chan_walk.proofs.Theory.CheckCases.{found_is_part, is_part-none}
 use Rattle.chan_walk.proofs.Theory.Lists.{all_append, range_split, take_front}
 

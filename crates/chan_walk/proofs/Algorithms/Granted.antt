@@ -1,5 +1,7 @@
 -- Two jobs of one program that grant the same: everything that the verdict asks is the same.
-use Rattle.std.proofs.Common.{◌≡◌, ℕ, ◌+◌, ◌≤◌, Bool, true, false, cond, if◌then◌else◌, List, length, Option, Some, None, refl, sym, ap, ◌∙◌, subst, ◌⊎◌, inl, inr, ◌↔◌, rules}
+use Rattle.std.proofs.Common.{◌≡◌, ℕ, ◌+◌, ◌≤◌, Bool, true, false, cond, if◌then◌else◌, List}
+use Rattle.std.proofs.Common.{length, Option, Some, None, refl, sym, ap, ◌∙◌, subst, ◌⊎◌, inl, inr}
+use Rattle.std.proofs.Common.{◌↔◌, rules}
 use Rattle.std.specs.Option.{option_or}
 use Rattle.ccw_core.specs.Areas.{covered}
 use Rattle.ccw_core.specs.Ccw.{byte, Fields, is_transfer}
@@ -21,7 +23,8 @@ use Rattle.chan_walk.specs.Reachable.{IsReachable}
 use Rattle.chan_walk.specs.Verdict.{IsVerdict}
 use Rattle.chan_walk.specs.Place.{transferred_to, ccw_of}
 use Rattle.chan_walk.proofs.Algorithms.Counted.{AreSame, verdict_both}
-use Rattle.chan_walk.proofs.Theory.Granting.{turned, ccw_over, seek_byte_over, mask_byte_over, covered_more, refused_more}
+use Rattle.chan_walk.proofs.Theory.Granting.{turned, ccw_over, seek_byte_over, mask_byte_over}
+use Rattle.chan_walk.proofs.Theory.Granting.{covered_more, refused_more}
 use Rattle.chan_walk.proofs.Theory.OwnFaults.{data_in_storage}
 use Rattle.chan_walk.proofs.Theory.Masks.{laxer_permits, strict_as_laxer}
 

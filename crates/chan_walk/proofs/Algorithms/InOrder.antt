@@ -1,5 +1,8 @@
 -- The marked places, written out in order.
-use Rattle.std.proofs.Common.{◌≡◌, ℕ, zero, suc, ◌+◌, ◌-◌, ◌*◌, ◌<◌, ◌≤◌, ◌==◌, true, false, Bool, List, [], ◌∷◌, ◌++◌, append_assoc, map, length, Option, Some, None, refl, sym, ap, ◌∙◌, subst, ◌⊎◌, inl, inr, ◌↔◌, arith, eqb, Less, rules}
+use Rattle.std.proofs.Common.{◌≡◌, ℕ, zero, suc, ◌+◌, ◌-◌, ◌*◌, ◌<◌, ◌≤◌, ◌==◌, true, false, Bool}
+use Rattle.std.proofs.Common.{List, [], ◌∷◌, ◌++◌, append_assoc, map, length, Option, Some, None}
+use Rattle.std.proofs.Common.{refl, sym, ap, ◌∙◌, subst, ◌⊎◌, inl, inr, ◌↔◌, arith, eqb, Less}
+use Rattle.std.proofs.Common.{rules}
 use Rattle.std.proofs.lemmas.Grind.{common_steps}
 use Rattle.std.specs.List.{AllByRecursion, IsDistinct, list_any}
 use Rattle.std.specs.List.Sorted.{IsStrictlySortedBy}
@@ -20,11 +23,14 @@ use Rattle.std.proofs.lemmas.Nat.Bits.{bit_at-zero}
 use Rattle.chan_walk.specs.declared.job.Job.{Job}
 use Rattle.chan_walk.specs.declared.place.Place.{Place}
 use Rattle.chan_walk.specs.Argument.{Has}
-use Rattle.chan_walk.specs.Explored.{AreApart, AreReachable, way_of, place_number}
-use Rattle.chan_walk.specs.Marks.{put, ways, place_at, places_at, places_of, HasMark, HasWay, ListsMarks, or_none, marks_of}
+use Rattle.chan_walk.specs.Explored.{AreDistinct, AreReachable, way_of, place_number}
+use Rattle.chan_walk.specs.Marks.{put, ways, place_at, places_at, places_of, HasMark, HasWay}
+use Rattle.chan_walk.specs.Marks.{ListsMarks, or_none, marks_of}
 use Rattle.chan_walk.specs.Walk.{Agrees, IsWalked}
-use Rattle.chan_walk.proofs.Theory.Lists.{contains_has, has_cases, has_contains, has_left, has_right}
-use Rattle.chan_walk.proofs.Algorithms.Marks.{way_small, way_of-place_at, place_at-way_of, same_number}
+use Rattle.chan_walk.proofs.Theory.Lists.{contains_has, has_cases, has_contains, has_left}
+use Rattle.chan_walk.proofs.Theory.Lists.{has_right}
+use Rattle.chan_walk.proofs.Algorithms.Marks.{way_small, way_of-place_at, place_at-way_of}
+use Rattle.chan_walk.proofs.Algorithms.Marks.{same_number}
 use Rattle.chan_walk.proofs.Algorithms.Walking.{all_found}
 
 less_cmp : (a b : ℕ) → a < b → nat_cmp a b ≡ Less
@@ -61,7 +67,7 @@ sorted_append (p ∷ ps) qs s t f = (all_above (place_number p) (ps ++ qs) (λ q
     go q (inl h) = above_all (place_number p) ps s.0 q h
     go q (inr h) = f p q (inl refl) h
 
-apart_sorted : (ps : List Place) → AreSorted ps → AreApart ps
+apart_sorted : (ps : List Place) → AreSorted ps → AreDistinct ps
 unfolding IsStrictlySortedBy
 apart_sorted [] s = tt
 apart_sorted (p ∷ ps) s = ((λ h. let l = above_all (place_number p) ps s.0 p h in absurd (omega arith)), apart_sorted ps s.1)
@@ -220,7 +226,7 @@ bit_is_way m qs a w l h = (to, from)
 
 -- ---- how many
 
-pub distinct : {X : Type 0} (number : X → ℕ) → ((x y : X) → number x ≡ number y → x ≡ y) → (xs : List X) → AreApart xs → IsDistinct eqb (map number xs)
+pub distinct : {X : Type 0} (number : X → ℕ) → ((x y : X) → number x ≡ number y → x ≡ y) → (xs : List X) → AreDistinct xs → IsDistinct eqb (map number xs)
 unfolding IsDistinct
 distinct number same [] a = tt
 distinct {X} number same (x ∷ xs) a = (all xs a.0, distinct number same xs a.1)
@@ -239,7 +245,7 @@ number_has k (q ∷ ps) p (inl d) e = or_left _ _ (eq-eqb k (place_number q) (sy
 number_has k (q ∷ ps) p (inr h) e = or_right _ _ (number_has k ps p h e)
 
 -- places that are apart, each of which the second list has, are no more than it has
-pub fewer : (ps qs : List Place) → AreApart ps → ((p : Place) → Has ps p → Has qs p) → length ps ≤ length qs
+pub fewer : (ps qs : List Place) → AreDistinct ps → ((p : Place) → Has ps p → Has qs p) → length ps ≤ length qs
 fewer ps qs a f =
     let l : length (map place_number ps) ≤ length (map place_number qs) = length-le_from_is_member nat_eq_equiv (map place_number ps) (map place_number qs) (distinct place_number same_number ps a) (λ k h. let r = has_number k ps h in number_has k qs r.0 (f r.0 r.1) r.2) in
     omega (arith, length-map ps place_number, length-map qs place_number)

@@ -1,13 +1,19 @@
 -- The first of a job's offences is the verdict.
-use Rattle.std.proofs.Common.{◌≡◌, Bool, IsTrue, true, false, ◌==◌, min, ℕ, ◌<◌, ◌≤◌, List, [], ◌∷◌, ◌++◌, append_assoc, append-nil, map, take, drop, length, get_or, slice_get, Option, Some, None, refl, sym, ap, ◌∙◌, subst, ◌⊎◌, inl, inr, ◌↔◌, arith, Less, rules}
+use Rattle.std.proofs.Common.{◌≡◌, Bool, IsTrue, true, false, ◌==◌, min, ℕ, ◌<◌, ◌≤◌, List, [], ◌∷◌}
+use Rattle.std.proofs.Common.{◌++◌, append_assoc, append-nil, map, take, drop, length, get_or}
+use Rattle.std.proofs.Common.{slice_get, Option, Some, None, refl, sym, ap, ◌∙◌, subst, ◌⊎◌, inl}
+use Rattle.std.proofs.Common.{inr, ◌↔◌, arith, Less, rules}
 use Rattle.std.proofs.lemmas.Grind.{common_steps}
-use Rattle.std.specs.List.Sorted.{IsNonDecreasingBy, IsPermutation, IsStrictlyIncreasing, IsStrictlySortedBy}
+use Rattle.std.specs.List.Sorted.{IsNonDecreasingBy, IsPermutation, IsStrictlyIncreasing}
+use Rattle.std.specs.List.Sorted.{IsStrictlySortedBy}
 use Rattle.std.specs.List.{AllByRecursion}
 use Rattle.std.specs.Ordering.{nat_cmp}
 use Rattle.std.proofs.lemmas.Bool.{both_ways, cases_lt, eq-eqb, eqb-true}
 use Rattle.std.proofs.lemmas.List.{length-take, map-append, take-append-drop}
-use Rattle.std.proofs.lemmas.List.Sorted.{Contains-permutation, IsPermutation-map, IsPermutation-sym}
-use Rattle.std.proofs.lemmas.Map.Keys.{IsDistinct-IsPermutation, IsStrictlyIncreasing-from_distinct, sorted_from_strictly_increasing}
+use Rattle.std.proofs.lemmas.List.Sorted.{Contains-permutation, IsPermutation-map}
+use Rattle.std.proofs.lemmas.List.Sorted.{IsPermutation-sym}
+use Rattle.std.proofs.lemmas.Map.Keys.{IsDistinct-IsPermutation, IsStrictlyIncreasing-from_distinct}
+use Rattle.std.proofs.lemmas.Map.Keys.{sorted_from_strictly_increasing}
 use Rattle.ccw_core.specs.declared.areas.Area.{Area}
 use Rattle.ccw_core.specs.Areas.{lies_in}
 use Rattle.ccw_core.proofs.StorageLemmas.{ccw_at-some, ccw_at-where}
@@ -15,26 +21,35 @@ use Rattle.chan_walk.specs.declared.job.Job.{Job}
 use Rattle.chan_walk.specs.declared.offence.Offence.{Offence}
 use Rattle.chan_walk.specs.declared.place.Place.{Place}
 use Rattle.chan_walk.specs.declared.reason.Reason.{Reason}
-use Rattle.chan_walk.specs.declared.reason.Reason.TheVariants.{Misaligned, OutsideStorage, TransferNotAllowed, InvalidCode, BadFormat, ZeroCount, DataOutside, NotInTable, Inhibited, StoreNotLent, FetchNotLent, ShortSeek, SeekOutside, ChangesCcw, ChangesArgument, WeakensMask}
+use Rattle.chan_walk.specs.declared.reason.Reason.TheVariants.{Misaligned, OutsideStorage}
+use Rattle.chan_walk.specs.declared.reason.Reason.TheVariants.{TransferNotAllowed, InvalidCode}
+use Rattle.chan_walk.specs.declared.reason.Reason.TheVariants.{BadFormat, ZeroCount, DataOutside}
+use Rattle.chan_walk.specs.declared.reason.Reason.TheVariants.{NotInTable, Inhibited, StoreNotLent}
+use Rattle.chan_walk.specs.declared.reason.Reason.TheVariants.{FetchNotLent, ShortSeek, SeekOutside}
+use Rattle.chan_walk.specs.declared.reason.Reason.TheVariants.{ChangesCcw, ChangesArgument}
+use Rattle.chan_walk.specs.declared.reason.Reason.TheVariants.{WeakensMask}
 use Rattle.chan_walk.specs.Argument.{Has}
-use Rattle.chan_walk.specs.Explored.{AreApart, way_of}
+use Rattle.chan_walk.specs.Explored.{AreDistinct, way_of}
 use Rattle.chan_walk.specs.Fault.{HasFault, IsClear}
 use Rattle.chan_walk.specs.Guarded.{IsArgumentByte, IsCcwByte}
 use Rattle.chan_walk.specs.Least.{AreReached, IsOwn}
 use Rattle.chan_walk.specs.Look.{IsLook, Seen, place_of, places_of_looks}
-use Rattle.chan_walk.specs.Offences.{AddsOffences, AreAllOffences, AreOffences, FirstIsVerdict, HasOffences, Offending, StoresInto, offence_number}
+use Rattle.chan_walk.specs.Offences.{AddsOffences, AreAllOffences, AreOffences, FirstIsVerdict}
+use Rattle.chan_walk.specs.Offences.{HasOffences, Offending, StoresInto, offence_number}
 use Rattle.chan_walk.specs.Reachable.{IsReachable}
 use Rattle.chan_walk.specs.Reason.{number_of}
 use Rattle.chan_walk.specs.Verdict.{Changes, ComesFirst, Offends, StoresOver}
 use Rattle.chan_walk.proofs.Theory.Checks.{check_stands}
 use Rattle.chan_walk.proofs.Theory.Faults.{clear_check, fault_unique}
 use Rattle.chan_walk.proofs.Algorithms.InOrder.{cmp_less, distinct}
-use Rattle.chan_walk.proofs.Theory.Lists.{contains_has, has_cases, has_contains, has_left, has_push, has_right, at_has}
+use Rattle.chan_walk.proofs.Theory.Lists.{contains_has, has_cases, has_contains, has_left, has_push}
+use Rattle.chan_walk.proofs.Theory.Lists.{has_right, at_has}
 use Rattle.chan_walk.proofs.Algorithms.Looking.{number_of_places, place_at}
 use Rattle.chan_walk.proofs.Algorithms.Marks.{same_place, way_small}
 use Rattle.chan_walk.proofs.Algorithms.Sorting.{eqb_flips, non_decreasing}
 use Rattle.chan_walk.proofs.Algorithms.Tracing.{same_index}
-use Rattle.chan_walk.proofs.Algorithms.Verdicts.{change_of, clear_all, meets_from_over, not_clear, over_from_meets}
+use Rattle.chan_walk.proofs.Algorithms.Verdicts.{change_of, clear_all, meets_from_over, not_clear}
+use Rattle.chan_walk.proofs.Algorithms.Verdicts.{over_from_meets}
 use Rattle.chan_walk.proofs.Algorithms.Walking.{slice_get-append}
 
 -- an offence by its place and its reason
@@ -113,7 +128,7 @@ same_offence o t e =
 
 -- ---- put in order
 
-pub increasing : (os ts : List Offence) → IsNonDecreasingBy offence_number ts → IsPermutation os ts → AreApart os → IsStrictlyIncreasing (map offence_number ts)
+pub increasing : (os ts : List Offence) → IsNonDecreasingBy offence_number ts → IsPermutation os ts → AreDistinct os → IsStrictlyIncreasing (map offence_number ts)
 increasing os ts up moved apart = search (rules, distinct offence_number same_offence, IsDistinct-IsPermutation, eqb_flips, IsPermutation-map, IsStrictlyIncreasing-from_distinct, non_decreasing offence_number)
 
 pub same_offences : (os ts : List Offence) (o : Offence) → IsPermutation os ts → Has ts o ↔ Has os o
@@ -121,7 +136,7 @@ same_offences os ts o moved = search (rules, contains_has, Contains-permutation,
 
 -- ---- place by place
 
-apart_append : {X : Type 0} (xs ys : List X) → AreApart xs → AreApart ys → ((x : X) → Has xs x → Has ys x → ⊥) → AreApart (xs ++ ys)
+apart_append : {X : Type 0} (xs ys : List X) → AreDistinct xs → AreDistinct ys → ((x : X) → Has xs x → Has ys x → ⊥) → AreDistinct (xs ++ ys)
 apart_append [] ys a b n = b
 apart_append (x ∷ xs) ys a b n = search (rules, has_cases, apart_append xs ys a.1 b)
 
@@ -145,7 +160,7 @@ pub offences_more : (Off : Place → Reason → Type 0) (ps : List Place) (p : P
 offences_more Off ps p os ts new h a = search (rules, has_cases, has_push, apart_append, has_left, has_right)
 
 -- the place of the next look is new
-pub new_place : (ls : List Seen) (i : ℕ) (l : Seen) → AreApart (places_of_looks ls) → i < length ls → l ≡ get_or ls i l → Has (places_of_looks (take i ls)) l.place → ⊥
+pub new_place : (ls : List Seen) (i : ℕ) (l : Seen) → AreDistinct (places_of_looks ls) → i < length ls → l ≡ get_or ls i l → Has (places_of_looks (take i ls)) l.place → ⊥
 new_place ls i l apart within e h =
     let taken = at_has (places_of_looks (take i ls)) l.place h in
     let all : length (places_of_looks (take i ls)) ≡ length (take i ls) = number_of_places (take i ls) in

@@ -1,5 +1,6 @@
 -- Marks, and the places that they tell of.
-use Rattle.std.proofs.Common.{◌≡◌, ℕ, ◌*◌, ◌%◌, ◌^◌, ◌<◌, Bool, false, List, [], ◌∷◌, ◌++◌, Some, sym, ap, ◌∙◌, arith, w8, rules}
+use Rattle.std.proofs.Common.{◌≡◌, ℕ, ◌*◌, ◌%◌, ◌^◌, ◌<◌, Bool, false, List, [], ◌∷◌, ◌++◌, Some}
+use Rattle.std.proofs.Common.{sym, ap, ◌∙◌, arith, w8, rules}
 use Rattle.std.specs.Int.{bit_at}
 use Rattle.std.specs.Int.RustNames.{bit_or}
 use Rattle.std.specs.Ordering.{nat_cmp}

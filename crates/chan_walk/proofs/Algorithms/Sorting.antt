@@ -1,14 +1,17 @@
 -- Looks put in order of place.
-use Rattle.std.proofs.Common.{◌≡◌, ℕ, ◌+◌, ◌<◌, List, [], ◌∷◌, map, length, get_or, Ordering, sym, ap, ◌∙◌, ◌↔◌, arith, eqb, rules}
-use Rattle.std.specs.List.Sorted.{IsNonDecreasing, IsNonDecreasingBy, IsPermutation, IsSortedByKey, IsStrictlyIncreasing}
+use Rattle.std.proofs.Common.{◌≡◌, ℕ, ◌+◌, ◌<◌, List, [], ◌∷◌, map, length, get_or, Ordering, sym}
+use Rattle.std.proofs.Common.{ap, ◌∙◌, ◌↔◌, arith, eqb, rules}
+use Rattle.std.specs.List.Sorted.{IsNonDecreasing, IsNonDecreasingBy, IsPermutation, IsSortedByKey}
+use Rattle.std.specs.List.Sorted.{IsStrictlyIncreasing}
 use Rattle.std.specs.Ordering.{is_lt, nat_cmp}
 use Rattle.std.proofs.lemmas.List.{length-map, get_or-map}
-use Rattle.std.proofs.lemmas.List.Sorted.{IsNonDecreasingBy-from_sort, IsPermutation-map, IsPermutation-sym, Contains-permutation}
+use Rattle.std.proofs.lemmas.List.Sorted.{IsNonDecreasingBy-from_sort, IsPermutation-map}
+use Rattle.std.proofs.lemmas.List.Sorted.{IsPermutation-sym, Contains-permutation}
 use Rattle.std.proofs.lemmas.Map.Keys.{IsDistinct-IsPermutation, IsStrictlyIncreasing-from_distinct}
 use Rattle.std.proofs.lemmas.Simd.{map-map}
 use Rattle.chan_walk.specs.declared.place.Place.{Place}
 use Rattle.chan_walk.specs.Argument.{Has}
-use Rattle.chan_walk.specs.Explored.{AreApart, place_number}
+use Rattle.chan_walk.specs.Explored.{AreDistinct, place_number}
 use Rattle.chan_walk.specs.Look.{Seen, place_of, places_of_looks}
 use Rattle.chan_walk.proofs.Algorithms.InOrder.{distinct}
 use Rattle.chan_walk.proofs.Theory.Lists.{contains_has, has_contains}
@@ -41,7 +44,7 @@ eqb_flips x y = search rules
 
 -- sorted by place, and no place twice
 pub increasing : (cmp : Place → Place → Ordering) (ls ms : List Seen) → ((p q : Place) → cmp p q ≡ nat_cmp (place_number p) (place_number q))
-    → IsSortedByKey place_of cmp ms → IsPermutation ls ms → AreApart (places_of_looks ls) → IsStrictlyIncreasing (map place_number (places_of_looks ms))
+    → IsSortedByKey place_of cmp ms → IsPermutation ls ms → AreDistinct (places_of_looks ls) → IsStrictlyIncreasing (map place_number (places_of_looks ms))
 increasing cmp ls ms same up moved apart = search (rules, numbers_of_places, distinct place_number same_number, IsDistinct-IsPermutation, eqb_flips, IsPermutation-map, IsStrictlyIncreasing-from_distinct, non_decreasing number, by_number)
 
 pub same_looks : (ls ms : List Seen) (l : Seen) → IsPermutation ls ms → Has ms l ↔ Has ls l

@@ -1,5 +1,7 @@
 -- From which place each place was found: the path back is the shortest, and the one that goes to next.
-use Rattle.std.proofs.Common.{◌≡◌, ℕ, zero, suc, ◌+◌, ◌<◌, ◌≤◌, List, [], ◌∷◌, ◌++◌, length, slice_index, Option, Some, None, refl, sym, ap, ◌∙◌, subst, ◌⊎◌, inl, inr, arith, length-append, rules}
+use Rattle.std.proofs.Common.{◌≡◌, ℕ, zero, suc, ◌+◌, ◌<◌, ◌≤◌, List, [], ◌∷◌, ◌++◌, length}
+use Rattle.std.proofs.Common.{slice_index, Option, Some, None, refl, sym, ap, ◌∙◌, subst, ◌⊎◌, inl}
+use Rattle.std.proofs.Common.{inr, arith, length-append, rules}
 use Rattle.std.specs.List.{slice_get}
 use Rattle.std.proofs.lemmas.Bool.{cases_lt}
 use Rattle.chan_walk.specs.declared.job.Job.{Job}
@@ -7,13 +9,14 @@ use Rattle.chan_walk.specs.declared.place.Place.{Place}
 use Rattle.chan_walk.specs.declared.reason.Reason.{Reason}
 use Rattle.chan_walk.specs.declared.successor.Next.{Next}
 use Rattle.chan_walk.specs.Argument.{Has}
-use Rattle.chan_walk.specs.Explored.{AreApart}
+use Rattle.chan_walk.specs.Explored.{AreDistinct}
 use Rattle.chan_walk.specs.Fault.{HasFault}
 use Rattle.chan_walk.specs.Paths.{IsNext, IsSkip, IsFirstOf}
 use Rattle.chan_walk.specs.Place.{first_place}
 use Rattle.chan_walk.specs.Reachable.{IsPath, IsReachable}
 use Rattle.chan_walk.specs.Successors.{AreSuccessors}
-use Rattle.chan_walk.specs.Walk.{Adds, AreSiblings, Follows, IsAmong, IsBest, IsFoundBy, IsFrom, IsTraced}
+use Rattle.chan_walk.specs.Walk.{Adds, AreSiblings, Follows, IsAmong, IsBest, IsFoundBy, IsFrom}
+use Rattle.chan_walk.specs.Walk.{IsTraced}
 use Rattle.chan_walk.proofs.Theory.Faults.{fault_exists}
 use Rattle.chan_walk.proofs.Theory.Lists.{has_at, at_has}
 use Rattle.chan_walk.proofs.Algorithms.Walking.{follows_exactly, slice_get-append}
@@ -35,7 +38,7 @@ index_old fs x k h = get_or-append fs (x ∷ []) 0 k h
 index_last : (fs : List ℕ) (x k : ℕ) → k ≡ length fs → slice_index (fs ++ x ∷ []) k ≡ x
 index_last fs x k e = ap (slice_index (fs ++ x ∷ [])) e ∙ get_or-append_seam fs x [] 0
 
-pub same_index : (ps : List Place) (p : Place) (k l : ℕ) → AreApart ps → slice_get ps k ≡ Some p → slice_get ps l ≡ Some p → k ≡ l
+pub same_index : (ps : List Place) (p : Place) (k l : ℕ) → AreDistinct ps → slice_get ps k ≡ Some p → slice_get ps l ≡ Some p → k ≡ l
 same_index [] p k l a e f = absurd (cc)
 same_index (q ∷ ps) p zero zero a e f = refl
 same_index (q ∷ ps) p zero (suc l) a e f = let same : q ≡ p = cc in absurd (a.0 (subst (Has ps) (sym same) (has_at ps l p f)))
@@ -289,7 +292,7 @@ module _ (j : Job) (p : Place) (n : Next) (i : ℕ) (are : AreSuccessors j p n) 
 
 -- ---- the path back
 
-module _ (j : Job) (ps : List Place) (fs : List ℕ) (i : ℕ) (t : IsTraced j ps fs i i) (all : length ps ≤ i) (apart : AreApart ps) (found : (p : Place) → IsReachable j p → Has ps p) where
+module _ (j : Job) (ps : List Place) (fs : List ℕ) (i : ℕ) (t : IsTraced j ps fs i i) (all : length ps ≤ i) (apart : AreDistinct ps) (found : (p : Place) → IsReachable j p → Has ps p) where
   pub best_first : IsBest j ps 0 (first_place j) []
   best_first = search rules
 

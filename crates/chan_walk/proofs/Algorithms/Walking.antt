@@ -1,5 +1,7 @@
 -- A walk finds what is reachable, and nothing else.
-use Rattle.std.proofs.Common.{◌≡◌, ℕ, zero, suc, ◌+◌, ◌<◌, ◌≤◌, List, [], ◌∷◌, ◌++◌, length, Option, Some, None, option_map, refl, sym, ap, ◌∙◌, subst, ◌⊎◌, inl, inr, ◌↔◌, arith, length-append, rules}
+use Rattle.std.proofs.Common.{◌≡◌, ℕ, zero, suc, ◌+◌, ◌<◌, ◌≤◌, List, [], ◌∷◌, ◌++◌, length, Option}
+use Rattle.std.proofs.Common.{Some, None, option_map, refl, sym, ap, ◌∙◌, subst, ◌⊎◌, inl, inr, ◌↔◌}
+use Rattle.std.proofs.Common.{arith, length-append, rules}
 use Rattle.std.specs.List.{slice_get}
 use Rattle.std.proofs.lemmas.Bool.{cases_lt}
 use Rattle.std.proofs.lemmas.Option.{slice_get-map}
@@ -9,7 +11,7 @@ use Rattle.chan_walk.specs.declared.place.Place.{Place}
 use Rattle.chan_walk.specs.declared.successor.Next.{Next}
 use Rattle.chan_walk.specs.declared.reason.Reason.{Reason}
 use Rattle.chan_walk.specs.Argument.{Has}
-use Rattle.chan_walk.specs.Explored.{AreApart, HasMoreThan}
+use Rattle.chan_walk.specs.Explored.{AreDistinct, HasMoreThan}
 use Rattle.chan_walk.specs.Fault.{HasFault}
 use Rattle.chan_walk.specs.Least.{AreReached}
 use Rattle.chan_walk.specs.Look.{AreLooks, Seen, place_of, places_of_looks}
@@ -27,7 +29,7 @@ slice_get-append [] qs k h = absurd (omega arith)
 slice_get-append (p ∷ ps) qs zero h = refl
 slice_get-append (p ∷ ps) qs (suc k) h = slice_get-append ps qs k (omega arith)
 
-apart_push : (q : Place) (ps : List Place) → AreApart ps → (Has ps q → ⊥) → AreApart (ps ++ q ∷ [])
+apart_push : (q : Place) (ps : List Place) → AreDistinct ps → (Has ps q → ⊥) → AreDistinct (ps ++ q ∷ [])
 apart_push q [] a n = ((λ h. h), tt)
 apart_push q (p ∷ ps) a n = search (rules, has_push, apart_push q ps a.1)
 

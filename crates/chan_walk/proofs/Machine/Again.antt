@@ -1,5 +1,6 @@
 -- Where the verdict is yes, only guarded bytes count, and as these never change, it is yes again.
-use Rattle.std.proofs.Common.{◌≡◌, ℕ, ◌+◌, true, false, length, refl, sym, ap, ◌∙◌, subst, inl, inr, rules}
+use Rattle.std.proofs.Common.{◌≡◌, ℕ, ◌+◌, true, false, length, refl, sym, ap, ◌∙◌, subst, inl, inr}
+use Rattle.std.proofs.Common.{rules}
 use Rattle.ccw_core.specs.Ccw.{byte, Fields, ccw, is_transfer, chains_data}
 use Rattle.ckd_core.specs.declared.command.Kind.TheVariants.{Outward}
 use Rattle.chan_walk.specs.declared.job.Job.{Job}

@@ -1,5 +1,7 @@
 -- No false alarm: from each reason to a run that shows it.
-use Rattle.std.proofs.Common.{◌≡◌, ℕ, ◌+◌, ◌<◌, true, false, not, ◌&&◌, List, [], ◌∷◌, length, Option, Some, None, is_none, refl, sym, ap, subst, ◌⊎◌, inl, inr, arith, rules}
+use Rattle.std.proofs.Common.{◌≡◌, ℕ, ◌+◌, ◌<◌, true, false, not, ◌&&◌, List, [], ◌∷◌, length}
+use Rattle.std.proofs.Common.{Option, Some, None, is_none, refl, sym, ap, subst, ◌⊎◌, inl, inr}
+use Rattle.std.proofs.Common.{arith, rules}
 use Rattle.std.proofs.lemmas.Bool.{and_parts, or_cases, not-true, ltb-true}
 use Rattle.std.proofs.lemmas.List.FromFn.{length-map-range_with_len}
 use Rattle.ccw_core.specs.Areas.{covered}
@@ -10,11 +12,15 @@ use Rattle.ckd_core.specs.Mask.{inhibits, is_at_least}
 use Rattle.chan_walk.specs.declared.job.Job.{Job}
 use Rattle.chan_walk.specs.declared.place.Place.{Place}
 use Rattle.chan_walk.specs.declared.reason.Reason.{Reason}
-use Rattle.chan_walk.specs.declared.reason.Reason.TheVariants.{StoreNotLent, FetchNotLent, ShortSeek, SeekOutside, WeakensMask}
-use Rattle.chan_walk.specs.Alarm.{IsProper, first_cylinder, ShowsInStep, StoresOn, ShowsCheck, Shows, EachPathShows, NoFalseAlarm}
+use Rattle.chan_walk.specs.declared.reason.Reason.TheVariants.{StoreNotLent, FetchNotLent}
+use Rattle.chan_walk.specs.declared.reason.Reason.TheVariants.{ShortSeek, SeekOutside, WeakensMask}
+use Rattle.chan_walk.specs.Alarm.{IsProper, first_cylinder, ShowsInStep, StoresOn, ShowsCheck}
+use Rattle.chan_walk.specs.Alarm.{Shows, EachPathShows, NoFalseAlarm}
 use Rattle.chan_walk.specs.Argument.{IsChain, HasArgument, argument}
 use Rattle.chan_walk.specs.Check.{table_of_every_ccw, table_of_non_transfer, check}
-use Rattle.chan_walk.specs.Fault.{kind_of, goes_out, stores, fetches, is_known, begins_seek, begins_recalibrate, begins_set_mask, allows, is_refused, table_of_own, HasFault, IsClear}
+use Rattle.chan_walk.specs.Fault.{kind_of, goes_out, stores, fetches, is_known, begins_seek}
+use Rattle.chan_walk.specs.Fault.{begins_recalibrate, begins_set_mask, allows, is_refused}
+use Rattle.chan_walk.specs.Fault.{table_of_own, HasFault, IsClear}
 use Rattle.chan_walk.specs.Guarded.{IsCcwByte, IsSeekByte, IsMaskByte, IsArgumentByte}
 use Rattle.chan_walk.specs.Job.{storage_of, extents_of, fetch_of, store_of}
 use Rattle.chan_walk.specs.Machine.{Stage, At, Ended, Event, home, ends, Step, checked, unknown}
@@ -31,7 +37,8 @@ use Rattle.chan_walk.proofs.Theory.Faults.{clear_check, clear_good, then_true}
 use Rattle.chan_walk.proofs.Machine.Gathering.{begin}
 use Rattle.chan_walk.proofs.Machine.Operations.{moment, Finished, finish, stop, ready_fresh}
 use Rattle.chan_walk.proofs.Machine.Paths.{few_at, Runs, path_runs}
-use Rattle.chan_walk.proofs.Machine.Quiet.{full_count, bytes_at, there, Known, Carried, seek_at, carry_out}
+use Rattle.chan_walk.proofs.Machine.Quiet.{full_count, bytes_at, there, Known, Carried, seek_at}
+use Rattle.chan_walk.proofs.Machine.Quiet.{carry_out}
 use Rattle.chan_walk.proofs.Theory.Granting.{stores_parts}
 
 show_next : {j : Job} {y : ℕ} {p : Place} {ps : List Place} {es : List Event} {st : Stage} {P : List Event → Stage → Type 0} (r : Runs j y p ps) → Step (storage_of j) y j.mask p r.gathered es (storage_of j) y j.mask st → P es st → ShowsInStep j p ps P

@@ -1,5 +1,6 @@
 -- Exactness: a job that is safe in every run and steady has the verdict yes.
-use Rattle.std.proofs.Common.{◌≡◌, ℕ, zero, suc, ◌+◌, ◌<◌, ◌≤◌, List, [], ◌∷◌, ◌++◌, map, length, Some, None, refl, sym, ap, ◌∙◌, subst, ◌⊎◌, inl, inr, arith, rules}
+use Rattle.std.proofs.Common.{◌≡◌, ℕ, zero, suc, ◌+◌, ◌<◌, ◌≤◌, List, [], ◌∷◌, ◌++◌, map, length}
+use Rattle.std.proofs.Common.{Some, None, refl, sym, ap, ◌∙◌, subst, ◌⊎◌, inl, inr, arith, rules}
 use Rattle.std.specs.List.{AllByRecursion, range_with_len}
 use Rattle.std.proofs.lemmas.Bool.{both_ways}
 use Rattle.std.proofs.lemmas.List.FromFn.{length-map-range_with_len}
@@ -7,15 +8,23 @@ use Rattle.ccw_core.specs.Ccw.{byte}
 use Rattle.chan_walk.specs.declared.job.Job.{Job}
 use Rattle.chan_walk.specs.declared.place.Place.{Place}
 use Rattle.chan_walk.specs.declared.reason.Reason.{Reason}
-use Rattle.chan_walk.specs.declared.reason.Reason.TheVariants.{NotInTable, Inhibited, StoreNotLent, FetchNotLent, ShortSeek, SeekOutside, WeakensMask}
-use Rattle.chan_walk.specs.Alarm.{IsProper, ShowsInStep, ShowsInOperation, ShowsCheck, Shows, SafeIsYes, IsUsed, IsUsedIn, GuardedIsUsed, StaysSafe, HeadlineAloneIsEnough}
+use Rattle.chan_walk.specs.declared.reason.Reason.TheVariants.{NotInTable, Inhibited, StoreNotLent}
+use Rattle.chan_walk.specs.declared.reason.Reason.TheVariants.{FetchNotLent, ShortSeek, SeekOutside}
+use Rattle.chan_walk.specs.declared.reason.Reason.TheVariants.{WeakensMask}
+use Rattle.chan_walk.specs.Alarm.{IsProper, ShowsInStep, ShowsInOperation, ShowsCheck, Shows}
+use Rattle.chan_walk.specs.Alarm.{SafeIsYes, IsUsed, IsUsedIn, GuardedIsUsed, StaysSafe}
+use Rattle.chan_walk.specs.Alarm.{HeadlineAloneIsEnough}
 use Rattle.chan_walk.specs.Argument.{Has}
 use Rattle.chan_walk.specs.Check.{table_of_every_ccw, table_of_non_transfer}
-use Rattle.chan_walk.specs.Fault.{begins_recalibrate, begins_set_mask, table_of_own, HasFault, IsClear}
+use Rattle.chan_walk.specs.Fault.{begins_recalibrate, begins_set_mask, table_of_own, HasFault}
+use Rattle.chan_walk.specs.Fault.{IsClear}
 use Rattle.chan_walk.specs.Guarded.{IsGuarded}
-use Rattle.chan_walk.specs.Headline.{IsSafeEvent, IsUnchecked, IsSafeMoment, IsSteady, IsSafe, IsSpared}
+use Rattle.chan_walk.specs.Headline.{IsSafeEvent, IsUnchecked, IsSafeMoment, IsSteady, IsSafe}
+use Rattle.chan_walk.specs.Headline.{IsSpared}
 use Rattle.chan_walk.specs.Job.{storage_of}
-use Rattle.chan_walk.specs.Machine.{Stage, At, Ended, Checked, Event, Command, Store, Fetch, Seek, SetMask, IsStored, Moves, stored, ends, command_event, Step, carried}
+use Rattle.chan_walk.specs.Machine.{Stage, At, Ended, Checked, Event, Command, Store, Fetch, Seek}
+use Rattle.chan_walk.specs.Machine.{SetMask, IsStored, Moves, stored, ends, command_event, Step}
+use Rattle.chan_walk.specs.Machine.{carried}
 use Rattle.chan_walk.specs.Place.{ccw_of}
 use Rattle.chan_walk.specs.Reachable.{IsReachable}
 use Rattle.chan_walk.specs.Runs.{Moment, IsRun, IsRunAmong, Uses}
@@ -26,7 +35,8 @@ use Rattle.chan_walk.proofs.Theory.Faults.{clear_check, clear_good}
 use Rattle.chan_walk.proofs.Theory.Lists.{byte-map-range}
 use Rattle.chan_walk.proofs.Machine.Paths.{few_at}
 use Rattle.chan_walk.proofs.Machine.Yes.{each_ok, used_guarded, yes_is_safe_among, alone}
-use Rattle.chan_walk.proofs.Machine.Quiet.{full_count, inward_from, kind_at, bytes_at, can_home, can_mask, seek_at}
+use Rattle.chan_walk.proofs.Machine.Quiet.{full_count, inward_from, kind_at, bytes_at, can_home}
+use Rattle.chan_walk.proofs.Machine.Quiet.{can_mask, seek_at}
 use Rattle.chan_walk.proofs.Theory.Granting.{stores_parts}
 
 -- ---- what a run shows for an own fault isn't safe

@@ -1,5 +1,7 @@
 -- The operation of a seek, carried on to its end: to a whole argument, or to what stops it before.
-use Rattle.std.proofs.Common.{◌≡◌, ℕ, zero, suc, ◌+◌, ◌-◌, ◌<◌, ◌≤◌, min, true, false, List, [], ◌∷◌, ◌++◌, length, Option, Some, None, refl, sym, ap, subst, ◌⊎◌, inl, inr, arith, rules}
+use Rattle.std.proofs.Common.{◌≡◌, ℕ, zero, suc, ◌+◌, ◌-◌, ◌<◌, ◌≤◌, min, true, false, List, []}
+use Rattle.std.proofs.Common.{◌∷◌, ◌++◌, length, Option, Some, None, refl, sym, ap, subst, ◌⊎◌, inl}
+use Rattle.std.proofs.Common.{inr, arith, rules}
 use Rattle.std.specs.List.{AllByRecursion}
 use Rattle.std.proofs.lemmas.Bool.{cases_lt, cases_Bool, and_parts}
 use Rattle.ccw_core.specs.Ccw.{Fields, ccw, is_transfer, chains_data}
@@ -8,22 +10,29 @@ use Rattle.chan_walk.specs.declared.job.Job.{Job}
 use Rattle.chan_walk.specs.declared.place.Entry.TheVariants.{ChainOut}
 use Rattle.chan_walk.specs.declared.place.Place.{Place}
 use Rattle.chan_walk.specs.declared.reason.Reason.{Reason}
-use Rattle.chan_walk.specs.Alarm.{AreBytes, IsQuiet, IsQuietMoment, ArePlaces, NoSeek, StaysInOperation, ShowsInOperation}
+use Rattle.chan_walk.specs.Alarm.{AreBytes, IsQuiet, IsQuietMoment, ArePlaces, NoSeek}
+use Rattle.chan_walk.specs.Alarm.{StaysInOperation, ShowsInOperation}
 use Rattle.chan_walk.specs.Argument.{Has, is_part, Leads, IsChain, argument_addresses, argument}
 use Rattle.chan_walk.specs.Check.{check}
 use Rattle.chan_walk.specs.Fault.{begins_seek, begins_recalibrate}
 use Rattle.chan_walk.specs.Headline.{ComesTo, IsGathered}
 use Rattle.chan_walk.specs.Job.{storage_of}
-use Rattle.chan_walk.specs.Machine.{Gathered, Stage, At, Ended, Checked, Event, Seek, taken, with_taken, under_way, Continues, ends, on_data, on_short, Step, checked, transferred}
+use Rattle.chan_walk.specs.Machine.{Gathered, Stage, At, Ended, Checked, Event, Seek, taken}
+use Rattle.chan_walk.specs.Machine.{with_taken, under_way, Continues, ends, on_data, on_short, Step}
+use Rattle.chan_walk.specs.Machine.{checked, transferred}
 use Rattle.chan_walk.specs.Place.{is_fresh, straight_to, transferred_to, ccw_of}
 use Rattle.chan_walk.specs.Runs.{Moment, IsRun, UsesIn, UsesInArgument}
 use Rattle.chan_walk.specs.Successors.{chained}
-use Rattle.chan_walk.proofs.Theory.Chains.{part_is_no_transfer, part_counts, chain_begins_with_part, chain_cons}
-use Rattle.chan_walk.proofs.Theory.Checks.{check_stands, part_passes, passed_is_part, no_second_transfer, transfer_passes}
+use Rattle.chan_walk.proofs.Theory.Chains.{part_is_no_transfer, part_counts, chain_begins_with_part}
+use Rattle.chan_walk.proofs.Theory.Chains.{chain_cons}
+use Rattle.chan_walk.proofs.Theory.Checks.{check_stands, part_passes, passed_is_part}
+use Rattle.chan_walk.proofs.Theory.Checks.{no_second_transfer, transfer_passes}
 use Rattle.chan_walk.proofs.Theory.Commands.{seek_no_recalibrate}
 use Rattle.chan_walk.proofs.Machine.Gathering.{Advance, advance, at_next, transfer_on}
 use Rattle.chan_walk.proofs.Theory.Lists.{has_cases}
-use Rattle.chan_walk.proofs.Machine.Quiet.{full_count, IsFew, length-with_taken, kind_at, bytes_at, Known, Left, UsesTaken, CanSeek, seek_at, Carried, carry_out}
+use Rattle.chan_walk.proofs.Machine.Quiet.{full_count, IsFew, length-with_taken, kind_at, bytes_at}
+use Rattle.chan_walk.proofs.Machine.Quiet.{Known, Left, UsesTaken, CanSeek, seek_at, Carried}
+use Rattle.chan_walk.proofs.Machine.Quiet.{carry_out}
 use Rattle.chan_walk.proofs.Machine.Yes.{fresh_out}
 
 module _ (j : Job) (bytes : AreBytes (storage_of j)) where

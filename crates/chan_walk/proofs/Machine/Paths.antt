@@ -1,5 +1,7 @@
 -- Each path is the places of a run that changes nothing.
-use Rattle.std.proofs.Common.{◌≡◌, ℕ, ◌+◌, ◌<◌, ◌≤◌, Bool, true, false, if◌then◌else◌, List, [], ◌∷◌, length, Option, Some, None, is_none, refl, sym, ap, ◌∙◌, subst, arith, rules}
+use Rattle.std.proofs.Common.{◌≡◌, ℕ, ◌+◌, ◌<◌, ◌≤◌, Bool, true, false, if◌then◌else◌, List, []}
+use Rattle.std.proofs.Common.{◌∷◌, length, Option, Some, None, is_none, refl, sym, ap, ◌∙◌, subst}
+use Rattle.std.proofs.Common.{arith, rules}
 use Rattle.std.specs.List.{AllByRecursion}
 use Rattle.std.proofs.lemmas.Bool.{and_from, or_left, le-leb, both_ways}
 use Rattle.std.proofs.lemmas.List.{length-map}
@@ -10,21 +12,25 @@ use Rattle.ckd_core.specs.Cylinders.{has_cylinder, AreExtents}
 use Rattle.chan_walk.specs.declared.job.Job.{Job}
 use Rattle.chan_walk.specs.declared.place.Entry.TheVariants.{Fresh, ChainOut}
 use Rattle.chan_walk.specs.declared.place.Place.{Place}
-use Rattle.chan_walk.specs.Alarm.{AreBytes, first_cylinder, IsQuiet, IsQuietMoment, ArePlaces, EachPathIsRun}
+use Rattle.chan_walk.specs.Alarm.{AreBytes, first_cylinder, IsQuiet, IsQuietMoment, ArePlaces}
+use Rattle.chan_walk.specs.Alarm.{EachPathIsRun}
 use Rattle.chan_walk.specs.Argument.{HasArgument}
 use Rattle.chan_walk.specs.Fault.{kind_of, begins_seek, IsClear}
 use Rattle.chan_walk.specs.Headline.{IsGathered}
 use Rattle.chan_walk.specs.Job.{storage_of, extents_of}
-use Rattle.chan_walk.specs.Machine.{Gathered, At, Event, under_way, Continues, on_data, on_command, on_skip, Step, transferred}
+use Rattle.chan_walk.specs.Machine.{Gathered, At, Event, under_way, Continues, on_data, on_command}
+use Rattle.chan_walk.specs.Machine.{on_skip, Step, transferred}
 use Rattle.chan_walk.specs.Place.{straight_to, transferred_to, ccw_of}
 use Rattle.chan_walk.specs.Reachable.{IsPath}
 use Rattle.chan_walk.specs.Runs.{Moment, IsRun}
 use Rattle.chan_walk.specs.Successors.{chained}
 use Rattle.chan_walk.proofs.Theory.Faults.{IsGood, clear_check, clear_good}
-use Rattle.chan_walk.proofs.Theory.Follows.{Follows, by_transfer, by_data, by_command, by_skip, follows}
+use Rattle.chan_walk.proofs.Theory.Follows.{Follows, by_transfer, by_data, by_command, by_skip}
+use Rattle.chan_walk.proofs.Theory.Follows.{follows}
 use Rattle.chan_walk.proofs.Machine.Gathering.{Advance, advance, transfer_on, begin}
 use Rattle.chan_walk.proofs.Machine.Invariant.{chained_out}
-use Rattle.chan_walk.proofs.Machine.Quiet.{full_count, IsFew, kind_at, bytes_at, Left, seek_at, carry_out}
+use Rattle.chan_walk.proofs.Machine.Quiet.{full_count, IsFew, kind_at, bytes_at, Left, seek_at}
+use Rattle.chan_walk.proofs.Machine.Quiet.{carry_out}
 use Rattle.chan_walk.proofs.Machine.Yes.{fresh_out}
 
 first_inside : (es : List (ℕ × ℕ)) → AreExtents es → has_cylinder es (first_cylinder es) ≡ true

@@ -1,5 +1,7 @@
 -- A step that carries a CCW out with all its bytes, stores only what was there, and leaves the arm where it stands.
-use Rattle.std.proofs.Common.{◌≡◌, ℕ, zero, suc, ◌+◌, ◌-◌, ◌<◌, ◌≤◌, min, Bool, true, false, if◌then◌else◌, List, [], ◌∷◌, ◌++◌, map, length, Some, None, refl, sym, ap, ◌∙◌, ◌⊎◌, inl, inr, arith, length-append, rules}
+use Rattle.std.proofs.Common.{◌≡◌, ℕ, zero, suc, ◌+◌, ◌-◌, ◌<◌, ◌≤◌, min, Bool, true, false}
+use Rattle.std.proofs.Common.{if◌then◌else◌, List, [], ◌∷◌, ◌++◌, map, length, Some, None, refl}
+use Rattle.std.proofs.Common.{sym, ap, ◌∙◌, ◌⊎◌, inl, inr, arith, length-append, rules}
 use Rattle.std.specs.List.{AllByRecursion, range_with_len}
 use Rattle.std.proofs.lemmas.Bool.{cases_lt, cases_Bool, both_ways}
 use Rattle.std.proofs.lemmas.List.{length-map}
@@ -12,9 +14,14 @@ use Rattle.chan_walk.specs.declared.place.Place.{Place}
 use Rattle.chan_walk.specs.Alarm.{AreBytes, IsQuiet, NoSeek}
 use Rattle.chan_walk.specs.Argument.{Has}
 use Rattle.chan_walk.specs.Check.{check}
-use Rattle.chan_walk.specs.Fault.{kind_of, goes_in, goes_out, is_known, begins_recalibrate, begins_set_mask}
+use Rattle.chan_walk.specs.Fault.{kind_of, goes_in, goes_out, is_known, begins_recalibrate}
+use Rattle.chan_walk.specs.Fault.{begins_set_mask}
 use Rattle.chan_walk.specs.Job.{storage_of}
-use Rattle.chan_walk.specs.Machine.{Gathered, Stage, Event, Command, Store, Fetch, Gather, Seek, SetMask, home, Moves, idle, skipped, stored, written, searched, taken, with_taken, Seeks, none, part, stays, under_way, Recalibration, no_home, home_stays, SetsMask, no_mask, no_byte, mask_stays, Continues, command_event, Step, carried}
+use Rattle.chan_walk.specs.Machine.{Gathered, Stage, Event, Command, Store, Fetch, Gather, Seek}
+use Rattle.chan_walk.specs.Machine.{SetMask, home, Moves, idle, skipped, stored, written, searched}
+use Rattle.chan_walk.specs.Machine.{taken, with_taken, Seeks, none, part, stays, under_way}
+use Rattle.chan_walk.specs.Machine.{Recalibration, no_home, home_stays, SetsMask, no_mask, no_byte}
+use Rattle.chan_walk.specs.Machine.{mask_stays, Continues, command_event, Step, carried}
 use Rattle.chan_walk.specs.Place.{is_fresh, ccw_of}
 use Rattle.chan_walk.specs.Runs.{UsesIn}
 use Rattle.chan_walk.proofs.Machine.Events.{uses_left, uses_right, no_seek_append}

@@ -1,5 +1,7 @@
 -- Where the verdict is yes: guarded bytes never change, every place is reachable, every run is safe and the job is steady.
-use Rattle.std.proofs.Common.{◌≡◌, ℕ, Bool, true, false, if◌then◌else◌, List, [], ◌∷◌, length, Option, Some, None, is_none, refl, sym, ap, ◌∙◌, subst, ◌⊎◌, inl, inr, rules}
+use Rattle.std.proofs.Common.{◌≡◌, ℕ, Bool, true, false, if◌then◌else◌, List, [], ◌∷◌, length}
+use Rattle.std.proofs.Common.{Option, Some, None, is_none, refl, sym, ap, ◌∙◌, subst, ◌⊎◌, inl, inr}
+use Rattle.std.proofs.Common.{rules}
 use Rattle.std.specs.List.{AllByRecursion}
 use Rattle.std.proofs.lemmas.Bool.{both_ways, not-false}
 use Rattle.ccw_core.specs.Ccw.{byte, Fields, ccw, is_transfer}
@@ -13,19 +15,24 @@ use Rattle.chan_walk.specs.Argument.{HasArgument}
 use Rattle.chan_walk.specs.Check.{check, check_of}
 use Rattle.chan_walk.specs.Fault.{kind_of, is_known, begins_seek, allows, is_refused, IsClear}
 use Rattle.chan_walk.specs.Guarded.{IsGuarded}
-use Rattle.chan_walk.specs.Headline.{IsUnchecked, IsSafeMoment, IsSafeEvent, Holds, YesIsSafe, YesIsSafeAmong, IsSpared, IsAtReachable, GathersPart, GuardedStays, StaysReachable, GathersArguments}
+use Rattle.chan_walk.specs.Headline.{IsUnchecked, IsSafeMoment, IsSafeEvent, Holds, YesIsSafe}
+use Rattle.chan_walk.specs.Headline.{YesIsSafeAmong, IsSpared, IsAtReachable, GathersPart}
+use Rattle.chan_walk.specs.Headline.{GuardedStays, StaysReachable, GathersArguments}
 use Rattle.chan_walk.specs.Job.{storage_of, HasMask}
-use Rattle.chan_walk.specs.Machine.{Gathered, Stage, At, Ended, Checked, Event, Step, checked, transferred, unknown, carried, StepFrom}
+use Rattle.chan_walk.specs.Machine.{Gathered, Stage, At, Ended, Checked, Event, Step, checked}
+use Rattle.chan_walk.specs.Machine.{transferred, unknown, carried, StepFrom}
 use Rattle.chan_walk.specs.Place.{transferred_to, ccw_of}
 use Rattle.chan_walk.specs.Reachable.{IsReachable}
-use Rattle.chan_walk.specs.Runs.{Moment, IsStart, IsRun, Steps, IsSameIn, IsRunAmong, UsesAt, UsesIn, UsesInCcw, UsesInArgument, Uses}
+use Rattle.chan_walk.specs.Runs.{Moment, IsStart, IsRun, Steps, IsSameIn, IsRunAmong, UsesAt}
+use Rattle.chan_walk.specs.Runs.{UsesIn, UsesInCcw, UsesInArgument, Uses}
 use Rattle.chan_walk.specs.Verdict.{IsVerdict, MayStoreOver}
 use Rattle.chan_walk.proofs.Theory.Checks.{check_stands}
 use Rattle.chan_walk.proofs.Theory.Commands.{seek_is_outward}
 use Rattle.chan_walk.proofs.Theory.Faults.{IsGood, clear_check, clear_good, yes_clear}
 use Rattle.chan_walk.proofs.Theory.Follows.{Follows, by_transfer, succeeds}
 use Rattle.chan_walk.proofs.Machine.Gathering.{advance, transfer_on, begin}
-use Rattle.chan_walk.proofs.Machine.Invariant.{Under, IsKept, Same, Invariant, Coming, Comes, Here, Stepped, carried_ok}
+use Rattle.chan_walk.proofs.Machine.Invariant.{Under, IsKept, Same, Invariant, Coming, Comes, Here}
+use Rattle.chan_walk.proofs.Machine.Invariant.{Stepped, carried_ok}
 use Rattle.chan_walk.proofs.Machine.Storing.{StoresAt, step_only}
 use Rattle.chan_walk.proofs.Machine.Waiting.{WaitsSpared, waits_kept}
 use Rattle.chan_walk.proofs.Theory.Lists.{all_map}

@@ -1,5 +1,6 @@
 -- What covered ranges and allowed arguments say of each byte and cylinder.
-use Rattle.std.proofs.Common.{◌≡◌, ℕ, zero, suc, ◌+◌, ◌<◌, ◌≤◌, true, false, List, refl, arith, rules}
+use Rattle.std.proofs.Common.{◌≡◌, ℕ, zero, suc, ◌+◌, ◌<◌, ◌≤◌, true, false, List, refl, arith}
+use Rattle.std.proofs.Common.{rules}
 use Rattle.std.proofs.lemmas.Bool.{cases_lt, and_parts, and_cases, and_from, lt-ltb}
 use Rattle.ccw_core.specs.declared.areas.Area.{Area}
 use Rattle.ccw_core.specs.Areas.{lies_in, covered}

@@ -1,10 +1,13 @@
 -- Chains of CCWs that give the bytes of an argument: there is one or there is none, and there is at most one.
-use Rattle.std.proofs.Common.{◌≡◌, ℕ, zero, suc, ◌-◌, ◌<◌, ◌≤◌, true, false, List, [], ◌∷◌, ◌++◌, take, Option, Some, None, refl, sym, ap, ◌∙◌, subst, ◌⊎◌, inl, inr, arith, rules}
+use Rattle.std.proofs.Common.{◌≡◌, ℕ, zero, suc, ◌-◌, ◌<◌, ◌≤◌, true, false, List, [], ◌∷◌, ◌++◌}
+use Rattle.std.proofs.Common.{take, Option, Some, None, refl, sym, ap, ◌∙◌, subst, ◌⊎◌, inl, inr}
+use Rattle.std.proofs.Common.{arith, rules}
 use Rattle.std.specs.List.{range_with_len}
 use Rattle.std.proofs.lemmas.Bool.{cases_lt, cases_Bool, and_from, both_ways}
 use Rattle.ccw_core.specs.Ccw.{ccw, is_transfer, is_counted, chains_data}
 use Rattle.chan_walk.specs.Onward.{onward}
-use Rattle.chan_walk.specs.Argument.{Has, is_part, Leads, AreLinked, BeginsAt, IsChain, HasArgument, argument_addresses, argument, joined}
+use Rattle.chan_walk.specs.Argument.{Has, is_part, Leads, AreLinked, BeginsAt, IsChain, HasArgument}
+use Rattle.chan_walk.specs.Argument.{argument_addresses, argument, joined}
 
 pub part_is_no_transfer : (s : List ℕ) (a : ℕ) → is_part s a ≡ true → is_transfer (ccw s a) ≡ false
 unfolding is_part

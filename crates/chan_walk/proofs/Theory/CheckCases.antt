@@ -1,12 +1,15 @@
 -- The program check of a place, case by case.
-use Rattle.std.proofs.Common.{◌≡◌, ℕ, ◌%◌, true, false, not, ◌&&◌, if◌then◌else◌, List, [], ◌∷◌, length, Some, None, refl, ◌∙◌, rules}
+use Rattle.std.proofs.Common.{◌≡◌, ℕ, ◌%◌, true, false, not, ◌&&◌, if◌then◌else◌, List, [], ◌∷◌}
+use Rattle.std.proofs.Common.{length, Some, None, refl, ◌∙◌, rules}
 use Rattle.std.specs.Bool.{then_some}
 use Rattle.std.specs.Option.{option_or}
 use Rattle.ccw_core.specs.Ccw.{Fields, is_transfer, is_formed, is_counted, has_data_in}
 use Rattle.ccw_core.specs.Storage.{ccw_at, is_aligned, is_inside}
-use Rattle.ccw_core.proofs.StorageLemmas.{is_aligned-true, is_aligned-false, ccw_at-some, ccw_at-none}
+use Rattle.ccw_core.proofs.StorageLemmas.{is_aligned-true, is_aligned-false, ccw_at-some}
+use Rattle.ccw_core.proofs.StorageLemmas.{ccw_at-none}
 use Rattle.chan_walk.specs.declared.place.Place.{Place}
-use Rattle.chan_walk.specs.declared.reason.Reason.TheVariants.{Misaligned, OutsideStorage, TransferNotAllowed}
+use Rattle.chan_walk.specs.declared.reason.Reason.TheVariants.{Misaligned, OutsideStorage}
+use Rattle.chan_walk.specs.declared.reason.Reason.TheVariants.{TransferNotAllowed}
 use Rattle.chan_walk.specs.Argument.{is_part}
 use Rattle.chan_walk.specs.Check.{first_reason, table_of_non_transfer, check_of, check}
 

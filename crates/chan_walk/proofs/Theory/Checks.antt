@@ -1,5 +1,6 @@
 -- What it says of a place that it meets a program check, or none.
-use Rattle.std.proofs.Common.{◌≡◌, ℕ, ◌+◌, ◌≤◌, Bool, true, false, cond, if◌then◌else◌, List, [], ◌∷◌, length, Option, Some, None, refl, ◌⊎◌, rules}
+use Rattle.std.proofs.Common.{◌≡◌, ℕ, ◌+◌, ◌≤◌, Bool, true, false, cond, if◌then◌else◌, List, []}
+use Rattle.std.proofs.Common.{◌∷◌, length, Option, Some, None, refl, ◌⊎◌, rules}
 use Rattle.std.specs.List.{AllByRecursion}
 use Rattle.std.specs.Option.{option_or}
 use Rattle.std.proofs.lemmas.Bool.{cases_Bool, leb-true}
@@ -9,7 +10,8 @@ use Rattle.chan_walk.specs.declared.place.Place.{Place}
 use Rattle.chan_walk.specs.declared.reason.Reason.{Reason}
 use Rattle.chan_walk.specs.declared.reason.Reason.TheVariants.{TransferNotAllowed}
 use Rattle.chan_walk.specs.Argument.{is_part}
-use Rattle.chan_walk.specs.Check.{first_reason, table_of_every_ccw, table_of_non_transfer, check_of, check}
+use Rattle.chan_walk.specs.Check.{first_reason, table_of_every_ccw, table_of_non_transfer, check_of}
+use Rattle.chan_walk.specs.Check.{check}
 use Rattle.chan_walk.specs.Place.{is_fresh}
 
 pub cond_none : (b : Bool) (r : Reason) (o : Option Reason) → cond b (Some r) o ≡ None → (b ≡ false) × (o ≡ None)

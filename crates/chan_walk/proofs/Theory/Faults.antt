@@ -1,5 +1,6 @@
 -- What it says of a place that it has no own fault.
-use Rattle.std.proofs.Common.{◌≡◌, ℕ, Bool, true, false, not, ◌&&◌, List, Option, Some, None, is_none, refl, sym, ap, ◌∙◌, inl, rules}
+use Rattle.std.proofs.Common.{◌≡◌, ℕ, Bool, true, false, not, ◌&&◌, List, Option, Some, None}
+use Rattle.std.proofs.Common.{is_none, refl, sym, ap, ◌∙◌, inl, rules}
 use Rattle.std.proofs.lemmas.Bool.{not-false, cond-false, or_parts}
 use Rattle.ccw_core.specs.Areas.{covered}
 use Rattle.ccw_core.specs.Ccw.{byte, Fields, is_transfer, skips}
@@ -10,7 +11,9 @@ use Rattle.chan_walk.specs.declared.place.Place.{Place}
 use Rattle.chan_walk.specs.declared.reason.Reason.{Reason}
 use Rattle.chan_walk.specs.declared.verdict.Verdict.TheVariants.{Yes}
 use Rattle.chan_walk.specs.Check.{check}
-use Rattle.chan_walk.specs.Fault.{kind_of, goes_in, goes_out, is_known, begins_seek, begins_recalibrate, begins_set_mask, is_refused, fault_with, HasFault, IsClear}
+use Rattle.chan_walk.specs.Fault.{kind_of, goes_in, goes_out, is_known, begins_seek}
+use Rattle.chan_walk.specs.Fault.{begins_recalibrate, begins_set_mask, is_refused, fault_with}
+use Rattle.chan_walk.specs.Fault.{HasFault, IsClear}
 use Rattle.chan_walk.specs.Job.{storage_of, extents_of, fetch_of, store_of}
 use Rattle.chan_walk.specs.Place.{is_fresh, ccw_of}
 use Rattle.chan_walk.specs.Verdict.{IsVerdict, AreClear}

@@ -1,5 +1,7 @@
 -- The whole table of own faults: its first reason is the own fault, and its numbers increase.
-use Rattle.std.proofs.Common.{◌≡◌, ℕ, zero, suc, ◌+◌, ◌<◌, Bool, true, false, if◌then◌else◌, List, [], ◌∷◌, ◌++◌, append-nil, length, slice_index, Option, None, sym, ap, ◌∙◌, subst, arith, rules}
+use Rattle.std.proofs.Common.{◌≡◌, ℕ, zero, suc, ◌+◌, ◌<◌, Bool, true, false, if◌then◌else◌, List}
+use Rattle.std.proofs.Common.{[], ◌∷◌, ◌++◌, append-nil, length, slice_index, Option, None, sym, ap}
+use Rattle.std.proofs.Common.{◌∙◌, subst, arith, rules}
 use Rattle.std.specs.List.Sorted.{IsStrictlyIncreasing}
 use Rattle.std.specs.Option.{option_or}
 use Rattle.ccw_core.specs.Ccw.{Fields, is_transfer}

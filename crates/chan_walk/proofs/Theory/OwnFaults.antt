@@ -1,5 +1,7 @@
 -- The own fault of a place, put together from its parts.
-use Rattle.std.proofs.Common.{◌≡◌, Bool, true, false, ◌||◌, if◌then◌else◌, List, [], ◌∷◌, ◌++◌, Option, Some, None, ℕ, ◌+◌, ◌<◌, ◌≤◌, length, refl, sym, ap, ◌∙◌, subst, arith, rules}
+use Rattle.std.proofs.Common.{◌≡◌, Bool, true, false, ◌||◌, if◌then◌else◌, List, [], ◌∷◌, ◌++◌}
+use Rattle.std.proofs.Common.{Option, Some, None, ℕ, ◌+◌, ◌<◌, ◌≤◌, length, refl, sym, ap, ◌∙◌}
+use Rattle.std.proofs.Common.{subst, arith, rules}
 use Rattle.std.specs.Option.{option_or}
 use Rattle.ccw_core.specs.Ccw.{Fields, ccw, has_data_in, is_counted, is_transfer}
 use Rattle.std.proofs.lemmas.Bool.{and_parts, and_right, cond-false, leb-true, ltb-true}
@@ -8,7 +10,8 @@ use Rattle.chan_walk.specs.declared.job.Job.{Job}
 use Rattle.chan_walk.specs.declared.place.Place.{Place}
 use Rattle.chan_walk.specs.declared.reason.Reason.{Reason}
 use Rattle.chan_walk.specs.Check.{first_reason, check}
-use Rattle.chan_walk.specs.Fault.{begins_seek, begins_recalibrate, command_faults, lent_faults, seek_faults, mask_faults, table_of_own, HasFault}
+use Rattle.chan_walk.specs.Fault.{begins_seek, begins_recalibrate, command_faults, lent_faults}
+use Rattle.chan_walk.specs.Fault.{seek_faults, mask_faults, table_of_own, HasFault}
 use Rattle.chan_walk.specs.Job.{storage_of, extents_of}
 use Rattle.chan_walk.specs.Place.{ccw_of}
 use Rattle.chan_walk.specs.Tables.{argument_faults, HasSeekFault}

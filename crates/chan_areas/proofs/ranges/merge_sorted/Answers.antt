@@ -1,6 +1,7 @@
 use Rattle.std.proofs.Common.{◌++◌, [], ◌∷◌, ◌∙◌, arith, rules, refl, sym, subst}
 use Rattle.chan_areas.specs.Ranges.{IsMerged}
-use Rattle.chan_areas.proofs.Merging.{runs_first, bytes_first, order_next, bytes_next, bytes_end, bytes_empty, merged_push}
+use Rattle.chan_areas.proofs.Merging.{runs_first, bytes_first, order_next, bytes_next, bytes_end}
+use Rattle.chan_areas.proofs.Merging.{bytes_empty, merged_push}
 use Rattle.std.proofs.lemmas.List.{get_or_default}
 use Rattle.chan_areas.proofs.ranges.merge_sorted.Goals as goal
 

@@ -1,7 +1,7 @@
 use Rattle.std.proofs.Common.{◌∙◌, ◌≡◌, List, [], ap, map, rules, string_bytes, subst, sym, true}
 use Rattle.clap.specs.Walk.{Text}
 use Rattle.chan_args.proofs.TakenLines.{taken_is_known}
-use Rattle.chan_args.specs.CommandLine.{AsksFor, IsKnown, IsTaken}
+use Rattle.chan_args.specs.CommandLine.{AsksFor, IsKnown, IsAccepted}
 use Rattle.chan_args.specs.Lines.{chanv}
 use Rattle.chan_args.proofs.Names.{App, ArgMatches, HasKind, HasMatchesOf, fault_of, is_simple}
 use Rattle.chan_args.proofs.Names.{is_simple_and_free, subcommand_of, subcommand_rows_of}
@@ -12,7 +12,7 @@ met_of : (a : App) (words : List Text) (m : ArgMatches) → a ≡ chanv → HasM
 met_of a words m is matches = (matches (ap is_simple is)).1 ∙ ap (λ x. subcommand_of x words) is
 
 taken_of : (a : App) (words : List Text) → a ≡ chanv → (is_simple_and_free a ≡ true
-    → fault_of a words ≡ []) → IsTaken words
+    → fault_of a words ≡ []) → IsAccepted words
 taken_of a words is kinds = ap (λ x. fault_of x words) (sym is) ∙ kinds (ap is_simple_and_free is)
 
 pub request_of-requires : goal.request_of-requires

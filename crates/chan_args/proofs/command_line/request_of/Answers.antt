@@ -6,7 +6,7 @@ use Rattle.clap.specs.Words.{subcommand_name_of}
 use Rattle.chan_args.specs.declared.action.Action.TheVariants as actions
 use Rattle.std.proofs.Common.{Err, IfOk, Ok, Result}
 use Rattle.chan_args.specs.CommandLine.{AsksFor, IsAllAsMet, IsKnown, MakesDeck, RunsOver}
-use Rattle.chan_args.specs.CommandLine.{name_met, name_of}
+use Rattle.chan_args.specs.CommandLine.{name_met, action_name}
 use Rattle.chan_args.specs.ImageLine.{is_flagged}
 use Rattle.chan_args.specs.declared.command_line.Request.{Request}
 use Rattle.chan_args.specs.declared.command_line.Request.TheVariants.{Grants, Image}
@@ -78,11 +78,11 @@ makes_deck rows (Err e) makes = tt
 -- what runs over the files of what was met is asked for by the command of the action
 runs_over : {E : Type 0} (action : Action) (rows : List Row) (r : Result Request E)
     → IsAllAsMet action rows → IfOk r (RunsOver action (files_in rows))
-    → IfOk r (AsksFor (Some (name_of action, rows)))
+    → IfOk r (AsksFor (Some (action_name action, rows)))
 runs_over action rows (Ok (Run a)) all (is, input) =
-    (sym (ap name_of is), (refl, input), subst (λ x. IsAllAsMet x rows) (sym is) all)
+    (sym (ap action_name is), (refl, input), subst (λ x. IsAllAsMet x rows) (sym is) all)
 runs_over action rows (Ok (RunNamed a names)) all (is, unlike, named) =
-    (sym (ap name_of is), (refl, unlike, named), subst (λ x. IsAllAsMet x rows) (sym is) all)
+    (sym (ap action_name is), (refl, unlike, named), subst (λ x. IsAllAsMet x rows) (sym is) all)
 runs_over action rows (Ok r) all runs = absurd runs
 runs_over action rows (Err e) all runs = tt
 

@@ -1,4 +1,5 @@
-use Rattle.std.proofs.Common.{◌≡◌, ◌∷◌, ◌/◌, ◌%◌, List, [], ℕ, length, sym, ap, ◌∙◌, refl, ◌-◌, arith, ◌++◌, length-drop}
+use Rattle.std.proofs.Common.{◌≡◌, ◌∷◌, ◌/◌, ◌%◌, List, [], ℕ, length, sym, ap, ◌∙◌, refl, ◌-◌}
+use Rattle.std.proofs.Common.{arith, ◌++◌, length-drop}
 use Rattle.std.specs.Int.{bytes_high_first}
 use Rattle.std.proofs.lemmas.List.{append-nil}
 use Rattle.hex.specs.Hex.{encode_upper}

@@ -1,4 +1,5 @@
-use Rattle.chan_deck.specs.Item.{header, device, mask, start, limit, extent, fetch, store, storage, put, end}
+use Rattle.chan_deck.specs.Item.{header, device, mask, start, limit, extent, fetch, store, storage}
+use Rattle.chan_deck.specs.Item.{put, end}
 use Rattle.chan_deck.proofs.item.other_item.Goals as goal
 
 pub returns : goal.returns

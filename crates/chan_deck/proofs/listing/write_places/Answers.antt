@@ -1,6 +1,6 @@
 use Rattle.std.proofs.Common.{◌∷◌, [], ◌∙◌, ◌++◌, ap, sym, append_assoc, append-nil}
 use Rattle.chan_walk.specs.Job.{storage_of}
-use Rattle.chan_deck.specs.Listing.{row_of}
+use Rattle.chan_deck.specs.Listing.{marked_row}
 use Rattle.chan_deck.proofs.Failures.{not_failed}
 use Rattle.chan_deck.proofs.Pieces.{line_added, line_begun, lines_begun}
 use Rattle.chan_deck.proofs.listing.write_places.Goals as goal
@@ -12,7 +12,7 @@ loop-place-preserved g c =
     record {
       all = append_assoc ps (c.in-Some.place ∷ []) c.next.new.self ∙ ap (λ z. ps ++ z) (sym c.in-Some.ensures.steps) ∙ c.loop-place.invariant.all;
       sound = not_failed _ _ _ c.in_ok-write_row.ensures.write.1;
-      lines = line_added (row_of (storage_of c.args.job.now) c.args.verdict) ps c.in-Some.place c.loop-place.invariant.lines row;
+      lines = line_added (marked_row (storage_of c.args.job.now) c.args.verdict) ps c.in-Some.place c.loop-place.invariant.lines row;
     }
 
 pub returns-in_err-write_row-clause-prefix : goal.returns-in_err-write_row-clause-prefix
@@ -20,7 +20,7 @@ returns-in_err-write_row-clause-prefix g c =
     let ps = c.loop-place.yielded in
     let row = simp (c.is_named-marked.ensures, c.standing_at-ccw.ensures.ccw, c.standing_at-ccw.ensures.command) at c.write_row.ensures.prefix in
     let all = ap (λ z. ps ++ z) (sym c.in-Some.ensures.steps) ∙ c.loop-place.invariant.all in
-    rw (← all) (line_begun (row_of (storage_of c.args.job.now) c.args.verdict) ps c.in-Some.place c.next.new.self c.loop-place.invariant.lines row)
+    rw (← all) (line_begun (marked_row (storage_of c.args.job.now) c.args.verdict) ps c.in-Some.place c.next.new.self c.loop-place.invariant.lines row)
 
 pub returns-clause-ok : goal.returns-clause-ok
 returns-clause-ok g c =

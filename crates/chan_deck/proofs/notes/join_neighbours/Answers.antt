@@ -1,4 +1,5 @@
-use Rattle.std.proofs.Common.{◌≡◌, ◌∙◌, ◌∷◌, [], ◌++◌, ap, sym, List, ℕ, add-one, append_assoc, drop, drop-cons, get_or, length, true, false, ◌+◌, ◌<◌, ◌≤◌}
+use Rattle.std.proofs.Common.{◌≡◌, ◌∙◌, ◌∷◌, [], ◌++◌, ap, sym, List, ℕ, add-one, append_assoc}
+use Rattle.std.proofs.Common.{drop, drop-cons, get_or, length, true, false, ◌+◌, ◌<◌, ◌≤◌}
 use Rattle.std.proofs.lemmas.List.{drop_all}
 use Rattle.ccw_core.specs.declared.areas.Area.{Area}
 use Rattle.chan_deck.specs.Notes.{adjoin, joined_from, together}

@@ -1,6 +1,6 @@
 use Rattle.std.proofs.Common.{◌≡◌, ◌∙◌, ◌*◌, ◌/◌, ◌++◌, ap, subst, replicate, List, ℕ}
 use Rattle.chan_deck.specs.Image.{HasLimit, spelling}
-use Rattle.chan_deck.specs.Parts.{image_of, storage_with}
+use Rattle.chan_deck.specs.Parts.{image_of_parts, storage_with}
 use Rattle.chan_deck.specs.declared.version.Version.{Version}
 use Rattle.chan_deck.proofs.PartLemmas.{from_facts, parts_deck}
 use Rattle.chan_deck.proofs.parts.parts_text.Goals as goal
@@ -14,6 +14,6 @@ returns c =
     from_facts c.text_of.result c.text_of.ensures.text c.text_of.ensures.limit c.text_of.ensures.mask c.text_of.ensures.extents
     (λ text spelled limited masked cylinders. (
       parts_deck p c.requires.size c.requires.addresses (subst (λ (v : Version). HasLimit v) c.version_of.ensures limited) masked cylinders c.in_ok-bytes.ensures.image,
-      spelled ∙ ap (λ (s : List ℕ). spelling (record (image_of p) { version = version; storage = s })) storage
-          ∙ ap (λ (v : Version). spelling (record (image_of p) { version = v })) c.version_of.ensures,
+      spelled ∙ ap (λ (s : List ℕ). spelling (record (image_of_parts p) { version = version; storage = s })) storage
+          ∙ ap (λ (v : Version). spelling (record (image_of_parts p) { version = v })) c.version_of.ensures,
     ))

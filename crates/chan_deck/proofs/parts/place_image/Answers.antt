@@ -1,4 +1,5 @@
-use Rattle.std.proofs.Common.{◌≡◌, ◌∙◌, ◌+◌, ◌++◌, ap, length, take, drop, replicate, List, ℕ, rules}
+use Rattle.std.proofs.Common.{◌≡◌, ◌∙◌, ◌+◌, ◌++◌, ap, length, take, drop, replicate, List, ℕ}
+use Rattle.std.proofs.Common.{rules}
 use Rattle.std.specs.Int.{next_multiple_of}
 use Rattle.std.proofs.lemmas.List.{take_at}
 use Rattle.chan_deck.specs.Parts.{zeros}

@@ -2,7 +2,8 @@ use Rattle.std.proofs.Common.{option_map, Some, sym, ap, ◌∙◌, subst}
 use Rattle.ckd_core.specs.Argument.{cylinder_of}
 use Rattle.ckd_core.specs.Entries.{entry_of}
 use Rattle.chan_walk.specs.Look.{argument_of}
-use Rattle.chan_needs.proofs.Seeking.{GoesTo, goes_by_none, goes_by_other, goes_home, goes_seeking, is_other, is_seek_of}
+use Rattle.chan_needs.proofs.Seeking.{GoesTo, goes_by_none, goes_by_other, goes_home, goes_seeking}
+use Rattle.chan_needs.proofs.Seeking.{is_other, is_seek_of}
 use Rattle.chan_needs.proofs.needs.cylinder.Goals as goal
 
 pub returns-in_err-command : goal.returns-in_err-command

@@ -3,7 +3,8 @@ use Rattle.chan_walk.specs.declared.place.Place.{Place}
 use Rattle.chan_walk.specs.Look.{places_of_looks}
 use Rattle.chan_needs.specs.Rows.{SeeksCylinder}
 use Rattle.chan_needs.proofs.Demanding.{clear_at}
-use Rattle.chan_walk.proofs.Algorithms.Guarding.{HoldBytes, hold_more, hold_none, hold_same, low_none}
+use Rattle.chan_walk.proofs.Algorithms.Guarding.{HoldBytes, hold_more, hold_none, hold_same}
+use Rattle.chan_walk.proofs.Algorithms.Guarding.{low_none}
 use Rattle.chan_areas.proofs.Merging.{IfOk-two, merged_low}
 use Rattle.chan_walk.proofs.Algorithms.Looking.{look_of, places_next, places_taken}
 use Rattle.chan_needs.proofs.Seeking.{sought_all}

@@ -2,7 +2,8 @@ use Rattle.std.proofs.Common.{◌∙◌, ◌≡◌, ap}
 use Rattle.chan_needs.specs.Rows.{listed}
 use Rattle.chan_deck.specs.Needs.{in_six_digits}
 use Rattle.chan_run.specs.Imaging.{extents_for}
-use Rattle.chan_run.proofs.LeastLemmas.{fetch_fits, is_least_deck, least_asked, six_are_areas, store_fits}
+use Rattle.chan_run.proofs.LeastLemmas.{fetch_fits, is_least_deck, least_asked, six_are_areas}
+use Rattle.chan_run.proofs.LeastLemmas.{store_fits}
 use Rattle.chan_run.proofs.NeedLemmas.{needs_extents}
 use Rattle.chan_deck.proofs.PartLemmas.{storage_fits}
 use Rattle.chan_run.proofs.least.least_text.Goals as goal

@@ -1,9 +1,11 @@
 use Rattle.std.proofs.Common.{sym, ◌∙◌, rules}
 use Rattle.chan_walk.specs.Job.{storage_of}
 use Rattle.chan_walk.proofs.Theory.Chains.{argument_exists}
-use Rattle.chan_walk.proofs.Theory.OwnFaults.{fault_of_seek, fault_of_recalibrate, no_fault_of_recalibrate, no_fault_of_other}
+use Rattle.chan_walk.proofs.Theory.OwnFaults.{fault_of_seek, fault_of_recalibrate}
+use Rattle.chan_walk.proofs.Theory.OwnFaults.{no_fault_of_recalibrate, no_fault_of_other}
 use Rattle.chan_walk.proofs.fault.seek_fault.Goals as goal
-use Rattle.chan_walk.proofs.fault.seek_fault.Goals.{else-begins_recalibrate-via-then-begins_recalibrate+else-not-has, else-begins_recalibrate-via-else-begins_recalibrate}
+use Rattle.chan_walk.proofs.fault.seek_fault.Goals.{else-begins_recalibrate-via-then-begins_recalibrate+else-not-has}
+use Rattle.chan_walk.proofs.fault.seek_fault.Goals.{else-begins_recalibrate-via-else-begins_recalibrate}
 
 pub returns-then-begins_seek : goal.returns-then-begins_seek
 returns-then-begins_seek c = search (rules, fault_of_seek)

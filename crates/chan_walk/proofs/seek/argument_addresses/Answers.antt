@@ -3,8 +3,10 @@ use Rattle.std.proofs.lemmas.Bool.{both_ways}
 use Rattle.ccw_core.specs.Held.{bytes_held}
 use Rattle.chan_walk.specs.Argument.{IsChain, is_part}
 use Rattle.chan_walk.proofs.Theory.Chains.{chain_begins_with_part}
-use Rattle.chan_walk.proofs.Algorithms.Following.{argument_below, followed_more, followed_whole, leads_nowhere, no_more}
-use Rattle.chan_walk.proofs.Algorithms.Given.{front_more, front_taken, given_more, given_no_part, given_nowhere, given_unchained}
+use Rattle.chan_walk.proofs.Algorithms.Following.{argument_below, followed_more, followed_whole}
+use Rattle.chan_walk.proofs.Algorithms.Following.{leads_nowhere, no_more}
+use Rattle.chan_walk.proofs.Algorithms.Given.{front_more, front_taken, given_more, given_no_part}
+use Rattle.chan_walk.proofs.Algorithms.Given.{given_nowhere, given_unchained}
 use Rattle.chan_walk.proofs.seek.argument_addresses.Goals as goal
 
 pub returns-in_default-clause-given : goal.returns-in_default-clause-given

@@ -1,5 +1,5 @@
 use Rattle.std.proofs.Common.{List, Some, None, length, sym, subst}
-use Rattle.chan_why.specs.Changed.{IsFirstChanged}
+use Rattle.chan_why.specs.Changed.{IsSecondPathEnd}
 use Rattle.chan_why.specs.Index.{IsIndex, TakesByte}
 use Rattle.chan_walk.specs.Look.{Seen, places_of_looks}
 use Rattle.chan_why.proofs.Changing.{changed_within, none_found, second_found}
@@ -13,18 +13,18 @@ path_at-requires-clause-within c =
     let looks = (reached_looks j c.args.walk.now c.as_slice.result.now f c.as_slice.ensures.value).0 in
     let takers = subst (λ (ls : List Seen). IsIndex (TakesByte ls (length ls)) c.args.finder.now.takers) (sym c.as_slice.ensures.value) c.requires.takers in
     changed_within j c.args.walk.now f c.args.evidence.now c.in-Some.at
-    (subst (λ (ls : List Seen). IsFirstChanged j c.args.evidence.now (places_of_looks ls) (Some c.in-Some.at)) c.as_slice.ensures.value (c.in-Some.ensures j looks takers))
+    (subst (λ (ls : List Seen). IsSecondPathEnd j c.args.evidence.now (places_of_looks ls) (Some c.in-Some.at)) c.as_slice.ensures.value (c.in-Some.ensures j looks takers))
 
 pub returns-in_ok-places-in-Some : goal.returns-in_ok-places-in-Some
 returns-in_ok-places-in-Some c j f p cause =
     let looks = (reached_looks j c.args.walk.now c.as_slice.result.now f c.as_slice.ensures.value).0 in
     let takers = subst (λ (ls : List Seen). IsIndex (TakesByte ls (length ls)) c.args.finder.now.takers) (sym c.as_slice.ensures.value) c.requires.takers in
     second_found j c.args.walk.now f c.args.evidence.now c.in-Some.at c.in_ok-places-in-Some.field-0.places.items
-    (subst (λ (ls : List Seen). IsFirstChanged j c.args.evidence.now (places_of_looks ls) (Some c.in-Some.at)) c.as_slice.ensures.value (c.in-Some.ensures j looks takers)) (c.in_ok-places-in-Some.ensures.path j f)
+    (subst (λ (ls : List Seen). IsSecondPathEnd j c.args.evidence.now (places_of_looks ls) (Some c.in-Some.at)) c.as_slice.ensures.value (c.in-Some.ensures j looks takers)) (c.in_ok-places-in-Some.ensures.path j f)
 
 pub returns-in-None : goal.returns-in-None
 returns-in-None c j f p cause =
     let looks = (reached_looks j c.args.walk.now c.as_slice.result.now f c.as_slice.ensures.value).0 in
     let takers = subst (λ (ls : List Seen). IsIndex (TakesByte ls (length ls)) c.args.finder.now.takers) (sym c.as_slice.ensures.value) c.requires.takers in
     none_found j c.args.walk.now f c.args.evidence.now p c.new.result.items cause
-    (subst (λ (ls : List Seen). IsFirstChanged j c.args.evidence.now (places_of_looks ls) None) c.as_slice.ensures.value (c.in-None.ensures j looks takers)) c.new.ensures.items
+    (subst (λ (ls : List Seen). IsSecondPathEnd j c.args.evidence.now (places_of_looks ls) None) c.as_slice.ensures.value (c.in-None.ensures j looks takers)) c.new.ensures.items

@@ -3,7 +3,8 @@ use Rattle.std.specs.List.{filter}
 use Rattle.std.proofs.lemmas.List.{take_all}
 use Rattle.ccw_core.specs.declared.areas.Area.{Area}
 use Rattle.chan_areas.specs.Ranges.{Meets}
-use Rattle.chan_why.proofs.Noted.{any_if, any_unless, are_unused, filter_drops, filter_keeps, misses}
+use Rattle.chan_why.proofs.Noted.{any_if, any_unless, are_unused, filter_drops, filter_keeps}
+use Rattle.chan_why.proofs.Noted.{misses}
 use Rattle.chan_why.proofs.noting.unused.Goals as goal
 use Rattle.chan_why.proofs.noting.unused.Goals.{then-not-meets+in_ok-push, else-not-meets}
 

@@ -3,7 +3,8 @@ use Rattle.chan_why.specs.Explained.{IsEvidenceOf, IsLike, IsPathOf, IsStoredOve
 use Rattle.chan_walk.specs.Look.{places_of_looks}
 use Rattle.chan_why.specs.Paths.{IsFirstWhere}
 use Rattle.chan_why.proofs.Changing.{first_within}
-use Rattle.chan_why.proofs.Explaining.{evidence_found, first_listed, offending_found, path_found, some_found, stored_told, verdict_first}
+use Rattle.chan_why.proofs.Explaining.{evidence_found, first_listed, offending_found, path_found}
+use Rattle.chan_why.proofs.Explaining.{some_found, stored_told, verdict_first}
 use Rattle.chan_why.proofs.Indexing.{like_found}
 use Rattle.chan_walk.proofs.Algorithms.Looking.{look_of, place_at}
 use Rattle.chan_why.proofs.witness.witness_of.Goals as goal

@@ -7,7 +7,8 @@ use Rattle.chanv_c.specs.Answers.{HasTooMany, IsJudged}
 use Rattle.chanv_c.specs.Explained.{AreInFront}
 use Rattle.chanv_c.proofs.Refusals.{refusal_number}
 use Rattle.chanv_c.proofs.explaining.chanv_why.Goals as goal
-use Rattle.chanv_c.proofs.explaining.chanv_why.Goals.{then-path-first-via-then-path-first, then-path-first-via-else-path-first+then-second_path-second}
+use Rattle.chanv_c.proofs.explaining.chanv_why.Goals.{then-path-first-via-then-path-first}
+use Rattle.chanv_c.proofs.explaining.chanv_why.Goals.{then-path-first-via-else-path-first+then-second_path-second}
 
 pub returns-in-Err-clause-number : goal.returns-in-Err-clause-number
 returns-in-Err-clause-number c =

@@ -1,7 +1,8 @@
 -- A row is written where the rows so far end.
-use Rattle.std.proofs.Common.{◌≡◌, ◌<◌, ◌++◌, ◌+◌, suc, drop, length, map, take, set, ap, ◌∙◌, arith}
+use Rattle.std.proofs.Common.{◌≡◌, ◌<◌, ◌++◌, ◌+◌, suc, drop, length, map, take, set, ap, ◌∙◌}
+use Rattle.std.proofs.Common.{arith}
 use Rattle.std.proofs.lemmas.Option.{slice_get-get_or}
-use Rattle.chanv_c.specs.Answers.{row}
+use Rattle.chanv_c.specs.Answers.{place_row}
 use Rattle.chanv_c.proofs.Written.{one_more}
 use Rattle.chanv_c.proofs.rows.write_path.Goals as goal
 
@@ -11,6 +12,6 @@ loop-index-preserved c =
     let next : suc c.loop-index.index ≡ c.loop-index.index + 1 = omega arith in
     let there = slice_get-get_or c.args.path.now c.loop-index.index _ c.loop-index-test.true in
     ap (λ l. set l c.loop-index.index c.row_of.result) c.loop-index.invariant
-    ∙ ap (set (map row (take c.loop-index.index c.args.path.now) ++ drop c.loop-index.index c.args.rows.now) c.loop-index.index) c.row_of.ensures
-    ∙ one_more row c.args.path.now c.args.rows.now c.loop-index.index _ there room
-    ∙ ap (λ n. map row (take n c.args.path.now) ++ drop n c.args.rows.now) next
+    ∙ ap (set (map place_row (take c.loop-index.index c.args.path.now) ++ drop c.loop-index.index c.args.rows.now) c.loop-index.index) c.row_of.ensures
+    ∙ one_more place_row c.args.path.now c.args.rows.now c.loop-index.index _ there room
+    ∙ ap (λ n. map place_row (take n c.args.path.now) ++ drop n c.args.rows.now) next

@@ -1,6 +1,7 @@
 -- A row is written where the rows so far end.
-use Rattle.std.proofs.Common.{◌≡◌, ◌<◌, ◌++◌, ℕ, zero, suc, ◌+◌, None, List, [], ◌∷◌, drop, length, map, take, set, slice_get, ap, sym, ◌∙◌, arith}
-use Rattle.chanv_c.specs.Answers.{row}
+use Rattle.std.proofs.Common.{◌≡◌, ◌<◌, ◌++◌, ℕ, zero, suc, ◌+◌, None, List, [], ◌∷◌, drop, length}
+use Rattle.std.proofs.Common.{map, take, set, slice_get, ap, sym, ◌∙◌, arith}
+use Rattle.chanv_c.specs.Answers.{place_row}
 use Rattle.chanv_c.proofs.Written.{one_more}
 use Rattle.chanv_c.proofs.rows.write_rows.Goals as goal
 use Rattle.chanv_c.proofs.rows.write_rows.Goals.{in-Some, in_default}
@@ -20,8 +21,8 @@ loop-index-preserved c =
       | in-Some w ↦
           let there = sym c.place.ensures ∙ w.in-Some.is in
           w.rows-is ∙ ap (λ l. set l c.loop-index.index w.row_of.result) c.loop-index.invariant
-          ∙ ap (set (map row (take c.loop-index.index c.args.found.now) ++ drop c.loop-index.index c.args.rows.now) c.loop-index.index) w.row_of.ensures
-          ∙ one_more row c.args.found.now c.args.rows.now c.loop-index.index w.in-Some.place there room
-          ∙ ap (λ n. map row (take n c.args.found.now) ++ drop n c.args.rows.now) next
+          ∙ ap (set (map place_row (take c.loop-index.index c.args.found.now) ++ drop c.loop-index.index c.args.rows.now) c.loop-index.index) w.row_of.ensures
+          ∙ one_more place_row c.args.found.now c.args.rows.now c.loop-index.index w.in-Some.place there room
+          ∙ ap (λ n. map place_row (take n c.args.found.now) ++ drop n c.args.rows.now) next
       | in_default w ↦ absurd (present c.args.found.now c.loop-index.index within (sym c.place.ensures ∙ w.in_default.is))
     ]

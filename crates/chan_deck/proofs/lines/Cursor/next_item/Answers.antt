@@ -1,6 +1,6 @@
 use Rattle.std.proofs.Common.{◌≡◌, ◌+◌, ℕ, List, refl, subst}
 use Rattle.chan_deck.specs.Item.{Reads, said_by}
-use Rattle.chan_deck.specs.Reading.{IsRefusal, refusal}
+use Rattle.chan_deck.specs.Reading.{IsDeckError, refusal}
 use Rattle.chan_deck.specs.declared.cause.Cause.{Cause}
 use Rattle.chan_deck.specs.declared.error.DeckError.TheVariants as errors
 use Rattle.chan_deck.specs.declared.item.Item.{Item}
@@ -27,6 +27,6 @@ returns-clause-next c =
     record {
       takes = λ s next goes t st. takes t s next n c.args.self.now.rest.now c.in-Some.line.now c.in-Some.rest.now o st parts c.read.ensures.1 goes;
       refuses = λ s cause open_yet bad t st.
-          subst (λ e. IsRefusal t e) (at_line n c.in-Some.line.now c.read.result cause c.read.ensures)
+          subst (λ e. IsDeckError t e) (at_line n c.in-Some.line.now c.read.result cause c.read.ensures)
           (refuses_line t s n c.args.self.now.rest.now c.in-Some.line.now c.in-Some.rest.now o cause st parts c.read.ensures.1 bad);
     }

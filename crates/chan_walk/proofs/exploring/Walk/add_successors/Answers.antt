@@ -5,7 +5,8 @@ use Rattle.chan_walk.specs.declared.error.WalkError.{WalkError}
 use Rattle.chan_walk.specs.declared.error.WalkError.TheVariants.{TooManyPlaces}
 use Rattle.chan_walk.specs.Look.{places_of_looks}
 use Rattle.chan_walk.proofs.Algorithms.Looking.{within_places}
-use Rattle.chan_walk.proofs.Algorithms.Walking.{are_next, leads_from_look, next_overflows, place_there, skip_overflows, walked_on}
+use Rattle.chan_walk.proofs.Algorithms.Walking.{are_next, leads_from_look, next_overflows}
+use Rattle.chan_walk.proofs.Algorithms.Walking.{place_there, skip_overflows, walked_on}
 use Rattle.chan_walk.proofs.Algorithms.Tracing.{traced_on}
 use Rattle.chan_walk.proofs.exploring.Walk.add_successors.Goals as goal
 
