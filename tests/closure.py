@@ -21,7 +21,7 @@ from running import text_of  # noqa: E402
 from sources import CRATES  # noqa: E402
 
 PAGE = ROOT / "docs/THEOREM.md"
-VERIFY = CRATES / "chan_walk/src/judging.rt"
+VERIFY = CRATES / "chan_walk/src/judgement.rt"
 BLOCK = re.compile(r"(<!-- tests/closure.py writes (\w+) -->\n).*?(<!-- up to here -->\n)", re.S)
 
 PROMISED = ["IsSafe", "IsSteady"]

@@ -4,5 +4,5 @@ pub mod Flags
 pub mod Storage
 pub mod Held
 pub mod Areas
-pub mod Watch
+pub mod Watched
 pub mod Written

@@ -27,7 +27,7 @@ pub struct Watched<T> {
 }
 
 impl<T> Model for Watched<T> {
-    ghost use Rattle.ccw_core.specs.Watch.{Watch};
+    ghost use Rattle.ccw_core.specs.Watched.{Watch};
 
     ghost Value = { Watch T };
 

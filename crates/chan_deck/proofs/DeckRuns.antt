@@ -10,7 +10,7 @@ use Rattle.std.proofs.lemmas.List.{append-nil, take-append-drop, replicate-appen
 use Rattle.std.proofs.lemmas.List.{length-take}
 use Rattle.ccw_core.specs.declared.areas.Area.{Area}
 use Rattle.ckd_core.specs.declared.device.Device.TheVariants.{D2311}
-use Rattle.ckd_core.specs.Cylinders.{IsExtent, AreExtents}
+use Rattle.ckd_core.specs.Extents.{IsExtent, AreExtents}
 use Rattle.chan_deck.specs.Item.{Item, header, device, mask, start, limit, extent, fetch, store}
 use Rattle.chan_deck.specs.Item.{storage, put, end, HasForm}
 use Rattle.chan_deck.specs.Image.{Image, IsDeck, HasLimit, header_of, limit_line, items, puts}

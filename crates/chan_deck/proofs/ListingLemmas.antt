@@ -4,7 +4,7 @@ use Rattle.std.proofs.Common.{codes, if◌then◌else◌}
 use Rattle.std.specs.List.{flat_map}
 use Rattle.ccw_core.specs.Ccw.{Fields}
 use Rattle.ccw_core.specs.Storage.{ccw_at}
-use Rattle.ckd_core.specs.Table.{lookup}
+use Rattle.ckd_core.specs.Command.{lookup}
 use Rattle.chan_walk.specs.declared.job.Job.{Job}
 use Rattle.chan_walk.specs.declared.place.Entry.{Entry}
 use Rattle.chan_walk.specs.declared.place.Entry.TheVariants.{Fresh, ChainIn, ChainOut, ChainSearch}

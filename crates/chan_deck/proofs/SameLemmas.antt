@@ -6,7 +6,7 @@ use Rattle.std.proofs.lemmas.Bool.{eqb-true, eq-eqb, and_parts, and_from}
 use Rattle.std.proofs.lemmas.Slice.Eq.{slice_eq-Decides, bytes_eq-Decides}
 use Rattle.ckd_core.proofs.CylinderLemmas.{same_extents-decides}
 use Rattle.ccw_core.specs.declared.areas.Area.{Area}
-use Rattle.ckd_core.specs.Cylinders.{same_extents}
+use Rattle.ckd_core.specs.Extents.{same_extents}
 use Rattle.ckd_core.specs.declared.device.Device.{Device}
 use Rattle.ckd_core.specs.declared.device.Device.TheVariants.{D2311, D2314}
 use Rattle.chan_deck.specs.Image.{Image, version_number, limit_of}

@@ -14,7 +14,7 @@ use Rattle.std.specs.List.{AllByRecursion}
 use Rattle.chan_walk.proofs.Theory.Lists.{all_append}
 use Rattle.ccw_core.specs.declared.areas.Area.{Area}
 use Rattle.ckd_core.specs.declared.device.Device.{Device}
-use Rattle.ckd_core.specs.Cylinders.{IsExtent}
+use Rattle.ckd_core.specs.Extents.{IsExtent}
 use Rattle.ckd_core.specs.Mask.{is_mask}
 use Rattle.chan_deck.specs.Item.{Item, header, device, mask, start, limit, extent, fetch, store}
 use Rattle.chan_deck.specs.Item.{storage, put, end, HasForm, IsByte, IsAddress, IsArea}

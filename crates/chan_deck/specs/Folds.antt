@@ -9,7 +9,7 @@ use Rattle.std.specs.Ordering.{nat_cmp}
 use Rattle.std.specs.declared.string.String.{String}
 use Rattle.chan_walk.specs.declared.offence.Offence.{Offence}
 use Rattle.chan_walk.specs.declared.place.Place.{Place}
-use Rattle.chan_walk.specs.Explored.{place_number}
+use Rattle.chan_walk.specs.Places.{place_number}
 use Rattle.chan_walk.specs.Look.{Seen}
 use Rattle.chan_deck.specs.declared.folds.Folds.{Folds}
 

@@ -4,7 +4,7 @@ use Rattle.std.specs.Prelude.{List, [], ◌∷◌, ◌++◌, length, take, drop,
 use Rattle.std.specs.List.{AllByRecursion}
 use Rattle.ccw_core.specs.declared.areas.Area.{Area}
 use Rattle.ckd_core.specs.declared.device.Device.{Device}
-use Rattle.ckd_core.specs.Cylinders.{AreExtents}
+use Rattle.ckd_core.specs.Extents.{AreExtents}
 use Rattle.ckd_core.specs.Mask.{is_mask}
 use Rattle.chan_walk.specs.Limit.{IsLimit, usual_limit}
 use Rattle.chan_deck.specs.Item.{Item, header, device, mask, start, limit, extent, fetch, store}

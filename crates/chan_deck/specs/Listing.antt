@@ -4,8 +4,8 @@ use Rattle.std.specs.Prelude.{None, if◌then◌else◌}
 use Rattle.std.specs.List.{flat_map}
 use Rattle.ccw_core.specs.Ccw.{Fields, ccw_text, is_transfer}
 use Rattle.ccw_core.specs.Storage.{ccw_at}
-use Rattle.ckd_core.specs.Table.{lookup}
-use Rattle.ckd_core.specs.Table as table
+use Rattle.ckd_core.specs.Command.{lookup}
+use Rattle.ckd_core.specs.Command as table
 use Rattle.chan_walk.specs.declared.place.Entry.{Entry}
 use Rattle.chan_walk.specs.declared.place.Entry.TheVariants.{Fresh, ChainIn, ChainOut, ChainSearch}
 use Rattle.chan_walk.specs.declared.place.Place.{Place}

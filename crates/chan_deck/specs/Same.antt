@@ -4,7 +4,7 @@ use Rattle.std.specs.Cmp.{IsEquivalence, on_equiv, and_equiv, nat_eq_equiv}
 use Rattle.std.specs.Cmp.Lexicographic.{pointwise, lists_equiv}
 use Rattle.std.specs.Ordering.{on, eq_of_both}
 use Rattle.ccw_core.specs.declared.areas.Area.{Area}
-use Rattle.ckd_core.specs.Cylinders.{same_extents, same_extents-IsEquivalence}
+use Rattle.ckd_core.specs.Extents.{same_extents, same_extents-IsEquivalence}
 use Rattle.ckd_core.specs.declared.device.Device.{Device}
 use Rattle.ckd_core.specs.declared.device.Device.TheVariants.{D2311, D2314}
 use Rattle.chan_deck.specs.Image.{Image, version_number, limit_of}

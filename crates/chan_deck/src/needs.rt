@@ -2,7 +2,7 @@
 
 ghost use Rattle.std.specs.Prelude.{◌≡◌, [], ◌∷◌, ◌++◌, map, IfOk, OnOk};
 ghost use Rattle.std.specs.List.{AllByRecursion};
-ghost use Rattle.ckd_core.specs.Cylinders.{IsExtent};
+ghost use Rattle.ckd_core.specs.Extents.{IsExtent};
 ghost use Rattle.chan_needs.specs.Rows.{listed};
 ghost use Rattle.chan_deck.specs.Item.{text};
 ghost use Rattle.chan_deck.specs.Needs as texts;

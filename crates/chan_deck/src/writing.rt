@@ -4,7 +4,7 @@ ghost use Rattle.std.specs.Prelude.{◌≡◌, ◌+◌, ◌/◌, ◌%◌, ◌≤
 ghost use Rattle.std.specs.Prelude.{replicate, if◌then◌else◌, IfOk, OnOk};
 ghost use Rattle.std.specs.Int.{w64, to_be_bytes};
 ghost use Rattle.std.specs.List.{AllByRecursion};
-ghost use Rattle.ckd_core.specs.Cylinders.{AreExtents, IsExtent};
+ghost use Rattle.ckd_core.specs.Extents.{AreExtents, IsExtent};
 ghost use Rattle.ckd_core.specs.Mask.{is_mask};
 ghost use Rattle.chan_deck.specs.Item.{IsByte, device, header, line, mask, put, start, text};
 ghost use Rattle.chan_deck.specs.Item as item;

@@ -9,13 +9,13 @@ use Rattle.chan_walk.specs.declared.job.Job.{Job}
 use Rattle.chan_walk.specs.declared.place.Place.{Place}
 use Rattle.chan_walk.specs.declared.successor.Next.{Next}
 use Rattle.chan_walk.specs.Argument.{Has}
-use Rattle.chan_find.specs.Covered.{HasByte, IsMarked, IsPut, IsGrown, AreClosed, IsCovered}
+use Rattle.chan_find.specs.Trails.{HasByte, IsMarked, IsPut, IsGrown, AreClosed, IsCovered}
 use Rattle.chan_walk.specs.Fault.{is_known}
 use Rattle.chan_walk.specs.Job.{storage_of}
 use Rattle.chan_walk.specs.Look.{IsLook, Seen}
 use Rattle.chan_walk.specs.Place.{ccw_of}
 use Rattle.chan_find.specs.Programs.{start_at, IsPlain, StepsTo, HasTrail}
-use Rattle.chan_walk.specs.Successors.{AreSuccessors}
+use Rattle.chan_walk.specs.Successor.{AreSuccessors}
 use Rattle.chan_walk.proofs.Theory.Checks.{no_second_transfer}
 use Rattle.chan_walk.proofs.Theory.Faults.{clear_check, clear_good, fault_unique}
 use Rattle.chan_walk.proofs.Theory.Lists.{has_left, has_push}

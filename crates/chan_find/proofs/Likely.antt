@@ -14,7 +14,7 @@ use Rattle.chan_walk.specs.Fault.{kind_of}
 use Rattle.chan_walk.specs.Job.{storage_of}
 use Rattle.chan_walk.specs.Place.{ccw_of, transferred_to}
 use Rattle.chan_walk.specs.Reachable.{IsPath, IsReachable}
-use Rattle.chan_walk.specs.Successors.{Successor, chained}
+use Rattle.chan_walk.specs.Successor.{Successor, chained}
 use Rattle.chan_walk.specs.Verdict.{IsVerdict}
 use Rattle.chan_find.specs.Programs.{start_at, IsPlain, IsSecond, HasSecondFrom, IsLikely}
 use Rattle.chan_find.specs.Programs.{HasTwoCcws, YesIsLikely}

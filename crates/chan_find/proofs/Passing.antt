@@ -9,8 +9,8 @@ use Rattle.ccw_core.specs.Storage.{Stands, is_aligned}
 use Rattle.chan_walk.specs.declared.job.Job.{Job}
 use Rattle.chan_walk.specs.declared.place.Place.{Place}
 use Rattle.chan_walk.specs.Argument.{Has}
-use Rattle.chan_find.specs.Covered.{HasByte, IsMarked, AreClosed, IsCovered, IsTaken, IsOffered}
-use Rattle.chan_find.specs.Covered.{AreComeTo, AreRoots}
+use Rattle.chan_find.specs.Trails.{HasByte, IsMarked, AreClosed, IsCovered, IsTaken, IsOffered}
+use Rattle.chan_find.specs.Trails.{AreComeTo, AreRoots}
 use Rattle.chan_walk.specs.Job.{storage_of}
 use Rattle.chan_find.specs.Programs.{start_at, IsTrail, HasTrail, LeadsTo, IsLikely}
 use Rattle.chan_find.specs.Programs.{AreProgramStarts, IsFirst, AreLedTo, IsRoot}

@@ -6,7 +6,7 @@ use Rattle.std.proofs.lemmas.Bool.{both_ways}
 use Rattle.chan_walk.specs.declared.job.Job.{Job}
 use Rattle.chan_walk.specs.declared.place.Place.{Place}
 use Rattle.chan_walk.specs.declared.successor.Next.{Next}
-use Rattle.chan_walk.specs.Successors.{AreSuccessors, Successor}
+use Rattle.chan_walk.specs.Successor.{AreSuccessors, Successor}
 use Rattle.chan_find.specs.Programs.{start_at, IsPlain, IsSecond, HasSecondFrom, IsLikely}
 
 pub some_and : (P : Place → Type 0) (o : Option Place) (p : Place) → o ≡ Some p → IsSomeAnd o P ↔ P p

@@ -11,8 +11,8 @@ use Rattle.std.proofs.lemmas.List.Sums.{sum_by-set}
 use Rattle.std.proofs.lemmas.Nat.Bits.{bit_at_set_same, bit_at_set_other, bit_at-zero, bit_at-lt}
 use Rattle.ccw_core.specs.Storage.{is_aligned, is_inside}
 use Rattle.chan_walk.specs.declared.place.Place.{Place}
-use Rattle.chan_walk.specs.Explored.{way_of}
-use Rattle.chan_find.specs.Covered.{HasByte, IsMarked, IsPut, bits_off, marks_left}
+use Rattle.chan_walk.specs.Places.{way_of}
+use Rattle.chan_find.specs.Trails.{HasByte, IsMarked, IsPut, bits_off, marks_left}
 use Rattle.chan_walk.proofs.Algorithms.Marks.{way_small, same_place}
 
 -- ---- how many bits are off

@@ -13,7 +13,7 @@ use Rattle.chan_walk.specs.Fault.{IsClear}
 use Rattle.chan_walk.specs.Job.{storage_of}
 use Rattle.chan_walk.specs.Place.{ccw_of, transferred_to}
 use Rattle.chan_walk.specs.Reachable.{IsReachable}
-use Rattle.chan_walk.specs.Successors.{Successor}
+use Rattle.chan_walk.specs.Successor.{Successor}
 use Rattle.chan_walk.specs.Verdict.{IsVerdict}
 
 -- ---- from place to place

@@ -8,9 +8,9 @@
 //! ```
 #![tactic(auto)]
 
-mod covered;
 mod laws;
 mod mark_table;
 mod programs;
+mod trails;
 
 pub use crate::programs::program_starts;

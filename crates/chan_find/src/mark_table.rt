@@ -2,7 +2,7 @@
 
 ghost use Rattle.std.specs.Prelude.{◌≡◌, ◌/◌, ◌↔◌, ◌<◌, length, IfOk, IsTrue, MatchOption};
 ghost use Rattle.std.specs.Bool.{MatchBool};
-ghost use Rattle.chan_find.specs.Covered.{HasByte, IsMarked, IsPut};
+ghost use Rattle.chan_find.specs.Trails.{HasByte, IsMarked, IsPut};
 ghost use Rattle.chan_walk.specs.declared.place.Place as places;
 
 use chan_walk::Place;

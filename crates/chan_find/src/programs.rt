@@ -2,9 +2,9 @@
 
 ghost use Rattle.std.specs.Prelude.{◌≡◌, ◌∷◌, ◌++◌, [], IsTrue, IfOk, OnOk, IsSomeAnd, ◌↔◌};
 ghost use Rattle.ccw_core.specs.Held.{bytes_held};
-ghost use Rattle.chan_find.specs.Covered.{AreRoots, IsOffered, IsSettled};
+ghost use Rattle.chan_find.specs.Trails.{AreRoots, IsOffered, IsSettled};
 ghost use Rattle.chan_walk.specs.Look.{IsLook};
-ghost use Rattle.chan_walk.specs.Open.{open_job};
+ghost use Rattle.chan_walk.specs.OpenJob.{open_job};
 ghost use Rattle.chan_find.specs.Programs as program;
 ghost use Rattle.chan_find.specs.Programs.{AreProgramStarts, HasSecondFrom, HasTwoCcws, IsJobOver};
 ghost use Rattle.chan_find.specs.Programs.{IsLedTo, IsLikely, IsPlain, IsSecond, LeadToNoOther};
@@ -12,7 +12,7 @@ ghost use Rattle.chan_walk.specs.Verdict.{IsVerdict};
 ghost use Rattle.chan_walk.specs.declared.job.Job.{Job};
 ghost use Rattle.chan_walk.specs.declared.verdict.Verdict.TheVariants as verdict;
 
-use crate::covered::{Covered, is_plain, start_at};
+use crate::trails::{Covered, is_plain, start_at};
 use crate::laws::{programs_are_apart, yes_is_likely};
 use ccw_core::Storage;
 use chan_walk::{Job, Limit, Look, OpenJob, Place, look_at};

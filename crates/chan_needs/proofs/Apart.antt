@@ -5,7 +5,7 @@ use Rattle.chan_walk.specs.declared.place.Place.{Place}
 use Rattle.chan_walk.specs.declared.verdict.Verdict.TheVariants.{Yes}
 use Rattle.chan_walk.specs.Alarm.{IsProper}
 use Rattle.chan_walk.specs.Guarded.{IsGuarded}
-use Rattle.chan_walk.specs.Open.{AreOfOneProgram, open_job}
+use Rattle.chan_walk.specs.OpenJob.{AreOfOneProgram, open_job}
 use Rattle.chan_needs.specs.Needs.{IsKept, IsNeededForStoring}
 use Rattle.chan_walk.specs.Reachable.{IsReachable}
 use Rattle.chan_needs.specs.Rows.{BesideIsApart}

@@ -3,7 +3,7 @@ use Rattle.std.proofs.Common.{refl}
 use Rattle.chan_walk.specs.declared.job.Job.{Job}
 use Rattle.chan_walk.specs.declared.verdict.Verdict.TheVariants.{Yes}
 use Rattle.chan_walk.specs.Counted.{with_storage}
-use Rattle.chan_walk.specs.Open.{AreOfOneProgram, open_job}
+use Rattle.chan_walk.specs.OpenJob.{AreOfOneProgram, open_job}
 use Rattle.chan_needs.specs.Needs.{Grants, AskedOnce, SafeIsGranted}
 use Rattle.chan_walk.specs.Verdict.{IsVerdict}
 use Rattle.chan_walk.proofs.Machine.Again.{yes_by_guarded}

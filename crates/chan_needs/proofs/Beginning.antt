@@ -8,10 +8,10 @@ use Rattle.chan_needs.specs.Beside.{AreApart}
 use Rattle.chan_walk.specs.Guarded.{IsGuarded}
 use Rattle.chan_needs.specs.History.{Acts, Flight, IsHistory, Rests, Situation, Spares}
 use Rattle.chan_walk.specs.Job.{storage_of}
-use Rattle.chan_walk.specs.Open.{open_job}
+use Rattle.chan_walk.specs.OpenJob.{open_job}
 use Rattle.chan_walk.specs.Runs.{IsSameIn}
-use Rattle.chan_needs.specs.Starting.{AskedMayStart, EachMayLeave, EachMayStart, EachMayStep}
-use Rattle.chan_needs.specs.Starting.{OthersMayChange}
+use Rattle.chan_needs.specs.Asked.{AskedMayStart, EachMayLeave, EachMayStart, EachMayStep}
+use Rattle.chan_needs.specs.Asked.{OthersMayChange}
 use Rattle.chan_walk.specs.Verdict.{IsVerdict}
 use Rattle.chan_needs.proofs.Apart.{beside_is_apart}
 use Rattle.chan_walk.proofs.Theory.Granting.{same_under_yes}

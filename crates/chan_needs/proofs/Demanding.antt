@@ -10,7 +10,8 @@ use Rattle.ckd_core.specs.declared.command.MaskClass.TheVariants.{SeekCylinder, 
 use Rattle.ckd_core.specs.declared.command.MaskClass.TheVariants.{WriteFormat, WriteHome}
 use Rattle.ckd_core.specs.declared.command.MaskClass.TheVariants.{WriteUpdate}
 use Rattle.ckd_core.specs.Mask.{inhibits, inhibits_class, is_at_least}
-use Rattle.ckd_core.specs.Table.{Entry as Command, lookup, class_passes, class_sets_mask, sets_mask}
+use Rattle.ckd_core.specs.Command.{Entry as Command, lookup, class_passes, class_sets_mask}
+use Rattle.ckd_core.specs.Command.{sets_mask}
 use Rattle.chan_walk.specs.declared.job.Job.{Job}
 use Rattle.chan_walk.specs.declared.place.Place.{Place}
 use Rattle.chan_walk.specs.Argument.{Has}

@@ -10,15 +10,15 @@ use Rattle.chan_walk.specs.declared.job.Job.{Job}
 use Rattle.chan_walk.specs.declared.place.Place.{Place}
 use Rattle.chan_walk.specs.declared.successor.Next.{Next}
 use Rattle.chan_walk.specs.Argument.{Has}
-use Rattle.chan_walk.specs.Explored.{AreDistinct, HasMoreThan, place_number}
+use Rattle.chan_walk.specs.Places.{AreDistinct, HasMoreThan, place_number}
 use Rattle.chan_walk.specs.Fault.{kind_of}
 use Rattle.chan_walk.specs.Job.{storage_of}
 use Rattle.chan_walk.specs.Least.{AreReached}
 use Rattle.chan_needs.specs.Needs.{NeededMaskExists, Serves}
-use Rattle.chan_walk.specs.Open.{open_job}
+use Rattle.chan_walk.specs.OpenJob.{open_job}
 use Rattle.chan_walk.specs.Place.{ccw_of, first_place}
 use Rattle.chan_walk.specs.Reachable.{IsReachable}
-use Rattle.chan_walk.specs.Successors.{AreSuccessors, next_of, skip_of}
+use Rattle.chan_walk.specs.Successor.{AreSuccessors, next_of, skip_of}
 use Rattle.chan_walk.specs.Verdict.{AreClear}
 use Rattle.chan_walk.specs.Walk.{Adds, IsWalked, Overflows}
 use Rattle.chan_walk.proofs.Theory.Faults.{fault_unique, yes_clear}

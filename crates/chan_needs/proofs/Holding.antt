@@ -6,7 +6,7 @@ use Rattle.std.proofs.lemmas.Bool.{or_left, or_right}
 use Rattle.ccw_core.specs.declared.areas.Area.{Area}
 use Rattle.ccw_core.specs.Areas.{lies_in}
 use Rattle.ccw_core.proofs.Covering.{lies_in-at}
-use Rattle.ckd_core.specs.Cylinders.{has_cylinder}
+use Rattle.ckd_core.specs.Extents.{has_cylinder}
 use Rattle.chan_areas.specs.Ranges.{IsLeastOf}
 use Rattle.chan_areas.specs.Ranges.{IsByteOf, IsMerged, end_of}
 use Rattle.chan_needs.specs.Rows.{IsShared}

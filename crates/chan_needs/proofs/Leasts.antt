@@ -6,7 +6,7 @@ use Rattle.std.proofs.lemmas.Bool.{cases_lt, false_from_ne_true, both_ways}
 use Rattle.ccw_core.specs.declared.areas.Area.{Area}
 use Rattle.ccw_core.specs.Areas.{lies_in}
 use Rattle.ccw_core.proofs.Covering.{lies_in-at, lies_in-nil}
-use Rattle.ckd_core.specs.Cylinders.{has_cylinder}
+use Rattle.ckd_core.specs.Extents.{has_cylinder}
 use Rattle.chan_areas.specs.Ranges.{IsLeastOf, IsLeastOrNone}
 use Rattle.chan_areas.specs.Clip.{clip}
 use Rattle.chan_areas.specs.Ranges.{IsByteOf, BeginAbove, HaveSameBytes, IsMerged, end_of}

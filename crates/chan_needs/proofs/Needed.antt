@@ -5,11 +5,11 @@ use Rattle.ccw_core.specs.declared.areas.Area.{Area}
 use Rattle.ccw_core.specs.Areas.{lies_in}
 use Rattle.ccw_core.specs.Ccw.{Fields, byte, ccw, is_transfer}
 use Rattle.ccw_core.specs.Storage.{Stands}
-use Rattle.ckd_core.specs.Cylinders.{has_cylinder}
+use Rattle.ckd_core.specs.Extents.{has_cylinder}
 use Rattle.ckd_core.specs.Mask.{inhibits, is_at_least}
 use Rattle.chan_walk.specs.declared.job.Job.{Job}
 use Rattle.chan_walk.specs.declared.place.Place.{Place}
-use Rattle.chan_walk.specs.declared.surveyed.Survey.{Survey}
+use Rattle.chan_walk.specs.declared.job_survey.Survey.{Survey}
 use Rattle.chan_walk.specs.declared.verdict.Verdict.{Verdict}
 use Rattle.chan_walk.specs.declared.verdict.Verdict.TheVariants.{Yes}
 use Rattle.chan_walk.specs.Argument.{HasArgument}
@@ -20,18 +20,18 @@ use Rattle.chan_walk.specs.Guarded.{IsGuarded}
 use Rattle.chan_walk.specs.Job.{extents_of, fetch_of, storage_of, store_of}
 use Rattle.chan_walk.specs.Look.{Seen, places_of_looks}
 use Rattle.chan_walk.specs.Machine.{home}
-use Rattle.chan_walk.specs.Open.{AreOfOneProgram, open_job}
+use Rattle.chan_walk.specs.OpenJob.{AreOfOneProgram, open_job}
 use Rattle.chan_needs.specs.Needs.{Grants, IsKept, IsNeededCylinder, IsNeededForStoring}
 use Rattle.chan_needs.specs.Needs.{IsStrictest, Serves, ServesAt, begins}
 use Rattle.chan_walk.specs.Moved.{IsDataOf, HoldData}
-use Rattle.chan_walk.specs.Offences.{FirstIsVerdict, first_verdict}
+use Rattle.chan_walk.specs.Offence.{FirstIsVerdict, first_verdict}
 use Rattle.chan_walk.specs.Place.{ccw_of}
 use Rattle.chan_areas.specs.Ranges.{AreExactly, IsMerged, end_of}
 use Rattle.chan_walk.specs.Reachable.{IsReachable}
 use Rattle.chan_needs.specs.Remembered.{GrantsListed, RowsAreExact}
 use Rattle.chan_needs.specs.Rows.{AreLooksOfYes, AreNeeds, HasStoreAndKeep, IsSought, Listed}
 use Rattle.chan_needs.specs.Rows.{IsShared, MayRunBeside, run_of}
-use Rattle.chan_walk.specs.Surveyed.{IsSurvey}
+use Rattle.chan_walk.specs.JobSurvey.{IsSurvey}
 use Rattle.chan_walk.specs.Verdict.{IsVerdict}
 use Rattle.chan_walk.proofs.Theory.Faults.{clear_check, yes_clear}
 use Rattle.chan_walk.proofs.Theory.Granting.{fetches_parts, same_under_yes, stores_parts, turned}

@@ -6,8 +6,8 @@ use Rattle.std.proofs.lemmas.Bool.{and_parts, both_ways, cases_lt, not-true, not
 use Rattle.std.proofs.lemmas.Bool.{not_from_true, not_from_false, lt-ltb, le-leb, and_from}
 use Rattle.ccw_core.specs.Areas.{lies_in}
 use Rattle.ccw_core.specs.Ccw.{byte, is_transfer}
-use Rattle.ckd_core.specs.Argument.{cylinder_of}
-use Rattle.ckd_core.specs.Cylinders.{has_cylinder}
+use Rattle.ckd_core.specs.Track.{cylinder_of}
+use Rattle.ckd_core.specs.Extents.{has_cylinder}
 use Rattle.ckd_core.specs.Mask.{is_at_least}
 use Rattle.ckd_core.proofs.CylinderLemmas.{has_cylinder-past}
 use Rattle.chan_walk.specs.declared.job.Job.{Job}
@@ -17,7 +17,7 @@ use Rattle.chan_walk.specs.Alarm.{IsProper}
 use Rattle.chan_walk.specs.Argument.{HasArgument}
 use Rattle.chan_walk.specs.Fault.{begins_seek, is_refused, IsClear}
 use Rattle.chan_walk.specs.Job.{storage_of, extents_of, fetch_of, store_of}
-use Rattle.chan_walk.specs.Open.{AreOfOneProgram, open_job, all_storage, GrantsMore}
+use Rattle.chan_walk.specs.OpenJob.{AreOfOneProgram, open_job, all_storage, GrantsMore}
 use Rattle.chan_needs.specs.Needs.{IsOpenlyReachable, IsKept, IsNeededCylinder, Grants, LeastJob}
 use Rattle.chan_needs.specs.Needs.{NeededMaskIsEnough, NoJobWillDo}
 use Rattle.chan_walk.specs.Guarded.{IsGuarded}

@@ -17,7 +17,7 @@ use Rattle.chan_walk.specs.Fault.{stores}
 use Rattle.chan_walk.specs.Guarded.{IsGuarded}
 use Rattle.chan_needs.specs.History.{Flight, Situation}
 use Rattle.chan_walk.specs.Job.{storage_of}
-use Rattle.chan_walk.specs.Open.{AreOfOneProgram, open_job}
+use Rattle.chan_walk.specs.OpenJob.{AreOfOneProgram, open_job}
 use Rattle.chan_needs.specs.Needs.{Grants, IsKept, IsNeededForStoring, KeepsProgram}
 use Rattle.chan_walk.specs.Moved.{IsDataOf}
 use Rattle.chan_walk.specs.Place.{ccw_of}
@@ -27,7 +27,7 @@ use Rattle.chan_needs.specs.Remembered.{AreInFlight, HoldsAreas, IsBeside, IsFit
 use Rattle.chan_needs.specs.Remembered.{KeepsNone, IsInFlightAt, IsWritten, StartsWell, WritesWell}
 use Rattle.chan_needs.specs.Rows.{HasStoreAndKeep, Listed, MayRunBeside, rows_of}
 use Rattle.chan_walk.specs.Runs.{IsSameIn}
-use Rattle.chan_needs.specs.Starting.{IsFlightOf}
+use Rattle.chan_needs.specs.Asked.{IsFlightOf}
 use Rattle.chan_walk.specs.Verdict.{IsVerdict}
 use Rattle.std.proofs.lemmas.Bool.{both_ways}
 use Rattle.chan_walk.proofs.Algorithms.Counted.{AreSame, argument_byte_over, ccw_byte_over, flipped}

@@ -14,10 +14,11 @@ use Rattle.ccw_core.proofs.Covering.{lies_in-nil}
 use Rattle.ckd_core.specs.declared.command.MaskClass.{MaskClass}
 use Rattle.ckd_core.specs.declared.command.MaskClass.TheVariants.{Recalibrate, Seek, SeekCylinder}
 use Rattle.ckd_core.specs.declared.command.MaskClass.TheVariants.{SeekHead}
-use Rattle.ckd_core.specs.Argument.{cylinder_of}
-use Rattle.ckd_core.specs.Cylinders.{has_cylinder}
-use Rattle.ckd_core.specs.Table.{Entry as Command, class_is_seek, class_passes, class_recalibrates}
-use Rattle.ckd_core.specs.Table.{is_seek, lookup, recalibrates}
+use Rattle.ckd_core.specs.Track.{cylinder_of}
+use Rattle.ckd_core.specs.Extents.{has_cylinder}
+use Rattle.ckd_core.specs.Command.{Entry as Command, class_is_seek, class_passes}
+use Rattle.ckd_core.specs.Command.{class_recalibrates}
+use Rattle.ckd_core.specs.Command.{is_seek, lookup, recalibrates}
 use Rattle.chan_walk.specs.declared.job.Job.{Job}
 use Rattle.chan_walk.specs.declared.place.Place.{Place}
 use Rattle.chan_walk.specs.Argument.{Has, HasArgument}

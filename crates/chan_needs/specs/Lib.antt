@@ -2,6 +2,6 @@ pub mod History
 pub mod Beside
 pub mod Needs
 pub mod Rows
-pub mod Starting
+pub mod Asked
 pub mod Remembered
 pub mod Supervised

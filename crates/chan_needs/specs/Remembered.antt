@@ -6,16 +6,16 @@ use Rattle.std.specs.List.{All, AllWithin, HoldsAt}
 use Rattle.ccw_core.specs.declared.areas.Area.{Area}
 use Rattle.ccw_core.specs.Areas.{lies_in}
 use Rattle.ccw_core.specs.Ccw.{byte}
-use Rattle.ckd_core.specs.Cylinders.{has_cylinder}
+use Rattle.ckd_core.specs.Extents.{has_cylinder}
 use Rattle.ckd_core.specs.Mask.{is_at_least}
 use Rattle.chan_walk.specs.declared.job.Job.{Job}
 use Rattle.chan_needs.specs.declared.remembered.Remembered.{Remembered}
 use Rattle.chan_needs.specs.declared.rows.Conflict.{Conflict}
 use Rattle.chan_needs.specs.declared.rows.Conflict.TheVariants as way
-use Rattle.chan_needs.specs.declared.starting.Refusal.{Refusal}
-use Rattle.chan_needs.specs.declared.starting.Refusal.TheVariants as why
-use Rattle.chan_needs.specs.declared.starting.Start.{Start}
-use Rattle.chan_needs.specs.declared.starting.Start.TheVariants as answer
+use Rattle.chan_needs.specs.declared.start.Refusal.{Refusal}
+use Rattle.chan_needs.specs.declared.start.Refusal.TheVariants as why
+use Rattle.chan_needs.specs.declared.start.Start.{Start}
+use Rattle.chan_needs.specs.declared.start.Start.TheVariants as answer
 use Rattle.chan_walk.specs.declared.verdict.Verdict.TheVariants.{Yes}
 use Rattle.chan_walk.specs.Alarm.{IsProper}
 use Rattle.chan_areas.specs.Ranges.{IsLeastOf}

@@ -3,8 +3,8 @@ use Rattle.std.specs.Prelude.{◌≡◌, ℕ, ◌+◌, ◌-◌, ◌<◌, ◌≤�
 use Rattle.std.specs.Prelude.{length}
 use Rattle.ccw_core.specs.declared.areas.Area.{Area}
 use Rattle.ccw_core.specs.Areas.{lies_in}
-use Rattle.ckd_core.specs.Argument.{cylinder_of}
-use Rattle.ckd_core.specs.Cylinders.{has_cylinder}
+use Rattle.ckd_core.specs.Track.{cylinder_of}
+use Rattle.ckd_core.specs.Extents.{has_cylinder}
 use Rattle.chan_walk.specs.declared.job.Job.{Job}
 use Rattle.chan_needs.specs.declared.needs.Needs.{Needs}
 use Rattle.chan_walk.specs.declared.place.Place.{Place}
@@ -16,10 +16,10 @@ use Rattle.chan_walk.specs.Seeks.{SeeksTo}
 use Rattle.chan_walk.specs.Job.{storage_of}
 use Rattle.chan_walk.specs.Least.{AreReached}
 use Rattle.chan_walk.specs.Look.{AreLooks, Seen, places_of_looks}
-use Rattle.chan_walk.specs.Open.{AreOfOneProgram}
+use Rattle.chan_walk.specs.OpenJob.{AreOfOneProgram}
 use Rattle.chan_needs.specs.Needs.{IsKept, IsNeededCylinder, IsNeededForFetching}
 use Rattle.chan_needs.specs.Needs.{IsNeededForStoring, IsNeededMask}
-use Rattle.chan_walk.specs.Open.{open_job}
+use Rattle.chan_walk.specs.OpenJob.{open_job}
 use Rattle.chan_areas.specs.Ranges.{AreExactly}
 use Rattle.chan_walk.specs.Reachable.{IsReachable}
 use Rattle.chan_walk.specs.Verdict.{IsVerdict}

@@ -6,7 +6,7 @@ use Rattle.std.specs.List.{AllByRecursion}
 use Rattle.ccw_core.specs.declared.areas.Area.{Area}
 use Rattle.chan_walk.specs.declared.job.Job.{Job}
 use Rattle.chan_needs.specs.declared.remembered.Remembered.{Remembered}
-use Rattle.chan_needs.specs.declared.starting.Start.TheVariants.{Yes}
+use Rattle.chan_needs.specs.declared.start.Start.TheVariants.{Yes}
 use Rattle.chan_walk.specs.Alarm.{IsProper}
 use Rattle.chan_needs.specs.History.{Acts, AreWell, Flight, Rests, Situation}
 use Rattle.chan_needs.specs.Remembered.{IsAnswerOf, IsKeeperOf, IsInFlightAt, IsRemembered}

@@ -8,8 +8,8 @@ ghost use Rattle.chan_needs.specs.Needs.{NeededMaskExists, NeededMaskIsOne, NoJo
 ghost use Rattle.chan_needs.specs.Needs.{SafeIsGranted};
 ghost use Rattle.chan_needs.specs.Remembered.{RowsAreExact};
 ghost use Rattle.chan_needs.specs.Rows.{BesideIsApart};
-ghost use Rattle.chan_needs.specs.Starting.{AskedMayStart, EachMayLeave, EachMayStart, EachMayStep};
-ghost use Rattle.chan_needs.specs.Starting.{OthersMayChange};
+ghost use Rattle.chan_needs.specs.Asked.{AskedMayStart, EachMayLeave, EachMayStart, EachMayStep};
+ghost use Rattle.chan_needs.specs.Asked.{OthersMayChange};
 ghost use Rattle.chan_needs.specs.Supervised.{SupervisedGoesOn, SupervisedStaysWell};
 
 /// Programs may start and leave at any time on one storage, while others change what none in flight

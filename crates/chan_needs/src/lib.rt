@@ -8,17 +8,17 @@
 //! ```
 #![tactic(auto)]
 
-mod demand;
 mod laws;
-mod least;
+mod least_bytes;
+mod needed_mask;
 mod needs;
 mod remembered;
 mod rows;
-mod starting;
+mod start;
 mod surveyed;
 
 pub use crate::needs::Needs;
 pub use crate::remembered::{Remembered, copy_kept, may_write};
 pub use crate::rows::{Conflict, Rows};
-pub use crate::starting::{Refusal, Start, may_start};
+pub use crate::start::{Refusal, Start, may_start};
 pub use crate::surveyed::needs_from;

@@ -5,13 +5,13 @@ ghost use Rattle.std.specs.List.{All};
 ghost use Rattle.chan_walk.specs.Fault.{IsClear};
 ghost use Rattle.chan_walk.specs.Guard.{AddsBytes, Guards};
 ghost use Rattle.chan_walk.specs.Look.{IsLook};
-ghost use Rattle.chan_walk.specs.Open.{AreOfOneProgram};
+ghost use Rattle.chan_walk.specs.OpenJob.{AreOfOneProgram};
 ghost use Rattle.chan_areas.specs.Ranges.{AreExactly, EndsBelow, IsMerged};
 ghost use Rattle.chan_needs.specs.Rows.{AreLooksOfYes, AreNeeds, IsSought};
 ghost use Rattle.chan_needs.specs.Rows.{SeeksCylinder, listed, rows_of, run_of};
 ghost use Rattle.chan_walk.specs.declared.job.Job.{Job};
 
-use crate::demand::needed_mask;
+use crate::needed_mask::needed_mask;
 use crate::rows::Rows;
 use ccw_core::Area;
 use chan_areas::merge;

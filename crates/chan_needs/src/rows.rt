@@ -6,7 +6,7 @@ ghost use Rattle.chan_areas.specs.Ranges.{IsLeastOrNone};
 ghost use Rattle.chan_needs.specs.Remembered.{AreBeside, IsConflict, IsKeptIn};
 ghost use Rattle.chan_needs.specs.Rows.{rows_of};
 
-use crate::least::{least_in, least_shared};
+use crate::least_bytes::{least_in, least_shared};
 use ccw_core::Area;
 use ckd_core::FileMask;
 

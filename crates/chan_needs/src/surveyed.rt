@@ -2,9 +2,9 @@
 
 ghost use Rattle.std.specs.Prelude.{◌≡◌, IfOk};
 ghost use Rattle.chan_needs.specs.Rows.{AreNeeds, listed};
-ghost use Rattle.chan_walk.specs.Offences.{first_verdict};
-ghost use Rattle.chan_walk.specs.Open.{AreOfOneProgram};
-ghost use Rattle.chan_walk.specs.Surveyed.{IsSurvey};
+ghost use Rattle.chan_walk.specs.Offence.{first_verdict};
+ghost use Rattle.chan_walk.specs.OpenJob.{AreOfOneProgram};
+ghost use Rattle.chan_walk.specs.JobSurvey.{IsSurvey};
 ghost use Rattle.chan_walk.specs.declared.job.Job.{Job};
 ghost use Rattle.chan_walk.specs.declared.verdict.Verdict.TheVariants.{Yes};
 

@@ -5,18 +5,18 @@ use Rattle.std.proofs.KnownBytes.{Appends-kept}
 use Rattle.std.specs.Io.KnownBytes.{Keeps}
 use Rattle.chan_deck.specs.Image.{Image, Spells}
 use Rattle.chan_walk.specs.declared.job.Job.{Job}
-use Rattle.chan_run.specs.declared.reporting.Outcome.{Outcome}
-use Rattle.chan_run.specs.declared.reporting.Outcome.TheVariants.{Done, Failed}
+use Rattle.chan_run.specs.declared.outcome.Outcome.{Outcome}
+use Rattle.chan_run.specs.declared.outcome.Outcome.TheVariants.{Done, Failed}
 use Rattle.chan_args.specs.declared.action.Action.{Action}
 use Rattle.chan_args.specs.declared.action.Action.TheVariants as actions
-use Rattle.chan_run.specs.declared.running.RunError.{RunError}
-use Rattle.chan_run.specs.declared.running.RunError.TheVariants.{Memory, Read, TooManyPlaces}
-use Rattle.chan_run.specs.declared.running.Status.{Status}
-use Rattle.chan_run.specs.Imaging.{IsDeckAnswer}
+use Rattle.chan_run.specs.declared.status.RunError.{RunError}
+use Rattle.chan_run.specs.declared.status.RunError.TheVariants.{Memory, Read, TooManyPlaces}
+use Rattle.chan_run.specs.declared.status.Status.{Status}
+use Rattle.chan_run.specs.Image.{IsDeckAnswer}
 use Rattle.chan_run.specs.declared.image_options.ImageOptions.{ImageOptions}
-use Rattle.chan_run.specs.Report.{IsDone, ran}
-use Rattle.chan_run.specs.Run.{Answer, IsAnswerOn, IsJobAnswer, IsDeckJob, IsWrittenOut, Judges}
-use Rattle.chan_run.specs.Run.{IsTextAnswer, text_in}
+use Rattle.chan_run.specs.Outcome.{IsDone, ran}
+use Rattle.chan_run.specs.Output.{Answer, IsAnswerOn, IsJobAnswer, IsDeckJob, IsWrittenOut, Judges}
+use Rattle.chan_run.specs.Output.{IsTextAnswer, text_in}
 
 -- an answer on the job of a deck is one to the text that spells the deck
 pub text_answer : (name : Option (List ℕ)) (a : Action) (t : List ℕ) (deck : Image) (j : Job) (answer : Answer)

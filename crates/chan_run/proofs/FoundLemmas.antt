@@ -3,9 +3,9 @@ use Rattle.std.proofs.Common.{◌≡◌, ◌∙◌, ◌<◌, ◌++◌, ◌∷◌
 use Rattle.std.proofs.Common.{append-nil, length, refl, slice_index_or, suc, sym, take, zero, ℕ}
 use Rattle.chan_deck.specs.Parts.{storage_with}
 use Rattle.chan_walk.specs.declared.job.Job.{Job}
-use Rattle.chan_walk.specs.Open.{open_job}
+use Rattle.chan_walk.specs.OpenJob.{open_job}
 use Rattle.chan_find.specs.Programs.{AreProgramStarts, IsJobOver}
-use Rattle.chan_run.specs.Finding.{AreLinesAt, AreStartsInImage, IsLineAt}
+use Rattle.chan_run.specs.Find.{AreLinesAt, AreStartsInImage, IsLineAt}
 use Rattle.chan_run.specs.declared.image_options.ImageOptions.{ImageOptions}
 
 -- a line more

@@ -8,15 +8,15 @@ use Rattle.std.proofs.lemmas.Bool.{cases_lt, eqb-false, or_left, or_right}
 use Rattle.ccw_core.specs.declared.areas.Area.{Area}
 use Rattle.ccw_core.specs.Areas.{lies_in}
 use Rattle.ccw_core.specs.Written.{AppendsPrefix}
-use Rattle.ckd_core.specs.Cylinders.{has_cylinder}
+use Rattle.ckd_core.specs.Extents.{has_cylinder}
 use Rattle.chan_walk.specs.declared.job.Job.{Job}
 use Rattle.chan_walk.specs.declared.verdict.Verdict.TheVariants.{Yes}
 use Rattle.chan_walk.specs.Job.{storage_of, extents_of, fetch_of, store_of}
-use Rattle.chan_walk.specs.Open.{AreOfOneProgram, all_storage, open_job}
+use Rattle.chan_walk.specs.OpenJob.{AreOfOneProgram, all_storage, open_job}
 use Rattle.chan_needs.specs.Needs.{Grants, Serves}
 use Rattle.chan_areas.specs.Ranges.{IsByteOf, IsMerged, end_of}
 use Rattle.chan_needs.specs.Rows.{AreNeeds, Listed}
-use Rattle.chan_walk.specs.Open.{IsOpenJob}
+use Rattle.chan_walk.specs.OpenJob.{IsOpenJob}
 use Rattle.chan_walk.specs.Verdict.{IsVerdict}
 use Rattle.chan_areas.proofs.Merging.{lies_in-append, lies_in-cases, lies_in-first, lies_in-rest}
 use Rattle.chan_needs.proofs.Needing.{granted_yes, yes_grants}
@@ -25,14 +25,14 @@ use Rattle.chan_deck.specs.Image.{Image, limit_of}
 use Rattle.chan_deck.proofs.PartLemmas.{storage_fits}
 use Rattle.chan_deck.specs.Item.{IsArea}
 use Rattle.chan_deck.specs.Needs.{halves, in_six_digits, six_digit_parts}
-use Rattle.chan_run.specs.Imaging.{IsAskedDeck, IsDeckAnswer, IsDeckText, IsNoDeck, IsOfOpenJob}
-use Rattle.chan_run.specs.Imaging.{IsProgramIn, deck_of, extents_for, least_deck}
-use Rattle.chan_run.specs.Report.{wrote}
+use Rattle.chan_run.specs.Image.{IsAskedDeck, IsDeckAnswer, IsDeckText, IsNoDeck, IsOfOpenJob}
+use Rattle.chan_run.specs.Image.{IsProgramIn, deck_of, extents_for, least_deck}
+use Rattle.chan_run.specs.Outcome.{wrote}
 use Rattle.ccw_core.specs.declared.watched.DeviceFault.{DeviceFault}
-use Rattle.chan_run.specs.Run.{IsDeckJob}
+use Rattle.chan_run.specs.Output.{IsDeckJob}
 use Rattle.chan_run.specs.declared.failure.Failure.TheVariants as failures
-use Rattle.chan_run.specs.declared.reporting.Outcome.{Outcome}
-use Rattle.chan_run.specs.declared.reporting.Outcome.TheVariants.{Done, Failed}
+use Rattle.chan_run.specs.declared.outcome.Outcome.{Outcome}
+use Rattle.chan_run.specs.declared.outcome.Outcome.TheVariants.{Done, Failed}
 use Rattle.chan_run.specs.declared.image_options.ImageOptions.{ImageOptions}
 
 -- ---- six digits

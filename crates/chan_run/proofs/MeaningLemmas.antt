@@ -4,9 +4,9 @@ use Rattle.std.specs.List.{All}
 use Rattle.chan_deck.specs.declared.cause.Cause.TheVariants as causes
 use Rattle.chan_walk.specs.declared.reason.Reason.TheVariants as reasons
 use Rattle.chan_run.specs.declared.failure.Failure.TheVariants as failures
-use Rattle.chan_run.specs.declared.meaning.Term.{Term}
-use Rattle.chan_run.specs.declared.meaning.Term.TheVariants as terms
-use Rattle.chan_run.specs.declared.meaning.TheConstants as texts
+use Rattle.chan_run.specs.declared.terms.Term.{Term}
+use Rattle.chan_run.specs.declared.terms.Term.TheVariants as terms
+use Rattle.chan_run.specs.declared.terms.TheConstants as texts
 
 -- any term, where one is named that isn't looked at
 abbrev any : Term

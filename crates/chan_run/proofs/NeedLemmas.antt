@@ -3,10 +3,10 @@ use Rattle.std.proofs.Common.{◌≡◌, ℕ, ◌≤◌, ◌<◌, ◌||◌, nat_
 use Rattle.std.proofs.Common.{inr, refl, arith}
 use Rattle.std.specs.List.{AllByRecursion}
 use Rattle.std.proofs.lemmas.Bool.{both_ways, cases_lt, le-leb}
-use Rattle.ckd_core.specs.Cylinders.{has_cylinder, IsExtent}
+use Rattle.ckd_core.specs.Extents.{has_cylinder, IsExtent}
 use Rattle.ckd_core.proofs.CylinderLemmas.{has_cylinder-past}
 use Rattle.chan_walk.specs.declared.job.Job.{Job}
-use Rattle.chan_walk.specs.Open.{AreOfOneProgram, open_job}
+use Rattle.chan_walk.specs.OpenJob.{AreOfOneProgram, open_job}
 use Rattle.chan_needs.specs.Rows.{AreNeeds, AreRising, Listed}
 use Rattle.chan_walk.proofs.Algorithms.Opened.{to_open}
 use Rattle.chan_needs.proofs.Needing.{yes_grants}

@@ -3,7 +3,7 @@ use Rattle.std.proofs.Common.{◌≡◌, ◌<◌, ◌≤◌, ◌-◌, ◌++◌, 
 use Rattle.std.proofs.Common.{None, arith, inl, length, refl, take}
 use Rattle.std.specs.Prelude.{◌^◌, is_some, replicate, unwrap_or}
 use Rattle.std.proofs.lemmas.List.{take_all}
-use Rattle.chan_run.specs.Imaging.{filled}
+use Rattle.chan_run.specs.Image.{filled}
 
 -- an address in the largest storage lies past storage only where a smaller size was asked for
 pub past_storage : (X : Type 0) (size : Option ℕ) (at : ℕ) → unwrap_or size (2 ^ 24) < at → at < 2 ^ 24

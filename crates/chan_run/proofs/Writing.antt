@@ -5,7 +5,7 @@ use Rattle.std.specs.Io.KnownBytes.{Appends}
 use Rattle.std.proofs.lemmas.List.{length-append, take_all}
 use Rattle.ccw_core.specs.Written.{AppendsPrefix}
 pub use Rattle.ccw_core.proofs.Prefixes.{prefix_after, prefix_of_more}
-use Rattle.chan_run.specs.Naming.{concatenated}
+use Rattle.chan_run.specs.Name.{concatenated}
 
 -- some texts before one, and this one, are no longer than all of them
 pub no_longer : (texts : List (Bor (List ℕ))) (i : ℕ) (d : Bor (List ℕ)) → i < length texts

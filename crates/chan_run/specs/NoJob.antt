@@ -2,9 +2,9 @@
 use Rattle.std.specs.Prelude.{◌≡◌, ◌++◌, ℕ, false, true, List, Option, codes}
 use Rattle.chan_walk.specs.declared.job.Job.{Job}
 use Rattle.chan_walk.specs.declared.verdict.Verdict.{Verdict}
-use Rattle.chan_run.specs.Imaging.{IsOfOpenJob}
-use Rattle.chan_run.specs.Naming.{name_before}
-use Rattle.chan_run.specs.Run.{IsExplained}
+use Rattle.chan_run.specs.Image.{IsOfOpenJob}
+use Rattle.chan_run.specs.Name.{name_before}
+use Rattle.chan_run.specs.Output.{IsExplained}
 use Rattle.chan_run.specs.declared.image_options.ImageOptions.{ImageOptions}
 
 -- this explains the verdict on an open job, and some hint may follow

@@ -3,17 +3,17 @@
 ghost use Rattle.std.specs.Prelude.{◌≡◌, ◌↔◌, ◌+◌, ◌≤◌, ◌^◌, false, true, length, IfErr};
 ghost use Rattle.std.specs.Prelude.{◌<◌, if◌then◌else◌, is_some, IfOk, IfSome, IsErrOf, None};
 ghost use Rattle.std.specs.Prelude.{unwrap_or};
-ghost use Rattle.chan_run.specs.Imaging.{IsDeckAnswer, IsDeckText, IsNoDeck, IsNoImage, IsRoom};
-ghost use Rattle.chan_run.specs.Imaging.{IsWholeImage, filled};
-ghost use Rattle.chan_run.specs.Report.{IsDone, IsWriteFailure};
+ghost use Rattle.chan_run.specs.Image.{IsDeckAnswer, IsDeckText, IsNoDeck, IsNoImage, IsRoom};
+ghost use Rattle.chan_run.specs.Image.{IsWholeImage, filled};
+ghost use Rattle.chan_run.specs.Outcome.{IsDone, IsWriteFailure};
 ghost use Rattle.chan_run.specs.declared.failure.Failure.TheVariants as failures;
 
 use crate::failure::Failure;
 use crate::image_options::ImageOptions;
 use crate::input::read_input;
-use crate::least::least_text;
+use crate::least_job::least_text;
 use crate::options::PAST_ADDRESSES;
-use crate::reporting::Outcome;
+use crate::outcome::Outcome;
 use ccw_core::{Watched, write_out};
 use chan_deck::{Parts, parts_text};
 use std::alloc::{AllocError, Global};

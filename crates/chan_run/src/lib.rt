@@ -15,36 +15,36 @@
 //! `conclude` ends any other command.
 #![tactic(auto)]
 
-mod advising;
-mod answering;
+mod advice;
+mod answers;
 mod failure;
-mod finding;
+mod find;
 mod image;
 mod image_options;
 mod input;
-mod least;
-mod meaning;
-mod naming;
+mod least_job;
+mod name;
 mod nearest;
 mod no_job;
+mod one_ccw;
 mod option_fault;
-mod option_reading;
+mod option_values;
 mod options;
+mod outcome;
 mod output;
-mod reporting;
-mod running;
-mod showing;
+mod status;
+mod terms;
 mod texts;
 mod word;
 
-pub use crate::answering::{answer, answer_image, note_usual_device};
+pub use crate::answers::{answer, answer_image, note_usual_device};
 pub use crate::failure::Failure;
-pub use crate::finding::find_programs;
+pub use crate::find::find_programs;
 pub use crate::image_options::{ImageOptions, OptionError, OptionFault};
-pub use crate::meaning::{Term, explain_word, list_words};
+pub use crate::one_ccw::{ShowError, show};
 pub use crate::option_fault::{report_grants, report_option};
-pub use crate::option_reading::options_of;
-pub use crate::reporting::{Outcome, conclude, ends_run, exit_status, greater_status, report};
-pub use crate::running::{RunError, Status, run};
-pub use crate::showing::{ShowError, show};
+pub use crate::option_values::options_of;
+pub use crate::outcome::{Outcome, conclude, ends_run, exit_status, greater_status, report};
+pub use crate::status::{RunError, Status, run};
+pub use crate::terms::{Term, explain_word, list_words};
 pub use crate::word::{shown_word, word_of};

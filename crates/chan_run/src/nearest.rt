@@ -1,6 +1,6 @@
 //! The word that is nearest to one that has no meaning.
 
-use crate::meaning::{Term, term_word};
+use crate::terms::{Term, term_word};
 use std::alloc::{AllocError, Global};
 use strsim::levenshtein;
 

@@ -1,15 +1,15 @@
 //! What is said of an image if no job will do for its program.
 
 ghost use Rattle.std.specs.Prelude.{◌≡◌, ◌+◌, ◌≤◌, ◌^◌, codes, length, string_bytes, IfOk};
-ghost use Rattle.chan_run.specs.Imaging.{IsOfOpenJob};
-ghost use Rattle.chan_run.specs.Naming.{name_in};
+ghost use Rattle.chan_run.specs.Image.{IsOfOpenJob};
+ghost use Rattle.chan_run.specs.Name.{name_in};
 ghost use Rattle.chan_run.specs.NoJob.{IsExplainedOpenly, IsNoJobText};
-ghost use Rattle.chan_walk.specs.Open.{IsOpenJob};
+ghost use Rattle.chan_walk.specs.OpenJob.{IsOpenJob};
 ghost use Rattle.chan_walk.specs.declared.job.Job.{Job};
 
 use crate::image_options::ImageOptions;
-use crate::least::job_at;
-use crate::naming::named;
+use crate::least_job::job_at;
+use crate::name::named;
 use crate::output::why_text;
 use ccw_core::Storage;
 use chan_deck::place_image;

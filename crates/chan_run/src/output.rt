@@ -4,10 +4,11 @@ ghost use Rattle.std.specs.Prelude.{◌≡◌, ◌↔◌, ◌++◌, false, true,
 ghost use Rattle.std.specs.Prelude.{string_bytes};
 ghost use Rattle.std.specs.Io.KnownBytes.{Appends};
 ghost use Rattle.ccw_core.specs.Written.{AppendsPrefix};
-ghost use Rattle.chan_walk.specs.Offences.{first_verdict};
-ghost use Rattle.chan_walk.specs.Surveyed.{IsSurvey};
-ghost use Rattle.chan_run.specs.Naming.{name_before, name_in};
-ghost use Rattle.chan_run.specs.Run.{AreTold, IsExplained, IsListing, IsNeeded, IsOutput, text_in};
+ghost use Rattle.chan_walk.specs.Offence.{first_verdict};
+ghost use Rattle.chan_walk.specs.JobSurvey.{IsSurvey};
+ghost use Rattle.chan_run.specs.Name.{name_before, name_in};
+ghost use Rattle.chan_run.specs.Output.{AreTold, IsExplained, IsListing, IsNeeded, IsOutput};
+ghost use Rattle.chan_run.specs.Output.{text_in};
 
 use ccw_core::{Watched, write_out};
 use chan_args::Action;

@@ -4,7 +4,7 @@ ghost use Rattle.std.specs.Prelude.{◌≡◌, ◌↔◌, ◌≤◌, false, true
 ghost use Rattle.std.specs.Prelude.{OnOk};
 ghost use Rattle.std.specs.Io.KnownBytes.{Appends};
 ghost use Rattle.ccw_core.specs.Written.{AppendsPrefix};
-ghost use Rattle.chan_run.specs.Naming.{concatenated};
+ghost use Rattle.chan_run.specs.Name.{concatenated};
 
 use arrayvec::ArrayString;
 use ccw_core::{DeviceFault, Watched, write_out};

@@ -5,7 +5,7 @@ use Rattle.chan_walk.specs.declared.place.Place.{Place}
 use Rattle.chan_walk.specs.declared.verdict.Verdict.{Verdict}
 use Rattle.chan_walk.specs.declared.verdict.Verdict.TheVariants.{Yes, No}
 use Rattle.chan_walk.specs.Alarm.{IsShownAt}
-use Rattle.chan_walk.specs.Explored.{AreReachable}
+use Rattle.chan_walk.specs.Places.{AreReachable}
 use Rattle.chan_walk.specs.Headline.{IsSafe, IsSafeAmong, IsSteady, IsSteadyAmong}
 use Rattle.chan_walk.specs.Verdict.{IsVerdict}
 

@@ -6,10 +6,10 @@ use Rattle.ccw_core.specs.Areas.{covered}
 use Rattle.ccw_core.specs.Ccw.{byte, Fields, is_transfer, skips}
 use Rattle.ckd_core.specs.declared.command.Kind.{Kind}
 use Rattle.ckd_core.specs.declared.command.Kind.TheVariants.{Idle, Inward, Outward, Search}
-use Rattle.ckd_core.specs.Argument.{is_allowed}
-use Rattle.ckd_core.specs.Cylinders.{has_cylinder}
+use Rattle.ckd_core.specs.Track.{is_allowed}
+use Rattle.ckd_core.specs.Extents.{has_cylinder}
 use Rattle.ckd_core.specs.Mask.{inhibits, is_at_least}
-use Rattle.ckd_core.specs.Table.{Entry as Command, lookup, is_seek, recalibrates, sets_mask}
+use Rattle.ckd_core.specs.Command.{Entry as Command, lookup, is_seek, recalibrates, sets_mask}
 use Rattle.chan_walk.specs.declared.job.Job.{Job}
 use Rattle.chan_walk.specs.declared.place.Entry.{Entry}
 use Rattle.chan_walk.specs.declared.place.Entry.TheVariants.{Fresh, ChainIn, ChainOut, ChainSearch}

@@ -1,7 +1,7 @@
 -- The bytes that the data chain of a seek gives of its argument, and where they stand.
 use Rattle.std.specs.Prelude.{◌≡◌, ℕ, ◌<◌, ◌≤◌, List, map, take, slice_index}
 use Rattle.ccw_core.specs.Ccw.{byte}
-use Rattle.chan_walk.specs.declared.seek.GivenBytes.{GivenBytes}
+use Rattle.chan_walk.specs.declared.argument.GivenBytes.{GivenBytes}
 use Rattle.chan_walk.specs.Argument.{IsChain, joined}
 
 -- their addresses, in order

@@ -2,7 +2,7 @@
 use Rattle.std.specs.Prelude.{◌≡◌, ℕ, true, List}
 use Rattle.ccw_core.specs.declared.areas.Area.{Area}
 use Rattle.ccw_core.specs.Held.{bytes_held}
-use Rattle.ckd_core.specs.Geometry.{heads_of}
+use Rattle.ckd_core.specs.Device.{heads_of}
 use Rattle.ckd_core.specs.Mask.{is_mask}
 use Rattle.chan_walk.specs.declared.job.Job.{Job}
 

@@ -5,7 +5,7 @@ pub mod Reason
 pub mod Check
 pub mod Argument
 pub mod Fault
-pub mod Successors
+pub mod Successor
 pub mod Reachable
 pub mod Guarded
 pub mod Verdict
@@ -17,12 +17,12 @@ pub mod Headline
 pub mod Alarm
 pub mod Counted
 pub mod Order
-pub mod Open
+pub mod OpenJob
 -- What the answers say: lists, paths, causes, notes, needs, and what a supervisor may do.
 pub mod Limit
-pub mod Explored
+pub mod Places
 pub mod Answers
-pub mod Offences
+pub mod Offence
 pub mod Paths
 pub mod Seeks
 pub mod Given
@@ -37,5 +37,5 @@ pub mod Lent
 pub mod Lending
 pub mod Guard
 pub mod Look
-pub mod Surveyed
+pub mod JobSurvey
 pub mod Moved

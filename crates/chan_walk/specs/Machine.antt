@@ -7,7 +7,7 @@ use Rattle.std.specs.List.{AllByRecursion, range_with_len}
 use Rattle.ccw_core.specs.Ccw.{byte, Fields, ccw, is_transfer, skips, chains_data, chains_command}
 use Rattle.ckd_core.specs.declared.command.Kind.{Kind}
 use Rattle.ckd_core.specs.declared.command.Kind.TheVariants.{Idle, Inward, Outward, Search}
-use Rattle.ckd_core.specs.Argument.{cylinder_of}
+use Rattle.ckd_core.specs.Track.{cylinder_of}
 use Rattle.ckd_core.specs.Mask.{is_mask}
 use Rattle.chan_walk.specs.declared.place.Entry.{Entry}
 use Rattle.chan_walk.specs.declared.place.Entry.TheVariants.{Fresh}
@@ -17,7 +17,7 @@ use Rattle.chan_walk.specs.Check.{check}
 use Rattle.chan_walk.specs.Fault.{kind_of, is_known, begins_seek, begins_recalibrate}
 use Rattle.chan_walk.specs.Fault.{begins_set_mask}
 use Rattle.chan_walk.specs.Place.{is_fresh, straight_to, transferred_to}
-use Rattle.chan_walk.specs.Successors.{chained, gives_modifier}
+use Rattle.chan_walk.specs.Successor.{chained, gives_modifier}
 
 -- the bytes that a seek under way has taken so far; none, where no seek is under way
 abbrev pub Gathered : Type 0

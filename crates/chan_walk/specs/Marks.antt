@@ -10,7 +10,7 @@ use Rattle.chan_walk.specs.declared.place.Entry.{Entry}
 use Rattle.chan_walk.specs.declared.place.Entry.TheVariants.{Fresh, ChainIn, ChainOut, ChainSearch}
 use Rattle.chan_walk.specs.declared.place.Place.{Place}
 use Rattle.chan_walk.specs.Argument.{Has}
-use Rattle.chan_walk.specs.Explored.{way_of}
+use Rattle.chan_walk.specs.Places.{way_of}
 
 -- a place of the list has the address a and is entered in the way w
 pub record HasWay (ps : List Place) (a w : ℕ) : Type 0 where

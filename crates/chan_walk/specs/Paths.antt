@@ -5,7 +5,7 @@ use Rattle.chan_walk.specs.declared.job.Job.{Job}
 use Rattle.chan_walk.specs.declared.place.Place.{Place}
 use Rattle.chan_walk.specs.Fault.{kind_of}
 use Rattle.chan_walk.specs.Place.{ccw_of}
-use Rattle.chan_walk.specs.Successors.{next_of, skip_of}
+use Rattle.chan_walk.specs.Successor.{next_of, skip_of}
 
 -- q is the next place after p
 abbrev pub IsNext : Job → Place → Place → Type 0

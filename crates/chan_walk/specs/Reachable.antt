@@ -4,7 +4,7 @@ use Rattle.chan_walk.specs.declared.job.Job.{Job}
 use Rattle.chan_walk.specs.declared.place.Place.{Place}
 use Rattle.chan_walk.specs.Fault.{IsClear}
 use Rattle.chan_walk.specs.Place.{first_place}
-use Rattle.chan_walk.specs.Successors.{Successor}
+use Rattle.chan_walk.specs.Successor.{Successor}
 
 -- the places of a path from the first place on, the newest first; a place with an own fault leads
 -- nowhere

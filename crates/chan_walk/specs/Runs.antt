@@ -3,7 +3,7 @@
 use Rattle.std.specs.Prelude.{◌≡◌, ℕ, ◌+◌, ◌<◌, ◌≤◌, true, List, [], ◌∷◌, length, None, ◌⊎◌}
 use Rattle.ccw_core.specs.Ccw.{byte}
 use Rattle.ccw_core.specs.Storage.{Stands}
-use Rattle.ckd_core.specs.Cylinders.{has_cylinder}
+use Rattle.ckd_core.specs.Extents.{has_cylinder}
 use Rattle.chan_walk.specs.declared.job.Job.{Job}
 use Rattle.chan_walk.specs.Argument.{Has}
 use Rattle.chan_walk.specs.Job.{storage_of, extents_of}

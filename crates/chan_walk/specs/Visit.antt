@@ -5,7 +5,7 @@ use Rattle.ccw_core.specs.Storage.{ccw_at}
 use Rattle.ckd_core.specs.declared.command.Kind.{Kind}
 use Rattle.ckd_core.specs.declared.command.Kind.TheVariants.{Inward, Outward, Search}
 use Rattle.ckd_core.specs.Entries.{entry_of}
-use Rattle.ckd_core.specs.Table.{Entry as Command, lookup}
+use Rattle.ckd_core.specs.Command.{Entry as Command, lookup}
 use Rattle.chan_walk.specs.declared.place.Entry.{Entry}
 use Rattle.chan_walk.specs.declared.place.Entry.TheVariants.{Fresh, ChainIn, ChainOut, ChainSearch}
 use Rattle.chan_walk.specs.declared.place.Place.{Place}

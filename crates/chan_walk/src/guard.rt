@@ -2,7 +2,7 @@
 
 ghost use Rattle.std.specs.Prelude.{◌≡◌, ◌<◌, ◌↔◌, ◌^◌, ◌++◌, ℕ, map, IfOk, OnOk, IsTrue};
 ghost use Rattle.std.specs.List.{All};
-ghost use Rattle.chan_walk.specs.Explored.{AreReachable};
+ghost use Rattle.chan_walk.specs.Places.{AreReachable};
 ghost use Rattle.chan_walk.specs.Guard.{AddsBytes, GuardAreas, Guards, IsArgumentByteOf};
 ghost use Rattle.chan_walk.specs.Guard.{IsCcwByteOf, byte_area};
 ghost use Rattle.chan_walk.specs.Least.{AreReached};
@@ -10,7 +10,7 @@ ghost use Rattle.chan_walk.specs.Look.{AreLooks, IsLook, places_of_looks};
 ghost use Rattle.chan_areas.specs.Ranges.{EndsBelow, IsMerged, Meets};
 ghost use Rattle.chan_walk.specs.declared.job.Job.{Job};
 
-use crate::explored::Explored;
+use crate::places::Explored;
 use crate::job::Job;
 use crate::lent::{Lending, Lent};
 use crate::look::{Look, look_by};

@@ -6,8 +6,8 @@ ghost use Rattle.chan_walk.specs.Alarm.{HeadlineAloneIsEnough, NoFalseAlarm, Saf
 ghost use Rattle.chan_walk.specs.Counted.{SameVerdict, YesByGuarded, YesStays};
 ghost use Rattle.chan_walk.specs.Headline.{GathersArguments, GuardedStays, StaysReachable};
 ghost use Rattle.chan_walk.specs.Headline.{YesIsSafe, YesIsSafeAmong};
-ghost use Rattle.chan_walk.specs.Offences.{FirstIsVerdict};
-ghost use Rattle.chan_walk.specs.Open.{MoreIsYes, OpenJobIsOpen, SameUnderYes};
+ghost use Rattle.chan_walk.specs.Offence.{FirstIsVerdict};
+ghost use Rattle.chan_walk.specs.OpenJob.{MoreIsYes, OpenJobIsOpen, SameUnderYes};
 ghost use Rattle.chan_walk.specs.Order.{NumbersIncrease};
 
 /// Where the verdict is yes, guarded bytes never change.

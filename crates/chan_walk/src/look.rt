@@ -10,7 +10,7 @@ ghost use Rattle.chan_walk.specs.Job.{storage_of};
 ghost use Rattle.chan_walk.specs.Lending.{Lends};
 ghost use Rattle.chan_walk.specs.Look.{IsLook, IsRead, addresses_of, argument_of, byte_of};
 ghost use Rattle.chan_walk.specs.Look.{mask_addresses, whole_of};
-ghost use Rattle.chan_walk.specs.Successors.{AreSuccessors};
+ghost use Rattle.chan_walk.specs.Successor.{AreSuccessors};
 ghost use Rattle.chan_walk.specs.Tables.{HasAddresses};
 ghost use Rattle.chan_walk.specs.Visit.{IsBegun, IsVisit};
 
@@ -19,7 +19,7 @@ use crate::job::Job;
 use crate::lent::Lending;
 use crate::place::Place;
 use crate::reason::Reason;
-use crate::seek::{GivenBytes, argument_addresses, byte_at, front_at, whole_at};
+use crate::argument::{GivenBytes, argument_addresses, byte_at, front_at, whole_at};
 use crate::successor::{Next, next_after};
 use crate::visit::{Visit, fetches_at};
 use ccw_core::{Ccw, Storage};

@@ -3,14 +3,14 @@
 ghost use Rattle.std.specs.Prelude.{◌≡◌, ◌↔◌, map, IfOk, IsTrue, OnOk};
 ghost use Rattle.std.specs.List.Sorted.{IsStrictlyIncreasing};
 ghost use Rattle.chan_walk.specs.Argument.{Has};
-ghost use Rattle.chan_walk.specs.Explored.{AreDistinct};
+ghost use Rattle.chan_walk.specs.Places.{AreDistinct};
 ghost use Rattle.chan_walk.specs.Fault.{IsClear};
 ghost use Rattle.chan_walk.specs.Guard.{Guards};
 ghost use Rattle.chan_walk.specs.Least.{AreReached, IsOwn};
 ghost use Rattle.chan_walk.specs.Look.{AreLooks, IsLook, places_of_looks};
-ghost use Rattle.chan_walk.specs.Offences as listed;
-ghost use Rattle.chan_walk.specs.Offences.{AddsOffences, AreAllOffences, AreOffences, HasOffences};
-ghost use Rattle.chan_walk.specs.Offences.{StoresInto};
+ghost use Rattle.chan_walk.specs.Offence as listed;
+ghost use Rattle.chan_walk.specs.Offence.{AddsOffences, AreAllOffences, AreOffences, HasOffences};
+ghost use Rattle.chan_walk.specs.Offence.{StoresInto};
 ghost use Rattle.chan_areas.specs.Ranges.{IsMerged};
 ghost use Rattle.chan_walk.specs.Verdict.{AreClear, Changes};
 ghost use Rattle.chan_walk.specs.declared.job.Job.{Job};

@@ -2,7 +2,7 @@
 
 ghost use Rattle.std.specs.Prelude.{◌≡◌, ◌<◌};
 ghost use Rattle.std.specs.Ordering.{nat_cmp};
-ghost use Rattle.chan_walk.specs.Explored.{place_number, way_of};
+ghost use Rattle.chan_walk.specs.Places.{place_number, way_of};
 ghost use Rattle.chan_walk.specs.Place as place;
 
 use crate::job::Job;

@@ -2,8 +2,8 @@
 
 ghost use Rattle.std.specs.Prelude.{◌≡◌, ◌<◌, ◌^◌, None};
 ghost use Rattle.chan_walk.specs.Fault.{kind_of as kind};
-ghost use Rattle.chan_walk.specs.Successors as chain;
-ghost use Rattle.chan_walk.specs.Successors.{next_of, skip_of};
+ghost use Rattle.chan_walk.specs.Successor as chain;
+ghost use Rattle.chan_walk.specs.Successor.{next_of, skip_of};
 ghost use Rattle.chan_walk.specs.Visit.{IsBegun};
 
 use crate::bits::{chains_command, chains_data};

@@ -3,7 +3,7 @@
 
 ghost use Rattle.std.specs.Prelude.{◌≡◌, option_map};
 ghost use Rattle.ckd_core.specs.Entries.{entry_of};
-ghost use Rattle.ckd_core.specs.Table as table;
+ghost use Rattle.ckd_core.specs.Command as table;
 ghost use Rattle.chan_walk.specs.Fault as fault;
 ghost use Rattle.chan_walk.specs.Visit.{IsBegun, begun, kind_by};
 

@@ -4,7 +4,7 @@ use Rattle.std.proofs.Common.{length, reverse, slice_index, Option, Some, refl, 
 use Rattle.std.proofs.Common.{arith, rules}
 use Rattle.std.specs.List.{slice_get}
 use Rattle.std.proofs.lemmas.Bool.{and_from, eq-eqb}
-use Rattle.chan_walk.specs.declared.exploring.Walk.{Walk}
+use Rattle.chan_walk.specs.declared.walk.Walk.{Walk}
 use Rattle.chan_walk.specs.declared.job.Job.{Job}
 use Rattle.chan_walk.specs.declared.place.Entry.{Entry}
 use Rattle.chan_walk.specs.declared.place.Place.{Place}
@@ -12,7 +12,7 @@ use Rattle.chan_walk.specs.contracts.place.Entry.{the_type}
 use Rattle.chan_walk.specs.Look.{Seen, places_of_looks}
 use Rattle.chan_walk.specs.Place.{first_place}
 use Rattle.chan_walk.specs.Walk.{HasFound, IsBest}
-use Rattle.chan_why.specs.Paths.{IsPathAt}
+use Rattle.chan_why.specs.Path.{IsPathAt}
 use Rattle.chan_walk.proofs.Algorithms.Looking.{number_of_places}
 use Rattle.chan_walk.proofs.Algorithms.Tracing.{best_first, best_next}
 use Rattle.chan_walk.proofs.Algorithms.Walking.{all_found}

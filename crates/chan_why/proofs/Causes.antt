@@ -10,8 +10,8 @@ use Rattle.ccw_core.specs.Ccw.{is_transfer}
 use Rattle.ccw_core.specs.Storage.{Stands, ccw_at}
 use Rattle.ccw_core.proofs.StorageLemmas.{ccw_at-where}
 use Rattle.ckd_core.specs.declared.track.Track.{Track}
-use Rattle.ckd_core.specs.Argument.{cylinder_of, has_no_bin, head_of, is_allowed, track_of}
-use Rattle.ckd_core.specs.Cylinders.{has_cylinder}
+use Rattle.ckd_core.specs.Track.{cylinder_of, has_no_bin, head_of, is_allowed, track_of}
+use Rattle.ckd_core.specs.Extents.{has_cylinder}
 use Rattle.chan_walk.specs.declared.job.Job.{Job}
 use Rattle.chan_walk.specs.declared.place.Place.{Place}
 use Rattle.chan_walk.specs.declared.reason.Reason.{Reason}

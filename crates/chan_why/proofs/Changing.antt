@@ -7,13 +7,13 @@ use Rattle.ccw_core.specs.declared.areas.Area.{Area}
 use Rattle.ccw_core.specs.Areas.{lies_in}
 use Rattle.chan_why.specs.declared.evidence.Evidence.{Evidence}
 use Rattle.chan_why.specs.declared.evidence.Evidence.TheVariants as because
-use Rattle.chan_walk.specs.declared.exploring.Walk.{Walk}
+use Rattle.chan_walk.specs.declared.walk.Walk.{Walk}
 use Rattle.chan_walk.specs.declared.job.Job.{Job}
 use Rattle.chan_walk.specs.declared.place.Place.{Place}
 use Rattle.ccw_core.specs.Ccw.{Fields}
 use Rattle.ccw_core.specs.Storage.{Stands, is_aligned}
-use Rattle.chan_why.specs.Changed.{IsSecondPathEnd}
-use Rattle.chan_walk.specs.declared.seek.GivenBytes.{GivenBytes}
+use Rattle.chan_why.specs.SecondPath.{IsSecondPathEnd}
+use Rattle.chan_walk.specs.declared.argument.GivenBytes.{GivenBytes}
 use Rattle.chan_why.specs.Evidence.{IsArgumentAt, IsArgumentIn, IsCause, IsCcwIn, IsSecondPath}
 use Rattle.chan_why.specs.Evidence.{IsTakenAt}
 use Rattle.chan_areas.specs.Ranges.{IsLeastOf, IsLeastOrNone}
@@ -27,7 +27,7 @@ use Rattle.chan_walk.specs.Look.{IsLook, IsRead, IsReadOfSeek, Seen, places_of_l
 use Rattle.chan_walk.specs.Place.{ccw_of}
 use Rattle.chan_areas.specs.Ranges.{IsByteIn, end_of}
 use Rattle.chan_walk.specs.Walk.{HasFound}
-use Rattle.chan_why.specs.Paths.{IsFirstWhere, IsPathAt}
+use Rattle.chan_why.specs.Path.{IsFirstWhere, IsPathAt}
 use Rattle.chan_why.proofs.Backward.{within_looks}
 use Rattle.chan_why.proofs.Finding.{best_where, path_where, reached_at}
 use Rattle.chan_walk.proofs.Theory.Faults.{clear_stands}

@@ -4,23 +4,23 @@ use Rattle.std.proofs.Common.{reverse, slice_get, Option, Some, None, IsSome, tr
 use Rattle.std.proofs.Common.{sym, ap, ◌∙◌, subst, inl, arith}
 use Rattle.std.specs.List.{AllZip}
 use Rattle.chan_why.specs.declared.evidence.Evidence.{Evidence}
-use Rattle.chan_walk.specs.declared.exploring.Walk.{Walk}
+use Rattle.chan_walk.specs.declared.walk.Walk.{Walk}
 use Rattle.chan_walk.specs.declared.job.Job.{Job}
 use Rattle.chan_walk.specs.declared.offence.Offence.{Offence}
 use Rattle.chan_walk.specs.declared.place.Place.{Place}
 use Rattle.chan_walk.specs.Alarm.{EachPathShows, IsProper}
 use Rattle.chan_walk.specs.Argument.{Has}
-use Rattle.chan_why.specs.Explained.{IsCauseOf, IsEvidenceOf, IsLike, IsPathOf, IsStoredBefore}
-use Rattle.chan_why.specs.Explained.{IsStoredOver, IsWitness, OffendsAt}
+use Rattle.chan_why.specs.Witness.{IsCauseOf, IsEvidenceOf, IsLike, IsPathOf, IsStoredBefore}
+use Rattle.chan_why.specs.Witness.{IsStoredOver, IsWitness, OffendsAt}
 use Rattle.chan_walk.specs.declared.reason.Reason.{Reason}
 use Rattle.chan_walk.specs.declared.verdict.Verdict.TheVariants.{No}
 use Rattle.chan_walk.specs.Reason.{is_no_command}
 use Rattle.chan_walk.specs.Look.{places_of_looks}
 use Rattle.chan_why.specs.Evidence.{IsEvidence}
-use Rattle.chan_walk.specs.Offences.{AreOffences, Offending, first_verdict}
+use Rattle.chan_walk.specs.Offence.{AreOffences, Offending, first_verdict}
 use Rattle.chan_walk.specs.Reachable.{IsReachable}
 use Rattle.chan_walk.specs.Walk.{HasFound}
-use Rattle.chan_why.specs.Paths.{IsFirstWhere, IsPathAt}
+use Rattle.chan_why.specs.Path.{IsFirstWhere, IsPathAt}
 use Rattle.chan_walk.proofs.Algorithms.Listing.{offence}
 use Rattle.chan_walk.proofs.Theory.Lists.{has_at}
 use Rattle.chan_why.proofs.Finding.{best_where, path_where, reached_at}

@@ -3,14 +3,14 @@ use Rattle.std.proofs.Common.{◌≡◌, ℕ, zero, suc, ◌+◌, ◌<◌, ◌�
 use Rattle.std.proofs.Common.{slice_get, slice_index, Option, Some, None, sym, ◌∙◌, subst, ◌⊎◌, inl}
 use Rattle.std.proofs.Common.{inr, arith, rules}
 use Rattle.std.proofs.lemmas.Bool.{cases_lt}
-use Rattle.chan_walk.specs.declared.exploring.Walk.{Walk}
+use Rattle.chan_walk.specs.declared.walk.Walk.{Walk}
 use Rattle.chan_walk.specs.declared.job.Job.{Job}
 use Rattle.chan_walk.specs.declared.place.Place.{Place}
 use Rattle.chan_walk.specs.Look.{Seen, places_of_looks}
-use Rattle.chan_why.specs.Paths.{ArePathWhere, IsPathWhere}
+use Rattle.chan_why.specs.Path.{ArePathWhere, IsPathWhere}
 use Rattle.chan_walk.specs.Reachable.{IsReachable}
 use Rattle.chan_walk.specs.Walk.{HasFound, IsBest}
-use Rattle.chan_why.specs.Paths.{IsFirstWhere, IsPathAt}
+use Rattle.chan_why.specs.Path.{IsFirstWhere, IsPathAt}
 use Rattle.chan_walk.proofs.Algorithms.Looking.{number_of_places, place_at}
 use Rattle.chan_walk.proofs.Algorithms.Tracing.{best_first, best_next}
 use Rattle.chan_walk.proofs.Algorithms.Walking.{all_found}

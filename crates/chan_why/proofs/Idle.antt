@@ -3,7 +3,7 @@ use Rattle.std.proofs.Common.{◌≡◌, ℕ, Bool, true, false, not, ◌||◌, 
 use Rattle.std.specs.List.{list_all}
 use Rattle.ccw_core.specs.Ccw.{Fields, is_transfer}
 use Rattle.ckd_core.specs.declared.command.Kind.TheVariants.{Idle}
-use Rattle.ckd_core.specs.Table.{Entry as Command, table, lookup}
+use Rattle.ckd_core.specs.Command.{Entry as Command, table, lookup}
 use Rattle.chan_walk.specs.Fault.{kind_of_command}
 use Rattle.chan_why.specs.Notes.{is_idle, moves_nothing}
 use Rattle.chan_walk.proofs.Theory.Commands.{Passes, found_passes, found_code}

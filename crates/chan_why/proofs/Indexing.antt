@@ -10,16 +10,16 @@ use Rattle.chan_walk.specs.declared.offence.Offence.{Offence}
 use Rattle.chan_walk.specs.declared.place.Place.{Place}
 use Rattle.chan_walk.specs.Argument.{Has}
 use Rattle.chan_areas.specs.Ranges.{IsLeastOf, IsLeastOrNone}
-use Rattle.chan_walk.specs.Explored.{AreDistinct, place_number}
-use Rattle.chan_why.specs.Index.{IsAtPlace, IsIndex, IsLesserOf, IsOfKind, KeepsLeast, TakesByte}
-use Rattle.chan_why.specs.Index.{TakesSoFar, kind_number}
+use Rattle.chan_walk.specs.Places.{AreDistinct, place_number}
+use Rattle.chan_why.specs.Finder.{IsAtPlace, IsIndex, IsLesserOf, IsOfKind, KeepsLeast, TakesByte}
+use Rattle.chan_why.specs.Finder.{TakesSoFar, kind_number}
 use Rattle.chan_walk.specs.Look.{AreLooks, Seen, places_of_looks}
 use Rattle.chan_walk.specs.declared.job.Job.{Job}
 use Rattle.chan_walk.specs.declared.reason.Reason.{Reason}
-use Rattle.chan_why.specs.Explained.{IsLike}
+use Rattle.chan_why.specs.Witness.{IsLike}
 use Rattle.chan_walk.specs.Guard.{IsArgumentByteOf}
 use Rattle.chan_walk.specs.Reason.{number_of}
-use Rattle.chan_why.specs.Paths.{IsFirstWhere}
+use Rattle.chan_why.specs.Path.{IsFirstWhere}
 use Rattle.chan_walk.proofs.Theory.Lists.{has_at, at_has}
 use Rattle.chan_walk.proofs.Algorithms.Listing.{offence}
 use Rattle.chan_walk.proofs.Algorithms.Looking.{number_of_places}

@@ -13,7 +13,7 @@ use Rattle.ccw_core.specs.declared.areas.Area.{Area}
 use Rattle.ccw_core.specs.Areas.{lies_in}
 use Rattle.ccw_core.specs.Ccw.{Fields}
 use Rattle.ccw_core.proofs.Covering.{lies_in-nil}
-use Rattle.ckd_core.specs.Table.{lookup}
+use Rattle.ckd_core.specs.Command.{lookup}
 use Rattle.chan_walk.specs.declared.job.Job.{Job}
 use Rattle.chan_walk.specs.declared.place.Entry.{Entry}
 use Rattle.chan_walk.specs.declared.place.Place.{Place}

@@ -4,7 +4,7 @@ use Rattle.std.proofs.Common.{subst, ◌∙◌, ◌⊎◌, inl, inr}
 use Rattle.std.proofs.lemmas.List.{reverse-reverse}
 use Rattle.chan_walk.specs.declared.job.Job.{Job}
 use Rattle.chan_walk.specs.declared.place.Place.{Place}
-use Rattle.chan_why.specs.Explained.{IsLastStore, IsStoredBefore, StoresAt}
+use Rattle.chan_why.specs.Witness.{IsLastStore, IsStoredBefore, StoresAt}
 
 -- what one place more adds: nothing where one was found already
 abbrev pub IsLater : Job → ℕ → Place → Option Place → Option Place → Type 0

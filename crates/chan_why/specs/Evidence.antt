@@ -4,8 +4,8 @@ use Rattle.std.specs.Prelude.{slice_index, Option, Some, None, ◌↔◌, IsTrue
 use Rattle.ccw_core.specs.declared.areas.Area.{Area}
 use Rattle.ccw_core.specs.Ccw.{byte}
 use Rattle.ccw_core.specs.Storage.{Stands}
-use Rattle.ckd_core.specs.Argument.{has_no_bin, cylinder_of, head_of}
-use Rattle.ckd_core.specs.Cylinders.{has_cylinder}
+use Rattle.ckd_core.specs.Track.{has_no_bin, cylinder_of, head_of}
+use Rattle.ckd_core.specs.Extents.{has_cylinder}
 use Rattle.chan_why.specs.declared.evidence.Evidence.{Evidence}
 use Rattle.chan_why.specs.declared.evidence.Evidence.TheVariants as because
 use Rattle.chan_why.specs.declared.evidence.Outside.{Outside}
@@ -15,14 +15,14 @@ use Rattle.chan_walk.specs.declared.offence.Offence.{Offence}
 use Rattle.chan_walk.specs.declared.place.Place.{Place}
 use Rattle.chan_walk.specs.declared.reason.Reason.{Reason}
 use Rattle.chan_walk.specs.declared.reason.Reason.TheVariants as reasons
-use Rattle.chan_walk.specs.declared.seek.GivenBytes.{GivenBytes}
+use Rattle.chan_walk.specs.declared.argument.GivenBytes.{GivenBytes}
 use Rattle.chan_walk.specs.Argument.{Gives, HasArgument}
 use Rattle.chan_walk.specs.Fault.{allows, begins_seek}
 use Rattle.chan_walk.specs.Given.{AreArgument, AreGiven}
 use Rattle.chan_walk.specs.Guard.{IsArgumentByteOf}
 use Rattle.chan_walk.specs.Guarded.{IsArgumentByte}
 use Rattle.chan_walk.specs.Job.{extents_of, fetch_of, heads, storage_of, store_of}
-use Rattle.chan_why.specs.Paths.{ArePathWhere, IsPathWhere}
+use Rattle.chan_why.specs.Path.{ArePathWhere, IsPathWhere}
 use Rattle.chan_walk.specs.Place.{ccw_of, data_at, first_place}
 use Rattle.chan_walk.specs.Seeks.{SeeksTo}
 use Rattle.chan_areas.specs.Ranges.{IsFirstGap, IsLeastOf, end_of}

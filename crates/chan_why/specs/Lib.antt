@@ -1,6 +1,6 @@
-pub mod Paths
+pub mod Path
 pub mod Evidence
-pub mod Changed
-pub mod Explained
-pub mod Index
+pub mod SecondPath
+pub mod Witness
+pub mod Finder
 pub mod Notes

@@ -8,7 +8,7 @@ use Rattle.ccw_core.specs.declared.areas.Area.{Area}
 use Rattle.ccw_core.specs.Ccw.{Fields, chains_command, chains_data, is_on, is_transfer}
 use Rattle.ckd_core.specs.declared.command.Kind.{Kind}
 use Rattle.ckd_core.specs.declared.command.Kind.TheVariants.{Idle, Inward, Outward, Search}
-use Rattle.ckd_core.specs.Table.{Entry as Command, lookup}
+use Rattle.ckd_core.specs.Command.{Entry as Command, lookup}
 use Rattle.chan_walk.specs.declared.job.Job.{Job}
 use Rattle.chan_why.specs.declared.note.Notes.{Notes}
 use Rattle.chan_walk.specs.declared.place.Place.{Place}
@@ -21,7 +21,7 @@ use Rattle.chan_walk.specs.Moved.{IsFetchedFrom, IsStoredInto, Passes}
 use Rattle.chan_walk.specs.Place.{is_fresh}
 use Rattle.chan_areas.specs.Ranges.{AreExactly, end_of}
 use Rattle.chan_walk.specs.Reachable.{IsReachable}
-use Rattle.chan_walk.specs.Successors.{next_of, skip_of}
+use Rattle.chan_walk.specs.Successor.{next_of, skip_of}
 
 -- ---- areas
 

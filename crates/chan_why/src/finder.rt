@@ -4,12 +4,12 @@ ghost use Rattle.std.specs.Prelude.{◌≡◌, ◌+◌, ◌<◌, length, IfOk, O
 ghost use Rattle.std.specs.BTreeMap as tree;
 ghost use Rattle.std.specs.Ordering.{nat_cmp};
 ghost use Rattle.chan_walk.specs.Argument.{Has};
-ghost use Rattle.chan_walk.specs.Explored.{AreDistinct};
-ghost use Rattle.chan_why.specs.Index.{Finds, IsAtPlace, IsIndex, IsLesserOf, IsOfKind};
-ghost use Rattle.chan_why.specs.Index.{KeepsLeast, TakesByte};
-ghost use Rattle.chan_why.specs.Index as index;
+ghost use Rattle.chan_walk.specs.Places.{AreDistinct};
+ghost use Rattle.chan_why.specs.Finder.{Finds, IsAtPlace, IsIndex, IsLesserOf, IsOfKind};
+ghost use Rattle.chan_why.specs.Finder.{KeepsLeast, TakesByte};
+ghost use Rattle.chan_why.specs.Finder as index;
 ghost use Rattle.chan_walk.specs.Look.{places_of_looks};
-ghost use Rattle.chan_walk.specs.Offences.{AreOffences};
+ghost use Rattle.chan_walk.specs.Offence.{AreOffences};
 ghost use Rattle.chan_walk.specs.Walk.{HasFound};
 ghost use Rattle.chan_walk.specs.declared.offence.Offence as declared;
 

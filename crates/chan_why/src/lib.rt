@@ -11,12 +11,12 @@
 //! ```
 #![tactic(auto)]
 
-mod changed;
 mod evidence;
 mod finder;
 mod note;
 mod noting;
 mod path;
+mod second_path;
 mod surveyed;
 mod witness;
 

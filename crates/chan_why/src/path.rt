@@ -2,11 +2,11 @@
 
 ghost use Rattle.std.specs.Prelude.{◌≡◌, ◌<◌, ◌↔◌, ◌++◌, ◌∷◌, [], List, length, reverse};
 ghost use Rattle.std.specs.Prelude.{IfOk, IsTrue};
-ghost use Rattle.chan_why.specs.Changed.{HasByteOf};
-ghost use Rattle.chan_why.specs.Explained.{IsLastStore, IsStoredBefore, StoresAt};
+ghost use Rattle.chan_why.specs.SecondPath.{HasByteOf};
+ghost use Rattle.chan_why.specs.Witness.{IsLastStore, IsStoredBefore, StoresAt};
 ghost use Rattle.chan_walk.specs.Look.{IsLook, places_of_looks};
 ghost use Rattle.chan_walk.specs.Walk.{HasFound};
-ghost use Rattle.chan_why.specs.Paths.{IsPathAt};
+ghost use Rattle.chan_why.specs.Path.{IsPathAt};
 ghost use Rattle.chan_walk.specs.declared.job.Job.{Job};
 ghost use Rattle.chan_walk.specs.declared.place.Place as places;
 

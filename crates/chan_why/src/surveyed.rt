@@ -2,10 +2,10 @@
 
 ghost use Rattle.std.specs.Prelude.{IfOk};
 ghost use Rattle.std.specs.List.{AllZip};
-ghost use Rattle.chan_walk.specs.Offences.{first_verdict};
-ghost use Rattle.chan_walk.specs.Surveyed.{IsSurvey};
-ghost use Rattle.chan_why.specs.Explained.{IsCauseOf, IsEvidenceOf, IsPathOf, IsSecondPathOf};
-ghost use Rattle.chan_why.specs.Explained.{IsStoredOver, IsWitness};
+ghost use Rattle.chan_walk.specs.Offence.{first_verdict};
+ghost use Rattle.chan_walk.specs.JobSurvey.{IsSurvey};
+ghost use Rattle.chan_why.specs.Witness.{IsCauseOf, IsEvidenceOf, IsPathOf, IsSecondPathOf};
+ghost use Rattle.chan_why.specs.Witness.{IsStoredOver, IsWitness};
 ghost use Rattle.chan_why.specs.Notes.{AreNotes};
 
 use crate::evidence::Evidence;

@@ -3,14 +3,14 @@
 
 ghost use Rattle.std.specs.Prelude.{◌≡◌, true, false, None, IfOk};
 ghost use Rattle.std.specs.List.{AllZip};
-ghost use Rattle.chan_why.specs.Explained.{IsCauseOf, IsEvidenceOf, IsPathOf, IsSecondPathOf};
-ghost use Rattle.chan_why.specs.Explained.{IsStoredOver};
+ghost use Rattle.chan_why.specs.Witness.{IsCauseOf, IsEvidenceOf, IsPathOf, IsSecondPathOf};
+ghost use Rattle.chan_why.specs.Witness.{IsStoredOver};
 ghost use Rattle.chan_walk.specs.Guard.{Guards};
-ghost use Rattle.chan_walk.specs.Offences.{AreOffences, first_verdict};
+ghost use Rattle.chan_walk.specs.Offence.{AreOffences, first_verdict};
 ghost use Rattle.chan_walk.specs.Reason.{is_no_command};
 ghost use Rattle.chan_walk.specs.Walk.{HasFound};
 
-use crate::changed::second_path;
+use crate::second_path::second_path;
 use crate::evidence::{Evidence, evidence_at};
 use crate::finder::Finder;
 use crate::path::{Path, path_at};

@@ -10,7 +10,7 @@
 #![tactic(auto)]
 
 ghost use Rattle.std.specs.Prelude.{◌≡◌, ◌↔◌, true};
-ghost use Rattle.chan_run.specs.Report.{IsWriteFailure};
+ghost use Rattle.chan_run.specs.Outcome.{IsWriteFailure};
 
 use ccw_core::{Watched, write_out};
 use chan_args::{Action, ImageRequest, Request, read_request};

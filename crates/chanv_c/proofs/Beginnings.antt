@@ -5,14 +5,14 @@ use Rattle.std.proofs.lemmas.List.Elements.{All-map}
 use Rattle.chan_walk.specs.declared.job.Job.{Job}
 use Rattle.chan_needs.specs.declared.remembered.Remembered.{Remembered}
 use Rattle.chan_needs.specs.declared.rows.Conflict.TheVariants as way
-use Rattle.chan_needs.specs.declared.starting.Refusal.TheVariants as why
-use Rattle.chan_needs.specs.declared.starting.Start.{Start}
-use Rattle.chan_needs.specs.declared.starting.Start.TheVariants as answer
+use Rattle.chan_needs.specs.declared.start.Refusal.TheVariants as why
+use Rattle.chan_needs.specs.declared.start.Start.{Start}
+use Rattle.chan_needs.specs.declared.start.Start.TheVariants as answer
 use Rattle.chan_needs.specs.Remembered.{AreBeside, IsBeside, IsFit}
 use Rattle.chan_needs.specs.Rows.{Listed}
-use Rattle.chanv_c.specs.declared.starting.CProgram.{CProgram}
-use Rattle.chanv_c.specs.Starting.{SpareEachOther, IsRememberedAs, as_in_flight, rows_told}
-use Rattle.chanv_c.specs.Starting.{start_code, start_told}
+use Rattle.chanv_c.specs.declared.start.CProgram.{CProgram}
+use Rattle.chanv_c.specs.Start.{SpareEachOther, IsRememberedAs, as_in_flight, rows_told}
+use Rattle.chanv_c.specs.Start.{start_code, start_told}
 
 -- the number 0 is that of yes
 pub yes_by_code : (s : Start) → start_code s ≡ 0 → s ≡ answer.Yes

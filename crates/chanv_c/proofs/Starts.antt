@@ -3,10 +3,10 @@ use Rattle.std.proofs.Common.{◌≡◌, ◌∙◌, List, arith, refl, sym, ℕ}
 use Rattle.ckd_core.specs.declared.device.Device.{Device}
 use Rattle.ckd_core.specs.declared.device.Device.TheVariants.{D2311, D2314}
 use Rattle.chan_walk.specs.declared.job.Job.{Job}
-use Rattle.chan_walk.specs.Open.{open_job}
+use Rattle.chan_walk.specs.OpenJob.{open_job}
 use Rattle.chan_find.specs.Programs.{AreProgramStarts, IsJobOver}
-use Rattle.chanv_c.specs.Asked.{device_number}
-use Rattle.chanv_c.specs.Found.{AreStartsIn}
+use Rattle.chanv_c.specs.Job.{device_number}
+use Rattle.chanv_c.specs.Find.{AreStartsIn}
 
 -- two devices with one number are the same
 same_device : (d e : Device) → device_number d ≡ device_number e → d ≡ e

@@ -6,13 +6,13 @@ use Rattle.chan_walk.specs.declared.reason.Reason.{Reason}
 use Rattle.chan_walk.specs.declared.verdict.Verdict.{Verdict}
 use Rattle.chan_walk.specs.declared.verdict.Verdict.TheVariants.{No}
 use Rattle.chan_walk.specs.Answers.{IsAnswer}
-use Rattle.chan_walk.specs.Explored.{AreReachable, HasMoreThan, entry_number, transfer_number}
+use Rattle.chan_walk.specs.Places.{AreReachable, HasMoreThan, entry_number, transfer_number}
 use Rattle.chan_walk.specs.Reason.{number_of}
-use Rattle.chanv_c.specs.declared.asked.CJob.{CJob}
+use Rattle.chanv_c.specs.declared.job.CJob.{CJob}
 use Rattle.chanv_c.specs.declared.refusal.Refusal.{Refusal}
 use Rattle.chanv_c.specs.declared.refusal.Refusal.TheVariants.{TooManyPlaces, Memory, Wrong}
 use Rattle.chanv_c.specs.declared.rows.CPlace.{CPlace}
-use Rattle.chanv_c.specs.Asked.{IsAskedJob}
+use Rattle.chanv_c.specs.Job.{IsAskedJob}
 use Rattle.chanv_c.specs.Faults.{HasNoFault, IsFirstFault, HasFaultCode, fault_code, fault_extent}
 
 -- the verdict on the job that C asks about, with all that an answer promises

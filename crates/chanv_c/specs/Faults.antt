@@ -3,13 +3,13 @@ use Rattle.std.specs.Prelude.{◌≡◌, ◌≢◌, ℕ, ◌<◌, false, [], ◌
 use Rattle.ckd_core.specs.Faults.{IsBackwards, IsFirstWrong, IsPastDevice}
 use Rattle.ckd_core.specs.Mask.{is_mask}
 use Rattle.chan_walk.specs.Limit.{IsLimit}
-use Rattle.chanv_c.specs.declared.asked.CJob.{CJob}
+use Rattle.chanv_c.specs.declared.job.CJob.{CJob}
 use Rattle.chanv_c.specs.declared.refusal.JobFault.{JobFault}
 use Rattle.chanv_c.specs.declared.refusal.JobFault.TheVariants.{StorageTooLarge, NotADevice}
 use Rattle.chanv_c.specs.declared.refusal.JobFault.TheVariants.{NotAMask, NoExtent, ExtentBackwards}
 use Rattle.chanv_c.specs.declared.refusal.JobFault.TheVariants.{ExtentPastDevice, NotALimit}
 use Rattle.chanv_c.specs.declared.refusal.JobFault.TheVariants.{ReservedNotZero}
-use Rattle.chanv_c.specs.Asked.{extents_asked}
+use Rattle.chanv_c.specs.Job.{extents_asked}
 
 -- this is wrong with the job; of the extents only the first from the left that is wrong is named,
 -- counted from 0

@@ -1,10 +1,10 @@
-pub mod Asked
+pub mod Job
 pub mod Faults
 pub mod Answers
-pub mod Cause
-pub mod Explained
-pub mod Needed
-pub mod Found
-pub mod Starting
+pub mod Evidence
+pub mod Why
+pub mod Needs
+pub mod Find
+pub mod Start
 pub mod Version
-pub mod Telling
+pub mod Text

@@ -1,7 +1,7 @@
 //! The values of a cause.
 
 ghost use Rattle.std.specs.Prelude.{◌≡◌};
-ghost use Rattle.chanv_c.specs.Cause as specs;
+ghost use Rattle.chanv_c.specs.Evidence as specs;
 
 use ccw_core::Area;
 use chan_walk::GivenBytes;

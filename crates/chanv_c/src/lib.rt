@@ -4,30 +4,30 @@
 //! `include/chanv.h` declares what this library exports, and says what a caller owes.
 #![tactic(auto)]
 
-mod asked;
 mod evidence;
-mod explaining;
-mod finding;
-mod keeping;
-mod listing;
-mod needed;
+mod find;
+mod job;
+mod kept;
+mod list;
+mod needs;
 mod question;
 mod refusal;
 mod rows;
-mod starting;
-mod telling;
-mod verifying;
+mod start;
+mod text;
+mod verify;
 mod version;
+mod why;
 
-pub use crate::asked::{CExtent, CJob};
 pub use crate::evidence::CEvidence;
-pub use crate::explaining::{CExplanation, chanv_why};
-pub use crate::finding::chanv_find;
-pub use crate::keeping::chanv_copy_kept;
-pub use crate::listing::chanv_list;
-pub use crate::needed::{CNeeded, chanv_needs};
+pub use crate::find::chanv_find;
+pub use crate::job::{CExtent, CJob};
+pub use crate::kept::chanv_copy_kept;
+pub use crate::list::chanv_list;
+pub use crate::needs::{CNeeded, chanv_needs};
 pub use crate::rows::CPlace;
-pub use crate::starting::{CProgram, CRefusal, CRows, chanv_may_start, chanv_may_write};
-pub use crate::telling::{chanv_open_text, chanv_text};
-pub use crate::verifying::{CVerdict, chanv_verify};
+pub use crate::start::{CProgram, CRefusal, CRows, chanv_may_start, chanv_may_write};
+pub use crate::text::{chanv_open_text, chanv_text};
+pub use crate::verify::{CVerdict, chanv_verify};
 pub use crate::version::chanv_version;
+pub use crate::why::{CExplanation, chanv_why};

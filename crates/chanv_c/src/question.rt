@@ -4,7 +4,7 @@ ghost use Rattle.std.specs.Prelude.{IfErr, IfOk, OnOk};
 ghost use Rattle.chanv_c.specs.Answers.{IsRefusal};
 ghost use Rattle.chanv_c.specs.Faults.{HasNoFault};
 
-use crate::asked::{CJob, make_ready};
+use crate::job::{CJob, make_ready};
 use crate::refusal::Refusal;
 use chan_walk::Job;
 use std::alloc::Global;
@@ -13,9 +13,9 @@ use std::alloc::Global;
 pub(crate) trait Question<T> {
     ghost use Rattle.std.specs.Prelude.{IfErr, IfOk};
     ghost use Rattle.chanv_c.specs.Answers.{IsRefusal};
-    ghost use Rattle.chanv_c.specs.Asked.{IsAskedJob};
+    ghost use Rattle.chanv_c.specs.Job.{IsAskedJob};
     ghost use Rattle.chanv_c.specs.Faults.{HasNoFault};
-    ghost use Rattle.chanv_c.specs.declared.asked.CJob as c;
+    ghost use Rattle.chanv_c.specs.declared.job.CJob as c;
 
     // What an answer says of what C asks.
     ghost holds: { Self → c.CJob → T → Type 0 };

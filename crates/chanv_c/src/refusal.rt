@@ -1,13 +1,13 @@
 //! Why C gets no answer.
 
 ghost use Rattle.std.specs.Prelude.{◌≡◌};
-ghost use Rattle.chan_walk.specs.Explored.{HasMoreThan};
+ghost use Rattle.chan_walk.specs.Places.{HasMoreThan};
 ghost use Rattle.chan_walk.specs.declared.error.WalkError.TheVariants as walk;
 ghost use Rattle.chanv_c.specs.Answers.{HasTooMany, IsRefusal, refusal_code, refusal_extent};
-ghost use Rattle.chanv_c.specs.Asked.{IsAskedJob};
+ghost use Rattle.chanv_c.specs.Job.{IsAskedJob};
 ghost use Rattle.chanv_c.specs.Faults.{HasNoFault, fault_code, fault_extent};
 
-use crate::asked::CJob;
+use crate::job::CJob;
 use chan_walk::{Job, WalkError};
 
 /// The faults of a job as C gives it, in the order in which they count.

@@ -2,9 +2,9 @@
 
 ghost use Rattle.std.specs.Prelude.{◌≡◌, ◌≤◌, ◌++◌, drop, length, map};
 ghost use Rattle.chanv_c.specs.Answers.{place_row};
-ghost use Rattle.chanv_c.specs.Needed.{StandFirst, run_row};
+ghost use Rattle.chanv_c.specs.Needs.{StandFirst, run_row};
 
-use crate::asked::CExtent;
+use crate::job::CExtent;
 use ccw_core::Area;
 use chan_walk::{Entry, Explored, Place};
 

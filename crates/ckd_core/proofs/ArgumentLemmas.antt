@@ -1,9 +1,9 @@
 -- The argument of a seek and the track that it names are two views of one thing.
 use Rattle.std.proofs.Common.{◌≡◌, ℕ, Bool, true, false, ◌&&◌, cond, List, Some, None, refl, nat_lt}
 use Rattle.std.specs.Option.{option_map_or}
-use Rattle.ckd_core.specs.Argument.{has_no_bin, cylinder_of, head_of, is_allowed, is_allowed_track}
-use Rattle.ckd_core.specs.Argument.{track_of}
-use Rattle.ckd_core.specs.Cylinders.{has_cylinder}
+use Rattle.ckd_core.specs.Track.{has_no_bin, cylinder_of, head_of, is_allowed, is_allowed_track}
+use Rattle.ckd_core.specs.Track.{track_of}
+use Rattle.ckd_core.specs.Extents.{has_cylinder}
 use Rattle.ckd_core.specs.declared.track.Track.{Track}
 
 by_bin : (extents : List (ℕ × ℕ)) (heads : ℕ) (track : Track) (no_bin : Bool)

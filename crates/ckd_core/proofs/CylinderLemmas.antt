@@ -11,7 +11,7 @@ use Rattle.std.proofs.lemmas.List.Elements.{All-from_recursion}
 use Rattle.std.proofs.lemmas.List.{get_or-set_other}
 use Rattle.std.proofs.lemmas.Grind.{get_or-set_at}
 use Rattle.std.proofs.lemmas.List.Folds.{list_any_more}
-use Rattle.ckd_core.specs.Cylinders.{has_cylinder, IsExtent, same_extents}
+use Rattle.ckd_core.specs.Extents.{has_cylinder, IsExtent, same_extents}
 
 -- some extent begins at the cylinder and reaches x
 abbrev pub reached_from : List (ℕ × ℕ) → ℕ → ℕ → Bool

@@ -4,7 +4,7 @@ use Rattle.std.proofs.Common.{if◌then◌else◌, refl, sym, ap, ◌∙◌, ari
 use Rattle.std.specs.Option.{option_or}
 use Rattle.ckd_core.specs.declared.command.MaskClass.{MaskClass}
 use Rattle.ckd_core.specs.Mask.{first_command}
-use Rattle.ckd_core.specs.Table.{Entry, class_passes, lookup}
+use Rattle.ckd_core.specs.Command.{Entry, class_passes, lookup}
 
 module _ (test : MaskClass → Bool) where
   -- the entry of a code, if its class passes

@@ -2,7 +2,7 @@
 use Rattle.std.proofs.Common.{◌≡◌, ℕ, true, false, nat_eq, cond, List, [], ◌∷◌, ◌++◌, Option, Some}
 use Rattle.std.proofs.Common.{None, refl, ap, sym, ◌∙◌}
 use Rattle.std.specs.Option.{option_or}
-use Rattle.ckd_core.specs.Table.{Entry, lookup, find_code, class_passes}
+use Rattle.ckd_core.specs.Command.{Entry, lookup, find_code, class_passes}
 use Rattle.ckd_core.specs.Mask.{inhibits, inhibits_class}
 
 -- a list of entries that stands before another is searched first

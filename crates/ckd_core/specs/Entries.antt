@@ -1,5 +1,5 @@
 -- A command of the code as an entry of the table.
-use Rattle.ckd_core.specs.Table.{Entry}
+use Rattle.ckd_core.specs.Command.{Entry}
 use Rattle.ckd_core.specs.declared.command.Command.{Command}
 
 abbrev pub entry_of : Command → Entry

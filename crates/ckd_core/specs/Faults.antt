@@ -1,7 +1,7 @@
 -- Why pairs of cylinders are no extents: the first pair from the left that is none.
 use Rattle.std.specs.Prelude.{◌≡◌, ℕ, ◌<◌, ◌≤◌, List, [], take, Some, slice_get}
 use Rattle.std.specs.List.{AllByRecursion}
-use Rattle.ckd_core.specs.Cylinders.{IsExtent, AreExtents}
+use Rattle.ckd_core.specs.Extents.{IsExtent, AreExtents}
 use Rattle.ckd_core.specs.declared.extents.ExtentError.{ExtentError}
 use Rattle.ckd_core.specs.declared.extents.ExtentError.TheVariants.{Empty, Backwards, PastDevice}
 use Rattle.ckd_core.specs.declared.extents.ExtentError.TheVariants.{Memory}

@@ -1,10 +1,10 @@
-pub mod Geometry
-pub mod Table
+pub mod Device
+pub mod Command
 pub mod Entries
 pub mod Further
 pub mod Mask
 pub mod Levels
-pub mod Cylinders
-pub mod HeldCylinders
+pub mod Extents
+pub mod HeldExtents
 pub mod Faults
-pub mod Argument
+pub mod Track

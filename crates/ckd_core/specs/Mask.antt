@@ -8,7 +8,7 @@ use Rattle.ckd_core.specs.declared.command.MaskClass.{MaskClass}
 use Rattle.ckd_core.specs.declared.command.MaskClass.TheVariants.{Plain, Seek, SeekCylinder}
 use Rattle.ckd_core.specs.declared.command.MaskClass.TheVariants.{SeekHead, Recalibrate, WriteHome}
 use Rattle.ckd_core.specs.declared.command.MaskClass.TheVariants.{WriteFormat, WriteUpdate, SetMask}
-use Rattle.ckd_core.specs.Table.{Entry, class_passes, lookup}
+use Rattle.ckd_core.specs.Command.{Entry, class_passes, lookup}
 
 -- no bit but those of writes and seeks
 abbrev pub is_mask : ℕ → Bool

@@ -2,7 +2,7 @@
 
 ghost use Rattle.std.specs.Prelude.{◌≡◌, option_map};
 ghost use Rattle.ckd_core.specs.Entries.{entry_of};
-ghost use Rattle.ckd_core.specs.Table as table;
+ghost use Rattle.ckd_core.specs.Command as table;
 
 /// Where a command moves its data.
 #[derive(Clone, Copy, PartialEq, Eq, Debug)]

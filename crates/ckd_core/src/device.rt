@@ -1,7 +1,7 @@
 //! The two devices and their geometry.
 
 ghost use Rattle.std.specs.Prelude.{◌≡◌};
-ghost use Rattle.ckd_core.specs.Geometry.{cylinders_of, heads_of};
+ghost use Rattle.ckd_core.specs.Device.{cylinders_of, heads_of};
 
 /// A disk of count-key-data records.
 #[derive(Clone, Copy, PartialEq, Eq, Debug)]

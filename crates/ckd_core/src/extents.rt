@@ -3,9 +3,9 @@
 ghost use Rattle.std.specs.Prelude.{◌≡◌, ◌≢◌, ℕ, ◌<◌, ◌&&◌, ◌==◌, nat_lt, nat_le, IfOk, IfErr};
 ghost use Rattle.std.specs.Prelude.{OnOk, IsOkUnless, MatchOption, MatchResult, slice_index};
 ghost use Rattle.std.specs.List.{AllByRecursion, list_any};
-ghost use Rattle.ckd_core.specs.Cylinders.{AreExtents, IsExtent, has_cylinder};
+ghost use Rattle.ckd_core.specs.Extents.{AreExtents, IsExtent, has_cylinder};
 ghost use Rattle.ckd_core.specs.Faults.{IsFault};
-ghost use Rattle.ckd_core.specs.HeldCylinders.{IsHeldTable};
+ghost use Rattle.ckd_core.specs.HeldExtents.{IsHeldTable};
 
 use std::alloc::Global;
 use std::marker::Model;
@@ -47,7 +47,7 @@ pub struct Extents {
 
 impl Model for Extents {
     ghost use Rattle.std.specs.Prelude.{ℕ, List};
-    ghost use Rattle.ckd_core.specs.HeldCylinders.{HoldsRight};
+    ghost use Rattle.ckd_core.specs.HeldExtents.{HoldsRight};
 
     ghost Value = { List (ℕ × ℕ) };
 
@@ -58,7 +58,7 @@ impl Model for Extents {
 
 impl PartialEq for Extents {
     ghost use Rattle.std.specs.Cmp.{partial_equiv_from_equiv};
-    ghost use Rattle.ckd_core.specs.Cylinders.{same_extents, same_extents-IsEquivalence};
+    ghost use Rattle.ckd_core.specs.Extents.{same_extents, same_extents-IsEquivalence};
 
     ghost eq = { same_extents };
 
@@ -71,7 +71,7 @@ impl PartialEq for Extents {
 }
 
 impl Eq for Extents {
-    ghost use Rattle.ckd_core.specs.Cylinders.{same_extents-IsEquivalence};
+    ghost use Rattle.ckd_core.specs.Extents.{same_extents-IsEquivalence};
 
     ghost laws = { same_extents-IsEquivalence };
 }

@@ -7,8 +7,8 @@ ghost use Rattle.ckd_core.specs.Levels.{mask_of};
 ghost use Rattle.ckd_core.specs.Mask as specs;
 ghost use Rattle.ckd_core.specs.Mask.{StrictnessIsByClass, inhibits_class, is_at_least, is_mask};
 ghost use Rattle.ckd_core.specs.Mask.{permits_beyond};
-ghost use Rattle.ckd_core.specs.Table.{class_passes};
-ghost use Rattle.ckd_core.specs.Table as table;
+ghost use Rattle.ckd_core.specs.Command.{class_passes};
+ghost use Rattle.ckd_core.specs.Command as table;
 
 use crate::command::{Command, MaskClass, lookup};
 use crate::levels::Levels;

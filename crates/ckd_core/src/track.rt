@@ -1,9 +1,9 @@
 //! Tracks, by cylinder and head, and whether a seek may go there.
 
 ghost use Rattle.std.specs.Prelude.{◌≡◌, ◌↔◌, ◌&&◌, true, IsSome, nat_lt};
-ghost use Rattle.ckd_core.specs.Argument.{has_no_bin, track_of};
-ghost use Rattle.ckd_core.specs.Cylinders.{has_cylinder};
-ghost use Rattle.ckd_core.specs.Geometry.{heads_of};
+ghost use Rattle.ckd_core.specs.Track.{has_no_bin, track_of};
+ghost use Rattle.ckd_core.specs.Extents.{has_cylinder};
+ghost use Rattle.ckd_core.specs.Device.{heads_of};
 
 use crate::device::Device;
 use crate::extents::Extents;

@@ -1,9 +1,9 @@
 //! The tests of `chan_run`.
 
-mod answering;
+mod answers;
 mod devices;
 mod image;
-mod reporting;
-mod running;
-mod showing;
+mod outcomes;
+mod statuses;
+mod one_ccw;
 mod word;

@@ -1,9 +1,9 @@
 //! The tests of `chan_walk`.
 
-mod exploring;
+mod explore;
 mod guard;
-mod judging;
+mod verdicts;
 mod needs;
 mod program;
-mod seek;
-mod starting;
+mod arguments;
+mod starts;

@@ -29,7 +29,7 @@ use Rattle.chan_walk.specs.Job.{storage_of}
 use Rattle.chan_walk.specs.Place.{ccw_of, first_place}
 use Rattle.chan_walk.specs.Reachable.{IsPath, IsReachable}
 use Rattle.chan_walk.specs.Runs.{IsSameIn}
-use Rattle.chan_walk.specs.Successors.{next_of, skip_of}
+use Rattle.chan_walk.specs.Successor.{next_of, skip_of}
 use Rattle.chan_walk.specs.Verdict.{AreClear, StoresOver, Offends, IsVerdict}
 use Rattle.chan_walk.proofs.Theory.Chains.{argument_exists, argument_unique}
 use Rattle.chan_walk.proofs.Theory.Checks.{check_stands}

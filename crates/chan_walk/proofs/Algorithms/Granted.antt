@@ -6,7 +6,7 @@ use Rattle.std.specs.Option.{option_or}
 use Rattle.ccw_core.specs.Areas.{covered}
 use Rattle.ccw_core.specs.Ccw.{byte, Fields, is_transfer}
 use Rattle.ccw_core.specs.Storage.{Stands}
-use Rattle.ckd_core.specs.Cylinders.{has_cylinder}
+use Rattle.ckd_core.specs.Extents.{has_cylinder}
 use Rattle.ckd_core.specs.Mask.{inhibits, is_at_least}
 use Rattle.chan_walk.specs.declared.job.Job.{Job}
 use Rattle.chan_walk.specs.declared.place.Entry.TheVariants.{Fresh}
@@ -18,7 +18,7 @@ use Rattle.chan_walk.specs.Check.{first_reason, check}
 use Rattle.chan_walk.specs.Fault.{is_refused, table_of_own, fault_with}
 use Rattle.chan_walk.specs.Guarded.{IsSeekByte, IsMaskByte}
 use Rattle.chan_walk.specs.Job.{storage_of, extents_of, fetch_of, store_of}
-use Rattle.chan_walk.specs.Open.{AreOfOneProgram, GrantsMore}
+use Rattle.chan_walk.specs.OpenJob.{AreOfOneProgram, GrantsMore}
 use Rattle.chan_walk.specs.Reachable.{IsReachable}
 use Rattle.chan_walk.specs.Verdict.{IsVerdict}
 use Rattle.chan_walk.specs.Place.{transferred_to, ccw_of}

@@ -23,7 +23,7 @@ use Rattle.std.proofs.lemmas.Nat.Bits.{bit_at-zero}
 use Rattle.chan_walk.specs.declared.job.Job.{Job}
 use Rattle.chan_walk.specs.declared.place.Place.{Place}
 use Rattle.chan_walk.specs.Argument.{Has}
-use Rattle.chan_walk.specs.Explored.{AreDistinct, AreReachable, way_of, place_number}
+use Rattle.chan_walk.specs.Places.{AreDistinct, AreReachable, way_of, place_number}
 use Rattle.chan_walk.specs.Marks.{put, ways, place_at, places_at, places_of, HasMark, HasWay}
 use Rattle.chan_walk.specs.Marks.{ListsMarks, or_none, marks_of}
 use Rattle.chan_walk.specs.Walk.{Agrees, IsWalked}

@@ -29,13 +29,13 @@ use Rattle.chan_walk.specs.declared.reason.Reason.TheVariants.{FetchNotLent, Sho
 use Rattle.chan_walk.specs.declared.reason.Reason.TheVariants.{ChangesCcw, ChangesArgument}
 use Rattle.chan_walk.specs.declared.reason.Reason.TheVariants.{WeakensMask}
 use Rattle.chan_walk.specs.Argument.{Has}
-use Rattle.chan_walk.specs.Explored.{AreDistinct, way_of}
+use Rattle.chan_walk.specs.Places.{AreDistinct, way_of}
 use Rattle.chan_walk.specs.Fault.{HasFault, IsClear}
 use Rattle.chan_walk.specs.Guarded.{IsArgumentByte, IsCcwByte}
 use Rattle.chan_walk.specs.Least.{AreReached, IsOwn}
 use Rattle.chan_walk.specs.Look.{IsLook, Seen, place_of, places_of_looks}
-use Rattle.chan_walk.specs.Offences.{AddsOffences, AreAllOffences, AreOffences, FirstIsVerdict}
-use Rattle.chan_walk.specs.Offences.{HasOffences, Offending, StoresInto, offence_number}
+use Rattle.chan_walk.specs.Offence.{AddsOffences, AreAllOffences, AreOffences, FirstIsVerdict}
+use Rattle.chan_walk.specs.Offence.{HasOffences, Offending, StoresInto, offence_number}
 use Rattle.chan_walk.specs.Reachable.{IsReachable}
 use Rattle.chan_walk.specs.Reason.{number_of}
 use Rattle.chan_walk.specs.Verdict.{Changes, ComesFirst, Offends, StoresOver}

@@ -10,7 +10,7 @@ use Rattle.std.proofs.lemmas.Bool.Decides.{nat_tests}
 use Rattle.std.proofs.lemmas.Nat.Bits.{bit_at_set_same, bit_at_set_other}
 use Rattle.chan_walk.specs.declared.place.Entry.{Entry}
 use Rattle.chan_walk.specs.declared.place.Place.{Place}
-use Rattle.chan_walk.specs.Explored.{entry_number, transfer_number, way_of, place_number}
+use Rattle.chan_walk.specs.Places.{entry_number, transfer_number, way_of, place_number}
 use Rattle.chan_walk.specs.Marks.{place_at, or_none, marks_of}
 use Rattle.chan_walk.specs.Walk.{Agrees, Marks}
 use Rattle.chan_walk.proofs.Theory.Lists.{has_push}

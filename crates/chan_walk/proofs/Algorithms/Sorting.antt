@@ -11,7 +11,7 @@ use Rattle.std.proofs.lemmas.Map.Keys.{IsDistinct-IsPermutation, IsStrictlyIncre
 use Rattle.std.proofs.lemmas.Simd.{map-map}
 use Rattle.chan_walk.specs.declared.place.Place.{Place}
 use Rattle.chan_walk.specs.Argument.{Has}
-use Rattle.chan_walk.specs.Explored.{AreDistinct, place_number}
+use Rattle.chan_walk.specs.Places.{AreDistinct, place_number}
 use Rattle.chan_walk.specs.Look.{Seen, place_of, places_of_looks}
 use Rattle.chan_walk.proofs.Algorithms.InOrder.{distinct}
 use Rattle.chan_walk.proofs.Theory.Lists.{contains_has, has_contains}

@@ -9,12 +9,12 @@ use Rattle.chan_walk.specs.declared.place.Place.{Place}
 use Rattle.chan_walk.specs.declared.reason.Reason.{Reason}
 use Rattle.chan_walk.specs.declared.successor.Next.{Next}
 use Rattle.chan_walk.specs.Argument.{Has}
-use Rattle.chan_walk.specs.Explored.{AreDistinct}
+use Rattle.chan_walk.specs.Places.{AreDistinct}
 use Rattle.chan_walk.specs.Fault.{HasFault}
 use Rattle.chan_walk.specs.Paths.{IsNext, IsSkip, IsFirstOf}
 use Rattle.chan_walk.specs.Place.{first_place}
 use Rattle.chan_walk.specs.Reachable.{IsPath, IsReachable}
-use Rattle.chan_walk.specs.Successors.{AreSuccessors}
+use Rattle.chan_walk.specs.Successor.{AreSuccessors}
 use Rattle.chan_walk.specs.Walk.{Adds, AreSiblings, Follows, IsAmong, IsBest, IsFoundBy, IsFrom}
 use Rattle.chan_walk.specs.Walk.{IsTraced}
 use Rattle.chan_walk.proofs.Theory.Faults.{fault_exists}

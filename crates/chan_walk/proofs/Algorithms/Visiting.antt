@@ -2,8 +2,9 @@
 use Rattle.std.proofs.Common.{◌≡◌, Bool, true, ◌&&◌, if◌then◌else◌, Option, None, refl, rules}
 use Rattle.ccw_core.specs.Ccw.{Fields}
 use Rattle.ckd_core.specs.declared.command.MaskClass.{MaskClass}
-use Rattle.ckd_core.specs.Table.{Entry as Command, class_is_seek, class_passes, class_recalibrates}
-use Rattle.ckd_core.specs.Table.{class_sets_mask, is_seek, lookup, recalibrates, sets_mask}
+use Rattle.ckd_core.specs.Command.{Entry as Command, class_is_seek, class_passes}
+use Rattle.ckd_core.specs.Command.{class_recalibrates}
+use Rattle.ckd_core.specs.Command.{class_sets_mask, is_seek, lookup, recalibrates, sets_mask}
 use Rattle.chan_walk.specs.declared.place.Place.{Place}
 use Rattle.chan_walk.specs.Fault.{begins_seek, begins_recalibrate, begins_set_mask}
 use Rattle.chan_walk.specs.Place.{is_fresh}

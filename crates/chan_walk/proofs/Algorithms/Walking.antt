@@ -5,19 +5,19 @@ use Rattle.std.proofs.Common.{arith, length-append, rules}
 use Rattle.std.specs.List.{slice_get}
 use Rattle.std.proofs.lemmas.Bool.{cases_lt}
 use Rattle.std.proofs.lemmas.Option.{slice_get-map}
-use Rattle.chan_walk.specs.declared.exploring.Walk.{Walk}
+use Rattle.chan_walk.specs.declared.walk.Walk.{Walk}
 use Rattle.chan_walk.specs.declared.job.Job.{Job}
 use Rattle.chan_walk.specs.declared.place.Place.{Place}
 use Rattle.chan_walk.specs.declared.successor.Next.{Next}
 use Rattle.chan_walk.specs.declared.reason.Reason.{Reason}
 use Rattle.chan_walk.specs.Argument.{Has}
-use Rattle.chan_walk.specs.Explored.{AreDistinct, HasMoreThan}
+use Rattle.chan_walk.specs.Places.{AreDistinct, HasMoreThan}
 use Rattle.chan_walk.specs.Fault.{HasFault}
 use Rattle.chan_walk.specs.Least.{AreReached}
 use Rattle.chan_walk.specs.Look.{AreLooks, Seen, place_of, places_of_looks}
 use Rattle.chan_walk.specs.Place.{first_place}
 use Rattle.chan_walk.specs.Reachable.{IsPath, IsReachable}
-use Rattle.chan_walk.specs.Successors.{AreSuccessors, Successor}
+use Rattle.chan_walk.specs.Successor.{AreSuccessors, Successor}
 use Rattle.chan_walk.specs.Walk.{Follows, IsAmong, Adds, HasFound, Overflows, IsWalked}
 use Rattle.chan_walk.proofs.Theory.Faults.{fault_exists, fault_unique}
 use Rattle.chan_walk.proofs.Theory.Lists.{has_at, has_left, has_push, at_has}

@@ -14,7 +14,7 @@ use Rattle.chan_walk.specs.Guarded.{IsGuarded}
 use Rattle.chan_walk.specs.Job.{storage_of}
 use Rattle.chan_walk.specs.Place.{straight_to, transferred_to, ccw_of}
 use Rattle.chan_walk.specs.Reachable.{IsReachable}
-use Rattle.chan_walk.specs.Successors.{chained}
+use Rattle.chan_walk.specs.Successor.{chained}
 use Rattle.chan_walk.specs.Verdict.{IsVerdict}
 use Rattle.chan_walk.proofs.Theory.Chains.{part_is_no_transfer}
 use Rattle.chan_walk.proofs.Algorithms.Counted.{same_verdict}

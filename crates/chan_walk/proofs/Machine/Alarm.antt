@@ -7,7 +7,7 @@ use Rattle.std.proofs.lemmas.List.FromFn.{length-map-range_with_len}
 use Rattle.ccw_core.specs.Areas.{covered}
 use Rattle.ccw_core.specs.Ccw.{byte, Fields, is_transfer, is_counted}
 use Rattle.ckd_core.specs.declared.command.Kind.TheVariants.{Outward}
-use Rattle.ckd_core.specs.Cylinders.{has_cylinder}
+use Rattle.ckd_core.specs.Extents.{has_cylinder}
 use Rattle.ckd_core.specs.Mask.{inhibits, is_at_least}
 use Rattle.chan_walk.specs.declared.job.Job.{Job}
 use Rattle.chan_walk.specs.declared.place.Place.{Place}

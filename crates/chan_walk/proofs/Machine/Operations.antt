@@ -22,7 +22,7 @@ use Rattle.chan_walk.specs.Machine.{with_taken, under_way, Continues, ends, on_d
 use Rattle.chan_walk.specs.Machine.{checked, transferred}
 use Rattle.chan_walk.specs.Place.{is_fresh, straight_to, transferred_to, ccw_of}
 use Rattle.chan_walk.specs.Runs.{Moment, IsRun, UsesIn, UsesInArgument}
-use Rattle.chan_walk.specs.Successors.{chained}
+use Rattle.chan_walk.specs.Successor.{chained}
 use Rattle.chan_walk.proofs.Theory.Chains.{part_is_no_transfer, part_counts, chain_begins_with_part}
 use Rattle.chan_walk.proofs.Theory.Chains.{chain_cons}
 use Rattle.chan_walk.proofs.Theory.Checks.{check_stands, part_passes, passed_is_part}

@@ -8,7 +8,7 @@ use Rattle.std.proofs.lemmas.List.{length-map}
 use Rattle.ccw_core.specs.Ccw.{byte, is_transfer, chains_data}
 use Rattle.ckd_core.specs.declared.command.Kind.{Kind}
 use Rattle.ckd_core.specs.declared.command.Kind.TheVariants.{Idle, Inward, Outward, Search}
-use Rattle.ckd_core.specs.Cylinders.{has_cylinder, AreExtents}
+use Rattle.ckd_core.specs.Extents.{has_cylinder, AreExtents}
 use Rattle.chan_walk.specs.declared.job.Job.{Job}
 use Rattle.chan_walk.specs.declared.place.Entry.TheVariants.{Fresh, ChainOut}
 use Rattle.chan_walk.specs.declared.place.Place.{Place}
@@ -23,7 +23,7 @@ use Rattle.chan_walk.specs.Machine.{on_skip, Step, transferred}
 use Rattle.chan_walk.specs.Place.{straight_to, transferred_to, ccw_of}
 use Rattle.chan_walk.specs.Reachable.{IsPath}
 use Rattle.chan_walk.specs.Runs.{Moment, IsRun}
-use Rattle.chan_walk.specs.Successors.{chained}
+use Rattle.chan_walk.specs.Successor.{chained}
 use Rattle.chan_walk.proofs.Theory.Faults.{IsGood, clear_check, clear_good}
 use Rattle.chan_walk.proofs.Theory.Follows.{Follows, by_transfer, by_data, by_command, by_skip}
 use Rattle.chan_walk.proofs.Theory.Follows.{follows}

@@ -5,9 +5,9 @@ use Rattle.std.proofs.lemmas.Bool.{cases_lt, and_parts, and_cases, and_from, lt-
 use Rattle.ccw_core.specs.declared.areas.Area.{Area}
 use Rattle.ccw_core.specs.Areas.{lies_in, covered}
 use Rattle.ckd_core.specs.declared.device.Device.{Device}
-use Rattle.ckd_core.specs.Argument.{is_allowed, cylinder_of}
-use Rattle.ckd_core.specs.Cylinders.{has_cylinder}
-use Rattle.ckd_core.specs.Geometry.{heads_of}
+use Rattle.ckd_core.specs.Track.{is_allowed, cylinder_of}
+use Rattle.ckd_core.specs.Extents.{has_cylinder}
+use Rattle.ckd_core.specs.Device.{heads_of}
 use Rattle.chan_walk.specs.declared.job.Job.{Job}
 use Rattle.chan_walk.specs.Fault.{allows}
 use Rattle.chan_walk.specs.Job.{extents_of, heads}

@@ -7,9 +7,9 @@ use Rattle.ccw_core.specs.Ccw.{Fields, is_transfer}
 use Rattle.ckd_core.specs.declared.command.Kind.{Kind}
 use Rattle.ckd_core.specs.declared.command.Kind.TheVariants.{Idle, Inward, Outward, Search}
 use Rattle.ckd_core.specs.declared.command.MaskClass.{MaskClass}
-use Rattle.ckd_core.specs.Table.{Entry as Command, table, find_code, lookup, class_is_seek}
-use Rattle.ckd_core.specs.Table.{class_recalibrates, class_sets_mask, class_passes, is_seek}
-use Rattle.ckd_core.specs.Table.{recalibrates, sets_mask}
+use Rattle.ckd_core.specs.Command.{Entry as Command, table, find_code, lookup, class_is_seek}
+use Rattle.ckd_core.specs.Command.{class_recalibrates, class_sets_mask, class_passes, is_seek}
+use Rattle.ckd_core.specs.Command.{recalibrates, sets_mask}
 use Rattle.chan_walk.specs.Fault.{kind_of_command}
 
 -- a command that was looked up passes a test; so does none

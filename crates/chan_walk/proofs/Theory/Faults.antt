@@ -4,7 +4,7 @@ use Rattle.std.proofs.Common.{is_none, refl, sym, ap, ◌∙◌, inl, rules}
 use Rattle.std.proofs.lemmas.Bool.{not-false, cond-false, or_parts}
 use Rattle.ccw_core.specs.Areas.{covered}
 use Rattle.ccw_core.specs.Ccw.{byte, Fields, is_transfer, skips}
-use Rattle.ckd_core.specs.Cylinders.{has_cylinder}
+use Rattle.ckd_core.specs.Extents.{has_cylinder}
 use Rattle.ckd_core.specs.Mask.{inhibits, is_at_least}
 use Rattle.chan_walk.specs.declared.job.Job.{Job}
 use Rattle.chan_walk.specs.declared.place.Place.{Place}

@@ -9,7 +9,7 @@ use Rattle.chan_walk.specs.declared.place.Entry.{Entry}
 use Rattle.chan_walk.specs.declared.place.Entry.TheVariants.{Fresh}
 use Rattle.chan_walk.specs.declared.place.Place.{Place}
 use Rattle.chan_walk.specs.Place.{straight_to, transferred_to}
-use Rattle.chan_walk.specs.Successors.{chained, gives_modifier, next_of, skip_of}
+use Rattle.chan_walk.specs.Successor.{chained, gives_modifier, next_of, skip_of}
 
 pub data Follows (p : Place) (c : Fields) (k : Kind) : Place → Type 0 where
   by_transfer : is_transfer c ≡ true → Follows p c k (transferred_to c.address p.entered)

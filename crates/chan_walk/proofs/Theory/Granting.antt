@@ -8,9 +8,9 @@ use Rattle.ccw_core.specs.declared.areas.Area.{Area}
 use Rattle.ccw_core.specs.Areas.{lies_in, covered}
 use Rattle.ccw_core.specs.Ccw.{byte, Fields, ccw, is_transfer, skips}
 use Rattle.ccw_core.specs.Storage.{Stands}
-use Rattle.ckd_core.specs.Argument.{cylinder_of, head_of, is_allowed}
-use Rattle.ckd_core.specs.Cylinders.{has_cylinder}
-use Rattle.ckd_core.specs.Geometry.{heads_of}
+use Rattle.ckd_core.specs.Track.{cylinder_of, head_of, is_allowed}
+use Rattle.ckd_core.specs.Extents.{has_cylinder}
+use Rattle.ckd_core.specs.Device.{heads_of}
 use Rattle.ckd_core.specs.Mask.{inhibits, is_at_least}
 use Rattle.chan_walk.specs.declared.job.Job.{Job}
 use Rattle.chan_walk.specs.declared.place.Entry.TheVariants.{Fresh}
@@ -24,10 +24,10 @@ use Rattle.chan_walk.specs.Fault.{begins_seek, begins_recalibrate, begins_set_ma
 use Rattle.chan_walk.specs.Fault.{is_refused, table_of_own, IsClear}
 use Rattle.chan_walk.specs.Guarded.{IsCcwByte, IsSeekByte, IsMaskByte, IsArgumentByte, IsGuarded}
 use Rattle.chan_walk.specs.Job.{storage_of, extents_of, fetch_of, store_of, heads}
-use Rattle.chan_walk.specs.Open.{AreOfOneProgram, GrantsMore, MoreIsYes, SameUnderYes}
+use Rattle.chan_walk.specs.OpenJob.{AreOfOneProgram, GrantsMore, MoreIsYes, SameUnderYes}
 use Rattle.chan_walk.specs.Place.{is_fresh, transferred_to, ccw_of}
 use Rattle.chan_walk.specs.Reachable.{IsPath, IsReachable}
-use Rattle.chan_walk.specs.Successors.{next_of, skip_of}
+use Rattle.chan_walk.specs.Successor.{next_of, skip_of}
 use Rattle.chan_walk.specs.Verdict.{AreClear, StoresOver, Offends, IsVerdict}
 use Rattle.chan_walk.proofs.Theory.Areas.{covered_at, allows_cylinder}
 use Rattle.chan_walk.proofs.Theory.Faults.{IsGood, clear_check, clear_good, fault_unique, yes_clear}

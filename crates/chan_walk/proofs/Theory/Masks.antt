@@ -2,7 +2,7 @@
 use Rattle.std.proofs.Common.{◌≡◌, ℕ, true, false, Option, Some, None, refl}
 use Rattle.std.proofs.lemmas.Bool.{and_from}
 use Rattle.ckd_core.specs.Mask.{is_mask, is_at_least, inhibits, inhibits_class}
-use Rattle.ckd_core.specs.Table.{Entry as Command, class_passes, lookup}
+use Rattle.ckd_core.specs.Command.{Entry as Command, class_passes, lookup}
 use Rattle.ckd_core.proofs.LevelLemmas.{strict-permits}
 
 -- a file mask is at least as strict as itself

@@ -5,7 +5,7 @@ use Rattle.std.proofs.Common.{subst, arith, rules}
 use Rattle.std.specs.Option.{option_or}
 use Rattle.ccw_core.specs.Ccw.{Fields, ccw, has_data_in, is_counted, is_transfer}
 use Rattle.std.proofs.lemmas.Bool.{and_parts, and_right, cond-false, leb-true, ltb-true}
-use Rattle.ckd_core.specs.Cylinders.{has_cylinder}
+use Rattle.ckd_core.specs.Extents.{has_cylinder}
 use Rattle.chan_walk.specs.declared.job.Job.{Job}
 use Rattle.chan_walk.specs.declared.place.Place.{Place}
 use Rattle.chan_walk.specs.declared.reason.Reason.{Reason}

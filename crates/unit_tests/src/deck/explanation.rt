@@ -1,6 +1,6 @@
 //! An explanation, byte for byte.
 
-ghost use Rattle.chan_walk.specs.Surveyed.{IsSurvey};
+ghost use Rattle.chan_walk.specs.JobSurvey.{IsSurvey};
 
 use crate::shared::expect;
 use ccw_core::Storage;

@@ -1,6 +1,6 @@
 //! Whether a program may start by the rows of its needs.
 
-ghost use Rattle.chan_walk.specs.Surveyed.{IsSurvey};
+ghost use Rattle.chan_walk.specs.JobSurvey.{IsSurvey};
 
 use chan_needs::{Needs, Remembered, Start, copy_kept, may_start, needs_from};
 use chan_walk::{Job, OpenJob, Survey, Verdict, survey};

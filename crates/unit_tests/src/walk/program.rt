@@ -1,7 +1,7 @@
 //! Jobs by what differs from case to case, and what is asked of one.
 
 use super::guard::Ranges;
-use super::{exploring, guard, judging, needs, seek, starting};
+use super::{arguments, explore, guard, needs, starts, verdicts};
 use ccw_core::{Area, Storage};
 use chan_needs::Start;
 use chan_walk::{Entry, Job, Limit, Place, Reason, Verdict, WalkError};
@@ -146,13 +146,13 @@ pub(crate) fn image(
 
 fn answers(alloc: Global, job: &Job, question: Question) -> bool {
     match question {
-        Question::Places(places, marks) => exploring::are_places(alloc, job, places, marks),
-        Question::Count(count) => exploring::is_count(alloc, job, count),
-        Question::Argument(argument) => seek::is_argument(job, argument),
+        Question::Places(places, marks) => explore::are_places(alloc, job, places, marks),
+        Question::Count(count) => explore::is_count(alloc, job, count),
+        Question::Argument(argument) => arguments::is_argument(job, argument),
         Question::Guard(ranges) => guard::has_guard(alloc, job, ranges),
-        Question::Verdict(verdict) => judging::is_judged(alloc, job, verdict),
-        Question::Fault(row, fault) => judging::has_fault(job, place(row), fault),
+        Question::Verdict(verdict) => verdicts::is_judged(alloc, job, verdict),
+        Question::Fault(row, fault) => verdicts::has_fault(job, place(row), fault),
         Question::Needs => needs::has_needs(alloc, job),
-        Question::Start(right, answer) => starting::is_answered(alloc, job, right, answer),
+        Question::Start(right, answer) => starts::is_answered(alloc, job, right, answer),
     }
 }

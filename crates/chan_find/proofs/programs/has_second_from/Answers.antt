@@ -1,6 +1,6 @@
 use Rattle.std.proofs.Common.{sym, subst}
 use Rattle.chan_find.specs.Programs.{HasSecondFrom, IsPlain, IsSecond}
-use Rattle.chan_walk.specs.Successors.{AreSuccessors}
+use Rattle.chan_walk.specs.Successor.{AreSuccessors}
 use Rattle.chan_find.proofs.Seconds.{second_exactly, second_test, test_there, untrue}
 use Rattle.chan_find.proofs.programs.has_second_from.Goals as goal
 

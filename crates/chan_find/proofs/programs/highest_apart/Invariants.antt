@@ -1,4 +1,4 @@
-use Rattle.chan_find.specs.Covered.{IsSettled}
+use Rattle.chan_find.specs.Trails.{IsSettled}
 use Rattle.chan_find.proofs.Passing.{IsDownTo, IsRest}
 use Rattle.chan_find.proofs.programs.highest_apart.Given as goal
 

@@ -1,6 +1,6 @@
 use Rattle.std.proofs.Common.{◌∙◌, sym, subst}
 use Rattle.chan_find.specs.Programs.{IsPlain}
-use Rattle.chan_walk.specs.Successors.{AreSuccessors}
+use Rattle.chan_walk.specs.Successor.{AreSuccessors}
 use Rattle.chan_find.proofs.Seconds.{first_test, likely_exactly}
 use Rattle.chan_find.proofs.programs.is_likely.Goals as goal
 

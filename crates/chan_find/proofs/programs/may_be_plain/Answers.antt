@@ -1,7 +1,7 @@
 use Rattle.std.proofs.Common.{◌≡◌, Option, Some, None, option_map, is_some, true, sym, ap, ◌∙◌}
 use Rattle.ccw_core.proofs.StorageLemmas.{ccw_at-where}
 use Rattle.ckd_core.specs.Entries.{entry_of}
-use Rattle.ckd_core.specs.Table.{lookup}
+use Rattle.ckd_core.specs.Command.{lookup}
 use Rattle.chan_walk.specs.Job.{storage_of}
 use Rattle.chan_walk.specs.Place.{ccw_of}
 use Rattle.chan_walk.proofs.Theory.Faults.{clear_stands}

@@ -1,6 +1,6 @@
 use Rattle.std.proofs.Common.{Result, Ok, Err, IfOk, refl}
 use Rattle.chan_walk.specs.Limit.{usual_limit}
-use Rattle.chan_walk.specs.Open.{open_job}
+use Rattle.chan_walk.specs.OpenJob.{open_job}
 use Rattle.chan_find.proofs.Alike.{open_alike, starts_alike}
 use Rattle.chan_find.proofs.programs.program_starts.Goals as goal
 

@@ -1,5 +1,5 @@
 use Rattle.std.proofs.Common.{◌≡◌, ℕ, ◌-◌, ◌+◌, ◌*◌, ◌≤◌}
-use Rattle.chan_find.specs.Covered.{IsSettled}
+use Rattle.chan_find.specs.Trails.{IsSettled}
 use Rattle.chan_find.proofs.Passing.{IsUpTo}
 use Rattle.chan_find.proofs.programs.roots.Given as goal
 

@@ -1,5 +1,5 @@
 use Rattle.std.proofs.Common.{option_map, Some, sym, ap, ◌∙◌, subst}
-use Rattle.ckd_core.specs.Argument.{cylinder_of}
+use Rattle.ckd_core.specs.Track.{cylinder_of}
 use Rattle.ckd_core.specs.Entries.{entry_of}
 use Rattle.chan_walk.specs.Look.{argument_of}
 use Rattle.chan_needs.proofs.Seeking.{GoesTo, goes_by_none, goes_by_other, goes_home, goes_seeking}

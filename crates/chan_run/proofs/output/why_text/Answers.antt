@@ -1,7 +1,7 @@
 use Rattle.std.proofs.Common.{refl}
 use Rattle.std.proofs.lemmas.Result.{IfOk-weaker}
-use Rattle.chan_walk.specs.Offences.{first_verdict}
-use Rattle.chan_run.specs.Run.{IsExplanation}
+use Rattle.chan_walk.specs.Offence.{first_verdict}
+use Rattle.chan_run.specs.Output.{IsExplanation}
 use Rattle.chan_run.proofs.output.why_text.Goals as goal
 
 pub returns : goal.returns

@@ -1,6 +1,6 @@
 use Rattle.std.proofs.Common.{◌≡◌, false, ap, ◌∙◌, List, ℕ, Option, rules}
 use Rattle.std.specs.Option.{option_map_or}
-use Rattle.ckd_core.specs.Argument.{is_allowed_track, track_of}
+use Rattle.ckd_core.specs.Track.{is_allowed_track, track_of}
 use Rattle.ckd_core.specs.declared.track.Track.{Track}
 use Rattle.ckd_core.proofs.ArgumentLemmas.{is_allowed-track_of}
 use Rattle.chan_walk.specs.declared.job.Job.{Job}

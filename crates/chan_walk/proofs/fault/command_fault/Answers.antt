@@ -1,7 +1,7 @@
 use Rattle.std.proofs.Common.{◌≡◌, true, false, Some, option_map, refl, sym, ap, ◌∙◌}
 use Rattle.ckd_core.specs.Entries.{entry_of}
 use Rattle.ckd_core.specs.Mask.{inhibits}
-use Rattle.ckd_core.specs.Table.{lookup}
+use Rattle.ckd_core.specs.Command.{lookup}
 use Rattle.ckd_core.proofs.TableLemmas.{inhibits-class}
 use Rattle.chan_walk.specs.Place.{is_fresh}
 use Rattle.chan_walk.proofs.Algorithms.Visiting.{begun-fresh}

@@ -1,6 +1,6 @@
 use Rattle.std.proofs.Common.{rules}
 use Rattle.std.proofs.lemmas.List.Sorted.{IsNonDecreasingBy-from_sort_by_key}
-use Rattle.chan_walk.specs.Offences.{offence_number}
+use Rattle.chan_walk.specs.Offence.{offence_number}
 use Rattle.chan_walk.proofs.Algorithms.Listing.{increasing}
 use Rattle.chan_walk.proofs.offence.in_order.Goals as goal
 

@@ -5,7 +5,7 @@ use Rattle.chan_areas.specs.Ranges.{IsLeastOrNone}
 use Rattle.chan_walk.specs.Guard.{IsArgumentByteOf}
 use Rattle.chan_walk.specs.Look.{places_of_looks, whole_of}
 use Rattle.chan_areas.specs.Ranges.{IsByteIn}
-use Rattle.chan_why.specs.Paths.{IsFirstWhere}
+use Rattle.chan_why.specs.Path.{IsFirstWhere}
 use Rattle.chan_why.proofs.Changing.{first_within, found_least, one_argument, one_taker, taken_at}
 use Rattle.chan_why.proofs.Changing.{taken_whole}
 use Rattle.chan_why.proofs.Indexing.{taker_found}

@@ -1,6 +1,6 @@
 use Rattle.std.proofs.Common.{sym, subst}
 use Rattle.chan_walk.specs.declared.place.Place.{Place}
-use Rattle.chan_walk.specs.Offences.{Offending}
+use Rattle.chan_walk.specs.Offence.{Offending}
 use Rattle.chan_walk.proofs.Algorithms.Listing.{offence}
 use Rattle.chan_why.proofs.evidence.evidence_at.Goals as goal
 

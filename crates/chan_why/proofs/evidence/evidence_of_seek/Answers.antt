@@ -12,7 +12,7 @@ use Rattle.chan_walk.specs.declared.reason.Reason.TheVariants.{ShortSeek, SeekOu
 use Rattle.chan_walk.specs.Argument.{Gives, HasArgument}
 use Rattle.chan_why.specs.Evidence.{FailsToSeek}
 use Rattle.chan_walk.specs.Seeks.{SeeksTo}
-use Rattle.chan_walk.specs.declared.seek.GivenBytes.{GivenBytes}
+use Rattle.chan_walk.specs.declared.argument.GivenBytes.{GivenBytes}
 use Rattle.chan_walk.specs.Fault.{begins_recalibrate, begins_seek}
 use Rattle.chan_walk.specs.Given.{AreGiven}
 use Rattle.chan_walk.specs.Job.{storage_of}

@@ -1,5 +1,5 @@
 use Rattle.std.proofs.Common.{◌+◌, ◌≤◌, List, ℕ, length, subst, arith}
-use Rattle.chan_why.specs.Index.{IsIndex, TakesByte, TakesSoFar}
+use Rattle.chan_why.specs.Finder.{IsIndex, TakesByte, TakesSoFar}
 use Rattle.chan_why.proofs.Indexing.{byte_more, bytes_all, bytes_begin, note_more, same_keys}
 use Rattle.chan_why.proofs.finder.note_bytes.Goals as goal
 

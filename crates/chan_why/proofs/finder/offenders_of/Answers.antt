@@ -2,8 +2,8 @@ use Rattle.std.proofs.Common.{◌≡◌, ◌+◌, length, get_or, refl, sym, ap,
 use Rattle.std.specs.Ordering.{nat_cmp}
 use Rattle.std.specs.BTreeMap as tree
 use Rattle.chan_areas.specs.Ranges.{IsLeastOrNone}
-use Rattle.chan_walk.specs.Explored.{place_number}
-use Rattle.chan_why.specs.Index.{IsAtPlace, IsIndex, IsOfKind}
+use Rattle.chan_walk.specs.Places.{place_number}
+use Rattle.chan_why.specs.Finder.{IsAtPlace, IsIndex, IsOfKind}
 use Rattle.chan_why.proofs.Indexing.{kind_more, note_more, some_place}
 use Rattle.chan_walk.proofs.Theory.Lists.{has_at}
 use Rattle.std.proofs.lemmas.Option.{slice_get-get_or}

@@ -1,7 +1,7 @@
 use Rattle.std.proofs.Common.{Option, Some, None, refl, sym, ap, subst, inl, inr}
 use Rattle.std.proofs.lemmas.Bool.{both_ways}
 use Rattle.chan_walk.specs.declared.place.Place.{Place}
-use Rattle.chan_why.specs.Explained.{StoresAt}
+use Rattle.chan_why.specs.Witness.{StoresAt}
 use Rattle.chan_why.proofs.StoredOver.{IsLater, last_more}
 use Rattle.chan_why.proofs.path.first_store.Goals as goal
 

@@ -2,7 +2,7 @@ use Rattle.std.proofs.Common.{◌≡◌, ◌<◌, ◌++◌, ◌∷◌, [], lengt
 use Rattle.std.proofs.Common.{Some, refl, sym, ap, ◌∙◌, subst, arith}
 use Rattle.std.proofs.lemmas.List.{get_or_read, reverse-reverse}
 use Rattle.chan_walk.specs.declared.place.Place.{Place}
-use Rattle.chan_why.specs.Explained.{IsLastStore, IsStoredBefore}
+use Rattle.chan_why.specs.Witness.{IsLastStore, IsStoredBefore}
 use Rattle.chan_walk.specs.Look.{places_of_looks}
 use Rattle.chan_why.proofs.Backward.{IsWayBack, back_end, back_next, from_earlier}
 use Rattle.chan_walk.proofs.Algorithms.Looking.{look_of, place_at}

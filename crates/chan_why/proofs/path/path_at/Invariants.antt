@@ -1,7 +1,7 @@
 use Rattle.std.proofs.Common.{◌≡◌, ◌<◌, ◌∷◌, List, length}
 use Rattle.chan_walk.specs.declared.job.Job.{Job}
 use Rattle.chan_walk.specs.declared.place.Place.{Place}
-use Rattle.chan_why.specs.Explained.{IsLastStore}
+use Rattle.chan_why.specs.Witness.{IsLastStore}
 use Rattle.chan_walk.specs.Look.{places_of_looks}
 use Rattle.chan_walk.specs.Walk.{HasFound}
 use Rattle.chan_why.proofs.Backward.{IsWayBack}

@@ -1,8 +1,8 @@
 use Rattle.chan_walk.proofs.Machine.Alarm.{each_path_shows}
 use Rattle.std.proofs.Common.{List, subst}
 use Rattle.chan_walk.specs.declared.offence.Offence.{Offence}
-use Rattle.chan_why.specs.Explained.{IsPathOf}
-use Rattle.chan_walk.specs.Offences.{first_verdict}
+use Rattle.chan_why.specs.Witness.{IsPathOf}
+use Rattle.chan_walk.specs.Offence.{first_verdict}
 use Rattle.chan_why.proofs.Explaining.{witness}
 use Rattle.chan_why.proofs.surveyed.witness_from.Goals as goal
 

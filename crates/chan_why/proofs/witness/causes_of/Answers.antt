@@ -1,7 +1,7 @@
 use Rattle.std.proofs.Common.{◌+◌, get_or, subst, arith, rules}
-use Rattle.chan_why.specs.Explained.{IsCauseOf, IsLike}
+use Rattle.chan_why.specs.Witness.{IsCauseOf, IsLike}
 use Rattle.chan_walk.specs.Look.{places_of_looks}
-use Rattle.chan_why.specs.Paths.{IsFirstWhere}
+use Rattle.chan_why.specs.Path.{IsFirstWhere}
 use Rattle.chan_why.proofs.Changing.{first_within}
 use Rattle.chan_why.proofs.Explaining.{cause_found, cause_more, offending_found, some_found}
 use Rattle.chan_why.proofs.Indexing.{like_found}

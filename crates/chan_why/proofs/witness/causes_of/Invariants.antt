@@ -1,6 +1,6 @@
 use Rattle.std.proofs.Common.{take}
 use Rattle.std.specs.List.{AllZip}
-use Rattle.chan_why.specs.Explained.{IsCauseOf}
+use Rattle.chan_why.specs.Witness.{IsCauseOf}
 use Rattle.chan_why.proofs.witness.causes_of.Given as goal
 
 abbrev pub invariant-loop-offence : goal.invariant-loop-offence

@@ -1,7 +1,7 @@
 use Rattle.std.proofs.Common.{Some, subst, rules}
-use Rattle.chan_why.specs.Explained.{IsEvidenceOf, IsLike, IsPathOf, IsStoredOver}
+use Rattle.chan_why.specs.Witness.{IsEvidenceOf, IsLike, IsPathOf, IsStoredOver}
 use Rattle.chan_walk.specs.Look.{places_of_looks}
-use Rattle.chan_why.specs.Paths.{IsFirstWhere}
+use Rattle.chan_why.specs.Path.{IsFirstWhere}
 use Rattle.chan_why.proofs.Changing.{first_within}
 use Rattle.chan_why.proofs.Explaining.{evidence_found, first_listed, offending_found, path_found}
 use Rattle.chan_why.proofs.Explaining.{some_found, stored_told, verdict_first}

@@ -1,6 +1,6 @@
 -- More places than the job's limit are more than the limit that C gives.
 use Rattle.std.proofs.Common.{subst}
-use Rattle.chan_walk.specs.Explored.{HasMoreThan}
+use Rattle.chan_walk.specs.Places.{HasMoreThan}
 use Rattle.chanv_c.proofs.refusal.no_answer.Goals as goal
 
 pub returns-in-TooManyPlaces : goal.returns-in-TooManyPlaces

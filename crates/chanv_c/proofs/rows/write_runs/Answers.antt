@@ -2,7 +2,7 @@
 use Rattle.std.proofs.Common.{◌≡◌, ◌<◌, ◌++◌, ◌+◌, suc, drop, length, map, take, set, get_or, ap}
 use Rattle.std.proofs.Common.{◌∙◌, arith}
 use Rattle.std.proofs.lemmas.Option.{slice_get-get_or}
-use Rattle.chanv_c.specs.Needed.{run_row}
+use Rattle.chanv_c.specs.Needs.{run_row}
 use Rattle.chanv_c.proofs.Written.{one_more}
 use Rattle.chanv_c.proofs.rows.write_runs.Goals as goal
 

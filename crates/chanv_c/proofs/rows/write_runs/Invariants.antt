@@ -1,6 +1,6 @@
 -- The rows so far are written, and those behind them stand as they did.
 use Rattle.std.proofs.Common.{◌≡◌, ◌++◌, drop, map, take}
-use Rattle.chanv_c.specs.Needed.{run_row}
+use Rattle.chanv_c.specs.Needs.{run_row}
 use Rattle.chanv_c.proofs.rows.write_runs.Given as goal
 
 abbrev pub invariant-loop-index : goal.invariant-loop-index

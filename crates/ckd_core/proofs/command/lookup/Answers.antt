@@ -1,7 +1,7 @@
 -- Each of the four parts of the table is searched, in their order, up to the first that has the code.
 use Rattle.std.specs.Prelude.{Some, None, ◌++◌, option_map}
 use Rattle.ckd_core.specs.Entries.{entry_of}
-use Rattle.ckd_core.specs.Table as table
+use Rattle.ckd_core.specs.Command as table
 use Rattle.ckd_core.proofs.TableLemmas.{found-append, missed-append}
 use Rattle.ckd_core.proofs.command.lookup.Goals as goal
 

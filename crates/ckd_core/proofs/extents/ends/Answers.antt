@@ -1,7 +1,7 @@
 -- Each extent is entered where it begins.
 use Rattle.std.proofs.Common.{ℕ, nat_lt, get_or, ap, ◌∙◌, length-set, arith}
 use Rattle.std.proofs.lemmas.List.{get_or-replicate, length-replicate}
-use Rattle.ckd_core.specs.Cylinders.{IsExtent}
+use Rattle.ckd_core.specs.Extents.{IsExtent}
 use Rattle.ckd_core.proofs.CylinderLemmas.{extent_at, nat_lt-zero, reached_from-entered}
 use Rattle.ckd_core.proofs.extents.ends.Goals as goal
 

@@ -1,6 +1,6 @@
 -- The end so far is that of the extents that begin below, and the table is right for the cylinders below.
 use Rattle.std.proofs.Common.{◌≡◌, ℕ, ◌<◌, nat_lt, get_or, length, false}
-use Rattle.ckd_core.specs.Cylinders.{has_cylinder}
+use Rattle.ckd_core.specs.Extents.{has_cylinder}
 use Rattle.ckd_core.proofs.CylinderLemmas.{reached_below}
 use Rattle.ckd_core.proofs.extents.held_cylinders.Given as goal
 

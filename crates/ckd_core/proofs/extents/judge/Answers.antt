@@ -3,7 +3,7 @@ use Rattle.std.proofs.Common.{◌≡◌, ◌<◌, take, length, arith, take_all}
 use Rattle.std.specs.List.{All}
 use Rattle.std.proofs.lemmas.Bool.Decides.{nat_tests}
 use Rattle.std.proofs.lemmas.List.Elements.{All-more, recursion_from_All}
-use Rattle.ckd_core.specs.Cylinders.{IsExtent}
+use Rattle.ckd_core.specs.Extents.{IsExtent}
 use Rattle.ckd_core.proofs.extents.judge.Goals as goal
 
 pub loop-i-preserved : goal.loop-i-preserved

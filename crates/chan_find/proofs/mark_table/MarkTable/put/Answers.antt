@@ -4,8 +4,8 @@ use Rattle.std.specs.Int.{bit_at}
 use Rattle.std.specs.Int.RustNames.{bit_or}
 use Rattle.std.proofs.lemmas.List.{get_or_read}
 use Rattle.std.proofs.lemmas.Nat.Bits.{shr_and_one}
-use Rattle.chan_find.specs.Covered.{IsMarked}
-use Rattle.chan_walk.specs.Explored.{way_of}
+use Rattle.chan_find.specs.Trails.{IsMarked}
+use Rattle.chan_walk.specs.Places.{way_of}
 use Rattle.chan_find.proofs.Tabling.{put_one}
 use Rattle.chan_find.proofs.mark_table.MarkTable.put.Goals as goal
 

@@ -1,0 +1,109 @@
+//! The places that starts have trails to.
+
+ghost use Rattle.std.specs.Prelude.{◌≡◌, ◌∷◌, ◌++◌, [], length, IfOk, IsTrue, OnOk, Some, ◌↔◌, ℕ};
+ghost use Rattle.ccw_core.specs.Held.{bytes_held};
+ghost use Rattle.chan_find.specs.Trails.{IsCovered, IsGrown, IsMarked, IsSettled};
+ghost use Rattle.chan_walk.specs.Job.{storage_of};
+ghost use Rattle.chan_walk.specs.Look.{IsLook};
+ghost use Rattle.chan_find.specs.Programs as program;
+ghost use Rattle.chan_find.specs.Programs.{IsPlain, StepsTo};
+ghost use Rattle.chan_walk.specs.declared.job.Job.{Job};
+ghost use Rattle.chan_walk.specs.declared.place.Place as places;
+
+use crate::mark_table::MarkTable;
+use chan_walk::{Entry, Job, Look, Place, look_at};
+use std::alloc::{AllocError, Global};
+
+/// The first place of the program that starts at an address.
+pub(crate) fn start_at(address: u32) -> Place
+    ensures { result ≡ program.start_at address }
+{
+    Place {
+        address,
+        entered: Entry::Fresh,
+        after_transfer: true,
+    }
+}
+
+/// Whether a place is plain: it has no own fault, and byte 5 of its CCW is zero unless it is a
+/// transfer.
+pub(crate) fn is_plain(look: &Look) -> bool
+    ensures { (j : Job) → IsLook j look.now → IsTrue result ↔ IsPlain j look.now.place }
+{
+    match look.ccw() {
+        Some(ccw) => look.fault().is_none() && (ccw.is_transfer() || ccw.spare() == 0),
+        None => false,
+    }
+}
+
+/// The places that the starts taken so far have trails to.
+#[derive(Drop)]
+pub(crate) struct Covered {
+    marks: MarkTable,
+    /// Those of them from which it has yet to step on.
+    pending: Vec<Place>,
+}
+
+impl Covered {
+    /// No place at all.
+    pub(crate) fn new(alloc: Global, job: &Job) -> Result<Covered, AllocError>
+        ensures settled { IfOk result (IsSettled job.now) }
+        ensures none { IfOk result (λ c. (p : places.Place) → IsMarked c.marks.bytes.items p → ⊥) }
+    {
+        Ok(Covered {
+            marks: MarkTable::new(alloc, job.storage.len())?,
+            pending: Vec::new(alloc),
+        })
+    }
+
+    /// Whether it has the place.
+    pub(crate) fn has(&self, place: Place) -> bool
+        ensures { IsTrue result ↔ IsMarked self.now.marks.bytes.items place }
+    {
+        self.marks.has(place)
+    }
+
+    /// Adds a place, unless it is there already or no CCW stands there.
+    fn add(&mut self, place: Option<Place>) -> Result<(), AllocError>
+        ensures { OnOk result (IsGrown (λ p. place ≡ Some p)
+            self.old.marks.bytes.items self.old.pending.items
+            self.new.marks.bytes.items self.new.pending.items) }
+    {
+        if let Some(place) = place {
+            if self.marks.put(place) {
+                self.pending.push(place)?;
+            }
+        }
+        Ok(())
+    }
+
+    /// Adds what a place steps to.
+    fn step_on(&mut self, job: &Job, place: Place) -> Result<(), AllocError>
+        ensures { OnOk result (IsGrown (StepsTo job.now place)
+            self.old.marks.bytes.items self.old.pending.items
+            self.new.marks.bytes.items self.new.pending.items) }
+    {
+        let look = look_at(job, place);
+        if is_plain(&look) {
+            let next = look.next();
+            self.add(next.next)?;
+            self.add(next.skip)?;
+            self.add(Some(start_at(place.address)))?;
+        }
+        Ok(())
+    }
+
+    /// Adds all places that a start has trails to.
+    pub(crate) fn cover(&mut self, job: &Job, start: u32) -> Result<(), AllocError>
+        requires { IsSettled job.now self.old }
+        ensures settled { OnOk result (IsSettled job.now self.new) }
+        ensures covered { OnOk result (IsCovered job.now start
+            self.old.marks.bytes.items self.new.marks.bytes.items) }
+    {
+        self.add(Some(start_at(start)))?;
+        while let Some(place) = self.pending.pop() {
+            self.step_on(job, place)?;
+        }
+        Ok(())
+    }
+}

@@ -1,9 +1,0 @@
-use Rattle.std.proofs.Common.{take}
-use Rattle.chan_walk.specs.declared.job.Job.{Job}
-use Rattle.chan_walk.specs.Look.{places_of_looks}
-use Rattle.chan_needs.specs.Rows.{AreLooksOfYes, AreBounds}
-use Rattle.chan_needs.proofs.Demanding.{ServesEach}
-use Rattle.chan_needs.proofs.demand.needed_mask.Given as goal
-
-abbrev pub invariant-loop-look : goal.invariant-loop-look
-invariant-loop-look l = (j : Job) → AreLooksOfYes j l.looks → AreBounds (ServesEach j (places_of_looks (take l.look-index l.looks))) l.levels.writes l.levels.seeks

@@ -1,6 +1,0 @@
-use Rattle.std.proofs.Common.{◌≡◌, ◌≤◌, ◌<◌, ℕ, true}
-use Rattle.ckd_core.specs.Cylinders.{has_cylinder}
-use Rattle.chan_needs.proofs.least.outside.Given as goal
-
-abbrev pub invariant-loop-cylinder : goal.invariant-loop-cylinder
-invariant-loop-cylinder l = (n : ℕ) → l.first ≤ n → n < l.cylinder → has_cylinder l.extents n ≡ true

@@ -1,0 +1,149 @@
+//! Whether a program that was asked about may start now, beside those in flight.
+
+ghost use Rattle.std.specs.Prelude.{◌≡◌, ◌↔◌, IfOk, MatchOption};
+ghost use Rattle.std.specs.List.{All};
+ghost use Rattle.chan_needs.specs.Remembered.{GrantsListed, IsAnswerOf, IsBeside, IsFit};
+ghost use Rattle.chan_needs.specs.Remembered.{IsNotBeside, IsNotGranted, IsOfAnother, IsOfProgram};
+ghost use Rattle.chan_needs.specs.Remembered.{StartsWell};
+ghost use Rattle.chan_needs.specs.Rows.{rows_of};
+ghost use Rattle.chan_needs.specs.declared.start.Start.TheVariants as answer;
+
+use crate::least_bytes::{least_outside, least_unlent};
+use crate::remembered::{Remembered, first_changed};
+use crate::rows::{Conflict, Rows};
+use chan_walk::Job;
+use std::alloc::{AllocError, Global};
+
+/// Why a program may not start. The variants are in the order in which they are looked for.
+#[derive(Clone, Copy, PartialEq, Eq, Debug)]
+pub enum Refusal {
+    /// The job starts at another address than the program.
+    OtherStart,
+    /// The job is for another device.
+    OtherDevice,
+    /// The job's storage has another length.
+    OtherLength,
+    /// The byte at this address is kept and isn't what it was. It is the first in the order of
+    /// `keep`. A byte that lies past storage, or for which `kept` has none, counts as changed.
+    Changed(u32),
+    /// The job's mask is too strict.
+    Mask,
+    /// This cylinder lies in none of the job's extents. It is the least of those needed.
+    Cylinder(u16),
+    /// The byte at this address wasn't lent for fetching, or lies past storage. It is the least of
+    /// those needed.
+    Fetch(u32),
+    /// The byte at this address wasn't lent for storing, or lies past storage. It is the least of
+    /// those needed.
+    Store(u32),
+    /// The program may not run beside the program with this number, the first such in flight.
+    Beside(usize, Conflict),
+}
+
+/// Whether a program may start.
+#[derive(Clone, Copy, PartialEq, Eq, Debug)]
+pub enum Start {
+    /// It may.
+    Yes,
+    /// It may not, and this is the first reason.
+    No(Refusal),
+}
+
+/// Whether a program that was asked about may start under a job, beside those in flight.
+///
+/// `Yes` comes exactly if all four of these hold, looked at in this order:
+///
+/// 1. the job is of the program: same start, same device, same length of storage;
+/// 2. storage holds what was kept;
+/// 3. the job grants what the rows list: mask, cylinders, bytes for fetching, bytes for storing;
+/// 4. neither the program nor any in flight stores into a byte that the other keeps.
+///
+/// `No` names the first that fails. This is so for rows from any source. If what is remembered of
+/// the program and of those in flight is true, the answer is about the programs themselves. After a
+/// `Yes` the program may start, and what is remembered of it is true of it in flight. A grant or a
+/// program in flight is named only if the needs are really not granted, or the two really can't run
+/// side by side.
+///
+/// With k kept bytes, a areas lent, p programs in flight, and n rows at most for each program, the
+/// cost is k + (n + a) log a + p n, and up to 203 look-ups for each run of cylinders. Two programs
+/// whose areas aren't merged cost the product of their numbers; `needs` gives merged ones. Memory
+/// is taken only for the areas lent, for two copies of one of their two lists at a time. `Err`
+/// means that there was too little.
+pub fn may_start(
+    alloc: Global,
+    job: &Job,
+    program: &Remembered,
+    in_flight: &[Remembered],
+) -> Result<Start, AllocError>
+    ensures answer { IfOk result (IsAnswerOf job.now program.now in_flight.now) }
+    ensures exact { IfOk result (λ s. (s ≡ answer.Yes) ↔ IsFit job.now program.now in_flight.now) }
+
+    // If what is remembered is true, a program with a yes may start.
+    ensures well { IfOk result (λ s. s ≡ answer.Yes
+        → StartsWell job.now program.now in_flight.now) }
+{
+    // These two calls say that the job is proper, which the law asks for.
+    let _extents = job.extents.pairs();
+    let _mask = job.mask.byte();
+    if let Some(refusal) = of_another(job, program) {
+        return Ok(Start::No(refusal));
+    }
+    if let Some(address) = first_changed(&job.storage, program.rows.keep, program.kept) {
+        return Ok(Start::No(Refusal::Changed(address)));
+    }
+    if let Some(refusal) = not_granted(alloc, job, &program.rows)? {
+        return Ok(Start::No(refusal));
+    }
+    match not_beside(program, in_flight) {
+        Some(refusal) => Ok(Start::No(refusal)),
+        None => Ok(Start::Yes),
+    }
+}
+
+/// Why a job isn't of the program that is remembered.
+fn of_another(job: &Job, program: &Remembered) -> Option<Refusal>
+    ensures { MatchOption result (IsOfProgram job.now program.now)
+        (IsOfAnother job.now program.now) }
+{
+    if job.start != program.start {
+        return Some(Refusal::OtherStart);
+    }
+    if job.device != program.device {
+        return Some(Refusal::OtherDevice);
+    }
+    if job.storage.len() != program.rows.storage_len {
+        return Some(Refusal::OtherLength);
+    }
+    None
+}
+
+/// What rows list and a job doesn't grant.
+fn not_granted(alloc: Global, job: &Job, rows: &Rows) -> Result<Option<Refusal>, AllocError>
+    ensures { IfOk result (λ o. MatchOption o (GrantsListed job.now (rows_of rows.now))
+        (IsNotGranted job.now (rows_of rows.now))) }
+{
+    if !rows.mask.at_least(job.mask) {
+        return Ok(Some(Refusal::Mask));
+    }
+    if let Some(cylinder) = least_outside(rows.extents, job.extents) {
+        return Ok(Some(Refusal::Cylinder(cylinder)));
+    }
+    if let Some(byte) = least_unlent(alloc, rows.fetch, job.fetch, job.storage.len())? {
+        return Ok(Some(Refusal::Fetch(byte)));
+    }
+    let unlent = least_unlent(alloc, rows.store, job.store, job.storage.len())?;
+    Ok(unlent.map(|byte| Refusal::Store(byte)))
+}
+
+/// The first in flight that the program may not run beside, and their conflict.
+fn not_beside(program: &Remembered, in_flight: &[Remembered]) -> Option<Refusal>
+    ensures { MatchOption result (All (IsBeside program.now) in_flight.now)
+        (IsNotBeside program.now in_flight.now) }
+{
+    for i in 0..in_flight.len() {
+        if let Some(conflict) = program.rows.conflict(&in_flight[i].rows) {
+            return Some(Refusal::Beside(i, conflict));
+        }
+    }
+    None
+}

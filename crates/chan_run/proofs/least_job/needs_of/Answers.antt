@@ -1,0 +1,18 @@
+use Rattle.std.proofs.Common.{◌∙◌, ◌≡◌, rules, sym}
+use Rattle.chan_walk.specs.Answers.{IsAnswer}
+use Rattle.chan_walk.specs.Places.{HasMoreThan}
+use Rattle.chan_walk.specs.Offence.{first_verdict}
+use Rattle.chan_walk.specs.declared.verdict.Verdict.TheVariants.{No}
+use Rattle.chan_run.proofs.LeastLemmas.{of_open_job}
+use Rattle.chan_run.proofs.least_job.needs_of.Goals as goal
+
+pub returns-in-Err-TooManyPlaces-clause-err : goal.returns-in-Err-TooManyPlaces-clause-err
+returns-in-Err-TooManyPlaces-clause-err c = λ o image there.
+    of_open_job o image (λ k. HasMoreThan k k.limit) c.args.job.now c.job-open_job.result there
+    (c.job-open_job.ensures.open c.args.job.now c.in-Ok.ensures.open) (search rules)
+
+pub returns-in-No-clause-err : goal.returns-in-No-clause-err
+returns-in-No-clause-err c = λ o image there.
+    let no : first_verdict c.in-Ok-survey.survey.offences.items ≡ No c.in-No.address c.in-No.reason = sym c.verdict.ensures ∙ c.in-No.is in
+    of_open_job o image (λ k. IsAnswer k (No c.in-No.address c.in-No.reason)) c.args.job.now c.job-open_job.result there
+    (c.job-open_job.ensures.open c.args.job.now c.in-Ok.ensures.open) (rw no at c.in-Ok-survey.ensures.answer)

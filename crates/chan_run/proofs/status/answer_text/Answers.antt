@@ -1,0 +1,7 @@
+use Rattle.std.proofs.Common.{rules}
+use Rattle.chan_run.proofs.Endings.{text_answer}
+use Rattle.chan_run.proofs.status.answer_text.Goals as goal
+
+pub returns-clause-answer : goal.returns-clause-answer
+returns-clause-answer c =
+    text_answer _ c.args.action c.args.text.now c.in-Ok.deck c.job-job.result c.answer_on.result.0 c.in-Ok.ensures.spelled (search rules) c.answer_on.ensures

@@ -1,0 +1,80 @@
+-- The programs that are found in an image of storage, a line for each.
+use Rattle.std.specs.Prelude.{◌≡◌, ◌⊎◌, ℕ, List, [], ◌∷◌, ◌++◌, Option, Some, None}
+use Rattle.std.specs.Prelude.{take}
+use Rattle.std.specs.Io.KnownBytes.{Appends}
+use Rattle.ccw_core.specs.Written.{AppendsPrefix}
+use Rattle.chan_deck.specs.Parts.{storage_with}
+use Rattle.chan_deck.specs.Texts.{program_line}
+use Rattle.chan_walk.specs.declared.job.Job.{Job}
+use Rattle.chan_walk.specs.declared.verdict.Verdict.{Verdict}
+use Rattle.chan_walk.specs.Answers.{IsAnswer}
+use Rattle.chan_walk.specs.Places.{HasMoreThan}
+use Rattle.chan_walk.specs.OpenJob.{open_job}
+use Rattle.chan_find.specs.Programs.{AreProgramStarts, IsJobOver}
+use Rattle.chan_walk.specs.OpenJob.{IsOpenJob}
+use Rattle.chan_run.specs.Image.{IsNoImage, IsProgramAt, IsWholeImage}
+use Rattle.chan_run.specs.Output.{IsUnwritten}
+use Rattle.chan_run.specs.declared.failure.Failure.{Failure}
+use Rattle.chan_run.specs.declared.failure.Failure.TheVariants as failures
+use Rattle.chan_run.specs.declared.outcome.Outcome.{Outcome}
+use Rattle.chan_run.specs.declared.outcome.Outcome.TheVariants.{Done, Failed}
+use Rattle.chan_run.specs.declared.image_options.ImageOptions.{ImageOptions}
+
+-- the verdict on a job, or none, since more places are reachable than its limit
+abbrev pub IsVerdictOrNone : Job → Option Verdict → Type 0
+IsVerdictOrNone k (Some v) = IsAnswer k v
+IsVerdictOrNone k None = HasMoreThan k k.limit
+
+-- the line of a job's program says the verdict on its open job
+pub record IsLineOn (j : Job) (line : List ℕ) : Type 0 where
+  pub opened : Job
+  pub is_open : IsOpenJob j opened
+  pub verdict : Option Verdict
+  pub judged : IsVerdictOrNone opened verdict
+  pub is : line ≡ program_line j.start verdict
+
+-- the line of the program that begins at an address in an image
+abbrev pub IsLineAt : ImageOptions → List ℕ → ℕ → List ℕ → Type 0
+IsLineAt o image a line = (j : Job) × IsProgramAt o image a j × IsLineOn j line
+
+-- the text has the line of the program at each of these addresses, in order
+abbrev pub AreLinesAt : ImageOptions → List ℕ → List ℕ → List ℕ → Type 0
+AreLinesAt o image [] text = text ≡ []
+AreLinesAt o image (a ∷ starts) text =
+    (line : List ℕ) × (rest : List ℕ) × IsLineAt o image a line
+    × AreLinesAt o image starts rest × (text ≡ line ++ rest)
+
+-- the starts of all programs in an image
+abbrev pub AreStartsInImage : ImageOptions → List ℕ → List ℕ → Type 0
+AreStartsInImage o image starts =
+    (j : Job) → IsJobOver (storage_with o.at image) o.device j
+    → AreProgramStarts (open_job j) starts
+
+-- the lines of the first programs in an image were written so
+pub record AreWritten (Wrote : List ℕ → Type 0) (o : ImageOptions) (image : List ℕ)
+    (starts : List ℕ) : Type 0 where
+  pub text : List ℕ
+  pub lines : AreLinesAt o image starts text
+  pub written : Wrote text
+
+-- what each answer says of an image and the output: all lines were written; or a prefix of the
+-- lines of the first programs was, when a write failed or memory ran out
+abbrev pub IsFoundAnswer : ImageOptions → List ℕ → Option (List ℕ) → Option (List ℕ)
+    → Outcome → Type 0
+IsFoundAnswer o image old new Done =
+    (starts : List ℕ) × AreStartsInImage o image starts × AreWritten (Appends old new) o image starts
+IsFoundAnswer o image old new (Failed failures.WriteFailed) =
+    (starts : List ℕ) × AreStartsInImage o image starts
+    × (n : ℕ) × AreWritten (AppendsPrefix old new) o image (take n starts)
+IsFoundAnswer o image old new (Failed failures.OutOfMemory) =
+    IsUnwritten old new ⊎ ((starts : List ℕ) × AreStartsInImage o image starts
+    × (n : ℕ) × AreWritten (Appends old new) o image (take n starts))
+IsFoundAnswer o image old new _ = ⊥
+
+-- what each answer of a search for programs says of its input and its output
+abbrev pub IsFindAnswer : ImageOptions → Option (List ℕ) → Option (List ℕ) → Option (List ℕ)
+    → Option (List ℕ) → Outcome → Type 0
+IsFindAnswer o old_in new_in old new answer =
+    ((whole : List ℕ) × IsWholeImage o old_in new_in whole × IsFoundAnswer o whole old new answer)
+    ⊎ ((failure : Failure) × (answer ≡ Failed failure) × IsNoImage o old_in new_in failure
+    × IsUnwritten old new)

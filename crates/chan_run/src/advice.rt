@@ -1,0 +1,27 @@
+//! What is said beside the answer on a text, as lines. Tests hold the texts.
+
+ghost use Rattle.chan_walk.specs.JobSurvey.{IsSurvey};
+
+use chan_deck::notes_text;
+use chan_walk::{Job, Limit, Survey};
+use chan_why::notes_from;
+use std::alloc::{AllocError, Global};
+
+/// The notes on a job that was surveyed.
+pub(crate) fn notes_on(alloc: Global, job: &Job, survey: &Survey) -> Result<Vec<u8>, AllocError>
+    requires { IsSurvey job.now survey.now }
+{
+    let notes = notes_from(alloc, job, survey)?;
+    Ok(notes_text(alloc, &notes)?.into_bytes())
+}
+
+/// What the limit on places is, and how it may be raised.
+pub(crate) fn limit_text(alloc: Global, limit: Limit) -> Result<Vec<u8>, AllocError> {
+    let places = limit.get();
+    let how = if places == 65_536 {
+        ", and none is higher"
+    } else {
+        "; a deck of version 2 may raise it to 65536 by its line limit"
+    };
+    Ok(format!(in alloc; "the limit is {places}{how}\n")?.into_bytes())
+}

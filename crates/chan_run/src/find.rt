@@ -1,0 +1,105 @@
+//! Finding the programs of an image of storage, a line for each.
+
+ghost use Rattle.std.specs.Prelude.{◌≡◌, ◌↔◌, ◌+◌, ◌≤◌, ◌^◌, false, true, length, IfOk, List, ℕ};
+ghost use Rattle.std.specs.Prelude.{string_bytes};
+ghost use Rattle.ccw_core.specs.Held.{bytes_held};
+ghost use Rattle.chan_deck.specs.Parts.{storage_with};
+ghost use Rattle.chan_run.specs.Find.{IsFindAnswer, IsFoundAnswer, IsLineAt};
+ghost use Rattle.chan_run.specs.Outcome.{IsWriteFailure};
+ghost use Rattle.chan_run.specs.declared.failure.Failure.TheVariants as failures;
+ghost use Rattle.chan_run.specs.declared.outcome.Outcome.TheVariants.{Failed};
+
+use crate::failure::Failure;
+use crate::image::read_image;
+use crate::image_options::ImageOptions;
+use crate::least_job::job_at;
+use crate::outcome::Outcome;
+use ccw_core::{Storage, Watched, write_out};
+use chan_deck::{place_image, program_text};
+use chan_find::program_starts;
+use chan_walk::{OpenJob, WalkError, survey};
+use std::alloc::{AllocError, Global};
+use std::io::{Read, Write};
+
+/// Reads an image of storage to the end of the input, and writes a line for each program in it, in
+/// order: the start in six digits, and the verdict on the program's open job, or `too many places`.
+///
+/// Of the options it uses the device, the limit, and the address and size for the image. Each line
+/// is written with one write, as soon as its verdict is known. After a failed write a prefix of the
+/// lines was written, and after a refused allocation the lines of some first programs. The errors
+/// of the input are those of `answer_image`.
+pub fn find_programs<R: Read, W: Write>(
+    alloc: Global,
+    options: &ImageOptions,
+    from: &mut Watched<R>,
+    to: &mut Watched<W>,
+) -> Outcome
+    requires reader { from.old.failed ≡ false }
+    requires writer { to.old.failed ≡ false }
+    ensures answer { IsFindAnswer options.now
+        (R.remaining from.old.device) (R.remaining from.new.device)
+        (W.contents to.old.device) (W.contents to.new.device) result }
+    ensures read { result ≡ Failed failures.ReadFailed ↔ (from.new.failed ≡ true) }
+    ensures write { IsWriteFailure result ↔ (to.new.failed ≡ true) }
+{
+    let image = match read_image(alloc, options, from) {
+        Ok(image) => image,
+        Err(failure) => return Outcome::Failed(failure),
+    };
+    write_programs(alloc, options, image.as_slice(), to)
+}
+
+/// Writes a line for each program in an image.
+fn write_programs<W: Write>(
+    alloc: Global,
+    options: &ImageOptions,
+    image: &[u8],
+    to: &mut Watched<W>,
+) -> Outcome
+    requires short { options.now.at + length image.now ≤ 2 ^ 24 }
+    requires writer { to.old.failed ≡ false }
+    ensures answer { IsFoundAnswer options.now image.now
+        (W.contents to.old.device) (W.contents to.new.device) result }
+    ensures write { IsWriteFailure result ↔ (to.new.failed ≡ true) }
+{
+    let Ok(bytes) = place_image(alloc, options.at as usize, image) else {
+        return Outcome::Failed(Failure::OutOfMemory);
+    };
+    // it isn't too large, since the image ends in storage
+    let storage = Storage::new(&bytes).unwrap();
+    let Ok(starts) = program_starts(alloc, &storage, options.device) else {
+        return Outcome::Failed(Failure::OutOfMemory);
+    };
+    for start in starts.as_slice() {
+        let Ok(line) = program_line(alloc, options, storage, *start) else {
+            return Outcome::Failed(Failure::OutOfMemory);
+        };
+        if write_out(line.as_bytes(), to).is_err() {
+            return Outcome::Failed(Failure::WriteFailed);
+        }
+    }
+    Outcome::Done
+}
+
+/// The line of the program that begins at an address in storage.
+fn program_line(
+    alloc: Global,
+    options: &ImageOptions,
+    storage: Storage<'_>,
+    start: u32,
+) -> Result<String, AllocError>
+    ensures { (image : List ℕ) → bytes_held storage.entry ≡ storage_with options.now.at image
+        → IfOk result (λ line. IsLineAt options.now image start (string_bytes line)) }
+{
+    let job = job_at(options, storage, start);
+    let open = match OpenJob::of(alloc, &job) {
+        Ok(open) => open,
+        Err(_) => return Err(AllocError),
+    };
+    let open_job = open.job();
+    match survey(alloc, &open_job) {
+        Ok(survey) => program_text(alloc, job.start, Some(survey.verdict())),
+        Err(WalkError::TooManyPlaces) => program_text(alloc, job.start, None),
+        Err(WalkError::Memory) => Err(AllocError),
+    }
+}

@@ -1,0 +1,120 @@
+//! The deck of an image of storage with the least job of its program.
+
+ghost use Rattle.std.specs.Prelude.{◌≡◌, ◌+◌, ◌≤◌, ◌^◌, List, ℕ, true, length, IfErr};
+ghost use Rattle.std.specs.Prelude.{IfOk, OnOk};
+ghost use Rattle.std.specs.List.{AllByRecursion};
+ghost use Rattle.ckd_core.specs.Extents.{IsExtent};
+ghost use Rattle.chan_deck.specs.Parts.{storage_with};
+ghost use Rattle.ccw_core.specs.Held.{bytes_held};
+ghost use Rattle.chan_walk.specs.OpenJob.{AreOfOneProgram};
+ghost use Rattle.chan_needs.specs.Rows.{AreNeeds, listed};
+ghost use Rattle.chan_walk.specs.declared.job.Job.{Job};
+ghost use Rattle.chan_run.specs.Image.{HasNoNeeds, IsDeckText, IsNoDeck, IsProgramAt};
+ghost use Rattle.chan_run.specs.Image.{IsProgramIn, extents_for};
+ghost use Rattle.chan_run.specs.declared.image_options.ImageOptions.{ImageOptions};
+
+use crate::failure::Failure;
+use crate::image_options::ImageOptions;
+use crate::outcome::Outcome;
+use ccw_core::Storage;
+use chan_deck::{Parts, in_six_digits, parts_text, place_image};
+use chan_needs::{Needs, needs_from};
+use chan_walk::{Job, Limit, OpenJob, Verdict, WalkError, survey};
+use ckd_core::Extents;
+use std::alloc::{AllocError, Global};
+
+/// The text of the deck that an image makes with the options and the least job of its program.
+pub(crate) fn least_text(
+    alloc: Global,
+    options: &ImageOptions,
+    image: &[u8],
+) -> Result<Vec<u8>, Outcome>
+    requires short { options.now.at + length image.now ≤ 2 ^ 24 }
+    requires least { options.now.is_least ≡ true }
+    ensures text { IfOk result (λ text. IsDeckText options.now image.now text.items) }
+    ensures none { IfErr result (IsNoDeck options.now image.now) }
+{
+    let needs = match needs_in(alloc, options, image) {
+        Ok(needs) => needs,
+        Err(end) => return Err(end),
+    };
+    let extents = extents_over(alloc, &needs.extents)?;
+    let fetch = in_six_digits(alloc, &needs.fetch)?;
+    let store = in_six_digits(alloc, &needs.store)?;
+    let parts = Parts {
+        limit: options.limit,
+        device: options.device,
+        mask: needs.mask,
+        start: options.start,
+        extents: &extents,
+        fetch: &fetch,
+        store: &store,
+        at: options.at,
+        image,
+    };
+    Ok(parts_text(alloc, &parts)?)
+}
+
+/// What the program needs that the options find in an image.
+fn needs_in(alloc: Global, options: &ImageOptions, image: &[u8]) -> Result<Needs, Outcome>
+    requires { options.now.at + length image.now ≤ 2 ^ 24 }
+    ensures ok { IfOk result (λ n. (j : Job) → IsProgramIn options.now image.now j
+        → AreNeeds j (listed n)) }
+    ensures some { OnOk result ((j : Job) × IsProgramIn options.now image.now j) }
+    ensures err { IfErr result (HasNoNeeds options.now image.now) }
+{
+    let bytes = place_image(alloc, options.at as usize, image)?;
+    // it isn't too large, since the image ends in storage
+    let storage = Storage::new(&bytes).unwrap();
+    let job = job_at(options, storage, options.start);
+    needs_of(alloc, &job)
+}
+
+/// The job of the program that begins at an address in storage, as the options have it.
+pub(crate) fn job_at<'a>(options: &'a ImageOptions, storage: Storage<'a>, start: u32) -> Job<'a>
+    ensures { (image : List ℕ) → bytes_held storage.entry ≡ storage_with options.entry.now.at image
+        → IsProgramAt options.entry.now image start result }
+{
+    Job {
+        storage,
+        start,
+        device: options.device,
+        mask: options.mask,
+        extents: &options.extents,
+        fetch: &options.fetch,
+        store: &options.store,
+        limit: options.limit.unwrap_or(Limit::usual()),
+    }
+}
+
+/// What the program of a job needs.
+fn needs_of(alloc: Global, job: &Job<'_>) -> Result<Needs, Outcome>
+    ensures ok { IfOk result (λ n. (j : Job) → AreOfOneProgram j job.now
+        → AreNeeds j (listed n)) }
+    ensures err { IfErr result (λ e. (o : ImageOptions) (image : List ℕ)
+        → IsProgramIn o image job.now → HasNoNeeds o image e) }
+{
+    let open = match OpenJob::of(alloc, job) {
+        Ok(open) => open,
+        Err(_) => return Err(Outcome::Failed(Failure::OutOfMemory)),
+    };
+    let open_job = open.job();
+    let survey = match survey(alloc, &open_job) {
+        Ok(survey) => survey,
+        Err(WalkError::TooManyPlaces) => return Err(Outcome::Failed(Failure::TooManyPlaces)),
+        Err(WalkError::Memory) => return Err(Outcome::Failed(Failure::OutOfMemory)),
+    };
+    match survey.verdict() {
+        Verdict::No { address, reason } => Err(Outcome::NoJob { address, reason }),
+        Verdict::Yes => Ok(needs_from(alloc, &open_job, &survey)?),
+    }
+}
+
+/// The extents that grant some runs of cylinders: all of the device's where there is none.
+fn extents_over(alloc: Global, runs: &[(u16, u16)]) -> Result<Extents, AllocError>
+    requires { AllByRecursion IsExtent runs.now }
+    ensures { IfOk result (λ extents. extents ≡ extents_for runs.now) }
+{
+    let runs = if runs.is_empty() { &[(0, 202)] } else { runs };
+    Extents::new(alloc, runs).map_err(|_| AllocError)
+}

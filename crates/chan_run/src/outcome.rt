@@ -1,0 +1,299 @@
+//! How the program ends: its exit status, and its line on standard error.
+
+ghost use Rattle.std.specs.Prelude.{◌≡◌, ◌≤◌, ◌↔◌, ◌⊎◌, ◌++◌, false, true, IsErr, IsTrue, OnOk};
+ghost use Rattle.std.specs.Prelude.{IsErrOf, IsOk};
+ghost use Rattle.std.specs.Io.KnownBytes.{Appends, Keeps};
+ghost use Rattle.ccw_core.specs.Written.{AppendsPrefix};
+ghost use Rattle.chan_run.specs.Failure.{row_of_failure};
+ghost use Rattle.chan_run.specs.Name.{name_in};
+ghost use Rattle.chan_run.specs.Outcome.{IsDone, IsEnd, IsWriteFailure, has_advice, line_over, ran};
+ghost use Rattle.chan_run.specs.Outcome.{shown, status_of, wrote};
+ghost use Rattle.chan_run.specs.declared.failure.Failure.TheVariants as failures;
+ghost use Rattle.chan_run.specs.declared.outcome.Outcome.TheVariants.{Done, Failed, Refused};
+
+use crate::failure::{Failure, row};
+use crate::terms::{Term, cause_word, term_word};
+use crate::name::named;
+use crate::status::{RunError, Status};
+use crate::one_ccw::ShowError;
+use crate::texts::write_texts;
+use ccw_core::{DeviceFault, Watched, write_out};
+use chan_args::Action;
+use chan_deck::Cause;
+use chan_walk::Reason;
+use itoa::Buffer;
+use std::alloc::AllocError;
+use std::io::Write;
+
+/// What the line on a word without a meaning begins with, if another one's is near.
+const UNKNOWN: &str = "chanv: no such word; the nearest is ";
+
+/// How a run of the program ended. The texts of help, of the version, of a usage fault and on a
+/// program that no job will do for are written before.
+#[derive(Clone, Copy, PartialEq, Eq)]
+pub enum Outcome {
+    /// All that was asked for was written.
+    Done,
+    /// All was written, and the verdict is no.
+    Denied,
+    /// The command line is wrong.
+    Usage,
+    /// The text isn't a deck.
+    Refused { line: u64, cause: Cause },
+    /// The least job was asked for, and this is the verdict on the open job.
+    NoJob { address: u32, reason: Reason },
+    /// The word has no meaning, and this one's word is the nearest.
+    Unknown(Term),
+    /// There is no answer, for this reason.
+    Failed(Failure),
+}
+
+impl Outcome {
+    /// What `show` came to.
+    pub fn of_show(answer: Result<(), ShowError>) -> Outcome
+        ensures is { result ≡ shown answer }
+        ensures write { IsWriteFailure result ↔ IsErrOf answer ShowError.Write }
+    {
+        match answer {
+            Ok(()) => Outcome::Done,
+            Err(ShowError::NotCcw) => Outcome::Failed(Failure::NotCcw),
+            Err(ShowError::Memory) => Outcome::Failed(Failure::OutOfMemory),
+            Err(ShowError::Write) => Outcome::Failed(Failure::WriteFailed),
+        }
+    }
+
+    /// What `run` came to.
+    pub fn of_run(answer: Result<Status, RunError>) -> Outcome
+        ensures is { result ≡ ran answer }
+        ensures read { result ≡ Failed failures.ReadFailed ↔ IsErrOf answer RunError.Read }
+        ensures write { IsWriteFailure result ↔ IsErrOf answer RunError.Write }
+    {
+        match answer {
+            Ok(Status::Yes) => Outcome::Done,
+            Ok(Status::No) => Outcome::Denied,
+            Err(RunError::Read) => Outcome::Failed(Failure::ReadFailed),
+            Err(RunError::TooLong) => Outcome::Failed(Failure::DeckTooLong),
+            Err(RunError::Deck { line, cause }) => Outcome::Refused { line, cause },
+            Err(RunError::TooManyPlaces) => Outcome::Failed(Failure::TooManyPlaces),
+            Err(RunError::Write) => Outcome::Failed(Failure::WriteFailed),
+            Err(RunError::Memory) => Outcome::Failed(Failure::OutOfMemory),
+        }
+    }
+
+    /// What a write of all that was asked for came to.
+    pub fn of_write(answer: Result<(), DeviceFault>) -> Outcome
+        ensures is { result ≡ wrote answer }
+        ensures done { result ≡ Done ↔ IsOk answer }
+        ensures write { IsWriteFailure result ↔ IsErr answer }
+    {
+        match answer {
+            Ok(()) => Outcome::Done,
+            Err(_) => Outcome::Failed(Failure::WriteFailed),
+        }
+    }
+}
+
+impl From<AllocError> for Outcome {
+    ghost use Rattle.std.specs.Prelude.{◌≡◌};
+    ghost use Rattle.chan_run.specs.declared.failure.Failure.TheVariants.{OutOfMemory};
+    ghost use Rattle.chan_run.specs.declared.outcome.Outcome.TheVariants.{Failed};
+
+    ghost from_gives = { λ _ end. end ≡ Failed OutOfMemory };
+
+    fn from(_error: AllocError) -> Outcome {
+        Outcome::Failed(Failure::OutOfMemory)
+    }
+}
+
+/// Writes the outcome's line, if it has one, over an input that may have a name, and gives the exit
+/// status. It takes no memory. A writer that fails doesn't change the status, and a prefix of the
+/// line was written.
+///
+/// If the line is about the input, its name, a colon and a space come after `chanv: `. A line about
+/// a failed allocation for the command line, about help or about a failed write names no input.
+pub fn report<W: Write>(name: Option<&str>, outcome: Outcome, to: &mut Watched<W>) -> u8
+    requires { to.old.failed ≡ false }
+    ensures status { result ≡ status_of outcome }
+    ensures line { to.new.failed ≡ false → Appends (W.contents to.old.device)
+        (W.contents to.new.device) (line_over (name_in name.entry) outcome) }
+    ensures prefix { AppendsPrefix (W.contents to.old.device) (W.contents to.new.device)
+        (line_over (name_in name.entry) outcome) }
+{
+    let _ = write_line(name, outcome, to);
+    exit_status(outcome)
+}
+
+/// Whether a write failed, so that a run over several inputs ends with this one.
+pub fn ends_run(outcome: Outcome) -> bool
+    ensures { IsTrue result ↔ IsWriteFailure outcome }
+{
+    matches!(outcome, Outcome::Failed(Failure::WriteFailed))
+}
+
+/// Whether advice follows the answer of an action: it does for the explanation of a yes, for a text
+/// that isn't a deck, and if too many places are reachable.
+pub(crate) fn has_advice(action: Action, outcome: Outcome) -> bool
+    ensures { result ≡ has_advice action outcome }
+{
+    match (action, outcome) {
+        (
+            Action::Why { .. },
+            Outcome::Done | Outcome::Refused { .. } | Outcome::Failed(Failure::TooManyPlaces),
+        ) => true,
+        _ => false,
+    }
+}
+
+/// Ends a command that came to this outcome, and gives its final outcome. It takes no memory.
+///
+/// If all was done, it flushes the output; the outcome is a failed write if the flush fails. Then
+/// it writes the outcome's line, as `report` does, and more behind it.
+pub fn conclude<W: Write, E: Write>(
+    name: Option<&str>,
+    outcome: Outcome,
+    more: &[u8],
+    to: &mut Watched<W>,
+    errors: &mut Watched<E>,
+) -> Outcome
+    requires writer { IsWriteFailure outcome ↔ (to.old.failed ≡ true) }
+    requires errors { errors.old.failed ≡ false }
+    ensures end { IsEnd outcome result }
+    ensures flushed { IsDone result → to.new.flushed ≡ true }
+    ensures kept { Keeps (W.contents to.old.device) (W.contents to.new.device) }
+    ensures early { (IsDone outcome → ⊥) → to.new ≡ to.old }
+    ensures write { IsWriteFailure result ↔ (to.new.failed ≡ true) }
+    ensures line { errors.new.failed ≡ false → Appends (E.contents errors.old.device)
+        (E.contents errors.new.device) (line_over (name_in name.entry) result ++ more.now) }
+    ensures prefix { AppendsPrefix (E.contents errors.old.device) (E.contents errors.new.device)
+        (line_over (name_in name.entry) result ++ more.now) }
+{
+    let end = flushed(outcome, to);
+    if write_line(name, end, errors).is_ok() {
+        let _ = write_out(more, errors);
+    }
+    end
+}
+
+/// Flushes the output if all was done, and gives the outcome with which the command then ends.
+pub(crate) fn flushed<W: Write>(outcome: Outcome, to: &mut Watched<W>) -> Outcome
+    requires { IsWriteFailure outcome ↔ (to.old.failed ≡ true) }
+    ensures end { IsEnd outcome result }
+    ensures flushed { IsDone result → to.new.flushed ≡ true }
+    ensures kept { Keeps (W.contents to.old.device) (W.contents to.new.device) }
+    ensures early { (IsDone outcome → ⊥) → to.new ≡ to.old }
+    ensures write { IsWriteFailure result ↔ (to.new.failed ≡ true) }
+{
+    if is_done(outcome) && to.flush().is_err() {
+        return Outcome::Failed(Failure::WriteFailed);
+    }
+    outcome
+}
+
+/// Whether all was done that was asked for.
+fn is_done(outcome: Outcome) -> bool
+    ensures { IsTrue result ↔ IsDone outcome }
+{
+    matches!(outcome, Outcome::Done | Outcome::Denied)
+}
+
+/// The exit status of a run over several inputs, from that of those before and that of one more:
+/// the greater of the two.
+pub fn greater_status(so_far: u8, status: u8) -> u8
+    ensures least { (so_far ≤ result) × (status ≤ result) }
+    ensures one { (result ≡ so_far) ⊎ (result ≡ status) }
+{
+    so_far.max(status)
+}
+
+/// The exit status of an outcome.
+pub fn exit_status(outcome: Outcome) -> u8
+    ensures { result ≡ status_of outcome }
+{
+    match outcome {
+        Outcome::Done => 0,
+        Outcome::Denied => 1,
+        Outcome::Usage => 4,
+        Outcome::Refused { .. } => 2,
+        Outcome::NoJob { .. } => row(Failure::NoJobWillDo).4,
+        Outcome::Unknown(_) => row(Failure::NoSuchWord).4,
+        Outcome::Failed(failure) => row(failure).4,
+    }
+}
+
+/// Writes the line of an outcome over an input that may have a name, if it has one. It takes no
+/// memory.
+pub(crate) fn write_line<W: Write>(
+    name: Option<&str>,
+    outcome: Outcome,
+    to: &mut Watched<W>,
+) -> Result<(), DeviceFault>
+    requires { to.old.failed ≡ false }
+    ensures ok { OnOk result (Appends (W.contents to.old.device) (W.contents to.new.device)
+        (line_over (name_in name.entry) outcome)) }
+    ensures prefix { AppendsPrefix (W.contents to.old.device) (W.contents to.new.device)
+        (line_over (name_in name.entry) outcome) }
+    ensures fault { IsErr result ↔ (to.new.failed ≡ true) }
+{
+    match outcome {
+        Outcome::Refused { line, cause } => write_refusal(name, line, cause, to),
+        Outcome::Unknown(term) => write_texts(&[UNKNOWN, term_word(term), "\n"], to),
+        Outcome::Failed(failure) => write_failure(name, failure, to),
+        _ => Ok(()),
+    }
+}
+
+/// Writes the line on a line of a deck that is refused for this cause.
+fn write_refusal<W: Write>(
+    name: Option<&str>,
+    line: u64,
+    cause: Cause,
+    to: &mut Watched<W>,
+) -> Result<(), DeviceFault>
+    requires { to.old.failed ≡ false }
+    ensures ok { OnOk result (Appends (W.contents to.old.device) (W.contents to.new.device)
+        (line_over (name_in name.entry) (Refused line cause))) }
+    ensures prefix { AppendsPrefix (W.contents to.old.device) (W.contents to.new.device)
+        (line_over (name_in name.entry) (Refused line cause)) }
+    ensures fault { IsErr result ↔ (to.new.failed ≡ true) }
+{
+    let (name, mark) = named(name, true);
+    let mut buffer = Buffer::new();
+    let number = buffer.format(line);
+    write_texts(
+        &[
+            "chanv: ",
+            name,
+            mark,
+            "deck line ",
+            number,
+            ": ",
+            cause_word(cause),
+            "\n",
+        ],
+        to,
+    )
+}
+
+/// Writes the line of a failure.
+fn write_failure<W: Write>(
+    name: Option<&str>,
+    failure: Failure,
+    to: &mut Watched<W>,
+) -> Result<(), DeviceFault>
+    requires { to.old.failed ≡ false }
+    ensures ok { OnOk result (Appends (W.contents to.old.device) (W.contents to.new.device)
+        (line_over (name_in name.entry) (Failed failure))) }
+    ensures prefix { AppendsPrefix (W.contents to.old.device) (W.contents to.new.device)
+        (line_over (name_in name.entry) (Failed failure)) }
+    ensures fault { IsErr result ↔ (to.new.failed ≡ true) }
+{
+    let (name, mark) = named(name, row(failure).5);
+    write_texts(&["chanv: ", name, mark, line_of(failure)], to)
+}
+
+/// What the line of a failure says.
+fn line_of<'a>(failure: Failure) -> &'a str
+    ensures { result.now ≡ (row_of_failure failure).line }
+{
+    row(failure).2
+}

@@ -1,6 +1,0 @@
-use Rattle.std.proofs.Common.{◌≡◌, ◌++◌}
-use Rattle.chan_walk.specs.Marks.{places_of}
-use Rattle.chan_walk.proofs.explored.Explored.from_marks.Given as goal
-
-abbrev pub invariant-loop-address : goal.invariant-loop-address
-invariant-loop-address l = l.places.items ++ places_of l.address-iterator ≡ places_of l.fn.marks.entries

@@ -1,0 +1,20 @@
+use Rattle.chan_walk.proofs.Algorithms.Looking.{moved_places}
+use Rattle.chan_walk.proofs.Algorithms.Walking.{reached_all}
+use Rattle.chan_walk.proofs.job_survey.Survey.into_parts.Goals as goal
+
+pub in_order-requires : goal.in_order-requires
+in_order-requires c = c.requires.1.found.walked.apart
+
+pub returns-clause-looks : goal.returns-clause-looks
+returns-clause-looks c j s l h = s.found.looks l ((c.in_order.ensures.same l).0 h)
+
+pub returns-clause-places : goal.returns-clause-places
+returns-clause-places c j s =
+    let ls = c.args.self.walk.looks.items in
+    let ms = c.in_order.result.items in
+    let reached = reached_all j c.args.self.walk s.found in
+    record {
+      ordered = c.in_order.ensures.ordered;
+      each = λ p r. moved_places ls ms p (λ l h. (c.in_order.ensures.same l).1 h) (reached.0 p r);
+      only = λ p h. reached.1 p (moved_places ms ls p (λ l k. (c.in_order.ensures.same l).0 k) h);
+    }

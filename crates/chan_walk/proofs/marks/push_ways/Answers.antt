@@ -1,0 +1,22 @@
+use Rattle.std.proofs.Common.{◌≡◌, ◌++◌, ◌∷◌, [], ◌+◌, ◌-◌, ap, sym, ◌∙◌, subst, arith}
+use Rattle.std.specs.Int.{bit_at}
+use Rattle.std.proofs.lemmas.Nat.Bits.{shr_and_one}
+use Rattle.chan_walk.specs.Marks.{ways, place_at}
+use Rattle.chan_walk.proofs.Algorithms.InOrder.{ways_next, ways_skip, ways_done}
+use Rattle.chan_walk.proofs.marks.push_ways.Goals as goal
+use Rattle.chan_walk.proofs.marks.push_ways.Goals.{then-bits-way-eq1+in_ok-push, else-bits-way-eq1}
+
+pub loop-way-preserved : goal.loop-way-preserved
+loop-way-preserved c = elim c.if-bits-way-eq1.branch [
+  | then-bits-way-eq1+in_ok-push w ↦
+      let b : bit_at c.args.bits c.loop-way.way ≡ 1 = sym (shr_and_one c.args.bits c.loop-way.way) ∙ w.if-bits-way-eq1.true in
+      let e : c.if-bits-way-eq1.places.items ≡ c.loop-way.places.items ++ place_at c.args.address c.loop-way.way ∷ [] = ap (λ z. z.items) w.places-is ∙ w.in_ok-push.ensures.items ∙ ap (λ x. c.loop-way.places.items ++ x ∷ []) w.place_at.ensures in
+      ways_next c.args.address c.args.bits c.loop-way.way c.loop-way.places.items c.if-bits-way-eq1.places.items _ (omega arith) b e c.loop-way.invariant
+  | else-bits-way-eq1 w ↦
+      let e : c.loop-way.places.items ≡ c.if-bits-way-eq1.places.items = sym (ap (λ z. z.items) w.places-is) in
+      let n : bit_at c.args.bits c.loop-way.way ≡ 1 → ⊥ = λ h. w.if-bits-way-eq1.false (shr_and_one c.args.bits c.loop-way.way ∙ h) in
+      subst (λ z. z ++ ways c.args.address c.args.bits (c.loop-way.way + 1) (8 - (c.loop-way.way + 1)) ≡ c.args.places.now.items ++ ways c.args.address c.args.bits 0 8) e (ways_skip c.args.address c.args.bits c.loop-way.way c.loop-way.places.items _ (omega arith) n c.loop-way.invariant)
+]
+
+pub returns-clause-ok : goal.returns-clause-ok
+returns-clause-ok c = ways_done c.args.address c.args.bits c.loop-way.way c.loop-way.places.items _ c.loop-way-test.false c.loop-way.invariant

@@ -1,8 +1,0 @@
-use Rattle.std.proofs.Common.{rules}
-use Rattle.chan_walk.proofs.opened.OpenJob.job.Goals as goal
-
-pub returns-clause-open : goal.returns-clause-open
-returns-clause-open c j h = search rules
-
-pub returns-clause-verdict : goal.returns-clause-verdict
-returns-clause-verdict c j h = (c.open_job_is_open.ensures j _ (returns-clause-open c j h)).1

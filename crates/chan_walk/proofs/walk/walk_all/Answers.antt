@@ -1,0 +1,58 @@
+use Rattle.std.proofs.Common.{◌≡◌, ℕ, ◌<◌, List, [], ◌∷◌, Some, refl, sym, ap, ◌∙◌, subst, inl, inr}
+use Rattle.std.proofs.Common.{arith}
+use Rattle.chan_walk.specs.declared.job.Job.{Job}
+use Rattle.chan_walk.specs.declared.place.Place.{Place}
+use Rattle.chan_walk.specs.Look.{places_of_looks}
+use Rattle.chan_walk.specs.Place.{first_place}
+use Rattle.chan_walk.specs.Walk.{Adds, IsTraced, IsWalked}
+use Rattle.chan_walk.proofs.Algorithms.Looking.{number_of_places}
+use Rattle.chan_walk.proofs.Algorithms.Walking.{walked_first}
+use Rattle.chan_walk.proofs.walk.walk_all.Goals as goal
+
+-- where there was no place, the one added is alone
+record IsAlone (n : ℕ) (p : Place) (qs : List Place) (gs : List ℕ) : Type 0 where
+  places : qs ≡ p ∷ []
+  from : gs ≡ 0 ∷ []
+  room : 0 < n
+
+alone : (n : ℕ) (p : Place) (ps qs : List Place) (fs gs : List ℕ) → ps ≡ [] → fs ≡ [] → Adds n (Some p) 0 ps qs fs gs → IsAlone n p qs gs
+alone n p [] qs [] gs e f (inl a) = absurd a.0
+alone n p [] qs [] gs e f (inr a) = record { places = a.1; from = a.3; room = a.2 }
+alone n p (q ∷ ps) qs fs gs e f a = absurd (cc)
+alone n p [] qs (x ∷ fs) gs e f a = absurd (cc)
+
+traced_first : (j : Job) → IsTraced j (first_place j ∷ []) (0 ∷ []) 0 0
+traced_first j = record {
+  each = refl;
+  begins = refl;
+  from = λ k h l. absurd (omega arith);
+  rising = λ k l h o b. absurd (omega arith);
+  siblings = λ k l h o b. absurd (omega arith);
+  found = λ k p q l. absurd (omega arith);
+}
+
+pub loop-at-init : goal.loop-at-init
+loop-at-init c =
+    let j = c.args.job.now in
+    let one = alone j.limit c.first_place.result (places_of_looks c.new-2.result.items) (places_of_looks c.add.new.self.looks.items) c.new-3.result.items c.add.new.self.found_from.items
+    (ap places_of_looks c.new-2.ensures.items) c.new-3.ensures.items c.in_ok-add.ensures.ok in
+    let places = one.places ∙ ap (λ (p : Place). p ∷ []) c.first_place.ensures in
+    record {
+      looks = c.in_ok-add.ensures.looks;
+      agrees = c.in_ok-add.ensures.agrees;
+      walked = subst (λ z. IsWalked j j.limit z 0) (sym places) (walked_first j j.limit one.room);
+      traced = subst (λ z. IsTraced j z c.add.new.self.found_from.items 0 0) (sym places) (subst (λ z. IsTraced j (first_place j ∷ []) z 0 0) (sym one.from) (traced_first j));
+    }
+
+pub loop-at-preserved : goal.loop-at-preserved
+loop-at-preserved c = record {
+  looks = c.in_ok-add_successors.ensures.looks;
+  agrees = c.in_ok-add_successors.ensures.agrees;
+  walked = c.in_ok-add_successors.ensures.ok;
+  traced = c.in_ok-add_successors.ensures.traced;
+}
+
+pub returns-clause-found : goal.returns-clause-found
+returns-clause-found c =
+    let i = c.loop-at.invariant in
+    record { looks = i.looks; agrees = i.agrees; at = c.loop-at.at; walked = i.walked; all = omega (arith, number_of_places c.loop-at.walk.looks.items, c.loop-at.walk.looks.ok.0); traced = i.traced }

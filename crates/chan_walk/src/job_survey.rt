@@ -1,0 +1,79 @@
+//! What a survey of a job tells.
+
+ghost use Rattle.std.specs.Prelude.{◌≡◌, ◌↔◌, map};
+ghost use Rattle.std.specs.List.Sorted.{IsStrictlyIncreasing};
+ghost use Rattle.chan_walk.specs.Argument.{Has};
+ghost use Rattle.chan_walk.specs.Places.{AreDistinct, AreReachable, place_number};
+ghost use Rattle.chan_walk.specs.Look.{AreLooks, Seen, places_of_looks};
+ghost use Rattle.chan_walk.specs.Offence.{first_verdict};
+ghost use Rattle.chan_walk.specs.JobSurvey.{IsSurvey};
+ghost use Rattle.chan_walk.specs.declared.job.Job.{Job};
+
+use crate::walk::Walk;
+use crate::guard::Guard;
+use crate::look::Look;
+use crate::offence::Offence;
+use crate::place::{Place, order_is_by_number};
+use crate::verdict::Verdict;
+
+/// The result of one walk over a job's reachable places: for each its look and the place that it
+/// was found from, and then the guard and all offences.
+#[derive(Drop)]
+pub struct Survey {
+    /// What the walk has found.
+    pub walk: Walk,
+    /// The guard.
+    pub guard: Guard,
+    /// All offences, in order.
+    pub offences: Vec<Offence>,
+}
+
+impl Survey {
+    /// Whether the program may run: yes if nothing offends, otherwise the address and the reason of
+    /// the first offence.
+    pub fn verdict(&self) -> Verdict
+        ensures { result ≡ first_verdict self.now.offences.items }
+    {
+        match self.offences.first() {
+            Some(offence) => Verdict::No {
+                address: offence.place.address,
+                reason: offence.reason,
+            },
+            None => Verdict::Yes,
+        }
+    }
+
+    /// All offences: exactly the reachable places that offend, each with each of its reasons, in
+    /// order of address, then of the reason's number, then of place.
+    pub fn offences(&self) -> &[Offence]
+        ensures { result.now ≡ self.now.offences.items }
+    {
+        self.offences.as_slice()
+    }
+
+    /// The looks at the places, in order of place, and all offences.
+    pub fn into_parts(self) -> (Vec<Look>, Vec<Offence>)
+        requires { (j : Job) × IsSurvey j self }
+        ensures looks { (j : Job) → IsSurvey j self → AreLooks j result.0.items }
+        ensures places { (j : Job) → IsSurvey j self
+            → AreReachable j (places_of_looks result.0.items) }
+        ensures offences { result.1.items ≡ self.offences.items }
+    {
+        let Survey { walk, offences, .. } = self;
+        let looks = walk.looks;
+        (in_order(looks), offences)
+    }
+}
+
+/// The same looks, in order of place.
+#[tactic(auto, using(crate::proofs::Algorithms::Sorting::same_looks))]
+fn in_order(looks: Vec<Look>) -> Vec<Look>
+    requires { AreDistinct (places_of_looks looks.items) }
+    ensures ordered { IsStrictlyIncreasing (map place_number (places_of_looks result.items)) }
+    ensures same { (l : Seen) → Has result.items l ↔ Has looks.items l }
+{
+    order_is_by_number();
+    let mut looks = looks;
+    looks.sort_unstable_by_key(|look| look.place());
+    looks
+}

@@ -1,0 +1,84 @@
+//! Judging a job: one walk over all places that its program can come to, and all that follows
+//! from it.
+
+ghost use Rattle.std.specs.Prelude.{◌≡◌, IfOk, OnOk};
+ghost use Rattle.chan_walk.specs.Answers.{HasAtMost, HasWitness, IsAnswer, IsComplete, IsSound};
+ghost use Rattle.chan_walk.specs.Answers.{IsSoundAmong};
+ghost use Rattle.chan_walk.specs.Places.{HasMoreThan};
+ghost use Rattle.chan_walk.specs.Offence.{first_verdict};
+ghost use Rattle.chan_walk.specs.JobSurvey.{IsSurvey};
+ghost use Rattle.chan_walk.specs.Verdict.{IsVerdict};
+
+use crate::error::WalkError;
+use crate::walk::walk_all;
+use crate::guard::Guard;
+use crate::job::Job;
+use crate::laws::{first_is_verdict, no_false_alarm, safe_is_yes, yes_is_safe, yes_is_safe_among};
+use crate::offence::offences_of;
+use crate::job_survey::Survey;
+use crate::verdict::Verdict;
+use std::alloc::Global;
+
+/// Surveys a job: walks once over the places that its program can come to, and looks at each once.
+///
+/// `TooManyPlaces` comes exactly if more places are reachable than the job's limit and no growth
+/// was refused, even if one of them offends. `Memory` comes if a growth was refused.
+///
+/// With n places and a lent areas, the cost is (n + a) log (n + a).
+pub fn survey(alloc: Global, job: &Job) -> Result<Survey, WalkError>
+    ensures survey { IfOk result (IsSurvey job.now) }
+    ensures answer { IfOk result (λ s. IsAnswer job.now (first_verdict s.offences.items)) }
+    ensures many { result ≡ Err WalkError.TooManyPlaces → HasMoreThan job.now job.now.limit }
+{
+    first_is_verdict();
+    yes_is_safe();
+    yes_is_safe_among();
+    no_false_alarm();
+    safe_is_yes();
+    // `pairs` tells that the extents are in order and on the device, and `byte` that the mask is a
+    // file mask, which the laws ask for.
+    let _extents = job.extents.pairs();
+    let _mask = job.mask.byte();
+    let walk = walk_all(alloc, job)?;
+    // `iter` tells that the marks are in order, by which the places are counted.
+    let _marks = walk.marks.iter();
+    let guard = Guard::of(alloc, walk.looks.as_slice())?;
+    let offences = offences_of(alloc, &guard, walk.looks.as_slice())?;
+    Ok(Survey {
+        walk,
+        guard,
+        offences,
+    })
+}
+
+/// Whether the program may run.
+///
+/// `Yes` means that no reachable place offends. Then whatever the disk holds, however searches and
+/// errors turn out, and after any number of steps, the channel meets no program check, moves data
+/// only through areas lent for it, changes no CCW, seek argument or mask byte that any run uses,
+/// seeks only inside the extents, sets no weaker mask and issues no inhibited command. This holds
+/// even while others write to storage, as long as they leave the guarded bytes alone.
+///
+/// `No` names the first offending CCW, by address, and the first reason there, by number; some run
+/// shows it. A job that is safe in every run, and steady, is never answered `No`.
+///
+/// `TooManyPlaces` comes exactly if more places are reachable than the job's limit and no growth
+/// was refused, even if one of them offends. `Memory` comes if a growth was refused.
+///
+/// With n places and a lent areas, the cost is (n + a) log (n + a).
+pub fn verify(alloc: Global, job: &Job) -> Result<Verdict, WalkError>
+    ensures verdict { IfOk result (IsVerdict job.now) }
+
+    // A yes covers every run, also among others that change no guarded byte, a no is no false
+    // alarm, and no safe and steady job is refused.
+    ensures safe { IfOk result (IsSound job.now) }
+    ensures among { IfOk result (IsSoundAmong job.now) }
+    ensures shown { IfOk result (HasWitness job.now) }
+    ensures exact { IfOk result (IsComplete job.now) }
+
+    // There is an answer only up to the limit, and too many places only above it.
+    ensures few { OnOk result (HasAtMost job.now job.now.limit) }
+    ensures many { result ≡ Err WalkError.TooManyPlaces → HasMoreThan job.now job.now.limit }
+{
+    Ok(survey(alloc, job)?.verdict())
+}

@@ -1,0 +1,66 @@
+//! What a store changes: the place to which a guarded byte belongs, and the path to it.
+
+ghost use Rattle.std.specs.Prelude.{◌≡◌, length, IfOk};
+ghost use Rattle.chan_why.specs.SecondPath.{IsSecondPathEnd};
+ghost use Rattle.chan_why.specs.Evidence.{IsCause, IsSecondPath};
+ghost use Rattle.chan_why.specs.Finder.{IsIndex, TakesByte};
+ghost use Rattle.chan_walk.specs.Look.{AreLooks, places_of_looks};
+ghost use Rattle.chan_walk.specs.Walk.{HasFound};
+ghost use Rattle.chan_why.specs.Path.{IsFirstWhere};
+ghost use Rattle.chan_walk.specs.declared.job.Job.{Job};
+ghost use Rattle.chan_walk.specs.declared.place.Place as places;
+
+use crate::evidence::Evidence;
+use crate::finder::Finder;
+use crate::path::{Path, path_at};
+use chan_walk::{Look, Place, Walk};
+use std::alloc::{AllocError, Global};
+
+/// The index of the first place with an address.
+#[tactic(auto, using(crate::proofs::Finding::none_at_all))]
+fn first_at(looks: &[Look], address: u32) -> Option<usize>
+    ensures { IsFirstWhere (λ q. q.address ≡ address) (places_of_looks looks.now) result }
+{
+    for at in 0..looks.len() {
+        if looks[at].place().address == address {
+            return Some(at);
+        }
+    }
+    None
+}
+
+/// The index of the place to which the second path leads.
+fn changed_place(looks: &[Look], finder: &Finder, evidence: &Evidence) -> Option<usize>
+    ensures { (j : Job) → AreLooks j looks.now
+        → IsIndex (TakesByte looks.now (length looks.now)) finder.now.takers
+        → IsSecondPathEnd j evidence.now (places_of_looks looks.now) result }
+{
+    match evidence {
+        Evidence::ChangesCcw { ccw, .. } => first_at(looks, *ccw),
+        Evidence::ChangesArgument { byte, .. } => finder.taker(*byte),
+        _ => None,
+    }
+}
+
+/// The path to what is changed; no places where the cause isn't a change.
+pub(crate) fn second_path(
+    alloc: Global,
+    walk: &Walk,
+    finder: &Finder,
+    evidence: &Evidence,
+) -> Result<Vec<Place>, AllocError>
+    requires cause { (j : Job) × HasFound j walk.now
+        × ((p : places.Place) × IsCause j p evidence.now) }
+    requires takers { IsIndex (TakesByte walk.now.looks.items (length walk.now.looks.items))
+        finder.now.takers }
+    ensures { IfOk result (λ path. (j : Job) → HasFound j walk.now → (p : places.Place)
+        → IsCause j p evidence.now → IsSecondPath j evidence.now path.items) }
+{
+    match changed_place(walk.looks.as_slice(), finder, evidence) {
+        Some(at) => {
+            let Path { places, .. } = path_at(alloc, walk, at)?;
+            Ok(places)
+        }
+        None => Ok(Vec::new(alloc)),
+    }
+}

@@ -1,0 +1,29 @@
+-- Too many places, by their number, and what is told of needs.
+use Rattle.std.proofs.Common.{ℕ, List, map, subst}
+use Rattle.std.proofs.lemmas.Bool.{both_ways}
+use Rattle.ccw_core.specs.declared.areas.Area.{Area}
+use Rattle.chan_needs.specs.Rows.{listed}
+use Rattle.chanv_c.specs.Needs.{HasTooManyOpenly, IsFound, StandFirst, run_row}
+use Rattle.chanv_c.proofs.Refusals.{refusal_number}
+use Rattle.chanv_c.proofs.needs.chanv_needs.Goals as goal
+
+pub returns-in-Err-clause-number : goal.returns-in-Err-clause-number
+returns-in-Err-clause-number c =
+    rw (c.code.ensures, c.alone-in-Err.ensures, c.extent.ensures) (refusal_number (HasTooManyOpenly c.args.job.now) c.args.job.now c.in-Err.refusal c.in-Err.ensures.refusal)
+
+pub returns-then-not-have_room-clause-room : goal.returns-then-not-have_room-clause-room
+returns-then-not-have_room-clause-room c = λ _. (
+  listed c.in-Ok-Needed.needs,
+  record { needs = subst (IsFound c.args.job.now) c.in-Ok-Needed.field-0-is c.in-Ok-Needed.ensures.answer; out_is = c.told.ensures },
+  λ h. both_ways _ c.if-not-have_room.true (c.have_room.ensures.1 h),
+)
+
+pub returns-clause-yes : goal.returns-clause-yes
+returns-clause-yes c = λ _. (
+  listed c.in-Ok-Needed.needs,
+  record { needs = subst (IsFound c.args.job.now) c.in-Ok-Needed.field-0-is c.in-Ok-Needed.ensures.answer; out_is = c.told.ensures },
+  subst (λ (l : List (ℕ × ℕ)). StandFirst (map run_row l) c.args.extents.now c.write_runs.new.rows) c.as_slice.ensures.value c.write_runs.ensures,
+  subst (λ (l : List Area). StandFirst l c.args.fetch.now c.write_areas.new.rows) c.as_slice-2.ensures.value c.write_areas.ensures,
+  subst (λ (l : List Area). StandFirst l c.args.store.now c.write_areas-2.new.rows) c.as_slice-3.ensures.value c.write_areas-2.ensures,
+  subst (λ (l : List Area). StandFirst l c.args.keep.now c.write_areas-3.new.rows) c.as_slice-4.ensures.value c.write_areas-3.ensures,
+)

@@ -1,0 +1,21 @@
+-- What the survey says of the job is said of what C asks about.
+use Rattle.std.proofs.Common.{sym, subst}
+use Rattle.chan_walk.specs.declared.verdict.Verdict.{Verdict}
+use Rattle.chan_walk.specs.Answers.{IsAnswer}
+use Rattle.chan_why.specs.Witness.{IsEvidenceOf, IsPathOf, IsWitness}
+use Rattle.chanv_c.proofs.why.WhyQuestionFound.ask.Goals as goal
+
+pub returns-in-Ok-witness_from-clause-answer : goal.returns-in-Ok-witness_from-clause-answer
+returns-in-Ok-witness_from-clause-answer c =
+    let j = c.args.job.now in
+    let w = c.in-Ok-witness_from.witness in
+    let same = sym c.verdict.ensures in
+    record {
+      job = j;
+      asked = c.requires.asked;
+      answer = subst (λ (v : Verdict). IsAnswer j v) same c.in-Ok.ensures.answer;
+      path = subst (λ (v : Verdict). IsPathOf j v w.path.items) same c.in-Ok-witness_from.ensures.path;
+      shown = subst (λ (v : Verdict). IsWitness j v w.path.items) same c.in-Ok-witness_from.ensures.shown;
+      evidence = subst (λ (v : Verdict). IsEvidenceOf j v w.path.items w.evidence) same c.in-Ok-witness_from.ensures.evidence;
+      second = c.in-Ok-witness_from.ensures.second;
+    }

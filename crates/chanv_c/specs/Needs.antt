@@ -1,0 +1,106 @@
+-- What the needs that C is told promise.
+use Rattle.std.specs.Prelude.{◌≡◌, ℕ, ◌≤◌, List, ◌++◌, drop, length}
+use Rattle.ccw_core.specs.declared.areas.Area.{Area}
+use Rattle.chan_walk.specs.declared.job.Job.{Job}
+use Rattle.chan_walk.specs.declared.reason.Reason.{Reason}
+use Rattle.chan_walk.specs.declared.verdict.Verdict.{Verdict}
+use Rattle.chan_walk.specs.declared.verdict.Verdict.TheVariants.{Yes, No}
+use Rattle.chan_walk.specs.Answers.{IsAnswer}
+use Rattle.chan_walk.specs.Places.{HasMoreThan}
+use Rattle.chan_walk.specs.OpenJob.{open_job}
+use Rattle.chan_needs.specs.Rows.{AreNeeds, Listed, listed}
+use Rattle.chan_walk.specs.OpenJob.{IsOpenJob}
+use Rattle.chan_walk.specs.Verdict.{IsVerdict}
+use Rattle.chanv_c.specs.declared.job.CExtent.{CExtent}
+use Rattle.chanv_c.specs.declared.job.CJob.{CJob}
+use Rattle.chanv_c.specs.declared.needs.CNeeded.{CNeeded}
+use Rattle.chanv_c.specs.declared.needs.Found.{Found}
+use Rattle.chanv_c.specs.declared.needs.Found.TheVariants as found
+use Rattle.chanv_c.specs.declared.verify.CVerdict.{CVerdict}
+use Rattle.chanv_c.specs.Job.{IsAskedJob}
+use Rattle.chanv_c.specs.Why.{verdict_told}
+
+-- ---- the open job
+
+-- this is the open job of the program that C asks about, with the limit that C names
+pub record IsOpenFor (c : CJob) (opened : Job) : Type 0 where
+  pub job : Job
+  pub asked : IsAskedJob c job
+  pub is_open : IsOpenJob job opened
+
+-- more places than the limit are reachable where all is granted
+pub record HasTooManyOpenly (c : CJob) : Type 0 where
+  pub opened : Job
+  pub is_open : IsOpenFor c opened
+  pub many : HasMoreThan opened c.limit
+
+-- the verdict on the open job, with all that an answer promises
+pub record IsJudgedOpenly (c : CJob) (v : Verdict) : Type 0 where
+  pub opened : Job
+  pub is_open : IsOpenFor c opened
+  pub answer : IsAnswer opened v
+  pub verdict : IsVerdict (open_job is_open.job) v
+
+-- some job will do for the program that C asks about, and this is what it needs and keeps
+pub record AreNeedsOf (c : CJob) (n : Listed) : Type 0 where
+  pub judged : IsJudgedOpenly c Yes
+  pub needs : AreNeeds judged.is_open.job n
+
+-- what was found of the program: its needs, or the no of its open job
+abbrev pub IsFound : CJob → Found → Type 0
+IsFound c (found.Needed n) = AreNeedsOf c (listed n)
+IsFound c (found.NoJob a r) = IsJudgedOpenly c (No a r)
+
+-- ---- what is told
+
+-- the row of a run of cylinders
+abbrev pub run_row : ℕ × ℕ → CExtent
+run_row r = record { first = r.0; last = r.1 }
+
+-- only a verdict, or which extent is wrong
+abbrev pub told_alone : CVerdict → CNeeded
+told_alone v = record {
+  verdict = v;
+  extents = 0;
+  fetch = 0;
+  store = 0;
+  keep = 0;
+  storage_len = 0;
+  mask = 0;
+}
+
+-- how many rows each list has, how long storage is, and the mask
+abbrev pub told_needs : Listed → CNeeded
+told_needs n = record {
+  verdict = verdict_told Yes;
+  extents = length n.extents;
+  fetch = length n.fetch;
+  store = length n.store;
+  keep = length n.keep;
+  storage_len = n.storage_len;
+  mask = n.mask;
+}
+
+-- some job will do, and this is told of what the program needs
+pub record AreToldNeeds (c : CJob) (n : Listed) (out : CNeeded) : Type 0 where
+  pub needs : AreNeedsOf c n
+  pub out_is : out ≡ told_needs n
+
+-- no job will do, and this is told: the verdict on the open job
+pub record IsToldNo (c : CJob) (out : CNeeded) : Type 0 where
+  pub address : ℕ
+  pub reason : Reason
+  pub judged : IsJudgedOpenly c (No address reason)
+  pub out_is : out ≡ told_alone (verdict_told (No address reason))
+
+-- the rows stand first; what stood behind them stands there still
+abbrev pub StandFirst : {X : Type 0} → List X → List X → List X → Type 0
+StandFirst rows old new = new ≡ rows ++ drop (length rows) old
+
+-- each list has room for its rows
+pub record HaveRoom (n : Listed) (runs : List CExtent) (fetched stored kept : List Area)
+    : Type 0 where
+  pub extents : length n.extents ≤ length runs
+  pub fetch : length n.fetch ≤ length fetched
+  pub store : length n.store ≤ length stored
+  pub keep : length n.keep ≤ length kept

@@ -1,0 +1,55 @@
+-- What the text of an explanation to C promises.
+use Rattle.std.specs.Prelude.{◌≡◌, ◌<◌, ℕ, List, [], ◌++◌, drop, length, string_bytes}
+use Rattle.chan_walk.specs.declared.job.Job.{Job}
+use Rattle.chan_walk.specs.declared.offence.Offence.{Offence}
+use Rattle.chan_walk.specs.declared.verdict.Verdict.{Verdict}
+use Rattle.chan_walk.specs.declared.verdict.Verdict.TheVariants.{Yes, No}
+use Rattle.chan_why.specs.declared.witness.Witness.{Witness}
+use Rattle.chan_walk.specs.Answers.{IsAnswer}
+use Rattle.chan_why.specs.Witness.{IsEvidenceOf, IsPathOf, IsSecondPathOf, IsStoredOver}
+use Rattle.chan_why.specs.Witness.{IsWitness}
+use Rattle.chan_walk.specs.Job.{storage_of}
+use Rattle.chan_walk.specs.Offence.{AreOffences, first_verdict}
+use Rattle.chan_deck.specs.Explanation.{explanation}
+use Rattle.chanv_c.specs.declared.job.CJob.{CJob}
+use Rattle.chanv_c.specs.declared.text.Told.{Told}
+use Rattle.chanv_c.specs.Job.{IsAskedJob}
+use Rattle.chanv_c.specs.Needs.{IsOpenFor}
+
+-- the verdict on a job, with all that an answer promises, and the text that explains it: of all
+-- offences, and of what shows the first of them
+pub record IsTextOn (job : Job) (t : Told) : Type 0 where
+  pub answer : IsAnswer job t.verdict
+  pub offences : List Offence
+  pub offending : AreOffences job offences
+  pub first : t.verdict ≡ first_verdict offences
+  pub witness : Witness
+  pub path : IsPathOf job t.verdict witness.path.items
+  pub shown : IsWitness job t.verdict witness.path.items
+  pub evidence : IsEvidenceOf job t.verdict witness.path.items witness.evidence
+  pub stored : IsStoredOver job t.verdict witness.path.items witness.stored_over
+  pub second : IsSecondPathOf job witness.evidence witness.second_path.items
+  pub text : string_bytes t.text ≡ explanation (storage_of job) offences [] witness
+
+-- it is on the job that C asks about
+abbrev pub IsText : CJob → Told → Type 0
+IsText c t = (job : Job) × IsAskedJob c job × IsTextOn job t
+
+-- it is on the open job of the program that C asks about
+abbrev pub IsOpenText : CJob → Told → Type 0
+IsOpenText c t = (opened : Job) × IsOpenFor c opened × IsTextOn opened t
+
+-- the number of a verdict in the header
+abbrev pub verdict_code : Verdict → ℕ
+verdict_code Yes = 0
+verdict_code (No a r) = 1
+
+-- the text stands first, so many bytes long; what stood behind it stands there still
+pub record IsToldWhole (t : Told) (count : ℕ) (old new : List ℕ) : Type 0 where
+  pub count_is : count ≡ length (string_bytes t.text)
+  pub stands : new ≡ string_bytes t.text ++ drop (length (string_bytes t.text)) old
+
+-- the text has so many bytes, more than there is room for
+abbrev pub IsTooLong : Told → ℕ → List ℕ → Type 0
+IsTooLong t count buffer =
+    (count ≡ length (string_bytes t.text)) × (length buffer < count)

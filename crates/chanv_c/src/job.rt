@@ -1,0 +1,175 @@
+//! What C asks, and how it becomes a job.
+
+ghost use Rattle.std.specs.Prelude.{◌≡◌, ◌≢◌, map, IfOk, IfErr, IfSome, OnOk, MatchOption};
+ghost use Rattle.ccw_core.specs.Held.{bytes_held};
+ghost use Rattle.chanv_c.specs.Answers.{IsRefusal};
+ghost use Rattle.chanv_c.specs.Job.{IsAskedJob, IsReady, device_number, extents_asked, pair};
+ghost use Rattle.chanv_c.specs.Faults.{HasNoFault, HasNoneBelow, IsFirstFault};
+
+use crate::refusal::{JobFault, Refusal};
+use ccw_core::{Area, Storage};
+use chan_walk::{Job, Limit};
+use ckd_core::{Device, ExtentError, Extents, FileMask};
+use std::alloc::{AllocError, Global};
+
+/// `struct chanv_extent`.
+#[repr(C)]
+#[derive(Clone, Copy)]
+pub struct CExtent {
+    pub first: u16,
+    pub last: u16,
+}
+
+/// `struct chanv_job`. A slice is a pointer and then a length; with a length of 0 the pointer may
+/// be null, and isn't looked at.
+#[repr(C)]
+#[derive(Clone, Copy)]
+pub struct CJob<'a> {
+    pub storage: &'a [u8],
+    pub extents: &'a [CExtent],
+    pub fetch: &'a [Area],
+    pub store: &'a [Area],
+    pub start: u32,
+    pub limit: u32,
+    pub device: u16,
+    pub mask: u8,
+    /// Room for fields of a later version, in which 0 means today's behaviour.
+    pub reserved: [u64; 4],
+}
+
+/// The list, and in the place of one without elements an empty one of our own: its pointer may be
+/// null, which no reference is in the proofs.
+pub(crate) fn or_empty<'a, T>(list: &'a [T]) -> &'a [T]
+    ensures { result.now ≡ list.now }
+{
+    if list.is_empty() { &[] } else { list }
+}
+
+/// The storage, the device and the mask that C names. Storage is borrowed.
+#[derive(Clone, Copy)]
+struct Parts<'a> {
+    storage: Storage<'a>,
+    device: Device,
+    mask: FileMask,
+}
+
+/// The device of that number.
+pub(crate) fn device_of(number: u16) -> Option<Device>
+    ensures { MatchOption result
+        ((number ≢ 2311) × (number ≢ 2314))
+        (λ device. device_number device ≡ number) }
+{
+    match number {
+        2311 => Some(Device::D2311),
+        2314 => Some(Device::D2314),
+        _ => None,
+    }
+}
+
+/// The storage, the device and the mask, or what is wrong with the first of them that is.
+fn parts_of<'a>(asked: &CJob<'a>) -> Result<Parts<'a>, JobFault>
+    ensures storage { IfOk result (λ parts. bytes_held parts.storage ≡ asked.now.storage.now) }
+    ensures device { IfOk result (λ parts. device_number parts.device ≡ asked.now.device) }
+    ensures mask { IfOk result (λ parts. parts.mask ≡ asked.now.mask) }
+    ensures right { OnOk result (HasNoneBelow asked.now 7) }
+    ensures fault { IfErr result (IsFirstFault asked.now) }
+{
+    let Ok(storage) = Storage::new(or_empty(asked.storage)) else {
+        return Err(JobFault::StorageTooLarge);
+    };
+    let Some(device) = device_of(asked.device) else {
+        return Err(JobFault::NotADevice);
+    };
+    let Some(mask) = FileMask::new(asked.mask) else {
+        return Err(JobFault::NotAMask);
+    };
+    Ok(Parts {
+        storage,
+        device,
+        mask,
+    })
+}
+
+/// The extents as pairs.
+pub(crate) fn pairs_of(alloc: Global, extents: &[CExtent]) -> Result<Vec<(u16, u16)>, AllocError>
+    ensures { IfOk result (λ pairs. pairs.items ≡ map pair extents.now) }
+{
+    let mut pairs = Vec::new(alloc);
+    for extent in or_empty(extents) {
+        pairs.push((extent.first, extent.last))?;
+    }
+    Ok(pairs)
+}
+
+/// The extents of the file, or what is wrong with them.
+fn extents_of(alloc: Global, asked: &CJob<'_>) -> Result<Extents, Refusal>
+    requires { HasNoneBelow asked.now 7 }
+    ensures extents { IfOk result (λ extents. extents ≡ extents_asked asked.now) }
+    ensures right { OnOk result (HasNoneBelow asked.now 10) }
+    ensures refusal { IfErr result (IsRefusal ⊥ asked.now) }
+{
+    let Ok(pairs) = pairs_of(alloc, asked.extents) else {
+        return Err(Refusal::Memory);
+    };
+    match Extents::new(alloc, &pairs) {
+        Ok(extents) => Ok(extents),
+        Err(ExtentError::Empty) => Err(Refusal::Wrong(JobFault::NoExtent)),
+        Err(ExtentError::Backwards(at)) => Err(Refusal::Wrong(JobFault::ExtentBackwards(at))),
+        Err(ExtentError::PastDevice(at)) => Err(Refusal::Wrong(JobFault::ExtentPastDevice(at))),
+        Err(ExtentError::Memory) => Err(Refusal::Memory),
+    }
+}
+
+/// All that a job needs, as C names it.
+#[derive(Drop)]
+pub(crate) struct Ready<'a> {
+    parts: Parts<'a>,
+    extents: Extents,
+    limit: Limit,
+}
+
+/// All that the job needs, or the first fault of what C asks.
+pub(crate) fn make_ready<'a>(alloc: Global, asked: &CJob<'a>) -> Result<Ready<'a>, Refusal>
+    ensures job { IfOk result (IsReady asked.now) }
+    ensures right { OnOk result (HasNoFault asked.now) }
+    ensures refusal { IfErr result (IsRefusal ⊥ asked.now) }
+{
+    let parts = match parts_of(asked) {
+        Ok(parts) => parts,
+        Err(fault) => return Err(Refusal::Wrong(fault)),
+    };
+    let extents = match extents_of(alloc, asked) {
+        Ok(extents) => extents,
+        Err(refusal) => return Err(refusal),
+    };
+    let Some(limit) = Limit::new(asked.limit) else {
+        return Err(Refusal::Wrong(JobFault::NotALimit));
+    };
+    if asked.reserved != [0; 4] {
+        return Err(Refusal::Wrong(JobFault::ReservedNotZero));
+    }
+    Ok(Ready {
+        parts,
+        extents,
+        limit,
+    })
+}
+
+impl<'a> Ready<'a> {
+    /// The job that C asks about. Nothing is copied.
+    pub(crate) fn job<'s>(&'s self, asked: &'s CJob<'s>) -> Job<'s>
+        requires { IsReady asked.now self.now }
+        ensures { IsAskedJob asked.now result }
+    {
+        Job {
+            storage: self.parts.storage,
+            start: asked.start,
+            device: self.parts.device,
+            mask: self.parts.mask,
+            extents: &self.extents,
+            fetch: or_empty(asked.fetch),
+            store: or_empty(asked.store),
+            limit: self.limit,
+        }
+    }
+}

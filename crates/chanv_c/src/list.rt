@@ -1,0 +1,63 @@
+//! Which CCWs a channel program can come to.
+
+ghost use Rattle.std.specs.Prelude.{◌≡◌, ◌≢◌, ◌<◌, ◌≤◌, length};
+ghost use Rattle.chanv_c.specs.Answers.{AreListed, HasPlaces, HasTooMany, IsAnswerCode};
+
+use crate::job::CJob;
+use crate::question::{Question, answer};
+use crate::refusal::{Refusal, no_answer};
+use crate::rows::{CPlace, write_rows};
+use chan_walk::{Explored, Job, explore};
+use std::alloc::Global;
+
+/// Lists the places that the program can come to, each once, in order: 0 if `rows` took them all,
+/// 11 if they are more than `rows` has room for; then `count` is their number. Otherwise it says
+/// why there is no answer, like `chanv_verify`, and `count` is the index of the extent that is
+/// wrong, or 0. Only for 0 is anything written to `rows`.
+#[unsafe(no_mangle)]
+pub extern "C" fn chanv_list(
+    alloc: Global,
+    job: &CJob<'_>,
+    rows: &mut [CPlace],
+    count: &mut usize,
+) -> u32
+    ensures listed { result ≡ 0 → AreListed job.now count.new rows.old rows.new }
+    ensures room { result ≡ 11 → HasPlaces job.now count.new × (length rows.old < count.new) }
+    ensures kept { result ≢ 0 → rows.new ≡ rows.old }
+    ensures number { IsAnswerCode (HasTooMany job.now) job.now result count.new }
+    ensures no_verdict { result ≢ 1 }
+    ensures no_count { 2 ≤ result → result ≤ 3 → count.new ≡ 0 }
+{
+    match answer(alloc, &WhichPlaces, job) {
+        Ok(found) => {
+            *count = found.len();
+            if rows.len() < found.len() {
+                return 11;
+            }
+            write_rows(&found, rows);
+            0
+        }
+        Err(refusal) => {
+            *count = refusal.extent();
+            refusal.code()
+        }
+    }
+}
+
+/// Which places can the program come to?
+struct WhichPlaces;
+
+impl Question<Explored> for WhichPlaces {
+    ghost use Rattle.chanv_c.specs.Answers.{AreFound, HasTooMany};
+
+    ghost holds = { λ _. AreFound };
+
+    ghost crowded = { HasTooMany };
+
+    fn ask(&self, alloc: Global, asked: &CJob<'_>, job: &Job) -> Result<Explored, Refusal> {
+        match explore(alloc, job) {
+            Ok(found) => Ok(found),
+            Err(error) => Err(no_answer(asked, job, error)),
+        }
+    }
+}

@@ -1,0 +1,210 @@
+//! What a channel program needs of each job that it runs under, and what it keeps.
+
+ghost use Rattle.std.specs.Prelude.{◌≡◌, ◌≢◌, ◌<◌, ◌≤◌, ◌↔◌, map, IfOk, IfErr, IsTrue, OnOk};
+ghost use Rattle.chan_walk.specs.Places.{HasMoreThan};
+ghost use Rattle.chan_walk.specs.OpenJob.{open_job};
+ghost use Rattle.chan_walk.specs.OpenJob.{IsOpenJob};
+ghost use Rattle.chan_needs.specs.Rows.{Listed, listed};
+ghost use Rattle.chan_walk.specs.Verdict.{IsVerdict};
+ghost use Rattle.chan_walk.specs.declared.error.WalkError.TheVariants as walk;
+ghost use Rattle.chan_walk.specs.declared.verdict.Verdict as declared;
+ghost use Rattle.chanv_c.specs.Answers.{IsAnswerCode, IsRefusal};
+ghost use Rattle.chanv_c.specs.Job.{IsAskedJob};
+ghost use Rattle.chanv_c.specs.Faults.{HasNoFault};
+ghost use Rattle.chanv_c.specs.Needs.{AreToldNeeds, HasTooManyOpenly, HaveRoom, IsFound};
+ghost use Rattle.chanv_c.specs.Needs.{IsOpenFor, IsToldNo, StandFirst, run_row};
+ghost use Rattle.chanv_c.specs.Needs.{told_alone, told_needs};
+
+use crate::job::{CExtent, CJob};
+use crate::question::{Question, answer};
+use crate::refusal::Refusal;
+use crate::rows::{write_areas, write_runs};
+use crate::verify::CVerdict;
+use ccw_core::Area;
+use chan_needs::{Needs, needs_from};
+use chan_walk::{Job, OpenJob, Reason, Verdict, WalkError, survey};
+use std::alloc::Global;
+
+/// `struct chanv_needed`.
+#[repr(C)]
+#[derive(Clone, Copy)]
+pub struct CNeeded {
+    pub verdict: CVerdict,
+    pub extents: usize,
+    pub fetch: usize,
+    pub store: usize,
+    pub keep: usize,
+    pub storage_len: u32,
+    pub mask: u32,
+}
+
+/// What is found of a program.
+#[derive(Drop)]
+pub(crate) enum Found {
+    /// What it needs and keeps.
+    Needed(Needs),
+    /// No job will do, since the open job has this no.
+    NoJob { address: u32, reason: Reason },
+}
+
+/// The needs of the job's program in each job that it runs under, and the bytes that it keeps: 0 if
+/// some job will do and each list took its rows; 1 if none will, with the verdict on the open job;
+/// 11 if a list has more rows than room, with the same as for 0 except the rows. Otherwise it says
+/// why there is no answer, like `chanv_verify`; too many places are those that are reachable under
+/// the open job. All else is written as 0. Only for 0 is anything written to the lists. The job's
+/// own grants don't matter.
+#[unsafe(no_mangle)]
+pub extern "C" fn chanv_needs(
+    alloc: Global,
+    job: &CJob<'_>,
+    out: &mut CNeeded,
+    extents: &mut [CExtent],
+    fetch: &mut [Area],
+    store: &mut [Area],
+    keep: &mut [Area],
+) -> u32
+    ensures yes { result ≡ 0 → (n : Listed) × AreToldNeeds job.now n out.new
+        × StandFirst (map run_row n.extents) extents.old extents.new
+        × StandFirst n.fetch fetch.old fetch.new
+        × StandFirst n.store store.old store.new
+        × StandFirst n.keep keep.old keep.new }
+    ensures no { result ≡ 1 → IsToldNo job.now out.new }
+    ensures room { result ≡ 11 → (n : Listed) × AreToldNeeds job.now n out.new
+        × (HaveRoom n extents.old fetch.old store.old keep.old → ⊥) }
+    ensures left { result ≢ 0 → (extents.new ≡ extents.old) × (fetch.new ≡ fetch.old)
+        × (store.new ≡ store.old) × (keep.new ≡ keep.old) }
+    ensures number { IsAnswerCode (HasTooManyOpenly job.now) job.now result out.new.verdict.extent }
+    ensures nothing { 2 ≤ result → result ≢ 11 → out.new
+        ≡ told_alone (record { extent = out.new.verdict.extent; address = 0; reason = 0 }) }
+    ensures no_extent { result < 4 → out.new.verdict.extent ≡ 0 }
+{
+    let needs = match answer(alloc, &WhatIsNeeded, job) {
+        Ok(Found::Needed(needs)) => needs,
+        Ok(Found::NoJob { address, reason }) => {
+            *out = alone(0, address, u32::from(reason.number()));
+            return 1;
+        }
+        Err(refusal) => {
+            *out = alone(refusal.extent(), 0, 0);
+            return refusal.code();
+        }
+    };
+    *out = told(&needs);
+    if !have_room(&needs, extents, fetch, store, keep) {
+        return 11;
+    }
+    write_runs(needs.extents.as_slice(), extents);
+    write_areas(needs.fetch.as_slice(), fetch);
+    write_areas(needs.store.as_slice(), store);
+    write_areas(needs.keep.as_slice(), keep);
+    0
+}
+
+/// What is told where there are no needs.
+fn alone(extent: usize, address: u32, reason: u32) -> CNeeded
+    ensures { result ≡ told_alone (record { extent = extent; address = address; reason = reason }) }
+{
+    CNeeded {
+        verdict: CVerdict {
+            extent,
+            address,
+            reason,
+        },
+        extents: 0,
+        fetch: 0,
+        store: 0,
+        keep: 0,
+        storage_len: 0,
+        mask: 0,
+    }
+}
+
+/// What is told of needs, but for the rows.
+fn told(needs: &Needs) -> CNeeded
+    ensures { result ≡ told_needs (listed needs.now) }
+{
+    CNeeded {
+        verdict: CVerdict {
+            extent: 0,
+            address: 0,
+            reason: 0,
+        },
+        extents: needs.extents.len(),
+        fetch: needs.fetch.len(),
+        store: needs.store.len(),
+        keep: needs.keep.len(),
+        storage_len: needs.storage_len,
+        mask: u32::from(needs.mask.byte()),
+    }
+}
+
+/// Whether each list has room for its rows.
+fn have_room(
+    needs: &Needs,
+    extents: &[CExtent],
+    fetch: &[Area],
+    store: &[Area],
+    keep: &[Area],
+) -> bool
+    ensures { IsTrue result
+        ↔ HaveRoom (listed needs.now) extents.now fetch.now store.now keep.now }
+{
+    needs.extents.len() <= extents.len()
+        && needs.fetch.len() <= fetch.len()
+        && needs.store.len() <= store.len()
+        && needs.keep.len() <= keep.len()
+}
+
+/// What does the program need?
+struct WhatIsNeeded;
+
+impl Question<Found> for WhatIsNeeded {
+    ghost use Rattle.chanv_c.specs.Needs.{HasTooManyOpenly, IsFound};
+
+    ghost holds = { λ _. IsFound };
+
+    ghost crowded = { HasTooManyOpenly };
+
+    fn ask(&self, alloc: Global, asked: &CJob<'_>, job: &Job) -> Result<Found, Refusal> {
+        match OpenJob::of(alloc, job) {
+            Ok(open) => found_on(alloc, asked, job, &open.job()),
+            Err(_) => Err(Refusal::Memory),
+        }
+    }
+}
+
+/// What is found of a program by its open job.
+fn found_on(alloc: Global, asked: &CJob<'_>, job: &Job, open: &Job) -> Result<Found, Refusal>
+    requires asked { IsAskedJob asked.now job.now }
+    requires right { HasNoFault asked.now }
+    requires open { IsOpenJob job.now open.now }
+    requires verdict { (v : declared.Verdict) → IsVerdict open.now v
+        ↔ IsVerdict (open_job job.now) v }
+    ensures found { IfOk result (IsFound asked.now) }
+    ensures refusal { IfErr result (IsRefusal (HasTooManyOpenly asked.now) asked.now) }
+{
+    let survey = match survey(alloc, open) {
+        Ok(survey) => survey,
+        Err(error) => return Err(no_needs(asked, open, error)),
+    };
+    match survey.verdict() {
+        Verdict::Yes => match needs_from(alloc, open, &survey) {
+            Ok(needs) => Ok(Found::Needed(needs)),
+            Err(_) => Err(Refusal::Memory),
+        },
+        Verdict::No { address, reason } => Ok(Found::NoJob { address, reason }),
+    }
+}
+
+/// Why a call over the open job of the program that C asks about gave no answer.
+pub(crate) fn no_needs(_asked: &CJob<'_>, _open: &Job, error: WalkError) -> Refusal
+    requires open { IsOpenFor _asked.now _open.now }
+    requires right { HasNoFault _asked.now }
+    requires many { error ≡ walk.TooManyPlaces → HasMoreThan _open.now _open.now.limit }
+    ensures { IsRefusal (HasTooManyOpenly _asked.now) _asked.now result }
+{
+    match error {
+        WalkError::TooManyPlaces => Refusal::TooManyPlaces,
+        WalkError::Memory => Refusal::Memory,
+    }
+}

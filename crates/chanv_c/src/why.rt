@@ -1,0 +1,158 @@
+//! Why a channel program may not run: the path to a place that offends, and the cause's values.
+
+ghost use Rattle.std.specs.Prelude.{◌≡◌, ◌≢◌, ◌<◌};
+ghost use Rattle.chan_walk.specs.declared.verdict.Verdict.TheVariants.{Yes};
+ghost use Rattle.chanv_c.specs.Answers.{HasTooMany, IsJudged, IsAnswerCode};
+ghost use Rattle.chanv_c.specs.Why as specs;
+ghost use Rattle.chanv_c.specs.Why.{AreInFront, IsRoomTooSmall, IsTold};
+ghost use Rattle.chanv_c.specs.Why.{told_nothing, verdict_told};
+ghost use Rattle.chanv_c.specs.declared.why.Found as declared;
+
+use crate::job::CJob;
+use crate::evidence::{CEvidence, NO_VALUES, cause_told};
+use crate::question::{Question, answer};
+use crate::refusal::{Refusal, no_answer};
+use crate::rows::{CPlace, write_path};
+use crate::verify::CVerdict;
+use chan_walk::{Job, Verdict, survey};
+use chan_why::{Witness, witness_from};
+use std::alloc::Global;
+
+/// `struct chanv_explanation`.
+#[repr(C)]
+#[derive(Clone, Copy)]
+pub struct CExplanation {
+    pub verdict: CVerdict,
+    pub path: usize,
+    pub second_path: usize,
+    pub evidence: CEvidence,
+}
+
+/// The verdict on a job, and what shows it.
+#[derive(Drop)]
+pub(crate) struct Found {
+    verdict: Verdict,
+    witness: Witness,
+}
+
+/// Why the program may not run: 0 if it may; 1 if it may not, with the verdict, the values of the
+/// cause, the path to a place that offends and, if something is changed, the path to that; 11 if
+/// one of the paths has more places than rows, with the same except the rows. Otherwise it says why
+/// there is no answer, like `chanv_verify`. All else is written as 0. Only for 1 is anything
+/// written to the rows.
+#[unsafe(no_mangle)]
+pub extern "C" fn chanv_why(
+    alloc: Global,
+    job: &CJob<'_>,
+    path: &mut [CPlace],
+    second_path: &mut [CPlace],
+    out: &mut CExplanation,
+) -> u32
+    ensures yes { result ≡ 0 → IsJudged job.now Yes }
+    ensures no { result ≡ 1 → (x : declared.Found) × IsTold job.now x out.new
+        × AreInFront x.witness.path.items path.old path.new
+        × AreInFront x.witness.second_path.items second_path.old second_path.new }
+    ensures room { result ≡ 11 → (x : declared.Found) × IsTold job.now x out.new
+        × IsRoomTooSmall x path.old second_path.old }
+    ensures kept { result ≢ 1 → (path.new ≡ path.old) × (second_path.new ≡ second_path.old) }
+    ensures number { IsAnswerCode (HasTooMany job.now) job.now result out.new.verdict.extent }
+    ensures nothing { result ≢ 1 → result ≢ 11 → out.new ≡ told_nothing out.new.verdict.extent }
+    ensures no_extent { result < 4 → out.new.verdict.extent ≡ 0 }
+{
+    let found = match answer(alloc, &Why, job) {
+        Ok(found) => found,
+        Err(refusal) => {
+            *out = nothing(refusal.extent());
+            return refusal.code();
+        }
+    };
+    match found.verdict {
+        Verdict::Yes => {
+            *out = nothing(0);
+            return 0;
+        }
+        Verdict::No { .. } => *out = told(&found),
+    }
+    let (first, second) = (
+        found.witness.path.as_slice(),
+        found.witness.second_path.as_slice(),
+    );
+    if path.len() < first.len() || second_path.len() < second.len() {
+        return 11;
+    }
+    write_path(first, path);
+    write_path(second, second_path);
+    1
+}
+
+/// What is told where there is no explanation.
+fn nothing(extent: usize) -> CExplanation
+    ensures { result ≡ told_nothing extent }
+{
+    CExplanation {
+        verdict: CVerdict {
+            extent,
+            address: 0,
+            reason: 0,
+        },
+        path: 0,
+        second_path: 0,
+        evidence: NO_VALUES,
+    }
+}
+
+/// What is told of an explanation, but for the rows.
+fn told(found: &Found) -> CExplanation
+    ensures { result ≡ specs.told found.now }
+{
+    CExplanation {
+        verdict: verdict_of(found.verdict),
+        path: found.witness.path.len(),
+        second_path: found.witness.second_path.len(),
+        evidence: cause_told(found.witness.evidence),
+    }
+}
+
+/// What is told of a verdict.
+fn verdict_of(verdict: Verdict) -> CVerdict
+    ensures { result ≡ verdict_told verdict }
+{
+    match verdict {
+        Verdict::Yes => CVerdict {
+            extent: 0,
+            address: 0,
+            reason: 0,
+        },
+        Verdict::No { address, reason } => CVerdict {
+            extent: 0,
+            address,
+            reason: u32::from(reason.number()),
+        },
+    }
+}
+
+/// Why may the program not run?
+struct Why;
+
+impl Question<Found> for Why {
+    ghost use Rattle.chanv_c.specs.Answers.{HasTooMany};
+    ghost use Rattle.chanv_c.specs.Why.{IsExplanationFor};
+
+    ghost holds = { λ _. IsExplanationFor };
+
+    ghost crowded = { HasTooMany };
+
+    fn ask(&self, alloc: Global, asked: &CJob<'_>, job: &Job) -> Result<Found, Refusal> {
+        let survey = match survey(alloc, job) {
+            Ok(survey) => survey,
+            Err(error) => return Err(no_answer(asked, job, error)),
+        };
+        match witness_from(alloc, job, &survey) {
+            Ok(witness) => Ok(Found {
+                verdict: survey.verdict(),
+                witness,
+            }),
+            Err(_) => Err(Refusal::Memory),
+        }
+    }
+}

@@ -1,0 +1,14 @@
+-- A table that answers for a cylinder at once.
+use Rattle.std.specs.Prelude.{◌≡◌, ℕ, ◌<◌, Bool, false, List, slice_index_or}
+use Rattle.ckd_core.specs.Extents.{has_cylinder, AreExtents}
+
+-- the table says of each cylinder of a device whether it lies in some extent
+abbrev pub IsHeldTable : List (ℕ × ℕ) → List Bool → Type 0
+IsHeldTable extents held =
+    (cylinder : ℕ) → cylinder < 203 → slice_index_or held cylinder false
+    ≡ has_cylinder extents cylinder
+
+-- the pairs are extents, and the table is theirs
+pub record HoldsRight (extents : List (ℕ × ℕ)) (held : List Bool) : Type 0 where
+  pub extents_right : AreExtents extents
+  pub table_right : IsHeldTable extents held
