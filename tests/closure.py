@@ -26,7 +26,12 @@ BLOCK = re.compile(r"(<!-- tests/closure.py writes (\w+) -->\n).*?(<!-- up to he
 
 PROMISED = ["IsSafe", "IsSteady"]
 LAWS = ["StaysWell", "LeastJob", "SupervisedStaysWell"]
-QUOTED = ["YesIsSafe", "IsSafe", "IsSteady", "AreSafe", "AreSteady", "IsSafeMoment", "IsSafeEvent"]
+# the words of the contract, and what leads from them down to a run and its events, by file
+QUOTED = {
+    "chan_walk/Answers": ["IsSound", "IsComplete", "IsSoundAmong", "HasWitness"],
+    "chan_walk/Headline": "IsSafe IsSteady AreSafe AreSteady IsSafeMoment IsSafeEvent".split(),
+    "chan_walk/Runs": ["IsRun"],
+}
 
 DEFINED = re.compile(r"(?:(?:abbrev|unfoldable|pub|record|data|syntax|infix) )+\(?([^\s:(){}]+)")
 WORD = re.compile(r"[\w'◌]+")
@@ -117,7 +122,6 @@ def statements():
     verify = re.findall(r"\b((?:Is|Has)\w+) job\.now", contract())
     return {
         "a yes": PROMISED,
-        "with the verdict": ["YesIsSafe"],
         "`verify`": verify,
         "with the laws": verify + LAWS,
     }
@@ -128,7 +132,7 @@ def quoted_contract(_sources):
 
 
 def quoted_definitions(sources):
-    some = [sources.named(name) for name in QUOTED]
+    some = [sources.at[file, name] for file, names in QUOTED.items() for name in names]
     texts = ["\n".join([*one.comments, *one.lines]) for one in some]
     return "```agda\n" + "\n\n".join(texts) + "\n```\n"
 
