@@ -5,9 +5,9 @@ _chanv() {
     local of_deck='--device --mask --start --limit --extent --fetch --store --least --at
         --storage'
     local of_find='--device --limit --at --storage'
-    local reasons='misaligned outside-storage transfer-not-allowed invalid-code bad-format zero-count
-        data-outside not-in-table inhibited store-not-lent fetch-not-lent short-seek seek-outside
-        changes-ccw changes-argument weakens-mask'
+    local reasons='misaligned outside-storage transfer-not-allowed invalid-code bad-format
+        zero-count data-outside not-in-table inhibited store-not-lent fetch-not-lent short-seek
+        seek-outside changes-ccw changes-argument weakens-mask'
     local causes='ended header form mask extent-backwards extent-past-device size put-address
         put-zero after limit'
     local failures='cannot-open read-failed deck-too-long image-too-long image-past-storage
@@ -25,7 +25,10 @@ _chanv() {
             case $before in
             --device) words='2311 2314' ;;
             --*) return ;;
-            *) [[ ${COMP_WORDS[1]} == find ]] && words="$of_find --help" || words="$of_deck --help" ;;
+            *)
+                words="$of_deck --help"
+                [[ ${COMP_WORDS[1]} != find ]] || words="$of_find --help"
+                ;;
             esac
             ;;
         esac

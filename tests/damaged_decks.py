@@ -54,7 +54,7 @@ def found_in(piece):
 
 def expected_at(line, piece, cause):
     if cause == "ended" and piece:
-        return "a line feed behind this line"
+        return "a line feed at the end of this line"
     forms = MAY_COME[line - 1]
     begun = [form for form in forms if piece.split(" ")[0] == form]
     return PATTERNS[(begun or forms)[0]] if begun or len(forms) == 1 else ", ".join(forms)

@@ -92,7 +92,9 @@ def check_notes(checks, program, deck):
         each = [f"note: {line[:-1]} is used by no reachable CCW\n" for line in apart[:100]]
         wanted = Ran(0, "yes\n", "".join([one, *each, more]))
         checks.expect(f"{count} areas lent in vain", wanted, run(program, "why", given=deck))
-    interrupts = " interrupts: the processor may change any byte but those that chanv needs keeps\n"
+    interrupts = (
+        " interrupts: the processor may change any byte that chanv needs doesn't list as keep\n"
+    )
     for count in (100, 101):
         chain = chain_of(count, last="0300000008000001")
         deck.write_text(chain.replace("40000001", "48000001"))

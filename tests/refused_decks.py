@@ -149,7 +149,7 @@ NO_DECKS = [
         3,
         "mask",
         "mask 20",
-        "a mask with no bits on but C0 and 18",
+        "a mask with only bits of C0 and 18 on",
     ),
     ("chanv deck 1\ndevice 2315\n", 2, "form", "device 2315", "device 2311, device 2314"),
 ]
@@ -219,11 +219,11 @@ HINTS = [
     # a line that has a form that may stand, or no line
     (0, "", "ended", "the end of the text", "chanv deck 1, chanv deck 2"),
     (8, "", "ended", "the end of the text", "store, storage"),
-    (11, "en", "ended", "en", "a line feed behind this line"),
-    (11, "end", "ended", "end", "a line feed behind this line"),
-    (12, "\n", "after", "an empty line", "nothing behind the line end"),
-    (12, "x", "after", "x", "nothing behind the line end"),
-    (2, "mask 20\n", "mask", "mask 20", "a mask with no bits on but C0 and 18"),
+    (11, "en", "ended", "en", "a line feed at the end of this line"),
+    (11, "end", "ended", "end", "a line feed at the end of this line"),
+    (12, "\n", "after", "an empty line", "nothing after the line end"),
+    (12, "x", "after", "x", "nothing after the line end"),
+    (2, "mask 20\n", "mask", "mask 20", "a mask with only bits of C0 and 18 on"),
     (4, "limit 00000\n", "limit", "limit 00000", "a limit from 00001 to 65536"),
     (
         5,
@@ -362,7 +362,7 @@ OLDER_HINTS = [
         "limit 04096\n",
         "form",
         "limit 04096",
-        "extent NNN NNN, where N is 0-9; limit stands in chanv deck 2 alone",
+        "extent NNN NNN, where N is 0-9; only chanv deck 2 has limit",
     ),
     (
         4,

@@ -50,67 +50,71 @@ const USAGE: &str = "chanv verify [FILE]...
 
 /// The end of the help of `verify`.
 const OF_VERIFY: &str = "The output:
-  Standard input alone   a line `yes`, or a line `no ADDRESS REASON`
-  Each FILE              the same line after `FILE: `
-  Not a deck             a line on standard error, such as `chanv: FILE: deck line 9: form`
+  yes                the channel program may run
+  no ADDRESS REASON  it may not: the CCW at ADDRESS is the first that offends
+With FILEs, each line begins with `FILE: `. A text that isn't a deck gets a line
+on standard error, such as `chanv: FILE: deck line 9: form`.
 
 The exit status is the greatest of these:
   0  yes: the channel program may run
-  1  no: ADDRESS is that of the first CCW that offends
+  1  no: the CCW at ADDRESS is the first that offends
   2  not a deck, longer than 67,108,864 bytes, or too many places are reachable
   3  a FILE can't be opened, reading or writing failed, or memory ran out
   4  the command line is wrong
 
-docs/DECK.md has the grammar of decks, docs/VERDICT.md the reasons.";
+docs/DECK.md describes decks, docs/VERDICT.md the reasons.";
 
 /// The end of the help of a command for one deck.
-const OF_ONE: &str = "The exit status is that of `chanv verify`; see its help.";
+const OF_ONE: &str = "The exit status is the same as for `chanv verify`; see its help.";
 
 /// The end of the help of `needs`.
 const OF_NEEDS: &str = "The output, in lines of a deck except keep:
   mask XX               the strictest file mask that serves
-  extent FFF LLL        cylinders that seeks go to; without such a line any will do
+  extent FFF LLL        cylinders that seeks go to; if none, any extent will do
   fetch SSSSSS LLLLLL   an area that has to be lent for fetching
   store SSSSSS LLLLLL   an area that has to be lent for storing
-  keep SSSSSS LLLLLL    an area in which nothing else may store while the program runs
+  keep SSSSSS LLLLLL    an area that nothing else may change during the run
 
-If no job will do, the output explains the no under the job that grants everything, and the exit
-status is 1. Otherwise the exit status is that of `chanv verify`; see its help.
+If no job will do, the output explains the no under the job that grants
+everything, and the exit status is 1. Otherwise the status is the same as for
+`chanv verify`; see its help.
 
-Mask, extents and areas of the deck don't matter. Its limit counts the places that are reachable
-under the job that grants everything: there may be too many if `chanv verify` says no, and never
-if it says yes.";
+The deck's mask, extents and areas don't matter. Its limit counts places under
+the job that grants everything, so there may be too many for a deck that
+`chanv verify` refuses, but never for one that it accepts.";
 
 /// The end of the help of `find`.
 const OF_FIND: &str = "The output has a line for each program, in order of its start:
-  SSSSSS yes                some job will do: chanv deck --start SSSSSS --least makes a deck
+  SSSSSS yes                some job will do; chanv deck --least makes a deck
   SSSSSS no ADDRESS REASON  no job will do
   SSSSSS too many places    more places are reachable than --limit
 
-A program starts where two clear CCWs follow each other and no other such CCW leads there.
-docs/FIND.md says what that means, and what is missed.
+A program starts at a CCW without a fault that leads to a second one, unless
+another such CCW leads there. docs/FIND.md has the definition, and its misses.
 
-The exit status is 0, also if there is no program, or that of `chanv deck`; see its help.";
+The exit status is 0, even if there is no program, or the same as for
+`chanv deck`; see its help.";
 
 /// The end of the help of `deck`.
-const OF_DECK: &str =
-    "Addresses, lengths, sizes and the mask are hexadecimal, with or without 0x before them,
-cylinders and the limit decimal. An area is start and length, such as 900+10, or first and
-last byte, such as 900-90F. You may give --extent and options with <AREA> several times.
+const OF_DECK: &str = "Addresses, lengths, sizes and the mask are hexadecimal, with or without 0x;
+cylinders and the limit are decimal. An area is start and length (900+10), or
+first and last byte (900-90F). You may repeat --extent and options with AREA.
 
-Storage ends with the image, filled with zeros to a multiple of 8. With --storage it has that
-size, filled with zeros.
+Storage ends with the image, filled with zeros to a multiple of 8. With
+--storage it has that size, filled with zeros.
 
 The deck is written to standard output, so you can judge it at once:
   chanv deck --start 3A98 --extent 0-202 core.bin | chanv why
 
-With --least the deck grants exactly the needs of its program, and is judged yes. If no job
-will do, standard error says so, and explains the verdict on the job that grants everything.
+With --least the deck grants exactly what its program needs, and is judged yes.
+Leave out mask, extents and areas then. If no job will do, standard error
+explains the verdict on the job that grants everything.
 
 The exit status:
   0  the deck was written
   1  with --least: no job will do
-  2  the image is longer than storage may be, or with --least too many places are reachable
+  2  the image is longer than storage may be, or with --least too many places
+     are reachable
   3  FILE can't be opened, reading or writing failed, or memory ran out
   4  the command line is wrong, or the image ends past --storage";
 
@@ -119,60 +123,50 @@ const DECKS: Word = (
     "FILE",
     Given::Repeated,
     "",
-    "a deck; - is standard input, and so is no FILE at all",
+    "a deck; standard input if FILE is - or left out",
 );
 
-const ALL: Word = (
-    "all",
-    Given::Flag,
-    "",
-    "gives the cause of each line `also` too",
-);
+const ALL: Word = ("all", Given::Flag, "", "adds the cause to each line `also`");
 
 const DECK: Word = (
     "FILE",
     Given::Plain,
     "",
-    "a deck; - is standard input, and so is no FILE at all",
+    "a deck; standard input if FILE is - or left out",
 );
 
 const DEVICE: Word = (
     "device",
     Given::Valued,
     "NUMBER",
-    "2311 or 2314; 2314 if left out",
+    "2311 or 2314 (default 2314)",
 );
 
 const AT: Word = (
     "at",
     Given::Valued,
     "ADDRESS",
-    "the address of the image; 0 if left out",
+    "the address at which the image begins (default 0)",
 );
 
 const STORAGE: Word = (
     "storage",
     Given::Valued,
     "SIZE",
-    "how many bytes storage has; as many as the image takes if left out",
+    "the size of storage (by default the image's end)",
 );
 
 const IMAGE: Word = (
     "FILE",
     Given::Plain,
     "",
-    "the bytes of storage; - is standard input, and so is no FILE at all",
+    "an image of storage; standard input if FILE is - or left out",
 );
 
 /// The options of a deck that is made of an image, and the image.
 const MAKING: &[Word] = &[
     DEVICE,
-    (
-        "mask",
-        Given::Valued,
-        "BYTE",
-        "the file mask; 00 if left out",
-    ),
+    ("mask", Given::Valued, "BYTE", "the file mask (default 00)"),
     (
         "start",
         Given::RequiredValued,
@@ -183,13 +177,13 @@ const MAKING: &[Word] = &[
         "limit",
         Given::Valued,
         "PLACES",
-        "how many places may be reachable; 4096 if left out",
+        "how many places may be reachable (default 4096)",
     ),
     (
         "extent",
         Given::RepeatedValued,
         "FIRST-LAST",
-        "cylinders of the file; one at least, unless --least is given",
+        "cylinders of the file; required without --least",
     ),
     (
         "fetch",
@@ -207,7 +201,7 @@ const MAKING: &[Word] = &[
         "least",
         Given::Flag,
         "",
-        "grants the program's needs, in place of mask, extents and areas",
+        "grants exactly what the program needs",
     ),
     AT,
     STORAGE,
@@ -221,7 +215,7 @@ const SEARCHING: &[Word] = &[
         "limit",
         Given::Valued,
         "PLACES",
-        "how many places of a program may be reachable; 4096 if left out",
+        "how many places may be reachable (default 4096)",
     ),
     AT,
     STORAGE,
@@ -232,43 +226,43 @@ const SEARCHING: &[Word] = &[
 pub(crate) const LINES: &[Line] = &[
     (
         "show",
-        "shows one channel command word",
+        "prints one channel command word (CCW)",
         "",
         &[("CCW", Given::Required, "", "sixteen hexadecimal digits")],
     ),
     (
         "verify",
-        "judges each deck: may its channel program run? So does chanv without words",
+        "judges each deck: may its program run? chanv alone does the same",
         OF_VERIFY,
         &[DECKS],
     ),
     (
         "list",
-        "lists the reachable CCWs of a deck, with the verdict",
+        "lists the CCWs that a deck's program can reach, and the verdict",
         OF_ONE,
         &[DECK],
     ),
     (
         "why",
-        "explains the verdict on each deck: the path to the CCW, and the cause",
+        "explains each verdict: the path to the offending CCW, and the cause",
         OF_ONE,
         &[DECKS, ALL],
     ),
     (
         "graph",
-        "draws the program of a deck, in Graphviz's language",
+        "draws a deck's program for Graphviz",
         OF_ONE,
         &[DECK],
     ),
     (
         "needs",
-        "lists what a job must grant a deck's program, and the bytes that must not change",
+        "lists what a job must grant, and the bytes that must not change",
         OF_NEEDS,
         &[DECK],
     ),
     (
         "find",
-        "finds every program in an image of storage, and judges each",
+        "finds programs in an image of storage, and judges each",
         OF_FIND,
         SEARCHING,
     ),
@@ -280,13 +274,13 @@ pub(crate) const LINES: &[Line] = &[
     ),
     (
         "explain",
-        "says what a word means, and how to fix it; without WORD, lists all words",
+        "explains a word of the output; without WORD, lists all words",
         "",
         &[(
             "WORD",
             Given::Plain,
             "",
-            "a reason, a cause, or a line in place of an answer, in any case of its letters",
+            "a reason, a cause, or an error such as too-many-places",
         )],
     ),
 ];
@@ -317,7 +311,7 @@ fn program<'a>(alloc: Global) -> Result<Command<'a>, AllocError>
 {
     Ok(
         Command::new(alloc, "chanv")
-            .about("verifies channel programs")
+            .about("tells whether System/360 channel programs are safe to start")
             .version("0.5.0")
             .override_usage(USAGE),
     )

@@ -172,7 +172,7 @@ fn push_order(out: &mut String, spot: &Spot<'_>, forms: &[Form]) -> Result<(), A
     if form.number() < first.number() {
         return match form {
             Form::Limit if !spot.before.is_second => {
-                out.push_str("; limit stands in chanv deck 2 alone")
+                out.push_str("; only chanv deck 2 has limit")
             }
             _ => write!(out, "; {word} comes earlier"),
         };
@@ -230,12 +230,12 @@ fn push_place(out: &mut String, spot: &Spot<'_>) -> Result<(), AllocError> {
 /// The condition that a line refused for a cause doesn't meet, whatever it says.
 fn condition(cause: Cause) -> &'static str {
     match cause {
-        Cause::Mask => "a mask with no bits on but C0 and 18",
+        Cause::Mask => "a mask with only bits of C0 and 18 on",
         Cause::ExtentBackwards => "a last cylinder that isn't below the first",
         Cause::ExtentPastDevice => "a last cylinder of at most 202",
         Cause::Size => "a multiple of 8 that is at most 1000000",
         Cause::PutZero => "eight bytes that aren't all zero",
-        Cause::After => "nothing behind the line end",
+        Cause::After => "nothing after the line end",
         Cause::Limit => "a limit from 00001 to 65536",
         _ => "",
     }
@@ -256,7 +256,7 @@ fn push_expected(out: &mut String, spot: &Spot<'_>, cause: Cause) -> Result<(), 
     }
     match cause {
         Cause::Ended if !spot.is_whole && !spot.found.is_empty() => {
-            out.push_str("a line feed behind this line")
+            out.push_str("a line feed at the end of this line")
         }
         Cause::Ended | Cause::Header | Cause::Form => push_forms(out, spot),
         Cause::PutAddress => push_place(out, spot),

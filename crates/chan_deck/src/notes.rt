@@ -20,7 +20,7 @@ const MACHINE_STORES: &str = " is where the machine stores PSWs, the CSW or the 
 
 /// What is noted of a CCW with the flag for a program-controlled interruption.
 const INTERRUPTS: &str =
-    " interrupts: the processor may change any byte but those that chanv needs keeps";
+    " interrupts: the processor may change any byte that chanv needs doesn't list as keep";
 
 /// What is noted of a CCW that moves no data and has both chaining flags on.
 const ENDS_THERE: &str = " ends the program: chain data counts, and it moves no data";

@@ -19,9 +19,9 @@ const CANNOT_OPEN: Row = (
     "a FILE that can't be opened",
     "cannot open\n",
     "\
-The FILE can't be opened: there is none of that name, or it may not be read.
-Correct the name, or see to its rights. A FILE whose name isn't UTF-8 can't be
-opened: rename it, or hand it to standard input.
+The FILE can't be opened: it doesn't exist, or you may not read it.
+Correct the name or the permissions. If the name isn't UTF-8, rename the FILE,
+or hand it to standard input.
 ",
     3,
     true,
@@ -32,8 +32,7 @@ const READ_FAILED: Row = (
     "an input that can't be read to its end",
     "read failed\n",
     "\
-Reading the FILE or standard input failed. A folder can be opened, and not
-read; and standard input may be closed.
+Reading failed: the FILE may be a folder, or standard input may be closed.
 Name a file, or see that the input can be read to its end.
 ",
     3,
@@ -42,12 +41,12 @@ Name a file, or see that the input can be read to its end.
 
 const DECK_TOO_LONG: Row = (
     "deck-too-long",
-    "a text longer than a deck's may be",
+    "a text longer than a deck may be",
     "deck too long\n",
     "\
 The deck's text has more than 67,108,864 bytes.
-Merge its areas, and leave out what isn't needed of them. An image of storage
-is no deck yet: `chanv deck` writes the deck of one.
+Merge its areas, and leave out those that the program doesn't need. An image of
+storage isn't a deck: `chanv deck` makes one from it.
 ",
     2,
     true,
@@ -68,12 +67,11 @@ Cut the image down to what the program needs, or lower its address.
 
 const IMAGE_PAST_STORAGE: Row = (
     "image-past-storage",
-    "an image longer than the storage asked for",
+    "an image that ends past the size of storage",
     "image past storage\n",
     "\
-The image, from its address on, ends past the size of storage that --storage
-says.
-Ask for a larger size, lower the image's address, or leave --storage out: then
+The image, from its address on, ends past the size that --storage gives.
+Give a larger size, lower the image's address, or leave --storage out: then
 storage ends with the image.
 ",
     4,
@@ -85,9 +83,9 @@ const TOO_MANY_PLACES: Row = (
     "more places reachable than the limit",
     "too many places\n",
     "\
-More places are reachable than the limit: 4,096, unless the deck says another.
-A deck of version 2 says it by its line `limit`, of at most 65,536, and so does
-`chanv deck` by --limit. A place is a CCW with a way to enter it: a chain that
+More places are reachable than the limit: 4,096, unless the deck has another.
+Raise it, to at most 65,536, by the line `limit` of a deck of version 2 or by
+--limit of `chanv deck`. A place is a CCW with a way to enter it: a chain that
 runs on through storage reaches one every 8 bytes.
 ",
     2,
@@ -96,13 +94,14 @@ runs on through storage reaches one every 8 bytes.
 
 const NO_JOB_WILL_DO: Row = (
     "no-job-will-do",
-    "a program that no job will do for",
+    "a program for which no job will do",
     "no job will do\n",
     "\
-You asked for the least job, and there is none: the verdict is no even if
-everything is granted. The explanation after it says which CCW offends, and why.
-Correct the program. `chanv explain` has the reason. If the image belongs at
-another address, or storage is longer, say so with --at or --storage.
+You asked for the least job, but no job will do: the verdict is no even if the
+job grants everything. The explanation after this line says which CCW offends,
+and why.
+Correct the program; `chanv explain` has more on the reason. If the image
+belongs at another address, or storage is longer, say so with --at or --storage.
 ",
     1,
     true,
@@ -114,8 +113,8 @@ const WRITE_FAILED: Row = (
     "write failed\n",
     "\
 Writing to standard output failed: it is full or closed, or its reader has gone
-away. What stands there may be a part of the answer.
-See to it, and run the command again.
+away. The output may be only a part of the answer.
+Correct this, and run the command again.
 ",
     3,
     false,
@@ -126,7 +125,7 @@ const OUT_OF_MEMORY: Row = (
     "an allocation that was refused",
     "out of memory\n",
     "\
-An allocation was refused. Nothing was answered, or not all of it.
+An allocation was refused, so there is no answer, or only a part of it.
 Raise the limit on memory. Judging takes at most a few times the length of the
 deck and of its storage.
 ",
@@ -148,10 +147,10 @@ Write a CCW's eight bytes as two digits each, without spaces.
 
 const NO_SUCH_WORD: Row = (
     "no-such-word",
-    "a word that has no meaning here",
+    "a word that chanv doesn't know",
     "no such word\n",
     "\
-The word is no reason, no cause and none of what is said in place of an answer.
+The word is neither a reason nor a cause nor the name of an error.
 `chanv explain` without a word lists all.
 ",
     4,

@@ -18,20 +18,20 @@ use std::alloc::{AllocError, Global};
 use std::io::Write;
 
 const MISALIGNED: &str = "\
-The CCW's address isn't a multiple of 8, so that no CCW can stand there.
+The CCW's address isn't a multiple of 8, so there can be no CCW.
 Only the start or a transfer in channel leads to such an address: correct the
 one that does. `chanv why` shows how the program comes there.
 ";
 
 const OUTSIDE_STORAGE: &str = "\
 The CCW's eight bytes don't lie wholly in main storage.
-Where a chain goes on too far, switch off chain data and chain command in its
-last CCW. Else correct the start or the transfer in channel that leads there,
-or judge a larger storage, as with the line `storage` of the deck.
+If a chain goes on too far, switch off chain data and chain command in its last
+CCW. Otherwise correct the start or the transfer in channel that leads there, or
+judge a larger storage, as with the line `storage` of the deck.
 ";
 
 const TRANSFER_NOT_ALLOWED: &str = "\
-A transfer in channel stands first in the program, or another one leads to it.
+The program begins with a transfer in channel, or one leads to another.
 Start at a command, and let a transfer point straight at the CCW to which the
 next transfer would lead.
 ";
@@ -39,51 +39,51 @@ next transfer would lead.
 const INVALID_CODE: &str = "\
 A new operation begins at the CCW, and the low four bits of its code are zero,
 which no command has.
-Correct the code. Where the CCW is to go on with a data chain, switch on chain
-data in the CCW before it; where the program is to end before it, switch off
-chain command in the last one. A row that says `invalid chained` isn't meant:
-a data chain leads there, and the code doesn't count. Where the program reads in
-what it then runs, what will stand there can't be judged: read it in first, and
-ask about storage as it is then.
+Correct the code. If the CCW should continue a data chain, switch on chain data
+in the CCW before it; if the program should end before it, switch off chain
+command in the last CCW. In a row with `invalid chained` the code doesn't count,
+because a data chain leads there. If the program reads in CCWs that it then
+runs, read them in first, and then ask: bytes that aren't there yet can't be
+judged.
 ";
 
 const BAD_FORMAT: &str = "\
 One of the three low bits of the CCW's flags is on.
-Switch off the bits 07 of the CCW's byte 4: they must be zero in every CCW but
-a transfer in channel.
+Switch off the bits 07 of the CCW's byte 4: they must be zero in every CCW
+except a transfer in channel.
 ";
 
 const ZERO_COUNT: &str = "\
 The CCW's count is zero.
-Set it to 1 or more: every CCW but a transfer in channel needs that, also one
+Set it to 1 or more. Every CCW except a transfer in channel needs that, even one
 that moves no data, such as No Operation.
 ";
 
 const DATA_OUTSIDE: &str = "\
 The CCW's data address plus its count is more than the length of main storage.
-Correct one of the two, also where the CCW skips or moves no data, or judge a
+Correct one of the two, even if the CCW skips or moves no data, or judge a
 larger storage, as with the line `storage` of the deck.
 ";
 
 const NOT_IN_TABLE: &str = "\
 A new operation begins at the CCW, and its code isn't in the table of commands
 that chanv knows (docs/DEVICE.md).
-Use a command of the table. Where the CCW is to go on with a data chain,
-switch on chain data in the CCW before it.
+Use a command of the table. If the CCW should continue a data chain, switch on
+chain data in the CCW before it.
 ";
 
 const INHIBITED: &str = "\
 A new operation begins at the CCW, and the file mask inhibits its command.
 Use a command that the mask permits, or judge under the mask that the
 supervisor will have set, as with the line `mask` of the deck. A Set File Mask
-doesn't help: all commands are judged by the job's mask.
+doesn't help, because the job's mask judges all commands.
 ";
 
 const STORE_NOT_LENT: &str = "\
 The CCW stores, and a byte of its data range lies in no area lent for storing.
-Lend the area, as with a line `store` in the deck, or shorten the count. What
-isn't wanted of a record can go to a CCW with the flag skip, by chain data: it
-stores nothing. `chanv why` names the bytes.
+Lend the area, as with a line `store` in the deck, or shorten the count. If you
+don't want all of a record, chain data to a CCW with the flag skip, which stores
+nothing. `chanv why` names the bytes.
 ";
 
 const FETCH_NOT_LENT: &str = "\
@@ -94,15 +94,15 @@ Lend the area, as with a line `fetch` in the deck, or shorten the count.
 ";
 
 const SHORT_SEEK: &str = "\
-The CCW is a seek, and the data chain that begins there has no six bytes for
-its argument.
+The CCW is a seek, and the data chain that begins there gives fewer than the six
+bytes of its argument.
 Set the seek's count to 6, or switch on its chain data and let the CCWs that
 follow give the rest. `chanv why` says how many bytes there are.
 ";
 
 const SEEK_OUTSIDE: &str = "\
-A seek's argument has a bin other than zero, a cylinder in no extent or a head
-that the device lacks; or a Recalibrate finds cylinder 0 in no extent.
+A seek's argument has a bin other than zero, a cylinder in no extent, or a head
+that the device lacks; or no extent has cylinder 0, to which a Recalibrate goes.
 Correct the argument, which is two bytes each of bin, cylinder and head, or
 lend the cylinder, as with a line `extent` in the deck. All three seeks are
 judged by the whole argument. `chanv why` has the values.
@@ -133,22 +133,21 @@ may be on.
 
 const ENDED: &str = "\
 The deck ends before the line `end`, or that line has no line feed.
-See that nothing was cut off: each line ends with a line feed, the last one
-too.
+Check that nothing was cut off: each line ends with a line feed, even the last.
 ";
 
 const HEADER: &str = "\
 Line 1 is neither `chanv deck 1` nor `chanv deck 2`.
-Write one of the two, with nothing before it, and a line feed alone behind it.
-An image of storage is no deck yet: `chanv deck` writes the deck of one.
+Write one of the two, with nothing before it and only a line feed after it.
+An image of storage isn't a deck: `chanv deck` makes one from it.
 ";
 
 const FORM: &str = "\
-The line has none of the forms that may stand at this point.
-See that the lines are in order, that one space stands between two parts and
-nothing behind the last, and that each number has all its digits, in capitals
-where they are hexadecimal. A deck of version 2 has a line `limit`, and one of
-version 1 has none. The forms are in docs/DECK.md.
+The line has none of the forms that may come here.
+See that the lines are in order, that there is one space between two parts and
+nothing after the last, and that each number has all its digits, hexadecimal
+ones in capitals. A deck of version 2 has a line `limit`, and one of version 1
+has none. The forms are in docs/DECK.md.
 ";
 
 const MASK: &str = "\
@@ -172,20 +171,20 @@ Write a multiple of 8 that is at most 1000000. It is hexadecimal.
 ";
 
 const PUT_ADDRESS: &str = "\
-The put's address isn't a multiple of 8, isn't above that of the put before
-it, or leaves storage.
+The put's address isn't a multiple of 8, isn't above the address of the put
+before it, or leaves storage.
 Write the puts in order of address, each of eight bytes on a multiple of 8,
 and see that the line `storage` gives as many bytes as they need.
 ";
 
 const PUT_ZERO: &str = "\
 The put's eight bytes are all zero.
-Leave the line out: storage is zero where there is no put.
+Leave the line out: storage is zero wherever there is no put.
 ";
 
 const AFTER: &str = "\
-Something follows the line `end`; the line after it is named.
-Take out all that follows the line feed of `end`, also an empty line.
+Something follows the line `end`; chanv names the line after it.
+Remove everything after the line feed of `end`, even an empty line.
 ";
 
 const LIMIT: &str = "\
@@ -346,9 +345,9 @@ fn reason_brief(reason: Reason) -> &'static str {
     match reason {
         Reason::Misaligned => "a CCW at an address that isn't a multiple of 8",
         Reason::OutsideStorage => "a CCW that doesn't lie wholly in main storage",
-        Reason::TransferNotAllowed => "a transfer in channel first, or behind another one",
+        Reason::TransferNotAllowed => "a transfer in channel that comes first or after another",
         Reason::InvalidCode => "a command code whose low four bits are zero",
-        Reason::BadFormat => "a flag on that has to be off",
+        Reason::BadFormat => "a flag that is on and must be off",
         Reason::ZeroCount => "a count of zero",
         Reason::DataOutside => "a data range that leaves main storage",
         Reason::NotInTable => "a command code that chanv doesn't know",
@@ -359,20 +358,20 @@ fn reason_brief(reason: Reason) -> &'static str {
         Reason::SeekOutside => "a seek outside the extents, the heads or bin 0",
         Reason::ChangesCcw => "a store over a reachable CCW",
         Reason::ChangesArgument => "a store over a seek's argument or a mask byte",
-        Reason::WeakensMask => "a Set File Mask to a byte that permits more, or is no mask",
+        Reason::WeakensMask => "a Set File Mask to a byte that permits more or isn't a mask",
     }
 }
 
 /// What a cause is, in a few words.
 fn cause_brief(cause: Cause) -> &'static str {
     match cause {
-        Cause::Ended => "the deck ends before its line `end` does",
-        Cause::Header => "the first line isn't that of a deck",
-        Cause::Form => "the line has no form that may stand there",
+        Cause::Ended => "the deck ends before its line `end` is complete",
+        Cause::Header => "the first line isn't the header of a deck",
+        Cause::Form => "the line has none of the forms that may come here",
         Cause::Mask => "the mask isn't a file mask",
         Cause::ExtentBackwards => "the extent's last cylinder is below its first",
         Cause::ExtentPastDevice => "the extent goes on past cylinder 202",
-        Cause::Size => "storage has no such size",
+        Cause::Size => "storage can't have this size",
         Cause::PutAddress => "the put's address is out of order or out of storage",
         Cause::PutZero => "the put's bytes are all zero",
         Cause::After => "something follows the line `end`",
