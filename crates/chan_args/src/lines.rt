@@ -1,4 +1,4 @@
-//! What each command takes, as a table, and the command line that is built of it.
+//! A table of what each command takes, and the command line that is built from it.
 
 ghost use Rattle.std.specs.Prelude.{◌≡◌, false, IfOk, IsOkAnd};
 ghost use Rattle.clap.specs.Words.{App, app_of, new_app, rule_of, with_rule, with_subcommand};
@@ -32,8 +32,8 @@ pub(crate) enum Given {
 /// what help says of it.
 pub(crate) type Word = (&'static str, Given, &'static str, &'static str);
 
-/// A command: its name, what help says of it, what its help says behind its words, and its words
-/// and options, in the order of help.
+/// A command: its name, what help says of it, the text at the end of its help, and its words and
+/// options, in the order of help.
 pub(crate) type Line = (&'static str, &'static str, &'static str, &'static [Word]);
 
 /// The forms of a command line, for help and for a usage fault before any command.

@@ -1,5 +1,5 @@
-//! What is said of the line at which a text is refused. Tests hold the text; the place of the line
-//! and the forms that may stand there are proved.
+//! The hint for the line at which a text is refused. The place of the line and the forms that may
+//! come there are proved; tests hold the wording.
 
 ghost use Rattle.std.specs.Prelude.{◌≡◌, ◌++◌, ◌∷◌, [], List, Option as Maybe, Some};
 ghost use Rattle.chan_deck.specs.Hint.{AreBefore, IsBehind, IsSpot, storage_said};
@@ -18,14 +18,14 @@ use std::fmt::Write as _;
 /// How many characters of a line are shown.
 const SHOWN: usize = 60;
 
-/// What the lines before another say.
+/// The content of the lines before a line.
 #[derive(Clone, Copy)]
 struct Before {
-    /// What the last of them says.
+    /// The item of the last of them, if there is one.
     last: Option<Item>,
     /// Whether the first is the header of version 2.
     is_second: bool,
-    /// How many bytes of storage there are, where a line says so.
+    /// How many bytes storage has, if a line says so.
     size: Option<u32>,
 }
 
@@ -33,9 +33,9 @@ struct Before {
 #[derive(Clone, Copy)]
 struct Spot<'a> {
     before: Before,
-    /// What stands there.
+    /// The line without its line feed, or the rest of the text if it has none.
     found: &'a [u8],
-    /// Whether it has a line feed behind it.
+    /// Whether a line feed ends it.
     is_whole: bool,
 }
 
@@ -49,7 +49,7 @@ fn is_second_header(item: Item) -> bool
     }
 }
 
-/// The bytes of storage that an item says.
+/// How many bytes storage has, if the item says so.
 fn size_of(item: Item) -> Option<u32>
     ensures { (i : Said) → said_by item ≡ Some i → result ≡ storage_said (i ∷ []) }
 {
@@ -59,7 +59,7 @@ fn size_of(item: Item) -> Option<u32>
     }
 }
 
-/// What some lines and one more say.
+/// The content of some lines and one more.
 fn one_more(before: Before, item: Item) -> Before
     ensures { (is : List Said) (i : Said) → AreBefore is before → said_by item ≡ Some i
         → AreBefore (is ++ i ∷ []) result }
@@ -78,7 +78,8 @@ fn one_more(before: Before, item: Item) -> Before
     }
 }
 
-/// What so many whole lines say, or all if there are fewer, and what follows them.
+/// The content of the first `count` whole lines, or of all if there are fewer, and the rest of the
+/// text.
 fn skip_lines(text: &[u8], count: u64) -> (Before, &[u8])
     ensures { IsBehind text.now count result.0 result.1.now }
 {
@@ -98,7 +99,7 @@ fn skip_lines(text: &[u8], count: u64) -> (Before, &[u8])
     (before, rest)
 }
 
-/// The place behind so many lines.
+/// The place after `count` lines.
 fn spot_behind(text: &[u8], count: u64) -> Spot<'_>
     ensures { IsSpot text.now count result }
 {
@@ -117,8 +118,8 @@ fn spot_behind(text: &[u8], count: u64) -> Spot<'_>
     }
 }
 
-/// Adds the bytes of a line from the first on, as many as have room: each as itself where it can be
-/// seen, else as `\x` and its two digits. A blank at the end can't be seen.
+/// Adds the bytes of a line, as many as fit in `SHOWN` characters: each as itself if it is visible,
+/// otherwise as `\x` and two digits. A blank at the line's end isn't visible.
 fn push_shown(out: &mut String, line: &[u8]) -> Result<(), AllocError> {
     let mut room = SHOWN;
     for (at, byte) in line.iter().enumerate() {
@@ -138,7 +139,7 @@ fn push_shown(out: &mut String, line: &[u8]) -> Result<(), AllocError> {
     Ok(())
 }
 
-/// Adds what is found, by words where nothing can be seen.
+/// Adds the line that was found, or words for an empty line and for the end of the text.
 fn push_found(out: &mut String, spot: &Spot<'_>) -> Result<(), AllocError> {
     if !spot.found.is_empty() {
         push_shown(out, spot.found)
@@ -160,7 +161,8 @@ fn push_keywords(out: &mut String, forms: &[Form]) -> Result<(), AllocError> {
     Ok(())
 }
 
-/// Adds where the form stands that a line begins as, if it is none of those that may stand.
+/// If the line begins like a form that may not come here, adds whether that form comes earlier or
+/// later.
 fn push_order(out: &mut String, spot: &Spot<'_>, forms: &[Form]) -> Result<(), AllocError> {
     let Some(form) = begun_as(&FORMS, spot.found) else {
         return Ok(());
@@ -183,8 +185,8 @@ fn push_order(out: &mut String, spot: &Spot<'_>, forms: &[Form]) -> Result<(), A
     write!(out, "; {word} comes later")
 }
 
-/// Adds the forms that may stand at a spot: the pattern of the only one, or of the one that the
-/// line begins as, or the keywords; and where a form stands that may not.
+/// Adds the forms that may come at a spot: the pattern of the only one, or of the one that the line
+/// begins like, otherwise the keywords of all; and then what `push_order` adds.
 fn push_forms(out: &mut String, spot: &Spot<'_>) -> Result<(), AllocError> {
     let forms = forms_behind(spot.before.last, spot.before.is_second);
     let only = match forms {
@@ -198,7 +200,7 @@ fn push_forms(out: &mut String, spot: &Spot<'_>) -> Result<(), AllocError> {
     push_order(out, spot, forms)
 }
 
-/// Adds the condition that a put at a spot doesn't meet by its address.
+/// Adds the condition that the address of a put doesn't meet.
 fn push_place(out: &mut String, spot: &Spot<'_>) -> Result<(), AllocError> {
     let above = match spot.before.last {
         Some(Item::Put(above, _)) => Some(above),
@@ -227,7 +229,8 @@ fn push_place(out: &mut String, spot: &Spot<'_>) -> Result<(), AllocError> {
     out.push_str(" that is a multiple of 8")
 }
 
-/// The condition that a line refused for a cause doesn't meet, whatever it says.
+/// The condition that a line refused for this cause doesn't meet, or `""` for a cause whose text
+/// depends on the line.
 fn condition(cause: Cause) -> &'static str {
     match cause {
         Cause::Mask => "a mask with only bits of C0 and 18 on",
@@ -241,7 +244,7 @@ fn condition(cause: Cause) -> &'static str {
     }
 }
 
-/// Whether what stands at the start of the input is no text, by its first bytes.
+/// Whether the input isn't text, judged by the first bytes of its first line.
 fn is_no_text(spot: &Spot<'_>) -> bool {
     spot.before.last.is_none()
         && spot.found.iter().take(SHOWN).any(|byte| {
@@ -249,7 +252,7 @@ fn is_no_text(spot: &Spot<'_>) -> bool {
         })
 }
 
-/// Adds what is expected in place of what is found.
+/// Adds the text or the condition that belongs there.
 fn push_expected(out: &mut String, spot: &Spot<'_>, cause: Cause) -> Result<(), AllocError> {
     if is_no_text(spot) {
         return out.push_str("a deck, which is text; chanv deck makes one of an image of storage");
@@ -268,9 +271,9 @@ fn push_expected(out: &mut String, spot: &Spot<'_>, cause: Cause) -> Result<(), 
 /// refused line, and a line `expected ` with the text that may replace it, or the condition that it
 /// doesn't meet. An error means that an allocation failed.
 ///
-/// At most 60 characters of the line are shown; a byte that isn't printable ASCII is shown as `\x`
-/// and two digits, and so is a blank at the line's end. An empty line and the end of the text are
-/// named by words. If several forms may come, the hint lists their keywords, or gives the pattern
+/// The hint shows at most 60 characters of the line. A byte that isn't printable ASCII becomes `\x`
+/// and two digits, and so does a blank at the line's end. Words name an empty line and the end of
+/// the text. If several forms may come, the hint lists their keywords, or gives the pattern
 /// of the one whose keyword the line begins with; if the line begins like another form, it says
 /// that this form comes earlier or later. If the first bytes aren't text, it names the command that
 /// makes a deck.

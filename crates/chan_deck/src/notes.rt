@@ -1,4 +1,4 @@
-//! The notes on a job as text. Tests hold the text; which areas count as one is proved.
+//! The notes on a job as text. It is proved which areas share a note; tests hold the wording.
 
 ghost use Rattle.std.specs.Prelude.{◌≡◌, IfOk};
 ghost use Rattle.chan_deck.specs.Notes as adjoining;
@@ -9,23 +9,23 @@ use chan_why::Notes;
 use std::alloc::{AllocError, Global};
 use std::fmt::Write;
 
-/// What is noted of an area that ends past storage.
+/// The note on an area that ends past storage.
 const PAST_STORAGE: &str = " reaches past storage";
 
-/// What is noted of an area that isn't used.
+/// The note on an area that no reachable CCW uses.
 const UNUSED: &str = " is used by no reachable CCW";
 
-/// What is noted of an area that is kept and that the machine itself stores into.
+/// The note on a kept area that the machine itself stores into.
 const MACHINE_STORES: &str = " is where the machine stores PSWs, the CSW or the timer";
 
-/// What is noted of a CCW with the flag for a program-controlled interruption.
+/// The note on a CCW with the flag for a program-controlled interruption.
 const INTERRUPTS: &str =
     " interrupts: the processor may change any byte that chanv needs doesn't list as keep";
 
-/// What is noted of a CCW that moves no data and has both chaining flags on.
+/// The note on a CCW that moves no data and has both chaining flags on.
 const ENDS_THERE: &str = " ends the program: chain data counts, and it moves no data";
 
-/// How many notes of one sort are written out; of the others a line says how many there are.
+/// How many notes of one kind are written; a last line counts the others.
 const MOST: usize = 100;
 
 /// Whether an area begins where another ends, and both together are one area.
@@ -36,7 +36,7 @@ fn adjoin(one: Area, other: Area) -> bool
         && u64::from(one.len) + u64::from(other.len) <= u64::from(u32::MAX)
 }
 
-/// The areas, neighbours that adjoin as one.
+/// The areas, with neighbours that adjoin joined into one.
 fn join_neighbours(alloc: Global, areas: &[Area]) -> Result<Vec<Area>, AllocError>
     ensures { IfOk result (λ v. v.items ≡ adjoining.with_neighbours_joined areas.now) }
 {
@@ -57,7 +57,7 @@ fn join_neighbours(alloc: Global, areas: &[Area]) -> Result<Vec<Area>, AllocErro
     Ok(runs)
 }
 
-/// Adds the line that says how many notes of a sort there are beyond the first, if there are any.
+/// Adds the line that counts the notes of a kind beyond the first `MOST`, if there are any.
 fn push_more(out: &mut String, count: usize) -> Result<(), AllocError> {
     if count <= MOST {
         return Ok(());
@@ -66,7 +66,7 @@ fn push_more(out: &mut String, count: usize) -> Result<(), AllocError> {
     write!(out, "note: {more} more such\n")
 }
 
-/// Adds the notes of a sort on areas, neighbours that adjoin as one.
+/// Adds the notes of a kind on areas; neighbours that adjoin share one.
 fn push_areas(
     alloc: Global,
     out: &mut String,
@@ -83,7 +83,7 @@ fn push_areas(
     push_more(out, runs.len())
 }
 
-/// Adds the notes of a sort on the CCWs at some addresses.
+/// Adds the notes of a kind on the CCWs at some addresses.
 fn push_ccws(out: &mut String, what: &str, addresses: &[u32]) -> Result<(), AllocError> {
     for address in addresses.iter().take(MOST) {
         let address = Address(*address);
@@ -99,8 +99,8 @@ fn push_ccws(out: &mut String, what: &str, addresses: &[u32]) -> Result<(), Allo
 /// - the CCWs that ask for an interruption, and those at which the program ends though both
 ///   chaining flags are on.
 ///
-/// Each sort has a line for each of its first hundred notes, and one line with the number of the
-/// others. Areas that adjoin count as one. An error means that an allocation failed.
+/// Each kind has a line for each of its first hundred notes, and one line that counts the others.
+/// Areas that adjoin share a note. An error means that an allocation failed.
 pub fn notes_text(alloc: Global, notes: &Notes) -> Result<String, AllocError> {
     let mut text = String::new(alloc);
     push_areas(

@@ -1,4 +1,4 @@
-//! What the program says on standard error in place of an answer.
+//! The lines on standard error in place of an answer.
 
 ghost use Rattle.std.specs.Prelude.{◌≡◌};
 ghost use Rattle.chan_run.specs.Failure as table;
@@ -168,17 +168,17 @@ pub enum Failure {
     DeckTooLong,
     /// The image is longer than storage may be.
     ImageTooLong,
-    /// The image is longer than the size of storage that is asked for.
+    /// The image ends past the size of storage that `--storage` gives.
     ImagePastStorage,
     /// More places are reachable than the limit.
     TooManyPlaces,
-    /// The least job was asked for, and there is none.
+    /// The user asked for the least job, but no job will do.
     NoJobWillDo,
     /// A write failed.
     WriteFailed,
     /// An allocation was refused.
     OutOfMemory,
-    /// A word is no CCW.
+    /// A word isn't a CCW.
     NotCcw,
     /// A word has no meaning.
     NoSuchWord,

@@ -201,7 +201,7 @@ pub enum Term {
     Reason(Reason),
     /// The cause for which a deck's line is refused.
     Cause(Cause),
-    /// What is said in place of an answer.
+    /// A line in place of an answer.
     Failure(Failure),
 }
 
@@ -247,7 +247,7 @@ const TERMS: [Term; 38] = [
     Term::Failure(Failure::NoSuchWord),
 ];
 
-/// The term that has this word, in any case of its letters; none if none has.
+/// The term with this word, in upper or lower case; `None` if there is no such term.
 fn term_of(word: &str) -> Option<Term>
     ensures named { IfSome result (IsWordOf word.now) }
     ensures none { result ≡ None → (t : Term) → ¬ IsWordOf word.now t }
@@ -255,7 +255,7 @@ fn term_of(word: &str) -> Option<Term>
     term_among(&TERMS, word)
 }
 
-/// The first of these terms that has this word.
+/// The first of these terms with this word.
 fn term_among(terms: &[Term], word: &str) -> Option<Term>
     ensures named { IfSome result (IsWordOf word.now) }
     ensures none { result ≡ None → All (λ t. ¬ IsWordOf word.now t) terms.now }
@@ -273,9 +273,10 @@ fn term_among(terms: &[Term], word: &str) -> Option<Term>
 
 /// Writes the meaning of a word, and how to fix what it names.
 ///
-/// If the word, in any case, is no term's, `Unknown` comes with the term of the nearest word or, if
-/// none is near, `NoSuchWord`; `OutOfMemory` may come in their place. `WriteFailed` comes exactly
-/// if a write failed, and then a prefix was written. Otherwise nothing was, except for `Done`.
+/// The word may be in upper or lower case. If no term has it, the outcome is `Unknown` with the
+/// nearest term, or `NoSuchWord` if none is near; `OutOfMemory` may come in their place.
+/// `WriteFailed` comes exactly if a write failed, and then a prefix was written. Only `Done` and
+/// `WriteFailed` write anything.
 pub fn explain_word<W: Write>(alloc: Global, word: &str, to: &mut Watched<W>) -> Outcome
     requires { to.old.failed ≡ false }
     ensures answer { IsWordAnswer word.now (W.contents to.old.device) (W.contents to.new.device)
@@ -289,7 +290,7 @@ pub fn explain_word<W: Write>(alloc: Global, word: &str, to: &mut Watched<W>) ->
     }
 }
 
-/// What is said of a word that is no term's.
+/// The outcome for a word that no term has.
 fn unknown(alloc: Global, word: &str) -> Outcome
     requires { (t : Term) → ¬ IsWordOf word.now t }
     ensures is { IsUnknown word.now result }
