@@ -7,7 +7,7 @@
 A statement rests on the definitions that it names, and on those that these name in turn, up to
 types of the code and to the kit. The files come in the order of crates.txt and of each crate's
 specs/Lib.antt, so that a reader who goes down the table meets nothing before its definition is
-near.
+near. No file of the table stands in the group of Lib.antt that only ties the code to the others.
 """
 
 import re
@@ -75,6 +75,16 @@ def files():
         index = CRATES / crate / "specs/Lib.antt"
         names = re.findall(r"(?m)^pub mod (\w+)", text_of(index)) if index.is_file() else []
         yield from (f"{crate}/{name}" for name in names)
+
+
+def only_tying():
+    """The files that some Lib.antt lists under the comment that they only tie the code."""
+    for crate in crates():
+        index = CRATES / crate / "specs/Lib.antt"
+        groups = text_of(index).split("\n-- ") if index.is_file() else []
+        for group in groups:
+            if group.startswith("What only ties the code"):
+                yield from (f"{crate}/{name}" for name in re.findall(r"(?m)^pub mod (\w+)", group))
 
 
 class Sources:
@@ -173,6 +183,8 @@ def check(checks, _built):
     blocks = sorted(name for _, name, _ in BLOCK.findall(page))
     checks.expect("the blocks of docs/THEOREM.md", sorted(BLOCKS), blocks)
     checks.expect("docs/THEOREM.md", filled(page), page)
+    counted = set(re.findall(r"(?m)^\| `(\w+/\w+)` \|", page))
+    checks.expect("files of the table that only tie the code", set(), counted & {*only_tying()})
 
 
 if __name__ == "__main__":
