@@ -1,7 +1,7 @@
 //! Areas of storage that a program was lent.
 
-ghost use Rattle.std.specs.Prelude.{◌≡◌, ◌<◌, ◌≤◌, ℕ, true, false};
-ghost use Rattle.ccw_core.specs.Areas.{covered, lies_in};
+ghost use Rattle.std.specs.Prelude.{◌≡◌, ◌+◌, ◌<◌, ◌≤◌, ◌^◌, ℕ, true, false};
+ghost use Rattle.ccw_core.specs.Areas.{IsGap, covered, lies_in};
 
 /// An area of storage. It may be empty, and it may reach past storage.
 ///
@@ -24,15 +24,61 @@ pub fn covers(areas: &[Area], start: u32, len: u32) -> bool
     ensures { result ≡ covered areas.now start len }
 {
     let end = u64::from(start) + u64::from(len);
-    let mut at = u64::from(start);
+    gap_start(areas, u64::from(start), end) >= end
+}
+
+/// The first bytes in a row of a range that lie in no area, if there are any. The range has to end
+/// below 2^32. The cost is that of `covers`.
+pub fn gap_among(areas: &[Area], range: Area) -> Option<Area>
+    requires { range.start + range.len < 2 ^ 32 }
+    ensures { IsGap areas.now range result }
+{
+    let end = range.start + range.len;
+    let start = gap_start(areas, u64::from(range.start), u64::from(end));
+    if start >= u64::from(end) {
+        return None;
+    }
+    let start = start as u32;
+    let len = gap_end(areas, start, end) - start;
+    Some(Area { start, len })
+}
+
+/// The first address from `start` on and before `end` that lies in no area; at least `end` if each
+/// does.
+fn gap_start(areas: &[Area], start: u64, end: u64) -> u64
+    requires { end < 2 ^ 33 }
+    ensures from { start ≤ result }
+    ensures before { (b : ℕ) → start ≤ b → b < result → lies_in areas.now b ≡ true }
+    ensures out { result < end → lies_in areas.now result ≡ false }
+{
+    let mut at = start;
     while at < end {
         let next = reach(areas, at);
         if next <= at {
-            return false;
+            return at;
         }
         at = next;
     }
-    true
+    at
+}
+
+/// The first address after `start`, which lies in no area, that lies in some area; `end` if none
+/// before it does.
+fn gap_end(areas: &[Area], start: u32, end: u32) -> u32
+    requires order { start < end }
+    requires out { lies_in areas.now start ≡ false }
+    ensures filled { start < result }
+    ensures within { result ≤ end }
+    ensures inside { (b : ℕ) → start ≤ b → b < result → lies_in areas.now b ≡ false }
+    ensures after { result < end → lies_in areas.now result ≡ true }
+{
+    let mut stop = end;
+    for area in areas {
+        if area.len > 0 && start < area.start && area.start < stop {
+            stop = area.start;
+        }
+    }
+    stop
 }
 
 /// The end of the first area that has the byte at an address, or that address where none has it.

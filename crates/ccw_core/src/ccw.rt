@@ -1,8 +1,9 @@
 //! The channel command word.
 
-ghost use Rattle.std.specs.Prelude.{◌≡◌, ◌≤◌, ◌<◌, ◌↔◌, ◌+◌, ◌-◌, bit_and, length, IsTrue, IsSome};
+ghost use Rattle.std.specs.Prelude.{◌≡◌, ◌≤◌, ◌<◌, ◌↔◌, ◌-◌, bit_and, IsTrue, IsSome};
 ghost use Rattle.std.specs.Prelude.{IsNone, IfSome, IfOk, is_some, string_bytes};
 ghost use Rattle.ccw_core.specs.Ccw.{Fields, bytes_of, ccw, ccw_text, is_formed, is_transfer};
+ghost use Rattle.ccw_core.specs.Ccw as specs;
 ghost use Rattle.ccw_core.specs.Flags.{bits_of};
 ghost use Rattle.ccw_core.specs.Group.{group_of};
 ghost use Rattle.ccw_core.specs.declared.group.Group.TheVariants.{Transfer};
@@ -151,6 +152,22 @@ impl Ccw {
         ensures group { IsTrue result ↔ (group_of self.now.command ≡ Transfer) }
     {
         self.command % 16 == 0b1000
+    }
+
+    /// Chain data: the operation goes on with the next CCW.
+    #[tactic(auto, unfolding(crate::specs::Ccw::chains_data))]
+    pub fn chains_data(&self) -> bool
+        ensures { result ≡ specs.chains_data self.now }
+    {
+        self.flags & CcwFlags::CD.bits() != 0
+    }
+
+    /// Chain command, unless data is chained: the next CCW begins an operation of its own.
+    #[tactic(auto, unfolding(crate::specs::Ccw::chains_command))]
+    pub fn chains_command(&self) -> bool
+        ensures { result ≡ specs.chains_command self.now }
+    {
+        self.flags & CcwFlags::CC.bits() != 0
     }
 
     /// The flags by name; `None` exactly if one of the three low bits is set.

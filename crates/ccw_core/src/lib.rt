@@ -17,7 +17,7 @@ mod group;
 mod storage;
 mod watched;
 
-pub use crate::areas::{Area, covers};
+pub use crate::areas::{Area, covers, gap_among};
 pub use crate::ccw::Ccw;
 pub use crate::flags::CcwFlags;
 pub use crate::group::Group;

@@ -62,6 +62,16 @@ impl<'a> Storage<'a> {
         Some(Ccw::from_bytes(word))
     }
 
+    /// The byte at an address, and zero past the end of storage.
+    pub fn byte_at(&self, address: u32) -> u8
+        ensures { result ≡ byte (bytes_held self.now) address }
+    {
+        match self.bytes.get(address as usize) {
+            Some(byte) => *byte,
+            None => 0,
+        }
+    }
+
     /// The bytes of a range, borrowed and not copied: `None` exactly if start plus length is above
     /// the length of storage. An empty range lies in storage up to its very end.
     pub fn range(&self, start: u32, len: u32) -> Option<&'a [u8]>

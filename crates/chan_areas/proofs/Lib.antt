@@ -1,3 +1,4 @@
 pub mod Merging
+pub mod Clipping
 pub mod Searching
 pub mod Gaps

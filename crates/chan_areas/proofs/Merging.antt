@@ -13,11 +13,10 @@ use Rattle.std.proofs.lemmas.List.Elements.{All-append, All-cons, All-head, All-
 use Rattle.std.proofs.lemmas.List.Folds.{list_any-append}
 use Rattle.std.proofs.lemmas.List.Sorted.{list_any-IsPermutation}
 use Rattle.ccw_core.specs.declared.areas.Area.{Area}
-use Rattle.ccw_core.specs.Areas.{lies_in}
+use Rattle.ccw_core.specs.Areas.{end_of, lies_in}
 use Rattle.ccw_core.proofs.Covering.{lies_in-nil}
-use Rattle.chan_areas.specs.Ranges.{start_of, end_of, IsByteOf, EndsBelow, BeginAbove, IsMerged}
-use Rattle.chan_areas.specs.Ranges.{HaveSameBytes, AreRuns, MergedIsUnique}
-use Rattle.std.proofs.Common.{Result, Ok, Err, IfOk}
+use Rattle.chan_areas.specs.Merged.{start_of, IsByteOf, EndsBelow, BeginAbove, IsMerged}
+use Rattle.chan_areas.specs.Merged.{AreExactly, AreRuns, HaveSameBytes, MergedIsUnique}
 use Rattle.std.proofs.Math.Seq.{take-length}
 
 -- ---- bytes of areas
@@ -135,7 +134,7 @@ bytes_above n [] b h k = absurd (both_ways (lies_in [] b) (lies_in-nil b) k)
 bytes_above n (x ∷ xs) b h k = search (rules, lies_in-cases, bytes_above n xs b h.1)
 
 -- no byte of a merged list lies before its first area
-bytes_from : (x : Area) (xs : List Area) (b : ℕ) → IsMerged (x ∷ xs) → lies_in (x ∷ xs) b ≡ true → x.start ≤ b
+pub bytes_from : (x : Area) (xs : List Area) (b : ℕ) → IsMerged (x ∷ xs) → lies_in (x ∷ xs) b ≡ true → x.start ≤ b
 bytes_from x xs b m h = search (rules, lies_in-cases, bytes_above)
 
 first_byte : (x : Area) (xs : List Area) → IsMerged (x ∷ xs) → lies_in (x ∷ xs) x.start ≡ true
@@ -198,27 +197,29 @@ ends_low n (a ∷ rest) merged low =
     All-cons (EndsBelow n) a rest (omega (arith, last, merged.0)) (ends_low n rest merged.2 (λ b lies. low b (lies_in-rest a rest b lies)))
 
 -- so merged areas end where the areas do that they have the bytes of
-pub merged_low : (n : ℕ) (merged areas : List Area) → IsMerged merged → HaveSameBytes merged areas
-    → All (EndsBelow n) areas → All (EndsBelow n) merged
-merged_low n merged areas is same low = ends_low n merged is (λ b lies. lies_low n areas b low (sym (same b) ∙ lies))
+pub exactly_low : (n : ℕ) (areas merged : List Area) → AreExactly (λ b. lies_in areas b ≡ true) merged → All (EndsBelow n) areas → All (EndsBelow n) merged
+exactly_low n areas merged h low = ends_low n merged h.merged (λ b lies. lies_low n areas b low ((h.bytes b).0 lies))
+
+-- merged areas with the bytes of areas that are sorted have those of the areas as they were given
+pub exactly_sorted : (xs sorted given merged : List Area) → IsPermutation xs sorted → given ≡ sorted → IsMerged merged → HaveSameBytes merged given → AreExactly (λ b. lies_in xs b ≡ true) merged
+exactly_sorted xs sorted given merged p e m h =
+    let same : HaveSameBytes merged xs = λ b. h b ∙ ap (λ z. lies_in z b) e ∙ sym (bytes_moved xs sorted b p) in
+    record { merged = m; bytes = λ b. ((λ k. sym (same b) ∙ k), λ k. same b ∙ k) }
 
 -- the bytes of two lists, merged
-pub merged_both : {P Q : ℕ → Type 0} (xs ys merged : List Area) → HaveSameBytes merged (xs ++ ys)
-    → ((b : ℕ) → (lies_in xs b ≡ true) ↔ P b) → ((b : ℕ) → (lies_in ys b ≡ true) ↔ Q b) → (b : ℕ)
-    → (lies_in merged b ≡ true) ↔ (P b ⊎ Q b)
-merged_both {P} {Q} xs ys merged same first second b =
-    let both = same b ∙ lies_in-append xs ys b in (
-      λ lies. elim (or_cases (lies_in xs b) (lies_in ys b) (sym both ∙ lies)) [
-        | inl l ↦ inl ((first b).0 l)
-        | inr l ↦ inr ((second b).0 l)
-      ],
-      λ is. both ∙ elim is [
-        | inl p ↦ or_left (lies_in xs b) (lies_in ys b) ((first b).1 p)
-        | inr q ↦ or_right (lies_in xs b) (lies_in ys b) ((second b).1 q)
-      ],
-    )
-
--- what follows from two things that a call says of its value
-pub IfOk-two : {T E : Type 0} (r : Result T E) (P Q R : T → Type 0) → ((x : T) → P x → Q x → R x) → IfOk r P → IfOk r Q → IfOk r R
-IfOk-two (Ok x) P Q R f p q = f x p q
-IfOk-two (Err e) P Q R f p q = tt
+pub merged_both : {P Q : ℕ → Type 0} (xs ys all merged : List Area) → all ≡ xs ++ ys → AreExactly (λ b. lies_in all b ≡ true) merged
+    → ((b : ℕ) → (lies_in xs b ≡ true) ↔ P b) → ((b : ℕ) → (lies_in ys b ≡ true) ↔ Q b) → AreExactly (λ b. P b ⊎ Q b) merged
+merged_both {P} {Q} xs ys all merged e h first second = record {
+  merged = h.merged;
+  bytes = λ b.
+      let both = ap (λ z. lies_in z b) e ∙ lies_in-append xs ys b in (
+        λ lies. elim (or_cases (lies_in xs b) (lies_in ys b) (sym both ∙ (h.bytes b).0 lies)) [
+          | inl l ↦ inl ((first b).0 l)
+          | inr l ↦ inr ((second b).0 l)
+        ],
+        λ is. (h.bytes b).1 (both ∙ elim is [
+          | inl p ↦ or_left (lies_in xs b) (lies_in ys b) ((first b).1 p)
+          | inr q ↦ or_right (lies_in xs b) (lies_in ys b) ((second b).1 q)
+        ]),
+      );
+}

@@ -1,15 +1,15 @@
 -- Binary search in merged areas.
 use Rattle.std.proofs.Common.{◌≡◌, ℕ, zero, suc, ◌+◌, ◌<◌, ◌≤◌, true, false, leb, max, List, []}
 use Rattle.std.proofs.Common.{◌∷◌, length, get_or, Option, Some, None, sym, subst, ◌⊎◌, inl, inr}
-use Rattle.std.proofs.Common.{◌↔◌, arith, Bor, MatchOption, option_copied, rules}
-use Rattle.std.specs.List.{HoldsAt}
+use Rattle.std.proofs.Common.{◌^◌, ◌↔◌, arith, Bor, MatchOption, option_copied, rules}
+use Rattle.std.specs.List.{All, HoldsAt}
 use Rattle.std.specs.List.Sorted.{IsNonDecreasingBy, IsPartitionPoint}
 use Rattle.std.proofs.lemmas.Bool.{cases_lt, leb-false, both_ways, false_from_ne_true}
 use Rattle.ccw_core.specs.declared.areas.Area.{Area}
-use Rattle.ccw_core.specs.Areas.{lies_in, covered}
-use Rattle.ccw_core.proofs.Covering.{lies_in-at, lies_in-nil, covered-true, covered-false}
-use Rattle.chan_areas.specs.Ranges.{IsByteOf, end_of, BeginAbove, IsMerged, IsFirstAbove}
-use Rattle.chan_areas.specs.Ranges.{IsNextArea, Meets}
+use Rattle.ccw_core.specs.Areas.{end_of, lies_in}
+use Rattle.ccw_core.proofs.Covering.{lies_in-at, lies_in-nil}
+use Rattle.chan_areas.specs.Merged.{IsByteOf, BeginAbove, EndsBelow, IsMerged}
+use Rattle.chan_areas.specs.Merged.{IsFirstAbove, IsNextArea, Meets}
 use Rattle.chan_areas.proofs.Merging.{lies_in-cases}
 
 -- ---- merged areas by their places in the list
@@ -55,9 +55,10 @@ not_before xs n at k b d cut w le l h = search rules
 pub found_none : (xs : List Area) (n at : ℕ) → IsCut xs n at → at ≤ length xs → length xs ≤ at → (b : ℕ) → n ≤ b → lies_in xs b ≡ false
 found_none xs n at cut w l b le = false_from_ne_true (lies_in xs b) (λ h. let z : Area = record { start = 0; len = 0 } in let r = area_at xs z b h in let k = not_before xs n at r.0 b z cut w le r.1 r.2 in omega (arith, r.1))
 
-pub found_some : (xs : List Area) (n at : ℕ) (d : Area) → IsMerged xs → IsCut xs n at → at < length xs → IsFirstAbove xs n (get_or xs at d)
-found_some xs n at d m cut l = record {
+pub found_some : (xs : List Area) (n at : ℕ) (d : Area) → IsMerged xs → All (EndsBelow (2 ^ 32)) xs → IsCut xs n at → at < length xs → IsFirstAbove xs n (get_or xs at d)
+found_some xs n at d m low cut l = record {
   ends = let f = leb-false _ _ (cut.1 at d (omega arith) l) in omega arith;
+  low = low at d l;
   filled = merged_len xs at d m l;
   before = λ b le lt. false_from_ne_true (lies_in xs b) (λ h. let r = area_at xs d b h in let k = not_before xs n at r.0 b d cut (omega arith) le r.1 r.2 in earlier r.0 b k r.1 r.2 lt);
   inside = λ b le lt. lies_in-at xs at d b l le lt;
@@ -71,9 +72,9 @@ found_some xs n at d m cut l = record {
     next k lt h g f = search (rules, merged_order)
 
 -- the area at that place, where there is one
-pub found : (xs : List Area) (n at : ℕ) (o : Option (Bor Area)) → IsMerged xs → IsCut xs n at → at ≤ length xs → MatchOption o (length xs ≤ at) (λ x. (at < length xs) × HoldsAt (λ y. x.now ≡ y) xs at) → IsNextArea xs n (option_copied o)
-found xs n at None m cut w h = found_none xs n at cut w h
-found xs n at (Some x) m cut w h = subst (λ a. IsFirstAbove xs n a) (sym (h.1 x.now)) (found_some xs n at x.now m cut h.0)
+pub found : (xs : List Area) (n at : ℕ) (o : Option (Bor Area)) → IsMerged xs → All (EndsBelow (2 ^ 32)) xs → IsCut xs n at → at ≤ length xs → MatchOption o (length xs ≤ at) (λ x. (at < length xs) × HoldsAt (λ y. x.now ≡ y) xs at) → IsNextArea xs n (option_copied o)
+found xs n at None m low cut w h = found_none xs n at cut w h
+found xs n at (Some x) m low cut w h = subst (λ a. IsFirstAbove xs n a) (sym (h.1 x.now)) (found_some xs n at x.now m low cut h.0)
 
 -- ---- what the area found says of a range
 
@@ -88,11 +89,3 @@ meets_next xs start len a p n = (to, from)
 
     from : Meets xs start len → a.start < start + len
     from k = search (rules, cases_lt, late)
-
-pub covered_next : (xs : List Area) (start len : ℕ) (a : Area) → IsFirstAbove xs start a → a.start ≤ start → start + len ≤ end_of a → covered xs start len ≡ true
-covered_next xs start len a n s e = covered-true xs start len (λ b l h. n.inside b (omega arith) (omega arith))
-
-pub uncovered_end : (xs : List Area) (start len : ℕ) (a : Area) → IsFirstAbove xs start a → end_of a < start + len → covered xs start len ≡ false
-uncovered_end xs start len a n e = let s = n.ends in covered-false xs start len (end_of a) (omega arith) e n.after
-
-pub ruleset covers_or_not = (uncovered_end, covered_next, cases_lt)

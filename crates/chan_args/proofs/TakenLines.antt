@@ -18,9 +18,8 @@ use Rattle.chan_args.specs.Lines.{chanv}
 use Rattle.chan_args.proofs.Names.{if◌then◌else◌, App, ErrorKind, Kinds, Rule, Shape, append-nil}
 use Rattle.chan_args.proofs.Names.{append_assoc, argument_words, built, bytes_eq, bytes_eq-Decides}
 use Rattle.chan_args.proofs.Names.{chars, entered, find, fold, help_shape, label_of, long_of}
-use Rattle.chan_args.proofs.Names.{names_of}
-use Rattle.chan_args.proofs.Names.{option_map, option_map_or, or_else, rows_at, short_of, slice_get}
-use Rattle.chan_args.proofs.Names.{slice_index_or, subcommand_of, topic_rule}
+use Rattle.chan_args.proofs.Names.{names_of, option_map, option_map_or, or_else, rows_at, short_of}
+use Rattle.chan_args.proofs.Names.{slice_get, slice_index_or, subcommand_of, topic_rule}
 use Rattle.chan_args.specs.declared.action.Action.TheVariants as actions
 
 -- the commands below `chanv`, as clap builds them, in turn: show, verify, list, why, graph, needs,

@@ -52,7 +52,8 @@ action_name actions.Needs = codes "needs"
 
 -- it met no command, or that of an action, or `show` with its word, or `deck`, `explain` or `find`
 abbrev pub IsKnown : Option (Text × List Row) → Type 0
-IsKnown met = (name_met met ≡ None) ⊎ (((action : Action) × (name_met met ≡ Some (action_name action)))
+IsKnown met =
+    (name_met met ≡ None) ⊎ (((action : Action) × (name_met met ≡ Some (action_name action)))
     ⊎ (((name_met met ≡ Some (codes "show")) × IsSome (ccw_met met))
     ⊎ ((name_met met ≡ Some (codes "deck")) ⊎ ((name_met met ≡ Some (codes "explain"))
     ⊎ (name_met met ≡ Some (codes "find"))))))

@@ -1,6 +1,6 @@
 //! The command line: which words ask for what.
 
-ghost use Rattle.std.specs.Prelude.{◌≡◌, ◌↔◌, IfErr, IfOk, IsSome, IsTrue, OnOk, Some, codes, map};
+ghost use Rattle.std.specs.Prelude.{◌↔◌, IfErr, IfOk, IsSome, IsTrue, OnOk, Some, codes, map};
 ghost use Rattle.std.specs.Prelude.{string_bytes};
 ghost use Rattle.clap.specs.Words.{HasKind, fault_of, first_of, found_of, rows_of};
 ghost use Rattle.clap.specs.Words.{subcommand_of, subcommand_rows_of};

@@ -2,9 +2,8 @@
 
 ghost use Rattle.std.specs.Prelude.{◌≡◌, false, IfOk, IsOkAnd};
 ghost use Rattle.clap.specs.Words.{App, app_of, new_app, rule_of, with_rule, with_subcommand};
-ghost use Rattle.chan_args.specs.Lines.{chanv, bare_program};
+ghost use Rattle.chan_args.specs.Lines.{chanv, bare_program, line_in, rule_in, with_lines};
 ghost use Rattle.chan_args.specs.CommandWords.{IsCommand};
-ghost use Rattle.chan_args.specs.Lines.{line_in, rule_in, with_lines};
 
 use clap::{Arg, ArgAction, Command};
 use std::alloc::{AllocError, Global};

@@ -11,12 +11,12 @@ use Rattle.ccw_core.specs.Ccw.{Fields}
 use Rattle.ccw_core.specs.Storage.{ccw_at}
 use Rattle.ckd_core.specs.Command.{Entry as TableEntry}
 use Rattle.ckd_core.specs.Mask.{is_mask, least_permitted}
-use Rattle.chan_why.specs.declared.evidence.Outside.TheVariants.{Bin, Head}
+use Rattle.chan_walk.specs.declared.evidence.Outside.TheVariants.{Bin, Head}
 use Rattle.chan_walk.specs.declared.offence.Offence.{Offence}
-use Rattle.chan_why.specs.declared.evidence.Evidence.{Evidence}
+use Rattle.chan_walk.specs.declared.evidence.Evidence.{Evidence}
 use Rattle.chan_walk.specs.declared.place.Place.{Place}
 use Rattle.chan_walk.specs.declared.argument.GivenBytes.{GivenBytes}
-use Rattle.chan_walk.specs.Given.{addresses_given}
+use Rattle.chan_walk.specs.Read.{addresses_given}
 use Rattle.chan_deck.specs.Explanation.{also_after, also_lines, next_lines, argument_text}
 use Rattle.chan_deck.specs.Explanation.{given_text, path_rows, ranges_text, seek_text, taken_text}
 use Rattle.chan_deck.specs.Explanation.{weaker_text}

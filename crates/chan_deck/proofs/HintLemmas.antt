@@ -1,15 +1,13 @@
 -- What the lines before a refused line say, line by line.
 use Rattle.std.proofs.Common.{◌≡◌, ℕ, ◌+◌, ◌<◌, Bool, true, if◌then◌else◌, List, [], ◌∷◌, ◌++◌}
-use Rattle.std.proofs.Common.{length, take, drop, map, Option, Some, None, is_some, not, refl, sym}
+use Rattle.std.proofs.Common.{length, take, map, Option, Some, None, is_some, not, refl, sym}
 use Rattle.std.proofs.Common.{ap, subst, ◌∙◌, arith, append_assoc, length-append}
 use Rattle.std.specs.List.{AllByRecursion}
-use Rattle.std.proofs.lemmas.List.{append-nil, append_cancel_left, take-append-drop, take-append-le}
-use Rattle.std.proofs.lemmas.List.{take_all}
+use Rattle.std.proofs.lemmas.List.{append-nil, take-append-le, take_all}
 use Rattle.chan_deck.specs.Hint.{AreBefore, IsBehind, storage_said}
 use Rattle.chan_deck.specs.Item.{Item, header, storage, line, HasForm, IsSaid, Says, Reads, said_by}
 use Rattle.chan_deck.specs.Reading.{is_empty}
-use Rattle.chan_deck.specs.Refused.{found_behind, found_in, is_second, last_of, lines, part, split}
-use Rattle.chan_deck.specs.Refused.{whole_line}
+use Rattle.chan_deck.specs.Refused.{is_second, last_of, lines, split}
 use Rattle.chan_deck.specs.declared.hint.Before.{Before}
 use Rattle.chan_deck.specs.declared.item.Item as said
 use Rattle.chan_deck.specs.declared.version.VersionNumber.TheVariants as numbers
@@ -138,23 +136,3 @@ pub fewer_behind : (t : List ℕ) (n k : ℕ) (b : Before) (rest : List ℕ) →
 fewer_behind t n k b rest h more none =
     behind t n k b rest h
     (ap (λ (p : List (List ℕ) × List ℕ). take n p.0) (h.parts ∙ ap (λ (p : List (List ℕ) × List ℕ). (h.done ++ p.0, p.1)) none) ∙ ap (take n) (append-nil h.done) ∙ take_all n h.done (omega (arith, h.count, more)))
-
--- what is behind so many lines
-found_left : (t : List ℕ) (n : ℕ) (b : Before) (rest : List ℕ)
-    → IsBehind t n b rest → found_behind n t ≡ found_in (split rest).0 (split rest).1
-found_left t n b rest h =
-    let ls : take n (lines t) ++ drop n (lines t) ≡ take n (lines t) ++ (split rest).0 =
-    take-append-drop n (lines t) ∙ ap (λ (p : List (List ℕ) × List ℕ). p.0) h.left in
-    let left : drop n (lines t) ≡ (split rest).0 = append_cancel_left (take n (lines t)) _ _ ls in
-    ap (λ x. found_in x (split t).1) left ∙ ap (λ (p : List (List ℕ) × List ℕ). found_in (split rest).0 p.1) h.left
-
-pub found_line : (t : List ℕ) (n : ℕ) (b : Before) (rest l after : List ℕ)
-    → IsBehind t n b rest → split rest ≡ (l ∷ (split after).0, (split after).1)
-    → found_behind n t ≡ whole_line l
-found_line t n b rest l after h e =
-    found_left t n b rest h ∙ ap (λ (p : List (List ℕ) × List ℕ). found_in p.0 p.1) e
-
-pub found_part : (t : List ℕ) (n : ℕ) (b : Before) (rest : List ℕ)
-    → IsBehind t n b rest → split rest ≡ ([], rest) → found_behind n t ≡ part rest
-found_part t n b rest h e =
-    found_left t n b rest h ∙ ap (λ (p : List (List ℕ) × List ℕ). found_in p.0 p.1) e

@@ -26,10 +26,6 @@ puts-append (suc m) n at xs ys h =
     let rest = puts-append m n (at + 8) (drop 8 xs) ys (omega (arith, length-drop 8 xs)) in
     rw (k, take-append-le 8 xs ys long, drop-append-le 8 xs ys long, at-is, rest) (both (is_zero (take 8 xs)) (puts m (at + 8) (drop 8 xs)) (put at (take 8 xs)) (puts n (at + 8 + 8 * m) ys))
 
-zeros_zero : (m : ℕ) → is_zero (replicate m 0) ≡ true
-zeros_zero zero = refl
-zeros_zero (suc m) = zeros_zero m
-
 take-zeros : (k m : ℕ) → is_zero (take k (replicate m 0)) ≡ true
 take-zeros zero m = refl
 take-zeros (suc k) zero = refl

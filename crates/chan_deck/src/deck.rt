@@ -14,13 +14,20 @@ use std::marker::Model;
 /// A storage image with its job, as a deck spells them. `read_deck` makes one, and `upgrade`.
 #[derive(Drop)]
 pub struct Deck {
+    /// The version of its text; version 2 has the limit on places too.
     pub(crate) version: Version,
     pub(crate) device: Device,
+    /// The file mask that the supervisor set.
     pub(crate) mask: FileMask,
+    /// The address of the first CCW.
     pub(crate) start: u32,
+    /// The cylinders of the file.
     pub(crate) extents: Extents,
+    /// The areas lent for fetching, in the order of their lines.
     pub(crate) fetch: Vec<Area>,
+    /// The areas lent for storing, in the order of their lines.
     pub(crate) store: Vec<Area>,
+    /// Main storage from address 0 on, zeros included: at most 16,777,216 bytes.
     pub(crate) storage: Vec<u8>,
 }
 

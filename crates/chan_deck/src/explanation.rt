@@ -1,19 +1,18 @@
 //! The explanation of a verdict: what `chanv why` writes.
 
-ghost use Rattle.std.specs.Prelude.{◌≡◌, ◌++◌, string_bytes, IfOk, OnOk};
-ghost use Rattle.std.specs.Prelude.{option_map, slice_get};
+ghost use Rattle.std.specs.Prelude.{◌≡◌, ◌++◌, string_bytes, IfOk, OnOk, option_map, slice_get};
 ghost use Rattle.chan_deck.specs.Explanation as texts;
 ghost use Rattle.chan_deck.specs.Listing.{command_name};
 ghost use Rattle.ckd_core.specs.Entries.{entry_of};
 ghost use Rattle.ckd_core.specs.Further as further_codes;
-ghost use Rattle.chan_why.specs.declared.evidence.Evidence.TheVariants as because;
+ghost use Rattle.chan_walk.specs.declared.evidence.Evidence.TheVariants as because;
 ghost use Rattle.chan_walk.specs.Job.{storage_of};
 
 use crate::listing::{push_row, standing_at};
 use crate::texts::{Address, Digits, Range, Size, verdict_text};
 use ccw_core::Area;
-use chan_walk::{GivenBytes, Job, Offence, Place, Survey};
-use chan_why::{Evidence, Outside, Witness};
+use chan_walk::{Evidence, GivenBytes, Job, Offence, Outside, Place, Survey};
+use chan_why::Witness;
 use ckd_core::{Command, FileMask, further_name, lookup};
 use std::alloc::{AllocError, Global};
 use std::fmt::Write as _;
@@ -415,7 +414,7 @@ pub fn explanation_text(
 ) -> Result<String, AllocError>
     ensures { IfOk result
         (λ t. string_bytes t ≡ texts.explanation (storage_of job.now)
-        survey.now.offences.items causes.now witness.now) }
+        survey.now.offences causes.now witness.now) }
 {
     let mut text = verdict_text(alloc, survey.verdict())?;
     push_witness(alloc, &mut text, job, witness)?;

@@ -1,7 +1,7 @@
 //! The hint for the line at which a text is refused. The place of the line and the forms that may
 //! come there are proved; tests hold the wording.
 
-ghost use Rattle.std.specs.Prelude.{◌≡◌, ◌++◌, ◌∷◌, [], List, Option as Maybe, Some};
+ghost use Rattle.std.specs.Prelude.{◌≡◌, ◌++◌, ◌∷◌, [], List, Some};
 ghost use Rattle.chan_deck.specs.Hint.{AreBefore, IsBehind, IsSpot, storage_said};
 ghost use Rattle.chan_deck.specs.Item.{Item as Said, said_by};
 ghost use Rattle.chan_deck.specs.Refused.{is_second};

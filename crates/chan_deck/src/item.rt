@@ -1,6 +1,6 @@
 //! What a line of a deck says, read and written.
 
-ghost use Rattle.std.specs.Prelude.{◌≡◌, ◌<◌, ◌^◌, ℕ, List, [], length, ◌∷◌, ◌++◌, IfSome, OnOk};
+ghost use Rattle.std.specs.Prelude.{◌≡◌, ◌<◌, ℕ, List, [], length, ◌∷◌, ◌++◌, OnOk};
 ghost use Rattle.std.specs.Prelude.{MatchBool, MatchOption};
 ghost use Rattle.std.specs.Int.{w64, to_be_bytes};
 ghost use Rattle.chan_deck.specs.Item.{HasDecimals, IsArea, Reads, Says, area_digits, device};
@@ -9,7 +9,6 @@ ghost use Rattle.chan_deck.specs.Item as item;
 ghost use Rattle.chan_deck.specs.declared.version.VersionNumber.{VersionNumber};
 
 use crate::digits::{address_of, byte_of, cylinder_of, places_of, size_of, word_of};
-use crate::lines::PUT_LINE;
 use crate::spelling::{
     cylinder_digits, limit_digits, push_address, push_area_digits, push_digits, push_size,
 };
@@ -17,6 +16,9 @@ use crate::version::VersionNumber;
 use ccw_core::Area;
 use ckd_core::Device;
 use std::alloc::{AllocError, Global};
+
+/// The length of a line that puts a doubleword, as nearly all lines of a long deck do.
+pub(crate) const PUT_LINE: usize = 27;
 
 /// What a line of a deck says.
 #[derive(Clone, Copy)]

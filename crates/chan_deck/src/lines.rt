@@ -7,10 +7,7 @@ ghost use Rattle.chan_deck.specs.Refused.{split};
 
 use crate::cause::Cause;
 use crate::error::DeckError::{self, At};
-use crate::item::Item;
-
-/// The length of a line that puts a doubleword, as nearly all lines of a long deck do.
-pub(crate) const PUT_LINE: usize = 27;
+use crate::item::{Item, PUT_LINE};
 
 /// The length of a line that lends an area.
 const AREA_LINE: usize = 19;

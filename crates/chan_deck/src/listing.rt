@@ -1,6 +1,6 @@
 //! The listing of the places that a program can come to.
 
-ghost use Rattle.std.specs.Prelude.{◌≡◌, ◌↔◌, ◌++◌, false, true, option_map, string_bytes, List, ℕ};
+ghost use Rattle.std.specs.Prelude.{◌≡◌, ◌↔◌, ◌++◌, false, true, option_map, string_bytes};
 ghost use Rattle.std.specs.Prelude.{IfOk, IsErr, IsErrOf, OnOk};
 ghost use Rattle.ckd_core.specs.Entries.{entry_of};
 ghost use Rattle.std.specs.List.{flat_map};

@@ -3,8 +3,7 @@
 ghost use Rattle.std.specs.Prelude.{◌≡◌, [], IfOk};
 ghost use Rattle.chan_deck.specs.Item.{said_by};
 ghost use Rattle.chan_deck.specs.Reading.{Filling, LeadsOrFails, Listing, after_list_line};
-ghost use Rattle.chan_deck.specs.Reading.{after_line};
-ghost use Rattle.chan_deck.specs.Reading.{with_lists};
+ghost use Rattle.chan_deck.specs.Reading.{after_line, with_lists};
 ghost use Rattle.chan_deck.specs.declared.heading.Heading.{Heading};
 
 use crate::cause::Cause;

@@ -5,11 +5,10 @@ use Rattle.chan_walk.specs.declared.job.Job.{Job}
 use Rattle.chan_walk.specs.declared.place.Place.{Place}
 use Rattle.chan_walk.specs.Fault.{IsClear, kind_of}
 use Rattle.chan_walk.specs.Limit.{usual_limit}
-use Rattle.chan_walk.specs.OpenJob.{open_job}
+use Rattle.chan_walk.specs.OpenJob.{open_job, IsOpenJob}
 use Rattle.chan_walk.specs.Place.{ccw_of}
 use Rattle.chan_find.specs.Programs.{start_at, IsPlain, StepsTo, IsTrail, LeadsTo, IsSecond}
 use Rattle.chan_find.specs.Programs.{HasSecondFrom, IsLikely, IsProgramStart, AreProgramStarts}
-use Rattle.chan_walk.specs.OpenJob.{IsOpenJob}
 use Rattle.chan_walk.specs.Successor.{Successor, next_of, skip_of}
 use Rattle.chan_walk.proofs.Theory.Granting.{ccw_over}
 use Rattle.chan_walk.proofs.Algorithms.Granted.{same_at}

@@ -9,7 +9,7 @@ use Rattle.chan_walk.specs.declared.job.Job.{Job}
 use Rattle.chan_walk.specs.declared.place.Place.{Place}
 use Rattle.chan_walk.specs.declared.successor.Next.{Next}
 use Rattle.chan_walk.specs.Argument.{Has}
-use Rattle.chan_find.specs.Trails.{HasByte, IsMarked, IsPut, IsGrown, AreClosed, IsCovered}
+use Rattle.chan_find.specs.Trails.{HasByte, IsMarked, IsPut, IsGrown, AreClosed}
 use Rattle.chan_walk.specs.Fault.{is_known}
 use Rattle.chan_walk.specs.Job.{storage_of}
 use Rattle.chan_walk.specs.Look.{IsLook, Seen}
@@ -17,16 +17,15 @@ use Rattle.chan_walk.specs.Place.{ccw_of}
 use Rattle.chan_find.specs.Programs.{start_at, IsPlain, StepsTo, HasTrail}
 use Rattle.chan_walk.specs.Successor.{AreSuccessors}
 use Rattle.chan_walk.proofs.Theory.Checks.{no_second_transfer}
-use Rattle.chan_walk.proofs.Theory.Faults.{clear_check, clear_good, fault_unique}
+use Rattle.chan_walk.proofs.Theory.Faults.{clear_check, clear_good, clear_stands}
 use Rattle.chan_walk.proofs.Theory.Lists.{has_left, has_push}
-use Rattle.chan_walk.proofs.Theory.Faults.{clear_stands}
-use Rattle.chan_walk.proofs.Algorithms.Looking.{ccw_seen}
+use Rattle.chan_walk.proofs.Algorithms.Looking.{ccw_seen, clear_shows_none}
 use Rattle.chan_find.proofs.Tabling.{aligned_rest, inside_low, marked_byte}
 
 -- ---- plain places
 
 pub plain_fault : (j : Job) (l : Seen) → IsLook j l → IsPlain j l.place → l.fault ≡ None
-plain_fault j l look p = fault_unique j l.place l.fault None look.fault p.clear
+plain_fault j l look p = clear_shows_none j l.place l.fault p.clear look.fault
 
 pub plain_seen : (j : Job) (l : Seen) → IsLook j l → IsPlain j l.place → l.ccw ≡ Some (ccw_of j l.place)
 plain_seen j l look p = ccw_seen j l look (clear_stands j l.place p.clear)
@@ -70,18 +69,6 @@ grown_put o q m ps n qs e len put is = record {
     pending : (p : Place) → Has ps p ⊎ (q ≡ p) → Has ps p ⊎ IsMarked n p
     pending p (inl h) = inl h
     pending p (inr f) = inr ((put.marks p).1 (inr f))
-
--- nothing is marked anew
-pub grown_not : (P : Place → Type 0) (m : List ℕ) (ps : List Place) (n : List ℕ) (qs : List Place) → n ≡ m → qs ≡ ps → ((p : Place) → P p → HasByte m p → IsMarked m p) → IsGrown P m ps n qs
-grown_not P m ps n qs e f there = subst (λ z. IsGrown P m ps z qs) (sym e) (subst (λ z. IsGrown P m ps m z) (sym f) (record {
-  len = refl;
-  keeps = λ p h. h;
-  only = λ p h. inl h;
-  each = there;
-  stays = λ p h. h;
-  pending = λ p h. inl h;
-  fewer = omega arith;
-}))
 
 pub grown_both : (P Q : Place → Type 0) (m : List ℕ) (ps : List Place) (n : List ℕ) (qs : List Place) (o : List ℕ) (rs : List Place) → IsGrown P m ps n qs → IsGrown Q n qs o rs → IsGrown (λ p. P p ⊎ Q p) m ps o rs
 grown_both P Q m ps n qs o rs one other = record {
@@ -151,10 +138,6 @@ stepped j p next m ps n qs o rs u ts are plain a b c =
     grown_as _ (StepsTo j p) m ps u ts (steps_exactly j p next are plain)
     (grown_both (λ q. (next.next ≡ Some q) ⊎ (next.skip ≡ Some q)) (λ q. Some (start_at p.address) ≡ Some q) m ps o rs u ts (grown_both (λ q. next.next ≡ Some q) (λ q. next.skip ≡ Some q) m ps n qs o rs a b) c)
 
--- a place that isn't plain steps to nothing
-pub stepped_nowhere : (j : Job) (p : Place) (m : List ℕ) (ps : List Place) → (IsPlain j p → ⊥) → IsGrown (StepsTo j p) m ps m ps
-stepped_nowhere j p m ps n = grown_not (StepsTo j p) m ps m ps refl refl (λ q s b. absurd (n s.0))
-
 -- ---- what one start leads to
 
 -- what holds while a start is followed: n grows from m, and what its places step to is marked, but for the pending places
@@ -168,28 +151,6 @@ pub record IsFollowed (j : Job) (a : ℕ) (m n : List ℕ) (ps : List Place) : T
 
 byte_of : (m n : List ℕ) (p : Place) → length n ≡ length m → HasByte m p → HasByte n p
 byte_of m n p e b = record { aligned = b.aligned; within = omega (arith, b.within, e) }
-
-pub followed_first : (j : Job) (a : ℕ) (m n : List ℕ) (ps qs : List Place) → AreClosed j m → ps ≡ [] → IsGrown (λ q. Some (start_at a) ≡ Some q) m ps n qs → IsFollowed j a m n qs
-followed_first j a m n ps qs closed none g = record {
-  len = g.len;
-  keeps = g.keeps;
-  begins = λ b. g.each (start_at a) refl b;
-  only = λ p h. only p (g.only p h);
-  marked = λ p h. marked p (g.pending p h);
-  closed = λ p q h s b. close p q (g.only p h) s b;
-}
-  where
-    only : (p : Place) → IsMarked m p ⊎ ((Some (start_at a) ≡ Some p) × Has qs p) → IsMarked m p ⊎ HasTrail j a p
-    only p (inl h) = inl h
-    only p (inr h) = let e = h.0 in let same : start_at a ≡ p = cc in inr ([], sym same)
-
-    marked : (p : Place) → Has ps p ⊎ IsMarked n p → IsMarked n p
-    marked p (inl h) = absurd (subst (λ z. Has z p) none h)
-    marked p (inr h) = h
-
-    close : (p q : Place) → IsMarked m p ⊎ ((Some (start_at a) ≡ Some p) × Has qs p) → StepsTo j p q → HasByte n q → IsMarked n q ⊎ Has qs p
-    close p q (inl h) s b = inl (g.keeps q (closed p q h s (byte_of n m q (sym g.len) b)))
-    close p q (inr h) s b = inr h.1
 
 -- the last pending place is followed
 pub followed_on : (j : Job) (a : ℕ) (m n o : List ℕ) (ps qs rs : List Place) (p : Place) → AreClosed j m → IsFollowed j a m n ps → ps ≡ qs ++ p ∷ [] → IsGrown (StepsTo j p) n qs o rs → IsFollowed j a m o rs
@@ -229,14 +190,6 @@ followed_on j a m n o ps qs rs p closed f is g = record {
         one : IsMarked n r ⊎ Has ps q → IsMarked o r ⊎ Has rs q
         one (inl k) = inl (g.keeps r k)
         one (inr k) = two ((has_push qs p q).0 (subst (λ z. Has z q) is k))
-
--- nothing is pending any more
-pub followed_all : (j : Job) (a : ℕ) (m n : List ℕ) (ps : List Place) → IsFollowed j a m n ps → ps ≡ [] → AreClosed j n × IsCovered j a m n
-followed_all j a m n ps f none = ((λ p q h s b. end p q (f.closed p q h s b)), record { keeps = f.keeps; begins = f.begins; only = f.only })
-  where
-    end : (p q : Place) → IsMarked n q ⊎ Has ps p → IsMarked n q
-    end p q (inl h) = h
-    end p q (inr h) = absurd (subst (λ z. Has z p) none h)
 
 -- ---- the table is as long as storage
 

@@ -214,9 +214,6 @@ passed_led j Before P Done ms ys u b p d = u.come (start_at b) (u.each b p d)
 abbrev pub IsUpTo : Job → List ℕ → List ℕ → ℕ → Type 0
 IsUpTo j ms roots n = IsPassed j (λ b c. b < c) (IsLikely j) (λ b. b < n) ms roots
 
-pub up_none : (j : Job) (ms roots : List ℕ) → ((p : Place) → IsMarked ms p → ⊥) → roots ≡ [] → IsUpTo j ms roots 0
-up_none j ms roots none d = passed_none j (λ b c. b < c) (IsLikely j) (λ b. b < 0) ms roots (λ b l k. omega (arith, k)) none d
-
 aligned_next : (k b : ℕ) → is_aligned b ≡ true → b < k * 8 + 8 → (b < k * 8) ⊎ (b ≡ k * 8)
 unfolding is_aligned
 aligned_next k b e l = pick (cases_lt b (k * 8))

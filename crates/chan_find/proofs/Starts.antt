@@ -1,6 +1,5 @@
 -- Starts of programs: what leads to what, and that two passes find them.
-use Rattle.std.proofs.Common.{◌≡◌, ℕ, ◌<◌, ◌≤◌, List, [], ◌∷◌, refl, sym, subst, ◌⊎◌, inl, inr}
-use Rattle.std.proofs.Common.{arith}
+use Rattle.std.proofs.Common.{◌≡◌, ℕ, ◌<◌, ◌≤◌, List, [], ◌∷◌, sym, subst, ◌⊎◌, inl, inr, arith}
 use Rattle.std.proofs.lemmas.Bool.{cases_lt}
 use Rattle.chan_walk.specs.declared.job.Job.{Job}
 use Rattle.chan_walk.specs.declared.place.Place.{Place}
@@ -9,9 +8,6 @@ use Rattle.chan_find.specs.Programs.{IsHigh, AreLedTo, IsRoot, TwiceIsEnough, No
 use Rattle.chan_find.specs.Programs.{ProgramsAreApart}
 
 -- ---- leading is a preorder
-
-pub leads_self : (j : Job) (a : ℕ) → LeadsTo j a a
-leads_self j a = ([], refl)
 
 -- a trail goes on where another ended
 pub trail_on : (j : Job) (a b : ℕ) (p : Place) → LeadsTo j a b → HasTrail j b p → HasTrail j a p

@@ -1,12 +1,11 @@
 -- The flat table of marks: what one mark more changes, and how many are left.
 use Rattle.std.proofs.Common.{◌≡◌, ℕ, zero, suc, ◌+◌, ◌-◌, ◌*◌, ◌/◌, ◌%◌, ◌^◌, ◌<◌, ◌≤◌, true, List}
-use Rattle.std.proofs.Common.{length, slice_index, slice_set, replicate, refl, sym, ap, ◌∙◌, subst}
+use Rattle.std.proofs.Common.{length, slice_index, slice_set, refl, sym, ap, ◌∙◌, subst}
 use Rattle.std.proofs.Common.{◌⊎◌, inl, inr, arith, w8}
 use Rattle.std.specs.Int.{bit_at}
 use Rattle.std.specs.Int.RustNames.{bit_or}
 use Rattle.std.proofs.lemmas.Bool.{cases_eq, cases_lt}
-use Rattle.std.proofs.lemmas.List.{get_or-replicate, get_or_past, get_or-set_same, get_or-set_other}
-use Rattle.std.proofs.lemmas.List.{length-replicate}
+use Rattle.std.proofs.lemmas.List.{get_or_past, get_or-set_same, get_or-set_other}
 use Rattle.std.proofs.lemmas.List.Sums.{sum_by-set}
 use Rattle.std.proofs.lemmas.Nat.Bits.{bit_at_set_same, bit_at_set_other, bit_at-zero, bit_at-lt}
 use Rattle.ccw_core.specs.Storage.{is_aligned, is_inside}
@@ -50,16 +49,6 @@ inside_low n a e = grind (arith, e)
 
 same_word : (a b : ℕ) → is_aligned a ≡ true → is_aligned b ≡ true → a / 8 ≡ b / 8 → a ≡ b
 same_word a b h k e = omega (arith, aligned_rest a h, aligned_rest b k, e)
-
-pub nothing_marked : (m : List ℕ) (n : ℕ) → m ≡ replicate n 0 → (p : Place) → IsMarked m p → ⊥
-nothing_marked m n e p h = go (cases_lt (p.address / 8) n)
-  where
-    none : slice_index m (p.address / 8) ≡ 0 → ⊥
-    none z = let f : bit_at 0 (way_of p) ≡ 1 = ap (λ b. bit_at b (way_of p)) (sym z) ∙ h.on in absurd (omega (arith, bit_at-zero (way_of p), f))
-
-    go : (p.address / 8 < n) ⊎ (n ≤ p.address / 8) → ⊥
-    go (inl l) = none (ap (λ z. slice_index z (p.address / 8)) e ∙ get_or-replicate n (p.address / 8) 0 0 l)
-    go (inr l) = none (ap (λ z. slice_index z (p.address / 8)) e ∙ get_or_past (replicate n 0) (p.address / 8) 0 (simp length-replicate l))
 
 -- what is marked has a byte
 pub marked_byte : (m : List ℕ) (p : Place) → IsMarked m p → HasByte m p

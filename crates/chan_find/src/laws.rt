@@ -1,5 +1,5 @@
-//! The laws of finding programs: each is the contract of a function that does nothing, so that it is
-//! proved.
+//! The laws of finding programs: each is the contract of a function that does nothing, so that it
+//! is proved.
 
 ghost use Rattle.chan_find.specs.Programs.{NoneIsMissed, ProgramsAreApart, TwiceIsEnough};
 ghost use Rattle.chan_find.specs.Programs.{YesIsLikely};

@@ -1,6 +1,6 @@
 //! Finds the programs in storage whose starts aren't known.
 
-ghost use Rattle.std.specs.Prelude.{◌≡◌, ◌∷◌, ◌++◌, [], IsTrue, IfOk, OnOk, IsSomeAnd, ◌↔◌};
+ghost use Rattle.std.specs.Prelude.{IsTrue, IfOk, OnOk, IsSomeAnd, ◌↔◌};
 ghost use Rattle.ccw_core.specs.Held.{bytes_held};
 ghost use Rattle.chan_find.specs.Trails.{AreRoots, IsOffered, IsSettled};
 ghost use Rattle.chan_walk.specs.Look.{IsLook};
@@ -12,8 +12,8 @@ ghost use Rattle.chan_walk.specs.Verdict.{IsVerdict};
 ghost use Rattle.chan_walk.specs.declared.job.Job.{Job};
 ghost use Rattle.chan_walk.specs.declared.verdict.Verdict.TheVariants as verdict;
 
-use crate::trails::{Covered, is_plain, start_at};
 use crate::laws::{programs_are_apart, yes_is_likely};
+use crate::trails::{Covered, is_plain, start_at};
 use ccw_core::Storage;
 use chan_walk::{Job, Limit, Look, OpenJob, Place, look_at};
 use ckd_core::{Device, lookup};

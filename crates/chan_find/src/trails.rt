@@ -1,9 +1,7 @@
 //! The places that starts have trails to.
 
-ghost use Rattle.std.specs.Prelude.{◌≡◌, ◌∷◌, ◌++◌, [], length, IfOk, IsTrue, OnOk, Some, ◌↔◌, ℕ};
-ghost use Rattle.ccw_core.specs.Held.{bytes_held};
+ghost use Rattle.std.specs.Prelude.{◌≡◌, IfOk, IsTrue, OnOk, Some, ◌↔◌};
 ghost use Rattle.chan_find.specs.Trails.{IsCovered, IsGrown, IsMarked, IsSettled};
-ghost use Rattle.chan_walk.specs.Job.{storage_of};
 ghost use Rattle.chan_walk.specs.Look.{IsLook};
 ghost use Rattle.chan_find.specs.Programs as program;
 ghost use Rattle.chan_find.specs.Programs.{IsPlain, StepsTo};

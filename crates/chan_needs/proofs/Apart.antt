@@ -10,13 +10,11 @@ use Rattle.chan_needs.specs.Needs.{IsKept, IsNeededForStoring}
 use Rattle.chan_walk.specs.Reachable.{IsReachable}
 use Rattle.chan_needs.specs.Rows.{BesideIsApart}
 use Rattle.chan_walk.specs.Verdict.{IsVerdict, MayStoreOver}
-use Rattle.chan_walk.proofs.Theory.Faults.{yes_clear}
+use Rattle.chan_walk.proofs.Theory.Faults.{yes_clear, clear_stands}
 use Rattle.chan_walk.proofs.Theory.Granting.{same_under_yes, turned}
 use Rattle.chan_walk.proofs.Algorithms.Opened.{to_open}
 use Rattle.chan_needs.proofs.Needing.{yes_opens}
-use Rattle.chan_walk.proofs.Theory.Faults.{clear_stands}
 use Rattle.chan_needs.proofs.Needed.{data_over}
-use Rattle.chan_walk.proofs.Algorithms.Opened.{to_open}
 
 -- under a yes a program stores over the bytes that it needs for storing, and guards those that it keeps
 module _ (j k : Job) (one : AreOfOneProgram j k) (proper : IsProper k) (v : IsVerdict k Yes) where

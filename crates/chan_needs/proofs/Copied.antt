@@ -31,9 +31,6 @@ pub record AreCopied (s : List ℕ) (areas : List Area) (i : ℕ) (old : List �
   pub front : bytes_in s areas ≡ take n new ++ bytes_in s (drop i areas)
   pub rest : drop n new ≡ drop n old
 
-pub copied_first : (s : List ℕ) (areas : List Area) (old : List ℕ) → AreCopied s areas 0 old 0 old
-copied_first s areas old = record { inside = λ h. h; fits = omega arith; same_length = refl; front = refl; rest = refl }
-
 module _ (s : List ℕ) (areas : List Area) (i : ℕ) (old : List ℕ) (n : ℕ) (now : List ℕ) (h : AreCopied s areas i old n now) where
   -- the next area
   module _ (bytes : List ℕ) (l : i < length areas) (e : bytes ≡ bytes_of s (get_or areas i nowhere)) where

@@ -17,17 +17,16 @@ use Rattle.chan_walk.specs.declared.place.Place.{Place}
 use Rattle.chan_walk.specs.Argument.{Has}
 use Rattle.chan_walk.specs.Fault.{begins_set_mask, IsClear}
 use Rattle.chan_walk.specs.Job.{storage_of}
-use Rattle.chan_walk.specs.Look.{IsLook, Seen, byte_of, places_of_looks}
+use Rattle.chan_walk.specs.Look.{IsLook, Seen, places_of_looks}
+use Rattle.chan_walk.specs.Read.{byte_of}
 use Rattle.chan_needs.specs.Needs.{ServesAt, begins}
 use Rattle.chan_walk.specs.Place.{is_fresh, ccw_of}
 use Rattle.chan_needs.specs.Rows.{AreLooksOfYes, AreBounds}
 use Rattle.chan_walk.specs.Visit.{begun, begun_at}
 use Rattle.chan_walk.proofs.Theory.Commands.{known_is_no_transfer, mask_is_no_transfer}
-use Rattle.chan_walk.proofs.Theory.Faults.{clear_good, yes_clear}
+use Rattle.chan_walk.proofs.Theory.Faults.{clear_good, yes_clear, clear_stands}
 use Rattle.chan_walk.proofs.Theory.Lists.{has_at, has_cases, has_left, has_right}
-use Rattle.chan_walk.proofs.Algorithms.Looking.{place_at}
-use Rattle.chan_walk.proofs.Algorithms.Looking.{ccw_seen}
-use Rattle.chan_walk.proofs.Theory.Faults.{clear_stands}
+use Rattle.chan_walk.proofs.Algorithms.Looking.{byte_read, place_at, ccw_seen}
 use Rattle.ckd_core.specs.Levels.{seek_level, seeks_up_to, write_level, writes_up_to}
 use Rattle.ckd_core.proofs.LevelLemmas.{permits_when, seek_level-le, seeks_up_to-le, strict-permits}
 use Rattle.ckd_core.proofs.LevelLemmas.{strict-levels, write_level-le, writes_up_to-le}
@@ -114,7 +113,7 @@ module _ (j : Job) (l : Seen) (look : IsLook j l) (clear : IsClear j l.place) wh
       let h = sym (command_at j l look clear) ∙ e in
       let sets : begins_set_mask l.place (ccw_of j l.place) ≡ true = sets_it j l.place k h ∙ ap class_sets_mask same in
       let ccw = ccw_seen j l look (clear_stands j l.place clear) in
-      let is : byte_of l.read ≡ byte (storage_of j) (ccw_of j l.place).address = ap byte_of ((look.read (ccw_of j l.place) ccw).mask sets) in
+      let is : byte_of l.read ≡ byte (storage_of j) (ccw_of j l.place).address = byte_read (storage_of j) l.place (ccw_of j l.place) l.read sets (look.read clear (ccw_of j l.place) ccw) in
       subst (λ b. AreBounds (ServesAt j l.place) (write_level b) (seek_level b)) (sym is) (bounds_at_byte j l.place k h same clear)
 
 -- ---- at many

@@ -13,7 +13,7 @@ use Rattle.chan_walk.specs.Argument.{Has}
 use Rattle.chan_walk.specs.Places.{AreDistinct, HasMoreThan, place_number}
 use Rattle.chan_walk.specs.Fault.{kind_of}
 use Rattle.chan_walk.specs.Job.{storage_of}
-use Rattle.chan_walk.specs.Least.{AreReached}
+use Rattle.chan_walk.specs.Places.{AreReached}
 use Rattle.chan_needs.specs.Needs.{NeededMaskExists, Serves}
 use Rattle.chan_walk.specs.OpenJob.{open_job}
 use Rattle.chan_walk.specs.Place.{ccw_of, first_place}
@@ -21,10 +21,9 @@ use Rattle.chan_walk.specs.Reachable.{IsReachable}
 use Rattle.chan_walk.specs.Successor.{AreSuccessors, next_of, skip_of}
 use Rattle.chan_walk.specs.Verdict.{AreClear}
 use Rattle.chan_walk.specs.Walk.{Adds, IsWalked, Overflows}
-use Rattle.chan_walk.proofs.Theory.Faults.{fault_unique, yes_clear}
+use Rattle.chan_walk.proofs.Theory.Faults.{fault_unique, yes_clear, clear_stands}
 use Rattle.chan_walk.proofs.Theory.Lists.{has_at}
 use Rattle.chan_needs.proofs.Demanding.{ServesEach, demand_of_each, HasBounds}
-use Rattle.chan_walk.proofs.Theory.Faults.{clear_stands}
 use Rattle.chan_walk.proofs.Algorithms.InOrder.{distinct, has_number}
 use Rattle.chan_walk.proofs.Algorithms.Marks.{same_number, way_small}
 use Rattle.chan_walk.proofs.Algorithms.Walking.{Leads, all_found, follows_exactly, next_overflows}

@@ -1,11 +1,9 @@
 -- The bytes that are kept, compared area by area.
 use Rattle.std.proofs.Common.{◌≡◌, ℕ, zero, suc, ◌+◌, ◌-◌, ◌<◌, ◌≤◌, ◌^◌, List, [], ◌∷◌, length}
-use Rattle.std.proofs.Common.{get_or, drop, sym, subst, ◌⊎◌, inl, inr, arith}
-use Rattle.std.proofs.lemmas.Bool.{cases_lt}
-use Rattle.std.proofs.lemmas.List.{drop_all}
+use Rattle.std.proofs.Common.{get_or, drop, sym, subst, inl, inr, arith}
 use Rattle.std.proofs.Math.Seq.{drop-cons}
 use Rattle.ccw_core.specs.declared.areas.Area.{Area}
-use Rattle.chan_needs.specs.Remembered.{HoldsAreas, HoldsArea, IsFirstChanged, IsFirstChangedIn}
+use Rattle.chan_needs.specs.Remembered.{HoldsAreas, HoldsArea, IsFirstChanged}
 use Rattle.chan_needs.proofs.Holding.{nowhere}
 
 -- the address of a byte after one of storage fits
@@ -22,9 +20,6 @@ module _ (s : List ℕ) (areas : List Area) (kept : List ℕ) (i : ℕ) (rest : 
   next : drop i areas ≡ get_or areas i nowhere ∷ drop (suc i) areas
   next = drop-cons areas i nowhere l
 
-  pub left_found : (b : ℕ) → IsFirstChangedIn s (get_or areas i nowhere) rest b → IsFirstChanged s areas kept b
-  left_found b h = left.changed b (subst (λ (xs : List Area). IsFirstChanged s xs rest b) (sym next) (inl h))
-
   pub left_more : (more : List ℕ) → more ≡ drop (get_or areas i nowhere).len rest → HoldsArea s (get_or areas i nowhere) rest → IsLeft s areas kept (i + 1) more
   left_more more e h = record {
     holds = λ k. left.holds (subst (λ (xs : List Area). HoldsAreas s xs rest) (sym next) (h, subst (λ n. HoldsAreas s (drop n areas) (drop (get_or areas i nowhere).len rest)) one (subst (λ z. HoldsAreas s (drop (i + 1) areas) z) e k)));
@@ -33,17 +28,6 @@ module _ (s : List ℕ) (areas : List Area) (kept : List ℕ) (i : ℕ) (rest : 
     where
       one : i + 1 ≡ suc i
       one = omega arith
-
--- the bytes of an area that storage holds are among those that are left
-pub len_fits : (s : List ℕ) (a : Area) (rest : List ℕ) → HoldsArea s a rest → a.len ≤ length rest
-len_fits s a rest h = go (cases_lt (length rest) a.len)
-  where
-    go : (length rest < a.len) ⊎ (a.len ≤ length rest) → a.len ≤ length rest
-    go (inl l) = let t = (h (length rest) l).1 in omega arith
-    go (inr l) = l
-
-pub left_none : (s : List ℕ) (areas : List Area) (kept : List ℕ) (i : ℕ) (rest : List ℕ) → length areas ≤ i → IsLeft s areas kept i rest → HoldsAreas s areas kept
-left_none s areas kept i rest l left = left.holds (subst (λ (xs : List Area). HoldsAreas s xs rest) (sym (drop_all i areas l)) tt)
 
 -- where all is as it was nothing has changed
 pub never_changed : (s : List ℕ) (areas : List Area) (kept : List ℕ) (b : ℕ) → IsFirstChanged s areas kept b → HoldsAreas s areas kept → ⊥

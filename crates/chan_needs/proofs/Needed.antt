@@ -2,19 +2,18 @@
 use Rattle.std.proofs.Common.{◌≡◌, ℕ, ◌<◌, ◌≤◌, Bool, true, false, List, length, map, Some, refl}
 use Rattle.std.proofs.Common.{sym, ap, ◌∙◌, subst, ◌⊎◌, ◌↔◌, arith}
 use Rattle.ccw_core.specs.declared.areas.Area.{Area}
-use Rattle.ccw_core.specs.Areas.{lies_in}
+use Rattle.ccw_core.specs.Areas.{lies_in, end_of}
 use Rattle.ccw_core.specs.Ccw.{Fields, byte, ccw, is_transfer}
 use Rattle.ccw_core.specs.Storage.{Stands}
 use Rattle.ckd_core.specs.Extents.{has_cylinder}
 use Rattle.ckd_core.specs.Mask.{inhibits, is_at_least}
 use Rattle.chan_walk.specs.declared.job.Job.{Job}
 use Rattle.chan_walk.specs.declared.place.Place.{Place}
-use Rattle.chan_walk.specs.declared.job_survey.Survey.{Survey}
 use Rattle.chan_walk.specs.declared.verdict.Verdict.{Verdict}
 use Rattle.chan_walk.specs.declared.verdict.Verdict.TheVariants.{Yes}
 use Rattle.chan_walk.specs.Argument.{HasArgument}
 use Rattle.chan_walk.specs.Seeks.{SeeksTo}
-use Rattle.chan_walk.specs.Place.{data_of}
+use Rattle.chan_walk.specs.Place.{data_of, ccw_of}
 use Rattle.chan_walk.specs.Fault.{begins_recalibrate, begins_seek, begins_set_mask, fetches, stores}
 use Rattle.chan_walk.specs.Guarded.{IsGuarded}
 use Rattle.chan_walk.specs.Job.{extents_of, fetch_of, storage_of, store_of}
@@ -23,15 +22,14 @@ use Rattle.chan_walk.specs.Machine.{home}
 use Rattle.chan_walk.specs.OpenJob.{AreOfOneProgram, open_job}
 use Rattle.chan_needs.specs.Needs.{Grants, IsKept, IsNeededCylinder, IsNeededForStoring}
 use Rattle.chan_needs.specs.Needs.{IsStrictest, Serves, ServesAt, begins}
-use Rattle.chan_walk.specs.Moved.{IsDataOf, HoldData}
+use Rattle.chan_walk.specs.Moved.{IsDataOf, IsFetchedFrom, IsStoredInto}
 use Rattle.chan_walk.specs.Offence.{FirstIsVerdict, first_verdict}
-use Rattle.chan_walk.specs.Place.{ccw_of}
-use Rattle.chan_areas.specs.Ranges.{AreExactly, IsMerged, end_of}
+use Rattle.chan_areas.specs.Merged.{AreExactly}
 use Rattle.chan_walk.specs.Reachable.{IsReachable}
-use Rattle.chan_needs.specs.Remembered.{GrantsListed, RowsAreExact}
+use Rattle.chan_needs.specs.Start.{RowsAreExact, GrantsListed}
 use Rattle.chan_needs.specs.Rows.{AreLooksOfYes, AreNeeds, HasStoreAndKeep, IsSought, Listed}
 use Rattle.chan_needs.specs.Rows.{IsShared, MayRunBeside, run_of}
-use Rattle.chan_walk.specs.JobSurvey.{IsSurvey}
+use Rattle.chan_walk.specs.JobSurvey.{IsSurvey, Surveyed}
 use Rattle.chan_walk.specs.Verdict.{IsVerdict}
 use Rattle.chan_walk.proofs.Theory.Faults.{clear_check, yes_clear}
 use Rattle.chan_walk.proofs.Theory.Granting.{fetches_parts, same_under_yes, stores_parts, turned}
@@ -73,10 +71,8 @@ pub record AreFound (k : Job) (ps : List Place) (n : Listed) (cylinders : List A
   pub mask : IsStrictest (ServesEach k ps) n.mask
   pub sought : AreExactly (IsSought k) cylinders
   pub runs : n.extents ≡ map run_of cylinders
-  pub fetch_merged : IsMerged n.fetch
-  pub fetch : HoldData fetches k n.fetch
-  pub store_merged : IsMerged n.store
-  pub store : HoldData stores k n.store
+  pub fetch : AreExactly (IsFetchedFrom k) n.fetch
+  pub store : AreExactly (IsStoredInto k) n.store
   pub keep : AreExactly (IsGuarded k) n.keep
 
 pub are_needs : (j k : Job) (ls : List Seen) (n : Listed) (cylinders : List Area) → AreOfOneProgram j k → AreLooksOfYes k ls → AreFound k (places_of_looks ls) n cylinders → AreNeeds j n
@@ -85,8 +81,8 @@ are_needs j k ls n cylinders one are found = record {
   storage_len = found.storage_len ∙ ap length (sym one.storage);
   mask = strictest_same (ServesEach k ps) (Serves j) n.mask served found.mask;
   extents = runs_of (IsSought k) (IsNeededCylinder j) cylinders n.extents sought found.sought found.runs;
-  fetch = record { merged = found.fetch_merged; bytes = λ b. both (found.fetch b) (moved fetches b) };
-  store = record { merged = found.store_merged; bytes = λ b. both (found.store b) (moved stores b) };
+  fetch = record { merged = found.fetch.merged; bytes = λ b. both (found.fetch.bytes b) (moved fetches b) };
+  store = record { merged = found.store.merged; bytes = λ b. both (found.store.bytes b) (moved stores b) };
   keep = record { merged = found.keep.merged; bytes = λ b. both (found.keep.bytes b) (same.1 b) };
 }
   where
@@ -124,12 +120,12 @@ are_needs j k ls n cylinders one are found = record {
     )
 
 -- the looks of a survey, where the first offence is none
-pub survey_looks : (k : Job) (s : Survey) (ls : List Seen) → IsSurvey k s → first_verdict s.offences.items ≡ Yes → FirstIsVerdict → ls ≡ s.walk.looks.items → AreLooksOfYes k ls
+pub survey_looks : (k : Job) (s : Surveyed) (ls : List Seen) → IsSurvey k s → first_verdict s.offences ≡ Yes → FirstIsVerdict → ls ≡ s.looks → AreLooksOfYes k ls
 survey_looks k s ls is none law e =
-    let r = reached_looks k s.walk ls is.found e in
+    let r = reached_looks k s.looks ls s.found_from is.found e in
     record {
       proper = is.proper;
-      verdict = subst (λ (v : Verdict). IsVerdict k v) none (law k s.offences.items is.offences);
+      verdict = subst (λ (v : Verdict). IsVerdict k v) none (law k s.offences is.offences);
       looks = r.0;
       reached = r.1;
     }

@@ -3,7 +3,7 @@ use Rattle.std.proofs.Common.{◌≡◌, ℕ, ◌+◌, ◌-◌, ◌<◌, ◌≤�
 use Rattle.std.proofs.Common.{refl, sym, ap, ◌∙◌, subst, ◌⊎◌, ◌↔◌, inl, inr, arith, rules}
 use Rattle.std.specs.List.{All}
 use Rattle.ccw_core.specs.declared.areas.Area.{Area}
-use Rattle.ccw_core.specs.Areas.{lies_in}
+use Rattle.ccw_core.specs.Areas.{lies_in, end_of}
 use Rattle.ccw_core.specs.Ccw.{Fields, byte}
 use Rattle.ccw_core.proofs.Covering.{lies_in-nil}
 use Rattle.chan_walk.specs.declared.job.Job.{Job}
@@ -12,7 +12,7 @@ use Rattle.chan_needs.specs.declared.remembered.Remembered.{Remembered}
 use Rattle.chan_walk.specs.declared.verdict.Verdict.TheVariants.{Yes}
 use Rattle.chan_walk.specs.Alarm.{IsProper}
 use Rattle.chan_walk.specs.Counted.{IsCounted, with_storage}
-use Rattle.chan_walk.specs.Place.{data_of}
+use Rattle.chan_walk.specs.Place.{data_of, ccw_of}
 use Rattle.chan_walk.specs.Fault.{stores}
 use Rattle.chan_walk.specs.Guarded.{IsGuarded}
 use Rattle.chan_needs.specs.History.{Flight, Situation}
@@ -20,11 +20,11 @@ use Rattle.chan_walk.specs.Job.{storage_of}
 use Rattle.chan_walk.specs.OpenJob.{AreOfOneProgram, open_job}
 use Rattle.chan_needs.specs.Needs.{Grants, IsKept, IsNeededForStoring, KeepsProgram}
 use Rattle.chan_walk.specs.Moved.{IsDataOf}
-use Rattle.chan_walk.specs.Place.{ccw_of}
-use Rattle.chan_areas.specs.Ranges.{IsByteOf, end_of}
+use Rattle.chan_areas.specs.Merged.{IsByteOf}
 use Rattle.chan_walk.specs.Reachable.{IsReachable}
-use Rattle.chan_needs.specs.Remembered.{AreInFlight, HoldsAreas, IsBeside, IsFit, IsInFlight}
-use Rattle.chan_needs.specs.Remembered.{KeepsNone, IsInFlightAt, IsWritten, StartsWell, WritesWell}
+use Rattle.chan_needs.specs.Remembered.{AreInFlight, HoldsAreas, IsInFlight}
+use Rattle.chan_needs.specs.Start.{IsFit, IsBeside, StartsWell}
+use Rattle.chan_needs.specs.Remembered.{KeepsNone, IsInFlightAt, IsWritten, WritesWell}
 use Rattle.chan_needs.specs.Rows.{HasStoreAndKeep, Listed, MayRunBeside, rows_of}
 use Rattle.chan_walk.specs.Runs.{IsSameIn}
 use Rattle.chan_needs.specs.Asked.{IsFlightOf}

@@ -8,7 +8,7 @@ use Rattle.std.proofs.Math.Seq.{take-suc}
 use Rattle.std.proofs.lemmas.Bool.{and_from, and_parts, both_ways, le-leb, leb-true, or_cases}
 use Rattle.std.proofs.lemmas.Bool.{or_left, or_right}
 use Rattle.ccw_core.specs.declared.areas.Area.{Area}
-use Rattle.ccw_core.specs.Areas.{lies_in}
+use Rattle.ccw_core.specs.Areas.{lies_in, end_of}
 use Rattle.ccw_core.specs.Ccw.{Fields}
 use Rattle.ccw_core.proofs.Covering.{lies_in-nil}
 use Rattle.ckd_core.specs.declared.command.MaskClass.{MaskClass}
@@ -17,19 +17,18 @@ use Rattle.ckd_core.specs.declared.command.MaskClass.TheVariants.{SeekHead}
 use Rattle.ckd_core.specs.Track.{cylinder_of}
 use Rattle.ckd_core.specs.Extents.{has_cylinder}
 use Rattle.ckd_core.specs.Command.{Entry as Command, class_is_seek, class_passes}
-use Rattle.ckd_core.specs.Command.{class_recalibrates}
-use Rattle.ckd_core.specs.Command.{is_seek, lookup, recalibrates}
+use Rattle.ckd_core.specs.Command.{class_recalibrates, is_seek, lookup, recalibrates}
 use Rattle.chan_walk.specs.declared.job.Job.{Job}
 use Rattle.chan_walk.specs.declared.place.Place.{Place}
 use Rattle.chan_walk.specs.Argument.{Has, HasArgument}
 use Rattle.chan_walk.specs.Fault.{begins_recalibrate, begins_seek, IsClear}
 use Rattle.chan_walk.specs.Guard.{AddsBytes, byte_area}
 use Rattle.chan_walk.specs.Job.{storage_of}
-use Rattle.chan_walk.specs.Least.{AreReached}
-use Rattle.chan_walk.specs.Look.{IsLook, Seen, argument_of}
+use Rattle.chan_walk.specs.Places.{AreReached}
+use Rattle.chan_walk.specs.Look.{IsLook, Seen}
 use Rattle.chan_walk.specs.Machine.{home}
 use Rattle.chan_walk.specs.Place.{is_fresh, ccw_of}
-use Rattle.chan_areas.specs.Ranges.{IsByteOf, AreExactly, BeginAbove, IsMerged, end_of}
+use Rattle.chan_areas.specs.Merged.{IsByteOf, AreExactly, BeginAbove, IsMerged}
 use Rattle.chan_needs.specs.Rows.{AreRising, AreRunsOf, IsSought, RunsAbove, SeeksCylinder, run_of}
 use Rattle.chan_walk.specs.Visit.{begun}
 use Rattle.chan_walk.proofs.Theory.Chains.{argument_unique}
@@ -37,8 +36,7 @@ use Rattle.chan_walk.proofs.Theory.Faults.{clear_stands}
 use Rattle.chan_needs.proofs.Demanding.{command_at, fresh_from, none_from}
 use Rattle.chan_walk.proofs.Algorithms.Guarding.{HoldBytes, adds_areas, lies_in-bytes}
 use Rattle.chan_areas.proofs.Merging.{lies_in-cases, lies_in-first, lies_in-rest}
-use Rattle.chan_walk.proofs.Algorithms.Looking.{argument_read}
-use Rattle.chan_walk.proofs.Algorithms.Looking.{ccw_seen}
+use Rattle.chan_walk.proofs.Algorithms.Looking.{argument_of, argument_read, ccw_seen}
 use Rattle.chan_walk.proofs.Theory.Granting.{avoids}
 
 -- ---- at one look
@@ -99,7 +97,7 @@ module _ (j : Job) (l : Seen) (look : IsLook j l) (clear : IsClear j l.place) wh
     goes_seeking f g n = (to (argument_of l.read) has, from)
       where
         has : HasArgument (storage_of j) p.address (argument_of l.read)
-        has = argument_read (storage_of j) p l.read ((look.read c (ccw_seen j l look (clear_stands j p clear))).seek (seeks_it ∙ f))
+        has = argument_read (storage_of j) p c l.read (seeks_it ∙ f) (look.read clear c (ccw_seen j l look (clear_stands j p clear)))
 
         to : (o : Option (List ℕ)) → HasArgument (storage_of j) p.address o → option_map cylinder_of o ≡ Some n → SeeksCylinder j p n
         to None h d = absurd cc

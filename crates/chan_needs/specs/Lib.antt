@@ -2,6 +2,8 @@ pub mod History
 pub mod Beside
 pub mod Needs
 pub mod Rows
+pub mod LeastBytes
 pub mod Asked
 pub mod Remembered
+pub mod Start
 pub mod Supervised

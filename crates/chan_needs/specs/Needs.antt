@@ -1,6 +1,5 @@
 -- What a program needs: which of the jobs that differ only in what they grant have the verdict yes.
-use Rattle.std.specs.Prelude.{◌≡◌, ℕ, ◌<◌, true, false, Bool, not, ◌&&◌, List}
-use Rattle.std.specs.Prelude.{◌↔◌}
+use Rattle.std.specs.Prelude.{◌≡◌, ℕ, ◌<◌, true, false, Bool, not, ◌&&◌, List, ◌↔◌}
 use Rattle.ccw_core.specs.Areas.{lies_in}
 use Rattle.ccw_core.specs.Ccw.{byte, Fields, is_transfer}
 use Rattle.ckd_core.specs.Track.{cylinder_of}

@@ -1,6 +1,5 @@
 -- Rows of needs: what they say of a program, and what follows from them.
-use Rattle.std.specs.Prelude.{◌≡◌, ℕ, ◌+◌, ◌-◌, ◌<◌, ◌≤◌, true, List, [], ◌∷◌, ◌↔◌}
-use Rattle.std.specs.Prelude.{length}
+use Rattle.std.specs.Prelude.{◌≡◌, ℕ, ◌+◌, ◌-◌, ◌<◌, ◌≤◌, true, List, [], ◌∷◌, ◌↔◌, length}
 use Rattle.ccw_core.specs.declared.areas.Area.{Area}
 use Rattle.ccw_core.specs.Areas.{lies_in}
 use Rattle.ckd_core.specs.Track.{cylinder_of}
@@ -14,18 +13,17 @@ use Rattle.chan_walk.specs.Alarm.{IsProper}
 use Rattle.chan_needs.specs.Beside.{AreApart}
 use Rattle.chan_walk.specs.Seeks.{SeeksTo}
 use Rattle.chan_walk.specs.Job.{storage_of}
-use Rattle.chan_walk.specs.Least.{AreReached}
+use Rattle.chan_walk.specs.Places.{AreReached}
 use Rattle.chan_walk.specs.Look.{AreLooks, Seen, places_of_looks}
-use Rattle.chan_walk.specs.OpenJob.{AreOfOneProgram}
+use Rattle.chan_walk.specs.OpenJob.{AreOfOneProgram, open_job}
 use Rattle.chan_needs.specs.Needs.{IsKept, IsNeededCylinder, IsNeededForFetching}
 use Rattle.chan_needs.specs.Needs.{IsNeededForStoring, IsNeededMask}
-use Rattle.chan_walk.specs.OpenJob.{open_job}
-use Rattle.chan_areas.specs.Ranges.{AreExactly}
+use Rattle.chan_areas.specs.Merged.{AreExactly, IsLeastOf, IsByteOf}
 use Rattle.chan_walk.specs.Reachable.{IsReachable}
 use Rattle.chan_walk.specs.Verdict.{IsVerdict}
 use Rattle.ckd_core.specs.Levels.{write_level, seek_level}
-
--- ---- the open job
+use Rattle.chan_needs.specs.declared.rows.Conflict.{Conflict}
+use Rattle.chan_needs.specs.declared.rows.Conflict.TheVariants as way
 
 -- ---- what rows say
 
@@ -109,6 +107,22 @@ BesideIsApart =
     (j k one other : Job) → AreOfOneProgram j one → AreOfOneProgram k other → IsProper one
     → IsProper other → IsVerdict one Yes → IsVerdict other Yes
     → MayRunBeside j k ↔ AreApart one other
+
+-- neither of two programs stores into a byte that the other keeps, as their rows list them
+pub record AreBeside (n m : Listed) : Type 0 where
+  pub one_spares : (b : ℕ) → IsShared n.store m.keep b → ⊥
+  pub other_spares : (b : ℕ) → IsShared m.store n.keep b → ⊥
+
+-- why two programs may not run side by side: the least byte that the first stores into and the
+-- other keeps, or without one the least that the first keeps and the other stores into
+abbrev pub IsConflict : Listed → Listed → Conflict → Type 0
+IsConflict n m (way.Stores b) = IsLeastOf (IsShared n.store m.keep) b
+IsConflict n m (way.Keeps b) =
+    ((c : ℕ) → IsShared n.store m.keep c → ⊥) × IsLeastOf (IsShared m.store n.keep) b
+
+-- the byte at b is one of the area, and the rows list it as kept
+abbrev pub IsKeptIn : Listed → Area → ℕ → Type 0
+IsKeptIn n a b = (lies_in n.keep b ≡ true) × IsByteOf a b
 
 -- ---- how they are found
 

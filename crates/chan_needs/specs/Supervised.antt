@@ -9,8 +9,8 @@ use Rattle.chan_needs.specs.declared.remembered.Remembered.{Remembered}
 use Rattle.chan_needs.specs.declared.start.Start.TheVariants.{Yes}
 use Rattle.chan_walk.specs.Alarm.{IsProper}
 use Rattle.chan_needs.specs.History.{Acts, AreWell, Flight, Rests, Situation}
-use Rattle.chan_needs.specs.Remembered.{IsAnswerOf, IsKeeperOf, IsInFlightAt, IsRemembered}
-use Rattle.chan_needs.specs.Remembered.{IsWritten}
+use Rattle.chan_needs.specs.Remembered.{IsKeeperOf, IsInFlightAt, IsRemembered, IsWritten}
+use Rattle.chan_needs.specs.Start.{IsAnswerOf}
 use Rattle.chan_walk.specs.Runs.{IsStart, Moment, Steps}
 
 -- a situation, and what the supervisor remembers under each number
@@ -88,7 +88,8 @@ SupervisedStaysWell =
 -- what the calls allow may happen, and so may each step and each end
 pub record SupervisedGoesOn : Type 0 where
   pub starts :
-      (v : Supervision) (before : List Supervision) (i : ℕ) → IsSupervised (v ∷ before) → (s : IsAllowed v i)
+      (v : Supervision) (before : List Supervision) (i : ℕ) → IsSupervised (v ∷ before)
+      → (s : IsAllowed v i)
       → (w : Supervision) × (w.situation.at i ≡ Some s.flight) × IsSupervised (w ∷ v ∷ before)
   pub steps :
       (v : Supervision) (before : List Supervision) (i : ℕ) (f : Flight) (n : Moment)
@@ -101,5 +102,6 @@ pub record SupervisedGoesOn : Type 0 where
       → (w : Supervision) × (w.situation.at i ≡ None) × (w.programs i ≡ None)
       × IsSupervised (w ∷ v ∷ before)
   pub writes :
-      (v : Supervision) (before : List Supervision) (t : List ℕ) → IsSupervised (v ∷ before) → MayWrite v t
+      (v : Supervision) (before : List Supervision) (t : List ℕ) → IsSupervised (v ∷ before)
+      → MayWrite v t
       → (w : Supervision) × (w.situation.storage ≡ t) × IsSupervised (w ∷ v ∷ before)

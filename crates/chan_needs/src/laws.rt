@@ -3,10 +3,9 @@
 
 ghost use Rattle.chan_needs.specs.Beside.{SafeSideBySide};
 ghost use Rattle.chan_needs.specs.History.{StaysWell};
-ghost use Rattle.chan_needs.specs.Needs.{AskedOnce, LeastJob, NeededMaskIsEnough};
-ghost use Rattle.chan_needs.specs.Needs.{NeededMaskExists, NeededMaskIsOne, NoJobWillDo};
-ghost use Rattle.chan_needs.specs.Needs.{SafeIsGranted};
-ghost use Rattle.chan_needs.specs.Remembered.{RowsAreExact};
+ghost use Rattle.chan_needs.specs.Needs.{AskedOnce, LeastJob, NeededMaskIsEnough, NeededMaskExists};
+ghost use Rattle.chan_needs.specs.Needs.{NeededMaskIsOne, NoJobWillDo, SafeIsGranted};
+ghost use Rattle.chan_needs.specs.Start.{RowsAreExact};
 ghost use Rattle.chan_needs.specs.Rows.{BesideIsApart};
 ghost use Rattle.chan_needs.specs.Asked.{AskedMayStart, EachMayLeave, EachMayStart, EachMayStep};
 ghost use Rattle.chan_needs.specs.Asked.{OthersMayChange};

@@ -1,20 +1,19 @@
 //! The least byte or cylinder of some rows with a property: shared, not lent, in no extent.
 
-ghost use Rattle.std.specs.Prelude.{◌≡◌, ◌<◌, ◌↔◌, ◌^◌, ◌≤◌, ℕ, true, false, IfOk, IsTrue};
+ghost use Rattle.std.specs.Prelude.{◌≡◌, ◌<◌, ◌↔◌, ◌≤◌, true, false, IfOk, IsTrue};
 ghost use Rattle.ccw_core.specs.Areas.{lies_in};
 ghost use Rattle.ckd_core.specs.Extents.{has_cylinder};
-ghost use Rattle.chan_areas.specs.Ranges.{IsLeastOrNone};
-ghost use Rattle.chan_areas.specs.Ranges.{IsByteOf, IsMerged};
-ghost use Rattle.chan_needs.specs.Remembered.{lesser_of};
+ghost use Rattle.chan_areas.specs.Merged.{IsLeastOrNone, IsByteOf, IsMerged};
+ghost use Rattle.chan_needs.specs.LeastBytes.{lesser_of};
 ghost use Rattle.chan_needs.specs.Rows.{IsShared};
 
 use ccw_core::Area;
-use chan_areas::{clipped, end_of, merge, next_area};
+use chan_areas::{Merged, end_of};
 use ckd_core::Extents;
 use std::alloc::{AllocError, Global};
 
 /// The least byte of an area that lies in one of some areas.
-#[tactic(auto, using(crate::proofs::Leasts::least_first, crate::proofs::Leasts::least_in_areas))]
+#[tactic(auto, using(crate::proofs::Leasts::no_byte, crate::proofs::Leasts::least_in_areas))]
 pub(crate) fn least_in(areas: &[Area], range: Area) -> Option<u32>
     ensures { IsLeastOrNone (λ b. (lies_in areas.now b ≡ true) × IsByteOf range b) result }
 {
@@ -30,7 +29,7 @@ pub(crate) fn least_in(areas: &[Area], range: Area) -> Option<u32>
 
 /// The least byte that lies in both of two lists. The cost is one pass over both if they are
 /// merged or one has a single area, and otherwise the product of their lengths.
-#[tactic(auto, using(crate::proofs::Leasts::least_first, crate::proofs::Leasts::least_in_areas))]
+#[tactic(auto, using(crate::proofs::Leasts::no_byte, crate::proofs::Leasts::least_in_areas))]
 pub(crate) fn least_shared(one: &[Area], other: &[Area]) -> Option<u32>
     ensures { IsLeastOrNone (IsShared one.now other.now) result }
 {
@@ -74,31 +73,28 @@ pub(crate) fn least_unlent(
     lent: &[Area],
     length: u32,
 ) -> Result<Option<u32>, AllocError>
-    requires { length ≤ 2 ^ 24 }
     ensures { IfOk result (IsLeastOrNone (λ b. (lies_in areas.now b ≡ true)
         × ((b < length) × (lies_in lent.now b ≡ true) → ⊥))) }
 {
-    let lent = merge(alloc, clipped(alloc, lent, length)?)?;
-    Ok(least_beyond(areas, lent.as_slice()))
+    let lent = Merged::clipped(alloc, lent, length)?;
+    Ok(least_beyond(areas, &lent))
 }
 
-/// The least byte of some areas that lies in no area of a merged list, whose bytes have 24 bits.
-#[tactic(auto, using(crate::proofs::Leasts::least_first, crate::proofs::Leasts::least_in_areas))]
-fn least_beyond(areas: &[Area], lent: &[Area]) -> Option<u32>
-    requires merged { IsMerged lent.now }
-    requires low { (b : ℕ) → lies_in lent.now b ≡ true → b < 2 ^ 24 }
+/// The least byte of some areas that lies in no area of a merged list.
+#[tactic(auto, using(crate::proofs::Leasts::no_byte, crate::proofs::Leasts::least_in_areas))]
+fn least_beyond(areas: &[Area], lent: &Merged) -> Option<u32>
     ensures { IsLeastOrNone (λ b. (lies_in areas.now b ≡ true) × (lies_in lent.now b ≡ false))
         result }
 {
     let mut least = None;
     for area in areas {
-        least = lesser(least, beyond(*area, lent));
+        least = lesser(least, lent.first_outside(*area));
     }
     least
 }
 
 /// The least cylinder of some runs that lies in no extent.
-#[tactic(auto, using(crate::proofs::Leasts::least_first, crate::proofs::Leasts::least_in_runs))]
+#[tactic(auto, using(crate::proofs::Leasts::no_cylinder, crate::proofs::Leasts::least_in_runs))]
 pub(crate) fn least_outside(runs: &[(u16, u16)], extents: &Extents) -> Option<u16>
     ensures { IsLeastOrNone (λ n. (has_cylinder runs.now n ≡ true)
         × (has_cylinder extents.now n ≡ false)) result }
@@ -138,23 +134,6 @@ fn overlap(one: Area, other: Area) -> Option<u32>
 {
     let first = one.start.max(other.start);
     if u64::from(first) < end_of(&one).min(end_of(&other)) {
-        Some(first)
-    } else {
-        None
-    }
-}
-
-/// The least byte of an area that lies in no area of a merged list, whose bytes have 24 bits.
-fn beyond(area: Area, lent: &[Area]) -> Option<u32>
-    requires merged { IsMerged lent.now }
-    requires low { (b : ℕ) → lies_in lent.now b ≡ true → b < 2 ^ 24 }
-    ensures { IsLeastOrNone (λ b. IsByteOf area b × (lies_in lent.now b ≡ false)) result }
-{
-    let first = match next_area(lent, area.start) {
-        Some(next) if next.start <= area.start => next.start + next.len,
-        _ => area.start,
-    };
-    if u64::from(first) < end_of(&area) {
         Some(first)
     } else {
         None

@@ -15,10 +15,8 @@ mod needs;
 mod remembered;
 mod rows;
 mod start;
-mod surveyed;
 
-pub use crate::needs::Needs;
+pub use crate::needs::{Needs, needs_from};
 pub use crate::remembered::{Remembered, copy_kept, may_write};
 pub use crate::rows::{Conflict, Rows};
-pub use crate::start::{Refusal, Start, may_start};
-pub use crate::surveyed::needs_from;
+pub use crate::start::{Start, StartRefusal, may_start};

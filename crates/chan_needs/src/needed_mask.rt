@@ -1,6 +1,5 @@
 //! The strictest mask that serves a program.
 
-ghost use Rattle.std.specs.Prelude.{◌≡◌};
 ghost use Rattle.chan_walk.specs.Argument.{Has};
 ghost use Rattle.chan_walk.specs.Fault.{IsClear};
 ghost use Rattle.chan_walk.specs.Look.{IsLook, places_of_looks};

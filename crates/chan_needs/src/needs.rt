@@ -3,19 +3,22 @@
 ghost use Rattle.std.specs.Prelude.{◌≡◌, ◌↔◌, ◌+◌, ◌^◌, ℕ, Some, map, IfOk, OnOk};
 ghost use Rattle.std.specs.List.{All};
 ghost use Rattle.chan_walk.specs.Fault.{IsClear};
-ghost use Rattle.chan_walk.specs.Guard.{AddsBytes, Guards};
+ghost use Rattle.chan_walk.specs.Guard.{AddsBytes};
+ghost use Rattle.chan_walk.specs.JobSurvey.{IsSurvey};
 ghost use Rattle.chan_walk.specs.Look.{IsLook};
+ghost use Rattle.chan_walk.specs.Offence.{first_verdict};
 ghost use Rattle.chan_walk.specs.OpenJob.{AreOfOneProgram};
-ghost use Rattle.chan_areas.specs.Ranges.{AreExactly, EndsBelow, IsMerged};
+ghost use Rattle.chan_areas.specs.Merged.{AreExactly, EndsBelow};
 ghost use Rattle.chan_needs.specs.Rows.{AreLooksOfYes, AreNeeds, IsSought};
 ghost use Rattle.chan_needs.specs.Rows.{SeeksCylinder, listed, rows_of, run_of};
 ghost use Rattle.chan_walk.specs.declared.job.Job.{Job};
+ghost use Rattle.chan_walk.specs.declared.verdict.Verdict.TheVariants.{Yes};
 
 use crate::needed_mask::needed_mask;
 use crate::rows::Rows;
 use ccw_core::Area;
-use chan_areas::merge;
-use chan_walk::{Guard, Job, Look, fetched, kept, stored};
+use chan_areas::Merged;
+use chan_walk::{Direction, Job, Look, Survey, data_moved, kept};
 use ckd_core::{FileMask, MaskClass};
 use std::alloc::{AllocError, Global};
 
@@ -55,41 +58,39 @@ impl Needs {
     }
 }
 
-/// What a program needs, where these are the guard of a job of it whose verdict is yes, and the
-/// looks at all its places.
-pub(crate) fn needs_of(
-    alloc: Global,
-    job: &Job,
-    guard: &Guard,
-    looks: &[Look],
-) -> Result<Needs, AllocError>
-    requires looks { AreLooksOfYes job.now looks.now }
-    requires guard { Guards job.now guard.now }
+/// The needs of a program, from a job with a yes and its own survey. Each job of the program that
+/// has a yes gives the same needs; the open job has a yes if any job has. `AllocError` comes if a
+/// growth was refused.
+///
+/// With n places, the cost is n log n.
+pub fn needs_from(alloc: Global, job: &Job, survey: &Survey) -> Result<Needs, AllocError>
+    requires survey { IsSurvey job.now survey.now }
+    requires yes { first_verdict survey.now.offences ≡ Yes }
     ensures { IfOk result (λ n. (j : Job) → AreOfOneProgram j job.now → AreNeeds j (listed n)) }
 {
+    let looks = survey.looks();
     let sought = sought(alloc, looks)?;
     Ok(Needs {
         storage_len: job.storage.len(),
         mask: needed_mask(looks),
-        extents: runs(alloc, sought.as_slice())?,
-        fetch: fetched(alloc, looks)?,
-        store: stored(alloc, looks)?,
-        keep: kept(alloc, guard)?,
+        extents: runs(alloc, &sought)?,
+        fetch: data_moved(alloc, looks, Direction::Fetch)?.into_areas(),
+        store: data_moved(alloc, looks, Direction::Store)?.into_areas(),
+        keep: kept(alloc, survey.guard())?.into_areas(),
     })
 }
 
 /// The cylinders that seeks go to, as a merged list in which a cylinder counts as a byte.
-fn sought(alloc: Global, looks: &[Look]) -> Result<Vec<Area>, AllocError>
-    ensures low { IfOk result (λ v. All (EndsBelow (2 ^ 16 + 1)) v.items) }
-    ensures cylinders { IfOk result (λ v. (j : Job) → AreLooksOfYes j looks.now
-        → AreExactly (IsSought j) v.items) }
-    ensures merged { IfOk result (λ v. IsMerged v.items) }
+fn sought(alloc: Global, looks: &[Look]) -> Result<Merged, AllocError>
+    ensures low { IfOk result (All (EndsBelow (2 ^ 16 + 1))) }
+    ensures cylinders { IfOk result (λ m. (j : Job) → AreLooksOfYes j looks.now
+        → AreExactly (IsSought j) m) }
 {
     let mut cylinders = Vec::new(alloc);
     for look in looks {
         add_cylinder(&mut cylinders, look)?;
     }
-    merge(alloc, cylinders)
+    Merged::new(alloc, cylinders)
 }
 
 /// Adds the cylinder that the seek goes to that begins at a place, if one does.
@@ -115,7 +116,7 @@ fn cylinder(look: &Look) -> Option<u16>
 {
     match look.command()?.class() {
         MaskClass::Seek | MaskClass::SeekCylinder | MaskClass::SeekHead => {
-            let argument = look.read().argument()?;
+            let argument = look.read().whole()?.bytes;
             Some(u16::from_be_bytes([argument[2], argument[3]]))
         }
         MaskClass::Recalibrate => Some(0),
@@ -125,13 +126,13 @@ fn cylinder(look: &Look) -> Option<u16>
 
 /// The first and the last cylinder of each area of a merged list of cylinders.
 #[tactic(auto, using(crate::proofs::Seeking::runs_next))]
-fn runs(alloc: Global, cylinders: &[Area]) -> Result<Vec<(u16, u16)>, AllocError>
-    requires merged { IsMerged cylinders.now }
-    requires low { All (EndsBelow (2 ^ 16 + 1)) cylinders.now }
+fn runs(alloc: Global, cylinders: &Merged) -> Result<Vec<(u16, u16)>, AllocError>
+    requires { All (EndsBelow (2 ^ 16 + 1)) cylinders.now }
     ensures { IfOk result (λ v. v.items ≡ map run_of cylinders.now) }
 {
+    let areas = cylinders.as_slice();
     let mut runs = Vec::new(alloc);
-    for area in cylinders {
+    for area in areas {
         let last = area.start + area.len - 1;
         runs.push((area.start as u16, last as u16))?;
     }

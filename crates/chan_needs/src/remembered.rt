@@ -11,7 +11,6 @@ ghost use Rattle.chan_needs.specs.Remembered.{IsInside, IsKeeperOf, WritesWell, 
 
 use crate::rows::Rows;
 use ccw_core::{Area, Storage};
-use chan_walk::byte_at;
 use ckd_core::Device;
 
 /// All that a supervisor remembers of a program that it has asked about, so that the program may
@@ -135,5 +134,5 @@ fn is_same(storage: &Storage, address: u32, kept: &[u8], number: u32) -> bool
         × (byte (bytes_held storage.now) address ≡ byte kept.now number)) }
 {
     let number = number as usize;
-    address < storage.len() && number < kept.len() && byte_at(storage, address) == kept[number]
+    address < storage.len() && number < kept.len() && storage.byte_at(address) == kept[number]
 }

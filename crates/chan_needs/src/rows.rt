@@ -2,9 +2,8 @@
 //! side.
 
 ghost use Rattle.std.specs.Prelude.{MatchOption};
-ghost use Rattle.chan_areas.specs.Ranges.{IsLeastOrNone};
-ghost use Rattle.chan_needs.specs.Remembered.{AreBeside, IsConflict, IsKeptIn};
-ghost use Rattle.chan_needs.specs.Rows.{rows_of};
+ghost use Rattle.chan_areas.specs.Merged.{IsLeastOrNone};
+ghost use Rattle.chan_needs.specs.Rows.{IsKeptIn, IsConflict, AreBeside, rows_of};
 
 use crate::least_bytes::{least_in, least_shared};
 use ccw_core::Area;
@@ -21,21 +20,24 @@ pub enum Conflict {
     Keeps(u32),
 }
 
-/// The content of `Needs`, as rows in the caller's memory. Rows from another source do no harm: the
-/// calls answer for what they list.
+/// The content of `Needs`, as rows in the caller's memory. Rows from another source do no harm:
+/// each call answers for what they list. The bytes of a list are those of all of its areas
+/// together; the areas may overlap, be empty and come in any order.
 #[derive(Clone, Copy)]
 pub struct Rows<'a> {
-    /// How many bytes storage has.
+    /// How many bytes storage had when the needs were found.
     pub storage_len: u32,
-    /// The mask.
+    /// The strictest file mask under which the program has a yes.
     pub mask: FileMask,
-    /// The runs of cylinders, as first and last.
+    /// The cylinders that it seeks, as runs: the first and the last cylinder of each, both
+    /// included.
     pub extents: &'a [(u16, u16)],
-    /// The areas to be lent for fetching.
+    /// The bytes that it fetches, so that they have to be lent for fetching.
     pub fetch: &'a [Area],
-    /// The areas to be lent for storing.
+    /// The bytes that it stores into, so that they have to be lent for storing.
     pub store: &'a [Area],
-    /// The areas that are kept.
+    /// The bytes that nobody may change while it runs: its CCWs, the arguments of its seeks and the
+    /// mask bytes that it sets.
     pub keep: &'a [Area],
 }
 

@@ -2,9 +2,8 @@
 
 ghost use Rattle.std.specs.Prelude.{◌≡◌, ◌↔◌, IfOk, MatchOption};
 ghost use Rattle.std.specs.List.{All};
-ghost use Rattle.chan_needs.specs.Remembered.{GrantsListed, IsAnswerOf, IsBeside, IsFit};
-ghost use Rattle.chan_needs.specs.Remembered.{IsNotBeside, IsNotGranted, IsOfAnother, IsOfProgram};
-ghost use Rattle.chan_needs.specs.Remembered.{StartsWell};
+ghost use Rattle.chan_needs.specs.Start.{IsAnswerOf, IsFit, IsBeside, GrantsListed, IsNotBeside};
+ghost use Rattle.chan_needs.specs.Start.{IsNotGranted, IsOfAnother, IsOfProgram, StartsWell};
 ghost use Rattle.chan_needs.specs.Rows.{rows_of};
 ghost use Rattle.chan_needs.specs.declared.start.Start.TheVariants as answer;
 
@@ -16,7 +15,7 @@ use std::alloc::{AllocError, Global};
 
 /// Why a program may not start. The variants are in the order in which they are looked for.
 #[derive(Clone, Copy, PartialEq, Eq, Debug)]
-pub enum Refusal {
+pub enum StartRefusal {
     /// The job starts at another address than the program.
     OtherStart,
     /// The job is for another device.
@@ -46,7 +45,7 @@ pub enum Start {
     /// It may.
     Yes,
     /// It may not, and this is the first reason.
-    No(Refusal),
+    No(StartRefusal),
 }
 
 /// Whether a program that was asked about may start under a job, beside those in flight.
@@ -82,14 +81,12 @@ pub fn may_start(
     ensures well { IfOk result (λ s. s ≡ answer.Yes
         → StartsWell job.now program.now in_flight.now) }
 {
-    // These two calls say that the job is proper, which the law asks for.
-    let _extents = job.extents.pairs();
-    let _mask = job.mask.byte();
+    job.show_proper();
     if let Some(refusal) = of_another(job, program) {
         return Ok(Start::No(refusal));
     }
     if let Some(address) = first_changed(&job.storage, program.rows.keep, program.kept) {
-        return Ok(Start::No(Refusal::Changed(address)));
+        return Ok(Start::No(StartRefusal::Changed(address)));
     }
     if let Some(refusal) = not_granted(alloc, job, &program.rows)? {
         return Ok(Start::No(refusal));
@@ -101,48 +98,48 @@ pub fn may_start(
 }
 
 /// Why a job isn't of the program that is remembered.
-fn of_another(job: &Job, program: &Remembered) -> Option<Refusal>
+fn of_another(job: &Job, program: &Remembered) -> Option<StartRefusal>
     ensures { MatchOption result (IsOfProgram job.now program.now)
         (IsOfAnother job.now program.now) }
 {
     if job.start != program.start {
-        return Some(Refusal::OtherStart);
+        return Some(StartRefusal::OtherStart);
     }
     if job.device != program.device {
-        return Some(Refusal::OtherDevice);
+        return Some(StartRefusal::OtherDevice);
     }
     if job.storage.len() != program.rows.storage_len {
-        return Some(Refusal::OtherLength);
+        return Some(StartRefusal::OtherLength);
     }
     None
 }
 
 /// What rows list and a job doesn't grant.
-fn not_granted(alloc: Global, job: &Job, rows: &Rows) -> Result<Option<Refusal>, AllocError>
+fn not_granted(alloc: Global, job: &Job, rows: &Rows) -> Result<Option<StartRefusal>, AllocError>
     ensures { IfOk result (λ o. MatchOption o (GrantsListed job.now (rows_of rows.now))
         (IsNotGranted job.now (rows_of rows.now))) }
 {
     if !rows.mask.at_least(job.mask) {
-        return Ok(Some(Refusal::Mask));
+        return Ok(Some(StartRefusal::Mask));
     }
     if let Some(cylinder) = least_outside(rows.extents, job.extents) {
-        return Ok(Some(Refusal::Cylinder(cylinder)));
+        return Ok(Some(StartRefusal::Cylinder(cylinder)));
     }
     if let Some(byte) = least_unlent(alloc, rows.fetch, job.fetch, job.storage.len())? {
-        return Ok(Some(Refusal::Fetch(byte)));
+        return Ok(Some(StartRefusal::Fetch(byte)));
     }
     let unlent = least_unlent(alloc, rows.store, job.store, job.storage.len())?;
-    Ok(unlent.map(|byte| Refusal::Store(byte)))
+    Ok(unlent.map(|byte| StartRefusal::Store(byte)))
 }
 
 /// The first in flight that the program may not run beside, and their conflict.
-fn not_beside(program: &Remembered, in_flight: &[Remembered]) -> Option<Refusal>
+fn not_beside(program: &Remembered, in_flight: &[Remembered]) -> Option<StartRefusal>
     ensures { MatchOption result (All (IsBeside program.now) in_flight.now)
         (IsNotBeside program.now in_flight.now) }
 {
     for i in 0..in_flight.len() {
         if let Some(conflict) = program.rows.conflict(&in_flight[i].rows) {
-            return Some(Refusal::Beside(i, conflict));
+            return Some(StartRefusal::Beside(i, conflict));
         }
     }
     None

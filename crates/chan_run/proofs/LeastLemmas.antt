@@ -1,22 +1,19 @@
 -- The deck with the least job: its areas have six digits, and the verdict on its job is yes.
 use Rattle.std.proofs.Common.{◌≡◌, ℕ, ◌+◌, ◌-◌, ◌∙◌, ◌<◌, ◌≤◌, ◌==◌, ◌^◌, Bool, ◌||◌, true, false}
 use Rattle.std.proofs.Common.{List, [], ◌∷◌, ◌++◌, length, ◌⊎◌, inl, inr, arith, refl, sym, ap}
-use Rattle.std.proofs.Common.{subst, Option, Result, Ok, Err, OnOk}
+use Rattle.std.proofs.Common.{subst}
 use Rattle.std.specs.List.{AllByRecursion}
-use Rattle.std.specs.Io.KnownBytes.{Appends}
 use Rattle.std.proofs.lemmas.Bool.{cases_lt, eqb-false, or_left, or_right}
 use Rattle.ccw_core.specs.declared.areas.Area.{Area}
-use Rattle.ccw_core.specs.Areas.{lies_in}
-use Rattle.ccw_core.specs.Written.{AppendsPrefix}
+use Rattle.ccw_core.specs.Areas.{lies_in, end_of}
 use Rattle.ckd_core.specs.Extents.{has_cylinder}
 use Rattle.chan_walk.specs.declared.job.Job.{Job}
 use Rattle.chan_walk.specs.declared.verdict.Verdict.TheVariants.{Yes}
 use Rattle.chan_walk.specs.Job.{storage_of, extents_of, fetch_of, store_of}
-use Rattle.chan_walk.specs.OpenJob.{AreOfOneProgram, all_storage, open_job}
+use Rattle.chan_walk.specs.OpenJob.{AreOfOneProgram, all_storage, open_job, IsOpenJob}
 use Rattle.chan_needs.specs.Needs.{Grants, Serves}
-use Rattle.chan_areas.specs.Ranges.{IsByteOf, IsMerged, end_of}
+use Rattle.chan_areas.specs.Merged.{IsByteOf, IsMerged}
 use Rattle.chan_needs.specs.Rows.{AreNeeds, Listed}
-use Rattle.chan_walk.specs.OpenJob.{IsOpenJob}
 use Rattle.chan_walk.specs.Verdict.{IsVerdict}
 use Rattle.chan_areas.proofs.Merging.{lies_in-append, lies_in-cases, lies_in-first, lies_in-rest}
 use Rattle.chan_needs.proofs.Needing.{granted_yes, yes_grants}
@@ -25,14 +22,10 @@ use Rattle.chan_deck.specs.Image.{Image, limit_of}
 use Rattle.chan_deck.proofs.PartLemmas.{storage_fits}
 use Rattle.chan_deck.specs.Item.{IsArea}
 use Rattle.chan_deck.specs.Needs.{halves, in_six_digits, six_digit_parts}
-use Rattle.chan_run.specs.Image.{IsAskedDeck, IsDeckAnswer, IsDeckText, IsNoDeck, IsOfOpenJob}
+use Rattle.chan_run.specs.Image.{IsAskedDeck, IsOfOpenJob}
 use Rattle.chan_run.specs.Image.{IsProgramIn, deck_of, extents_for, least_deck}
-use Rattle.chan_run.specs.Outcome.{wrote}
-use Rattle.ccw_core.specs.declared.watched.DeviceFault.{DeviceFault}
 use Rattle.chan_run.specs.Output.{IsDeckJob}
 use Rattle.chan_run.specs.declared.failure.Failure.TheVariants as failures
-use Rattle.chan_run.specs.declared.outcome.Outcome.{Outcome}
-use Rattle.chan_run.specs.declared.outcome.Outcome.TheVariants.{Done, Failed}
 use Rattle.chan_run.specs.declared.image_options.ImageOptions.{ImageOptions}
 
 -- ---- six digits
@@ -187,30 +180,11 @@ least_asked o image n d least short needs is =
         (of.mask ∙ ap (λ (x : Image). x.mask) is) (of.extents ∙ ap (λ (x : Image). x.extents) is)
         (of.fetch ∙ ap (λ (x : Image). x.fetch) is) (of.store ∙ ap (λ (x : Image). x.store) is)
 
--- and so is the deck of what the options say, where they don't ask for the least job
-pub said_asked : (o : ImageOptions) (image : List ℕ) → o.is_least ≡ false
-    → IsAskedDeck o.is_least o image (deck_of o image)
-said_asked o image said = rw said refl
-
 -- the deck of parts that are just what is needed
 pub is_least_deck : (o : ImageOptions) (image : List ℕ) (n : Listed) (extents : List (ℕ × ℕ)) (fetch store : List Area)
     → extents ≡ extents_for n.extents → fetch ≡ in_six_digits n.fetch → store ≡ in_six_digits n.store
     → record (deck_of o image) { mask = n.mask; extents = extents; fetch = fetch; store = store } ≡ least_deck o image n
 is_least_deck o image n extents fetch store one two three = rw (one, two, three) refl
-
--- a text of that deck that is written is answered, or a prefix of it
-pub deck_answered : (o : ImageOptions) (image text : List ℕ) (old new : Option (List ℕ)) (r : Result (Unit {0}) DeviceFault)
-    → IsDeckText o image text → OnOk r (Appends old new text) → AppendsPrefix old new text
-    → IsDeckAnswer o image old new (wrote r)
-deck_answered o image text old new (Ok x) is all prefix = (text, is, all)
-deck_answered o image text old new (Err e) is all prefix = (text, is, prefix)
-
--- and so is why there is none
-pub none_answered : (end : Outcome) (o : ImageOptions) (image : List ℕ) (old new : Option (List ℕ)) → IsNoDeck o image end
-    → IsDeckAnswer o image old new end
-none_answered Done o image old new none = absurd none.1
-none_answered (Failed failures.WriteFailed) o image old new none = absurd none.1
-none_answered end o image old new none = none
 
 -- the open job of a program shows something
 pub of_open_job : (o : ImageOptions) (image : List ℕ) (Holds : Job → Type 0) (j k : Job) → IsProgramIn o image j

@@ -1,8 +1,7 @@
 -- Words as they are shown, byte by byte.
 use Rattle.std.proofs.Common.{◌≡◌, ◌∙◌, ◌<◌, ◌++◌, ◌∷◌, ◌-◌, Bool, List, [], Ok, ap, arith, codes}
-use Rattle.std.proofs.Common.{drop}
-use Rattle.std.proofs.Common.{if◌then◌else◌, false, length, refl, slice_index_or, subst, suc, sym}
-use Rattle.std.proofs.Common.{take, true, zero, ℕ}
+use Rattle.std.proofs.Common.{drop, if◌then◌else◌, false, length, refl, slice_index_or, subst, sym}
+use Rattle.std.proofs.Common.{take, true, ℕ}
 use Rattle.std.specs.List.{AllByRecursion}
 use Rattle.std.proofs.lemmas.List.{append-nil, append_assoc, take_all}
 use Rattle.hex.proofs.HexLemmas.{decode_of-encode_upper, decode_sized-twice}
@@ -11,15 +10,6 @@ use Rattle.chan_deck.proofs.UpperDigits.{bytes_at}
 use Rattle.chan_deck.specs.Item.{IsByte, byte_digits}
 use Rattle.chan_run.specs.Word.{IsNextShown, IsWordShownAs, ShowsNone, is_plain, shown_byte}
 use Rattle.chan_run.specs.Word.{shown_word}
-
--- a byte more of a word is shown behind those before it
-pub shown_more : (word : List ℕ) (i n d : ℕ) → i < length word → n ≡ suc i
-    → shown_word (take i word) ++ shown_byte (slice_index_or word i d) ≡ shown_word (take n word)
-shown_more [] i n d lt next = absurd (omega (arith, lt))
-shown_more (b ∷ word) zero n d lt next = rw next (sym (append-nil (shown_byte b)))
-shown_more (b ∷ word) (suc i) n d lt next =
-    rw next (append_assoc (shown_byte b) (shown_word (take i word)) (shown_byte (slice_index_or word i d))
-    ∙ ap (λ t. shown_byte b ++ t) (shown_more word i (suc i) d (omega (arith, lt)) refl))
 
 -- these bytes, and those that this text shows, are the word that the whole text shows
 abbrev pub AreLeft : List ℕ → List ℕ → List ℕ → Type 0

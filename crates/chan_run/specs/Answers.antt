@@ -1,6 +1,5 @@
 -- What one input comes to: its answer on one writer, and what is said of it on another.
-use Rattle.std.specs.Prelude.{◌≡◌, ◌⊎◌, ◌++◌, ℕ, Bool, false, List, [], Option}
-use Rattle.std.specs.Prelude.{Result}
+use Rattle.std.specs.Prelude.{◌≡◌, ◌⊎◌, ◌++◌, ℕ, Bool, false, List, [], Option, Result}
 use Rattle.std.specs.Io.KnownBytes.{Appends}
 use Rattle.ccw_core.specs.Written.{AppendsPrefix}
 use Rattle.chan_run.specs.declared.failure.Failure.{Failure}
@@ -25,8 +24,8 @@ IsAnswered name a old_in new_in old new untouched end =
 
 -- what is said of an input: this line and, only if there is advice, more behind it; a prefix of
 -- that if a write failed
-pub record IsSaidWithAdvice (line : List ℕ) (is_advised : Bool) (old new : Option (List ℕ)) (failed : Bool)
-    : Type 0 where
+pub record IsSaidWithAdvice (line : List ℕ) (is_advised : Bool) (old new : Option (List ℕ))
+    (failed : Bool) : Type 0 where
   pub advice : List ℕ
   pub none : is_advised ≡ false → advice ≡ []
   pub whole : failed ≡ false → Appends old new (line ++ advice)

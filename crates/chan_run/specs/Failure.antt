@@ -15,15 +15,24 @@ failure_row word line status on_input =
     record { word = word; line = line; status = status; on_input = on_input }
 
 abbrev pub row_of_failure : Failure → Row
-row_of_failure failures.CannotOpen = failure_row (codes "cannot-open") (codes "cannot open\n") 3 true
-row_of_failure failures.ReadFailed = failure_row (codes "read-failed") (codes "read failed\n") 3 true
-row_of_failure failures.DeckTooLong = failure_row (codes "deck-too-long") (codes "deck too long\n") 2 true
-row_of_failure failures.ImageTooLong = failure_row (codes "image-too-long") (codes "image too long\n") 2 true
+row_of_failure failures.CannotOpen =
+    failure_row (codes "cannot-open") (codes "cannot open\n") 3 true
+row_of_failure failures.ReadFailed =
+    failure_row (codes "read-failed") (codes "read failed\n") 3 true
+row_of_failure failures.DeckTooLong =
+    failure_row (codes "deck-too-long") (codes "deck too long\n") 2 true
+row_of_failure failures.ImageTooLong =
+    failure_row (codes "image-too-long") (codes "image too long\n") 2 true
 row_of_failure failures.ImagePastStorage =
     failure_row (codes "image-past-storage") (codes "image past storage\n") 4 true
-row_of_failure failures.TooManyPlaces = failure_row (codes "too-many-places") (codes "too many places\n") 2 true
-row_of_failure failures.NoJobWillDo = failure_row (codes "no-job-will-do") (codes "no job will do\n") 1 true
-row_of_failure failures.WriteFailed = failure_row (codes "write-failed") (codes "write failed\n") 3 false
-row_of_failure failures.OutOfMemory = failure_row (codes "out-of-memory") (codes "out of memory\n") 3 true
+row_of_failure failures.TooManyPlaces =
+    failure_row (codes "too-many-places") (codes "too many places\n") 2 true
+row_of_failure failures.NoJobWillDo =
+    failure_row (codes "no-job-will-do") (codes "no job will do\n") 1 true
+row_of_failure failures.WriteFailed =
+    failure_row (codes "write-failed") (codes "write failed\n") 3 false
+row_of_failure failures.OutOfMemory =
+    failure_row (codes "out-of-memory") (codes "out of memory\n") 3 true
 row_of_failure failures.NotCcw = failure_row (codes "not-a-ccw") (codes "not a CCW\n") 4 false
-row_of_failure failures.NoSuchWord = failure_row (codes "no-such-word") (codes "no such word\n") 4 false
+row_of_failure failures.NoSuchWord =
+    failure_row (codes "no-such-word") (codes "no such word\n") 4 false

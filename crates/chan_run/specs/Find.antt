@@ -1,6 +1,5 @@
 -- The programs that are found in an image of storage, a line for each.
-use Rattle.std.specs.Prelude.{◌≡◌, ◌⊎◌, ℕ, List, [], ◌∷◌, ◌++◌, Option, Some, None}
-use Rattle.std.specs.Prelude.{take}
+use Rattle.std.specs.Prelude.{◌≡◌, ◌⊎◌, ℕ, List, [], ◌∷◌, ◌++◌, Option, Some, None, take}
 use Rattle.std.specs.Io.KnownBytes.{Appends}
 use Rattle.ccw_core.specs.Written.{AppendsPrefix}
 use Rattle.chan_deck.specs.Parts.{storage_with}
@@ -9,9 +8,8 @@ use Rattle.chan_walk.specs.declared.job.Job.{Job}
 use Rattle.chan_walk.specs.declared.verdict.Verdict.{Verdict}
 use Rattle.chan_walk.specs.Answers.{IsAnswer}
 use Rattle.chan_walk.specs.Places.{HasMoreThan}
-use Rattle.chan_walk.specs.OpenJob.{open_job}
+use Rattle.chan_walk.specs.OpenJob.{open_job, IsOpenJob}
 use Rattle.chan_find.specs.Programs.{AreProgramStarts, IsJobOver}
-use Rattle.chan_walk.specs.OpenJob.{IsOpenJob}
 use Rattle.chan_run.specs.Image.{IsNoImage, IsProgramAt, IsWholeImage}
 use Rattle.chan_run.specs.Output.{IsUnwritten}
 use Rattle.chan_run.specs.declared.failure.Failure.{Failure}
@@ -62,7 +60,8 @@ pub record AreWritten (Wrote : List ℕ → Type 0) (o : ImageOptions) (image : 
 abbrev pub IsFoundAnswer : ImageOptions → List ℕ → Option (List ℕ) → Option (List ℕ)
     → Outcome → Type 0
 IsFoundAnswer o image old new Done =
-    (starts : List ℕ) × AreStartsInImage o image starts × AreWritten (Appends old new) o image starts
+    (starts : List ℕ) × AreStartsInImage o image starts
+    × AreWritten (Appends old new) o image starts
 IsFoundAnswer o image old new (Failed failures.WriteFailed) =
     (starts : List ℕ) × AreStartsInImage o image starts
     × (n : ℕ) × AreWritten (AppendsPrefix old new) o image (take n starts)

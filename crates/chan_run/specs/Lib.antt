@@ -5,6 +5,7 @@ pub mod Word
 pub mod Output
 pub mod Failure
 pub mod Terms
+pub mod Meanings
 pub mod Outcome
 pub mod Options
 pub mod OptionValues

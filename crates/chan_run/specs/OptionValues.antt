@@ -109,5 +109,6 @@ asked o =
 -- an answer gives what is read, or an allocation was refused
 abbrev pub HoldsReading : {A B : Type 0} → (B → A) → Result A Fault → Result B OptionError → Type 0
 HoldsReading value read (Ok x) = read ≡ Ok (value x)
-HoldsReading value read (Err (Wrong fault)) = read ≡ Err (fault.option, fault.text.now, fault.why.now)
+HoldsReading value read (Err (Wrong fault)) =
+    read ≡ Err (fault.option, fault.text.now, fault.why.now)
 HoldsReading value read (Err Memory) = Unit {0}

@@ -76,7 +76,8 @@ line_over name (Refused number cause) =
 line_over name (Unknown t) =
     codes "chanv: no such word; the nearest is " ++ (word_of_term t ++ 10 ∷ [])
 line_over name (Failed failure) =
-    codes "chanv: " ++ (name_before name (row_of_failure failure).on_input ++ (row_of_failure failure).line)
+    codes "chanv: "
+    ++ (name_before name (row_of_failure failure).on_input ++ (row_of_failure failure).line)
 line_over name _ = []
 
 -- a write failed, so that nothing more can be written

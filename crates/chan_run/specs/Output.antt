@@ -1,8 +1,7 @@
 -- What a run of the program answers for a text.
-use Rattle.std.specs.Prelude.{◌≡◌, ◌≤◌, ◌++◌, ◌⊎◌, ℕ, Bool, true, false, List, [], Option}
-use Rattle.std.specs.Prelude.{length}
-use Rattle.std.specs.List.{AllZip}
+use Rattle.std.specs.Prelude.{◌≡◌, ◌≤◌, ◌++◌, ◌⊎◌, ℕ, Bool, true, false, List, [], Option, length}
 use Rattle.std.specs.Prelude.{Result, Ok, Err}
+use Rattle.std.specs.List.{AllZip}
 use Rattle.std.specs.Io.KnownBytes.{Appends}
 use Rattle.ccw_core.specs.Written.{AppendsPrefix}
 use Rattle.chan_deck.specs.Image.{Image, Spells, limit_of}
@@ -11,7 +10,7 @@ use Rattle.chan_deck.specs.Listing.{listing, seen_listing}
 use Rattle.chan_deck.specs.Needs.{needs_text}
 use Rattle.chan_deck.specs.Refused.{IsRefused}
 use Rattle.chan_deck.specs.Texts.{verdict_line}
-use Rattle.chan_why.specs.declared.evidence.Evidence.{Evidence}
+use Rattle.chan_walk.specs.declared.evidence.Evidence.{Evidence}
 use Rattle.chan_walk.specs.declared.job.Job.{Job}
 use Rattle.chan_walk.specs.declared.offence.Offence.{Offence}
 use Rattle.chan_walk.specs.declared.place.Place.{Place}
@@ -23,10 +22,9 @@ use Rattle.chan_why.specs.Witness.{IsCauseOf, IsEvidenceOf, IsPathOf, IsSecondPa
 use Rattle.chan_why.specs.Witness.{IsStoredOver, IsWitness}
 use Rattle.chan_walk.specs.Places.{AreReachable, HasMoreThan}
 use Rattle.chan_walk.specs.Job.{extents_of, fetch_of, storage_of, store_of}
-use Rattle.chan_walk.specs.OpenJob.{AreOfOneProgram}
+use Rattle.chan_walk.specs.OpenJob.{AreOfOneProgram, IsOpenJob}
 use Rattle.chan_walk.specs.Offence.{AreOffences, first_verdict}
 use Rattle.chan_needs.specs.Rows.{AreNeeds, Listed}
-use Rattle.chan_walk.specs.OpenJob.{IsOpenJob}
 use Rattle.chan_args.specs.declared.action.Action.{Action}
 use Rattle.chan_args.specs.declared.action.Action.TheVariants as actions
 use Rattle.chan_run.specs.declared.output.Output.{Output}
@@ -157,11 +155,12 @@ IsTextAnswer name a t answer = IsOfJob t (λ j. IsAnswerOn name a j answer)
 
 -- what came of writing an answer: all of the output was written, or where a write failed a prefix,
 -- or where memory ran out in a listing; an answer without output stays, and the writer is untouched
-abbrev pub IsWrittenOut : Answer → Option (List ℕ) → Option (List ℕ) → Type 0 → Result Status RunError
-    → Type 0
+abbrev pub IsWrittenOut : Answer → Option (List ℕ) → Option (List ℕ) → Type 0
+    → Result Status RunError → Type 0
 IsWrittenOut (Ok (status, output)) old new untouched (Ok end) =
     (end ≡ status) × Appends old new (text_in output)
-IsWrittenOut (Ok (status, output)) old new untouched (Err Write) = AppendsPrefix old new (text_in output)
+IsWrittenOut (Ok (status, output)) old new untouched (Err Write) =
+    AppendsPrefix old new (text_in output)
 IsWrittenOut (Ok (status, outputs.Listing looks v)) old new untouched (Err Memory) =
     AppendsPrefix old new (seen_listing looks.items v)
 IsWrittenOut (Ok (status, output)) old new untouched (Err e) = ⊥
@@ -184,8 +183,9 @@ IsReadFault old new Memory = Unit {0}
 IsReadFault old new fault = ⊥
 
 -- the input was read to its end, this is the answer to its text, and this came of writing it
-pub record AnswersInput (name : Option (List ℕ)) (a : Action) (old_in new_in old new : Option (List ℕ))
-    (untouched : Type 0) (end : Result Status RunError) : Type 0 where
+pub record AnswersInput (name : Option (List ℕ)) (a : Action)
+    (old_in new_in old new : Option (List ℕ)) (untouched : Type 0)
+    (end : Result Status RunError) : Type 0 where
   pub text : List ℕ
   pub input : IsInput old_in new_in text
   pub answer : Answer

@@ -45,7 +45,8 @@ pub fn answer<R: Read, W: Write, E: Write>(
     ensures answer { IsAnswered (name_in name.entry) action (R.remaining from.old.device)
         (R.remaining from.new.device) (W.contents to.old.device) (W.contents to.new.device)
         (to.new ≡ to.old) result }
-    ensures told { IsSaidWithAdvice (line_over (name_in name.entry) result) (has_advice action result)
+    ensures told { IsSaidWithAdvice (line_over (name_in name.entry) result) (has_advice action
+        result)
         (E.contents errors.old.device) (E.contents errors.new.device) errors.new.failed }
     ensures flushed { IsDone result → to.new.flushed ≡ true }
     ensures read { result ≡ Failed failures.ReadFailed ↔ (from.new.failed ≡ true) }

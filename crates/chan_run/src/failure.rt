@@ -186,7 +186,8 @@ pub enum Failure {
 
 /// The row of a failure. Tests hold the two texts that explain it.
 pub(crate) fn row(failure: Failure) -> Row
-    ensures { table.failure_row result.0.now result.2.now result.4 result.5 ≡ table.row_of_failure failure }
+    ensures { table.failure_row result.0.now result.2.now result.4 result.5 ≡ table.row_of_failure
+        failure }
 {
     match failure {
         Failure::CannotOpen => CANNOT_OPEN,

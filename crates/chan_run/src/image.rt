@@ -1,8 +1,7 @@
 //! Making a deck of an image of storage: from the reader's bytes to the writer's.
 
-ghost use Rattle.std.specs.Prelude.{◌≡◌, ◌↔◌, ◌+◌, ◌≤◌, ◌^◌, false, true, length, IfErr};
-ghost use Rattle.std.specs.Prelude.{◌<◌, if◌then◌else◌, is_some, IfOk, IfSome, IsErrOf, None};
-ghost use Rattle.std.specs.Prelude.{unwrap_or};
+ghost use Rattle.std.specs.Prelude.{◌≡◌, ◌↔◌, ◌+◌, ◌≤◌, ◌^◌, false, true, length, IfErr, ◌<◌};
+ghost use Rattle.std.specs.Prelude.{if◌then◌else◌, is_some, IfOk, IfSome, IsErrOf, None, unwrap_or};
 ghost use Rattle.chan_run.specs.Image.{IsDeckAnswer, IsDeckText, IsNoDeck, IsNoImage, IsRoom};
 ghost use Rattle.chan_run.specs.Image.{IsWholeImage, filled};
 ghost use Rattle.chan_run.specs.Outcome.{IsDone, IsWriteFailure};

@@ -1,8 +1,7 @@
 //! Reading the whole input.
 
-ghost use Rattle.std.specs.Prelude.{◌≡◌, ◌≤◌, ◌↔◌, ◌<◌, ◌⊎◌, ℕ, false, true, length, Err, IfOk};
+ghost use Rattle.std.specs.Prelude.{◌≡◌, ◌≤◌, ◌↔◌, ◌<◌, ◌⊎◌, false, true, length, Err, IfOk};
 ghost use Rattle.std.specs.Prelude.{IfErr, IfSome, IsErrOf, None};
-ghost use Rattle.std.specs.Io.KnownBytes.{Consumes, IsAtEnd};
 ghost use Rattle.chan_run.specs.Input.{GaveAll, GaveOut, GaveTooMuch};
 ghost use Rattle.chan_run.specs.declared.failure.Failure.TheVariants as failures;
 

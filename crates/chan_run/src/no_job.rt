@@ -1,7 +1,6 @@
 //! What is said of an image if no job will do for its program.
 
-ghost use Rattle.std.specs.Prelude.{◌≡◌, ◌+◌, ◌≤◌, ◌^◌, codes, length, string_bytes, IfOk};
-ghost use Rattle.chan_run.specs.Image.{IsOfOpenJob};
+ghost use Rattle.std.specs.Prelude.{◌+◌, ◌≤◌, ◌^◌, length, string_bytes, IfOk};
 ghost use Rattle.chan_run.specs.Name.{name_in};
 ghost use Rattle.chan_run.specs.NoJob.{IsExplainedOpenly, IsNoJobText};
 ghost use Rattle.chan_walk.specs.OpenJob.{IsOpenJob};

@@ -37,7 +37,8 @@ fn areas_of<'a>(
     option: ImageOption,
     texts: &[&'a str],
 ) -> Result<Vec<Area>, OptionError<'a>>
-    ensures gives { HoldsReading (λ areas. areas.items) (read_each area_in option [] texts.now) result }
+    ensures gives { HoldsReading (λ areas. areas.items) (read_each area_in option [] texts.now)
+        result }
     ensures fit { IfOk result (λ areas. All IsArea areas.items) }
 {
     let mut areas = Vec::new(alloc);

@@ -1,6 +1,6 @@
 //! What the texts of the command's options say, or why one isn't accepted.
 
-ghost use Rattle.std.specs.Prelude.{◌≤◌, ◌^◌, ◌≡◌, ◌⊎◌, IfOk};
+ghost use Rattle.std.specs.Prelude.{◌≤◌, ◌≡◌, ◌⊎◌, IfOk};
 ghost use Rattle.chan_deck.specs.Item.{IsAddress, IsArea};
 ghost use Rattle.chan_run.specs.Options.{IsSize, address_in, area_between, area_in, cylinder_in};
 ghost use Rattle.chan_run.specs.Options.{cylinders_in, device_in, digits_in, extent_in};

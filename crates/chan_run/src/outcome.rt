@@ -12,10 +12,10 @@ ghost use Rattle.chan_run.specs.declared.failure.Failure.TheVariants as failures
 ghost use Rattle.chan_run.specs.declared.outcome.Outcome.TheVariants.{Done, Failed, Refused};
 
 use crate::failure::{Failure, row};
-use crate::terms::{Term, cause_word, term_word};
 use crate::name::named;
-use crate::status::{RunError, Status};
 use crate::one_ccw::ShowError;
+use crate::status::{RunError, Status};
+use crate::terms::{Term, cause_word, term_word};
 use crate::texts::write_texts;
 use ccw_core::{DeviceFault, Watched, write_out};
 use chan_args::Action;

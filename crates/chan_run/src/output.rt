@@ -1,7 +1,6 @@
 //! What an action asks for of a job that was judged, and how it is written.
 
-ghost use Rattle.std.specs.Prelude.{◌≡◌, ◌↔◌, ◌++◌, false, true, IfOk, IsErrOf, OnOk};
-ghost use Rattle.std.specs.Prelude.{string_bytes};
+ghost use Rattle.std.specs.Prelude.{◌≡◌, ◌↔◌, ◌++◌, false, true, IfOk, IsErrOf, OnOk, string_bytes};
 ghost use Rattle.std.specs.Io.KnownBytes.{Appends};
 ghost use Rattle.ccw_core.specs.Written.{AppendsPrefix};
 ghost use Rattle.chan_walk.specs.Offence.{first_verdict};
@@ -14,8 +13,8 @@ use ccw_core::{Watched, write_out};
 use chan_args::Action;
 use chan_deck::{ListError, explanation_text, graph_text, needs_text, verdict_text, write_seen};
 use chan_needs::needs_from;
-use chan_walk::{Job, Look, Survey, Verdict, first_place};
-use chan_why::{Evidence, causes_from, witness_from};
+use chan_walk::{Evidence, Job, Look, Survey, Verdict, first_place};
+use chan_why::{causes_from, witness_from};
 use std::alloc::{AllocError, Global};
 use std::io::Write;
 
@@ -61,7 +60,7 @@ pub(crate) fn output_of(
 ) -> Result<Output, AllocError>
     requires { IsSurvey job.now survey }
     ensures { IfOk result (IsOutput (name_in name.entry) action job.now
-        (first_verdict survey.offences.items)) }
+        (first_verdict survey.offences)) }
 {
     match action {
         Action::Verify => {
@@ -101,9 +100,9 @@ pub(crate) fn why_text(
 ) -> Result<String, AllocError>
     requires { IsSurvey job.now survey.now }
     ensures { IfOk result (λ text. IsExplained all job.now
-        (first_verdict survey.now.offences.items) (string_bytes text)) }
+        (first_verdict survey.now.offences) (string_bytes text)) }
 {
-    let witness = witness_from(alloc, job, survey)?;
+    let witness = witness_from(alloc, survey)?;
     let causes = causes_told(alloc, all, job, survey)?;
     explanation_text(alloc, job, survey, &witness, causes.as_slice())
 }
@@ -116,10 +115,10 @@ fn causes_told(
     survey: &Survey,
 ) -> Result<Vec<Evidence>, AllocError>
     requires { IsSurvey job.now survey.now }
-    ensures { IfOk result (λ es. AreTold all job.now survey.now.offences.items es.items) }
+    ensures { IfOk result (λ es. AreTold all job.now survey.now.offences es.items) }
 {
     if all {
-        causes_from(alloc, job, survey)
+        causes_from(alloc, survey)
     } else {
         Ok(Vec::new(alloc))
     }
@@ -129,7 +128,7 @@ fn causes_told(
 fn needed_text(alloc: Global, job: &Job, survey: &Survey) -> Result<Vec<u8>, AllocError>
     requires { IsSurvey job.now survey.now }
     ensures { IfOk result (λ text. IsNeeded job.now
-        (first_verdict survey.now.offences.items) text.items) }
+        (first_verdict survey.now.offences) text.items) }
 {
     match survey.verdict() {
         Verdict::No { .. } => Ok(why_text(alloc, false, job, survey)?.into_bytes()),

@@ -1,11 +1,9 @@
 //! Running over a deck: from the reader's bytes to the writer's.
 
 ghost use Rattle.std.specs.Prelude.{◌≡◌, ◌↔◌, false, true, Err, IfErr, IfOk, IsErrOf, None};
-ghost use Rattle.chan_walk.specs.Offence.{first_verdict};
 ghost use Rattle.chan_run.specs.Name.{name_in};
 ghost use Rattle.chan_run.specs.Output.{IsAnswerOn, IsInput, IsJobAnswer, IsWrittenOut};
-ghost use Rattle.chan_run.specs.Output.{IsReadFault};
-ghost use Rattle.chan_run.specs.Output.{IsRunAnswer, IsTextAnswer, status_of_verdict};
+ghost use Rattle.chan_run.specs.Output.{IsReadFault, IsRunAnswer, IsTextAnswer, status_of_verdict};
 
 use crate::advice::{limit_text, notes_on};
 use crate::failure::Failure;

@@ -6,12 +6,10 @@ pub mod InOrder
 pub mod Verdicts
 pub mod Counted
 pub mod Granted
-pub mod Lending
 pub mod Guarding
 pub mod Looking
 pub mod Sorting
 pub mod Listing
 pub mod Tracing
-pub mod Given
 pub mod Opened
 pub mod Moved

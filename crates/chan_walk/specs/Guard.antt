@@ -8,7 +8,7 @@ use Rattle.chan_walk.specs.declared.place.Place.{Place}
 use Rattle.chan_walk.specs.Fault.{IsClear}
 use Rattle.chan_walk.specs.Guarded.{IsCcwByte, IsSeekByte, IsMaskByte, IsArgumentByte}
 use Rattle.chan_walk.specs.Job.{storage_of}
-use Rattle.chan_areas.specs.Ranges.{IsMerged}
+use Rattle.chan_areas.specs.Merged.{IsMerged}
 
 -- two lists of areas: those of CCWs, and those of arguments of seeks
 pub record GuardAreas : Type 0 where

@@ -18,24 +18,24 @@ pub mod Alarm
 pub mod Counted
 pub mod Order
 pub mod OpenJob
--- What the answers say: lists, paths, causes, notes, needs, and what a supervisor may do.
+-- What the answers say: places, offences, paths, and what is moved.
 pub mod Limit
 pub mod Places
 pub mod Answers
 pub mod Offence
 pub mod Paths
 pub mod Seeks
-pub mod Given
+pub mod Moved
 -- What only ties the code to all this.
-pub mod Onward
+pub mod Direction
 pub mod Visit
+pub mod Read
+pub mod Evidence
 pub mod Tables
 pub mod Marks
 pub mod Walk
-pub mod Least
 pub mod Lent
 pub mod Lending
 pub mod Guard
 pub mod Look
 pub mod JobSurvey
-pub mod Moved

@@ -1,10 +1,8 @@
 -- The bytes that reachable CCWs fetch, and those into which they store.
-use Rattle.std.specs.Prelude.{◌≡◌, ℕ, ◌<◌, ◌≤◌, Bool, true, List, Some, ◌↔◌}
-use Rattle.ccw_core.specs.declared.areas.Area.{Area}
-use Rattle.ccw_core.specs.Areas.{lies_in}
+use Rattle.std.specs.Prelude.{◌≡◌, ℕ, ◌<◌, ◌≤◌, Bool, true, Some}
 use Rattle.ccw_core.specs.Ccw.{Fields}
 use Rattle.ccw_core.specs.Storage.{Stands}
-use Rattle.chan_areas.specs.Ranges.{end_of}
+use Rattle.ccw_core.specs.Areas.{end_of}
 use Rattle.chan_walk.specs.declared.job.Job.{Job}
 use Rattle.chan_walk.specs.declared.place.Place.{Place}
 use Rattle.chan_walk.specs.Fault.{fetches, stores}
@@ -34,10 +32,6 @@ abbrev pub IsStoredInto : Job → ℕ → Type 0
 IsStoredInto j b = IsDataOf stores j b
 
 -- ---- place by place
-
--- the areas have exactly the bytes of the data of these CCWs
-abbrev pub HoldData : (Place → Fields → Bool) → Job → List Area → Type 0
-HoldData test j areas = (b : ℕ) → (lies_in areas b ≡ true) ↔ IsDataOf test j b
 
 -- it is so, and the byte at b is in the data range of the CCW that was seen
 pub record IsSeenByte (l : Seen) (is_so : Bool) (b : ℕ) : Type 0 where

@@ -3,6 +3,7 @@ use Rattle.std.specs.Prelude.{◌≡◌, ℕ, ◌+◌, ◌*◌, true, List, [], 
 use Rattle.std.specs.List.Sorted.{IsStrictlyIncreasing}
 use Rattle.ccw_core.specs.declared.areas.Area.{Area}
 use Rattle.ccw_core.specs.Ccw.{Fields}
+use Rattle.chan_walk.specs.declared.direction.Direction.TheVariants.{Store}
 use Rattle.chan_walk.specs.declared.job.Job.{Job}
 use Rattle.chan_walk.specs.declared.offence.Offence.{Offence}
 use Rattle.chan_walk.specs.declared.place.Place.{Place}
@@ -10,12 +11,18 @@ use Rattle.chan_walk.specs.declared.reason.Reason.{Reason}
 use Rattle.chan_walk.specs.declared.verdict.Verdict.{Verdict}
 use Rattle.chan_walk.specs.declared.verdict.Verdict.TheVariants.{Yes, No}
 use Rattle.chan_walk.specs.Argument.{Has}
+use Rattle.chan_walk.specs.Fault.{HasFault}
 use Rattle.chan_walk.specs.Places.{AreDistinct, way_of}
+use Rattle.chan_walk.specs.Direction.{is_direction}
 use Rattle.chan_walk.specs.Look.{Seen}
-use Rattle.chan_areas.specs.Ranges.{Meets}
+use Rattle.chan_areas.specs.Merged.{Meets}
 use Rattle.chan_walk.specs.Reachable.{IsReachable}
 use Rattle.chan_walk.specs.Reason.{number_of}
 use Rattle.chan_walk.specs.Verdict.{Offends, IsVerdict}
+
+-- p has this own fault
+abbrev pub IsOwn : Job → Place → Reason → Type 0
+IsOwn j p r = HasFault j p (Some r)
 
 -- the place is reachable, and offends by the reason
 abbrev pub Offending : Job → Offence → Type 0
@@ -71,5 +78,5 @@ pub record HasOffences (Off : Place → Reason → Type 0) (ps : List Place) (os
 pub record StoresInto (l : Seen) (areas : List Area) : Type 0 where
   pub ccw : Fields
   pub seen : l.ccw ≡ Some ccw
-  pub stores : l.stores ≡ true
+  pub stores : is_direction Store l.direction ≡ true
   pub meets : Meets areas ccw.address ccw.count

@@ -8,6 +8,11 @@ use Rattle.chan_walk.specs.declared.place.Place.{Place}
 use Rattle.chan_walk.specs.Argument.{Has}
 use Rattle.chan_walk.specs.Reachable.{IsReachable}
 
+-- the list has exactly the reachable places
+abbrev pub AreReached : Job → List Place → Type 0
+AreReached j ps =
+    ((p : Place) → IsReachable j p → Has ps p) × ((p : Place) → Has ps p → IsReachable j p)
+
 -- the entries in their order
 abbrev pub entry_number : Entry → ℕ
 entry_number Fresh = 0

@@ -2,14 +2,13 @@
 use Rattle.std.specs.Prelude.{◌≡◌, ℕ, ◌<◌, ◌≤◌, List, [], ◌∷◌, ◌++◌, length, slice_get}
 use Rattle.std.specs.Prelude.{slice_index, ◌⊎◌, ◌↔◌, Option, Some, None}
 use Rattle.std.specs.BTreeMap.{BTreeMap}
-use Rattle.chan_walk.specs.declared.walk.Walk.{Walk}
 use Rattle.chan_walk.specs.declared.job.Job.{Job}
 use Rattle.chan_walk.specs.declared.place.Place.{Place}
 use Rattle.chan_walk.specs.declared.successor.Next.{Next}
 use Rattle.chan_walk.specs.Argument.{Has}
 use Rattle.chan_walk.specs.Places.{AreDistinct}
 use Rattle.chan_walk.specs.Fault.{IsClear}
-use Rattle.chan_walk.specs.Look.{AreLooks, places_of_looks}
+use Rattle.chan_walk.specs.Look.{AreLooks, Seen, places_of_looks}
 use Rattle.chan_walk.specs.Marks.{HasMark}
 use Rattle.chan_walk.specs.Paths.{IsFirstOf, IsNext, IsSkip}
 use Rattle.chan_walk.specs.Place.{first_place}
@@ -92,15 +91,14 @@ pub record IsTraced (j : Job) (ps : List Place) (fs : List ℕ) (i n : ℕ) : Ty
   pub found : (k : ℕ) (p q : Place) → k < i → slice_get ps k ≡ Some p → Follows j p q
       → IsFoundBy ps fs k q
 
--- the walk has found all reachable places, with a true look at each, and no more than the job's
--- limit
-pub record HasFound (j : Job) (w : Walk) : Type 0 where
-  pub looks : AreLooks j w.looks.items
-  pub agrees : Agrees w.marks (places_of_looks w.looks.items)
+-- these are true looks at all reachable places, no more than the job's limit, and for each the
+-- index of the place that it was found from
+pub record HasFound (j : Job) (ls : List Seen) (fs : List ℕ) : Type 0 where
+  pub looks : AreLooks j ls
   pub at : ℕ
-  pub walked : IsWalked j j.limit (places_of_looks w.looks.items) at
-  pub all : length (places_of_looks w.looks.items) ≤ at
-  pub traced : IsTraced j (places_of_looks w.looks.items) w.found_from.items at at
+  pub walked : IsWalked j j.limit (places_of_looks ls) at
+  pub all : length (places_of_looks ls) ≤ at
+  pub traced : IsTraced j (places_of_looks ls) fs at at
 
 -- before lead to the place at k, and no place from there on has a path that comes before this one
 pub record IsBest (j : Job) (ps : List Place) (k : ℕ) (p : Place) (before : List Place)

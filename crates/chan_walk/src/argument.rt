@@ -1,19 +1,20 @@
-//! The argument of a seek, gathered along the data chain that begins at it.
+//! The argument of an operation: of a seek, gathered along the data chain that begins at it, or of
+//! Set File Mask.
 
-ghost use Rattle.std.specs.Prelude.{◌≡◌, ◌&&◌, not, ◌+◌, ◌<◌, ◌≤◌, ◌^◌, ℕ, List, true, false};
-ghost use Rattle.std.specs.Prelude.{length, slice_index, IfSome, IfNone, IfOk, IfErr, Some, None};
+ghost use Rattle.std.specs.Prelude.{◌≡◌, ◌&&◌, not, ◌+◌, ◌<◌, ◌≤◌, ◌^◌, ◌⊎◌, ℕ, true, false};
+ghost use Rattle.std.specs.Prelude.{length, slice_index, IfSome, IfNone, Some, None};
 ghost use Rattle.ccw_core.specs.Ccw.{byte, ccw as held_ccw, chains_data as chained, is_transfer};
 ghost use Rattle.ccw_core.specs.Ccw.{is_counted as counted, has_data_in as data_in};
 ghost use Rattle.ccw_core.specs.Ccw.{is_formed as formed};
 ghost use Rattle.ccw_core.specs.Held.{bytes_held};
 ghost use Rattle.ccw_core.specs.Storage.{ccw_at as ccw_in};
-ghost use Rattle.chan_walk.specs.Argument.{Gives, HasArgument, is_part};
-ghost use Rattle.chan_walk.specs.Given.{AreArgument, AreGiven, AreZeroFrom, IsFront};
-ghost use Rattle.chan_walk.specs.Given.{addresses_given, bytes_given};
-ghost use Rattle.chan_walk.specs.Onward as onward;
-ghost use Rattle.chan_walk.specs.Tables.{HasAddresses};
+ghost use Rattle.chan_walk.specs.Argument.{HasArgument, is_part};
+ghost use Rattle.chan_walk.specs.Read as reads;
+ghost use Rattle.chan_walk.specs.Read.{AreZeroFrom, IsFrontOf, AreOfArgument, IsRead};
+ghost use Rattle.chan_walk.specs.Visit.{IsVisit};
 
-use crate::bits::{chains_data, has_data_in, is_counted, is_formed};
+use crate::bits::{has_data_in, is_counted, is_formed};
+use crate::visit::Visit;
 use ccw_core::{Ccw, Storage};
 
 /// The bytes that a seek's data chain gives of its argument, and their addresses, in order.
@@ -30,7 +31,7 @@ pub struct GivenBytes {
 impl GivenBytes {
     /// The bytes.
     pub fn bytes(&self) -> &[u8]
-        ensures { result.now ≡ bytes_given self.now }
+        ensures { result.now ≡ reads.bytes_given self.now }
     {
         let count = usize::from(self.count).min(6);
         &self.bytes[..count]
@@ -38,21 +39,60 @@ impl GivenBytes {
 
     /// Their addresses.
     pub fn addresses(&self) -> &[u32]
-        ensures { result.now ≡ addresses_given self.now }
+        ensures { result.now ≡ reads.addresses_given self.now }
     {
         let count = usize::from(self.count).min(6);
         &self.addresses[..count]
     }
 }
 
-/// The addresses of the first bytes of an argument.
+/// What was read of the argument of the operation that begins at a place.
 #[derive(Clone, Copy)]
-pub(crate) struct Front {
-    pub(crate) count: u8,
-    pub(crate) addresses: [u32; 6],
+pub enum Read {
+    /// Neither a seek nor Set File Mask begins there.
+    Nothing,
+    /// What the seek's data chain gives of its argument: fewer than six bytes.
+    Short(GivenBytes),
+    /// The whole argument of the seek.
+    Whole(GivenBytes),
+    /// The byte that Set File Mask sets, and its address.
+    Mask { at: [u32; 1], byte: u8 },
 }
 
-/// A CCW of the chain, and the address at which it stands.
+impl Read {
+    /// The whole argument of a seek, if it was read.
+    pub fn whole(self) -> Option<GivenBytes>
+        ensures { result ≡ reads.whole_of self }
+    {
+        match self {
+            Read::Whole(given) => Some(given),
+            _ => None,
+        }
+    }
+
+    /// The byte that Set File Mask sets, and 0 if none was read.
+    pub fn byte(self) -> u8
+        ensures { result ≡ reads.byte_of self }
+    {
+        match self {
+            Read::Mask { byte, .. } => byte,
+            _ => 0,
+        }
+    }
+
+    /// The addresses of the bytes of a whole argument.
+    pub(crate) fn addresses(&self) -> &[u32]
+        ensures { result.now ≡ reads.addresses_in self.now }
+    {
+        match self {
+            Read::Whole(given) => &given.addresses,
+            Read::Mask { at, .. } => at,
+            _ => &[],
+        }
+    }
+}
+
+/// A CCW of a data chain, and the address at which it stands.
 #[derive(Clone, Copy)]
 struct Link {
     address: u32,
@@ -67,15 +107,14 @@ fn gives_bytes(storage: &Storage, ccw: &Ccw) -> bool
     !ccw.is_transfer() && is_formed(ccw) && is_counted(ccw) && has_data_in(storage, ccw)
 }
 
-/// What a CCW gives of an argument: bytes in a row, and whether the chain goes on behind them.
+/// What a CCW gives of an argument: bytes in a row.
 #[derive(Clone, Copy)]
 struct Part {
     from: u32,
     count: usize,
-    chains: bool,
 }
 
-/// What the CCW at an address gives of an argument, if it can give any of it.
+/// What a CCW gives of an argument, if it can give any of it.
 #[tactic(auto, using(crate::proofs::Algorithms::Following::found_parts))]
 fn part_at(storage: &Storage, address: u32, ccw: Ccw) -> Option<Part>
     requires { ccw_in (bytes_held storage.now) address ≡ Some ccw }
@@ -87,8 +126,6 @@ fn part_at(storage: &Storage, address: u32, ccw: Ccw) -> Option<Part>
         (λ part. part.from ≡ (held_ccw (bytes_held storage.now) address).address) }
     ensures count { IfSome result
         (λ part. part.count ≡ (held_ccw (bytes_held storage.now) address).count) }
-    ensures chains { IfSome result
-        (λ part. part.chains ≡ chained (held_ccw (bytes_held storage.now) address)) }
     ensures none { IfNone result (is_part (bytes_held storage.now) address ≡ false) }
 {
     if !gives_bytes(storage, &ccw) {
@@ -97,20 +134,27 @@ fn part_at(storage: &Storage, address: u32, ccw: Ccw) -> Option<Part>
     Some(Part {
         from: ccw.address(),
         count: usize::from(ccw.count()),
-        chains: chains_data(&ccw),
     })
 }
 
-/// The CCW to which data chaining leads from the one at an address, where one stands there.
-fn onward(storage: &Storage, address: u32) -> Option<Link>
-    requires { address < 2 ^ 25 }
+/// The CCW to which data chaining leads from another: `None` if that doesn't chain data, or if no
+/// CCW stands there.
+fn onward(storage: &Storage, address: u32, ccw: Ccw) -> Option<Link>
+    requires stands { ccw_in (bytes_held storage.now) address ≡ Some ccw }
+    requires low { address < 2 ^ 25 }
+    ensures chains { IfSome result
+        (λ _. chained (held_ccw (bytes_held storage.now) address) ≡ true) }
     ensures found { IfSome result
-        (λ link. link.address ≡ onward.onward (bytes_held storage.now) address) }
+        (λ next. next.address ≡ reads.onward (bytes_held storage.now) address) }
     ensures stands { IfSome result
-        (λ link. ccw_in (bytes_held storage.now) link.address ≡ Some link.ccw) }
+        (λ next. ccw_in (bytes_held storage.now) next.address ≡ Some next.ccw) }
     ensures none { IfNone result
-        (ccw_in (bytes_held storage.now) (onward.onward (bytes_held storage.now) address) ≡ None) }
+        ((chained (held_ccw (bytes_held storage.now) address) ≡ false) ⊎ (ccw_in
+        (bytes_held storage.now) (reads.onward (bytes_held storage.now) address) ≡ None)) }
 {
+    if !ccw.chains_data() {
+        return None;
+    }
     let next = address + 8;
     let ccw = storage.ccw_at(next)?;
     if !ccw.is_transfer() {
@@ -138,64 +182,46 @@ fn note(addresses: &mut [u32; 6], have: usize, from: u32, count: usize)
     }
 }
 
+/// The addresses of the first bytes of an argument; the places after them hold zeros.
+#[derive(Clone, Copy)]
+struct Front {
+    count: u8,
+    addresses: [u32; 6],
+}
+
 /// The addresses of the six bytes of the argument of a seek whose own CCW, `ccw`, stands at
 /// `address`; or of those that its data chain gives, if they are fewer. At most five further CCWs
 /// and five transfers are looked at, each of them once.
-pub(crate) fn argument_addresses(
-    storage: &Storage,
-    address: u32,
-    ccw: Ccw,
-) -> Result<[u32; 6], Front>
+fn front_of(storage: &Storage, address: u32, ccw: Ccw) -> Front
     requires { ccw_in (bytes_held storage.now) address ≡ Some ccw }
-    ensures six { IfOk result (λ x. HasAddresses (bytes_held storage.now) address (Some x)) }
-    ensures none { IfErr result (λ _. HasAddresses (bytes_held storage.now) address None) }
-    ensures few { IfErr result (λ front. front.count < 6) }
-    ensures given { IfErr result (λ front. Gives (bytes_held storage.now) address front.count) }
-    ensures front { IfErr result
-        (λ front. IsFront (bytes_held storage.now) address front.count front.addresses) }
-    ensures zeros { IfErr result (λ front. AreZeroFrom front.count front.addresses) }
+    ensures { IsFrontOf (bytes_held storage.now) address result.count result.addresses }
 {
     let mut addresses = [0u32; 6];
     let mut have: usize = 0;
     let mut here = Link { address, ccw };
     loop {
         let Some(part) = part_at(storage, here.address, here.ccw) else {
-            return Err(Front {
+            return Front {
                 count: have as u8,
                 addresses,
-            });
+            };
         };
-        let (from, count, chains) = (part.from, part.count, part.chains);
-        let room = 6 - have;
-        if count >= room {
-            note(&mut addresses, have, from, room);
-            return Ok(addresses);
-        }
-        note(&mut addresses, have, from, count);
-        have += count;
-        if !chains {
-            return Err(Front {
-                count: have as u8,
+        let more = part.count.min(6 - have);
+        note(&mut addresses, have, part.from, more);
+        have += more;
+        if have == 6 {
+            return Front {
+                count: 6,
                 addresses,
-            });
+            };
         }
-        match onward(storage, here.address) {
+        match onward(storage, here.address, here.ccw) {
             Some(next) => here = next,
-            None => return Err(Front {
+            None => return Front {
                 count: have as u8,
                 addresses,
-            }),
+            },
         }
-    }
-}
-
-/// The byte at an address of storage, and zero past its end.
-pub fn byte_at(storage: &Storage, address: u32) -> u8
-    ensures { result ≡ byte (bytes_held storage.now) address }
-{
-    match storage.range(address, 1) {
-        Some([byte]) => *byte,
-        _ => 0,
     }
 }
 
@@ -209,56 +235,47 @@ fn bytes_of(storage: &Storage, count: usize, addresses: [u32; 6]) -> [u8; 6]
 {
     let mut bytes = [0u8; 6];
     for k in 0..count {
-        bytes[k] = byte_at(storage, addresses[k]);
+        bytes[k] = storage.byte_at(addresses[k]);
     }
     bytes
 }
 
-/// The whole argument, at the addresses of its bytes.
-#[tactic(auto, using(crate::proofs::Algorithms::Given::whole_argument))]
-pub(crate) fn whole_at(storage: &Storage, addresses: [u32; 6]) -> GivenBytes
-    ensures argument { (address : ℕ)
-        → HasAddresses (bytes_held storage.now) address (Some addresses)
-        → HasArgument (bytes_held storage.now) address (Some result.bytes) }
-    ensures given { (address : ℕ)
-        → HasAddresses (bytes_held storage.now) address (Some addresses)
-        → AreArgument (bytes_held storage.now) address result }
+/// The argument of a seek whose own CCW, `ccw`, stands at `address`; or what its data chain gives
+/// of it. Each byte is read once.
+fn gather(storage: &Storage, address: u32, ccw: Ccw) -> GivenBytes
+    requires { ccw_in (bytes_held storage.now) address ≡ Some ccw }
+    ensures { AreOfArgument (bytes_held storage.now) address result }
 {
-    let bytes = bytes_of(storage, 6, addresses);
-    GivenBytes {
-        count: 6,
-        bytes,
-        addresses,
-    }
-}
-
-/// The front of an argument that isn't whole.
-pub(crate) fn front_at(storage: &Storage, front: Front) -> GivenBytes
-    requires { front.count < 6 }
-    ensures count { result.count ≡ front.count }
-    ensures given { (address : ℕ)
-        → IsFront (bytes_held storage.now) address front.count front.addresses
-        → AreZeroFrom front.count front.addresses
-        → AreGiven (bytes_held storage.now) address result }
-{
-    let Front { count, addresses } = front;
-    let bytes = bytes_of(storage, usize::from(count), addresses);
+    let Front { count, addresses } = front_of(storage, address, ccw);
     GivenBytes {
         count,
-        bytes,
+        bytes: bytes_of(storage, usize::from(count), addresses),
         addresses,
     }
 }
 
-/// The bytes of an argument at these addresses, if there is one.
-pub(crate) fn bytes_at(storage: &Storage, addresses: Option<[u32; 6]>) -> Option<[u8; 6]>
-    ensures { (address : ℕ) → HasAddresses (bytes_held storage.now) address addresses
-        → HasArgument (bytes_held storage.now) address result }
+/// What is read of the argument of the seek or the Set File Mask that begins at a place, if one
+/// does: each of its bytes is read here, and nowhere else.
+pub(crate) fn read_argument(storage: &Storage, visit: &Visit) -> Read
+    requires { IsVisit (bytes_held storage.now) visit.now }
+    ensures read { IsRead (bytes_held storage.now) visit.now.place visit.now.ccw result }
+    ensures low { visit.now.ccw.address < 2 ^ 24 }
 {
-    match addresses {
-        Some(addresses) => Some(whole_at(storage, addresses).bytes),
-        None => None,
+    let address = visit.ccw.address();
+    if visit.begins_seek() {
+        let given = gather(storage, visit.place.address, visit.ccw);
+        if given.count == 6 {
+            return Read::Whole(given);
+        }
+        return Read::Short(given);
     }
+    if visit.begins_set_mask() {
+        return Read::Mask {
+            at: [address],
+            byte: storage.byte_at(address),
+        };
+    }
+    Read::Nothing
 }
 
 /// The argument of a seek at an address: the first six bytes of the joined data ranges of the data
@@ -273,5 +290,10 @@ pub fn seek_argument(storage: &Storage, address: u32) -> Option<[u8; 6]>
     ensures { HasArgument (bytes_held storage.now) address result }
 {
     let ccw = storage.ccw_at(address)?;
-    bytes_at(storage, argument_addresses(storage, address, ccw).ok())
+    let given = gather(storage, address, ccw);
+    if given.count == 6 {
+        Some(given.bytes)
+    } else {
+        None
+    }
 }

@@ -1,4 +1,4 @@
-//! What the bits of a CCW ask for, and whether the channel accepts it.
+//! What the channel looks at in a CCW before it carries it out, and whether it skips.
 
 ghost use Rattle.std.specs.Prelude.{◌≡◌, length};
 ghost use Rattle.ccw_core.specs.Ccw as specs;
@@ -6,22 +6,6 @@ ghost use Rattle.ccw_core.specs.Held.{bytes_held};
 
 use bitflags::Flags;
 use ccw_core::{Ccw, CcwFlags, Group, Storage};
-
-/// Chain data: the operation goes on with the next CCW.
-#[tactic(auto, unfolding(ccw_core::specs::Ccw::chains_data))]
-pub fn chains_data(ccw: &Ccw) -> bool
-    ensures { result ≡ specs.chains_data ccw.now }
-{
-    ccw.flags() & CcwFlags::CD.bits() != 0
-}
-
-/// Chain command: the next CCW begins an operation of its own.
-#[tactic(auto, unfolding(ccw_core::specs::Ccw::chains_command))]
-pub fn chains_command(ccw: &Ccw) -> bool
-    ensures { result ≡ specs.chains_command ccw.now }
-{
-    ccw.flags() & CcwFlags::CC.bits() != 0
-}
 
 /// Skip: nothing is stored.
 #[tactic(auto, unfolding(ccw_core::specs::Ccw::skips))]

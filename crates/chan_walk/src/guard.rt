@@ -1,21 +1,21 @@
 //! The guard: which bytes of storage a program may not change while it runs.
 
-ghost use Rattle.std.specs.Prelude.{◌≡◌, ◌<◌, ◌↔◌, ◌^◌, ◌++◌, ℕ, map, IfOk, OnOk, IsTrue};
+ghost use Rattle.std.specs.Prelude.{◌≡◌, ◌<◌, ◌↔◌, ◌^◌, ◌++◌, map, IfOk, OnOk, IsTrue};
 ghost use Rattle.std.specs.List.{All};
 ghost use Rattle.chan_walk.specs.Places.{AreReachable};
 ghost use Rattle.chan_walk.specs.Guard.{AddsBytes, GuardAreas, Guards, IsArgumentByteOf};
 ghost use Rattle.chan_walk.specs.Guard.{IsCcwByteOf, byte_area};
-ghost use Rattle.chan_walk.specs.Least.{AreReached};
+ghost use Rattle.chan_walk.specs.Places.{AreReached};
 ghost use Rattle.chan_walk.specs.Look.{AreLooks, IsLook, places_of_looks};
-ghost use Rattle.chan_areas.specs.Ranges.{EndsBelow, IsMerged, Meets};
+ghost use Rattle.chan_areas.specs.Merged.{EndsBelow, IsMerged, Meets};
 ghost use Rattle.chan_walk.specs.declared.job.Job.{Job};
 
-use crate::places::Explored;
 use crate::job::Job;
 use crate::lent::{Lending, Lent};
 use crate::look::{Look, look_by};
+use crate::places::Explored;
 use ccw_core::Area;
-use chan_areas::{meets, merge};
+use chan_areas::Merged;
 use std::alloc::{AllocError, Global};
 use std::marker::Model;
 
@@ -23,17 +23,14 @@ use std::marker::Model;
 /// seeks that have no own fault, and those that such a Set File Mask takes.
 #[derive(Drop)]
 pub struct Guard {
-    ccws: Vec<Area>,
-    arguments: Vec<Area>,
+    ccws: Merged,
+    arguments: Merged,
 }
 
 impl Model for Guard {
     ghost Value = { GuardAreas };
 
-    ghost view = { λ g. record { ccws = g.ccws.items; arguments = g.arguments.items } };
-
-    ghost invariant = { λ g. (IsMerged g.ccws.items × All (EndsBelow (2 ^ 32)) g.ccws.items)
-        × (IsMerged g.arguments.items × All (EndsBelow (2 ^ 32)) g.arguments.items) };
+    ghost view = { λ g. record { ccws = g.ccws; arguments = g.arguments } };
 }
 
 impl Guard {
@@ -64,9 +61,23 @@ impl Guard {
             add_ccw(&mut ccws, look)?;
             add_argument(&mut arguments, look)?;
         }
-        let ccws = merge(alloc, ccws)?;
-        let arguments = merge(alloc, arguments)?;
+        let ccws = Merged::new(alloc, ccws)?;
+        let arguments = Merged::new(alloc, arguments)?;
         Ok(Guard { ccws, arguments })
+    }
+
+    /// The guarded bytes of CCWs.
+    pub fn ccws(&self) -> &Merged
+        ensures { result.now ≡ self.now.ccws }
+    {
+        &self.ccws
+    }
+
+    /// The guarded bytes of arguments.
+    pub fn arguments(&self) -> &Merged
+        ensures { result.now ≡ self.now.arguments }
+    {
+        &self.arguments
     }
 
     /// The guarded bytes of CCWs: the one list of areas, none empty, in order of start, and with at
@@ -93,7 +104,7 @@ impl Guard {
     pub fn meets_ccw(&self, start: u32, len: u32) -> bool
         ensures { IsTrue result ↔ Meets self.now.ccws start len }
     {
-        meets(self.ccw_ranges(), start, len)
+        self.ccws.meets(start, len)
     }
 
     /// Whether a range has a guarded byte of an argument; an empty range has none. The cost is that
@@ -101,7 +112,7 @@ impl Guard {
     pub fn meets_argument(&self, start: u32, len: u32) -> bool
         ensures { IsTrue result ↔ Meets self.now.arguments start len }
     {
-        meets(self.argument_ranges(), start, len)
+        self.arguments.meets(start, len)
     }
 }
 
@@ -134,6 +145,7 @@ pub(crate) fn add_argument(areas: &mut Vec<Area>, look: &Look) -> Result<(), All
 }
 
 /// Adds an area of one byte for each address.
+#[tactic(auto, using(std::proofs::lemmas::List::map_more))]
 fn add_bytes(areas: &mut Vec<Area>, addresses: &[u32]) -> Result<(), AllocError>
     ensures { OnOk result (areas.new.items ≡ areas.old.items ++ map byte_area addresses.now) }
 {

@@ -1,5 +1,10 @@
 //! What a supervisor asks about: a channel program and all that it may use.
 
+ghost use Rattle.std.specs.Prelude.{◌≡◌};
+ghost use Rattle.chan_walk.specs.Alarm.{IsProper};
+ghost use Rattle.chan_walk.specs.Direction.{lent_for};
+
+use crate::direction::Direction;
 use crate::limit::Limit;
 use ccw_core::{Area, Storage};
 use ckd_core::{Device, Extents, FileMask};
@@ -23,4 +28,25 @@ pub struct Job<'a> {
     pub store: &'a [Area],
     /// How many places may be reachable, at most.
     pub limit: Limit,
+}
+
+impl Job<'_> {
+    /// Tells the prover that the job is proper, as every job is: its extents are in order and on
+    /// the device, and its mask is a file mask. It computes nothing that is used.
+    pub fn show_proper(&self)
+        ensures { IsProper self.now }
+    {
+        let _extents = self.extents.pairs();
+        let _mask = self.mask.byte();
+    }
+
+    /// The areas that it was lent for moving data one way.
+    pub(crate) fn lent_for(&self, direction: Direction) -> &[Area]
+        ensures { result.now ≡ lent_for direction self.now }
+    {
+        match direction {
+            Direction::Store => self.store,
+            Direction::Fetch => self.fetch,
+        }
+    }
 }

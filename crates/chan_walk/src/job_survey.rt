@@ -9,30 +9,64 @@ ghost use Rattle.chan_walk.specs.Offence.{first_verdict};
 ghost use Rattle.chan_walk.specs.JobSurvey.{IsSurvey};
 ghost use Rattle.chan_walk.specs.declared.job.Job.{Job};
 
-use crate::walk::Walk;
 use crate::guard::Guard;
 use crate::look::Look;
 use crate::offence::Offence;
 use crate::place::{Place, order_is_by_number};
 use crate::verdict::Verdict;
+use std::marker::Model;
 
 /// The result of one walk over a job's reachable places: for each its look and the place that it
 /// was found from, and then the guard and all offences.
 #[derive(Drop)]
 pub struct Survey {
-    /// What the walk has found.
-    pub walk: Walk,
-    /// The guard.
-    pub guard: Guard,
-    /// All offences, in order.
-    pub offences: Vec<Offence>,
+    pub(crate) looks: Vec<Look>,
+    pub(crate) found_from: Vec<u32>,
+    pub(crate) guard: Guard,
+    pub(crate) offences: Vec<Offence>,
+}
+
+impl Model for Survey {
+    ghost use Rattle.chan_walk.specs.JobSurvey.{Surveyed};
+
+    ghost Value = { Surveyed };
+
+    ghost view = { λ s. record {
+      looks = s.looks.items;
+      found_from = s.found_from.items;
+      guard = s.guard;
+      offences = s.offences.items;
+    } };
 }
 
 impl Survey {
+    /// The looks at the places, in the order in which the walk found them; the first is at the
+    /// first place.
+    pub fn looks(&self) -> &[Look]
+        ensures { result.now ≡ self.now.looks }
+    {
+        self.looks.as_slice()
+    }
+
+    /// For each look the index of the one at the place that its place was found from; 0 for the
+    /// first.
+    pub fn found_from(&self) -> &[u32]
+        ensures { result.now ≡ self.now.found_from }
+    {
+        self.found_from.as_slice()
+    }
+
+    /// The guard: the bytes that the program may not change while it runs.
+    pub fn guard(&self) -> &Guard
+        ensures { result.now ≡ self.now.guard }
+    {
+        &self.guard
+    }
+
     /// Whether the program may run: yes if nothing offends, otherwise the address and the reason of
     /// the first offence.
     pub fn verdict(&self) -> Verdict
-        ensures { result ≡ first_verdict self.now.offences.items }
+        ensures { result ≡ first_verdict self.now.offences }
     {
         match self.offences.first() {
             Some(offence) => Verdict::No {
@@ -46,7 +80,7 @@ impl Survey {
     /// All offences: exactly the reachable places that offend, each with each of its reasons, in
     /// order of address, then of the reason's number, then of place.
     pub fn offences(&self) -> &[Offence]
-        ensures { result.now ≡ self.now.offences.items }
+        ensures { result.now ≡ self.now.offences }
     {
         self.offences.as_slice()
     }
@@ -57,10 +91,13 @@ impl Survey {
         ensures looks { (j : Job) → IsSurvey j self → AreLooks j result.0.items }
         ensures places { (j : Job) → IsSurvey j self
             → AreReachable j (places_of_looks result.0.items) }
-        ensures offences { result.1.items ≡ self.offences.items }
+        ensures offences { result.1.items ≡ self.offences }
     {
-        let Survey { walk, offences, .. } = self;
-        let looks = walk.looks;
+        let Survey {
+            looks,
+            offences,
+            ..
+        } = self;
         (in_order(looks), offences)
     }
 }

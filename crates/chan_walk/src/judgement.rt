@@ -10,13 +10,13 @@ ghost use Rattle.chan_walk.specs.JobSurvey.{IsSurvey};
 ghost use Rattle.chan_walk.specs.Verdict.{IsVerdict};
 
 use crate::error::WalkError;
-use crate::walk::walk_all;
 use crate::guard::Guard;
 use crate::job::Job;
+use crate::job_survey::Survey;
 use crate::laws::{first_is_verdict, no_false_alarm, safe_is_yes, yes_is_safe, yes_is_safe_among};
 use crate::offence::offences_of;
-use crate::job_survey::Survey;
 use crate::verdict::Verdict;
+use crate::walk::{Walk, walk_all};
 use std::alloc::Global;
 
 /// Surveys a job: walks once over the places that its program can come to, and looks at each once.
@@ -27,7 +27,7 @@ use std::alloc::Global;
 /// With n places and a lent areas, the cost is (n + a) log (n + a).
 pub fn survey(alloc: Global, job: &Job) -> Result<Survey, WalkError>
     ensures survey { IfOk result (IsSurvey job.now) }
-    ensures answer { IfOk result (λ s. IsAnswer job.now (first_verdict s.offences.items)) }
+    ensures answer { IfOk result (λ s. IsAnswer job.now (first_verdict s.offences)) }
     ensures many { result ≡ Err WalkError.TooManyPlaces → HasMoreThan job.now job.now.limit }
 {
     first_is_verdict();
@@ -35,17 +35,20 @@ pub fn survey(alloc: Global, job: &Job) -> Result<Survey, WalkError>
     yes_is_safe_among();
     no_false_alarm();
     safe_is_yes();
-    // `pairs` tells that the extents are in order and on the device, and `byte` that the mask is a
-    // file mask, which the laws ask for.
-    let _extents = job.extents.pairs();
-    let _mask = job.mask.byte();
+    job.show_proper();
     let walk = walk_all(alloc, job)?;
     // `iter` tells that the marks are in order, by which the places are counted.
     let _marks = walk.marks.iter();
     let guard = Guard::of(alloc, walk.looks.as_slice())?;
     let offences = offences_of(alloc, &guard, walk.looks.as_slice())?;
+    let Walk {
+        looks,
+        found_from,
+        ..
+    } = walk;
     Ok(Survey {
-        walk,
+        looks,
+        found_from,
         guard,
         offences,
     })

@@ -1,98 +1,34 @@
 //! One look at a place: all that judging asks of it, in the initial storage.
 
-ghost use Rattle.std.specs.Prelude.{◌≡◌, ◌<◌, ◌^◌, ℕ, Some, None, true, false, option_map};
-ghost use Rattle.ccw_core.specs.Held.{bytes_held};
+ghost use Rattle.std.specs.Prelude.{◌≡◌, None, Some, option_map};
 ghost use Rattle.ccw_core.specs.Storage.{ccw_at as ccw_in};
 ghost use Rattle.ckd_core.specs.Entries.{entry_of};
-ghost use Rattle.ccw_core.specs.Ccw.{Fields};
-ghost use Rattle.chan_walk.specs.Fault.{HasFault, begins_seek, fetches};
+ghost use Rattle.chan_walk.specs.Direction.{is_direction};
+ghost use Rattle.chan_walk.specs.Fault.{HasFault};
 ghost use Rattle.chan_walk.specs.Job.{storage_of};
 ghost use Rattle.chan_walk.specs.Lending.{Lends};
-ghost use Rattle.chan_walk.specs.Look.{IsLook, IsRead, addresses_of, argument_of, byte_of};
-ghost use Rattle.chan_walk.specs.Look.{mask_addresses, whole_of};
+ghost use Rattle.chan_walk.specs.Look.{IsLook, argument_seen};
 ghost use Rattle.chan_walk.specs.Successor.{AreSuccessors};
-ghost use Rattle.chan_walk.specs.Tables.{HasAddresses};
-ghost use Rattle.chan_walk.specs.Visit.{IsBegun, IsVisit};
 
+use crate::argument::{Read, read_argument};
+use crate::direction::Direction;
+use crate::evidence::Evidence;
 use crate::fault::{fault_without_ccw, own_fault};
 use crate::job::Job;
 use crate::lent::Lending;
 use crate::place::Place;
 use crate::reason::Reason;
-use crate::argument::{GivenBytes, argument_addresses, byte_at, front_at, whole_at};
 use crate::successor::{Next, next_after};
-use crate::visit::{Visit, fetches_at};
-use ccw_core::{Ccw, Storage};
+use crate::visit::Visit;
+use ccw_core::Ccw;
 use ckd_core::Command;
 use std::marker::Model;
 
-/// The bytes of an argument, by their addresses.
+/// What is found of a place: its own fault, or how it goes on if it has none.
 #[derive(Clone, Copy)]
-enum Argument {
-    /// There is none.
-    Absent,
-    /// The argument of a seek.
-    Seek([u32; 6]),
-    /// The byte that Set File Mask sets.
-    Mask([u32; 1]),
-}
-
-impl Argument {
-    /// The addresses of the bytes.
-    fn addresses(&self) -> &[u32]
-        ensures { result.now ≡ addresses_of self.now }
-    {
-        match self {
-            Argument::Absent => &[],
-            Argument::Seek(addresses) => addresses,
-            Argument::Mask(address) => address,
-        }
-    }
-}
-
-/// What was read of the argument of the operation that begins at a place.
-#[derive(Clone, Copy)]
-pub enum Read {
-    /// Neither a seek nor Set File Mask begins there.
-    Nothing,
-    /// What the seek's data chain gives of its argument: fewer than six bytes.
-    Short(GivenBytes),
-    /// The whole argument of the seek.
-    Whole(GivenBytes),
-    /// The byte that Set File Mask sets.
-    Byte(u8),
-}
-
-impl Read {
-    /// The whole argument of a seek, if it was read.
-    pub fn whole(self) -> Option<GivenBytes>
-        ensures { result ≡ whole_of self }
-    {
-        match self {
-            Read::Whole(given) => Some(given),
-            _ => None,
-        }
-    }
-
-    /// The bytes of a seek's argument, if all six were read.
-    pub fn argument(self) -> Option<[u8; 6]>
-        ensures { result ≡ argument_of self }
-    {
-        match self {
-            Read::Whole(given) => Some(given.bytes),
-            _ => None,
-        }
-    }
-
-    /// The byte that Set File Mask sets, and 0 where none was read.
-    pub fn byte(self) -> u8
-        ensures { result ≡ byte_of self }
-    {
-        match self {
-            Read::Byte(byte) => byte,
-            _ => 0,
-        }
-    }
+enum Finding {
+    Faulty(Evidence),
+    Clear { next: Next, read: Read },
 }
 
 /// A place as it is seen at one look, in the initial storage.
@@ -101,17 +37,14 @@ pub struct Look {
     place: Place,
     ccw: Option<Ccw>,
     command: Option<Command>,
-    fault: Option<Reason>,
-    argument: Argument,
-    stores: bool,
-    next: Next,
-    read: Read,
+    direction: Option<Direction>,
+    finding: Finding,
 }
 
 impl Model for Look {
     ghost use Rattle.std.specs.Prelude.{option_map};
     ghost use Rattle.ckd_core.specs.Entries.{entry_of};
-    ghost use Rattle.chan_walk.specs.Look.{Seen, addresses_of};
+    ghost use Rattle.chan_walk.specs.Look.{Seen, fault_in, next_in, read_in};
 
     ghost Value = { Seen };
 
@@ -119,16 +52,15 @@ impl Model for Look {
       place = l.place;
       ccw = l.ccw;
       command = option_map entry_of l.command;
-      fault = l.fault;
-      argument = addresses_of l.argument;
-      stores = l.stores;
-      next = l.next;
-      read = l.read;
+      direction = l.direction;
+      fault = fault_in l.finding;
+      next = next_in l.finding;
+      read = read_in l.finding;
     } };
 }
 
 impl Look {
-    /// The place.
+    /// The place that was looked at.
     pub fn place(&self) -> Place
         ensures { result ≡ self.now.place }
     {
@@ -150,126 +82,76 @@ impl Look {
         self.command
     }
 
-    /// The own fault.
-    pub fn fault(&self) -> Option<Reason>
-        ensures { result ≡ self.now.fault }
+    /// Whether the CCW there moves data this way: into storage unless it skips, or out of it. A
+    /// transfer moves none, nor does a place without a CCW.
+    pub fn moves(&self, direction: Direction) -> bool
+        ensures { result ≡ is_direction direction self.now.direction }
     {
-        self.fault
+        self.direction == Some(direction)
     }
 
-    /// The successors.
+    /// The place's own fault, as its evidence: the first of the reasons 1 to 13 and 16 that applies
+    /// here, with its values. `None` if none does; then the place can still offend by a store over
+    /// guarded bytes, which `Survey::offences` tells.
+    pub fn fault(&self) -> Option<Evidence>
+        ensures { result ≡ self.now.fault }
+    {
+        match self.finding {
+            Finding::Faulty(evidence) => Some(evidence),
+            Finding::Clear { .. } => None,
+        }
+    }
+
+    /// The places that can come after this one, at most two: the next, and the one that a search
+    /// skips to. None if the place has an own fault, or if the program ends here.
     pub fn next(&self) -> Next
         ensures { result ≡ self.now.next }
     {
-        self.next
+        match self.finding {
+            Finding::Faulty(_) => Next::nowhere(),
+            Finding::Clear { next, .. } => next,
+        }
     }
 
-    /// The addresses of the bytes that are guarded because the operation takes them as its
-    /// argument.
-    pub fn argument(&self) -> &[u32]
-        ensures { result.now ≡ self.now.argument }
-    {
-        self.argument.addresses()
-    }
-
-    /// What was read of its argument.
+    /// What was read of the argument of the seek or Set File Mask that begins here. Nothing for
+    /// other commands, and if the place has an own fault.
     pub fn read(&self) -> Read
         ensures { result ≡ self.now.read }
     {
-        self.read
+        match self.finding {
+            Finding::Faulty(_) => Read::Nothing,
+            Finding::Clear { read, .. } => read,
+        }
     }
 
-    /// Whether the CCW stores.
-    pub fn stores(&self) -> bool
-        ensures { result ≡ self.now.stores }
+    /// The addresses of the bytes that are guarded because the seek or Set File Mask that begins
+    /// here takes them as its argument, in the order in which it takes them.
+    pub fn argument(&self) -> &[u32]
+        ensures { result.now ≡ argument_seen self.now }
     {
-        self.stores
-    }
-
-    /// Whether the CCW fetches.
-    pub fn fetches(&self) -> bool
-        ensures { (c : Fields) → self.now.ccw ≡ Some c → result ≡ fetches self.now.place c }
-    {
-        match self.ccw {
-            Some(ccw) => fetches_at(self.place, ccw),
-            None => false,
+        match &self.finding {
+            Finding::Faulty(_) => &[],
+            Finding::Clear { read, .. } => read.addresses(),
         }
     }
 }
 
-/// What is seen of a place where no CCW stands.
-#[tactic(auto, using(crate::proofs::Algorithms::Looking::taken_faulty, crate::proofs::Algorithms::Looking::next_faulty, crate::proofs::Theory::OwnFaults::fault_of_check))]
-fn look_at_nothing(place: Place) -> Look
+/// What is seen of a place without a CCW.
+fn look_at_nothing(job: &Job, place: Place) -> Look
+    requires { ccw_in (storage_of job.now) place.address ≡ None }
     ensures place { result.place ≡ place }
-    ensures look { (j : Job) → ccw_in (storage_of j) place.address ≡ None → IsLook j result }
+    ensures look { IsLook job.now result }
 {
     Look {
         place,
         ccw: None,
         command: None,
-        fault: Some(fault_without_ccw(place)),
-        argument: Argument::Absent,
-        stores: false,
-        next: Next::nowhere(),
-        read: Read::Nothing,
+        direction: None,
+        finding: Finding::Faulty(fault_without_ccw(job, place)),
     }
 }
 
-/// The argument of the operation that begins at a place, as it was read.
-struct Sought {
-    /// The addresses of the argument of a seek.
-    addresses: Option<[u32; 6]>,
-    read: Read,
-}
-
-/// The argument of the seek or the Set File Mask that begins at a place, if one does: each of its
-/// bytes is read here, and nowhere else.
-fn seek_out(storage: &Storage, visit: &Visit) -> Sought
-    requires { IsVisit (bytes_held storage.now) visit.now }
-    ensures seek { begins_seek visit.now.place visit.now.ccw ≡ true
-        → HasAddresses (bytes_held storage.now) visit.now.place.address result.addresses }
-    ensures other { begins_seek visit.now.place visit.now.ccw ≡ false → result.addresses ≡ None }
-    ensures read { IsRead (bytes_held storage.now) visit.now.place visit.now.ccw result.read }
-{
-    if visit.begins_seek() {
-        return match argument_addresses(storage, visit.place.address, visit.ccw) {
-            Ok(addresses) => Sought {
-                addresses: Some(addresses),
-                read: Read::Whole(whole_at(storage, addresses)),
-            },
-            Err(front) => Sought {
-                addresses: None,
-                read: Read::Short(front_at(storage, front)),
-            },
-        };
-    }
-    if visit.begins_set_mask() {
-        return Sought {
-            addresses: None,
-            read: Read::Byte(byte_at(storage, visit.ccw.address())),
-        };
-    }
-    Sought {
-        addresses: None,
-        read: Read::Nothing,
-    }
-}
-
-/// The byte that is set at a place, if Set File Mask begins there.
-fn mask_argument(visit: &Visit) -> Argument
-    requires { IsBegun visit.now }
-    ensures addresses { addresses_of result ≡ mask_addresses visit.now.place visit.now.ccw }
-    ensures low { visit.now.ccw.address < 2 ^ 24 }
-{
-    let address = visit.ccw.address();
-    if visit.begins_set_mask() {
-        Argument::Mask([address])
-    } else {
-        Argument::Absent
-    }
-}
-
-/// What is seen of a place where a CCW stands.
+/// What is seen of a place with a CCW.
 fn look_at_ccw(job: &Job, lending: Lending, place: Place, ccw: Ccw) -> Look
     requires stands { ccw_in (storage_of job.now) place.address ≡ Some ccw }
     requires lends { Lends job.now lending }
@@ -277,22 +159,20 @@ fn look_at_ccw(job: &Job, lending: Lending, place: Place, ccw: Ccw) -> Look
     ensures look { IsLook job.now result }
 {
     let visit = Visit::new(place, ccw);
-    let Sought { addresses, read } = seek_out(&job.storage, &visit);
-    let fault = own_fault(job, lending, &visit, read.argument(), read.byte());
-    let (argument, next) = match (fault, addresses) {
-        (None, Some(addresses)) => (Argument::Seek(addresses), next_after(&visit)),
-        (None, None) => (mask_argument(&visit), next_after(&visit)),
-        (Some(_), _) => (Argument::Absent, Next::nowhere()),
+    let read = read_argument(&job.storage, &visit);
+    let finding = match own_fault(job, lending, &visit, read) {
+        Some(evidence) => Finding::Faulty(evidence),
+        None => Finding::Clear {
+            next: next_after(&visit),
+            read,
+        },
     };
     Look {
         place,
         ccw: Some(ccw),
         command: visit.command,
-        fault,
-        argument,
-        stores: visit.stores(),
-        next,
-        read,
+        direction: visit.direction(),
+        finding,
     }
 }
 
@@ -316,7 +196,7 @@ pub(crate) fn look_by(job: &Job, lending: Lending, place: Place) -> Look
 {
     match job.storage.ccw_at(place.address) {
         Some(ccw) => look_at_ccw(job, lending, place, ccw),
-        None => look_at_nothing(place),
+        None => look_at_nothing(job, place),
     }
 }
 
@@ -328,7 +208,10 @@ pub(crate) fn look_by(job: &Job, lending: Lending, place: Place) -> Look
 pub fn fault_at(job: &Job, place: Place) -> Option<Reason>
     ensures { HasFault job.now place result }
 {
-    look_at(job, place).fault()
+    match look_at(job, place).fault() {
+        Some(evidence) => Some(evidence.reason()),
+        None => None,
+    }
 }
 
 /// The successors of a place: none if it has an own fault. The place may be any, reached or not.

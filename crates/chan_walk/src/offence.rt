@@ -4,24 +4,23 @@ ghost use Rattle.std.specs.Prelude.{◌≡◌, ◌↔◌, map, IfOk, IsTrue, OnO
 ghost use Rattle.std.specs.List.Sorted.{IsStrictlyIncreasing};
 ghost use Rattle.chan_walk.specs.Argument.{Has};
 ghost use Rattle.chan_walk.specs.Places.{AreDistinct};
-ghost use Rattle.chan_walk.specs.Fault.{IsClear};
 ghost use Rattle.chan_walk.specs.Guard.{Guards};
-ghost use Rattle.chan_walk.specs.Least.{AreReached, IsOwn};
+ghost use Rattle.chan_walk.specs.Offence.{IsOwn};
+ghost use Rattle.chan_walk.specs.Places.{AreReached};
 ghost use Rattle.chan_walk.specs.Look.{AreLooks, IsLook, places_of_looks};
 ghost use Rattle.chan_walk.specs.Offence as listed;
 ghost use Rattle.chan_walk.specs.Offence.{AddsOffences, AreAllOffences, AreOffences, HasOffences};
 ghost use Rattle.chan_walk.specs.Offence.{StoresInto};
-ghost use Rattle.chan_areas.specs.Ranges.{IsMerged};
 ghost use Rattle.chan_walk.specs.Verdict.{AreClear, Changes};
 ghost use Rattle.chan_walk.specs.declared.job.Job.{Job};
 ghost use Rattle.chan_walk.specs.declared.offence.Offence as declared;
 
+use crate::direction::Direction;
 use crate::guard::Guard;
 use crate::look::Look;
 use crate::place::Place;
 use crate::reason::Reason;
-use ccw_core::Area;
-use chan_areas::meets;
+use chan_areas::Merged;
 use std::alloc::{AllocError, Global};
 
 /// A reachable place that offends, and a reason by which it does.
@@ -95,10 +94,10 @@ fn add_fault(faults: &mut Vec<Offence>, look: &Look) -> Result<(), AllocError>
     ensures { OnOk result ((j : Job) → IsLook j look.now
         → AddsOffences (IsOwn j) look.now.place faults.old.items faults.new.items) }
 {
-    if let Some(reason) = look.fault() {
+    if let Some(evidence) = look.fault() {
         faults.push(Offence {
             place: look.place(),
-            reason,
+            reason: evidence.reason(),
         })?;
     }
     Ok(())
@@ -114,9 +113,9 @@ fn changes_of(alloc: Global, guard: &Guard, looks: &[Look]) -> Result<Vec<Offenc
 {
     let mut changes = Vec::new(alloc);
     for look in looks {
-        let ccws = stores_into(guard.ccw_ranges(), look);
+        let ccws = stores_into(guard.ccws(), look);
         add_change(&mut changes, look, Reason::ChangesCcw, ccws)?;
-        let arguments = stores_into(guard.argument_ranges(), look);
+        let arguments = stores_into(guard.arguments(), look);
         add_change(&mut changes, look, Reason::ChangesArgument, arguments)?;
     }
     Ok(changes)
@@ -142,13 +141,14 @@ fn add_change(
 }
 
 /// Whether the CCW at a place stores into some area of a merged list.
-fn stores_into(areas: &[Area], look: &Look) -> bool
-    requires { IsMerged areas.now }
+fn stores_into(areas: &Merged, look: &Look) -> bool
     ensures { IsTrue result ↔ StoresInto look.now areas.now }
 {
     match look.ccw() {
-        Some(ccw) => look.stores() && meets(areas, ccw.address(), u32::from(ccw.count())),
-        None => false,
+        Some(ccw) if look.moves(Direction::Store) => {
+            areas.meets(ccw.address(), u32::from(ccw.count()))
+        }
+        _ => false,
     }
 }
 

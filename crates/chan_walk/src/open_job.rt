@@ -3,8 +3,7 @@
 ghost use Rattle.std.specs.Prelude.{◌≡◌, ◌↔◌, IfOk, OnErr};
 ghost use Rattle.ccw_core.specs.Held.{bytes_held};
 ghost use Rattle.chan_walk.specs.Job.{storage_of};
-ghost use Rattle.chan_walk.specs.OpenJob.{open_job};
-ghost use Rattle.chan_walk.specs.OpenJob.{HoldsOpenJob, IsOpenJob};
+ghost use Rattle.chan_walk.specs.OpenJob.{open_job, HoldsOpenJob, IsOpenJob};
 ghost use Rattle.chan_walk.specs.Verdict.{IsVerdict};
 ghost use Rattle.chan_walk.specs.declared.job.Job.{Job};
 ghost use Rattle.chan_walk.specs.declared.verdict.Verdict.{Verdict};

@@ -1,11 +1,13 @@
 //! Places: a CCW together with the way in which it is entered.
 
-ghost use Rattle.std.specs.Prelude.{◌≡◌, ◌<◌};
+ghost use Rattle.std.specs.Prelude.{◌≡◌, ◌<◌, ◌^◌};
 ghost use Rattle.std.specs.Ordering.{nat_cmp};
+ghost use Rattle.ccw_core.specs.Areas.{end_of};
 ghost use Rattle.chan_walk.specs.Places.{place_number, way_of};
 ghost use Rattle.chan_walk.specs.Place as place;
 
 use crate::job::Job;
+use ccw_core::{Area, Ccw};
 
 /// How a CCW is entered.
 #[derive(Clone, Copy, PartialEq, Eq, PartialOrd, Ord)]
@@ -95,6 +97,17 @@ pub fn first_place(job: &Job) -> Place
     ensures { result ≡ place.first_place job.now }
 {
     Place::transferred_to(job.start, Entry::Fresh)
+}
+
+/// The data range of a CCW.
+pub fn data_of(ccw: &Ccw) -> Area
+    ensures range { result ≡ place.data_of ccw.now }
+    ensures low { end_of result < 2 ^ 32 }
+{
+    Area {
+        start: ccw.address(),
+        len: u32::from(ccw.count()),
+    }
 }
 
 /// A law, like those of `laws`: the derived order of places is that of their numbers, which is by

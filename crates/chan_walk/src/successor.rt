@@ -6,7 +6,6 @@ ghost use Rattle.chan_walk.specs.Successor as chain;
 ghost use Rattle.chan_walk.specs.Successor.{next_of, skip_of};
 ghost use Rattle.chan_walk.specs.Visit.{IsBegun};
 
-use crate::bits::{chains_command, chains_data};
 use crate::place::{Entry, Place};
 use crate::visit::Visit;
 use ckd_core::Kind;
@@ -54,13 +53,13 @@ pub(crate) fn next_after(visit: &Visit) -> Next
             skip: None,
         };
     }
-    if chains_data(&ccw) {
+    if ccw.chains_data() {
         return Next {
             next: chained(kind).map(|entered| Place::straight_to(place.address + 8, entered)),
             skip: None,
         };
     }
-    if !chains_command(&ccw) {
+    if !ccw.chains_command() {
         return Next::nowhere();
     }
     Next {

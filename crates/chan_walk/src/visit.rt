@@ -4,10 +4,12 @@
 ghost use Rattle.std.specs.Prelude.{◌≡◌, option_map};
 ghost use Rattle.ckd_core.specs.Entries.{entry_of};
 ghost use Rattle.ckd_core.specs.Command as table;
+ghost use Rattle.chan_walk.specs.Direction.{direction_of};
 ghost use Rattle.chan_walk.specs.Fault as fault;
 ghost use Rattle.chan_walk.specs.Visit.{IsBegun, begun, kind_by};
 
 use crate::bits::skips;
+use crate::direction::Direction;
 use crate::place::{Entry, Place};
 use ccw_core::Ccw;
 use ckd_core::{Command, Kind, MaskClass, lookup};
@@ -71,39 +73,20 @@ impl Visit {
         }
     }
 
-    /// The CCW stores there.
-    pub(crate) fn stores(&self) -> bool
+    /// Which way the CCW moves data there, if it does.
+    pub(crate) fn direction(&self) -> Option<Direction>
         requires { IsBegun self.now }
-        ensures { result ≡ fault.stores self.now.place self.now.ccw }
+        ensures { result ≡ direction_of self.now.place self.now.ccw }
     {
-        !self.ccw.is_transfer() && self.kind == Kind::Inward && !skips(&self.ccw)
+        if self.ccw.is_transfer() {
+            return None;
+        }
+        match self.kind {
+            Kind::Inward if !skips(&self.ccw) => Some(Direction::Store),
+            Kind::Outward | Kind::Search => Some(Direction::Fetch),
+            _ => None,
+        }
     }
-
-    /// The CCW fetches there.
-    pub(crate) fn fetches(&self) -> bool
-        requires { IsBegun self.now }
-        ensures { result ≡ fault.fetches self.now.place self.now.ccw }
-    {
-        !self.ccw.is_transfer() && matches!(self.kind, Kind::Outward | Kind::Search)
-    }
-}
-
-/// Recalibrate begins at a place whose CCW is `ccw`.
-pub fn recalibrates_at(place: Place, ccw: Ccw) -> bool
-    ensures { result ≡ fault.begins_recalibrate place ccw }
-{
-    match begun_command(place, &ccw) {
-        Some(command) => is_recalibrate_class(command.class()),
-        None => false,
-    }
-}
-
-/// The CCW `ccw` fetches at a place.
-pub(crate) fn fetches_at(place: Place, ccw: Ccw) -> bool
-    ensures { result ≡ fault.fetches place ccw }
-{
-    let kind = kind_of(place.entered, begun_command(place, &ccw));
-    !ccw.is_transfer() && matches!(kind, Kind::Outward | Kind::Search)
 }
 
 /// The command of the table that begins at a place whose CCW is `ccw`.

@@ -7,24 +7,24 @@ ghost use Rattle.chan_walk.specs.Look.{AreLooks, places_of_looks};
 ghost use Rattle.chan_walk.specs.Walk.{Adds, Agrees, HasFound, IsTraced, IsWalked, Overflows};
 
 use crate::error::WalkError;
-use crate::places::Explored;
 use crate::job::Job;
 use crate::lent::{Lending, Lent};
 use crate::look::{Look, look_by};
-use crate::place::{Place, first_place};
 use crate::marks::{is_marked, mark};
+use crate::place::{Place, first_place};
+use crate::places::Explored;
 use std::alloc::Global;
 use std::collections::BTreeMap;
 
 /// What is seen of the places found, in the order in which they were, and the same places as marks.
 #[derive(Drop)]
-pub struct Walk {
+pub(crate) struct Walk {
     /// A look at each place.
-    pub looks: Vec<Look>,
+    pub(crate) looks: Vec<Look>,
     /// For each place the index of the one that it was found from; of the first place 0.
-    pub found_from: Vec<u32>,
+    pub(crate) found_from: Vec<u32>,
     /// For each address the ways in which it is entered, as `Explored::marks_at` has them.
-    pub marks: BTreeMap<u32, u8>,
+    pub(crate) marks: BTreeMap<u32, u8>,
 }
 
 impl Walk {
@@ -107,7 +107,8 @@ pub fn explore(alloc: Global, job: &Job) -> Result<Explored, WalkError>
 
 /// The walk over all reachable places, each of which is looked at once.
 pub(crate) fn walk_all(alloc: Global, job: &Job) -> Result<Walk, WalkError>
-    ensures found { IfOk result (HasFound job.now) }
+    ensures found { IfOk result (λ w. HasFound job.now w.looks.items w.found_from.items) }
+    ensures agrees { IfOk result (λ w. Agrees w.marks (places_of_looks w.looks.items)) }
     ensures many { result ≡ Err WalkError.TooManyPlaces → HasMoreThan job.now job.now.limit }
 {
     // `get` tells that the limit is small, so that an index fits.

@@ -4,11 +4,11 @@ use Rattle.std.proofs.Common.{length, reverse, slice_index, Option, Some, refl, 
 use Rattle.std.proofs.Common.{arith, rules}
 use Rattle.std.specs.List.{slice_get}
 use Rattle.std.proofs.lemmas.Bool.{and_from, eq-eqb}
-use Rattle.chan_walk.specs.declared.walk.Walk.{Walk}
 use Rattle.chan_walk.specs.declared.job.Job.{Job}
 use Rattle.chan_walk.specs.declared.place.Entry.{Entry}
 use Rattle.chan_walk.specs.declared.place.Place.{Place}
 use Rattle.chan_walk.specs.contracts.place.Entry.{the_type}
+use Rattle.chan_walk.specs.JobSurvey.{IsSurvey, Surveyed}
 use Rattle.chan_walk.specs.Look.{Seen, places_of_looks}
 use Rattle.chan_walk.specs.Place.{first_place}
 use Rattle.chan_walk.specs.Walk.{HasFound, IsBest}
@@ -35,12 +35,9 @@ pub record IsWayBack (j : Job) (ps : List Place) (to at : ℕ) (path : List Plac
   pub there : slice_get ps at ≡ Some current
   pub goes : (rest : List Place) → IsBest j ps at current rest → Ends j ps to (front ++ current ∷ rest)
 
-module _ (j : Job) (w : Walk) (f : HasFound j w) where
+module _ (j : Job) (ls : List Seen) (fs : List ℕ) (f : HasFound j ls fs) where
   abbrev ps : List Place
-  ps = places_of_looks w.looks.items
-
-  abbrev fs : List ℕ
-  fs = w.found_from.items
+  ps = places_of_looks ls
 
   pub back_next : (to at : ℕ) (p : Place) (path more : List Place) → 0 < at → slice_get ps (slice_index fs at) ≡ Some p → more ≡ path ++ p ∷ [] → IsWayBack j ps to at path → IsWayBack j ps to (slice_index fs at) more
   back_next to at p path more pos e d b = record {
@@ -61,11 +58,11 @@ module _ (j : Job) (w : Walk) (f : HasFound j w) where
       record { last = r.last; before = r.before; is = d ∙ ap reverse (b.is ∙ r.is); best = r.best }
 
   -- where the place at an index was found from
-  pub from_earlier : (at : ℕ) → 0 < at → at < length w.looks.items → (slice_index fs at < at) × (slice_index fs at < length w.looks.items) × (at < length fs)
+  pub from_earlier : (at : ℕ) → 0 < at → at < length ls → (slice_index fs at < at) × (slice_index fs at < length ls) × (at < length fs)
   from_earlier at pos low =
-      let r = f.traced.from at pos (omega (arith, number_of_places w.looks.items)) in
+      let r = f.traced.from at pos (omega (arith, number_of_places ls)) in
       let e = r.earlier in
-      (omega arith, omega arith, omega (arith, f.traced.each, number_of_places w.looks.items))
+      (omega arith, omega arith, omega (arith, f.traced.each, number_of_places ls))
 
 -- ---- the index of a place
 
@@ -85,12 +82,6 @@ same_place p q e = subst (λ (z : Place). are_same p z ≡ true) e (and_from _ _
 pub within_looks : (ls : List Seen) (p : Place) (k : ℕ) → slice_get (places_of_looks ls) k ≡ Some p → k < length ls
 within_looks ls p k e = omega (arith, number_of_places ls, slice_get_within (places_of_looks ls) k p e)
 
--- before the first step back the path is the place itself
-pub back_begin : (j : Job) (qs : List Place) (to : ℕ) (p : Place) (path : List Place) → slice_get qs to ≡ Some p → path ≡ p ∷ [] → IsWayBack j qs to to path
-back_begin j _ to p path e d = record {
-  current = p;
-  front = [];
-  is = d;
-  there = e;
-  goes = λ rest best. record { last = p; before = rest; is = refl; best = best };
-}
+-- what a survey has, as it is read
+pub as_read : (j : Job) (s : Surveyed) (ls : List Seen) (fs : List ℕ) → ls ≡ s.looks → fs ≡ s.found_from → IsSurvey j s → HasFound j ls fs
+as_read j s ls fs e d h = rw (e, d) h.found

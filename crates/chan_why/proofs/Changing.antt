@@ -4,35 +4,34 @@ use Rattle.std.proofs.Common.{get_or, Option, Some, None, IsSome, refl, sym, sub
 use Rattle.std.proofs.Common.{◌↔◌, arith, rules}
 use Rattle.std.proofs.lemmas.Bool.{cases_Bool, cases_lt, eqb-true}
 use Rattle.ccw_core.specs.declared.areas.Area.{Area}
-use Rattle.ccw_core.specs.Areas.{lies_in}
-use Rattle.chan_why.specs.declared.evidence.Evidence.{Evidence}
-use Rattle.chan_why.specs.declared.evidence.Evidence.TheVariants as because
-use Rattle.chan_walk.specs.declared.walk.Walk.{Walk}
+use Rattle.ccw_core.specs.Areas.{lies_in, end_of}
+use Rattle.chan_walk.specs.declared.evidence.Evidence.{Evidence}
+use Rattle.chan_walk.specs.declared.evidence.Evidence.TheVariants as because
 use Rattle.chan_walk.specs.declared.job.Job.{Job}
 use Rattle.chan_walk.specs.declared.place.Place.{Place}
 use Rattle.ccw_core.specs.Ccw.{Fields}
 use Rattle.ccw_core.specs.Storage.{Stands, is_aligned}
 use Rattle.chan_why.specs.SecondPath.{IsSecondPathEnd}
 use Rattle.chan_walk.specs.declared.argument.GivenBytes.{GivenBytes}
-use Rattle.chan_why.specs.Evidence.{IsArgumentAt, IsArgumentIn, IsCause, IsCcwIn, IsSecondPath}
-use Rattle.chan_why.specs.Evidence.{IsTakenAt}
-use Rattle.chan_areas.specs.Ranges.{IsLeastOf, IsLeastOrNone}
-use Rattle.chan_walk.specs.declared.look.Read.{Read}
-use Rattle.chan_walk.specs.declared.look.Read.TheVariants as read
+use Rattle.chan_walk.specs.Evidence.{IsArgumentAt}
+use Rattle.chan_why.specs.Cause.{IsArgumentIn, IsCause, IsCcwIn, IsSecondPath, IsTakenAt}
+use Rattle.chan_areas.specs.Merged.{IsLeastOf, IsLeastOrNone, IsByteIn}
+use Rattle.chan_walk.specs.declared.argument.Read.{Read}
+use Rattle.chan_walk.specs.declared.argument.Read.TheVariants as read
 use Rattle.chan_walk.specs.Fault.{IsClear, begins_seek, begins_set_mask}
 use Rattle.chan_walk.specs.Guard.{GuardAreas, Guards, IsArgumentByteOf}
 use Rattle.chan_walk.specs.Guarded.{IsArgumentByte, IsCcwByte}
 use Rattle.chan_walk.specs.Job.{storage_of}
-use Rattle.chan_walk.specs.Look.{IsLook, IsRead, IsReadOfSeek, Seen, places_of_looks, whole_of}
+use Rattle.chan_walk.specs.Look.{IsLook, Seen, places_of_looks}
+use Rattle.chan_walk.specs.Read.{IsRead, whole_of}
 use Rattle.chan_walk.specs.Place.{ccw_of}
-use Rattle.chan_areas.specs.Ranges.{IsByteIn, end_of}
 use Rattle.chan_walk.specs.Walk.{HasFound}
 use Rattle.chan_why.specs.Path.{IsFirstWhere, IsPathAt}
 use Rattle.chan_why.proofs.Backward.{within_looks}
 use Rattle.chan_why.proofs.Finding.{best_where, path_where, reached_at}
 use Rattle.chan_walk.proofs.Theory.Faults.{clear_stands}
-use Rattle.chan_walk.proofs.Algorithms.Looking.{ccw_seen}
-use Rattle.chan_walk.proofs.Algorithms.Looking.{place_at, seek_or_mask}
+use Rattle.chan_walk.proofs.Algorithms.Looking.{ccw_seen, place_at}
+use Rattle.chan_walk.proofs.Theory.Found.{seek_or_mask}
 
 -- ---- the least address of a CCW
 
@@ -91,19 +90,17 @@ sets_only p c h = search (rules, seek_or_mask, cases_Bool)
 
 -- what was read at a place that takes a byte is its argument, if it is a seek's
 argument_taken : (j : Job) (p : Place) (b : ℕ) (r : Read) → IsRead (storage_of j) p (ccw_of j p) r → IsArgumentByteOf j p b → IsArgumentAt j p (whole_of r)
-argument_taken j p b r h (inr m) = subst (λ r. IsArgumentAt j p (whole_of r)) (sym (h.mask m.1.sets)) (sets_only p (ccw_of j p) m.1.sets)
-argument_taken j p b r h (inl k) = go r (h.seek k.1.seeks)
-  where
-    go : (r : Read) → IsReadOfSeek (storage_of j) p r → IsArgumentAt j p (whole_of r)
-    go read.Nothing e = absurd e
-    go (read.Short g) e = absurd (e.0 k.1.chain k.1.is_chain)
-    go (read.Whole g) e = (k.1.seeks, e.1)
-    go (read.Byte x) e = absurd e
+argument_taken j p b read.Nothing h (inl k) = h.0
+argument_taken j p b read.Nothing h (inr m) = h.0
+argument_taken j p b (read.Short g) h (inl k) = absurd (h.1.0 k.1.chain k.1.is_chain)
+argument_taken j p b (read.Short g) h (inr m) = absurd (seek_or_mask p (ccw_of j p) h.0 m.1.sets)
+argument_taken j p b (read.Whole g) h k = (h.0, h.1)
+argument_taken j p b (read.Mask at x) h k = sets_only p (ccw_of j p) h.0
 
 pub taken_whole : (j : Job) (l : Seen) → IsLook j l → (b : ℕ) (o : Option GivenBytes) → o ≡ whole_of l.read → IsArgumentByteOf j l.place b → IsArgumentAt j l.place o
 taken_whole j l look b o e takes =
     let c = ccw_seen j l look (clear_stands j l.place (takes_clear j l.place b takes)) in
-    subst (IsArgumentAt j l.place) (sym e) (argument_taken j l.place b l.read (look.read (ccw_of j l.place) c) takes)
+    subst (IsArgumentAt j l.place) (sym e) (argument_taken j l.place b l.read (look.read (takes_clear j l.place b takes) (ccw_of j l.place) c) takes)
 
 -- the guarded bytes of arguments are those in the guard's areas
 module _ (j : Job) (areas : List Area) (g : (b : ℕ) → (lies_in areas b ≡ true) ↔ IsArgumentByte j b) (r : Area) where
@@ -120,15 +117,15 @@ module _ (j : Job) (areas : List Area) (g : (b : ℕ) → (lies_in areas b ≡ t
   one_argument None n k = absurd (n k.0 (from_argument k.0 k.1))
   one_argument (Some b) n k = refl
 
-module _ (j : Job) (w : Walk) (f : HasFound j w) where
-  pub one_taker : (b : ℕ) (o : Option ℕ) → IsArgumentByte j b → IsFirstWhere (λ q. IsArgumentByteOf j q b) (places_of_looks w.looks.items) o → IsSome o
-  one_taker b None m n = absurd (reached_at j w f (λ q. IsArgumentByteOf j q b) n m.place m.reached (takes_of j b m))
+module _ (j : Job) (ls : List Seen) (fs : List ℕ) (f : HasFound j ls fs) where
+  pub one_taker : (b : ℕ) (o : Option ℕ) → IsArgumentByte j b → IsFirstWhere (λ q. IsArgumentByteOf j q b) (places_of_looks ls) o → IsSome o
+  one_taker b None m n = absurd (reached_at j ls fs f (λ q. IsArgumentByteOf j q b) n m.place m.reached (takes_of j b m))
   one_taker b (Some i) m n = refl
 
-  pub taken_at : (b i a : ℕ) (argument : Option GivenBytes) (l : Seen) → IsFirstWhere (λ q. IsArgumentByteOf j q b) (places_of_looks w.looks.items) (Some i) → i < length w.looks.items → l ≡ get_or w.looks.items i l
+  pub taken_at : (b i a : ℕ) (argument : Option GivenBytes) (l : Seen) → IsFirstWhere (λ q. IsArgumentByteOf j q b) (places_of_looks ls) (Some i) → i < length ls → l ≡ get_or ls i l
       → a ≡ l.place.address → (IsArgumentByteOf j l.place b → IsArgumentAt j l.place argument) → IsTakenAt j b a argument
   taken_at b i a argument l n h e address is =
-      let r = best_where j w f (λ q. IsArgumentByteOf j q b) i l.place n (place_at w.looks.items i l h e) in
+      let r = best_where j ls fs f (λ q. IsArgumentByteOf j q b) i l.place n (place_at ls i l h e) in
       (l.place, r.0, r.1, sym address, is r.1.holds)
 
 -- the index found is one of the list
@@ -137,20 +134,20 @@ first_within P ls i h = within_looks ls h.0.0 i h.0.1
 
 -- ---- the second path
 
-module _ (j : Job) (w : Walk) (f : HasFound j w) where
-  pub second_found : (e : Evidence) (i : ℕ) (places : List Place) → IsSecondPathEnd j e (places_of_looks w.looks.items) (Some i) → IsPathAt j (places_of_looks w.looks.items) i places → IsSecondPath j e places
-  second_found (because.ChangesCcw d a) i places n at = path_where j w f (λ q. q.address ≡ a) i places n at
-  second_found (because.ChangesArgument d b t s) i places n at = path_where j w f (λ q. IsArgumentByteOf j q b) i places n at
+module _ (j : Job) (ls : List Seen) (fs : List ℕ) (f : HasFound j ls fs) where
+  pub second_found : (e : Evidence) (i : ℕ) (places : List Place) → IsSecondPathEnd j e (places_of_looks ls) (Some i) → IsPathAt j (places_of_looks ls) i places → IsSecondPath j e places
+  second_found (because.ChangesCcw d a) i places n at = path_where j ls fs f (λ q. q.address ≡ a) i places n at
+  second_found (because.ChangesArgument d b t s) i places n at = path_where j ls fs f (λ q. IsArgumentByteOf j q b) i places n at
   second_found e i places n at = absurd (cc)
 
-  pub none_found : (e : Evidence) (p : Place) (places : List Place) → IsCause j p e → IsSecondPathEnd j e (places_of_looks w.looks.items) None → places ≡ [] → IsSecondPath j e places
-  none_found (because.ChangesCcw d a) p places h n is = absurd (reached_at j w f (λ q. q.address ≡ a) n h.1.0.place h.1.0.reached h.1.0.address)
-  none_found (because.ChangesArgument d b t s) p places h n is = absurd (reached_at j w f (λ q. IsArgumentByteOf j q b) n h.1.0.argument.place h.1.0.argument.reached (takes_of j b h.1.0.argument))
+  pub none_found : (e : Evidence) (p : Place) (places : List Place) → IsCause j p e → IsSecondPathEnd j e (places_of_looks ls) None → places ≡ [] → IsSecondPath j e places
+  none_found (because.ChangesCcw d a) p places h n is = absurd (reached_at j ls fs f (λ q. q.address ≡ a) n h.1.0.place h.1.0.reached h.1.0.address)
+  none_found (because.ChangesArgument d b t s) p places h n is = absurd (reached_at j ls fs f (λ q. IsArgumentByteOf j q b) n h.1.0.argument.place h.1.0.argument.reached (takes_of j b h.1.0.argument))
   none_found e p places h n is = is
 
-  pub changed_within : (e : Evidence) (i : ℕ) → IsSecondPathEnd j e (places_of_looks w.looks.items) (Some i) → i < length w.looks.items
-  changed_within (because.ChangesCcw d a) i n = first_within (λ q. q.address ≡ a) w.looks.items i n
-  changed_within (because.ChangesArgument d b t s) i n = first_within (λ q. IsArgumentByteOf j q b) w.looks.items i n
+  pub changed_within : (e : Evidence) (i : ℕ) → IsSecondPathEnd j e (places_of_looks ls) (Some i) → i < length ls
+  changed_within (because.ChangesCcw d a) i n = first_within (λ q. q.address ≡ a) ls i n
+  changed_within (because.ChangesArgument d b t s) i n = first_within (λ q. IsArgumentByteOf j q b) ls i n
   changed_within e i n = absurd (cc)
 
 -- ---- as they are found
@@ -159,6 +156,3 @@ pub found_least : (j : Job) (g : GuardAreas) → Guards j g → (areas : List Ar
     → IsLeastOrNone (λ b. IsByteIn areas r.start r.len b) o → IsLeastOf (IsArgumentIn j r) b
 found_least j g guards areas same r o b is n =
     least_argument j g.arguments guards.arguments r b (subst (λ (o : Option ℕ). IsLeastOrNone (λ b. IsByteIn g.arguments r.start r.len b) o) is (subst (λ (xs : List Area). IsLeastOrNone (λ b. IsByteIn xs r.start r.len b) o) same n))
-
-pub found_first : (P : Place → Type 0) (xs ys : List Seen) → xs ≡ ys → (o : Option ℕ) (i : ℕ) → o ≡ Some i → IsFirstWhere P (places_of_looks xs) o → IsFirstWhere P (places_of_looks ys) (Some i)
-found_first P xs ys same o i is n = subst (λ (o : Option ℕ). IsFirstWhere P (places_of_looks ys) o) is (subst (λ (zs : List Seen). IsFirstWhere P (places_of_looks zs) o) same n)

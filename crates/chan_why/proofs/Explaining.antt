@@ -3,8 +3,7 @@ use Rattle.std.proofs.Common.{◌≡◌, ℕ, zero, suc, ◌<◌, List, [], ◌�
 use Rattle.std.proofs.Common.{reverse, slice_get, Option, Some, None, IsSome, true, false, refl}
 use Rattle.std.proofs.Common.{sym, ap, ◌∙◌, subst, inl, arith}
 use Rattle.std.specs.List.{AllZip}
-use Rattle.chan_why.specs.declared.evidence.Evidence.{Evidence}
-use Rattle.chan_walk.specs.declared.walk.Walk.{Walk}
+use Rattle.chan_walk.specs.declared.evidence.Evidence.{Evidence}
 use Rattle.chan_walk.specs.declared.job.Job.{Job}
 use Rattle.chan_walk.specs.declared.offence.Offence.{Offence}
 use Rattle.chan_walk.specs.declared.place.Place.{Place}
@@ -15,21 +14,35 @@ use Rattle.chan_why.specs.Witness.{IsStoredOver, IsWitness, OffendsAt}
 use Rattle.chan_walk.specs.declared.reason.Reason.{Reason}
 use Rattle.chan_walk.specs.declared.verdict.Verdict.TheVariants.{No}
 use Rattle.chan_walk.specs.Reason.{is_no_command}
-use Rattle.chan_walk.specs.Look.{places_of_looks}
-use Rattle.chan_why.specs.Evidence.{IsEvidence}
+use Rattle.chan_walk.specs.Look.{Seen, places_of_looks}
+use Rattle.chan_why.specs.Cause.{IsEvidence}
 use Rattle.chan_walk.specs.Offence.{AreOffences, Offending, first_verdict}
+use Rattle.chan_walk.specs.JobSurvey.{IsSurvey, Surveyed}
 use Rattle.chan_walk.specs.Reachable.{IsReachable}
+use Rattle.chan_why.specs.declared.finder.Finder.{Finder}
+use Rattle.chan_why.specs.Finder.{Finds, IsIndex, IsOfKind, TakesByte}
 use Rattle.chan_walk.specs.Walk.{HasFound}
 use Rattle.chan_why.specs.Path.{IsFirstWhere, IsPathAt}
 use Rattle.chan_walk.proofs.Algorithms.Listing.{offence}
 use Rattle.chan_walk.proofs.Theory.Lists.{has_at}
 use Rattle.chan_why.proofs.Finding.{best_where, path_where, reached_at}
 
+-- ---- what a survey and a finder have, as it is read
+
+pub record IsAtHand (j : Job) (ls : List Seen) (fs : List ℕ) (os : List Offence) (f : Finder) : Type 0 where
+  pub found : HasFound j ls fs
+  pub are : AreOffences j os
+  pub takers : IsIndex (TakesByte ls (length ls)) f.takers
+  pub offenders : IsIndex (IsOfKind ls os (length os)) f.offenders
+
+pub at_hand : (j : Job) (s : Surveyed) (ls : List Seen) (os : List Offence) (f : Finder) → ls ≡ s.looks → os ≡ s.offences → IsSurvey j s → Finds s.looks s.offences f → IsAtHand j ls s.found_from os f
+at_hand j s ls os f e d h k = rw (e, d) (record { found = h.found; are = h.offences; takers = k.takers; offenders = k.offenders })
+
 -- ---- an offence, and the first place that is like it
 
-module _ (j : Job) (w : Walk) (f : HasFound j w) (os : List Offence) (are : AreOffences j os) (o : Offence) (listed : Has os o) where
+module _ (j : Job) (ls : List Seen) (fs : List ℕ) (f : HasFound j ls fs) (os : List Offence) (are : AreOffences j os) (o : Offence) (listed : Has os o) where
   abbrev ps : List Place
-  ps = places_of_looks w.looks.items
+  ps = places_of_looks ls
 
   -- a reachable place offends as the offence does exactly where it is like it
   like : (p : Place) → IsReachable j p → OffendsAt j o.place.address o.reason p → IsLike os o p
@@ -42,11 +55,11 @@ module _ (j : Job) (w : Walk) (f : HasFound j w) (os : List Offence) (are : AreO
   first_offending i h = ((h.0.0, h.0.1, offends h.0.0 h.0.2), λ k p l e off. h.1 k p l e (like p (f.walked.only p (has_at ps k p e)) off))
 
   pub path_found : (i : ℕ) (path : List Place) → IsPathAt j ps i path → IsFirstWhere (IsLike os o) ps (Some i) → IsPathOf j (No o.place.address o.reason) path
-  path_found i path a h = path_where j w f (OffendsAt j o.place.address o.reason) i path (first_offending i h) a
+  path_found i path a h = path_where j ls fs f (OffendsAt j o.place.address o.reason) i path (first_offending i h) a
 
   -- the offence's own place is like it
   pub some_found : (at : Option ℕ) → IsFirstWhere (IsLike os o) ps at → IsSome at
-  some_found None n = absurd (reached_at j w f (IsLike os o) n o.place (are.only o listed).0 (refl, listed))
+  some_found None n = absurd (reached_at j ls fs f (IsLike os o) n o.place (are.only o listed).0 (refl, listed))
   some_found (Some i) n = refl
 
   pub offending_found : (i : ℕ) (p : Place) → slice_get ps i ≡ Some p → IsFirstWhere (IsLike os o) ps (Some i) → Offending j (offence p o.reason)
@@ -63,7 +76,7 @@ module _ (j : Job) (w : Walk) (f : HasFound j w) (os : List Offence) (are : AreO
 
   pub cause_found : (i : ℕ) (p : Place) (e : Evidence) → slice_get ps i ≡ Some p → IsFirstWhere (IsLike os o) ps (Some i) → IsEvidence j (offence p o.reason) e → IsCauseOf j o e
   cause_found i p e here h v =
-      let b = best_where j w f (OffendsAt j o.place.address o.reason) i p (first_offending i h) here in
+      let b = best_where j ls fs f (OffendsAt j o.place.address o.reason) i p (first_offending i h) here in
       (reverse (p ∷ b.0), record { last = p; before = b.0; is = refl; path = b.1 }, (p, b.0, refl, v))
 
 -- one more cause

@@ -3,14 +3,12 @@ use Rattle.std.proofs.Common.{◌≡◌, ℕ, zero, suc, ◌+◌, ◌<◌, ◌�
 use Rattle.std.proofs.Common.{slice_get, slice_index, Option, Some, None, sym, ◌∙◌, subst, ◌⊎◌, inl}
 use Rattle.std.proofs.Common.{inr, arith, rules}
 use Rattle.std.proofs.lemmas.Bool.{cases_lt}
-use Rattle.chan_walk.specs.declared.walk.Walk.{Walk}
 use Rattle.chan_walk.specs.declared.job.Job.{Job}
 use Rattle.chan_walk.specs.declared.place.Place.{Place}
 use Rattle.chan_walk.specs.Look.{Seen, places_of_looks}
-use Rattle.chan_why.specs.Path.{ArePathWhere, IsPathWhere}
+use Rattle.chan_why.specs.Path.{ArePathWhere, IsPathWhere, IsFirstWhere, IsPathAt}
 use Rattle.chan_walk.specs.Reachable.{IsReachable}
 use Rattle.chan_walk.specs.Walk.{HasFound, IsBest}
-use Rattle.chan_why.specs.Path.{IsFirstWhere, IsPathAt}
 use Rattle.chan_walk.proofs.Algorithms.Looking.{number_of_places, place_at}
 use Rattle.chan_walk.proofs.Algorithms.Tracing.{best_first, best_next}
 use Rattle.chan_walk.proofs.Algorithms.Walking.{all_found}
@@ -29,14 +27,11 @@ none_more P ls i l h e n old k p lt d holds = search (rules, cases_lt, place_at)
 pub none_at_all : (P : Place → Type 0) (ls : List Seen) (i : ℕ) → length ls ≤ i → NoneBefore P (places_of_looks ls) i → IsFirstWhere P (places_of_looks ls) None
 none_at_all P ls i h n k p e holds = n k p (omega (arith, number_of_places ls, slice_get_within (places_of_looks ls) k p e)) e holds
 
-pub first_there : (P : Place → Type 0) (ls : List Seen) (i : ℕ) (l : Seen) → i < length ls → l ≡ get_or ls i l → P l.place → NoneBefore P (places_of_looks ls) i → IsFirstWhere P (places_of_looks ls) (Some i)
-first_there P ls i l h e holds none = ((l.place, place_at ls i l h e, holds), none)
-
 -- ---- the path to it
 
-module _ (j : Job) (w : Walk) (f : HasFound j w) where
+module _ (j : Job) (ls : List Seen) (fs : List ℕ) (f : HasFound j ls fs) where
   abbrev ps : List Place
-  ps = places_of_looks w.looks.items
+  ps = places_of_looks ls
 
   pub reached_at : (P : Place → Type 0) → IsFirstWhere P ps None → (p : Place) → IsReachable j p → P p → ⊥
   reached_at P n p r holds =
@@ -49,8 +44,8 @@ module _ (j : Job) (w : Walk) (f : HasFound j w) where
   best_at (suc n) zero p h e = search (rules, best_first, all_found)
   best_at (suc n) (suc k) p h e =
       let r = f.traced.from (suc k) (omega arith) (slice_get_within ps (suc k) p e) in
-      let b = best_at n (slice_index w.found_from.items (suc k)) r.parent (omega (arith, r.earlier)) r.there in
-      (r.parent ∷ b.0, best_next j ps w.found_from.items f.at f.traced f.all f.walked.apart (all_found j j.limit ps f.at f.walked f.all) (suc k) p r.parent b.0 (omega arith) e b.1)
+      let b = best_at n (slice_index fs (suc k)) r.parent (omega (arith, r.earlier)) r.there in
+      (r.parent ∷ b.0, best_next j ps fs f.at f.traced f.all f.walked.apart (all_found j j.limit ps f.at f.walked f.all) (suc k) p r.parent b.0 (omega arith) e b.1)
 
   -- the best path to the first place for which P holds is the path to such a place
   where_first : (P : Place → Type 0) (i : ℕ) (p : Place) (before : List Place) → IsFirstWhere P ps (Some i) → IsBest j ps i p before → IsPathWhere j P p before

@@ -9,11 +9,11 @@ use Rattle.std.proofs.lemmas.Bool.{cases_eq, cases_lt}
 use Rattle.chan_walk.specs.declared.offence.Offence.{Offence}
 use Rattle.chan_walk.specs.declared.place.Place.{Place}
 use Rattle.chan_walk.specs.Argument.{Has}
-use Rattle.chan_areas.specs.Ranges.{IsLeastOf, IsLeastOrNone}
+use Rattle.chan_areas.specs.Merged.{IsLeastOf, IsLeastOrNone}
 use Rattle.chan_walk.specs.Places.{AreDistinct, place_number}
 use Rattle.chan_why.specs.Finder.{IsAtPlace, IsIndex, IsLesserOf, IsOfKind, KeepsLeast, TakesByte}
 use Rattle.chan_why.specs.Finder.{TakesSoFar, kind_number}
-use Rattle.chan_walk.specs.Look.{AreLooks, Seen, places_of_looks}
+use Rattle.chan_walk.specs.Look.{AreLooks, Seen, places_of_looks, argument_seen}
 use Rattle.chan_walk.specs.declared.job.Job.{Job}
 use Rattle.chan_walk.specs.declared.reason.Reason.{Reason}
 use Rattle.chan_why.specs.Witness.{IsLike}
@@ -135,22 +135,22 @@ module _ (ls : List Seen) (i : ℕ) (l : Seen) (h : i < length ls) (is : l ≡ g
       from (inr g) = (omega (arith, g.1), (l, subst (λ z. slice_get ls z ≡ Some l) (sym g.1) here, g.0 ∙ e))
 
   -- all of its bytes
-  pub bytes_all : (n : ℕ) → length l.argument ≤ n → (k a : ℕ) → TakesSoFar ls i l.argument n k a ↔ TakesByte ls (i + 1) k a
+  pub bytes_all : (n : ℕ) → length (argument_seen l) ≤ n → (k a : ℕ) → TakesSoFar ls i (argument_seen l) n k a ↔ TakesByte ls (i + 1) k a
   bytes_all n all k a = (to, from)
     where
-      to : TakesSoFar ls i l.argument n k a → TakesByte ls (i + 1) k a
+      to : TakesSoFar ls i (argument_seen l) n k a → TakesByte ls (i + 1) k a
       to (inl g) = (omega (arith, g.0), g.1)
-      to (inr g) = (omega (arith, g.0), (l, subst (λ z. slice_get ls z ≡ Some l) (sym g.0) here, has_at l.argument g.1.0 k g.1.2))
+      to (inr g) = (omega (arith, g.0), (l, subst (λ z. slice_get ls z ≡ Some l) (sym g.0) here, has_at (argument_seen l) g.1.0 k g.1.2))
 
-      from : TakesByte ls (i + 1) k a → TakesSoFar ls i l.argument n k a
+      from : TakesByte ls (i + 1) k a → TakesSoFar ls i (argument_seen l) n k a
       from g = at (cases_lt a i)
         where
-          at : (a < i) ⊎ (i ≤ a) → TakesSoFar ls i l.argument n k a
+          at : (a < i) ⊎ (i ≤ a) → TakesSoFar ls i (argument_seen l) n k a
           at (inl c) = inl (c, g.1)
           at (inr c) =
               let d : a ≡ i = omega (arith, g.0) in
               let s = same_look g.1.0 (subst (λ z. slice_get ls z ≡ Some g.1.0) d g.1.1) in
-              let x = at_has l.argument k (subst (λ (m : Seen). Has m.argument k) s g.1.2) in
+              let x = at_has (argument_seen l) k (subst (λ (m : Seen). Has (argument_seen m) k) s g.1.2) in
               inr (d, (x.0, omega (arith, x.1), x.2))
 
 -- ---- the kinds of the offences

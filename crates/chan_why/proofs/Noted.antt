@@ -1,44 +1,38 @@
 -- Notes: areas lent in vain, and the addresses of CCWs that pass a test.
-use Rattle.std.proofs.Common.{◌≡◌, ℕ, zero, suc, ◌+◌, ◌<◌, ◌≤◌, Bool, true, false, not, ◌||◌}
-use Rattle.std.proofs.Common.{IsTrue, List, [], ◌∷◌, ◌++◌, append-nil, length, get_or, take, sym}
-use Rattle.std.proofs.Common.{ap, ◌∙◌, subst, ◌⊎◌, inl, inr, ◌↔◌, arith, eqb, rules}
-use Rattle.std.proofs.lemmas.Grind.{common_steps}
+use Rattle.std.proofs.Common.{◌≡◌, ℕ, zero, suc, ◌+◌, ◌<◌, ◌≤◌, Bool, true, not, ◌&&◌, max, nat_lt}
+use Rattle.std.proofs.Common.{IsTrue, List, [], ◌∷◌, ◌++◌, sym, ap, ◌∙◌, subst, ◌⊎◌, inl, inr, ◌↔◌}
+use Rattle.std.proofs.Common.{arith, eqb, rules}
+use Rattle.std.specs.Cmp.Derive.{one_truth}
 use Rattle.std.specs.List.{dedup, filter}
 use Rattle.std.specs.List.Sorted.{IsPermutation, IsStrictlyIncreasing}
-use Rattle.std.proofs.lemmas.Bool.{and_parts, both_ways, or_cases, or_left, or_right, cases_lt}
-use Rattle.std.proofs.lemmas.List.Elements.{filter_more}
+use Rattle.std.proofs.lemmas.Bool.{and_from, and_parts, or_cases, or_left, or_right, cases_lt}
+use Rattle.std.proofs.lemmas.Bool.{lt-ltb, ltb-true}
 use Rattle.std.proofs.lemmas.List.Kept.{Contains-dedup_nat, Contains-from_dedup}
 use Rattle.std.proofs.lemmas.List.Sorted.{Contains-permutation, IsPermutation-sym}
 use Rattle.ccw_core.specs.declared.areas.Area.{Area}
-use Rattle.ccw_core.specs.Areas.{lies_in}
+use Rattle.ccw_core.specs.Areas.{end_of, lies_in}
 use Rattle.ccw_core.specs.Ccw.{Fields}
-use Rattle.ccw_core.proofs.Covering.{lies_in-nil}
 use Rattle.ckd_core.specs.Command.{lookup}
 use Rattle.chan_walk.specs.declared.job.Job.{Job}
 use Rattle.chan_walk.specs.declared.place.Entry.{Entry}
 use Rattle.chan_walk.specs.declared.place.Place.{Place}
 use Rattle.chan_walk.specs.Argument.{Has}
 use Rattle.chan_walk.specs.Fault.{kind_of, kind_of_command}
-use Rattle.chan_walk.specs.Least.{AreReached}
+use Rattle.chan_walk.specs.Places.{AreReached}
 use Rattle.chan_walk.specs.Look.{IsLook, Seen}
-use Rattle.chan_why.specs.Notes.{AddsAddress, AreAddressesOf, AreUnused, AreUsed, IsMachineByte}
-use Rattle.chan_why.specs.Notes.{IsSeenWith, HasUsedByte, NothingFollows}
-use Rattle.chan_walk.specs.Moved.{HoldData, IsDataOf, Passes}
+use Rattle.chan_why.specs.Notes.{AddsAddress, AreAddressesOf, AreUnused, IsMachineByte}
+use Rattle.chan_why.specs.Notes.{IsSeenWith, HasUsedByte, NothingFollows, has_byte_of}
+use Rattle.chan_why.specs.Notes.{has_machine_byte, meets_any}
+use Rattle.chan_walk.specs.Moved.{Passes}
 use Rattle.chan_walk.specs.Place.{is_fresh, ccw_of}
-use Rattle.chan_areas.specs.Ranges.{IsByteOf, Meets}
+use Rattle.chan_areas.specs.Merged.{Meets}
 use Rattle.chan_walk.proofs.Algorithms.Moved.{seen_at}
 use Rattle.chan_why.proofs.Idle.{idle_is_no_transfer}
 use Rattle.chan_walk.proofs.Algorithms.Guarding.{one_more}
 use Rattle.chan_walk.proofs.Theory.Lists.{contains_has, has_contains, has_push}
-use Rattle.chan_areas.proofs.Merging.{lies_in-cases, lies_in-first, lies_in-rest}
 use Rattle.chan_walk.proofs.Algorithms.Looking.{ccw_seen}
 
 -- ---- areas that are used, by a test
-
--- a byte of the range lies in some area
-abbrev pub meets_any : List Area → ℕ → ℕ → Bool
-meets_any areas a zero = false
-meets_any areas a (suc n) = lies_in areas a || meets_any areas (suc a) n
 
 any_meets : (areas : List Area) (a n : ℕ) → meets_any areas a n ≡ true → Meets areas a n
 any_meets areas a zero h = absurd (cc)
@@ -48,16 +42,9 @@ any_at : (areas : List Area) (a n b : ℕ) → a ≤ b → b < a + n → lies_in
 any_at areas a zero b l h k = absurd (omega arith)
 any_at areas a (suc n) b l h k = search (rules, cases_lt, or_right, or_left, any_at areas (suc a) n b)
 
--- it is so where a call of `meets` says so, and not where it doesn't
-pub any_if : (areas : List Area) (a n : ℕ) (b : Bool) → IsTrue b ↔ Meets areas a n → b ≡ true → meets_any areas a n ≡ true
-any_if areas a n b h e = let m = h.0 e in any_at areas a n m.at m.from m.below m.lies
-
-pub any_unless : (areas : List Area) (a n : ℕ) (b : Bool) → IsTrue b ↔ Meets areas a n → b ≡ false → meets_any areas a n ≡ false
-any_unless areas a n b h e = search (rules, both_ways, any_meets)
-
--- the test that leaves the unused areas
-abbrev pub misses : List Area → Area → Bool
-misses used a = not (meets_any used a.start a.len)
+-- as a call of `meets` says
+pub any_is : (areas : List Area) (a n : ℕ) (b : Bool) → IsTrue b ↔ Meets areas a n → b ≡ meets_any areas a n
+any_is areas a n b h = one_truth b (meets_any areas a n) (λ e. let m = h.0 e in any_at areas a n m.at m.from m.below m.lies) (λ e. h.1 (any_meets areas a n e))
 
 -- an area meets the bytes exactly where it has one of them
 right : (used : List Area) (a : Area) → (meets_any used a.start a.len ≡ true) ↔ HasUsedByte (λ b. lies_in used b ≡ true) a
@@ -66,60 +53,45 @@ right used a = (to, λ h. any_at used a.start a.len h.0 h.1 h.2 h.3)
     to : meets_any used a.start a.len ≡ true → HasUsedByte (λ b. lies_in used b ≡ true) a
     to h = let m = any_meets used a.start a.len h in (m.at, m.from, m.below, m.lies)
 
--- the test that leaves the used areas
-abbrev pub hits : List Area → Area → Bool
-hits used a = meets_any used a.start a.len
-
-pub are_used : (used areas met : List Area) → met ≡ filter (hits used) areas → AreUsed (λ b. lies_in used b ≡ true) areas met
-are_used used areas met e = record { is_used = hits used; right = right used; are = e }
-
--- the bytes of the two areas into which the machine itself stores
-pub machine_bytes : (b : ℕ) → (lies_in (record { start = 0x18; len = 0x30 } ∷ record { start = 0x50; len = 4 } ∷ []) b ≡ true) ↔ IsMachineByte b
-machine_bytes b = (to, from)
+-- the machine itself stores into a byte of an area
+pub machine_right : (a : Area) → (has_machine_byte a ≡ true) ↔ HasUsedByte IsMachineByte a
+machine_right a = (to, from)
   where
-    status : Area
-    status = record { start = 0x18; len = 0x30 }
+    at : (n m : ℕ) → n < m → 0 < a.len → (nat_lt a.start m && nat_lt n (end_of a)) ≡ true → (b : ℕ) × (a.start ≤ b) × (b < end_of a) × (n ≤ b) × (b < m)
+    at n m l f h =
+        let p = and_parts _ _ h in
+        let x : a.start < m = ltb-true _ _ p.0 in
+        let y : n < end_of a = ltb-true _ _ p.1 in
+        (max a.start n, omega arith, omega arith, omega arith, omega arith)
 
-    timer : Area
-    timer = record { start = 0x50; len = 4 }
+    to : has_machine_byte a ≡ true → HasUsedByte IsMachineByte a
+    to h =
+        let p = and_parts _ _ h in
+        let f : 0 < a.len = ltb-true _ _ p.0 in
+        elim (or_cases _ _ p.1) [
+          | inl k ↦ let r = at 0x18 0x48 (omega arith) f k in (r.0, r.1, r.2, inl (r.3, omega (arith, r.4)))
+          | inr k ↦ let r = at 0x50 0x54 (omega arith) f k in (r.0, r.1, r.2, inr (r.3, omega (arith, r.4)))
+        ]
 
-    to : lies_in (status ∷ timer ∷ []) b ≡ true → IsMachineByte b
-    to h = go (lies_in-cases status (timer ∷ []) b h)
-      where
-        last : IsByteOf timer b ⊎ (lies_in [] b ≡ true) → IsMachineByte b
-        last (inl i) = inr (omega (arith, i.0), omega (arith, i.1))
-        last (inr e) = absurd (both_ways _ (lies_in-nil b) e)
+    met : (n m b : ℕ) → a.start ≤ b → b < end_of a → n ≤ b → b < m → (nat_lt a.start m && nat_lt n (end_of a)) ≡ true
+    met n m b l h k i = and_from _ _ (lt-ltb a.start m (omega arith)) (lt-ltb n (end_of a) (omega arith))
 
-        go : IsByteOf status b ⊎ (lies_in (timer ∷ []) b ≡ true) → IsMachineByte b
-        go (inl i) = inl (omega (arith, i.0), omega (arith, i.1))
-        go (inr e) = last (lies_in-cases timer [] b e)
+    from : HasUsedByte IsMachineByte a → has_machine_byte a ≡ true
+    from h = and_from _ _ (lt-ltb 0 a.len (omega (arith, h.1, h.2))) (elim h.3 [
+      | inl k ↦ or_left _ _ (met 0x18 0x48 h.0 h.1 h.2 k.0 (omega (arith, k.1)))
+      | inr k ↦ or_right _ _ (met 0x50 0x54 h.0 h.1 h.2 k.0 (omega (arith, k.1)))
+    ])
 
-    from : IsMachineByte b → lies_in (status ∷ timer ∷ []) b ≡ true
-    from (inl i) = lies_in-first status (timer ∷ []) b (omega (arith, i.0), omega (arith, i.1))
-    from (inr i) = lies_in-rest status (timer ∷ []) b (lies_in-first timer [] b (omega (arith, i.0), omega (arith, i.1)))
+pub are_unused : (used areas unused : List Area) → unused ≡ filter (λ a. not (has_byte_of used a)) areas → AreUnused (λ b. lies_in used b ≡ true) areas unused
+are_unused used areas unused e = record { is_used = has_byte_of used; right = right used; are = e }
 
--- the same areas are used, where the same bytes are
-pub used_same : (P Q : ℕ → Type 0) (areas met : List Area) → ((b : ℕ) → P b ↔ Q b) → AreUsed P areas met → AreUsed Q areas met
-used_same P Q areas met f u = record {
+-- the same areas are unused where the same bytes are used
+pub unused_same : (P Q : ℕ → Type 0) (areas unused : List Area) → ((b : ℕ) → P b ↔ Q b) → AreUnused P areas unused → AreUnused Q areas unused
+unused_same P Q areas unused f u = record {
   is_used = u.is_used;
   right = λ a. ((λ h. let w = (u.right a).0 h in (w.0, w.1, w.2, (f w.0).0 w.3)), λ w. (u.right a).1 (w.0, w.1, w.2, (f w.0).1 w.3));
   are = u.are;
 }
-
-pub are_unused : (used areas unused : List Area) → unused ≡ filter (misses used) areas → AreUnused (λ b. lies_in used b ≡ true) areas unused
-are_unused used areas unused e = record { is_used = hits used; right = right used; are = e }
-
--- the bytes of the merged list are those of the data of CCWs
-pub unused_data : (test : Place → Fields → Bool) (j : Job) (given used areas unused : List Area) → given ≡ used → HoldData test j used → AreUnused (λ b. lies_in given b ≡ true) areas unused → AreUnused (IsDataOf test j) areas unused
-unused_data test j given used areas unused e f h = search rules
-
--- ---- a filter, one area more
-
-pub filter_keeps : (p : Area → Bool) (xs : List Area) (i : ℕ) (d : Area) (old new : List Area) → i < length xs → p (get_or xs i d) ≡ true → old ≡ filter p (take i xs) → new ≡ old ++ get_or xs i d ∷ [] → new ≡ filter p (take (i + 1) xs)
-filter_keeps p xs i d old new l k h n = grind (arith, common_steps, filter_more)
-
-pub filter_drops : (p : Area → Bool) (xs : List Area) (i : ℕ) (d : Area) (old : List Area) → i < length xs → p (get_or xs i d) ≡ false → old ≡ filter p (take i xs) → old ≡ filter p (take (i + 1) xs)
-filter_drops p xs i d old l k h = grind (arith, common_steps, append-nil, filter_more)
 
 -- ---- addresses, place by place
 

@@ -1,10 +1,8 @@
 -- The last place of a path that stores over what stands at its end, as the path is read backwards.
-use Rattle.std.proofs.Common.{◌≡◌, ℕ, ◌++◌, List, [], ◌∷◌, reverse, Option, Some, None, sym, ap}
-use Rattle.std.proofs.Common.{subst, ◌∙◌, ◌⊎◌, inl, inr}
-use Rattle.std.proofs.lemmas.List.{reverse-reverse}
+use Rattle.std.proofs.Common.{◌≡◌, ℕ, ◌++◌, List, [], ◌∷◌, Option, Some, None, subst, ◌⊎◌, inl, inr}
 use Rattle.chan_walk.specs.declared.job.Job.{Job}
 use Rattle.chan_walk.specs.declared.place.Place.{Place}
-use Rattle.chan_why.specs.Witness.{IsLastStore, IsStoredBefore, StoresAt}
+use Rattle.chan_why.specs.Witness.{IsLastStore, StoresAt}
 
 -- what one place more adds: nothing where one was found already
 abbrev pub IsLater : Job → ℕ → Place → Option Place → Option Place → Type 0
@@ -15,9 +13,3 @@ pub last_more : (j : Job) (a : ℕ) (qs : List Place) (q : Place) (o new : Optio
 last_more j a [] q o new l e = subst (λ z. IsLater j a q z new) e l
 last_more j a (x ∷ qs) q o new l (inl (s, e)) = inl (s, subst (λ z. IsLater j a q z new) e l)
 last_more j a (x ∷ qs) q o new l (inr (n, r)) = inr (n, last_more j a qs q o new l r)
-
--- turned twice, a list is what it was
-pub before_turned : (j : Job) (end : Place) (seen path turned : List Place) (o : Option Place) → path ≡ end ∷ seen → turned ≡ reverse path → IsLastStore j end.address seen o → IsStoredBefore j (reverse turned) o
-before_turned j end seen path turned o is t h =
-    let back : reverse turned ≡ path = ap reverse t ∙ reverse-reverse path in
-    subst (λ z. IsStoredBefore j z o) (sym (back ∙ is)) h

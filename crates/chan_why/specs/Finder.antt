@@ -5,13 +5,11 @@ use Rattle.std.specs.Ordering.{nat_cmp}
 use Rattle.std.specs.BTreeMap.{BTreeMap}
 use Rattle.std.specs.BTreeMap as tree
 use Rattle.chan_why.specs.declared.finder.Finder.{Finder}
-use Rattle.chan_walk.specs.declared.job.Job.{Job}
 use Rattle.chan_walk.specs.declared.offence.Offence.{Offence}
 use Rattle.chan_walk.specs.Argument.{Has}
-use Rattle.chan_areas.specs.Ranges.{IsLeastOrNone}
+use Rattle.chan_areas.specs.Merged.{IsLeastOrNone}
 use Rattle.chan_walk.specs.Places.{place_number}
-use Rattle.chan_walk.specs.Lent.{AreLent}
-use Rattle.chan_walk.specs.Look.{Seen}
+use Rattle.chan_walk.specs.Look.{Seen, argument_seen}
 use Rattle.chan_walk.specs.Reason.{number_of}
 
 -- the map has for each key the least index of a look that has it, and nothing where none has it
@@ -26,7 +24,7 @@ IsAtPlace ls n key at =
 -- among the first n looks, the one of this index takes the byte at this address as its argument
 abbrev pub TakesByte : List Seen → ℕ → ℕ → ℕ → Type 0
 TakesByte ls n key at =
-    (at < n) × ((l : Seen) × (slice_get ls at ≡ Some l) × Has l.argument key)
+    (at < n) × ((l : Seen) × (slice_get ls at ≡ Some l) × Has (argument_seen l) key)
 
 -- the number of an offence's address and reason
 abbrev pub kind_number : Offence → ℕ
@@ -44,14 +42,10 @@ pub record IsOfKind (ls : List Seen) (os : List Offence) (n key at : ℕ) : Type
   pub seen : slice_get ls at ≡ Some look
   pub place : look.place ≡ offence.place
 
--- the areas lent, and for each byte of an argument the first place that takes it
-pub record FindsCauses (j : Job) (ls : List Seen) (f : Finder) : Type 0 where
-  pub lent : AreLent j f.lent
+-- for each byte of an argument the first place that takes it, and for each address and reason the
+-- first place that so offends
+pub record Finds (ls : List Seen) (os : List Offence) (f : Finder) : Type 0 where
   pub takers : IsIndex (TakesByte ls (length ls)) f.takers
-
--- and for each address and reason the first place that so offends
-pub record Finds (j : Job) (ls : List Seen) (os : List Offence) (f : Finder) : Type 0 where
-  pub causes : FindsCauses j ls f
   pub offenders : IsIndex (IsOfKind ls os (length os)) f.offenders
 
 -- ---- one more

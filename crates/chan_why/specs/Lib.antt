@@ -1,5 +1,5 @@
 pub mod Path
-pub mod Evidence
+pub mod Cause
 pub mod SecondPath
 pub mod Witness
 pub mod Finder

@@ -1,16 +1,17 @@
 -- What a verdict leaves open: areas lent in vain, CCWs that interrupt, CCWs at which a program ends
 -- though chain command is on, and kept areas into which the machine itself stores.
-use Rattle.std.specs.Prelude.{◌≡◌, ℕ, ◌<◌, ◌≤◌, nat_lt, Bool, true, false, not, ◌&&◌, ◌⊎◌, ◌↔◌}
-use Rattle.std.specs.Prelude.{List, length, Option, None, Some, IsTrue}
+use Rattle.std.specs.Prelude.{◌≡◌, ℕ, zero, suc, ◌<◌, ◌≤◌, nat_lt, Bool, true, false, not, ◌&&◌}
+use Rattle.std.specs.Prelude.{◌⊎◌, ◌↔◌, ◌||◌, List, length, Option, None, Some, IsTrue}
 use Rattle.std.specs.List.{filter}
 use Rattle.std.specs.List.Sorted.{IsStrictlyIncreasing}
 use Rattle.ccw_core.specs.declared.areas.Area.{Area}
+use Rattle.ccw_core.specs.Areas.{lies_in, end_of}
 use Rattle.ccw_core.specs.Ccw.{Fields, chains_command, chains_data, is_on, is_transfer}
 use Rattle.ckd_core.specs.declared.command.Kind.{Kind}
 use Rattle.ckd_core.specs.declared.command.Kind.TheVariants.{Idle, Inward, Outward, Search}
 use Rattle.ckd_core.specs.Command.{Entry as Command, lookup}
 use Rattle.chan_walk.specs.declared.job.Job.{Job}
-use Rattle.chan_why.specs.declared.note.Notes.{Notes}
+use Rattle.chan_why.specs.declared.notes.Notes.{Notes}
 use Rattle.chan_walk.specs.declared.place.Place.{Place}
 use Rattle.chan_walk.specs.Argument.{Has}
 use Rattle.chan_walk.specs.Fault.{kind_of}
@@ -19,7 +20,7 @@ use Rattle.chan_walk.specs.Job.{fetch_of, storage_of, store_of}
 use Rattle.chan_walk.specs.Look.{Seen}
 use Rattle.chan_walk.specs.Moved.{IsFetchedFrom, IsStoredInto, Passes}
 use Rattle.chan_walk.specs.Place.{is_fresh}
-use Rattle.chan_areas.specs.Ranges.{AreExactly, end_of}
+use Rattle.chan_areas.specs.Merged.{AreExactly}
 use Rattle.chan_walk.specs.Reachable.{IsReachable}
 use Rattle.chan_walk.specs.Successor.{next_of, skip_of}
 
@@ -38,6 +39,15 @@ pub record AreUnused (Used : ℕ → Type 0) (areas unused : List Area) : Type 0
   pub is_used : Area → Bool
   pub right : (a : Area) → (is_used a ≡ true) ↔ HasUsedByte Used a
   pub are : unused ≡ filter (λ a. not (is_used a)) areas
+
+-- a byte of the n from a on lies in some area
+abbrev pub meets_any : List Area → ℕ → ℕ → Bool
+meets_any areas a zero = false
+meets_any areas a (suc n) = lies_in areas a || meets_any areas (suc a) n
+
+-- a byte of the area does
+abbrev pub has_byte_of : List Area → Area → Bool
+has_byte_of areas a = meets_any areas a.start a.len
 
 -- ---- CCWs
 
@@ -93,6 +103,12 @@ pub record AreAddressesOf (test : Place → Fields → Bool) (j : Job) (addresse
 -- (System/360 Principles of Operation, A22-6821)
 abbrev pub IsMachineByte : ℕ → Type 0
 IsMachineByte b = ((0x18 ≤ b) × (b ≤ 0x47)) ⊎ ((0x50 ≤ b) × (b ≤ 0x53))
+
+-- an area has such a byte
+abbrev pub has_machine_byte : Area → Bool
+has_machine_byte a =
+    nat_lt 0 a.len && (nat_lt a.start 0x48 && nat_lt 0x18 (end_of a)
+    || nat_lt a.start 0x54 && nat_lt 0x50 (end_of a))
 
 -- the second list has the areas of the first that are used, in their order
 pub record AreUsed (Used : ℕ → Type 0) (areas used : List Area) : Type 0 where

@@ -1,15 +1,15 @@
 -- What a store changes, as it is found among the places that were looked at.
 use Rattle.std.specs.Prelude.{◌≡◌, ℕ, ◌+◌, ◌<◌, List, Option, None}
 use Rattle.ccw_core.specs.declared.areas.Area.{Area}
-use Rattle.chan_why.specs.declared.evidence.Evidence.{Evidence}
-use Rattle.chan_why.specs.declared.evidence.Evidence.TheVariants as because
+use Rattle.chan_walk.specs.declared.evidence.Evidence.{Evidence}
+use Rattle.chan_walk.specs.declared.evidence.Evidence.TheVariants as because
 use Rattle.chan_walk.specs.declared.job.Job.{Job}
 use Rattle.chan_walk.specs.declared.place.Place.{Place}
 use Rattle.chan_walk.specs.declared.argument.GivenBytes.{GivenBytes}
-use Rattle.chan_why.specs.Evidence.{IsArgumentIn, IsTakenAt}
-use Rattle.chan_areas.specs.Ranges.{IsLeastOf}
+use Rattle.chan_why.specs.Cause.{IsArgumentIn, IsTakenAt}
+use Rattle.chan_areas.specs.Merged.{IsLeastOf}
 use Rattle.chan_walk.specs.Guard.{IsArgumentByteOf}
-use Rattle.chan_areas.specs.Ranges.{end_of}
+use Rattle.ccw_core.specs.Areas.{end_of}
 use Rattle.chan_why.specs.Path.{IsFirstWhere}
 
 -- the data has one of the eight bytes from a on

@@ -1,8 +1,7 @@
 -- A verdict explained by its witness: the path to an offending place.
-use Rattle.std.specs.Prelude.{◌≡◌, ℕ, true, false, List, [], ◌∷◌, reverse, Option, None, Some}
-use Rattle.std.specs.Prelude.{◌⊎◌}
+use Rattle.std.specs.Prelude.{◌≡◌, ℕ, true, false, List, [], ◌∷◌, reverse, Option, None, Some, ◌⊎◌}
 use Rattle.ccw_core.specs.Storage.{Stands}
-use Rattle.chan_why.specs.declared.evidence.Evidence.{Evidence}
+use Rattle.chan_walk.specs.declared.evidence.Evidence.{Evidence}
 use Rattle.chan_walk.specs.declared.job.Job.{Job}
 use Rattle.chan_walk.specs.declared.offence.Offence.{Offence}
 use Rattle.chan_walk.specs.declared.place.Place.{Place}
@@ -11,13 +10,12 @@ use Rattle.chan_walk.specs.declared.verdict.Verdict.{Verdict}
 use Rattle.chan_walk.specs.declared.verdict.Verdict.TheVariants.{Yes, No}
 use Rattle.chan_walk.specs.Alarm.{Shows}
 use Rattle.chan_walk.specs.Argument.{Has}
-use Rattle.chan_why.specs.Evidence.{IsEvidence, IsSecondPath}
-use Rattle.chan_walk.specs.Place.{data_at}
+use Rattle.chan_why.specs.Cause.{IsEvidence, IsSecondPath}
+use Rattle.chan_walk.specs.Place.{data_at, ccw_of}
 use Rattle.chan_why.specs.SecondPath.{HasByteOf}
 use Rattle.chan_walk.specs.Fault.{stores}
 use Rattle.chan_walk.specs.Job.{storage_of}
 use Rattle.chan_why.specs.Path.{ArePathWhere}
-use Rattle.chan_walk.specs.Place.{ccw_of}
 use Rattle.chan_walk.specs.Reason.{is_no_command}
 use Rattle.chan_walk.specs.Verdict.{Offends}
 

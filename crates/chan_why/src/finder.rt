@@ -8,21 +8,19 @@ ghost use Rattle.chan_walk.specs.Places.{AreDistinct};
 ghost use Rattle.chan_why.specs.Finder.{Finds, IsAtPlace, IsIndex, IsLesserOf, IsOfKind};
 ghost use Rattle.chan_why.specs.Finder.{KeepsLeast, TakesByte};
 ghost use Rattle.chan_why.specs.Finder as index;
+ghost use Rattle.chan_walk.specs.JobSurvey.{IsSurvey};
 ghost use Rattle.chan_walk.specs.Look.{places_of_looks};
-ghost use Rattle.chan_walk.specs.Offence.{AreOffences};
-ghost use Rattle.chan_walk.specs.Walk.{HasFound};
+ghost use Rattle.chan_walk.specs.declared.job.Job.{Job};
 ghost use Rattle.chan_walk.specs.declared.offence.Offence as declared;
 
-use chan_walk::{Job, Lent, Look, Offence, Walk};
+use chan_walk::{Look, Offence, Survey};
 use std::alloc::{AllocError, Global};
 use std::collections::BTreeMap;
 
 /// What the causes of a job's offences are found with. Each question costs the logarithm of the
-/// number of places, or of areas lent.
+/// number of places.
 #[derive(Drop)]
 pub(crate) struct Finder {
-    /// The areas lent.
-    pub(crate) lent: Lent,
     /// For each byte of an argument the index of the first place that takes it.
     takers: BTreeMap<u64, usize>,
     /// For each address and reason the index of the first place that so offends.
@@ -30,23 +28,14 @@ pub(crate) struct Finder {
 }
 
 impl Finder {
-    /// What the causes of all offences of a job are found with, whose reachable places a walk has
-    /// found.
-    pub(crate) fn new(
-        alloc: Global,
-        job: &Job,
-        walk: &Walk,
-        offences: &[Offence],
-    ) -> Result<Finder, AllocError>
-        requires found { HasFound job.now walk.now }
-        requires offences { AreOffences job.now offences.now }
-        ensures { IfOk result (Finds job.now walk.now.looks.items offences.now) }
+    /// What the causes of all offences of a job that was surveyed are found with.
+    pub(crate) fn new(alloc: Global, survey: &Survey) -> Result<Finder, AllocError>
+        requires { (j : Job) × IsSurvey j survey.now }
+        ensures { IfOk result (Finds survey.now.looks survey.now.offences) }
     {
-        let looks = walk.looks.as_slice();
         Ok(Finder {
-            lent: Lent::new(alloc, job)?,
-            takers: takers_of(alloc, looks)?,
-            offenders: offenders_of(alloc, looks, offences)?,
+            takers: takers_of(alloc, survey.looks())?,
+            offenders: offenders_of(alloc, survey.looks(), survey.offences())?,
         })
     }
 

@@ -1,26 +1,22 @@
-//! Why a channel program may not run: the path to a place that offends, the values of the cause, and
-//! the path to what is changed; and what a verdict leaves open, the notes.
+//! Why a channel program may not run: the path to a place that offends, the values of the cause,
+//! and the path to what is changed; and what a verdict leaves open, the notes.
 //!
 //! ```
-//! fn shows(alloc: Global, job: &Job, survey: &Survey) -> Result<Vec<Place>, AllocError>
-//!     requires { IsSurvey job.now survey.now }
+//! fn shows(alloc: Global, survey: &Survey) -> Result<Vec<Place>, AllocError>
+//!     requires { (j : Job) × IsSurvey j survey.now }
 //! {
-//!     let witness = witness_from(alloc, job, survey)?;
+//!     let witness = witness_from(alloc, survey)?;
 //!     Ok(witness.path)
 //! }
 //! ```
 #![tactic(auto)]
 
-mod evidence;
+mod cause;
 mod finder;
-mod note;
-mod noting;
+mod notes;
 mod path;
 mod second_path;
-mod surveyed;
 mod witness;
 
-pub use crate::evidence::{Evidence, Outside};
-pub use crate::note::Notes;
-pub use crate::surveyed::{causes_from, notes_from, witness_from};
-pub use crate::witness::Witness;
+pub use crate::notes::{Notes, notes_from};
+pub use crate::witness::{Witness, causes_from, witness_from};

@@ -1,17 +1,16 @@
 //! Paths: how a program comes to a place.
 
-ghost use Rattle.std.specs.Prelude.{◌≡◌, ◌<◌, ◌↔◌, ◌++◌, ◌∷◌, [], List, length, reverse};
-ghost use Rattle.std.specs.Prelude.{IfOk, IsTrue};
+ghost use Rattle.std.specs.Prelude.{◌<◌, ◌↔◌, ◌++◌, ◌∷◌, [], List, length, reverse, IfOk, IsTrue};
 ghost use Rattle.chan_why.specs.SecondPath.{HasByteOf};
 ghost use Rattle.chan_why.specs.Witness.{IsLastStore, IsStoredBefore, StoresAt};
 ghost use Rattle.chan_walk.specs.Look.{IsLook, places_of_looks};
-ghost use Rattle.chan_walk.specs.Walk.{HasFound};
+ghost use Rattle.chan_walk.specs.JobSurvey.{IsSurvey};
 ghost use Rattle.chan_why.specs.Path.{IsPathAt};
 ghost use Rattle.chan_walk.specs.declared.job.Job.{Job};
 ghost use Rattle.chan_walk.specs.declared.place.Place as places;
 
 use ccw_core::Area;
-use chan_walk::{Look, Place, Walk, data_of};
+use chan_walk::{Direction, Look, Place, Survey, data_of};
 use std::alloc::{AllocError, Global};
 
 /// The path to a place, its end.
@@ -25,22 +24,23 @@ pub(crate) struct Path {
 
 /// The path to the place of an index, read backwards from it: each place was found from the one
 /// before it.
-pub(crate) fn path_at(alloc: Global, walk: &Walk, at: usize) -> Result<Path, AllocError>
-    requires found { (j : Job) × HasFound j walk.now }
-    requires within { at < length walk.now.looks.items }
-    ensures path { IfOk result (λ path. (j : Job) → HasFound j walk.now
-        → IsPathAt j (places_of_looks walk.now.looks.items) at path.places.items) }
-    ensures stored { IfOk result (λ path. (j : Job) → HasFound j walk.now
+pub(crate) fn path_at(alloc: Global, survey: &Survey, at: usize) -> Result<Path, AllocError>
+    requires found { (j : Job) × IsSurvey j survey.now }
+    requires within { at < length survey.now.looks }
+    ensures path { IfOk result (λ path. (j : Job) → IsSurvey j survey.now
+        → IsPathAt j (places_of_looks survey.now.looks) at path.places.items) }
+    ensures stored { IfOk result (λ path. (j : Job) → IsSurvey j survey.now
         → IsStoredBefore j (reverse path.places.items) path.stored_by) }
 {
-    let end = walk.looks[at].place();
+    let (looks, found_from) = (survey.looks(), survey.found_from());
+    let end = looks[at].place();
     let mut places = Vec::new(alloc);
     places.push(end)?;
     let mut stored_by = None;
     let mut from = at;
     while from > 0 {
-        from = walk.found_from[from] as usize;
-        let look = &walk.looks[from];
+        from = found_from[from] as usize;
+        let look = &looks[from];
         stored_by = first_store(stored_by, look, end.address);
         places.push(look.place())?;
     }
@@ -67,7 +67,7 @@ fn stores_at(look: &Look, address: u32) -> bool
         → IsTrue result ↔ StoresAt j address look.now.place }
 {
     match look.ccw() {
-        Some(ccw) => look.stores() && has_byte_of(data_of(&ccw), address),
+        Some(ccw) => look.moves(Direction::Store) && has_byte_of(data_of(&ccw), address),
         None => false,
     }
 }

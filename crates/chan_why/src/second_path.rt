@@ -2,18 +2,17 @@
 
 ghost use Rattle.std.specs.Prelude.{◌≡◌, length, IfOk};
 ghost use Rattle.chan_why.specs.SecondPath.{IsSecondPathEnd};
-ghost use Rattle.chan_why.specs.Evidence.{IsCause, IsSecondPath};
+ghost use Rattle.chan_why.specs.Cause.{IsCause, IsSecondPath};
 ghost use Rattle.chan_why.specs.Finder.{IsIndex, TakesByte};
+ghost use Rattle.chan_walk.specs.JobSurvey.{IsSurvey};
 ghost use Rattle.chan_walk.specs.Look.{AreLooks, places_of_looks};
-ghost use Rattle.chan_walk.specs.Walk.{HasFound};
 ghost use Rattle.chan_why.specs.Path.{IsFirstWhere};
 ghost use Rattle.chan_walk.specs.declared.job.Job.{Job};
 ghost use Rattle.chan_walk.specs.declared.place.Place as places;
 
-use crate::evidence::Evidence;
 use crate::finder::Finder;
 use crate::path::{Path, path_at};
-use chan_walk::{Look, Place, Walk};
+use chan_walk::{Evidence, Look, Place, Survey};
 use std::alloc::{AllocError, Global};
 
 /// The index of the first place with an address.
@@ -45,20 +44,20 @@ fn changed_place(looks: &[Look], finder: &Finder, evidence: &Evidence) -> Option
 /// The path to what is changed; no places where the cause isn't a change.
 pub(crate) fn second_path(
     alloc: Global,
-    walk: &Walk,
+    survey: &Survey,
     finder: &Finder,
     evidence: &Evidence,
 ) -> Result<Vec<Place>, AllocError>
-    requires cause { (j : Job) × HasFound j walk.now
+    requires cause { (j : Job) × IsSurvey j survey.now
         × ((p : places.Place) × IsCause j p evidence.now) }
-    requires takers { IsIndex (TakesByte walk.now.looks.items (length walk.now.looks.items))
+    requires takers { IsIndex (TakesByte survey.now.looks (length survey.now.looks))
         finder.now.takers }
-    ensures { IfOk result (λ path. (j : Job) → HasFound j walk.now → (p : places.Place)
+    ensures { IfOk result (λ path. (j : Job) → IsSurvey j survey.now → (p : places.Place)
         → IsCause j p evidence.now → IsSecondPath j evidence.now path.items) }
 {
-    match changed_place(walk.looks.as_slice(), finder, evidence) {
+    match changed_place(survey.looks(), finder, evidence) {
         Some(at) => {
-            let Path { places, .. } = path_at(alloc, walk, at)?;
+            let Path { places, .. } = path_at(alloc, survey, at)?;
             Ok(places)
         }
         None => Ok(Vec::new(alloc)),

@@ -4,17 +4,17 @@
 ghost use Rattle.std.specs.Prelude.{◌≡◌, true, false, None, IfOk};
 ghost use Rattle.std.specs.List.{AllZip};
 ghost use Rattle.chan_why.specs.Witness.{IsCauseOf, IsEvidenceOf, IsPathOf, IsSecondPathOf};
-ghost use Rattle.chan_why.specs.Witness.{IsStoredOver};
-ghost use Rattle.chan_walk.specs.Guard.{Guards};
-ghost use Rattle.chan_walk.specs.Offence.{AreOffences, first_verdict};
+ghost use Rattle.chan_why.specs.Witness.{IsStoredOver, IsWitness};
+ghost use Rattle.chan_walk.specs.JobSurvey.{IsSurvey};
+ghost use Rattle.chan_walk.specs.Offence.{first_verdict};
 ghost use Rattle.chan_walk.specs.Reason.{is_no_command};
-ghost use Rattle.chan_walk.specs.Walk.{HasFound};
+ghost use Rattle.chan_walk.specs.declared.job.Job.{Job};
 
-use crate::second_path::second_path;
-use crate::evidence::{Evidence, evidence_at};
+use crate::cause::evidence_at;
 use crate::finder::Finder;
 use crate::path::{Path, path_at};
-use chan_walk::{Guard, Job, Offence, Place, Reason, Walk};
+use crate::second_path::second_path;
+use chan_walk::{Evidence, Place, Reason, Survey};
 use std::alloc::{AllocError, Global};
 
 /// The witness of the first of a job's offences.
@@ -40,26 +40,24 @@ pub struct Witness {
     pub second_path: Vec<Place>,
 }
 
-/// The paths, and the values of the cause, for the first of all offences of a job whose reachable
-/// places a walk has found.
-pub(crate) fn witness_of(
-    alloc: Global,
-    job: &Job,
-    walk: &Walk,
-    guard: &Guard,
-    offences: &[Offence],
-) -> Result<Witness, AllocError>
-    requires found { HasFound job.now walk.now }
-    requires guards { Guards job.now guard.now }
-    requires offences { AreOffences job.now offences.now }
-    ensures path { IfOk result
-        (λ w. IsPathOf job.now (first_verdict offences.now) w.path.items) }
-    ensures evidence { IfOk result
-        (λ w. IsEvidenceOf job.now (first_verdict offences.now) w.path.items w.evidence) }
-    ensures stored { IfOk result
-        (λ w. IsStoredOver job.now (first_verdict offences.now) w.path.items w.stored_over) }
-    ensures second { IfOk result (λ w. IsSecondPathOf job.now w.evidence w.second_path.items) }
+/// The witness of the first offence of the job that was surveyed. `AllocError` comes if a growth
+/// was refused.
+///
+/// With n places, the cost is n log n.
+pub fn witness_from(alloc: Global, survey: &Survey) -> Result<Witness, AllocError>
+    requires { (j : Job) × IsSurvey j survey.now }
+    ensures path { IfOk result (λ w. (j : Job) → IsSurvey j survey.now
+        → IsPathOf j (first_verdict survey.now.offences) w.path.items) }
+    ensures shown { IfOk result (λ w. (j : Job) → IsSurvey j survey.now
+        → IsWitness j (first_verdict survey.now.offences) w.path.items) }
+    ensures evidence { IfOk result (λ w. (j : Job) → IsSurvey j survey.now
+        → IsEvidenceOf j (first_verdict survey.now.offences) w.path.items w.evidence) }
+    ensures stored { IfOk result (λ w. (j : Job) → IsSurvey j survey.now
+        → IsStoredOver j (first_verdict survey.now.offences) w.path.items w.stored_over) }
+    ensures second { IfOk result (λ w. (j : Job) → IsSurvey j survey.now
+        → IsSecondPathOf j w.evidence w.second_path.items) }
 {
+    let (looks, offences) = (survey.looks(), survey.offences());
     let Some(first) = offences.first() else {
         return Ok(Witness {
             path: Vec::new(alloc),
@@ -68,12 +66,12 @@ pub(crate) fn witness_of(
             second_path: Vec::new(alloc),
         });
     };
-    let finder = Finder::new(alloc, job, walk, offences)?;
+    let finder = Finder::new(alloc, survey)?;
     // The first offence's own place is one.
     let at = finder.offender(*first).unwrap();
-    let Path { places, stored_by } = path_at(alloc, walk, at)?;
-    let evidence = evidence_at(job, walk, guard, &finder, &walk.looks[at], first.reason);
-    let second_path = second_path(alloc, walk, &finder, &evidence)?;
+    let Path { places, stored_by } = path_at(alloc, survey, at)?;
+    let evidence = evidence_at(survey, &finder, &looks[at], first.reason);
+    let second_path = second_path(alloc, survey, &finder, &evidence)?;
     Ok(Witness {
         path: places,
         evidence: Some(evidence),
@@ -94,25 +92,23 @@ fn told_over(reason: Reason, stored_by: Option<Place>) -> Option<Place>
     }
 }
 
-/// The cause of each offence of a job whose reachable places a walk has found, in their order.
-pub(crate) fn causes_of(
-    alloc: Global,
-    job: &Job,
-    walk: &Walk,
-    guard: &Guard,
-    offences: &[Offence],
-) -> Result<Vec<Evidence>, AllocError>
-    requires found { HasFound job.now walk.now }
-    requires guards { Guards job.now guard.now }
-    requires offences { AreOffences job.now offences.now }
-    ensures { IfOk result (λ es. AllZip (IsCauseOf job.now) offences.now es.items) }
+/// The cause of each offence of the job that was surveyed, in the order of `Survey::offences`. It
+/// is that of the place at the end of a path, chosen as for the first offence among the paths to
+/// places that offend with the same address and reason. `AllocError` comes if a growth was refused.
+///
+/// With n places, the cost is n log n.
+pub fn causes_from(alloc: Global, survey: &Survey) -> Result<Vec<Evidence>, AllocError>
+    requires { (j : Job) × IsSurvey j survey.now }
+    ensures { IfOk result (λ es. (j : Job) → IsSurvey j survey.now
+        → AllZip (IsCauseOf j) survey.now.offences es.items) }
 {
-    let finder = Finder::new(alloc, job, walk, offences)?;
+    let (looks, offences) = (survey.looks(), survey.offences());
+    let finder = Finder::new(alloc, survey)?;
     let mut causes = Vec::new(alloc);
     for offence in offences {
         // The offence's own place is one.
-        let look = &walk.looks[finder.offender(*offence).unwrap()];
-        causes.push(evidence_at(job, walk, guard, &finder, look, offence.reason))?;
+        let look = &looks[finder.offender(*offence).unwrap()];
+        causes.push(evidence_at(survey, &finder, look, offence.reason))?;
     }
     Ok(causes)
 }

@@ -5,11 +5,11 @@ use Rattle.std.proofs.lemmas.List.Elements.{All-map}
 use Rattle.chan_walk.specs.declared.job.Job.{Job}
 use Rattle.chan_needs.specs.declared.remembered.Remembered.{Remembered}
 use Rattle.chan_needs.specs.declared.rows.Conflict.TheVariants as way
-use Rattle.chan_needs.specs.declared.start.Refusal.TheVariants as why
+use Rattle.chan_needs.specs.declared.start.StartRefusal.TheVariants as why
 use Rattle.chan_needs.specs.declared.start.Start.{Start}
 use Rattle.chan_needs.specs.declared.start.Start.TheVariants as answer
-use Rattle.chan_needs.specs.Remembered.{AreBeside, IsBeside, IsFit}
-use Rattle.chan_needs.specs.Rows.{Listed}
+use Rattle.chan_needs.specs.Rows.{AreBeside, Listed}
+use Rattle.chan_needs.specs.Start.{IsFit, IsBeside}
 use Rattle.chanv_c.specs.declared.start.CProgram.{CProgram}
 use Rattle.chanv_c.specs.Start.{SpareEachOther, IsRememberedAs, as_in_flight, rows_told}
 use Rattle.chanv_c.specs.Start.{start_code, start_told}

@@ -1,12 +1,12 @@
 -- The values of a cause as C is told them.
 use Rattle.std.specs.Prelude.{ℕ, [], ◌∷◌, Option, Some, None}
 use Rattle.ccw_core.specs.declared.areas.Area.{Area}
-use Rattle.chan_why.specs.declared.evidence.Evidence.{Evidence}
-use Rattle.chan_why.specs.declared.evidence.Evidence.TheVariants as because
-use Rattle.chan_why.specs.declared.evidence.Outside.{Outside}
-use Rattle.chan_why.specs.declared.evidence.Outside.TheVariants.{Bin, Cylinder, Head}
+use Rattle.chan_walk.specs.declared.evidence.Evidence.{Evidence}
+use Rattle.chan_walk.specs.declared.evidence.Evidence.TheVariants as because
+use Rattle.chan_walk.specs.declared.evidence.Outside.{Outside}
+use Rattle.chan_walk.specs.declared.evidence.Outside.TheVariants.{Bin, Cylinder, Head}
 use Rattle.chan_walk.specs.declared.argument.GivenBytes.{GivenBytes}
-use Rattle.chan_why.specs.Evidence.{reason_of}
+use Rattle.chan_walk.specs.Evidence.{reason_of}
 use Rattle.chan_walk.specs.Reason.{number_of}
 use Rattle.chanv_c.specs.declared.evidence.CEvidence.{CEvidence}
 

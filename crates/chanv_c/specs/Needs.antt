@@ -7,9 +7,8 @@ use Rattle.chan_walk.specs.declared.verdict.Verdict.{Verdict}
 use Rattle.chan_walk.specs.declared.verdict.Verdict.TheVariants.{Yes, No}
 use Rattle.chan_walk.specs.Answers.{IsAnswer}
 use Rattle.chan_walk.specs.Places.{HasMoreThan}
-use Rattle.chan_walk.specs.OpenJob.{open_job}
+use Rattle.chan_walk.specs.OpenJob.{open_job, IsOpenJob}
 use Rattle.chan_needs.specs.Rows.{AreNeeds, Listed, listed}
-use Rattle.chan_walk.specs.OpenJob.{IsOpenJob}
 use Rattle.chan_walk.specs.Verdict.{IsVerdict}
 use Rattle.chanv_c.specs.declared.job.CExtent.{CExtent}
 use Rattle.chanv_c.specs.declared.job.CJob.{CJob}

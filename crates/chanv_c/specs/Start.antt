@@ -9,16 +9,15 @@ use Rattle.chan_walk.specs.declared.job.Job.{Job}
 use Rattle.chan_needs.specs.declared.remembered.Remembered.{Remembered}
 use Rattle.chan_needs.specs.declared.rows.Conflict.{Conflict}
 use Rattle.chan_needs.specs.declared.rows.Conflict.TheVariants as way
-use Rattle.chan_needs.specs.declared.start.Refusal as core
-use Rattle.chan_needs.specs.declared.start.Refusal.TheVariants as why
+use Rattle.chan_needs.specs.declared.start.StartRefusal.{StartRefusal}
+use Rattle.chan_needs.specs.declared.start.StartRefusal.TheVariants as why
 use Rattle.chan_needs.specs.declared.start.Start.{Start}
 use Rattle.chan_needs.specs.declared.start.Start.TheVariants as answer
-use Rattle.chan_areas.specs.Ranges.{IsLeastOf}
-use Rattle.chan_needs.specs.Remembered.{AreBeside, HasChanged, HoldsKept, IsConflict, IsFit}
-use Rattle.chan_needs.specs.Remembered.{IsInside, IsKeptIn, IsOfAnother, IsOfProgram}
-use Rattle.chan_needs.specs.Remembered.{IsStartRefusal}
-use Rattle.chan_needs.specs.Remembered.{StartsWell, bytes_in}
-use Rattle.chan_needs.specs.Rows.{Listed, rows_of}
+use Rattle.chan_areas.specs.Merged.{IsLeastOf}
+use Rattle.chan_needs.specs.Remembered.{HoldsKept, IsInside, bytes_in}
+use Rattle.chan_needs.specs.Rows.{IsConflict, AreBeside, IsKeptIn, Listed, rows_of}
+use Rattle.chan_needs.specs.Start.{HasChanged, IsFit, IsOfAnother, IsOfProgram, StartsWell}
+use Rattle.chan_needs.specs.Start.{IsStartRefusal}
 use Rattle.chanv_c.specs.declared.job.CJob.{CJob}
 use Rattle.chanv_c.specs.declared.start.CProgram.{CProgram}
 use Rattle.chanv_c.specs.declared.start.CRefusal.{CRefusal}
@@ -87,7 +86,7 @@ pub record MayStartUnder (j : Job) (p : CProgram) (fs : List CProgram) : Type 0 
   pub apart : All (SpareEachOther p) fs
 
 -- why a program with an invalid mask is refused: for the mask, or for what comes before it
-abbrev pub IsRefusedUnmasked : Job → Remembered → core.Refusal → Type 0
+abbrev pub IsRefusedUnmasked : Job → Remembered → StartRefusal → Type 0
 IsRefusedUnmasked j q r =
     IsOfAnother j q r
     ⊎ (IsOfProgram j q × HasChanged j q r)
@@ -102,7 +101,7 @@ unmasked (answer.No (why.Changed b)) = answer.No (why.Changed b)
 unmasked s = answer.No why.Mask
 
 -- why a program is refused with nothing in flight
-pub record IsRefusedAlone (j : Job) (p : CProgram) (r : core.Refusal) : Type 0 where
+pub record IsRefusedAlone (j : Job) (p : CProgram) (r : StartRefusal) : Type 0 where
   pub remembered : Remembered
   pub stands : StandsFor j p remembered
   pub refused :
@@ -126,13 +125,13 @@ IsFirstConflict p fs i c =
     × IsConflict (rows_told p.rows) (rows_told f.rows) c
 
 -- why a program is refused for one in flight: it may start but for that
-abbrev pub IsRefusedBeside : Job → CProgram → List CProgram → core.Refusal → Type 0
+abbrev pub IsRefusedBeside : Job → CProgram → List CProgram → StartRefusal → Type 0
 IsRefusedBeside j p fs (why.Beside i c) =
     ((q : Remembered) × IsRememberedAs p q × IsFit j q []) × IsFirstConflict p fs i c
 IsRefusedBeside j p fs r = ⊥
 
 -- what is told of a refusal: its code, its number or address, and the number of one in flight
-abbrev pub refusal_told : core.Refusal → CRefusal
+abbrev pub refusal_told : StartRefusal → CRefusal
 refusal_told why.OtherStart = record { extent = 0; program = 0; code = 1; value = 0 }
 refusal_told why.OtherDevice = record { extent = 0; program = 0; code = 2; value = 0 }
 refusal_told why.OtherLength = record { extent = 0; program = 0; code = 3; value = 0 }

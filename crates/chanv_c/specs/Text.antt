@@ -6,8 +6,7 @@ use Rattle.chan_walk.specs.declared.verdict.Verdict.{Verdict}
 use Rattle.chan_walk.specs.declared.verdict.Verdict.TheVariants.{Yes, No}
 use Rattle.chan_why.specs.declared.witness.Witness.{Witness}
 use Rattle.chan_walk.specs.Answers.{IsAnswer}
-use Rattle.chan_why.specs.Witness.{IsEvidenceOf, IsPathOf, IsSecondPathOf, IsStoredOver}
-use Rattle.chan_why.specs.Witness.{IsWitness}
+use Rattle.chan_why.specs.Witness.{IsEvidenceOf, IsPathOf, IsSecondPathOf, IsStoredOver, IsWitness}
 use Rattle.chan_walk.specs.Job.{storage_of}
 use Rattle.chan_walk.specs.Offence.{AreOffences, first_verdict}
 use Rattle.chan_deck.specs.Explanation.{explanation}

@@ -5,8 +5,7 @@ use Rattle.chan_walk.specs.declared.place.Place.{Place}
 use Rattle.chan_walk.specs.declared.verdict.Verdict.{Verdict}
 use Rattle.chan_walk.specs.declared.verdict.Verdict.TheVariants.{Yes, No}
 use Rattle.chan_walk.specs.Answers.{IsAnswer}
-use Rattle.chan_why.specs.Witness.{IsEvidenceOf, IsPathOf, IsSecondPathOf}
-use Rattle.chan_why.specs.Witness.{IsWitness}
+use Rattle.chan_why.specs.Witness.{IsEvidenceOf, IsPathOf, IsSecondPathOf, IsWitness}
 use Rattle.chan_walk.specs.Reason.{number_of}
 use Rattle.chanv_c.specs.declared.job.CJob.{CJob}
 use Rattle.chanv_c.specs.declared.why.CExplanation.{CExplanation}

@@ -4,28 +4,44 @@ ghost use Rattle.std.specs.Prelude.{◌≡◌};
 ghost use Rattle.chanv_c.specs.Evidence as specs;
 
 use ccw_core::Area;
-use chan_walk::GivenBytes;
-use chan_why::{Evidence, Outside};
+use chan_walk::{Evidence, GivenBytes, Outside};
 
-/// `struct chanv_evidence`.
+/// `struct chanv_evidence`: the values of a cause as plain numbers. The header says which fields
+/// each reason fills; the others are 0.
 #[repr(C)]
 #[derive(Clone, Copy)]
 pub struct CEvidence {
+    /// The reason's number, 1 to 16; 0 if nothing is told.
     pub reason: u32,
+    /// The data range of the CCW; for 2 the CCW's own eight bytes.
     pub range: Area,
+    /// The first run of bytes of the range that no area lends.
     pub gap: Area,
+    /// The CCW's address for 1, that of the CCW changed for 14, that of the byte changed for 15.
     pub address: u32,
+    /// The address of the CCW that takes the byte at `address`.
     pub taker: u32,
+    /// How many bytes storage has.
     pub length: u32,
+    /// The command code.
     pub code: u32,
+    /// The job's file mask.
     pub mask: u32,
+    /// The three low flag bits of the CCW.
     pub bits: u32,
+    /// How many of the argument's six bytes are given.
     pub given: u32,
+    /// The part that is outside: 1 bin, 2 cylinder, 3 head.
     pub outside: u32,
+    /// For 13 that bin, cylinder or head; for 16 the byte that is set.
     pub value: u32,
+    /// How many heads the device has.
     pub below: u32,
+    /// 1 if a Set File Mask takes the byte, 0 if a seek does.
     pub sets_mask: u32,
+    /// The addresses of the bytes that are given, in order, and then 0.
     pub addresses: [u32; 6],
+    /// These bytes, and then 0.
     pub bytes: [u8; 6],
 }
 

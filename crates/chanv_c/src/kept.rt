@@ -1,6 +1,6 @@
 //! The bytes of storage that a program keeps, for what C remembers of it.
 
-ghost use Rattle.std.specs.Prelude.{◌≡◌, ◌≢◌, ◌<◌, ◌≤◌, ◌^◌, ◌⊎◌, length};
+ghost use Rattle.std.specs.Prelude.{◌≡◌, ◌≢◌, ◌<◌, ◌^◌, ◌⊎◌, length};
 ghost use Rattle.std.specs.List.{All};
 ghost use Rattle.chan_needs.specs.Remembered.{IsInside, bytes_in};
 ghost use Rattle.chanv_c.specs.Start.{AreCopied};

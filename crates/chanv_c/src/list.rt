@@ -4,8 +4,8 @@ ghost use Rattle.std.specs.Prelude.{◌≡◌, ◌≢◌, ◌<◌, ◌≤◌, le
 ghost use Rattle.chanv_c.specs.Answers.{AreListed, HasPlaces, HasTooMany, IsAnswerCode};
 
 use crate::job::CJob;
-use crate::question::{Question, answer};
-use crate::refusal::{Refusal, no_answer};
+use crate::question::{Question, answer, no_answer};
+use crate::refusal::Refusal;
 use crate::rows::{CPlace, write_rows};
 use chan_walk::{Explored, Job, explore};
 use std::alloc::Global;

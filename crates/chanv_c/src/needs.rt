@@ -1,9 +1,8 @@
 //! What a channel program needs of each job that it runs under, and what it keeps.
 
-ghost use Rattle.std.specs.Prelude.{◌≡◌, ◌≢◌, ◌<◌, ◌≤◌, ◌↔◌, map, IfOk, IfErr, IsTrue, OnOk};
+ghost use Rattle.std.specs.Prelude.{◌≡◌, ◌≢◌, ◌<◌, ◌≤◌, ◌↔◌, map, IfOk, IfErr, IsTrue};
 ghost use Rattle.chan_walk.specs.Places.{HasMoreThan};
-ghost use Rattle.chan_walk.specs.OpenJob.{open_job};
-ghost use Rattle.chan_walk.specs.OpenJob.{IsOpenJob};
+ghost use Rattle.chan_walk.specs.OpenJob.{open_job, IsOpenJob};
 ghost use Rattle.chan_needs.specs.Rows.{Listed, listed};
 ghost use Rattle.chan_walk.specs.Verdict.{IsVerdict};
 ghost use Rattle.chan_walk.specs.declared.error.WalkError.TheVariants as walk;
@@ -11,9 +10,8 @@ ghost use Rattle.chan_walk.specs.declared.verdict.Verdict as declared;
 ghost use Rattle.chanv_c.specs.Answers.{IsAnswerCode, IsRefusal};
 ghost use Rattle.chanv_c.specs.Job.{IsAskedJob};
 ghost use Rattle.chanv_c.specs.Faults.{HasNoFault};
-ghost use Rattle.chanv_c.specs.Needs.{AreToldNeeds, HasTooManyOpenly, HaveRoom, IsFound};
-ghost use Rattle.chanv_c.specs.Needs.{IsOpenFor, IsToldNo, StandFirst, run_row};
-ghost use Rattle.chanv_c.specs.Needs.{told_alone, told_needs};
+ghost use Rattle.chanv_c.specs.Needs.{AreToldNeeds, HasTooManyOpenly, HaveRoom, IsFound, IsOpenFor};
+ghost use Rattle.chanv_c.specs.Needs.{IsToldNo, StandFirst, run_row, told_alone, told_needs};
 
 use crate::job::{CExtent, CJob};
 use crate::question::{Question, answer};

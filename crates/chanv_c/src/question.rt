@@ -1,12 +1,15 @@
 //! The one way to an answer: C's job is made ready, and a question is asked about it.
 
-ghost use Rattle.std.specs.Prelude.{IfErr, IfOk, OnOk};
-ghost use Rattle.chanv_c.specs.Answers.{IsRefusal};
+ghost use Rattle.std.specs.Prelude.{◌≡◌, IfErr, IfOk, OnOk};
+ghost use Rattle.chan_walk.specs.Places.{HasMoreThan};
+ghost use Rattle.chan_walk.specs.declared.error.WalkError.TheVariants as walk;
+ghost use Rattle.chanv_c.specs.Answers.{HasTooMany, IsRefusal};
+ghost use Rattle.chanv_c.specs.Job.{IsAskedJob};
 ghost use Rattle.chanv_c.specs.Faults.{HasNoFault};
 
 use crate::job::{CJob, make_ready};
 use crate::refusal::Refusal;
-use chan_walk::Job;
+use chan_walk::{Job, WalkError};
 use std::alloc::Global;
 
 /// A question about the job that C asks about.
@@ -46,4 +49,17 @@ pub(crate) fn answer<T: Drop, Q: Question<T>>(
         Err(refusal) => return Err(refusal),
     };
     question.ask(alloc, asked, &ready.job(asked))
+}
+
+/// Why a call over the job that C asks about gave no answer.
+pub(crate) fn no_answer(_asked: &CJob<'_>, _job: &Job, error: WalkError) -> Refusal
+    requires asked { IsAskedJob _asked.now _job.now }
+    requires right { HasNoFault _asked.now }
+    requires many { error ≡ walk.TooManyPlaces → HasMoreThan _job.now _job.now.limit }
+    ensures { IsRefusal (HasTooMany _asked.now) _asked.now result }
+{
+    match error {
+        WalkError::TooManyPlaces => Refusal::TooManyPlaces,
+        WalkError::Memory => Refusal::Memory,
+    }
 }

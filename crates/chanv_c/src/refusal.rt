@@ -1,14 +1,8 @@
 //! Why C gets no answer.
 
 ghost use Rattle.std.specs.Prelude.{◌≡◌};
-ghost use Rattle.chan_walk.specs.Places.{HasMoreThan};
-ghost use Rattle.chan_walk.specs.declared.error.WalkError.TheVariants as walk;
-ghost use Rattle.chanv_c.specs.Answers.{HasTooMany, IsRefusal, refusal_code, refusal_extent};
-ghost use Rattle.chanv_c.specs.Job.{IsAskedJob};
-ghost use Rattle.chanv_c.specs.Faults.{HasNoFault, fault_code, fault_extent};
-
-use crate::job::CJob;
-use chan_walk::{Job, WalkError};
+ghost use Rattle.chanv_c.specs.Answers.{refusal_code, refusal_extent};
+ghost use Rattle.chanv_c.specs.Faults.{fault_code, fault_extent};
 
 /// The faults of a job as C gives it, in the order in which they count.
 #[derive(Clone, Copy)]
@@ -90,18 +84,5 @@ impl Refusal {
             Refusal::Wrong(fault) => fault.extent(),
             _ => 0,
         }
-    }
-}
-
-/// Why a call over the job that C asks about gave no answer.
-pub(crate) fn no_answer(_asked: &CJob<'_>, _job: &Job, error: WalkError) -> Refusal
-    requires asked { IsAskedJob _asked.now _job.now }
-    requires right { HasNoFault _asked.now }
-    requires many { error ≡ walk.TooManyPlaces → HasMoreThan _job.now _job.now.limit }
-    ensures { IsRefusal (HasTooMany _asked.now) _asked.now result }
-{
-    match error {
-        WalkError::TooManyPlaces => Refusal::TooManyPlaces,
-        WalkError::Memory => Refusal::Memory,
     }
 }

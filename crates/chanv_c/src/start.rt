@@ -3,22 +3,22 @@
 ghost use Rattle.std.specs.Prelude.{◌≡◌, ◌≢◌, ◌≤◌, ◌<◌, ◌⊎◌, [], map, IfOk, MatchOption};
 ghost use Rattle.std.specs.List.{All};
 ghost use Rattle.chan_needs.specs.declared.start.Start as declared;
-ghost use Rattle.chan_needs.specs.Remembered.{AreBeside, IsAnswerOf, IsConflict, WritesWell};
+ghost use Rattle.chan_needs.specs.Remembered.{WritesWell};
+ghost use Rattle.chan_needs.specs.Rows.{IsConflict, AreBeside, rows_of};
+ghost use Rattle.chan_needs.specs.Start.{IsAnswerOf};
 ghost use Rattle.chan_needs.specs.declared.remembered.Remembered.{Remembered};
-ghost use Rattle.chan_needs.specs.Rows.{rows_of};
 ghost use Rattle.chanv_c.specs.Answers.{IsAnswerCode};
 ghost use Rattle.chanv_c.specs.Job.{device_number};
 ghost use Rattle.chanv_c.specs.Start.{SpareEachOther, IsAnswerAlone, IsFirstConflict};
-ghost use Rattle.chanv_c.specs.Start.{IsFirstKeeper};
-ghost use Rattle.chanv_c.specs.Start.{IsStartOf, SparesArea, StartsWellFor, as_in_flight};
-ghost use Rattle.chanv_c.specs.Start.{keeper_told, nothing_told};
-ghost use Rattle.chanv_c.specs.Start.{rows_told, start_code, start_told, unmasked};
+ghost use Rattle.chanv_c.specs.Start.{IsFirstKeeper, IsStartOf, SparesArea, StartsWellFor};
+ghost use Rattle.chanv_c.specs.Start.{as_in_flight, keeper_told, nothing_told, rows_told};
+ghost use Rattle.chanv_c.specs.Start.{start_code, start_told, unmasked};
 
 use crate::job::{CExtent, CJob, device_of, or_empty, pairs_of};
 use crate::question::{Question, answer};
 use crate::refusal::Refusal;
 use ccw_core::Area;
-use chan_needs::{Conflict, Refusal as StartRefusal, Remembered, Rows, Start, may_start};
+use chan_needs::{Conflict, Remembered, Rows, Start, StartRefusal, may_start};
 use chan_walk::Job;
 use ckd_core::{Device, FileMask};
 use std::alloc::{AllocError, Global};
@@ -191,9 +191,7 @@ impl<'a> Question<Start> for MayStart<'a> {
     ghost crowded = { λ _. ⊥ };
 
     fn ask(&self, alloc: Global, _asked: &CJob<'_>, job: &Job) -> Result<Start, Refusal> {
-        // These two calls say that the job is proper, which the law asks for.
-        let _extents = job.extents.pairs();
-        let _mask = job.mask.byte();
+        job.show_proper();
         match start_alone(alloc, job, self.program) {
             Ok(Start::Yes) => {}
             Ok(Start::No(refusal)) => return Ok(Start::No(refusal)),

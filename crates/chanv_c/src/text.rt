@@ -11,8 +11,8 @@ ghost use Rattle.chanv_c.specs.Text.{verdict_code};
 
 use crate::job::CJob;
 use crate::needs::no_needs;
-use crate::question::{Question, answer};
-use crate::refusal::{Refusal, no_answer};
+use crate::question::{Question, answer, no_answer};
+use crate::refusal::Refusal;
 use chan_deck::explanation_text;
 use chan_walk::{Job, OpenJob, Verdict, WalkError, survey};
 use chan_why::witness_from;
@@ -167,7 +167,7 @@ fn told_on(alloc: Global, job: &Job) -> Result<Told, WalkError>
         Ok(survey) => survey,
         Err(error) => return Err(error),
     };
-    let Ok(witness) = witness_from(alloc, job, &survey) else {
+    let Ok(witness) = witness_from(alloc, &survey) else {
         return Err(WalkError::Memory);
     };
     match explanation_text(alloc, job, &survey, &witness, &[]) {

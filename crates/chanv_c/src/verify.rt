@@ -5,8 +5,8 @@ ghost use Rattle.chan_walk.specs.declared.verdict.Verdict.TheVariants.{Yes};
 ghost use Rattle.chanv_c.specs.Answers.{HasTooMany, IsDenied, IsJudged, IsAnswerCode};
 
 use crate::job::CJob;
-use crate::question::{Question, answer};
-use crate::refusal::{Refusal, no_answer};
+use crate::question::{Question, answer, no_answer};
+use crate::refusal::Refusal;
 use chan_walk::{Job, Verdict, verify};
 use std::alloc::Global;
 

@@ -4,14 +4,13 @@ ghost use Rattle.std.specs.Prelude.{◌≡◌, ◌≢◌, ◌<◌};
 ghost use Rattle.chan_walk.specs.declared.verdict.Verdict.TheVariants.{Yes};
 ghost use Rattle.chanv_c.specs.Answers.{HasTooMany, IsJudged, IsAnswerCode};
 ghost use Rattle.chanv_c.specs.Why as specs;
-ghost use Rattle.chanv_c.specs.Why.{AreInFront, IsRoomTooSmall, IsTold};
-ghost use Rattle.chanv_c.specs.Why.{told_nothing, verdict_told};
+ghost use Rattle.chanv_c.specs.Why.{AreInFront, IsRoomTooSmall, IsTold, told_nothing, verdict_told};
 ghost use Rattle.chanv_c.specs.declared.why.Found as declared;
 
-use crate::job::CJob;
 use crate::evidence::{CEvidence, NO_VALUES, cause_told};
-use crate::question::{Question, answer};
-use crate::refusal::{Refusal, no_answer};
+use crate::job::CJob;
+use crate::question::{Question, answer, no_answer};
+use crate::refusal::Refusal;
 use crate::rows::{CPlace, write_path};
 use crate::verify::CVerdict;
 use chan_walk::{Job, Verdict, survey};
@@ -147,7 +146,7 @@ impl Question<Found> for Why {
             Ok(survey) => survey,
             Err(error) => return Err(no_answer(asked, job, error)),
         };
-        match witness_from(alloc, job, &survey) {
+        match witness_from(alloc, &survey) {
             Ok(witness) => Ok(Found {
                 verdict: survey.verdict(),
                 witness,

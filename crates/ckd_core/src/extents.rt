@@ -1,7 +1,7 @@
 //! The extents of a file, in whole cylinders.
 
 ghost use Rattle.std.specs.Prelude.{◌≡◌, ◌≢◌, ℕ, ◌<◌, ◌&&◌, ◌==◌, nat_lt, nat_le, IfOk, IfErr};
-ghost use Rattle.std.specs.Prelude.{OnOk, IsOkUnless, MatchOption, MatchResult, slice_index};
+ghost use Rattle.std.specs.Prelude.{OnOk, IsOkUnless, MatchResult, slice_index};
 ghost use Rattle.std.specs.List.{AllByRecursion, list_any};
 ghost use Rattle.ckd_core.specs.Extents.{AreExtents, IsExtent, has_cylinder};
 ghost use Rattle.ckd_core.specs.Faults.{IsFault};

@@ -3,7 +3,7 @@
 mod answers;
 mod devices;
 mod image;
+mod one_ccw;
 mod outcomes;
 mod statuses;
-mod one_ccw;
 mod word;

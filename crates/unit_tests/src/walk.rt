@@ -1,9 +1,9 @@
 //! The tests of `chan_walk`.
 
+mod arguments;
 mod explore;
 mod guard;
-mod verdicts;
 mod needs;
 mod program;
-mod arguments;
 mod starts;
+mod verdicts;

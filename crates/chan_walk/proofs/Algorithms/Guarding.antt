@@ -17,9 +17,9 @@ use Rattle.chan_walk.specs.Fault.{begins_seek, IsClear}
 use Rattle.chan_walk.specs.Guard.{AddsBytes, IsCcwByteOf, IsSeekByteOf, IsArgumentByteOf, byte_area}
 use Rattle.chan_walk.specs.Guarded.{IsCcwByte, IsArgumentByte}
 use Rattle.chan_walk.specs.Job.{storage_of}
-use Rattle.chan_walk.specs.Least.{AreReached}
+use Rattle.chan_walk.specs.Places.{AreReached}
 use Rattle.chan_walk.specs.Place.{ccw_of}
-use Rattle.chan_areas.specs.Ranges.{EndsBelow, HaveSameBytes}
+use Rattle.chan_areas.specs.Merged.{AreExactly, EndsBelow}
 use Rattle.chan_walk.proofs.Theory.Chains.{chain_unique}
 use Rattle.chan_walk.proofs.Theory.Lists.{has_left, has_right, has_cases}
 use Rattle.chan_areas.proofs.Merging.{lies_in-append, lies_in-cases, lies_in-first, lies_in-rest}
@@ -53,7 +53,7 @@ pub hold_more : (P : Place → ℕ → Type 0) (ps : List Place) (p : Place) (ol
 hold_more P ps p old new f g b = one_more (λ q. P q b) ps p (lies_in old b ≡ true) (lies_in new b ≡ true) (f b) (g b)
 
 -- at the end, in a list with the same bytes
-pub hold_same : (P : Place → ℕ → Type 0) (some ps : List Place) (areas merged : List Area) → some ≡ ps → HoldBytes P some areas → HaveSameBytes merged areas → HoldBytes P ps merged
+pub hold_same : (P : Place → ℕ → Type 0) (some ps : List Place) (areas merged : List Area) → some ≡ ps → HoldBytes P some areas → AreExactly (λ b. lies_in areas b ≡ true) merged → HoldBytes P ps merged
 hold_same P some ps areas merged e f g b = search rules
 
 -- over the reachable places

@@ -32,7 +32,8 @@ use Rattle.chan_walk.specs.Argument.{Has}
 use Rattle.chan_walk.specs.Places.{AreDistinct, way_of}
 use Rattle.chan_walk.specs.Fault.{HasFault, IsClear}
 use Rattle.chan_walk.specs.Guarded.{IsArgumentByte, IsCcwByte}
-use Rattle.chan_walk.specs.Least.{AreReached, IsOwn}
+use Rattle.chan_walk.specs.Offence.{IsOwn}
+use Rattle.chan_walk.specs.Places.{AreReached}
 use Rattle.chan_walk.specs.Look.{IsLook, Seen, place_of, places_of_looks}
 use Rattle.chan_walk.specs.Offence.{AddsOffences, AreAllOffences, AreOffences, FirstIsVerdict}
 use Rattle.chan_walk.specs.Offence.{HasOffences, Offending, StoresInto, offence_number}

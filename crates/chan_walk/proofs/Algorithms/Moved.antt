@@ -4,21 +4,19 @@ use Rattle.std.proofs.Common.{◌∙◌, subst, ◌⊎◌, inl, inr, ◌↔◌, 
 use Rattle.std.proofs.lemmas.Bool.{both_ways}
 use Rattle.std.proofs.lemmas.Option.{same_Some}
 use Rattle.ccw_core.specs.declared.areas.Area.{Area}
-use Rattle.ccw_core.specs.Areas.{lies_in}
+use Rattle.ccw_core.specs.Areas.{lies_in, end_of}
 use Rattle.ccw_core.specs.Ccw.{Fields}
 use Rattle.ccw_core.specs.Storage.{is_aligned, is_inside}
 use Rattle.ccw_core.proofs.Covering.{lies_in-nil}
 use Rattle.ccw_core.proofs.StorageLemmas.{ccw_at-some}
 use Rattle.chan_walk.specs.declared.job.Job.{Job}
 use Rattle.chan_walk.specs.declared.place.Place.{Place}
-use Rattle.chan_walk.specs.Place.{data_at, data_of}
+use Rattle.chan_walk.specs.Place.{data_at, data_of, ccw_of}
 use Rattle.chan_walk.specs.Guard.{AddsBytes}
 use Rattle.chan_walk.specs.Job.{storage_of}
-use Rattle.chan_walk.specs.Least.{AreReached}
+use Rattle.chan_walk.specs.Places.{AreReached}
 use Rattle.chan_walk.specs.Look.{IsLook, Seen}
-use Rattle.chan_walk.specs.Moved.{HoldData, IsSeenByte, Passes}
-use Rattle.chan_walk.specs.Place.{ccw_of}
-use Rattle.chan_areas.specs.Ranges.{end_of}
+use Rattle.chan_walk.specs.Moved.{IsDataOf, IsSeenByte, Passes}
 use Rattle.chan_walk.proofs.Algorithms.Guarding.{HoldBytes}
 use Rattle.chan_areas.proofs.Merging.{lies_in-cases, lies_in-first}
 use Rattle.chan_walk.proofs.Algorithms.Looking.{ccw_seen}
@@ -48,7 +46,7 @@ adds_data test j l so old new look same adds b = ((λ h. to ((adds b).0 h)), λ 
         inr (record { ccw = ccw_of j l.place; seen = seen; so = same (ccw_of j l.place) seen ∙ h.0.1; from = h.1; below = h.2 })
 
 -- over the reachable places
-pub all_data : (test : Place → Fields → Bool) (j : Job) (ps : List Place) (areas : List Area) → AreReached j ps → HoldBytes (HasData test j) ps areas → HoldData test j areas
+pub all_data : (test : Place → Fields → Bool) (j : Job) (ps : List Place) (areas : List Area) → AreReached j ps → HoldBytes (HasData test j) ps areas → (b : ℕ) → (lies_in areas b ≡ true) ↔ IsDataOf test j b
 all_data test j ps areas r f b = search rules
 
 -- the bytes of the data range of the CCW that was seen

@@ -5,8 +5,7 @@ use Rattle.ccw_core.specs.Areas.{lies_in}
 use Rattle.ckd_core.specs.Extents.{has_cylinder}
 use Rattle.ckd_core.specs.Mask.{is_at_least}
 use Rattle.chan_walk.specs.declared.job.Job.{Job}
-use Rattle.chan_walk.specs.OpenJob.{AreOfOneProgram, GrantsMore, open_job}
-use Rattle.chan_walk.specs.OpenJob.{IsOpenJob, OpenJobIsOpen}
+use Rattle.chan_walk.specs.OpenJob.{AreOfOneProgram, GrantsMore, open_job, IsOpenJob, OpenJobIsOpen}
 use Rattle.chan_walk.proofs.Theory.Granting.{turned}
 use Rattle.chan_walk.proofs.Theory.Masks.{strict_as_itself}
 use Rattle.chan_walk.proofs.Algorithms.Granted.{same_by_grants}

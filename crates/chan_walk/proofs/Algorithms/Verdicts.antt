@@ -3,12 +3,12 @@ use Rattle.std.proofs.Common.{◌≡◌, ℕ, true, List, ◌↔◌, Option, Som
 use Rattle.ccw_core.specs.Areas.{lies_in}
 use Rattle.ccw_core.specs.Ccw.{Fields}
 use Rattle.ccw_core.specs.declared.areas.Area.{Area}
-use Rattle.chan_areas.specs.Ranges.{Meets}
+use Rattle.chan_areas.specs.Merged.{Meets}
 use Rattle.chan_walk.specs.declared.job.Job.{Job}
 use Rattle.chan_walk.specs.declared.place.Place.{Place}
 use Rattle.chan_walk.specs.declared.reason.Reason.{Reason}
 use Rattle.chan_walk.specs.Fault.{stores, HasFault, IsClear}
-use Rattle.chan_walk.specs.Least.{IsOwn}
+use Rattle.chan_walk.specs.Offence.{IsOwn}
 use Rattle.chan_walk.specs.Place.{ccw_of}
 use Rattle.chan_walk.specs.Reachable.{IsReachable}
 use Rattle.chan_walk.specs.Verdict.{AreClear, StoresOver, Changes, Offends}

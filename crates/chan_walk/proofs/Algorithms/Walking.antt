@@ -5,7 +5,6 @@ use Rattle.std.proofs.Common.{arith, length-append, rules}
 use Rattle.std.specs.List.{slice_get}
 use Rattle.std.proofs.lemmas.Bool.{cases_lt}
 use Rattle.std.proofs.lemmas.Option.{slice_get-map}
-use Rattle.chan_walk.specs.declared.walk.Walk.{Walk}
 use Rattle.chan_walk.specs.declared.job.Job.{Job}
 use Rattle.chan_walk.specs.declared.place.Place.{Place}
 use Rattle.chan_walk.specs.declared.successor.Next.{Next}
@@ -13,7 +12,7 @@ use Rattle.chan_walk.specs.declared.reason.Reason.{Reason}
 use Rattle.chan_walk.specs.Argument.{Has}
 use Rattle.chan_walk.specs.Places.{AreDistinct, HasMoreThan}
 use Rattle.chan_walk.specs.Fault.{HasFault}
-use Rattle.chan_walk.specs.Least.{AreReached}
+use Rattle.chan_walk.specs.Places.{AreReached}
 use Rattle.chan_walk.specs.Look.{AreLooks, Seen, place_of, places_of_looks}
 use Rattle.chan_walk.specs.Place.{first_place}
 use Rattle.chan_walk.specs.Reachable.{IsPath, IsReachable}
@@ -180,14 +179,6 @@ walked_first j n h = record {
   closed = λ k p q l. absurd (omega arith);
 }
 
-pub first_overflows : (j : Job) (n : ℕ) (p : Place) (ps : List Place) → ps ≡ [] → Overflows n (Some p) ps → HasMoreThan j n
-first_overflows j n p ps e a = record {
-  places = first_place j ∷ [];
-  apart = ((λ h. h), tt);
-  many = omega (arith, a.1, ap length e);
-  only = only_first j;
-}
-
 -- where the successors of all are found, each reachable place is
 pub all_found : (j : Job) (n : ℕ) (ps : List Place) (i : ℕ) → IsWalked j n ps i → length ps ≤ i → (p : Place) → IsReachable j p → Has ps p
 all_found j n ps i w h p r = go p r.0 r.1
@@ -200,9 +191,9 @@ all_found j n ps i w h p r = go p r.0 r.1
     go q (p ∷ qs) e = step p q (go p qs e.0) (e.1, e.2)
 
 -- a walk's places are the reachable ones
-pub reached_all : (j : Job) (w : Walk) → HasFound j w → AreReached j (places_of_looks w.looks.items)
-reached_all j w f = (all_found j j.limit (places_of_looks w.looks.items) f.at f.walked f.all, f.walked.only)
+pub reached_all : (j : Job) (ls : List Seen) (fs : List ℕ) → HasFound j ls fs → AreReached j (places_of_looks ls)
+reached_all j ls fs f = (all_found j j.limit (places_of_looks ls) f.at f.walked f.all, f.walked.only)
 
 -- what a walk found, as the places that were looked at
-pub reached_looks : (j : Job) (w : Walk) (ls : List Seen) → HasFound j w → ls ≡ w.looks.items → AreLooks j ls × AreReached j (places_of_looks ls)
-reached_looks j w ls f e = (subst (AreLooks j) (sym e) f.looks, subst (AreReached j) (ap places_of_looks (sym e)) (reached_all j w f))
+pub reached_looks : (j : Job) (ls some : List Seen) (fs : List ℕ) → HasFound j ls fs → some ≡ ls → AreLooks j some × AreReached j (places_of_looks some)
+reached_looks j ls some fs f e = (subst (AreLooks j) (sym e) f.looks, subst (AreReached j) (ap places_of_looks (sym e)) (reached_all j ls fs f))

@@ -1,8 +1,8 @@
 -- What the laws say of a job's verdict.
-use Rattle.std.proofs.Common.{◌≡◌, refl, subst, rules}
+use Rattle.std.proofs.Common.{◌≡◌, ℕ, List, refl, subst, rules}
+use Rattle.std.specs.BTreeMap.{BTreeMap}
 use Rattle.std.specs.BTreeMap as tree
 use Rattle.std.specs.Ordering.{nat_cmp}
-use Rattle.chan_walk.specs.declared.walk.Walk.{Walk}
 use Rattle.chan_walk.specs.declared.job.Job.{Job}
 use Rattle.chan_walk.specs.declared.verdict.Verdict.{Verdict}
 use Rattle.chan_walk.specs.declared.verdict.Verdict.TheVariants.{Yes, No}
@@ -10,10 +10,10 @@ use Rattle.chan_walk.specs.Alarm.{IsProper, NoFalseAlarm}
 use Rattle.chan_walk.specs.Answers.{HasAtMost, HasWitness, IsSound, IsSoundAmong}
 use Rattle.chan_walk.specs.Headline.{YesIsSafe, YesIsSafeAmong}
 use Rattle.chan_walk.specs.Job.{HasMask}
-use Rattle.chan_walk.specs.Look.{places_of_looks}
+use Rattle.chan_walk.specs.Look.{Seen, places_of_looks}
 use Rattle.chan_walk.specs.Marks.{ListsMarks, places_of}
 use Rattle.chan_walk.specs.Verdict.{IsVerdict}
-use Rattle.chan_walk.specs.Walk.{HasFound}
+use Rattle.chan_walk.specs.Walk.{Agrees, HasFound}
 use Rattle.chan_walk.proofs.Algorithms.InOrder.{listed_few, listed_reachable}
 
 pub covers : (j : Job) (v : Verdict) → HasMask j → YesIsSafe → IsVerdict j v → IsSound j v
@@ -31,11 +31,11 @@ only_yes j Yes h y = refl
 only_yes j (No a r) h y = absurd (y h.0.place r h.0.reached h.0.offends)
 
 -- a walk finds no more places than the job's limit
-pub at_most : (j : Job) (w : Walk) → tree.IsOrdered nat_cmp w.marks → HasFound j w → HasAtMost j j.limit
-at_most j w o f =
-    let l : ListsMarks w.marks (places_of w.marks.entries) = record { ordered = o; listed = refl } in
+pub at_most : (j : Job) (m : BTreeMap ℕ ℕ) (ls : List Seen) (fs : List ℕ) → tree.IsOrdered nat_cmp m → Agrees m (places_of_looks ls) → HasFound j ls fs → HasAtMost j j.limit
+at_most j m ls fs o agrees f =
+    let l : ListsMarks m (places_of m.entries) = record { ordered = o; listed = refl } in
     record {
-      places = places_of w.marks.entries;
-      are = listed_reachable j j.limit w.marks (places_of_looks w.looks.items) (places_of w.marks.entries) f.at l f.agrees f.walked f.all;
-      few = listed_few j j.limit w.marks (places_of_looks w.looks.items) (places_of w.marks.entries) f.at l f.agrees f.walked;
+      places = places_of m.entries;
+      are = listed_reachable j j.limit m (places_of_looks ls) (places_of m.entries) f.at l agrees f.walked f.all;
+      few = listed_few j j.limit m (places_of_looks ls) (places_of m.entries) f.at l agrees f.walked;
     }

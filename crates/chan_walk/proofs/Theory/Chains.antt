@@ -1,13 +1,11 @@
 -- Chains of CCWs that give the bytes of an argument: there is one or there is none, and there is at most one.
-use Rattle.std.proofs.Common.{◌≡◌, ℕ, zero, suc, ◌-◌, ◌<◌, ◌≤◌, true, false, List, [], ◌∷◌, ◌++◌}
-use Rattle.std.proofs.Common.{take, Option, Some, None, refl, sym, ap, ◌∙◌, subst, ◌⊎◌, inl, inr}
-use Rattle.std.proofs.Common.{arith, rules}
-use Rattle.std.specs.List.{range_with_len}
+use Rattle.std.proofs.Common.{◌≡◌, ℕ, zero, suc, ◌-◌, ◌<◌, ◌≤◌, true, false, List, [], ◌∷◌, Option}
+use Rattle.std.proofs.Common.{Some, None, refl, sym, ap, ◌∙◌, subst, ◌⊎◌, inl, inr, arith, rules}
 use Rattle.std.proofs.lemmas.Bool.{cases_lt, cases_Bool, and_from, both_ways}
 use Rattle.ccw_core.specs.Ccw.{ccw, is_transfer, is_counted, chains_data}
-use Rattle.chan_walk.specs.Onward.{onward}
-use Rattle.chan_walk.specs.Argument.{Has, is_part, Leads, AreLinked, BeginsAt, IsChain, HasArgument}
-use Rattle.chan_walk.specs.Argument.{argument_addresses, argument, joined}
+use Rattle.chan_walk.specs.Read.{onward}
+use Rattle.chan_walk.specs.Argument.{is_part, Leads, AreLinked, BeginsAt, IsChain, HasArgument}
+use Rattle.chan_walk.specs.Argument.{argument}
 
 pub part_is_no_transfer : (s : List ℕ) (a : ℕ) → is_part s a ≡ true → is_transfer (ccw s a) ≡ false
 unfolding is_part
@@ -22,17 +20,6 @@ first_is_part s a l b h = search rules
 
 pub chain_begins_with_part : (s : List ℕ) (n a : ℕ) (l : List ℕ) → IsChain s n a l → is_part s a ≡ true
 chain_begins_with_part s n a l k = first_is_part s a l k.begins k.linked
-
-first_of_range : (a n : ℕ) (ys : List ℕ) → 0 < n → Has (take 6 (range_with_len a n ++ ys)) a
-first_of_range a zero ys h = absurd (omega arith)
-first_of_range a (suc n) ys h = inl refl
-
--- the argument begins where the data of the first CCW does
-pub first_address : (s : List ℕ) (a : ℕ) (l : List ℕ) → IsChain s 6 a l → Has (argument_addresses s l) (ccw s a).address
-first_address s a [] k = elim k.begins [ ]
-first_address s a (d ∷ l) k =
-    let counts = part_counts s d (subst (λ n. is_part s n ≡ true) (sym k.begins) (chain_begins_with_part s 6 a (d ∷ l) k)) in
-    subst (λ n. Has (argument_addresses s (d ∷ l)) (ccw s n).address) k.begins (first_of_range (ccw s d).address (ccw s d).count (joined s l) counts)
 
 pub chain_tail : (s : List ℕ) (n a b d : ℕ) (l : List ℕ) → IsChain s n a (b ∷ d ∷ l) → IsChain s (n - (ccw s b).count) d (d ∷ l)
 chain_tail s n a b d l k = search rules

@@ -92,6 +92,13 @@ pub seek_sets_no_mask : (code : ℕ) → is_seek code ≡ true → sets_mask cod
 unfolding is_seek sets_mask lookup
 seek_sets_no_mask code h = unset_at (lookup code) (found_passes seeks_set_no_mask code table seeks_apart) h
 
+one_class : (o : Option Command) → class_passes class_sets_mask o ≡ true → class_passes class_recalibrates o ≡ false
+one_class o h = search rules
+
+pub mask_no_recalibrate : (code : ℕ) → sets_mask code ≡ true → recalibrates code ≡ false
+unfolding sets_mask recalibrates
+mask_no_recalibrate code h = one_class (lookup code) h
+
 -- no command of the table is a transfer
 abbrev is_no_transfer : Command → Bool
 is_no_transfer e = not (e.code % 16 == 8)

@@ -18,9 +18,8 @@ use Rattle.chan_walk.specs.Job.{storage_of, extents_of, fetch_of, store_of}
 use Rattle.chan_walk.specs.Place.{is_fresh, ccw_of}
 use Rattle.chan_walk.specs.Verdict.{IsVerdict, AreClear}
 use Rattle.chan_walk.proofs.Theory.Chains.{argument_exists, argument_unique}
-use Rattle.chan_walk.proofs.Theory.Checks.{cond_none, or_none}
+use Rattle.chan_walk.proofs.Theory.Checks.{cond_none, or_none, check_stands}
 use Rattle.ccw_core.specs.Storage.{Stands}
-use Rattle.chan_walk.proofs.Theory.Checks.{check_stands}
 
 -- where the first of two tests is true, a fault that doesn't apply says something of the second
 pub then_false : (a b : Bool) → (a && b) ≡ false → a ≡ true → b ≡ false

@@ -178,9 +178,6 @@ module _ (j k : Job) (one : AreOfOneProgram j k) where
     path_more (p ∷ []) e = e ∙ ap (λ a. transferred_to a Fresh) one.start
     path_more (q ∷ p ∷ ps) e = (path_more (p ∷ ps) e.0, clear_more p e.1, subst (Leads_on p q) (ccw_over p) e.2)
 
-pub more_is_reachable : (j k : Job) → AreOfOneProgram j k → GrantsMore j k → (p : Place) → IsReachable j p → IsReachable k p
-more_is_reachable j k one more p r = (r.0, path_more j k one more (p ∷ r.0) r.1)
-
 -- ---- where one is a yes
 
 -- where both are clear, what stores over a guarded byte under k does so under j

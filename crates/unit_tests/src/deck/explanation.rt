@@ -57,7 +57,7 @@ fn explains_job(alloc: Global, job: &Job, text: &str) -> bool {
 fn explains_survey(alloc: Global, job: &Job, survey: &Survey, text: &str) -> bool
     requires { IsSurvey job.now survey.now }
 {
-    match witness_from(alloc, job, survey) {
+    match witness_from(alloc, survey) {
         Ok(witness) => is_explained(alloc, job, survey, &witness, text),
         Err(_) => false,
     }

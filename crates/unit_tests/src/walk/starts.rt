@@ -3,7 +3,9 @@
 use crate::shared::expect;
 use crate::walk::program::{Program, Question, SEARCH_LOOP, USUAL, holds};
 use ccw_core::{Area, Storage};
-use chan_needs::{Conflict, Refusal, Remembered, Rows, Start, copy_kept, may_start, may_write};
+use chan_needs::{
+    Conflict, Remembered, Rows, Start, StartRefusal, copy_kept, may_start, may_write,
+};
 use chan_walk::Job;
 use ckd_core::{Device, FileMask};
 use std::alloc::Global;
@@ -74,16 +76,16 @@ pub(crate) fn is_answered(alloc: Global, job: &Job, right: usize, answer: Start)
 }
 
 static ANSWERS: [Start; 11] = [
-    Start::No(Refusal::OtherStart),
-    Start::No(Refusal::OtherDevice),
-    Start::No(Refusal::OtherLength),
-    Start::No(Refusal::Changed(0x800)),
-    Start::No(Refusal::Mask),
-    Start::No(Refusal::Cylinder(20)),
-    Start::No(Refusal::Fetch(0x910)),
-    Start::No(Refusal::Store(0xB00)),
-    Start::No(Refusal::Beside(1, Conflict::Stores(0xA4F))),
-    Start::No(Refusal::Beside(1, Conflict::Keeps(0x817))),
+    Start::No(StartRefusal::OtherStart),
+    Start::No(StartRefusal::OtherDevice),
+    Start::No(StartRefusal::OtherLength),
+    Start::No(StartRefusal::Changed(0x800)),
+    Start::No(StartRefusal::Mask),
+    Start::No(StartRefusal::Cylinder(20)),
+    Start::No(StartRefusal::Fetch(0x910)),
+    Start::No(StartRefusal::Store(0xB00)),
+    Start::No(StartRefusal::Beside(1, Conflict::Stores(0xA4F))),
+    Start::No(StartRefusal::Beside(1, Conflict::Keeps(0x817))),
     Start::Yes,
 ];
 

@@ -1,9 +1,13 @@
-use Rattle.std.proofs.Common.{arith, sym}
+use Rattle.std.proofs.Common.{◌≡◌, ◌+◌, ◌<◌, ◌≤◌, nat_le, sym, ◌∙◌, ◌⊎◌, inl, inr, arith}
+use Rattle.std.proofs.lemmas.Bool.{cases_lt, le-leb, lt-leb}
+use Rattle.ccw_core.specs.Areas.{covered}
 use Rattle.ccw_core.proofs.Covering.{covered-true, covered-false}
 use Rattle.ccw_core.proofs.areas.covers.Goals as goal
 
-pub returns-then-next-at : goal.returns-then-next-at
-returns-then-next-at c = sym (covered-false c.args.areas.now c.args.start c.args.len c.loop-at.at c.loop-at.invariant.from (omega arith) (c.reach-next.ensures.stops (omega arith)))
-
 pub returns : goal.returns
-returns c = sym (covered-true c.args.areas.now c.args.start c.args.len (λ b l h. c.loop-at.invariant.each b l (omega arith)))
+returns c = go (cases_lt c.gap_start.result (c.from.result + c.from-2.result))
+  where
+    go : (c.gap_start.result < c.from.result + c.from-2.result) ⊎ (c.from.result + c.from-2.result ≤ c.gap_start.result)
+        → nat_le (c.from.result + c.from-2.result) c.gap_start.result ≡ covered c.args.areas.now c.args.start c.args.len
+    go (inl lt) = lt-leb _ _ lt ∙ sym (covered-false c.args.areas.now c.args.start c.args.len c.gap_start.result (omega arith) (omega arith) (c.gap_start.ensures.out (omega arith)))
+    go (inr le) = le-leb _ _ le ∙ sym (covered-true c.args.areas.now c.args.start c.args.len (λ b l h. c.gap_start.ensures.before b (omega arith) (omega arith)))

@@ -1,16 +1,14 @@
 -- The request is what was met asks for; `show` was met with its word.
 use Rattle.std.proofs.Common.{◌∙◌, ◌≡◌, Bool, List, None, Option, Some, ap, ap₂, codes, inl, inr}
-use Rattle.std.proofs.Common.{[], IsSome, refl, rules, subst, sym, unwrap_or}
+use Rattle.std.proofs.Common.{[], IsSome, refl, rules, subst, sym, unwrap_or, Err, IfOk, Ok, Result}
 use Rattle.clap.specs.Walk.{Row, Text, first_of}
 use Rattle.clap.specs.Words.{subcommand_name_of}
 use Rattle.chan_args.specs.declared.action.Action.TheVariants as actions
-use Rattle.std.proofs.Common.{Err, IfOk, Ok, Result}
 use Rattle.chan_args.specs.CommandLine.{AsksFor, IsAllAsMet, IsKnown, MakesDeck, RunsOver}
 use Rattle.chan_args.specs.CommandLine.{name_met, action_name}
 use Rattle.chan_args.specs.ImageLine.{is_flagged}
 use Rattle.chan_args.specs.declared.command_line.Request.{Request}
-use Rattle.chan_args.specs.declared.command_line.Request.TheVariants.{Grants, Image}
-use Rattle.chan_args.specs.declared.command_line.Request.TheVariants.{Run, RunNamed}
+use Rattle.chan_args.specs.declared.command_line.Request.TheVariants.{Grants, Image, Run, RunNamed}
 use Rattle.chan_args.proofs.Names.{Action, ArgMatches, bytes_eq, files_in, found_of, option_map}
 use Rattle.chan_args.proofs.Names.{rows_of, subcommand_rows_of, true≢false}
 use Rattle.chan_args.proofs.command_line.request_of.Goals as goal

@@ -1,9 +1,7 @@
-use Rattle.std.proofs.Common.{◌≡◌, false}
+use Rattle.std.proofs.Common.{◌≡◌, false, take, true}
 use Rattle.ccw_core.specs.Areas.{lies_in}
-use Rattle.chan_areas.specs.Ranges.{IsByteOf}
-use Rattle.chan_needs.proofs.Holding.{nowhere}
-use Rattle.chan_needs.proofs.Leasts.{IsLeastOfFirst}
+use Rattle.chan_areas.specs.Merged.{IsLeastOrNone}
 use Rattle.chan_needs.proofs.least_bytes.least_beyond.Given as goal
 
 abbrev pub invariant-loop-area : goal.invariant-loop-area
-invariant-loop-area l = IsLeastOfFirst IsByteOf nowhere l.areas l.area-index (λ b. lies_in l.lent b ≡ false) l.least
+invariant-loop-area l = IsLeastOrNone (λ b. (lies_in (take l.area-index l.areas) b ≡ true) × (lies_in l.lent b ≡ false)) l.least

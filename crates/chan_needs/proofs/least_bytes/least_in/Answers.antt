@@ -1,9 +1,7 @@
 use Rattle.std.proofs.Common.{◌≡◌, ◌∙◌, None, Option, Some, false, refl, sym, ℕ}
 use Rattle.std.specs.Prelude.{is_some}
-use Rattle.chan_areas.specs.Ranges.{IsByteOf}
-use Rattle.chan_needs.specs.Remembered.{lesser_of}
-use Rattle.chan_needs.proofs.Holding.{nowhere}
-use Rattle.chan_needs.proofs.Leasts.{least_next}
+use Rattle.chan_needs.specs.LeastBytes.{lesser_of}
+use Rattle.chan_needs.proofs.Leasts.{least_area}
 use Rattle.chan_needs.proofs.least_bytes.least_in.Goals.{then-is_some, else-is_some}
 use Rattle.chan_needs.proofs.least_bytes.least_in.Goals as goal
 
@@ -21,5 +19,4 @@ loop-area-preserved c =
       | then-is_some w ↦ w.least-is ∙ w.lesser-least.ensures
       | else-is_some w ↦ w.least-is ∙ kept c.loop-area.least byte (sym c.is_some.ensures ∙ w.if-is_some.false)
     ] in
-    least_next IsByteOf nowhere c.args.areas.now c.loop-area.area-index (IsByteOf c.args.range) c.loop-area.least byte c.if-is_some.least
-    c.loop-area-test.true joined c.loop-area.invariant c.overlap-byte.ensures
+    least_area c.args.areas.now c.loop-area.area-index _ c.loop-area.least byte c.if-is_some.least c.loop-area-test.true joined c.loop-area.invariant c.overlap-byte.ensures

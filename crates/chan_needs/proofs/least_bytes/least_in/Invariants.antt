@@ -1,7 +1,7 @@
-use Rattle.chan_areas.specs.Ranges.{IsByteOf}
-use Rattle.chan_needs.proofs.Holding.{nowhere}
-use Rattle.chan_needs.proofs.Leasts.{IsLeastOfFirst}
+use Rattle.std.proofs.Common.{◌≡◌, take, true}
+use Rattle.ccw_core.specs.Areas.{lies_in}
+use Rattle.chan_areas.specs.Merged.{IsByteOf, IsLeastOrNone}
 use Rattle.chan_needs.proofs.least_bytes.least_in.Given as goal
 
 abbrev pub invariant-loop-area : goal.invariant-loop-area
-invariant-loop-area l = IsLeastOfFirst IsByteOf nowhere l.areas l.area-index (IsByteOf l.range) l.least
+invariant-loop-area l = IsLeastOrNone (λ b. (lies_in (take l.area-index l.areas) b ≡ true) × IsByteOf l.range b) l.least

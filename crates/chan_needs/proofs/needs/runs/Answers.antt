@@ -1,12 +1,16 @@
-use Rattle.std.proofs.Common.{arith}
+use Rattle.std.proofs.Common.{arith, subst, sym, ◌^◌, ◌+◌}
+use Rattle.std.specs.List.{All}
+use Rattle.chan_areas.specs.Merged.{EndsBelow}
 use Rattle.chan_areas.proofs.Searching.{merged_len}
+use Rattle.chan_needs.proofs.Holding.{nowhere}
 use Rattle.chan_needs.proofs.needs.runs.Goals as goal
 
 pub overflow_sub-last : goal.overflow_sub-last
-overflow_sub-last c = let f = merged_len c.args.cylinders.now c.loop-area.area-index (record { start = 0; len = 0 }) c.requires.merged c.loop-area-test.true in omega arith
+overflow_sub-last c = let f = merged_len c.as_slice-areas.result.now c.loop-area.area-index nowhere c.as_slice-areas.ensures.merged c.loop-area-test.true in omega arith
 
 pub overflow_cast-area : goal.overflow_cast-area
 overflow_cast-area c =
-    let e = c.requires.low c.loop-area.area-index (record { start = 0; len = 0 }) c.loop-area-test.true in
-    let f = merged_len c.args.cylinders.now c.loop-area.area-index (record { start = 0; len = 0 }) c.requires.merged c.loop-area-test.true in
+    let low = subst (All (EndsBelow (2 ^ 16 + 1))) (sym c.as_slice-areas.ensures.areas) c.requires in
+    let e = low c.loop-area.area-index nowhere c.loop-area-test.true in
+    let f = merged_len c.as_slice-areas.result.now c.loop-area.area-index nowhere c.as_slice-areas.ensures.merged c.loop-area-test.true in
     omega arith

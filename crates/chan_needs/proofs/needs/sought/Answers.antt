@@ -1,11 +1,13 @@
 use Rattle.std.proofs.Common.{◌^◌, List, take, sym, subst, arith, rules, ◌+◌}
+use Rattle.std.proofs.lemmas.Result.{IfOk-weaker}
+use Rattle.ccw_core.specs.declared.areas.Area.{Area}
 use Rattle.chan_walk.specs.declared.place.Place.{Place}
 use Rattle.chan_walk.specs.Look.{places_of_looks}
 use Rattle.chan_needs.specs.Rows.{SeeksCylinder}
 use Rattle.chan_needs.proofs.Demanding.{clear_at}
 use Rattle.chan_walk.proofs.Algorithms.Guarding.{HoldBytes, hold_more, hold_none, hold_same}
 use Rattle.chan_walk.proofs.Algorithms.Guarding.{low_none}
-use Rattle.chan_areas.proofs.Merging.{IfOk-two, merged_low}
+use Rattle.chan_areas.proofs.Merging.{exactly_low}
 use Rattle.chan_walk.proofs.Algorithms.Looking.{look_of, places_next, places_taken}
 use Rattle.chan_needs.proofs.Seeking.{sought_all}
 use Rattle.chan_needs.proofs.needs.sought.Goals as goal
@@ -27,19 +29,19 @@ loop-look-preserved c =
           (hold_more (SeeksCylinder j) (places_of_looks (take i ls)) l.place c.loop-look.cylinders.items c.add_cylinder.new.cylinders.items (c.loop-look.invariant.bytes j are) (c.in_ok-add_cylinder.ensures.cylinder j h f));
     }
 
-pub merge-requires : goal.merge-requires
-merge-requires c k d l = let e = c.loop-look.invariant.low k d l in omega arith
+pub new-requires : goal.new-requires
+new-requires c k d l = let e = c.loop-look.invariant.low k d l in omega arith
 
 pub returns-clause-low : goal.returns-clause-low
-returns-clause-low c = IfOk-two c.merge.result _ _ _ (λ v m h. merged_low (2 ^ 16 + 1) v.items c.loop-look.cylinders.items m h c.loop-look.invariant.low) c.merge.ensures.merged c.merge.ensures.bytes
+returns-clause-low c = IfOk-weaker c.new.result _ _ (λ (m : List Area) h. exactly_low (2 ^ 16 + 1) c.loop-look.cylinders.items m h c.loop-look.invariant.low) c.new.ensures
 
 pub returns-clause-cylinders : goal.returns-clause-cylinders
 returns-clause-cylinders c =
     let ls = c.args.looks.now in
-    IfOk-two c.merge.result _ _ _
-    (λ v m h j are. record {
-      merged = m;
-      bytes = sought_all j (places_of_looks ls) v.items are.reached
-          (hold_same (SeeksCylinder j) _ (places_of_looks ls) c.loop-look.cylinders.items v.items (places_taken ls c.loop-look.look-index (omega arith)) (c.loop-look.invariant.bytes j are) h);
+    IfOk-weaker c.new.result _ _
+    (λ (m : List Area) h j are. record {
+      merged = h.merged;
+      bytes = sought_all j (places_of_looks ls) m are.reached
+          (hold_same (SeeksCylinder j) _ (places_of_looks ls) c.loop-look.cylinders.items m (places_taken ls c.loop-look.look-index (omega arith)) (c.loop-look.invariant.bytes j are) h);
     })
-    c.merge.ensures.merged c.merge.ensures.bytes
+    c.new.ensures

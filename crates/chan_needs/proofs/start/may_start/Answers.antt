@@ -1,8 +1,6 @@
-use Rattle.std.proofs.Common.{◌≡◌, true, subst, rules}
-use Rattle.ckd_core.specs.Extents.{AreExtents}
-use Rattle.ckd_core.specs.Mask.{is_mask}
+use Rattle.std.proofs.Common.{rules}
 use Rattle.chan_walk.specs.Job.{storage_of}
-use Rattle.chan_needs.specs.Remembered.{IsFit}
+use Rattle.chan_needs.specs.Start.{IsFit}
 use Rattle.chan_needs.proofs.Kept.{never_changed}
 use Rattle.chan_needs.proofs.Remembering.{starts_well}
 use Rattle.chan_needs.proofs.start.may_start.Goals as goal
@@ -17,7 +15,5 @@ returns-in-Some-first_changed-clause-exact c =
 pub returns-in-None-clause-well : goal.returns-in-None-clause-well
 returns-in-None-clause-well c =
     let j = c.args.job.now in
-    let extents = subst AreExtents c.pairs-extents.ensures.value c.pairs-extents.ensures.right in
-    let mask = subst (λ n. is_mask n ≡ true) c.byte-mask.ensures.value c.byte-mask.ensures.mask in
     let fit : IsFit j c.args.program.now c.args.in_flight.now = search rules in
-    λ e. starts_well j c.args.program.now c.args.in_flight.now (extents, j.storage.fits, mask) fit
+    λ e. starts_well j c.args.program.now c.args.in_flight.now c.show_proper.ensures fit

@@ -1,5 +1,5 @@
 use Rattle.std.specs.List.{AllWithin}
-use Rattle.chan_needs.specs.Remembered.{IsBeside}
+use Rattle.chan_needs.specs.Start.{IsBeside}
 use Rattle.chan_needs.proofs.start.not_beside.Given as goal
 
 abbrev pub invariant-loop-i : goal.invariant-loop-i

@@ -13,11 +13,11 @@ needs_text-requires c =
 
 pub returns-in_ok-why_text-in-No : goal.returns-in_ok-why_text-in-No
 returns-in_ok-why_text-in-No c =
-    let no : first_verdict c.args.survey.now.offences.items ≡ No c.in-No.address c.in-No.reason = sym c.verdict.ensures ∙ c.in-No.is in
+    let no : first_verdict c.args.survey.now.offences ≡ No c.in-No.address c.in-No.reason = sym c.verdict.ensures ∙ c.in-No.is in
     let bytes : c.into_bytes.result.items ≡ string_bytes c.in_ok-why_text-in-No.field-0 = ap (λ v. vec_items v) c.into_bytes.ensures.value in
     rw (no, bytes) (rw no at c.in_ok-why_text-in-No.ensures)
 
 pub returns-in_ok-needs-in-Yes : goal.returns-in_ok-needs-in-Yes
 returns-in_ok-needs-in-Yes c =
-    let yes : first_verdict c.args.survey.now.offences.items ≡ Yes = sym c.verdict.ensures ∙ c.in-Yes.is in
+    let yes : first_verdict c.args.survey.now.offences ≡ Yes = sym c.verdict.ensures ∙ c.in-Yes.is in
     rw yes (IfOk-weaker c.needs_text.result _ _ (λ text is. (listed c.in_ok-needs-in-Yes.needs, c.in_ok-needs-in-Yes.ensures, is)) c.needs_text.ensures)

@@ -1,16 +1,10 @@
 use Rattle.std.proofs.Common.{sym, subst, ◌∙◌}
 use Rattle.ccw_core.specs.Held.{bytes_held}
 use Rattle.chan_walk.specs.Argument.{HasArgument}
-use Rattle.chan_walk.proofs.Algorithms.Following.{begins_nowhere, found_or_none}
+use Rattle.chan_walk.proofs.Algorithms.Following.{begins_nowhere}
 use Rattle.chan_walk.proofs.argument.seek_argument.Goals as goal
 
 pub returns-in_err-ccw : goal.returns-in_err-ccw
 returns-in_err-ccw c =
     let s = bytes_held c.args.storage.now in
     subst (HasArgument s c.args.address) (sym c.from_residual.ensures) (begins_nowhere s 6 c.args.address (sym c.ccw_at.ensures ∙ c.in_err-ccw.was))
-
-pub returns : goal.returns
-returns c =
-    let s = bytes_held c.args.storage.now in
-    c.bytes_at.ensures c.args.address
-    (found_or_none s c.args.address c.argument_addresses.result c.ok.result c.ok.ensures.value c.argument_addresses.ensures.six c.argument_addresses.ensures.none)

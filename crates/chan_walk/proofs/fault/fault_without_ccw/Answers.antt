@@ -1,8 +1,10 @@
+use Rattle.std.proofs.Common.{refl, arith}
+use Rattle.chan_walk.specs.Job.{storage_of}
 use Rattle.chan_walk.proofs.Theory.CheckCases.{check-misaligned, check-outside}
 use Rattle.chan_walk.proofs.fault.fault_without_ccw.Goals as goal
 
-pub returns-then-place-eq0 : goal.returns-then-place-eq0
-returns-then-place-eq0 c s none = check-outside s c.args.place c.if-place-eq0.true none
+pub returns-then-address-ne0 : goal.returns-then-address-ne0
+returns-then-address-ne0 c = (check-misaligned (storage_of c.args.job.now) c.args.place c.if-address-ne0.true, refl)
 
-pub returns-else-place-eq0 : goal.returns-else-place-eq0
-returns-else-place-eq0 c s none = check-misaligned s c.args.place c.if-place-eq0.false
+pub returns : goal.returns
+returns c = (check-outside (storage_of c.args.job.now) c.args.place (omega (arith, c.if-address-ne0.false)) c.requires, (refl, c.len.ensures.value))

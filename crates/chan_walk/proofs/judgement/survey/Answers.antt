@@ -1,6 +1,3 @@
-use Rattle.std.proofs.Common.{◌≡◌, true, subst}
-use Rattle.ckd_core.specs.Extents.{AreExtents}
-use Rattle.ckd_core.specs.Mask.{is_mask}
 use Rattle.chan_walk.specs.Offence.{first_verdict}
 use Rattle.chan_walk.proofs.Machine.Answering.{at_most, covers, covers_among, only_yes, shown}
 use Rattle.chan_walk.proofs.Algorithms.Walking.{reached_looks}
@@ -8,25 +5,23 @@ use Rattle.chan_walk.proofs.judgement.survey.Goals as goal
 
 pub of-requires : goal.of-requires
 of-requires c =
-    let r = reached_looks c.args.job.now c.in_ok-walk.walk c.as_slice.result.now c.in_ok-walk.ensures.found c.as_slice.ensures.value in
+    let r = reached_looks c.args.job.now c.in_ok-walk.walk.looks.items c.as_slice.result.now c.in_ok-walk.walk.found_from.items c.in_ok-walk.ensures.found c.as_slice.ensures.value in
     (c.args.job.now, r.0)
 
 pub offences_of-requires-clause-looks : goal.offences_of-requires-clause-looks
 offences_of-requires-clause-looks c =
-    let a = reached_looks c.args.job.now c.in_ok-walk.walk c.as_slice.result.now c.in_ok-walk.ensures.found c.as_slice.ensures.value in
-    let r = reached_looks c.args.job.now c.in_ok-walk.walk c.as_slice-2.result.now c.in_ok-walk.ensures.found c.as_slice-2.ensures.value in
+    let a = reached_looks c.args.job.now c.in_ok-walk.walk.looks.items c.as_slice.result.now c.in_ok-walk.walk.found_from.items c.in_ok-walk.ensures.found c.as_slice.ensures.value in
+    let r = reached_looks c.args.job.now c.in_ok-walk.walk.looks.items c.as_slice-2.result.now c.in_ok-walk.walk.found_from.items c.in_ok-walk.ensures.found c.as_slice-2.ensures.value in
     (c.args.job.now, r.0, r.1, c.in_ok-guard.ensures c.args.job.now a.0 a.1)
 
 pub returns-clause-survey : goal.returns-clause-survey
 returns-clause-survey c =
     let j = c.args.job.now in
-    let a = reached_looks j c.in_ok-walk.walk c.as_slice.result.now c.in_ok-walk.ensures.found c.as_slice.ensures.value in
-    let r = reached_looks j c.in_ok-walk.walk c.as_slice-2.result.now c.in_ok-walk.ensures.found c.as_slice-2.ensures.value in
+    let a = reached_looks j c.in_ok-walk.walk.looks.items c.as_slice.result.now c.in_ok-walk.walk.found_from.items c.in_ok-walk.ensures.found c.as_slice.ensures.value in
+    let r = reached_looks j c.in_ok-walk.walk.looks.items c.as_slice-2.result.now c.in_ok-walk.walk.found_from.items c.in_ok-walk.ensures.found c.as_slice-2.ensures.value in
     let guards = c.in_ok-guard.ensures j a.0 a.1 in
-    let extents = subst AreExtents c.pairs-extents.ensures.value c.pairs-extents.ensures.right in
-    let mask = subst (λ n. is_mask n ≡ true) c.byte-mask.ensures.value c.byte-mask.ensures.mask in
     record {
-      proper = (extents, j.storage.fits, mask);
+      proper = c.show_proper.ensures;
       found = c.in_ok-walk.ensures.found;
       guard = guards;
       offences = c.in_ok-offences.ensures j r.0 r.1 guards;
@@ -43,5 +38,5 @@ returns-clause-answer c =
       exact = (covers j v s.proper.2 c.yes_is_safe.ensures is, λ h. only_yes j v is (c.safe_is_yes.ensures j s.proper h.0 h.1));
       among = covers_among j v s.proper.2 c.yes_is_safe_among.ensures is;
       witness = shown j v s.proper c.no_false_alarm.ensures is;
-      few = at_most j c.in_ok-walk.walk c.iter-marks.ensures.ordered c.in_ok-walk.ensures.found;
+      few = at_most j c.in_ok-walk.walk.marks c.in_ok-walk.walk.looks.items c.in_ok-walk.walk.found_from.items c.iter-marks.ensures.ordered c.in_ok-walk.ensures.agrees c.in_ok-walk.ensures.found;
     }

@@ -1,14 +1,14 @@
 use Rattle.std.proofs.Common.{◌≡◌, ◌∙◌, ◌++◌, ◌^◌, List, ap, rules, subst, sym}
 use Rattle.std.specs.List.{All}
+use Rattle.std.proofs.lemmas.Result.{IfOk-weaker}
 use Rattle.std.proofs.lemmas.List.Elements.{All-append}
 use Rattle.ccw_core.specs.declared.areas.Area.{Area}
-use Rattle.chan_areas.specs.Ranges.{EndsBelow}
-use Rattle.chan_areas.proofs.Merging.{IfOk-two}
+use Rattle.chan_areas.specs.Merged.{EndsBelow}
 use Rattle.chan_areas.proofs.Merging.{merged_both}
 use Rattle.chan_walk.proofs.moved.kept.Goals as goal
 
-pub merge-requires : goal.merge-requires
-merge-requires c =
+pub new-requires : goal.new-requires
+new-requires c =
     let ccws = c.ccw_ranges.result.now in
     let arguments = c.argument_ranges.result.now in
     let first : c.extend_from_slice.new.self.items ≡ ccws = c.in_ok-extend_from_slice.ensures.items ∙ ap (λ (xs : List Area). xs ++ ccws) c.new-areas.ensures.items in
@@ -17,6 +17,5 @@ merge-requires c =
 
 pub returns : goal.returns
 returns c =
-    IfOk-two c.merge.result _ _ _
-    (λ v m h j guards. record { merged = m; bytes = merged_both c.args.guard.now.ccws c.args.guard.now.arguments v.items (search (h, rules)) guards.ccws guards.arguments })
-    c.merge.ensures.merged c.merge.ensures.bytes
+    let g = c.args.guard.now in
+    IfOk-weaker c.new.result _ _ (λ (m : List Area) h j guards. merged_both g.ccws g.arguments _ m (search rules) h guards.ccws guards.arguments) c.new.ensures

@@ -1,10 +1,23 @@
-use Rattle.std.proofs.Common.{refl, ◌∙◌, rules}
+use Rattle.std.proofs.Common.{◌++◌, [], ◌∷◌, None, refl, sym, ap, ◌∙◌, subst}
+use Rattle.chan_walk.specs.declared.place.Place.{Place}
+use Rattle.chan_walk.specs.declared.reason.Reason.{Reason}
+use Rattle.chan_walk.specs.Evidence.{IsOwnFault, reason_of}
 use Rattle.chan_walk.proofs.Algorithms.Listing.{added_fault, offence, unadded_fault}
+use Rattle.chan_walk.proofs.Algorithms.Looking.{none_shown, own_clear, own_faulty}
 use Rattle.chan_walk.proofs.offence.add_fault.Goals as goal
 
 pub returns-in_ok-push : goal.returns-in_ok-push
-returns-in_ok-push c j look = search (rules, added_fault, offence)
+returns-in_ok-push c j look =
+    let l = c.args.look.now in
+    let old = c.args.faults.now.items in
+    let own = subst (IsOwnFault j l.place) (sym c.fault.ensures ∙ c.in-Some.is) look.fault in
+    added_fault j l.place (reason_of c.in-Some.evidence) old c.push.new.self.items
+    (c.in_ok-push.ensures.items ∙ ap (λ (p : Place). old ++ offence p c.reason.result ∷ []) c.place.ensures ∙ ap (λ (r : Reason). old ++ offence l.place r ∷ []) c.reason.ensures)
+    (own_faulty j l.place c.in-Some.evidence own).0
 
 pub returns-in_default : goal.returns-in_default
 returns-in_default c j look =
-    unadded_fault j c.args.look.now.place c.args.faults.now.items c.args.faults.now.items refl c.args.look.now.fault (λ r e. c.in_default.not-Some r (c.fault.ensures ∙ e)) look.fault
+    let l = c.args.look.now in
+    let none = none_shown c.fault.result c.in_default.not-Some in
+    let clear = own_clear j l.place (subst (IsOwnFault j l.place) (sym c.fault.ensures ∙ none) look.fault) in
+    unadded_fault j l.place c.args.faults.now.items c.args.faults.now.items refl None (λ r e. cc) clear

@@ -1,7 +1,7 @@
 use Rattle.std.proofs.Common.{take}
 use Rattle.chan_walk.specs.declared.job.Job.{Job}
 use Rattle.chan_walk.specs.Guard.{Guards}
-use Rattle.chan_walk.specs.Least.{AreReached}
+use Rattle.chan_walk.specs.Places.{AreReached}
 use Rattle.chan_walk.specs.Look.{AreLooks, places_of_looks}
 use Rattle.chan_walk.specs.Offence.{HasOffences}
 use Rattle.chan_walk.specs.Verdict.{AreClear, Changes}

@@ -1,6 +1,6 @@
 use Rattle.std.proofs.Common.{◌<◌, List, length, take, sym, subst, arith}
 use Rattle.chan_walk.specs.declared.place.Place.{Place}
-use Rattle.chan_walk.specs.Least.{IsOwn}
+use Rattle.chan_walk.specs.Offence.{IsOwn}
 use Rattle.chan_walk.specs.Look.{places_of_looks}
 use Rattle.chan_walk.specs.Offence.{HasOffences}
 use Rattle.chan_walk.proofs.Algorithms.Listing.{new_place, offences_more}

@@ -55,4 +55,4 @@ loop-at-preserved c = record {
 pub returns-clause-found : goal.returns-clause-found
 returns-clause-found c =
     let i = c.loop-at.invariant in
-    record { looks = i.looks; agrees = i.agrees; at = c.loop-at.at; walked = i.walked; all = omega (arith, number_of_places c.loop-at.walk.looks.items, c.loop-at.walk.looks.ok.0); traced = i.traced }
+    record { looks = i.looks; at = c.loop-at.at; walked = i.walked; all = omega (arith, number_of_places c.loop-at.walk.looks.items, c.loop-at.walk.looks.ok.0); traced = i.traced }

@@ -1,4 +1,5 @@
 use Rattle.std.proofs.Common.{◌+◌, ◌≤◌, List, ℕ, length, subst, arith}
+use Rattle.chan_walk.specs.Look.{argument_seen}
 use Rattle.chan_why.specs.Finder.{IsIndex, TakesByte, TakesSoFar}
 use Rattle.chan_why.proofs.Indexing.{byte_more, bytes_all, bytes_begin, note_more, same_keys}
 use Rattle.chan_why.proofs.finder.note_bytes.Goals as goal
@@ -20,6 +21,6 @@ returns c =
     let l = c.index-looks-at.result in
     let xs = c.argument-byte-items.result.now in
     let whole : length xs ≤ c.loop-byte.byte-index = omega arith in
-    same_keys (TakesSoFar ls c.args.at l.argument c.loop-byte.byte-index) (TakesByte ls (c.args.at + 1)) c.loop-byte.first
+    same_keys (TakesSoFar ls c.args.at (argument_seen l) c.loop-byte.byte-index) (TakesByte ls (c.args.at + 1)) c.loop-byte.first
     (bytes_all ls c.args.at l c.requires.within c.index-looks-at.is c.loop-byte.byte-index (subst (λ (ys : List ℕ). length ys ≤ c.loop-byte.byte-index) c.argument-byte-items.ensures whole))
     (subst (λ (ys : List ℕ). IsIndex (TakesSoFar ls c.args.at ys c.loop-byte.byte-index) c.loop-byte.first) c.argument-byte-items.ensures c.loop-byte.invariant)

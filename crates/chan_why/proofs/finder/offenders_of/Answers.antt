@@ -1,7 +1,7 @@
 use Rattle.std.proofs.Common.{◌≡◌, ◌+◌, length, get_or, refl, sym, ap, ◌∙◌, subst, arith}
 use Rattle.std.specs.Ordering.{nat_cmp}
 use Rattle.std.specs.BTreeMap as tree
-use Rattle.chan_areas.specs.Ranges.{IsLeastOrNone}
+use Rattle.chan_areas.specs.Merged.{IsLeastOrNone}
 use Rattle.chan_walk.specs.Places.{place_number}
 use Rattle.chan_why.specs.Finder.{IsAtPlace, IsIndex, IsOfKind}
 use Rattle.chan_why.proofs.Indexing.{kind_more, note_more, some_place}

@@ -1,5 +1,5 @@
 use Rattle.std.proofs.Common.{sym, subst}
-use Rattle.chan_why.specs.declared.evidence.Evidence.{Evidence}
+use Rattle.chan_walk.specs.declared.evidence.Evidence.{Evidence}
 use Rattle.chan_why.specs.SecondPath.{IsSecondPathEnd}
 use Rattle.chan_walk.specs.Look.{places_of_looks}
 use Rattle.chan_why.proofs.Indexing.{taker_found}

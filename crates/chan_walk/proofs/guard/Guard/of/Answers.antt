@@ -42,7 +42,7 @@ returns c j are reached =
     let all : places_of_looks (take c.loop-look.look-index ls) ≡ places_of_looks ls = places_taken ls c.loop-look.look-index (omega arith) in
     record {
       ccws_merged = c.in_ok-ccws.ensures.merged;
-      ccws = ccw_bytes j (places_of_looks ls) c.in_ok-ccws.ccws.items reached (hold_same (IsCcwByteOf j) _ _ c.loop-look.ccws.items c.in_ok-ccws.ccws.items all (c.loop-look.invariant.ccws j are) c.in_ok-ccws.ensures.bytes);
+      ccws = ccw_bytes j (places_of_looks ls) c.in_ok-ccws.ccws reached (hold_same (IsCcwByteOf j) _ _ c.loop-look.ccws.items c.in_ok-ccws.ccws all (c.loop-look.invariant.ccws j are) c.in_ok-ccws.ensures);
       arguments_merged = c.in_ok-arguments.ensures.merged;
-      arguments = argument_bytes j (places_of_looks ls) c.in_ok-arguments.arguments.items reached (hold_same (IsArgumentByteOf j) _ _ c.loop-look.arguments.items c.in_ok-arguments.arguments.items all (c.loop-look.invariant.arguments j are) c.in_ok-arguments.ensures.bytes);
+      arguments = argument_bytes j (places_of_looks ls) c.in_ok-arguments.arguments reached (hold_same (IsArgumentByteOf j) _ _ c.loop-look.arguments.items c.in_ok-arguments.arguments all (c.loop-look.invariant.arguments j are) c.in_ok-arguments.ensures);
     }

@@ -3,7 +3,7 @@ use Rattle.std.specs.List.{All}
 use Rattle.chan_walk.specs.declared.job.Job.{Job}
 use Rattle.chan_walk.specs.Guard.{IsCcwByteOf, IsArgumentByteOf}
 use Rattle.chan_walk.specs.Look.{AreLooks, places_of_looks}
-use Rattle.chan_areas.specs.Ranges.{EndsBelow}
+use Rattle.chan_areas.specs.Merged.{EndsBelow}
 use Rattle.chan_walk.proofs.Algorithms.Guarding.{HoldBytes}
 use Rattle.chan_walk.proofs.guard.Guard.of.Given as goal
 

@@ -1,18 +1,21 @@
+use Rattle.std.proofs.Common.{sym, subst}
+use Rattle.chan_walk.specs.JobSurvey.{IsSurvey}
 use Rattle.chan_walk.proofs.Algorithms.Looking.{moved_places}
 use Rattle.chan_walk.proofs.Algorithms.Walking.{reached_all}
 use Rattle.chan_walk.proofs.job_survey.Survey.into_parts.Goals as goal
 
 pub in_order-requires : goal.in_order-requires
-in_order-requires c = c.requires.1.found.walked.apart
+in_order-requires c = (subst (IsSurvey c.requires.0) (sym c.self.view_is) c.requires.1).found.walked.apart
 
 pub returns-clause-looks : goal.returns-clause-looks
-returns-clause-looks c j s l h = s.found.looks l ((c.in_order.ensures.same l).0 h)
+returns-clause-looks c j s l h = (subst (IsSurvey j) (sym c.self.view_is) s).found.looks l ((c.in_order.ensures.same l).0 h)
 
 pub returns-clause-places : goal.returns-clause-places
 returns-clause-places c j s =
-    let ls = c.args.self.walk.looks.items in
+    let ls = c.self.inside.looks.items in
     let ms = c.in_order.result.items in
-    let reached = reached_all j c.args.self.walk s.found in
+    let found = (subst (IsSurvey j) (sym c.self.view_is) s).found in
+    let reached = reached_all j ls c.self.inside.found_from.items found in
     record {
       ordered = c.in_order.ensures.ordered;
       each = λ p r. moved_places ls ms p (λ l h. (c.in_order.ensures.same l).1 h) (reached.0 p r);

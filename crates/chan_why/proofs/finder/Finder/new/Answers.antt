@@ -1,12 +1,18 @@
 use Rattle.std.proofs.Common.{List, sym, subst}
+use Rattle.chan_walk.specs.declared.offence.Offence.{Offence}
 use Rattle.chan_walk.specs.Argument.{Has}
 use Rattle.chan_walk.specs.Look.{Seen, places_of_looks}
-use Rattle.chan_walk.proofs.Algorithms.Walking.{all_found}
+use Rattle.chan_walk.specs.Places.{AreDistinct}
+use Rattle.chan_walk.proofs.Algorithms.Walking.{reached_all}
 use Rattle.chan_why.proofs.finder.Finder.new.Goals as goal
 
 pub offenders_of-requires-clause-seen : goal.offenders_of-requires-clause-seen
 offenders_of-requires-clause-seen c o listed =
-    let f = c.requires.found in
-    let reached = (c.requires.offences.only o listed).0 in
-    subst (λ (ls : List Seen). Has (places_of_looks ls) o.place) (sym c.as_slice-looks.ensures.value)
-    (all_found c.args.job.now c.args.job.now.limit (places_of_looks c.args.walk.now.looks.items) f.at f.walked f.all o.place reached)
+    let j = c.requires.0 in
+    let s = c.requires.1 in
+    let of_job = subst (λ (os : List Offence). Has os o) c.offences.ensures listed in
+    subst (λ (ls : List Seen). Has (places_of_looks ls) o.place) (sym c.looks-2.ensures)
+    ((reached_all j c.args.survey.now.looks c.args.survey.now.found_from s.found).0 o.place (s.offences.only o of_job).0)
+
+pub offenders_of-requires-clause-apart : goal.offenders_of-requires-clause-apart
+offenders_of-requires-clause-apart c = subst (λ (ls : List Seen). AreDistinct (places_of_looks ls)) (sym c.looks-2.ensures) c.requires.1.found.walked.apart

@@ -1,6 +1,4 @@
-use Rattle.std.proofs.Common.{◌≡◌, inl, inr, map, subst, true}
-use Rattle.ckd_core.specs.Extents.{AreExtents}
-use Rattle.ckd_core.specs.Mask.{is_mask}
+use Rattle.std.proofs.Common.{inl, inr, map}
 use Rattle.chan_needs.proofs.Remembering.{starts_well}
 use Rattle.chanv_c.specs.Start.{as_in_flight}
 use Rattle.chanv_c.proofs.Beginnings.{fit_beside}
@@ -20,8 +18,6 @@ pub returns-in-None-clause-answer : goal.returns-in-None-clause-answer
 returns-in-None-clause-answer c =
     let j = c.args.job.now in
     let fs = c.args.self.now.in_flight.now in
-    let extents = subst AreExtents c.pairs-extents.ensures.value c.pairs-extents.ensures.right in
-    let mask = subst (λ n. is_mask n ≡ true) c.byte-mask.ensures.value c.byte-mask.ensures.mask in
     let (q, is_so, fit) = rw c.in-Ok-Yes.field-0-is at c.in-Ok-Yes.ensures in
     let apart = rw c.or_empty.ensures at c.in-None.ensures in
     let beside = fit_beside j c.args.self.now.program.now q fs is_so fit apart in
@@ -36,7 +32,7 @@ returns-in-None-clause-answer c =
         asked = c.requires.asked;
         remembered = q;
         is_so = is_so;
-        well = starts_well j q (map as_in_flight fs) (extents, j.storage.fits, mask) beside;
+        well = starts_well j q (map as_in_flight fs) c.show_proper.ensures beside;
       };
     }
 

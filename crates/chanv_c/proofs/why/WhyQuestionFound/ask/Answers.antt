@@ -5,17 +5,21 @@ use Rattle.chan_walk.specs.Answers.{IsAnswer}
 use Rattle.chan_why.specs.Witness.{IsEvidenceOf, IsPathOf, IsWitness}
 use Rattle.chanv_c.proofs.why.WhyQuestionFound.ask.Goals as goal
 
+pub witness_from-requires : goal.witness_from-requires
+witness_from-requires c = (c.args.job.now, c.in-Ok.ensures.survey)
+
 pub returns-in-Ok-witness_from-clause-answer : goal.returns-in-Ok-witness_from-clause-answer
 returns-in-Ok-witness_from-clause-answer c =
     let j = c.args.job.now in
     let w = c.in-Ok-witness_from.witness in
+    let s = c.in-Ok.ensures.survey in
     let same = sym c.verdict.ensures in
     record {
       job = j;
       asked = c.requires.asked;
       answer = subst (λ (v : Verdict). IsAnswer j v) same c.in-Ok.ensures.answer;
-      path = subst (λ (v : Verdict). IsPathOf j v w.path.items) same c.in-Ok-witness_from.ensures.path;
-      shown = subst (λ (v : Verdict). IsWitness j v w.path.items) same c.in-Ok-witness_from.ensures.shown;
-      evidence = subst (λ (v : Verdict). IsEvidenceOf j v w.path.items w.evidence) same c.in-Ok-witness_from.ensures.evidence;
-      second = c.in-Ok-witness_from.ensures.second;
+      path = subst (λ (v : Verdict). IsPathOf j v w.path.items) same (c.in-Ok-witness_from.ensures.path j s);
+      shown = subst (λ (v : Verdict). IsWitness j v w.path.items) same (c.in-Ok-witness_from.ensures.shown j s);
+      evidence = subst (λ (v : Verdict). IsEvidenceOf j v w.path.items w.evidence) same (c.in-Ok-witness_from.ensures.evidence j s);
+      second = c.in-Ok-witness_from.ensures.second j s;
     }

@@ -1,0 +1,24 @@
+use Rattle.std.proofs.Common.{sym, subst}
+use Rattle.chan_areas.specs.Merged.{AreExactly}
+use Rattle.chan_walk.specs.Guard.{GuardAreas, Guards}
+use Rattle.chan_walk.specs.Guarded.{IsGuarded}
+use Rattle.chan_walk.specs.Moved.{IsFetchedFrom, IsStoredInto}
+use Rattle.chan_walk.proofs.Algorithms.Listing.{first_is_verdict}
+use Rattle.chan_needs.proofs.Needed.{are_needs, survey_looks}
+use Rattle.chan_needs.proofs.needs.needs_from.Goals as goal
+
+pub returns : goal.returns
+returns c j one =
+    let k = c.args.job.now in
+    let looks = c.looks-looks.result.now in
+    let are = survey_looks k c.args.survey.now looks c.requires.survey c.requires.yes first_is_verdict c.looks-looks.ensures in
+    are_needs j k looks _ c.in_ok-sought.sought one are
+    (record {
+      storage_len = c.len.ensures.value;
+      mask = c.needed_mask.ensures k are;
+      sought = c.in_ok-sought.ensures.cylinders k are;
+      runs = c.in_ok-runs.ensures;
+      fetch = subst (AreExactly (IsFetchedFrom k)) (sym c.into_areas.ensures.areas) (c.in_ok-data_moved.ensures k are.looks are.reached);
+      store = subst (AreExactly (IsStoredInto k)) (sym c.into_areas-2.ensures.areas) (c.in_ok-data_moved-2.ensures k are.looks are.reached);
+      keep = subst (AreExactly (IsGuarded k)) (sym c.into_areas-3.ensures.areas) (c.in_ok-kept.ensures k (subst (λ (g : GuardAreas). Guards k g) (sym c.guard.ensures) c.requires.survey.guard));
+    })

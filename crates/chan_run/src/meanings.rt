@@ -1,0 +1,341 @@
+//! What the words of verdicts, of refused decks and of failures mean.
+
+ghost use Rattle.std.specs.Prelude.{◌≡◌, ◌↔◌, ◌⊎◌, false, true};
+ghost use Rattle.chan_run.specs.Terms.{IsWordOf};
+ghost use Rattle.chan_run.specs.Meanings.{IsUnknown, IsWordAnswer};
+ghost use Rattle.chan_run.specs.Outcome.{IsDone, IsWriteFailure};
+ghost use Rattle.chan_run.specs.declared.outcome.Outcome.TheVariants.{Done};
+ghost use Rattle.chan_run.specs.declared.terms.Term.{Term};
+
+use crate::failure::{Failure, row};
+use crate::nearest::nearest_term;
+use crate::outcome::Outcome;
+use crate::terms::{TERMS, Term, term_of, term_word};
+use crate::texts::write_texts;
+use ccw_core::{Watched, write_out};
+use chan_deck::Cause;
+use chan_walk::Reason;
+use std::alloc::{AllocError, Global};
+use std::io::Write;
+
+const MISALIGNED: &str = "\
+The CCW's address isn't a multiple of 8, so there can be no CCW.
+Only the start or a transfer in channel leads to such an address: correct the
+one that does. `chanv why` shows how the program comes there.
+";
+
+const OUTSIDE_STORAGE: &str = "\
+The CCW's eight bytes don't lie wholly in main storage.
+If a chain goes on too far, switch off chain data and chain command in its last
+CCW. Otherwise correct the start or the transfer in channel that leads there, or
+judge a larger storage, as with the line `storage` of the deck.
+";
+
+const TRANSFER_NOT_ALLOWED: &str = "\
+The program begins with a transfer in channel, or one leads to another.
+Start at a command, and let a transfer point straight at the CCW to which the
+next transfer would lead.
+";
+
+const INVALID_CODE: &str = "\
+A new operation begins at the CCW, and the low four bits of its code are zero,
+which no command has.
+Correct the code. If the CCW should continue a data chain, switch on chain data
+in the CCW before it; if the program should end before it, switch off chain
+command in the last CCW. In a row with `invalid chained` the code doesn't count,
+because a data chain leads there. If the program reads in CCWs that it then
+runs, read them in first, and then ask: bytes that aren't there yet can't be
+judged.
+";
+
+const BAD_FORMAT: &str = "\
+One of the three low bits of the CCW's flags is on.
+Switch off the bits 07 of the CCW's byte 4: they must be zero in every CCW
+except a transfer in channel.
+";
+
+const ZERO_COUNT: &str = "\
+The CCW's count is zero.
+Set it to 1 or more. Every CCW except a transfer in channel needs that, even one
+that moves no data, such as No Operation.
+";
+
+const DATA_OUTSIDE: &str = "\
+The CCW's data address plus its count is more than the length of main storage.
+Correct one of the two, even if the CCW skips or moves no data, or judge a
+larger storage, as with the line `storage` of the deck.
+";
+
+const NOT_IN_TABLE: &str = "\
+A new operation begins at the CCW, and its code isn't in the table of commands
+that chanv knows (docs/DEVICE.md).
+Use a command of the table. If the CCW should continue a data chain, switch on
+chain data in the CCW before it.
+";
+
+const INHIBITED: &str = "\
+A new operation begins at the CCW, and the file mask inhibits its command.
+Use a command that the mask permits, or judge under the mask that the
+supervisor will have set, as with the line `mask` of the deck. A Set File Mask
+doesn't help, because the job's mask judges all commands.
+";
+
+const STORE_NOT_LENT: &str = "\
+The CCW stores, and a byte of its data range lies in no area lent for storing.
+Lend the area, as with a line `store` in the deck, or shorten the count. If you
+don't want all of a record, chain data to a CCW with the flag skip, which stores
+nothing. `chanv why` names the bytes.
+";
+
+const FETCH_NOT_LENT: &str = "\
+The CCW fetches, and a byte of its data range lies in no area lent for
+fetching. Writes fetch, but so do searches, seeks and Set File Mask.
+Lend the area, as with a line `fetch` in the deck, or shorten the count.
+`chanv why` names the bytes.
+";
+
+const SHORT_SEEK: &str = "\
+The CCW is a seek, and the data chain that begins there gives fewer than the six
+bytes of its argument.
+Set the seek's count to 6, or switch on its chain data and let the CCWs that
+follow give the rest. `chanv why` says how many bytes there are.
+";
+
+const SEEK_OUTSIDE: &str = "\
+A seek's argument has a bin other than zero, a cylinder in no extent, or a head
+that the device lacks; or no extent has cylinder 0, to which a Recalibrate goes.
+Correct the argument, which is two bytes each of bin, cylinder and head, or
+lend the cylinder, as with a line `extent` in the deck. All three seeks are
+judged by the whole argument. `chanv why` has the values.
+";
+
+const CHANGES_CCW: &str = "\
+The CCW stores, and its data range meets a CCW that the program can reach.
+Move the data, shorten the count, or use the flag skip. The whole range
+counts, however few bytes the device gives, and so does a CCW that comes
+earlier. `chanv why` names the CCW, and shows how the program comes there.
+";
+
+const CHANGES_ARGUMENT: &str = "\
+The CCW stores, and its data range meets the argument of a seek or the mask
+byte of a Set File Mask that the program can reach.
+Move the data or the argument, shorten the count, or use the flag skip. The
+whole range counts, however few bytes the device gives. `chanv why` names the
+byte.
+";
+
+const WEAKENS_MASK: &str = "\
+A Set File Mask sets a byte that isn't a file mask, or that permits what the
+job's mask inhibits.
+Set a byte that is at least as strict. From lax to strict, the bits for writes
+are C0, 00, 80 and 40, those for seeks are 00, 08, 10 and 18, and no other bit
+may be on.
+";
+
+const ENDED: &str = "\
+The deck ends before the line `end`, or that line has no line feed.
+Check that nothing was cut off: each line ends with a line feed, even the last.
+";
+
+const HEADER: &str = "\
+Line 1 is neither `chanv deck 1` nor `chanv deck 2`.
+Write one of the two, with nothing before it and only a line feed after it.
+An image of storage isn't a deck: `chanv deck` makes one from it.
+";
+
+const FORM: &str = "\
+The line has none of the forms that may come here.
+See that the lines are in order, that there is one space between two parts and
+nothing after the last, and that each number has all its digits, hexadecimal
+ones in capitals. A deck of version 2 has a line `limit`, and one of version 1
+has none. The forms are in docs/DECK.md.
+";
+
+const MASK: &str = "\
+The mask isn't a file mask: one of the bits 27 is on.
+Only the bits C0, which decide over writes, and 18, over seeks, may be on.
+";
+
+const EXTENT_BACKWARDS: &str = "\
+The extent's first cylinder is above its last.
+Write the lower number first. Both are decimal.
+";
+
+const EXTENT_PAST_DEVICE: &str = "\
+The extent's last cylinder is above 202, the last one of a 2311 and of a 2314.
+Write a number of at most 202. It is decimal.
+";
+
+const SIZE: &str = "\
+The number of bytes of storage isn't a multiple of 8, or is above 16,777,216.
+Write a multiple of 8 that is at most 1000000. It is hexadecimal.
+";
+
+const PUT_ADDRESS: &str = "\
+The put's address isn't a multiple of 8, isn't above the address of the put
+before it, or leaves storage.
+Write the puts in order of address, each of eight bytes on a multiple of 8,
+and see that the line `storage` gives as many bytes as they need.
+";
+
+const PUT_ZERO: &str = "\
+The put's eight bytes are all zero.
+Leave the line out: storage is zero wherever there is no put.
+";
+
+const AFTER: &str = "\
+Something follows the line `end`; chanv names the line after it.
+Remove everything after the line feed of `end`, even an empty line.
+";
+
+const LIMIT: &str = "\
+The limit on places is 0 or above 65,536.
+Write a number from 00001 to 65536. It is decimal. A deck of version 1 has no
+such line, and its limit is 4,096 places.
+";
+
+/// Writes the meaning of a word, and how to fix what it names.
+///
+/// The word may be in upper or lower case. If no term has it, the outcome is `Unknown` with the
+/// nearest term, or `NoSuchWord` if none is near; `OutOfMemory` may come in their place.
+/// `WriteFailed` comes exactly if a write failed, and then a prefix was written. Only `Done` and
+/// `WriteFailed` write anything.
+pub fn explain_word<W: Write>(alloc: Global, word: &str, to: &mut Watched<W>) -> Outcome
+    requires { to.old.failed ≡ false }
+    ensures answer { IsWordAnswer word.now (W.contents to.old.device) (W.contents to.new.device)
+        result }
+    ensures early { (IsDone result → ⊥) → (IsWriteFailure result → ⊥) → to.new ≡ to.old }
+    ensures write { IsWriteFailure result ↔ (to.new.failed ≡ true) }
+{
+    match term_of(word) {
+        Some(term) => Outcome::of_write(write_out(meaning(term).as_bytes(), to)),
+        None => unknown(alloc, word),
+    }
+}
+
+/// The outcome for a word that no term has.
+fn unknown(alloc: Global, word: &str) -> Outcome
+    requires { (t : Term) → ¬ IsWordOf word.now t }
+    ensures is { IsUnknown word.now result }
+    ensures other { IsWriteFailure result → ⊥ }
+    ensures undone { IsDone result → ⊥ }
+{
+    match nearest_term(alloc, &TERMS, word) {
+        Ok(Some(term)) => Outcome::Unknown(term),
+        Ok(None) => Outcome::Failed(Failure::NoSuchWord),
+        Err(AllocError) => Outcome::Failed(Failure::OutOfMemory),
+    }
+}
+
+/// Writes a line for each word, with its meaning in a few words. It takes no memory. If a write
+/// fails, it has written a prefix of the lines.
+pub fn list_words<W: Write>(to: &mut Watched<W>) -> Outcome
+    requires { to.old.failed ≡ false }
+    ensures write { IsWriteFailure result ↔ (to.new.failed ≡ true) }
+    ensures known { (result ≡ Done) ⊎ IsWriteFailure result }
+{
+    let terms: &[Term] = &TERMS;
+    for term in terms {
+        let line = [term_word(*term), ": ", brief(*term), "\n"];
+        if write_texts(&line, to).is_err() {
+            return Outcome::Failed(Failure::WriteFailed);
+        }
+    }
+    Outcome::Done
+}
+
+/// What a term is, in a few words.
+fn brief(term: Term) -> &'static str {
+    match term {
+        Term::Reason(reason) => reason_brief(reason),
+        Term::Cause(cause) => cause_brief(cause),
+        Term::Failure(failure) => row(failure).1,
+    }
+}
+
+/// What a reason is, in a few words.
+fn reason_brief(reason: Reason) -> &'static str {
+    match reason {
+        Reason::Misaligned => "a CCW at an address that isn't a multiple of 8",
+        Reason::OutsideStorage => "a CCW that doesn't lie wholly in main storage",
+        Reason::TransferNotAllowed => "a transfer in channel that comes first or after another",
+        Reason::InvalidCode => "a command code whose low four bits are zero",
+        Reason::BadFormat => "a flag that is on and must be off",
+        Reason::ZeroCount => "a count of zero",
+        Reason::DataOutside => "a data range that leaves main storage",
+        Reason::NotInTable => "a command code that chanv doesn't know",
+        Reason::Inhibited => "a command that the file mask inhibits",
+        Reason::StoreNotLent => "a store into bytes that aren't lent for storing",
+        Reason::FetchNotLent => "a fetch of bytes that aren't lent for fetching",
+        Reason::ShortSeek => "a seek without six bytes for its argument",
+        Reason::SeekOutside => "a seek outside the extents, the heads or bin 0",
+        Reason::ChangesCcw => "a store over a reachable CCW",
+        Reason::ChangesArgument => "a store over a seek's argument or a mask byte",
+        Reason::WeakensMask => "a Set File Mask to a byte that permits more or isn't a mask",
+    }
+}
+
+/// What a cause is, in a few words.
+fn cause_brief(cause: Cause) -> &'static str {
+    match cause {
+        Cause::Ended => "the deck ends before its line `end` is complete",
+        Cause::Header => "the first line isn't the header of a deck",
+        Cause::Form => "the line has none of the forms that may come here",
+        Cause::Mask => "the mask isn't a file mask",
+        Cause::ExtentBackwards => "the extent's last cylinder is below its first",
+        Cause::ExtentPastDevice => "the extent goes on past cylinder 202",
+        Cause::Size => "storage can't have this size",
+        Cause::PutAddress => "the put's address is out of order or out of storage",
+        Cause::PutZero => "the put's bytes are all zero",
+        Cause::After => "something follows the line `end`",
+        Cause::Limit => "the limit on places is 0 or above 65,536",
+    }
+}
+
+/// What a word means.
+fn meaning(term: Term) -> &'static str {
+    match term {
+        Term::Reason(reason) => reason_meaning(reason),
+        Term::Cause(cause) => cause_meaning(cause),
+        Term::Failure(failure) => row(failure).3,
+    }
+}
+
+/// What a reason means.
+fn reason_meaning(reason: Reason) -> &'static str {
+    match reason {
+        Reason::Misaligned => MISALIGNED,
+        Reason::OutsideStorage => OUTSIDE_STORAGE,
+        Reason::TransferNotAllowed => TRANSFER_NOT_ALLOWED,
+        Reason::InvalidCode => INVALID_CODE,
+        Reason::BadFormat => BAD_FORMAT,
+        Reason::ZeroCount => ZERO_COUNT,
+        Reason::DataOutside => DATA_OUTSIDE,
+        Reason::NotInTable => NOT_IN_TABLE,
+        Reason::Inhibited => INHIBITED,
+        Reason::StoreNotLent => STORE_NOT_LENT,
+        Reason::FetchNotLent => FETCH_NOT_LENT,
+        Reason::ShortSeek => SHORT_SEEK,
+        Reason::SeekOutside => SEEK_OUTSIDE,
+        Reason::ChangesCcw => CHANGES_CCW,
+        Reason::ChangesArgument => CHANGES_ARGUMENT,
+        Reason::WeakensMask => WEAKENS_MASK,
+    }
+}
+
+/// What a cause means.
+fn cause_meaning(cause: Cause) -> &'static str {
+    match cause {
+        Cause::Ended => ENDED,
+        Cause::Header => HEADER,
+        Cause::Form => FORM,
+        Cause::Mask => MASK,
+        Cause::ExtentBackwards => EXTENT_BACKWARDS,
+        Cause::ExtentPastDevice => EXTENT_PAST_DEVICE,
+        Cause::Size => SIZE,
+        Cause::PutAddress => PUT_ADDRESS,
+        Cause::PutZero => PUT_ZERO,
+        Cause::After => AFTER,
+        Cause::Limit => LIMIT,
+    }
+}

@@ -1,0 +1,10 @@
+use Rattle.std.proofs.Common.{◌≡◌, true, subst}
+use Rattle.ckd_core.specs.Extents.{AreExtents}
+use Rattle.ckd_core.specs.Mask.{is_mask}
+use Rattle.chan_walk.proofs.job.Job.show_proper.Goals as goal
+
+pub returns : goal.returns
+returns c =
+    let extents = subst AreExtents c.pairs-extents.ensures.value c.pairs-extents.ensures.right in
+    let mask = subst (λ n. is_mask n ≡ true) c.byte-mask.ensures.value c.byte-mask.ensures.mask in
+    (extents, c.args.self.now.storage.fits, mask)

@@ -1,0 +1,15 @@
+use Rattle.std.proofs.Common.{◌^◌, take}
+use Rattle.std.specs.List.{All}
+use Rattle.chan_walk.specs.declared.job.Job.{Job}
+use Rattle.chan_walk.specs.Direction.{moves_by}
+use Rattle.chan_walk.specs.Look.{AreLooks, places_of_looks}
+use Rattle.chan_areas.specs.Merged.{EndsBelow}
+use Rattle.chan_walk.proofs.Algorithms.Guarding.{HoldBytes}
+use Rattle.chan_walk.proofs.Algorithms.Moved.{HasData}
+use Rattle.chan_walk.proofs.moved.data_moved.Given as goal
+
+abbrev pub invariant-loop-look : goal.invariant-loop-look
+invariant-loop-look l = record {
+  low : All (EndsBelow (2 ^ 32)) l.ranges.items;
+  bytes : (j : Job) → AreLooks j l.looks → HoldBytes (HasData (moves_by l.direction) j) (places_of_looks (take l.look-index l.looks)) l.ranges.items;
+}

@@ -1,0 +1,7 @@
+use Rattle.std.proofs.Common.{◌≡◌, not, take}
+use Rattle.std.specs.List.{filter}
+use Rattle.chan_why.specs.Notes.{has_byte_of}
+use Rattle.chan_why.proofs.notes.unused.Given as goal
+
+abbrev pub invariant-loop-area : goal.invariant-loop-area
+invariant-loop-area l = l.unused.items ≡ filter (λ a. not (has_byte_of l.used a)) (take l.area-index l.areas)

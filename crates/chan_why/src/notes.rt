@@ -1,0 +1,222 @@
+//! The notes on a job: what is lent in vain, what flags ask for, and which kept areas the machine
+//! itself stores into.
+
+ghost use Rattle.std.specs.Prelude.{◌≡◌, ◌↔◌, ℕ, Some, true, IfOk, IsTrue, OnOk};
+ghost use Rattle.std.specs.List.{filter};
+ghost use Rattle.std.specs.List.Sorted.{IsStrictlyIncreasing};
+ghost use Rattle.ccw_core.specs.Areas.{lies_in};
+ghost use Rattle.chan_walk.specs.Argument.{Has};
+ghost use Rattle.chan_walk.specs.Fault as fault;
+ghost use Rattle.chan_walk.specs.Guard.{Guards};
+ghost use Rattle.chan_walk.specs.JobSurvey.{IsSurvey};
+ghost use Rattle.chan_walk.specs.Places.{AreReached};
+ghost use Rattle.chan_walk.specs.Look.{AreLooks, IsLook, places_of_looks};
+ghost use Rattle.chan_why.specs.Notes as noted;
+ghost use Rattle.chan_why.specs.Notes.{AddsAddress, AreAddressesOf, AreMachineStores, AreNotes};
+ghost use Rattle.chan_why.specs.Notes.{AreUnused, IsSeenWith, NothingFollows, reaches_past_storage};
+ghost use Rattle.chan_walk.specs.declared.job.Job.{Job};
+
+use bitflags::Flags;
+use ccw_core::{Area, Ccw, CcwFlags};
+use chan_areas::{Merged, end_of};
+use chan_walk::{Direction, Guard, Job, Look, Survey, data_moved, kept};
+use ckd_core::Kind;
+use std::alloc::{AllocError, Global};
+
+/// The points that a yes leaves open.
+///
+/// A reachable CCW counts, whether or not its place has an own fault: the program asks for it all
+/// the same.
+#[derive(Drop)]
+pub struct Notes {
+    /// The areas lent for fetching that end past storage, in the job's order.
+    pub fetch_past_storage: Vec<Area>,
+    /// The areas lent for storing that end past storage, in the job's order.
+    pub store_past_storage: Vec<Area>,
+    /// The areas lent for fetching from which no reachable CCW fetches a byte, in the job's order;
+    /// each empty area is one.
+    pub unused_fetch: Vec<Area>,
+    /// The areas lent for storing into which no reachable CCW stores a byte, in the job's order;
+    /// each empty area is one.
+    pub unused_store: Vec<Area>,
+    /// The addresses of the reachable CCWs, transfers apart, whose flag for a program-controlled
+    /// interruption is on; each once, rising.
+    pub interrupting: Vec<u32>,
+    /// The addresses of the reachable No Operations and Recalibrates with both chaining flags on;
+    /// each once, rising. As chain data is on, and an operation that moves no data never goes on by
+    /// it, the program ends there.
+    pub ending: Vec<u32>,
+    /// The kept areas, as the merged list of the guarded bytes has them, that have a byte of 000018
+    /// to 000047 or of 000050 to 000053; each whole, rising. The machine itself stores there,
+    /// whatever was lent: old PSWs and the CSW in the first range, the timer in the second. No
+    /// verdict takes these stores into account.
+    pub machine_stores: Vec<Area>,
+}
+
+/// The notes on a job, from its own survey. `AllocError` comes if a growth was refused.
+///
+/// With n places and a areas lent, the cost is that of sorting the places and, for each area, of a
+/// binary search.
+pub fn notes_from(alloc: Global, job: &Job, survey: &Survey) -> Result<Notes, AllocError>
+    requires { IsSurvey job.now survey.now }
+    ensures { IfOk result (AreNotes job.now) }
+{
+    let looks = survey.looks();
+    let fetched = data_moved(alloc, looks, Direction::Fetch)?;
+    let stored = data_moved(alloc, looks, Direction::Store)?;
+    Ok(Notes {
+        fetch_past_storage: past_storage(alloc, job, job.fetch)?,
+        store_past_storage: past_storage(alloc, job, job.store)?,
+        unused_fetch: unused(alloc, job.fetch, &fetched)?,
+        unused_store: unused(alloc, job.store, &stored)?,
+        interrupting: interrupting(alloc, looks)?,
+        ending: ending(alloc, looks)?,
+        machine_stores: machine_stores(alloc, survey.guard())?,
+    })
+}
+
+/// Those of some areas that end past storage.
+fn past_storage(alloc: Global, job: &Job, areas: &[Area]) -> Result<Vec<Area>, AllocError>
+    ensures { IfOk result (λ v. v.items ≡ filter (reaches_past_storage job.now) areas.now) }
+{
+    let length = u64::from(job.storage.len());
+    let mut past = Vec::new(alloc);
+    for area in areas {
+        if u64::from(area.start) + u64::from(area.len) > length {
+            past.push(*area)?;
+        }
+    }
+    Ok(past)
+}
+
+/// Those of some areas that have no byte of a merged list.
+fn unused(alloc: Global, areas: &[Area], used: &Merged) -> Result<Vec<Area>, AllocError>
+    ensures { IfOk result (λ v. AreUnused (λ b. lies_in used.now b ≡ true) areas.now v.items) }
+{
+    let mut unused = Vec::new(alloc);
+    for area in areas {
+        if !is_used(area, used) {
+            unused.push(*area)?;
+        }
+    }
+    Ok(unused)
+}
+
+/// Whether an area has a byte of a merged list.
+fn is_used(area: &Area, used: &Merged) -> bool
+    ensures { result ≡ noted.has_byte_of used.now area.now }
+{
+    used.meets(area.start, area.len)
+}
+
+/// The kept areas that have a byte into which the machine itself stores.
+fn machine_stores(alloc: Global, guard: &Guard) -> Result<Vec<Area>, AllocError>
+    ensures { IfOk result (λ v. (j : Job) → Guards j guard.now → AreMachineStores j v.items) }
+{
+    let kept = kept(alloc, guard)?;
+    let areas = kept.as_slice();
+    let mut met = Vec::new(alloc);
+    for area in areas {
+        if has_machine_byte(area) {
+            met.push(*area)?;
+        }
+    }
+    Ok(met)
+}
+
+/// Whether the machine itself stores into a byte of an area: old PSWs and the CSW at 000018 to
+/// 000047, or the timer at 000050 to 000053.
+fn has_machine_byte(area: &Area) -> bool
+    ensures { result ≡ noted.has_machine_byte area.now }
+{
+    let (start, end) = (area.start, end_of(area));
+    area.len > 0 && (start < 0x48 && 0x18 < end || start < 0x54 && 0x50 < end)
+}
+
+/// The addresses of the reachable CCWs, transfers apart, whose flag for a program-controlled
+/// interruption is on.
+#[tactic(auto, using(crate::proofs::Noted::addresses_none))]
+fn interrupting(alloc: Global, looks: &[Look]) -> Result<Vec<u32>, AllocError>
+    ensures { IfOk result (λ v. (j : Job) → AreLooks j looks.now
+        → AreReached j (places_of_looks looks.now) → AreAddressesOf noted.interrupts j v.items) }
+{
+    let mut addresses = Vec::new(alloc);
+    for look in looks {
+        add_address(&mut addresses, look, interrupts(look))?;
+    }
+    Ok(each_once(addresses))
+}
+
+/// The addresses of the reachable No Operations and Recalibrates with both chaining flags on.
+#[tactic(auto, using(crate::proofs::Noted::addresses_none))]
+fn ending(alloc: Global, looks: &[Look]) -> Result<Vec<u32>, AllocError>
+    ensures { IfOk result (λ v. (j : Job) → AreLooks j looks.now
+        → AreReached j (places_of_looks looks.now) → AreAddressesOf noted.ends_there j v.items) }
+{
+    let mut addresses = Vec::new(alloc);
+    for look in looks {
+        add_address(&mut addresses, look, ends_there(look))?;
+    }
+    Ok(each_once(addresses))
+}
+
+/// Adds the address of a place, if its CCW counts.
+fn add_address(addresses: &mut Vec<u32>, look: &Look, is_so: bool) -> Result<(), AllocError>
+    ensures { OnOk result (AddsAddress is_so look.now.place.address
+        addresses.old.items addresses.new.items) }
+{
+    if is_so {
+        addresses.push(look.place().address)?;
+    }
+    Ok(())
+}
+
+/// The same addresses, each once, rising.
+fn each_once(addresses: Vec<u32>) -> Vec<u32>
+    ensures rising { IsStrictlyIncreasing result.items }
+    ensures same { (a : ℕ) → Has result.items a ↔ Has addresses.items a }
+{
+    let mut addresses = addresses;
+    addresses.sort_unstable();
+    addresses.dedup();
+    addresses
+}
+
+/// Program-controlled interruption: the channel asks for an interruption when it takes up the CCW.
+#[tactic(auto, unfolding(crate::specs::Notes::asks_interruption))]
+fn asks_interruption(ccw: &Ccw) -> bool
+    ensures { result ≡ noted.asks_interruption ccw.now }
+{
+    ccw.flags() & CcwFlags::PCI.bits() != 0
+}
+
+/// Whether the CCW at a place is no transfer, and its flag for a program-controlled interruption is
+/// on.
+fn interrupts(look: &Look) -> bool
+    ensures { IsTrue result ↔ IsSeenWith noted.interrupts look.now }
+{
+    match look.ccw() {
+        Some(ccw) => !ccw.is_transfer() && asks_interruption(&ccw),
+        None => false,
+    }
+}
+
+/// Whether No Operation or Recalibrate begins at a place, with both chaining flags on.
+fn ends_there(look: &Look) -> bool
+    ensures { (j : Job) → IsLook j look.now
+        → IsTrue result ↔ IsSeenWith noted.ends_there look.now }
+{
+    match (look.ccw(), look.command()) {
+        (Some(ccw), Some(command)) => {
+            command.kind() == Kind::Idle && ccw.chains_data() && ccw.chains_command()
+        }
+        _ => false,
+    }
+}
+
+/// A law, like those of `laws`: where No Operation or Recalibrate begins with both chaining flags
+/// on, the program ends.
+#[tactic(auto, using(crate::proofs::Noted::nothing_follows))]
+fn nothing_follows()
+    ensures { NothingFollows }
+{}
