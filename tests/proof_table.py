@@ -9,19 +9,26 @@ tests/mutants/. A mutant fits if each of its old texts occurs once in its file, 
 some function, constant or definition. A function's mutant may also be one of a function that it
 calls. The table of laws in docs/MACHINE.md names only functions that exist, among them all of
 laws.rt. No file of mutants is left out: each belongs to a crate and names what has to refuse it.
+
+A name means one thing: no two files of specs/ define the same name, and no two public types have
+one. No two modules of a crate import each other, directly or through others.
 """
 
 import re
 import sys
+from collections import Counter
 
 sys.dont_write_bytecode = True
 
 from building import ROOT, crates, short  # noqa: E402
+from closure import Sources  # noqa: E402
 from mutants import MUTANTS, paths_of, read_mutant  # noqa: E402
 from running import text_of  # noqa: E402
 from sources import CRATES, items, uses  # noqa: E402
 
 LAWS = ROOT / "docs/MACHINE.md"
+
+TYPE = re.compile(r"(?m)^pub (?:struct|enum|trait) (\w+)")
 
 # over any type there is no other value that it could give
 HAS_NONE = "watched::Watched::into_inner"
@@ -149,8 +156,34 @@ def check_laws(checks, some):
         checks.expect_that(f"the page names the law {name}", name in names, name)
 
 
+def several(names):
+    return {name for name, count in Counter(names).items() if count > 1}
+
+
+def in_cycles(crate):
+    """The modules of a crate that come to themselves by what they import."""
+    paths = (CRATES / crate / "src").rglob("*.rt")
+    imports = {path.stem: {*re.findall(r"\bcrate::(\w+)::", text_of(path))} for path in paths}
+    come_to = {module: {*named} for module, named in imports.items()}
+    for through in imports:
+        for named in come_to.values():
+            named |= come_to[through] if through in named else set()
+    return {module for module, named in come_to.items() if module in named - {"lib", "main"}}
+
+
+def check_names(checks):
+    definitions = {*Sources().at.values()}
+    checks.expect("names of several definitions", set(), several(one.name for one in definitions))
+    sources = [path for crate in crates() for path in (CRATES / crate / "src").rglob("*.rt")]
+    types = [name for path in sources for name in TYPE.findall(text_of(path))]
+    checks.expect("names of several public types", set(), several(types))
+    for crate in crates():
+        checks.expect(f"modules of {crate} that import each other", set(), in_cycles(crate))
+
+
 def check(checks, _built):
     some = with_any()
+    check_names(checks)
     tried = [mutant.path for crate in some for mutant in crate.mutants]
     left_out = {*MUTANTS.rglob("*.*"), *CRATES.glob("*/must-fail/*")} - {*tried}
     checks.expect("files of mutants that no crate tries", set(), left_out)
