@@ -223,3 +223,9 @@ merged_both {P} {Q} xs ys all merged e h first second = record {
         ]),
       );
 }
+
+-- what becomes of a run that another area comes to
+pub ruleset run_joins = (run_stays, runs_later, run_begins, run_ends, run_grows)
+
+-- what holds before the first area, and at the end
+pub ruleset runs_begin = (runs_first, bytes_first, bytes_end)

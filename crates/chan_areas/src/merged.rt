@@ -157,7 +157,7 @@ impl Merged {
 
 /// Takes an area to the run that may still grow, and puts a run that is done to those merged. Two
 /// areas are one run where no byte lies between them.
-#[tactic(auto, using(crate::proofs::Merging::run_stays, crate::proofs::Merging::runs_later, crate::proofs::Merging::run_begins, crate::proofs::Merging::run_ends, crate::proofs::Merging::run_grows))]
+#[tactic(auto, using(crate::proofs::Merging::run_joins))]
 fn join(merged: &mut Vec<Area>, run: Area, area: Area) -> Result<Area, AllocError>
     requires runs { AreRuns merged.old.items run }
     requires order { run.start ≤ area.start }
@@ -191,7 +191,7 @@ fn join(merged: &mut Vec<Area>, run: Area, area: Area) -> Result<Area, AllocErro
 }
 
 /// The merged list of areas that are in order of start.
-#[tactic(auto, using(crate::proofs::Merging::runs_first, crate::proofs::Merging::bytes_first, crate::proofs::Merging::bytes_end))]
+#[tactic(auto, using(crate::proofs::Merging::runs_begin))]
 fn merge_sorted(alloc: Global, areas: &[Area]) -> Result<Vec<Area>, AllocError>
     requires sorted { IsNonDecreasingBy start_of areas.now }
     requires low { All (EndsBelow (2 ^ 32)) areas.now }

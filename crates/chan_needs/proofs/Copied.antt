@@ -141,3 +141,6 @@ area_read s a kept now was read fits e same i l =
       omega arith,
       sym (get_or-take a.len (drop a.start s) i 0 l ∙ get_or-drop a.start s i 0) ∙ ap (λ z. get_or z i 0) (sym read.1 ∙ same ∙ e ∙ ap (λ n. take n kept) whole) ∙ get_or-take a.len kept i 0 l,
     )
+
+-- what holds when all areas were copied
+pub ruleset copy_rules = (all_counted, all_written, all_held)

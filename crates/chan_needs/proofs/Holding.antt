@@ -60,3 +60,6 @@ share_here xs ys i m n l k a b e h =
 pub share_none : (xs ys : List Area) (i m : ℕ) → (length xs ≤ i) ⊎ (length ys ≤ m) → AreAhead xs ys (drop i xs) (drop m ys) → (b : ℕ) → IsShared xs ys b → ⊥
 share_none xs ys i m (inl l) h b s = both_ways _ (lies_in-nil b) (rw (drop_all i xs l) at (h.rests b s).0)
 share_none xs ys i m (inr l) h b s = both_ways _ (lies_in-nil b) (rw (drop_all m ys l) at (h.rests b s).1)
+
+-- what two lists, gone through side by side, have ahead
+pub ruleset ahead_rules = (ahead_first, ahead_one, share_none)

@@ -45,7 +45,7 @@ pub(crate) fn least_shared(one: &[Area], other: &[Area]) -> Option<u32>
 }
 
 /// The least byte that lies in both of two merged lists. The cost is one pass over both.
-#[tactic(auto, using(crate::proofs::Holding::ahead_first, crate::proofs::Holding::ahead_one, crate::proofs::Holding::share_none))]
+#[tactic(auto, using(crate::proofs::Holding::ahead_rules))]
 fn least_of_merged(one: &[Area], other: &[Area]) -> Option<u32>
     requires one { IsMerged one.now }
     requires other { IsMerged other.now }

@@ -50,7 +50,7 @@ pub fn may_write(in_flight: &[Remembered], area: Area) -> Option<(usize, u32)>
 /// Copies the bytes of storage in some areas into a buffer, one area after another, as `kept` wants
 /// them, and answers how many there are. `None` comes exactly if an area reaches past storage or
 /// the buffer is too small. Part of the buffer may then be overwritten. No memory is taken.
-#[tactic(auto, using(crate::proofs::Copied::all_counted, crate::proofs::Copied::all_written, crate::proofs::Copied::all_held))]
+#[tactic(auto, using(crate::proofs::Copied::copy_rules))]
 pub fn copy_kept(storage: &Storage, areas: &[Area], into: &mut [u8]) -> Option<usize>
     ensures count { IfSome result (λ n. n
         ≡ length (bytes_in (bytes_held storage.now) areas.now)) }

@@ -84,7 +84,7 @@ fn limit_or_none<'a>(text: Option<&'a str>) -> Result<Option<Limit>, OptionError
 
 /// The size of storage that its text says, where there is one.
 fn size_or_none<'a>(text: Option<&'a str>) -> Result<Option<u32>, OptionError<'a>>
-    ensures gives { HoldsReading (λ size. size) (read_if size_in options.Storage text.entry) result }
+    ensures gives { HoldsReading (λ n. n) (read_if size_in options.Storage text.entry) result }
     ensures fits { IfOk result (λ size. IsSize (unwrap_or size 0)) }
 {
     match text {

@@ -17,8 +17,8 @@ use chan_walk::{Look, Offence, Survey};
 use std::alloc::{AllocError, Global};
 use std::collections::BTreeMap;
 
-/// What the causes of a job's offences are found with. Each question costs the logarithm of the
-/// number of places.
+/// An index of a survey, by which the causes of all offences are found. A question costs the
+/// logarithm of the number of places.
 #[derive(Drop)]
 pub(crate) struct Finder {
     /// For each byte of an argument the index of the first place that takes it.
@@ -28,7 +28,7 @@ pub(crate) struct Finder {
 }
 
 impl Finder {
-    /// What the causes of all offences of a job that was surveyed are found with.
+    /// Makes the index of a survey.
     pub(crate) fn new(alloc: Global, survey: &Survey) -> Result<Finder, AllocError>
         requires { (j : Job) × IsSurvey j survey.now }
         ensures { IfOk result (Finds survey.now.looks survey.now.offences) }
@@ -54,14 +54,14 @@ impl Finder {
     }
 }
 
-/// The number of an offence's address and its reason.
+/// One number for the address and the reason of an offence.
 fn kind_number(offence: Offence) -> u64
     ensures { result ≡ index.kind_number offence }
 {
     u64::from(offence.place.address) * 32 + u64::from(offence.reason.number())
 }
 
-/// The lesser of an index found so far and another one.
+/// The lesser of two indexes, of which the first may be missing.
 fn lesser(best: Option<usize>, at: usize) -> usize
     ensures { IsLesserOf best at result }
 {
@@ -71,7 +71,7 @@ fn lesser(best: Option<usize>, at: usize) -> usize
     }
 }
 
-/// Keeps that the look of an index has a key, unless an earlier one is known to have it.
+/// Notes that the look of an index has a key, unless an earlier look has it.
 fn note(first: &mut BTreeMap<u64, usize>, key: u64, at: usize) -> Result<(), AllocError>
     ensures { OnOk result (KeepsLeast key at first.old first.new) }
 {
@@ -91,7 +91,7 @@ fn places_of(alloc: Global, looks: &[Look]) -> Result<BTreeMap<u64, usize>, Allo
     Ok(first)
 }
 
-/// Keeps the bytes that the look of an index takes as its argument.
+/// Notes the bytes that the look of an index takes as its argument.
 fn note_bytes(first: &mut BTreeMap<u64, usize>, looks: &[Look], at: usize) -> Result<(), AllocError>
     requires within { at < length looks.now }
     requires index { IsIndex (TakesByte looks.now at) first.old }
