@@ -17,10 +17,11 @@ KIT = rattle-kit-13f logic dac8208d650f15bf
 
 # The libraries under chanv. `rt run` in chanv finds them built, and leaves out its quick pass over
 # all sources.
-LIBRARIES = ccw_core ckd_core chan_areas chan_walk chan_find chan_needs chan_why chan_deck chan_args chan_run
+LIBRARIES = ccw_core ckd_core chan_args chan_areas chan_walk chan_needs chan_why chan_deck chan_find chan_run
 
-# Two libraries are built at a time, unless a call of make has made that choice already.
-BESIDE = --jobs=2
+# Two libraries are built at a time, and chan_args, which takes one processor, beside them, unless a
+# call of make has made that choice already.
+BESIDE = --jobs=3
 
 # The deck that `make try` explains the verdict on.
 DECK ?= examples/changes-argument.deck
@@ -46,7 +47,9 @@ $(LIBRARIES):
 # processor is enough beside the others.
 chan_areas: ccw_core
 chan_walk: chan_areas ckd_core
-chan_find chan_needs chan_why: chan_walk
+chan_needs chan_why: chan_walk
+# It stands on chan_walk alone, but only chan_run waits for it, which waits for chan_deck longer.
+chan_find: chan_why
 chan_deck: chan_needs chan_why
 chan_run: chan_args chan_find chan_deck
 ckd_core chan_args: JOBS = 1

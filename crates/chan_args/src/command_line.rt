@@ -58,22 +58,36 @@ fn asked<'a>(alloc: Global, words: &'a [String]) -> Result<Request<'a>, Error>
     Ok(request_of(alloc, &matches)?)
 }
 
-/// The request for the command that clap met.
+/// The request for the command that clap met, or for `verify` if it met none.
 fn request_of<'a>(alloc: Global, matches: &ArgMatches<'a>) -> Result<Request<'a>, AllocError>
     requires { IsKnown (subcommand_rows_of matches.now) }
     ensures { IfOk result (AsksFor (subcommand_rows_of matches.now)) }
 {
     match matches.subcommand() {
-        Some(("show", inner)) => Ok(show_request(inner)),
-        Some(("list", inner)) => request_over(alloc, Action::List, inner),
-        Some(("why", inner)) => why_request(alloc, inner),
-        Some(("graph", inner)) => request_over(alloc, Action::Graph, inner),
-        Some(("needs", inner)) => request_over(alloc, Action::Needs, inner),
-        Some(("find", inner)) => search_request(alloc, inner),
-        Some(("deck", inner)) => deck_request(alloc, inner),
-        Some(("explain", inner)) => Ok(explain_request(inner)),
-        Some((_, inner)) => request_over(alloc, Action::Verify, inner),
+        Some((name, inner)) => request_named(alloc, name, inner),
         None => Ok(Request::Run(Action::Verify)),
+    }
+}
+
+/// The request for the command of this name, of which clap met the rest.
+fn request_named<'a>(
+    alloc: Global,
+    name: &str,
+    matches: &ArgMatches<'a>,
+) -> Result<Request<'a>, AllocError>
+    requires { IsKnown (Some (name.now, rows_of (found_of matches.now))) }
+    ensures { IfOk result (AsksFor (Some (name.now, rows_of (found_of matches.now)))) }
+{
+    match name {
+        "show" => Ok(show_request(matches)),
+        "list" => request_over(alloc, Action::List, matches),
+        "why" => why_request(alloc, matches),
+        "graph" => request_over(alloc, Action::Graph, matches),
+        "needs" => request_over(alloc, Action::Needs, matches),
+        "find" => search_request(alloc, matches),
+        "deck" => deck_request(alloc, matches),
+        "explain" => Ok(explain_request(matches)),
+        _ => request_over(alloc, Action::Verify, matches),
     }
 }
 

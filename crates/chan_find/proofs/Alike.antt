@@ -11,7 +11,7 @@ use Rattle.chan_find.specs.Programs.{start_at, IsPlain, StepsTo, IsTrail, LeadsT
 use Rattle.chan_find.specs.Programs.{HasSecondFrom, IsLikely, IsProgramStart, AreProgramStarts}
 use Rattle.chan_walk.specs.Successor.{Successor, next_of, skip_of}
 use Rattle.chan_walk.proofs.Theory.Granting.{ccw_over}
-use Rattle.chan_walk.proofs.Algorithms.Granted.{same_at}
+use Rattle.chan_walk.proofs.Algorithms.Granted.{fault_over}
 use Rattle.chan_walk.proofs.Algorithms.Opened.{open_over, open_more, open_less}
 use Rattle.std.proofs.Common.{Some, None}
 
@@ -86,8 +86,7 @@ pub open_alike : (j k : Job) → IsOpenJob (record j { start = 0; limit = usual_
 open_alike j k o =
     let i = record j { start = 0; limit = usual_limit } in
     let one = open_over i k o in
-    let same = same_at k (open_job i) one (open_more i k o) (open_less i k o) in
     record {
-      clear = λ p. (same p).fault None;
+      clear = λ p. fault_over k (open_job i) one (open_more i k o) (open_less i k o) p None;
       ccw = λ p. ccw_over k (open_job i) one p;
     }

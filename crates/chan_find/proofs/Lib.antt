@@ -5,3 +5,4 @@ pub mod Covering
 pub mod Passing
 pub mod Seconds
 pub mod Alike
+pub mod Two

@@ -111,6 +111,16 @@ pub record HasTwoCcws (j : Job) : Type 0 where
 abbrev pub YesIsLikely : Type 0
 YesIsLikely = (j : Job) → IsVerdict j Yes → HasTwoCcws j → IsLikely j j.start
 
+-- storage of two No Operations, of which the first chains command
+abbrev pub two_no_operations : List ℕ
+two_no_operations =
+    3 ∷ 0 ∷ 0 ∷ 0 ∷ 0x60 ∷ 0 ∷ 0 ∷ 1 ∷ 3 ∷ 0 ∷ 0 ∷ 0 ∷ 0x20 ∷ 0 ∷ 0 ∷ 1 ∷ []
+
+-- there are such jobs: that of these, whatever it grants, has a yes and two such CCWs
+abbrev pub SomeHaveTwoCcws : Type 0
+SomeHaveTwoCcws =
+    (j : Job) → storage_of j ≡ two_no_operations → j.start ≡ 0 → IsVerdict j Yes × HasTwoCcws j
+
 -- ---- how they are found: upwards, and downwards over what was left
 
 -- P holds for a, and for no number that comes before it and leads to it

@@ -2,7 +2,7 @@
 //! is proved.
 
 ghost use Rattle.chan_find.specs.Programs.{NoneIsMissed, ProgramsAreApart, TwiceIsEnough};
-ghost use Rattle.chan_find.specs.Programs.{YesIsLikely};
+ghost use Rattle.chan_find.specs.Programs.{SomeHaveTwoCcws, YesIsLikely};
 
 /// What is left of the likely starts upwards, and of these downwards, is the starts of programs.
 pub(crate) fn twice_is_enough()
@@ -24,4 +24,10 @@ pub(crate) fn programs_are_apart()
 /// byte 5 of each such CCW is zero.
 pub(crate) fn yes_is_likely()
     ensures { YesIsLikely }
+{}
+
+/// There are jobs with a yes and two such CCWs: each that has two No Operations, whatever it
+/// grants.
+pub(crate) fn some_have_two_ccws()
+    ensures { SomeHaveTwoCcws }
 {}

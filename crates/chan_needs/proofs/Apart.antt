@@ -1,43 +1,45 @@
 -- Programs that may run side by side.
 use Rattle.std.proofs.Common.{ℕ, ◌↔◌}
 use Rattle.chan_walk.specs.declared.job.Job.{Job}
-use Rattle.chan_walk.specs.declared.place.Place.{Place}
 use Rattle.chan_walk.specs.declared.verdict.Verdict.TheVariants.{Yes}
 use Rattle.chan_walk.specs.Alarm.{IsProper}
+use Rattle.chan_walk.specs.Fault.{stores}
 use Rattle.chan_walk.specs.Guarded.{IsGuarded}
+use Rattle.chan_walk.specs.Moved.{IsStoredInto}
 use Rattle.chan_walk.specs.OpenJob.{AreOfOneProgram, open_job}
 use Rattle.chan_needs.specs.Needs.{IsKept, IsNeededForStoring}
-use Rattle.chan_walk.specs.Reachable.{IsReachable}
 use Rattle.chan_needs.specs.Rows.{BesideIsApart}
 use Rattle.chan_walk.specs.Verdict.{IsVerdict, MayStoreOver}
 use Rattle.chan_walk.proofs.Theory.Faults.{yes_clear, clear_stands}
-use Rattle.chan_walk.proofs.Theory.Granting.{same_under_yes, turned}
+use Rattle.chan_walk.proofs.Theory.Granting.{same_under_yes, data_under_yes}
 use Rattle.chan_walk.proofs.Algorithms.Opened.{to_open}
 use Rattle.chan_needs.proofs.Needing.{yes_opens}
-use Rattle.chan_needs.proofs.Needed.{data_over}
 
 -- under a yes a program stores over the bytes that it needs for storing, and guards those that it keeps
 module _ (j k : Job) (one : AreOfOneProgram j k) (proper : IsProper k) (v : IsVerdict k Yes) where
   there : AreOfOneProgram k (open_job j)
   there = to_open j k one
 
-  same : ((p : Place) → IsReachable k p ↔ IsReachable (open_job j) p) × ((b : ℕ) → IsGuarded k b ↔ IsGuarded (open_job j) b)
-  same = same_under_yes k (open_job j) there v (yes_opens j k one proper v)
+  granted : IsVerdict (open_job j) Yes
+  granted = yes_opens j k one proper v
+
+  stored : (b : ℕ) → IsStoredInto k b ↔ IsNeededForStoring j b
+  stored = data_under_yes k (open_job j) there v granted stores
 
   needed_over : (P : ℕ → Type 0) → MayStoreOver k P → (b : ℕ) × IsNeededForStoring j b × P b
   needed_over P (p, r, o) = (
     o.at,
-    data_over k (open_job j) there _ (λ q. (same.0 q).0) o.at (record { place = p; reached = r; passes = (clear_stands k p (yes_clear k v p r), o.stores); from = o.from; below = o.below }),
+    (stored o.at).0 (record { place = p; reached = r; passes = (clear_stands k p (yes_clear k v p r), o.stores); from = o.from; below = o.below }),
     o.holds,
   )
 
   store_over : (P : ℕ → Type 0) (b : ℕ) → IsNeededForStoring j b → P b → MayStoreOver k P
   store_over P b n h =
-      let d = data_over (open_job j) k (turned k (open_job j) there) _ (λ q. (same.0 q).1) b n in
+      let d = (stored b).1 n in
       (d.place, d.reached, record { stores = d.passes.1; at = b; from = d.from; below = d.below; holds = h })
 
   kept : (b : ℕ) → IsGuarded k b ↔ IsKept j b
-  kept b = same.1 b
+  kept = (same_under_yes k (open_job j) there v granted).1
 
 pub beside_is_apart : BesideIsApart
 beside_is_apart j k one other first second proper right v w = (

@@ -16,3 +16,4 @@ pub mod Kept
 pub mod Copied
 pub mod Seeking
 pub mod Apart
+pub mod Possible

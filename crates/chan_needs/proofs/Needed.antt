@@ -1,10 +1,9 @@
 -- What was found under one job's yes is what each job of its program needs.
-use Rattle.std.proofs.Common.{◌≡◌, ℕ, ◌<◌, ◌≤◌, Bool, true, false, List, length, map, Some, refl}
+use Rattle.std.proofs.Common.{◌≡◌, ℕ, ◌<◌, Bool, true, false, List, length, map, Some, refl}
 use Rattle.std.proofs.Common.{sym, ap, ◌∙◌, subst, ◌⊎◌, ◌↔◌, arith}
 use Rattle.ccw_core.specs.declared.areas.Area.{Area}
-use Rattle.ccw_core.specs.Areas.{lies_in, end_of}
+use Rattle.ccw_core.specs.Areas.{lies_in}
 use Rattle.ccw_core.specs.Ccw.{Fields, byte, ccw, is_transfer}
-use Rattle.ccw_core.specs.Storage.{Stands}
 use Rattle.ckd_core.specs.Extents.{has_cylinder}
 use Rattle.ckd_core.specs.Mask.{inhibits, is_at_least}
 use Rattle.chan_walk.specs.declared.job.Job.{Job}
@@ -13,7 +12,7 @@ use Rattle.chan_walk.specs.declared.verdict.Verdict.{Verdict}
 use Rattle.chan_walk.specs.declared.verdict.Verdict.TheVariants.{Yes}
 use Rattle.chan_walk.specs.Argument.{HasArgument}
 use Rattle.chan_walk.specs.Seeks.{SeeksTo}
-use Rattle.chan_walk.specs.Place.{data_of, ccw_of}
+use Rattle.chan_walk.specs.Place.{ccw_of}
 use Rattle.chan_walk.specs.Fault.{begins_recalibrate, begins_seek, begins_set_mask, fetches, stores}
 use Rattle.chan_walk.specs.Guarded.{IsGuarded}
 use Rattle.chan_walk.specs.Job.{extents_of, fetch_of, storage_of, store_of}
@@ -32,7 +31,7 @@ use Rattle.chan_needs.specs.Rows.{IsShared, MayRunBeside, run_of}
 use Rattle.chan_walk.specs.JobSurvey.{IsSurvey, Surveyed}
 use Rattle.chan_walk.specs.Verdict.{IsVerdict}
 use Rattle.chan_walk.proofs.Theory.Faults.{clear_check, yes_clear}
-use Rattle.chan_walk.proofs.Theory.Granting.{fetches_parts, same_under_yes, stores_parts, turned}
+use Rattle.chan_walk.proofs.Theory.Granting.{fetches_parts, same_under_yes, data_under_yes, stores_parts, turned}
 use Rattle.chan_walk.proofs.Theory.Granting.{ccw_over}
 use Rattle.chan_needs.proofs.Needing.{needed_mask_is_enough, yes_opens}
 use Rattle.chan_walk.proofs.Algorithms.Opened.{to_open}
@@ -53,15 +52,6 @@ module _ (j k : Job) (one : AreOfOneProgram j k) where
 
   seeks_over : (p : Place) (x : List ℕ) → SeeksTo j p x → SeeksTo k p x
   seeks_over p x h = subst (λ s. ((begins_seek p (ccw s p.address) ≡ true) × HasArgument s p.address (Some x)) ⊎ ((begins_recalibrate p (ccw s p.address) ≡ true) × (x ≡ home))) one.storage h
-
-  pub data_over : (test : Place → Fields → Bool) → ((p : Place) → IsReachable j p → IsReachable k p) → (b : ℕ) → IsDataOf test j b → IsDataOf test k b
-  data_over test on b h = record {
-    place = h.place;
-    reached = on h.place h.reached;
-    passes = (subst (λ s. Stands s h.place.address) one.storage h.passes.0, subst (λ c. test h.place c ≡ true) (ccw_over j k one h.place) h.passes.1);
-    from = subst (λ c. (data_of c).start ≤ b) (ccw_over j k one h.place) h.from;
-    below = subst (λ c. b < end_of (data_of c)) (ccw_over j k one h.place) h.below;
-  }
 
 -- ---- what was found
 
@@ -95,9 +85,6 @@ are_needs j k ls n cylinders one are found = record {
     there : AreOfOneProgram k (open_job j)
     there = to_open j k one
 
-    back : AreOfOneProgram (open_job j) k
-    back = turned k (open_job j) there
-
     same : ((p : Place) → IsReachable k p ↔ IsReachable (open_job j) p) × ((b : ℕ) → IsGuarded k b ↔ IsGuarded (open_job j) b)
     same = same_under_yes k (open_job j) there are.verdict granted
 
@@ -105,7 +92,7 @@ are_needs j k ls n cylinders one are found = record {
     both f g = ((λ a. g.0 (f.0 a)), λ c. f.1 (g.1 c))
 
     moved : (test : Place → Fields → Bool) (b : ℕ) → IsDataOf test k b ↔ IsDataOf test (open_job j) b
-    moved test b = (data_over k (open_job j) there test (λ p. (same.0 p).0) b, data_over (open_job j) k back test (λ p. (same.0 p).1) b)
+    moved = data_under_yes k (open_job j) there are.verdict granted
 
     served : (m : ℕ) → ServesEach k ps m ↔ Serves j m
     served m = (

@@ -34,7 +34,7 @@ use Rattle.chan_walk.proofs.Theory.Commands.{mask_is_no_transfer, seek_is_no_tra
 use Rattle.chan_walk.proofs.Theory.Commands.{recalibrate_is_no_transfer}
 use Rattle.chan_walk.proofs.Theory.Faults.{IsGood, clear_check, clear_good, yes_clear, stores_from}
 use Rattle.chan_walk.proofs.Theory.Granting.{ccw_over, same_heads, stores_parts, fetches_parts}
-use Rattle.chan_walk.proofs.Theory.Granting.{allows_from, clear_over, reach_over, yes_over}
+use Rattle.chan_walk.proofs.Theory.Granting.{allows_from, clear_over, reach_clear, yes_over}
 use Rattle.chan_walk.proofs.Theory.Granting.{more_is_yes, same_under_yes}
 use Rattle.chan_walk.proofs.Algorithms.Opened.{from_open, to_open}
 use Rattle.ccw_core.proofs.Covering.{covered-true}
@@ -69,7 +69,7 @@ opens j k one proper = record {
 
 module _ (j k : Job) (one : AreOfOneProgram j k) (v : IsVerdict k Yes) where
   clear : (p : Place) → IsOpenlyReachable j p → IsClear k p
-  clear p r = yes_clear k v p (reach_over k (open_job j) (to_open j k one) (yes_clear k v) p r)
+  clear p r = yes_clear k v p (reach_clear k (open_job j) (to_open j k one) (yes_clear k v) p r)
 
   same_ccw : (p : Place) → ccw_of k p ≡ ccw_of j p
   same_ccw p = ccw_over k (open_job j) (to_open j k one) p
@@ -131,7 +131,7 @@ module _ (j k : Job) (one : AreOfOneProgram j k) (grants : Grants j k) where
 
       clear_there : AreClear k
       clear_there p m =
-          let r = reach_over (open_job j) k back (yes_clear (open_job j) v) p m in
+          let r = reach_clear (open_job j) k back (yes_clear (open_job j) v) p m in
           clear_over (open_job j) k back p (yes_clear (open_job j) v p r) (λ x a t fits g. good_under p r (check_stands (storage_of j) p (clear_check (open_job j) p (yes_clear (open_job j) v p r))) x a t g)
 
 pub yes_opens : (j k : Job) → AreOfOneProgram j k → IsProper k → IsVerdict k Yes → IsVerdict (open_job j) Yes

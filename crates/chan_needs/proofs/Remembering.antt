@@ -1,10 +1,10 @@
 -- What is remembered of a program stays true while what is kept does, and is enough for a start.
-use Rattle.std.proofs.Common.{◌≡◌, ℕ, ◌+◌, ◌-◌, ◌<◌, ◌≤◌, true, List, [], ◌∷◌, length, drop, Some}
+use Rattle.std.proofs.Common.{◌≡◌, ℕ, ◌+◌, ◌-◌, ◌<◌, true, List, [], ◌∷◌, length, drop, Some}
 use Rattle.std.proofs.Common.{refl, sym, ap, ◌∙◌, subst, ◌⊎◌, ◌↔◌, inl, inr, arith, rules}
 use Rattle.std.specs.List.{All}
 use Rattle.ccw_core.specs.declared.areas.Area.{Area}
-use Rattle.ccw_core.specs.Areas.{lies_in, end_of}
-use Rattle.ccw_core.specs.Ccw.{Fields, byte}
+use Rattle.ccw_core.specs.Areas.{lies_in}
+use Rattle.ccw_core.specs.Ccw.{byte}
 use Rattle.ccw_core.proofs.Covering.{lies_in-nil}
 use Rattle.chan_walk.specs.declared.job.Job.{Job}
 use Rattle.chan_walk.specs.declared.place.Place.{Place}
@@ -12,33 +12,31 @@ use Rattle.chan_needs.specs.declared.remembered.Remembered.{Remembered}
 use Rattle.chan_walk.specs.declared.verdict.Verdict.TheVariants.{Yes}
 use Rattle.chan_walk.specs.Alarm.{IsProper}
 use Rattle.chan_walk.specs.Counted.{IsCounted, with_storage}
-use Rattle.chan_walk.specs.Place.{data_of, ccw_of}
 use Rattle.chan_walk.specs.Fault.{stores}
 use Rattle.chan_walk.specs.Guarded.{IsGuarded}
 use Rattle.chan_needs.specs.History.{Flight, Situation}
 use Rattle.chan_walk.specs.Job.{storage_of}
 use Rattle.chan_walk.specs.OpenJob.{AreOfOneProgram, open_job}
 use Rattle.chan_needs.specs.Needs.{Grants, IsKept, IsNeededForStoring, KeepsProgram}
-use Rattle.chan_walk.specs.Moved.{IsDataOf}
 use Rattle.chan_areas.specs.Merged.{IsByteOf}
 use Rattle.chan_walk.specs.Reachable.{IsReachable}
-use Rattle.chan_needs.specs.Remembered.{AreInFlight, HoldsAreas, IsInFlight}
+use Rattle.chan_needs.specs.Remembered.{AreInFlight, HoldsAreas, IsInFlight, IsRemembered}
 use Rattle.chan_needs.specs.Start.{IsFit, IsBeside, StartsWell}
 use Rattle.chan_needs.specs.Remembered.{KeepsNone, IsInFlightAt, IsWritten, WritesWell}
 use Rattle.chan_needs.specs.Rows.{HasStoreAndKeep, Listed, MayRunBeside, rows_of}
 use Rattle.chan_walk.specs.Runs.{IsSameIn}
-use Rattle.chan_needs.specs.Asked.{IsFlightOf}
+use Rattle.chan_needs.specs.Asked.{FitIsAsked, IsFlightOf}
 use Rattle.chan_walk.specs.Verdict.{IsVerdict}
 use Rattle.std.proofs.lemmas.Bool.{both_ways}
-use Rattle.chan_walk.proofs.Algorithms.Counted.{AreSame, argument_byte_over, ccw_byte_over, flipped}
-use Rattle.chan_walk.proofs.Algorithms.Counted.{same_at, same_verdict}
+use Rattle.chan_walk.proofs.Algorithms.Counted.{carries_at}
 use Rattle.chan_areas.proofs.Merging.{lies_in-cases}
-use Rattle.chan_needs.proofs.Needed.{data_over, grants_from, may_run_beside}
+use Rattle.chan_needs.proofs.Needed.{grants_from, may_run_beside}
 use Rattle.chan_walk.proofs.Machine.Again.{counted_is_guarded, yes_by_guarded}
 use Rattle.chan_needs.proofs.Asking.{asked_once}
 use Rattle.chan_needs.proofs.Beginning.{asked_may_start, others_may_change}
 use Rattle.chan_walk.proofs.Theory.Faults.{yes_clear}
-use Rattle.chan_walk.proofs.Theory.Granting.{same_under_yes, turned}
+use Rattle.chan_walk.proofs.Theory.Granting.{same_under_yes, data_under_yes}
+use Rattle.chan_walk.proofs.Theory.Transport.{CarriesOver, same_guarded, same_data}
 use Rattle.chan_needs.proofs.Needing.{least_job, yes_is_open, yes_opens}
 use Rattle.chan_walk.proofs.Algorithms.Opened.{to_open}
 
@@ -54,14 +52,8 @@ module _ (j k : Job) (keeps : KeepsProgram j k) (v : IsVerdict (open_job j) Yes)
   yes_there : IsVerdict there Yes
   yes_there = yes_by_guarded (open_job j) k.storage v keeps.storage
 
-  reached : (p : Place) → IsReachable (open_job j) p ↔ IsReachable there p
-  reached = (same_verdict (open_job j) k.storage counted).0
-
-  to_there : (p : Place) → IsReachable (open_job j) p → AreSame (open_job j) there p
-  to_there p r = same_at (open_job j) k.storage counted p r
-
-  from_there : (p : Place) → IsReachable there p → AreSame there (open_job j) p
-  from_there p r = flipped (open_job j) there p (to_there p ((reached p).1 r))
+  carry : (p : Place) → IsReachable (open_job j) p → IsReachable there p → CarriesOver (open_job j) there p × CarriesOver there (open_job j) p
+  carry = carries_at (open_job j) k.storage counted
 
   of_one : AreOfOneProgram k there
   of_one = record { storage = refl; start = sym keeps.start; device = sym keeps.device }
@@ -75,45 +67,16 @@ module _ (j k : Job) (keeps : KeepsProgram j k) (v : IsVerdict (open_job j) Yes)
   open_there : AreOfOneProgram there (open_job k)
   open_there = to_open k there of_one
 
-  same_open : ((p : Place) → IsReachable there p ↔ IsReachable (open_job k) p) × ((b : ℕ) → IsGuarded there b ↔ IsGuarded (open_job k) b)
-  same_open = same_under_yes there (open_job k) open_there yes_there yes_open
-
-  on : (p : Place) → IsReachable (open_job j) p → IsReachable there p
-  on p = (reached p).0
-
-  back : (p : Place) → IsReachable there p → IsReachable (open_job j) p
-  back p = (reached p).1
-
-  guarded_on : (b : ℕ) → IsGuarded (open_job j) b → IsGuarded there b
-  guarded_on b (inl g) = inl (ccw_byte_over (open_job j) there to_there on back b g)
-  guarded_on b (inr g) = inr (argument_byte_over (open_job j) there to_there on back b g)
-
-  guarded_back : (b : ℕ) → IsGuarded there b → IsGuarded (open_job j) b
-  guarded_back b (inl g) = inl (ccw_byte_over there (open_job j) from_there back on b g)
-  guarded_back b (inr g) = inr (argument_byte_over there (open_job j) from_there back on b g)
+  both : {A B C : Type 0} → A ↔ B → B ↔ C → A ↔ C
+  both f g = ((λ a. g.0 (f.0 a)), λ c. f.1 (g.1 c))
 
   -- the same bytes are kept
   pub kept_same : (b : ℕ) → IsKept j b ↔ IsKept k b
-  kept_same b = ((λ g. (same_open.1 b).0 (guarded_on b g)), λ g. guarded_back b ((same_open.1 b).1 g))
+  kept_same b = both (same_guarded (open_job j) there refl carry b) ((same_under_yes there (open_job k) open_there yes_there yes_open).1 b)
 
   -- and stored into
   pub stored_same : (b : ℕ) → IsNeededForStoring j b ↔ IsNeededForStoring k b
-  stored_same b = (
-    (λ d. data_over there (open_job k) open_there stores (λ p. (same_open.0 p).0) b (moved (open_job j) there to_there on v d)),
-    λ d. moved there (open_job j) from_there back yes_there (data_over (open_job k) there (turned there (open_job k) open_there) stores (λ p. (same_open.0 p).1) b d),
-  )
-    where
-      moved : (x y : Job) → ((p : Place) → IsReachable x p → AreSame x y p) → ((p : Place) → IsReachable x p → IsReachable y p) → IsVerdict x Yes → IsDataOf stores x b → IsDataOf stores y b
-      moved x y same go w d =
-          let here = same d.place d.reached in
-          let e : ccw_of x d.place ≡ ccw_of y d.place = here.ccw (yes_clear x w d.place d.reached) in
-          record {
-            place = d.place;
-            reached = go d.place d.reached;
-            passes = (here.stands.0 d.passes.0, subst (λ (c : Fields). stores d.place c ≡ true) e d.passes.1);
-            from = subst (λ (c : Fields). (data_of c).start ≤ b) e d.from;
-            below = subst (λ (c : Fields). b < end_of (data_of c)) e d.below;
-          }
+  stored_same b = both (same_data (open_job j) there refl carry (yes_clear (open_job j) v) (yes_clear there yes_there) stores b) (data_under_yes there (open_job k) open_there yes_there yes_open stores b)
 
   -- so what rows say of storing and keeping stays true
   pub rows_stay : (n : Listed) → HasStoreAndKeep j n → HasStoreAndKeep k n
@@ -121,9 +84,6 @@ module _ (j k : Job) (keeps : KeepsProgram j k) (v : IsVerdict (open_job j) Yes)
     store = record { merged = h.store.merged; bytes = λ b. both (h.store.bytes b) (stored_same b) };
     keep = record { merged = h.keep.merged; bytes = λ b. both (h.keep.bytes b) (kept_same b) };
   }
-    where
-      both : {A B C : Type 0} → A ↔ B → B ↔ C → A ↔ C
-      both f g = ((λ a. g.0 (f.0 a)), λ c. f.1 (g.1 c))
 
 -- ---- a program in flight
 
@@ -168,52 +128,56 @@ same_held s t (a ∷ areas) kept b h k m = go (same_held s t areas (drop a.len k
         let e : a.start + (b - a.start) ≡ b = omega (arith, x.0) in
         subst (λ n. byte t n ≡ byte s n) e ((k.0 (b - a.start) l).2 ∙ sym (h.0 (b - a.start) l).2)
 
+-- a job fits what is remembered of a program
+module _ (j : Job) (p : Remembered) (fs : List Remembered) (proper : IsProper j) (fit : IsFit j p fs) (asked : Job) (remembered : IsRemembered asked p) where
+  itself : AreOfOneProgram j j
+  itself = record { storage = refl; start = refl; device = refl }
+
+  keeps : KeepsProgram asked j
+  keeps = record {
+    storage = record {
+      same_length = fit.program.storage_len ∙ remembered.needs.storage_len;
+      same = λ b g. same_held (storage_of asked) (storage_of j) p.rows.keep.now p.kept.now b remembered.kept fit.kept ((remembered.needs.keep.bytes b).1 g);
+    };
+    start = remembered.start ∙ sym fit.program.start;
+    device = remembered.device ∙ sym fit.program.device;
+  }
+
+  grants : Grants asked j
+  grants = grants_from asked (rows_of p.rows) remembered.needs j fit.granted.mask fit.granted.extents (λ b l. (fit.granted.fetch b l).1) (λ b l. (fit.granted.store b l).1)
+
+  verdict : IsVerdict j Yes
+  verdict = asked_once asked j keeps remembered.needs.verdict grants
+
+  in_flight : IsInFlight p j
+  in_flight = record { asked = asked; needs = remembered.needs; program = keeps; proper = proper; verdict = verdict }
+
+  least : IsVerdict (open_job j) Yes × Grants j j
+  least = (least_job j j itself proper).0 verdict
+
+  beside : (g : Flight) → (n : ℕ) × (f : Remembered) × IsInFlightAt fs n f × IsInFlight f g.job → (k : Job) × IsFlightOf k g × MayRunBeside j k
+  beside g (n, f, number, flight) =
+      let b : IsBeside p f = at_number (IsBeside p) fs n f fit.beside number in (
+        g.job,
+        record { program = record { storage = refl; start = refl; device = refl }; proper = flight.proper; verdict = flight.verdict },
+        may_run_beside j g.job (rows_of p.rows) (rows_of f.rows) (rows_in_flight p j in_flight) (rows_in_flight f g.job flight) b.one_spares b.other_spares,
+      )
+
+pub fit_is_asked : FitIsAsked
+fit_is_asked j a f p fs remembered flying proper fit start = record {
+  opened = (least f.job p fs proper fit j remembered).0;
+  program = itself f.job p fs proper fit j remembered;
+  proper = proper;
+  grants = (least f.job p fs proper fit j remembered).1;
+  kept = record { same_length = ap length start.storage; same = λ b g. ap (λ s. byte s b) start.storage };
+  arm = start.arm;
+  mask = start.mask;
+  stage = start.stage;
+  events = start.events;
+  beside = λ i g e. beside f.job p fs proper fit j remembered g (flying i g e);
+}
+
 pub starts_well : (j : Job) (p : Remembered) (fs : List Remembered) → IsProper j → IsFit j p fs → StartsWell j p fs
-starts_well j p fs proper fit asked a m remembered flying start = (
-  asked_may_start a j (record { job = j; moment = m }) (record {
-    opened = least.0;
-    program = itself;
-    proper = proper;
-    grants = least.1;
-    kept = record { same_length = ap length start.storage; same = λ b g. ap (λ s. byte s b) start.storage };
-    arm = start.arm;
-    mask = start.mask;
-    stage = start.stage;
-    events = start.events;
-    beside = λ i g e. beside g (flying i g e);
-  }),
-  in_flight,
-)
-  where
-    itself : AreOfOneProgram j j
-    itself = record { storage = refl; start = refl; device = refl }
-
-    keeps : KeepsProgram asked j
-    keeps = record {
-      storage = record {
-        same_length = fit.program.storage_len ∙ remembered.needs.storage_len;
-        same = λ b g. same_held (storage_of asked) (storage_of j) p.rows.keep.now p.kept.now b remembered.kept fit.kept ((remembered.needs.keep.bytes b).1 g);
-      };
-      start = remembered.start ∙ sym fit.program.start;
-      device = remembered.device ∙ sym fit.program.device;
-    }
-
-    grants : Grants asked j
-    grants = grants_from asked (rows_of p.rows) remembered.needs j fit.granted.mask fit.granted.extents (λ b l. (fit.granted.fetch b l).1) (λ b l. (fit.granted.store b l).1)
-
-    verdict : IsVerdict j Yes
-    verdict = asked_once asked j keeps remembered.needs.verdict grants
-
-    in_flight : IsInFlight p j
-    in_flight = record { asked = asked; needs = remembered.needs; program = keeps; proper = proper; verdict = verdict }
-
-    least : IsVerdict (open_job j) Yes × Grants j j
-    least = (least_job j j itself proper).0 verdict
-
-    beside : (g : Flight) → (n : ℕ) × (f : Remembered) × IsInFlightAt fs n f × IsInFlight f g.job → (k : Job) × IsFlightOf k g × MayRunBeside j k
-    beside g (n, f, number, flight) =
-        let b : IsBeside p f = at_number (IsBeside p) fs n f fit.beside number in (
-          g.job,
-          record { program = record { storage = refl; start = refl; device = refl }; proper = flight.proper; verdict = flight.verdict },
-          may_run_beside j g.job (rows_of p.rows) (rows_of f.rows) (rows_in_flight p j in_flight) (rows_in_flight f g.job flight) b.one_spares b.other_spares,
-        )
+starts_well j p fs proper fit asked a m remembered flying start =
+    let f : Flight = record { job = j; moment = m } in
+    (asked_may_start a j f (fit_is_asked asked a f p fs remembered flying proper fit start), in_flight j p fs proper fit asked remembered)

@@ -11,8 +11,11 @@ use Rattle.chan_walk.specs.Machine.{At}
 use Rattle.chan_walk.specs.OpenJob.{AreOfOneProgram, open_job}
 use Rattle.chan_needs.specs.Needs.{Grants, IsKept}
 use Rattle.chan_walk.specs.Place.{first_place}
+use Rattle.chan_needs.specs.declared.remembered.Remembered.{Remembered}
+use Rattle.chan_needs.specs.Remembered.{AreInFlight, IsRemembered}
 use Rattle.chan_needs.specs.Rows.{MayRunBeside}
-use Rattle.chan_walk.specs.Runs.{IsSameIn, Moment, Steps}
+use Rattle.chan_needs.specs.Start.{IsFit}
+use Rattle.chan_walk.specs.Runs.{IsSameIn, IsStart, Moment, Steps}
 use Rattle.chan_walk.specs.Verdict.{IsVerdict}
 
 -- f runs the program of j, with a yes
@@ -69,3 +72,14 @@ EachMayLeave =
     (a : Situation) (before : List Situation) (i : ℕ) → IsHistory (a ∷ before)
     → IsSome (a.at i)
     → (b : Situation) × (b.storage ≡ a.storage) × (b.at i ≡ None) × IsHistory (b ∷ a ∷ before)
+
+-- a history begins over any storage
+abbrev pub HistoryBegins : Type 0
+HistoryBegins = (s : List ℕ) → (a : Situation) × (a.storage ≡ s) × IsHistory (a ∷ [])
+
+-- a program was asked about in this sense if a job that fits what is remembered of it begins
+abbrev pub FitIsAsked : Type 0
+FitIsAsked =
+    (j : Job) (a : Situation) (f : Flight) (p : Remembered) (fs : List Remembered)
+    → IsRemembered j p → AreInFlight a fs → IsProper f.job → IsFit f.job p fs
+    → IsStart f.job f.moment → IsAsked a f.job f

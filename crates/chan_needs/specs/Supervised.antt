@@ -1,15 +1,20 @@
 -- The supervisor's law over the answers of its calls: a supervisor that starts programs only after
 -- a yes of `may_start`, and lets others write only if `may_write` names no program, has all
 -- programs in flight well.
-use Rattle.std.specs.Prelude.{◌≡◌, ℕ, List, [], ◌∷◌, map, Option, Some, None, IsSome, ◌⊎◌}
+use Rattle.std.specs.Prelude.{◌≡◌, ℕ, List, [], ◌∷◌, length, map, Option, Some, None, IsSome}
+use Rattle.std.specs.Prelude.{◌⊎◌}
 use Rattle.std.specs.List.{AllByRecursion}
 use Rattle.ccw_core.specs.declared.areas.Area.{Area}
 use Rattle.chan_walk.specs.declared.job.Job.{Job}
 use Rattle.chan_needs.specs.declared.remembered.Remembered.{Remembered}
 use Rattle.chan_needs.specs.declared.start.Start.TheVariants.{Yes}
+use Rattle.ccw_core.specs.Ccw.{byte}
+use Rattle.chan_areas.specs.Merged.{IsByteOf}
 use Rattle.chan_walk.specs.Alarm.{IsProper}
+use Rattle.chan_walk.specs.Argument.{Has}
 use Rattle.chan_needs.specs.History.{Acts, AreWell, Flight, Rests, Situation}
-use Rattle.chan_needs.specs.Remembered.{IsKeeperOf, IsInFlightAt, IsRemembered, IsWritten}
+use Rattle.chan_needs.specs.Remembered.{HoldsKept, IsKeeperOf, IsInFlightAt, IsRemembered, IsWritten}
+use Rattle.chan_needs.specs.Rows.{AreNeeds, rows_of}
 use Rattle.chan_needs.specs.Start.{IsAnswerOf}
 use Rattle.chan_walk.specs.Runs.{IsStart, Moment, Steps}
 
@@ -105,3 +110,27 @@ pub record SupervisedGoesOn : Type 0 where
       (v : Supervision) (before : List Supervision) (t : List ℕ) → IsSupervised (v ∷ before)
       → MayWrite v t
       → (w : Supervision) × (w.situation.storage ≡ t) × IsSupervised (w ∷ v ∷ before)
+
+-- none of these laws is about nothing: supervision begins over any storage, and what is remembered,
+-- listed, allowed and written follows from its parts
+pub record CanBeSupervised : Type 0 where
+  pub begins :
+      (s : List ℕ) → (v : Supervision) × (v.situation.storage ≡ s) × IsSupervised (v ∷ [])
+  pub remembered :
+      (j : Job) (p : Remembered) → AreNeeds j (rows_of p.rows) → j.start ≡ p.start
+      → j.device ≡ p.device → HoldsKept j p → IsRemembered j p
+  pub lists :
+      (programs : ℕ → Option Remembered) (fs : List Remembered)
+      → ((i : ℕ) (p : Remembered) → programs i ≡ Some p → Has fs p) → Lists programs fs
+  pub allowed :
+      (v : Supervision) (i : ℕ) (j : Job) (p : Remembered) (f : Flight) (fs : List Remembered)
+      → IsRemembered j p → IsProper f.job → IsStart f.job f.moment
+      → f.moment.storage ≡ v.situation.storage → Lists v.programs fs
+      → IsAnswerOf f.job p fs Yes → v.situation.at i ≡ None
+      → (s : IsAllowed v i) × (s.flight ≡ f) × (s.program ≡ p)
+  pub written :
+      (area : Area) (s t : List ℕ) → length t ≡ length s
+      → ((b : ℕ) → (IsByteOf area b → ⊥) → byte t b ≡ byte s b) → IsWritten area s t
+  pub may_write :
+      (v : Supervision) (t : List ℕ) (area : Area) (fs : List Remembered) → Lists v.programs fs
+      → IsKeeperOf fs area None → IsWritten area v.situation.storage t → MayWrite v t

@@ -1,15 +1,15 @@
 //! The laws of needs, of programs side by side, and of a supervisor: each is the contract of a
 //! function that does nothing, so that it is proved.
 
-ghost use Rattle.chan_needs.specs.Beside.{SafeSideBySide};
+ghost use Rattle.chan_needs.specs.Beside.{MayRunTogether, SafeSideBySide};
 ghost use Rattle.chan_needs.specs.History.{StaysWell};
 ghost use Rattle.chan_needs.specs.Needs.{AskedOnce, LeastJob, NeededMaskIsEnough, NeededMaskExists};
 ghost use Rattle.chan_needs.specs.Needs.{NeededMaskIsOne, NoJobWillDo, SafeIsGranted};
 ghost use Rattle.chan_needs.specs.Start.{RowsAreExact};
 ghost use Rattle.chan_needs.specs.Rows.{BesideIsApart};
 ghost use Rattle.chan_needs.specs.Asked.{AskedMayStart, EachMayLeave, EachMayStart, EachMayStep};
-ghost use Rattle.chan_needs.specs.Asked.{OthersMayChange};
-ghost use Rattle.chan_needs.specs.Supervised.{SupervisedGoesOn, SupervisedStaysWell};
+ghost use Rattle.chan_needs.specs.Asked.{FitIsAsked, HistoryBegins, OthersMayChange};
+ghost use Rattle.chan_needs.specs.Supervised.{CanBeSupervised, SupervisedGoesOn, SupervisedStaysWell};
 
 /// Programs may start and leave at any time on one storage, while others change what none in flight
 /// guards: where each that starts has a yes and is apart from those in flight, each in flight is
@@ -24,6 +24,12 @@ pub(crate) fn stays_well()
 #[tactic(auto, using(crate::proofs::Beside::safe_side_by_side))]
 pub(crate) fn safe_side_by_side()
     ensures { SafeSideBySide }
+{}
+
+/// Any two may run so, by the steps of either.
+#[tactic(auto, using(crate::proofs::Possible::may_run_together))]
+pub(crate) fn may_run_together()
+    ensures { MayRunTogether }
 {}
 
 /// The least job: for each job of a program the verdict is yes exactly where it is for the open job
@@ -77,10 +83,21 @@ pub(crate) fn asked_may_start()
     ensures { AskedMayStart }
 {}
 
+/// A job that fits what is remembered of its program was asked about in this sense.
+pub(crate) fn fit_is_asked()
+    ensures { FitIsAsked }
+{}
+
 /// Rows of needs list no more than what is needed.
 #[tactic(auto, using(crate::proofs::Needed::rows_are_exact))]
 pub(crate) fn rows_are_exact()
     ensures { RowsAreExact }
+{}
+
+/// A history begins over any storage.
+#[tactic(auto, using(crate::proofs::Possible::history_begins))]
+pub(crate) fn history_begins()
+    ensures { HistoryBegins }
 {}
 
 /// Others may change any bytes that no program in flight guards.
@@ -114,4 +131,11 @@ pub(crate) fn supervised_stays_well()
 #[tactic(auto, using(crate::proofs::GoingOn::supervised_goes_on))]
 pub(crate) fn supervised_goes_on()
     ensures { SupervisedGoesOn }
+{}
+
+/// Supervision begins over any storage, and what is remembered, listed, allowed and written follows
+/// from its parts: the laws on it are about something.
+#[tactic(auto, using(crate::proofs::Possible::can_be_supervised))]
+pub(crate) fn can_be_supervised()
+    ensures { CanBeSupervised }
 {}

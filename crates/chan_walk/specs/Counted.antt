@@ -11,7 +11,7 @@ use Rattle.chan_walk.specs.declared.verdict.Verdict.{Verdict}
 use Rattle.chan_walk.specs.declared.verdict.Verdict.TheVariants.{Yes}
 use Rattle.chan_walk.specs.Argument.{is_part, Leads}
 use Rattle.chan_walk.specs.Fault.{begins_seek}
-use Rattle.chan_walk.specs.Guarded.{IsCcwByte, IsSeekByte, IsMaskByte, IsGuarded}
+use Rattle.chan_walk.specs.Guarded.{IsCcwByte, Takes, IsGuarded}
 use Rattle.chan_walk.specs.Headline.{EachMomentOfYes}
 use Rattle.chan_walk.specs.Job.{storage_of}
 use Rattle.chan_walk.specs.Place.{ccw_of}
@@ -40,7 +40,7 @@ pub record IsChainByte (j : Job) (b : ℕ) : Type 0 where
 pub record IsTakenByte (j : Job) (b : ℕ) : Type 0 where
   pub place : Place
   pub reached : IsReachable j place
-  pub takes : IsSeekByte j place b ⊎ IsMaskByte j place b
+  pub takes : Takes (storage_of j) place b
 
 -- the byte at b counts: it belongs to a reachable CCW, to the data chain of a reachable seek, or to
 -- what a reachable place takes
@@ -58,13 +58,17 @@ SameVerdict = (j : Job) (t : Storage) → IsSameIn (IsCounted j) (storage_of j) 
     ((p : Place) → IsReachable j p ↔ IsReachable (with_storage j t) p)
     × ((v : Verdict) → IsVerdict j v ↔ IsVerdict (with_storage j t) v)
 
--- a yes depends on the guarded bytes alone
+-- under a yes each byte that counts is guarded
+abbrev pub CountedIsGuarded : Type 0
+CountedIsGuarded = (j : Job) → IsVerdict j Yes → (b : ℕ) → IsCounted j b → IsGuarded j b
+
+-- so a yes depends on the guarded bytes alone
 abbrev pub YesByGuarded : Type 0
 YesByGuarded =
     (j : Job) (t : Storage) → IsVerdict j Yes
     → IsSameIn (IsGuarded j) (storage_of j) (bytes_held t) → IsVerdict (with_storage j t) Yes
 
--- so it stays yes over what storage holds at any moment of any run: the program may start again
+-- and it stays yes over what storage holds at any moment of any run: the program may start again
 abbrev pub YesStays : Type 0
 YesStays = EachMomentOfYes (λ j m.
     (t : Storage) → bytes_held t ≡ m.storage → IsVerdict (with_storage j t) Yes)

@@ -33,11 +33,11 @@ pub record IsCcwByteOf (j : Job) (p : Place) (b : ℕ) : Type 0 where
 
 -- the byte at b belongs to the argument of a seek that begins at a place and has no own fault
 abbrev pub IsSeekByteOf : Job → Place → ℕ → Type 0
-IsSeekByteOf j p b = IsClear j p × IsSeekByte j p b
+IsSeekByteOf j p b = IsClear j p × IsSeekByte (storage_of j) p b
 
 -- the byte at b is set by a Set File Mask that begins at a place and has no own fault
 abbrev pub IsMaskByteOf : Job → Place → ℕ → Type 0
-IsMaskByteOf j p b = IsClear j p × IsMaskByte j p b
+IsMaskByteOf j p b = IsClear j p × IsMaskByte (storage_of j) p b
 
 -- the byte at b is an argument of a place that has no own fault
 abbrev pub IsArgumentByteOf : Job → Place → ℕ → Type 0

@@ -1,12 +1,12 @@
 -- The bytes of storage that a program may not change while it runs.
 use Rattle.std.specs.Prelude.{◌≡◌, ℕ, ◌+◌, ◌<◌, ◌≤◌, true, List, ◌⊎◌}
+use Rattle.ccw_core.specs.Ccw.{ccw}
 use Rattle.ccw_core.specs.Storage.{Stands}
 use Rattle.chan_walk.specs.declared.job.Job.{Job}
 use Rattle.chan_walk.specs.declared.place.Place.{Place}
 use Rattle.chan_walk.specs.Argument.{Has, IsChain, argument_addresses}
 use Rattle.chan_walk.specs.Fault.{begins_seek, begins_set_mask, IsClear}
 use Rattle.chan_walk.specs.Job.{storage_of}
-use Rattle.chan_walk.specs.Place.{ccw_of}
 use Rattle.chan_walk.specs.Reachable.{IsReachable}
 
 -- the byte at b belongs to a reachable CCW
@@ -18,16 +18,20 @@ pub record IsCcwByte (j : Job) (b : ℕ) : Type 0 where
   pub below : b < place.address + 8
 
 -- a seek begins at p, and the byte at b is one of the six of its argument
-pub record IsSeekByte (j : Job) (p : Place) (b : ℕ) : Type 0 where
-  pub seeks : begins_seek p (ccw_of j p) ≡ true
+pub record IsSeekByte (s : List ℕ) (p : Place) (b : ℕ) : Type 0 where
+  pub seeks : begins_seek p (ccw s p.address) ≡ true
   pub chain : List ℕ
-  pub is_chain : IsChain (storage_of j) 6 p.address chain
-  pub has : Has (argument_addresses (storage_of j) chain) b
+  pub is_chain : IsChain s 6 p.address chain
+  pub has : Has (argument_addresses s chain) b
 
 -- Set File Mask begins at p, and the byte at b is the one that it sets
-pub record IsMaskByte (j : Job) (p : Place) (b : ℕ) : Type 0 where
-  pub sets : begins_set_mask p (ccw_of j p) ≡ true
-  pub at : (ccw_of j p).address ≡ b
+pub record IsMaskByte (s : List ℕ) (p : Place) (b : ℕ) : Type 0 where
+  pub sets : begins_set_mask p (ccw s p.address) ≡ true
+  pub at : (ccw s p.address).address ≡ b
+
+-- p takes the byte at b: for a seek's argument, or as a mask
+abbrev pub Takes : List ℕ → Place → ℕ → Type 0
+Takes s p b = IsSeekByte s p b ⊎ IsMaskByte s p b
 
 -- the byte at b is an argument of a reachable place that has no own fault: a seek's, or the one of
 -- Set File Mask
@@ -35,7 +39,7 @@ pub record IsArgumentByte (j : Job) (b : ℕ) : Type 0 where
   pub place : Place
   pub reached : IsReachable j place
   pub clear : IsClear j place
-  pub takes : IsSeekByte j place b ⊎ IsMaskByte j place b
+  pub takes : Takes (storage_of j) place b
 
 -- the byte at b is guarded
 abbrev pub IsGuarded : Job → ℕ → Type 0

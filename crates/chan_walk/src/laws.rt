@@ -3,7 +3,7 @@
 
 ghost use Rattle.chan_walk.specs.Alarm.{EachPathIsRun, EachPathShows, GuardedIsUsed};
 ghost use Rattle.chan_walk.specs.Alarm.{HeadlineAloneIsEnough, NoFalseAlarm, SafeIsYes, StaysSafe};
-ghost use Rattle.chan_walk.specs.Counted.{SameVerdict, YesByGuarded, YesStays};
+ghost use Rattle.chan_walk.specs.Counted.{CountedIsGuarded, SameVerdict, YesByGuarded, YesStays};
 ghost use Rattle.chan_walk.specs.Headline.{GathersArguments, GuardedStays, StaysReachable};
 ghost use Rattle.chan_walk.specs.Headline.{YesIsSafe, YesIsSafeAmong};
 ghost use Rattle.chan_walk.specs.Offence.{FirstIsVerdict};
@@ -99,6 +99,11 @@ pub(crate) fn numbers_increase()
 /// The verdict depends on nothing in storage but its length and the bytes that count.
 pub(crate) fn same_verdict()
     ensures { SameVerdict }
+{}
+
+/// Under a yes each byte that counts is guarded.
+pub(crate) fn counted_is_guarded()
+    ensures { CountedIsGuarded }
 {}
 
 /// A yes depends on nothing in storage but its length and the guarded bytes.

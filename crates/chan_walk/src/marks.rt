@@ -2,7 +2,9 @@
 
 ghost use Rattle.std.specs.Prelude.{◌≡◌, ◌<◌, ◌++◌, ◌↔◌, IsTrue, OnOk, OnErr};
 ghost use Rattle.chan_walk.specs.Marks as marked;
-ghost use Rattle.chan_walk.specs.Marks.{HasMark, ways};
+ghost use Rattle.chan_walk.specs.Marks.{ways};
+ghost use Rattle.chan_walk.specs.Places.{way_of};
+ghost use Rattle.std.specs.Int.{bit_at};
 ghost use Rattle.chan_walk.specs.Walk.{Marks};
 
 use crate::error::WalkError;
@@ -52,20 +54,19 @@ pub(crate) fn bits_at(marks: &BTreeMap<u32, u8>, address: u32) -> u8
     }
 }
 
-/// The place is marked.
-pub(crate) fn is_marked(marks: &BTreeMap<u32, u8>, place: Place) -> bool
-    ensures { IsTrue result ↔ HasMark marks.now place }
+/// Whether a place is marked, where these are the marks of its address.
+pub(crate) fn is_marked(bits: u8, place: Place) -> bool
+    ensures { IsTrue result ↔ (bit_at bits (way_of place) ≡ 1) }
 {
-    let bits = bits_at(marks, place.address);
     (bits >> place.way()) & 1 == 1
 }
 
-/// Marks a place.
-pub(crate) fn mark(marks: &mut BTreeMap<u32, u8>, place: Place) -> Result<(), WalkError>
+/// Marks a place, where these are the marks of its address.
+pub(crate) fn mark(marks: &mut BTreeMap<u32, u8>, place: Place, bits: u8) -> Result<(), WalkError>
+    requires { bits ≡ marked.marks_of marks.old place.address }
     ensures ok { OnOk result (Marks marks.old marks.new place) }
     ensures memory { OnErr result (result ≡ Err WalkError.Memory) }
 {
-    let bits = bits_at(marks, place.address);
     marks.insert(place.address, bits | (1 << place.way()))?;
     Ok(())
 }

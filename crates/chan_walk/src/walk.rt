@@ -10,7 +10,7 @@ use crate::error::WalkError;
 use crate::job::Job;
 use crate::lent::{Lending, Lent};
 use crate::look::{Look, look_by};
-use crate::marks::{is_marked, mark};
+use crate::marks::{bits_at, is_marked, mark};
 use crate::place::{Place, first_place};
 use crate::places::Explored;
 use std::alloc::Global;
@@ -50,13 +50,14 @@ impl Walk {
             → Overflows job.now.limit place (places_of_looks self.old.looks.items) }
     {
         if let Some(place) = place {
-            if !is_marked(&self.marks, place) {
+            let bits = bits_at(&self.marks, place.address);
+            if !is_marked(bits, place) {
                 if self.looks.len() >= job.limit.get() as usize {
                     return Err(WalkError::TooManyPlaces);
                 }
                 self.looks.push(look_by(job, Lending::Merged(lent), place))?;
                 self.found_from.push(from)?;
-                mark(&mut self.marks, place)?;
+                mark(&mut self.marks, place, bits)?;
             }
         }
         Ok(())

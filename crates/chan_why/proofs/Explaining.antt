@@ -9,34 +9,23 @@ use Rattle.chan_walk.specs.declared.offence.Offence.{Offence}
 use Rattle.chan_walk.specs.declared.place.Place.{Place}
 use Rattle.chan_walk.specs.Alarm.{EachPathShows, IsProper}
 use Rattle.chan_walk.specs.Argument.{Has}
-use Rattle.chan_why.specs.Witness.{IsCauseOf, IsEvidenceOf, IsLike, IsPathOf, IsStoredBefore}
+use Rattle.chan_why.specs.Witness.{IsCaseOf, IsCauseOf, IsEvidenceOf, IsLike, IsPathOf, IsStoredBefore}
 use Rattle.chan_why.specs.Witness.{IsStoredOver, IsWitness, OffendsAt}
 use Rattle.chan_walk.specs.declared.reason.Reason.{Reason}
 use Rattle.chan_walk.specs.declared.verdict.Verdict.TheVariants.{No}
 use Rattle.chan_walk.specs.Reason.{is_no_command}
-use Rattle.chan_walk.specs.Look.{Seen, places_of_looks}
+use Rattle.chan_walk.specs.Look.{IsLook, Seen, places_of_looks}
 use Rattle.chan_why.specs.Cause.{IsEvidence}
 use Rattle.chan_walk.specs.Offence.{AreOffences, Offending, first_verdict}
 use Rattle.chan_walk.specs.JobSurvey.{IsSurvey, Surveyed}
 use Rattle.chan_walk.specs.Reachable.{IsReachable}
-use Rattle.chan_why.specs.declared.finder.Finder.{Finder}
-use Rattle.chan_why.specs.Finder.{Finds, IsIndex, IsOfKind, TakesByte}
 use Rattle.chan_walk.specs.Walk.{HasFound}
 use Rattle.chan_why.specs.Path.{IsFirstWhere, IsPathAt}
 use Rattle.chan_walk.proofs.Algorithms.Listing.{offence}
+use Rattle.chan_walk.proofs.Algorithms.Looking.{look_of, place_at}
+use Rattle.chan_why.proofs.Changing.{first_within}
 use Rattle.chan_walk.proofs.Theory.Lists.{has_at}
 use Rattle.chan_why.proofs.Finding.{best_where, path_where, reached_at}
-
--- ---- what a survey and a finder have, as it is read
-
-pub record IsAtHand (j : Job) (ls : List Seen) (fs : List ℕ) (os : List Offence) (f : Finder) : Type 0 where
-  pub found : HasFound j ls fs
-  pub are : AreOffences j os
-  pub takers : IsIndex (TakesByte ls (length ls)) f.takers
-  pub offenders : IsIndex (IsOfKind ls os (length os)) f.offenders
-
-pub at_hand : (j : Job) (s : Surveyed) (ls : List Seen) (os : List Offence) (f : Finder) → ls ≡ s.looks → os ≡ s.offences → IsSurvey j s → Finds s.looks s.offences f → IsAtHand j ls s.found_from os f
-at_hand j s ls os f e d h k = rw (e, d) (record { found = h.found; are = h.offences; takers = k.takers; offenders = k.offenders })
 
 -- ---- an offence, and the first place that is like it
 
@@ -78,6 +67,27 @@ module _ (j : Job) (ls : List Seen) (fs : List ℕ) (f : HasFound j ls fs) (os :
   cause_found i p e here h v =
       let b = best_where j ls fs f (OffendsAt j o.place.address o.reason) i p (first_offending i h) here in
       (reverse (p ∷ b.0), record { last = p; before = b.0; is = refl; path = b.1 }, (p, b.0, refl, v))
+
+-- the place of this index is the first that is like an offence of the survey
+module _ (j : Job) (s : Surveyed) (is : IsSurvey j s) (o : Offence) (listed : Has s.offences o) (at : ℕ) (first : IsFirstWhere (IsLike s.offences o) (places_of_looks s.looks) (Some at)) (l : Seen) (seen : l ≡ get_or s.looks at l) where
+  within : at < length s.looks
+  within = first_within (IsLike s.offences o) s.looks at first
+
+  here : slice_get (places_of_looks s.looks) at ≡ Some l.place
+  here = place_at s.looks at l within seen
+
+  pub look_there : IsLook j l
+  look_there = look_of j s.looks at l is.found.looks within seen
+
+  pub offending_there : Offending j (offence l.place o.reason)
+  offending_there = offending_found j s.looks s.found_from is.found s.offences is.offences o listed at l.place here first
+
+  pub case_there : (e : Evidence) → IsEvidence j (offence l.place o.reason) e → IsCaseOf j (places_of_looks s.looks) o at e
+  case_there e v = record {
+    path = λ places a. path_found j s.looks s.found_from is.found s.offences is.offences o listed at places a first;
+    evidence = λ places a. evidence_found j s.looks s.found_from is.found s.offences is.offences o listed at l.place places e here a v;
+    cause = cause_found j s.looks s.found_from is.found s.offences is.offences o listed at l.place e here first v;
+  }
 
 -- one more cause
 pub cause_more : (j : Job) (os : List Offence) (i n : ℕ) (d : Offence) (es : List Evidence) (e : Evidence) → i < length os → n ≡ suc i → AllZip (IsCauseOf j) (take i os) es → IsCauseOf j (get_or os i d) e

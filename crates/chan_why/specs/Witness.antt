@@ -15,7 +15,7 @@ use Rattle.chan_walk.specs.Place.{data_at, ccw_of}
 use Rattle.chan_why.specs.SecondPath.{HasByteOf}
 use Rattle.chan_walk.specs.Fault.{stores}
 use Rattle.chan_walk.specs.Job.{storage_of}
-use Rattle.chan_why.specs.Path.{ArePathWhere}
+use Rattle.chan_why.specs.Path.{ArePathWhere, IsPathAt}
 use Rattle.chan_walk.specs.Reason.{is_no_command}
 use Rattle.chan_walk.specs.Verdict.{Offends}
 
@@ -90,3 +90,12 @@ IsCauseOf j o e =
 -- the list has an offence at p with the address and the reason of o
 abbrev pub IsLike : List Offence → Offence → Place → Type 0
 IsLike os o p = (p.address ≡ o.place.address) × Has os (record { place = p; reason = o.reason })
+
+-- the path to the place of this index is the one to a place that offends as the offence does, and
+-- the evidence is that of its last place
+pub record IsCaseOf (j : Job) (ps : List Place) (o : Offence) (at : ℕ) (e : Evidence) : Type 0 where
+  pub path : (places : List Place) → IsPathAt j ps at places
+      → IsPathOf j (No o.place.address o.reason) places
+  pub evidence : (places : List Place) → IsPathAt j ps at places
+      → IsEvidenceOf j (No o.place.address o.reason) places (Some e)
+  pub cause : IsCauseOf j o e

@@ -1,11 +1,14 @@
 //! What shows that a program may not run: the path to a place that offends, and the values of the
 //! cause.
 
-ghost use Rattle.std.specs.Prelude.{◌≡◌, true, false, None, IfOk};
+ghost use Rattle.std.specs.Prelude.{◌≡◌, ◌<◌, true, false, None, IfOk, length};
 ghost use Rattle.std.specs.List.{AllZip};
-ghost use Rattle.chan_why.specs.Witness.{IsCauseOf, IsEvidenceOf, IsPathOf, IsSecondPathOf};
-ghost use Rattle.chan_why.specs.Witness.{IsStoredOver, IsWitness};
+ghost use Rattle.chan_why.specs.Finder.{Finds};
+ghost use Rattle.chan_why.specs.Witness.{IsCaseOf, IsCauseOf, IsEvidenceOf, IsPathOf};
+ghost use Rattle.chan_why.specs.Witness.{IsSecondPathOf, IsStoredOver, IsWitness};
+ghost use Rattle.chan_walk.specs.Argument.{Has};
 ghost use Rattle.chan_walk.specs.JobSurvey.{IsSurvey};
+ghost use Rattle.chan_walk.specs.Look.{places_of_looks};
 ghost use Rattle.chan_walk.specs.Offence.{first_verdict};
 ghost use Rattle.chan_walk.specs.Reason.{is_no_command};
 ghost use Rattle.chan_walk.specs.declared.job.Job.{Job};
@@ -14,7 +17,7 @@ use crate::cause::evidence_at;
 use crate::finder::Finder;
 use crate::path::{Path, path_at};
 use crate::second_path::second_path;
-use chan_walk::{Evidence, Place, Reason, Survey};
+use chan_walk::{Evidence, Offence, Place, Reason, Survey};
 use std::alloc::{AllocError, Global};
 
 /// The witness of the first of a job's offences.
@@ -57,8 +60,7 @@ pub fn witness_from(alloc: Global, survey: &Survey) -> Result<Witness, AllocErro
     ensures second { IfOk result (λ w. (j : Job) → IsSurvey j survey.now
         → IsSecondPathOf j w.evidence w.second_path.items) }
 {
-    let (looks, offences) = (survey.looks(), survey.offences());
-    let Some(first) = offences.first() else {
+    let Some(first) = survey.offences().first() else {
         return Ok(Witness {
             path: Vec::new(alloc),
             evidence: None,
@@ -67,10 +69,8 @@ pub fn witness_from(alloc: Global, survey: &Survey) -> Result<Witness, AllocErro
         });
     };
     let finder = Finder::new(alloc, survey)?;
-    // The first offence's own place is one.
-    let at = finder.offender(*first).unwrap();
+    let (at, evidence) = case_of(survey, &finder, *first);
     let Path { places, stored_by } = path_at(alloc, survey, at)?;
-    let evidence = evidence_at(survey, &finder, &looks[at], first.reason);
     let second_path = second_path(alloc, survey, &finder, &evidence)?;
     Ok(Witness {
         path: places,
@@ -78,6 +78,21 @@ pub fn witness_from(alloc: Global, survey: &Survey) -> Result<Witness, AllocErro
         stored_over: told_over(first.reason, stored_by),
         second_path,
     })
+}
+
+/// The index of the place at which the path to an offence ends, and the evidence there.
+fn case_of(survey: &Survey, finder: &Finder, offence: Offence) -> (usize, Evidence)
+    requires listed { (j : Job) × IsSurvey j survey.now
+        × Has survey.now.offences offence }
+    requires finds { Finds survey.now.looks survey.now.offences finder.now }
+    ensures within { result.0 < length survey.now.looks }
+    ensures case { (j : Job) → IsSurvey j survey.now
+        → IsCaseOf j (places_of_looks survey.now.looks) offence result.0 result.1 }
+{
+    let looks = survey.looks();
+    // The offence's own place is one.
+    let at = finder.offender(offence).unwrap();
+    (at, evidence_at(survey, finder, &looks[at], offence.reason))
 }
 
 /// The place that stores over what stands at a path's end, where that is no command.
@@ -102,13 +117,11 @@ pub fn causes_from(alloc: Global, survey: &Survey) -> Result<Vec<Evidence>, Allo
     ensures { IfOk result (λ es. (j : Job) → IsSurvey j survey.now
         → AllZip (IsCauseOf j) survey.now.offences es.items) }
 {
-    let (looks, offences) = (survey.looks(), survey.offences());
+    let offences = survey.offences();
     let finder = Finder::new(alloc, survey)?;
     let mut causes = Vec::new(alloc);
     for offence in offences {
-        // The offence's own place is one.
-        let look = &looks[finder.offender(*offence).unwrap()];
-        causes.push(evidence_at(survey, &finder, look, offence.reason))?;
+        causes.push(case_of(survey, &finder, *offence).1)?;
     }
     Ok(causes)
 }

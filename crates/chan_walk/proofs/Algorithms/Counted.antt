@@ -1,7 +1,7 @@
 -- Over another storage that is the same in the bytes that count, everything that the verdict asks is the same.
 use Rattle.std.proofs.Common.{◌≡◌, ℕ, ◌+◌, ◌<◌, ◌≤◌, Bool, true, false, not, ◌&&◌, if◌then◌else◌}
 use Rattle.std.proofs.Common.{List, [], ◌∷◌, ◌++◌, length, map, take, Option, Some, None, refl, sym}
-use Rattle.std.proofs.Common.{ap, ◌∙◌, subst, ◌⊎◌, ◌↔◌, inl, inr, rules}
+use Rattle.std.proofs.Common.{ap, ◌∙◌, subst, ◌↔◌, inl, inr, rules}
 use Rattle.std.specs.List.{AllByRecursion, range_with_len}
 use Rattle.std.specs.Option.{option_or}
 use Rattle.std.proofs.lemmas.Bool.{and_parts}
@@ -13,29 +13,26 @@ use Rattle.ccw_core.specs.Storage.{Stands, is_aligned, is_inside}
 use Rattle.chan_walk.specs.declared.job.Job.{Job}
 use Rattle.chan_walk.specs.declared.place.Place.{Place}
 use Rattle.chan_walk.specs.declared.reason.Reason.{Reason}
-use Rattle.chan_walk.specs.declared.verdict.Verdict.{Verdict}
-use Rattle.chan_walk.specs.declared.verdict.Verdict.TheVariants.{Yes, No}
 use Rattle.chan_walk.specs.Argument.{Has, is_part, Leads, data_addresses, joined, total, but_last}
 use Rattle.chan_walk.specs.Argument.{AreLinked, BeginsAt, IsChain, argument_addresses, argument}
 use Rattle.chan_walk.specs.Argument.{HasArgument}
 use Rattle.chan_walk.specs.Check.{first_reason, check_of, check}
 use Rattle.chan_walk.specs.Counted.{IsChained, at_once, further, IsCounted, with_storage}
 use Rattle.chan_walk.specs.Counted.{SameVerdict}
-use Rattle.chan_walk.specs.Fault.{kind_of, begins_seek, begins_set_mask, command_faults}
+use Rattle.chan_walk.specs.Fault.{begins_seek, begins_set_mask, command_faults}
 use Rattle.chan_walk.specs.Fault.{lent_faults, seek_faults, mask_faults, table_of_own, fault_with}
 use Rattle.chan_walk.specs.Fault.{HasFault, IsClear}
-use Rattle.chan_walk.specs.Guarded.{IsCcwByte, IsSeekByte, IsMaskByte, IsArgumentByte}
+use Rattle.chan_walk.specs.Guarded.{Takes}
 use Rattle.chan_walk.specs.Job.{storage_of}
-use Rattle.chan_walk.specs.Place.{ccw_of, first_place}
-use Rattle.chan_walk.specs.Reachable.{IsPath, IsReachable}
+use Rattle.chan_walk.specs.Place.{ccw_of}
+use Rattle.chan_walk.specs.Reachable.{IsReachable}
 use Rattle.chan_walk.specs.Runs.{IsSameIn}
-use Rattle.chan_walk.specs.Successor.{next_of, skip_of}
-use Rattle.chan_walk.specs.Verdict.{AreClear, StoresOver, Offends, IsVerdict}
 use Rattle.chan_walk.proofs.Theory.Chains.{argument_exists, argument_unique}
 use Rattle.chan_walk.proofs.Theory.Checks.{check_stands}
 use Rattle.chan_walk.proofs.Theory.Faults.{clear_check}
 use Rattle.chan_walk.proofs.Theory.Lists.{same_reads}
 use Rattle.chan_walk.proofs.Theory.SameCcws.{same_ccw}
+use Rattle.chan_walk.proofs.Theory.Transport.{CarriesOver, same_reached, same_verdicts}
 
 -- ---- where no CCW stands, its fields don't matter
 
@@ -143,21 +140,6 @@ chain_from s t len C alike on n a l c k = chain_to t s (sym len) C back follows 
 
 -- ---- the job over another storage
 
--- what the verdict asks of the place is the same in both jobs
-pub record AreSame (j k : Job) (p : Place) : Type 0 where
-  pub stands : Stands (storage_of j) p.address ↔ Stands (storage_of k) p.address
-  pub fault : (r : Option Reason) → HasFault j p r ↔ HasFault k p r
-  pub ccw : IsClear j p → ccw_of j p ≡ ccw_of k p
-  pub takes : IsClear j p → (b : ℕ) → (IsSeekByte j p b ⊎ IsMaskByte j p b) ↔ (IsSeekByte k p b ⊎ IsMaskByte k p b)
-
-pub flipped : (j k : Job) (p : Place) → AreSame j k p → AreSame k j p
-flipped j k p h = record {
-  stands = (h.stands.1, h.stands.0);
-  fault = λ r. ((h.fault r).1, (h.fault r).0);
-  ccw = λ f. sym (h.ccw ((h.fault None).1 f));
-  takes = λ f b. let t = h.takes ((h.fault None).1 f) b in (t.1, t.0);
-}
-
 module _ (j : Job) (t : Storage) (h : IsSameIn (IsCounted j) (storage_of j) (bytes_held t)) where
   abbrev there : Job
   there = with_storage j t
@@ -230,13 +212,13 @@ module _ (j : Job) (t : Storage) (h : IsSameIn (IsCounted j) (storage_of j) (byt
           ∙ ap (λ ts. option_or (check u p) (if is_transfer (ccw_of j p) then None else first_reason ts)) (table_same p r x y a b)
           ∙ ap (λ c. option_or (check u p) (rest there c y)) (ccw_same p r (check_stands s p e))
 
-  takes_same : (p : Place) → IsReachable j p → IsClear j p → (b : ℕ) → (IsSeekByte j p b ⊎ IsMaskByte j p b) ↔ (IsSeekByte there p b ⊎ IsMaskByte there p b)
+  takes_same : (p : Place) → IsReachable j p → IsClear j p → (b : ℕ) → Takes s p b ↔ Takes u p b
   takes_same p r clear b = (to, from)
     where
       same : ccw_of j p ≡ ccw_of there p
       same = ccw_same p r (check_stands s p (clear_check j p clear))
 
-      to : IsSeekByte j p b ⊎ IsMaskByte j p b → IsSeekByte there p b ⊎ IsMaskByte there p b
+      to : Takes s p b → Takes u p b
       to (inl k) = inl (record {
         seeks = subst (λ c. begins_seek p c ≡ true) same k.seeks;
         chain = k.chain;
@@ -245,79 +227,28 @@ module _ (j : Job) (t : Storage) (h : IsSameIn (IsCounted j) (storage_of j) (byt
       })
       to (inr k) = inr (record { sets = subst (λ c. begins_set_mask p c ≡ true) same k.sets; at = subst (λ (c : Fields). c.address ≡ b) same k.at })
 
-      from : IsSeekByte there p b ⊎ IsMaskByte there p b → IsSeekByte j p b ⊎ IsMaskByte j p b
+      from : Takes u p b → Takes s p b
       from (inl k) =
           let seeks : begins_seek p (ccw_of j p) ≡ true = subst (λ c. begins_seek p c ≡ true) (sym same) k.seeks in
           let chain = seek_chain_from p r seeks k.chain k.is_chain in
           inl (record { seeks = seeks; chain = k.chain; is_chain = chain; has = subst (λ l. Has l b) (sym (seek_addresses p r seeks k.chain chain)) k.has })
       from (inr k) = inr (record { sets = subst (λ c. begins_set_mask p c ≡ true) (sym same) k.sets; at = subst (λ (c : Fields). c.address ≡ b) (sym same) k.at })
 
-  pub same_at : (p : Place) → IsReachable j p → AreSame j there p
-  same_at p r = record {
-    stands = (stands_there s u p.address h.same_length, stands_there u s p.address (sym h.same_length));
-    fault = λ q. (
-      (λ f. let y = argument_exists u p.address in (y.0, y.1, sym (fault_same p r f.0 y.0 f.1 y.1) ∙ f.2)),
-      λ f. let x = argument_exists s p.address in (x.0, x.1, fault_same p r x.0 f.0 x.1 f.1 ∙ f.2),
-    );
-    ccw = λ f. ccw_same p r (check_stands s p (clear_check j p f));
-    takes = takes_same p r;
-  }
-
--- ---- two jobs that are the same at reachable places
-
-abbrev Leads_on : Place → Place → Fields → Type 0
-Leads_on p q c = (next_of p c (kind_of p.entered c) ≡ Some q) ⊎ (skip_of p c (kind_of p.entered c) ≡ Some q)
-
-path_over : (j k : Job) → first_place j ≡ first_place k → ((p : Place) → IsReachable j p → IsReachable k p → AreSame j k p) → (ps : List Place) → IsPath j ps → IsPath k ps
-path_over j k first same [] e = e
-path_over j k first same (p ∷ []) e = e ∙ first
-path_over j k first same (q ∷ p ∷ ps) e =
-    let before = path_over j k first same (p ∷ ps) e.0 in
-    let here = same p (ps, e.0) (ps, before) in
-    (before, (here.fault None).0 e.1, subst (Leads_on p q) (here.ccw e.1) e.2)
-
-reach_over : (j k : Job) → first_place j ≡ first_place k → ((p : Place) → IsReachable j p → IsReachable k p → AreSame j k p) → (p : Place) → IsReachable j p → IsReachable k p
-reach_over j k first same p r = (r.0, path_over j k first same (p ∷ r.0) r.1)
-
-module _ (j k : Job) (same : (p : Place) → IsReachable j p → AreSame j k p) (on : (p : Place) → IsReachable j p → IsReachable k p) (back : (p : Place) → IsReachable k p → IsReachable j p) where
-  pub ccw_byte_over : (b : ℕ) → IsCcwByte j b → IsCcwByte k b
-  ccw_byte_over b g = record { place = g.place; reached = on g.place g.reached; stands = (same g.place g.reached).stands.0 g.stands; from = g.from; below = g.below }
-
-  pub argument_byte_over : (b : ℕ) → IsArgumentByte j b → IsArgumentByte k b
-  argument_byte_over b g =
-      let here = same g.place g.reached in
-      record { place = g.place; reached = on g.place g.reached; clear = (here.fault None).0 g.clear; takes = (here.takes g.clear b).0 g.takes }
-
-  stores_over : (p : Place) → IsReachable j p → IsClear j p → (P Q : ℕ → Type 0) → ((b : ℕ) → P b → Q b) → StoresOver j p P → StoresOver k p Q
-  stores_over p r clear P Q f o = search rules
-
-  clear_over : AreClear j → AreClear k
-  clear_over f p r = let m = back p r in ((same p m).fault None).0 (f p m)
-
-  offends_over : (p : Place) (q : Reason) → IsReachable j p → Offends j p q → Offends k p q
-  offends_over p q r (inl f) = inl (((same p r).fault (Some q)).0 f)
-  offends_over p q r (inr (clear, inl o)) = inr (clear_over clear, inl (o.0, stores_over p r (clear p r) _ _ ccw_byte_over o.1))
-  offends_over p q r (inr (clear, inr o)) = inr (clear_over clear, inr (o.0, stores_over p r (clear p r) _ _ argument_byte_over o.1))
-
-  verdict_over : ((p : Place) (q : Reason) → IsReachable k p → Offends k p q → Offends j p q) → (v : Verdict) → IsVerdict j v → IsVerdict k v
-  verdict_over offends Yes v = λ p q r o. v p q (back p r) (offends p q r o)
-  verdict_over offends (No a q) v = (
-    record { place = v.0.place; reached = on v.0.place v.0.reached; address = v.0.address; offends = offends_over v.0.place q v.0.reached v.0.offends },
-    λ p x r o. v.1 p x (back p r) (offends p x r o),
+  fault_at : (p : Place) → IsReachable j p → (r : Option Reason) → HasFault j p r ↔ HasFault there p r
+  fault_at p m r = (
+    (λ f. let y = argument_exists u p.address in (y.0, y.1, sym (fault_same p m f.0 y.0 f.1 y.1) ∙ f.2)),
+    λ f. let x = argument_exists s p.address in (x.0, x.1, fault_same p m x.0 f.0 x.1 f.1 ∙ f.2),
   )
 
-pub verdict_both : (j k : Job) → first_place j ≡ first_place k → ((p : Place) → IsReachable j p → AreSame j k p)
-    → ((p : Place) → IsReachable j p ↔ IsReachable k p) × ((v : Verdict) → IsVerdict j v ↔ IsVerdict k v)
-verdict_both j k first same = ((λ p. (to p, from p)), λ v. (verdict_over j k same to from (offends_over k j other from to) v, verdict_over k j other from to (offends_over j k same to from) v))
-  where
-    to : (p : Place) → IsReachable j p → IsReachable k p
-    to = reach_over j k first (λ p r _. same p r)
-
-    from : (p : Place) → IsReachable k p → IsReachable j p
-    from = reach_over k j (sym first) (λ p _ r. flipped j k p (same p r))
-
-    other : (p : Place) → IsReachable k p → AreSame k j p
-    other p r = flipped j k p (same p (from p r))
+  pub carries_at : (p : Place) → IsReachable j p → IsReachable there p → CarriesOver j there p × CarriesOver there j p
+  carries_at p m n =
+      let clear : IsClear j p ↔ IsClear there p = fault_at p m None in
+      let ccw : IsClear j p → ccw_of j p ≡ ccw_of there p = λ f. ccw_same p m (check_stands s p (clear_check j p f)) in (
+        record { stands = stands_there s u p.address h.same_length; clear = clear.0; ccw = ccw; takes = λ f b. (takes_same p m f b).0 },
+        record { stands = stands_there u s p.address (sym h.same_length); clear = clear.1; ccw = λ f. sym (ccw (clear.1 f)); takes = λ f b. (takes_same p m (clear.1 f) b).1 },
+      )
 
 pub same_verdict : SameVerdict
-same_verdict j t h = verdict_both j (with_storage j t) refl (same_at j t h)
+same_verdict j t h =
+    let k = with_storage j t in
+    (same_reached j k refl (carries_at j t h), same_verdicts j k refl (carries_at j t h) (λ p m r. fault_at j t h p m (Some r)))

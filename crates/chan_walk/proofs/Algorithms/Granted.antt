@@ -1,30 +1,27 @@
 -- Two jobs of one program that grant the same: everything that the verdict asks is the same.
 use Rattle.std.proofs.Common.{◌≡◌, ℕ, ◌+◌, ◌≤◌, Bool, true, false, cond, if◌then◌else◌, List}
-use Rattle.std.proofs.Common.{length, Option, Some, None, refl, sym, ap, ◌∙◌, subst, ◌⊎◌, inl, inr}
+use Rattle.std.proofs.Common.{length, Option, Some, None, refl, sym, ap, ◌∙◌, subst}
 use Rattle.std.proofs.Common.{◌↔◌, rules}
 use Rattle.std.specs.Option.{option_or}
 use Rattle.ccw_core.specs.Areas.{covered}
 use Rattle.ccw_core.specs.Ccw.{byte, Fields, is_transfer}
-use Rattle.ccw_core.specs.Storage.{Stands}
 use Rattle.ckd_core.specs.Extents.{has_cylinder}
 use Rattle.ckd_core.specs.Mask.{inhibits, is_at_least}
 use Rattle.chan_walk.specs.declared.job.Job.{Job}
-use Rattle.chan_walk.specs.declared.place.Entry.TheVariants.{Fresh}
 use Rattle.chan_walk.specs.declared.place.Place.{Place}
 use Rattle.chan_walk.specs.declared.reason.Reason.{Reason}
 use Rattle.chan_walk.specs.declared.verdict.Verdict.{Verdict}
 use Rattle.chan_walk.specs.Argument.{HasArgument}
 use Rattle.chan_walk.specs.Check.{first_reason, check}
-use Rattle.chan_walk.specs.Fault.{is_refused, table_of_own, fault_with}
-use Rattle.chan_walk.specs.Guarded.{IsSeekByte, IsMaskByte}
+use Rattle.chan_walk.specs.Fault.{is_refused, table_of_own, fault_with, HasFault}
 use Rattle.chan_walk.specs.Job.{storage_of, extents_of, fetch_of, store_of}
 use Rattle.chan_walk.specs.OpenJob.{AreOfOneProgram, GrantsMore}
 use Rattle.chan_walk.specs.Reachable.{IsReachable}
 use Rattle.chan_walk.specs.Verdict.{IsVerdict}
-use Rattle.chan_walk.specs.Place.{transferred_to, ccw_of}
-use Rattle.chan_walk.proofs.Algorithms.Counted.{AreSame, verdict_both}
-use Rattle.chan_walk.proofs.Theory.Granting.{turned, ccw_over, seek_byte_over, mask_byte_over}
+use Rattle.chan_walk.specs.Place.{ccw_of}
+use Rattle.chan_walk.proofs.Theory.Granting.{turned, ccw_over, carries, same_first}
 use Rattle.chan_walk.proofs.Theory.Granting.{covered_more, refused_more}
+use Rattle.chan_walk.proofs.Theory.Transport.{CarriesOver, same_reached, same_verdicts}
 use Rattle.chan_walk.proofs.Theory.OwnFaults.{data_in_storage}
 use Rattle.chan_walk.proofs.Theory.Masks.{laxer_permits, strict_as_laxer}
 
@@ -69,22 +66,14 @@ module _ (j k : Job) (one : AreOfOneProgram j k) (more : GrantsMore j k) (less :
       go (Some q) e = ap (λ o. option_or o (rest j)) e ∙ sym (ap (λ o. option_or o (rest k)) (sym checks ∙ e))
       go None e = ap (λ o. option_or o (rest j)) checks ∙ ap (λ r. option_or (check (storage_of k) p) r) (rest_alike p x e)
 
-  pub same_at : (p : Place) → AreSame j k p
-  same_at p =
-      let back = turned j k one in
-      record {
-        stands = ((λ h. subst (λ s. Stands s p.address) one.storage h), λ h. subst (λ s. Stands s p.address) back.storage h);
-        fault = λ r. (
-          (λ f. (f.0, subst (λ s. HasArgument s p.address f.0) one.storage f.1, sym (fault_alike p f.0) ∙ f.2)),
-          λ f. (f.0, subst (λ s. HasArgument s p.address f.0) back.storage f.1, fault_alike p f.0 ∙ f.2),
-        );
-        ccw = λ f. ccw_over j k one p;
-        takes = λ f b. (to j k one p b, to k j back p b);
-      }
-    where
-      to : (j k : Job) → AreOfOneProgram j k → (p : Place) (b : ℕ) → IsSeekByte j p b ⊎ IsMaskByte j p b → IsSeekByte k p b ⊎ IsMaskByte k p b
-      to j k one p b (inl h) = inl (seek_byte_over j k one p b h)
-      to j k one p b (inr h) = inr (mask_byte_over j k one p b h)
+  pub fault_over : (p : Place) (r : Option Reason) → HasFault j p r ↔ HasFault k p r
+  fault_over p r = (
+    (λ f. (f.0, subst (λ s. HasArgument s p.address f.0) one.storage f.1, sym (fault_alike p f.0) ∙ f.2)),
+    λ f. (f.0, subst (λ s. HasArgument s p.address f.0) (sym one.storage) f.1, fault_alike p f.0 ∙ f.2),
+  )
 
-pub same_by_grants : (j k : Job) → AreOfOneProgram j k → GrantsMore j k → GrantsMore k j → ((p : Place) → IsReachable j p ↔ IsReachable k p) × ((v : Verdict) → IsVerdict j v ↔ IsVerdict k v)
-same_by_grants j k one more less = verdict_both j k (ap (λ a. transferred_to a Fresh) one.start) (λ p r. same_at j k one more less p)
+  carry : (p : Place) → IsReachable j p → IsReachable k p → CarriesOver j k p × CarriesOver k j p
+  carry p m n = let f = fault_over p None in (carries j k one p f.0, carries k j (turned j k one) p f.1)
+
+  pub same_by_grants : ((p : Place) → IsReachable j p ↔ IsReachable k p) × ((v : Verdict) → IsVerdict j v ↔ IsVerdict k v)
+  same_by_grants = (same_reached j k (same_first j k one) carry, same_verdicts j k (same_first j k one) carry (λ p m r. fault_over p (Some r)))

@@ -21,7 +21,7 @@ use Rattle.chan_walk.specs.Check.{table_of_every_ccw, table_of_non_transfer, che
 use Rattle.chan_walk.specs.Fault.{kind_of, goes_out, stores, fetches, is_known, begins_seek}
 use Rattle.chan_walk.specs.Fault.{begins_recalibrate, begins_set_mask, allows, is_refused}
 use Rattle.chan_walk.specs.Fault.{table_of_own, HasFault, IsClear}
-use Rattle.chan_walk.specs.Guarded.{IsCcwByte, IsSeekByte, IsMaskByte, IsArgumentByte}
+use Rattle.chan_walk.specs.Guarded.{IsCcwByte, IsSeekByte, IsMaskByte, IsArgumentByte, Takes}
 use Rattle.chan_walk.specs.Job.{storage_of, extents_of, fetch_of, store_of}
 use Rattle.chan_walk.specs.Machine.{Stage, At, Ended, Event, home, ends, Step, checked, unknown}
 use Rattle.chan_walk.specs.Place.{is_fresh, ccw_of}
@@ -202,13 +202,13 @@ module _ (j : Job) (proper : IsProper j) where
   pub argument_used : (b : ℕ) → IsArgumentByte j b → (used : List Moment) × IsRun j used × UsesInArgument used b
   argument_used b u = go u.takes
     where
-      of_seek : IsSeekByte j u.place b → (used : List Moment) × IsRun j used × UsesInArgument used b
+      of_seek : IsSeekByte (storage_of j) u.place b → (used : List Moment) × IsRun j used × UsesInArgument used b
       of_seek s =
           let t = part_is_no_transfer (storage_of j) u.place.address (chain_begins_with_part (storage_of j) _ _ _ s.is_chain) in
           let z = to_the_end u.place u.reached s.chain s.seeks (clear_check j u.place u.clear) t (clear_good j u.place u.clear t).known s.is_chain in
           (z.used, z.is_used, z.gathers b s.has)
 
-      of_mask : IsMaskByte j u.place b → (used : List Moment) × IsRun j used × UsesInArgument used b
+      of_mask : IsMaskByte (storage_of j) u.place b → (used : List Moment) × IsRun j used × UsesInArgument used b
       of_mask s =
           let e = clear_check j u.place u.clear in
           let t = mask_is_no_transfer (ccw_of j u.place) (and_parts (is_fresh u.place.entered) _ s.sets).1 in
@@ -216,7 +216,7 @@ module _ (j : Job) (proper : IsProper j) where
           let en = ends_at u.place u.reached e t (clear_good j u.place u.clear t).known in
           (moment j proper.1 start Ended en.es ∷ moment j proper.1 start (At u.place R.gathered) R.events ∷ R.run, (R.is_run, en.step), inl (subst (UsesIn en.es) s.at (mask_is_used en.es _ _ (en.masks s.sets (moves_byte j u.place e t s.sets)))))
 
-      go : IsSeekByte j u.place b ⊎ IsMaskByte j u.place b → (used : List Moment) × IsRun j used × UsesInArgument used b
+      go : Takes (storage_of j) u.place b → (used : List Moment) × IsRun j used × UsesInArgument used b
       go (inl s) = of_seek s
       go (inr s) = of_mask s
 

@@ -4,7 +4,7 @@ use Rattle.chan_walk.specs.Alarm.{NoSeek}
 use Rattle.chan_walk.specs.Argument.{Has}
 use Rattle.chan_walk.specs.Machine.{Event, Command, Store, Fetch, Gather, Seek, SetMask}
 use Rattle.chan_walk.specs.Runs.{UsesIn}
-use Rattle.chan_walk.proofs.Theory.Lists.{has_cases}
+use Rattle.chan_walk.proofs.Theory.Lists.{has_cases, has_left, has_right}
 
 pub uses_cases : (xs ys : List Event) (b : ℕ) → UsesIn (xs ++ ys) b → UsesIn xs b ⊎ UsesIn ys b
 uses_cases [] ys b h = inr h
@@ -55,3 +55,10 @@ mask_is_used (Seek z ∷ es) a x (inr h) = mask_is_used es a x h
 
 pub no_seek_append : (xs ys : List Event) → NoSeek xs → NoSeek ys → NoSeek (xs ++ ys)
 no_seek_append xs ys h k x u = search (rules, has_cases)
+
+-- the six lists of a step's events on end: what holds of each holds of all, if it goes over to two on end
+pub of_six : (P : List Event → Type 0) → ((xs ys : List Event) → P xs → P ys → P (xs ++ ys)) → (a b c d e f : List Event) → P a → P b → P c → P d → P e → P f → P (a ++ b ++ c ++ d ++ e ++ f)
+of_six P on a b c d e f pa pb pc pd pe pf = on _ f (on _ e (on _ d (on _ c (on a b pa pb) pc) pd) pe) pf
+
+pub in_six : (a b c d e f : List Event) (z : Event) → Has a z ⊎ Has b z ⊎ Has c z ⊎ Has d z ⊎ Has e z ⊎ Has f z → Has (a ++ b ++ c ++ d ++ e ++ f) z
+in_six a b c d e f z h = search (rules, has_left, has_right)

@@ -24,8 +24,8 @@ use Rattle.chan_walk.specs.Machine.{Recalibration, no_home, home_stays, SetsMask
 use Rattle.chan_walk.specs.Machine.{mask_stays, Continues, command_event, Step, carried}
 use Rattle.chan_walk.specs.Place.{is_fresh, ccw_of}
 use Rattle.chan_walk.specs.Runs.{UsesIn}
-use Rattle.chan_walk.proofs.Machine.Events.{uses_left, uses_right, no_seek_append}
-use Rattle.chan_walk.proofs.Theory.Lists.{all_append, has_left, has_right, byte-map-range}
+use Rattle.chan_walk.proofs.Machine.Events.{uses_left, uses_right, no_seek_append, of_six, in_six}
+use Rattle.chan_walk.proofs.Theory.Lists.{all_append, byte-map-range}
 
 -- as many bytes as there are, in the kind's way
 abbrev pub full_count : Kind → Fields → ℕ
@@ -198,16 +198,16 @@ module _ (j : Job) where
   carry_out bytes y p g few e t known {went = went} calm goes = record {
     es = command_event p c ++ mv.es ++ sk.es ++ hm.es ++ fm.es ++ went;
     step = carried e t known (full_le (kind_at p) c) mv.moves sk.seeks hm.homes fm.sets goes;
-    quiet = all_append _ (command_event p c ++ mv.es ++ sk.es ++ hm.es ++ fm.es) went (all_append _ (command_event p c ++ mv.es ++ sk.es ++ hm.es) fm.es (all_append _ (command_event p c ++ mv.es ++ sk.es) hm.es (all_append _ (command_event p c ++ mv.es) sk.es (all_append _ (command_event p c) mv.es (calm_begun (is_fresh p.entered)) mv.quiet) sk.quiet) hm.quiet) fm.quiet) calm;
-    begins = λ f. from_moved _ (has_left (command_event p c) mv.es _ (has_begun (is_fresh p.entered) f));
-    stores = λ f h. from_moved _ (has_right (command_event p c) mv.es _ (mv.stores (inward_from (kind_at p) f) h));
-    fetches = λ f. from_moved _ (has_right (command_event p c) mv.es _ (mv.fetches f));
-    sought = λ z h. from_sought z (has_right (command_event p c ++ mv.es) sk.es z h);
+    quiet = of_six (AllByRecursion (IsQuiet j)) (all_append _) (command_event p c) mv.es sk.es hm.es fm.es went (calm_begun (is_fresh p.entered)) mv.quiet sk.quiet hm.quiet fm.quiet calm;
+    begins = λ f. among _ (inl (has_begun (is_fresh p.entered) f));
+    stores = λ f h. among _ (inr (inl (mv.stores (inward_from (kind_at p) f) h)));
+    fetches = λ f. among _ (inr (inl (mv.fetches f)));
+    sought = λ z h. among z (inr (inr (inl h)));
     uses = λ b u. uses_left (command_event p c ++ mv.es ++ sk.es ++ hm.es ++ fm.es) went b (uses_left (command_event p c ++ mv.es ++ sk.es ++ hm.es) fm.es b (uses_left (command_event p c ++ mv.es ++ sk.es) hm.es b (uses_right (command_event p c ++ mv.es) sk.es b u)));
-    home = λ f. from_homed _ (has_right (command_event p c ++ mv.es ++ sk.es) hm.es _ (hm.home f));
-    masks = λ f l. has_left (command_event p c ++ mv.es ++ sk.es ++ hm.es ++ fm.es) went _ (has_right (command_event p c ++ mv.es ++ sk.es ++ hm.es) fm.es _ (fm.takes f l));
-    last = λ z h. has_right (command_event p c ++ mv.es ++ sk.es ++ hm.es ++ fm.es) went z h;
-    no_seek = λ h a b. no_seek_append (command_event p c ++ mv.es ++ sk.es ++ hm.es ++ fm.es) went (no_seek_append (command_event p c ++ mv.es ++ sk.es ++ hm.es) fm.es (no_seek_append (command_event p c ++ mv.es ++ sk.es) hm.es (no_seek_append (command_event p c ++ mv.es) sk.es (no_seek_append (command_event p c) mv.es (no_begun (is_fresh p.entered)) mv.no_seek) a) (hm.no_seek h)) fm.no_seek) b;
+    home = λ f. among _ (inr (inr (inr (inl (hm.home f)))));
+    masks = λ f l. among _ (inr (inr (inr (inr (inl (fm.takes f l))))));
+    last = λ z h. among z (inr (inr (inr (inr (inr h)))));
+    no_seek = λ h a b. of_six NoSeek no_seek_append (command_event p c) mv.es sk.es hm.es fm.es went (no_begun (is_fresh p.entered)) mv.no_seek a (hm.no_seek h) fm.no_seek b;
   }
     where
       c : Fields
@@ -225,14 +225,8 @@ module _ (j : Job) where
       fm : CanMask c (bytes_at p) j.mask (begins_set_mask p c)
       fm = can_mask c (bytes_at p) j.mask (begins_set_mask p c)
 
-      from_homed : (z : Event) → Has (command_event p c ++ mv.es ++ sk.es ++ hm.es) z → Has (command_event p c ++ mv.es ++ sk.es ++ hm.es ++ fm.es ++ went) z
-      from_homed z h = has_left (command_event p c ++ mv.es ++ sk.es ++ hm.es ++ fm.es) went z (has_left (command_event p c ++ mv.es ++ sk.es ++ hm.es) fm.es z h)
-
-      from_sought : (z : Event) → Has (command_event p c ++ mv.es ++ sk.es) z → Has (command_event p c ++ mv.es ++ sk.es ++ hm.es ++ fm.es ++ went) z
-      from_sought z h = from_homed z (has_left (command_event p c ++ mv.es ++ sk.es) hm.es z h)
-
-      from_moved : (z : Event) → Has (command_event p c ++ mv.es) z → Has (command_event p c ++ mv.es ++ sk.es ++ hm.es ++ fm.es ++ went) z
-      from_moved z h = from_sought z (has_left (command_event p c ++ mv.es) sk.es z h)
+      among : (z : Event) → Has (command_event p c) z ⊎ Has mv.es z ⊎ Has sk.es z ⊎ Has hm.es z ⊎ Has fm.es z ⊎ Has went z → Has (command_event p c ++ mv.es ++ sk.es ++ hm.es ++ fm.es ++ went) z
+      among = in_six (command_event p c) mv.es sk.es hm.es fm.es went
 
       calm_begun : (f : Bool) → AllByRecursion (IsQuiet j) (if f then Command c.command ∷ [] else [])
       calm_begun f = search rules

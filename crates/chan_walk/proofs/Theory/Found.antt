@@ -23,7 +23,7 @@ use Rattle.chan_walk.specs.declared.evidence.Evidence.{Evidence}
 use Rattle.chan_walk.specs.declared.job.Job.{Job}
 use Rattle.chan_walk.specs.declared.place.Place.{Place}
 use Rattle.chan_walk.specs.declared.reason.Reason.{Reason}
-use Rattle.chan_walk.specs.declared.reason.Reason.TheVariants.{ShortSeek, SeekOutside, WeakensMask}
+use Rattle.chan_walk.specs.declared.reason.Reason.TheVariants.{SeekOutside, WeakensMask}
 use Rattle.chan_walk.specs.Argument.{HasArgument}
 use Rattle.chan_walk.specs.Check.{check, first_reason}
 use Rattle.chan_walk.specs.Evidence.{GoTogether, IsOwnFault}

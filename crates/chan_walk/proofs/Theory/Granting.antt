@@ -1,7 +1,7 @@
 -- Two jobs of one program: where one has the verdict yes, the other has it exactly if all that is reachable is clear.
 use Rattle.std.proofs.Common.{◌≡◌, ℕ, ◌+◌, ◌<◌, ◌≤◌, Bool, true, false, not, ◌&&◌, ◌||◌, cond}
-use Rattle.std.proofs.Common.{if◌then◌else◌, nat_lt, List, [], ◌∷◌, length, Option, Some, None}
-use Rattle.std.proofs.Common.{is_none, refl, sym, ap, ◌∙◌, subst, ◌⊎◌, inl, inr, arith, rules}
+use Rattle.std.proofs.Common.{if◌then◌else◌, nat_lt, List, length, Option, Some, None}
+use Rattle.std.proofs.Common.{is_none, refl, sym, ap, ◌∙◌, subst, inl, inr, ◌↔◌, arith, rules}
 use Rattle.std.specs.Option.{option_or}
 use Rattle.std.proofs.lemmas.Bool.{and_from, and_parts, or_from, not-true, not-false, not_from_true}
 use Rattle.ccw_core.specs.declared.areas.Area.{Area}
@@ -15,25 +15,26 @@ use Rattle.ckd_core.specs.Mask.{inhibits, is_at_least}
 use Rattle.chan_walk.specs.declared.job.Job.{Job}
 use Rattle.chan_walk.specs.declared.place.Entry.TheVariants.{Fresh}
 use Rattle.chan_walk.specs.declared.place.Place.{Place}
-use Rattle.chan_walk.specs.declared.reason.Reason.TheVariants.{ChangesCcw, ChangesArgument}
 use Rattle.chan_walk.specs.declared.verdict.Verdict.TheVariants.{Yes}
-use Rattle.chan_walk.specs.Argument.{Has, HasArgument, IsChain, argument_addresses}
+use Rattle.chan_walk.specs.Argument.{HasArgument}
 use Rattle.chan_walk.specs.Check.{first_reason, check}
 use Rattle.chan_walk.specs.Fault.{kind_of, goes_in, goes_out, stores, fetches, is_known}
 use Rattle.chan_walk.specs.Fault.{begins_seek, begins_recalibrate, begins_set_mask, allows}
 use Rattle.chan_walk.specs.Fault.{is_refused, table_of_own, IsClear}
-use Rattle.chan_walk.specs.Guarded.{IsCcwByte, IsSeekByte, IsMaskByte, IsArgumentByte, IsGuarded}
+use Rattle.chan_walk.specs.Guarded.{Takes}
 use Rattle.chan_walk.specs.Job.{storage_of, extents_of, fetch_of, store_of, heads}
 use Rattle.chan_walk.specs.OpenJob.{AreOfOneProgram, GrantsMore, MoreIsYes, SameUnderYes}
-use Rattle.chan_walk.specs.Place.{is_fresh, transferred_to, ccw_of}
-use Rattle.chan_walk.specs.Reachable.{IsPath, IsReachable}
-use Rattle.chan_walk.specs.Successor.{next_of, skip_of}
-use Rattle.chan_walk.specs.Verdict.{AreClear, StoresOver, Offends, IsVerdict}
+use Rattle.chan_walk.specs.Moved.{IsDataOf}
+use Rattle.chan_walk.specs.Place.{is_fresh, transferred_to, first_place, ccw_of}
+use Rattle.chan_walk.specs.Reachable.{IsReachable}
+use Rattle.chan_walk.specs.Verdict.{AreClear, Offends, IsVerdict}
 use Rattle.chan_walk.proofs.Theory.Areas.{covered_at, allows_cylinder}
 use Rattle.chan_walk.proofs.Theory.Faults.{IsGood, clear_check, clear_good, fault_unique, yes_clear}
 use Rattle.chan_walk.proofs.Theory.OwnFaults.{data_in_storage}
 use Rattle.ccw_core.proofs.Covering.{covered-true}
 use Rattle.chan_walk.proofs.Theory.Masks.{laxer_permits, strict_as_laxer}
+use Rattle.chan_walk.proofs.Theory.Transport.{CarriesOver, reach_over, changes_over, same_reached}
+use Rattle.chan_walk.proofs.Theory.Transport.{same_guarded, same_data}
 
 -- ---- one place
 
@@ -68,7 +69,7 @@ good_rest k p x g = go (is_transfer (ccw_of k p)) refl
     go true e = refl
     go false e = good_table k p (ccw_of k p) x (g e)
 
-clear_from : (k : Job) (p : Place) (x : Option (List ℕ)) → HasArgument (storage_of k) p.address x → check (storage_of k) p ≡ None
+pub clear_from : (k : Job) (p : Place) (x : Option (List ℕ)) → HasArgument (storage_of k) p.address x → check (storage_of k) p ≡ None
     → (is_transfer (ccw_of k p) ≡ false → IsGood k p (ccw_of k p) x) → IsClear k p
 clear_from k p x a h g = (x, a, ap (λ o. option_or o (if is_transfer (ccw_of k p) then None else first_reason (table_of_own k p (ccw_of k p) x))) h ∙ good_rest k p x g)
 
@@ -79,9 +80,6 @@ allows_from j k x e a h =
     and_from _ _ (and_from _ _ (and_parts _ _ parts.0).0 h) (subst (λ n. nat_lt (head_of x) n ≡ true) e parts.1)
 
 -- ---- two jobs of one program
-
-abbrev Leads_on : Place → Place → Fields → Type 0
-Leads_on p q c = (next_of p c (kind_of p.entered c) ≡ Some q) ⊎ (skip_of p c (kind_of p.entered c) ≡ Some q)
 
 pub turned : (j k : Job) → AreOfOneProgram j k → AreOfOneProgram k j
 turned j k one = record { storage = sym one.storage; start = sym one.start; device = sym one.device }
@@ -102,50 +100,17 @@ module _ (j k : Job) (one : AreOfOneProgram j k) where
       (λ t. let u : is_transfer (ccw_of j p) ≡ false = subst (λ c. is_transfer c ≡ false) (sym (ccw_over p)) t in
       subst (λ c. IsGood k p c f.0) (ccw_over p) (g f.0 f.1 u (data_in_storage (storage_of j) p (ccw_of j p) (clear_check j p f) refl u) (clear_good j p f u)))
 
-  -- where nothing that is reachable under j has a fault, nothing else is reachable under k
-  path_over : AreClear j → (ps : List Place) → IsPath k ps → IsPath j ps
-  path_over clear [] e = e
-  path_over clear (p ∷ []) e = e ∙ sym (ap (λ a. transferred_to a Fresh) one.start)
-  path_over clear (q ∷ p ∷ ps) e =
-      let before = path_over clear (p ∷ ps) e.0 in
-      (before, clear p (ps, before), subst (Leads_on p q) (sym (ccw_over p)) e.2)
-
-  pub reach_over : AreClear j → (p : Place) → IsReachable k p → IsReachable j p
-  reach_over clear p r = (r.0, path_over clear (p ∷ r.0) r.1)
-
-  ccw_byte_over : ((p : Place) → IsReachable j p → IsReachable k p) → (b : ℕ) → IsCcwByte j b → IsCcwByte k b
-  ccw_byte_over on b g = record { place = g.place; reached = on g.place g.reached; stands = subst (λ s. Stands s g.place.address) one.storage g.stands; from = g.from; below = g.below }
-
-  pub seek_byte_over : (p : Place) (b : ℕ) → IsSeekByte j p b → IsSeekByte k p b
-  seek_byte_over p b g = record {
-    seeks = subst (λ c. begins_seek p c ≡ true) (ccw_over p) g.seeks;
-    chain = g.chain;
-    is_chain = subst (λ s. IsChain s 6 p.address g.chain) one.storage g.is_chain;
-    has = subst (λ s. Has (argument_addresses s g.chain) b) one.storage g.has;
+  -- what the verdict asks of p carries over, if it is clear under k
+  pub carries : (p : Place) → (IsClear j p → IsClear k p) → CarriesOver j k p
+  carries p clear = record {
+    stands = subst (λ s. Stands s p.address) one.storage;
+    clear = clear;
+    ccw = λ f. ccw_over p;
+    takes = λ f b. subst (λ s. Takes s p b) one.storage;
   }
 
-  pub mask_byte_over : (p : Place) (b : ℕ) → IsMaskByte j p b → IsMaskByte k p b
-  mask_byte_over p b g = record { sets = subst (λ c. begins_set_mask p c ≡ true) (ccw_over p) g.sets; at = subst (λ (c : Fields). c.address ≡ b) (ccw_over p) g.at }
-
-  argument_byte_over : ((p : Place) → IsReachable j p → IsReachable k p) → AreClear k → (b : ℕ) → IsArgumentByte j b → IsArgumentByte k b
-  argument_byte_over on clear b g = record { place = g.place; reached = on g.place g.reached; clear = clear g.place (on g.place g.reached); takes = go g.takes }
-    where
-      go : IsSeekByte j g.place b ⊎ IsMaskByte j g.place b → IsSeekByte k g.place b ⊎ IsMaskByte k g.place b
-      go (inl h) = inl (seek_byte_over g.place b h)
-      go (inr h) = inr (mask_byte_over g.place b h)
-
-  stores_over : (p : Place) (P Q : ℕ → Type 0) → ((b : ℕ) → P b → Q b) → StoresOver j p P → StoresOver k p Q
-  stores_over p P Q f o = record {
-    stores = subst (λ c. stores p c ≡ true) (ccw_over p) o.stores;
-    at = o.at;
-    from = subst (λ (c : Fields). c.address ≤ o.at) (ccw_over p) o.from;
-    below = subst (λ (c : Fields). o.at < c.address + c.count) (ccw_over p) o.below;
-    holds = f o.at o.holds;
-  }
-
-  pub guarded : ((p : Place) → IsReachable j p → IsReachable k p) → AreClear k → (b : ℕ) → IsGuarded j b → IsGuarded k b
-  guarded on clear b (inl g) = inl (ccw_byte_over on b g)
-  guarded on clear b (inr g) = inr (argument_byte_over on clear b g)
+  pub same_first : first_place j ≡ first_place k
+  same_first = ap (λ a. transferred_to a Fresh) one.start
 
   -- k grants all that j grants
   module _ (more : GrantsMore j k) where
@@ -173,39 +138,38 @@ module _ (j k : Job) (one : AreOfOneProgram j k) where
     clear_more : (p : Place) → IsClear j p → IsClear k p
     clear_more p f = clear_over p f (λ x a t fits g. good_more p (ccw_of j p) x fits g)
 
-    path_more : (ps : List Place) → IsPath j ps → IsPath k ps
-    path_more [] e = e
-    path_more (p ∷ []) e = e ∙ ap (λ a. transferred_to a Fresh) one.start
-    path_more (q ∷ p ∷ ps) e = (path_more (p ∷ ps) e.0, clear_more p e.1, subst (Leads_on p q) (ccw_over p) e.2)
-
 -- ---- where one is a yes
+
+-- where nothing that is reachable under j has a fault, nothing else is reachable under k
+pub reach_clear : (j k : Job) → AreOfOneProgram j k → AreClear j → (p : Place) → IsReachable k p → IsReachable j p
+reach_clear j k one clear = reach_over k j (same_first k j back) (λ p n m. carries k j back p (λ f. clear p m))
+  where
+    back : AreOfOneProgram k j
+    back = turned j k one
 
 -- where both are clear, what stores over a guarded byte under k does so under j
 pub yes_over : (j k : Job) → AreOfOneProgram j k → IsVerdict j Yes → AreClear k → IsVerdict k Yes
 yes_over j k one v clear p r m o = go o
   where
-    back : AreOfOneProgram k j
-    back = turned j k one
-
     to : (q : Place) → IsReachable k q → IsReachable j q
-    to = reach_over j k one (yes_clear j v)
+    to = reach_clear j k one (yes_clear j v)
 
     go : Offends k p r → ⊥
     go (inl f) = none (fault_unique k p (Some r) None f (clear p m))
       where
         none : Some r ≡ None → ⊥
         none e = absurd (cc)
-    go (inr (d, inl x)) = v p ChangesCcw (to p m) (inr (yes_clear j v, inl (refl, stores_over k j back p (IsCcwByte k) (IsCcwByte j) (ccw_byte_over k j back to) x.1)))
-    go (inr (d, inr x)) = v p ChangesArgument (to p m) (inr (yes_clear j v, inr (refl, stores_over k j back p (IsArgumentByte k) (IsArgumentByte j) (argument_byte_over k j back to (yes_clear j v)) x.1)))
+    go (inr (d, c)) = v p r (to p m) (inr (yes_clear j v, changes_over k j (λ q n. (to q n, carries k j (turned j k one) q (λ f. yes_clear j v q (to q n)))) p r m (clear p m) c))
 
 pub more_is_yes : MoreIsYes
-more_is_yes j k one more v = yes_over j k one v (λ p m. let r = reach_over j k one (yes_clear j v) p m in clear_more j k one more p (yes_clear j v p r))
+more_is_yes j k one more v = yes_over j k one v (λ p m. let r = reach_clear j k one (yes_clear j v) p m in clear_more j k one more p (yes_clear j v p r))
+
+-- where both are a yes, what the verdict asks is the same in both
+pub carries_yes : (j k : Job) → AreOfOneProgram j k → IsVerdict j Yes → IsVerdict k Yes → (p : Place) → IsReachable j p → IsReachable k p → CarriesOver j k p × CarriesOver k j p
+carries_yes j k one v w p m n = (carries j k one p (λ f. yes_clear k w p n), carries k j (turned j k one) p (λ f. yes_clear j v p m))
 
 pub same_under_yes : SameUnderYes
-same_under_yes j k one v w = ((λ p. (on p, back p)), λ b. (guarded j k one on (yes_clear k w) b, guarded k j (turned j k one) back (yes_clear j v) b))
-  where
-    on : (p : Place) → IsReachable j p → IsReachable k p
-    on = reach_over k j (turned j k one) (yes_clear k w)
+same_under_yes j k one v w = (same_reached j k (same_first j k one) (carries_yes j k one v w), same_guarded j k (same_first j k one) (carries_yes j k one v w))
 
-    back : (p : Place) → IsReachable k p → IsReachable j p
-    back = reach_over j k one (yes_clear j v)
+pub data_under_yes : (j k : Job) → AreOfOneProgram j k → IsVerdict j Yes → IsVerdict k Yes → (test : Place → Fields → Bool) (b : ℕ) → IsDataOf test j b ↔ IsDataOf test k b
+data_under_yes j k one v w = same_data j k (same_first j k one) (carries_yes j k one v w) (yes_clear j v) (yes_clear k w)

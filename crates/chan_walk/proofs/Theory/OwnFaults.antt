@@ -1,9 +1,9 @@
 -- Parts of the table of own faults, and what passed the channel's checks.
-use Rattle.std.proofs.Common.{◌≡◌, Bool, false, List, [], ◌∷◌, ◌++◌, None, ℕ, ◌+◌, ◌<◌, ◌≤◌}
-use Rattle.std.proofs.Common.{length, refl, sym, subst, arith, rules}
+use Rattle.std.proofs.Common.{◌≡◌, Bool, false, List, [], ◌∷◌, ◌++◌, None, ℕ, ◌+◌, ◌≤◌}
+use Rattle.std.proofs.Common.{length, refl, sym, subst, rules}
 use Rattle.std.specs.Option.{option_or}
-use Rattle.std.proofs.lemmas.Bool.{leb-true, ltb-true}
-use Rattle.ccw_core.specs.Ccw.{Fields, ccw, has_data_in, is_counted, is_transfer}
+use Rattle.std.proofs.lemmas.Bool.{leb-true}
+use Rattle.ccw_core.specs.Ccw.{Fields, ccw, has_data_in, is_transfer}
 use Rattle.chan_walk.specs.declared.place.Place.{Place}
 use Rattle.chan_walk.specs.declared.reason.Reason.{Reason}
 use Rattle.chan_walk.specs.Check.{first_reason, check}

@@ -14,23 +14,15 @@ use Rattle.chan_why.proofs.path.path_at.Goals as goal
 
 pub bounds-looks-from : goal.bounds-looks-from
 bounds-looks-from c =
-    let ls = c.looks-looks.result.now in
-    let fs = c.found_from-found_from.result.now in
-    let s = c.args.survey.now in
-    let read : (j : Job) → IsSurvey j s → HasFound j ls fs = λ j h. as_read j s ls fs c.looks-looks.ensures c.found_from-found_from.ensures h in
     let i = c.loop-from.invariant in
-    let e = from_earlier i.found.0 ls fs (read i.found.0 i.found.1) c.loop-from.from c.loop-from-test.true i.within in
-    e.1
+    let read = as_read i.found.0 c.args.survey.now _ _ c.looks-looks.ensures c.found_from-found_from.ensures i.found.1 in
+    (from_earlier i.found.0 _ _ read c.loop-from.from c.loop-from-test.true i.within).1
 
 pub loop-from-smaller : goal.loop-from-smaller
 loop-from-smaller c =
-    let ls = c.looks-looks.result.now in
-    let fs = c.found_from-found_from.result.now in
-    let s = c.args.survey.now in
-    let read : (j : Job) → IsSurvey j s → HasFound j ls fs = λ j h. as_read j s ls fs c.looks-looks.ensures c.found_from-found_from.ensures h in
     let i = c.loop-from.invariant in
-    let e = from_earlier i.found.0 ls fs (read i.found.0 i.found.1) c.loop-from.from c.loop-from-test.true i.within in
-    e.0
+    let read = as_read i.found.0 c.args.survey.now _ _ c.looks-looks.ensures c.found_from-found_from.ensures i.found.1 in
+    (from_earlier i.found.0 _ _ read c.loop-from.from c.loop-from-test.true i.within).0
 
 pub loop-from-preserved : goal.loop-from-preserved
 loop-from-preserved c =

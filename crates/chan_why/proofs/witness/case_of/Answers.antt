@@ -1,0 +1,53 @@
+use Rattle.std.proofs.Common.{◌≡◌, ◌<◌, List, get_or, length, subst, sym}
+use Rattle.chan_walk.specs.Look.{Seen, places_of_looks}
+use Rattle.chan_why.specs.Path.{IsFirstWhere}
+use Rattle.chan_why.specs.Witness.{IsLike}
+use Rattle.chan_why.proofs.Changing.{first_within}
+use Rattle.chan_why.proofs.Explaining.{case_there, look_there, offending_there, some_found}
+use Rattle.chan_why.proofs.Indexing.{like_found}
+use Rattle.chan_why.proofs.witness.case_of.Goals as goal
+
+pub unwrap-at-requires : goal.unwrap-at-requires
+unwrap-at-requires c =
+    let s = c.args.survey.now in
+    let is = c.requires.listed.1 in
+    let first = like_found s.looks s.offences c.args.offence c.args.finder.now.offenders c.offender.result c.requires.finds.offenders c.offender.ensures in
+    some_found c.requires.listed.0 s.looks s.found_from is.found s.offences is.offences c.args.offence c.requires.listed.2 c.offender.result first
+
+pub bounds-looks-at : goal.bounds-looks-at
+bounds-looks-at c =
+    let s = c.args.survey.now in
+    let o = c.args.offence in
+    let like = like_found s.looks s.offences o c.args.finder.now.offenders c.offender.result c.requires.finds.offenders c.offender.ensures in
+    let first = subst (IsFirstWhere (IsLike s.offences o) (places_of_looks s.looks)) c.unwrap-at.ensures like in
+    subst (λ (ls : List Seen). c.unwrap-at.result < length ls) (sym c.looks-looks.ensures) (first_within (IsLike s.offences o) s.looks c.unwrap-at.result first)
+
+pub evidence_at-requires-clause-offends : goal.evidence_at-requires-clause-offends
+evidence_at-requires-clause-offends c =
+    let j = c.requires.listed.0 in
+    let is = c.requires.listed.1 in
+    let s = c.args.survey.now in
+    let o = c.args.offence in
+    let like = like_found s.looks s.offences o c.args.finder.now.offenders c.offender.result c.requires.finds.offenders c.offender.ensures in
+    let first = subst (IsFirstWhere (IsLike s.offences o) (places_of_looks s.looks)) c.unwrap-at.ensures like in
+    let l = c.index-looks-at.result in
+    let seen = subst (λ (ls : List Seen). l ≡ get_or ls c.unwrap-at.result l) c.looks-looks.ensures c.index-looks-at.is in
+    (j, is, look_there j s is o c.requires.listed.2 c.unwrap-at.result first l seen, offending_there j s is o c.requires.listed.2 c.unwrap-at.result first l seen)
+
+pub returns-clause-within : goal.returns-clause-within
+returns-clause-within c =
+    let s = c.args.survey.now in
+    let o = c.args.offence in
+    let like = like_found s.looks s.offences o c.args.finder.now.offenders c.offender.result c.requires.finds.offenders c.offender.ensures in
+    first_within (IsLike s.offences o) s.looks c.unwrap-at.result (subst (IsFirstWhere (IsLike s.offences o) (places_of_looks s.looks)) c.unwrap-at.ensures like)
+
+pub returns-clause-case : goal.returns-clause-case
+returns-clause-case c j is =
+    let s = c.args.survey.now in
+    let o = c.args.offence in
+    let like = like_found s.looks s.offences o c.args.finder.now.offenders c.offender.result c.requires.finds.offenders c.offender.ensures in
+    let first = subst (IsFirstWhere (IsLike s.offences o) (places_of_looks s.looks)) c.unwrap-at.ensures like in
+    let l = c.index-looks-at.result in
+    let seen = subst (λ (ls : List Seen). l ≡ get_or ls c.unwrap-at.result l) c.looks-looks.ensures c.index-looks-at.is in
+    let listed = c.requires.listed.2 in
+    case_there j s is o listed c.unwrap-at.result first l seen c.evidence_at.result (c.evidence_at.ensures j is (look_there j s is o listed c.unwrap-at.result first l seen) (offending_there j s is o listed c.unwrap-at.result first l seen))
