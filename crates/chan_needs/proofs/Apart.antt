@@ -1,18 +1,9 @@
 -- Programs that may run side by side.
-use Rattle.std.proofs.Common.{ℕ, ◌↔◌}
-use Rattle.chan_walk.specs.declared.job.Job.{Job}
-use Rattle.chan_walk.specs.declared.verdict.Verdict.TheVariants.{Yes}
-use Rattle.chan_walk.specs.Alarm.{IsProper}
-use Rattle.chan_walk.specs.Fault.{stores}
-use Rattle.chan_walk.specs.Guarded.{IsGuarded}
-use Rattle.chan_walk.specs.Moved.{IsStoredInto}
-use Rattle.chan_walk.specs.OpenJob.{AreOfOneProgram, open_job}
-use Rattle.chan_needs.specs.Needs.{IsKept, IsNeededForStoring}
+use Rattle.chan_needs.proofs.Names.{AreOfOneProgram, clear_stands, data_under_yes, IsGuarded}
+use Rattle.chan_needs.proofs.Names.{IsKept, IsNeededForStoring, IsProper, IsStoredInto, IsVerdict}
+use Rattle.chan_needs.proofs.Names.{Job, MayStoreOver, open_job, same_under_yes, stores, to_open}
+use Rattle.chan_needs.proofs.Names.{Yes, yes_clear, ℕ, ◌↔◌}
 use Rattle.chan_needs.specs.Rows.{BesideIsApart}
-use Rattle.chan_walk.specs.Verdict.{IsVerdict, MayStoreOver}
-use Rattle.chan_walk.proofs.Theory.Faults.{yes_clear, clear_stands}
-use Rattle.chan_walk.proofs.Theory.Granting.{same_under_yes, data_under_yes}
-use Rattle.chan_walk.proofs.Algorithms.Opened.{to_open}
 use Rattle.chan_needs.proofs.Needing.{yes_opens}
 
 -- under a yes a program stores over the bytes that it needs for storing, and guards those that it keeps

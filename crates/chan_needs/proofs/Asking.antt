@@ -1,16 +1,11 @@
 -- Where the program was asked once, its answer serves for every job and every storage that keeps what it is to keep.
-use Rattle.std.proofs.Common.{refl}
-use Rattle.chan_walk.specs.declared.job.Job.{Job}
-use Rattle.chan_walk.specs.declared.verdict.Verdict.TheVariants.{Yes}
+use Rattle.chan_needs.proofs.Names.{AreOfOneProgram, from_open, Grants, IsVerdict, Job, open_job}
+use Rattle.chan_needs.proofs.Names.{refl, same_under_yes, Yes}
 use Rattle.chan_walk.specs.Counted.{with_storage}
-use Rattle.chan_walk.specs.OpenJob.{AreOfOneProgram, open_job}
-use Rattle.chan_needs.specs.Needs.{Grants, AskedOnce, SafeIsGranted}
-use Rattle.chan_walk.specs.Verdict.{IsVerdict}
+use Rattle.chan_needs.specs.Needs.{AskedOnce, SafeIsGranted}
 use Rattle.chan_walk.proofs.Machine.Again.{yes_by_guarded}
 use Rattle.chan_walk.proofs.Machine.Exact.{safe_is_yes}
 use Rattle.chan_walk.proofs.Machine.Yes.{yes_is_safe}
-use Rattle.chan_walk.proofs.Theory.Granting.{same_under_yes}
-use Rattle.chan_walk.proofs.Algorithms.Opened.{from_open}
 use Rattle.chan_needs.proofs.Needing.{granted_yes, least_job}
 
 -- k over the storage of j has a yes, and what it guards is what is kept

@@ -1,21 +1,14 @@
 -- What is asked once, compared and granted is enough for a start.
-use Rattle.std.proofs.Common.{◌≡◌, ℕ, List, [], ◌∷◌, Bool, true, false, Option, Some, None, IsSome}
-use Rattle.std.proofs.Common.{◌==◌, ap, refl, sym, subst, ◌⊎◌, inl, inr, ◌≢◌}
-use Rattle.std.proofs.lemmas.Bool.{eq-eqb}
+use Rattle.chan_needs.proofs.Names.{Acts, ap, Bool, eq-eqb, false, Flight, from_open, inl, inr}
+use Rattle.chan_needs.proofs.Names.{IsGuarded, IsHistory, IsSameIn, IsSome, IsVerdict, List, None}
+use Rattle.chan_needs.proofs.Names.{open_job, Option, refl, Rests, same_under_yes, Situation, Some}
+use Rattle.chan_needs.proofs.Names.{Spares, storage_of, subst, sym, true, Yes, ℕ, [], ◌∷◌, ◌≡◌, ◌⊎◌}
+use Rattle.std.proofs.Common.{◌==◌, ◌≢◌}
 use Rattle.std.proofs.lemmas.Bool.Decides.{eqb_tells}
-use Rattle.chan_walk.specs.declared.verdict.Verdict.TheVariants.{Yes}
 use Rattle.chan_needs.specs.Beside.{AreApart}
-use Rattle.chan_walk.specs.Guarded.{IsGuarded}
-use Rattle.chan_needs.specs.History.{Acts, Flight, IsHistory, Rests, Situation, Spares}
-use Rattle.chan_walk.specs.Job.{storage_of}
-use Rattle.chan_walk.specs.OpenJob.{open_job}
-use Rattle.chan_walk.specs.Runs.{IsSameIn}
 use Rattle.chan_needs.specs.Asked.{AskedMayStart, EachMayLeave, EachMayStart, EachMayStep}
 use Rattle.chan_needs.specs.Asked.{OthersMayChange}
-use Rattle.chan_walk.specs.Verdict.{IsVerdict}
 use Rattle.chan_needs.proofs.Apart.{beside_is_apart}
-use Rattle.chan_walk.proofs.Theory.Granting.{same_under_yes}
-use Rattle.chan_walk.proofs.Algorithms.Opened.{from_open}
 use Rattle.chan_needs.proofs.Needing.{least_job}
 
 pub asked_may_start : AskedMayStart

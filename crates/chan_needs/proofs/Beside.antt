@@ -1,18 +1,15 @@
 -- Two programs side by side are a history: the one starts, then the other, and then they run.
-use Rattle.std.proofs.Common.{◌≡◌, ℕ, zero, suc, List, [], ◌∷◌, ◌++◌, map, length, Option, Some}
-use Rattle.std.proofs.Common.{None, refl, ap, subst, ◌⊎◌, inl, inr}
+use Rattle.chan_needs.proofs.Names.{ap, byte, ComesNext, Flight, inl, inr, IsGuarded, IsHistory}
+use Rattle.chan_needs.proofs.Names.{Job, length, List, map, MayStart, MayStoreOver, None, Option}
+use Rattle.chan_needs.proofs.Names.{refl, Rests, Situation, Some, subst, suc, zero, ℕ, [], ◌++◌}
+use Rattle.chan_needs.proofs.Names.{◌∷◌, ◌≡◌, ◌⊎◌}
 use Rattle.std.specs.List.{AllByRecursion}
-use Rattle.ccw_core.specs.Ccw.{byte}
-use Rattle.chan_walk.specs.declared.job.Job.{Job}
 use Rattle.chan_needs.specs.Beside.{Both, moments_of_one, moments_of_other, AreRunning, AreApart}
 use Rattle.chan_needs.specs.Beside.{SafeSideBySide}
-use Rattle.chan_walk.specs.Guarded.{IsGuarded}
 use Rattle.chan_walk.specs.Headline.{IsSafeMoment}
-use Rattle.chan_needs.specs.History.{Flight, Situation, Begins, MayStart, Rests, ComesNext}
-use Rattle.chan_needs.specs.History.{IsHistory, AreWell}
+use Rattle.chan_needs.specs.History.{Begins, AreWell}
 use Rattle.chan_walk.specs.Job.{HasMask}
 use Rattle.chan_walk.specs.Runs.{Moment, IsStart, Steps, Waits}
-use Rattle.chan_walk.specs.Verdict.{MayStoreOver}
 use Rattle.chan_needs.proofs.History.{stays_well}
 
 begins : (j : Job) (m : Moment) → IsStart j m → Begins j m

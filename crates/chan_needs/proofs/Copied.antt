@@ -1,17 +1,16 @@
 -- Copying the bytes that are kept, area by area.
-use Rattle.std.proofs.Common.{◌≡◌, ℕ, suc, ◌+◌, ◌-◌, ◌<◌, ◌≤◌, List, [], ◌∷◌, ◌++◌, length, get_or}
-use Rattle.std.proofs.Common.{take, drop, refl, sym, ap, ◌∙◌, subst, arith, append_assoc, Some}
-use Rattle.std.proofs.Common.{None, Bool, true, false, nat_le, if◌then◌else◌}
-use Rattle.std.proofs.lemmas.Bool.{leb-true}
-use Rattle.std.specs.List.{All}
+use Rattle.chan_needs.proofs.Names.{All, ap, Area, arith, Bool, drop, drop-cons, false, get_or}
+use Rattle.chan_needs.proofs.Names.{HoldsAreas, leb-true, length, List, nat_le, None, refl, Some}
+use Rattle.chan_needs.proofs.Names.{subst, suc, sym, take, true, ℕ, [], ◌++◌, ◌+◌, ◌-◌, ◌<◌, ◌∙◌}
+use Rattle.chan_needs.proofs.Names.{◌∷◌, ◌≡◌, ◌≤◌}
+use Rattle.std.proofs.Common.{append_assoc, if◌then◌else◌}
 use Rattle.std.proofs.lemmas.List.{append-nil, drop-drop, drop_all, get_or-drop, get_or-take}
 use Rattle.std.proofs.lemmas.List.{get_or_append_left, length-append, length-take, length-drop}
 use Rattle.std.proofs.lemmas.List.{take-append-drop}
 use Rattle.std.proofs.lemmas.List.Elements.{All-cons, All-head, All-nil, All-tail}
-use Rattle.std.proofs.Math.Seq.{drop-append_seam, drop-cons, take-append_seam}
-use Rattle.ccw_core.specs.declared.areas.Area.{Area}
+use Rattle.std.proofs.Math.Seq.{drop-append_seam, take-append_seam}
 use Rattle.ccw_core.specs.Storage.{range_at}
-use Rattle.chan_needs.specs.Remembered.{HoldsAreas, HoldsArea, IsInside, bytes_in}
+use Rattle.chan_needs.specs.Remembered.{HoldsArea, IsInside, bytes_in}
 use Rattle.chan_needs.proofs.Holding.{nowhere}
 
 -- the bytes of storage in an area

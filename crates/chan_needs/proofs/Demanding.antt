@@ -1,30 +1,28 @@
 -- What a place that was looked at asks of the mask, and the strictest mask that serves many.
-use Rattle.std.proofs.Common.{◌≡◌, ℕ, ◌<◌, true, false, List, [], ◌∷◌, ◌++◌, length, get_or, Option}
-use Rattle.std.proofs.Common.{Some, None, refl, sym, ap, ◌∙◌, subst, ◌⊎◌, inl, inr, ◌↔◌, rules, ◌≤◌}
-use Rattle.std.proofs.Common.{min, arith}
-use Rattle.std.proofs.lemmas.Bool.{and_from, and_parts, both_ways, not_from_false}
-use Rattle.ccw_core.specs.Ccw.{byte, Fields}
+use Rattle.chan_needs.proofs.Names.{and_from, and_parts, ap, AreBounds, AreLooksOfYes, arith}
+use Rattle.chan_needs.proofs.Names.{both_ways, byte, ccw_of, clear_stands, false, Fields, get_or}
+use Rattle.chan_needs.proofs.Names.{Has, inl, inr, is_at_least, IsClear, Job, length, List, None}
+use Rattle.chan_needs.proofs.Names.{Option, Place, places_of_looks, refl, rules, Seen, Some}
+use Rattle.chan_needs.proofs.Names.{storage_of, subst, sym, true, yes_clear, ℕ, [], ◌++◌, ◌<◌, ◌↔◌}
+use Rattle.chan_needs.proofs.Names.{◌∙◌, ◌∷◌, ◌≡◌, ◌≤◌, ◌⊎◌}
+use Rattle.std.proofs.Common.{min}
+use Rattle.std.proofs.lemmas.Bool.{not_from_false}
 use Rattle.ckd_core.specs.declared.command.MaskClass.{MaskClass}
 use Rattle.ckd_core.specs.declared.command.MaskClass.TheVariants.{Plain, Recalibrate, Seek}
 use Rattle.ckd_core.specs.declared.command.MaskClass.TheVariants.{SeekCylinder, SeekHead, SetMask}
 use Rattle.ckd_core.specs.declared.command.MaskClass.TheVariants.{WriteFormat, WriteHome}
 use Rattle.ckd_core.specs.declared.command.MaskClass.TheVariants.{WriteUpdate}
-use Rattle.ckd_core.specs.Mask.{inhibits, inhibits_class, is_at_least}
+use Rattle.ckd_core.specs.Mask.{inhibits, inhibits_class}
 use Rattle.ckd_core.specs.Command.{Entry as Command, lookup, class_passes, class_sets_mask}
 use Rattle.ckd_core.specs.Command.{sets_mask}
-use Rattle.chan_walk.specs.declared.job.Job.{Job}
-use Rattle.chan_walk.specs.declared.place.Place.{Place}
-use Rattle.chan_walk.specs.Argument.{Has}
-use Rattle.chan_walk.specs.Fault.{begins_set_mask, IsClear}
-use Rattle.chan_walk.specs.Job.{storage_of}
-use Rattle.chan_walk.specs.Look.{IsLook, Seen, places_of_looks}
+use Rattle.chan_walk.specs.Fault.{begins_set_mask}
+use Rattle.chan_walk.specs.Look.{IsLook}
 use Rattle.chan_walk.specs.Read.{byte_of}
 use Rattle.chan_needs.specs.Needs.{ServesAt, begins}
-use Rattle.chan_walk.specs.Place.{is_fresh, ccw_of}
-use Rattle.chan_needs.specs.Rows.{AreLooksOfYes, AreBounds}
+use Rattle.chan_walk.specs.Place.{is_fresh}
 use Rattle.chan_walk.specs.Visit.{begun, begun_at}
 use Rattle.chan_walk.proofs.Theory.Commands.{known_is_no_transfer, mask_is_no_transfer}
-use Rattle.chan_walk.proofs.Theory.Faults.{clear_good, yes_clear, clear_stands}
+use Rattle.chan_walk.proofs.Theory.Faults.{clear_good}
 use Rattle.chan_walk.proofs.Theory.Lists.{has_at, has_cases, has_left, has_right}
 use Rattle.chan_walk.proofs.Algorithms.Looking.{byte_read, place_at, ccw_seen}
 use Rattle.ckd_core.specs.Levels.{seek_level, seeks_up_to, write_level, writes_up_to}

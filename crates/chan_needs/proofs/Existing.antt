@@ -1,27 +1,23 @@
 -- The needed mask exists where the open job has a yes: each reachable place stands in storage, so that a list has them all.
-use Rattle.std.proofs.Common.{◌≡◌, ℕ, zero, suc, ◌+◌, ◌*◌, ◌<◌, ◌≤◌, true, false, List, [], ◌∷◌}
-use Rattle.std.proofs.Common.{◌++◌, length, get_or, map, Option, Some, None, refl, subst, ◌⊎◌, inl}
-use Rattle.std.proofs.Common.{inr, arith, eqb}
-use Rattle.std.proofs.lemmas.Bool.{both_ways, cases_Bool, cases_lt, eq-eqb, eqb-true, leb-true}
+use Rattle.chan_needs.proofs.Names.{arith, both_ways, cases_lt, ccw_of, clear_stands, eq-eqb, false}
+use Rattle.chan_needs.proofs.Names.{get_or, Has, inl, inr, IsReachable, Job, leb-true, length, List}
+use Rattle.chan_needs.proofs.Names.{map, None, open_job, Option, Place, refl, Some, storage_of}
+use Rattle.chan_needs.proofs.Names.{subst, suc, true, yes_clear, zero, ℕ, [], ◌++◌, ◌+◌, ◌<◌, ◌∷◌}
+use Rattle.chan_needs.proofs.Names.{◌≡◌, ◌≤◌, ◌⊎◌}
+use Rattle.std.proofs.Common.{◌*◌, eqb}
+use Rattle.std.proofs.lemmas.Bool.{cases_Bool, eqb-true}
 use Rattle.std.proofs.lemmas.List.{length-map}
 use Rattle.std.proofs.lemmas.Map.Steps.{length-le_from_distinct_below}
 use Rattle.ccw_core.specs.Storage.{is_inside}
-use Rattle.chan_walk.specs.declared.job.Job.{Job}
-use Rattle.chan_walk.specs.declared.place.Place.{Place}
 use Rattle.chan_walk.specs.declared.successor.Next.{Next}
-use Rattle.chan_walk.specs.Argument.{Has}
-use Rattle.chan_walk.specs.Places.{AreDistinct, HasMoreThan, place_number}
+use Rattle.chan_walk.specs.Places.{AreDistinct, HasMoreThan, place_number, AreReached}
 use Rattle.chan_walk.specs.Fault.{kind_of}
-use Rattle.chan_walk.specs.Job.{storage_of}
-use Rattle.chan_walk.specs.Places.{AreReached}
 use Rattle.chan_needs.specs.Needs.{NeededMaskExists, Serves}
-use Rattle.chan_walk.specs.OpenJob.{open_job}
-use Rattle.chan_walk.specs.Place.{ccw_of, first_place}
-use Rattle.chan_walk.specs.Reachable.{IsReachable}
+use Rattle.chan_walk.specs.Place.{first_place}
 use Rattle.chan_walk.specs.Successor.{AreSuccessors, next_of, skip_of}
 use Rattle.chan_walk.specs.Verdict.{AreClear}
 use Rattle.chan_walk.specs.Walk.{Adds, IsWalked, Overflows}
-use Rattle.chan_walk.proofs.Theory.Faults.{fault_unique, yes_clear, clear_stands}
+use Rattle.chan_walk.proofs.Theory.Faults.{fault_unique}
 use Rattle.chan_walk.proofs.Theory.Lists.{has_at}
 use Rattle.chan_needs.proofs.Demanding.{ServesEach, demand_of_each, HasBounds}
 use Rattle.chan_walk.proofs.Algorithms.InOrder.{distinct, has_number}

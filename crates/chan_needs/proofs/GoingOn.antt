@@ -1,10 +1,9 @@
 -- What the calls allow a supervisor may happen, and so may each step and each end.
-use Rattle.std.proofs.Common.{◌≡◌, ◌≢◌, ◌==◌, ℕ, true, false, List, ◌∷◌, Option, Some, None, IsSome}
-use Rattle.std.proofs.Common.{refl, sym, ap, ◌∙◌, subst, ◌⊎◌, inl, inr}
-use Rattle.std.proofs.lemmas.Bool.{eq-eqb}
+use Rattle.chan_needs.proofs.Names.{Acts, ap, eq-eqb, false, Flight, inl, inr, IsSome, List, None}
+use Rattle.chan_needs.proofs.Names.{Option, refl, Remembered, Rests, Some, subst, sym, true, ℕ, ◌∙◌}
+use Rattle.chan_needs.proofs.Names.{◌∷◌, ◌≡◌, ◌⊎◌}
+use Rattle.std.proofs.Common.{◌≢◌, ◌==◌}
 use Rattle.std.proofs.lemmas.Bool.Decides.{eqb_tells}
-use Rattle.chan_needs.specs.declared.remembered.Remembered.{Remembered}
-use Rattle.chan_needs.specs.History.{Acts, Flight, Rests}
 use Rattle.chan_needs.specs.Supervised.{IsSupervised, RestsAt, SupervisedGoesOn, Supervision}
 use Rattle.chan_needs.proofs.Beginning.{after, here, moved_rests, others, picked, rewritten}
 use Rattle.chan_needs.proofs.Beginning.{shares_of}

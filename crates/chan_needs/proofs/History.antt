@@ -1,16 +1,13 @@
 -- Programs that start and leave at any time: each in flight is at the newest moment of a run among others, and all are apart.
-use Rattle.std.proofs.Common.{◌≡◌, ℕ, List, [], ◌∷◌, Option, Some, None, refl, sym, ap, ◌∙◌, subst}
-use Rattle.std.proofs.Common.{◌⊎◌, inl, inr}
+use Rattle.chan_needs.proofs.Names.{Acts, ap, ComesNext, Flight, inl, inr, IsGuarded, IsHistory}
+use Rattle.chan_needs.proofs.Names.{IsSameIn, IsVerdict, Job, List, MayStart, MayStoreOver, None}
+use Rattle.chan_needs.proofs.Names.{Option, refl, Rests, Situation, Some, Spares, storage_of, subst}
+use Rattle.chan_needs.proofs.Names.{sym, Yes, ℕ, [], ◌∙◌, ◌∷◌, ◌≡◌, ◌⊎◌}
 use Rattle.std.specs.List.{AllByRecursion}
-use Rattle.chan_walk.specs.declared.job.Job.{Job}
-use Rattle.chan_walk.specs.declared.verdict.Verdict.TheVariants.{Yes}
-use Rattle.chan_walk.specs.Guarded.{IsGuarded}
 use Rattle.chan_walk.specs.Headline.{IsSpared}
-use Rattle.chan_needs.specs.History.{Flight, Situation, Begins, MayStart, Acts, Rests, Spares}
-use Rattle.chan_needs.specs.History.{ComesNext, IsHistory, IsWell, AreWell, StaysWell}
-use Rattle.chan_walk.specs.Job.{storage_of, HasMask}
-use Rattle.chan_walk.specs.Runs.{Moment, IsStart, Steps, Waits, IsSameIn}
-use Rattle.chan_walk.specs.Verdict.{IsVerdict, MayStoreOver}
+use Rattle.chan_needs.specs.History.{Begins, IsWell, AreWell, StaysWell}
+use Rattle.chan_walk.specs.Job.{HasMask}
+use Rattle.chan_walk.specs.Runs.{Moment, IsStart, Steps, Waits}
 use Rattle.chan_walk.proofs.Theory.Lists.{all_map}
 use Rattle.chan_walk.proofs.Machine.Yes.{no_change, each_ok, step_spares, yes_is_safe_among}
 

@@ -1,14 +1,12 @@
 -- The bytes of two merged lists.
-use Rattle.std.proofs.Common.{◌≡◌, ℕ, ◌+◌, ◌<◌, ◌≤◌, max, List, ◌∷◌, add-one, arith, drop, get_or}
-use Rattle.std.proofs.Common.{inl, inr, length, rules, ◌⊎◌}
-use Rattle.std.proofs.lemmas.Bool.{both_ways}
+use Rattle.chan_needs.proofs.Names.{Area, arith, both_ways, drop, drop-cons, end_of, get_or, inl}
+use Rattle.chan_needs.proofs.Names.{inr, IsMerged, length, lies_in-cases, lies_in-nil, List, rules}
+use Rattle.chan_needs.proofs.Names.{ℕ, ◌+◌, ◌<◌, ◌∷◌, ◌≡◌, ◌≤◌, ◌⊎◌}
+use Rattle.std.proofs.Common.{max, add-one}
 use Rattle.std.proofs.lemmas.List.{drop_all}
-use Rattle.std.proofs.Math.Seq.{drop-cons}
-use Rattle.ccw_core.specs.declared.areas.Area.{Area}
-use Rattle.ccw_core.proofs.Covering.{lies_in-at, lies_in-nil}
-use Rattle.chan_areas.specs.Merged.{IsLeastOf, IsMerged}
-use Rattle.ccw_core.specs.Areas.{end_of}
-use Rattle.chan_areas.proofs.Merging.{bytes_from, lies_in-cases}
+use Rattle.ccw_core.proofs.Covering.{lies_in-at}
+use Rattle.chan_areas.specs.Merged.{IsLeastOf}
+use Rattle.chan_areas.proofs.Merging.{bytes_from}
 use Rattle.chan_needs.specs.Rows.{IsShared}
 
 -- no area

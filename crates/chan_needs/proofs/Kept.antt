@@ -1,9 +1,8 @@
 -- The bytes that are kept, compared area by area.
-use Rattle.std.proofs.Common.{◌≡◌, ℕ, zero, suc, ◌+◌, ◌-◌, ◌<◌, ◌≤◌, ◌^◌, List, [], ◌∷◌, length}
-use Rattle.std.proofs.Common.{get_or, drop, sym, subst, inl, inr, arith}
-use Rattle.std.proofs.Math.Seq.{drop-cons}
-use Rattle.ccw_core.specs.declared.areas.Area.{Area}
-use Rattle.chan_needs.specs.Remembered.{HoldsAreas, HoldsArea, IsFirstChanged}
+use Rattle.chan_needs.proofs.Names.{Area, arith, drop, drop-cons, get_or, HoldsAreas, inl, inr}
+use Rattle.chan_needs.proofs.Names.{length, List, subst, suc, sym, zero, ℕ, [], ◌+◌, ◌-◌, ◌<◌, ◌^◌}
+use Rattle.chan_needs.proofs.Names.{◌∷◌, ◌≡◌, ◌≤◌}
+use Rattle.chan_needs.specs.Remembered.{HoldsArea, IsFirstChanged}
 use Rattle.chan_needs.proofs.Holding.{nowhere}
 
 -- the address of a byte after one of storage fits

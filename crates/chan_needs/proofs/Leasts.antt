@@ -1,20 +1,19 @@
 -- The least byte or cylinder of rows for which something holds, row by row.
-use Rattle.std.proofs.Common.{◌≡◌, ℕ, zero, suc, ◌+◌, ◌<◌, ◌≤◌, ◌&&◌, ◌||◌, true, false, nat_le}
-use Rattle.std.proofs.Common.{List, [], ◌∷◌, ◌++◌, ◌↔◌, length, get_or, drop, take, Option, Some}
-use Rattle.std.proofs.Common.{None, sym, subst, ◌⊎◌, inl, inr, arith, rules}
-use Rattle.std.proofs.lemmas.Bool.{cases_lt, false_from_ne_true, both_ways, and_from, and_parts}
-use Rattle.std.proofs.lemmas.Bool.{or_cases, or_left, or_right, le-leb, leb-true}
+use Rattle.chan_needs.proofs.Names.{and_from, and_parts, Area, AreExactly, arith, both_ways}
+use Rattle.chan_needs.proofs.Names.{cases_lt, drop, end_of, false, get_or, has_cylinder, inl, inr}
+use Rattle.chan_needs.proofs.Names.{IsByteOf, IsLeastOrNone, IsMerged, le-leb, leb-true, length}
+use Rattle.chan_needs.proofs.Names.{lies_in, lies_in-cases, lies_in-nil, List, nat_le, None, Option}
+use Rattle.chan_needs.proofs.Names.{rules, Some, subst, suc, sym, take, true, zero, ℕ, [], ◌++◌}
+use Rattle.chan_needs.proofs.Names.{◌+◌, ◌<◌, ◌↔◌, ◌∷◌, ◌≡◌, ◌≤◌, ◌⊎◌}
+use Rattle.std.proofs.Common.{◌&&◌, ◌||◌}
+use Rattle.std.proofs.lemmas.Bool.{false_from_ne_true, or_cases, or_left, or_right}
 use Rattle.std.proofs.lemmas.List.{take_all, take_more}
 use Rattle.std.proofs.lemmas.List.Folds.{list_any-append}
-use Rattle.ccw_core.specs.declared.areas.Area.{Area}
-use Rattle.ccw_core.specs.Areas.{lies_in, end_of}
-use Rattle.ccw_core.proofs.Covering.{lies_in-nil}
-use Rattle.ckd_core.specs.Extents.{has_cylinder}
-use Rattle.chan_areas.specs.Merged.{AreExactly, IsByteOf, BeginAbove, IsLeastOrNone, IsMerged}
+use Rattle.chan_areas.specs.Merged.{BeginAbove}
 use Rattle.chan_needs.specs.LeastBytes.{lesser_of}
 use Rattle.chan_needs.proofs.Holding.{nowhere}
 use Rattle.chan_areas.proofs.Gaps.{least_same}
-use Rattle.chan_areas.proofs.Merging.{lies_in-append, lies_in-cases, lies_in-first}
+use Rattle.chan_areas.proofs.Merging.{lies_in-append, lies_in-first}
 
 -- ---- the lesser of two leasts
 

@@ -1,3 +1,4 @@
+pub mod Names
 pub mod Needing
 pub mod Masking
 pub mod Asking

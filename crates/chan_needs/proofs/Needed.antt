@@ -1,40 +1,28 @@
 -- What was found under one job's yes is what each job of its program needs.
-use Rattle.std.proofs.Common.{◌≡◌, ℕ, ◌<◌, Bool, true, false, List, length, map, Some, refl}
-use Rattle.std.proofs.Common.{sym, ap, ◌∙◌, subst, ◌⊎◌, ◌↔◌, arith}
-use Rattle.ccw_core.specs.declared.areas.Area.{Area}
-use Rattle.ccw_core.specs.Areas.{lies_in}
-use Rattle.ccw_core.specs.Ccw.{Fields, byte, ccw, is_transfer}
-use Rattle.ckd_core.specs.Extents.{has_cylinder}
-use Rattle.ckd_core.specs.Mask.{inhibits, is_at_least}
-use Rattle.chan_walk.specs.declared.job.Job.{Job}
-use Rattle.chan_walk.specs.declared.place.Place.{Place}
+use Rattle.chan_needs.proofs.Names.{ap, Area, AreExactly, AreLooksOfYes, AreOfOneProgram, arith}
+use Rattle.chan_needs.proofs.Names.{begins_seek, Bool, byte, ccw_of, data_under_yes, false, Fields}
+use Rattle.chan_needs.proofs.Names.{Grants, has_cylinder, HasArgument, home, is_at_least, IsGuarded}
+use Rattle.chan_needs.proofs.Names.{IsKept, IsNeededForStoring, IsReachable, IsStoredInto}
+use Rattle.chan_needs.proofs.Names.{IsVerdict, Job, length, lies_in, List, map, open_job, Place}
+use Rattle.chan_needs.proofs.Names.{places_of_looks, refl, run_of, same_under_yes, Seen, Some}
+use Rattle.chan_needs.proofs.Names.{storage_of, stores, subst, sym, to_open, true, Yes, yes_clear}
+use Rattle.chan_needs.proofs.Names.{ℕ, ◌<◌, ◌↔◌, ◌∙◌, ◌≡◌, ◌⊎◌}
+use Rattle.ccw_core.specs.Ccw.{ccw, is_transfer}
+use Rattle.ckd_core.specs.Mask.{inhibits}
 use Rattle.chan_walk.specs.declared.verdict.Verdict.{Verdict}
-use Rattle.chan_walk.specs.declared.verdict.Verdict.TheVariants.{Yes}
-use Rattle.chan_walk.specs.Argument.{HasArgument}
 use Rattle.chan_walk.specs.Seeks.{SeeksTo}
-use Rattle.chan_walk.specs.Place.{ccw_of}
-use Rattle.chan_walk.specs.Fault.{begins_recalibrate, begins_seek, begins_set_mask, fetches, stores}
-use Rattle.chan_walk.specs.Guarded.{IsGuarded}
-use Rattle.chan_walk.specs.Job.{extents_of, fetch_of, storage_of, store_of}
-use Rattle.chan_walk.specs.Look.{Seen, places_of_looks}
-use Rattle.chan_walk.specs.Machine.{home}
-use Rattle.chan_walk.specs.OpenJob.{AreOfOneProgram, open_job}
-use Rattle.chan_needs.specs.Needs.{Grants, IsKept, IsNeededCylinder, IsNeededForStoring}
-use Rattle.chan_needs.specs.Needs.{IsStrictest, Serves, ServesAt, begins}
-use Rattle.chan_walk.specs.Moved.{IsDataOf, IsFetchedFrom, IsStoredInto}
+use Rattle.chan_walk.specs.Fault.{begins_recalibrate, begins_set_mask, fetches}
+use Rattle.chan_walk.specs.Job.{extents_of, fetch_of, store_of}
+use Rattle.chan_needs.specs.Needs.{IsNeededCylinder, IsStrictest, Serves, ServesAt, begins}
+use Rattle.chan_walk.specs.Moved.{IsDataOf, IsFetchedFrom}
 use Rattle.chan_walk.specs.Offence.{FirstIsVerdict, first_verdict}
-use Rattle.chan_areas.specs.Merged.{AreExactly}
-use Rattle.chan_walk.specs.Reachable.{IsReachable}
 use Rattle.chan_needs.specs.Start.{RowsAreExact, GrantsListed}
-use Rattle.chan_needs.specs.Rows.{AreLooksOfYes, AreNeeds, HasStoreAndKeep, IsSought, Listed}
-use Rattle.chan_needs.specs.Rows.{IsShared, MayRunBeside, run_of}
+use Rattle.chan_needs.specs.Rows.{AreNeeds, HasStoreAndKeep, IsSought, Listed, IsShared}
+use Rattle.chan_needs.specs.Rows.{MayRunBeside}
 use Rattle.chan_walk.specs.JobSurvey.{IsSurvey, Surveyed}
-use Rattle.chan_walk.specs.Verdict.{IsVerdict}
-use Rattle.chan_walk.proofs.Theory.Faults.{clear_check, yes_clear}
-use Rattle.chan_walk.proofs.Theory.Granting.{fetches_parts, same_under_yes, data_under_yes, stores_parts, turned}
-use Rattle.chan_walk.proofs.Theory.Granting.{ccw_over}
+use Rattle.chan_walk.proofs.Theory.Faults.{clear_check}
+use Rattle.chan_walk.proofs.Theory.Granting.{fetches_parts, stores_parts, turned, ccw_over}
 use Rattle.chan_needs.proofs.Needing.{needed_mask_is_enough, yes_opens}
-use Rattle.chan_walk.proofs.Algorithms.Opened.{to_open}
 use Rattle.chan_walk.proofs.Theory.OwnFaults.{data_in_storage}
 use Rattle.chan_needs.proofs.Demanding.{ServesEach}
 use Rattle.chan_walk.proofs.Algorithms.Walking.{reached_looks}

@@ -1,42 +1,33 @@
 -- The least job: what the open job of a program needs, and that a job which grants it has the open job's yes.
-use Rattle.std.proofs.Common.{◌≡◌, ℕ, ◌+◌, ◌<◌, ◌≤◌, true, false, nat_lt, nat_le, List, [], ◌∷◌}
-use Rattle.std.proofs.Common.{length, Option, Some, None, refl, sym, subst, ◌⊎◌, inl, inr, ◌↔◌}
-use Rattle.std.proofs.Common.{arith}
-use Rattle.std.proofs.lemmas.Bool.{and_parts, both_ways, cases_lt, not-true, not-false}
-use Rattle.std.proofs.lemmas.Bool.{not_from_true, not_from_false, lt-ltb, le-leb, and_from}
-use Rattle.ccw_core.specs.Areas.{lies_in}
-use Rattle.ccw_core.specs.Ccw.{byte, is_transfer}
-use Rattle.ckd_core.specs.Track.{cylinder_of}
-use Rattle.ckd_core.specs.Extents.{has_cylinder}
-use Rattle.ckd_core.specs.Mask.{is_at_least}
+use Rattle.chan_needs.proofs.Names.{and_from, and_parts, AreOfOneProgram, arith, begins_seek}
+use Rattle.chan_needs.proofs.Names.{both_ways, byte, cases_lt, ccw_of, cylinder_of, false}
+use Rattle.chan_needs.proofs.Names.{from_open, Grants, has_cylinder, HasArgument, home, inl, inr}
+use Rattle.chan_needs.proofs.Names.{is_at_least, IsClear, IsGuarded, IsKept, IsProper, IsReachable}
+use Rattle.chan_needs.proofs.Names.{IsVerdict, Job, le-leb, length, lies_in, List, nat_le, None}
+use Rattle.chan_needs.proofs.Names.{open_job, Option, Place, refl, same_under_yes, Some, storage_of}
+use Rattle.chan_needs.proofs.Names.{subst, sym, to_open, true, Yes, yes_clear, ℕ, [], ◌+◌, ◌<◌, ◌↔◌}
+use Rattle.chan_needs.proofs.Names.{◌∷◌, ◌≡◌, ◌≤◌, ◌⊎◌}
+use Rattle.std.proofs.Common.{nat_lt}
+use Rattle.std.proofs.lemmas.Bool.{not-true, not-false, not_from_true, not_from_false, lt-ltb}
+use Rattle.ccw_core.specs.Ccw.{is_transfer}
 use Rattle.ckd_core.proofs.CylinderLemmas.{has_cylinder-past}
-use Rattle.chan_walk.specs.declared.job.Job.{Job}
-use Rattle.chan_walk.specs.declared.place.Place.{Place}
-use Rattle.chan_walk.specs.declared.verdict.Verdict.TheVariants.{Yes}
-use Rattle.chan_walk.specs.Alarm.{IsProper}
-use Rattle.chan_walk.specs.Argument.{HasArgument}
-use Rattle.chan_walk.specs.Fault.{begins_seek, is_refused, IsClear}
-use Rattle.chan_walk.specs.Job.{storage_of, extents_of, fetch_of, store_of}
-use Rattle.chan_walk.specs.OpenJob.{AreOfOneProgram, open_job, all_storage, GrantsMore}
-use Rattle.chan_needs.specs.Needs.{IsOpenlyReachable, IsKept, IsNeededCylinder, Grants, LeastJob}
+use Rattle.chan_walk.specs.Fault.{is_refused}
+use Rattle.chan_walk.specs.Job.{extents_of, fetch_of, store_of}
+use Rattle.chan_walk.specs.OpenJob.{all_storage, GrantsMore}
+use Rattle.chan_needs.specs.Needs.{IsOpenlyReachable, IsNeededCylinder, LeastJob}
 use Rattle.chan_needs.specs.Needs.{NeededMaskIsEnough, NoJobWillDo}
-use Rattle.chan_walk.specs.Guarded.{IsGuarded}
-use Rattle.chan_walk.specs.Reachable.{IsReachable}
 use Rattle.chan_walk.specs.Seeks.{SeeksTo}
-use Rattle.chan_walk.specs.Machine.{home}
 use Rattle.ccw_core.specs.Storage.{Stands}
 use Rattle.chan_walk.proofs.Theory.Checks.{check_stands}
-use Rattle.chan_walk.specs.Place.{ccw_of}
-use Rattle.chan_walk.specs.Verdict.{AreClear, IsVerdict}
+use Rattle.chan_walk.specs.Verdict.{AreClear}
 use Rattle.chan_walk.proofs.Theory.Areas.{covered_at, allows_cylinder}
 use Rattle.chan_walk.proofs.Theory.Chains.{argument_unique}
 use Rattle.chan_walk.proofs.Theory.Commands.{mask_is_no_transfer, seek_is_no_transfer}
 use Rattle.chan_walk.proofs.Theory.Commands.{recalibrate_is_no_transfer}
-use Rattle.chan_walk.proofs.Theory.Faults.{IsGood, clear_check, clear_good, yes_clear, stores_from}
+use Rattle.chan_walk.proofs.Theory.Faults.{IsGood, clear_check, clear_good, stores_from}
 use Rattle.chan_walk.proofs.Theory.Granting.{ccw_over, same_heads, stores_parts, fetches_parts}
 use Rattle.chan_walk.proofs.Theory.Granting.{allows_from, clear_over, reach_clear, yes_over}
-use Rattle.chan_walk.proofs.Theory.Granting.{more_is_yes, same_under_yes}
-use Rattle.chan_walk.proofs.Algorithms.Opened.{from_open, to_open}
+use Rattle.chan_walk.proofs.Theory.Granting.{more_is_yes}
 use Rattle.ccw_core.proofs.Covering.{covered-true}
 use Rattle.chan_walk.proofs.Theory.Masks.{laxer_permits, strict_as_laxer, strict_as_open}
 

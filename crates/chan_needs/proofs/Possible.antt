@@ -1,12 +1,10 @@
 -- What the laws on histories and on supervision begin with can be had.
-use Rattle.std.proofs.Common.{ℕ, suc, List, [], ◌∷◌, None, refl, inl, inr, arith}
-use Rattle.chan_needs.specs.declared.remembered.Remembered.{Remembered}
+use Rattle.chan_needs.proofs.Names.{arith, Has, inl, inr, List, None, refl, Remembered, Situation}
+use Rattle.chan_needs.proofs.Names.{suc, ℕ, [], ◌∷◌}
 use Rattle.chan_needs.specs.Asked.{HistoryBegins}
 use Rattle.chan_needs.specs.Beside.{MayRunTogether}
-use Rattle.chan_needs.specs.History.{Situation}
 use Rattle.chan_needs.specs.Remembered.{IsInFlightAt}
 use Rattle.chan_needs.specs.Supervised.{CanBeSupervised}
-use Rattle.chan_walk.specs.Argument.{Has}
 
 -- nothing is in flight over a storage
 abbrev over : List ℕ → Situation

@@ -1,44 +1,26 @@
 -- What is remembered of a program stays true while what is kept does, and is enough for a start.
-use Rattle.std.proofs.Common.{◌≡◌, ℕ, ◌+◌, ◌-◌, ◌<◌, true, List, [], ◌∷◌, length, drop, Some}
-use Rattle.std.proofs.Common.{refl, sym, ap, ◌∙◌, subst, ◌⊎◌, ◌↔◌, inl, inr, arith, rules}
-use Rattle.std.specs.List.{All}
-use Rattle.ccw_core.specs.declared.areas.Area.{Area}
-use Rattle.ccw_core.specs.Areas.{lies_in}
-use Rattle.ccw_core.specs.Ccw.{byte}
-use Rattle.ccw_core.proofs.Covering.{lies_in-nil}
-use Rattle.chan_walk.specs.declared.job.Job.{Job}
-use Rattle.chan_walk.specs.declared.place.Place.{Place}
-use Rattle.chan_needs.specs.declared.remembered.Remembered.{Remembered}
-use Rattle.chan_walk.specs.declared.verdict.Verdict.TheVariants.{Yes}
-use Rattle.chan_walk.specs.Alarm.{IsProper}
+use Rattle.chan_needs.proofs.Names.{All, ap, Area, AreOfOneProgram, arith, both_ways, byte}
+use Rattle.chan_needs.proofs.Names.{data_under_yes, drop, Flight, Grants, HoldsAreas, inl, inr}
+use Rattle.chan_needs.proofs.Names.{IsByteOf, IsGuarded, IsKept, IsNeededForStoring, IsProper}
+use Rattle.chan_needs.proofs.Names.{IsReachable, IsSameIn, IsVerdict, Job, length, lies_in}
+use Rattle.chan_needs.proofs.Names.{lies_in-cases, lies_in-nil, List, open_job, Place, refl}
+use Rattle.chan_needs.proofs.Names.{Remembered, rules, same_under_yes, Situation, Some, storage_of}
+use Rattle.chan_needs.proofs.Names.{stores, subst, sym, to_open, true, Yes, yes_clear, ℕ, [], ◌+◌}
+use Rattle.chan_needs.proofs.Names.{◌-◌, ◌<◌, ◌↔◌, ◌∙◌, ◌∷◌, ◌≡◌, ◌⊎◌}
 use Rattle.chan_walk.specs.Counted.{IsCounted, with_storage}
-use Rattle.chan_walk.specs.Fault.{stores}
-use Rattle.chan_walk.specs.Guarded.{IsGuarded}
-use Rattle.chan_needs.specs.History.{Flight, Situation}
-use Rattle.chan_walk.specs.Job.{storage_of}
-use Rattle.chan_walk.specs.OpenJob.{AreOfOneProgram, open_job}
-use Rattle.chan_needs.specs.Needs.{Grants, IsKept, IsNeededForStoring, KeepsProgram}
-use Rattle.chan_areas.specs.Merged.{IsByteOf}
-use Rattle.chan_walk.specs.Reachable.{IsReachable}
-use Rattle.chan_needs.specs.Remembered.{AreInFlight, HoldsAreas, IsInFlight, IsRemembered}
+use Rattle.chan_needs.specs.Needs.{KeepsProgram}
+use Rattle.chan_needs.specs.Remembered.{AreInFlight, IsInFlight, IsRemembered, KeepsNone}
+use Rattle.chan_needs.specs.Remembered.{IsInFlightAt, IsWritten, WritesWell}
 use Rattle.chan_needs.specs.Start.{IsFit, IsBeside, StartsWell}
-use Rattle.chan_needs.specs.Remembered.{KeepsNone, IsInFlightAt, IsWritten, WritesWell}
 use Rattle.chan_needs.specs.Rows.{HasStoreAndKeep, Listed, MayRunBeside, rows_of}
-use Rattle.chan_walk.specs.Runs.{IsSameIn}
 use Rattle.chan_needs.specs.Asked.{FitIsAsked, IsFlightOf}
-use Rattle.chan_walk.specs.Verdict.{IsVerdict}
-use Rattle.std.proofs.lemmas.Bool.{both_ways}
 use Rattle.chan_walk.proofs.Algorithms.Counted.{carries_at}
-use Rattle.chan_areas.proofs.Merging.{lies_in-cases}
 use Rattle.chan_needs.proofs.Needed.{grants_from, may_run_beside}
 use Rattle.chan_walk.proofs.Machine.Again.{counted_is_guarded, yes_by_guarded}
 use Rattle.chan_needs.proofs.Asking.{asked_once}
 use Rattle.chan_needs.proofs.Beginning.{asked_may_start, others_may_change}
-use Rattle.chan_walk.proofs.Theory.Faults.{yes_clear}
-use Rattle.chan_walk.proofs.Theory.Granting.{same_under_yes, data_under_yes}
 use Rattle.chan_walk.proofs.Theory.Transport.{CarriesOver, same_guarded, same_data}
 use Rattle.chan_needs.proofs.Needing.{least_job, yes_is_open, yes_opens}
-use Rattle.chan_walk.proofs.Algorithms.Opened.{to_open}
 
 -- ---- over another storage that holds what is kept
 

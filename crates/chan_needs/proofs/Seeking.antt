@@ -1,41 +1,34 @@
 -- The cylinders that seeks go to: at one look, and as runs.
-use Rattle.std.proofs.Common.{◌≡◌, ℕ, ◌+◌, ◌-◌, ◌<◌, ◌&&◌, ◌++◌, true, false, nat_le, List, [], ◌∷◌}
-use Rattle.std.proofs.Common.{map, length, get_or, take, option_map, Option, Some, None, refl, sym}
-use Rattle.std.proofs.Common.{ap, ◌∙◌, subst, ◌⊎◌, inl, inr, ◌↔◌, arith, rules}
+use Rattle.chan_needs.proofs.Names.{and_from, and_parts, ap, Area, AreExactly, arith, begins_seek}
+use Rattle.chan_needs.proofs.Names.{both_ways, ccw_of, clear_stands, cylinder_of, end_of, false}
+use Rattle.chan_needs.proofs.Names.{Fields, get_or, Has, has_cylinder, HasArgument, HoldBytes, home}
+use Rattle.chan_needs.proofs.Names.{inl, inr, IsByteOf, IsClear, IsMerged, Job, le-leb, leb-true}
+use Rattle.chan_needs.proofs.Names.{length, lies_in, lies_in-cases, lies_in-nil, List, map, nat_le}
+use Rattle.chan_needs.proofs.Names.{None, Option, option_map, Place, refl, rules, run_of}
+use Rattle.chan_needs.proofs.Names.{SeeksCylinder, Seen, Some, storage_of, subst, sym, take, true}
+use Rattle.chan_needs.proofs.Names.{ℕ, [], ◌++◌, ◌+◌, ◌-◌, ◌<◌, ◌↔◌, ◌∙◌, ◌∷◌, ◌≡◌, ◌⊎◌}
+use Rattle.std.proofs.Common.{◌&&◌}
 use Rattle.std.proofs.lemmas.Grind.{common_steps}
 use Rattle.std.proofs.lemmas.List.{map-append}
 use Rattle.std.proofs.Math.Seq.{take-suc}
-use Rattle.std.proofs.lemmas.Bool.{and_from, and_parts, both_ways, le-leb, leb-true, or_cases}
-use Rattle.std.proofs.lemmas.Bool.{or_left, or_right}
-use Rattle.ccw_core.specs.declared.areas.Area.{Area}
-use Rattle.ccw_core.specs.Areas.{lies_in, end_of}
-use Rattle.ccw_core.specs.Ccw.{Fields}
-use Rattle.ccw_core.proofs.Covering.{lies_in-nil}
+use Rattle.std.proofs.lemmas.Bool.{or_cases, or_left, or_right}
 use Rattle.ckd_core.specs.declared.command.MaskClass.{MaskClass}
 use Rattle.ckd_core.specs.declared.command.MaskClass.TheVariants.{Recalibrate, Seek, SeekCylinder}
 use Rattle.ckd_core.specs.declared.command.MaskClass.TheVariants.{SeekHead}
-use Rattle.ckd_core.specs.Track.{cylinder_of}
-use Rattle.ckd_core.specs.Extents.{has_cylinder}
 use Rattle.ckd_core.specs.Command.{Entry as Command, class_is_seek, class_passes}
 use Rattle.ckd_core.specs.Command.{class_recalibrates, is_seek, lookup, recalibrates}
-use Rattle.chan_walk.specs.declared.job.Job.{Job}
-use Rattle.chan_walk.specs.declared.place.Place.{Place}
-use Rattle.chan_walk.specs.Argument.{Has, HasArgument}
-use Rattle.chan_walk.specs.Fault.{begins_recalibrate, begins_seek, IsClear}
+use Rattle.chan_walk.specs.Fault.{begins_recalibrate}
 use Rattle.chan_walk.specs.Guard.{AddsBytes, byte_area}
-use Rattle.chan_walk.specs.Job.{storage_of}
 use Rattle.chan_walk.specs.Places.{AreReached}
-use Rattle.chan_walk.specs.Look.{IsLook, Seen}
-use Rattle.chan_walk.specs.Machine.{home}
-use Rattle.chan_walk.specs.Place.{is_fresh, ccw_of}
-use Rattle.chan_areas.specs.Merged.{IsByteOf, AreExactly, BeginAbove, IsMerged}
-use Rattle.chan_needs.specs.Rows.{AreRising, AreRunsOf, IsSought, RunsAbove, SeeksCylinder, run_of}
+use Rattle.chan_walk.specs.Look.{IsLook}
+use Rattle.chan_walk.specs.Place.{is_fresh}
+use Rattle.chan_areas.specs.Merged.{BeginAbove}
+use Rattle.chan_needs.specs.Rows.{AreRising, AreRunsOf, IsSought, RunsAbove}
 use Rattle.chan_walk.specs.Visit.{begun}
 use Rattle.chan_walk.proofs.Theory.Chains.{argument_unique}
-use Rattle.chan_walk.proofs.Theory.Faults.{clear_stands}
 use Rattle.chan_needs.proofs.Demanding.{command_at, fresh_from, none_from}
-use Rattle.chan_walk.proofs.Algorithms.Guarding.{HoldBytes, adds_areas, lies_in-bytes}
-use Rattle.chan_areas.proofs.Merging.{lies_in-cases, lies_in-first, lies_in-rest}
+use Rattle.chan_walk.proofs.Algorithms.Guarding.{adds_areas, lies_in-bytes}
+use Rattle.chan_areas.proofs.Merging.{lies_in-first, lies_in-rest}
 use Rattle.chan_walk.proofs.Algorithms.Looking.{argument_of, argument_read, ccw_seen}
 use Rattle.chan_walk.proofs.Theory.Granting.{avoids}
 

@@ -1,9 +1,7 @@
 -- A supervisor that keeps to the answers of its calls makes a history.
-use Rattle.std.proofs.Common.{◌≡◌, ℕ, List, [], ◌∷◌, map, Option, Some, None, IsSome, refl, sym, ap}
-use Rattle.std.proofs.Common.{◌∙◌, subst, ◌⊎◌, inl, inr}
-use Rattle.chan_needs.specs.declared.remembered.Remembered.{Remembered}
-use Rattle.chan_needs.specs.History.{Acts, ComesNext, Flight, IsHistory, MayStart, Rests, Situation}
-use Rattle.chan_needs.specs.History.{Spares}
+use Rattle.chan_needs.proofs.Names.{Acts, ap, ComesNext, Flight, inl, inr, IsHistory, IsSome, List}
+use Rattle.chan_needs.proofs.Names.{map, MayStart, None, Option, refl, Remembered, Rests, Situation}
+use Rattle.chan_needs.proofs.Names.{Some, Spares, subst, sym, ℕ, [], ◌∙◌, ◌∷◌, ◌≡◌, ◌⊎◌}
 use Rattle.chan_needs.specs.Remembered.{AreInFlight, IsInFlight}
 use Rattle.chan_needs.specs.Supervised.{GoesOn, GoesOnAt, IsAllowed, IsSupervised, IsWriting, Lists}
 use Rattle.chan_needs.specs.Supervised.{RestsAt, StartsAt, SupervisedStaysWell, Supervision}

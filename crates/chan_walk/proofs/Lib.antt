@@ -1,3 +1,4 @@
+pub mod Names
 pub mod Theory
 pub mod Machine
 pub mod Algorithms

@@ -1,32 +1,19 @@
 -- Over another storage that is the same in the bytes that count, everything that the verdict asks is the same.
-use Rattle.std.proofs.Common.{◌≡◌, ℕ, ◌+◌, ◌<◌, ◌≤◌, Bool, true, false, not, ◌&&◌, if◌then◌else◌}
-use Rattle.std.proofs.Common.{List, [], ◌∷◌, ◌++◌, length, map, take, Option, Some, None, refl, sym}
-use Rattle.std.proofs.Common.{ap, ◌∙◌, subst, ◌↔◌, inl, inr, rules}
-use Rattle.std.specs.List.{AllByRecursion, range_with_len}
-use Rattle.std.specs.Option.{option_or}
-use Rattle.std.proofs.lemmas.Bool.{and_parts}
+use Rattle.chan_walk.proofs.Names.{AllByRecursion, and_parts, ap, argument, argument_addresses}
+use Rattle.chan_walk.proofs.Names.{begins_seek, begins_set_mask, Bool, byte, bytes_held, ccw}
+use Rattle.chan_walk.proofs.Names.{ccw_of, chains_data, check, check_of, false, Fields}
+use Rattle.chan_walk.proofs.Names.{first_reason, Has, has_data_in, HasArgument, HasFault}
+use Rattle.chan_walk.proofs.Names.{if◌then◌else◌, inl, inr, is_aligned, is_counted, is_formed}
+use Rattle.chan_walk.proofs.Names.{is_inside, is_part, is_transfer, IsChain, IsClear, IsReachable}
+use Rattle.chan_walk.proofs.Names.{IsSameIn, Job, Leads, length, List, map, None, not, Option}
+use Rattle.chan_walk.proofs.Names.{option_or, Place, range_with_len, Reason, refl, rules, Some}
+use Rattle.chan_walk.proofs.Names.{Stands, storage_of, subst, sym, table_of_own, take, Takes, true}
+use Rattle.chan_walk.proofs.Names.{ℕ, [], ◌&&◌, ◌++◌, ◌+◌, ◌<◌, ◌↔◌, ◌∙◌, ◌∷◌, ◌≡◌, ◌≤◌}
 use Rattle.ccw_core.specs.declared.storage.Storage.{Storage}
-use Rattle.ccw_core.specs.Ccw.{byte, Fields, ccw, is_transfer, is_formed, is_counted, has_data_in}
-use Rattle.ccw_core.specs.Ccw.{chains_data}
-use Rattle.ccw_core.specs.Held.{bytes_held}
-use Rattle.ccw_core.specs.Storage.{Stands, is_aligned, is_inside}
-use Rattle.chan_walk.specs.declared.job.Job.{Job}
-use Rattle.chan_walk.specs.declared.place.Place.{Place}
-use Rattle.chan_walk.specs.declared.reason.Reason.{Reason}
-use Rattle.chan_walk.specs.Argument.{Has, is_part, Leads, data_addresses, joined, total, but_last}
-use Rattle.chan_walk.specs.Argument.{AreLinked, BeginsAt, IsChain, argument_addresses, argument}
-use Rattle.chan_walk.specs.Argument.{HasArgument}
-use Rattle.chan_walk.specs.Check.{first_reason, check_of, check}
+use Rattle.chan_walk.specs.Argument.{data_addresses, joined, total, but_last, AreLinked, BeginsAt}
 use Rattle.chan_walk.specs.Counted.{IsChained, at_once, further, IsCounted, with_storage}
 use Rattle.chan_walk.specs.Counted.{SameVerdict}
-use Rattle.chan_walk.specs.Fault.{begins_seek, begins_set_mask, command_faults}
-use Rattle.chan_walk.specs.Fault.{lent_faults, seek_faults, mask_faults, table_of_own, fault_with}
-use Rattle.chan_walk.specs.Fault.{HasFault, IsClear}
-use Rattle.chan_walk.specs.Guarded.{Takes}
-use Rattle.chan_walk.specs.Job.{storage_of}
-use Rattle.chan_walk.specs.Place.{ccw_of}
-use Rattle.chan_walk.specs.Reachable.{IsReachable}
-use Rattle.chan_walk.specs.Runs.{IsSameIn}
+use Rattle.chan_walk.specs.Fault.{command_faults, lent_faults, seek_faults, mask_faults, fault_with}
 use Rattle.chan_walk.proofs.Theory.Chains.{argument_exists, argument_unique}
 use Rattle.chan_walk.proofs.Theory.Checks.{check_stands}
 use Rattle.chan_walk.proofs.Theory.Faults.{clear_check}

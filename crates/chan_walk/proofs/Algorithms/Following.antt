@@ -1,20 +1,17 @@
 -- Following the chain of a seek, CCW by CCW: which bytes of an argument it gives.
-use Rattle.std.proofs.Common.{◌≡◌, ℕ, zero, suc, ◌+◌, ◌-◌, ◌<◌, ◌≤◌, true, false, List, [], ◌∷◌}
-use Rattle.std.proofs.Common.{◌++◌, take, map, length, get_or, None, Some, refl, sym, ap, ◌∙◌}
-use Rattle.std.proofs.Common.{subst, ◌⊎◌, inl, inr, arith, append_assoc, append-nil, length-append}
-use Rattle.std.proofs.Common.{length-take-le, rules}
-use Rattle.std.specs.List.{range_with_len, AllByRecursion}
-use Rattle.std.proofs.lemmas.Bool.{cases_lt, both_ways, and_parts, leb-true}
-use Rattle.std.proofs.lemmas.List.{ext_get_or, get_or-append-add, get_or-map, get_or-take, length-map}
-use Rattle.std.proofs.lemmas.List.{take_all}
+use Rattle.chan_walk.proofs.Names.{AllByRecursion, and_parts, ap, append-nil, append_assoc}
+use Rattle.chan_walk.proofs.Names.{argument_addresses, arith, both_ways, byte, cases_lt, ccw}
+use Rattle.chan_walk.proofs.Names.{ccw_at, ccw_at-some, chains_data, false, Fields, get_or}
+use Rattle.chan_walk.proofs.Names.{has_data_in, inl, inr, is_inside, is_part, IsChain, leb-true}
+use Rattle.chan_walk.proofs.Names.{length, length-append, length-map, List, map, None}
+use Rattle.chan_walk.proofs.Names.{range_with_len, refl, rules, Some, subst, suc, sym, take, true}
+use Rattle.chan_walk.proofs.Names.{zero, ℕ, [], ◌++◌, ◌+◌, ◌-◌, ◌<◌, ◌∙◌, ◌∷◌, ◌≡◌, ◌≤◌, ◌⊎◌}
+use Rattle.std.proofs.Common.{length-take-le}
+use Rattle.std.proofs.lemmas.List.{ext_get_or, get_or-append-add, get_or-map, get_or-take, take_all}
 use Rattle.std.proofs.lemmas.List.FromFn.{get_or-range_with_len, length-range_with_len}
 use Rattle.std.proofs.Math.ListN.{get_or-append}
-use Rattle.ccw_core.specs.Ccw.{Fields, byte, ccw, has_data_in, chains_data}
-use Rattle.ccw_core.specs.Storage.{ccw_at, is_inside}
-use Rattle.ccw_core.proofs.StorageLemmas.{ccw_at-some}
 use Rattle.chan_walk.specs.declared.argument.GivenBytes.{GivenBytes}
-use Rattle.chan_walk.specs.Argument.{AreLinked, IsChain, argument_addresses}
-use Rattle.chan_walk.specs.Argument.{data_addresses, is_part, joined, total}
+use Rattle.chan_walk.specs.Argument.{AreLinked, data_addresses, joined, total}
 use Rattle.chan_walk.specs.Read.{AreZeroFrom, IsFront, IsFrontOf, AreOfArgument, IsShort, onward}
 use Rattle.chan_walk.proofs.Theory.Chains.{chain_begins_with_part, chain_cons, chain_tail}
 use Rattle.chan_walk.proofs.Theory.Chains.{onward_leads, onward_only, part_counts}

@@ -1,26 +1,16 @@
 -- Two jobs of one program that grant the same: everything that the verdict asks is the same.
-use Rattle.std.proofs.Common.{◌≡◌, ℕ, ◌+◌, ◌≤◌, Bool, true, false, cond, if◌then◌else◌, List}
-use Rattle.std.proofs.Common.{length, Option, Some, None, refl, sym, ap, ◌∙◌, subst}
-use Rattle.std.proofs.Common.{◌↔◌, rules}
-use Rattle.std.specs.Option.{option_or}
-use Rattle.ccw_core.specs.Areas.{covered}
-use Rattle.ccw_core.specs.Ccw.{byte, Fields, is_transfer}
-use Rattle.ckd_core.specs.Extents.{has_cylinder}
-use Rattle.ckd_core.specs.Mask.{inhibits, is_at_least}
-use Rattle.chan_walk.specs.declared.job.Job.{Job}
-use Rattle.chan_walk.specs.declared.place.Place.{Place}
-use Rattle.chan_walk.specs.declared.reason.Reason.{Reason}
+use Rattle.chan_walk.proofs.Names.{ap, Bool, byte, ccw_of, check, cond, covered, extents_of, false}
+use Rattle.chan_walk.proofs.Names.{fetch_of, Fields, first_reason, has_cylinder, HasArgument}
+use Rattle.chan_walk.proofs.Names.{HasFault, if◌then◌else◌, inhibits, is_at_least, is_refused}
+use Rattle.chan_walk.proofs.Names.{is_transfer, IsReachable, IsVerdict, Job, length, List, None}
+use Rattle.chan_walk.proofs.Names.{Option, option_or, Place, Reason, refl, rules, Some, storage_of}
+use Rattle.chan_walk.proofs.Names.{store_of, subst, sym, table_of_own, true, ℕ, ◌+◌, ◌↔◌, ◌∙◌, ◌≡◌}
+use Rattle.chan_walk.proofs.Names.{◌≤◌}
 use Rattle.chan_walk.specs.declared.verdict.Verdict.{Verdict}
-use Rattle.chan_walk.specs.Argument.{HasArgument}
-use Rattle.chan_walk.specs.Check.{first_reason, check}
-use Rattle.chan_walk.specs.Fault.{is_refused, table_of_own, fault_with, HasFault}
-use Rattle.chan_walk.specs.Job.{storage_of, extents_of, fetch_of, store_of}
+use Rattle.chan_walk.specs.Fault.{fault_with}
 use Rattle.chan_walk.specs.OpenJob.{AreOfOneProgram, GrantsMore}
-use Rattle.chan_walk.specs.Reachable.{IsReachable}
-use Rattle.chan_walk.specs.Verdict.{IsVerdict}
-use Rattle.chan_walk.specs.Place.{ccw_of}
-use Rattle.chan_walk.proofs.Theory.Granting.{turned, ccw_over, carries, same_first}
-use Rattle.chan_walk.proofs.Theory.Granting.{covered_more, refused_more}
+use Rattle.chan_walk.proofs.Theory.Granting.{turned, ccw_over, carries, same_first, covered_more}
+use Rattle.chan_walk.proofs.Theory.Granting.{refused_more}
 use Rattle.chan_walk.proofs.Theory.Transport.{CarriesOver, same_reached, same_verdicts}
 use Rattle.chan_walk.proofs.Theory.OwnFaults.{data_in_storage}
 use Rattle.chan_walk.proofs.Theory.Masks.{laxer_permits, strict_as_laxer}

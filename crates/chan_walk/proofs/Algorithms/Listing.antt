@@ -1,45 +1,36 @@
 -- The first of a job's offences is the verdict.
-use Rattle.std.proofs.Common.{◌≡◌, Bool, IsTrue, true, false, ◌==◌, min, ℕ, ◌<◌, ◌≤◌, List, [], ◌∷◌}
-use Rattle.std.proofs.Common.{◌++◌, append_assoc, append-nil, map, take, drop, length, get_or}
-use Rattle.std.proofs.Common.{slice_get, Option, Some, None, refl, sym, ap, ◌∙◌, subst, ◌⊎◌, inl}
-use Rattle.std.proofs.Common.{inr, ◌↔◌, arith, Less, rules}
+use Rattle.chan_walk.proofs.Names.{AllByRecursion, ap, append-nil, append_assoc, Area, AreDistinct}
+use Rattle.chan_walk.proofs.Names.{AreReached, arith, Bool, both_ways, cases_lt, ccw_at-some}
+use Rattle.chan_walk.proofs.Names.{Changes, false, get_or, Has, HasFault, HasOffences, inl, inr}
+use Rattle.chan_walk.proofs.Names.{IsArgumentByte, IsCcwByte, IsClear, IsOwn, IsReachable, Job}
+use Rattle.chan_walk.proofs.Names.{length, lies_in, List, map, min, nat_cmp, None, Offends, Option}
+use Rattle.chan_walk.proofs.Names.{Place, place_of, places_of_looks, Reason, refl, rules}
+use Rattle.chan_walk.proofs.Names.{SeekOutside, Seen, Some, StoresOver, subst, sym, take, true}
+use Rattle.chan_walk.proofs.Names.{way_of, WeakensMask, ℕ, [], ◌++◌, ◌<◌, ◌↔◌, ◌∙◌, ◌∷◌, ◌≡◌, ◌≤◌}
+use Rattle.chan_walk.proofs.Names.{◌⊎◌}
+use Rattle.std.proofs.Common.{IsTrue, ◌==◌, drop, slice_get, Less}
 use Rattle.std.proofs.lemmas.Grind.{common_steps}
 use Rattle.std.specs.List.Sorted.{IsNonDecreasingBy, IsPermutation, IsStrictlyIncreasing}
 use Rattle.std.specs.List.Sorted.{IsStrictlySortedBy}
-use Rattle.std.specs.List.{AllByRecursion}
-use Rattle.std.specs.Ordering.{nat_cmp}
-use Rattle.std.proofs.lemmas.Bool.{both_ways, cases_lt, eq-eqb, eqb-true}
+use Rattle.std.proofs.lemmas.Bool.{eq-eqb, eqb-true}
 use Rattle.std.proofs.lemmas.List.{length-take, map-append, take-append-drop}
 use Rattle.std.proofs.lemmas.List.Sorted.{Contains-permutation, IsPermutation-map}
 use Rattle.std.proofs.lemmas.List.Sorted.{IsPermutation-sym}
 use Rattle.std.proofs.lemmas.Map.Keys.{IsDistinct-IsPermutation, IsStrictlyIncreasing-from_distinct}
 use Rattle.std.proofs.lemmas.Map.Keys.{sorted_from_strictly_increasing}
-use Rattle.ccw_core.specs.declared.areas.Area.{Area}
-use Rattle.ccw_core.specs.Areas.{lies_in}
-use Rattle.ccw_core.proofs.StorageLemmas.{ccw_at-some, ccw_at-where}
-use Rattle.chan_walk.specs.declared.job.Job.{Job}
+use Rattle.ccw_core.proofs.StorageLemmas.{ccw_at-where}
 use Rattle.chan_walk.specs.declared.offence.Offence.{Offence}
-use Rattle.chan_walk.specs.declared.place.Place.{Place}
-use Rattle.chan_walk.specs.declared.reason.Reason.{Reason}
 use Rattle.chan_walk.specs.declared.reason.Reason.TheVariants.{Misaligned, OutsideStorage}
 use Rattle.chan_walk.specs.declared.reason.Reason.TheVariants.{TransferNotAllowed, InvalidCode}
 use Rattle.chan_walk.specs.declared.reason.Reason.TheVariants.{BadFormat, ZeroCount, DataOutside}
 use Rattle.chan_walk.specs.declared.reason.Reason.TheVariants.{NotInTable, Inhibited, StoreNotLent}
-use Rattle.chan_walk.specs.declared.reason.Reason.TheVariants.{FetchNotLent, ShortSeek, SeekOutside}
-use Rattle.chan_walk.specs.declared.reason.Reason.TheVariants.{ChangesCcw, ChangesArgument}
-use Rattle.chan_walk.specs.declared.reason.Reason.TheVariants.{WeakensMask}
-use Rattle.chan_walk.specs.Argument.{Has}
-use Rattle.chan_walk.specs.Places.{AreDistinct, way_of}
-use Rattle.chan_walk.specs.Fault.{HasFault, IsClear}
-use Rattle.chan_walk.specs.Guarded.{IsArgumentByte, IsCcwByte}
-use Rattle.chan_walk.specs.Offence.{IsOwn}
-use Rattle.chan_walk.specs.Places.{AreReached}
-use Rattle.chan_walk.specs.Look.{IsLook, Seen, place_of, places_of_looks}
+use Rattle.chan_walk.specs.declared.reason.Reason.TheVariants.{FetchNotLent, ShortSeek, ChangesCcw}
+use Rattle.chan_walk.specs.declared.reason.Reason.TheVariants.{ChangesArgument}
+use Rattle.chan_walk.specs.Look.{IsLook}
 use Rattle.chan_walk.specs.Offence.{AddsOffences, AreAllOffences, AreOffences, FirstIsVerdict}
-use Rattle.chan_walk.specs.Offence.{HasOffences, Offending, StoresInto, offence_number}
-use Rattle.chan_walk.specs.Reachable.{IsReachable}
+use Rattle.chan_walk.specs.Offence.{Offending, StoresInto, offence_number}
 use Rattle.chan_walk.specs.Reason.{number_of}
-use Rattle.chan_walk.specs.Verdict.{Changes, ComesFirst, Offends, StoresOver}
+use Rattle.chan_walk.specs.Verdict.{ComesFirst}
 use Rattle.chan_walk.proofs.Theory.Checks.{check_stands}
 use Rattle.chan_walk.proofs.Theory.Faults.{clear_check, fault_unique}
 use Rattle.chan_walk.proofs.Algorithms.InOrder.{cmp_less, distinct}

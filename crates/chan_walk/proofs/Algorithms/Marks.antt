@@ -1,19 +1,17 @@
 -- Marks, and the places that they tell of.
-use Rattle.std.proofs.Common.{◌≡◌, ℕ, ◌*◌, ◌%◌, ◌^◌, ◌<◌, Bool, false, List, [], ◌∷◌, ◌++◌, Some}
-use Rattle.std.proofs.Common.{sym, ap, ◌∙◌, arith, w8, rules}
-use Rattle.std.specs.Int.{bit_at}
+use Rattle.chan_walk.proofs.Names.{Agrees, ap, arith, bit_at, Bool, BTreeMap, false, List, marks_of}
+use Rattle.chan_walk.proofs.Names.{nat_cmp, Place, rules, Some, sym, way_of, ℕ, [], ◌%◌, ◌++◌, ◌<◌}
+use Rattle.chan_walk.proofs.Names.{◌^◌, ◌∙◌, ◌∷◌, ◌≡◌}
+use Rattle.std.proofs.Common.{◌*◌, w8}
 use Rattle.std.specs.Int.RustNames.{bit_or}
-use Rattle.std.specs.Ordering.{nat_cmp}
-use Rattle.std.specs.BTreeMap.{BTreeMap}
-use Rattle.std.specs.BTreeMap as tree
 use Rattle.std.proofs.lemmas.Bool.Decides.{nat_tests}
 use Rattle.std.proofs.lemmas.Nat.Bits.{bit_at_set_same, bit_at_set_other}
 use Rattle.chan_walk.specs.declared.place.Entry.{Entry}
-use Rattle.chan_walk.specs.declared.place.Place.{Place}
-use Rattle.chan_walk.specs.Places.{entry_number, transfer_number, way_of, place_number}
-use Rattle.chan_walk.specs.Marks.{place_at, or_none, marks_of}
-use Rattle.chan_walk.specs.Walk.{Agrees, Marks}
+use Rattle.chan_walk.specs.Places.{entry_number, transfer_number, place_number}
+use Rattle.chan_walk.specs.Marks.{place_at, or_none}
+use Rattle.chan_walk.specs.Walk.{Marks}
 use Rattle.chan_walk.proofs.Theory.Lists.{has_push}
+use Rattle.std.specs.BTreeMap as tree
 
 -- ---- places and the ways in which they are entered
 

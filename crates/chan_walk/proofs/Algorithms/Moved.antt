@@ -1,21 +1,14 @@
 -- The data of reachable CCWs, place by place.
-use Rattle.std.proofs.Common.{◌≡◌, ℕ, ◌<◌, ◌≤◌, Bool, true, List, [], ◌∷◌, length, Some, sym, ap}
-use Rattle.std.proofs.Common.{◌∙◌, subst, ◌⊎◌, inl, inr, ◌↔◌, rules}
-use Rattle.std.proofs.lemmas.Bool.{both_ways}
+use Rattle.chan_walk.proofs.Names.{ap, Area, AreReached, Bool, both_ways, ccw_at-some, ccw_of}
+use Rattle.chan_walk.proofs.Names.{data_of, Fields, inl, inr, is_aligned, is_inside, Job, length}
+use Rattle.chan_walk.proofs.Names.{lies_in, List, Place, rules, Seen, Some, storage_of, subst, sym}
+use Rattle.chan_walk.proofs.Names.{true, ℕ, [], ◌<◌, ◌↔◌, ◌∙◌, ◌∷◌, ◌≡◌, ◌≤◌, ◌⊎◌}
 use Rattle.std.proofs.lemmas.Option.{same_Some}
-use Rattle.ccw_core.specs.declared.areas.Area.{Area}
-use Rattle.ccw_core.specs.Areas.{lies_in, end_of}
-use Rattle.ccw_core.specs.Ccw.{Fields}
-use Rattle.ccw_core.specs.Storage.{is_aligned, is_inside}
+use Rattle.ccw_core.specs.Areas.{end_of}
 use Rattle.ccw_core.proofs.Covering.{lies_in-nil}
-use Rattle.ccw_core.proofs.StorageLemmas.{ccw_at-some}
-use Rattle.chan_walk.specs.declared.job.Job.{Job}
-use Rattle.chan_walk.specs.declared.place.Place.{Place}
-use Rattle.chan_walk.specs.Place.{data_at, data_of, ccw_of}
+use Rattle.chan_walk.specs.Place.{data_at}
 use Rattle.chan_walk.specs.Guard.{AddsBytes}
-use Rattle.chan_walk.specs.Job.{storage_of}
-use Rattle.chan_walk.specs.Places.{AreReached}
-use Rattle.chan_walk.specs.Look.{IsLook, Seen}
+use Rattle.chan_walk.specs.Look.{IsLook}
 use Rattle.chan_walk.specs.Moved.{IsDataOf, IsSeenByte, Passes}
 use Rattle.chan_walk.proofs.Algorithms.Guarding.{HoldBytes}
 use Rattle.chan_areas.proofs.Merging.{lies_in-cases, lies_in-first}

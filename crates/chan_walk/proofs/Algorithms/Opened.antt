@@ -1,10 +1,6 @@
 -- The open job as the code makes it.
-use Rattle.std.proofs.Common.{◌≡◌, true, List, refl, sym, subst}
-use Rattle.ccw_core.specs.declared.areas.Area.{Area}
-use Rattle.ccw_core.specs.Areas.{lies_in}
-use Rattle.ckd_core.specs.Extents.{has_cylinder}
-use Rattle.ckd_core.specs.Mask.{is_at_least}
-use Rattle.chan_walk.specs.declared.job.Job.{Job}
+use Rattle.chan_walk.proofs.Names.{Area, has_cylinder, is_at_least, Job, lies_in, List, refl, subst}
+use Rattle.chan_walk.proofs.Names.{sym, true, ◌≡◌}
 use Rattle.chan_walk.specs.OpenJob.{AreOfOneProgram, GrantsMore, open_job, IsOpenJob, OpenJobIsOpen}
 use Rattle.chan_walk.proofs.Theory.Granting.{turned}
 use Rattle.chan_walk.proofs.Theory.Masks.{strict_as_itself}

@@ -1,18 +1,17 @@
 -- Looks put in order of place.
-use Rattle.std.proofs.Common.{◌≡◌, ℕ, ◌+◌, ◌<◌, List, [], ◌∷◌, map, length, get_or, Ordering, sym}
-use Rattle.std.proofs.Common.{ap, ◌∙◌, ◌↔◌, arith, eqb, rules}
+use Rattle.chan_walk.proofs.Names.{ap, AreDistinct, arith, get_or, Has, length, length-map, List}
+use Rattle.chan_walk.proofs.Names.{map, nat_cmp, Place, place_of, places_of_looks, rules, Seen, sym}
+use Rattle.chan_walk.proofs.Names.{ℕ, [], ◌+◌, ◌<◌, ◌↔◌, ◌∙◌, ◌∷◌, ◌≡◌}
+use Rattle.std.proofs.Common.{Ordering, eqb}
 use Rattle.std.specs.List.Sorted.{IsNonDecreasing, IsNonDecreasingBy, IsPermutation, IsSortedByKey}
 use Rattle.std.specs.List.Sorted.{IsStrictlyIncreasing}
-use Rattle.std.specs.Ordering.{is_lt, nat_cmp}
-use Rattle.std.proofs.lemmas.List.{length-map, get_or-map}
+use Rattle.std.specs.Ordering.{is_lt}
+use Rattle.std.proofs.lemmas.List.{get_or-map}
 use Rattle.std.proofs.lemmas.List.Sorted.{IsNonDecreasingBy-from_sort, IsPermutation-map}
 use Rattle.std.proofs.lemmas.List.Sorted.{IsPermutation-sym, Contains-permutation}
 use Rattle.std.proofs.lemmas.Map.Keys.{IsDistinct-IsPermutation, IsStrictlyIncreasing-from_distinct}
 use Rattle.std.proofs.lemmas.Simd.{map-map}
-use Rattle.chan_walk.specs.declared.place.Place.{Place}
-use Rattle.chan_walk.specs.Argument.{Has}
-use Rattle.chan_walk.specs.Places.{AreDistinct, place_number}
-use Rattle.chan_walk.specs.Look.{Seen, place_of, places_of_looks}
+use Rattle.chan_walk.specs.Places.{place_number}
 use Rattle.chan_walk.proofs.Algorithms.InOrder.{distinct}
 use Rattle.chan_walk.proofs.Theory.Lists.{contains_has, has_contains}
 use Rattle.chan_walk.proofs.Algorithms.Marks.{same_number}

@@ -1,22 +1,14 @@
 -- From which place each place was found: the path back is the shortest, and the one that goes to next.
-use Rattle.std.proofs.Common.{◌≡◌, ℕ, zero, suc, ◌+◌, ◌<◌, ◌≤◌, List, [], ◌∷◌, ◌++◌, length}
-use Rattle.std.proofs.Common.{slice_index, Option, Some, None, refl, sym, ap, ◌∙◌, subst, ◌⊎◌, inl}
-use Rattle.std.proofs.Common.{inr, arith, length-append, rules}
+use Rattle.chan_walk.proofs.Names.{Adds, ap, AreDistinct, AreSuccessors, arith, cases_lt}
+use Rattle.chan_walk.proofs.Names.{first_place, Has, HasFault, inl, inr, IsPath, IsReachable, Job}
+use Rattle.chan_walk.proofs.Names.{length, length-append, List, None, Option, Place, Reason, refl}
+use Rattle.chan_walk.proofs.Names.{rules, Some, subst, suc, sym, zero, ℕ, [], ◌++◌, ◌+◌, ◌<◌, ◌∙◌}
+use Rattle.chan_walk.proofs.Names.{◌∷◌, ◌≡◌, ◌≤◌, ◌⊎◌}
+use Rattle.std.proofs.Common.{slice_index}
 use Rattle.std.specs.List.{slice_get}
-use Rattle.std.proofs.lemmas.Bool.{cases_lt}
-use Rattle.chan_walk.specs.declared.job.Job.{Job}
-use Rattle.chan_walk.specs.declared.place.Place.{Place}
-use Rattle.chan_walk.specs.declared.reason.Reason.{Reason}
 use Rattle.chan_walk.specs.declared.successor.Next.{Next}
-use Rattle.chan_walk.specs.Argument.{Has}
-use Rattle.chan_walk.specs.Places.{AreDistinct}
-use Rattle.chan_walk.specs.Fault.{HasFault}
 use Rattle.chan_walk.specs.Paths.{IsNext, IsSkip, IsFirstOf}
-use Rattle.chan_walk.specs.Place.{first_place}
-use Rattle.chan_walk.specs.Reachable.{IsPath, IsReachable}
-use Rattle.chan_walk.specs.Successor.{AreSuccessors}
-use Rattle.chan_walk.specs.Walk.{Adds, AreSiblings, Follows, IsAmong, IsBest, IsFoundBy, IsFrom}
-use Rattle.chan_walk.specs.Walk.{IsTraced}
+use Rattle.chan_walk.specs.Walk.{AreSiblings, Follows, IsAmong, IsBest, IsFoundBy, IsFrom, IsTraced}
 use Rattle.chan_walk.proofs.Theory.Faults.{fault_exists}
 use Rattle.chan_walk.proofs.Theory.Lists.{has_at, at_has}
 use Rattle.chan_walk.proofs.Algorithms.Walking.{follows_exactly, slice_get-append}

@@ -1,17 +1,9 @@
 -- What offends: own faults, and where there is none, changes.
-use Rattle.std.proofs.Common.{◌≡◌, ℕ, true, List, ◌↔◌, Option, Some, None, inl, inr, rules}
-use Rattle.ccw_core.specs.Areas.{lies_in}
-use Rattle.ccw_core.specs.Ccw.{Fields}
-use Rattle.ccw_core.specs.declared.areas.Area.{Area}
+use Rattle.chan_walk.proofs.Names.{Area, AreClear, ccw_of, Changes, Fields, HasFault, inl, inr}
+use Rattle.chan_walk.proofs.Names.{IsClear, IsOwn, IsReachable, Job, lies_in, List, None, Offends}
+use Rattle.chan_walk.proofs.Names.{Option, Place, Reason, rules, Some, stores, StoresOver, true, ℕ}
+use Rattle.chan_walk.proofs.Names.{◌↔◌, ◌≡◌}
 use Rattle.chan_areas.specs.Merged.{Meets}
-use Rattle.chan_walk.specs.declared.job.Job.{Job}
-use Rattle.chan_walk.specs.declared.place.Place.{Place}
-use Rattle.chan_walk.specs.declared.reason.Reason.{Reason}
-use Rattle.chan_walk.specs.Fault.{stores, HasFault, IsClear}
-use Rattle.chan_walk.specs.Offence.{IsOwn}
-use Rattle.chan_walk.specs.Place.{ccw_of}
-use Rattle.chan_walk.specs.Reachable.{IsReachable}
-use Rattle.chan_walk.specs.Verdict.{AreClear, StoresOver, Changes, Offends}
 use Rattle.chan_walk.proofs.Theory.Faults.{fault_exists, fault_unique}
 
 -- where no reachable place has an own fault, each is clear

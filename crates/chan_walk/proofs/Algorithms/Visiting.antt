@@ -1,13 +1,11 @@
 -- What begins at a place, by the command that was looked up.
-use Rattle.std.proofs.Common.{◌≡◌, Bool, true, ◌&&◌, if◌then◌else◌, Option, None, refl, rules}
-use Rattle.ccw_core.specs.Ccw.{Fields}
+use Rattle.chan_walk.proofs.Names.{begins_recalibrate, begins_seek, begins_set_mask, Bool, Fields}
+use Rattle.chan_walk.proofs.Names.{if◌then◌else◌, is_fresh, lookup, None, Option, Place, refl}
+use Rattle.chan_walk.proofs.Names.{rules, true, ◌&&◌, ◌≡◌}
 use Rattle.ckd_core.specs.declared.command.MaskClass.{MaskClass}
 use Rattle.ckd_core.specs.Command.{Entry as Command, class_is_seek, class_passes}
-use Rattle.ckd_core.specs.Command.{class_recalibrates}
-use Rattle.ckd_core.specs.Command.{class_sets_mask, is_seek, lookup, recalibrates, sets_mask}
-use Rattle.chan_walk.specs.declared.place.Place.{Place}
-use Rattle.chan_walk.specs.Fault.{begins_seek, begins_recalibrate, begins_set_mask}
-use Rattle.chan_walk.specs.Place.{is_fresh}
+use Rattle.ckd_core.specs.Command.{class_recalibrates, class_sets_mask, is_seek, recalibrates}
+use Rattle.ckd_core.specs.Command.{sets_mask}
 use Rattle.chan_walk.specs.Visit.{begun}
 
 -- a test that only a fresh place can pass

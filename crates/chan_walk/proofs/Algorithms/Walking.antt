@@ -1,23 +1,17 @@
 -- A walk finds what is reachable, and nothing else.
-use Rattle.std.proofs.Common.{◌≡◌, ℕ, zero, suc, ◌+◌, ◌<◌, ◌≤◌, List, [], ◌∷◌, ◌++◌, length, Option}
-use Rattle.std.proofs.Common.{Some, None, option_map, refl, sym, ap, ◌∙◌, subst, ◌⊎◌, inl, inr, ◌↔◌}
-use Rattle.std.proofs.Common.{arith, length-append, rules}
+use Rattle.chan_walk.proofs.Names.{Adds, ap, AreDistinct, AreLooks, AreReached, AreSuccessors}
+use Rattle.chan_walk.proofs.Names.{arith, cases_lt, first_place, Has, HasFault, inl, inr, IsPath}
+use Rattle.chan_walk.proofs.Names.{IsReachable, IsWalked, Job, length, length-append, List, None}
+use Rattle.chan_walk.proofs.Names.{Option, Place, place_of, places_of_looks, Reason, refl, rules}
+use Rattle.chan_walk.proofs.Names.{Seen, Some, subst, suc, sym, zero, ℕ, [], ◌++◌, ◌+◌, ◌<◌, ◌↔◌}
+use Rattle.chan_walk.proofs.Names.{◌∙◌, ◌∷◌, ◌≡◌, ◌≤◌, ◌⊎◌}
+use Rattle.std.proofs.Common.{option_map}
 use Rattle.std.specs.List.{slice_get}
-use Rattle.std.proofs.lemmas.Bool.{cases_lt}
 use Rattle.std.proofs.lemmas.Option.{slice_get-map}
-use Rattle.chan_walk.specs.declared.job.Job.{Job}
-use Rattle.chan_walk.specs.declared.place.Place.{Place}
 use Rattle.chan_walk.specs.declared.successor.Next.{Next}
-use Rattle.chan_walk.specs.declared.reason.Reason.{Reason}
-use Rattle.chan_walk.specs.Argument.{Has}
-use Rattle.chan_walk.specs.Places.{AreDistinct, HasMoreThan}
-use Rattle.chan_walk.specs.Fault.{HasFault}
-use Rattle.chan_walk.specs.Places.{AreReached}
-use Rattle.chan_walk.specs.Look.{AreLooks, Seen, place_of, places_of_looks}
-use Rattle.chan_walk.specs.Place.{first_place}
-use Rattle.chan_walk.specs.Reachable.{IsPath, IsReachable}
-use Rattle.chan_walk.specs.Successor.{AreSuccessors, Successor}
-use Rattle.chan_walk.specs.Walk.{Follows, IsAmong, Adds, HasFound, Overflows, IsWalked}
+use Rattle.chan_walk.specs.Places.{HasMoreThan}
+use Rattle.chan_walk.specs.Successor.{Successor}
+use Rattle.chan_walk.specs.Walk.{Follows, IsAmong, HasFound, Overflows}
 use Rattle.chan_walk.proofs.Theory.Faults.{fault_exists, fault_unique}
 use Rattle.chan_walk.proofs.Theory.Lists.{has_at, has_left, has_push, at_has}
 

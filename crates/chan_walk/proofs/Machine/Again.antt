@@ -1,21 +1,10 @@
 -- Where the verdict is yes, only guarded bytes count, and as these never change, it is yes again.
-use Rattle.std.proofs.Common.{◌≡◌, ℕ, ◌+◌, true, false, length, refl, sym, ap, ◌∙◌, subst, inl, inr}
-use Rattle.std.proofs.Common.{rules}
-use Rattle.ccw_core.specs.Ccw.{byte, Fields, ccw, is_transfer, chains_data}
-use Rattle.ckd_core.specs.declared.command.Kind.TheVariants.{Outward}
-use Rattle.chan_walk.specs.declared.job.Job.{Job}
-use Rattle.chan_walk.specs.declared.place.Entry.TheVariants.{ChainOut}
-use Rattle.chan_walk.specs.declared.place.Place.{Place}
-use Rattle.chan_walk.specs.declared.verdict.Verdict.TheVariants.{Yes}
-use Rattle.chan_walk.specs.Argument.{is_part, Leads}
+use Rattle.chan_walk.proofs.Names.{ap, begins_seek, byte, ccw, ccw_of, chained, ChainOut}
+use Rattle.chan_walk.proofs.Names.{chains_data, false, Fields, inl, inr, is_part, is_transfer}
+use Rattle.chan_walk.proofs.Names.{IsGuarded, IsReachable, IsVerdict, Job, kind_of, Leads, length}
+use Rattle.chan_walk.proofs.Names.{Outward, Place, refl, rules, storage_of, straight_to, subst, sym}
+use Rattle.chan_walk.proofs.Names.{transferred_to, true, Yes, ℕ, ◌+◌, ◌∙◌, ◌≡◌}
 use Rattle.chan_walk.specs.Counted.{IsChained, at_once, further, IsCounted, YesByGuarded, YesStays}
-use Rattle.chan_walk.specs.Fault.{kind_of, begins_seek}
-use Rattle.chan_walk.specs.Guarded.{IsGuarded}
-use Rattle.chan_walk.specs.Job.{storage_of}
-use Rattle.chan_walk.specs.Place.{straight_to, transferred_to, ccw_of}
-use Rattle.chan_walk.specs.Reachable.{IsReachable}
-use Rattle.chan_walk.specs.Successor.{chained}
-use Rattle.chan_walk.specs.Verdict.{IsVerdict}
 use Rattle.chan_walk.proofs.Theory.Chains.{part_is_no_transfer}
 use Rattle.chan_walk.proofs.Algorithms.Counted.{same_verdict}
 use Rattle.chan_walk.proofs.Theory.Faults.{yes_clear}

@@ -1,33 +1,26 @@
 -- No false alarm: from each reason to a run that shows it.
-use Rattle.std.proofs.Common.{◌≡◌, ℕ, ◌+◌, ◌<◌, true, false, not, ◌&&◌, List, [], ◌∷◌, length}
-use Rattle.std.proofs.Common.{Option, Some, None, is_none, refl, sym, ap, subst, ◌⊎◌, inl, inr}
-use Rattle.std.proofs.Common.{arith, rules}
-use Rattle.std.proofs.lemmas.Bool.{and_parts, or_cases, not-true, ltb-true}
+use Rattle.chan_walk.proofs.Names.{allows, and_parts, ap, argument, arith, At, begins_recalibrate}
+use Rattle.chan_walk.proofs.Names.{begins_seek, begins_set_mask, byte, ccw_of, check, checked}
+use Rattle.chan_walk.proofs.Names.{covered, Ended, ends, Event, extents_of, false, fetch_of, Fields}
+use Rattle.chan_walk.proofs.Names.{goes_out, has_cylinder, HasArgument, HasFault, home, inhibits}
+use Rattle.chan_walk.proofs.Names.{inl, inr, is_at_least, is_counted, is_fresh, is_known, is_none}
+use Rattle.chan_walk.proofs.Names.{is_refused, is_transfer, IsArgumentByte, IsCcwByte, IsChain}
+use Rattle.chan_walk.proofs.Names.{IsClear, IsReachable, IsRun, Job, kind_of, length, List, Moment}
+use Rattle.chan_walk.proofs.Names.{None, not, Offends, Option, Outward, Place, Reason, refl, rules}
+use Rattle.chan_walk.proofs.Names.{SeekOutside, Some, Stage, Step, storage_of, store_of, stores}
+use Rattle.chan_walk.proofs.Names.{StoresOver, subst, sym, table_of_every_ccw}
+use Rattle.chan_walk.proofs.Names.{table_of_non_transfer, table_of_own, Takes, true, UsesIn}
+use Rattle.chan_walk.proofs.Names.{WeakensMask, ℕ, [], ◌&&◌, ◌+◌, ◌<◌, ◌∷◌, ◌≡◌, ◌⊎◌}
+use Rattle.std.proofs.lemmas.Bool.{or_cases, not-true, ltb-true}
 use Rattle.std.proofs.lemmas.List.FromFn.{length-map-range_with_len}
-use Rattle.ccw_core.specs.Areas.{covered}
-use Rattle.ccw_core.specs.Ccw.{byte, Fields, is_transfer, is_counted}
-use Rattle.ckd_core.specs.declared.command.Kind.TheVariants.{Outward}
-use Rattle.ckd_core.specs.Extents.{has_cylinder}
-use Rattle.ckd_core.specs.Mask.{inhibits, is_at_least}
-use Rattle.chan_walk.specs.declared.job.Job.{Job}
-use Rattle.chan_walk.specs.declared.place.Place.{Place}
-use Rattle.chan_walk.specs.declared.reason.Reason.{Reason}
 use Rattle.chan_walk.specs.declared.reason.Reason.TheVariants.{StoreNotLent, FetchNotLent}
-use Rattle.chan_walk.specs.declared.reason.Reason.TheVariants.{ShortSeek, SeekOutside, WeakensMask}
+use Rattle.chan_walk.specs.declared.reason.Reason.TheVariants.{ShortSeek}
 use Rattle.chan_walk.specs.Alarm.{IsProper, first_cylinder, ShowsInStep, StoresOn, ShowsCheck}
 use Rattle.chan_walk.specs.Alarm.{Shows, EachPathShows, NoFalseAlarm}
-use Rattle.chan_walk.specs.Argument.{IsChain, HasArgument, argument}
-use Rattle.chan_walk.specs.Check.{table_of_every_ccw, table_of_non_transfer, check}
-use Rattle.chan_walk.specs.Fault.{kind_of, goes_out, stores, fetches, is_known, begins_seek}
-use Rattle.chan_walk.specs.Fault.{begins_recalibrate, begins_set_mask, allows, is_refused}
-use Rattle.chan_walk.specs.Fault.{table_of_own, HasFault, IsClear}
-use Rattle.chan_walk.specs.Guarded.{IsCcwByte, IsSeekByte, IsMaskByte, IsArgumentByte, Takes}
-use Rattle.chan_walk.specs.Job.{storage_of, extents_of, fetch_of, store_of}
-use Rattle.chan_walk.specs.Machine.{Stage, At, Ended, Event, home, ends, Step, checked, unknown}
-use Rattle.chan_walk.specs.Place.{is_fresh, ccw_of}
-use Rattle.chan_walk.specs.Reachable.{IsReachable}
-use Rattle.chan_walk.specs.Runs.{Moment, IsRun, UsesIn, UsesInCcw, UsesInArgument}
-use Rattle.chan_walk.specs.Verdict.{StoresOver, Offends}
+use Rattle.chan_walk.specs.Fault.{fetches}
+use Rattle.chan_walk.specs.Guarded.{IsSeekByte, IsMaskByte}
+use Rattle.chan_walk.specs.Machine.{unknown}
+use Rattle.chan_walk.specs.Runs.{UsesInCcw, UsesInArgument}
 use Rattle.chan_walk.proofs.Theory.Areas.{uncovered, home_refused}
 use Rattle.chan_walk.proofs.Theory.Chains.{part_is_no_transfer, chain_begins_with_part}
 use Rattle.chan_walk.proofs.Theory.Checks.{passed, Cases, each_case, table_case, check_case}

@@ -1,20 +1,16 @@
 -- What the laws say of a job's verdict.
-use Rattle.std.proofs.Common.{◌≡◌, ℕ, List, refl, subst, rules}
-use Rattle.std.specs.BTreeMap.{BTreeMap}
-use Rattle.std.specs.BTreeMap as tree
-use Rattle.std.specs.Ordering.{nat_cmp}
-use Rattle.chan_walk.specs.declared.job.Job.{Job}
+use Rattle.chan_walk.proofs.Names.{Agrees, BTreeMap, IsVerdict, Job, List, nat_cmp, places_of_looks}
+use Rattle.chan_walk.proofs.Names.{refl, rules, Seen, subst, Yes, ℕ, ◌≡◌}
 use Rattle.chan_walk.specs.declared.verdict.Verdict.{Verdict}
-use Rattle.chan_walk.specs.declared.verdict.Verdict.TheVariants.{Yes, No}
+use Rattle.chan_walk.specs.declared.verdict.Verdict.TheVariants.{No}
 use Rattle.chan_walk.specs.Alarm.{IsProper, NoFalseAlarm}
 use Rattle.chan_walk.specs.Answers.{HasAtMost, HasWitness, IsSound, IsSoundAmong}
 use Rattle.chan_walk.specs.Headline.{YesIsSafe, YesIsSafeAmong}
 use Rattle.chan_walk.specs.Job.{HasMask}
-use Rattle.chan_walk.specs.Look.{Seen, places_of_looks}
 use Rattle.chan_walk.specs.Marks.{ListsMarks, places_of}
-use Rattle.chan_walk.specs.Verdict.{IsVerdict}
-use Rattle.chan_walk.specs.Walk.{Agrees, HasFound}
+use Rattle.chan_walk.specs.Walk.{HasFound}
 use Rattle.chan_walk.proofs.Algorithms.InOrder.{listed_few, listed_reachable}
+use Rattle.std.specs.BTreeMap as tree
 
 pub covers : (j : Job) (v : Verdict) → HasMask j → YesIsSafe → IsVerdict j v → IsSound j v
 covers j v mask law h e = law j mask (subst (λ (w : Verdict). IsVerdict j w) e h)

@@ -1,9 +1,8 @@
 -- What the events of a step show, part by part.
-use Rattle.std.proofs.Common.{ℕ, List, [], ◌∷◌, ◌++◌, ◌⊎◌, inl, inr, rules}
+use Rattle.chan_walk.proofs.Names.{Command, Event, Has, inl, inr, List, rules, Seek, UsesIn, ℕ, []}
+use Rattle.chan_walk.proofs.Names.{◌++◌, ◌∷◌, ◌⊎◌}
 use Rattle.chan_walk.specs.Alarm.{NoSeek}
-use Rattle.chan_walk.specs.Argument.{Has}
-use Rattle.chan_walk.specs.Machine.{Event, Command, Store, Fetch, Gather, Seek, SetMask}
-use Rattle.chan_walk.specs.Runs.{UsesIn}
+use Rattle.chan_walk.specs.Machine.{Store, Fetch, Gather, SetMask}
 use Rattle.chan_walk.proofs.Theory.Lists.{has_cases, has_left, has_right}
 
 pub uses_cases : (xs ys : List Event) (b : ℕ) → UsesIn (xs ++ ys) b → UsesIn xs b ⊎ UsesIn ys b

@@ -1,34 +1,23 @@
 -- Exactness: a job that is safe in every run and steady has the verdict yes.
-use Rattle.std.proofs.Common.{◌≡◌, ℕ, zero, suc, ◌+◌, ◌<◌, ◌≤◌, List, [], ◌∷◌, ◌++◌, map, length}
-use Rattle.std.proofs.Common.{Some, None, refl, sym, ap, ◌∙◌, subst, ◌⊎◌, inl, inr, arith, rules}
-use Rattle.std.specs.List.{AllByRecursion, range_with_len}
-use Rattle.std.proofs.lemmas.Bool.{both_ways}
+use Rattle.chan_walk.proofs.Names.{AllByRecursion, ap, arith, At, begins_recalibrate}
+use Rattle.chan_walk.proofs.Names.{begins_set_mask, both_ways, byte, carried, ccw_of, Checked}
+use Rattle.chan_walk.proofs.Names.{Command, Ended, ends, Event, Has, HasFault, inl, inr, IsClear}
+use Rattle.chan_walk.proofs.Names.{IsGuarded, IsReachable, IsRun, Job, length, List, map, Moment}
+use Rattle.chan_walk.proofs.Names.{Moves, None, Place, range_with_len, Reason, refl, rules, Seek}
+use Rattle.chan_walk.proofs.Names.{SeekOutside, Some, Stage, Step, storage_of, stored, StoresOver}
+use Rattle.chan_walk.proofs.Names.{subst, suc, sym, table_of_every_ccw, table_of_non_transfer}
+use Rattle.chan_walk.proofs.Names.{table_of_own, WeakensMask, zero, ℕ, [], ◌++◌, ◌+◌, ◌<◌, ◌∙◌, ◌∷◌}
+use Rattle.chan_walk.proofs.Names.{◌≡◌, ◌≤◌, ◌⊎◌}
 use Rattle.std.proofs.lemmas.List.FromFn.{length-map-range_with_len}
-use Rattle.ccw_core.specs.Ccw.{byte}
-use Rattle.chan_walk.specs.declared.job.Job.{Job}
-use Rattle.chan_walk.specs.declared.place.Place.{Place}
-use Rattle.chan_walk.specs.declared.reason.Reason.{Reason}
 use Rattle.chan_walk.specs.declared.reason.Reason.TheVariants.{NotInTable, Inhibited, StoreNotLent}
-use Rattle.chan_walk.specs.declared.reason.Reason.TheVariants.{FetchNotLent, ShortSeek, SeekOutside}
-use Rattle.chan_walk.specs.declared.reason.Reason.TheVariants.{WeakensMask}
+use Rattle.chan_walk.specs.declared.reason.Reason.TheVariants.{FetchNotLent, ShortSeek}
 use Rattle.chan_walk.specs.Alarm.{IsProper, ShowsInStep, ShowsInOperation, ShowsCheck, Shows}
 use Rattle.chan_walk.specs.Alarm.{SafeIsYes, IsUsed, IsUsedIn, GuardedIsUsed, StaysSafe}
 use Rattle.chan_walk.specs.Alarm.{HeadlineAloneIsEnough}
-use Rattle.chan_walk.specs.Argument.{Has}
-use Rattle.chan_walk.specs.Check.{table_of_every_ccw, table_of_non_transfer}
-use Rattle.chan_walk.specs.Fault.{begins_recalibrate, begins_set_mask, table_of_own, HasFault}
-use Rattle.chan_walk.specs.Fault.{IsClear}
-use Rattle.chan_walk.specs.Guarded.{IsGuarded}
 use Rattle.chan_walk.specs.Headline.{IsSafeEvent, IsUnchecked, IsSafeMoment, IsSteady, IsSafe}
 use Rattle.chan_walk.specs.Headline.{IsSpared}
-use Rattle.chan_walk.specs.Job.{storage_of}
-use Rattle.chan_walk.specs.Machine.{Stage, At, Ended, Checked, Event, Command, Store, Fetch, Seek}
-use Rattle.chan_walk.specs.Machine.{SetMask, IsStored, Moves, stored, ends, command_event, Step}
-use Rattle.chan_walk.specs.Machine.{carried}
-use Rattle.chan_walk.specs.Place.{ccw_of}
-use Rattle.chan_walk.specs.Reachable.{IsReachable}
-use Rattle.chan_walk.specs.Runs.{Moment, IsRun, IsRunAmong, Uses}
-use Rattle.chan_walk.specs.Verdict.{StoresOver}
+use Rattle.chan_walk.specs.Machine.{Store, Fetch, SetMask, IsStored, command_event}
+use Rattle.chan_walk.specs.Runs.{IsRunAmong, Uses}
 use Rattle.chan_walk.proofs.Machine.Alarm.{start, run_to, shows_fault, ccw_used, argument_used}
 use Rattle.chan_walk.proofs.Theory.Checks.{passed, data_fits, each_case, table_case, check_case}
 use Rattle.chan_walk.proofs.Theory.Faults.{clear_check, clear_good}

@@ -1,19 +1,15 @@
 -- A seek that takes its argument while its chain runs.
-use Rattle.std.proofs.Common.{◌≡◌, ℕ, ◌+◌, ◌-◌, ◌<◌, ◌≤◌, min, true, false, List, [], ◌∷◌, ◌++◌}
-use Rattle.std.proofs.Common.{map, take, length, refl, sym, ap, ◌∙◌, subst, inl, inr, arith}
-use Rattle.std.proofs.Common.{append_assoc, length-append, append-nil, rules}
-use Rattle.std.specs.List.{range_with_len}
-use Rattle.std.proofs.lemmas.Bool.{both_ways}
-use Rattle.std.proofs.lemmas.List.{length-map, map-append}
+use Rattle.chan_walk.proofs.Names.{ap, append-nil, append_assoc, argument, argument_addresses}
+use Rattle.chan_walk.proofs.Names.{arith, both_ways, byte, ccw, ChainOut, chains_data, false}
+use Rattle.chan_walk.proofs.Names.{Fields, Has, inl, inr, is_part, is_transfer, IsChain, IsGathered}
+use Rattle.chan_walk.proofs.Names.{Leads, length, length-append, length-map, List, map, min, Place}
+use Rattle.chan_walk.proofs.Names.{range_with_len, refl, rules, straight_to, subst, sym, take}
+use Rattle.chan_walk.proofs.Names.{taken, transferred_to, true, with_taken, ℕ, [], ◌++◌, ◌+◌, ◌-◌}
+use Rattle.chan_walk.proofs.Names.{◌<◌, ◌∙◌, ◌∷◌, ◌≡◌, ◌≤◌}
+use Rattle.std.proofs.lemmas.List.{map-append}
 use Rattle.std.proofs.lemmas.List.FromFn.{length-range_with_len}
-use Rattle.ccw_core.specs.Ccw.{byte, Fields, ccw, is_transfer, chains_data}
-use Rattle.chan_walk.specs.declared.place.Entry.TheVariants.{ChainOut}
-use Rattle.chan_walk.specs.declared.place.Place.{Place}
-use Rattle.chan_walk.specs.Argument.{Has, is_part, Leads, data_addresses, joined, IsChain}
-use Rattle.chan_walk.specs.Argument.{argument_addresses, argument}
-use Rattle.chan_walk.specs.Headline.{ComesTo, IsGathered}
-use Rattle.chan_walk.specs.Machine.{taken, with_taken}
-use Rattle.chan_walk.specs.Place.{straight_to, transferred_to}
+use Rattle.chan_walk.specs.Argument.{data_addresses, joined}
+use Rattle.chan_walk.specs.Headline.{ComesTo}
 use Rattle.chan_walk.proofs.Theory.Chains.{part_is_no_transfer, chain_begins_with_part, chain_tail}
 use Rattle.chan_walk.proofs.Theory.Lists.{has_left, has_right, range_split, take_front}
 

@@ -1,28 +1,19 @@
 -- The operation of a seek, carried on to its end: to a whole argument, or to what stops it before.
-use Rattle.std.proofs.Common.{◌≡◌, ℕ, zero, suc, ◌+◌, ◌-◌, ◌<◌, ◌≤◌, min, true, false, List, []}
-use Rattle.std.proofs.Common.{◌∷◌, ◌++◌, length, Option, Some, None, refl, sym, ap, subst, ◌⊎◌, inl}
-use Rattle.std.proofs.Common.{inr, arith, rules}
-use Rattle.std.specs.List.{AllByRecursion}
-use Rattle.std.proofs.lemmas.Bool.{cases_lt, cases_Bool, and_parts}
-use Rattle.ccw_core.specs.Ccw.{Fields, ccw, is_transfer, chains_data}
-use Rattle.ckd_core.specs.declared.command.Kind.TheVariants.{Outward}
-use Rattle.chan_walk.specs.declared.job.Job.{Job}
-use Rattle.chan_walk.specs.declared.place.Entry.TheVariants.{ChainOut}
-use Rattle.chan_walk.specs.declared.place.Place.{Place}
-use Rattle.chan_walk.specs.declared.reason.Reason.{Reason}
+use Rattle.chan_walk.proofs.Names.{AllByRecursion, and_parts, ap, argument, argument_addresses}
+use Rattle.chan_walk.proofs.Names.{arith, At, begins_recalibrate, begins_seek, cases_Bool, cases_lt}
+use Rattle.chan_walk.proofs.Names.{ccw, ccw_of, chained, ChainOut, chains_data, check, Checked}
+use Rattle.chan_walk.proofs.Names.{checked, Continues, Ended, ends, Event, false, Fields, Gathered}
+use Rattle.chan_walk.proofs.Names.{Has, inl, inr, is_fresh, is_part, is_transfer, IsChain}
+use Rattle.chan_walk.proofs.Names.{IsGathered, IsRun, Job, Leads, length, List, min, Moment, None}
+use Rattle.chan_walk.proofs.Names.{Option, Outward, Place, Reason, refl, rules, Seek, Some, Stage}
+use Rattle.chan_walk.proofs.Names.{Step, storage_of, straight_to, subst, suc, sym, taken}
+use Rattle.chan_walk.proofs.Names.{transferred, transferred_to, true, under_way, UsesIn, with_taken}
+use Rattle.chan_walk.proofs.Names.{zero, ℕ, [], ◌++◌, ◌+◌, ◌-◌, ◌<◌, ◌∷◌, ◌≡◌, ◌≤◌, ◌⊎◌}
 use Rattle.chan_walk.specs.Alarm.{AreBytes, IsQuiet, IsQuietMoment, ArePlaces, NoSeek}
 use Rattle.chan_walk.specs.Alarm.{StaysInOperation, ShowsInOperation}
-use Rattle.chan_walk.specs.Argument.{Has, is_part, Leads, IsChain, argument_addresses, argument}
-use Rattle.chan_walk.specs.Check.{check}
-use Rattle.chan_walk.specs.Fault.{begins_seek, begins_recalibrate}
-use Rattle.chan_walk.specs.Headline.{ComesTo, IsGathered}
-use Rattle.chan_walk.specs.Job.{storage_of}
-use Rattle.chan_walk.specs.Machine.{Gathered, Stage, At, Ended, Checked, Event, Seek, taken}
-use Rattle.chan_walk.specs.Machine.{with_taken, under_way, Continues, ends, on_data, on_short, Step}
-use Rattle.chan_walk.specs.Machine.{checked, transferred}
-use Rattle.chan_walk.specs.Place.{is_fresh, straight_to, transferred_to, ccw_of}
-use Rattle.chan_walk.specs.Runs.{Moment, IsRun, UsesIn, UsesInArgument}
-use Rattle.chan_walk.specs.Successor.{chained}
+use Rattle.chan_walk.specs.Headline.{ComesTo}
+use Rattle.chan_walk.specs.Machine.{on_data, on_short}
+use Rattle.chan_walk.specs.Runs.{UsesInArgument}
 use Rattle.chan_walk.proofs.Theory.Chains.{part_is_no_transfer, part_counts, chain_begins_with_part}
 use Rattle.chan_walk.proofs.Theory.Chains.{chain_cons}
 use Rattle.chan_walk.proofs.Theory.Checks.{check_stands, part_passes, passed_is_part}

@@ -1,29 +1,20 @@
 -- Each path is the places of a run that changes nothing.
-use Rattle.std.proofs.Common.{◌≡◌, ℕ, ◌+◌, ◌<◌, ◌≤◌, Bool, true, false, if◌then◌else◌, List, []}
-use Rattle.std.proofs.Common.{◌∷◌, length, Option, Some, None, is_none, refl, sym, ap, ◌∙◌, subst}
-use Rattle.std.proofs.Common.{arith, rules}
-use Rattle.std.specs.List.{AllByRecursion}
-use Rattle.std.proofs.lemmas.Bool.{and_from, or_left, le-leb, both_ways}
-use Rattle.std.proofs.lemmas.List.{length-map}
-use Rattle.ccw_core.specs.Ccw.{byte, is_transfer, chains_data}
-use Rattle.ckd_core.specs.declared.command.Kind.{Kind}
-use Rattle.ckd_core.specs.declared.command.Kind.TheVariants.{Idle, Inward, Outward, Search}
-use Rattle.ckd_core.specs.Extents.{has_cylinder, AreExtents}
-use Rattle.chan_walk.specs.declared.job.Job.{Job}
-use Rattle.chan_walk.specs.declared.place.Entry.TheVariants.{Fresh, ChainOut}
-use Rattle.chan_walk.specs.declared.place.Place.{Place}
+use Rattle.chan_walk.proofs.Names.{AllByRecursion, and_from, ap, arith, At, begins_seek, Bool}
+use Rattle.chan_walk.proofs.Names.{both_ways, byte, ccw_of, chained, ChainOut, chains_data}
+use Rattle.chan_walk.proofs.Names.{Continues, Event, extents_of, false, Gathered, has_cylinder}
+use Rattle.chan_walk.proofs.Names.{HasArgument, if◌then◌else◌, is_none, is_transfer, IsClear}
+use Rattle.chan_walk.proofs.Names.{IsGathered, IsPath, IsRun, Job, Kind, kind_of, length}
+use Rattle.chan_walk.proofs.Names.{length-map, List, Moment, None, Option, Outward, Place, refl}
+use Rattle.chan_walk.proofs.Names.{rules, Some, Step, storage_of, straight_to, subst, sym}
+use Rattle.chan_walk.proofs.Names.{transferred, transferred_to, true, under_way, ℕ, [], ◌+◌, ◌<◌}
+use Rattle.chan_walk.proofs.Names.{◌∙◌, ◌∷◌, ◌≡◌, ◌≤◌}
+use Rattle.std.proofs.lemmas.Bool.{or_left, le-leb}
+use Rattle.ckd_core.specs.declared.command.Kind.TheVariants.{Idle, Inward, Search}
+use Rattle.ckd_core.specs.Extents.{AreExtents}
+use Rattle.chan_walk.specs.declared.place.Entry.TheVariants.{Fresh}
 use Rattle.chan_walk.specs.Alarm.{AreBytes, first_cylinder, IsQuiet, IsQuietMoment, ArePlaces}
 use Rattle.chan_walk.specs.Alarm.{EachPathIsRun}
-use Rattle.chan_walk.specs.Argument.{HasArgument}
-use Rattle.chan_walk.specs.Fault.{kind_of, begins_seek, IsClear}
-use Rattle.chan_walk.specs.Headline.{IsGathered}
-use Rattle.chan_walk.specs.Job.{storage_of, extents_of}
-use Rattle.chan_walk.specs.Machine.{Gathered, At, Event, under_way, Continues, on_data, on_command}
-use Rattle.chan_walk.specs.Machine.{on_skip, Step, transferred}
-use Rattle.chan_walk.specs.Place.{straight_to, transferred_to, ccw_of}
-use Rattle.chan_walk.specs.Reachable.{IsPath}
-use Rattle.chan_walk.specs.Runs.{Moment, IsRun}
-use Rattle.chan_walk.specs.Successor.{chained}
+use Rattle.chan_walk.specs.Machine.{on_data, on_command, on_skip}
 use Rattle.chan_walk.proofs.Theory.Faults.{IsGood, clear_check, clear_good}
 use Rattle.chan_walk.proofs.Theory.Follows.{Follows, by_transfer, by_data, by_command, by_skip}
 use Rattle.chan_walk.proofs.Theory.Follows.{follows}

@@ -1,29 +1,20 @@
 -- A step that carries a CCW out with all its bytes, stores only what was there, and leaves the arm where it stands.
-use Rattle.std.proofs.Common.{◌≡◌, ℕ, zero, suc, ◌+◌, ◌-◌, ◌<◌, ◌≤◌, min, Bool, true, false}
-use Rattle.std.proofs.Common.{if◌then◌else◌, List, [], ◌∷◌, ◌++◌, map, length, Some, None, refl}
-use Rattle.std.proofs.Common.{sym, ap, ◌∙◌, ◌⊎◌, inl, inr, arith, length-append, rules}
-use Rattle.std.specs.List.{AllByRecursion, range_with_len}
-use Rattle.std.proofs.lemmas.Bool.{cases_lt, cases_Bool, both_ways}
-use Rattle.std.proofs.lemmas.List.{length-map}
+use Rattle.chan_walk.proofs.Names.{AllByRecursion, ap, arith, begins_recalibrate, begins_set_mask}
+use Rattle.chan_walk.proofs.Names.{Bool, both_ways, byte, carried, cases_Bool, cases_lt, ccw_of}
+use Rattle.chan_walk.proofs.Names.{check, Command, Continues, Event, false, Fields, Gathered}
+use Rattle.chan_walk.proofs.Names.{goes_in, goes_out, Has, home, if◌then◌else◌, inl, inr, is_fresh}
+use Rattle.chan_walk.proofs.Names.{is_known, is_transfer, Job, Kind, kind_of, length, length-append}
+use Rattle.chan_walk.proofs.Names.{length-map, List, map, min, Moves, None, Outward, Place}
+use Rattle.chan_walk.proofs.Names.{range_with_len, refl, rules, Seek, skips, Some, Stage, Step}
+use Rattle.chan_walk.proofs.Names.{storage_of, stored, suc, sym, taken, true, under_way, UsesIn}
+use Rattle.chan_walk.proofs.Names.{with_taken, zero, ℕ, [], ◌++◌, ◌+◌, ◌-◌, ◌<◌, ◌∙◌, ◌∷◌, ◌≡◌, ◌≤◌}
+use Rattle.chan_walk.proofs.Names.{◌⊎◌}
 use Rattle.std.proofs.lemmas.List.FromFn.{length-range_with_len, length-map-range_with_len}
-use Rattle.ccw_core.specs.Ccw.{byte, Fields, is_transfer, skips}
-use Rattle.ckd_core.specs.declared.command.Kind.{Kind}
-use Rattle.ckd_core.specs.declared.command.Kind.TheVariants.{Idle, Inward, Outward, Search}
-use Rattle.chan_walk.specs.declared.job.Job.{Job}
-use Rattle.chan_walk.specs.declared.place.Place.{Place}
+use Rattle.ckd_core.specs.declared.command.Kind.TheVariants.{Idle, Inward, Search}
 use Rattle.chan_walk.specs.Alarm.{AreBytes, IsQuiet, NoSeek}
-use Rattle.chan_walk.specs.Argument.{Has}
-use Rattle.chan_walk.specs.Check.{check}
-use Rattle.chan_walk.specs.Fault.{kind_of, goes_in, goes_out, is_known, begins_recalibrate}
-use Rattle.chan_walk.specs.Fault.{begins_set_mask}
-use Rattle.chan_walk.specs.Job.{storage_of}
-use Rattle.chan_walk.specs.Machine.{Gathered, Stage, Event, Command, Store, Fetch, Gather, Seek}
-use Rattle.chan_walk.specs.Machine.{SetMask, home, Moves, idle, skipped, stored, written, searched}
-use Rattle.chan_walk.specs.Machine.{taken, with_taken, Seeks, none, part, stays, under_way}
-use Rattle.chan_walk.specs.Machine.{Recalibration, no_home, home_stays, SetsMask, no_mask, no_byte}
-use Rattle.chan_walk.specs.Machine.{mask_stays, Continues, command_event, Step, carried}
-use Rattle.chan_walk.specs.Place.{is_fresh, ccw_of}
-use Rattle.chan_walk.specs.Runs.{UsesIn}
+use Rattle.chan_walk.specs.Machine.{Store, Fetch, Gather, SetMask, idle, skipped, written, searched}
+use Rattle.chan_walk.specs.Machine.{Seeks, none, part, stays, Recalibration, no_home, home_stays}
+use Rattle.chan_walk.specs.Machine.{SetsMask, no_mask, no_byte, mask_stays, command_event}
 use Rattle.chan_walk.proofs.Machine.Events.{uses_left, uses_right, no_seek_append, of_six, in_six}
 use Rattle.chan_walk.proofs.Theory.Lists.{all_append, byte-map-range}
 

@@ -1,31 +1,23 @@
 -- Where the verdict is yes: guarded bytes never change, every place is reachable, every run is safe and the job is steady.
-use Rattle.std.proofs.Common.{◌≡◌, ℕ, Bool, true, false, if◌then◌else◌, List, [], ◌∷◌, length}
-use Rattle.std.proofs.Common.{Option, Some, None, is_none, refl, sym, ap, ◌∙◌, subst, ◌⊎◌, inl, inr}
-use Rattle.std.proofs.Common.{rules}
-use Rattle.std.specs.List.{AllByRecursion}
-use Rattle.std.proofs.lemmas.Bool.{both_ways, not-false}
-use Rattle.ccw_core.specs.Ccw.{byte, Fields, ccw, is_transfer}
-use Rattle.ckd_core.specs.declared.command.Kind.TheVariants.{Outward}
-use Rattle.ckd_core.specs.Mask.{is_at_least}
-use Rattle.chan_walk.specs.declared.job.Job.{Job}
-use Rattle.chan_walk.specs.declared.place.Place.{Place}
+use Rattle.chan_walk.proofs.Names.{AllByRecursion, allows, ap, At, begins_seek, Bool, both_ways}
+use Rattle.chan_walk.proofs.Names.{byte, carried, ccw, ccw_of, check, check_of, Checked, checked}
+use Rattle.chan_walk.proofs.Names.{Ended, Event, false, Fields, Gathered, HasArgument}
+use Rattle.chan_walk.proofs.Names.{if◌then◌else◌, inl, inr, is_at_least, is_known, is_none}
+use Rattle.chan_walk.proofs.Names.{is_refused, is_transfer, IsClear, IsGuarded, IsReachable, IsRun}
+use Rattle.chan_walk.proofs.Names.{IsSameIn, IsVerdict, Job, kind_of, length, List, Moment, None}
+use Rattle.chan_walk.proofs.Names.{Option, Outward, Place, refl, rules, Some, Stage, Step}
+use Rattle.chan_walk.proofs.Names.{storage_of, subst, sym, transferred, transferred_to, true}
+use Rattle.chan_walk.proofs.Names.{UsesIn, Yes, ℕ, [], ◌∙◌, ◌∷◌, ◌≡◌, ◌⊎◌}
+use Rattle.std.proofs.lemmas.Bool.{not-false}
 use Rattle.chan_walk.specs.declared.reason.Reason.TheVariants.{ChangesCcw, ChangesArgument}
-use Rattle.chan_walk.specs.declared.verdict.Verdict.TheVariants.{Yes}
-use Rattle.chan_walk.specs.Argument.{HasArgument}
-use Rattle.chan_walk.specs.Check.{check, check_of}
-use Rattle.chan_walk.specs.Fault.{kind_of, is_known, begins_seek, allows, is_refused, IsClear}
-use Rattle.chan_walk.specs.Guarded.{IsGuarded}
 use Rattle.chan_walk.specs.Headline.{IsUnchecked, IsSafeMoment, IsSafeEvent, Holds, YesIsSafe}
 use Rattle.chan_walk.specs.Headline.{YesIsSafeAmong, IsSpared, IsAtReachable, GathersPart}
 use Rattle.chan_walk.specs.Headline.{GuardedStays, StaysReachable, GathersArguments}
-use Rattle.chan_walk.specs.Job.{storage_of, HasMask}
-use Rattle.chan_walk.specs.Machine.{Gathered, Stage, At, Ended, Checked, Event, Step, checked}
-use Rattle.chan_walk.specs.Machine.{transferred, unknown, carried, StepFrom}
-use Rattle.chan_walk.specs.Place.{transferred_to, ccw_of}
-use Rattle.chan_walk.specs.Reachable.{IsReachable}
-use Rattle.chan_walk.specs.Runs.{Moment, IsStart, IsRun, Steps, IsSameIn, IsRunAmong, UsesAt}
-use Rattle.chan_walk.specs.Runs.{UsesIn, UsesInCcw, UsesInArgument, Uses}
-use Rattle.chan_walk.specs.Verdict.{IsVerdict, MayStoreOver}
+use Rattle.chan_walk.specs.Job.{HasMask}
+use Rattle.chan_walk.specs.Machine.{unknown, StepFrom}
+use Rattle.chan_walk.specs.Runs.{IsStart, Steps, IsRunAmong, UsesAt, UsesInCcw, UsesInArgument}
+use Rattle.chan_walk.specs.Runs.{Uses}
+use Rattle.chan_walk.specs.Verdict.{MayStoreOver}
 use Rattle.chan_walk.proofs.Theory.Checks.{check_stands}
 use Rattle.chan_walk.proofs.Theory.Commands.{seek_is_outward}
 use Rattle.chan_walk.proofs.Theory.Faults.{IsGood, clear_check, clear_good, yes_clear}

@@ -1,17 +1,12 @@
 -- What covered ranges and allowed arguments say of each byte and cylinder.
-use Rattle.std.proofs.Common.{◌≡◌, ℕ, zero, suc, ◌+◌, ◌<◌, ◌≤◌, true, false, List, refl, arith}
-use Rattle.std.proofs.Common.{rules}
-use Rattle.std.proofs.lemmas.Bool.{cases_lt, and_parts, and_cases, and_from, lt-ltb}
-use Rattle.ccw_core.specs.declared.areas.Area.{Area}
-use Rattle.ccw_core.specs.Areas.{lies_in, covered}
+use Rattle.chan_walk.proofs.Names.{allows, and_from, and_parts, Area, arith, cases_lt, covered}
+use Rattle.chan_walk.proofs.Names.{extents_of, false, has_cylinder, home, Job, lies_in, List, refl}
+use Rattle.chan_walk.proofs.Names.{rules, suc, true, zero, ℕ, ◌+◌, ◌<◌, ◌≡◌, ◌≤◌}
+use Rattle.std.proofs.lemmas.Bool.{and_cases, lt-ltb}
 use Rattle.ckd_core.specs.declared.device.Device.{Device}
 use Rattle.ckd_core.specs.Track.{is_allowed, cylinder_of}
-use Rattle.ckd_core.specs.Extents.{has_cylinder}
 use Rattle.ckd_core.specs.Device.{heads_of}
-use Rattle.chan_walk.specs.declared.job.Job.{Job}
-use Rattle.chan_walk.specs.Fault.{allows}
-use Rattle.chan_walk.specs.Job.{extents_of, heads}
-use Rattle.chan_walk.specs.Machine.{home}
+use Rattle.chan_walk.specs.Job.{heads}
 
 pub covered_at : (areas : List Area) (a n b : ℕ) → covered areas a n ≡ true → a ≤ b → b < a + n → lies_in areas b ≡ true
 covered_at areas a zero b h le lt = absurd (omega arith)

@@ -1,11 +1,11 @@
 -- Chains of CCWs that give the bytes of an argument: there is one or there is none, and there is at most one.
-use Rattle.std.proofs.Common.{◌≡◌, ℕ, zero, suc, ◌-◌, ◌<◌, ◌≤◌, true, false, List, [], ◌∷◌, Option}
-use Rattle.std.proofs.Common.{Some, None, refl, sym, ap, ◌∙◌, subst, ◌⊎◌, inl, inr, arith, rules}
-use Rattle.std.proofs.lemmas.Bool.{cases_lt, cases_Bool, and_from, both_ways}
-use Rattle.ccw_core.specs.Ccw.{ccw, is_transfer, is_counted, chains_data}
+use Rattle.chan_walk.proofs.Names.{and_from, ap, argument, arith, both_ways, cases_Bool, cases_lt}
+use Rattle.chan_walk.proofs.Names.{ccw, chains_data, false, HasArgument, inl, inr, is_counted}
+use Rattle.chan_walk.proofs.Names.{is_part, is_transfer, IsChain, Leads, List, None, Option, refl}
+use Rattle.chan_walk.proofs.Names.{rules, Some, subst, suc, sym, true, zero, ℕ, [], ◌-◌, ◌<◌, ◌∙◌}
+use Rattle.chan_walk.proofs.Names.{◌∷◌, ◌≡◌, ◌≤◌, ◌⊎◌}
 use Rattle.chan_walk.specs.Read.{onward}
-use Rattle.chan_walk.specs.Argument.{is_part, Leads, AreLinked, BeginsAt, IsChain, HasArgument}
-use Rattle.chan_walk.specs.Argument.{argument}
+use Rattle.chan_walk.specs.Argument.{AreLinked, BeginsAt}
 
 pub part_is_no_transfer : (s : List ℕ) (a : ℕ) → is_part s a ≡ true → is_transfer (ccw s a) ≡ false
 unfolding is_part

@@ -1,17 +1,13 @@
 -- The program check of a place, case by case.
-use Rattle.std.proofs.Common.{◌≡◌, ℕ, ◌%◌, true, false, not, ◌&&◌, if◌then◌else◌, List, [], ◌∷◌}
-use Rattle.std.proofs.Common.{length, Some, None, refl, ◌∙◌, rules}
+use Rattle.chan_walk.proofs.Names.{ccw_at, ccw_at-some, check, check_of, false, Fields}
+use Rattle.chan_walk.proofs.Names.{first_reason, has_data_in, if◌then◌else◌, is_aligned, is_counted}
+use Rattle.chan_walk.proofs.Names.{is_formed, is_inside, is_part, is_transfer, length, List, None}
+use Rattle.chan_walk.proofs.Names.{not, option_or, Place, refl, rules, Some, table_of_non_transfer}
+use Rattle.chan_walk.proofs.Names.{true, ℕ, [], ◌%◌, ◌&&◌, ◌∙◌, ◌∷◌, ◌≡◌}
 use Rattle.std.specs.Bool.{then_some}
-use Rattle.std.specs.Option.{option_or}
-use Rattle.ccw_core.specs.Ccw.{Fields, is_transfer, is_formed, is_counted, has_data_in}
-use Rattle.ccw_core.specs.Storage.{ccw_at, is_aligned, is_inside}
-use Rattle.ccw_core.proofs.StorageLemmas.{is_aligned-true, is_aligned-false, ccw_at-some}
-use Rattle.ccw_core.proofs.StorageLemmas.{ccw_at-none}
-use Rattle.chan_walk.specs.declared.place.Place.{Place}
+use Rattle.ccw_core.proofs.StorageLemmas.{is_aligned-true, is_aligned-false, ccw_at-none}
 use Rattle.chan_walk.specs.declared.reason.Reason.TheVariants.{Misaligned, OutsideStorage}
 use Rattle.chan_walk.specs.declared.reason.Reason.TheVariants.{TransferNotAllowed}
-use Rattle.chan_walk.specs.Argument.{is_part}
-use Rattle.chan_walk.specs.Check.{first_reason, table_of_non_transfer, check_of, check}
 
 pub check-misaligned : (s : List ℕ) (p : Place) → (p.address % 8 ≡ 0 → ⊥) → check s p ≡ Some Misaligned
 unfolding check_of

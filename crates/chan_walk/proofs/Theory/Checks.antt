@@ -1,18 +1,11 @@
 -- What it says of a place that it meets a program check, or none.
-use Rattle.std.proofs.Common.{◌≡◌, ℕ, ◌+◌, ◌≤◌, Bool, true, false, cond, if◌then◌else◌, List, []}
-use Rattle.std.proofs.Common.{◌∷◌, length, Option, Some, None, refl, ◌⊎◌, rules}
-use Rattle.std.specs.List.{AllByRecursion}
-use Rattle.std.specs.Option.{option_or}
-use Rattle.std.proofs.lemmas.Bool.{cases_Bool, leb-true}
-use Rattle.ccw_core.specs.Ccw.{Fields, ccw, is_transfer, is_formed, is_counted, has_data_in}
-use Rattle.ccw_core.specs.Storage.{Stands, is_aligned, is_inside}
-use Rattle.chan_walk.specs.declared.place.Place.{Place}
-use Rattle.chan_walk.specs.declared.reason.Reason.{Reason}
+use Rattle.chan_walk.proofs.Names.{AllByRecursion, Bool, cases_Bool, ccw, check, check_of, cond}
+use Rattle.chan_walk.proofs.Names.{false, Fields, first_reason, has_data_in, if◌then◌else◌}
+use Rattle.chan_walk.proofs.Names.{is_aligned, is_counted, is_formed, is_fresh, is_inside, is_part}
+use Rattle.chan_walk.proofs.Names.{is_transfer, leb-true, length, List, None, Option, option_or}
+use Rattle.chan_walk.proofs.Names.{Place, Reason, refl, rules, Some, Stands, table_of_every_ccw}
+use Rattle.chan_walk.proofs.Names.{table_of_non_transfer, true, ℕ, [], ◌+◌, ◌∷◌, ◌≡◌, ◌≤◌, ◌⊎◌}
 use Rattle.chan_walk.specs.declared.reason.Reason.TheVariants.{TransferNotAllowed}
-use Rattle.chan_walk.specs.Argument.{is_part}
-use Rattle.chan_walk.specs.Check.{first_reason, table_of_every_ccw, table_of_non_transfer, check_of}
-use Rattle.chan_walk.specs.Check.{check}
-use Rattle.chan_walk.specs.Place.{is_fresh}
 
 pub cond_none : (b : Bool) (r : Reason) (o : Option Reason) → cond b (Some r) o ≡ None → (b ≡ false) × (o ≡ None)
 cond_none b r o h = search rules

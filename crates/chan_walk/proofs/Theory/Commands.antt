@@ -1,13 +1,13 @@
 -- Rules that the whole command table keeps.
-use Rattle.std.proofs.Common.{◌≡◌, ℕ, Bool, true, false, not, ◌&&◌, ◌||◌, ◌==◌, ◌%◌, List, [], ◌∷◌}
-use Rattle.std.proofs.Common.{Option, Some, None, refl, rules}
+use Rattle.chan_walk.proofs.Names.{and_parts, Bool, false, Fields, is_transfer, Kind, List, lookup}
+use Rattle.chan_walk.proofs.Names.{None, not, Option, Outward, refl, rules, Some, true, ℕ, [], ◌%◌}
+use Rattle.chan_walk.proofs.Names.{◌&&◌, ◌∷◌, ◌≡◌}
+use Rattle.std.proofs.Common.{◌||◌, ◌==◌}
 use Rattle.std.specs.List.{list_all}
-use Rattle.std.proofs.lemmas.Bool.{and_parts, cond_both}
-use Rattle.ccw_core.specs.Ccw.{Fields, is_transfer}
-use Rattle.ckd_core.specs.declared.command.Kind.{Kind}
-use Rattle.ckd_core.specs.declared.command.Kind.TheVariants.{Idle, Inward, Outward, Search}
+use Rattle.std.proofs.lemmas.Bool.{cond_both}
+use Rattle.ckd_core.specs.declared.command.Kind.TheVariants.{Idle, Inward, Search}
 use Rattle.ckd_core.specs.declared.command.MaskClass.{MaskClass}
-use Rattle.ckd_core.specs.Command.{Entry as Command, table, find_code, lookup, class_is_seek}
+use Rattle.ckd_core.specs.Command.{Entry as Command, table, find_code, class_is_seek}
 use Rattle.ckd_core.specs.Command.{class_recalibrates, class_sets_mask, class_passes, is_seek}
 use Rattle.ckd_core.specs.Command.{recalibrates, sets_mask}
 use Rattle.chan_walk.specs.Fault.{kind_of_command}

@@ -1,25 +1,15 @@
 -- What it says of a place that it has no own fault.
-use Rattle.std.proofs.Common.{◌≡◌, ℕ, Bool, true, false, not, ◌&&◌, List, Option, Some, None}
-use Rattle.std.proofs.Common.{is_none, refl, sym, ap, ◌∙◌, inl, rules}
+use Rattle.chan_walk.proofs.Names.{ap, AreClear, begins_recalibrate, begins_seek, begins_set_mask}
+use Rattle.chan_walk.proofs.Names.{Bool, byte, ccw_of, check, covered, extents_of, false, fetch_of}
+use Rattle.chan_walk.proofs.Names.{Fields, goes_in, goes_out, has_cylinder, HasFault, inhibits, inl}
+use Rattle.chan_walk.proofs.Names.{is_at_least, is_fresh, is_known, is_none, is_refused}
+use Rattle.chan_walk.proofs.Names.{is_transfer, IsClear, IsVerdict, Job, kind_of, List, None, not}
+use Rattle.chan_walk.proofs.Names.{Option, Place, Reason, refl, rules, skips, Some, Stands}
+use Rattle.chan_walk.proofs.Names.{storage_of, store_of, sym, true, Yes, ℕ, ◌&&◌, ◌∙◌, ◌≡◌}
 use Rattle.std.proofs.lemmas.Bool.{not-false, cond-false, or_parts}
-use Rattle.ccw_core.specs.Areas.{covered}
-use Rattle.ccw_core.specs.Ccw.{byte, Fields, is_transfer, skips}
-use Rattle.ckd_core.specs.Extents.{has_cylinder}
-use Rattle.ckd_core.specs.Mask.{inhibits, is_at_least}
-use Rattle.chan_walk.specs.declared.job.Job.{Job}
-use Rattle.chan_walk.specs.declared.place.Place.{Place}
-use Rattle.chan_walk.specs.declared.reason.Reason.{Reason}
-use Rattle.chan_walk.specs.declared.verdict.Verdict.TheVariants.{Yes}
-use Rattle.chan_walk.specs.Check.{check}
-use Rattle.chan_walk.specs.Fault.{kind_of, goes_in, goes_out, is_known, begins_seek}
-use Rattle.chan_walk.specs.Fault.{begins_recalibrate, begins_set_mask, is_refused, fault_with}
-use Rattle.chan_walk.specs.Fault.{HasFault, IsClear}
-use Rattle.chan_walk.specs.Job.{storage_of, extents_of, fetch_of, store_of}
-use Rattle.chan_walk.specs.Place.{is_fresh, ccw_of}
-use Rattle.chan_walk.specs.Verdict.{IsVerdict, AreClear}
+use Rattle.chan_walk.specs.Fault.{fault_with}
 use Rattle.chan_walk.proofs.Theory.Chains.{argument_exists, argument_unique}
 use Rattle.chan_walk.proofs.Theory.Checks.{cond_none, or_none, check_stands}
-use Rattle.ccw_core.specs.Storage.{Stands}
 
 -- where the first of two tests is true, a fault that doesn't apply says something of the second
 pub then_false : (a b : Bool) → (a && b) ≡ false → a ≡ true → b ≡ false

@@ -1,15 +1,14 @@
 -- The table of successors as four cases.
-use Rattle.std.proofs.Common.{◌≡◌, ◌+◌, Bool, true, false, cond, not, ◌&&◌, Option, Some, None}
-use Rattle.std.proofs.Common.{refl, subst, ◌⊎◌, inl, inr, rules}
+use Rattle.chan_walk.proofs.Names.{and_parts, Bool, chained, chains_data, cond, false, Fields, inl}
+use Rattle.chan_walk.proofs.Names.{inr, is_transfer, Kind, None, not, Option, Place, refl, rules}
+use Rattle.chan_walk.proofs.Names.{Some, straight_to, subst, transferred_to, true, ◌&&◌, ◌+◌, ◌≡◌}
+use Rattle.chan_walk.proofs.Names.{◌⊎◌}
 use Rattle.std.specs.Option.{option_map}
-use Rattle.std.proofs.lemmas.Bool.{and_parts, not-true}
-use Rattle.ccw_core.specs.Ccw.{Fields, is_transfer, chains_data, chains_command}
-use Rattle.ckd_core.specs.declared.command.Kind.{Kind}
+use Rattle.std.proofs.lemmas.Bool.{not-true}
+use Rattle.ccw_core.specs.Ccw.{chains_command}
 use Rattle.chan_walk.specs.declared.place.Entry.{Entry}
 use Rattle.chan_walk.specs.declared.place.Entry.TheVariants.{Fresh}
-use Rattle.chan_walk.specs.declared.place.Place.{Place}
-use Rattle.chan_walk.specs.Place.{straight_to, transferred_to}
-use Rattle.chan_walk.specs.Successor.{chained, gives_modifier, next_of, skip_of}
+use Rattle.chan_walk.specs.Successor.{gives_modifier, next_of, skip_of}
 
 pub data Follows (p : Place) (c : Fields) (k : Kind) : Place → Type 0 where
   by_transfer : is_transfer c ≡ true → Follows p c k (transferred_to c.address p.entered)

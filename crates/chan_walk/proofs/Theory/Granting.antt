@@ -1,33 +1,24 @@
 -- Two jobs of one program: where one has the verdict yes, the other has it exactly if all that is reachable is clear.
-use Rattle.std.proofs.Common.{◌≡◌, ℕ, ◌+◌, ◌<◌, ◌≤◌, Bool, true, false, not, ◌&&◌, ◌||◌, cond}
-use Rattle.std.proofs.Common.{if◌then◌else◌, nat_lt, List, length, Option, Some, None}
-use Rattle.std.proofs.Common.{is_none, refl, sym, ap, ◌∙◌, subst, inl, inr, ◌↔◌, arith, rules}
-use Rattle.std.specs.Option.{option_or}
-use Rattle.std.proofs.lemmas.Bool.{and_from, and_parts, or_from, not-true, not-false, not_from_true}
-use Rattle.ccw_core.specs.declared.areas.Area.{Area}
-use Rattle.ccw_core.specs.Areas.{lies_in, covered}
-use Rattle.ccw_core.specs.Ccw.{byte, Fields, ccw, is_transfer, skips}
-use Rattle.ccw_core.specs.Storage.{Stands}
+use Rattle.chan_walk.proofs.Names.{allows, and_from, and_parts, ap, Area, AreClear, arith}
+use Rattle.chan_walk.proofs.Names.{begins_recalibrate, begins_seek, begins_set_mask, Bool, byte}
+use Rattle.chan_walk.proofs.Names.{ccw, ccw_of, check, cond, covered, extents_of, false, fetch_of}
+use Rattle.chan_walk.proofs.Names.{Fields, first_place, first_reason, goes_in, goes_out}
+use Rattle.chan_walk.proofs.Names.{has_cylinder, HasArgument, if◌then◌else◌, inhibits, inl, inr}
+use Rattle.chan_walk.proofs.Names.{is_at_least, is_fresh, is_known, is_none, is_refused}
+use Rattle.chan_walk.proofs.Names.{is_transfer, IsClear, IsReachable, IsVerdict, Job, kind_of}
+use Rattle.chan_walk.proofs.Names.{length, lies_in, List, None, not, Offends, Option, option_or}
+use Rattle.chan_walk.proofs.Names.{Place, refl, rules, skips, Some, Stands, storage_of, store_of}
+use Rattle.chan_walk.proofs.Names.{stores, subst, sym, table_of_own, Takes, transferred_to, true}
+use Rattle.chan_walk.proofs.Names.{Yes, ℕ, ◌&&◌, ◌+◌, ◌<◌, ◌↔◌, ◌∙◌, ◌≡◌, ◌≤◌}
+use Rattle.std.proofs.Common.{◌||◌, nat_lt}
+use Rattle.std.proofs.lemmas.Bool.{or_from, not-true, not-false, not_from_true}
 use Rattle.ckd_core.specs.Track.{cylinder_of, head_of, is_allowed}
-use Rattle.ckd_core.specs.Extents.{has_cylinder}
 use Rattle.ckd_core.specs.Device.{heads_of}
-use Rattle.ckd_core.specs.Mask.{inhibits, is_at_least}
-use Rattle.chan_walk.specs.declared.job.Job.{Job}
 use Rattle.chan_walk.specs.declared.place.Entry.TheVariants.{Fresh}
-use Rattle.chan_walk.specs.declared.place.Place.{Place}
-use Rattle.chan_walk.specs.declared.verdict.Verdict.TheVariants.{Yes}
-use Rattle.chan_walk.specs.Argument.{HasArgument}
-use Rattle.chan_walk.specs.Check.{first_reason, check}
-use Rattle.chan_walk.specs.Fault.{kind_of, goes_in, goes_out, stores, fetches, is_known}
-use Rattle.chan_walk.specs.Fault.{begins_seek, begins_recalibrate, begins_set_mask, allows}
-use Rattle.chan_walk.specs.Fault.{is_refused, table_of_own, IsClear}
-use Rattle.chan_walk.specs.Guarded.{Takes}
-use Rattle.chan_walk.specs.Job.{storage_of, extents_of, fetch_of, store_of, heads}
+use Rattle.chan_walk.specs.Fault.{fetches}
+use Rattle.chan_walk.specs.Job.{heads}
 use Rattle.chan_walk.specs.OpenJob.{AreOfOneProgram, GrantsMore, MoreIsYes, SameUnderYes}
 use Rattle.chan_walk.specs.Moved.{IsDataOf}
-use Rattle.chan_walk.specs.Place.{is_fresh, transferred_to, first_place, ccw_of}
-use Rattle.chan_walk.specs.Reachable.{IsReachable}
-use Rattle.chan_walk.specs.Verdict.{AreClear, Offends, IsVerdict}
 use Rattle.chan_walk.proofs.Theory.Areas.{covered_at, allows_cylinder}
 use Rattle.chan_walk.proofs.Theory.Faults.{IsGood, clear_check, clear_good, fault_unique, yes_clear}
 use Rattle.chan_walk.proofs.Theory.OwnFaults.{data_in_storage}

@@ -1,8 +1,8 @@
 -- Strictness of masks.
-use Rattle.std.proofs.Common.{◌≡◌, ℕ, true, false, Option, Some, None, refl}
-use Rattle.std.proofs.lemmas.Bool.{and_from}
-use Rattle.ckd_core.specs.Mask.{is_mask, is_at_least, inhibits, inhibits_class}
-use Rattle.ckd_core.specs.Command.{Entry as Command, class_passes, lookup}
+use Rattle.chan_walk.proofs.Names.{and_from, false, inhibits, is_at_least, lookup, None, Option}
+use Rattle.chan_walk.proofs.Names.{refl, Some, true, ℕ, ◌≡◌}
+use Rattle.ckd_core.specs.Mask.{is_mask, inhibits_class}
+use Rattle.ckd_core.specs.Command.{Entry as Command, class_passes}
 use Rattle.ckd_core.proofs.LevelLemmas.{strict-permits}
 
 -- a file mask is at least as strict as itself

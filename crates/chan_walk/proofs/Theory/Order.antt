@@ -1,16 +1,12 @@
 -- The whole table of own faults: its first reason is the own fault, and its numbers increase.
-use Rattle.std.proofs.Common.{◌≡◌, ℕ, zero, suc, ◌+◌, ◌<◌, Bool, true, false, if◌then◌else◌, List}
-use Rattle.std.proofs.Common.{[], ◌∷◌, ◌++◌, append-nil, length, slice_index, Option, None, sym, ap}
-use Rattle.std.proofs.Common.{◌∙◌, subst, arith, rules}
+use Rattle.chan_walk.proofs.Names.{ap, append-nil, arith, Bool, ccw_of, check_of, false, Fields}
+use Rattle.chan_walk.proofs.Names.{first_reason, if◌then◌else◌, is_transfer, length, List, None}
+use Rattle.chan_walk.proofs.Names.{Option, option_or, Reason, rules, storage_of, subst, suc, sym}
+use Rattle.chan_walk.proofs.Names.{table_of_every_ccw, table_of_non_transfer, table_of_own, true}
+use Rattle.chan_walk.proofs.Names.{zero, ℕ, [], ◌++◌, ◌+◌, ◌<◌, ◌∙◌, ◌∷◌, ◌≡◌}
+use Rattle.std.proofs.Common.{slice_index}
 use Rattle.std.specs.List.Sorted.{IsStrictlyIncreasing}
-use Rattle.std.specs.Option.{option_or}
-use Rattle.ccw_core.specs.Ccw.{Fields, is_transfer}
-use Rattle.chan_walk.specs.declared.reason.Reason.{Reason}
-use Rattle.chan_walk.specs.Check.{first_reason, check_of, table_of_every_ccw, table_of_non_transfer}
-use Rattle.chan_walk.specs.Fault.{table_of_own}
-use Rattle.chan_walk.specs.Job.{storage_of}
 use Rattle.chan_walk.specs.Order.{numbers_of, NumbersIncrease}
-use Rattle.chan_walk.specs.Place.{ccw_of}
 use Rattle.chan_walk.proofs.Theory.OwnFaults.{first_reason-append}
 
 -- each number is below the next

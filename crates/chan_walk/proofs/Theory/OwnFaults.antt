@@ -1,12 +1,7 @@
 -- Parts of the table of own faults, and what passed the channel's checks.
-use Rattle.std.proofs.Common.{◌≡◌, Bool, false, List, [], ◌∷◌, ◌++◌, None, ℕ, ◌+◌, ◌≤◌}
-use Rattle.std.proofs.Common.{length, refl, sym, subst, rules}
-use Rattle.std.specs.Option.{option_or}
-use Rattle.std.proofs.lemmas.Bool.{leb-true}
-use Rattle.ccw_core.specs.Ccw.{Fields, ccw, has_data_in, is_transfer}
-use Rattle.chan_walk.specs.declared.place.Place.{Place}
-use Rattle.chan_walk.specs.declared.reason.Reason.{Reason}
-use Rattle.chan_walk.specs.Check.{first_reason, check}
+use Rattle.chan_walk.proofs.Names.{Bool, ccw, check, false, Fields, first_reason, has_data_in}
+use Rattle.chan_walk.proofs.Names.{is_transfer, leb-true, length, List, None, option_or, Place}
+use Rattle.chan_walk.proofs.Names.{Reason, refl, rules, subst, sym, ℕ, [], ◌++◌, ◌+◌, ◌∷◌, ◌≡◌, ◌≤◌}
 use Rattle.chan_walk.proofs.Theory.Checks.{passed}
 
 pub first_reason-append : (xs ys : List (Bool × Reason)) → first_reason (xs ++ ys) ≡ option_or (first_reason xs) (first_reason ys)

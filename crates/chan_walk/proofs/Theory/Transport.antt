@@ -1,22 +1,15 @@
 -- From one job to another: what the verdict asks of the places that both reach carries over.
-use Rattle.std.proofs.Common.{◌≡◌, ℕ, ◌<◌, ◌≤◌, Bool, true, List, [], ◌∷◌, Some, sym, ◌∙◌, subst, ◌⊎◌}
-use Rattle.std.proofs.Common.{inl, inr, ◌↔◌, rules}
+use Rattle.chan_walk.proofs.Names.{AreClear, Bool, ccw_of, Changes, data_of, Fields, first_place}
+use Rattle.chan_walk.proofs.Names.{HasFault, inl, inr, IsArgumentByte, IsCcwByte, IsClear}
+use Rattle.chan_walk.proofs.Names.{IsGuarded, IsPath, IsReachable, IsVerdict, Job, kind_of, List}
+use Rattle.chan_walk.proofs.Names.{Offends, Place, Reason, rules, Some, Stands, storage_of}
+use Rattle.chan_walk.proofs.Names.{StoresOver, subst, sym, Takes, true, Yes, ℕ, [], ◌<◌, ◌↔◌, ◌∙◌}
+use Rattle.chan_walk.proofs.Names.{◌∷◌, ◌≡◌, ◌≤◌, ◌⊎◌}
 use Rattle.ccw_core.specs.Areas.{end_of}
-use Rattle.ccw_core.specs.Ccw.{Fields}
-use Rattle.ccw_core.specs.Storage.{Stands}
-use Rattle.chan_walk.specs.declared.job.Job.{Job}
-use Rattle.chan_walk.specs.declared.place.Place.{Place}
-use Rattle.chan_walk.specs.declared.reason.Reason.{Reason}
 use Rattle.chan_walk.specs.declared.verdict.Verdict.{Verdict}
-use Rattle.chan_walk.specs.declared.verdict.Verdict.TheVariants.{Yes, No}
-use Rattle.chan_walk.specs.Fault.{kind_of, HasFault, IsClear}
-use Rattle.chan_walk.specs.Guarded.{IsCcwByte, Takes, IsArgumentByte, IsGuarded}
-use Rattle.chan_walk.specs.Job.{storage_of}
+use Rattle.chan_walk.specs.declared.verdict.Verdict.TheVariants.{No}
 use Rattle.chan_walk.specs.Moved.{IsDataOf}
-use Rattle.chan_walk.specs.Place.{data_of, first_place, ccw_of}
-use Rattle.chan_walk.specs.Reachable.{IsPath, IsReachable}
 use Rattle.chan_walk.specs.Successor.{next_of, skip_of}
-use Rattle.chan_walk.specs.Verdict.{AreClear, StoresOver, Changes, Offends, IsVerdict}
 
 -- what the verdict asks of p carries over from j to k
 pub record CarriesOver (j k : Job) (p : Place) : Type 0 where

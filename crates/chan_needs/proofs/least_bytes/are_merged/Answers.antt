@@ -1,6 +1,5 @@
-use Rattle.std.proofs.Common.{◌≡◌, ◌+◌, ◌<◌, ℕ, suc, length, get_or, drop, subst, arith}
-use Rattle.chan_areas.specs.Merged.{IsMerged}
-use Rattle.ccw_core.specs.Areas.{end_of}
+use Rattle.chan_needs.proofs.Names.{arith, drop, end_of, get_or, IsMerged, length, subst, suc, ℕ}
+use Rattle.chan_needs.proofs.Names.{◌+◌, ◌<◌, ◌≡◌}
 use Rattle.chan_needs.proofs.Holding.{nowhere}
 use Rattle.chan_needs.proofs.Leasts.{merged_from}
 use Rattle.chan_areas.proofs.Searching.{merged_len, merged_order}

@@ -1,5 +1,4 @@
-use Rattle.std.proofs.Common.{drop}
-use Rattle.chan_areas.specs.Merged.{IsMerged}
+use Rattle.chan_needs.proofs.Names.{drop, IsMerged}
 use Rattle.chan_needs.proofs.least_bytes.are_merged.Given as goal
 
 abbrev pub invariant-loop-i : goal.invariant-loop-i

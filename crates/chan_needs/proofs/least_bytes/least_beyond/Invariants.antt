@@ -1,6 +1,4 @@
-use Rattle.std.proofs.Common.{◌≡◌, false, take, true}
-use Rattle.ccw_core.specs.Areas.{lies_in}
-use Rattle.chan_areas.specs.Merged.{IsLeastOrNone}
+use Rattle.chan_needs.proofs.Names.{false, IsLeastOrNone, lies_in, take, true, ◌≡◌}
 use Rattle.chan_needs.proofs.least_bytes.least_beyond.Given as goal
 
 abbrev pub invariant-loop-area : goal.invariant-loop-area

@@ -1,4 +1,4 @@
-use Rattle.std.proofs.Common.{◌≡◌, ◌∙◌, None, Option, Some, false, refl, sym, ℕ}
+use Rattle.chan_needs.proofs.Names.{false, None, Option, refl, Some, sym, ℕ, ◌∙◌, ◌≡◌}
 use Rattle.std.specs.Prelude.{is_some}
 use Rattle.chan_needs.specs.LeastBytes.{lesser_of}
 use Rattle.chan_needs.proofs.Leasts.{least_area}

@@ -1,4 +1,4 @@
-use Rattle.std.proofs.Common.{arith}
+use Rattle.chan_needs.proofs.Names.{arith}
 use Rattle.chan_needs.proofs.Holding.{ahead_other, share_here}
 use Rattle.chan_needs.proofs.least_bytes.least_of_merged.Goals as goal
 

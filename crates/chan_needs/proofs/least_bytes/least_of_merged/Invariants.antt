@@ -1,4 +1,4 @@
-use Rattle.std.proofs.Common.{◌+◌, ◌-◌, drop, length}
+use Rattle.chan_needs.proofs.Names.{drop, length, ◌+◌, ◌-◌}
 use Rattle.chan_needs.proofs.Holding.{AreAhead}
 use Rattle.chan_needs.proofs.least_bytes.least_of_merged.Given as goal
 

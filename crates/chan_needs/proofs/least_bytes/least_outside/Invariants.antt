@@ -1,6 +1,4 @@
-use Rattle.std.proofs.Common.{◌≡◌, false, take, true}
-use Rattle.ckd_core.specs.Extents.{has_cylinder}
-use Rattle.chan_areas.specs.Merged.{IsLeastOrNone}
+use Rattle.chan_needs.proofs.Names.{false, has_cylinder, IsLeastOrNone, take, true, ◌≡◌}
 use Rattle.chan_needs.proofs.least_bytes.least_outside.Given as goal
 
 abbrev pub invariant-loop-run : goal.invariant-loop-run

@@ -1,5 +1,4 @@
-use Rattle.std.proofs.Common.{◌≡◌, ◌≤◌, ◌<◌, ℕ, true}
-use Rattle.ckd_core.specs.Extents.{has_cylinder}
+use Rattle.chan_needs.proofs.Names.{has_cylinder, true, ℕ, ◌<◌, ◌≡◌, ◌≤◌}
 use Rattle.chan_needs.proofs.least_bytes.outside.Given as goal
 
 abbrev pub invariant-loop-cylinder : goal.invariant-loop-cylinder

@@ -1,9 +1,7 @@
-use Rattle.std.proofs.Common.{List, take, subst, arith, rules}
-use Rattle.chan_walk.specs.declared.place.Place.{Place}
-use Rattle.chan_walk.specs.Look.{places_of_looks}
+use Rattle.chan_needs.proofs.Names.{AreBounds, arith, List, Place, places_of_looks, rules, subst}
+use Rattle.chan_needs.proofs.Names.{take}
 use Rattle.chan_needs.proofs.Demanding.{ServesEach, clear_at, bounds_first, bounds_next}
 use Rattle.chan_walk.proofs.Algorithms.Looking.{look_of, places_next, places_taken}
-use Rattle.chan_needs.specs.Rows.{AreBounds}
 use Rattle.chan_needs.proofs.Masking.{strictest}
 use Rattle.chan_needs.proofs.needed_mask.needed_mask.Goals as goal
 

@@ -1,7 +1,4 @@
-use Rattle.std.proofs.Common.{take}
-use Rattle.chan_walk.specs.declared.job.Job.{Job}
-use Rattle.chan_walk.specs.Look.{places_of_looks}
-use Rattle.chan_needs.specs.Rows.{AreLooksOfYes, AreBounds}
+use Rattle.chan_needs.proofs.Names.{AreBounds, AreLooksOfYes, Job, places_of_looks, take}
 use Rattle.chan_needs.proofs.Demanding.{ServesEach}
 use Rattle.chan_needs.proofs.needed_mask.needed_mask.Given as goal
 

@@ -1,5 +1,4 @@
-use Rattle.std.proofs.Common.{option_map, Some, sym, ap, ◌∙◌, subst}
-use Rattle.ckd_core.specs.Track.{cylinder_of}
+use Rattle.chan_needs.proofs.Names.{ap, cylinder_of, option_map, Some, subst, sym, ◌∙◌}
 use Rattle.ckd_core.specs.Entries.{entry_of}
 use Rattle.chan_walk.specs.declared.argument.GivenBytes.{GivenBytes}
 use Rattle.chan_walk.specs.Read.{whole_of}

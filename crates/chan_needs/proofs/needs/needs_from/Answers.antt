@@ -1,8 +1,6 @@
-use Rattle.std.proofs.Common.{sym, subst}
-use Rattle.chan_areas.specs.Merged.{AreExactly}
+use Rattle.chan_needs.proofs.Names.{AreExactly, IsGuarded, IsStoredInto, subst, sym}
 use Rattle.chan_walk.specs.Guard.{GuardAreas, Guards}
-use Rattle.chan_walk.specs.Guarded.{IsGuarded}
-use Rattle.chan_walk.specs.Moved.{IsFetchedFrom, IsStoredInto}
+use Rattle.chan_walk.specs.Moved.{IsFetchedFrom}
 use Rattle.chan_walk.proofs.Algorithms.Listing.{first_is_verdict}
 use Rattle.chan_needs.proofs.Needed.{are_needs, survey_looks}
 use Rattle.chan_needs.proofs.needs.needs_from.Goals as goal

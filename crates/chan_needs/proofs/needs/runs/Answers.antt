@@ -1,5 +1,4 @@
-use Rattle.std.proofs.Common.{arith, subst, sym, ◌^◌, ◌+◌}
-use Rattle.std.specs.List.{All}
+use Rattle.chan_needs.proofs.Names.{All, arith, subst, sym, ◌+◌, ◌^◌}
 use Rattle.chan_areas.specs.Merged.{EndsBelow}
 use Rattle.chan_areas.proofs.Searching.{merged_len}
 use Rattle.chan_needs.proofs.Holding.{nowhere}

@@ -1,5 +1,4 @@
-use Rattle.std.proofs.Common.{◌≡◌, map, take}
-use Rattle.chan_needs.specs.Rows.{run_of}
+use Rattle.chan_needs.proofs.Names.{map, run_of, take, ◌≡◌}
 use Rattle.chan_needs.proofs.needs.runs.Given as goal
 
 abbrev pub invariant-loop-area : goal.invariant-loop-area

@@ -1,12 +1,8 @@
-use Rattle.std.proofs.Common.{◌^◌, List, take, sym, subst, arith, rules, ◌+◌}
+use Rattle.chan_needs.proofs.Names.{Area, arith, HoldBytes, List, Place, places_of_looks, rules}
+use Rattle.chan_needs.proofs.Names.{SeeksCylinder, subst, sym, take, ◌+◌, ◌^◌}
 use Rattle.std.proofs.lemmas.Result.{IfOk-weaker}
-use Rattle.ccw_core.specs.declared.areas.Area.{Area}
-use Rattle.chan_walk.specs.declared.place.Place.{Place}
-use Rattle.chan_walk.specs.Look.{places_of_looks}
-use Rattle.chan_needs.specs.Rows.{SeeksCylinder}
 use Rattle.chan_needs.proofs.Demanding.{clear_at}
-use Rattle.chan_walk.proofs.Algorithms.Guarding.{HoldBytes, hold_more, hold_none, hold_same}
-use Rattle.chan_walk.proofs.Algorithms.Guarding.{low_none}
+use Rattle.chan_walk.proofs.Algorithms.Guarding.{hold_more, hold_none, hold_same, low_none}
 use Rattle.chan_areas.proofs.Merging.{exactly_low}
 use Rattle.chan_walk.proofs.Algorithms.Looking.{look_of, places_next, places_taken}
 use Rattle.chan_needs.proofs.Seeking.{sought_all}

@@ -1,10 +1,6 @@
-use Rattle.std.proofs.Common.{◌+◌, ◌^◌, take}
-use Rattle.std.specs.List.{All}
-use Rattle.chan_walk.specs.declared.job.Job.{Job}
-use Rattle.chan_walk.specs.Look.{places_of_looks}
+use Rattle.chan_needs.proofs.Names.{All, AreLooksOfYes, HoldBytes, Job, places_of_looks}
+use Rattle.chan_needs.proofs.Names.{SeeksCylinder, take, ◌+◌, ◌^◌}
 use Rattle.chan_areas.specs.Merged.{EndsBelow}
-use Rattle.chan_needs.specs.Rows.{AreLooksOfYes, SeeksCylinder}
-use Rattle.chan_walk.proofs.Algorithms.Guarding.{HoldBytes}
 use Rattle.chan_needs.proofs.needs.sought.Given as goal
 
 abbrev pub invariant-loop-look : goal.invariant-loop-look

@@ -1,5 +1,4 @@
-use Rattle.std.proofs.Common.{◌+◌, ◌-◌, ◌^◌, ◌<◌, length, arith}
-use Rattle.ccw_core.specs.Held.{bytes_held}
+use Rattle.chan_needs.proofs.Names.{arith, bytes_held, length, ◌+◌, ◌-◌, ◌<◌, ◌^◌}
 use Rattle.chan_needs.proofs.Kept.{address_fits}
 use Rattle.chan_needs.proofs.remembered.changed_in.Goals as goal
 

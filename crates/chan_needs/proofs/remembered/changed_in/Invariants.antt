@@ -1,5 +1,4 @@
-use Rattle.std.proofs.Common.{ℕ, ◌<◌}
-use Rattle.ccw_core.specs.Held.{bytes_held}
+use Rattle.chan_needs.proofs.Names.{bytes_held, ℕ, ◌<◌}
 use Rattle.chan_needs.specs.Remembered.{HoldsByte}
 use Rattle.chan_needs.proofs.remembered.changed_in.Given as goal
 

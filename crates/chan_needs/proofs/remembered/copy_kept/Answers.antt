@@ -1,5 +1,4 @@
-use Rattle.std.proofs.Common.{get_or, refl, arith}
-use Rattle.ccw_core.specs.Held.{bytes_held}
+use Rattle.chan_needs.proofs.Names.{arith, bytes_held, get_or, refl}
 use Rattle.chan_needs.proofs.Copied.{all_fit, copied_more, range_read, too_many}
 use Rattle.chan_needs.proofs.Holding.{nowhere}
 use Rattle.chan_needs.proofs.remembered.copy_kept.Goals as goal

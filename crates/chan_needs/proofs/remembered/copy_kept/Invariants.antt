@@ -1,4 +1,4 @@
-use Rattle.ccw_core.specs.Held.{bytes_held}
+use Rattle.chan_needs.proofs.Names.{bytes_held}
 use Rattle.chan_needs.proofs.Copied.{AreCopied}
 use Rattle.chan_needs.proofs.remembered.copy_kept.Given as goal
 

@@ -1,5 +1,4 @@
-use Rattle.std.proofs.Common.{◌≡◌, rules}
-use Rattle.ccw_core.specs.Held.{bytes_held}
+use Rattle.chan_needs.proofs.Names.{bytes_held, rules, ◌≡◌}
 use Rattle.chan_needs.proofs.Copied.{area_read, range_read}
 use Rattle.chan_needs.proofs.remembered.is_held.Goals as goal
 

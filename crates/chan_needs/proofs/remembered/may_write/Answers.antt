@@ -1,4 +1,4 @@
-use Rattle.std.proofs.Common.{arith}
+use Rattle.chan_needs.proofs.Names.{arith}
 use Rattle.chan_needs.proofs.Remembering.{writes_well}
 use Rattle.chan_needs.proofs.remembered.may_write.Goals as goal
 

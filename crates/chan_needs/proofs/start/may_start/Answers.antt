@@ -1,5 +1,4 @@
-use Rattle.std.proofs.Common.{rules}
-use Rattle.chan_walk.specs.Job.{storage_of}
+use Rattle.chan_needs.proofs.Names.{rules, storage_of}
 use Rattle.chan_needs.specs.Start.{IsFit}
 use Rattle.chan_needs.proofs.Kept.{never_changed}
 use Rattle.chan_needs.proofs.Remembering.{starts_well}

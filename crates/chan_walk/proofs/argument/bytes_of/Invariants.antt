@@ -1,6 +1,4 @@
-use Rattle.std.proofs.Common.{ℕ, ◌≡◌, ◌<◌, ◌≤◌, get_or, length}
-use Rattle.ccw_core.specs.Ccw.{byte}
-use Rattle.ccw_core.specs.Held.{bytes_held}
+use Rattle.chan_walk.proofs.Names.{byte, bytes_held, get_or, length, ℕ, ◌<◌, ◌≡◌, ◌≤◌}
 use Rattle.chan_walk.proofs.argument.bytes_of.Given as goal
 
 abbrev pub invariant-loop-k : goal.invariant-loop-k

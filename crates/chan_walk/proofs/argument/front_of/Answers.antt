@@ -1,9 +1,8 @@
-use Rattle.std.proofs.Common.{◌≡◌, ℕ, ◌+◌, ◌-◌, ◌<◌, get_or, refl, sym, ap, ◌∙◌, subst, arith, rules}
-use Rattle.ccw_core.specs.Ccw.{ccw}
-use Rattle.ccw_core.specs.Held.{bytes_held}
+use Rattle.chan_walk.proofs.Names.{ap, arith, bytes_held, ccw, get_or, refl, rules, subst, sym, ℕ}
+use Rattle.chan_walk.proofs.Names.{◌+◌, ◌-◌, ◌<◌, ◌∙◌, ◌≡◌}
 use Rattle.chan_walk.specs.Read.{onward}
-use Rattle.chan_walk.proofs.Algorithms.Following.{IsEnded, IsGiven, completes, ended_short, ends_before, ends_here}
-use Rattle.chan_walk.proofs.Algorithms.Following.{given_none, goes_further}
+use Rattle.chan_walk.proofs.Algorithms.Following.{IsEnded, IsGiven, completes, ended_short}
+use Rattle.chan_walk.proofs.Algorithms.Following.{ends_before, ends_here, given_none, goes_further}
 use Rattle.chan_walk.proofs.argument.front_of.Goals as goal
 
 pub loop-part-init : goal.loop-part-init

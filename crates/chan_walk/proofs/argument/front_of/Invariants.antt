@@ -1,6 +1,4 @@
-use Rattle.std.proofs.Common.{◌≡◌, ◌-◌, ◌<◌, Some, length}
-use Rattle.ccw_core.specs.Held.{bytes_held}
-use Rattle.ccw_core.specs.Storage.{ccw_at}
+use Rattle.chan_walk.proofs.Names.{bytes_held, ccw_at, length, Some, ◌-◌, ◌<◌, ◌≡◌}
 use Rattle.chan_walk.specs.Read.{AreZeroFrom}
 use Rattle.chan_walk.proofs.Algorithms.Following.{IsGiven}
 use Rattle.chan_walk.proofs.argument.front_of.Given as goal

@@ -1,5 +1,4 @@
-use Rattle.std.proofs.Common.{arith}
-use Rattle.ccw_core.specs.Held.{bytes_held}
+use Rattle.chan_walk.proofs.Names.{arith, bytes_held}
 use Rattle.chan_walk.proofs.Algorithms.Following.{gathered}
 use Rattle.chan_walk.proofs.argument.gather.Goals as goal
 

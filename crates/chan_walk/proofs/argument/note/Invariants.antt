@@ -1,4 +1,4 @@
-use Rattle.std.proofs.Common.{ℕ, ◌≡◌, ◌<◌, ◌≤◌, ◌+◌, get_or, length}
+use Rattle.chan_walk.proofs.Names.{get_or, length, ℕ, ◌+◌, ◌<◌, ◌≡◌, ◌≤◌}
 use Rattle.chan_walk.proofs.argument.note.Given as goal
 
 abbrev pub invariant-loop-k : goal.invariant-loop-k

@@ -1,6 +1,4 @@
-use Rattle.std.proofs.Common.{sym, subst, ◌∙◌}
-use Rattle.ccw_core.specs.Held.{bytes_held}
-use Rattle.chan_walk.specs.Argument.{HasArgument}
+use Rattle.chan_walk.proofs.Names.{bytes_held, HasArgument, subst, sym, ◌∙◌}
 use Rattle.chan_walk.proofs.Algorithms.Following.{begins_nowhere}
 use Rattle.chan_walk.proofs.argument.seek_argument.Goals as goal
 

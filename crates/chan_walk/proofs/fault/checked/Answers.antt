@@ -1,7 +1,7 @@
-use Rattle.std.proofs.Common.{◌≡◌, ◌&&◌, ◌%◌, true, false, length, refl, sym, ap, ◌∙◌}
-use Rattle.ccw_core.specs.Ccw.{Fields, is_transfer, is_invalid, is_formed, is_counted, has_data_in}
-use Rattle.chan_walk.specs.Place.{data_of, is_fresh}
-use Rattle.chan_walk.specs.Job.{storage_of}
+use Rattle.chan_walk.proofs.Names.{ap, data_of, false, Fields, has_data_in, is_counted, is_formed}
+use Rattle.chan_walk.proofs.Names.{is_fresh, is_transfer, length, refl, storage_of, sym, true, ◌%◌}
+use Rattle.chan_walk.proofs.Names.{◌&&◌, ◌∙◌, ◌≡◌}
+use Rattle.ccw_core.specs.Ccw.{is_invalid}
 use Rattle.chan_walk.proofs.Theory.CheckCases.{check-found}
 use Rattle.chan_walk.proofs.Theory.Found.{found_here}
 use Rattle.chan_walk.proofs.fault.checked.Goals as goal

@@ -1,4 +1,4 @@
-use Rattle.std.proofs.Common.{rules}
+use Rattle.chan_walk.proofs.Names.{rules}
 use Rattle.chan_walk.proofs.Theory.CheckCases.{check-transfer}
 use Rattle.chan_walk.proofs.fault.checked_transfer.Goals as goal
 

@@ -1,10 +1,8 @@
-use Rattle.std.proofs.Common.{◌≡◌, true, false, Some, option_map, refl, sym, ap, ◌∙◌}
-use Rattle.ccw_core.specs.Ccw.{Fields}
+use Rattle.chan_walk.proofs.Names.{ap, false, Fields, inhibits, is_fresh, lookup, refl, Some, sym}
+use Rattle.chan_walk.proofs.Names.{true, ◌∙◌, ◌≡◌}
+use Rattle.std.proofs.Common.{option_map}
 use Rattle.ckd_core.specs.Entries.{entry_of}
-use Rattle.ckd_core.specs.Mask.{inhibits}
-use Rattle.ckd_core.specs.Command.{lookup}
 use Rattle.ckd_core.proofs.TableLemmas.{inhibits-class}
-use Rattle.chan_walk.specs.Place.{is_fresh}
 use Rattle.chan_walk.proofs.Algorithms.Visiting.{begun-fresh}
 use Rattle.chan_walk.proofs.Theory.Found.{found_here}
 use Rattle.chan_walk.proofs.fault.command_fault.Goals as goal

@@ -1,5 +1,4 @@
-use Rattle.std.proofs.Common.{refl, arith}
-use Rattle.chan_walk.specs.Job.{storage_of}
+use Rattle.chan_walk.proofs.Names.{arith, refl, storage_of}
 use Rattle.chan_walk.proofs.Theory.CheckCases.{check-misaligned, check-outside}
 use Rattle.chan_walk.proofs.fault.fault_without_ccw.Goals as goal
 

@@ -1,4 +1,4 @@
-use Rattle.std.proofs.Common.{◌≡◌, ◌++◌, map, take}
+use Rattle.chan_walk.proofs.Names.{map, take, ◌++◌, ◌≡◌}
 use Rattle.chan_walk.specs.Guard.{byte_area}
 use Rattle.chan_walk.proofs.guard.add_bytes.Given as goal
 

@@ -1,9 +1,5 @@
-use Rattle.std.proofs.Common.{◌^◌, [], ◌∷◌, ◌++◌, sym, ap, ◌∙◌}
-use Rattle.ccw_core.specs.declared.areas.Area.{Area}
-use Rattle.chan_walk.specs.declared.place.Place.{Place}
-use Rattle.chan_walk.specs.Guard.{IsCcwByteOf}
-use Rattle.chan_walk.specs.Job.{storage_of}
-use Rattle.chan_areas.specs.Merged.{EndsBelow}
+use Rattle.chan_walk.proofs.Names.{ap, Area, EndsBelow, IsCcwByteOf, Place, storage_of, sym, []}
+use Rattle.chan_walk.proofs.Names.{◌++◌, ◌^◌, ◌∙◌, ◌∷◌}
 use Rattle.chan_walk.proofs.Algorithms.Guarding.{adds_areas, bytes_of_ccw, low_more, stands_low}
 use Rattle.chan_walk.proofs.Algorithms.Looking.{seen_stands}
 use Rattle.chan_areas.proofs.Merging.{all_one}

@@ -1,6 +1,5 @@
-use Rattle.std.proofs.Common.{rules}
+use Rattle.chan_walk.proofs.Names.{place_of, rules}
 use Rattle.std.proofs.lemmas.Fn.{always_returns_same}
-use Rattle.chan_walk.specs.Look.{place_of}
 use Rattle.chan_walk.proofs.Algorithms.Sorting.{increasing}
 use Rattle.chan_walk.proofs.job_survey.in_order.Goals as goal
 

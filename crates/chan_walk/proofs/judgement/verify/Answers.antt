@@ -1,4 +1,4 @@
-use Rattle.std.proofs.Common.{rules}
+use Rattle.chan_walk.proofs.Names.{rules}
 use Rattle.chan_walk.proofs.judgement.verify.Goals as goal
 
 pub returns-clause-verdict : goal.returns-clause-verdict

@@ -1,4 +1,4 @@
-use Rattle.std.proofs.Common.{rules}
+use Rattle.chan_walk.proofs.Names.{rules}
 use Rattle.chan_walk.proofs.Algorithms.Marks.{mark_put}
 use Rattle.chan_walk.proofs.marks.mark.Goals as goal
 

@@ -1,10 +1,9 @@
-use Rattle.std.proofs.Common.{◌≡◌, ◌++◌, ◌∷◌, [], ◌+◌, ◌-◌, ap, sym, ◌∙◌, subst, arith}
-use Rattle.std.specs.Int.{bit_at}
+use Rattle.chan_walk.proofs.Names.{ap, arith, bit_at, subst, sym, [], ◌++◌, ◌+◌, ◌-◌, ◌∙◌, ◌∷◌, ◌≡◌}
 use Rattle.std.proofs.lemmas.Nat.Bits.{shr_and_one}
 use Rattle.chan_walk.specs.Marks.{ways, place_at}
 use Rattle.chan_walk.proofs.Algorithms.InOrder.{ways_next, ways_skip, ways_done}
-use Rattle.chan_walk.proofs.marks.push_ways.Goals as goal
 use Rattle.chan_walk.proofs.marks.push_ways.Goals.{then-bits-way-eq1+in_ok-push, else-bits-way-eq1}
+use Rattle.chan_walk.proofs.marks.push_ways.Goals as goal
 
 pub loop-way-preserved : goal.loop-way-preserved
 loop-way-preserved c = elim c.if-bits-way-eq1.branch [

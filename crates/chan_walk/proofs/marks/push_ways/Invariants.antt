@@ -1,4 +1,4 @@
-use Rattle.std.proofs.Common.{◌≡◌, ◌++◌, ◌-◌}
+use Rattle.chan_walk.proofs.Names.{◌++◌, ◌-◌, ◌≡◌}
 use Rattle.chan_walk.specs.Marks.{ways}
 use Rattle.chan_walk.proofs.marks.push_ways.Given as goal
 

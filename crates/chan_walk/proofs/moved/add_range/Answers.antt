@@ -1,7 +1,5 @@
-use Rattle.std.proofs.Common.{◌++◌, [], ◌∷◌, sym, ap, ◌∙◌}
-use Rattle.ccw_core.specs.declared.areas.Area.{Area}
+use Rattle.chan_walk.proofs.Names.{ap, Area, data_of, sym, [], ◌++◌, ◌∙◌, ◌∷◌}
 use Rattle.chan_walk.specs.Moved.{IsSeenByte}
-use Rattle.chan_walk.specs.Place.{data_of}
 use Rattle.chan_walk.proofs.Algorithms.Guarding.{adds_areas}
 use Rattle.chan_walk.proofs.Algorithms.Moved.{seen_bytes}
 use Rattle.chan_walk.proofs.moved.add_range.Goals as goal

@@ -1,9 +1,6 @@
-use Rattle.std.proofs.Common.{◌<◌, List, length, take, sym, ap, subst, arith, ◌∙◌, rules}
-use Rattle.std.proofs.lemmas.Result.{IfOk-weaker}
-use Rattle.ccw_core.specs.declared.areas.Area.{Area}
-use Rattle.chan_walk.specs.declared.place.Place.{Place}
+use Rattle.chan_walk.proofs.Names.{ap, Area, arith, IfOk-weaker, length, List, Place}
+use Rattle.chan_walk.proofs.Names.{places_of_looks, rules, subst, sym, take, ◌<◌, ◌∙◌}
 use Rattle.chan_walk.specs.Direction.{is_direction, moves_by}
-use Rattle.chan_walk.specs.Look.{places_of_looks}
 use Rattle.chan_walk.proofs.Theory.Found.{moves_so}
 use Rattle.chan_walk.proofs.Algorithms.Guarding.{HoldBytes, hold_more, hold_none, hold_same}
 use Rattle.chan_walk.proofs.Algorithms.Guarding.{low_none}

@@ -1,9 +1,5 @@
-use Rattle.std.proofs.Common.{◌^◌, take}
-use Rattle.std.specs.List.{All}
-use Rattle.chan_walk.specs.declared.job.Job.{Job}
+use Rattle.chan_walk.proofs.Names.{All, AreLooks, EndsBelow, Job, places_of_looks, take, ◌^◌}
 use Rattle.chan_walk.specs.Direction.{moves_by}
-use Rattle.chan_walk.specs.Look.{AreLooks, places_of_looks}
-use Rattle.chan_areas.specs.Merged.{EndsBelow}
 use Rattle.chan_walk.proofs.Algorithms.Guarding.{HoldBytes}
 use Rattle.chan_walk.proofs.Algorithms.Moved.{HasData}
 use Rattle.chan_walk.proofs.moved.data_moved.Given as goal

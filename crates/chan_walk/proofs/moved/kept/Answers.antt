@@ -1,9 +1,6 @@
-use Rattle.std.proofs.Common.{◌≡◌, ◌∙◌, ◌++◌, ◌^◌, List, ap, rules, subst, sym}
-use Rattle.std.specs.List.{All}
-use Rattle.std.proofs.lemmas.Result.{IfOk-weaker}
+use Rattle.chan_walk.proofs.Names.{All, ap, Area, EndsBelow, IfOk-weaker, List, rules, subst, sym}
+use Rattle.chan_walk.proofs.Names.{◌++◌, ◌^◌, ◌∙◌, ◌≡◌}
 use Rattle.std.proofs.lemmas.List.Elements.{All-append}
-use Rattle.ccw_core.specs.declared.areas.Area.{Area}
-use Rattle.chan_areas.specs.Merged.{EndsBelow}
 use Rattle.chan_areas.proofs.Merging.{merged_both}
 use Rattle.chan_walk.proofs.moved.kept.Goals as goal
 

@@ -1,9 +1,5 @@
-use Rattle.std.proofs.Common.{◌<◌, List, length, take, sym, subst, arith}
-use Rattle.chan_walk.specs.declared.place.Place.{Place}
-use Rattle.chan_walk.specs.Guarded.{IsArgumentByte, IsCcwByte}
-use Rattle.chan_walk.specs.Look.{places_of_looks}
-use Rattle.chan_walk.specs.Offence.{HasOffences}
-use Rattle.chan_walk.specs.Verdict.{Changes}
+use Rattle.chan_walk.proofs.Names.{arith, Changes, HasOffences, IsArgumentByte, IsCcwByte, length}
+use Rattle.chan_walk.proofs.Names.{List, Place, places_of_looks, subst, sym, take, ◌<◌}
 use Rattle.chan_walk.proofs.Theory.Lists.{has_at}
 use Rattle.chan_walk.proofs.Algorithms.Listing.{adds_changes, new_place, offences_more, stores_both}
 use Rattle.chan_walk.proofs.Algorithms.Looking.{look_of, place_at, places_next, places_taken}

@@ -1,10 +1,6 @@
-use Rattle.std.proofs.Common.{take}
-use Rattle.chan_walk.specs.declared.job.Job.{Job}
+use Rattle.chan_walk.proofs.Names.{AreClear, AreLooks, AreReached, Changes, HasOffences, Job}
+use Rattle.chan_walk.proofs.Names.{places_of_looks, take}
 use Rattle.chan_walk.specs.Guard.{Guards}
-use Rattle.chan_walk.specs.Places.{AreReached}
-use Rattle.chan_walk.specs.Look.{AreLooks, places_of_looks}
-use Rattle.chan_walk.specs.Offence.{HasOffences}
-use Rattle.chan_walk.specs.Verdict.{AreClear, Changes}
 use Rattle.chan_walk.proofs.offence.changes_of.Given as goal
 
 abbrev pub invariant-loop-look : goal.invariant-loop-look

@@ -1,8 +1,5 @@
-use Rattle.std.proofs.Common.{◌<◌, List, length, take, sym, subst, arith}
-use Rattle.chan_walk.specs.declared.place.Place.{Place}
-use Rattle.chan_walk.specs.Offence.{IsOwn}
-use Rattle.chan_walk.specs.Look.{places_of_looks}
-use Rattle.chan_walk.specs.Offence.{HasOffences}
+use Rattle.chan_walk.proofs.Names.{arith, HasOffences, IsOwn, length, List, Place, places_of_looks}
+use Rattle.chan_walk.proofs.Names.{subst, sym, take, ◌<◌}
 use Rattle.chan_walk.proofs.Algorithms.Listing.{new_place, offences_more}
 use Rattle.chan_walk.proofs.Algorithms.Looking.{look_of, places_next, places_taken}
 use Rattle.chan_walk.proofs.offence.faults_of.Goals as goal

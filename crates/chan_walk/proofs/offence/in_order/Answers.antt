@@ -1,4 +1,4 @@
-use Rattle.std.proofs.Common.{rules}
+use Rattle.chan_walk.proofs.Names.{rules}
 use Rattle.std.proofs.lemmas.List.Sorted.{IsNonDecreasingBy-from_sort_by_key}
 use Rattle.chan_walk.specs.Offence.{offence_number}
 use Rattle.chan_walk.proofs.Algorithms.Listing.{increasing}

@@ -1,5 +1,4 @@
-use Rattle.std.proofs.lemmas.Result.{IfOk-weaker}
-use Rattle.chan_walk.specs.Look.{places_of_looks}
+use Rattle.chan_walk.proofs.Names.{IfOk-weaker, places_of_looks}
 use Rattle.chan_walk.proofs.Algorithms.InOrder.{listed_reachable, listed_few}
 use Rattle.chan_walk.proofs.walk.explore.Goals as goal
 

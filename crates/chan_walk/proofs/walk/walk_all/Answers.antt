@@ -1,10 +1,7 @@
-use Rattle.std.proofs.Common.{◌≡◌, ℕ, ◌<◌, List, [], ◌∷◌, Some, refl, sym, ap, ◌∙◌, subst, inl, inr}
-use Rattle.std.proofs.Common.{arith}
-use Rattle.chan_walk.specs.declared.job.Job.{Job}
-use Rattle.chan_walk.specs.declared.place.Place.{Place}
-use Rattle.chan_walk.specs.Look.{places_of_looks}
-use Rattle.chan_walk.specs.Place.{first_place}
-use Rattle.chan_walk.specs.Walk.{Adds, IsTraced, IsWalked}
+use Rattle.chan_walk.proofs.Names.{Adds, ap, arith, first_place, inl, inr, IsWalked, Job, List}
+use Rattle.chan_walk.proofs.Names.{Place, places_of_looks, refl, Some, subst, sym, ℕ, [], ◌<◌, ◌∙◌}
+use Rattle.chan_walk.proofs.Names.{◌∷◌, ◌≡◌}
+use Rattle.chan_walk.specs.Walk.{IsTraced}
 use Rattle.chan_walk.proofs.Algorithms.Looking.{number_of_places}
 use Rattle.chan_walk.proofs.Algorithms.Walking.{walked_first}
 use Rattle.chan_walk.proofs.walk.walk_all.Goals as goal

@@ -1,6 +1,5 @@
-use Rattle.std.proofs.Common.{◌-◌, ◌+◌}
-use Rattle.chan_walk.specs.Look.{AreLooks, places_of_looks}
-use Rattle.chan_walk.specs.Walk.{Agrees, IsTraced, IsWalked}
+use Rattle.chan_walk.proofs.Names.{Agrees, AreLooks, IsWalked, places_of_looks, ◌+◌, ◌-◌}
+use Rattle.chan_walk.specs.Walk.{IsTraced}
 use Rattle.chan_walk.proofs.walk.walk_all.Given as goal
 
 abbrev pub invariant-loop-at : goal.invariant-loop-at

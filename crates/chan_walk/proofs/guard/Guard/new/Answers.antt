@@ -1,9 +1,6 @@
-use Rattle.std.proofs.Common.{◌≡◌, ◌++◌, [], ◌∷◌, List, ap, sym, ◌∙◌, subst, append_assoc}
-use Rattle.std.proofs.Common.{append-nil}
-use Rattle.std.proofs.lemmas.Result.{IfOk-weaker}
-use Rattle.chan_walk.specs.declared.place.Place.{Place}
-use Rattle.chan_walk.specs.Places.{AreReached}
-use Rattle.chan_walk.specs.Look.{AreLooks, places_of_looks}
+use Rattle.chan_walk.proofs.Names.{ap, append-nil, append_assoc, AreLooks, AreReached, IfOk-weaker}
+use Rattle.chan_walk.proofs.Names.{List, Place, places_of_looks, subst, sym, [], ◌++◌, ◌∙◌, ◌∷◌}
+use Rattle.chan_walk.proofs.Names.{◌≡◌}
 use Rattle.chan_walk.proofs.Algorithms.Looking.{looks_push, places_push}
 use Rattle.chan_walk.proofs.guard.Guard.new.Goals as goal
 

@@ -1,5 +1,4 @@
-use Rattle.std.proofs.Common.{◌≡◌, ◌++◌}
-use Rattle.chan_walk.specs.Look.{AreLooks, places_of_looks}
+use Rattle.chan_walk.proofs.Names.{AreLooks, places_of_looks, ◌++◌, ◌≡◌}
 use Rattle.chan_walk.proofs.guard.Guard.new.Given as goal
 
 abbrev pub invariant-loop-place : goal.invariant-loop-place

@@ -1,7 +1,5 @@
-use Rattle.std.proofs.Common.{◌≡◌, ◌<◌, List, length, take, sym, subst, arith, rules}
-use Rattle.chan_walk.specs.declared.place.Place.{Place}
-use Rattle.chan_walk.specs.Guard.{IsCcwByteOf, IsArgumentByteOf}
-use Rattle.chan_walk.specs.Look.{places_of_looks}
+use Rattle.chan_walk.proofs.Names.{arith, IsArgumentByteOf, IsCcwByteOf, length, List, Place}
+use Rattle.chan_walk.proofs.Names.{places_of_looks, rules, subst, sym, take, ◌<◌, ◌≡◌}
 use Rattle.chan_walk.proofs.Algorithms.Guarding.{HoldBytes, hold_none, low_none, hold_more}
 use Rattle.chan_walk.proofs.Algorithms.Guarding.{hold_same, ccw_bytes, argument_bytes}
 use Rattle.chan_walk.proofs.Algorithms.Looking.{look_of, places_next, places_taken}

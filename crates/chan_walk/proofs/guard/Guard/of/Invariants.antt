@@ -1,9 +1,5 @@
-use Rattle.std.proofs.Common.{◌^◌, take}
-use Rattle.std.specs.List.{All}
-use Rattle.chan_walk.specs.declared.job.Job.{Job}
-use Rattle.chan_walk.specs.Guard.{IsCcwByteOf, IsArgumentByteOf}
-use Rattle.chan_walk.specs.Look.{AreLooks, places_of_looks}
-use Rattle.chan_areas.specs.Merged.{EndsBelow}
+use Rattle.chan_walk.proofs.Names.{All, AreLooks, EndsBelow, IsArgumentByteOf, IsCcwByteOf, Job}
+use Rattle.chan_walk.proofs.Names.{places_of_looks, take, ◌^◌}
 use Rattle.chan_walk.proofs.Algorithms.Guarding.{HoldBytes}
 use Rattle.chan_walk.proofs.guard.Guard.of.Given as goal
 

@@ -1,4 +1,4 @@
-use Rattle.std.proofs.Common.{◌≡◌, true, subst}
+use Rattle.chan_walk.proofs.Names.{subst, true, ◌≡◌}
 use Rattle.ckd_core.specs.Extents.{AreExtents}
 use Rattle.ckd_core.specs.Mask.{is_mask}
 use Rattle.chan_walk.proofs.job.Job.show_proper.Goals as goal

@@ -1,4 +1,4 @@
-use Rattle.std.proofs.Common.{sym, subst}
+use Rattle.chan_walk.proofs.Names.{subst, sym}
 use Rattle.chan_walk.specs.JobSurvey.{IsSurvey}
 use Rattle.chan_walk.proofs.Algorithms.Looking.{moved_places}
 use Rattle.chan_walk.proofs.Algorithms.Walking.{reached_all}

@@ -1,6 +1,5 @@
-use Rattle.std.proofs.Common.{length, subst}
+use Rattle.chan_walk.proofs.Names.{length, storage_of, subst}
 use Rattle.chan_walk.specs.Direction.{lent_for}
-use Rattle.chan_walk.specs.Job.{storage_of}
 use Rattle.chan_walk.specs.Lending.{Lends}
 use Rattle.chan_walk.specs.Lent.{areas_for}
 use Rattle.chan_walk.proofs.Theory.Found.{lent_gap}

@@ -1,5 +1,4 @@
-use Rattle.std.proofs.Common.{◌≡◌, ◌<◌, subst, true}
-use Rattle.ccw_core.specs.Areas.{lies_in}
+use Rattle.chan_walk.proofs.Names.{lies_in, subst, true, ◌<◌, ◌≡◌}
 use Rattle.chan_areas.specs.Merged.{AreExactly}
 use Rattle.chan_walk.specs.declared.direction.Direction.TheVariants.{Store, Fetch}
 use Rattle.chan_walk.proofs.lent.Lent.new.Goals as goal

@@ -1,4 +1,4 @@
-use Rattle.std.proofs.Common.{rules}
+use Rattle.chan_walk.proofs.Names.{rules}
 use Rattle.chan_walk.proofs.open_job.OpenJob.job.Goals as goal
 
 pub returns-clause-open : goal.returns-clause-open

@@ -1,4 +1,4 @@
-use Rattle.std.proofs.Common.{◌≡◌, ◌++◌}
+use Rattle.chan_walk.proofs.Names.{◌++◌, ◌≡◌}
 use Rattle.chan_walk.specs.Marks.{places_of}
 use Rattle.chan_walk.proofs.places.Explored.from_marks.Given as goal
 

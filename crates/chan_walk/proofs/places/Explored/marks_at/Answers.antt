@@ -1,6 +1,5 @@
-use Rattle.std.proofs.Common.{◌≡◌, ◌↔◌, subst, sym}
-use Rattle.std.specs.Int.{bit_at}
-use Rattle.chan_walk.specs.Marks.{HasWay, marks_of}
+use Rattle.chan_walk.proofs.Names.{bit_at, marks_of, subst, sym, ◌↔◌, ◌≡◌}
+use Rattle.chan_walk.specs.Marks.{HasWay}
 use Rattle.chan_walk.proofs.Algorithms.InOrder.{bit_is_way}
 use Rattle.chan_walk.proofs.places.Explored.marks_at.Goals as goal
 

@@ -1,14 +1,8 @@
-use Rattle.std.proofs.Common.{◌≡◌, ℕ, ◌<◌, ◌≤◌, Bool, false, IsTrue, List, length, Option, sym}
-use Rattle.std.proofs.Common.{subst, inr, ◌↔◌, arith}
-use Rattle.std.specs.BTreeMap.{BTreeMap}
-use Rattle.std.proofs.lemmas.Bool.{both_ways}
-use Rattle.chan_walk.specs.declared.place.Place.{Place}
-use Rattle.chan_walk.specs.Argument.{Has}
-use Rattle.chan_walk.specs.Look.{places_of_looks}
-use Rattle.chan_walk.specs.Marks.{marks_of}
-use Rattle.chan_walk.specs.Places.{way_of}
-use Rattle.std.specs.Int.{bit_at}
-use Rattle.chan_walk.specs.Walk.{Adds, Agrees, Overflows}
+use Rattle.chan_walk.proofs.Names.{Adds, Agrees, arith, bit_at, Bool, both_ways, BTreeMap, false}
+use Rattle.chan_walk.proofs.Names.{Has, inr, length, List, marks_of, Option, Place, places_of_looks}
+use Rattle.chan_walk.proofs.Names.{subst, sym, way_of, ℕ, ◌<◌, ◌↔◌, ◌≡◌, ◌≤◌}
+use Rattle.std.proofs.Common.{IsTrue}
+use Rattle.chan_walk.specs.Walk.{Overflows}
 use Rattle.chan_walk.proofs.Algorithms.Looking.{looks_push, number_of_places, places_push}
 use Rattle.chan_walk.proofs.Algorithms.Marks.{agrees_push}
 use Rattle.chan_walk.proofs.walk.Walk.add.Goals as goal

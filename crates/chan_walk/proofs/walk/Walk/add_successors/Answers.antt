@@ -1,9 +1,9 @@
-use Rattle.std.proofs.Common.{◌≡◌, Err, Result, refl}
+use Rattle.chan_walk.proofs.Names.{places_of_looks, refl, ◌≡◌}
+use Rattle.std.proofs.Common.{Err, Result}
 use Rattle.std.proofs.lemmas.Option.{slice_get_read}
 use Rattle.std.proofs.lemmas.Result.{err_from_is_err_and}
 use Rattle.chan_walk.specs.declared.error.WalkError.{WalkError}
 use Rattle.chan_walk.specs.declared.error.WalkError.TheVariants.{TooManyPlaces}
-use Rattle.chan_walk.specs.Look.{places_of_looks}
 use Rattle.chan_walk.proofs.Algorithms.Looking.{within_places}
 use Rattle.chan_walk.proofs.Algorithms.Walking.{are_next, leads_from_look, next_overflows}
 use Rattle.chan_walk.proofs.Algorithms.Walking.{place_there, skip_overflows, walked_on}
