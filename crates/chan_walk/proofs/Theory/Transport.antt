@@ -18,6 +18,7 @@ pub record CarriesOver (j k : Job) (p : Place) : Type 0 where
   pub ccw : IsClear j p → ccw_of j p ≡ ccw_of k p
   pub takes : IsClear j p → (b : ℕ) → Takes (storage_of j) p b → Takes (storage_of k) p b
 
+-- q comes after p, whose CCW is c
 abbrev LeadsOn : Place → Place → Fields → Type 0
 LeadsOn p q c = (next_of p c (kind_of p.entered c) ≡ Some q) ⊎ (skip_of p c (kind_of p.entered c) ≡ Some q)
 
@@ -67,6 +68,7 @@ module _ (j k : Job) (on : (p : Place) → IsReachable j p → IsReachable k p �
   offends_over back fault p m r (inl f) = inl (fault p m r f)
   offends_over back fault p m r (inr (clear, c)) = inr ((λ q n. let l = back q n in (on q l).1.clear (clear q l)), changes_over p r m (clear p m) c)
 
+-- what is reachable under j is so under k, and offends there by the same reasons
 abbrev Offend : Job → Job → Type 0
 Offend j k = (p : Place) → IsReachable j p → IsReachable k p × ((r : Reason) → Offends j p r → Offends k p r)
 
