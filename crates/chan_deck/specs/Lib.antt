@@ -11,7 +11,6 @@ pub mod Texts
 pub mod Pieces
 pub mod Listing
 pub mod Explanation
-pub mod Folds
 pub mod Hint
 pub mod Notes
 pub mod Needs

@@ -226,7 +226,11 @@ fn push_change(out: &mut String, evidence: Evidence) -> Result<(), AllocError>
 }
 
 /// Adds the cause to a text.
-fn push_cause(alloc: Global, out: &mut String, evidence: Evidence) -> Result<(), AllocError>
+pub(crate) fn push_cause(
+    alloc: Global,
+    out: &mut String,
+    evidence: Evidence,
+) -> Result<(), AllocError>
     ensures { OnOk result (string_bytes out.new
         ≡ string_bytes out.old ++ texts.cause_text evidence) }
 {

@@ -1,27 +1,44 @@
-//! The picture of the places that a program can come to, in Graphviz's language.
-//!
-//! Which places stand together in it is decided, and proved, in `folds`. Its text is held by tests.
+//! The picture of a program, in Graphviz's language. Tests hold it; nothing is proved of its text.
 
-use crate::folds::{Folds, are_beside, count_together, folds_of};
+use crate::explanation::push_cause;
+use crate::layout::{Arrow, Layout, Row, first_offence, first_row, layout_of, row_at};
 use crate::listing::{name_of, transfer_word, way_word};
-use crate::texts::Address;
-use chan_walk::{Look, Offence, Place};
+use crate::texts::{Address, Digits, Range, Size, verdict_text};
+use chan_walk::{
+    Direction, Entry, Evidence, Job, Look, Offence, Place, Verdict, data_of, first_place,
+};
+use ckd_core::{Device, Kind};
 use std::alloc::{AllocError, Global};
+use std::fmt;
 use std::fmt::Write as _;
-use std::{fmt, slice};
 
-const HEADING: &str = "digraph program {
-  node [shape=box, fontname=\"monospace\", fontsize=10];
-  edge [arrowsize=0.7];
+/// Of a box with more rows than these only the first and the last half of so many are drawn.
+const MOST_ROWS: usize = 40;
+
+/// Above so many boxes arrows have no labels, which Graphviz takes long to place.
+const MOST_LABELLED: usize = 200;
+
+/// How many extents the title names.
+const MOST_EXTENTS: usize = 4;
+
+const STYLES: &str =
+    "  node [shape=box, fontname=\"monospace\", fontsize=10, margin=\"0.12,0.06\", height=0.2];
+  edge [arrowsize=0.7, fontname=\"sans-serif\", fontsize=9];
+  start [shape=plaintext, fontname=\"sans-serif\", margin=0.03];
 ";
 
-/// What is drawn of places that stand together.
+/// A program that was judged, as it is drawn.
 #[derive(Clone, Copy)]
-enum Layer {
-    /// Their nodes.
-    Nodes,
-    /// The edges from them.
-    Edges,
+pub struct Picture<'a> {
+    /// The name of its deck, which begins the title; none for standard input.
+    pub name: Option<&'a str>,
+    pub job: &'a Job<'a>,
+    pub verdict: Verdict,
+    /// The looks at its places, and its offences, as `Survey::into_parts` gives them.
+    pub looks: &'a [Look],
+    pub offences: &'a [Offence],
+    /// The cause of each offence.
+    pub causes: &'a [Evidence],
 }
 
 /// A place as the name of its node.
@@ -41,165 +58,394 @@ impl fmt::Display for Node {
     }
 }
 
-/// What stands at a place: its name, or `no-ccw`.
-fn word_seen(look: &Look) -> &'static str {
+// ---- the title
+
+/// Adds some text, with a backslash before each quote and each backslash.
+fn push_escaped(out: &mut String, text: &str) -> Result<(), AllocError> {
+    for character in text.chars() {
+        if character == '"' || character == '\\' {
+            out.push('\\')?;
+        }
+        out.push(character)?;
+    }
+    Ok(())
+}
+
+/// Adds the cylinders granted.
+fn push_cylinders(out: &mut String, extents: &[(u16, u16)]) -> Result<(), AllocError> {
+    out.push_str(", cylinders")?;
+    for (k, (first, last)) in extents.iter().take(MOST_EXTENTS).enumerate() {
+        let comma = if k == 0 { "" } else { "," };
+        write!(out, "{comma} {first}-{last}")?;
+    }
+    let more = extents.len().saturating_sub(MOST_EXTENTS);
+    if more > 0 {
+        write!(out, " and {more} more")?;
+    }
+    Ok(())
+}
+
+/// Adds the title: the verdict, and for whom it is one.
+fn push_title(alloc: Global, out: &mut String, picture: &Picture) -> Result<(), AllocError> {
+    out.push_str("digraph program {\n  graph [label=\"")?;
+    if let Some(name) = picture.name {
+        push_escaped(out, name)?;
+        out.push_str(": ")?;
+    }
+    let job = picture.job;
+    let verdict = verdict_text(alloc, picture.verdict)?;
+    let verdict = verdict.trim_end();
+    let device = match job.device {
+        Device::D2311 => "2311",
+        Device::D2314 => "2314",
+    };
+    let mask = Digits(job.mask.byte());
+    write!(out, "{verdict}\\n{device}, mask {mask}")?;
+    push_cylinders(out, job.extents.pairs())?;
+    let size = Size(job.storage.len());
+    let color = match picture.verdict {
+        Verdict::Yes => "#006000",
+        Verdict::No { .. } => "#B00000",
+    };
+    write!(
+        out,
+        ", storage {size}\", labelloc=t, fontname=\"sans-serif\", fontsize=12,\n    \
+         fontcolor=\"{color}\", ranksep=0.3, nodesep=0.4];\n"
+    )
+}
+
+// ---- boxes
+
+/// The name of what stands at a place, in two parts: for a CCW of a data chain also its way.
+fn name_at(look: &Look) -> (&'static str, &'static str) {
+    let entered = look.place().entered;
     match look.ccw() {
-        Some(ccw) => name_of(look.place().entered, &ccw, look.command()),
-        None => "no-ccw",
+        None => ("no-ccw", ""),
+        Some(ccw) if entered == Entry::Fresh || ccw.is_transfer() => {
+            (name_of(entered, &ccw, look.command()), "")
+        }
+        Some(_) => ("chained, ", way_word(entered)),
     }
 }
 
-/// Adds the row of a place.
-fn push_row(out: &mut String, look: &Look) -> Result<(), AllocError> {
-    let place = look.place();
-    let address = Address(place.address);
-    let way = way_word(place.entered);
-    let transfer = if place.after_transfer { " t" } else { "" };
-    let word = word_seen(look);
-    write!(out, "{address} {way}{transfer}  {word}\\l")
+/// How many letters the name has.
+fn width_at(look: &Look) -> usize {
+    let (name, way) = name_at(look);
+    name.len().saturating_add(way.len())
 }
 
-/// Adds the box of some places: the node of this one, with a row for each.
-fn push_box(out: &mut String, place: Place, looks: &[Look]) -> Result<(), AllocError> {
+/// What a CCW does with its data range, if it has one.
+fn verb_at(look: &Look) -> Option<&'static str> {
+    if look.ccw()?.count() == 0 {
+        return None;
+    }
+    if look.moves(Direction::Store) {
+        return Some("stores ");
+    }
+    if look.moves(Direction::Fetch) {
+        return Some("fetches");
+    }
+    let reads = match look.command() {
+        Some(command) => command.kind() == Kind::Inward,
+        None => look.place().entered == Entry::ChainIn,
+    };
+    if reads { Some("skips  ") } else { None }
+}
+
+/// Adds the line of a row; `width` is that of the longest name in its box.
+fn push_row(out: &mut String, row: &Row, width: usize) -> Result<(), AllocError> {
+    let look = row.look;
+    let address = Address(look.place().address);
+    let (name, way) = name_at(look);
+    write!(out, "{address}  {name}{way}")?;
+    if let (Some(verb), Some(ccw)) = (verb_at(look), look.ccw()) {
+        for _ in width_at(look)..width {
+            out.push(' ')?;
+        }
+        let range = Range(data_of(&ccw));
+        write!(out, "  {verb} {range}")?;
+    }
+    if let Some(transfer) = row.until {
+        let transfer = Address(transfer);
+        write!(out, "  until found (TIC {transfer})")?;
+    }
+    out.push_str("\\l")
+}
+
+/// Adds the lines of the rows of a box.
+fn push_rows(out: &mut String, looks: &[Look], rows: &[usize]) -> Result<(), AllocError> {
+    let mut width = 0;
+    for at in rows {
+        if let Some(look) = looks.get(*at) {
+            width = width.max(width_at(look));
+        }
+    }
+    let left_out = if rows.len() > MOST_ROWS {
+        MOST_ROWS / 2..rows.len() - MOST_ROWS / 2
+    } else {
+        0..0
+    };
+    for (k, at) in rows.iter().enumerate() {
+        if left_out.contains(&k) {
+            if k == left_out.start {
+                let more = left_out.len();
+                write!(out, "...     {more} more\\l")?;
+            }
+        } else if let Some(row) = row_at(looks, *at) {
+            push_row(out, &row, width)?;
+        }
+    }
+    Ok(())
+}
+
+/// Adds the lines of a reason and its cause, which is broken in two where it goes on to something
+/// else.
+fn push_reason(
+    alloc: Global,
+    out: &mut String,
+    offence: Offence,
+    cause: Evidence,
+) -> Result<(), AllocError> {
+    let word = offence.reason.word();
+    write!(out, "{word}:\\l  ")?;
+    let mut text = String::new(alloc);
+    push_cause(alloc, &mut text, cause)?;
+    match (text.split_once(", over "), text.split_once(": ")) {
+        (Some((data, over)), _) => write!(out, "{data},\\l  over {over}\\l"),
+        (None, Some((wrong, given))) => write!(out, "{wrong}:\\l  {given}\\l"),
+        (None, None) => write!(out, "{text}\\l"),
+    }
+}
+
+/// The offences of a place, each with its cause. Offences are in order of addresses.
+fn offences_of(
+    alloc: Global,
+    picture: &Picture,
+    place: Place,
+) -> Result<Vec<(Offence, Evidence)>, AllocError> {
+    let mut found = Vec::new(alloc);
+    let first = first_offence(picture.offences, place.address);
+    for at in first..picture.offences.len() {
+        match (picture.offences.get(at), picture.causes.get(at)) {
+            (Some(offence), Some(cause)) if offence.place.address == place.address => {
+                if offence.place == place {
+                    found.push((*offence, *cause))?;
+                }
+            }
+            _ => return Ok(found),
+        }
+    }
+    Ok(found)
+}
+
+/// Whether a place has the address that the verdict names.
+fn is_named(verdict: Verdict, place: Place) -> bool {
+    match verdict {
+        Verdict::No { address, .. } => address == place.address,
+        Verdict::Yes => false,
+    }
+}
+
+/// Adds the box of some rows, of which this place is the first: a pink one if it offends, and then
+/// it is alone.
+fn push_box(
+    alloc: Global,
+    out: &mut String,
+    picture: &Picture,
+    place: Place,
+    rows: &[usize],
+) -> Result<(), AllocError> {
     let name = Node(place);
     write!(out, "  \"{name}\" [label=\"")?;
-    for look in looks {
-        push_row(out, look)?;
+    push_rows(out, picture.looks, rows)?;
+    let offences = offences_of(alloc, picture, place)?;
+    if offences.is_empty() {
+        return out.push_str("\"];\n");
     }
-    out.push_str("\"];\n")
-}
-
-/// Adds a frame round the boxes of places at one address.
-fn push_frame(out: &mut String, address: u32, looks: &[Look]) -> Result<(), AllocError> {
-    let address = Address(address);
-    write!(out, "  subgraph \"cluster_{address}\" {{\n")?;
-    for look in looks {
-        push_box(out, look.place(), slice::from_ref(look))?;
+    for (offence, cause) in &offences {
+        push_reason(alloc, out, *offence, *cause)?;
     }
-    out.push_str("  }\n")
-}
-
-/// Whether a place has the same address as the first of those behind it.
-fn is_shared(look: &Look, behind: &[Look]) -> bool {
-    match behind {
-        [next, ..] => are_beside(look, next),
-        [] => false,
-    }
-}
-
-/// Adds the nodes of places that stand together.
-fn push_nodes(out: &mut String, part: &[Look]) -> Result<(), AllocError> {
-    let Some((first, behind)) = part.split_first() else {
-        return Ok(());
+    let width = if is_named(picture.verdict, place) {
+        2
+    } else {
+        1
     };
-    if is_shared(first, behind) {
-        return push_frame(out, first.place().address, part);
-    }
-    push_box(out, first.place(), part)
+    write!(
+        out,
+        "\", color=\"#B00000\", style=filled, fillcolor=\"#FFE9E9\", penwidth={width}];\n"
+    )
 }
 
-/// Adds the line that marks each place that offends.
-fn push_marks(out: &mut String, folds: &Folds, looks: &[Look]) -> Result<(), AllocError> {
-    for look in looks {
+/// Adds the boxes, and a frame round those of one address.
+fn push_boxes(
+    alloc: Global,
+    out: &mut String,
+    picture: &Picture,
+    layout: &Layout,
+) -> Result<(), AllocError> {
+    let looks = picture.looks;
+    let mut frame: Option<u32> = None;
+    for (at, look) in looks.iter().enumerate() {
+        if layout.head(at) != Some(at) {
+            continue;
+        }
         let place = look.place();
-        if let Some(reasons) = folds.marks.get(&place.number()) {
-            let name = Node(place);
+        if frame.is_some() && frame != Some(place.address) {
+            out.push_str("  }\n")?;
+            frame = None;
+        }
+        if frame.is_none() && layout.is_framed(at) {
+            let address = Address(place.address);
             write!(
                 out,
-                "  \"{name}\" [color=red, fontcolor=red, xlabel=\"{reasons}\"];\n"
+                "  subgraph \"cluster_{address}\" {{ label=\"\"; style=dashed; color=gray40;\n"
+            )?;
+            frame = Some(place.address);
+        }
+        let rows = layout.rows(alloc, at)?;
+        push_box(alloc, out, picture, place, &rows)?;
+    }
+    if frame.is_some() {
+        out.push_str("  }\n")?;
+    }
+    Ok(())
+}
+
+// ---- arrows
+
+/// The place whose node a row's box has.
+fn node_of(looks: &[Look], layout: &Layout, at: usize) -> Option<Node> {
+    let look = looks.get(layout.head(at)?)?;
+    Some(Node(look.place()))
+}
+
+/// Adds an arrow from a box to one that it doesn't lead to straight. One by status modifier is
+/// dashed, and keeps its boxes in one column.
+fn push_arrow(
+    out: &mut String,
+    picture: &Picture,
+    layout: &Layout,
+    from: Node,
+    arrow: Option<Arrow>,
+    is_found: bool,
+) -> Result<(), AllocError> {
+    let Some(arrow) = arrow else {
+        return Ok(());
+    };
+    if layout.head(arrow.to) != Some(arrow.to) {
+        return Ok(());
+    }
+    let Some(to) = node_of(picture.looks, layout, arrow.to) else {
+        return Ok(());
+    };
+    write!(out, "  \"{from}\" -> \"{to}\"")?;
+    let style = if is_found {
+        "style=dashed, weight=8"
+    } else {
+        ""
+    };
+    let is_labelled = layout.boxes <= MOST_LABELLED;
+    let found = if is_found && is_labelled { "found" } else { "" };
+    match arrow.through {
+        Some(transfer) if is_labelled => {
+            let transfer = Address(transfer);
+            let comma = if is_found { ", " } else { "" };
+            write!(
+                out,
+                " [{style}{comma}label=\" {found}{comma}TIC {transfer} \"];\n"
+            )
+        }
+        _ if is_found => write!(out, " [{style}, label=\" {found} \"];\n"),
+        _ => out.push_str(";\n"),
+    }
+}
+
+/// The address of what a place stores over, if it is a CCW or an argument.
+fn changed_at(cause: Evidence) -> Option<u32> {
+    match cause {
+        Evidence::ChangesCcw { ccw, .. } => Some(ccw),
+        Evidence::ChangesArgument { taker, .. } => Some(taker),
+        _ => None,
+    }
+}
+
+/// Adds the red arrows from the box of a place to those of what it stores over, one to each.
+fn push_changes(
+    alloc: Global,
+    out: &mut String,
+    picture: &Picture,
+    layout: &Layout,
+    place: Place,
+) -> Result<(), AllocError> {
+    let from = Node(place);
+    let mut last: Option<usize> = None;
+    for (_, cause) in &offences_of(alloc, picture, place)? {
+        let Some(address) = changed_at(*cause) else {
+            continue;
+        };
+        let head = first_row(picture.looks, address).and_then(|at| layout.head(at));
+        if head == last {
+            continue;
+        }
+        last = head;
+        if let Some(to) = head.and_then(|at| node_of(picture.looks, layout, at)) {
+            write!(
+                out,
+                "  \"{from}\" -> \"{to}\" [color=\"#B00000\", fontcolor=\"#B00000\", \
+                 penwidth=1.5, constraint=false, label=\" stores over \"];\n"
             )?;
         }
     }
     Ok(())
 }
 
-/// Adds the line of an edge, if there is a place to which it leads.
-fn push_edge(
-    out: &mut String,
-    style: &str,
-    from: Place,
-    to: Option<Place>,
-) -> Result<(), AllocError> {
-    let Some(to) = to else {
-        return Ok(());
-    };
-    let from = Node(from);
-    let to = Node(to);
-    write!(out, "  \"{from}\" -> \"{to}\"{style};\n")
+/// Adds the arrow to the end of the program, from a box at whose last row it ends.
+fn push_end(out: &mut String, from: Node) -> Result<(), AllocError> {
+    write!(
+        out,
+        "  \"end {from}\" [label=end, shape=plaintext, fontname=\"sans-serif\", margin=0.03];\n  \
+         \"{from}\" -> \"end {from}\";\n"
+    )
 }
 
-/// Adds the lines of the edges from the node of a place, where the program goes on from what was
-/// seen.
-fn push_edges_from(out: &mut String, place: Place, look: &Look) -> Result<(), AllocError> {
-    let style = match look.ccw() {
-        Some(ccw) if ccw.is_transfer() => " [style=dotted]",
-        _ => "",
-    };
-    let onward = look.next();
-    push_edge(out, style, place, onward.next)?;
-    push_edge(out, " [style=dashed]", place, onward.skip)
-}
-
-/// Adds the lines of the edges from each of some places.
-fn push_edges_of_each(out: &mut String, looks: &[Look]) -> Result<(), AllocError> {
-    for look in looks {
-        push_edges_from(out, look.place(), look)?;
-    }
-    Ok(())
-}
-
-/// Adds the lines of the edges from places that stand together.
-fn push_edges(out: &mut String, part: &[Look]) -> Result<(), AllocError> {
-    let Some((first, behind)) = part.split_first() else {
-        return Ok(());
-    };
-    if is_shared(first, behind) {
-        return push_edges_of_each(out, part);
-    }
-    push_edges_from(out, first.place(), behind.last().unwrap_or(first))
-}
-
-/// Adds what a layer has of all places.
-fn push_layer(
-    out: &mut String,
-    layer: Layer,
-    folds: &Folds,
-    looks: &[Look],
-) -> Result<(), AllocError> {
-    let mut rest = looks;
-    while !rest.is_empty() {
-        let (part, behind) = rest.split_at(count_together(folds, rest));
-        match layer {
-            Layer::Nodes => push_nodes(out, part)?,
-            Layer::Edges => push_edges(out, part)?,
-        }
-        rest = behind;
-    }
-    Ok(())
-}
-
-/// The picture of a program that was judged, in Graphviz's language: a node for each place that it
-/// can come to, a red mark for each of these that offends, with its reasons below each other, and
-/// an edge to each place where the program goes on, dashed where status modifier skips a CCW and
-/// dotted where a transfer in channel leads. An error means that an allocation failed.
-///
-/// Neighbours with the same address stand in one frame. Neighbours of which the program goes on
-/// from each to the next alone, and comes to the next from this one alone, stand in one node, the
-/// first's, but for places that offend and those in a frame.
-///
-/// The places and the offences are taken as they are handed in, whether or not they are the job's;
-/// offences are marked where a node is theirs.
-pub fn graph_text(
+/// Adds the arrows from each row.
+fn push_arrows(
     alloc: Global,
-    first: Place,
-    looks: &[Look],
-    offences: &[Offence],
-) -> Result<String, AllocError> {
-    let folds = folds_of(alloc, first, looks, offences)?;
-    let mut out = String::from_str(alloc, HEADING)?;
-    push_layer(&mut out, Layer::Nodes, &folds, looks)?;
-    push_marks(&mut out, &folds, looks)?;
-    push_layer(&mut out, Layer::Edges, &folds, looks)?;
+    out: &mut String,
+    picture: &Picture,
+    layout: &Layout,
+) -> Result<(), AllocError> {
+    let looks = picture.looks;
+    for at in 0..looks.len() {
+        let (Some(row), Some(from)) = (row_at(looks, at), node_of(looks, layout, at)) else {
+            continue;
+        };
+        push_arrow(out, picture, layout, from, row.next, false)?;
+        push_arrow(out, picture, layout, from, row.skip, row.until.is_none())?;
+        if row.next.is_none() && row.skip.is_none() && row.look.fault().is_none() {
+            push_end(out, from)?;
+        }
+        push_changes(alloc, out, picture, layout, row.look.place())?;
+    }
+    Ok(())
+}
+
+/// The picture of a program that was judged, in Graphviz's language. An error means that an
+/// allocation failed.
+///
+/// CCWs stand in boxes, a row each; those behind each other to which no other way leads share one.
+/// A transfer in channel is a label on the arrow through it. A place that offends is alone in a pink
+/// box, with its reasons and their causes.
+pub fn graph_text(alloc: Global, picture: &Picture) -> Result<String, AllocError> {
+    let first = first_place(picture.job);
+    let layout = layout_of(alloc, first, picture.looks, picture.offences)?;
+    let mut out = String::new(alloc);
+    push_title(alloc, &mut out, picture)?;
+    out.push_str(STYLES)?;
+    push_boxes(alloc, &mut out, picture, &layout)?;
+    let first = Node(first);
+    write!(out, "  start -> \"{first}\";\n")?;
+    push_arrows(alloc, &mut out, picture, &layout)?;
     out.push_str("}\n")?;
     Ok(out)
 }

@@ -11,9 +11,10 @@ ghost use Rattle.chan_run.specs.Output.{text_in};
 
 use ccw_core::{Watched, write_out};
 use chan_args::Action;
-use chan_deck::{ListError, explanation_text, graph_text, needs_text, verdict_text, write_seen};
+use chan_deck::{ListError, Picture, explanation_text, graph_text, needs_text, verdict_text};
+use chan_deck::write_seen;
 use chan_needs::needs_from;
-use chan_walk::{Evidence, Job, Look, Survey, Verdict, first_place};
+use chan_walk::{Evidence, Job, Look, Survey, Verdict};
 use chan_why::{causes_from, witness_from};
 use std::alloc::{AllocError, Global};
 use std::io::Write;
@@ -77,17 +78,31 @@ pub(crate) fn output_of(
             Ok(Output::Text(text_after(alloc, name, why)?))
         }
         Action::Needs => Ok(Output::Text(needed_text(alloc, job, &survey)?)),
-        Action::Graph => Ok(Output::Text(picture_of(alloc, job, survey)?)),
+        Action::Graph => Ok(Output::Text(picture_of(alloc, name, job, survey)?)),
     }
 }
 
 /// The picture of a job that was surveyed. Tests hold its text.
-fn picture_of(alloc: Global, job: &Job, survey: Survey) -> Result<Vec<u8>, AllocError>
+fn picture_of(
+    alloc: Global,
+    name: Option<&str>,
+    job: &Job,
+    survey: Survey,
+) -> Result<Vec<u8>, AllocError>
     requires { IsSurvey job.now survey }
 {
+    let causes = causes_from(alloc, &survey)?;
+    let verdict = survey.verdict();
     let (looks, offences) = survey.into_parts();
-    let picture = graph_text(alloc, first_place(job), &looks, &offences)?;
-    Ok(picture.into_bytes())
+    let picture = Picture {
+        name,
+        job,
+        verdict,
+        looks: &looks,
+        offences: &offences,
+        causes: &causes,
+    };
+    Ok(graph_text(alloc, &picture)?.into_bytes())
 }
 
 /// The explanation of the verdict on a job that was surveyed, with the causes of all offences, if

@@ -1,0 +1,268 @@
+//! How a picture is laid out: which places have a row in it, which rows share a box, and where
+//! arrows lead. It helps a person, so it isn't proved; tests compare it with the listing.
+
+use chan_walk::{Look, Offence, Place};
+use std::alloc::{AllocError, Global};
+
+/// An arrow from one row to another. Rows have the index of their look.
+#[derive(Clone, Copy)]
+pub(crate) struct Arrow {
+    pub(crate) to: usize,
+    /// The address of the transfer in channel through which it leads.
+    pub(crate) through: Option<u32>,
+}
+
+/// A row of a picture, with the arrows from it.
+#[derive(Clone, Copy)]
+pub(crate) struct Row<'a> {
+    pub(crate) look: &'a Look,
+    /// The address of the transfer that repeats this search until it finds; then it has no arrow
+    /// for that.
+    pub(crate) until: Option<u32>,
+    pub(crate) next: Option<Arrow>,
+    /// The arrow that status modifier takes.
+    pub(crate) skip: Option<Arrow>,
+}
+
+/// Whether a transfer in channel stands at a place.
+fn is_transfer(look: &Look) -> bool {
+    match look.ccw() {
+        Some(ccw) => ccw.is_transfer(),
+        None => false,
+    }
+}
+
+/// Whether a place is drawn as a label on arrows alone: a transfer without a fault is.
+fn is_passage(look: &Look) -> bool {
+    is_transfer(look) && look.fault().is_none()
+}
+
+/// Whether two places differ only in whether a transfer leads there, which matters for a transfer
+/// alone.
+fn are_twins(one: &Look, other: &Look) -> bool {
+    let (place, twin) = (one.place(), other.place());
+    place.address == twin.address && place.entered == twin.entered && !is_transfer(one)
+}
+
+/// The first of a place and its twin.
+fn first_twin(looks: &[Look], at: usize) -> usize {
+    let before = at.saturating_sub(1);
+    match (looks.get(before), looks.get(at)) {
+        (Some(one), Some(other)) if are_twins(one, other) => before,
+        _ => at,
+    }
+}
+
+/// The arrow to a place, if it was looked at.
+fn arrow_to(looks: &[Look], place: Option<Place>) -> Option<Arrow> {
+    let at = index_of(looks, place?)?;
+    let look = looks.get(at)?;
+    if !is_passage(look) {
+        return Some(Arrow {
+            to: first_twin(looks, at),
+            through: None,
+        });
+    }
+    let target = index_of(looks, look.next().next?)?;
+    Some(Arrow {
+        to: first_twin(looks, target),
+        through: Some(look.place().address),
+    })
+}
+
+/// The index of a place among those looked at, which are in order.
+fn index_of(looks: &[Look], place: Place) -> Option<usize> {
+    let number = place.number();
+    let at = looks.partition_point(|look| look.place().number() < number);
+    match looks.get(at) {
+        Some(look) if look.place() == place => Some(at),
+        _ => None,
+    }
+}
+
+/// The row of a place, if it has one of its own.
+pub(crate) fn row_at(looks: &[Look], at: usize) -> Option<Row<'_>> {
+    let look = looks.get(at)?;
+    if is_passage(look) || first_twin(looks, at) != at {
+        return None;
+    }
+    let onward = look.next();
+    let next = arrow_to(looks, onward.next);
+    let skip = arrow_to(looks, onward.skip);
+    let until = match (next, skip) {
+        (Some(next), Some(_)) if next.to == at => next.through,
+        _ => None,
+    };
+    let next = if until.is_some() { None } else { next };
+    Some(Row {
+        look,
+        until,
+        next,
+        skip,
+    })
+}
+
+/// The first row at an address.
+pub(crate) fn first_row(looks: &[Look], address: u32) -> Option<usize> {
+    let first = looks.partition_point(|look| look.place().address < address);
+    for at in first..looks.len() {
+        if looks.get(at)?.place().address != address {
+            return None;
+        }
+        if row_at(looks, at).is_some() {
+            return Some(at);
+        }
+    }
+    None
+}
+
+/// The indices of the offences at an address begin here; they are in order of addresses.
+pub(crate) fn first_offence(offences: &[Offence], address: u32) -> usize {
+    offences.partition_point(|offence| offence.place.address < address)
+}
+
+/// Whether a place offends.
+fn offends(offences: &[Offence], place: Place) -> bool {
+    for at in first_offence(offences, place.address)..offences.len() {
+        match offences.get(at) {
+            Some(offence) if offence.place == place => return true,
+            Some(offence) if offence.place.address == place.address => (),
+            _ => return false,
+        }
+    }
+    false
+}
+
+/// Which rows stand in which box.
+#[derive(Drop)]
+pub(crate) struct Layout {
+    /// For each place with a row the row that begins its box.
+    heads: Vec<Option<usize>>,
+    /// For each place whether another row has its address, so that they are in one frame.
+    framed: Vec<bool>,
+    /// How many boxes there are.
+    pub(crate) boxes: usize,
+}
+
+impl Layout {
+    /// The row that begins the box of a row.
+    pub(crate) fn head(&self, at: usize) -> Option<usize> {
+        self.heads.get(at).copied().flatten()
+    }
+
+    /// Whether another row has the address of this one.
+    pub(crate) fn is_framed(&self, at: usize) -> bool {
+        self.framed.get(at).copied().unwrap_or(false)
+    }
+
+    /// The rows of the box that begins with this one.
+    pub(crate) fn rows(&self, alloc: Global, at: usize) -> Result<Vec<usize>, AllocError> {
+        let mut rows = Vec::new(alloc);
+        for row in at..self.heads.len() {
+            match self.head(row) {
+                Some(head) if head == at => rows.push(row)?,
+                Some(_) => return Ok(rows),
+                None => (),
+            }
+        }
+        Ok(rows)
+    }
+}
+
+/// Counts an arrow for the row to which it leads.
+fn count(ways: &mut Vec<u32>, arrow: Option<Arrow>) {
+    if let Some(arrow) = arrow {
+        if arrow.to < ways.len() {
+            ways[arrow.to] = ways[arrow.to].saturating_add(1);
+        }
+    }
+}
+
+/// How many arrows lead to each row; one more leads to that of the first place.
+fn ways_in(alloc: Global, first: Place, looks: &[Look]) -> Result<Vec<u32>, AllocError> {
+    let mut ways = Vec::new(alloc);
+    for _ in looks {
+        ways.push(0)?;
+    }
+    count(&mut ways, arrow_to(looks, Some(first)));
+    for at in 0..looks.len() {
+        if let Some(row) = row_at(looks, at) {
+            count(&mut ways, row.next);
+            count(&mut ways, row.skip);
+        }
+    }
+    Ok(ways)
+}
+
+/// For each place whether another row has its address.
+fn framed_rows(alloc: Global, looks: &[Look]) -> Result<Vec<bool>, AllocError> {
+    let mut framed = Vec::new(alloc);
+    let mut last: Option<(usize, u32)> = None;
+    for at in 0..looks.len() {
+        framed.push(false)?;
+        let Some(row) = row_at(looks, at) else {
+            continue;
+        };
+        let address = row.look.place().address;
+        if let Some((before, other)) = last {
+            if other == address && before < framed.len() && at < framed.len() {
+                framed[before] = true;
+                framed[at] = true;
+            }
+        }
+        last = Some((at, address));
+    }
+    Ok(framed)
+}
+
+/// Whether a row goes on to this one alone, and directly.
+fn leads_straight(row: &Row, to: usize) -> bool {
+    match (row.next, row.skip) {
+        (Some(arrow), None) | (None, Some(arrow)) => arrow.to == to && arrow.through.is_none(),
+        _ => false,
+    }
+}
+
+/// Lays out a program that begins at `first`. Two rows behind each other share a box if the first
+/// leads to the second alone, nothing else leads there, neither offends, and no other row has the
+/// address of either.
+pub(crate) fn layout_of(
+    alloc: Global,
+    first: Place,
+    looks: &[Look],
+    offences: &[Offence],
+) -> Result<Layout, AllocError> {
+    let ways = ways_in(alloc, first, looks)?;
+    let framed = framed_rows(alloc, looks)?;
+    let is_apart = |at: usize, row: &Row| {
+        framed.get(at).copied().unwrap_or(true) || offends(offences, row.look.place())
+    };
+    let mut heads: Vec<Option<usize>> = Vec::new(alloc);
+    let mut boxes: usize = 0;
+    // The row before, if more may join it, and the head of its box.
+    let mut open: Option<(Row, usize)> = None;
+    for at in 0..looks.len() {
+        let Some(row) = row_at(looks, at) else {
+            heads.push(None)?;
+            continue;
+        };
+        let apart = is_apart(at, &row);
+        let head = match open {
+            Some((before, head))
+                if !apart && leads_straight(&before, at) && ways.get(at).copied() == Some(1) => {
+                head
+            }
+            _ => {
+                boxes = boxes.saturating_add(1);
+                at
+            }
+        };
+        heads.push(Some(head))?;
+        open = if apart { None } else { Some((row, head)) };
+    }
+    Ok(Layout {
+        heads,
+        framed,
+        boxes,
+    })
+}
