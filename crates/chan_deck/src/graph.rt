@@ -1,7 +1,7 @@
 //! The picture of a program, in Graphviz's language. Tests hold it; nothing is proved of its text.
 
 use crate::explanation::push_cause;
-use crate::layout::{Arrow, Layout, Row, first_offence, first_row, layout_of, row_at};
+use crate::layout::{Arrow, Layout, Row, arrow_to, first_offence, first_row, layout_of, row_at};
 use crate::listing::{name_of, transfer_word, way_word};
 use crate::texts::{Address, Digits, Range, Size, verdict_text};
 use chan_walk::{
@@ -399,6 +399,20 @@ fn push_changes(
     Ok(())
 }
 
+/// Adds the arrow to the box of the first place.
+fn push_start(
+    out: &mut String,
+    picture: &Picture,
+    layout: &Layout,
+    first: Place,
+) -> Result<(), AllocError> {
+    let arrow = arrow_to(picture.looks, Some(first));
+    match arrow.and_then(|arrow| node_of(picture.looks, layout, arrow.to)) {
+        Some(first) => write!(out, "  start -> \"{first}\";\n"),
+        None => Ok(()),
+    }
+}
+
 /// Adds the arrow to the end of the program, from a box at whose last row it ends.
 fn push_end(out: &mut String, from: Node) -> Result<(), AllocError> {
     write!(
@@ -443,8 +457,7 @@ pub fn graph_text(alloc: Global, picture: &Picture) -> Result<String, AllocError
     push_title(alloc, &mut out, picture)?;
     out.push_str(STYLES)?;
     push_boxes(alloc, &mut out, picture, &layout)?;
-    let first = Node(first);
-    write!(out, "  start -> \"{first}\";\n")?;
+    push_start(&mut out, picture, &layout, first)?;
     push_arrows(alloc, &mut out, picture, &layout)?;
     out.push_str("}\n")?;
     Ok(out)

@@ -54,7 +54,7 @@ fn first_twin(looks: &[Look], at: usize) -> usize {
 }
 
 /// The arrow to a place, if it was looked at.
-fn arrow_to(looks: &[Look], place: Option<Place>) -> Option<Arrow> {
+pub(crate) fn arrow_to(looks: &[Look], place: Option<Place>) -> Option<Arrow> {
     let at = index_of(looks, place?)?;
     let look = looks.get(at)?;
     if !is_passage(look) {
