@@ -15,7 +15,7 @@ LONG_NAME = "x" * 5000
 
 # two No Operations, chained, and then no CCW: a program of 24 bytes
 PROGRAM = bytes.fromhex("0300000040000001" "0300000000000001" "0000000000000000")
-PROGRAMS, REFUSED = 1000, 400
+PROGRAMS, REFUSED = 1000, 2000
 
 
 def lines_of(program, command, names, processes, count):
