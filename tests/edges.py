@@ -69,13 +69,49 @@ def check_places(checks, program, deck):
     ]:
         deck.write_text(text)
         checks.expect(name, expected, run(program, given=deck))
+    may_rise = "; a deck of version 2 may raise it to 65536 by its line limit"
     for limit, how in [
-        (2, "; a deck of version 2 may raise it to 65536 by its line limit"),
+        (2, may_rise),
+        (5000, may_rise),
+        (65535, may_rise),
         (65536, ", and none is higher"),
     ]:
         deck.write_text(chain_of(limit + 1, limit))
         said = f"chanv: too many places\nthe limit is {limit}{how}\n"
         checks.expect(f"a limit of {limit}", Ran(2, "", said), run(program, "why", given=deck))
+
+
+# a No Operation that chains and interrupts, and one with both chaining flags on; they lie where the
+# machine stores the CSW, and the areas beside them are lent in vain and reach past storage
+EACH_NOTE = """\
+chanv deck 1
+device 2314
+mask 00
+start 000040
+extent 010 019
+fetch 000FF0 000020
+store 000FF8 000010
+storage 0001000
+put 000040 0300000048000001
+put 000048 03000000C0000001
+end
+"""
+
+# what docs/WHY.md says of it, in its order
+NOTES = """\
+note: fetch 000FF0 000020 reaches past storage
+note: store 000FF8 000010 reaches past storage
+note: fetch 000FF0 000020 is used by no reachable CCW
+note: store 000FF8 000010 is used by no reachable CCW
+note: keep 000040 000010 is where the machine stores PSWs, the CSW or the timer
+note: 000040 interrupts: the processor may change any byte that chanv needs doesn't list as keep
+note: 000048 ends the program: chain data counts, and it moves no data
+"""
+
+
+def check_order_of_notes(checks, program):
+    ran = run(program, "why", given=EACH_NOTE.encode())
+    checks.expect("a note of each kind", Ran(0, "yes\n", NOTES), ran)
 
 
 def check_notes(checks, program, deck):
@@ -163,6 +199,7 @@ def check(checks, built):
         deck = Path(room) / "deck"
         check_lengths(checks, program, deck)
         check_places(checks, program, deck)
+        check_order_of_notes(checks, program)
         check_notes(checks, program, deck)
         check_readers(checks, program, deck)
     check_words(checks, program)

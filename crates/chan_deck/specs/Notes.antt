@@ -1,6 +1,8 @@
--- Areas on which notes are given: neighbours that adjoin count as one.
-use Rattle.std.specs.Prelude.{◌+◌, nat_eq, nat_lt, Bool, ◌&&◌, if◌then◌else◌, List, [], ◌∷◌}
+-- The notes as text: areas that adjoin share one, and without notes there is no text.
+use Rattle.std.specs.Prelude.{◌≡◌, ◌<◌, ◌+◌, nat_eq, nat_lt, ℕ, Bool, ◌&&◌, if◌then◌else◌}
+use Rattle.std.specs.Prelude.{List, [], ◌∷◌, length}
 use Rattle.ccw_core.specs.declared.areas.Area.{Area}
+use Rattle.chan_why.specs.declared.notes.Notes.{Notes}
 
 -- an area begins where another ends, and both together have a length that an area may have
 abbrev pub adjoin : Area → Area → Bool
@@ -20,3 +22,18 @@ joined_from a (b ∷ bs) =
 abbrev pub with_neighbours_joined : List Area → List Area
 with_neighbours_joined [] = []
 with_neighbours_joined (a ∷ rest) = joined_from a rest
+
+-- a text to which so many notes were added: without any it is as it was, and else longer
+pub record GrewBy (count : ℕ) (old new : List ℕ) : Type 0 where
+  pub none : count ≡ 0 → new ≡ old
+  pub some : 0 < count → length old < length new
+
+-- there is no note of any kind
+pub record HasNoNote (n : Notes) : Type 0 where
+  pub fetch_past_storage : n.fetch_past_storage.items ≡ []
+  pub store_past_storage : n.store_past_storage.items ≡ []
+  pub unused_fetch : n.unused_fetch.items ≡ []
+  pub unused_store : n.unused_store.items ≡ []
+  pub machine_stores : n.machine_stores.items ≡ []
+  pub interrupting : n.interrupting.items ≡ []
+  pub ending : n.ending.items ≡ []

@@ -1,7 +1,7 @@
 //! The hint for the line at which a text is refused. The place of the line and the forms that may
 //! come there are proved; tests hold the wording.
 
-ghost use Rattle.std.specs.Prelude.{◌≡◌, ◌++◌, ◌∷◌, [], List, Some};
+ghost use Rattle.std.specs.Prelude.{◌≡◌, ◌≢◌, ◌++◌, ◌∷◌, [], List, Some, IfOk};
 ghost use Rattle.chan_deck.specs.Hint.{AreBefore, IsBehind, IsSpot, storage_said};
 ghost use Rattle.chan_deck.specs.Item.{Item as Said, said_by};
 ghost use Rattle.chan_deck.specs.Refused.{is_second};
@@ -277,12 +277,9 @@ fn push_expected(out: &mut String, spot: &Spot<'_>, cause: Cause) -> Result<(), 
 /// of the one whose keyword the line begins with; if the line begins like another form, it says
 /// that this form comes earlier or later. If the first bytes aren't text, it names the command that
 /// makes a deck.
-pub fn hint_text(
-    alloc: Global,
-    text: &[u8],
-    line: u64,
-    cause: Cause,
-) -> Result<Vec<u8>, AllocError> {
+pub fn hint_text(alloc: Global, text: &[u8], line: u64, cause: Cause) -> Result<Vec<u8>, AllocError>
+    ensures { IfOk result (λ text. text.items ≢ []) }
+{
     let spot = spot_behind(text, line.saturating_sub(1));
     let mut out = String::from_str(alloc, "found ")?;
     push_found(&mut out, &spot)?;

@@ -1,7 +1,9 @@
-//! The notes on a job as text. It is proved which areas share a note; tests hold the wording.
+//! The notes on a job as text. It is proved which areas share a note, and when there is no text;
+//! tests hold the wording.
 
-ghost use Rattle.std.specs.Prelude.{◌≡◌, IfOk};
+ghost use Rattle.std.specs.Prelude.{◌≡◌, ◌≤◌, ◌↔◌, [], length, string_bytes, IfOk, OnOk};
 ghost use Rattle.chan_deck.specs.Notes as adjoining;
+ghost use Rattle.chan_deck.specs.Notes.{GrewBy, HasNoNote};
 
 use crate::texts::Address;
 use ccw_core::Area;
@@ -58,7 +60,10 @@ fn join_neighbours(alloc: Global, areas: &[Area]) -> Result<Vec<Area>, AllocErro
 }
 
 /// Adds the line that counts the notes of a kind beyond the first `MOST`, if there are any.
-fn push_more(out: &mut String, count: usize) -> Result<(), AllocError> {
+fn push_more(out: &mut String, count: usize) -> Result<(), AllocError>
+    ensures { OnOk result ((count ≤ 100 → string_bytes out.new ≡ string_bytes out.old)
+        × (length (string_bytes out.old) ≤ length (string_bytes out.new))) }
+{
     if count <= MOST {
         return Ok(());
     }
@@ -73,9 +78,11 @@ fn push_areas(
     word: &str,
     what: &str,
     areas: &[Area],
-) -> Result<(), AllocError> {
+) -> Result<(), AllocError>
+    ensures { OnOk result (GrewBy (length areas.now) (string_bytes out.old) (string_bytes out.new)) }
+{
     let runs = join_neighbours(alloc, areas)?;
-    for run in runs.iter().take(MOST) {
+    for run in &runs[..runs.len().min(MOST)] {
         let start = Address(run.start);
         let len = Address(run.len);
         write!(out, "note: {word} {start} {len}{what}\n")?;
@@ -84,8 +91,11 @@ fn push_areas(
 }
 
 /// Adds the notes of a kind on the CCWs at some addresses.
-fn push_ccws(out: &mut String, what: &str, addresses: &[u32]) -> Result<(), AllocError> {
-    for address in addresses.iter().take(MOST) {
+fn push_ccws(out: &mut String, what: &str, addresses: &[u32]) -> Result<(), AllocError>
+    ensures { OnOk result
+        (GrewBy (length addresses.now) (string_bytes out.old) (string_bytes out.new)) }
+{
+    for address in &addresses[..addresses.len().min(MOST)] {
         let address = Address(*address);
         write!(out, "note: {address}{what}\n")?;
     }
@@ -100,8 +110,11 @@ fn push_ccws(out: &mut String, what: &str, addresses: &[u32]) -> Result<(), Allo
 ///   chaining flags are on.
 ///
 /// Each kind has a line for each of its first hundred notes, and one line that counts the others.
-/// Areas that adjoin share a note. An error means that an allocation failed.
-pub fn notes_text(alloc: Global, notes: &Notes) -> Result<String, AllocError> {
+/// Areas that adjoin share a note. Without any note the text is empty. An error means that an
+/// allocation failed.
+pub fn notes_text(alloc: Global, notes: &Notes) -> Result<String, AllocError>
+    ensures { IfOk result (λ text. (string_bytes text ≡ []) ↔ HasNoNote notes.now) }
+{
     let mut text = String::new(alloc);
     push_areas(
         alloc,

@@ -5,22 +5,21 @@ use Rattle.chan_deck.specs.Parts.{storage_with}
 use Rattle.chan_walk.specs.declared.job.Job.{Job}
 use Rattle.chan_walk.specs.OpenJob.{open_job}
 use Rattle.chan_find.specs.Programs.{AreProgramStarts, IsJobOver}
-use Rattle.chan_run.specs.Find.{AreLinesAt, AreStartsInImage, IsLineAt}
+use Rattle.chan_run.specs.Find.{AreLines, AreStartsInImage}
 use Rattle.chan_run.specs.declared.image_options.ImageOptions.{ImageOptions}
 
 -- a line more
-pub lines_more : (o : ImageOptions) (image : List ℕ) (starts : List ℕ) (i d : ℕ) (text line : List ℕ)
-    → i < length starts → AreLinesAt o image (take i starts) text
-    → IsLineAt o image (slice_index_or starts i d) line
-    → AreLinesAt o image (take (suc i) starts) (text ++ line)
-lines_more o image [] i d text line lt before is = absurd (omega (arith, lt))
-lines_more o image (a ∷ starts) zero d text line lt before is =
+pub lines_more : {X : Type 0} (IsLine : X → List ℕ → Type 0) (xs : List X) (i : ℕ) (d : X) (text line : List ℕ)
+    → i < length xs → AreLines IsLine (take i xs) text → IsLine (slice_index_or xs i d) line
+    → AreLines IsLine (take (suc i) xs) (text ++ line)
+lines_more IsLine [] i d text line lt before is = absurd (omega (arith, lt))
+lines_more IsLine (x ∷ xs) zero d text line lt before is =
     (line, [], is, refl, rw before (sym (append-nil line)))
-lines_more o image (a ∷ starts) (suc i) d text line lt (first, rest, at, are, joins) is = (
+lines_more IsLine (x ∷ xs) (suc i) d text line lt (first, rest, at, are, joins) is = (
   first,
   rest ++ line,
   at,
-  lines_more o image starts i d rest line (omega (arith, lt)) are is,
+  lines_more IsLine xs i d rest line (omega (arith, lt)) are is,
   ap (λ t. t ++ line) joins ∙ append_assoc first rest line,
 )
 

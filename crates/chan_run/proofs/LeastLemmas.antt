@@ -25,7 +25,6 @@ use Rattle.chan_deck.specs.Needs.{halves, in_six_digits, six_digit_parts}
 use Rattle.chan_run.specs.Image.{IsAskedDeck, IsOfOpenJob}
 use Rattle.chan_run.specs.Image.{IsProgramIn, deck_of, extents_for, least_deck}
 use Rattle.chan_run.specs.Output.{IsDeckJob}
-use Rattle.chan_run.specs.declared.failure.Failure.TheVariants as failures
 use Rattle.chan_run.specs.declared.image_options.ImageOptions.{ImageOptions}
 
 -- ---- six digits

@@ -7,3 +7,4 @@ pub mod MeaningLemmas
 mod WordLemmas
 mod RoomLemmas
 mod FoundLemmas
+pub mod Saying

@@ -1,19 +1,25 @@
 -- What one input comes to: its answer on one writer, and what is said of it on another.
-use Rattle.std.specs.Prelude.{◌≡◌, ◌⊎◌, ◌++◌, ℕ, Bool, false, List, [], Option, Result}
+use Rattle.std.specs.Prelude.{◌≡◌, ◌≢◌, ◌⊎◌, ◌↔◌, ◌++◌, ℕ, Bool, false, true, List, [], Option}
+use Rattle.std.specs.Prelude.{Result, Ok, Err}
+use Rattle.std.specs.Global.{Vec}
 use Rattle.std.specs.Io.KnownBytes.{Appends}
 use Rattle.ccw_core.specs.Written.{AppendsPrefix}
+use Rattle.chan_deck.specs.Notes.{HasNoNote}
+use Rattle.chan_walk.specs.declared.job.Job.{Job}
+use Rattle.chan_why.specs.declared.notes.Notes.{Notes}
+use Rattle.chan_why.specs.Notes.{AreNotes}
 use Rattle.chan_run.specs.declared.failure.Failure.{Failure}
 use Rattle.chan_run.specs.declared.failure.Failure.TheVariants as failures
 use Rattle.chan_run.specs.declared.image_options.ImageOptions.{ImageOptions}
 use Rattle.chan_run.specs.declared.outcome.Outcome.{Outcome}
-use Rattle.chan_run.specs.declared.outcome.Outcome.TheVariants.{Failed, NoJob}
+use Rattle.chan_run.specs.declared.outcome.Outcome.TheVariants.{Done, Failed, NoJob, Refused}
 use Rattle.chan_args.specs.declared.action.Action.{Action}
 use Rattle.chan_run.specs.declared.status.RunError.{RunError}
 use Rattle.chan_run.specs.declared.status.Status.{Status}
 use Rattle.chan_run.specs.Image.{IsDeckAnswer, IsNoImage, IsWholeImage}
 use Rattle.chan_run.specs.NoJob.{IsNoJobText}
-use Rattle.chan_run.specs.Outcome.{IsEnd, line_over, ran}
-use Rattle.chan_run.specs.Output.{IsRunAnswer, IsUnwritten}
+use Rattle.chan_run.specs.Outcome.{IsEnd, has_advice, line_over, ran}
+use Rattle.chan_run.specs.Output.{Answer, IsInput, IsOfJob, IsRunAnswer, IsUnwritten}
 
 -- what an input comes to, which may have a name: it was run over, and the output was flushed
 abbrev pub IsAnswered : Option (List ℕ) → Action → Option (List ℕ) → Option (List ℕ)
@@ -22,14 +28,55 @@ IsAnswered name a old_in new_in old new untouched end =
     (came : Result Status RunError) × IsRunAnswer name a old_in new_in old new untouched came
     × IsEnd (ran came) end
 
--- what is said of an input: this line and, only if there is advice, more behind it; a prefix of
--- that if a write failed
-pub record IsSaidWithAdvice (line : List ℕ) (is_advised : Bool) (old new : Option (List ℕ))
+-- ---- what is said of an input
+
+-- the text has the notes on the job, if there are any
+abbrev pub AreNotesSaid : Job → List ℕ → Type 0
+AreNotesSaid j text = (n : Notes) × AreNotes j n × ((text ≡ []) ↔ HasNoNote n)
+
+-- the advice on a job whose answer comes to this: the limit if too many places are reachable, and
+-- the notes after a yes
+abbrev pub IsJobAdvice : Job → Outcome → List ℕ → Type 0
+IsJobAdvice j (Failed failures.TooManyPlaces) advice = advice ≢ []
+IsJobAdvice j Done advice = AreNotesSaid j advice
+IsJobAdvice j end advice = Unit {0}
+
+-- the advice on a text whose answer comes to this: the same on its job, or the hint if the text
+-- isn't a deck
+abbrev pub IsAdvice : List ℕ → Outcome → List ℕ → Type 0
+IsAdvice t (Refused line cause) advice = advice ≢ []
+IsAdvice t (Failed failures.TooManyPlaces) advice = advice ≢ []
+IsAdvice t Done advice = IsOfJob t (λ j. AreNotesSaid j advice)
+IsAdvice t end advice = Unit {0}
+
+-- what an answer comes to if its output is written
+abbrev pub came_of : Answer → Outcome
+came_of (Ok (status, output)) = ran (Ok status)
+came_of (Err e) = ran (Err e)
+
+-- this is said beside the line of an input that came to this: nothing if it has no advice, else the
+-- advice on its text, or that memory ran out for it
+abbrev pub IsSaidBeside : Option (List ℕ) → Action → Option (List ℕ) → Option (List ℕ) → Outcome
+    → List ℕ → Type 0
+IsSaidBeside name a old_in new_in end more =
+    ((has_advice a end ≡ false) × (more ≡ []))
+    ⊎ ((has_advice a end ≡ true)
+    × (((t : List ℕ) × IsInput old_in new_in t × IsAdvice t end more)
+    ⊎ (more ≡ line_over name (Failed failures.OutOfMemory))))
+
+-- what is said of advice, if it is wanted: its text, or that memory ran out for it
+abbrev pub IsAdviceSaid : {E : Type 0} → Option (List ℕ) → Bool → Result (Vec ℕ) E → List ℕ → Type 0
+IsAdviceSaid name false advice more = more ≡ []
+IsAdviceSaid name true (Ok text) more = more ≡ text.items
+IsAdviceSaid name true (Err e) more = more ≡ line_over name (Failed failures.OutOfMemory)
+
+-- a line was said, and behind it more, of which this holds; a prefix of both if a write failed
+pub record IsLineSaid (line : List ℕ) (IsMore : List ℕ → Type 0) (old new : Option (List ℕ))
     (failed : Bool) : Type 0 where
-  pub advice : List ℕ
-  pub none : is_advised ≡ false → advice ≡ []
-  pub whole : failed ≡ false → Appends old new (line ++ advice)
-  pub prefix : AppendsPrefix old new (line ++ advice)
+  pub more : List ℕ
+  pub is : IsMore more
+  pub whole : failed ≡ false → Appends old new (line ++ more)
+  pub prefix : AppendsPrefix old new (line ++ more)
 
 -- ---- an image of storage
 

@@ -35,12 +35,16 @@ pub record IsLineOn (j : Job) (line : List ℕ) : Type 0 where
 abbrev pub IsLineAt : ImageOptions → List ℕ → ℕ → List ℕ → Type 0
 IsLineAt o image a line = (j : Job) × IsProgramAt o image a j × IsLineOn j line
 
+-- the text has such a line for each of these, in order
+abbrev pub AreLines : {X : Type 0} → (X → List ℕ → Type 0) → List X → List ℕ → Type 0
+AreLines IsLine [] text = text ≡ []
+AreLines IsLine (x ∷ xs) text =
+    (line : List ℕ) × (rest : List ℕ) × IsLine x line × AreLines IsLine xs rest
+    × (text ≡ line ++ rest)
+
 -- the text has the line of the program at each of these addresses, in order
 abbrev pub AreLinesAt : ImageOptions → List ℕ → List ℕ → List ℕ → Type 0
-AreLinesAt o image [] text = text ≡ []
-AreLinesAt o image (a ∷ starts) text =
-    (line : List ℕ) × (rest : List ℕ) × IsLineAt o image a line
-    × AreLinesAt o image starts rest × (text ≡ line ++ rest)
+AreLinesAt o image = AreLines (IsLineAt o image)
 
 -- the starts of all programs in an image
 abbrev pub AreStartsInImage : ImageOptions → List ℕ → List ℕ → Type 0

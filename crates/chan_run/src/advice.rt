@@ -1,6 +1,8 @@
 //! What is said beside the answer on a text, as lines. Tests hold the texts.
 
+ghost use Rattle.std.specs.Prelude.{◌≢◌, [], IfOk};
 ghost use Rattle.chan_walk.specs.JobSurvey.{IsSurvey};
+ghost use Rattle.chan_run.specs.Answers.{AreNotesSaid};
 
 use chan_deck::notes_text;
 use chan_walk::{Job, Limit, Survey};
@@ -10,13 +12,16 @@ use std::alloc::{AllocError, Global};
 /// The notes on a job that was surveyed.
 pub(crate) fn notes_on(alloc: Global, job: &Job, survey: &Survey) -> Result<Vec<u8>, AllocError>
     requires { IsSurvey job.now survey.now }
+    ensures { IfOk result (λ text. AreNotesSaid job.now text.items) }
 {
     let notes = notes_from(alloc, job, survey)?;
     Ok(notes_text(alloc, &notes)?.into_bytes())
 }
 
 /// What the limit on places is, and how it may be raised.
-pub(crate) fn limit_text(alloc: Global, limit: Limit) -> Result<Vec<u8>, AllocError> {
+pub(crate) fn limit_text(alloc: Global, limit: Limit) -> Result<Vec<u8>, AllocError>
+    ensures { IfOk result (λ text. text.items ≢ []) }
+{
     let places = limit.get();
     let how = if places == 65_536 {
         ", and none is higher"

@@ -3,10 +3,10 @@
 ghost use Rattle.std.specs.Prelude.{◌≡◌, ◌↔◌, ◌+◌, ◌≤◌, ◌^◌, false, length, true};
 ghost use Rattle.std.specs.Io.KnownBytes.{Appends};
 ghost use Rattle.ccw_core.specs.Written.{AppendsPrefix};
-ghost use Rattle.chan_run.specs.Answers.{IsAnswered, IsExplainedImage, IsImageHandled};
-ghost use Rattle.chan_run.specs.Answers.{IsSaidWithAdvice};
+ghost use Rattle.chan_run.specs.Answers.{IsAdviceSaid, IsAnswered, IsExplainedImage};
+ghost use Rattle.chan_run.specs.Answers.{IsImageHandled, IsLineSaid, IsSaidBeside};
 ghost use Rattle.chan_run.specs.Name.{name_in};
-ghost use Rattle.chan_run.specs.Outcome.{IsDone, IsWriteFailure, has_advice, line_over};
+ghost use Rattle.chan_run.specs.Outcome.{IsDone, IsWriteFailure, line_over};
 ghost use Rattle.chan_run.specs.declared.failure.Failure.TheVariants as failures;
 ghost use Rattle.chan_run.specs.declared.outcome.Outcome.TheVariants.{Failed};
 
@@ -45,8 +45,9 @@ pub fn answer<R: Read, W: Write, E: Write>(
     ensures answer { IsAnswered (name_in name.entry) action (R.remaining from.old.device)
         (R.remaining from.new.device) (W.contents to.old.device) (W.contents to.new.device)
         (to.new ≡ to.old) result }
-    ensures told { IsSaidWithAdvice (line_over (name_in name.entry) result) (has_advice action
-        result)
+    ensures told { IsLineSaid (line_over (name_in name.entry) result)
+        (IsSaidBeside (name_in name.entry) action (R.remaining from.old.device)
+        (R.remaining from.new.device) result)
         (E.contents errors.old.device) (E.contents errors.new.device) errors.new.failed }
     ensures flushed { IsDone result → to.new.flushed ≡ true }
     ensures read { result ≡ Failed failures.ReadFailed ↔ (from.new.failed ≡ true) }
@@ -73,7 +74,8 @@ fn tell<E: Write>(
     errors: &mut Watched<E>,
 ) -> Result<(), DeviceFault>
     requires { errors.old.failed ≡ false }
-    ensures { IsSaidWithAdvice (line_over (name_in name.entry) outcome) is_advised
+    ensures { IsLineSaid (line_over (name_in name.entry) outcome)
+        (IsAdviceSaid (name_in name.entry) is_advised advice)
         (E.contents errors.old.device) (E.contents errors.new.device) errors.new.failed }
 {
     write_line(name, outcome, errors)?;

@@ -1,10 +1,9 @@
 //! What the words of verdicts, of refused decks and of failures mean.
 
-ghost use Rattle.std.specs.Prelude.{◌≡◌, ◌↔◌, ◌⊎◌, false, true};
+ghost use Rattle.std.specs.Prelude.{◌≡◌, ◌↔◌, false, true};
 ghost use Rattle.chan_run.specs.Terms.{IsWordOf};
-ghost use Rattle.chan_run.specs.Meanings.{IsUnknown, IsWordAnswer};
+ghost use Rattle.chan_run.specs.Meanings.{IsUnknown, IsWordAnswer, AreTermsListed};
 ghost use Rattle.chan_run.specs.Outcome.{IsDone, IsWriteFailure};
-ghost use Rattle.chan_run.specs.declared.outcome.Outcome.TheVariants.{Done};
 ghost use Rattle.chan_run.specs.declared.terms.Term.{Term};
 
 use crate::failure::{Failure, row};
@@ -231,10 +230,19 @@ fn unknown(alloc: Global, word: &str) -> Outcome
 /// fails, it has written a prefix of the lines.
 pub fn list_words<W: Write>(to: &mut Watched<W>) -> Outcome
     requires { to.old.failed ≡ false }
+    ensures answer { AreTermsListed TERMS (W.contents to.old.device) (W.contents to.new.device) result }
     ensures write { IsWriteFailure result ↔ (to.new.failed ≡ true) }
-    ensures known { (result ≡ Done) ⊎ IsWriteFailure result }
 {
-    let terms: &[Term] = &TERMS;
+    list_terms(&TERMS, to)
+}
+
+/// Writes the lines of some terms.
+fn list_terms<W: Write>(terms: &[Term], to: &mut Watched<W>) -> Outcome
+    requires { to.old.failed ≡ false }
+    ensures answer { AreTermsListed terms.now (W.contents to.old.device) (W.contents to.new.device)
+        result }
+    ensures write { IsWriteFailure result ↔ (to.new.failed ≡ true) }
+{
     for term in terms {
         let line = [term_word(*term), ": ", brief(*term), "\n"];
         if write_texts(&line, to).is_err() {

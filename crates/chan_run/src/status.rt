@@ -1,6 +1,8 @@
 //! Running over a deck: from the reader's bytes to the writer's.
 
 ghost use Rattle.std.specs.Prelude.{◌≡◌, ◌↔◌, false, true, Err, IfErr, IfOk, IsErrOf, None};
+ghost use Rattle.chan_args.specs.Actions.{is_why};
+ghost use Rattle.chan_run.specs.Answers.{IsAdvice, IsJobAdvice, came_of};
 ghost use Rattle.chan_run.specs.Name.{name_in};
 ghost use Rattle.chan_run.specs.Output.{IsAnswerOn, IsInput, IsJobAnswer, IsWrittenOut};
 ghost use Rattle.chan_run.specs.Output.{IsReadFault, IsRunAnswer, IsTextAnswer, status_of_verdict};
@@ -139,7 +141,10 @@ pub(crate) fn answer_text(
     asked: bool,
     text: &[u8],
 ) -> (Answered, Advice)
+    requires { asked ≡ true → is_why action ≡ true }
     ensures answer { IsTextAnswer (name_in name.entry) action text.now result.0 }
+    ensures advice { asked ≡ true
+        → IfOk result.1 (λ advice. IsAdvice text.now (came_of result.0) advice.items) }
     ensures read { IsErrOf result.0 RunError.Read → ⊥ }
     ensures write { IsErrOf result.0 RunError.Write → ⊥ }
 {
@@ -171,7 +176,10 @@ fn answer_on(
     asked: bool,
     job: &Job,
 ) -> (Answered, Advice)
-    ensures { IsAnswerOn (name_in name.entry) action job.now result.0 }
+    requires { asked ≡ true → is_why action ≡ true }
+    ensures answer { IsAnswerOn (name_in name.entry) action job.now result.0 }
+    ensures advice { asked ≡ true
+        → IfOk result.1 (λ advice. IsJobAdvice job.now (came_of result.0) advice.items) }
 {
     match action {
         Action::Needs => match OpenJob::of(alloc, job) {
@@ -194,7 +202,9 @@ fn answer_job(
     asked: bool,
     job: &Job,
 ) -> (Answered, Advice)
-    ensures { IsJobAnswer (name_in name.entry) action job.now result.0 }
+    ensures answer { IsJobAnswer (name_in name.entry) action job.now result.0 }
+    ensures advice { asked ≡ true
+        → IfOk result.1 (λ advice. IsJobAdvice job.now (came_of result.0) advice.items) }
 {
     let survey = match survey(alloc, job) {
         Ok(survey) => survey,

@@ -94,7 +94,8 @@ struct chanv_job {
 enum { CHANV_USUAL_LIMIT = 4096, CHANV_LARGEST_LIMIT = 65536 };
 
 /* What a call returns. 4 to 10 and 12 are faults of the job itself; if several apply, the least is
- * returned, and a job with a fault gets no answer. CHANV_MEMORY may come in place of any other. */
+ * returned, and a job with a fault gets no answer. CHANV_MEMORY may come in place of any other code
+ * except 4 to 7: a call looks for these before it takes memory. */
 enum {
     CHANV_YES = 0,                /* every run is safe; it may start; others may write */
     CHANV_LISTED = 0,             /* the places, or the needs, are listed, or the bytes copied */
@@ -314,8 +315,8 @@ uint32_t chanv_open_text(const struct chanv_job *job, char *buffer, size_t room,
 
 /* Copies the bytes of storage in some areas into `kept`, one area after another. CHANV_LISTED: the
  * first `*count` bytes are these, and the others keep their values. CHANV_NO_ROOM: `kept` is too
- * small, or an area reaches past storage. CHANV_STORAGE_TOO_LARGE is the only other answer. With
- * both, `*count` is 0, and part of `kept` may be overwritten. */
+ * small, or an area reaches past storage. CHANV_STORAGE_TOO_LARGE is the only other answer, and
+ * comes first. With both, `*count` is 0, and part of `kept` may be overwritten. */
 uint32_t chanv_copy_kept(struct chanv_bytes storage, const struct chanv_area *areas, size_t number,
                          uint8_t *kept, size_t room, size_t *count);
 
@@ -376,9 +377,9 @@ uint32_t chanv_may_write(const struct chanv_program *in_flight, size_t count,
 
 /* Lists the starts of the channel programs in storage, each once, in order; docs/FIND.md says which
  * they are. CHANV_LISTED: the first `*count` of `starts` are written, and the others keep their
- * values. CHANV_NO_ROOM: `*count` is how many there would be. Otherwise it is CHANV_MEMORY,
- * CHANV_STORAGE_TOO_LARGE or CHANV_NOT_A_DEVICE, and `*count` is 0. Only for CHANV_LISTED is a start
- * written. */
+ * values. CHANV_NO_ROOM: `*count` is how many there would be. Otherwise it is
+ * CHANV_STORAGE_TOO_LARGE, or else CHANV_NOT_A_DEVICE, or else CHANV_MEMORY, and `*count` is 0. Only
+ * for CHANV_LISTED is a start written. */
 uint32_t chanv_find(struct chanv_bytes storage, uint16_t device, uint32_t *starts, size_t room,
                     size_t *count);
 

@@ -35,12 +35,14 @@ pub refusal_number : (crowded : Type 0) (c : CJob) (r : Refusal) → IsRefusal c
     → IsAnswerCode crowded c (refusal_code r) (refusal_extent r)
 refusal_number crowded c TooManyPlaces is = record {
   many = λ _. is.0;
+  memory = λ three. absurd (omega (arith, three));
   refused = λ four _. absurd (omega (arith, four));
   accepted = λ _. is.1;
   last = omega arith;
 }
 refusal_number crowded c Memory is = record {
   many = λ two. absurd (omega (arith, two));
+  memory = λ _. is;
   refused = λ four _. absurd (omega (arith, four));
   accepted = memory_accepts_none 3 refl;
   last = omega arith;
@@ -49,6 +51,7 @@ refusal_number crowded c (Wrong f) is =
     let (four, last, room) = fault_numbers f in
     record {
       many = λ two. absurd (omega (arith, four, two));
+      memory = λ three. absurd (omega (arith, four, three));
       refused = λ _ _. record { fault = f; code_is = refl; extent_is = refl; first = is };
       accepted = fault_accepts_none (fault_code f) four room;
       last = last;

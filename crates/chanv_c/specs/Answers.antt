@@ -13,7 +13,8 @@ use Rattle.chanv_c.specs.declared.refusal.Refusal.{Refusal}
 use Rattle.chanv_c.specs.declared.refusal.Refusal.TheVariants.{TooManyPlaces, Memory, Wrong}
 use Rattle.chanv_c.specs.declared.rows.CPlace.{CPlace}
 use Rattle.chanv_c.specs.Job.{IsAskedJob}
-use Rattle.chanv_c.specs.Faults.{HasNoFault, IsFirstFault, HasFaultCode, fault_code, fault_extent}
+use Rattle.chanv_c.specs.Faults.{HasNoFault, HasNoneBelow, IsFirstFault, HasFaultCode}
+use Rattle.chanv_c.specs.Faults.{fault_code, fault_extent}
 
 -- the verdict on the job that C asks about, with all that an answer promises
 pub record IsJudged (c : CJob) (v : Verdict) : Type 0 where
@@ -74,18 +75,20 @@ refusal_extent TooManyPlaces = 0
 refusal_extent Memory = 0
 refusal_extent (Wrong f) = fault_extent f
 
--- what a refusal says of the job, by what it says that too many places are reachable; that an
--- allocation was refused says nothing of it
+-- what a refusal says of the job, by what it says that too many places are reachable. The faults 4
+-- to 7 are looked for before memory is taken, so an allocation is refused only without them
 abbrev pub IsRefusal : Type 0 → CJob → Refusal → Type 0
 IsRefusal crowded c TooManyPlaces = crowded × HasNoFault c
-IsRefusal crowded c Memory = Unit {0}
+IsRefusal crowded c Memory = HasNoneBelow c 8
 IsRefusal crowded c (Wrong f) = IsFirstFault c f
 
 -- what the number of an answer says, and the extent told with it: 2 that too many places are
--- reachable, and from 4 on, but for 11, that the job has the fault of this number first. A job that
--- has a fault gets no answer, nor is there too little room for one
+-- reachable; 3 that no fault comes before memory is taken; and from 4 on, but for 11, that the job
+-- has the fault of this number first. A job that has a fault gets no answer, nor is there too
+-- little room for one
 pub record IsAnswerCode (crowded : Type 0) (c : CJob) (code extent : ℕ) : Type 0 where
   pub many : code ≡ 2 → crowded
+  pub memory : code ≡ 3 → HasNoneBelow c 8
   pub refused : 4 ≤ code → code ≢ 11 → HasFaultCode c code extent
   pub accepted : (code < 3) ⊎ (code ≡ 11) → HasNoFault c
   pub last : code ≤ 12

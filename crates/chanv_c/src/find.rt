@@ -10,9 +10,9 @@ use chan_find::program_starts;
 use std::alloc::Global;
 
 /// Lists the starts of the programs in storage, each once, in order: 0 if `starts` took them all,
-/// 11 if they are more than `starts` has room for; then `count` is their number. Otherwise memory
-/// ran out (3), storage has more than 16,777,216 bytes (4) or there is no such device (5), and
-/// `count` is 0. Only for 0 is anything written to `starts`.
+/// 11 if they are more than `starts` has room for; then `count` is their number. Otherwise `count`
+/// is 0: storage has more than 16,777,216 bytes (4), or else there is no such device (5), or else
+/// memory ran out (3). Only for 0 is anything written to `starts`.
 #[unsafe(no_mangle)]
 pub extern "C" fn chanv_find(
     alloc: Global,
@@ -26,7 +26,9 @@ pub extern "C" fn chanv_find(
         → HasPrograms storage.now device count.new × (length starts.old < count.new) }
     ensures kept { result ≢ 0 → starts.new ≡ starts.old }
     ensures large { result ≡ 4 → 2 ^ 24 < length storage.now }
+    ensures small { result ≢ 4 → length storage.now ≤ 2 ^ 24 }
     ensures none { result ≡ 5 → (device ≢ 2311) × (device ≢ 2314) }
+    ensures known { result ≢ 4 → result ≢ 5 → (device ≡ 2311) ⊎ (device ≡ 2314) }
     ensures codes { (result ≡ 0) ⊎ (result ≡ 3) ⊎ (result ≡ 4) ⊎ (result ≡ 5) ⊎ (result ≡ 11) }
     ensures no_count { result ≢ 0 → result ≢ 11 → count.new ≡ 0 }
 {

@@ -1,6 +1,6 @@
 //! What C asks, and how it becomes a job.
 
-ghost use Rattle.std.specs.Prelude.{◌≡◌, ◌≢◌, map, IfOk, IfErr, OnOk, MatchOption};
+ghost use Rattle.std.specs.Prelude.{◌≡◌, ◌≢◌, [], map, IfOk, IfErr, OnOk, MatchOption};
 ghost use Rattle.ccw_core.specs.Held.{bytes_held};
 ghost use Rattle.chanv_c.specs.Answers.{IsRefusal};
 ghost use Rattle.chanv_c.specs.Job.{IsAskedJob, IsReady, device_number, extents_asked, pair};
@@ -92,7 +92,8 @@ fn parts_of<'a>(asked: &CJob<'a>) -> Result<Parts<'a>, JobFault>
 
 /// The extents as pairs.
 pub(crate) fn pairs_of(alloc: Global, extents: &[CExtent]) -> Result<Vec<(u16, u16)>, AllocError>
-    ensures { IfOk result (λ pairs. pairs.items ≡ map pair extents.now) }
+    ensures pairs { IfOk result (λ pairs. pairs.items ≡ map pair extents.now) }
+    ensures some { IfErr result (λ e. extents.now ≢ []) }
 {
     let mut pairs = Vec::new(alloc);
     for extent in or_empty(extents) {

@@ -199,7 +199,8 @@ pub(crate) fn no_needs(_asked: &CJob<'_>, _open: &Job, error: WalkError) -> Refu
     requires open { IsOpenFor _asked.now _open.now }
     requires right { HasNoFault _asked.now }
     requires many { error ≡ walk.TooManyPlaces → HasMoreThan _open.now _open.now.limit }
-    ensures { IsRefusal (HasTooManyOpenly _asked.now) _asked.now result }
+    ensures refusal { IsRefusal (HasTooManyOpenly _asked.now) _asked.now result }
+    ensures many { error ≡ walk.TooManyPlaces → result ≡ Refusal.TooManyPlaces }
 {
     match error {
         WalkError::TooManyPlaces => Refusal::TooManyPlaces,

@@ -56,7 +56,8 @@ pub(crate) fn no_answer(_asked: &CJob<'_>, _job: &Job, error: WalkError) -> Refu
     requires asked { IsAskedJob _asked.now _job.now }
     requires right { HasNoFault _asked.now }
     requires many { error ≡ walk.TooManyPlaces → HasMoreThan _job.now _job.now.limit }
-    ensures { IsRefusal (HasTooMany _asked.now) _asked.now result }
+    ensures refusal { IsRefusal (HasTooMany _asked.now) _asked.now result }
+    ensures many { error ≡ walk.TooManyPlaces → result ≡ Refusal.TooManyPlaces }
 {
     match error {
         WalkError::TooManyPlaces => Refusal::TooManyPlaces,

@@ -1,5 +1,7 @@
-use Rattle.std.proofs.Common.{Err, inl, inr, refl}
+use Rattle.std.proofs.Common.{◌≡◌, ◌∙◌, Err, [], inl, inr, refl}
+use Rattle.chan_run.specs.Name.{name_in}
 use Rattle.chan_run.proofs.Endings.{not_done, put_kept}
+use Rattle.chan_run.proofs.Saying.{said_beside, unread}
 use Rattle.chan_run.proofs.answers.answer.Goals as goal
 
 pub returns-clause-answer : goal.returns-clause-answer
@@ -24,3 +26,28 @@ returns-in-Err-clause-answer g c =
       inr (c.in-Err.error, c.in-Err.ensures.err, refl, early (not_done c.in-Err.error)),
       rw c.of_run.ensures.is at c.conclude.ensures.end,
     )
+
+pub returns-clause-told : goal.returns-clause-told
+returns-clause-told g c =
+    let said = c.tell.ensures in
+    let answer = c.answer_text-answer in
+    let put = c.write_answer-came in
+    record {
+      more = said.more;
+      is = said_beside (name_in c.args.name) c.args.action _ _ c.in-Ok.text.items answer.result.0 put.result c.flushed-outcome.result
+          (g.W.Write.contents c.args.to.now.device) (g.W.Write.contents put.new.to.device) (put.new.to ≡ c.args.to.now)
+          answer.result.1 said.more c.in-Ok.ensures.ok put.ensures.put (rw c.of_run-2.ensures.is at c.flushed-outcome.ensures.end)
+          (λ why. rw c.as_slice.ensures.value at (answer.ensures.advice (c.is_why.ensures ∙ why))) (rw c.has_advice.ensures at said.is);
+      whole = said.whole;
+      prefix = said.prefix;
+    }
+
+pub returns-in-Err-clause-told : goal.returns-in-Err-clause-told
+returns-in-Err-clause-told g c =
+    let ends = rw c.of_run.ensures.is at c.conclude.ensures.end in
+    record {
+      more = [];
+      is = inl (unread c.args.action _ _ c.in-Err.error c.conclude.result c.in-Err.ensures.err ends, refl);
+      whole = c.conclude.ensures.line;
+      prefix = c.conclude.ensures.prefix;
+    }

@@ -5,6 +5,7 @@ use Rattle.std.specs.Io.KnownBytes.{Appends}
 use Rattle.ccw_core.proofs.Prefixes.{prefix_after}
 use Rattle.ccw_core.specs.Held.{bytes_held}
 use Rattle.chan_deck.specs.Parts.{storage_with}
+use Rattle.chan_run.specs.Find.{IsLineAt}
 use Rattle.chan_run.proofs.FoundLemmas.{lines_more, starts_over}
 use Rattle.chan_run.proofs.find.write_programs.Goals as goal
 
@@ -20,7 +21,7 @@ loop-start-preserved g c =
       search rules,
       (
         text ++ line,
-        rw add-one (lines_more o image c.as_slice-start-items.result.now c.loop-start.start-index 0 text line c.loop-start-test.true lines at),
+        rw add-one (lines_more (IsLineAt o image) c.as_slice-start-items.result.now c.loop-start.start-index 0 text line c.loop-start-test.true lines at),
         Appends-trans _ _ _ text line app more,
       ),
     )
@@ -38,7 +39,7 @@ returns-then-is_err-clause-answer g c =
       suc c.loop-start.start-index,
       record {
         text = text ++ line;
-        lines = lines_more o image starts.result.now c.loop-start.start-index 0 text line c.loop-start-test.true lines
+        lines = lines_more (IsLineAt o image) starts.result.now c.loop-start.start-index 0 text line c.loop-start-test.true lines
             (c.in-Ok-program_line.ensures image held);
         written = prefix_after _ _ _ text line app (rw c.as_bytes.ensures.value at c.write_out.ensures.prefix);
       },

@@ -1,0 +1,33 @@
+-- Texts to which notes are added.
+use Rattle.std.proofs.Common.{◌≡◌, ℕ, ◌<◌, ◌≤◌, Bool, true, false, List, [], ◌∷◌}
+use Rattle.std.proofs.Common.{if◌then◌else◌, length, arith, refl, ◌∙◌}
+use Rattle.ccw_core.specs.declared.areas.Area.{Area}
+use Rattle.chan_deck.specs.Notes.{GrewBy, adjoin, joined_from, together, with_neighbours_joined}
+
+no_longer : (count : ℕ) (old mid new : List ℕ) → 0 < count → GrewBy count old mid → length mid ≤ length new → length old < length new
+no_longer count old mid new some before kept = let grew : length old < length mid = before.some some in omega (arith, grew, kept)
+
+-- after the notes that are written comes the line that counts the others, if there are any
+pub all_grew : (count written : ℕ) (old mid new : List ℕ) → (count ≡ 0 → written ≡ 0) → (0 < count → 0 < written)
+    → GrewBy written old mid → (count ≡ 0 → new ≡ mid) → length mid ≤ length new → GrewBy count old new
+all_grew count written old mid new few some before same kept = record {
+  none = λ none. same none ∙ before.none (few none);
+  some = λ many. no_longer written old mid new (some many) before kept;
+}
+
+either : (q : Bool) (xs ys : List Area) → 0 < length xs → 0 < length ys → 0 < length (if q then xs else ys)
+either true xs ys some other = some
+either false xs ys some other = other
+
+joined : (a : Area) (rest : List Area) → 0 < length (joined_from a rest)
+joined a [] = omega arith
+joined a (b ∷ rest) = either (adjoin a b) (joined_from (together a b) rest) (a ∷ joined_from b rest) (joined (together a b) rest) (omega arith)
+
+-- with neighbours joined, some areas are some, and none are none
+pub joined_some : (areas : List Area) → 0 < length areas → 0 < length (with_neighbours_joined areas)
+joined_some [] some = absurd (omega (arith, some))
+joined_some (a ∷ rest) some = joined a rest
+
+pub joined_none : (areas : List Area) → length areas ≡ 0 → length (with_neighbours_joined areas) ≡ 0
+joined_none [] none = refl
+joined_none (a ∷ rest) none = absurd (omega (arith, none))
