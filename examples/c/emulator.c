@@ -51,13 +51,16 @@ static uint32_t ask(struct asked *asked, const struct chanv_job *job)
                           asked->keep, asked->kept, MOST_KEPT_BYTES, &asked->program);
 }
 
-/* Whether storage has the bytes that the program keeps, if there is one. */
-static int is_there(const struct asked *asked, const uint8_t *storage)
+/* Whether storage, which may be shorter now, has the bytes that the program keeps, if there is one. */
+static int is_there(const struct asked *asked, struct chanv_bytes storage)
 {
     const struct chanv_areas keep = asked->program.rows.keep;
-    for (size_t i = 0; i < keep.len; i++)
-        if (memcmp(asked->copy + keep.at[i].start, storage + keep.at[i].start, keep.at[i].len) != 0)
+    for (size_t i = 0; i < keep.len; i++) {
+        struct chanv_area area = keep.at[i];
+        if (!lies_in(area, storage.len)
+            || memcmp(asked->copy + area.start, storage.at + area.start, area.len) != 0)
             return 0;
+    }
     return asked->program.device != 0;
 }
 
@@ -68,6 +71,6 @@ static int may_begin(const struct asked *asked, const struct chanv_job *job)
     struct chanv_job still = *job;
     struct chanv_refusal refusal;
     still.storage.at = asked->copy;
-    return is_there(asked, job->storage.at)
+    return is_there(asked, job->storage)
            && chanv_may_start(&still, NULL, 0, &asked->program, &refusal) == CHANV_YES;
 }

@@ -20,6 +20,7 @@ static uint32_t answer_needs(const struct chanv_job *job, struct chanv_needed *o
 #include <emulator.c>
 #include <supervisor.c>
 #include <stdio.h>
+#include <stdlib.h>
 
 enum { STORAGE = 0x4000, START = 0x800, DATA = 0x2000 };
 enum { READ = 0x06, NO_OPERATION = 0x03, CHAIN = 0x40 };
@@ -66,7 +67,11 @@ static void try_emulated(const char *name)
     asked.copy = copy;
     uint32_t answer = ask(&asked, &job);
     const char *there = may_begin(&asked, &job) ? "there" : "not there";
-    printf("emulated %s: %u, %s\n", name, answer, there);
+    /* of a shorter storage nothing past its end is read */
+    job.storage = (struct chanv_bytes){malloc(8), 8};
+    int cut = may_begin(&asked, &job);
+    free((void *)job.storage.at);
+    printf("emulated %s: %u, %s%s\n", name, answer, there, cut ? ", even if it is cut" : "");
 }
 
 /* Writes that begin or end far from the program, and one past the end of all addresses. */

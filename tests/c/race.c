@@ -374,7 +374,7 @@ static uint32_t emulator(size_t room)
     still.storage.at = copy;
     if (may_begin(&asked_by_it, &still) != (chanv_verify(&still, &verdict) == CHANV_YES))
         fail("another verdict on the copy", code);
-    is_there(&asked_by_it, storage.bytes) ? there++ : changed++;
+    is_there(&asked_by_it, job.storage) ? there++ : changed++;
     return code;
 }
 
