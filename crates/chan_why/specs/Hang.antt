@@ -1,14 +1,16 @@
--- Where a program ends by itself, from where it can end, and where it may hang: from such a place on
--- only an error or a halt ends it.
+-- Where a program ends by itself, from where it can end, and where it may hang: from there on only
+-- an error or a halt ends it.
 use Rattle.std.specs.Prelude.{◌≡◌, ℕ, ◌+◌, ◌<◌, ◌≤◌, Bool, true, false, not, List, [], ◌∷◌, ◌++◌}
 use Rattle.std.specs.Prelude.{length, reverse, slice_get, slice_index_or, Option, None, Some, ◌⊎◌}
-use Rattle.std.specs.Prelude.{◌↔◌}
+use Rattle.std.specs.Prelude.{◌↔◌, ◌&&◌, ◌/◌, ◌%◌, take, slice_index, is_none, option_map}
+use Rattle.std.specs.Prelude.{if◌then◌else◌}
 use Rattle.std.specs.List.{AllByRecursion, count_by}
 use Rattle.chan_walk.specs.declared.job.Job.{Job}
 use Rattle.chan_walk.specs.declared.place.Place.{Place}
 use Rattle.chan_walk.specs.declared.verdict.Verdict.TheVariants.{Yes}
 use Rattle.chan_why.specs.declared.hang.Found.{Found}
 use Rattle.chan_why.specs.declared.hang.Predecessor.{Predecessor}
+use Rattle.chan_why.specs.declared.hang.Predecessors.{Predecessors}
 use Rattle.chan_walk.specs.Alarm.{AreBytes, ArePlaces, IsProper}
 use Rattle.chan_walk.specs.Argument.{Has}
 use Rattle.chan_walk.specs.Fault.{IsClear}
@@ -20,7 +22,7 @@ use Rattle.chan_walk.specs.Reachable.{IsReachable}
 use Rattle.chan_walk.specs.Runs.{Moment, IsRun, Steps}
 use Rattle.chan_walk.specs.Successor.{Successor}
 use Rattle.chan_walk.specs.Verdict.{IsVerdict}
-use Rattle.chan_walk.specs.Walk.{Follows, IsAmong}
+use Rattle.chan_walk.specs.Walk.{Follows}
 
 -- the program ends at p by itself: p has no own fault and no successor
 pub record EndsTheProgram (j : Job) (p : Place) : Type 0 where
@@ -82,25 +84,57 @@ StepsOnUnlessItEnds = EachMomentOfYes (λ j m.
 
 -- ---- how the code finds it, backwards from the places that end the program
 
--- after a place: 0 for the end of the program, and for a successor one more than its number
+-- what comes after a place that ends the program: 0, its end
+abbrev pub end_after : Seen → Option ℕ
+end_after l =
+    if is_none l.fault && is_none l.next.next && is_none l.next.skip then Some 0 else None
+
+-- what comes before a successor: one more than its number
+abbrev pub one_after : Option Place → Option ℕ
+one_after o = option_map (λ p. place_number p + 1) o
+
+-- n comes after the place of a look
 abbrev pub ComesAfter : Seen → ℕ → Type 0
 ComesAfter l n =
-    ((q : Place) × IsAmong l.next q × (place_number q + 1 ≡ n))
-    ⊎ ((n ≡ 0) × (l.fault ≡ None) × (l.next.next ≡ None) × (l.next.skip ≡ None))
+    (end_after l ≡ Some n) ⊎ (one_after l.next.next ≡ Some n) ⊎ (one_after l.next.skip ≡ Some n)
 
 -- the look of this index shows that n comes after its place
 abbrev pub ComesBefore : List Seen → ℕ → ℕ → Type 0
 ComesBefore ls at n = (l : Seen) × (slice_get ls at ≡ Some l) × ComesAfter l n
 
+-- the list has the look at as one before this
+abbrev pub HasBefore : List Predecessor → ℕ → ℕ → Type 0
+HasBefore ps of at = (p : Predecessor) × Has ps p × (p.of ≡ of) × (p.at ≡ at)
+
 -- the list has what looks show, and all that the first n looks do
 pub record ArePredecessors (ls : List Seen) (n : ℕ) (ps : List Predecessor) : Type 0 where
-  pub only : (p : Predecessor) → Has ps p → ComesBefore ls p.at p.of
-  pub each : (p : Predecessor) → p.at < n → ComesBefore ls p.at p.of → Has ps p
+  pub only : (at of : ℕ) → HasBefore ps of at → ComesBefore ls at of
+  pub each : (at of : ℕ) → at < n → ComesBefore ls at of → HasBefore ps of at
 
--- qs is ps with one more, where there is something
-abbrev pub AddsPredecessor : ℕ → Option ℕ → List Predecessor → List Predecessor → Type 0
-AddsPredecessor at None ps qs = qs ≡ ps
-AddsPredecessor at (Some n) ps qs = qs ≡ ps ++ record { of = n; at = at } ∷ []
+-- of n rows the one of what comes before this
+abbrev pub row_of : ℕ → ℕ → ℕ
+row_of n of = of / 64 % n
+
+-- the row r of a list ends at m: the last one of the row is right before m, if there is one
+pub record EndsAt (n r : ℕ) (ps : List Predecessor) (m : ℕ) : Type 0 where
+  pub last : (k : ℕ) → m ≡ k + 1
+      → (p : Predecessor) × (slice_get ps k ≡ Some p) × (row_of n p.of ≡ r)
+  pub none : (i : ℕ) (p : Predecessor) → m ≤ i → slice_get ps i ≡ Some p → row_of n p.of ≡ r → ⊥
+
+-- it is told where each row ends, and for each predecessor where its row ends before it
+pub record AreRows (p : Predecessors) : Type 0 where
+  pub some : 0 < length p.ends.items
+  pub ends : (r : ℕ) → r < length p.ends.items
+      → EndsAt (length p.ends.items) r p.list.items (slice_index p.ends.items r)
+  pub before : (i : ℕ) (x : Predecessor) → slice_get p.list.items i ≡ Some x
+      → EndsAt (length p.ends.items) (row_of (length p.ends.items) x.of)
+      (take i p.list.items) x.before
+
+-- q is p with one more, where there is something
+pub record AddsPredecessor (at : ℕ) (o : Option ℕ) (p q : Predecessors) : Type 0 where
+  pub rows : AreRows q
+  pub has : (of k : ℕ) → HasBefore q.list.items of k
+      ↔ (HasBefore p.list.items of k ⊎ ((o ≡ Some of) × (at ≡ k)))
 
 -- of n looks exactly those found have a mark, and each was found once
 pub record AreMarked (n : ℕ) (f : Found) : Type 0 where
@@ -108,13 +142,12 @@ pub record AreMarked (n : ℕ) (f : Found) : Type 0 where
   pub agrees : (k : ℕ) → (slice_index_or f.marks.items k false ≡ true) ↔ Has f.order.items k
   pub once : length f.order.items + count_by not f.marks.items ≡ n
 
--- g has what f has, then looks for which P holds, and all of these
+-- g has what f has, and then looks for which P holds: all of these
 pub record FindsMore (n : ℕ) (P : ℕ → Type 0) (f g : Found) : Type 0 where
   pub marked : AreMarked n g
   pub more : List ℕ
   pub order : g.order.items ≡ f.order.items ++ more
-  pub each : (k : ℕ) → P k → Has g.order.items k
-  pub only : (k : ℕ) → Has more k → P k
+  pub found : (k : ℕ) → Has g.order.items k ↔ (Has f.order.items k ⊎ P k)
 
 -- one of the first n looks is at this place and has no mark
 abbrev pub IsLeft : List Place → List Bool → ℕ → Place → Type 0

@@ -2,13 +2,14 @@
 
 ghost use Rattle.std.specs.Prelude.{◌≡◌, ◌<◌, ◌↔◌, ◌+◌, ℕ, length, slice_get, slice_index_or};
 ghost use Rattle.std.specs.Prelude.{None, Some, true, false, IfOk, OnOk};
-ghost use Rattle.std.specs.List.Sorted.{IsNonDecreasingBy};
 ghost use Rattle.chan_walk.specs.Argument.{Has};
 ghost use Rattle.chan_walk.specs.JobSurvey.{IsSurvey};
 ghost use Rattle.chan_walk.specs.Look.{AreLooks, places_of_looks};
 ghost use Rattle.chan_walk.specs.Places.{AreReached};
-ghost use Rattle.chan_why.specs.Hang.{AddsPredecessor, AreMarked, ArePredecessors, CanEnd};
-ghost use Rattle.chan_why.specs.Hang.{FindsMore, IsEarlier, IsFirstPlace, IsLeft, MayHang};
+ghost use Rattle.chan_why.specs.Hang as retraced;
+ghost use Rattle.chan_why.specs.Hang.{AddsPredecessor, AreMarked, ArePredecessors, AreRows};
+ghost use Rattle.chan_why.specs.Hang.{CanEnd, FindsMore, HasBefore, IsEarlier, IsFirstPlace};
+ghost use Rattle.chan_why.specs.Hang.{IsLeft, MayHang};
 ghost use Rattle.chan_walk.specs.declared.job.Job.{Job};
 ghost use Rattle.chan_walk.specs.declared.place.Place as places;
 ghost use Rattle.chan_why.specs.declared.hang.Predecessor as listed;
@@ -24,7 +25,7 @@ use std::alloc::{AllocError, Global};
 /// moves no data. From the place of the answer on only an error, or a halt, ends it. If the verdict
 /// is no, nothing is said about runs.
 ///
-/// With n places, the cost is that of sorting them.
+/// With n places the cost is n; if the addresses are chosen for it, up to 2^25 steps.
 pub fn hang_from(alloc: Global, survey: &Survey) -> Result<Option<Place>, AllocError>
     ensures { IfOk result (λ place. (j : Job) → IsSurvey j survey.now
         → IsFirstPlace (MayHang j) place) }
@@ -34,6 +35,15 @@ pub fn hang_from(alloc: Global, survey: &Survey) -> Result<Option<Place>, AllocE
     Ok(first_left(looks, marks.as_slice()))
 }
 
+/// What comes after a place at which the program ends: 0, its end.
+fn end_after(look: &Look) -> Option<u64>
+    ensures { result ≡ retraced.end_after look.now }
+{
+    let next = look.next();
+    let ends = look.fault().is_none() && next.next.is_none() && next.skip.is_none();
+    ends.then_some(0)
+}
+
 /// A place that comes before another, or before the end of the program.
 #[derive(Clone, Copy)]
 struct Predecessor {
@@ -41,56 +51,63 @@ struct Predecessor {
     of: u64,
     /// The index of the look at it.
     at: usize,
+    /// Where its row ends before it.
+    before: usize,
 }
 
-/// What comes after a place at which the program ends: 0, its end.
-fn end_after(look: &Look) -> Option<u64>
-    ensures { (n : ℕ) → (result ≡ Some n) ↔ ((n ≡ 0) × (look.now.fault ≡ None)
-        × (look.now.next.next ≡ None) × (look.now.next.skip ≡ None)) }
-{
-    let next = look.next();
-    let ends = look.fault().is_none() && next.next.is_none() && next.skip.is_none();
-    ends.then_some(0)
+/// The places that come before others or before the end, in rows: what comes before one place is in
+/// one row, and with it what comes before few others.
+#[derive(Drop)]
+struct Predecessors {
+    /// Those of all rows.
+    list: Vec<Predecessor>,
+    /// For each row where it ends: one more than the index of its last one; 0 if it has none.
+    ends: Vec<usize>,
 }
 
-/// Adds a place as one that comes before something, if there is something.
-fn add_predecessor(
-    predecessors: &mut Vec<Predecessor>,
-    at: usize,
-    after: Option<u64>,
-) -> Result<(), AllocError>
-    ensures { OnOk result (AddsPredecessor at after
-        predecessors.old.items predecessors.new.items) }
-{
-    if let Some(of) = after {
-        predecessors.push(Predecessor { of, at })?;
+impl Predecessors {
+    /// The row of what comes before something.
+    fn row(&self, of: u64) -> usize
+        requires { 0 < length self.now.ends.items }
+        ensures { result ≡ retraced.row_of (length self.now.ends.items) of }
+    {
+        (of / 64) as usize % self.ends.len()
     }
-    Ok(())
-}
 
-/// All places that come before others or before the end, in the order of these.
-fn predecessors_of(alloc: Global, looks: &[Look]) -> Result<Vec<Predecessor>, AllocError>
-    ensures are { IfOk result (λ v. ArePredecessors looks.now (length looks.now) v.items) }
-    ensures ordered { IfOk result (λ v. IsNonDecreasingBy (λ p. p.of) v.items) }
-{
-    let mut predecessors = Vec::new(alloc);
-    for at in 0..looks.len() {
-        let look = &looks[at];
-        let next = look.next();
-        add_predecessor(&mut predecessors, at, end_after(look))?;
-        add_predecessor(
-            &mut predecessors,
-            at,
-            next.next.map(|place| place.number() + 1),
-        )?;
-        add_predecessor(
-            &mut predecessors,
-            at,
-            next.skip.map(|place| place.number() + 1),
-        )?;
+    /// Adds the place of a look as one that comes before something, if there is something.
+    fn add(&mut self, at: usize, after: Option<u64>) -> Result<(), AllocError>
+        requires { AreRows self.old }
+        ensures { OnOk result (AddsPredecessor at after self.old self.new) }
+    {
+        if let Some(of) = after {
+            let row = self.row(of);
+            let before = self.ends[row];
+            self.list.push(Predecessor { of, at, before })?;
+            self.ends[row] = self.list.len();
+        }
+        Ok(())
     }
-    predecessors.sort_unstable_by_key(|predecessor| predecessor.of);
-    Ok(predecessors)
+
+    /// Those of all looks.
+    fn of_looks(alloc: Global, looks: &[Look]) -> Result<Predecessors, AllocError>
+        ensures rows { IfOk result AreRows }
+        ensures are { IfOk result (λ p. ArePredecessors looks.now (length looks.now) p.list.items) }
+    {
+        let mut ends = Vec::new(alloc);
+        ends.resize(looks.len() + 1, 0)?;
+        let mut predecessors = Predecessors {
+            list: Vec::new(alloc),
+            ends,
+        };
+        for at in 0..looks.len() {
+            let look = &looks[at];
+            let next = look.next();
+            predecessors.add(at, end_after(look))?;
+            predecessors.add(at, next.next.map(|place| place.number() + 1))?;
+            predecessors.add(at, next.skip.map(|place| place.number() + 1))?;
+        }
+        Ok(predecessors)
+    }
 }
 
 /// The looks that were found to be at places that can end.
@@ -103,14 +120,15 @@ struct Found {
 }
 
 impl Found {
-    /// Adds the look of an index, unless it was found already.
-    fn add(&mut self, at: usize) -> Result<(), AllocError>
-        requires within { at < length self.old.marks.items }
+    /// Adds the look of a predecessor, if it comes before this and wasn't found already.
+    fn add(&mut self, predecessor: Predecessor, of: u64) -> Result<(), AllocError>
+        requires within { predecessor.at < length self.old.marks.items }
         requires marked { AreMarked (length self.old.marks.items) self.old }
-        ensures { OnOk result (FindsMore (length self.old.marks.items) (λ k. k ≡ at)
-            self.old self.new) }
+        ensures { OnOk result (FindsMore (length self.old.marks.items)
+            (λ k. (predecessor.of ≡ of) × (predecessor.at ≡ k)) self.old self.new) }
     {
-        if !self.marks[at] {
+        let at = predecessor.at;
+        if predecessor.of == of && !self.marks[at] {
             self.marks[at] = true;
             self.order.push(at)?;
         }
@@ -118,20 +136,19 @@ impl Found {
     }
 
     /// Adds the looks at places that come before something.
-    fn add_before(&mut self, predecessors: &[Predecessor], of: u64) -> Result<(), AllocError>
+    fn add_before(&mut self, predecessors: &Predecessors, of: u64) -> Result<(), AllocError>
         requires marked { AreMarked (length self.old.marks.items) self.old }
-        requires within { (p : listed.Predecessor) → Has predecessors.now p
+        requires rows { AreRows predecessors.now }
+        requires within { (p : listed.Predecessor) → Has predecessors.now.list.items p
             → p.at < length self.old.marks.items }
-        requires ordered { IsNonDecreasingBy (λ p. p.of) predecessors.now }
         ensures { OnOk result (FindsMore (length self.old.marks.items)
-            (λ k. Has predecessors.now (record { of = of; at = k })) self.old self.new) }
+            (HasBefore predecessors.now.list.items of) self.old self.new) }
     {
-        let first = predecessors.partition_point(|predecessor| predecessor.of < of);
-        for at in first..predecessors.len() {
-            if predecessors[at].of != of {
-                return Ok(());
-            }
-            self.add(predecessors[at].at)?;
+        let mut end = predecessors.ends[predecessors.row(of)];
+        while end > 0 {
+            let predecessor = predecessors.list[end - 1];
+            self.add(predecessor, of)?;
+            end = predecessor.before;
         }
         Ok(())
     }
@@ -145,7 +162,7 @@ fn can_end(alloc: Global, looks: &[Look]) -> Result<Vec<bool>, AllocError>
         → slice_get (places_of_looks looks.now) k ≡ Some p
         → (slice_index_or v.items k false ≡ true) ↔ CanEnd j p) }
 {
-    let predecessors = predecessors_of(alloc, looks)?;
+    let predecessors = Predecessors::of_looks(alloc, looks)?;
     let mut marks = Vec::new(alloc);
     marks.resize(looks.len(), false)?;
     let mut found = Found {
@@ -165,7 +182,8 @@ fn can_end(alloc: Global, looks: &[Look]) -> Result<Vec<bool>, AllocError>
 /// The place of a look without a mark, the first in the order of places.
 fn first_left(looks: &[Look], marks: &[bool]) -> Option<Place>
     requires { length marks.now ≡ length looks.now }
-    ensures { IsFirstPlace (IsLeft (places_of_looks looks.now) marks.now (length looks.now)) result }
+    ensures { IsFirstPlace (IsLeft (places_of_looks looks.now) marks.now (length looks.now))
+        result }
 {
     let mut first: Option<Place> = None;
     for at in 0..looks.len() {

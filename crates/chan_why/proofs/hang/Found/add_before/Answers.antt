@@ -1,38 +1,52 @@
-use Rattle.std.proofs.Common.{◌≡◌, ◌+◌, ◌⊎◌, length, get_or, ltb, arith, rules, subst}
-use Rattle.std.proofs.lemmas.List.Sorted.{IsPartitionPoint-from_clause, IsPartitionedBy-ltb}
-use Rattle.std.proofs.lemmas.Option.{slice_get-get_or}
-use Rattle.chan_why.specs.declared.hang.Predecessor.{Predecessor}
+use Rattle.std.proofs.Common.{◌≡◌, ◌-◌, ◌⊎◌, length, arith, refl, subst}
+use Rattle.std.proofs.lemmas.Option.{slice_get_read}
 use Rattle.chan_walk.proofs.Theory.Lists.{has_at}
 use Rattle.chan_why.specs.Hang.{FindsMore}
-use Rattle.chan_why.proofs.Retracing.{IsCutAt, IsListed, all_listed, finds_as, finds_both, finds_known}
-use Rattle.chan_why.proofs.Retracing.{listed_more, listed_until, none_listed, predecessor}
+use Rattle.chan_why.proofs.Retracing.{IsListed, all_listed, below_end, finds_as, finds_both}
+use Rattle.chan_why.proofs.Retracing.{listed_more, row_before}
 use Rattle.chan_why.proofs.hang.Found.add_before.Goals as goal
 
-pub loop-at-init : goal.loop-at-init
-loop-at-init c =
-    let ps = c.args.predecessors.now in
-    let cut : IsCutAt ps c.args.of c.partition_point-first.result = IsPartitionPoint-from_clause (λ (p : Predecessor). ltb p.of c.args.of) _ _ c.partition_point-first.ensures.partitioned (IsPartitionedBy-ltb (λ p. p.of) ps c.args.of c.requires.ordered) (λ a r q k. search rules) in
-    finds_known (length c.args.self.now.marks.items) (IsListed ps c.args.of c.partition_point-first.result) c.args.self.now c.requires.marked (λ k h. absurd (none_listed ps c.args.of c.partition_point-first.result k cut h))
+pub index-predecessor-requires : goal.index-predecessor-requires
+index-predecessor-requires c =
+    let p = c.args.predecessors.now in
+    let low = below_end (length p.ends.items) _ c.loop-end.invariant.row.0 c.loop-end.end p.list.items c.loop-end.invariant.row.1 c.loop-end-test.true in
+    omega (arith, low.1, p.list.ok.0)
 
 pub add-requires-clause-within : goal.add-requires-clause-within
-add-requires-clause-within c = omega (arith, c.loop-at.invariant.marked.len, c.requires.within _ (has_at c.args.predecessors.now c.loop-at.at _ (slice_get-get_or c.args.predecessors.now c.loop-at.at (predecessor 0 0) c.loop-at-test.true)))
+add-requires-clause-within c =
+    let p = c.args.predecessors.now in
+    let low = below_end (length p.ends.items) _ c.loop-end.invariant.row.0 c.loop-end.end p.list.items c.loop-end.invariant.row.1 c.loop-end-test.true in
+    let here = slice_get_read p.list.items _ (c.loop-end.end - 1) c.index-predecessor.result.now refl low.1 c.index-predecessor.ensures in
+    omega (arith, c.loop-end.invariant.more.marked.len, c.requires.within _ (has_at p.list.items (c.loop-end.end - 1) _ here))
 
-pub loop-at-preserved : goal.loop-at-preserved
-loop-at-preserved c =
+pub loop-end-smaller : goal.loop-end-smaller
+loop-end-smaller c =
+    let p = c.args.predecessors.now in
+    let row = c.loop-end.invariant.row in
+    let low = below_end (length p.ends.items) _ row.0 c.loop-end.end p.list.items row.1 c.loop-end-test.true in
+    let here = slice_get_read p.list.items _ (c.loop-end.end - 1) c.index-predecessor.result.now refl low.1 c.index-predecessor.ensures in
+    (row_before p (length p.ends.items) c.args.of row.0 c.loop-end.end c.index-predecessor.result.now refl c.requires.rows row.1 c.loop-end-test.true here).1
+
+pub loop-end-preserved : goal.loop-end-preserved
+loop-end-preserved c =
+    let p = c.args.predecessors.now in
     let n = length c.args.self.now.marks.items in
-    let ps = c.args.predecessors.now in
-    let p = get_or ps c.loop-at.at (predecessor 0 0) in
-    let here = slice_get-get_or ps c.loop-at.at (predecessor 0 0) c.loop-at-test.true in
-    let one = subst (λ m. FindsMore m (λ k. k ≡ p.at) c.loop-at.self c.add.new.self) c.loop-at.invariant.marked.len c.in_ok-add.ensures in
-    finds_as n (λ k. IsListed ps c.args.of c.loop-at.at k ⊎ (k ≡ p.at)) (IsListed ps c.args.of (c.loop-at.at + 1)) c.args.self.now c.add.new.self (λ k. listed_more ps c.args.of c.loop-at.at k p here c.if-predecessors-at.false)
-    (finds_both n (IsListed ps c.args.of c.loop-at.at) (λ k. k ≡ p.at) c.args.self.now c.loop-at.self c.add.new.self c.loop-at.invariant one)
-
-pub returns-then-predecessors-at : goal.returns-then-predecessors-at
-returns-then-predecessors-at c =
-    let ps = c.args.predecessors.now in
-    let cut : IsCutAt ps c.args.of c.partition_point-first.result = IsPartitionPoint-from_clause (λ (p : Predecessor). ltb p.of c.args.of) _ _ c.partition_point-first.ensures.partitioned (IsPartitionedBy-ltb (λ p. p.of) ps c.args.of c.requires.ordered) (λ a r q k. search rules) in
-    let here = slice_get-get_or ps c.loop-at.at (predecessor 0 0) c.loop-at-test.true in
-    finds_as (length c.args.self.now.marks.items) (IsListed ps c.args.of c.loop-at.at) _ c.args.self.now c.loop-at.self (λ k. listed_until ps c.args.of c.partition_point-first.result c.loop-at.at k _ c.requires.ordered cut c.loop-at.auto.at here c.if-predecessors-at.true) c.loop-at.invariant
+    let x = c.index-predecessor.result.now in
+    let row = c.loop-end.invariant.row in
+    let more = c.loop-end.invariant.more in
+    let low = below_end (length p.ends.items) _ row.0 c.loop-end.end p.list.items row.1 c.loop-end-test.true in
+    let here = slice_get_read p.list.items _ (c.loop-end.end - 1) x refl low.1 c.index-predecessor.ensures in
+    let before = row_before p (length p.ends.items) c.args.of row.0 c.loop-end.end x refl c.requires.rows row.1 c.loop-end-test.true here in
+    let one = subst (λ m. FindsMore m (λ k. (x.of ≡ c.args.of) × (x.at ≡ k)) c.loop-end.self c.add.new.self) more.marked.len c.in_ok-add.ensures in
+    record {
+      row = (c.loop-end.end - 1, before.0);
+      more = finds_as n (λ k. IsListed p.list.items c.args.of c.loop-end.end k ⊎ ((x.of ≡ c.args.of) × (x.at ≡ k))) (IsListed p.list.items c.args.of x.before) c.args.self.now c.add.new.self
+          (λ k. listed_more (length p.ends.items) p.list.items c.args.of c.loop-end.end k x c.loop-end-test.true here before.0 before.1)
+          (finds_both n (IsListed p.list.items c.args.of c.loop-end.end) (λ k. (x.of ≡ c.args.of) × (x.at ≡ k)) c.args.self.now c.loop-end.self c.add.new.self more one);
+    }
 
 pub returns : goal.returns
-returns c = finds_as (length c.args.self.now.marks.items) (IsListed c.args.predecessors.now c.args.of c.loop-at.at) _ c.args.self.now c.loop-at.self (λ k. all_listed c.args.predecessors.now c.args.of c.loop-at.at k (λ i l m. absurd (omega (arith, l, m, c.loop-at-test.false)))) c.loop-at.invariant
+returns c =
+    let zero_left : c.loop-end.end ≡ 0 = omega arith in
+    let more = subst (λ e. FindsMore (length c.args.self.now.marks.items) (IsListed c.args.predecessors.now.list.items c.args.of e) c.args.self.now c.loop-end.self) zero_left c.loop-end.invariant.more in
+    finds_as (length c.args.self.now.marks.items) (IsListed c.args.predecessors.now.list.items c.args.of 0) _ c.args.self.now c.loop-end.self (all_listed c.args.predecessors.now.list.items c.args.of) more
