@@ -22,10 +22,10 @@ use Rattle.chan_walk.specs.Fault.{IsClear}
 use Rattle.chan_walk.specs.Look.{AreLooks, Seen, places_of_looks}
 use Rattle.chan_walk.specs.Places.{AreReached, place_number}
 use Rattle.chan_walk.specs.Walk.{Follows, IsAmong}
-use Rattle.chan_why.specs.Hang.{AddsPredecessor, AreMarked, ArePredecessors, CanEnd, ComesAfter}
-use Rattle.chan_why.specs.Hang.{AreRows, EndsAt, HasBefore, end_after, one_after, row_of}
-use Rattle.chan_why.specs.Hang.{ComesBefore, EndsAfter, EndsTheProgram, FindsMore, IsEarlier}
-use Rattle.chan_why.specs.Hang.{IsFirstPlace, IsLeft, MayHang}
+use Rattle.chan_why.specs.Hang.{AddsPredecessor, ArePredecessors, AreRows, CanEnd, ComesAfter}
+use Rattle.chan_why.specs.Hang.{ComesBefore, EndsAfter, EndsAt, EndsTheProgram, FindsMore, HasBefore}
+use Rattle.chan_why.specs.Hang.{IsEarlier, IsFirstPlace, IsLeft, MarksFound, MayHang, end_after}
+use Rattle.chan_why.specs.Hang.{one_after, row_of}
 use Rattle.chan_walk.proofs.Algorithms.Looking.{clear_shows_none, number_of_places, own_clear}
 use Rattle.chan_walk.proofs.Algorithms.Marks.{same_number}
 use Rattle.chan_walk.proofs.Algorithms.Walking.{follows_exactly}
@@ -157,7 +157,7 @@ before_more ls i l p q r t here are x y z = record { only = λ at of h. only at 
 
 -- ---- what is found
 
-pub none_marked : (n : ℕ) (f : Found) → f.marks.items ≡ replicate n false → f.order.items ≡ [] → AreMarked n f
+pub none_marked : (n : ℕ) (f : Found) → f.marks.items ≡ replicate n false → f.order.items ≡ [] → MarksFound n f
 none_marked n f is none = record {
   len = ap length is ∙ length-replicate n false;
   agrees = λ k. ((λ h. absurd (off k (cases_lt k n) (subst (λ m. get_or m k false ≡ true) is h))), λ h. absurd (subst (λ z. Has z k) none h));
@@ -169,7 +169,7 @@ none_marked n f is none = record {
     off k (inr l) h = both_ways _ (get_or_past (replicate n false) k false (omega (arith, l, length-replicate n false))) h
 
 -- the looks of P are found already
-pub finds_known : (n : ℕ) (P : ℕ → Type 0) (f : Found) → AreMarked n f → ((k : ℕ) → P k → Has f.order.items k) → FindsMore n P f f
+pub finds_known : (n : ℕ) (P : ℕ → Type 0) (f : Found) → MarksFound n f → ((k : ℕ) → P k → Has f.order.items k) → FindsMore n P f f
 finds_known n P f m known = record { marked = m; more = []; order = sym (append-nil f.order.items); found = λ k. search (rules, known) }
 
 pub finds_as : (n : ℕ) (P Q : ℕ → Type 0) (f g : Found) → ((k : ℕ) → P k ↔ Q k) → FindsMore n P f g → FindsMore n Q f g
@@ -195,7 +195,7 @@ marks_more ms fs at k l same = go (cases_eq k at)
         back e (inr h) = absurd (d (sym h))
 
 -- one look more
-pub find_one : (n : ℕ) (f g : Found) (at : ℕ) → AreMarked n f → at < n → get_or f.marks.items at false ≡ false → g.marks.items ≡ set f.marks.items at true → g.order.items ≡ f.order.items ++ at ∷ [] → FindsMore n (λ k. at ≡ k) f g
+pub find_one : (n : ℕ) (f g : Found) (at : ℕ) → MarksFound n f → at < n → get_or f.marks.items at false ≡ false → g.marks.items ≡ set f.marks.items at true → g.order.items ≡ f.order.items ++ at ∷ [] → FindsMore n (λ k. at ≡ k) f g
 find_one n f g at m l off marks order = record {
   marked = record {
     len = ap length marks ∙ length-set f.marks.items at true ∙ m.len;
@@ -216,7 +216,7 @@ find_one n f g at m l off marks order = record {
     more : (k : ℕ) → (get_or g.marks.items k false ≡ true) ↔ (Has f.order.items k ⊎ (at ≡ k))
     more k = rw marks (marks_more f.marks.items f.order.items at k within (m.agrees k))
 
-pub found_within : (n : ℕ) (f : Found) (i : ℕ) → AreMarked n f → i < length f.order.items → get_or f.order.items i 0 < n
+pub found_within : (n : ℕ) (f : Found) (i : ℕ) → MarksFound n f → i < length f.order.items → get_or f.order.items i 0 < n
 found_within n f i m l = go (cases_lt (get_or f.order.items i 0) n)
   where
     go : (get_or f.order.items i 0 < n) ⊎ (n ≤ get_or f.order.items i 0) → get_or f.order.items i 0 < n
@@ -365,7 +365,7 @@ module _ (j : Job) (ls : List Seen) (are : AreLooks j ls) where
             let same = same_at ls (get_or g.order.items o 0) (get_or f.order.items i 0) m l e at (was ∙ ap (λ z. get_or f.order.items z 0) is) in
             (more.found k).1 (inr (listed (place_number l.place + 1) k (subst (λ (z : Seen). ComesBefore ls k (place_number z.place + 1)) same b)))
 
-  pub retraced : AreReached j (places_of_looks ls) → (n : ℕ) (f : Found) (i : ℕ) → AreMarked n f → length f.order.items ≤ i → Retraces f.order.items i → (k : ℕ) (p : Place) → slice_get (places_of_looks ls) k ≡ Some p → (get_or f.marks.items k false ≡ true) ↔ CanEnd j p
+  pub retraced : AreReached j (places_of_looks ls) → (n : ℕ) (f : Found) (i : ℕ) → MarksFound n f → length f.order.items ≤ i → Retraces f.order.items i → (k : ℕ) (p : Place) → slice_get (places_of_looks ls) k ≡ Some p → (get_or f.marks.items k false ≡ true) ↔ CanEnd j p
   retraced reached n f i m all t k p e = ((λ h. let l = look_there ls k p e in subst (CanEnd j) l.2 (t.only k l.0 l.1 ((m.agrees k).0 h))), λ can. (m.agrees k).1 (go can.0 k p e can.1))
     where
       go : (on : List Place) (k : ℕ) (p : Place) → slice_get (places_of_looks ls) k ≡ Some p → EndsAfter j p on → Has f.order.items k

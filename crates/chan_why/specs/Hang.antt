@@ -137,14 +137,14 @@ pub record AddsPredecessor (at : ℕ) (o : Option ℕ) (p q : Predecessors) : Ty
       ↔ (HasBefore p.list.items of k ⊎ ((o ≡ Some of) × (at ≡ k)))
 
 -- of n looks exactly those found have a mark, and each was found once
-pub record AreMarked (n : ℕ) (f : Found) : Type 0 where
+pub record MarksFound (n : ℕ) (f : Found) : Type 0 where
   pub len : length f.marks.items ≡ n
   pub agrees : (k : ℕ) → (slice_index_or f.marks.items k false ≡ true) ↔ Has f.order.items k
   pub once : length f.order.items + count_by not f.marks.items ≡ n
 
 -- g has what f has, and then looks for which P holds: all of these
 pub record FindsMore (n : ℕ) (P : ℕ → Type 0) (f g : Found) : Type 0 where
-  pub marked : AreMarked n g
+  pub marked : MarksFound n g
   pub more : List ℕ
   pub order : g.order.items ≡ f.order.items ++ more
   pub found : (k : ℕ) → Has g.order.items k ↔ (Has f.order.items k ⊎ P k)

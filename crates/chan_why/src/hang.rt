@@ -7,9 +7,8 @@ ghost use Rattle.chan_walk.specs.JobSurvey.{IsSurvey};
 ghost use Rattle.chan_walk.specs.Look.{AreLooks, places_of_looks};
 ghost use Rattle.chan_walk.specs.Places.{AreReached};
 ghost use Rattle.chan_why.specs.Hang as retraced;
-ghost use Rattle.chan_why.specs.Hang.{AddsPredecessor, AreMarked, ArePredecessors, AreRows};
-ghost use Rattle.chan_why.specs.Hang.{CanEnd, FindsMore, HasBefore, IsEarlier, IsFirstPlace};
-ghost use Rattle.chan_why.specs.Hang.{IsLeft, MayHang};
+ghost use Rattle.chan_why.specs.Hang.{AddsPredecessor, ArePredecessors, AreRows, CanEnd, FindsMore};
+ghost use Rattle.chan_why.specs.Hang.{HasBefore, IsEarlier, IsFirstPlace, IsLeft, MarksFound, MayHang};
 ghost use Rattle.chan_walk.specs.declared.job.Job.{Job};
 ghost use Rattle.chan_walk.specs.declared.place.Place as places;
 ghost use Rattle.chan_why.specs.declared.hang.Predecessor as listed;
@@ -123,7 +122,7 @@ impl Found {
     /// Adds the look of a predecessor, if it comes before this and wasn't found already.
     fn add(&mut self, predecessor: Predecessor, of: u64) -> Result<(), AllocError>
         requires within { predecessor.at < length self.old.marks.items }
-        requires marked { AreMarked (length self.old.marks.items) self.old }
+        requires marked { MarksFound (length self.old.marks.items) self.old }
         ensures { OnOk result (FindsMore (length self.old.marks.items)
             (λ k. (predecessor.of ≡ of) × (predecessor.at ≡ k)) self.old self.new) }
     {
@@ -137,7 +136,7 @@ impl Found {
 
     /// Adds the looks at places that come before something.
     fn add_before(&mut self, predecessors: &Predecessors, of: u64) -> Result<(), AllocError>
-        requires marked { AreMarked (length self.old.marks.items) self.old }
+        requires marked { MarksFound (length self.old.marks.items) self.old }
         requires rows { AreRows predecessors.now }
         requires within { (p : listed.Predecessor) → Has predecessors.now.list.items p
             → p.at < length self.old.marks.items }

@@ -4,7 +4,7 @@ use Rattle.std.proofs.lemmas.List.{get_or_read}
 use Rattle.std.proofs.lemmas.Option.{slice_get_read, slice_get_within}
 use Rattle.chan_walk.specs.declared.place.Place.{Place}
 use Rattle.chan_walk.specs.Places.{place_number}
-use Rattle.chan_why.specs.Hang.{AreMarked, FindsMore, HasBefore}
+use Rattle.chan_why.specs.Hang.{FindsMore, HasBefore, MarksFound}
 use Rattle.chan_why.proofs.Retracing.{found_within, retraced, retraces_begin, retraces_on}
 use Rattle.chan_why.proofs.hang.can_end.Goals as goal
 
@@ -20,7 +20,7 @@ loop-at-init c =
     let more = c.in_ok-add_before.ensures in
     let len : length c.resize.new.self.items ≡ length ls = omega (arith, c.in_ok-resize.ensures.len, c.resize.new.self.ok.0) in
     record {
-      marked = subst (λ n. AreMarked n c.add_before.new.self) len more.marked;
+      marked = subst (λ n. MarksFound n c.add_before.new.self) len more.marked;
       traced = λ j are. retraces_begin j ls are before c.in_ok-predecessors.ensures.are _ _ c.add_before.new.self c.new.ensures.items more;
     }
 
