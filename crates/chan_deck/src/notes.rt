@@ -5,6 +5,7 @@ ghost use Rattle.chan_deck.specs.Notes as adjoining;
 
 use crate::texts::Address;
 use ccw_core::Area;
+use chan_walk::Place;
 use chan_why::Notes;
 use std::alloc::{AllocError, Global};
 use std::fmt::Write;
@@ -17,6 +18,9 @@ const UNUSED: &str = " is used by no reachable CCW";
 
 /// The note on a kept area that the machine itself stores into.
 const MACHINE_STORES: &str = " is where the machine stores PSWs, the CSW or the timer";
+
+/// The note on the place from which on the program never ends by itself.
+const HANGS: &str = " on the program never ends by itself; only an error or a halt I/O stops it";
 
 /// The note on a CCW with the flag for a program-controlled interruption.
 const INTERRUPTS: &str =
@@ -83,6 +87,15 @@ fn push_areas(
     push_more(out, runs.len())
 }
 
+/// Adds the note on the place from which on the program never ends by itself, if there is one.
+fn push_hang(out: &mut String, hang: Option<Place>) -> Result<(), AllocError> {
+    if let Some(place) = hang {
+        let address = Address(place.address);
+        write!(out, "note: from {address}{HANGS}\n")?;
+    }
+    Ok(())
+}
+
 /// Adds the notes of a kind on the CCWs at some addresses.
 fn push_ccws(out: &mut String, what: &str, addresses: &[u32]) -> Result<(), AllocError> {
     for address in addresses.iter().take(MOST) {
@@ -96,12 +109,17 @@ fn push_ccws(out: &mut String, what: &str, addresses: &[u32]) -> Result<(), Allo
 ///
 /// - the lent areas that reach past storage, and those that no reachable CCW uses;
 /// - the kept areas that the machine itself stores into;
+/// - the first place from which on the program never ends by itself;
 /// - the CCWs that ask for an interruption, and those at which the program ends though both
 ///   chaining flags are on.
 ///
 /// Each kind has a line for each of its first hundred notes, and one line that counts the others.
 /// Areas that adjoin share a note. An error means that an allocation failed.
-pub fn notes_text(alloc: Global, notes: &Notes) -> Result<String, AllocError> {
+pub fn notes_text(
+    alloc: Global,
+    notes: &Notes,
+    hang: Option<Place>,
+) -> Result<String, AllocError> {
     let mut text = String::new(alloc);
     push_areas(
         alloc,
@@ -126,6 +144,7 @@ pub fn notes_text(alloc: Global, notes: &Notes) -> Result<String, AllocError> {
         MACHINE_STORES,
         &notes.machine_stores,
     )?;
+    push_hang(&mut text, hang)?;
     push_ccws(&mut text, INTERRUPTS, &notes.interrupting)?;
     push_ccws(&mut text, ENDS_THERE, &notes.ending)?;
     Ok(text)
