@@ -7,10 +7,10 @@
 The model is in model/: the channel and the disk (channel), the verdict and the needs (judging), the
 machine (stepping), the texts (writing) and the jobs (making). It was written from DEVICE, VERDICT,
 MACHINE, DECK, OUTPUT and WHY, and from no code of the crates. It has to agree on the verdict, on
-all offences, on the needs and on the listing of each job. Then it steps the machine over the job:
-after a yes all runs are safe and no byte that one uses changes, and after a no a run shows the
-reason at its address. Every third job is an example deck with a changed byte. The verdicts of the
-example decks themselves are the model's too.
+all offences, on the needs, on the listing and on where each job may hang. Then it steps the machine
+over the job: after a yes all runs are safe and no byte that one uses changes, and after a no a run
+shows the reason at its address. Every third job is an example deck with a changed byte. The
+verdicts of the example decks themselves are the model's too.
 """
 
 import argparse
@@ -28,10 +28,10 @@ from running import run, run_in_bash, text_of  # noqa: E402
 
 sys.path.insert(0, str(HERE / "model"))
 
-from judging import needs, offences, reachable  # noqa: E402
+from judging import endless, needs, offences, reachable  # noqa: E402
 from making import changed, random_job  # noqa: E402
 from stepping import random_run, runs  # noqa: E402
-from writing import deck_of, job_of, listing_of, needs_of, verdict_of  # noqa: E402
+from writing import deck_of, hang_note, job_of, listing_of, needs_of, verdict_of  # noqa: E402
 
 SEED, JOBS = 360, 2500
 # an example that is changed and stepped has to be small
@@ -93,6 +93,14 @@ def check_job(checks, path, answer, verified, explained, listed):
     checks.expect(f"list {name}", [*listing, f"status {1 if answer.found else 0}"], listed)
 
 
+def check_hang(checks, name, answer, noted):
+    """After a yes, a note says from where on the program never ends by itself."""
+    is_yes = not answer.is_too_large and not answer.found
+    wanted = [*hang_note(endless(answer.job, answer.faults))] if is_yes else []
+    found = [line for line in noted if " never ends " in line]
+    checks.expect(f"the note on the end of {name}", wanted, found)
+
+
 def check_needs(checks, path, job, needed):
     opened = Answer(job.opened())
     if opened.is_too_large:
@@ -146,14 +154,20 @@ def compare(checks, built, seed, count):
         explained = answers_of(program, "why --all", answers)
         listed = answers_of_each(program, "list", answers)
         needed = answers_of_each(program, "needs", answers)
-        for (path, answer), rows, lines in zip(answers.items(), listed, needed, strict=True):
+        noted = answers_of_each(program, "why", answers)
+        told = zip(answers.items(), listed, needed, noted, strict=True)
+        for (path, answer), rows, lines, notes in told:
             said = verified[str(path)], explained[str(path)], rows
             check_job(checks, path, answer, *said)
             check_needs(checks, path, answer.job, lines)
+            check_hang(checks, path.stem, answer, notes)
             if not answer.is_too_large:
                 check_runs(checks, path.stem, answer, random)
     kinds = {answer.found[0][1] if answer.found else "yes" for answer in answers.values()}
     checks.expect_that("each verdict comes", len(kinds) == 17, sorted(kinds))
+    yes = [it for it in answers.values() if not it.is_too_large and not it.found]
+    hanging = [it for it in yes if endless(it.job, it.faults)]
+    checks.expect_that("some jobs never end, others do", 0 < len(hanging) < len(yes), len(yes))
 
 
 def check(checks, built):

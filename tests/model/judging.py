@@ -170,6 +170,20 @@ def reachable(job):
     return faults
 
 
+def endless(job, faults):
+    """The reachable places from which no successors lead to one that ends the program."""
+    after = {
+        place: successors(place, ccw_at(job.storage, place.address))
+        for place, fault in faults.items()
+        if not fault
+    }
+    can_end, more = set(), {place for place in after if not after[place]}
+    while more:
+        can_end |= more
+        more = {place for place in after if not can_end.isdisjoint(after[place])} - can_end
+    return faults.keys() - can_end
+
+
 def guarded(job, faults):
     """The guarded bytes: those of CCWs, and those of arguments."""
     ccws, arguments = set(), set()

@@ -53,6 +53,16 @@ def verdict_of(found):
     return f"no {found[0][0].address:06X} {found[0][1]}" if found else "yes"
 
 
+def hang_note(places):
+    """The note on the first of the places from which on the program never ends by itself."""
+    if places:
+        address = min(place.order() for place in places)[0]
+        yield (
+            f"note: from {address:06X} on the program never ends by itself; "
+            "only an error or a halt I/O stops it"
+        )
+
+
 def name_of(place, ccw):
     if ccw.is_transfer():
         return "transfer-in-channel"

@@ -1,7 +1,8 @@
 -- The notes as text: areas that adjoin share one, and without notes there is no text.
 use Rattle.std.specs.Prelude.{◌≡◌, ◌<◌, ◌+◌, nat_eq, nat_lt, ℕ, Bool, ◌&&◌, if◌then◌else◌}
-use Rattle.std.specs.Prelude.{List, [], ◌∷◌, length}
+use Rattle.std.specs.Prelude.{List, [], ◌∷◌, length, Option, None, Some}
 use Rattle.ccw_core.specs.declared.areas.Area.{Area}
+use Rattle.chan_walk.specs.declared.place.Place.{Place}
 use Rattle.chan_why.specs.declared.notes.Notes.{Notes}
 
 -- an area begins where another ends, and both together have a length that an area may have
@@ -28,12 +29,18 @@ pub record GrewBy (count : ℕ) (old new : List ℕ) : Type 0 where
   pub none : count ≡ 0 → new ≡ old
   pub some : 0 < count → length old < length new
 
+-- one where the program may hang
+abbrev pub number_of_hangs : Option Place → ℕ
+number_of_hangs None = 0
+number_of_hangs (Some p) = 1
+
 -- there is no note of any kind
-pub record HasNoNote (n : Notes) : Type 0 where
+pub record HasNoNote (n : Notes) (hang : Option Place) : Type 0 where
   pub fetch_past_storage : n.fetch_past_storage.items ≡ []
   pub store_past_storage : n.store_past_storage.items ≡ []
   pub unused_fetch : n.unused_fetch.items ≡ []
   pub unused_store : n.unused_store.items ≡ []
   pub machine_stores : n.machine_stores.items ≡ []
+  pub hang : hang ≡ None
   pub interrupting : n.interrupting.items ≡ []
   pub ending : n.ending.items ≡ []

@@ -3,10 +3,11 @@
 
 ghost use Rattle.std.specs.Prelude.{◌≡◌, ◌≤◌, ◌↔◌, [], length, string_bytes, IfOk, OnOk};
 ghost use Rattle.chan_deck.specs.Notes as adjoining;
-ghost use Rattle.chan_deck.specs.Notes.{GrewBy, HasNoNote};
+ghost use Rattle.chan_deck.specs.Notes.{GrewBy, HasNoNote, number_of_hangs};
 
 use crate::texts::Address;
 use ccw_core::Area;
+use chan_walk::Place;
 use chan_why::Notes;
 use std::alloc::{AllocError, Global};
 use std::fmt::Write;
@@ -19,6 +20,9 @@ const UNUSED: &str = " is used by no reachable CCW";
 
 /// The note on a kept area that the machine itself stores into.
 const MACHINE_STORES: &str = " is where the machine stores PSWs, the CSW or the timer";
+
+/// The note on the place from which on the program never ends by itself.
+const HANGS: &str = " on the program never ends by itself; only an error or a halt I/O stops it";
 
 /// The note on a CCW with the flag for a program-controlled interruption.
 const INTERRUPTS: &str =
@@ -90,6 +94,18 @@ fn push_areas(
     push_more(out, runs.len())
 }
 
+/// Adds the note on the place from which on the program never ends by itself, if there is one.
+fn push_hang(out: &mut String, hang: Option<Place>) -> Result<(), AllocError>
+    ensures { OnOk result (GrewBy (number_of_hangs hang) (string_bytes out.old)
+        (string_bytes out.new)) }
+{
+    if let Some(place) = hang {
+        let address = Address(place.address);
+        write!(out, "note: from {address}{HANGS}\n")?;
+    }
+    Ok(())
+}
+
 /// Adds the notes of a kind on the CCWs at some addresses.
 fn push_ccws(out: &mut String, what: &str, addresses: &[u32]) -> Result<(), AllocError>
     ensures { OnOk result
@@ -106,14 +122,15 @@ fn push_ccws(out: &mut String, what: &str, addresses: &[u32]) -> Result<(), Allo
 ///
 /// - the lent areas that reach past storage, and those that no reachable CCW uses;
 /// - the kept areas that the machine itself stores into;
+/// - the first place from which on the program never ends by itself;
 /// - the CCWs that ask for an interruption, and those at which the program ends though both
 ///   chaining flags are on.
 ///
 /// Each kind has a line for each of its first hundred notes, and one line that counts the others.
 /// Areas that adjoin share a note. Without any note the text is empty. An error means that an
 /// allocation failed.
-pub fn notes_text(alloc: Global, notes: &Notes) -> Result<String, AllocError>
-    ensures { IfOk result (λ text. (string_bytes text ≡ []) ↔ HasNoNote notes.now) }
+pub fn notes_text(alloc: Global, notes: &Notes, hang: Option<Place>) -> Result<String, AllocError>
+    ensures { IfOk result (λ text. (string_bytes text ≡ []) ↔ HasNoNote notes.now hang) }
 {
     let mut text = String::new(alloc);
     push_areas(
@@ -139,6 +156,7 @@ pub fn notes_text(alloc: Global, notes: &Notes) -> Result<String, AllocError>
         MACHINE_STORES,
         &notes.machine_stores,
     )?;
+    push_hang(&mut text, hang)?;
     push_ccws(&mut text, INTERRUPTS, &notes.interrupting)?;
     push_ccws(&mut text, ENDS_THERE, &notes.ending)?;
     Ok(text)

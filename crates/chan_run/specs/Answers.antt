@@ -7,7 +7,9 @@ use Rattle.ccw_core.specs.Written.{AppendsPrefix}
 use Rattle.chan_deck.specs.Notes.{HasNoNote}
 use Rattle.chan_walk.specs.declared.job.Job.{Job}
 use Rattle.chan_why.specs.declared.notes.Notes.{Notes}
+use Rattle.chan_why.specs.Hang.{IsFirstPlace, MayHang}
 use Rattle.chan_why.specs.Notes.{AreNotes}
+use Rattle.chan_walk.specs.declared.place.Place.{Place}
 use Rattle.chan_run.specs.declared.failure.Failure.{Failure}
 use Rattle.chan_run.specs.declared.failure.Failure.TheVariants as failures
 use Rattle.chan_run.specs.declared.image_options.ImageOptions.{ImageOptions}
@@ -32,7 +34,9 @@ IsAnswered name a old_in new_in old new untouched end =
 
 -- the text has the notes on the job, if there are any
 abbrev pub AreNotesSaid : Job → List ℕ → Type 0
-AreNotesSaid j text = (n : Notes) × AreNotes j n × ((text ≡ []) ↔ HasNoNote n)
+AreNotesSaid j text =
+    (n : Notes) × (hang : Option Place) × AreNotes j n × IsFirstPlace (MayHang j) hang
+    × ((text ≡ []) ↔ HasNoNote n hang)
 
 -- the advice on a job whose answer comes to this: the limit if too many places are reachable, and
 -- the notes after a yes

@@ -6,7 +6,7 @@ ghost use Rattle.chan_run.specs.Answers.{AreNotesSaid};
 
 use chan_deck::notes_text;
 use chan_walk::{Job, Limit, Survey};
-use chan_why::notes_from;
+use chan_why::{hang_from, notes_from};
 use std::alloc::{AllocError, Global};
 
 /// The notes on a job that was surveyed.
@@ -15,7 +15,8 @@ pub(crate) fn notes_on(alloc: Global, job: &Job, survey: &Survey) -> Result<Vec<
     ensures { IfOk result (λ text. AreNotesSaid job.now text.items) }
 {
     let notes = notes_from(alloc, job, survey)?;
-    Ok(notes_text(alloc, &notes)?.into_bytes())
+    let hang = hang_from(alloc, survey)?;
+    Ok(notes_text(alloc, &notes, hang)?.into_bytes())
 }
 
 /// What the limit on places is, and how it may be raised.

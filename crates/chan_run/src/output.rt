@@ -11,8 +11,9 @@ ghost use Rattle.chan_run.specs.Output.{text_in};
 
 use ccw_core::{Watched, write_out};
 use chan_args::Action;
-use chan_deck::{ListError, Picture, explanation_text, graph_text, needs_text, verdict_text};
-use chan_deck::write_seen;
+use chan_deck::{
+    ListError, Picture, explanation_text, graph_text, needs_text, verdict_text, write_seen,
+};
 use chan_needs::needs_from;
 use chan_walk::{Evidence, Job, Look, Survey, Verdict};
 use chan_why::{causes_from, witness_from};

@@ -7,3 +7,5 @@ pub mod Changing
 pub mod StoredOver
 pub mod Idle
 pub mod Noted
+pub mod Hanging
+pub mod Retracing

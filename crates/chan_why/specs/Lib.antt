@@ -4,3 +4,4 @@ pub mod SecondPath
 pub mod Witness
 pub mod Finder
 pub mod Notes
+pub mod Hang

@@ -13,10 +13,13 @@
 
 mod cause;
 mod finder;
+mod hang;
+mod laws;
 mod notes;
 mod path;
 mod second_path;
 mod witness;
 
+pub use crate::hang::hang_from;
 pub use crate::notes::{Notes, notes_from};
 pub use crate::witness::{Witness, causes_from, witness_from};

@@ -1,0 +1,24 @@
+//! The laws of programs that may hang: each is the contract of a function that does nothing, so
+//! that it is proved.
+
+ghost use Rattle.chan_why.specs.Hang.{HangLasts, SomeRunEnds, StepsOnUnlessItEnds};
+
+/// Where the verdict is yes, a run among others that change no guarded byte never comes from a
+/// place that can't end to one that can.
+#[tactic(auto, using(crate::proofs::Hanging::hang_lasts))]
+fn hang_lasts()
+    ensures { HangLasts }
+{}
+
+/// From each reachable place that can end some run comes to a place that ends the program.
+#[tactic(auto, using(crate::proofs::Hanging::some_run_ends))]
+fn some_run_ends()
+    ensures { SomeRunEnds }
+{}
+
+/// Where the verdict is yes, from each moment of a run among others at a place some step leads on
+/// to a place exactly if this one doesn't end the program.
+#[tactic(auto, using(crate::proofs::Hanging::steps_on_unless_it_ends))]
+fn steps_on_unless_it_ends()
+    ensures { StepsOnUnlessItEnds }
+{}
