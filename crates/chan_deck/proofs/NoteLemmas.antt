@@ -1,8 +1,11 @@
 -- Texts to which notes are added.
 use Rattle.std.proofs.Common.{◌≡◌, ℕ, ◌<◌, ◌≤◌, Bool, true, false, List, [], ◌∷◌}
-use Rattle.std.proofs.Common.{if◌then◌else◌, length, arith, refl, ◌∙◌}
+use Rattle.std.proofs.Common.{if◌then◌else◌, length, arith, refl, sym, ap, ◌∙◌, Option, None, Some}
+use Rattle.std.proofs.Common.{zero, suc}
 use Rattle.ccw_core.specs.declared.areas.Area.{Area}
-use Rattle.chan_deck.specs.Notes.{GrewBy, adjoin, joined_from, together, with_neighbours_joined}
+use Rattle.chan_walk.specs.declared.place.Place.{Place}
+use Rattle.chan_deck.specs.Notes.{GrewBy, adjoin, joined_from, number_of_hangs, together}
+use Rattle.chan_deck.specs.Notes.{with_neighbours_joined}
 
 no_longer : (count : ℕ) (old mid new : List ℕ) → 0 < count → GrewBy count old mid → length mid ≤ length new → length old < length new
 no_longer count old mid new some before kept = let grew : length old < length mid = before.some some in omega (arith, grew, kept)
@@ -31,3 +34,20 @@ joined_some (a ∷ rest) some = joined a rest
 pub joined_none : (areas : List Area) → length areas ≡ 0 → length (with_neighbours_joined areas) ≡ 0
 joined_none [] none = refl
 joined_none (a ∷ rest) none = absurd (omega (arith, none))
+
+-- a text that stays empty grew by nothing, and was empty before
+pub grew_none : (count : ℕ) (old new : List ℕ) → GrewBy count old new → new ≡ [] → (count ≡ 0) × (old ≡ [])
+grew_none zero old new grew none = (refl, sym (grew.none refl) ∙ none)
+grew_none (suc n) old new grew none = absurd (omega (arith, grew.some (omega arith), ap length none))
+
+-- and so did the areas, or the addresses, that it grew by
+pub nothing : {X : Type 0} (xs ys : List X) → xs ≡ ys → length xs ≡ 0 → ys ≡ []
+nothing [] ys same none = sym same
+nothing (x ∷ xs) ys same none = absurd (omega (arith, none))
+
+pub counted : {X : Type 0} (xs ys : List X) → xs ≡ ys → ys ≡ [] → length xs ≡ 0
+counted xs ys same none = ap length (same ∙ none)
+
+pub none_hangs : (hang : Option Place) → number_of_hangs hang ≡ 0 → hang ≡ None
+none_hangs None none = refl
+none_hangs (Some p) none = absurd (omega (arith, none))

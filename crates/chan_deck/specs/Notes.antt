@@ -41,6 +41,6 @@ pub record HasNoNote (n : Notes) (hang : Option Place) : Type 0 where
   pub unused_fetch : n.unused_fetch.items ≡ []
   pub unused_store : n.unused_store.items ≡ []
   pub machine_stores : n.machine_stores.items ≡ []
-  pub hang : hang ≡ None
+  pub no_hang : hang ≡ None
   pub interrupting : n.interrupting.items ≡ []
   pub ending : n.ending.items ≡ []
