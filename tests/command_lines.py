@@ -9,7 +9,7 @@ lines, and an empty line and `For more information, try '--help'.` after them.
 import shlex
 
 from building import version
-from examples import EXAMPLES, SEARCH_LOOP, listed_with, status_of, verdicts_of
+from examples import EXAMPLES, SEARCH_LOOP, listed_with, picture_of, status_of, verdicts_of
 from faults import texts_of_help
 from running import Ran, run, text_of
 
@@ -151,6 +151,8 @@ def answer(command, deck, name):
     listed = listed_with(path)
     if command != "verify" and (ENDINGS[command] in listed or not command.startswith("why")):
         text = text_of(path.with_suffix(f".{ENDINGS[command]}"))
+    if command == "graph":
+        text = picture_of(path, name if name != "-" else "")
     notes = text_of(path.with_suffix(".notes")) if "notes" in listed else ""
     status = 1 if text.startswith("no ") or command != "needs" and status else 0
     is_named = command == "verify" or command.startswith("why")

@@ -49,3 +49,9 @@ def status_of(verdict):
 def status_of_needs(text):
     """Where no job will do, the text begins as an explanation does, and else with a mask."""
     return 1 if text.startswith("no ") else 0
+
+
+def picture_of(deck, name):
+    """What `chanv graph` draws of a deck, with this name in its title, or without one for `""`."""
+    title = f'  graph [label="{name}: ' if name else '  graph [label="'
+    return text_of(deck.with_suffix(".dot")).replace('  graph [label="', title, 1)

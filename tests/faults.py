@@ -18,6 +18,7 @@ from examples import (
     EXAMPLES,
     SEARCH_LOOP,
     listed_with,
+    picture_of,
     status_of,
     status_of_needs,
     verdicts_of,
@@ -126,6 +127,8 @@ def of_deck(action, deck, name=""):
     notes = example.with_suffix(".notes")
     error = text_of(notes) if action == "why" and "notes" in listed_with(example) else ""
     text = text_of(example.with_suffix(ENDINGS[action]))
+    if action == "graph":
+        text = picture_of(example, name)
     status = status_of_needs(text) if action == "needs" else status_of(verdict)
     return Ran(status, f"{front}{text}", error)
 
