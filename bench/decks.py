@@ -139,6 +139,28 @@ def chain(count=PLACES, storage=None):
     return deck(in_a_row(words), storage or enough, store=[(data, 16 * count)], places=count)
 
 
+def ring(count=PLACES):
+    """A ring of as many places as there may be: No Operations, and a transfer back to the first."""
+    words = [word(NO_OPERATION, 0, CHAIN_COMMAND, 1)] * (count - 1) + [word(TRANSFER, START, 0, 0)]
+    _, storage = room_for(count)
+    return deck(in_a_row(words), storage, places=count)
+
+
+def comb(count=PLACES):
+    """Search loops of which each leads on to the next, from the last address to the first.
+
+    So the place that ends the program is found first, and each loop is retraced by a transfer.
+    """
+    base, storage = room_for(count)
+    loops = count // 3
+    words, last = [], START + DOUBLEWORD * 3 * (loops - 1)
+    for i in range(loops):
+        search = START + DOUBLEWORD * 3 * i
+        on = word(TRANSFER, search - 3 * DOUBLEWORD, 0, 0) if i else word(NO_OPERATION, 0, LAST, 1)
+        words += [word(SEARCH_ID_EQUAL, base, CHAIN_COMMAND, 5), word(TRANSFER, search, 0, 0), on]
+    return deck(in_a_row(words), storage, fetch=[(base, 5)], places=count, start=last)
+
+
 def one_byte_areas(order):
     """Lent areas of one byte each that adjoin, and one read that needs all of them together."""
     lent, parts = 0x100000, 8
@@ -199,6 +221,8 @@ DECKS = {
     "places": places,
     "loops": loops,
     "chain": chain,
+    "ring": ring,
+    "comb": comb,
     "areas-rising": areas_rising,
     "areas-falling": areas_falling,
     "areas-mixed": areas_mixed,
@@ -208,7 +232,15 @@ DECKS = {
 }
 
 # The same with more places, to see how time grows with their number.
-GROWING = [("places", places), ("loops", loops), ("chain", chain), ("areas-apart", areas_apart), ("offends", offends)]
+GROWING = [
+    ("places", places),
+    ("loops", loops),
+    ("chain", chain),
+    ("ring", ring),
+    ("comb", comb),
+    ("areas-apart", areas_apart),
+    ("offends", offends),
+]
 for name, write in GROWING:
     for count in (MOST_PLACES // 4, MOST_PLACES):
         DECKS[f"{name}-{count}"] = partial(write, count)
