@@ -1,4 +1,4 @@
-use Rattle.std.proofs.Common.{◌≡◌, ◌∙◌, Err, [], inl, inr, refl}
+use Rattle.std.proofs.Common.{◌≡◌, Err, [], inl, inr, refl, rules}
 use Rattle.chan_run.specs.Name.{name_in}
 use Rattle.chan_run.proofs.Endings.{not_done, put_kept}
 use Rattle.chan_run.proofs.Saying.{said_beside, unread}
@@ -37,7 +37,7 @@ returns-clause-told g c =
       is = said_beside (name_in c.args.name) c.args.action _ _ c.in-Ok.text.items answer.result.0 put.result c.flushed-outcome.result
           (g.W.Write.contents c.args.to.now.device) (g.W.Write.contents put.new.to.device) (put.new.to ≡ c.args.to.now)
           answer.result.1 said.more c.in-Ok.ensures.ok put.ensures.put (rw c.of_run-2.ensures.is at c.flushed-outcome.ensures.end)
-          (λ why. rw c.as_slice.ensures.value at (answer.ensures.advice (c.is_why.ensures ∙ why))) (rw c.has_advice.ensures at said.is);
+          (λ why. rw c.as_slice.ensures.value at (answer.ensures.advice (search (rules, why)))) (rw c.has_advice.ensures at said.is);
       whole = said.whole;
       prefix = said.prefix;
     }
