@@ -6,6 +6,7 @@ answer has to be the verdict of the deck. The module's own example is carried ou
 
 import importlib
 import os
+import re
 import sys
 import tempfile
 from pathlib import Path
@@ -135,6 +136,11 @@ def check_needs(checks, chanv, deck, job, verdict):
         for word in ("fetch", "store", "keep"):
             lines += [f"{word} {at:06X} {size:06X}" for at, size in getattr(program, word)]
         checks.expect(f"needs of {deck.name}", wanted.splitlines(), lines)
+    if verdict:
+        notes = text_of(deck.with_suffix(".notes")) if "notes" in listed_with(deck) else ""
+        hangs = re.search(r"(?m)^note: from ([0-9A-F]+) on", notes)
+        hangs_at = int(hangs[1], 16) if hangs else None
+        checks.expect(f"where {deck.name} may hang", hangs_at, program.hangs_at)
     permission = chanv.may_start(job, program, [None, program])
     spared = permission.refusal not in ("stores", "keeps")
     checks.expect(f"start of {deck.name}", bool(verdict), bool(permission) or not spared)

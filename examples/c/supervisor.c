@@ -5,7 +5,10 @@
  * outside its extents or issues an inhibited command. chanv.h lists the four premises. */
 #include <chanv.h>
 
-enum { DEVICES = 8, MOST_ROWS = 16, MOST_KEPT = 1024 };
+enum { DEVICES = 8, MOST_ROWS = 16, MOST_KEPT = 1024, MAY_HANG = 100 };
+
+/* Whether it takes in programs that only an error or a halt ends from some place on. */
+static int takes_hanging = 0;
 
 /* A program that was asked about, and room for what it needs and keeps. */
 struct taken {
@@ -19,7 +22,8 @@ struct taken {
 static struct chanv_program in_flight[DEVICES];
 
 /* Asks what the job's program needs, and remembers it. Only after CHANV_LISTED may the program
- * start. It isn't in flight now, and nothing writes storage. */
+ * start; MAY_HANG is why a program is refused that may never end by itself. It isn't in flight now,
+ * and nothing writes storage. */
 static uint32_t take_in(struct taken *taken, const struct chanv_job *job)
 {
     struct chanv_needed needed;
@@ -28,6 +32,8 @@ static uint32_t take_in(struct taken *taken, const struct chanv_job *job)
     memset(&taken->program, 0, sizeof taken->program);
     if (answer != CHANV_LISTED)
         return answer;
+    if (needed.may_hang && !takes_hanging)
+        return MAY_HANG;
     return chanv_remember(job, &needed, taken->extents, taken->fetch, taken->store, taken->keep,
                           taken->kept, MOST_KEPT, &taken->program);
 }

@@ -144,6 +144,7 @@ class Program:
     store: list
     keep: list
     kept: bytes  # the kept bytes as they were
+    hangs_at: int | None = None  # the first address from which it never ends by itself
 
 
 @dataclass(frozen=True)
@@ -240,7 +241,8 @@ def needs(job):
     answer = _library.chanv_copy_kept(image, lists[3], number, kept, room, byref(count))
     _must_answer(answer, 0)
     rows = [[tuple(row) for row in rows] for rows in lists]
-    return Program(made.start, made.device, out.storage_len, out.mask, *rows, kept.raw)
+    hangs_at = out.hangs_at if out.may_hang else None
+    return Program(made.start, made.device, out.storage_len, out.mask, *rows, kept.raw, hangs_at)
 
 
 def may_start(job, program, in_flight=()):
@@ -305,7 +307,7 @@ class _Explanation(Structure):
 class _Needed(Structure):
     _fields_ = [("verdict", _Verdict)]
     _fields_ += [(it, c_size_t) for it in ("extents", "fetch", "store", "keep")]
-    _fields_ += [("storage_len", c_uint32), ("mask", c_uint32)]
+    _fields_ += [(it, c_uint32) for it in ("storage_len", "mask", "may_hang", "hangs_at")]
 
 
 class _Rows(Structure):

@@ -413,6 +413,7 @@ static void step_or_halt(int device)
 
 int main(int argc, char **argv)
 {
+    takes_hanging = 1;
     seed = 0x9E3779B97F4A7C15 * (argc < 2 ? 1 : strtoull(argv[1], NULL, 10) + 1);
     unsigned long wanted = argc < 3 ? 1000 : strtoul(argv[2], NULL, 10);
     while (started < wanted) {

@@ -37,6 +37,13 @@ static const struct word search_loop[] = {
     {0, 0},
 };
 
+/* Reads into one place again and again. */
+static const struct word endless[] = {
+    {0x800, 0x06000A0040000050},
+    {0x808, 0x0800080000000000},
+    {0, 0},
+};
+
 /* Seeks to cylinders 10, 11 and 202, of which two arguments adjoin, and a Recalibrate. */
 static const struct word seeks[] = {
     {0x800, 0x0700090040000006},
@@ -114,6 +121,8 @@ static uint32_t ask(const char *name, struct chanv_job job, struct counts room,
     printf("%s: needs %" PRIu32 ", mask %02" PRIX32 ", storage %" PRIX32 ", %zu %zu %zu %zu", name,
            code, told->mask, told->storage_len, told->extents, told->fetch, told->store,
            told->keep);
+    if (told->may_hang != 0 || told->hangs_at != 0)
+        printf(", may hang %" PRIu32 " at %06" PRIX32, told->may_hang, told->hangs_at);
     if (told->verdict.reason != 0)
         printf(", no %06" PRIX32 " %s", told->verdict.address,
                chanv_reason_word(told->verdict.reason));
@@ -181,6 +190,8 @@ static void ask_about_other_jobs(void)
     ask("storage that ends with the record", job, room, &told);
     fill(sets_no_mask);
     ask("no job will do", poor, room, &told);
+    fill(endless);
+    ask("a read without end", poor, room, &told);
 }
 
 /* The program of a job with these rows, and with the kept bytes as storage has them now. */

@@ -195,6 +195,8 @@ struct chanv_needed {
     size_t keep;
     uint32_t storage_len; /* how many bytes storage has */
     uint32_t mask;        /* the strictest file mask that serves */
+    uint32_t may_hang;    /* 1 if from some place on only an error or a halt ends the program */
+    uint32_t hangs_at;    /* then the address of the first such place */
 };
 
 /* The needs of a program, as `chanv_needs` gave them: its lists with their lengths, and two

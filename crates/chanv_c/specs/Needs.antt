@@ -1,7 +1,8 @@
 -- What the needs that C is told promise.
-use Rattle.std.specs.Prelude.{◌≡◌, ℕ, ◌≤◌, List, ◌++◌, drop, length}
+use Rattle.std.specs.Prelude.{◌≡◌, ℕ, ◌≤◌, List, ◌++◌, drop, length, Option, None, Some}
 use Rattle.ccw_core.specs.declared.areas.Area.{Area}
 use Rattle.chan_walk.specs.declared.job.Job.{Job}
+use Rattle.chan_walk.specs.declared.place.Place.{Place}
 use Rattle.chan_walk.specs.declared.reason.Reason.{Reason}
 use Rattle.chan_walk.specs.declared.verdict.Verdict.{Verdict}
 use Rattle.chan_walk.specs.declared.verdict.Verdict.TheVariants.{Yes, No}
@@ -10,6 +11,7 @@ use Rattle.chan_walk.specs.Places.{HasMoreThan}
 use Rattle.chan_walk.specs.OpenJob.{open_job, IsOpenJob}
 use Rattle.chan_needs.specs.Rows.{AreNeeds, Listed, listed}
 use Rattle.chan_walk.specs.Verdict.{IsVerdict}
+use Rattle.chan_why.specs.Hang.{IsFirstPlace, MayHang}
 use Rattle.chanv_c.specs.declared.job.CExtent.{CExtent}
 use Rattle.chanv_c.specs.declared.job.CJob.{CJob}
 use Rattle.chanv_c.specs.declared.needs.CNeeded.{CNeeded}
@@ -40,14 +42,16 @@ pub record IsJudgedOpenly (c : CJob) (v : Verdict) : Type 0 where
   pub answer : IsAnswer opened v
   pub verdict : IsVerdict (open_job is_open.job) v
 
--- some job will do for the program that C asks about, and this is what it needs and keeps
-pub record AreNeedsOf (c : CJob) (n : Listed) : Type 0 where
+-- some job will do for the program that C asks about, this is what it needs and keeps, and this is
+-- the first place at which it may hang
+pub record AreNeedsOf (c : CJob) (n : Listed) (hang : Option Place) : Type 0 where
   pub judged : IsJudgedOpenly c Yes
   pub needs : AreNeeds judged.is_open.job n
+  pub hangs : IsFirstPlace (MayHang judged.opened) hang
 
 -- what was found of the program: its needs, or the no of its open job
 abbrev pub IsFound : CJob → Found → Type 0
-IsFound c (found.Needed n) = AreNeedsOf c (listed n)
+IsFound c (found.Needed n hang) = AreNeedsOf c (listed n) hang
 IsFound c (found.NoJob a r) = IsJudgedOpenly c (No a r)
 
 -- ---- what is told
@@ -66,11 +70,22 @@ told_alone v = record {
   keep = 0;
   storage_len = 0;
   mask = 0;
+  may_hang = 0;
+  hangs_at = 0;
 }
 
--- how many rows each list has, how long storage is, and the mask
-abbrev pub told_needs : Listed → CNeeded
-told_needs n = record {
+-- 1 if there is such a place, and its address
+abbrev pub hang_number : Option Place → ℕ
+hang_number None = 0
+hang_number (Some p) = 1
+
+abbrev pub hang_address : Option Place → ℕ
+hang_address None = 0
+hang_address (Some p) = p.address
+
+-- how many rows each list has, how long storage is, the mask, and where the program may hang
+abbrev pub told_needs : Listed → Option Place → CNeeded
+told_needs n hang = record {
   verdict = verdict_told Yes;
   extents = length n.extents;
   fetch = length n.fetch;
@@ -78,12 +93,15 @@ told_needs n = record {
   keep = length n.keep;
   storage_len = n.storage_len;
   mask = n.mask;
+  may_hang = hang_number hang;
+  hangs_at = hang_address hang;
 }
 
 -- some job will do, and this is told of what the program needs
-pub record AreToldNeeds (c : CJob) (n : Listed) (out : CNeeded) : Type 0 where
-  pub needs : AreNeedsOf c n
-  pub out_is : out ≡ told_needs n
+pub record AreToldNeeds (c : CJob) (n : Listed) (hang : Option Place) (out : CNeeded) : Type 0
+  where
+    pub needs : AreNeedsOf c n hang
+    pub out_is : out ≡ told_needs n hang
 
 -- no job will do, and this is told: the verdict on the open job
 pub record IsToldNo (c : CJob) (out : CNeeded) : Type 0 where

@@ -1,11 +1,12 @@
 //! What a channel program needs of each job that it runs under, and what it keeps.
 
-ghost use Rattle.std.specs.Prelude.{◌≡◌, ◌≢◌, ◌<◌, ◌≤◌, ◌↔◌, map, IfOk, IfErr, IsTrue};
+ghost use Rattle.std.specs.Prelude.{◌≡◌, ◌≢◌, ◌<◌, ◌≤◌, ◌↔◌, map, IfOk, IfErr, IsTrue, Option};
 ghost use Rattle.chan_walk.specs.Places.{HasMoreThan};
 ghost use Rattle.chan_walk.specs.OpenJob.{open_job, IsOpenJob};
 ghost use Rattle.chan_needs.specs.Rows.{Listed, listed};
 ghost use Rattle.chan_walk.specs.Verdict.{IsVerdict};
 ghost use Rattle.chan_walk.specs.declared.error.WalkError.TheVariants as walk;
+ghost use Rattle.chan_walk.specs.declared.place.Place as place;
 ghost use Rattle.chan_walk.specs.declared.verdict.Verdict as declared;
 ghost use Rattle.chanv_c.specs.Answers.{IsAnswerCode, IsRefusal};
 ghost use Rattle.chanv_c.specs.Job.{IsAskedJob};
@@ -20,7 +21,8 @@ use crate::rows::{write_areas, write_runs};
 use crate::verify::CVerdict;
 use ccw_core::Area;
 use chan_needs::{Needs, needs_from};
-use chan_walk::{Job, OpenJob, Reason, Verdict, WalkError, survey};
+use chan_walk::{Job, OpenJob, Place, Reason, Verdict, WalkError, survey};
+use chan_why::hang_from;
 use std::alloc::Global;
 
 /// `struct chanv_needed`.
@@ -34,13 +36,16 @@ pub struct CNeeded {
     pub keep: usize,
     pub storage_len: u32,
     pub mask: u32,
+    /// 1 if the program may hang, and the address of the first place at which it may.
+    pub may_hang: u32,
+    pub hangs_at: u32,
 }
 
 /// What is found of a program.
 #[derive(Drop)]
 pub(crate) enum Found {
-    /// What it needs and keeps.
-    Needed(Needs),
+    /// What it needs and keeps, and the first place at which it may hang.
+    Needed(Needs, Option<Place>),
     /// No job will do, since the open job has this no.
     NoJob { address: u32, reason: Reason },
 }
@@ -61,13 +66,15 @@ pub extern "C" fn chanv_needs(
     store: &mut [Area],
     keep: &mut [Area],
 ) -> u32
-    ensures yes { result ≡ 0 → (n : Listed) × AreToldNeeds job.now n out.new
+    ensures yes { result ≡ 0 → (n : Listed) × (hang : Option place.Place)
+        × AreToldNeeds job.now n hang out.new
         × StandFirst (map run_row n.extents) extents.old extents.new
         × StandFirst n.fetch fetch.old fetch.new
         × StandFirst n.store store.old store.new
         × StandFirst n.keep keep.old keep.new }
     ensures no { result ≡ 1 → IsToldNo job.now out.new }
-    ensures room { result ≡ 11 → (n : Listed) × AreToldNeeds job.now n out.new
+    ensures room { result ≡ 11 → (n : Listed) × (hang : Option place.Place)
+        × AreToldNeeds job.now n hang out.new
         × (HaveRoom n extents.old fetch.old store.old keep.old → ⊥) }
     ensures left { result ≢ 0 → (extents.new ≡ extents.old) × (fetch.new ≡ fetch.old)
         × (store.new ≡ store.old) × (keep.new ≡ keep.old) }
@@ -76,8 +83,8 @@ pub extern "C" fn chanv_needs(
         ≡ told_alone (record { extent = out.new.verdict.extent; address = 0; reason = 0 }) }
     ensures no_extent { result < 4 → out.new.verdict.extent ≡ 0 }
 {
-    let needs = match answer(alloc, &WhatIsNeeded, job) {
-        Ok(Found::Needed(needs)) => needs,
+    let (needs, hang) = match answer(alloc, &WhatIsNeeded, job) {
+        Ok(Found::Needed(needs, hang)) => (needs, hang),
         Ok(Found::NoJob { address, reason }) => {
             *out = alone(0, address, u32::from(reason.number()));
             return 1;
@@ -87,7 +94,7 @@ pub extern "C" fn chanv_needs(
             return refusal.code();
         }
     };
-    *out = told(&needs);
+    *out = told(&needs, hang);
     if !have_room(&needs, extents, fetch, store, keep) {
         return 11;
     }
@@ -114,13 +121,19 @@ fn alone(extent: usize, address: u32, reason: u32) -> CNeeded
         keep: 0,
         storage_len: 0,
         mask: 0,
+        may_hang: 0,
+        hangs_at: 0,
     }
 }
 
-/// What is told of needs, but for the rows.
-fn told(needs: &Needs) -> CNeeded
-    ensures { result ≡ told_needs (listed needs.now) }
+/// What is told of needs, but for the rows, and of the first place at which the program may hang.
+fn told(needs: &Needs, hang: Option<Place>) -> CNeeded
+    ensures { result ≡ told_needs (listed needs.now) hang }
 {
+    let (may_hang, hangs_at) = match hang {
+        Some(place) => (1, place.address),
+        None => (0, 0),
+    };
     CNeeded {
         verdict: CVerdict {
             extent: 0,
@@ -133,6 +146,8 @@ fn told(needs: &Needs) -> CNeeded
         keep: needs.keep.len(),
         storage_len: needs.storage_len,
         mask: u32::from(needs.mask.byte()),
+        may_hang,
+        hangs_at,
     }
 }
 
@@ -187,7 +202,10 @@ fn found_on(alloc: Global, asked: &CJob<'_>, job: &Job, open: &Job) -> Result<Fo
     };
     match survey.verdict() {
         Verdict::Yes => match needs_from(alloc, open, &survey) {
-            Ok(needs) => Ok(Found::Needed(needs)),
+            Ok(needs) => match hang_from(alloc, &survey) {
+                Ok(hang) => Ok(Found::Needed(needs, hang)),
+                Err(_) => Err(Refusal::Memory),
+            },
             Err(_) => Err(Refusal::Memory),
         },
         Verdict::No { address, reason } => Ok(Found::NoJob { address, reason }),
