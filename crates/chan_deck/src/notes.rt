@@ -115,11 +115,7 @@ fn push_ccws(out: &mut String, what: &str, addresses: &[u32]) -> Result<(), Allo
 ///
 /// Each kind has a line for each of its first hundred notes, and one line that counts the others.
 /// Areas that adjoin share a note. An error means that an allocation failed.
-pub fn notes_text(
-    alloc: Global,
-    notes: &Notes,
-    hang: Option<Place>,
-) -> Result<String, AllocError> {
+pub fn notes_text(alloc: Global, notes: &Notes, hang: Option<Place>) -> Result<String, AllocError> {
     let mut text = String::new(alloc);
     push_areas(
         alloc,
