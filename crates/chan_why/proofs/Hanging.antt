@@ -20,13 +20,14 @@ use Rattle.chan_walk.specs.Job.{storage_of}
 use Rattle.chan_walk.specs.Machine as machine
 use Rattle.chan_walk.specs.Machine.{At, Checked, Continues, Ended, Event, Gathered, Stage, Step}
 use Rattle.chan_walk.specs.Machine.{StepFrom, under_way}
+use Rattle.chan_walk.specs.OpenJob.{AreOfOneProgram}
 use Rattle.chan_walk.specs.Place.{ccw_of, is_fresh, straight_to, transferred_to}
 use Rattle.chan_walk.specs.Reachable.{IsPath, IsReachable}
 use Rattle.chan_walk.specs.Runs.{Moment, Steps}
 use Rattle.chan_walk.specs.Successor.{Successor, chained, next_of, skip_of}
 use Rattle.chan_walk.specs.Verdict.{IsVerdict}
 use Rattle.chan_why.specs.Hang.{CannotEndAt, EndsAfter, EndsTheProgram, HangLasts, SomeRunEnds}
-use Rattle.chan_why.specs.Hang.{StepsOn, StepsOnUnlessItEnds}
+use Rattle.chan_why.specs.Hang.{HangsAlike, StepsOn, StepsOnUnlessItEnds}
 use Rattle.chan_walk.proofs.Machine.Gathering.{advance, begin}
 use Rattle.chan_walk.proofs.Machine.Invariant.{Invariant, Same, Under}
 use Rattle.chan_walk.proofs.Machine.Paths.{Taking, each_path_is_run, few_at}
@@ -34,6 +35,7 @@ use Rattle.chan_walk.proofs.Machine.Quiet.{IsFew, Known, Left, bytes_at, carry_o
 use Rattle.chan_walk.proofs.Machine.Quiet.{length-with_taken, seek_at}
 use Rattle.chan_walk.proofs.Machine.Waiting.{WaitsSpared}
 use Rattle.chan_walk.proofs.Machine.Yes.{all_kept, each_ok, fresh_out}
+use Rattle.chan_walk.proofs.Theory.Granting.{same_under_yes, turned}
 use Rattle.chan_walk.proofs.Theory.Faults.{clear_check, clear_good, clear_stands, yes_clear}
 use Rattle.chan_walk.proofs.Theory.Follows.{Follows, by_command, by_data, by_skip, by_transfer}
 use Rattle.chan_walk.proofs.Theory.Follows.{follows, succeeds}
@@ -204,3 +206,15 @@ pub some_run_ends : SomeRunEnds
 some_run_ends j proper p reached can =
     let r = each_path_is_run j proper (reverse can.0 ++ p ∷ reached.0) (path_on j p can.0 reached.0 reached.1 can.1) in
     (can.0, can.1, reached.0, r.0, r.1, r.2)
+
+-- ---- two jobs of one program
+
+succeeds_over : (j k : Job) → AreOfOneProgram j k → (p q : Place) → Successor j p q → Successor k p q
+succeeds_over j k one p q s = subst (λ s. (next_of p (ccw s p.address) (kind_of p.entered (ccw s p.address)) ≡ Some q) ⊎ (skip_of p (ccw s p.address) (kind_of p.entered (ccw s p.address)) ≡ Some q)) one.storage s
+
+ends_over : (j k : Job) → AreOfOneProgram j k → IsVerdict k Yes → (on : List Place) (p : Place) → IsReachable k p → EndsAfter j p on → EndsAfter k p on
+ends_over j k one w [] p m e = record { clear = yes_clear k w p m; last = λ q s. e.last q (succeeds_over k j (turned j k one) p q s) }
+ends_over j k one w (q ∷ on) p m e = let f : IsClear k p × Successor k p q = (yes_clear k w p m, succeeds_over j k one p q e.0.1) in (f, ends_over j k one w on q (p ∷ m.0, (m.1, f.0, f.1)) e.1)
+
+pub hangs_alike : HangsAlike
+hangs_alike j k one v w p h = (((same_under_yes j k one v w).0 p).0 h.0, λ can. h.1 (can.0, ends_over k j (turned j k one) v can.0 p h.0 can.1))

@@ -17,6 +17,7 @@ use Rattle.chan_walk.specs.Fault.{IsClear}
 use Rattle.chan_walk.specs.Headline.{EachMomentOfYes, IsSpared}
 use Rattle.chan_walk.specs.Look.{Seen}
 use Rattle.chan_walk.specs.Machine.{Gathered, Stage, At, Ended, Checked}
+use Rattle.chan_walk.specs.OpenJob.{AreOfOneProgram}
 use Rattle.chan_walk.specs.Places.{place_number}
 use Rattle.chan_walk.specs.Reachable.{IsReachable}
 use Rattle.chan_walk.specs.Runs.{Moment, IsRun, Steps}
@@ -81,6 +82,12 @@ abbrev pub StepsOnUnlessItEnds : Type 0
 StepsOnUnlessItEnds = EachMomentOfYes (λ j m.
     AreBytes m.storage → (p : Place) (g : Gathered) → m.stage ≡ At p g
     → StepsOn m ↔ (EndsTheProgram j p → ⊥))
+
+-- a program may hang at the same places under each job with a yes
+abbrev pub HangsAlike : Type 0
+HangsAlike =
+    (j k : Job) → AreOfOneProgram j k → IsVerdict j Yes → IsVerdict k Yes → (p : Place)
+    → MayHang j p → MayHang k p
 
 -- ---- how the code finds it, backwards from the places that end the program
 

@@ -1,7 +1,7 @@
 //! The laws of programs that may hang: each is the contract of a function that does nothing, so
 //! that it is proved.
 
-ghost use Rattle.chan_why.specs.Hang.{HangLasts, SomeRunEnds, StepsOnUnlessItEnds};
+ghost use Rattle.chan_why.specs.Hang.{HangLasts, HangsAlike, SomeRunEnds, StepsOnUnlessItEnds};
 
 /// Where the verdict is yes, a run among others that change no guarded byte never comes from a
 /// place that can't end to one that can.
@@ -21,4 +21,9 @@ fn some_run_ends()
 #[tactic(auto, using(crate::proofs::Hanging::steps_on_unless_it_ends))]
 fn steps_on_unless_it_ends()
     ensures { StepsOnUnlessItEnds }
+{}
+
+/// A program may hang at the same places under each job with a yes.
+fn hangs_alike()
+    ensures { HangsAlike }
 {}
