@@ -170,7 +170,7 @@ def check_arrows(checks, name, wanted, drawn):
             if row is None or after is None:
                 continue
             until = wanted.until(row)
-            led = [arrow for arrow in wanted.arrows[row] if not (until and arrow[0] == row)]
+            led = wanted.arrows[row][1:] if until else wanted.arrows[row]
             if after != "none":
                 checks.expect(f"what follows {row} in a box of {name}", [after], [it[0] for it in led])
                 continue
