@@ -9,6 +9,7 @@ pub mod Meanings
 pub mod Outcome
 pub mod Options
 pub mod OptionValues
+pub mod OptionFault
 pub mod Image
 pub mod NoJob
 pub mod Find

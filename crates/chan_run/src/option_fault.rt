@@ -1,7 +1,9 @@
-//! The usage faults that name an option, in the wording of the command line's library. Tests hold
-//! the texts.
+//! The usage faults that name an option, in the wording of the command line's library.
 
-ghost use Rattle.std.specs.Prelude.{◌≡◌, false};
+ghost use Rattle.std.specs.Prelude.{◌≡◌, ◌↔◌, ◌++◌, false, true, codes, IsErr, OnOk};
+ghost use Rattle.std.specs.Io.KnownBytes.{Appends};
+ghost use Rattle.ccw_core.specs.Written.{AppendsPrefix};
+ghost use Rattle.chan_run.specs.OptionFault.{grants_fault_text, option_fault_text, usage_of};
 
 use crate::image_options::OptionFault;
 use crate::texts::write_texts;
@@ -24,7 +26,12 @@ const MORE: &str = "\n\nFor more information, try '--help'.\n";
 /// status, and a prefix of the text was written.
 pub fn report_option<W: Write>(fault: OptionFault<'_>, to: &mut Watched<W>) -> u8
     requires { to.old.failed ≡ false }
-    ensures { result ≡ 4 }
+    ensures status { result ≡ 4 }
+    ensures whole { to.new.failed ≡ false → Appends (W.contents to.old.device)
+        (W.contents to.new.device)
+        (option_fault_text fault.entry.option fault.entry.text.now fault.entry.why.now) }
+    ensures prefix { AppendsPrefix (W.contents to.old.device) (W.contents to.new.device)
+        (option_fault_text fault.entry.option fault.entry.text.now fault.entry.why.now) }
 {
     let usage = usage(fault.option);
     let _ = write_texts(
@@ -46,7 +53,11 @@ pub fn report_option<W: Write>(fault: OptionFault<'_>, to: &mut Watched<W>) -> u
 /// as `report_option` does.
 pub fn report_grants<W: Write>(fault: GrantFault, to: &mut Watched<W>) -> u8
     requires { to.old.failed ≡ false }
-    ensures { result ≡ 4 }
+    ensures status { result ≡ 4 }
+    ensures whole { to.new.failed ≡ false → Appends (W.contents to.old.device)
+        (W.contents to.new.device) (grants_fault_text fault) }
+    ensures prefix { AppendsPrefix (W.contents to.old.device) (W.contents to.new.device)
+        (grants_fault_text fault) }
 {
     let _ = match fault {
         GrantFault::BesideLeast(option) => write_beside(usage(option), to),
@@ -58,12 +69,19 @@ pub fn report_grants<W: Write>(fault: GrantFault, to: &mut Watched<W>) -> u8
 /// Writes the text of the usage fault that an option stands beside the least job.
 fn write_beside<W: Write>(usage: &str, to: &mut Watched<W>) -> Result<(), DeviceFault>
     requires { to.old.failed ≡ false }
+    ensures ok { OnOk result (Appends (W.contents to.old.device) (W.contents to.new.device)
+        (BESIDE.now ++ (usage.now ++ (codes "'" ++ MORE.now)))) }
+    ensures prefix { AppendsPrefix (W.contents to.old.device) (W.contents to.new.device)
+        (BESIDE.now ++ (usage.now ++ (codes "'" ++ MORE.now))) }
+    ensures fault { IsErr result ↔ (to.new.failed ≡ true) }
 {
     write_texts(&[BESIDE, usage, "'", MORE], to)
 }
 
 /// How an option is written, with the name of its value.
-fn usage<'a>(option: ImageOption) -> &'a str {
+fn usage<'a>(option: ImageOption) -> &'a str
+    ensures { result.now ≡ usage_of option }
+{
     match option {
         ImageOption::Device => "--device <NUMBER>",
         ImageOption::Mask => "--mask <BYTE>",
