@@ -1,7 +1,8 @@
 """The module of examples/python/ over all decks, with each fault of a job and numbers that C cuts.
 
 Its `judge.py` reads each deck of examples/ and examples/cases/ and asks the shared library, whose
-answer has to be the verdict of the deck. The module's own example is carried out too.
+answer has to be the verdict of the deck. It has no answer to a text that `chanv` refuses, or to a
+missing file. The module's own example is carried out too.
 """
 
 import importlib
@@ -14,6 +15,7 @@ from pathlib import Path
 from building import short
 from examples import EXAMPLES, FOLDERS, decks_of, listed_with, verdicts_of
 from expecting import CannotRun
+from refused_decks import DECK, REFUSED, REFUSED_OF_TWO
 from running import Ran, run, text_of
 
 FOLDER = EXAMPLES / "python"
@@ -72,6 +74,23 @@ def check_status(checks, library):
         yes = f"{SMALL_LIMIT}: yes\n"
         checks.expect("judge a yes", Ran(0, yes), judge(library, SMALL_LIMIT))
         checks.expect("judge too many", Ran(2, yes, error), judge(library, SMALL_LIMIT, deck))
+
+
+def check_refused(checks, library):
+    """No answer to what isn't a deck, nor to a file that isn't there."""
+    second = DECK.replace("deck 1", "deck 2").replace("extent", "limit 04096\nextent")
+    rows = [(DECK, *row) for row in REFUSED] + [(second, *row) for row in REFUSED_OF_TWO]
+    with tempfile.TemporaryDirectory() as room:
+        files = [Path(room) / "missing.deck"]
+        for number, (deck, _name, old, new, *_) in enumerate(rows):
+            files.append(Path(room) / f"{number}.deck")
+            files[-1].write_text(deck.replace(old, new), newline="")
+        files.append(Path(room) / "carriage-returns.deck")
+        files[-1].write_text(DECK, newline="\r\n")
+        for file in files:
+            ran = judge(library, file)
+            begun = ran.error.startswith(f"{file}: no answer: ")
+            checks.expect(f"judge {file.name}", (2, "", True), (ran.status, ran.output, begun))
 
 
 def answer_on(chanv, job, changes):
@@ -165,5 +184,6 @@ def check(checks, built):
     check_folder(checks, library)
     check_decks(checks, library)
     check_status(checks, library)
+    check_refused(checks, library)
     check_answers(checks, library)
     check_calls(checks, library)
