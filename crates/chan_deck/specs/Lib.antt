@@ -13,4 +13,5 @@ pub mod Listing
 pub mod Explanation
 pub mod Hint
 pub mod Notes
+pub mod Graph
 pub mod Needs

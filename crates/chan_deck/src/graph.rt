@@ -1,4 +1,8 @@
-//! The picture of a program, in Graphviz's language. Tests hold it; nothing is proved of its text.
+//! The picture of a program, in Graphviz's language. It is proved that its last line closes it;
+//! tests hold the rest.
+
+ghost use Rattle.std.specs.Prelude.{string_bytes, IfOk};
+ghost use Rattle.chan_deck.specs.Graph.{IsClosed};
 
 use crate::explanation::push_cause;
 use crate::layout::{Arrow, Layout, Row, arrow_to, first_offence, first_row, layout_of, row_at};
@@ -448,9 +452,11 @@ fn push_arrows(
 /// allocation failed.
 ///
 /// CCWs stand in boxes, a row each; those behind each other to which no other way leads share one.
-/// A transfer in channel is a label on the arrow through it. A place that offends is alone in a pink
-/// box, with its reasons and their causes.
-pub fn graph_text(alloc: Global, picture: &Picture) -> Result<String, AllocError> {
+/// A transfer in channel is a label on the arrow through it. A place that offends is alone in a
+/// pink box, with its reasons and their causes.
+pub fn graph_text(alloc: Global, picture: &Picture) -> Result<String, AllocError>
+    ensures { IfOk result (λ text. IsClosed (string_bytes text)) }
+{
     let first = first_place(picture.job);
     let layout = layout_of(alloc, first, picture.looks, picture.offences)?;
     let mut out = String::new(alloc);

@@ -83,7 +83,8 @@ fn push_areas(
     what: &str,
     areas: &[Area],
 ) -> Result<(), AllocError>
-    ensures { OnOk result (GrewBy (length areas.now) (string_bytes out.old) (string_bytes out.new)) }
+    ensures { OnOk result (GrewBy (length areas.now) (string_bytes out.old)
+        (string_bytes out.new)) }
 {
     let runs = join_neighbours(alloc, areas)?;
     for run in &runs[..runs.len().min(MOST)] {

@@ -13,7 +13,8 @@ use Rattle.chan_areas.specs.Merged.{IsByteOf}
 use Rattle.chan_walk.specs.Alarm.{IsProper}
 use Rattle.chan_walk.specs.Argument.{Has}
 use Rattle.chan_needs.specs.History.{Acts, AreWell, Flight, Rests, Situation}
-use Rattle.chan_needs.specs.Remembered.{HoldsKept, IsKeeperOf, IsInFlightAt, IsRemembered, IsWritten}
+use Rattle.chan_needs.specs.Remembered.{HoldsKept, IsKeeperOf, IsInFlightAt}
+use Rattle.chan_needs.specs.Remembered.{IsRemembered, IsWritten}
 use Rattle.chan_needs.specs.Rows.{AreNeeds, rows_of}
 use Rattle.chan_needs.specs.Start.{IsAnswerOf}
 use Rattle.chan_walk.specs.Runs.{IsStart, Moment, Steps}

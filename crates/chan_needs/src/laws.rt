@@ -9,7 +9,8 @@ ghost use Rattle.chan_needs.specs.Start.{RowsAreExact};
 ghost use Rattle.chan_needs.specs.Rows.{BesideIsApart};
 ghost use Rattle.chan_needs.specs.Asked.{AskedMayStart, EachMayLeave, EachMayStart, EachMayStep};
 ghost use Rattle.chan_needs.specs.Asked.{FitIsAsked, HistoryBegins, OthersMayChange};
-ghost use Rattle.chan_needs.specs.Supervised.{CanBeSupervised, SupervisedGoesOn, SupervisedStaysWell};
+ghost use Rattle.chan_needs.specs.Supervised.{CanBeSupervised, SupervisedGoesOn};
+ghost use Rattle.chan_needs.specs.Supervised.{SupervisedStaysWell};
 
 /// Programs may start and leave at any time on one storage, while others change what none in flight
 /// guards: where each that starts has a yes and is apart from those in flight, each in flight is

@@ -230,7 +230,8 @@ fn unknown(alloc: Global, word: &str) -> Outcome
 /// fails, it has written a prefix of the lines.
 pub fn list_words<W: Write>(to: &mut Watched<W>) -> Outcome
     requires { to.old.failed ≡ false }
-    ensures answer { AreTermsListed TERMS (W.contents to.old.device) (W.contents to.new.device) result }
+    ensures answer { AreTermsListed TERMS (W.contents to.old.device) (W.contents to.new.device)
+        result }
     ensures write { IsWriteFailure result ↔ (to.new.failed ≡ true) }
 {
     list_terms(&TERMS, to)

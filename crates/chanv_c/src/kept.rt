@@ -11,8 +11,8 @@ use chan_needs::copy_kept;
 
 /// Copies the bytes of storage in some areas into `kept`, one area after another: 0 if all were
 /// copied, and then `count` is how many there are. Otherwise `count` is 0, a part of `kept` may be
-/// overwritten, and storage has more than 16,777,216 bytes (4), or else an area reaches past storage
-/// or `kept` is too small (11). No memory is taken.
+/// overwritten, and storage has more than 16,777,216 bytes (4), or else an area reaches past
+/// storage or `kept` is too small (11). No memory is taken.
 #[unsafe(no_mangle)]
 pub extern "C" fn chanv_copy_kept(
     storage: &[u8],

@@ -30,18 +30,21 @@ because 001000-001007 is not in storage of 0001000 bytes
 also 001008 outside-storage
 ";
 
-const SEARCH_LOOP_PICTURE: &str = r##"digraph program {
-  graph [label="yes\n2314, mask 00, cylinders 10-19, storage 0001000", labelloc=t, fontname="sans-serif", fontsize=12,
-    fontcolor="#006000", ranksep=0.3, nodesep=0.4];
-  node [shape=box, fontname="monospace", fontsize=10, margin="0.12,0.06", height=0.2];
-  edge [arrowsize=0.7, fontname="sans-serif", fontsize=9];
-  start [shape=plaintext, fontname="sans-serif", margin=0.03];
-  "000800 fresh t" [label="000800  search-id-equal  fetches 000900-000904  until found (TIC 000808)\l000810  read-data        stores  000A00-000A4F\l"];
-  start -> "000800 fresh t";
-  "end 000800 fresh t" [label=end, shape=plaintext, fontname="sans-serif", margin=0.03];
-  "000800 fresh t" -> "end 000800 fresh t";
+const SEARCH_LOOP_PICTURE: &str = "digraph program {
+  graph [label=\"yes\\n2314, mask 00, cylinders 10-19, storage 0001000\", labelloc=t, \
+    fontname=\"sans-serif\", fontsize=12,
+    fontcolor=\"#006000\", ranksep=0.3, nodesep=0.4];
+  node [shape=box, fontname=\"monospace\", fontsize=10, margin=\"0.12,0.06\", height=0.2];
+  edge [arrowsize=0.7, fontname=\"sans-serif\", fontsize=9];
+  start [shape=plaintext, fontname=\"sans-serif\", margin=0.03];
+  \"000800 fresh t\" [\
+    label=\"000800  search-id-equal  fetches 000900-000904  until found (TIC 000808)\\l\
+    000810  read-data        stores  000A00-000A4F\\l\"];
+  start -> \"000800 fresh t\";
+  \"end 000800 fresh t\" [label=end, shape=plaintext, fontname=\"sans-serif\", margin=0.03];
+  \"000800 fresh t\" -> \"end 000800 fresh t\";
 }
-"##;
+";
 
 /// What is asked for, a text, the read that fails, and what comes of it: the answer, and what was
 /// written by then. A write after that fails.
