@@ -43,16 +43,14 @@ libraries: can_prove
 $(LIBRARIES):
 	cd crates/$@ && rt lib --jobs $(JOBS)
 
-# Each is built after those that it stands on. For ckd_core and chan_args, which are small, one
-# processor is enough beside the others.
+# Each is built after those that it stands on. For ckd_core, chan_args and chan_find, which are small,
+# one processor is enough beside the others.
 chan_areas: ccw_core
 chan_walk: chan_areas ckd_core
-chan_needs chan_why: chan_walk
-# It stands on chan_walk alone, but only chan_run waits for it, which waits for chan_deck longer.
-chan_find: chan_why
+chan_needs chan_why chan_find: chan_walk
 chan_deck: chan_needs chan_why
 chan_run: chan_args chan_find chan_deck
-ckd_core chan_args: JOBS = 1
+ckd_core chan_args chan_find: JOBS = 1
 
 # Explains the verdict on a deck, with nothing proved: it compiles the sources as they are.
 try:
