@@ -6,7 +6,7 @@
 # the contracts.
 
 PREFIX ?= /usr/local
-VERSION = 0.5.0
+VERSION = 0.6.0
 
 # How many processors a proof may use; each takes up to 1.5 GB of memory.
 JOBS ?= $(shell nproc)
