@@ -14,7 +14,7 @@ from running import Ran, run, text_of
 SUPERVISOR = ROOT / "examples/c/supervisor.c"
 SEEDS, STARTS = range(1, 6), 4000
 
-NO_ROOM = 11
+NO_ROOM, MAY_HANG = 11, 100
 # What a careless supervisor leaves out: a name, the text of the check, and the text in its place.
 # The middle two take certain refusals for a yes.
 DENIED = "&refusal) != CHANV_YES)"
@@ -23,13 +23,15 @@ CARELESS = [
     (
         "grants",
         DENIED,
-        "&refusal) == CHANV_NO"
-        " && (refusal.code < CHANV_MASK || refusal.code > CHANV_NOT_STORABLE))",
+        "&refusal) == CHANV_NO && (refusal.code < CHANV_REFUSED_MASK"
+        " || refusal.code > CHANV_REFUSED_NOT_STORABLE))",
     ),
-    ("the comparison", DENIED, "&refusal) == CHANV_NO && refusal.code != CHANV_CHANGED)"),
+    ("the comparison", DENIED, "&refusal) == CHANV_NO && refusal.code != CHANV_REFUSED_CHANGED)"),
     ("hands off", "&refusal) == CHANV_YES;", "&refusal) <= CHANV_NO;"),
 ]
-IS_LISTED = "answer != CHANV_LISTED"
+
+
+MAY = "!needed.may_hang "
 
 
 def compile_flights(library, supervisor, folder):
@@ -58,20 +60,20 @@ def check_careless(checks, library, room):
 
 
 def answers_wanted():
-    """What c/answers.c prints: only a program that was listed starts, and writes know its rows."""
+    """What c/answers.c prints: only what was taken in starts, and writes know its rows."""
     for name, answer in [
         ("2 rows", 0),
-        ("16 rows", 0),
-        ("17 rows", NO_ROOM),
-        ("1024 kept bytes", 0),
-        ("1032 kept bytes", NO_ROOM),
+        ("127 rows", 0),
+        ("128 rows", NO_ROOM),
+        ("2040 kept bytes", 0),
+        ("2048 kept bytes", NO_ROOM),
         ("a code of no command", 1),
+        ("a loop", MAY_HANG),
+        ("a loop", 0),
     ]:
         yield f"{name}: {answer}, {'held back' if answer else 'started'}"
-    yield "emulated listed: 0, there"
-    for answer in range(1, 13):
-        yield f"forced: {answer}, held back"
-        yield f"emulated forced: {answer}, not there"
+    yield "emulated 2 rows: 0, there"
+    yield "emulated a code of no command: 1, not there"
     for write, allowed in [
         ("0 800", True),
         ("0 801", False),
@@ -91,15 +93,15 @@ def compile_answers(library, supervisor, folder):
 
 
 def check_answers(checks, library, room):
-    """After each answer of chanv_needs, under the sanitizers: only what was listed starts."""
+    """At the edges of what is taken in, under the sanitizers: only what was taken in starts."""
     text = text_of(SUPERVISOR)
     ran = run(compile_answers(library, text, room / "each answer"))
     wanted = "".join(f"{line}\n" for line in answers_wanted())
-    checks.expect("each answer of chanv_needs", Ran(0, wanted), ran)
-    checks.expect("the supervisor asks whether it was listed, once", 1, text.count(IS_LISTED))
-    careless = text.replace(IS_LISTED, "answer > CHANV_RESERVED_NOT_ZERO")
-    ran = run(compile_answers(library, careless, room / "any answer"))
-    checks.expect_that("or else a program starts without an answer", ran != Ran(0, wanted), ran)
+    checks.expect("each answer of chanv_take_in", Ran(0, wanted), ran)
+    checks.expect("the supervisor looks for a program that may hang, once", 1, text.count(MAY))
+    careless = text.replace(MAY, "1 ")
+    ran = run(compile_answers(library, careless, room / "any program"))
+    checks.expect_that("or else it starts", ran != Ran(0, wanted), ran)
 
 
 def check(checks, built):

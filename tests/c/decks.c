@@ -69,9 +69,8 @@ static uint32_t verify(const struct chanv_job *job)
 
 static void print_rows(const struct chanv_place *rows, size_t count)
 {
-    static const char *const entries[] = {"fresh", "in", "out", "search"};
     for (size_t i = 0; i < count; i++)
-        printf("%06" PRIX32 " %s %c\n", rows[i].address, entries[rows[i].entered],
+        printf("%06" PRIX32 " %s %c\n", rows[i].address, chanv_entered_word(rows[i].entered),
                rows[i].after_transfer ? 't' : '-');
 }
 
@@ -80,7 +79,7 @@ static uint32_t list(const struct chanv_job *job)
     static struct chanv_place rows[CHANV_LARGEST_LIMIT];
     size_t count;
     uint32_t answer = chanv_list(job, rows, CHANV_LARGEST_LIMIT, &count);
-    print_rows(rows, answer == CHANV_LISTED ? count : 0);
+    print_rows(rows, answer == CHANV_OK ? count : 0);
     return answer;
 }
 
@@ -124,7 +123,7 @@ static void print_evidence(const struct chanv_evidence *values)
     print_area("gap", values->gap);
     print_value("address", values->address, 6);
     print_value("taker", values->taker, 6);
-    print_value("length", values->length, 7);
+    print_value("length", values->storage_len, 7);
     print_value("code", values->code, 2);
     print_value("mask", values->mask, 2);
     print_value("bits", values->bits, 2);
@@ -147,33 +146,35 @@ static uint32_t why(const struct chanv_job *job)
     if (answer != CHANV_NO)
         return answer;
     printf("no %06" PRIX32 " %s\n", told.verdict.address, chanv_reason_word(told.verdict.reason));
-    print_rows(path, told.path);
+    print_rows(path, told.path_count);
     print_evidence(&told.evidence);
-    if (told.second_path != 0)
+    if (told.second_path_count != 0)
         puts("reached by");
-    print_rows(second_path, told.second_path);
+    print_rows(second_path, told.second_path_count);
     return answer;
 }
 
 static struct chanv_extent sought[MOST];
 static struct chanv_area fetched[MOST], stored[MOST], kept[MOST];
+static uint8_t bytes[0x100000];
 
 static uint32_t ask_needs(const struct chanv_job *job, struct chanv_needed *told)
 {
-    return chanv_needs(job, told, sought, MOST, fetched, MOST, stored, MOST, kept, MOST);
+    return chanv_needs(job, told, sought, MOST, fetched, MOST, stored, MOST, kept, MOST, bytes,
+                       sizeof bytes);
 }
 
-typedef uint32_t telling(const struct chanv_job *job, char *buffer, size_t room, size_t *length);
+typedef uint32_t telling(const struct chanv_job *job, char *buffer, size_t room, size_t *len);
 
 /* Asks for the length first. */
 static uint32_t tell(telling *call, const struct chanv_job *job)
 {
     static char buffer[0x10000];
-    size_t length, again;
-    uint32_t answer = call(job, NULL, 0, &length);
-    if (answer != CHANV_NO_ROOM || length > sizeof buffer)
+    size_t len, again;
+    uint32_t answer = call(job, NULL, 0, &len);
+    if (answer != CHANV_NO_ROOM || len > sizeof buffer)
         return answer;
-    answer = call(job, buffer, length, &again);
+    answer = call(job, buffer, len, &again);
     fwrite(buffer, 1, again, stdout);
     return answer;
 }
@@ -201,30 +202,32 @@ static uint32_t needs(const struct chanv_job *job)
     uint32_t answer = ask_needs(job, &told);
     if (answer == CHANV_NO)
         return tell(chanv_open_text, job);
-    if (answer != CHANV_LISTED)
+    if (answer != CHANV_OK)
         return answer;
-    printf("mask %02" PRIX32 "\n", told.mask);
-    for (size_t i = 0; i < told.extents; i++)
+    printf("mask %02" PRIX8 "\n", told.mask);
+    for (size_t i = 0; i < told.extent_count; i++)
         printf("extent %03u %03u\n", sought[i].first, sought[i].last);
-    print_lent("fetch", fetched, told.fetch);
-    print_lent("store", stored, told.store);
-    print_lent("keep", kept, told.keep);
+    print_lent("fetch", fetched, told.fetch_count);
+    print_lent("store", stored, told.store_count);
+    print_lent("keep", kept, told.keep_count);
     return answer;
 }
 
-/* Whether the job may start its own program, which was taken in just now. */
+/* Whether the job may start its own program, taken in into just as much memory as it takes, at an
+ * odd address. */
 static uint32_t start(const struct chanv_job *job)
 {
-    static uint8_t bytes[0x100000];
-    struct chanv_needed told;
+    struct chanv_needed needed;
     struct chanv_program program;
     struct chanv_refusal refusal;
-    uint32_t answer = ask_needs(job, &told);
-    if (answer == CHANV_LISTED)
-        answer = chanv_remember(job, &told, sought, fetched, stored, kept, bytes, sizeof bytes,
-                                &program);
-    if (answer == CHANV_LISTED)
-        answer = chanv_may_start(job, NULL, 0, &program, &refusal);
+    size_t len, again;
+    uint32_t answer = chanv_take_in(job, bytes + 1, 0, &len, &program, &needed);
+    if (answer == CHANV_NO_ROOM)
+        answer = chanv_take_in(job, bytes + 1, len, &again, &program, &needed);
+    if (answer == CHANV_OK && again != len)
+        exit(4);
+    if (answer == CHANV_OK)
+        answer = chanv_check_start(job, NULL, 0, &program, &refusal);
     if (answer <= CHANV_NO)
         puts(answer == CHANV_YES ? "yes" : "no");
     return answer;

@@ -54,9 +54,10 @@ static uint32_t why(struct chanv_job job, struct chanv_place *path, size_t room,
         memset(second_path, 0x77, sizeof *second_path * second_room);
     uint32_t answer = chanv_why(&job, path, room, second_path, second_room, told);
     int written = answer == CHANV_NO;
-    printf("why %" PRIu32 ", %zu and %zu", answer, told->path, told->second_path);
-    if (!are_written(path, room, written ? told->path : 0)
-        || !are_written(second_path, second_room, written ? told->second_path : 0))
+    size_t count = written && room != 0 ? told->path_count : 0;
+    size_t second_count = written && second_room != 0 ? told->second_path_count : 0;
+    printf("why %" PRIu32 ", %zu and %zu", answer, told->path_count, told->second_path_count);
+    if (!are_written(path, room, count) || !are_written(second_path, second_room, second_count))
         printf(", wrong rows");
     return answer;
 }
@@ -65,9 +66,12 @@ static uint32_t why(struct chanv_job job, struct chanv_place *path, size_t room,
 static int is_empty(const struct chanv_explanation *told)
 {
     static const struct chanv_evidence no_values;
-    return told->path == 0 && told->second_path == 0 && told->verdict.address == 0
+    for (size_t i = 0; i < sizeof told->reserved / sizeof *told->reserved; i++)
+        if (told->reserved[i] != 0)
+            return 0;
+    return told->path_count == 0 && told->second_path_count == 0 && told->verdict.address == 0
            && told->verdict.reason == 0
-           && memcmp(&told->evidence, &no_values, sizeof no_values) == 0;
+           && memcmp(&told->evidence, &no_values, offsetof(struct chanv_evidence, mask) + 1) == 0;
 }
 
 /* `chanv_why` says what `chanv_verify` said, and what it doesn't tell is 0. */
@@ -105,8 +109,8 @@ static void why_with_room(const char *name, struct chanv_job job, size_t room, s
            told.verdict.address, chanv_reason_word(values.reason), values.range.start,
            values.range.len, values.address);
     if (answer == CHANV_NO) {
-        print_path("path", path, told.path);
-        print_path("second", second_path, told.second_path);
+        print_path("path", path, room == 0 ? 0 : told.path_count);
+        print_path("second", second_path, second_room == 0 ? 0 : told.second_path_count);
     }
     printf("\n");
 }
@@ -123,7 +127,7 @@ static void ask(const char *name, struct chanv_job job)
     memset(rows, 0x77, sizeof rows);
     memcpy(before, rows, sizeof rows);
     uint32_t answer = chanv_list(&job, rows, CHANV_LARGEST_LIMIT + 1, &count);
-    written = answer == CHANV_LISTED ? count : 0;
+    written = answer == CHANV_OK ? count : 0;
     size_t rest = sizeof *rows * (CHANV_LARGEST_LIMIT + 1 - written);
     int is_past = memcmp(rows + written, before + written, rest) != 0;
     const char *more = is_past ? ", written past the end" : "";
@@ -137,7 +141,7 @@ static void list(const char *name, struct chanv_job job, struct chanv_place *row
     size_t count = 77;
     uint32_t answer = chanv_list(&job, rows, room, &count);
     printf("%s: list %" PRIu32 ", %zu", name, answer, count);
-    for (size_t i = 0; answer == CHANV_LISTED && i < count; i++)
+    for (size_t i = 0; answer == CHANV_OK && i < count; i++)
         printf(", %06" PRIX32 " %u %u", rows[i].address, rows[i].entered, rows[i].after_transfer);
     printf("\n");
 }
@@ -153,9 +157,10 @@ static void *ask_often(void *about)
         struct chanv_explanation told;
         size_t count;
         right += chanv_verify(job, &verdict) == CHANV_NO && verdict.address == 0x810
-                 && verdict.reason == 10 && chanv_list(job, rows, 3, &count) == CHANV_LISTED
+                 && verdict.reason == CHANV_REASON_STORE_NOT_LENT
+                 && chanv_list(job, rows, 3, &count) == CHANV_OK
                  && count == 3 && rows[2].address == 0x810
-                 && chanv_why(job, rows, 3, NULL, 0, &told) == CHANV_NO && told.path == 2
+                 && chanv_why(job, rows, 3, NULL, 0, &told) == CHANV_NO && told.path_count == 2
                  && rows[1].address == 0x810;
     }
     return (void *)right;
@@ -201,7 +206,9 @@ static void ask_with_little_room(void)
     ask("a store over the next CCW", job);
     why_with_room("no room, NULL", job, 0, 0);
     why_with_room("room for one and three", job, 1, 3);
+    why_with_room("room for one and none, NULL", job, 1, 0);
     why_with_room("room for two and none, NULL", job, 2, 0);
+    why_with_room("no room, NULL, and room for three", job, 0, 3);
     why_with_room("room for two and two", job, 2, 2);
     why_with_room("room for two and three", job, 2, 3);
     why_with_room("room for four and four", job, 4, 4);
@@ -327,8 +334,9 @@ int main(void)
     ask_at_the_limits();
     for (uint32_t reason = 0; reason < 18; reason++)
         printf("reason %" PRIu32 ": %s\n", reason, chanv_reason_word(reason));
-    for (uint32_t number = 0; number < 14; number++)
-        printf("number %" PRIu32 ": %s, %s, %s\n", number, chanv_answer_word(number),
-               chanv_refusal_word(number), chanv_entered_word(number));
+    for (uint32_t number = 0; number < 15; number++)
+        printf("number %" PRIu32 ": %s%s, %s, %s\n", number, chanv_answer_word(number),
+               chanv_is_fault(number) ? " (a fault)" : "", chanv_refusal_word(number),
+               chanv_entered_word(number));
     return 0;
 }

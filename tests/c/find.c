@@ -20,14 +20,14 @@ static int find(uint16_t device)
 {
     struct chanv_bytes image = {storage, fread(storage, 1, sizeof storage, stdin)};
     size_t count, again;
-    uint32_t answer = chanv_find(image, device, NULL, 0, &count);
+    uint32_t answer = chanv_find(&image, device, NULL, 0, &count);
     if (answer == CHANV_NO_ROOM) {
         starts[count] = OTHER;
-        answer = chanv_find(image, device, starts, count, &again);
+        answer = chanv_find(&image, device, starts, count, &again);
         if (again != count || starts[count] != OTHER)
             return 2;
     }
-    if (answer != CHANV_LISTED) {
+    if (answer != CHANV_OK) {
         printf("%u\n", answer);
         return 1;
     }
@@ -39,7 +39,7 @@ static int find(uint16_t device)
 static void ask(const char *name, struct chanv_bytes image, uint16_t device)
 {
     size_t count = OTHER;
-    uint32_t answer = chanv_find(image, device, NULL, 0, &count);
+    uint32_t answer = chanv_find(&image, device, NULL, 0, &count);
     printf("%s: %u %zu\n", name, answer, count);
 }
 

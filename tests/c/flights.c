@@ -321,10 +321,10 @@ static void write_program(int number)
         .device = below(2) ? 2311 : 2314,
     };
     asked[number] = job, was_started[number] = 0;
-    take_in(&programs[number], &job) == CHANV_LISTED ? taken_in++ : refused++;
+    take_in(&programs[number], &job) == CHANV_OK ? taken_in++ : refused++;
 }
 
-static int is_listed(const struct taken *taken)
+static int is_taken_in(const struct taken *taken)
 {
     return taken->program.device != 0;
 }
@@ -337,7 +337,7 @@ static int is_free(int device)
 static int is_in_flight(const struct taken *taken)
 {
     for (int device = 0; device < DEVICES; device++)
-        if (!is_free(device) && in_flight[device].rows.keep.at == taken->keep)
+        if (!is_free(device) && in_flight[device].rows.keep.at == taken->program.rows.keep.at)
             return 1;
     return 0;
 }
@@ -359,14 +359,14 @@ static void grant(struct flight *flight, const struct taken *taken)
     struct chanv_job *job = &flight->job;
     const struct chanv_rows *rows = &taken->program.rows;
     job->mask = below(4) ? rows->mask : masks[below(8)];
-    memcpy(flight->extents, taken->extents, sizeof flight->extents);
+    memcpy(flight->extents, rows->extents.at, sizeof *flight->extents * rows->extents.len);
     job->extents = (struct chanv_extents){flight->extents, rows->extents.len};
     if (rows->extents.len == 0 || below(4) == 0) {
         flight->extents[0] = (struct chanv_extent){(uint16_t)below(16), 202};
         job->extents.len = 1;
     }
-    size_t fetch = copy_areas(flight->fetch, taken->fetch, rows->fetch.len);
-    size_t store = copy_areas(flight->store, taken->store, rows->store.len);
+    size_t fetch = copy_areas(flight->fetch, rows->fetch.at, rows->fetch.len);
+    size_t store = copy_areas(flight->store, rows->store.at, rows->store.len);
     job->fetch = (struct chanv_areas){flight->fetch, fetch};
     job->store = (struct chanv_areas){flight->store, store};
     if (below(4) == 0) {
@@ -381,7 +381,7 @@ static void try_start(int number, int device)
     if (!is_free(device))
         return;
     *flight = (struct flight){.job = asked[number], .stage = AT, .is_fresh = 1};
-    if (is_listed(&programs[number]))
+    if (is_taken_in(&programs[number]))
         grant(flight, &programs[number]);
     if (!start(&programs[number], device, &flight->job)) {
         held_back++;
@@ -418,7 +418,7 @@ int main(int argc, char **argv)
     unsigned long wanted = argc < 3 ? 1000 : strtoul(argv[2], NULL, 10);
     while (started < wanted) {
         int number = (int)below(PROGRAMS), device = (int)below(DEVICES);
-        if (!is_in_flight(&programs[number]) && (!is_listed(&programs[number]) || below(64) == 0))
+        if (!is_in_flight(&programs[number]) && (!is_taken_in(&programs[number]) || below(64) == 0))
             write_program(number);
         try_start(number, device);
         for (int i = 0; i < 4; i++)

@@ -25,6 +25,8 @@ struct told {
     struct chanv_place places[2][ROOM];
     struct chanv_extent extents[ROOM];
     struct chanv_area areas[3][ROOM];
+    uint8_t kept[64];
+    uint32_t starts[ROOM];
     char text[1024];
 };
 
@@ -97,7 +99,8 @@ static void needs(struct told *told, struct emptied emptied)
 {
     struct chanv_job job = job_of(emptied);
     told->code = chanv_needs(&job, &told->needed, told->extents, ROOM, told->areas[0], ROOM,
-                             told->areas[1], ROOM, told->areas[2], ROOM);
+                             told->areas[1], ROOM, told->areas[2], ROOM, told->kept,
+                             sizeof told->kept);
 }
 
 static void open_text(struct told *told, struct emptied emptied)
@@ -123,7 +126,7 @@ static void start(struct told *told, struct emptied emptied)
         .start = 0x800,
         .device = 2314,
     };
-    told->code = chanv_may_start(&job, NULL, 0, &program, &told->refusal);
+    told->code = chanv_check_start(&job, NULL, 0, &program, &told->refusal);
 }
 
 /* Where the lists that are written have no room. */
@@ -163,9 +166,11 @@ static void needs_into(struct told *told, struct emptied emptied)
     void *cylinders = (void *)pointer(told->extents, emptied, 0), *lists[3];
     for (int i = 0; i < 3; i++)
         lists[i] = (void *)pointer(told->areas[i], emptied, i + 1);
+    void *bytes = (void *)pointer(told->kept, emptied, 4);
     told->code = chanv_needs(&job, &told->needed, cylinders, room(emptied, 0), lists[0],
                              room(emptied, 1), lists[1], room(emptied, 2), lists[2],
-                             room(emptied, 3));
+                             room(emptied, 3), bytes,
+                             is_empty(emptied, 4) ? 0 : sizeof told->kept);
 }
 
 /* A program that needs and keeps all there is, but for the lists that are empty. */
@@ -198,7 +203,7 @@ static void start_program(struct told *told, struct emptied emptied)
         job.fetch.at = all;
     if (!is_empty(emptied, 2))
         job.store.at = all;
-    told->code = chanv_may_start(&job, NULL, 0, &program, &told->refusal);
+    told->code = chanv_check_start(&job, NULL, 0, &program, &told->refusal);
 }
 
 /* Under a job that grants everything, so that only the two programs count. */
@@ -206,7 +211,7 @@ static void start_beside(struct told *told, struct chanv_program one, struct cha
 {
     struct chanv_job job = job_of(nothing);
     job.extents.at = each, job.fetch.at = job.store.at = all;
-    told->code = chanv_may_start(&job, &other, 1, &one, &told->refusal);
+    told->code = chanv_check_start(&job, &other, 1, &one, &told->refusal);
 }
 
 static void start_beside_all(struct told *told, struct emptied emptied)
@@ -227,30 +232,37 @@ static void start_alike(struct told *told, struct emptied emptied)
 static void write_over(struct told *told, struct emptied emptied)
 {
     struct chanv_program program = program_of(emptied);
-    told->code = chanv_may_write(&program, 1, all, &told->refusal);
+    told->code = chanv_check_write(&program, 1, all, &told->refusal);
 }
 
 static void write_with_none(struct told *told, struct emptied emptied)
 {
     struct chanv_program program = program_of(nothing);
-    told->code = chanv_may_write(pointer(&program, emptied, 0), !is_empty(emptied, 0), all,
+    told->code = chanv_check_write(pointer(&program, emptied, 0), !is_empty(emptied, 0), all,
                                  &told->refusal);
 }
 
-static void copy_kept(struct told *told, struct emptied emptied)
+static void find(struct told *told, struct emptied emptied)
 {
     struct chanv_bytes whole = {pointer(storage, emptied, 0),
                                 is_empty(emptied, 0) ? 0 : sizeof storage};
-    void *bytes = (void *)pointer(told->text, emptied, 2);
-    told->code = chanv_copy_kept(whole, pointer(argument, emptied, 1), !is_empty(emptied, 1), bytes,
-                                 is_empty(emptied, 2) ? 0 : sizeof told->text, &told->count);
+    void *starts = (void *)pointer(told->starts, emptied, 1);
+    told->code = chanv_find(&whole, 2314, starts, room(emptied, 1), &told->count);
+}
+
+static void take_in(struct told *told, struct emptied emptied)
+{
+    struct chanv_job job = job_of(emptied);
+    struct chanv_program program;
+    told->code = chanv_take_in(&job, told->text, sizeof told->text, &told->count, &program,
+                               &told->needed);
 }
 
 static const char *const of_job[] = {"storage", "extents", "fetch", "store"};
 static const char *const of_rows[] = {"extents", "fetch", "store", "keep", "kept"};
 static const char *const of_list[] = {"rows"}, *const of_why[] = {"path", "second path"};
 static const char *const of_text[] = {"buffer"}, *const of_write[] = {"in flight"};
-static const char *const of_copy[] = {"storage", "areas", "kept"};
+static const char *const of_find[] = {"storage", "starts"};
 
 static const struct call {
     const char *name;
@@ -268,14 +280,15 @@ static const struct call {
     {"list into", list_into, of_list, 1},
     {"why into", why_into, of_why, 2},
     {"text into", text_into, of_text, 1},
-    {"needs into", needs_into, of_rows, 4},
+    {"needs into", needs_into, of_rows, 5},
     {"start with rows", start_program, of_rows, 5},
     {"start beside all", start_beside_all, of_rows, 5},
     {"start all beside", start_all_beside, of_rows, 5},
     {"start beside alike", start_alike, of_rows, 5},
     {"write over", write_over, of_rows, 5},
     {"write with none in flight", write_with_none, of_write, 1},
-    {"copy kept", copy_kept, of_copy, 3},
+    {"find", find, of_find, 2},
+    {"take in", take_in, of_job, 4},
 };
 
 static void ask(const struct call *call, int list, const char *name)

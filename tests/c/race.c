@@ -2,7 +2,7 @@
  * may. What a call answers then means nothing. But it has to return, with one of the codes that the
  * header gives it, and may write only what it was handed for that.
  *
- *     race SECONDS CALL..     each CALL, such as verify or may_start, for so many seconds
+ *     race SECONDS CALL..     each CALL, such as verify or check_start, for so many seconds
  *
  * The last is `ask` of examples/c/emulator.c, whose answer is about its copy. So what it says of
  * the needs has to agree with the verdict on the copy, at any time after.
@@ -23,7 +23,7 @@
 #include <time.h>
 
 enum { STORAGE = 0x1000, PAST_STORAGE = 0x100, FENCE = 128, CODES = 12 };
-enum { LISTS = 4, MOST_ROWS = 32, MOST_BYTES = 2048 };
+enum { LISTS = 5, MOST_ROWS = 32, MOST_BYTES = 2048 };
 enum { PROGRAM = 0x800, PROGRAM_END = 0x868, DATA = 0x900, DATA_END = 0x938 };
 
 /* Eight bytes of storage: a CCW, or what a CCW points to. */
@@ -252,7 +252,7 @@ static uint32_t list(size_t room)
     size_t *count = hand(&outcome, sizeof *count);
     struct chanv_place *rows = hand_last(0, sizeof *rows * room);
     uint32_t code = chanv_list(&job, rows, room, count);
-    if (code == CHANV_LISTED && *count > room)
+    if (code == CHANV_OK && *count > room)
         fail("more places than rows", code);
     return code;
 }
@@ -265,7 +265,8 @@ static uint32_t why(size_t room)
     size_t second_room = MOST_ROWS - room;
     struct chanv_place *second_rows = hand_last(1, sizeof *second_rows * second_room);
     uint32_t code = chanv_why(&job, rows, room, second_rows, second_room, told);
-    if (code == CHANV_NO && (told->path > room || told->second_path > second_room))
+    if (code == CHANV_NO && ((room != 0 && told->path_count > room)
+                             || (second_room != 0 && told->second_path_count > second_room)))
         fail("a path of more places than rows", code);
     return code;
 }
@@ -287,35 +288,46 @@ static uint32_t needs(size_t room)
     struct chanv_extent *extents = hand(&lists[0], sizeof *extents * room);
     struct chanv_area *fetched = hand(&lists[1], sizeof *fetched * room);
     struct chanv_area *stored = hand(&lists[2], sizeof *stored * room);
-    struct chanv_area *kept = hand_last(3, sizeof *kept * room);
-    uint32_t code = chanv_needs(&job, told, extents, room, fetched, room, stored, room, kept, room);
-    if (code == CHANV_LISTED
-        && (told->extents > room || told->fetch > room || told->store > room || told->keep > room))
+    struct chanv_area *keep = hand(&lists[3], sizeof *keep * room);
+    size_t bytes = MOST_BYTES / MOST_ROWS * room;
+    uint8_t *kept = hand_last(4, bytes);
+    uint32_t code = chanv_needs(&job, told, extents, room, fetched, room, stored, room, keep, room,
+                                kept, bytes);
+    if (code == CHANV_OK
+        && (told->extent_count > room || told->fetch_count > room || told->store_count > room
+            || told->keep_count > room || told->kept_len > bytes))
         fail("more to list than rows", code);
     return code;
 }
 
-/* What `ask_once` was told, as a program to remember. */
-static uint32_t remember(const struct asked *told, const struct chanv_job *about, uint8_t *kept,
-                         size_t room, struct chanv_program *program)
+/* A program that was taken in lies in the memory. */
+static uint32_t take_in(size_t room)
 {
-    return chanv_remember(about, &told->needed, told->extents, told->fetch, told->store, told->keep,
-                          kept, room, program);
+    struct chanv_program *program = hand(&outcome, sizeof *program);
+    size_t len, bytes = MOST_BYTES / MOST_ROWS * room;
+    struct chanv_needed needed;
+    uint8_t *memory = hand_last(0, bytes);
+    uint32_t code = chanv_take_in(&job, memory, bytes, &len, program, &needed);
+    if (code == CHANV_OK
+        && (len > bytes || program->kept.at < memory
+            || program->kept.at + program->kept.len > memory + len))
+        fail("more taken in than there is room for", code);
+    return code;
 }
 
 /* The program while it is right, with all that is remembered of it, which no call may write. */
-static struct right {
-    struct asked asked;
-    uint8_t kept[STORAGE];
+static struct remembered {
     struct chanv_program program;
+    uint8_t memory[1024];
 } remembered, remembered_before;
 
 static void look_at_needs(void)
 {
-    uint32_t code = ask_once(&remembered.asked, &job);
-    if (code == CHANV_LISTED)
-        code = remember(&remembered.asked, &job, remembered.kept, STORAGE, &remembered.program);
-    if (code != CHANV_LISTED)
+    struct chanv_needed needed;
+    size_t len;
+    uint32_t code = chanv_take_in(&job, remembered.memory, sizeof remembered.memory, &len,
+                                  &remembered.program, &needed);
+    if (code != CHANV_OK)
         fail("no needs of the right program", code);
     remembered_before = remembered;
 }
@@ -327,34 +339,23 @@ static uint32_t with_all_left_alone(uint32_t code)
     return code;
 }
 
-static uint32_t may_start(size_t room)
+static uint32_t check_start(size_t room)
 {
     struct chanv_refusal *refusal = hand(&outcome, sizeof *refusal);
     const struct chanv_program *program = &remembered.program;
     (void)room;
     hand_last(0, 0);
-    return with_all_left_alone(chanv_may_start(&job, program, 1, program, refusal));
+    return with_all_left_alone(chanv_check_start(&job, program, 1, program, refusal));
 }
 
 /* This doesn't look at storage, so its answer is always the same. */
-static uint32_t may_write(size_t room)
+static uint32_t check_write(size_t room)
 {
     struct chanv_refusal *refusal = hand(&outcome, sizeof *refusal);
     const struct chanv_area area = {0, PROGRAM};
     (void)room;
     hand_last(0, 0);
-    return with_all_left_alone(chanv_may_write(&remembered.program, 1, &area, refusal));
-}
-
-static uint32_t copy_kept(size_t room)
-{
-    size_t *count = hand(&outcome, sizeof *count), bytes = MOST_BYTES / MOST_ROWS * room;
-    uint8_t *kept = hand_last(0, bytes);
-    const struct chanv_areas areas = remembered.program.rows.keep;
-    uint32_t code = chanv_copy_kept(job.storage, areas.at, areas.len, kept, bytes, count);
-    if (code == CHANV_LISTED && *count > bytes)
-        fail("more kept bytes than there is room for", code);
-    return with_all_left_alone(code);
+    return with_all_left_alone(chanv_check_write(&remembered.program, 1, &area, refusal));
 }
 
 /* How often storage had what is kept, and how often it hadn't. */
@@ -369,7 +370,7 @@ static uint32_t emulator(size_t room)
     (void)room;
     hand(&outcome, 0), hand_last(0, 0);
     uint32_t code = ask(&asked_by_it, &job);
-    if (code != CHANV_LISTED)
+    if (code != CHANV_OK)
         return code;
     still.storage.at = copy;
     if (may_begin(&asked_by_it, &still) != (chanv_verify(&still, &verdict) == CHANV_YES))
@@ -389,9 +390,9 @@ static const struct call {
     {"why", why, CODES},
     {"text", text, CODES},
     {"needs", needs, CODES},
-    {"may_start", may_start, CHANV_TOO_MANY_PLACES},
-    {"may_write", may_write, CHANV_TOO_MANY_PLACES},
-    {"copy_kept", copy_kept, CHANV_NO},
+    {"take_in", take_in, CODES},
+    {"check_start", check_start, CHANV_TOO_MANY_PLACES},
+    {"check_write", check_write, CHANV_TOO_MANY_PLACES},
     {"emulator", emulator, CHANV_NO_ROOM},
 };
 

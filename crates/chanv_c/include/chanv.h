@@ -377,7 +377,8 @@ CHANV_MUST_USE uint32_t chanv_needs(const struct chanv_job *job, struct chanv_ne
  * CHANV_OK: the program is remembered, and takes the first `*len` bytes of `memory`. CHANV_NO_ROOM:
  * it takes `*len` bytes, more than `room`. Otherwise it returns like `chanv_needs`, and `*len` is
  * 0. `out` is always what `chanv_needs` wrote: so it has the verdict if no job will do, and says
- * whether the program may hang. `program` is zeroed unless the answer is CHANV_OK. */
+ * whether the program may hang. Unless the answer is CHANV_OK, `program` is zeroed, and no byte of
+ * `memory` is written. */
 CHANV_MUST_USE uint32_t chanv_take_in(const struct chanv_job *job, void *memory, size_t room,
                                       size_t *len, struct chanv_program *program,
                                       struct chanv_needed *out);
