@@ -2,8 +2,8 @@
 use Rattle.chan_needs.proofs.Names.{All, and_parts, ap, Area, arith, ccw_of, end_of, get_or, Has}
 use Rattle.chan_needs.proofs.Names.{inl, inr, IsByteOf, IsClear, IsGuarded, IsMerged, Job, leb-true}
 use Rattle.chan_needs.proofs.Names.{length, lies_in, lies_in-cases, List, open_job, refl, storage_of}
-use Rattle.chan_needs.proofs.Names.{subst, suc, sym, take, true, zero, ℕ, [], ◌++◌, ◌+◌, ◌<◌, ◌∙◌}
-use Rattle.chan_needs.proofs.Names.{◌∷◌, ◌≡◌, ◌≤◌, ◌⊎◌}
+use Rattle.chan_needs.proofs.Names.{subst, suc, sym, take, true, zero, ℕ, [], ◌++◌, ◌+◌, ◌-◌, ◌<◌}
+use Rattle.chan_needs.proofs.Names.{◌∙◌, ◌∷◌, ◌≡◌, ◌≤◌, ◌⊎◌}
 use Rattle.std.proofs.lemmas.List.{length-append, take_all, take_more}
 use Rattle.std.proofs.lemmas.List.Elements.{All-cons, All-head, All-nil, All-tail}
 use Rattle.ccw_core.specs.Storage.{is_inside, Stands}
@@ -79,7 +79,7 @@ total_copied s (a ∷ areas) h =
     omega (arith, one, more, all)
 
 total-append : (xs ys : List Area) → total_len (xs ++ ys) ≡ total_len xs + total_len ys
-total-append [] ys = refl
+total-append [] ys = omega arith
 total-append (x ∷ xs) ys = let more = total-append xs ys in omega (arith, more)
 
 -- merged areas are so far apart that their sum stays below the end of the last

@@ -86,6 +86,7 @@ pub fn kept_len(areas: &[Area]) -> usize
 {
     let mut len = 0;
     for area in areas {
+        let area = *area;
         len += area.len as usize;
     }
     len
