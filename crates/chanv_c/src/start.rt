@@ -10,9 +10,10 @@ ghost use Rattle.chanv_c.specs.Start.{StartsWellFor, check_code, check_told, not
 ghost use Rattle.chanv_c.specs.Start.{refusal_told};
 ghost use Rattle.chanv_c.specs.declared.start.StartCheck as declared;
 
-use crate::codes::{CHANGED, KEEPS, KEPT, MASK, NO, NO_CYLINDER, NOT_FETCHABLE, NOT_STORABLE};
-use crate::codes::{OTHER_DEVICE, OTHER_LENGTH, OTHER_START, RESERVED, RESERVED_IN_FLIGHT, STORES};
-use crate::codes::YES;
+use crate::codes::{
+    CHANGED, KEEPS, KEPT, MASK, NO, NO_CYLINDER, NOT_FETCHABLE, NOT_STORABLE, OTHER_DEVICE,
+    OTHER_LENGTH, OTHER_START, RESERVED, RESERVED_IN_FLIGHT, STORES, YES,
+};
 use crate::job::CJob;
 use crate::question::{Question, answer};
 use crate::refusal::Refusal;
