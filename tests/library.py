@@ -1,12 +1,10 @@
-"""The library for C: its example, answers, edges, refused memory and archive.
+"""The library for C: its example, edges, threads, refused memory and archive.
 
 The programs of c/ and examples/c/ ask it. What they should write was worked out from the rules:
-edges.out, needs.out, nulls.out and threads.out of c/; the verdicts and listings of the decks of
-examples/ and examples/cases/; the paths and values of each no among them in why-examples.out and
-why-cases.out of c/; the words of src/reason.rt of chan_walk; and the example of docs/EMBEDDING.md,
-whose text has to be that of ask.c. A deck's program may start under its job exactly if its verdict
-is yes. The archive may ask only for what the C library has to have, and each growth of memory in a
-call is refused in turn.
+edges.out, needs.out and threads.out of c/; the words of src/reason.rt of chan_walk; and the example
+of docs/EMBEDDING.md, whose text has to be that of ask.c. The archive may ask only for what the C
+library has to have, and each growth of memory in a call is refused in turn. The test `python` asks
+about all decks, `nulls` hands in NULL for each empty list.
 """
 
 import re
@@ -14,22 +12,13 @@ import tempfile
 from pathlib import Path
 
 from building import HERE, ROOT, SANITIZED, c_compiler, compile_c, compile_with, short, version_of
-from examples import (
-    EXAMPLES,
-    FOLDERS,
-    TEXTS,
-    decks_of,
-    listed_with,
-    status_of,
-    status_of_needs,
-    verdicts_of,
-)
+from examples import EXAMPLES
 from refusing import Case, Growths
 from running import Ran, run, text_of
 
 # the programs whose calls get too little room, foreign rows or threads run under the sanitizers
-LINED = ("edges", "needs", "nulls", "threads")
-TESTS = ("decks", "one_call", *LINED)
+LINED = ("edges", "needs", "threads")
+TESTS = ("one_call", *LINED)
 SOURCES = [EXAMPLES / "c/ask.c", *[HERE / f"c/{name}.c" for name in TESTS]]
 MAY_ASK_FOR = {"memcpy", "memmove", "memset", "malloc", "realloc", "free"}
 OF_THE_RUNTIME = {"rattle_alloc", "rattle_realloc", "rattle_dealloc"}
@@ -41,9 +30,6 @@ LAYOUT = ROOT / "crates/chanv_c/include/layout.txt"
 WARNINGS = ["-Wall", "-Wextra", "-Wpedantic", "-Wconversion", "-Wsign-conversion", "-Werror"]
 IN_CPP = ["-x", "c++", "-std=c++17", "-Wold-style-cast"]
 IN_C99 = ["-x", "c", "-std=c99"]
-
-# what chanv_list answers where there is no room
-NO_ROOM = 11
 
 
 def check_document(checks, folder):
@@ -138,7 +124,7 @@ def check_archive(checks, library):
 
 
 def check_hardening(checks, library):
-    """Nothing on the stack of a program that loads the library runs, and its tables are read-only."""
+    """No stack of a program that loads the library runs, and its tables are read-only."""
     shared = next(library.glob("libchanv.so.*"))
     headers = run("readelf", "-lW", shared).output
     stack = re.search(r"GNU_STACK.* (RWE?) ", headers)
@@ -146,59 +132,6 @@ def check_hardening(checks, library):
     checks.expect_that("relocated tables are read-only", "GNU_RELRO" in headers, headers)
     dynamic = run("readelf", "-dW", shared).output
     checks.expect_that("each symbol is bound at once", "NOW" in dynamic, dynamic)
-
-
-def reasons_of(folder):
-    """For each deck the lines of its paths and values, which stand in a block under its name."""
-    blocks = text_of(HERE / f"c/why-{folder.name}.out").rstrip("\n").split("\n\n")
-    return {name: f"{lines}\n" for name, lines in (block.split("\n", 1) for block in blocks)}
-
-
-def check_decks(checks, program):
-    for folder in FOLDERS:
-        verdicts, reasons = verdicts_of(folder), reasons_of(folder)
-        found = [path.name for path in decks_of(folder)]
-        checks.expect(f"{short(folder)}, which decks", sorted(verdicts), found)
-        refused = sorted(name for name, verdict in verdicts.items() if verdict != "yes")
-        checks.expect(f"{short(folder)}, which have a no", refused, sorted(reasons))
-        for name, verdict in verdicts.items():
-            deck, status = folder / name, status_of(verdict)
-            ran = run(program, "verify", given=deck)
-            checks.expect(f"verify {short(deck)}", Ran(status, f"{verdict}\n"), ran)
-            why = f"{verdict}\n{reasons.get(name, '')}"
-            checks.expect(f"why {short(deck)}", Ran(status, why), run(program, "why", given=deck))
-            may_start = "yes" if verdict == "yes" else "no"
-            ran = run(program, "start", given=deck)
-            checks.expect(f"start {short(deck)}", Ran(status, f"{may_start}\n"), ran)
-            if "needs" in listed_with(deck):
-                text = text_of(deck.with_suffix(".needs"))
-                wanted = Ran(status_of_needs(text), text)
-                checks.expect(f"needs {short(deck)}", wanted, run(program, "needs", given=deck))
-            if "list" in listed_with(deck):
-                check_listing(checks, program, deck)
-            if "why" in listed_with(deck) or verdict == "yes":
-                check_text(checks, program, deck, status)
-
-
-def check_texts(checks, program):
-    for name, verdict in verdicts_of(TEXTS).items():
-        if "why" in listed_with(TEXTS / name):
-            check_text(checks, program, TEXTS / name, status_of(verdict))
-
-
-def check_text(checks, program, deck, status):
-    """The text is what `chanv why` prints, which of a yes is its line alone."""
-    wanted = text_of(deck.with_suffix(".why")) if "why" in listed_with(deck) else "yes\n"
-    checks.expect(f"text {short(deck)}", Ran(status, wanted), run(program, "text", given=deck))
-
-
-def check_listing(checks, program, deck):
-    """Address, entry and mark are those of the listing's rows, which the verdict follows."""
-    rows = text_of(deck.with_suffix(".list")).splitlines()[:-1]
-    wanted = "".join(" ".join(row.split(" ")[:3]) + "\n" for row in rows)
-    checks.expect(f"list {short(deck)}", Ran(0, wanted), run(program, "list", given=deck))
-    count = Ran(NO_ROOM, f"{len(rows)}\n")
-    checks.expect(f"count {short(deck)}", count, run(program, "count", given=deck))
 
 
 def refuse_growths(checks, folder):
@@ -229,6 +162,4 @@ def check(checks, built):
         check_warnings(checks, library)
         check_archive(checks, library)
         check_hardening(checks, library)
-        check_decks(checks, folder / "decks")
-        check_texts(checks, folder / "decks")
         refuse_growths(checks, folder)

@@ -1,37 +1,12 @@
 /* Asks at the edges: NULL for empty lists, each fault of a job and two at once, the limits, too
  * little room, several threads. Each line is the name of a case, the call's code, and what it
  * wrote. */
-#include <chanv.h>
-#include <inttypes.h>
+#include "asking.h"
 #include <pthread.h>
-#include <stdio.h>
-#include <stdlib.h>
-#include <string.h>
 
-static uint8_t storage[16777217];
-static struct chanv_extent cylinders[] = {{10, 19}}, backwards[] = {{10, 19}, {9, 3}, {3, 203}},
-                           past[] = {{10, 19}, {0, 202}, {3, 203}, {9, 3}};
-static struct chanv_area fetch[] = {{0x900, 0x10}}, store[] = {{0xA00, 0x100}};
-static struct chanv_area all[] = {{0, 0x1000}};
+static struct chanv_extent backwards[] = {{10, 19}, {9, 3}, {3, 203}};
+static struct chanv_extent past[] = {{10, 19}, {0, 202}, {3, 203}, {9, 3}};
 static const struct chanv_areas no_areas = {NULL, 0};
-
-/* The job of the usual search loop, which it just has room for. */
-static const struct chanv_job good = {
-    .storage = {storage, 0x1000},
-    .extents = {cylinders, 1},
-    .fetch = {fetch, 1},
-    .store = {store, 1},
-    .start = 0x800,
-    .limit = 3,
-    .device = 2314,
-    .mask = 0x00,
-};
-
-static void put(uint32_t address, uint64_t ccw)
-{
-    for (int i = 0; i < 8; i++)
-        storage[address + i] = (uint8_t)(ccw >> (56 - 8 * i));
-}
 
 /* Whether so many rows from the front are written, and none behind them. */
 static int are_written(const struct chanv_place *rows, size_t room, size_t written)
@@ -252,7 +227,7 @@ static void ask_with_another_value(void)
 static void ask_with_faults(void)
 {
     struct chanv_job job = {
-        .storage = {storage, sizeof storage},
+        .storage = {storage, 16777217},
         .fetch = good.fetch,
         .store = good.store,
         .start = 0x800,
@@ -322,9 +297,7 @@ static void ask_at_the_limits(void)
 
 int main(void)
 {
-    put(0x800, 0x3100090040000005);
-    put(0x808, 0x0800080000000000);
-    put(0x810, 0x06000A0020000050);
+    fill(search_loop);
     ask("search loop", good);
     ask_with_little_room();
     ask_with_nothing_lent();

@@ -2,39 +2,20 @@
  * less in each list, NULL for empty lists, no job that will do, a limit that only the open job
  * passes, each fault of a job, each refusal, rows from anywhere. Each line is the name of a case,
  * the call's code, and what it told. */
-#include <chanv.h>
-#include <inttypes.h>
-#include <stdio.h>
-#include <string.h>
+#include "asking.h"
 
 enum { ROOM = 4, BYTES = 64 };
 
-static uint8_t storage[0x1000], too_large[16777217];
-static struct chanv_extent all_cylinders[] = {{0, 202}}, one_cylinder[] = {{100, 100}};
-static struct chanv_extent backwards[] = {{10, 19}, {9, 3}};
-static struct chanv_area all[] = {{0, 0x1000}};
+static struct chanv_extent one_cylinder[] = {{100, 100}}, backwards[] = {{10, 19}, {9, 3}};
 
 /* A job that grants next to nothing. */
 static const struct chanv_job poor = {
-    .storage = {storage, sizeof storage},
+    .storage = {storage, SMALL},
     .extents = {one_cylinder, 1},
     .start = 0x800,
     .limit = CHANV_USUAL_LIMIT,
     .device = 2314,
     .mask = 0x58,
-};
-
-/* Eight bytes of storage. */
-struct word {
-    uint32_t address;
-    uint64_t value;
-};
-
-static const struct word search_loop[] = {
-    {0x800, 0x3100090040000005},
-    {0x808, 0x0800080000000000},
-    {0x810, 0x06000A0020000050},
-    {0, 0},
 };
 
 /* Reads into one place again and again. */
@@ -63,14 +44,6 @@ static const struct word sets_no_mask[] = {
     {0x900, 0x0100000000000000},
     {0, 0},
 };
-
-static void fill(const struct word *words)
-{
-    memset(storage, 0, sizeof storage);
-    for (; words->address != 0; words++)
-        for (int i = 0; i < 8; i++)
-            storage[words->address + i] = (uint8_t)(words->value >> (56 - 8 * i));
-}
 
 /* How many rows there are in each list, and how many bytes are kept; or how much room there is. */
 struct counts {
@@ -217,16 +190,6 @@ static struct chanv_program program_of(const struct chanv_job *job, const struct
         .rows = *rows, .kept = {bytes, len}, .start = job->start, .device = job->device};
 }
 
-static void print_refusal(uint32_t answer, const struct chanv_refusal *refusal)
-{
-    printf("%" PRIu32, answer);
-    if (refusal->code != 0)
-        printf(" %s %" PRIX32 " of %zu", chanv_refusal_word(refusal->code), refusal->value,
-               refusal->program);
-    if (refusal->extent != 0)
-        printf(", wrong extent %zu", refusal->extent);
-}
-
 static void try_beside(const struct chanv_job *job, const struct chanv_program *in_flight,
                        size_t count, const struct chanv_program *program)
 {
@@ -258,7 +221,7 @@ static void ask_with_fault(const char *name, struct chanv_job job, struct chanv_
 static void ask_with_faults(void)
 {
     static const struct chanv_program nothing = {.rows = {.mask = 0x58}};
-    struct chanv_job job = {.storage = {too_large, sizeof too_large}, .start = 0x800, .mask = 1};
+    struct chanv_job job = {.storage = {storage, 16777217}, .start = 0x800, .mask = 1};
     ask_with_fault("all faults", job, nothing);
     job.storage = poor.storage;
     ask_with_fault("a right storage", job, nothing);
@@ -499,8 +462,8 @@ static void ask_with_rows_that_nobody_gave(void)
     int answers = 0;
     for (int mask = 0; mask < 256; mask++) {
         rows.mask = (uint8_t)mask;
-        struct chanv_program program = {rows, {storage, sizeof storage}, poor.start, 2314, {0}};
-        rows.storage_len = mask % 2 ? sizeof storage : 0xFFFFFFFF;
+        struct chanv_program program = {rows, {storage, SMALL}, poor.start, 2314, {0}};
+        rows.storage_len = mask % 2 ? SMALL : 0xFFFFFFFF;
         answers += chanv_check_start(&poor, &program, 1, &program, &refusal) == CHANV_NO
                    && chanv_check_write(&program, 1, &areas[0], &refusal) == CHANV_NO;
     }

@@ -7,17 +7,8 @@
  *
  * The status is 99 where something was written that shouldn't be. Nothing here asks for memory.
  */
-#include <chanv.h>
-#include <string.h>
+#include "asking.h"
 #include <unistd.h>
-
-static uint8_t storage[0x1000];
-
-static void put(uint32_t address, uint64_t ccw)
-{
-    for (int i = 0; i < 8; i++)
-        storage[address + i] = (uint8_t)(ccw >> (56 - 8 * i));
-}
 
 static int say(const char *text)
 {
@@ -163,7 +154,7 @@ static const struct chanv_program program = {
             .fetch = {fetched, 1},
             .store = {stored, 1},
             .keep = {kept, 1},
-            .storage_len = sizeof storage,
+            .storage_len = SMALL,
             .mask = 0x58,
         },
     .kept = {storage + 0x800, 0x18},
@@ -216,25 +207,14 @@ static const struct call {
 
 int main(int argc, char **argv)
 {
-    struct chanv_extent cylinders[] = {{10, 19}};
-    struct chanv_area fetch[] = {{0x900, 0x10}}, store[] = {{0xA00, 0x100}}, over[] = {{0x818, 8}};
-    struct chanv_job job = {
-        .storage = {storage, sizeof storage},
-        .extents = {cylinders, 1},
-        .fetch = {fetch, 1},
-        .store = {store, 1},
-        .start = 0x800,
-        .limit = CHANV_USUAL_LIMIT,
-        .device = 2314,
-    };
-    put(0x800, 0x3100090040000005);
-    put(0x808, 0x0800080000000000);
-    put(0x810, 0x06000A0020000050);
+    static const struct chanv_area over[] = {{0x818, 8}};
+    struct chanv_job job = good;
+    fill(search_loop);
     const char *name = argc < 2 ? "setup" : argv[1];
     if (strcmp(name, "why") == 0 || strstr(name, "text") != NULL) {
         put(0x810, 0x0600081840000008);
         put(0x818, 0x0300000000000001);
-        job.store.at = over;
+        job.store.at = over, job.limit = 4;
     }
     for (size_t i = 0; i < sizeof calls / sizeof *calls; i++)
         if (strcmp(name, calls[i].name) == 0)
