@@ -2,8 +2,8 @@
 //! two programs side by side, start one that was asked about, and let others write meanwhile.
 //!
 //! ```
-//! fn may_run_beside(alloc: Global, needs: &Needs, other: &Needs) -> bool {
-//!     needs.rows().conflict(&other.rows()) == None
+//! fn may_run_beside(program: &Remembered, other: &Remembered) -> bool {
+//!     program.rows.conflict(&other.rows) == None
 //! }
 //! ```
 #![tactic(auto)]
@@ -17,6 +17,6 @@ mod rows;
 mod start;
 
 pub use crate::needs::{Needs, needs_from};
-pub use crate::remembered::{Remembered, copy_kept, may_write};
-pub use crate::rows::{Conflict, Rows};
+pub use crate::remembered::{Remembered, copy_kept, kept_len, may_write};
+pub use crate::rows::{Conflict, Extent, Rows, or_empty};
 pub use crate::start::{Start, StartRefusal, may_start};

@@ -3,6 +3,7 @@
 ghost use Rattle.std.specs.Prelude.{◌≡◌, ◌≢◌, ◌<◌, ◌≤◌, length};
 ghost use Rattle.chanv_c.specs.Answers.{AreListed, HasPlaces, HasTooMany, IsAnswerCode};
 
+use crate::codes::{NO_ROOM, YES};
 use crate::job::CJob;
 use crate::question::{Question, answer, no_answer};
 use crate::refusal::Refusal;
@@ -32,10 +33,10 @@ pub extern "C" fn chanv_list(
         Ok(found) => {
             *count = found.len();
             if rows.len() < found.len() {
-                return 11;
+                return NO_ROOM;
             }
             write_rows(&found, rows);
-            0
+            YES
         }
         Err(refusal) => {
             *count = refusal.extent();

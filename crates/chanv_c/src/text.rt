@@ -9,6 +9,7 @@ ghost use Rattle.chanv_c.specs.Needs.{HasTooManyOpenly, StandFirst};
 ghost use Rattle.chanv_c.specs.Text.{IsOpenText, IsText, IsTextOn, IsToldWhole, IsTooLong};
 ghost use Rattle.chanv_c.specs.Text.{verdict_code};
 
+use crate::codes::{NO, NO_ROOM, YES};
 use crate::job::CJob;
 use crate::needs::no_needs;
 use crate::question::{Question, answer, no_answer};
@@ -26,72 +27,72 @@ pub(crate) struct Told {
 }
 
 /// Writes the text that explains the verdict on the job, as `chanv why` prints it: 0 if the program
-/// may run, 1 if it may not, 11 if the text is longer than `buffer`; then `count` is its length.
-/// Otherwise it says why there is no answer, like `chanv_verify`, and `count` is 0. Only for 0 and
+/// may run, 1 if it may not, 11 if the text is longer than `buffer`; then `len` is its length.
+/// Otherwise it says why there is no answer, like `chanv_verify`, and `len` is 0. Only for 0 and
 /// 1 is anything written to `buffer`.
 #[unsafe(no_mangle)]
 pub extern "C" fn chanv_text(
     alloc: Global,
     job: &CJob<'_>,
     buffer: &mut [u8],
-    count: &mut usize,
+    len: &mut usize,
 ) -> u32
     ensures told { result ≤ 1 → (t : declared.Told) × IsText job.now t
-        × (result ≡ verdict_code t.verdict) × IsToldWhole t count.new buffer.old buffer.new }
+        × (result ≡ verdict_code t.verdict) × IsToldWhole t len.new buffer.old buffer.new }
     ensures room { result ≡ 11 → (t : declared.Told) × IsText job.now t
-        × IsTooLong t count.new buffer.old }
+        × IsTooLong t len.new buffer.old }
     ensures kept { 1 < result → buffer.new ≡ buffer.old }
     ensures number { (extent : ℕ) × IsAnswerCode (HasTooMany job.now) job.now result extent }
-    ensures no_count { 1 < result → result ≢ 11 → count.new ≡ 0 }
+    ensures no_len { 1 < result → result ≢ 11 → len.new ≡ 0 }
 {
     match answer(alloc, &WhichText, job) {
-        Ok(told) => write_told(&told, buffer, count),
+        Ok(told) => write_told(&told, buffer, len),
         Err(refusal) => {
-            *count = 0;
+            *len = 0;
             refusal.code()
         }
     }
 }
 
 /// Writes the text that explains the verdict on the open job of the job's program: so it says why
-/// no job will do, if `chanv_needs` answered so. The codes, `buffer` and `count` are those of
+/// no job will do, if `chanv_needs` answered so. The codes, `buffer` and `len` are those of
 /// `chanv_text`; too many places are those that are reachable under the open job.
 #[unsafe(no_mangle)]
 pub extern "C" fn chanv_open_text(
     alloc: Global,
     job: &CJob<'_>,
     buffer: &mut [u8],
-    count: &mut usize,
+    len: &mut usize,
 ) -> u32
     ensures told { result ≤ 1 → (t : declared.Told) × IsOpenText job.now t
-        × (result ≡ verdict_code t.verdict) × IsToldWhole t count.new buffer.old buffer.new }
+        × (result ≡ verdict_code t.verdict) × IsToldWhole t len.new buffer.old buffer.new }
     ensures room { result ≡ 11 → (t : declared.Told) × IsOpenText job.now t
-        × IsTooLong t count.new buffer.old }
+        × IsTooLong t len.new buffer.old }
     ensures kept { 1 < result → buffer.new ≡ buffer.old }
     ensures number { (extent : ℕ) × IsAnswerCode (HasTooManyOpenly job.now) job.now result extent }
-    ensures no_count { 1 < result → result ≢ 11 → count.new ≡ 0 }
+    ensures no_len { 1 < result → result ≢ 11 → len.new ≡ 0 }
 {
     match answer(alloc, &WhichOpenText, job) {
-        Ok(told) => write_told(&told, buffer, count),
+        Ok(told) => write_told(&told, buffer, len),
         Err(refusal) => {
-            *count = 0;
+            *len = 0;
             refusal.code()
         }
     }
 }
 
 /// Writes a text, if there is room, and answers by its verdict's number, or 11.
-fn write_told(told: &Told, buffer: &mut [u8], count: &mut usize) -> u32
+fn write_told(told: &Told, buffer: &mut [u8], len: &mut usize) -> u32
     ensures told { result ≤ 1 → (result ≡ verdict_code told.now.verdict)
-        × IsToldWhole told.now count.new buffer.old buffer.new }
-    ensures room { result ≡ 11 → IsTooLong told.now count.new buffer.old }
+        × IsToldWhole told.now len.new buffer.old buffer.new }
+    ensures room { result ≡ 11 → IsTooLong told.now len.new buffer.old }
     ensures kept { 1 < result → buffer.new ≡ buffer.old }
     ensures codes { (result ≤ 1) ⊎ (result ≡ 11) }
 {
     let text = told.text.as_bytes();
-    *count = text.len();
+    *len = text.len();
     if buffer.len() < text.len() {
-        return 11;
+        return NO_ROOM;
     }
     write_text(text, buffer);
     code_of(told.verdict)
@@ -102,8 +103,8 @@ fn code_of(verdict: Verdict) -> u32
     ensures { result ≡ verdict_code verdict }
 {
     match verdict {
-        Verdict::Yes => 0,
-        Verdict::No { .. } => 1,
+        Verdict::Yes => YES,
+        Verdict::No { .. } => NO,
     }
 }
 

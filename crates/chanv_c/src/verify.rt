@@ -4,6 +4,7 @@ ghost use Rattle.std.specs.Prelude.{◌≡◌, ◌≢◌, ◌<◌};
 ghost use Rattle.chan_walk.specs.declared.verdict.Verdict.TheVariants.{Yes};
 ghost use Rattle.chanv_c.specs.Answers.{HasTooMany, IsDenied, IsJudged, IsAnswerCode};
 
+use crate::codes::{NO, YES};
 use crate::job::CJob;
 use crate::question::{Question, answer, no_answer};
 use crate::refusal::Refusal;
@@ -38,7 +39,7 @@ pub extern "C" fn chanv_verify(alloc: Global, job: &CJob<'_>, out: &mut CVerdict
                 address: 0,
                 reason: 0,
             };
-            0
+            YES
         }
         Ok(Verdict::No { address, reason }) => {
             *out = CVerdict {
@@ -46,7 +47,7 @@ pub extern "C" fn chanv_verify(alloc: Global, job: &CJob<'_>, out: &mut CVerdict
                 address,
                 reason: u32::from(reason.number()),
             };
-            1
+            NO
         }
         Err(refusal) => {
             *out = CVerdict {

@@ -1,19 +1,20 @@
 //! Why a channel program may not run: the path to a place that offends, and the cause's values.
 
-ghost use Rattle.std.specs.Prelude.{◌≡◌, ◌≢◌, ◌<◌};
+ghost use Rattle.std.specs.Prelude.{◌≡◌, ◌≢◌, ◌<◌, ◌↔◌, ◌⊎◌, IsTrue};
 ghost use Rattle.chan_walk.specs.declared.verdict.Verdict.TheVariants.{Yes};
 ghost use Rattle.chanv_c.specs.Answers.{HasTooMany, IsJudged, IsAnswerCode};
 ghost use Rattle.chanv_c.specs.Why as specs;
-ghost use Rattle.chanv_c.specs.Why.{AreInFront, IsRoomTooSmall, IsTold, told_nothing, verdict_told};
+ghost use Rattle.chanv_c.specs.Why.{IsShort, IsTold, IsWrittenTo, told_nothing, verdict_told};
 ghost use Rattle.chanv_c.specs.declared.why.Found as declared;
 
+use crate::codes::{NO, NO_ROOM, YES};
 use crate::evidence::{CEvidence, NO_VALUES, cause_told};
 use crate::job::CJob;
 use crate::question::{Question, answer, no_answer};
 use crate::refusal::Refusal;
 use crate::rows::{CPlace, write_path};
 use crate::verify::CVerdict;
-use chan_walk::{Job, Verdict, survey};
+use chan_walk::{Job, Place, Verdict, survey};
 use chan_why::{Witness, witness_from};
 use std::alloc::Global;
 
@@ -22,9 +23,10 @@ use std::alloc::Global;
 #[derive(Clone, Copy)]
 pub struct CExplanation {
     pub verdict: CVerdict,
-    pub path: usize,
-    pub second_path: usize,
+    pub path_count: usize,
+    pub second_path_count: usize,
     pub evidence: CEvidence,
+    pub reserved: [u64; 4],
 }
 
 /// The verdict on a job, and what shows it.
@@ -36,9 +38,9 @@ pub(crate) struct Found {
 
 /// Why the program may not run: 0 if it may; 1 if it may not, with the verdict, the values of the
 /// cause, the path to a place that offends and, if something is changed, the path to that; 11 if
-/// one of the paths has more places than rows, with the same except the rows. Otherwise it says why
-/// there is no answer, like `chanv_verify`. All else is written as 0. Only for 1 is anything
-/// written to the rows.
+/// a path has more places than rows, with the same except the rows. A path without a row isn't
+/// wanted. Otherwise it says why there is no answer, like `chanv_verify`. All else is written as 0.
+/// Only for 1 is anything written to the rows.
 #[unsafe(no_mangle)]
 pub extern "C" fn chanv_why(
     alloc: Global,
@@ -49,10 +51,11 @@ pub extern "C" fn chanv_why(
 ) -> u32
     ensures yes { result ≡ 0 → IsJudged job.now Yes }
     ensures no { result ≡ 1 → (x : declared.Found) × IsTold job.now x out.new
-        × AreInFront x.witness.path.items path.old path.new
-        × AreInFront x.witness.second_path.items second_path.old second_path.new }
+        × IsWrittenTo x.witness.path.items path.old path.new
+        × IsWrittenTo x.witness.second_path.items second_path.old second_path.new }
     ensures room { result ≡ 11 → (x : declared.Found) × IsTold job.now x out.new
-        × IsRoomTooSmall x path.old second_path.old }
+        × (IsShort x.witness.path.items path.old
+        ⊎ IsShort x.witness.second_path.items second_path.old) }
     ensures kept { result ≢ 1 → (path.new ≡ path.old) × (second_path.new ≡ second_path.old) }
     ensures number { IsAnswerCode (HasTooMany job.now) job.now result out.new.verdict.extent }
     ensures nothing { result ≢ 1 → result ≢ 11 → out.new ≡ told_nothing out.new.verdict.extent }
@@ -68,7 +71,7 @@ pub extern "C" fn chanv_why(
     match found.verdict {
         Verdict::Yes => {
             *out = nothing(0);
-            return 0;
+            return YES;
         }
         Verdict::No { .. } => *out = told(&found),
     }
@@ -76,12 +79,29 @@ pub extern "C" fn chanv_why(
         found.witness.path.as_slice(),
         found.witness.second_path.as_slice(),
     );
-    if path.len() < first.len() || second_path.len() < second.len() {
-        return 11;
+    if is_short(first, path) || is_short(second, second_path) {
+        return NO_ROOM;
     }
-    write_path(first, path);
-    write_path(second, second_path);
-    1
+    write_wanted(first, path);
+    write_wanted(second, second_path);
+    NO
+}
+
+/// Whether a path that is wanted has more places than rows.
+fn is_short(path: &[Place], rows: &[CPlace]) -> bool
+    ensures { IsTrue result ↔ IsShort path.now rows.now }
+{
+    !rows.is_empty() && rows.len() < path.len()
+}
+
+/// Writes the rows of a path, if it is wanted.
+fn write_wanted(path: &[Place], rows: &mut [CPlace])
+    requires { IsShort path.now rows.old → ⊥ }
+    ensures { IsWrittenTo path.now rows.old rows.new }
+{
+    if !rows.is_empty() {
+        write_path(path, rows);
+    }
 }
 
 /// What is told where there is no explanation.
@@ -94,9 +114,10 @@ fn nothing(extent: usize) -> CExplanation
             address: 0,
             reason: 0,
         },
-        path: 0,
-        second_path: 0,
+        path_count: 0,
+        second_path_count: 0,
         evidence: NO_VALUES,
+        reserved: [0; 4],
     }
 }
 
@@ -106,9 +127,10 @@ fn told(found: &Found) -> CExplanation
 {
     CExplanation {
         verdict: verdict_of(found.verdict),
-        path: found.witness.path.len(),
-        second_path: found.witness.second_path.len(),
+        path_count: found.witness.path.len(),
+        second_path_count: found.witness.second_path.len(),
         evidence: cause_told(found.witness.evidence),
+        reserved: [0; 4],
     }
 }
 
