@@ -67,6 +67,30 @@ static inline struct chanv_job generous(void)
     return job;
 }
 
+/* A job with each fault that it can have at once, of which each step takes one away. It gives the
+ * step's name, or NULL after the last. */
+static inline const char *take_fault_away(int step, struct chanv_job *job)
+{
+    static const struct chanv_extent backwards[] = {{10, 19}, {9, 3}, {3, 203}};
+    static const struct chanv_extent past[] = {{10, 19}, {0, 202}, {3, 203}, {9, 3}};
+    switch (step) {
+    case 0:
+        *job = good, job->storage.len = 16777217, job->extents = (struct chanv_extents){NULL, 0};
+        job->limit = 0, job->device = 3330, job->mask = 0x01;
+        job->reserved[3] = (uint64_t)1 << 63;
+        return "all faults";
+    case 1: return job->storage.len--, "storage of 16 MiB";
+    case 2: return job->device = 2314, "a device";
+    case 3: return job->mask = 0xD8, "a mask, and no extent, NULL";
+    case 4: return job->extents = (struct chanv_extents){backwards, 3}, "extents, backwards first";
+    case 5: return job->extents = (struct chanv_extents){past, 4}, "extents, past the device first";
+    case 6: return job->extents.len = 2, "right extents";
+    case 7: return job->limit = 65537, "a limit that is too large";
+    case 8: return job->limit = 65536, "a limit, and what is reserved";
+    default: return NULL;
+    }
+}
+
 /* Memory that a call is handed for so many bytes, which begin after a fence, and of which it may
  * write the first alone. */
 enum { FENCE = 64, MOST_HANDED = 2048 };

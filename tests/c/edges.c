@@ -4,8 +4,6 @@
 #include "asking.h"
 #include <pthread.h>
 
-static struct chanv_extent backwards[] = {{10, 19}, {9, 3}, {3, 203}};
-static struct chanv_extent past[] = {{10, 19}, {0, 202}, {3, 203}, {9, 3}};
 static const struct chanv_areas no_areas = {NULL, 0};
 
 /* Whether so many rows from the front are written, and none behind them. */
@@ -223,36 +221,12 @@ static void ask_with_another_value(void)
     text_with_room("too many places", job, 4);
 }
 
-/* A job with each fault that it can have at once, of which one after the other is taken away. */
 static void ask_with_faults(void)
 {
-    struct chanv_job job = {
-        .storage = {storage, 16777217},
-        .fetch = good.fetch,
-        .store = good.store,
-        .start = 0x800,
-        .limit = 0,
-        .device = 3330,
-        .mask = 0x01,
-        .reserved = {0, 0, 0, (uint64_t)1 << 63},
-    };
-    ask("all faults", job);
-    job.storage.len--;
-    ask("storage of 16 MiB", job);
-    job.device = 2314;
-    ask("a device", job);
-    job.mask = 0xD8;
-    ask("a mask, and no extent, NULL", job);
-    job.extents = (struct chanv_extents){backwards, 3};
-    ask("extents, backwards first", job);
-    job.extents = (struct chanv_extents){past, 4};
-    ask("extents, past the device first", job);
-    job.extents = (struct chanv_extents){past, 2};
-    ask("right extents", job);
-    job.limit = 65537;
-    ask("a limit that is too large", job);
-    job.limit = 65536;
-    ask("a limit, and what is reserved", job);
+    struct chanv_job job;
+    const char *name;
+    for (int step = 0; (name = take_fault_away(step, &job)) != NULL; step++)
+        ask(name, job);
     for (int i = 0; i < 4; i++) {
         memset(job.reserved, 0, sizeof job.reserved);
         job.reserved[i] = 1;

@@ -6,7 +6,7 @@
 
 enum { ROOM = 4, BYTES = 64 };
 
-static struct chanv_extent one_cylinder[] = {{100, 100}}, backwards[] = {{10, 19}, {9, 3}};
+static struct chanv_extent one_cylinder[] = {{100, 100}};
 
 /* A job that grants next to nothing. */
 static const struct chanv_job poor = {
@@ -207,38 +207,20 @@ static void try_start(const char *name, const struct chanv_job *job, const struc
     printf("\n");
 }
 
-/* A call with a job that has a fault, and the same job's needs. */
-static void ask_with_fault(const char *name, struct chanv_job job, struct chanv_program program)
-{
-    static const struct counts room = {ROOM, ROOM, ROOM, ROOM, BYTES};
-    struct chanv_needed told;
-    printf("%s: start ", name);
-    try_beside(&job, NULL, 0, &program);
-    printf("; ");
-    ask("its program", job, room, &told);
-}
-
+/* A start under a job with a fault, and what its program needs. */
 static void ask_with_faults(void)
 {
+    static const struct counts room = {ROOM, ROOM, ROOM, ROOM, BYTES};
     static const struct chanv_program nothing = {.rows = {.mask = 0x58}};
-    struct chanv_job job = {.storage = {storage, 16777217}, .start = 0x800, .mask = 1};
-    ask_with_fault("all faults", job, nothing);
-    job.storage = poor.storage;
-    ask_with_fault("a right storage", job, nothing);
-    job.device = 2311;
-    ask_with_fault("a device", job, nothing);
-    job.mask = 0x18;
-    ask_with_fault("a mask", job, nothing);
-    job.extents = (struct chanv_extents){backwards, 2};
-    ask_with_fault("extents, one backwards", job, nothing);
-    backwards[1] = (struct chanv_extent){9, 203};
-    ask_with_fault("extents, one past the device", job, nothing);
-    job.extents.len = 1;
-    ask_with_fault("right extents", job, nothing);
-    job.limit = 65537, job.reserved[2] = 7;
-    ask_with_fault("a limit that is too large", job, nothing);
-    job.limit = 65536;
-    ask_with_fault("a limit, and what is reserved", job, nothing);
+    struct chanv_needed told;
+    struct chanv_job job;
+    const char *name;
+    for (int step = 0; (name = take_fault_away(step, &job)) != NULL; step++) {
+        printf("%s: start ", name);
+        try_beside(&job, NULL, 0, &nothing);
+        printf("; ");
+        ask("its program", job, room, &told);
+    }
 }
 
 static void try_changed(const char *name, const struct chanv_job *job,
