@@ -13,7 +13,7 @@ use Rattle.std.proofs.lemmas.List.Folds.{list_any-append}
 use Rattle.chan_areas.specs.Merged.{BeginAbove}
 use Rattle.chan_needs.specs.LeastBytes.{lesser_of}
 use Rattle.chan_needs.specs.Rows.{pair}
-use Rattle.chan_needs.specs.declared.rows.Extent.{Extent}
+use Rattle.chan_needs.specs.declared.extent.Extent.{Extent}
 use Rattle.chan_needs.proofs.Holding.{nowhere}
 use Rattle.chan_areas.proofs.Gaps.{least_same}
 use Rattle.chan_areas.proofs.Merging.{lies_in-append, lies_in-first}

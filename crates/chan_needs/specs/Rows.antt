@@ -7,7 +7,7 @@ use Rattle.ckd_core.specs.Extents.{has_cylinder}
 use Rattle.chan_walk.specs.declared.job.Job.{Job}
 use Rattle.chan_needs.specs.declared.needs.Needs.{Needs}
 use Rattle.chan_walk.specs.declared.place.Place.{Place}
-use Rattle.chan_needs.specs.declared.rows.Extent.{Extent}
+use Rattle.chan_needs.specs.declared.extent.Extent.{Extent}
 use Rattle.chan_needs.specs.declared.rows.Rows.{Rows}
 use Rattle.chan_walk.specs.declared.verdict.Verdict.TheVariants.{Yes}
 use Rattle.chan_walk.specs.Alarm.{IsProper}

@@ -7,7 +7,7 @@ ghost use Rattle.chan_areas.specs.Merged.{IsLeastOrNone, IsByteOf, IsMerged};
 ghost use Rattle.chan_needs.specs.LeastBytes.{lesser_of};
 ghost use Rattle.chan_needs.specs.Rows.{IsShared, pair};
 
-use crate::rows::Extent;
+use crate::extent::Extent;
 use ccw_core::Area;
 use chan_areas::{Merged, end_of};
 use ckd_core::Extents;

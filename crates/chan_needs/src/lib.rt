@@ -8,6 +8,7 @@
 //! ```
 #![tactic(auto)]
 
+mod extent;
 mod laws;
 mod least_bytes;
 mod needed_mask;
@@ -16,7 +17,8 @@ mod remembered;
 mod rows;
 mod start;
 
+pub use crate::extent::Extent;
 pub use crate::needs::{Needs, needs_from};
 pub use crate::remembered::{Remembered, copy_kept, kept_len, may_write};
-pub use crate::rows::{Conflict, Extent, Rows, or_empty};
+pub use crate::rows::{Conflict, Rows, or_empty};
 pub use crate::start::{Start, StartRefusal, may_start};

@@ -14,8 +14,9 @@ ghost use Rattle.chan_needs.specs.Rows.{SeeksCylinder, listed, pair, rows_of, ru
 ghost use Rattle.chan_walk.specs.declared.job.Job.{Job};
 ghost use Rattle.chan_walk.specs.declared.verdict.Verdict.TheVariants.{Yes};
 
+use crate::extent::Extent;
 use crate::needed_mask::needed_mask;
-use crate::rows::{Extent, Rows};
+use crate::rows::Rows;
 use ccw_core::Area;
 use chan_areas::Merged;
 use chan_walk::{Direction, Job, Look, Survey, data_moved, kept};

@@ -5,6 +5,7 @@ ghost use Rattle.std.specs.Prelude.{◌≡◌, MatchOption};
 ghost use Rattle.chan_areas.specs.Merged.{IsLeastOrNone};
 ghost use Rattle.chan_needs.specs.Rows.{IsKeptIn, IsConflict, AreBeside, rows_of};
 
+use crate::extent::Extent;
 use crate::least_bytes::{least_in, least_shared};
 use ccw_core::Area;
 
@@ -17,14 +18,6 @@ pub enum Conflict {
     /// The program keeps the byte at this address, and the other stores into it. It is the least
     /// such byte, and the program stores into none that the other keeps.
     Keeps(u32),
-}
-
-/// Whole cylinders: the first and the last, both included.
-#[repr(C)]
-#[derive(Clone, Copy)]
-pub struct Extent {
-    pub first: u16,
-    pub last: u16,
 }
 
 /// The content of `Needs`, as rows in the caller's memory, laid out as C does. Rows from another

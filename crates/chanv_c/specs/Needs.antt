@@ -13,7 +13,7 @@ use Rattle.chan_needs.specs.Rows.{AreNeeds, Listed, listed}
 use Rattle.chan_walk.specs.Verdict.{IsVerdict}
 use Rattle.chan_why.specs.Hang.{IsFirstPlace, MayHang}
 use Rattle.chan_needs.specs.Remembered.{total_len}
-use Rattle.chan_needs.specs.declared.rows.Extent.{Extent}
+use Rattle.chan_needs.specs.declared.extent.Extent.{Extent}
 use Rattle.chanv_c.specs.declared.job.CJob.{CJob}
 use Rattle.chanv_c.specs.declared.needs.CNeeded.{CNeeded}
 use Rattle.chanv_c.specs.declared.needs.Found.{Found}

@@ -67,5 +67,5 @@ IsWrittenTo places old new =
     (0 < length old → AreInFront places old new) × (old ≡ [] → new ≡ [])
 
 -- a path that is wanted has more places than rows
-abbrev pub IsShort : List Place → List CPlace → Type 0
-IsShort places rows = (0 < length rows) × (length rows < length places)
+abbrev pub LacksRows : List Place → List CPlace → Type 0
+LacksRows places rows = (0 < length rows) × (length rows < length places)

@@ -4,7 +4,7 @@ ghost use Rattle.std.specs.Prelude.{◌≡◌, ◌≢◌, ◌<◌, ◌↔◌, �
 ghost use Rattle.chan_walk.specs.declared.verdict.Verdict.TheVariants.{Yes};
 ghost use Rattle.chanv_c.specs.Answers.{HasTooMany, IsJudged, IsAnswerCode};
 ghost use Rattle.chanv_c.specs.Why as specs;
-ghost use Rattle.chanv_c.specs.Why.{IsShort, IsTold, IsWrittenTo, told_nothing, verdict_told};
+ghost use Rattle.chanv_c.specs.Why.{LacksRows, IsTold, IsWrittenTo, told_nothing, verdict_told};
 ghost use Rattle.chanv_c.specs.declared.why.Found as declared;
 
 use crate::codes::{NO, NO_ROOM, YES};
@@ -54,8 +54,8 @@ pub extern "C" fn chanv_why(
         × IsWrittenTo x.witness.path.items path.old path.new
         × IsWrittenTo x.witness.second_path.items second_path.old second_path.new }
     ensures room { result ≡ 11 → (x : declared.Found) × IsTold job.now x out.new
-        × (IsShort x.witness.path.items path.old
-        ⊎ IsShort x.witness.second_path.items second_path.old) }
+        × (LacksRows x.witness.path.items path.old
+        ⊎ LacksRows x.witness.second_path.items second_path.old) }
     ensures kept { result ≢ 1 → (path.new ≡ path.old) × (second_path.new ≡ second_path.old) }
     ensures number { IsAnswerCode (HasTooMany job.now) job.now result out.new.verdict.extent }
     ensures nothing { result ≢ 1 → result ≢ 11 → out.new ≡ told_nothing out.new.verdict.extent }
@@ -79,7 +79,7 @@ pub extern "C" fn chanv_why(
         found.witness.path.as_slice(),
         found.witness.second_path.as_slice(),
     );
-    if is_short(first, path) || is_short(second, second_path) {
+    if lacks_rows(first, path) || lacks_rows(second, second_path) {
         return NO_ROOM;
     }
     write_wanted(first, path);
@@ -88,15 +88,15 @@ pub extern "C" fn chanv_why(
 }
 
 /// Whether a path that is wanted has more places than rows.
-fn is_short(path: &[Place], rows: &[CPlace]) -> bool
-    ensures { IsTrue result ↔ IsShort path.now rows.now }
+fn lacks_rows(path: &[Place], rows: &[CPlace]) -> bool
+    ensures { IsTrue result ↔ LacksRows path.now rows.now }
 {
     !rows.is_empty() && rows.len() < path.len()
 }
 
 /// Writes the rows of a path, if it is wanted.
 fn write_wanted(path: &[Place], rows: &mut [CPlace])
-    requires { IsShort path.now rows.old → ⊥ }
+    requires { LacksRows path.now rows.old → ⊥ }
     ensures { IsWrittenTo path.now rows.old rows.new }
 {
     if !rows.is_empty() {

@@ -4,11 +4,11 @@ use Rattle.chan_walk.specs.declared.place.Place.{Place}
 use Rattle.chan_walk.specs.declared.verdict.Verdict.{Verdict}
 use Rattle.chan_walk.specs.declared.verdict.Verdict.TheVariants.{Yes}
 use Rattle.chanv_c.specs.Answers.{HasTooMany, IsJudged}
-use Rattle.chanv_c.specs.Why.{IsShort, IsWrittenTo}
+use Rattle.chanv_c.specs.Why.{LacksRows, IsWrittenTo}
 use Rattle.chanv_c.proofs.Refusals.{refusal_number}
 use Rattle.chanv_c.proofs.why.chanv_why.Goals as goal
-use Rattle.chanv_c.proofs.why.chanv_why.Goals.{then-is_short-via-then-is_short}
-use Rattle.chanv_c.proofs.why.chanv_why.Goals.{then-is_short-via-else-is_short+then-is_short-2}
+use Rattle.chanv_c.proofs.why.chanv_why.Goals.{then-lacks_rows-via-then-lacks_rows}
+use Rattle.chanv_c.proofs.why.chanv_why.Goals.{then-lacks_rows-via-else-lacks_rows+then-lacks_rows-2}
 
 pub returns-in-Err-clause-number : goal.returns-in-Err-clause-number
 returns-in-Err-clause-number c =
@@ -20,13 +20,13 @@ returns-in-Yes-clause-yes c = λ _. subst (IsJudged c.args.job.now) c.in-Yes.is 
 never_yes : (v w : Verdict) → v ≡ w → (w ≡ Yes → ⊥) → v ≢ Yes
 never_yes v w e n = λ y. n (sym e ∙ y)
 
-pub returns-then-is_short-clause-room : goal.returns-then-is_short-clause-room
-returns-then-is_short-clause-room c = λ _. (
+pub returns-then-lacks_rows-clause-room : goal.returns-then-lacks_rows-clause-room
+returns-then-lacks_rows-clause-room c = λ _. (
   c.in-Ok.found,
   record { explanation = c.in-Ok.ensures.answer; offends = never_yes c.in-Ok.found.verdict _ c.in-No.is (λ e. cc); out_is = c.told.ensures },
-  elim c.then-is_short.branch [
-    | then-is_short-via-then-is_short w ↦ inl (subst (λ (l : List Place). IsShort l c.args.path.now) c.as_slice-first.ensures.value (c.is_short.ensures.0 w.if-is_short.true))
-    | then-is_short-via-else-is_short+then-is_short-2 w ↦ inr (subst (λ (l : List Place). IsShort l c.args.second_path.now) c.as_slice-second.ensures.value (w.is_short-else-is_short.ensures.0 w.if-is_short-2.true))
+  elim c.then-lacks_rows.branch [
+    | then-lacks_rows-via-then-lacks_rows w ↦ inl (subst (λ (l : List Place). LacksRows l c.args.path.now) c.as_slice-first.ensures.value (c.lacks_rows.ensures.0 w.if-lacks_rows.true))
+    | then-lacks_rows-via-else-lacks_rows+then-lacks_rows-2 w ↦ inr (subst (λ (l : List Place). LacksRows l c.args.second_path.now) c.as_slice-second.ensures.value (w.lacks_rows-else-lacks_rows.ensures.0 w.if-lacks_rows-2.true))
   ],
 )
 
