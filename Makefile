@@ -123,6 +123,8 @@ install:
 	install -d "$(TO)/share/doc/chanv/docs"
 	install -m 644 README.md CHANGELOG.md "$(TO)/share/doc/chanv"
 	install -m 644 docs/*.md docs/*.svg "$(TO)/share/doc/chanv/docs"
+	install -d "$(TO)/share/doc/chanv/examples"
+	install -m 644 examples/README.md examples/*.deck "$(TO)/share/doc/chanv/examples"
 	install -d "$(TO)/lib/pkgconfig"
 	sed 's|@PREFIX@|$(PREFIX)|; s|@VERSION@|$(VERSION)|' docs/chanv.pc.in > \
 	  "$(TO)/lib/pkgconfig/chanv.pc"
