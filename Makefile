@@ -129,6 +129,8 @@ install:
 	install -d "$(TO)/share/doc/chanv/docs"
 	install -m 644 README.md CHANGELOG.md "$(TO)/share/doc/chanv"
 	install -m 644 docs/*.md docs/*.svg "$(TO)/share/doc/chanv/docs"
+	install -d "$(TO)/share/doc/chanv/examples"
+	install -m 644 examples/README.md examples/*.deck "$(TO)/share/doc/chanv/examples"
 	install -d "$(TO_LIB)/pkgconfig"
 	sed -e 's|@PREFIX@|$(PREFIX)|; s|@VERSION@|$(VERSION)|' \
 	  -e 's|@LIBDIR@|$(subst $(PREFIX)/,$${prefix}/,$(LIBDIR))|' docs/chanv.pc.in > \

@@ -2,7 +2,7 @@
 _chanv() {
     local word=${COMP_WORDS[COMP_CWORD]} before=${COMP_WORDS[COMP_CWORD - 1]}
     local commands='show verify list why graph needs find deck explain help'
-    local of_deck='--device --mask --start --limit --extent --fetch --store --least --at
+    local of_deck='--device --mask --start --limit --extent --fetch --store --least --open --at
         --storage'
     local of_find='--device --limit --at --storage'
     local reasons='misaligned outside-storage transfer-not-allowed invalid-code bad-format
@@ -12,31 +12,51 @@ _chanv() {
         put-zero after limit'
     local failures='cannot-open read-failed deck-too-long image-too-long image-past-storage
         too-many-places no-job-will-do write-failed out-of-memory not-a-ccw no-such-word'
-    local words='--help'
+    local output='fresh in out search chained unknown place keep note transfer-in-channel'
+    local commands_of_disk='no-operation seek seek-cylinder seek-head recalibrate set-file-mask sense search-home-
+        address-equal search-id-equal search-id-high search-id-equal-or-high search-key-equal
+        search-key-high search-key-equal-or-high read-home-address read-count read-record-zero
+        read-data read-key-data read-count-key-data write-home-address write-record-zero write-
+        count-key-data write-special-count-key-data erase write-data write-key-data search-home-
+        address-equal-mt search-id-equal-mt search-id-high-mt search-id-equal-or-high-mt search-
+        key-equal-mt search-key-high-mt search-key-equal-or-high-mt read-home-address-mt read-
+        count-mt read-record-zero-mt read-data-mt read-key-data-mt read-count-key-data-mt'
+    local words='--help' files=yes
+    # bash splits --device=2311 into three words
+    if [[ $before == = ]]; then
+        before=${COMP_WORDS[COMP_CWORD - 2]}
+    elif [[ $word == = ]]; then
+        word=
+    fi
     COMPREPLY=()
     if ((COMP_CWORD == 1)); then
         words="$commands --help --version"
+        files=
     else
         case ${COMP_WORDS[1]} in
-        help) words=$commands ;;
+        help) words=$commands files= ;;
         why) words='--all --help' ;;
-        explain) [[ $word == -* ]] || words="$reasons $causes $failures" ;;
+        show) words='--name --help' files= ;;
+        explain)
+            [[ $word == -* ]] || words="$reasons $causes $failures $output $commands_of_disk"
+            files=
+            ;;
         find | deck)
             case $before in
-            --device) words='2311 2314' ;;
+            --device) words='2311 2314' files= ;;
+            --least | --open | --help) ;;
             --*) return ;;
-            *)
+            esac
+            if [[ $files ]]; then
                 words="$of_deck --help"
                 [[ ${COMP_WORDS[1]} != find ]] || words="$of_find --help"
-                ;;
-            esac
+            fi
             ;;
         esac
     fi
-    if ((COMP_CWORD == 1)) || [[ ${COMP_WORDS[1]} == @(help|explain) || $before == --device ]] ||
-        [[ $word == -* ]]; then
+    if [[ ! $files || $word == -* ]]; then
         mapfile -t COMPREPLY < <(compgen -W "$words" -- "$word")
-    elif [[ ${COMP_WORDS[1]} != show ]]; then
+    else
         mapfile -t COMPREPLY < <(compgen -f -- "$word")
     fi
 }

@@ -14,6 +14,7 @@ from faults import texts_of_help
 from running import Ran, run, text_of
 
 LOOP, CHANGES, END = "search-loop.deck", "changes-itself.deck", "end-of-storage.deck"
+CHANGED = "chained-and-fresh.deck"
 ENDINGS = {"list": "list", "why": "why", "why --all": "all", "graph": "dot", "needs": "needs"}
 
 # the command line after `chanv`, the command that it asks for, and the inputs
@@ -31,6 +32,8 @@ ASKED = [
     ("list", "list", []),
     ("list -", "list", []),
     (f"list {END}", "list", [END]),
+    (f"list {END} -", "list", [END, "-"]),
+    (f"list {LOOP} {CHANGED}", "list", [LOOP, CHANGED]),
     ("why", "why", []),
     ("why -", "why", []),
     (f"why {CHANGES}", "why", [CHANGES]),
@@ -48,17 +51,36 @@ ASKED = [
     ("needs", "needs", []),
     ("needs -", "needs", []),
     (f"needs {END}", "needs", [END]),
+    (f"needs {LOOP} {END} -", "needs", [LOOP, END, "-"]),
 ]
 
 FOUND = "000800 no 000818 changes-argument\n"
-NOTE = "note: no device was named, so it is the 2314\n"
+NOTE = "note: no --device, so 2314\n"
+IS_DECK = "note: this is a deck; chanv verify judges it\n"
 IS_PAST = "chanv: core.bin: image past storage\n"
 
 CCW, SHOWN = "06000A0020000050", "06 000A00 --L--0 00 0050 read\n"
+NAMED, TRANSFER = "06 000A00 --L--0 00 0050 read read-data\n", "transfer-in-channel"
+NOT_CCW = "chanv: not a CCW\n"
 OTHERS = [
     (f"show {CCW}", Ran(0, SHOWN)),
     (f"show -- {CCW}", Ran(0, SHOWN)),
-    ("show -", Ran(4, "", "chanv: not a CCW\n")),
+    (f"show --name {CCW}", Ran(0, NAMED)),
+    ("show --name '06 000A00 20 00 0050'", Ran(0, NAMED)),
+    ("show ' 0x 06000a00 20000050 ' --name", Ran(0, NAMED)),
+    ("show --name 0X06000A0020000050", Ran(0, NAMED)),
+    ("show --name 0800080000000000", Ran(0, f"08 000800 -----0 00 0000 transfer {TRANSFER}\n")),
+    ("show --name 0000000000000000", Ran(0, "00 000000 -----0 00 0000 invalid unknown\n")),
+    ("show --name B600000000000000", Ran(0, "B6 000000 -----0 00 0000 read unknown\n")),
+    ("show --name 8600000000000000", Ran(0, "86 000000 -----0 00 0000 read read-data-mt\n")),
+    ("show --name 06000A00200000", Ran(4, "", f"{NOT_CCW}a CCW has 16 digits, and this has 14\n")),
+    ("show --name ''", Ran(4, "", f"{NOT_CCW}a CCW has 16 digits, and this has 0\n")),
+    ("show --name 0x06000A002000005", Ran(4, "", f"{NOT_CCW}a CCW has 16 digits, and this has 15\n")),
+    ("show --name 06000G0020000050", Ran(4, "", f"{NOT_CCW}'G' isn't a hexadecimal digit\n")),
+    ("show --name 00x06", Ran(4, "", f"{NOT_CCW}'x' isn't a hexadecimal digit\n")),
+    ("show '06 000A00 20 00 0050'", Ran(4, "", NOT_CCW)),
+    ("show 0x06000A0020000050", Ran(4, "", NOT_CCW)),
+    ("show -", Ran(4, "", NOT_CCW)),
     ("show -- -06", Ran(4, "", "chanv: not a CCW\n")),
     ("explain no-such-word-at-all", Ran(4, "", "chanv: no such word\n")),
     ("explain -", Ran(4, "", "chanv: no such word\n")),
@@ -66,6 +88,7 @@ OTHERS = [
     ("find --device 2314 core.bin", Ran(0, FOUND)),
     ("find --device=2314 --limit 2 -- core.bin", Ran(0, "000800 too many places\n")),
     ("find --device 2314 --storage 100 core.bin", Ran(4, "", IS_PAST)),
+    (f"find --device 2314 {LOOP}", Ran(0, "", IS_DECK)),
     ("verify ./-", Ran(3, "", "chanv: ./-: cannot open\n")),
     ("verify -- --help", Ran(3, "", "chanv: --help: cannot open\n")),
     ("list ''", Ran(3, "", "chanv: : cannot open\n")),
@@ -75,7 +98,9 @@ OTHERS = [
 ]
 
 # command lines that ask for a help text, and its name in help.txt
-HELP = {"--help": "--help", "-h": "--help", "help": "--help", "--help x": "--help"} | {
+HELP = dict.fromkeys(
+    ["--help", "-h", "help", "--help x", "help --help", "help -h"], "--help"
+) | {
     f"{front}{command}{back}": f"help {command}"
     for command in ("verify", "list", "why", "graph", "needs", "find", "deck", "explain", "show")
     for front, back in (("", " --help"), ("", " -h"), ("help ", ""))
@@ -83,67 +108,74 @@ HELP = {"--help": "--help", "-h": "--help", "help": "--help", "--help x": "--hel
 
 PROGRAM = """\
 chanv verify [FILE]...
-       chanv list [FILE]
+       chanv list [FILE]...
        chanv why [--all] [FILE]...
        chanv graph [FILE]
-       chanv needs [FILE]
+       chanv needs [FILE]...
        chanv find [OPTIONS] [FILE]
-       chanv deck --start <ADDRESS> --least [OPTIONS] [FILE]
+       chanv deck --start <ADDRESS> <--least|--open> [OPTIONS] [FILE]
        chanv deck --start <ADDRESS> --extent <FIRST-LAST> [OPTIONS] [FILE]
        chanv explain [WORD]
-       chanv show <CCW>"""
-VERIFY, WHY = "chanv verify [FILE]...", "chanv why [OPTIONS] [FILE]..."
-DECK = "chanv deck [OPTIONS] --start <ADDRESS> [FILE]"
+       chanv show [--name] <CCW>"""
+VERIFY, WHY = "chanv verify [FILE]...", "chanv why [--all] [FILE]..."
+DECK = """\
+chanv deck --start <ADDRESS> <--least|--open> [OPTIONS] [FILE]
+       chanv deck --start <ADDRESS> --extent <FIRST-LAST> [OPTIONS] [FILE]"""
+SHOW = "chanv show [--name] <CCW>"
 EXTRA = "unexpected argument 'b' found"
 LACKING = "the following required arguments were not provided:"
 TWICE = "the argument '{}' cannot be used multiple times"
 NO_VALUE = "a value is required for '{}' but none was supplied"
-TIP = "unexpected argument '{0}' found\n\n  tip: to pass '{0}' as a value, use '-- {0}'"
+STRAY = "unexpected argument '{}' found"
+SIMILAR = "unrecognized subcommand '{}'\n\n  tip: a similar subcommand exists: '{}'"
+FILE = "{0} isn't a command; chanv verify {0} judges a deck, chanv find {0} searches an image"
 NO_MORE = "unexpected value '{}' for '{}' found; no more were expected"
 UNKNOWN = "unrecognized subcommand '{}'"
 
 # the command line, the fault, and the usage after it, if any
 FAULTS = [
     ("judge", UNKNOWN.format("judge"), PROGRAM),
-    (LOOP, UNKNOWN.format(LOOP), PROGRAM),
-    (f"{LOOP} verify", UNKNOWN.format(LOOP), PROGRAM),
+    ("verfy", SIMILAR.format("verfy", "verify"), PROGRAM),
+    (f"verfy {LOOP}", SIMILAR.format("verfy", "verify"), PROGRAM),
+    ("none.deck", UNKNOWN.format("none.deck"), PROGRAM),
+    (LOOP, FILE.format(LOOP), ""),
+    (f"{LOOP} verify", FILE.format(LOOP), ""),
+    ("core.bin --least", FILE.format("core.bin"), ""),
+    ("cases", UNKNOWN.format("cases"), PROGRAM),
     ("-", UNKNOWN.format("-"), PROGRAM),
     ("help judge", UNKNOWN.format("judge"), PROGRAM),
     ("help verify list", UNKNOWN.format("list"), VERIFY),
     ("--fast", "unexpected argument '--fast' found", PROGRAM),
     ("--version=x", NO_MORE.format("x", "--version"), PROGRAM),
-    ("verify --fast", TIP.format("--fast"), VERIFY),
-    ("verify --all", TIP.format("--all"), VERIFY),
-    (f"list {LOOP} b", EXTRA, "chanv list [FILE]"),
-    ("list - b", EXTRA, "chanv list [FILE]"),
-    (f"list {LOOP} b c", EXTRA, "chanv list [FILE]"),
+    ("verify --fast", STRAY.format("--fast"), VERIFY),
+    ("verify --all", STRAY.format("--all"), VERIFY),
     (f"graph {LOOP} b", EXTRA, "chanv graph [FILE]"),
-    (f"needs {LOOP} b", EXTRA, "chanv needs [FILE]"),
+    ("graph - b", EXTRA, "chanv graph [FILE]"),
+    (f"graph {LOOP} b c", EXTRA, "chanv graph [FILE]"),
     ("find core.bin b", EXTRA, "chanv find [OPTIONS] [FILE]"),
-    ("find --quick", TIP.format("--quick"), "chanv find [OPTIONS] [FILE]"),
+    ("find --quick", STRAY.format("--quick"), "chanv find [OPTIONS] [FILE]"),
     ("find --limit", NO_VALUE.format("--limit <PLACES>"), ""),
-    ("why --all=x", NO_MORE.format("x", "--all"), "chanv why --all [FILE]..."),
+    ("why --all=x", NO_MORE.format("x", "--all"), WHY),
     ("why --all --all", TWICE.format("--all"), WHY),
-    ("show", f"{LACKING}\n  <CCW>", "chanv show <CCW>"),
-    (f"show {CCW} b", EXTRA, "chanv show <CCW>"),
-    ("show -06", TIP.format("-0"), "chanv show <CCW>"),
+    ("show", f"{LACKING}\n  <CCW>", SHOW),
+    ("show --name", f"{LACKING}\n  <CCW>", SHOW),
+    (f"show {CCW} b", EXTRA, SHOW),
+    ("show 06 000A00 20 00 0050", STRAY.format("000A00"), SHOW),
+    ("show -06", STRAY.format("-0"), SHOW),
     ("explain mask b", EXTRA, "chanv explain [WORD]"),
-    ("deck", f"{LACKING}\n  --start <ADDRESS>", "chanv deck --start <ADDRESS> [FILE]"),
-    (
-        "deck --mask 00",
-        f"{LACKING}\n  --start <ADDRESS>",
-        "chanv deck --start <ADDRESS> --mask <BYTE> [FILE]",
-    ),
+    ("deck", f"{LACKING}\n  --start <ADDRESS>", DECK),
+    ("deck core.bin", f"{LACKING}\n  --start <ADDRESS>", DECK),
+    ("deck --mask 00", f"{LACKING}\n  --start <ADDRESS>", DECK),
     ("deck --start 8 --extent 0-9 a b", EXTRA, DECK),
     ("deck --start 8 --start 8", TWICE.format("--start <ADDRESS>"), DECK),
     ("deck --start 8 --least --least", TWICE.format("--least"), DECK),
     ("deck --start", NO_VALUE.format("--start <ADDRESS>"), ""),
     ("deck --start 8 --extent 0-9 --at", NO_VALUE.format("--at <ADDRESS>"), ""),
-    ("deck --start 8", f"{LACKING}\n  <--extent <FIRST-LAST>|--least>", ""),
+    ("deck --start 8", f"{LACKING}\n  <--extent <FIRST-LAST>|--least|--open>", ""),
 ]
 
 
-def answer(command, deck, name):
+def answer(command, deck, name, is_among):
     """What a command writes about an example deck, which is an input of that name or the only."""
     path = EXAMPLES / deck
     verdict, front = verdicts_of(EXAMPLES)[deck], f"{name}: " if name else ""
@@ -155,14 +187,18 @@ def answer(command, deck, name):
         text = picture_of(path, name if name != "-" else "")
     notes = text_of(path.with_suffix(".notes")) if "notes" in listed else ""
     status = 1 if text.startswith("no ") or command != "needs" and status else 0
+    heading = f"{name}:\n" if is_among and command in ("list", "needs") else ""
     is_named = command == "verify" or command.startswith("why")
-    return Ran(status, f"{front if is_named else ''}{text}", notes if "why" in command else "")
+    notes = notes.replace("note: ", f"{front if is_among else ''}note: ")
+    notes = notes if command.startswith("why") else ""
+    return Ran(status, f"{heading}{front if is_named else ''}{text}", notes)
 
 
 def answers(command, inputs):
     """What it writes about inputs; without one, standard input is the only one."""
-    each = [answer(command, LOOP if name == "-" else name, name) for name in inputs]
-    each = each or [answer(command, LOOP, "")]
+    is_among = len(inputs) > 1
+    each = [answer(command, LOOP if name == "-" else name, name, is_among) for name in inputs]
+    each = each or [answer(command, LOOP, "", False)]
     texts = ("".join(ran[field] for ran in each) for field in (1, 2))
     return Ran(max(ran.status for ran in each), *texts)
 

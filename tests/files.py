@@ -20,6 +20,12 @@ DAMAGED = "deck line 3: form\n"
 # areas that the program doesn't use
 VAIN = TEXTS / "lent-in-vain.deck"
 HINT = "found mask\nexpected mask XX, where X is 0-9 or A-F\n"
+EMPTY_HINT = "found the end of the text\nexpected chanv deck 1, chanv deck 2\n"
+
+
+def of_one(name, hint):
+    """A hint over one of several files."""
+    return "".join(f"{name}: {line}\n" for line in hint.splitlines())
 
 
 def make_files(folder):
@@ -38,29 +44,34 @@ def make_files(folder):
 
 def check_names(checks, program, folder):
     """Standard input is the deck `no`."""
-    listing = text_of(EXAMPLES / "search-loop.list")
+    listing, notes = text_of(EXAMPLES / "search-loop.list"), text_of(VAIN.with_suffix(".notes"))
     missing, damaged = "chanv: nowhere: cannot open\n", f"chanv: damaged: {DAMAGED}"
+    among = damaged + of_one("damaged", HINT)
     for words, status, output, error in [
         ("verify yes", 0, YES, ""),
         ("verify no", 1, NO, ""),
         ("verify yes no yes", 1, YES + NO + YES, ""),
-        ("verify damaged", 2, "", damaged),
-        ("verify yes damaged no", 2, YES + NO, damaged),
+        ("verify damaged", 2, "", damaged + HINT),
+        ("verify yes damaged no", 2, YES + NO, among),
         ("verify many", 2, "", "chanv: many: too many places\n"),
         ("verify nowhere", 3, "", missing),
-        ("verify nowhere damaged yes", 3, YES, missing + damaged),
+        ("verify nowhere damaged yes", 3, YES, missing + among),
         ("verify folder yes", 3, YES, "chanv: folder: read failed\n"),
         ("verify ''", 3, "", "chanv: : cannot open\n"),
-        ("verify 'no right'", 2, "", "chanv: no right: deck line 1: ended\n"),
+        ("verify 'no right'", 2, "", f"chanv: no right: deck line 1: ended\n{EMPTY_HINT}"),
         ("verify -- yes", 0, YES, ""),
         ("list yes", 0, listing, ""),
-        ("list damaged", 2, "", damaged),
+        ("list damaged", 2, "", damaged + HINT),
+        ("needs damaged", 2, "", damaged + HINT),
+        ("graph damaged", 2, "", damaged + HINT),
+        ("list yes damaged", 2, f"yes:\n{listing}", among),
         ("why damaged", 2, "", damaged + HINT),
         ("why yes", 0, YES, ""),
         ("why no", 1, WHY_NO, ""),
-        ("why no yes damaged no", 2, WHY_NO + YES + WHY_NO, damaged + HINT),
+        ("why no yes damaged no", 2, WHY_NO + YES + WHY_NO, among),
         ("why nowhere no", 3, WHY_NO, missing),
-        ("why vain", 0, "vain: yes\n", text_of(VAIN.with_suffix(".notes"))),
+        ("why vain", 0, "vain: yes\n", notes),
+        ("why vain no", 1, f"vain: yes\n{WHY_NO}", of_one("vain", notes)),
         ("verify vain", 0, "vain: yes\n", ""),
         ("needs vain", 0, text_of(VAIN.with_suffix(".needs")), ""),
         ("list nowhere", 3, "", missing),
@@ -73,14 +84,15 @@ def check_names(checks, program, folder):
 def check_standard_input(checks, program, folder):
     """`-` is standard input, which is empty once it was read to its end; `./-` is a file."""
     listing = text_of(EXAMPLES / "search-loop.list")
+    ended = f"chanv: -: deck line 1: ended\n{of_one('-', EMPTY_HINT)}"
     for given, words, status, output, error in [
         ("no", "verify -", 1, "no 000810 changes-ccw\n", ""),
         ("no", "verify yes -", 1, f"{YES}-: no 000810 changes-ccw\n", ""),
         ("no", "verify ./-", 0, "./-: yes\n", ""),
         ("damaged", "verify -", 2, "", f"chanv: {DAMAGED}"),
-        ("damaged", "verify - yes", 2, YES, f"chanv: -: {DAMAGED}"),
+        ("damaged", "verify - yes", 2, YES, f"chanv: -: {DAMAGED}{of_one('-', HINT)}"),
         ("end", "verify yes -", 1, f"{YES}-: no 001000 outside-storage\n", ""),
-        ("yes", "verify - -", 2, "-: yes\n", "chanv: -: deck line 1: ended\n"),
+        ("yes", "verify - -", 2, "-: yes\n", ended),
         ("no", "why yes -", 1, YES + WHY_NO.replace("no:", "-:", 1), ""),
         ("no", "why -", 1, WHY_NO.removeprefix("no: "), ""),
         ("yes", "list -", 0, listing, ""),
@@ -95,10 +107,11 @@ def check_streams(checks, program, folder):
     What standard error can't take is left out, and the status stays.
     """
     failed = "chanv: write failed\n"
+    among = f"chanv: damaged: {DAMAGED}{of_one('damaged', HINT)}"
     for words, redirection, output, error in [
         ("verify yes nowhere", "> /dev/full", "", failed),
         ("verify yes nowhere", ">&-", "", failed),
-        ("verify damaged yes nowhere", ">&-", "", f"chanv: damaged: {DAMAGED}{failed}"),
+        ("verify damaged yes nowhere", ">&-", "", among + failed),
         ("list yes", ">&-", "", failed),
         ("verify - yes", "<&-", YES, "chanv: -: read failed\n"),
         ("verify nowhere yes", "2>&-", YES, ""),
@@ -130,7 +143,7 @@ def check_hostile_names(checks, program, folder):
         file = os.fsencode(folder) + b"/" + name
         for deck, expected in [
             ("no", Ran(1, f"{said}: no 000810 changes-ccw\n")),
-            ("damaged", Ran(2, "", f"chanv: {said}: {DAMAGED}")),
+            ("damaged", Ran(2, "", f"chanv: {said}: {DAMAGED}{HINT}")),
         ]:
             shutil.copyfile(folder / deck, file)
             checks.expect(f"{name}", expected, run(program, "verify", name, cwd=folder))

@@ -79,7 +79,10 @@ def lines_of(image, device):
     """What the page says of an image: a line for each program, with the verdict on it."""
     storage = image + bytes(-len(image) % 8)
     job = Job(storage, 0, device, 0, [], [], [], LIMIT).opened()
-    for start in programs_of(job):
+    starts = [*programs_of(job)]
+    if not starts:
+        yield NONE_FOUND.strip()
+    for start in starts:
         answer = Answer(job._replace(start=start))
         verdict = "too many places" if answer.is_too_large else answer.verdict
         yield f"{start:06X} {verdict}"
@@ -127,7 +130,7 @@ def check_images(checks, program, device, random, storages):
         for (path, image), lines in zip(images.items(), answers, strict=True):
             wanted = [*lines_of(image, device), "status 0"]
             checks.expect(f"{command} {path.name}", wanted, lines)
-            found += len(lines) - 1
+            found += sum(not line.startswith(("note:", "status")) for line in lines)
         checks.expect_that(f"there are programs for the {device}", found > IMAGES // 4, found)
 
 
@@ -144,17 +147,22 @@ def check_large(checks, program):
         ("transfers", transfer * words, ""),
     ]:
         ran = run(program, "find", "--device", "2314", given=image)
-        checks.expect(f"an image of {name}", Ran(0, line), ran)
+        checks.expect(f"an image of {name}", Ran(0, line, "" if line else NONE_FOUND), ran)
     wanted = Ran(2, "", "chanv: image too long\n")
     ran = run(program, "find", "--device", "2314", given=bytes(LARGEST + 1))
     checks.expect("an image that is too long", wanted, ran)
+
+
+NONE_FOUND = (
+    "note: no program found; if the image is only a part of storage, give --at and --storage\n"
+)
 
 
 def check_library(checks, chanv, random, storages):
     for number in range(IMAGES // 20):
         image = image_of(random, number, storages)
         image += bytes(-len(image) % 8)
-        wanted = [int(line.split()[0], 16) for line in lines_of(image, 2314)]
+        wanted = [int(line.split()[0], 16) for line in lines_of(image, 2314) if line[0] != "n"]
         checks.expect(f"chanv_find over image {number}", wanted, chanv.find(image))
     for name, image, device, wanted in [
         ("no byte", b"", 2314, []),
@@ -180,6 +188,6 @@ def check(checks, built):
     check_large(checks, program)
     check_library(checks, package(built), random, storages)
     wanted = "000800 no 000818 changes-argument\n"
-    note = "note: no device was named, so it is the 2314\n"
+    note = "note: no --device, so 2314\n"
     ran = run(program, "find", EXAMPLES / "core.bin")
     checks.expect("the example of the page", Ran(0, wanted, note), ran)

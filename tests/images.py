@@ -26,19 +26,21 @@ LIMIT = "a decimal number, 1 to 65536"
 TOO_LONG = bytes(0x1000001)
 
 # what stands first on standard error where no device is named, and the words are right
-USUAL_DEVICE = "note: no device was named, so it is the 2314\n"
+USUAL_DEVICE = "note: no --device, so 2314\n"
 
-# what can't stand beside the least job, as given and in a fault's text, and what has to be there
-BESIDE_LEAST = [
+# what can't stand beside the least job or the open job, as given and in a fault's text, and what has
+# to be there
+BESIDE = [
     ("--mask=00", "--mask <BYTE>"),
     ("--extent=0-202", "--extent <FIRST-LAST>"),
     ("--fetch=900+10", "--fetch <AREA>"),
     ("--store=900+10", "--store <AREA>"),
 ]
-EITHER = "  <--extent <FIRST-LAST>|--least>"
+EITHER = "  <--extent <FIRST-LAST>|--least|--open>"
 
-# options and an image for whose program no job will do, and why
-CURE = "note: --at says where the image lies in storage, and --storage how long storage is\n"
+# options and an image for whose program no job will do, why, and the size of storage that a note
+# names, if its ends may be wrong
+CURE = "note: storage has {} bytes; give --storage if it has more, and --at if the image begins elsewhere\n"
 UNDOABLE = [
     (
         "zeros alone",
@@ -49,16 +51,41 @@ no 000800 invalid-code
 000800 fresh t * 00 000000 -----0 00 0000 invalid unknown
 because code 00 is invalid
 """,
+        "0000808",
+    ),
+    (
+        "zeros in the largest storage",
+        "--start 800 --storage 1000000",
+        "00" * 8,
+        """\
+no 000800 invalid-code
+000800 fresh t * 00 000000 -----0 00 0000 invalid unknown
+because code 00 is invalid
+""",
+        "",
+    ),
+    (
+        "zeros after a command",
+        "--start 0",
+        "06000000400000080000000000000000",
+        """\
+no 000008 invalid-code
+000000 fresh t . 06 000000 -C---0 00 0008 read read-data
+000008 fresh - * 00 000000 -----0 00 0000 invalid unknown
+because code 00 is invalid
+""",
+        "",
     ),
     (
         "a start outside storage",
         "--start 8",
         "0600000000000008",
-        f"""\
+        """\
 no 000008 outside-storage
 000008 fresh t * no-ccw
 because 000008-00000F is not in storage of 0000008 bytes
-{CURE}""",
+""",
+        "0000008",
     ),
     (
         "a later CCW outside storage",
@@ -70,26 +97,29 @@ no 000008 outside-storage
 000008 fresh - * no-ccw
 because 000008-00000F is not in storage of 0000008 bytes
 """,
+        "",
     ),
     (
         "data that goes on past the end",
         "--start 0",
         "0600000000000010",
-        f"""\
+        """\
 no 000000 data-outside
 000000 fresh t * 06 000000 -----0 00 0010 read read-data
 because 000000-00000F is not in storage of 0000008 bytes
-{CURE}""",
+""",
+        "0000008",
     ),
     (
         "data that begins at the end of the size asked for",
         "--start 0 --storage 10",
         "0600001000000001",
-        f"""\
+        """\
 no 000000 data-outside
 000000 fresh t * 06 000010 -----0 00 0001 read read-data
 because 000010-000010 is not in storage of 0000010 bytes
-{CURE}""",
+""",
+        "0000010",
     ),
     (
         "data that begins past the end",
@@ -100,8 +130,12 @@ no 000000 data-outside
 000000 fresh t * 06 000009 -----0 00 0001 read read-data
 because 000009-000009 is not in storage of 0000008 bytes
 """,
+        "0000008",
     ),
 ]
+
+# a search loop whose buffer lies past the image, from 0 on
+LATE_BUFFER = bytes(0x800) + bytes.fromhex("310009004000000508000800000000000600090000000050")
 
 # the search loop's job as options, and the lines of its deck before the line of storage
 JOB = "--start 800 --extent 10-19 --fetch 900+10 --store a00+100".split()
@@ -227,16 +261,43 @@ WHOLE_DECKS = [
     ),
 ]
 
+# an image, the rest of the options, and the lines of the open job but its first, and of storage
+OPEN_DECKS = [
+    (
+        "0300000000000001",
+        "--at 7F8",
+        "fetch 000000 000800\nstore 000000 000800\nstorage 0000800\nput 0007F8 0300000000000001\n",
+    ),
+    ("", "", "fetch 000000 000000\nstore 000000 000000\nstorage 0000000\n"),
+    (
+        "01",
+        "--storage 1000000",
+        "fetch 000000 FFFFFF\nfetch FFFFFF 000001\nstore 000000 FFFFFF\nstore FFFFFF 000001\n"
+        "storage 1000000\nput 000000 0100000000000000\n",
+    ),
+    (
+        "01",
+        "--storage FFFFF8 --limit 7",
+        "fetch 000000 FFFFF8\nstore 000000 FFFFF8\nstorage 0FFFFF8\nput 000000 0100000000000000\n",
+    ),
+]
+
 # an image whose program changes an argument of its own
 CORE = EXAMPLES / "core.bin"
+
+# what a fault says besides of an area
+BOTH = "; both numbers are hexadecimal"
 
 # options with a word that they don't accept, and why they don't
 REFUSED = [
     ("--device", "<NUMBER>", "3330", "2311 or 2314"),
     ("--device", "<NUMBER>", "0x2311", "2311 or 2314"),
     ("--mask", "<BYTE>", "01", "a bit on besides C0 and 18"),
-    ("--mask", "<BYTE>", "100", "above FF"),
+    ("--mask", "<BYTE>", "100", "100 is hexadecimal here (256): above FF"),
+    ("--mask", "<BYTE>", "192", "192 is hexadecimal here (402): above FF; 192 is C0"),
+    ("--mask", "<BYTE>", "24", "24 is hexadecimal here (36): a bit on besides C0 and 18; 24 is 18"),
     ("--mask", "<BYTE>", "0x100", "above FF"),
+    ("--mask", "<BYTE>", "C1", "a bit on besides C0 and 18"),
     ("--mask", "<BYTE>", "+1", MASK),
     ("--limit", "<PLACES>", "0", "below 1"),
     ("--limit", "<PLACES>", "65537", "above 65536"),
@@ -252,19 +313,55 @@ REFUSED = [
     ("--fetch", "<AREA>", "0x-90F", AREA),
     ("--store", "<AREA>", "900+10-90F", AREA),
     ("--store", "<AREA>", "900-90F+10", AREA),
-    ("--fetch", "<AREA>", "1000000+10", "its start is above FFFFFF"),
-    ("--store", "<AREA>", "900+1000000", "its length is above FFFFFF"),
-    ("--store", "<AREA>", "900-8FF", "its last byte is below its first"),
-    ("--fetch", "<AREA>", "900-1000000", "its last byte is above FFFFFF"),
-    ("--store", "<AREA>", "1000000-1000000", "its last byte is above FFFFFF"),
+    ("--fetch", "<AREA>", "1000000+10", f"its start is above FFFFFF{BOTH}"),
+    ("--store", "<AREA>", "900+1000000", f"its length is above FFFFFF{BOTH}"),
+    ("--store", "<AREA>", "900-8FF", f"its last byte is below its first{BOTH}"),
+    ("--fetch", "<AREA>", "900-1000000", f"its last byte is above FFFFFF{BOTH}"),
+    ("--store", "<AREA>", "1000000-1000000", f"its last byte is above FFFFFF{BOTH}"),
     ("--fetch", "<AREA>", "0-FFFFFF", "its length, 1000000, is above FFFFFF"),
     ("--at", "<ADDRESS>", "0x", ADDRESS),
     ("--at", "<ADDRESS>", "0x0x10", ADDRESS),
-    ("--at", "<ADDRESS>", "1000000", "above FFFFFF"),
+    (
+        "--at",
+        "<ADDRESS>",
+        "1000000",
+        "1000000 is hexadecimal here (16,777,216): above FFFFFF; 1,000,000 is F4240",
+    ),
+    (
+        "--start",
+        "<ADDRESS>",
+        "16777216",
+        "16777216 is hexadecimal here (376,926,742): above FFFFFF",
+    ),
     ("--at", "<ADDRESS>", "0x1000000", "above FFFFFF"),
-    ("--storage", "<SIZE>", "804", "not a multiple of 8"),
+    (
+        "--storage",
+        "<SIZE>",
+        "804",
+        "804 is hexadecimal here (2,052 bytes): not a multiple of 8",
+    ),
+    (
+        "--storage",
+        "<SIZE>",
+        "65536",
+        "65536 is hexadecimal here (415,030 bytes): not a multiple of 8; 65,536 bytes are 10000",
+    ),
+    (
+        "--storage",
+        "<SIZE>",
+        "016777216",
+        "016777216 is hexadecimal here (376,926,742 bytes): above 1000000; 16,777,216 bytes are "
+        "1000000",
+    ),
+    ("--storage", "<SIZE>", "A04", "not a multiple of 8"),
+    ("--storage", "<SIZE>", "4294967296", SIZE),
     ("--storage", "<SIZE>", "0x804", "not a multiple of 8"),
-    ("--storage", "<SIZE>", "1000008", "above 1000000"),
+    (
+        "--storage",
+        "<SIZE>",
+        "1000008",
+        "1000008 is hexadecimal here (16,777,224 bytes): above 1000000; 1,000,008 bytes are F4248",
+    ),
     ("--storage", "<SIZE>", "+8", SIZE),
     ("--storage", "<SIZE>", "1000g", SIZE),
 ]
@@ -428,11 +525,13 @@ def check_refusals(checks, program):
 
 
 def check_least(checks, program):
-    """The least job stands alone, and says where there is none."""
+    """The least job stands alone, as does the open one, and says where there is none."""
     least = ["--start", "800", "--least"]
-    for option, usage in BESIDE_LEAST:
-        said = f"error: the argument '--least' cannot be used with '{usage}'{FOR_HELP}"
-        checks.expect(f"--least {option}", Ran(4, "", said), made(program, *least, option))
+    for job, beside in [("--least", [("--open", "--open"), *BESIDE]), ("--open", BESIDE)]:
+        for option, usage in beside:
+            said = f"error: the argument '{job}' cannot be used with '{usage}'{FOR_HELP}"
+            ran = made(program, "--start", "800", job, option)
+            checks.expect(f"{job} {option}", Ran(4, "", said), ran)
     said = f"error: the following required arguments were not provided:\n{EITHER}{FOR_HELP}"
     checks.expect("neither", Ran(4, "", said), made(program, *least[:-1]))
     storage = taken_apart(text_of(SEARCH_LOOP))[1]
@@ -440,11 +539,39 @@ def check_least(checks, program):
     checks.expect("few places", many, made(program, *least, "--limit", "2", given=storage))
     said = f"chanv: {CORE}: no job will do: {text_of(EXAMPLES / 'changes-argument.why')}"
     checks.expect("no job will do", Ran(1, "", said), made(program, *least, CORE))
-    for name, words, image, explanation in UNDOABLE:
+    for name, words, image, explanation, size in UNDOABLE:
         ran = made(program, "--least", *words.split(), given=bytes.fromhex(image))
-        checks.expect(name, Ran(1, "", f"chanv: no job will do: {explanation}"), ran)
+        said = f"chanv: no job will do: {explanation}{CURE.format(size) if size else ''}"
+        checks.expect(name, Ran(1, "", said), ran)
+    cured = made(program, *least, "--storage", "1000", given=LATE_BUFFER)
+    checks.expect("a larger storage", (0, ""), (cured.status, cured.error))
     missing = Ran(3, "", "chanv: none: cannot open\n")
     checks.expect("no image", missing, made(program, *least, "none"))
+
+
+def check_open(checks, program):
+    """The open job grants all of storage, and draws a program for which no job will do."""
+    for image, words, lines in OPEN_DECKS:
+        ran = made(program, "--start", "800", "--open", *words.split(), given=bytes.fromhex(image))
+        head = "chanv deck 1\ndevice 2314\nmask C0\nstart 000800\nextent 000 202\n"
+        if "--limit" in words:
+            head = head.replace("deck 1", "deck 2").replace("extent", "limit 00007\nextent")
+        checks.expect(f"'{image}' {words}, open", Ran(0, f"{head}{lines}end\n"), ran)
+    deck = made(program, "--start", "800", "--open", CORE).output
+    said = text_of(EXAMPLES / "changes-argument.why").partition("\n")[0]
+    checks.expect("no job will do", Ran(1, f"{said}\n"), run(program, given=deck.encode()))
+
+
+def check_decks_as_images(checks, program):
+    """A deck in place of an image is named as one, whatever comes of it."""
+    note = "note: this is a deck; chanv verify judges it\n"
+    job = ["--device=2314", "--start=800"]
+    for words, status in [("--extent=0-9", 0), ("--open", 0), ("--least", 1)]:
+        ran = run(program, "deck", *job, words, SEARCH_LOOP)
+        is_so = ran.status == status and ran.error.endswith(note) and ran.error.count(note) == 1
+        checks.expect_that(f"a deck, {words}", is_so, ran)
+        ran = run(program, "deck", *job, words, given=b"chanv  deck 1\n")
+        checks.expect_that(f"no deck, {words}", note not in ran.error, ran)
 
 
 def fault(option, word, accepted):
@@ -460,3 +587,5 @@ def check(checks, built):
     check_storage(checks, program)
     check_refusals(checks, program)
     check_least(checks, program)
+    check_open(checks, program)
+    check_decks_as_images(checks, program)

@@ -90,7 +90,10 @@ def check(checks, built):
         ran = run(*python, "import chanv; print(chanv.verify(chanv.Job(bytes(8), 0, [(0, 1)])))")
         checks.expect("the Python module, installed", Ran(0, "no 000000 invalid-code\n"), ran)
         page = to / "share/doc/chanv/docs/DECK.md"
-        checks.expect_that("the pages that help cites", page.is_file(), "not there")
+        checks.expect_that("the pages that the manual names", page.is_file(), "not there")
+        deck = to / "share/doc/chanv/examples/search-loop.deck"
+        ran = run(to / "bin/chanv", "verify", given=deck)
+        checks.expect("an example, installed", Ran(0, "yes\n"), ran)
         make("install", "/usr", f"DESTDIR={folder / 'stage'}")
         checks.expect_that("a stage", (folder / "stage/usr/bin/chanv").is_file(), "not there")
         check_library_folder(checks, folder)

@@ -28,7 +28,7 @@ def check_help(checks, program):
     ran = run(program, "verify", "--help")
     checks.expect("both forms of help", run(program, "help", "verify"), ran)
     is_a_screen = ran.status == 0 and len(ran.output.splitlines()) <= 24
-    for said in ["docs/DECK.md", "docs/VERDICT.md", *[f"\n  {status}  " for status in range(5)]]:
+    for said in ["man chanv", "chanv explain", *[f"\n  {status}  " for status in range(5)]]:
         checks.expect_that(f"help says {said!r}", is_a_screen and said in ran.output, ran.output)
 
 

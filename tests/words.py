@@ -2,8 +2,9 @@
 
 Its sections are the words of the table of reasons in docs/VERDICT.md, of the table of causes in
 docs/DECK.md, and of its own table of failures. Each is what `chanv explain` writes, in any case of
-the word's letters, and without a word it lists these words. A word without a section is refused,
-and the nearest is named. And `chanv why` gives the cause of each example deck's no in a form that
+the word's letters. Its table of words of the output has the others, with all commands of
+docs/DEVICE.md. Without a word `chanv explain` lists all these words. Any other word is refused, and
+the nearest is named. And `chanv why` gives the cause of each example deck's no in a form that
 the section of its reason has; each reason has an example.
 """
 
@@ -21,6 +22,10 @@ TABLES = [
     (WORDS, "Lines in place of an answer", r"\| `([a-z-]+)` \| `[a-zA-Z :]+` \| \d \|"),
 ]
 
+# the table of other words, and that of the commands, whose second codes have names with -mt
+OTHER = r"(?m)^\| `([a-z-]+)` \| (.*) \|$"
+COMMAND = r"(?m)^\| `[0-9A-F]{2}` \| (?:`([0-9A-F]{2})` )?\| `([a-z-]+)` \|"
+
 # words that have no meaning, and what is said of the nearest
 UNKNOWN = {
     "": "",
@@ -31,6 +36,8 @@ UNKNOWN = {
     "too many places": "; the nearest is too-many-places",
     "put-aero": "; the nearest is put-zero",
     "daek-outside": "; the nearest is data-outside",
+    "serch-id-equal": "; the nearest is search-id-equal",
+    "seek-mt": "",
     "x" * 100_000: "",
 }
 
@@ -87,6 +94,20 @@ def check_causes(checks, program, causes):
     checks.expect("the reasons that an example has", sorted(causes), sorted(shown))
 
 
+def check_others(checks, program, page):
+    """The words of the output, each with its line, and each command among them."""
+    rows = re.findall(OTHER, page.partition("\n## Words of the output\n")[2])
+    for word, meaning in rows:
+        said = Ran(0, f"{word}: {meaning}\n")
+        checks.expect(word, said, run(program, "explain", word))
+        checks.expect(word.upper(), said, run(program, "explain", word.upper()))
+    table = re.findall(COMMAND, text_of(ROOT / "docs/DEVICE.md"))
+    commands = [name for _, name in table] + [f"{name}-mt" for mt, name in table if mt]
+    words = [word for word, _ in rows]
+    checks.expect("the commands that have a meaning", sorted(commands), sorted(words[10:]))
+    return words
+
+
 def check_list(checks, program, words):
     """Without a word each is listed, in the order of the pages, and what it is in a few words."""
     ran = run(program, "explain")
@@ -108,7 +129,7 @@ def check(checks, built):
         meaning = Ran(0, said.get(word, ""))
         checks.expect(word, meaning, run(program, "explain", word))
         checks.expect(word.upper(), meaning, run(program, "explain", word.upper()))
-    check_list(checks, program, listed)
+    check_list(checks, program, listed + check_others(checks, program, page))
     for word, nearest in UNKNOWN.items():
         refused = Ran(4, "", f"chanv: no such word{nearest}\n")
         checks.expect(f"'{word[:20]}'", refused, run(program, "explain", word))

@@ -1,5 +1,5 @@
--- What words in which nothing is wrong name: no command, or that of an action, or `show` with its
--- word, or `deck`, or `explain`.
+-- What words in which nothing is wrong name: no command, or that of an action, or `show`, `deck`,
+-- `explain` or `find`.
 use Rattle.std.proofs.Common.{◌++◌, ◌||◌, ◌∙◌, ◌∷◌, ◌≡◌, Bool, List, None, Option, Some, [], ap}
 use Rattle.std.proofs.Common.{codes, cond, false, inl, inr, is_some, length, refl, subst, suc, sym}
 use Rattle.std.proofs.Common.{true, zero, ℕ}
@@ -199,55 +199,6 @@ module _ (s : Shape) (asks : OnlyAsks s) where
       turn_by true none = valued true none
       turn_by false none = no_dashes (subcommand_met names idle word) refl none
 
--- ---- the word of `show`
-
-abbrev show : Shape
-show = sub_at 0
-
-show_asks : OnlyAsks show
-show_asks = record {
-  long = λ name. long_fails show.rules false (has_long (rule_at show 1) name) false;
-  short = λ x. short_fails show.rules false (has_short (rule_at show 1) x) false;
-}
-
--- no command is met below a command
-no_name : {name : Text} → None ≡ Some name → ⊥
-no_name e = cc
-
--- the walk over the words after `show`, by the word that it met
-abbrev after_word : Option Text → Bool → Walk
-after_word None = at None 1
-after_word (Some v) = at (Some (codes "CCW", v ∷ [])) 2
-
--- where nothing is wrong with the words and at their end, a word is found
-abbrev HasWord : List Text → Walk → Type 0
-HasWord words w =
-    let end = fold (walked show.rules []) w words in
-    walk_fault show [] w words ≡ [] → end_kinds show end ≡ []
-    → is_some (first_of (codes "CCW") (finished show.rules end.held)) ≡ true
-
-ends_with_word : (met : Option Text) (is_trailing : Bool) (words : List Text)
-    → HasWord words (after_word met is_trailing)
-unfolding walk_fault defaults_fault
-ends_with_word None is_trailing [] none end = absurd (cons≢nil end)
-ends_with_word (Some v) is_trailing [] none end = refl
-ends_with_word None is_trailing (word ∷ rest) none end =
-    turn_by show show_asks None word [] (HasWord rest) 1 (λ name met. absurd (no_name met))
-    (ends_with_word None true rest) (λ trails _. ends_with_word (Some word) (trails || false) rest)
-    is_trailing (or_else_none _ _ none).0 (or_else_none _ _ none).1 end
-ends_with_word (Some v) is_trailing (word ∷ rest) none end =
-    turn_by show show_asks (Some (codes "CCW", v ∷ [])) word [] (HasWord rest) 2
-    (λ name met. absurd (no_name met)) (ends_with_word (Some v) true rest)
-    (λ trails stray. absurd (cons≢nil stray))
-    is_trailing (or_else_none _ _ none).0 (or_else_none _ _ none).1 end
-
--- `show` has a word where nothing is wrong with what follows it
-has_word : (words : List Text) → level_fault show [] nothing_held words false [] ≡ []
-    → is_some (first_of (codes "CCW") (rows_at show words).1) ≡ true
-has_word words sound =
-    let both = or_else_none (walk_fault show [] (walk_from nothing_held) words) _ sound in
-    ends_with_word None false words both.0 both.1
-
 -- ---- the command
 
 abbrev app : App
@@ -269,7 +220,7 @@ named_is_known name words no_help = found_by
     (λ o. option_map_or (λ s. level_fault s [] nothing_held words false []) o [] ≡ []
     → IsKnown (option_map (λ s. rows_at s words) o)) (λ s. answers_to name (label_of s))
     (λ _. inl refl) app.subs
-    (also (λ _ sound. inr (inr (inl (refl, has_word words sound))))
+    (also (λ _ _. inr (inr (inl refl)))
     (also (λ _ _. inr (inl (actions.Verify, refl)))
     (also (λ _ _. inr (inl (actions.List, refl)))
     (also (λ _ _. inr (inl (actions.Why false, refl)))

@@ -1,19 +1,33 @@
 -- What the words of a command line ask for.
-use Rattle.std.specs.Prelude.{◌≡◌, ◌≢◌, ◌⊎◌, List, [], Option, Some, None, IsSome}
-use Rattle.std.specs.Prelude.{codes, option_map, option_and_then}
+use Rattle.std.specs.Prelude.{◌≡◌, ◌≢◌, ◌⊎◌, Bool, false, ◌&&◌, ◌||◌, List, [], ◌∷◌, Option, Some}
+use Rattle.std.specs.Prelude.{None, true, codes, if◌then◌else◌, option_map, option_and_then}
+use Rattle.std.specs.Prelude.{slice_get}
+use Rattle.std.specs.Str.{bytes_eq}
 use Rattle.clap.specs.Words.{IsAmong, Row, Text, fault_of, first_of, kind_of, subcommand_of}
 use Rattle.clap.specs.declared.error.kind.ErrorKind.TheVariants.{DisplayHelp, DisplayVersion}
-use Rattle.clap.specs.declared.error.kind.ErrorKind.TheVariants.{OutOfMemory}
+use Rattle.clap.specs.declared.error.kind.ErrorKind.TheVariants.{InvalidSubcommand, OutOfMemory}
 use Rattle.chan_args.specs.declared.command_line.Request.{Request}
 use Rattle.chan_args.specs.declared.command_line.Request.TheVariants.{Show, Run, RunNamed, Image}
 use Rattle.chan_args.specs.declared.command_line.Request.TheVariants.{Explain, Find, Grants, Words}
 use Rattle.chan_args.specs.declared.command_line.Request.TheVariants.{Help, Version, Fault}
-use Rattle.chan_args.specs.declared.command_line.Request.TheVariants.{NoMemory}
+use Rattle.chan_args.specs.declared.command_line.Request.TheVariants.{NoCcw, NoCommand, NoMemory}
+use Rattle.chan_args.specs.declared.command_line.Request.TheVariants.{ShowNamed}
 use Rattle.chan_args.specs.CommandWords.{IsStandardInput, files_in, texts_of}
 use Rattle.chan_args.specs.ImageLine.{SaysImage, grant_fault, is_flagged}
 use Rattle.chan_args.specs.Lines.{chanv}
 use Rattle.chan_args.specs.declared.action.Action.{Action}
 use Rattle.chan_args.specs.declared.action.Action.TheVariants as actions
+
+-- the word calls for help
+abbrev pub is_help_flag : Text → Bool
+is_help_flag word = bytes_eq word (codes "--help") || bytes_eq word (codes "-h")
+
+-- the words as clap reads them: behind `help`, a call for help says nothing more
+abbrev pub understood : List Text → List Text
+understood (program ∷ word ∷ flag ∷ []) =
+    if bytes_eq word (codes "help") && is_help_flag flag then program ∷ word ∷ []
+    else program ∷ word ∷ flag ∷ []
+understood words = words
 
 -- clap finds no fault in the words, of which the first is the program's name, and no call for help
 -- or the version
@@ -50,11 +64,11 @@ action_name (actions.Why all) = codes "why"
 action_name actions.Graph = codes "graph"
 action_name actions.Needs = codes "needs"
 
--- it met no command, or that of an action, or `show` with its word, or `deck`, `explain` or `find`
+-- it met no command, or that of an action, or `show`, `deck`, `explain` or `find`
 abbrev pub IsKnown : Option (Text × List Row) → Type 0
 IsKnown met =
     (name_met met ≡ None) ⊎ (((action : Action) × (name_met met ≡ Some (action_name action)))
-    ⊎ (((name_met met ≡ Some (codes "show")) × IsSome (ccw_met met))
+    ⊎ ((name_met met ≡ Some (codes "show"))
     ⊎ ((name_met met ≡ Some (codes "deck")) ⊎ ((name_met met ≡ Some (codes "explain"))
     ⊎ (name_met met ≡ Some (codes "find"))))))
 
@@ -88,7 +102,13 @@ MakesDeck rows _ = ⊥
 
 -- what was met asks for this request
 abbrev pub AsksFor : Option (Text × List Row) → Request → Type 0
-AsksFor met (Show word) = (name_met met ≡ Some (codes "show")) × (ccw_met met ≡ Some word.now)
+AsksFor met (Show word) =
+    (name_met met ≡ Some (codes "show")) × (ccw_met met ≡ Some word.now)
+    × (is_flagged (codes "name") (rows_met met) ≡ false)
+AsksFor met (ShowNamed word) =
+    (name_met met ≡ Some (codes "show")) × (ccw_met met ≡ Some word.now)
+    × (is_flagged (codes "name") (rows_met met) ≡ true)
+AsksFor met NoCcw = (name_met met ≡ Some (codes "show")) × (ccw_met met ≡ None)
 AsksFor met (Run a) =
     IsFor (name_met met) a × RunsOver a (files_met met) (Run a) × IsAllAsMet a (rows_met met)
 AsksFor met (RunNamed a names) =
@@ -109,6 +129,9 @@ abbrev pub IsAnswerTo : List Text → Request → Type 0
 IsAnswerTo words (Help e) = (kind_of e ≡ DisplayHelp) × IsAmong DisplayHelp (fault_of chanv words)
 IsAnswerTo words (Version e) =
     (kind_of e ≡ DisplayVersion) × IsAmong DisplayVersion (fault_of chanv words)
+IsAnswerTo words (NoCommand word e) =
+    (kind_of e ≡ InvalidSubcommand) × IsAmong InvalidSubcommand (fault_of chanv words)
+    × (slice_get words 1 ≡ Some word.now) × (bytes_eq word.now (codes "help") ≡ false)
 IsAnswerTo words (Fault e) =
     (kind_of e ≢ DisplayHelp) × (kind_of e ≢ DisplayVersion) × (kind_of e ≢ OutOfMemory)
     × IsAmong (kind_of e) (fault_of chanv words)

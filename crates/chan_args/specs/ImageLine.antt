@@ -7,7 +7,11 @@ use Rattle.chan_args.specs.CommandWords.{file_in, texts_of}
 use Rattle.chan_args.specs.declared.image_command.ImageRequest.{ImageRequest}
 use Rattle.chan_args.specs.declared.image_words.ImageWords.{ImageWords}
 use Rattle.chan_args.specs.declared.image_words.GrantFault.{GrantFault}
-use Rattle.chan_args.specs.declared.image_words.GrantFault.TheVariants.{BesideLeast, NoExtent}
+use Rattle.chan_args.specs.declared.image_words.GrantFault.TheVariants.{BesideLeast, BesideOpen}
+use Rattle.chan_args.specs.declared.image_words.GrantFault.TheVariants.{NoExtent}
+use Rattle.chan_args.specs.declared.image_words.AskedJob.{AskedJob}
+use Rattle.chan_args.specs.declared.image_words.AskedJob.TheVariants as jobs
+use Rattle.chan_args.specs.declared.image_words.ImageOption.{ImageOption}
 use Rattle.chan_args.specs.declared.image_words.ImageOption.TheVariants as options
 
 -- the text that clap met for an option, or the usual one
@@ -30,20 +34,40 @@ is_flagged name rows = bytes_eq (text_or name (codes "false") rows) (codes "true
 abbrev pub is_least : List Row → Bool
 is_least rows = is_flagged (codes "least") rows
 
+-- so is the open job
+abbrev pub is_open : List Row → Bool
+is_open rows = is_flagged (codes "open") rows
+
+-- the job that is asked for
+abbrev pub asked_job : List Row → AskedJob
+asked_job rows =
+    if is_least rows then jobs.Least else (if is_open rows then jobs.Open else jobs.Named)
+
+-- the first option that grants something of its own
+abbrev pub granting_option : List Row → Option ImageOption
+granting_option rows =
+    if is_met (codes "mask") rows then Some options.Mask
+    else (if is_met (codes "extent") rows then Some options.Extent
+    else (if is_met (codes "fetch") rows then Some options.Fetch
+    else (if is_met (codes "store") rows then Some options.Store else None)))
+
 -- the first option that grants something beside the least job
 abbrev pub beside_least : List Row → Option GrantFault
 beside_least rows =
-    if is_met (codes "mask") rows then Some (BesideLeast options.Mask)
-    else (if is_met (codes "extent") rows then Some (BesideLeast options.Extent)
-    else (if is_met (codes "fetch") rows then Some (BesideLeast options.Fetch)
-    else (if is_met (codes "store") rows then Some (BesideLeast options.Store) else None)))
+    if is_open rows then Some (BesideLeast options.Open)
+    else option_map (λ option. BesideLeast option) (granting_option rows)
 
--- why the options don't say one job, if they don't: something is granted beside the least job, or
--- neither an extent nor that
+-- the first one beside the open job
+abbrev pub beside_open : List Row → Option GrantFault
+beside_open rows = option_map (λ option. BesideOpen option) (granting_option rows)
+
+-- why the options don't say one job, if they don't: something is granted beside the least job or
+-- the open job, or neither an extent nor one of these is asked for
 abbrev pub grant_fault : List Row → Option GrantFault
 grant_fault rows =
     if is_least rows then beside_least rows
-    else (if is_met (codes "extent") rows then None else Some NoExtent)
+    else (if is_open rows then beside_open rows
+    else (if is_met (codes "extent") rows then None else Some NoExtent))
 
 -- the texts of the extents; of all cylinders where there is none
 abbrev pub extents_or_all : List Text → List Text
@@ -61,7 +85,7 @@ pub record SaysOptions (rows : List Row) (w : ImageWords) : Type 0 where
   pub store : texts_of w.store.items ≡ texts_in (codes "store") rows
   pub at : w.at.now ≡ text_or (codes "at") (codes "0") rows
   pub storage : option_map (λ text. text.now) w.storage ≡ first_of (codes "storage") rows
-  pub least : w.is_least ≡ is_least rows
+  pub job : w.job ≡ asked_job rows
 
 -- the request has these texts, the file, and whether no device is named
 pub record SaysImage (rows : List Row) (r : ImageRequest) : Type 0 where

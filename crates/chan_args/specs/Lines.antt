@@ -14,7 +14,6 @@ valued name = record (new_rule name) { long = Some name; value_names = 1 }
 -- the rule of a word of this name that is given so
 abbrev pub rule_given : Given → Text → Rule
 rule_given given.Plain name = new_rule name
-rule_given given.Required name = record (new_rule name) { required = true }
 rule_given given.Repeated name = record (new_rule name) { action = Some Append }
 rule_given given.Valued name = valued name
 rule_given given.RequiredValued name = record (valued name) { required = true }
@@ -53,7 +52,7 @@ abbrev pub rule_in : WordRow → Rule
 rule_in word = rule_given word.1 word.0.now
 
 abbrev pub LineRow : Type 0
-LineRow = Bor Text × Bor Text × Bor Text × Bor (List WordRow)
+LineRow = Bor Text × Bor Text × Bor Text × Bor (List WordRow) × Bor Text
 
 abbrev pub line_in : LineRow → App
 line_in line = with_words rule_in (new_app line.0.now) line.3.now

@@ -1,11 +1,14 @@
 //! The command line: which words ask for what.
 
-ghost use Rattle.std.specs.Prelude.{◌↔◌, IfErr, IfOk, IsSome, IsTrue, OnOk, Some, codes, map};
+ghost use Rattle.std.specs.Prelude.{◌≡◌, ◌↔◌, IfErr, IfOk, IsTrue, OnOk, Some, codes, map};
 ghost use Rattle.std.specs.Prelude.{string_bytes};
-ghost use Rattle.clap.specs.Words.{HasKind, fault_of, first_of, found_of, rows_of};
+ghost use Rattle.clap.specs.Words.{HasKind, IsAmong, fault_of, found_of, kind_of};
+ghost use Rattle.clap.specs.Words.{rows_of};
+ghost use Rattle.clap.specs.declared.error.kind.ErrorKind.TheVariants.{InvalidSubcommand};
 ghost use Rattle.clap.specs.Words.{subcommand_of, subcommand_rows_of};
 ghost use Rattle.chan_args.specs.CommandLine.{AsksFor, IsAnswerTo, IsKnown, IsAccepted};
-ghost use Rattle.chan_args.specs.CommandLine.{Explains, MakesDeck, RunsOver};
+ghost use Rattle.chan_args.specs.CommandLine.{Explains, MakesDeck, RunsOver, is_help_flag};
+ghost use Rattle.chan_args.specs.CommandLine.{understood};
 ghost use Rattle.chan_args.specs.Lines.{chanv};
 ghost use Rattle.chan_args.specs.CommandWords.{IsStandardInput, files_in, texts_of};
 
@@ -23,6 +26,10 @@ use std::alloc::{AllocError, Global};
 pub enum Request<'a> {
     /// To show a CCW. The text is the word that was given for it.
     Show(&'a str),
+    /// The same, with the name of its command.
+    ShowNamed(&'a str),
+    /// Nothing: no word was given for the CCW that is to be shown.
+    NoCcw,
     /// To read a deck from standard input and do this with it.
     Run(Action),
     /// To read the deck of each of these in turn and do this with it. Each is the name of a file,
@@ -42,6 +49,9 @@ pub enum Request<'a> {
     Help(Error),
     /// The version. Its text is the error's.
     Version(Error),
+    /// Nothing: the word after the program's name isn't a command. The text that says so is the
+    /// error's.
+    NoCommand(&'a str, Error),
     /// Nothing: clap doesn't take the words. The text that says why is the error's.
     Fault(Error),
     /// It isn't known: an allocation was refused.
@@ -93,13 +103,12 @@ fn request_named<'a>(
 
 /// The request to show the word that clap met as the CCW.
 fn show_request<'a>(matches: &ArgMatches<'a>) -> Request<'a>
-    requires { IsSome (first_of (codes "CCW") (rows_of (found_of matches.now))) }
     ensures { AsksFor (Some (codes "show", rows_of (found_of matches.now))) result }
 {
     match text_met(matches, "CCW") {
+        Some(word) if is_flagged(matches, "name") => Request::ShowNamed(word),
         Some(word) => Request::Show(word),
-        // the word is required
-        None => unreachable!(),
+        None => Request::NoCcw,
     }
 }
 
@@ -164,21 +173,52 @@ fn is_standard_input(files: &[&str]) -> bool
     }
 }
 
+/// The words as clap reads them: a call for the help of `help` is one for help.
+fn understood<'a>(words: &'a [String]) -> &'a [String]
+    ensures { map string_bytes result.now ≡ understood (map string_bytes words.entry.now) }
+{
+    match words {
+        [_, help, flag] if help.as_str() == "help" && is_help_flag(flag.as_str()) => &words[..2],
+        _ => words,
+    }
+}
+
+/// Whether a word calls for help.
+fn is_help_flag(word: &str) -> bool
+    ensures { result ≡ is_help_flag word.now }
+{
+    word == "--help" || word == "-h"
+}
+
+/// The answer to words that clap doesn't take, because it doesn't know a command.
+fn no_command<'a>(words: &'a [String], error: Error) -> Request<'a>
+    requires { (kind_of error ≡ InvalidSubcommand)
+        × IsAmong InvalidSubcommand (fault_of chanv (map string_bytes words.now)) }
+    ensures { IsAnswerTo (map string_bytes words.entry.now) result }
+{
+    match words.get(1) {
+        Some(word) if word.as_str() != "help" => Request::NoCommand(word.as_str(), error),
+        _ => Request::Fault(error),
+    }
+}
+
 /// Reads the words; the first is the program's name.
 ///
-/// Without a command the request is to verify. If clap accepts the words, the answer is their
-/// request; otherwise it is `Help`, `Version` or `Fault`, by the kind of fault that it finds.
-/// `NoMemory` may come in place of each.
+/// Without a command the request is to verify, and `help --help` is `help`. If clap accepts the
+/// words, the answer is their request; otherwise it is `Help`, `Version`, `NoCommand` or `Fault`, by
+/// the kind of fault that it finds. `NoMemory` may come in place of each.
 #[inline(never)]
 pub fn read_request<'a>(alloc: Global, words: &'a [String]) -> Request<'a>
-    ensures answer { IsAnswerTo (map string_bytes words.entry.now) result }
+    ensures answer { IsAnswerTo (understood (map string_bytes words.entry.now)) result }
 {
+    let words = understood(words);
     match asked(alloc, words) {
         Ok(request) => request,
         Err(error) => match error.kind() {
             ErrorKind::OutOfMemory => Request::NoMemory,
             ErrorKind::DisplayHelp => Request::Help(error),
             ErrorKind::DisplayVersion => Request::Version(error),
+            ErrorKind::InvalidSubcommand => no_command(words, error),
             _ => Request::Fault(error),
         },
     }

@@ -3,10 +3,11 @@
 ghost use Rattle.std.specs.Prelude.{◌≡◌, codes, IfOk, option_map};
 ghost use Rattle.clap.specs.Words.{found_of, rows_of};
 ghost use Rattle.chan_args.specs.CommandWords.{file_in, texts_of};
-ghost use Rattle.chan_args.specs.ImageLine.{SaysImage, SaysOptions, beside_least, extents_or_all};
-ghost use Rattle.chan_args.specs.ImageLine.{grant_fault, is_least, texts_in};
+ghost use Rattle.chan_args.specs.ImageLine.{SaysImage, SaysOptions, asked_job, beside_least};
+ghost use Rattle.chan_args.specs.ImageLine.{beside_open, extents_or_all, grant_fault};
+ghost use Rattle.chan_args.specs.ImageLine.{granting_option, texts_in};
 
-use crate::image_words::{GrantFault, ImageOption, ImageWords};
+use crate::image_words::{AskedJob, GrantFault, ImageOption, ImageWords};
 use crate::words_met::{is_flagged, text_met, text_or, texts_met};
 use clap::ArgMatches;
 use std::alloc::{AllocError, Global};
@@ -32,27 +33,56 @@ fn file<'a>(matches: &ArgMatches<'a>) -> Option<&'a str>
     }
 }
 
-/// Whether the least job is asked for.
-fn is_least(matches: &ArgMatches<'_>) -> bool
-    ensures { result ≡ is_least (rows_of (found_of matches.now)) }
+/// The job that is asked for.
+fn asked_job(matches: &ArgMatches<'_>) -> AskedJob
+    ensures { result ≡ asked_job (rows_of (found_of matches.now)) }
 {
-    is_flagged(matches, "least")
+    if is_flagged(matches, "least") {
+        AskedJob::Least
+    } else if is_flagged(matches, "open") {
+        AskedJob::Open
+    } else {
+        AskedJob::Named
+    }
+}
+
+/// The first option that grants something of its own.
+fn granting_option(matches: &ArgMatches<'_>) -> Option<ImageOption>
+    ensures { result ≡ granting_option (rows_of (found_of matches.now)) }
+{
+    if text_met(matches, "mask").is_some() {
+        Some(ImageOption::Mask)
+    } else if text_met(matches, "extent").is_some() {
+        Some(ImageOption::Extent)
+    } else if text_met(matches, "fetch").is_some() {
+        Some(ImageOption::Fetch)
+    } else if text_met(matches, "store").is_some() {
+        Some(ImageOption::Store)
+    } else {
+        None
+    }
 }
 
 /// The first option that grants something beside the least job.
 fn beside_least(matches: &ArgMatches<'_>) -> Option<GrantFault>
     ensures { result ≡ beside_least (rows_of (found_of matches.now)) }
 {
-    if text_met(matches, "mask").is_some() {
-        Some(GrantFault::BesideLeast(ImageOption::Mask))
-    } else if text_met(matches, "extent").is_some() {
-        Some(GrantFault::BesideLeast(ImageOption::Extent))
-    } else if text_met(matches, "fetch").is_some() {
-        Some(GrantFault::BesideLeast(ImageOption::Fetch))
-    } else if text_met(matches, "store").is_some() {
-        Some(GrantFault::BesideLeast(ImageOption::Store))
-    } else {
-        None
+    if is_flagged(matches, "open") {
+        return Some(GrantFault::BesideLeast(ImageOption::Open));
+    }
+    match granting_option(matches) {
+        Some(option) => Some(GrantFault::BesideLeast(option)),
+        None => None,
+    }
+}
+
+/// The first option that grants something beside the open job.
+fn beside_open(matches: &ArgMatches<'_>) -> Option<GrantFault>
+    ensures { result ≡ beside_open (rows_of (found_of matches.now)) }
+{
+    match granting_option(matches) {
+        Some(option) => Some(GrantFault::BesideOpen(option)),
+        None => None,
     }
 }
 
@@ -60,8 +90,10 @@ fn beside_least(matches: &ArgMatches<'_>) -> Option<GrantFault>
 pub(crate) fn grant_fault(matches: &ArgMatches<'_>) -> Option<GrantFault>
     ensures { result ≡ grant_fault (rows_of (found_of matches.now)) }
 {
-    if is_least(matches) {
+    if is_flagged(matches, "least") {
         beside_least(matches)
+    } else if is_flagged(matches, "open") {
+        beside_open(matches)
     } else if text_met(matches, "extent").is_some() {
         None
     } else {
@@ -96,7 +128,7 @@ fn image_words<'a>(alloc: Global, matches: &ArgMatches<'a>) -> Result<ImageWords
         store: texts_met(alloc, matches, "store")?,
         at: text_or(matches, "at", "0"),
         storage: text_met(matches, "storage"),
-        is_least: is_least(matches),
+        job: asked_job(matches),
     })
 }
 

@@ -21,6 +21,19 @@ pub enum ImageOption {
     At,
     /// `--storage`: how many bytes storage has.
     Storage,
+    /// `--open`: grants everything.
+    Open,
+}
+
+/// The job of a deck that is made of an image.
+#[derive(Clone, Copy, PartialEq, Eq)]
+pub enum AskedJob {
+    /// The one that mask, extents and areas say.
+    Named,
+    /// The least job, which grants what the program needs.
+    Least,
+    /// The open job, which grants everything.
+    Open,
 }
 
 /// The texts of the options with which a deck is made of an image, as a command line has them. The
@@ -47,8 +60,8 @@ pub struct ImageWords<'a> {
     pub at: &'a str,
     /// A multiple of 8, at most 1000000.
     pub storage: Option<&'a str>,
-    /// Whether the deck grants what the program needs, in place of mask, extents and areas.
-    pub is_least: bool,
+    /// The job of the deck. If it isn't the named one, mask, extents and areas don't matter.
+    pub job: AskedJob,
 }
 
 /// Why options don't say one job.
@@ -56,6 +69,8 @@ pub struct ImageWords<'a> {
 pub enum GrantFault {
     /// This option stands beside `--least`, which grants in its place.
     BesideLeast(ImageOption),
-    /// There is neither an extent nor `--least`.
+    /// This option stands beside `--open`, which grants in its place.
+    BesideOpen(ImageOption),
+    /// There is neither an extent nor `--least` nor `--open`.
     NoExtent,
 }

@@ -13,8 +13,6 @@ use std::alloc::{AllocError, Global};
 pub(crate) enum Given {
     /// By itself, or not at all.
     Plain,
-    /// By itself.
-    Required,
     /// By itself, any number of times.
     Repeated,
     /// As an option with a value, or not at all.
@@ -31,21 +29,41 @@ pub(crate) enum Given {
 /// what help says of it.
 pub(crate) type Word = (&'static str, Given, &'static str, &'static str);
 
-/// A command: its name, what help says of it, the text at the end of its help, and its words and
-/// options, in the order of help.
-pub(crate) type Line = (&'static str, &'static str, &'static str, &'static [Word]);
+/// A command: its name, what help says of it, the text at the end of its help, its words and
+/// options, in the order of help, and its lines of `USAGE`, if it has options.
+pub(crate) type Line = (
+    &'static str,
+    &'static str,
+    &'static str,
+    &'static [Word],
+    &'static str,
+);
 
 /// The forms of a command line, for help and for a usage fault before any command.
 const USAGE: &str = "chanv verify [FILE]...
-       chanv list [FILE]
+       chanv list [FILE]...
        chanv why [--all] [FILE]...
        chanv graph [FILE]
-       chanv needs [FILE]
+       chanv needs [FILE]...
        chanv find [OPTIONS] [FILE]
-       chanv deck --start <ADDRESS> --least [OPTIONS] [FILE]
+       chanv deck --start <ADDRESS> <--least|--open> [OPTIONS] [FILE]
        chanv deck --start <ADDRESS> --extent <FIRST-LAST> [OPTIONS] [FILE]
        chanv explain [WORD]
-       chanv show <CCW>";
+       chanv show [--name] <CCW>";
+
+// The lines of `USAGE` for the commands that have options.
+const USAGE_OF_SHOW: &str = "chanv show [--name] <CCW>";
+
+const USAGE_OF_WHY: &str = "chanv why [--all] [FILE]...";
+
+const USAGE_OF_FIND: &str = "chanv find [OPTIONS] [FILE]";
+
+const USAGE_OF_DECK: &str = "chanv deck --start <ADDRESS> <--least|--open> [OPTIONS] [FILE]
+       chanv deck --start <ADDRESS> --extent <FIRST-LAST> [OPTIONS] [FILE]";
+
+/// The end of the help of `show`.
+const OF_SHOW: &str = "With --name, CCW may have blanks and begin with 0x:
+  chanv show --name '06 000A00 20 00 0050'";
 
 /// The end of the help of `verify`.
 const OF_VERIFY: &str = "The output:
@@ -61,10 +79,15 @@ The exit status is the greatest of these:
   3  a FILE can't be opened, reading or writing failed, or memory ran out
   4  the command line is wrong
 
-docs/DECK.md describes decks, docs/VERDICT.md the reasons.";
+`chanv explain` says what a reason means, and `man chanv` how to write a deck.";
 
 /// The end of the help of a command for one deck.
 const OF_ONE: &str = "The exit status is the same as for `chanv verify`; see its help.";
+
+/// The end of the help of `list`.
+const OF_LIST: &str = "With several FILEs, each listing comes under a line `FILE:`.
+
+The exit status is the same as for `chanv verify`; see its help.";
 
 /// The end of the help of `needs`.
 const OF_NEEDS: &str = "The output, in lines of a deck except keep:
@@ -73,6 +96,7 @@ const OF_NEEDS: &str = "The output, in lines of a deck except keep:
   fetch SSSSSS LLLLLL   an area that has to be lent for fetching
   store SSSSSS LLLLLL   an area that has to be lent for storing
   keep SSSSSS LLLLLL    an area that nothing else may change during the run
+With several FILEs, each answer comes under a line `FILE:`.
 
 If no job will do, the output explains the no under the job that grants
 everything, and the exit status is 1. Otherwise the status is the same as for
@@ -89,7 +113,7 @@ const OF_FIND: &str = "The output has a line for each program, in order of its s
   SSSSSS too many places    more places are reachable than --limit
 
 A program starts at a CCW without a fault that leads to a second one, unless
-another such CCW leads there. docs/FIND.md has the definition, and its misses.
+another such CCW leads there. `man chanv` names the page with its misses.
 
 The exit status is 0, even if there is no program, or the same as for
 `chanv deck`; see its help.";
@@ -102,12 +126,12 @@ first and last byte (900-90F). You may repeat --extent and options with AREA.
 Storage ends with the image, filled with zeros to a multiple of 8. With
 --storage it has that size, filled with zeros.
 
-The deck is written to standard output, so you can judge it at once:
-  chanv deck --start 3A98 --extent 0-202 core.bin | chanv why
-
 With --least the deck grants exactly what its program needs, and is judged yes.
-Leave out mask, extents and areas then. If no job will do, standard error
-explains the verdict on the job that grants everything.
+If no job will do, standard error explains the verdict on the job that grants
+everything. With --open the deck grants everything, so you can draw any program.
+Leave out mask, extents and areas with both:
+  chanv deck --start 3A98 --least core.bin > my.deck
+  chanv deck --start 3A98 --open core.bin | chanv graph | dot -Tpng > my.png
 
 The exit status:
   0  the deck was written
@@ -145,14 +169,14 @@ const AT: Word = (
     "at",
     Given::Valued,
     "ADDRESS",
-    "the address at which the image begins (default 0)",
+    "hexadecimal address of the image (default 0)",
 );
 
 const STORAGE: Word = (
     "storage",
     Given::Valued,
     "SIZE",
-    "the size of storage (by default the image's end)",
+    "hexadecimal size of storage (default: image's end)",
 );
 
 const IMAGE: Word = (
@@ -165,12 +189,17 @@ const IMAGE: Word = (
 /// The options of a deck that is made of an image, and the image.
 const MAKING: &[Word] = &[
     DEVICE,
-    ("mask", Given::Valued, "BYTE", "the file mask (default 00)"),
+    (
+        "mask",
+        Given::Valued,
+        "BYTE",
+        "hexadecimal file mask (default 00)",
+    ),
     (
         "start",
         Given::RequiredValued,
         "ADDRESS",
-        "the address of the first CCW",
+        "hexadecimal address of the first CCW",
     ),
     (
         "limit",
@@ -182,19 +211,19 @@ const MAKING: &[Word] = &[
         "extent",
         Given::RepeatedValued,
         "FIRST-LAST",
-        "cylinders of the file; required without --least",
+        "decimal cylinders; needed unless --least or --open",
     ),
     (
         "fetch",
         Given::RepeatedValued,
         "AREA",
-        "an area lent for fetching",
+        "hexadecimal area lent for fetching",
     ),
     (
         "store",
         Given::RepeatedValued,
         "AREA",
-        "an area lent for storing",
+        "hexadecimal area lent for storing",
     ),
     (
         "least",
@@ -202,6 +231,7 @@ const MAKING: &[Word] = &[
         "",
         "grants exactly what the program needs",
     ),
+    ("open", Given::Flag, "", "grants everything"),
     AT,
     STORAGE,
     IMAGE,
@@ -221,55 +251,69 @@ const SEARCHING: &[Word] = &[
     IMAGE,
 ];
 
+/// The CCW that is shown, and how. Without it `chan_run` reports that it is required.
+const SHOWING: &[Word] = &[
+    ("CCW", Given::Plain, "", "sixteen hexadecimal digits"),
+    ("name", Given::Flag, "", "adds the name of the command"),
+];
+
 /// The commands, in the order of help.
 pub(crate) const LINES: &[Line] = &[
     (
         "show",
         "prints one channel command word (CCW)",
-        "",
-        &[("CCW", Given::Required, "", "sixteen hexadecimal digits")],
+        OF_SHOW,
+        SHOWING,
+        USAGE_OF_SHOW,
     ),
     (
         "verify",
         "judges each deck: may its program run? chanv alone does the same",
         OF_VERIFY,
         &[DECKS],
+        "",
     ),
     (
         "list",
         "lists the CCWs that a deck's program can reach, and the verdict",
-        OF_ONE,
-        &[DECK],
+        OF_LIST,
+        &[DECKS],
+        "",
     ),
     (
         "why",
         "explains each verdict: the path to the offending CCW, and the cause",
         OF_ONE,
         &[DECKS, ALL],
+        USAGE_OF_WHY,
     ),
     (
         "graph",
         "draws a deck's program for Graphviz",
         OF_ONE,
         &[DECK],
+        "",
     ),
     (
         "needs",
         "lists what a job must grant, and the bytes that must not change",
         OF_NEEDS,
-        &[DECK],
+        &[DECKS],
+        "",
     ),
     (
         "find",
         "finds programs in an image of storage, and judges each",
         OF_FIND,
         SEARCHING,
+        USAGE_OF_FIND,
     ),
     (
         "deck",
         "turns an image of storage into a deck",
         OF_DECK,
         MAKING,
+        USAGE_OF_DECK,
     ),
     (
         "explain",
@@ -279,8 +323,9 @@ pub(crate) const LINES: &[Line] = &[
             "WORD",
             Given::Plain,
             "",
-            "a reason, a cause, or an error such as too-many-places",
+            "a word of the output, such as changes-ccw or read-data",
         )],
+        "",
     ),
 ];
 
@@ -346,12 +391,15 @@ fn line_command<'a>(alloc: Global, line: &Line) -> Result<Command<'a>, AllocErro
 fn titled<'a>(alloc: Global, line: &Line) -> Command<'a>
     ensures { IsCommand (new_app line.now.0.now) result }
 {
-    let (name, about, after_help, _) = *line;
-    let command = Command::new(alloc, name).about(about);
-    if after_help.is_empty() {
-        return command;
+    let (name, about, after_help, _, usage) = *line;
+    let mut command = Command::new(alloc, name).about(about);
+    if !after_help.is_empty() {
+        command = command.after_help(after_help);
     }
-    command.after_help(after_help)
+    if !usage.is_empty() {
+        command = command.override_usage(usage);
+    }
+    command
 }
 
 /// Adds a word.
@@ -374,7 +422,6 @@ fn arg_of<'a>(alloc: Global, word: &Word) -> Arg<'a>
     let arg = Arg::new(alloc, name).help(help);
     match given {
         Given::Plain => arg,
-        Given::Required => arg.required(true),
         Given::Repeated => arg.action(ArgAction::Append),
         Given::Valued => arg.long(name).value_name(value),
         Given::RequiredValued => arg.required(true).long(name).value_name(value),

@@ -57,7 +57,8 @@ pub all_bytes : (bytes : List ℕ) → ((i : ℕ) → get_or bytes i 0 < 256) �
 all_bytes [] h = tt
 all_bytes (b ∷ bytes) h = (h zero, all_bytes bytes (λ i. h (suc i)))
 
-length_storage : (at : ℕ) (image : List ℕ)
+-- how long storage is in which an image begins at an address
+pub length_storage : (at : ℕ) (image : List ℕ)
     → length (storage_with at image) ≡ next_multiple_of (at + length image) 8
 length_storage at image =
     let front = zeros at ++ image in

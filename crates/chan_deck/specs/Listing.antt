@@ -56,6 +56,10 @@ abbrev pub word_text : Entry → Option Fields → Option table.Entry → List �
 word_text entered None command = codes "no-ccw"
 word_text entered (Some c) command = ccw_text c ++ codes " " ++ operation_name entered c command
 
+-- a CCW with the name of the command that begins there, and a line feed
+abbrev pub ccw_line : Fields → List ℕ
+ccw_line c = word_text Fresh (Some c) (lookup c.command) ++ 10 ∷ []
+
 -- `address way transfer mark ccw name`, for a place at which this CCW stands with this command,
 -- with its line feed
 abbrev pub row_with : Place → Option Fields → Option table.Entry → Bool → List ℕ

@@ -1,9 +1,12 @@
--- The notes as text: areas that adjoin share one, and without notes there is no text.
+-- The notes as text: areas that adjoin share one, and without notes there is no text. And the note on
+-- the size of storage.
 use Rattle.std.specs.Prelude.{◌≡◌, ◌<◌, ◌+◌, nat_eq, nat_lt, ℕ, Bool, ◌&&◌, if◌then◌else◌}
-use Rattle.std.specs.Prelude.{List, [], ◌∷◌, length, Option, None, Some}
+use Rattle.std.specs.Prelude.{List, [], ◌∷◌, ◌++◌, codes, length, Option, None, Some}
 use Rattle.ccw_core.specs.declared.areas.Area.{Area}
 use Rattle.chan_walk.specs.declared.place.Place.{Place}
 use Rattle.chan_why.specs.declared.notes.Notes.{Notes}
+use Rattle.chan_deck.specs.Item.{size_digits}
+use Rattle.chan_deck.specs.declared.notes.TheConstants as texts
 
 -- an area begins where another ends, and both together have a length that an area may have
 abbrev pub adjoin : Area → Area → Bool
@@ -44,3 +47,7 @@ pub record HasNoNote (n : Notes) (hang : Option Place) : Type 0 where
   pub no_hang : hang ≡ None
   pub interrupting : n.interrupting.items ≡ []
   pub ending : n.ending.items ≡ []
+
+-- the note on the size of storage
+abbrev pub storage_note : ℕ → List ℕ
+storage_note n = codes "note: storage has " ++ (size_digits n ++ texts.STORAGE_ENDS.now)

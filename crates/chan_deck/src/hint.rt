@@ -118,15 +118,19 @@ fn spot_behind(text: &[u8], count: u64) -> Spot<'_>
     }
 }
 
-/// Adds the bytes of a line, as many as fit in `SHOWN` characters: each as itself if it is visible,
-/// otherwise as `\x` and two digits. A blank at the line's end isn't visible.
+/// The byte-order mark in UTF-8, which some editors write before a text.
+const BYTE_ORDER_MARK: &[u8] = b"\xEF\xBB\xBF";
+
+/// Adds the bytes of a line, as many as fit in `SHOWN` characters, and ` ..` if some don't: each as
+/// itself if it is visible, otherwise as `\x` and two digits. A blank at the line's end isn't
+/// visible.
 fn push_shown(out: &mut String, line: &[u8]) -> Result<(), AllocError> {
     let mut room = SHOWN;
     for (at, byte) in line.iter().enumerate() {
         let is_seen = byte.is_ascii_graphic() || (*byte == b' ' && at + 1 < line.len());
         let width = if is_seen { 1 } else { 4 };
         if width > room {
-            return Ok(());
+            return out.push_str(" ..");
         }
         room -= width;
         if is_seen {
@@ -162,31 +166,45 @@ fn push_keywords(out: &mut String, forms: &[Form]) -> Result<(), AllocError> {
 }
 
 /// If the line begins like a form that may not come here, adds whether that form comes earlier or
-/// later.
+/// later, or that only version 2 has it; if it begins like a line of `chanv needs` alone, that no
+/// deck has it.
 fn push_order(out: &mut String, spot: &Spot<'_>, forms: &[Form]) -> Result<(), AllocError> {
     let Some(form) = begun_as(&FORMS, spot.found) else {
+        if spot.found.starts_with(b"keep ") {
+            return out.push_str("; keep isn't a line of a deck");
+        }
         return Ok(());
     };
     let Some(first) = forms.first() else {
         return Ok(());
     };
-    let word = form.keyword();
-    if form.number() < first.number() {
-        return match form {
-            Form::Limit if !spot.before.is_second => {
-                out.push_str("; only chanv deck 2 has limit")
-            }
-            _ => write!(out, "; {word} comes earlier"),
-        };
-    }
     if forms.iter().any(|other| other.number() == form.number()) {
         return Ok(());
     }
-    write!(out, "; {word} comes later")
+    let word = form.keyword();
+    match form {
+        Form::Limit if spot.before.last.is_some() && !spot.before.is_second => {
+            out.push_str("; only chanv deck 2 has limit")
+        }
+        _ if form.number() < first.number() => write!(out, "; {word} comes earlier"),
+        _ => write!(out, "; {word} comes later"),
+    }
+}
+
+/// If the text begins with a byte-order mark, or the line ends with a carriage return, adds what is
+/// wrong with it.
+fn push_bytes(out: &mut String, spot: &Spot<'_>) -> Result<(), AllocError> {
+    if spot.before.last.is_none() && spot.found.starts_with(BYTE_ORDER_MARK) {
+        out.push_str("; a byte-order mark comes before it")?;
+    }
+    if spot.found.ends_with(b"\r") {
+        out.push_str("; lines end with a line feed alone")?;
+    }
+    Ok(())
 }
 
 /// Adds the forms that may come at a spot: the pattern of the only one, or of the one that the line
-/// begins like, otherwise the keywords of all; and then what `push_order` adds.
+/// begins like, otherwise the keywords of all; and then what `push_order` and `push_bytes` add.
 fn push_forms(out: &mut String, spot: &Spot<'_>) -> Result<(), AllocError> {
     let forms = forms_behind(spot.before.last, spot.before.is_second);
     let only = match forms {
@@ -197,7 +215,8 @@ fn push_forms(out: &mut String, spot: &Spot<'_>) -> Result<(), AllocError> {
         Some(form) => out.push_str(form.pattern())?,
         None => push_keywords(out, forms)?,
     }
-    push_order(out, spot, forms)
+    push_order(out, spot, forms)?;
+    push_bytes(out, spot)
 }
 
 /// Adds the condition that the address of a put doesn't meet.
@@ -244,10 +263,15 @@ fn condition(cause: Cause) -> &'static str {
     }
 }
 
-/// Whether the input isn't text, judged by the first bytes of its first line.
+/// Whether the input isn't text, judged by the first bytes of its first line. A byte-order mark may
+/// come before them.
 fn is_no_text(spot: &Spot<'_>) -> bool {
+    let line = spot
+        .found
+        .strip_prefix(BYTE_ORDER_MARK)
+        .unwrap_or(spot.found);
     spot.before.last.is_none()
-        && spot.found.iter().take(SHOWN).any(|byte| {
+        && line.iter().take(SHOWN).any(|byte| {
             !byte.is_ascii_graphic() && *byte != b' ' && *byte != b'\t' && *byte != b'\r'
         })
 }
@@ -271,12 +295,12 @@ fn push_expected(out: &mut String, spot: &Spot<'_>, cause: Cause) -> Result<(), 
 /// refused line, and a line `expected ` with the text that may replace it, or the condition that it
 /// doesn't meet. An error means that an allocation failed.
 ///
-/// The hint shows at most 60 characters of the line. A byte that isn't printable ASCII becomes `\x`
-/// and two digits, and so does a blank at the line's end. Words name an empty line and the end of
-/// the text. If several forms may come, the hint lists their keywords, or gives the pattern
-/// of the one whose keyword the line begins with; if the line begins like another form, it says
-/// that this form comes earlier or later. If the first bytes aren't text, it names the command that
-/// makes a deck.
+/// The hint shows at most 60 characters of the line, and ` ..` if there are more. A byte that isn't
+/// printable ASCII becomes `\x` and two digits, and so does a blank at the line's end. Words name an
+/// empty line and the end of the text. If several forms may come, the hint lists their keywords, or
+/// gives the pattern of the one whose keyword the line begins with; if the line begins like another
+/// form, it says that this form comes earlier or later. It names a byte-order mark and a carriage
+/// return. If the first bytes aren't text, it names the command that makes a deck.
 pub fn hint_text(alloc: Global, text: &[u8], line: u64, cause: Cause) -> Result<Vec<u8>, AllocError>
     ensures { IfOk result (λ text. text.items ≢ []) }
 {

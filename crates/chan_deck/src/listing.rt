@@ -120,6 +120,18 @@ fn push_word(
     write!(out, "{text} {name}")
 }
 
+/// The text of a CCW and the name of the command that begins there, as a row of a listing has them,
+/// with a line feed. An error means that an allocation failed.
+pub fn ccw_line(alloc: Global, ccw: Ccw) -> Result<String, AllocError>
+    ensures { IfOk result (λ t. string_bytes t ≡ list.ccw_line ccw) }
+{
+    let mut line = String::new(alloc);
+    let command = lookup(ccw.command());
+    push_word(alloc, &mut line, Entry::Fresh, Some(ccw), command)?;
+    line.push('\n')?;
+    Ok(line)
+}
+
 /// Adds the row of a place to a text, given the CCW that stands there and the command of its code.
 pub(crate) fn push_row(
     alloc: Global,

@@ -1,11 +1,11 @@
 //! The notes on a job as text. It is proved which areas share a note, and when there is no text;
 //! tests hold the wording.
 
-ghost use Rattle.std.specs.Prelude.{◌≡◌, ◌≤◌, ◌↔◌, [], length, string_bytes, IfOk, OnOk};
+ghost use Rattle.std.specs.Prelude.{◌≡◌, ◌≤◌, ◌↔◌, ◌^◌, [], length, string_bytes, IfOk, OnOk};
 ghost use Rattle.chan_deck.specs.Notes as adjoining;
-ghost use Rattle.chan_deck.specs.Notes.{GrewBy, HasNoNote, number_of_hangs};
+ghost use Rattle.chan_deck.specs.Notes.{GrewBy, HasNoNote, number_of_hangs, storage_note};
 
-use crate::texts::Address;
+use crate::texts::{Address, Size};
 use ccw_core::Area;
 use chan_walk::Place;
 use chan_why::Notes;
@@ -28,8 +28,12 @@ const HANGS: &str = " on the program never ends by itself; only an error or a ha
 const INTERRUPTS: &str =
     " interrupts: the processor may change any byte that chanv needs doesn't list as keep";
 
-/// The note on a CCW that moves no data and has both chaining flags on.
+/// The note on a CCW that moves no data and has chain data on.
 const ENDS_THERE: &str = " ends the program: chain data counts, and it moves no data";
+
+/// The end of the note on the size of storage.
+const STORAGE_ENDS: &str =
+    " bytes; give --storage if it has more, and --at if the image begins elsewhere\n";
 
 /// How many notes of one kind are written; a last line counts the others.
 const MOST: usize = 100;
@@ -124,8 +128,8 @@ fn push_ccws(out: &mut String, what: &str, addresses: &[u32]) -> Result<(), Allo
 /// - the lent areas that reach past storage, and those that no reachable CCW uses;
 /// - the kept areas that the machine itself stores into;
 /// - the first place from which on the program never ends by itself;
-/// - the CCWs that ask for an interruption, and those at which the program ends though both
-///   chaining flags are on.
+/// - the CCWs that ask for an interruption, and those at which the program ends though chain data is
+///   on.
 ///
 /// Each kind has a line for each of its first hundred notes, and one line that counts the others.
 /// Areas that adjoin share a note. Without any note the text is empty. An error means that an
@@ -161,4 +165,14 @@ pub fn notes_text(alloc: Global, notes: &Notes, hang: Option<Place>) -> Result<S
     push_ccws(&mut text, INTERRUPTS, &notes.interrupting)?;
     push_ccws(&mut text, ENDS_THERE, &notes.ending)?;
     Ok(text)
+}
+
+/// The note on an image of storage whose ends may be wrong: how long storage is, and which options
+/// say so. An error means that an allocation failed.
+pub fn storage_note(alloc: Global, size: u32) -> Result<String, AllocError>
+    requires { size ≤ 2 ^ 24 }
+    ensures { IfOk result (λ text. string_bytes text ≡ storage_note size) }
+{
+    let size = Size(size);
+    format!(in alloc; "note: storage has {size}{STORAGE_ENDS}")
 }

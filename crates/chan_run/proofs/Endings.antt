@@ -14,25 +14,26 @@ use Rattle.chan_run.specs.declared.status.RunError.TheVariants.{Memory, Read, To
 use Rattle.chan_run.specs.declared.status.Status.{Status}
 use Rattle.chan_run.specs.Image.{IsDeckAnswer}
 use Rattle.chan_run.specs.declared.image_options.ImageOptions.{ImageOptions}
+use Rattle.chan_run.specs.declared.name.Naming.{Naming}
 use Rattle.chan_run.specs.Outcome.{IsDone, ran}
 use Rattle.chan_run.specs.Output.{Answer, IsAnswerOn, IsJobAnswer, IsDeckJob, IsWrittenOut, Judges}
 use Rattle.chan_run.specs.Output.{IsTextAnswer, text_in}
 
 -- an answer on the job of a deck is one to the text that spells the deck
-pub text_answer : (name : Option (List ℕ)) (a : Action) (t : List ℕ) (deck : Image) (j : Job) (answer : Answer)
-    → Spells t deck → IsDeckJob deck j → IsAnswerOn name a j answer → IsTextAnswer name a t answer
-text_answer name a t deck j (Ok said) spelled of_deck h =
+pub text_answer : (n : Naming) (a : Action) (t : List ℕ) (deck : Image) (j : Job) (answer : Answer)
+    → Spells t deck → IsDeckJob deck j → IsAnswerOn n a j answer → IsTextAnswer n a t answer
+text_answer n a t deck j (Ok said) spelled of_deck h =
     record { deck = deck; spelled = spelled; job = j; of_deck = of_deck; holds = h }
-text_answer name a t deck j (Err TooManyPlaces) spelled of_deck h =
+text_answer n a t deck j (Err TooManyPlaces) spelled of_deck h =
     record { deck = deck; spelled = spelled; job = j; of_deck = of_deck; holds = h }
-text_answer name a t deck j (Err Memory) spelled of_deck h = tt
-text_answer name a t deck j answer spelled of_deck h = absurd h.2
+text_answer n a t deck j (Err Memory) spelled of_deck h = tt
+text_answer n a t deck j answer spelled of_deck h = absurd h.2
 
 -- the answer on a job that an action judges is the answer on the job of which it judges that
-pub judged : (name : Option (List ℕ)) (a : Action) (j k : Job) (answer : Answer) → Judges a j k
-    → IsJobAnswer name a k answer → IsAnswerOn name a j answer
-judged name a j k (Err Memory) judges is = tt
-judged name a j k answer judges is = (k, judges, is)
+pub judged : (n : Naming) (a : Action) (j k : Job) (answer : Answer) → Judges a j k
+    → IsJobAnswer n a k answer → IsAnswerOn n a j answer
+judged n a j k (Err Memory) judges is = tt
+judged n a j k answer judges is = (k, judges, is)
 
 -- an action for which no open job is asked judges the job itself
 pub judges_itself : (a : Action) (j : Job) → (a ≡ actions.Needs → ⊥) → Judges a j j

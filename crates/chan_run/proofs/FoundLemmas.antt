@@ -1,11 +1,19 @@
 -- The lines of programs that are found, one after another.
 use Rattle.std.proofs.Common.{◌≡◌, ◌∙◌, ◌<◌, ◌++◌, ◌∷◌, [], List, ap, arith, append_assoc}
-use Rattle.std.proofs.Common.{append-nil, length, refl, slice_index_or, suc, sym, take, zero, ℕ}
+use Rattle.std.proofs.Common.{append-nil, length, refl, slice_index_or, subst, suc, sym, take, zero}
+use Rattle.std.proofs.Common.{ℕ, Option}
+use Rattle.std.proofs.KnownBytes.{Appends-kept}
+use Rattle.std.specs.Io.KnownBytes.{Keeps}
 use Rattle.chan_deck.specs.Parts.{storage_with}
 use Rattle.chan_walk.specs.declared.job.Job.{Job}
 use Rattle.chan_walk.specs.OpenJob.{open_job}
 use Rattle.chan_find.specs.Programs.{AreProgramStarts, IsJobOver}
-use Rattle.chan_run.specs.Find.{AreLines, AreStartsInImage}
+use Rattle.chan_run.specs.Find.{AreLines, AreStartsInImage, IsFoundAnswer}
+use Rattle.chan_run.specs.Outcome.{IsDone}
+use Rattle.chan_run.specs.OutputWords.{IsRowLine, row_line, row_texts}
+use Rattle.std.specs.Borrow.{Bor}
+use Rattle.chan_run.specs.declared.outcome.Outcome.{Outcome}
+use Rattle.chan_run.specs.declared.outcome.Outcome.TheVariants.{Done, Failed}
 use Rattle.chan_run.specs.declared.image_options.ImageOptions.{ImageOptions}
 
 -- a line more
@@ -30,3 +38,40 @@ pub starts_over : (o : ImageOptions) (image held starts items : List ℕ)
     → AreStartsInImage o image items
 starts_over o image held starts items is same are j over =
     rw same (are j (record { storage = over.storage ∙ sym is; device = over.device }))
+
+-- if programs were found, the flush of their lines leaves these written
+pub found_kept : (o : ImageOptions) (image : List ℕ) (old mid new : Option (List ℕ)) (came : Outcome)
+    → Keeps mid new → ((IsDone came → ⊥) → new ≡ mid) → IsFoundAnswer o image old mid came
+    → IsFoundAnswer o image old new came
+found_kept o image old mid new Done keeps same (starts, are, put) = (
+  starts,
+  are,
+  record { text = put.text; lines = put.lines; written = Appends-kept old mid new put.text put.written keeps },
+)
+found_kept o image old mid new (Failed failure) keeps same h =
+    subst (λ (x : Option (List ℕ)). IsFoundAnswer o image old x (Failed failure)) (sym (same (λ done. done))) h
+found_kept o image old mid new came keeps same h = h
+
+-- the line of a row more
+pub rows_more : (rows : List (Bor (List ℕ) × Bor (List ℕ))) (i : ℕ) (d : Bor (List ℕ) × Bor (List ℕ)) (text line : List ℕ)
+    → i < length rows → AreLines IsRowLine (take i (row_texts rows)) text
+    → line ≡ row_line ((slice_index_or rows i d).0.now, (slice_index_or rows i d).1.now)
+    → AreLines IsRowLine (take (suc i) (row_texts rows)) (text ++ line)
+rows_more [] i d text line lt before is = absurd (omega (arith, lt))
+rows_more (r ∷ rows) zero d text line lt before is = (line, [], is, refl, rw before (sym (append-nil line)))
+rows_more (r ∷ rows) (suc i) d text line lt (first, rest, at, are, joins) is = (
+  first,
+  rest ++ line,
+  at,
+  rows_more rows i d rest line (omega (arith, lt)) are is,
+  ap (λ t. t ++ line) joins ∙ append_assoc first rest line,
+)
+
+-- the lines of all rows
+pub all_rows : (rows : List (Bor (List ℕ) × Bor (List ℕ))) (n : ℕ) (text : List ℕ) → length rows ≡ n
+    → AreLines IsRowLine (take n (row_texts rows)) text → AreLines IsRowLine (row_texts rows) text
+all_rows [] zero text is are = are
+all_rows [] (suc n) text is are = are
+all_rows (r ∷ rows) zero text is are = absurd (omega (arith, is))
+all_rows (r ∷ rows) (suc n) text is (first, rest, at, are, joins) =
+    (first, rest, at, all_rows rows n rest (omega (arith, is)) are, joins)

@@ -22,8 +22,9 @@ use Rattle.chan_deck.specs.Image.{Image, limit_of}
 use Rattle.chan_deck.proofs.PartLemmas.{storage_fits}
 use Rattle.chan_deck.specs.Item.{IsArea}
 use Rattle.chan_deck.specs.Needs.{halves, in_six_digits, six_digit_parts}
+use Rattle.chan_args.specs.declared.image_words.AskedJob.TheVariants as jobs
 use Rattle.chan_run.specs.Image.{IsAskedDeck, IsOfOpenJob}
-use Rattle.chan_run.specs.Image.{IsProgramIn, deck_of, extents_for, least_deck}
+use Rattle.chan_run.specs.Image.{IsProgramIn, areas_over, deck_of, extents_for, least_deck}
 use Rattle.chan_run.specs.Output.{IsDeckJob}
 use Rattle.chan_run.specs.declared.image_options.ImageOptions.{ImageOptions}
 
@@ -42,13 +43,14 @@ merged_fit (a ∷ rest) (some, above, merged) below =
     ((some, omega (arith, last, some)), merged_fit rest merged (λ b lies. below b (lies_in-rest a rest b lies)))
 
 -- and so its start and its length have six digits, in two parts if it is all of that storage
-split_area : (a : Area) → Fits a → (b : Bool) → (a.len == 2 ^ 24) ≡ b → AllByRecursion IsArea (six_digit_parts a)
-split_area a fits true is = rw is ((omega arith, omega arith), ((omega arith, omega arith), tt))
-split_area a fits false is = rw is ((omega (arith, fits.0, fits.1), below (cases_lt a.len (2 ^ 24))), tt)
+split_area : (a : Area) → a.start < 2 ^ 24 → end_of a ≤ 2 ^ 24 → (b : Bool) → (a.len == 2 ^ 24) ≡ b
+    → AllByRecursion IsArea (six_digit_parts a)
+split_area a low ends true is = rw is ((omega arith, omega arith), ((omega arith, omega arith), tt))
+split_area a low ends false is = rw is ((low, below (cases_lt a.len (2 ^ 24))), tt)
   where
     below : (a.len < 2 ^ 24) ⊎ (2 ^ 24 ≤ a.len) → a.len < 2 ^ 24
     below (inl lt) = lt
-    below (inr le) = absurd (eqb-false a.len (2 ^ 24) is (omega (arith, le, fits.1)))
+    below (inr le) = absurd (eqb-false a.len (2 ^ 24) is (omega (arith, le, ends)))
 
 areas_append : (xs ys : List Area) → AllByRecursion IsArea xs → AllByRecursion IsArea ys
     → AllByRecursion IsArea (xs ++ ys)
@@ -58,7 +60,14 @@ areas_append (x ∷ xs) ys all more = (all.0, areas_append xs ys all.1 more)
 pub six_are_areas : (areas : List Area) → AllByRecursion Fits areas → AllByRecursion IsArea (in_six_digits areas)
 six_are_areas [] fit = tt
 six_are_areas (a ∷ rest) fit =
-    areas_append (six_digit_parts a) (in_six_digits rest) (split_area a fit.0 (a.len == 2 ^ 24) refl) (six_are_areas rest fit.1)
+    areas_append (six_digit_parts a) (in_six_digits rest)
+    (split_area a (omega (arith, fit.0.0, fit.0.1)) fit.0.1 (a.len == 2 ^ 24) refl) (six_are_areas rest fit.1)
+
+-- and so have those of all of some storage
+pub all_are_areas : (storage : List ℕ) → length storage ≤ 2 ^ 24 → AllByRecursion IsArea (areas_over storage)
+all_are_areas storage short =
+    let all : Area = record { start = 0; len = length storage } in
+    areas_append (six_digit_parts all) [] (split_area all (omega arith) (omega (arith, short)) (all.len == 2 ^ 24) refl) tt
 
 -- a byte of an area lies in its parts
 in_split : (a : Area) (b : ℕ) → Fits a → IsByteOf a b → (all : Bool) → (a.len == 2 ^ 24) ≡ all
@@ -166,9 +175,9 @@ program_of o image n d j is of = record {
   limit = of.limit ∙ ap (λ (x : Image). limit_of x.version) is;
 }
 
-pub least_asked : (o : ImageOptions) (image : List ℕ) (n : Listed) (d : Image) → o.is_least ≡ true
+pub least_asked : (o : ImageOptions) (image : List ℕ) (n : Listed) (d : Image) → o.job ≡ jobs.Least
     → o.at + length image ≤ 2 ^ 24 → ((j : Job) → IsProgramIn o image j → AreNeeds j n)
-    → d ≡ least_deck o image n → IsAskedDeck o.is_least o image d
+    → d ≡ least_deck o image n → IsAskedDeck o.job o image d
 least_asked o image n d least short needs is =
     subst (λ b. IsAskedDeck b o image d) (sym least) (record { needed = n; needs = needs; is = is; yes = yes })
   where

@@ -7,4 +7,8 @@ pub mod MeaningLemmas
 mod WordLemmas
 mod RoomLemmas
 mod FoundLemmas
+mod TipLemmas
+mod NameLemmas
+mod WordAnswers
+mod FaultTexts
 pub mod Saying

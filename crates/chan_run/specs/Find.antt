@@ -1,5 +1,6 @@
 -- The programs that are found in an image of storage, a line for each.
-use Rattle.std.specs.Prelude.{◌≡◌, ◌⊎◌, ℕ, List, [], ◌∷◌, ◌++◌, Option, Some, None, take}
+use Rattle.std.specs.Prelude.{◌≡◌, ◌⊎◌, ℕ, not, List, [], ◌∷◌, ◌++◌, Option, Some, None, take}
+use Rattle.chan_deck.specs.Reading.{is_empty}
 use Rattle.std.specs.Io.KnownBytes.{Appends}
 use Rattle.ccw_core.specs.Written.{AppendsPrefix}
 use Rattle.chan_deck.specs.Parts.{storage_with}
@@ -10,9 +11,11 @@ use Rattle.chan_walk.specs.Answers.{IsAnswer}
 use Rattle.chan_walk.specs.Places.{HasMoreThan}
 use Rattle.chan_walk.specs.OpenJob.{open_job, IsOpenJob}
 use Rattle.chan_find.specs.Programs.{AreProgramStarts, IsJobOver}
-use Rattle.chan_run.specs.Image.{IsNoImage, IsProgramAt, IsWholeImage}
+use Rattle.chan_run.specs.Answers.{IsUnreadImage}
+use Rattle.chan_run.specs.Image.{IsProgramAt, IsWholeImage}
+use Rattle.chan_run.specs.ImageNote.{deck_note, find_note}
+use Rattle.chan_run.specs.Outcome.{IsEnd}
 use Rattle.chan_run.specs.Output.{IsUnwritten}
-use Rattle.chan_run.specs.declared.failure.Failure.{Failure}
 use Rattle.chan_run.specs.declared.failure.Failure.TheVariants as failures
 use Rattle.chan_run.specs.declared.outcome.Outcome.{Outcome}
 use Rattle.chan_run.specs.declared.outcome.Outcome.TheVariants.{Done, Failed}
@@ -74,10 +77,25 @@ IsFoundAnswer o image old new (Failed failures.OutOfMemory) =
     × (n : ℕ) × AreWritten (Appends old new) o image (take n starts))
 IsFoundAnswer o image old new _ = ⊥
 
--- what each answer of a search for programs says of its input and its output
+-- the note on an image that was searched, by what came of the search
+abbrev pub IsFindNote : ImageOptions → List ℕ → Outcome → List ℕ → Type 0
+IsFindNote o image Done note =
+    (starts : List ℕ) × AreStartsInImage o image starts
+    × (note ≡ find_note image (not (is_empty starts)))
+IsFindNote o image came note = note ≡ deck_note image
+
+-- the input was read to its end, its image was searched, and the output was flushed
+pub record IsSearched (o : ImageOptions) (old_in new_in old new : Option (List ℕ)) (end : Outcome)
+    (note : List ℕ) : Type 0 where
+  pub image : List ℕ
+  pub input : IsWholeImage o old_in new_in image
+  pub came : Outcome
+  pub found : IsFoundAnswer o image old new came
+  pub ended : IsEnd came end
+  pub noted : IsFindNote o image came note
+
+-- what a search for programs says of its input and its output, with a note
 abbrev pub IsFindAnswer : ImageOptions → Option (List ℕ) → Option (List ℕ) → Option (List ℕ)
-    → Option (List ℕ) → Outcome → Type 0
-IsFindAnswer o old_in new_in old new answer =
-    ((whole : List ℕ) × IsWholeImage o old_in new_in whole × IsFoundAnswer o whole old new answer)
-    ⊎ ((failure : Failure) × (answer ≡ Failed failure) × IsNoImage o old_in new_in failure
-    × IsUnwritten old new)
+    → Option (List ℕ) → Outcome → List ℕ → Type 0
+IsFindAnswer o old_in new_in old new end note =
+    IsSearched o old_in new_in old new end note ⊎ IsUnreadImage o old_in new_in old new end note

@@ -1,9 +1,12 @@
 -- What is written of an image of storage and the options with which a deck is made of it.
 use Rattle.std.specs.Prelude.{ℕ, ◌+◌, ◌-◌, ◌<◌, ◌≤◌, ◌^◌, ◌≡◌, ◌⊎◌, List, [], ◌∷◌, ◌++◌, length}
-use Rattle.std.specs.Prelude.{Bool, true, false, Option, Some, None, replicate, unwrap_or}
+use Rattle.std.specs.Prelude.{Option, Some, None, replicate, unwrap_or}
 use Rattle.std.specs.Io.KnownBytes.{Appends}
 use Rattle.ccw_core.specs.Written.{AppendsPrefix}
 use Rattle.chan_deck.specs.Image.{Image, Spells, limit_of}
+use Rattle.ccw_core.specs.declared.areas.Area.{Area}
+use Rattle.chan_args.specs.declared.image_words.AskedJob.{AskedJob}
+use Rattle.chan_args.specs.declared.image_words.AskedJob.TheVariants as jobs
 use Rattle.chan_deck.specs.Needs.{in_six_digits}
 use Rattle.chan_deck.specs.Parts.{storage_with, version_with}
 use Rattle.chan_walk.specs.declared.job.Job.{Job}
@@ -76,10 +79,25 @@ pub record IsLeastDeck (o : ImageOptions) (image : List ℕ) (d : Image) : Type 
   pub is : d ≡ least_deck o image needed
   pub yes : (j : Job) → IsDeckJob d j → IsVerdict j Yes
 
--- the deck that is asked for: its job is what the options say, or the least
-abbrev pub IsAskedDeck : Bool → ImageOptions → List ℕ → Image → Type 0
-IsAskedDeck false o image d = d ≡ deck_of o image
-IsAskedDeck true o image d = IsLeastDeck o image d
+-- all of some storage as areas of a deck
+abbrev pub areas_over : List ℕ → List Area
+areas_over storage = in_six_digits ((record { start = 0; len = length storage }) ∷ [])
+
+-- the deck that the options and an image make, but for its job, which grants everything: no mask
+-- inhibits anything, the extents are all cylinders, and all of storage is lent
+abbrev pub open_deck : ImageOptions → List ℕ → Image
+open_deck o image = record (deck_of o image) {
+  mask = 0xC0;
+  extents = (0, 202) ∷ [];
+  fetch = areas_over (storage_with o.at image);
+  store = areas_over (storage_with o.at image);
+}
+
+-- the deck that is asked for: its job is what the options say, or the least, or the open one
+abbrev pub IsAskedDeck : AskedJob → ImageOptions → List ℕ → Image → Type 0
+IsAskedDeck jobs.Named o image d = d ≡ deck_of o image
+IsAskedDeck jobs.Least o image d = IsLeastDeck o image d
+IsAskedDeck jobs.Open o image d = d ≡ open_deck o image
 
 -- from the image's address on there is room for so many bytes: to the size of storage that was
 -- asked for, or the largest
@@ -108,12 +126,12 @@ HasNoNeeds o image _ = ⊥
 
 -- the text is that of the deck that is asked for
 abbrev pub IsDeckText : ImageOptions → List ℕ → List ℕ → Type 0
-IsDeckText o image text = (d : Image) × IsAskedDeck o.is_least o image d × Spells text d
+IsDeckText o image text = (d : Image) × IsAskedDeck o.job o image d × Spells text d
 
 -- why there is no such deck; it was the least job that was asked for, unless memory ran out
 abbrev pub IsNoDeck : ImageOptions → List ℕ → Outcome → Type 0
 IsNoDeck o image (Failed failures.OutOfMemory) = Unit {0}
-IsNoDeck o image end = (o.is_least ≡ true) × HasNoNeeds o image end
+IsNoDeck o image end = (o.job ≡ jobs.Least) × HasNoNeeds o image end
 
 -- what each answer says of an image and the output
 abbrev pub IsDeckAnswer : ImageOptions → List ℕ → Option (List ℕ) → Option (List ℕ)

@@ -1,5 +1,6 @@
 -- What is answered on a word: the meaning of the term that has it.
-use Rattle.std.specs.Prelude.{◌≡◌, ◌++◌, ◌∷◌, ℕ, List, [], Option, codes, take}
+use Rattle.std.specs.Prelude.{◌≡◌, ◌⊎◌, ◌++◌, ◌∷◌, ℕ, List, [], Option, codes, take}
+use Rattle.std.specs.List.{All}
 use Rattle.std.specs.Io.KnownBytes.{Appends}
 use Rattle.ccw_core.specs.Written.{AppendsPrefix}
 use Rattle.chan_run.specs.declared.failure.Failure.TheVariants as failures
@@ -7,13 +8,20 @@ use Rattle.chan_run.specs.declared.outcome.Outcome.{Outcome}
 use Rattle.chan_run.specs.declared.outcome.Outcome.TheVariants.{Done, Failed, Unknown}
 use Rattle.chan_run.specs.declared.terms.Term.{Term}
 use Rattle.chan_run.specs.Find.{AreLines}
+use Rattle.chan_run.specs.OutputWords.{AreRowsListed, IsFirstRow, IsRowFor, OutputRow}
+use Rattle.chan_run.specs.OutputWords.{output_words, row_line}
 use Rattle.chan_run.specs.Terms.{IsWordOf, word_of_term}
+use Rattle.chan_run.specs.declared.terms.TheConstants as texts
 
--- what is said of a text that is no term's word: that it is unknown, or that memory ran out
+-- the text is no word: no term has it, and it is none of the output
+abbrev pub IsNoWord : List ℕ → Type 0
+IsNoWord text = ((t : Term) → ¬ IsWordOf text t) × All (λ row. ¬ IsRowFor text row) output_words
+
+-- what is said of a text that is no word: that it is unknown, or that memory ran out
 abbrev pub IsUnknown : List ℕ → Outcome → Type 0
-IsUnknown text (Unknown t) = (u : Term) → ¬ IsWordOf text u
-IsUnknown text (Failed failures.NoSuchWord) = (t : Term) → ¬ IsWordOf text t
-IsUnknown text (Failed failures.OutOfMemory) = (t : Term) → ¬ IsWordOf text t
+IsUnknown text (Unknown word) = IsNoWord text
+IsUnknown text (Failed failures.NoSuchWord) = IsNoWord text
+IsUnknown text (Failed failures.OutOfMemory) = IsNoWord text
 IsUnknown text _ = ⊥
 
 -- the line of a term: its word, and what it is in a few words
@@ -30,10 +38,26 @@ AreTermsListed terms old new (Failed failures.WriteFailed) =
     × AppendsPrefix old new text
 AreTermsListed terms old new end = ⊥
 
--- some meaning of the text's term was written, or where a write failed a prefix of it
+-- the lines of all words: those of the terms, and then those of the words of the output
+abbrev pub AreWordsListed : Option (List ℕ) → Option (List ℕ) → Outcome → Type 0
+AreWordsListed old new Done =
+    (mid : Option (List ℕ)) × AreTermsListed texts.TERMS old mid Done
+    × AreRowsListed output_words mid new Done
+AreWordsListed old new end =
+    AreTermsListed texts.TERMS old new end
+    ⊎ ((mid : Option (List ℕ)) × AreTermsListed texts.TERMS old mid Done
+    × AreRowsListed output_words mid new end)
+
+-- this is the meaning of a text: some meaning of its term, or the line of its word of the output
+abbrev pub IsMeaning : List ℕ → List ℕ → Type 0
+IsMeaning text meaning =
+    ((t : Term) × IsWordOf text t)
+    ⊎ ((row : OutputRow) × IsFirstRow text output_words row × (meaning ≡ row_line row))
+
+-- the text's meaning was written, or where a write failed a prefix of it
 abbrev pub IsWordAnswer : List ℕ → Option (List ℕ) → Option (List ℕ) → Outcome → Type 0
 IsWordAnswer text old new Done =
-    (t : Term) × IsWordOf text t × (meaning : List ℕ) × Appends old new meaning
+    (meaning : List ℕ) × IsMeaning text meaning × Appends old new meaning
 IsWordAnswer text old new (Failed failures.WriteFailed) =
-    (t : Term) × IsWordOf text t × (meaning : List ℕ) × AppendsPrefix old new meaning
+    (meaning : List ℕ) × IsMeaning text meaning × AppendsPrefix old new meaning
 IsWordAnswer text old new end = IsUnknown text end

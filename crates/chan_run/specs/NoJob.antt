@@ -1,20 +1,41 @@
 -- What is said of an image if no job will do for its program.
-use Rattle.std.specs.Prelude.{◌≡◌, ◌++◌, ℕ, false, true, List, Option, codes}
+use Rattle.std.specs.Prelude.{◌≡◌, ◌++◌, ◌==◌, ◌&&◌, ◌^◌, ℕ, Bool, false, true, List, [], Option}
+use Rattle.std.specs.Prelude.{codes, if◌then◌else◌, length, nat_lt}
+use Rattle.chan_deck.specs.Notes.{storage_note}
+use Rattle.chan_walk.specs.Job.{storage_of}
 use Rattle.chan_walk.specs.declared.job.Job.{Job}
+use Rattle.chan_walk.specs.declared.reason.Reason.TheVariants as reasons
 use Rattle.chan_walk.specs.declared.verdict.Verdict.{Verdict}
+use Rattle.chan_walk.specs.declared.verdict.Verdict.TheVariants.{Yes, No}
 use Rattle.chan_run.specs.Image.{IsOfOpenJob}
+use Rattle.chan_run.specs.ImageNote.{deck_note}
 use Rattle.chan_run.specs.Name.{name_before}
 use Rattle.chan_run.specs.Output.{IsExplained}
 use Rattle.chan_run.specs.declared.image_options.ImageOptions.{ImageOptions}
 
--- this explains the verdict on an open job, and some hint may follow
+-- a verdict may come from wrong ends of the image: data goes past the end of storage, or the program
+-- that begins at this address has no command there
+abbrev pub is_of_ends : ℕ → Verdict → Bool
+is_of_ends start (No a reasons.DataOutside) = true
+is_of_ends start (No a reasons.OutsideStorage) = a == start
+is_of_ends start (No a reasons.InvalidCode) = a == start
+is_of_ends start v = false
+
+-- the note on the size of storage: it comes if the ends may be wrong and storage isn't the largest
+abbrev pub cure_note : Job → Verdict → List ℕ
+cure_note k v =
+    if is_of_ends k.start v && nat_lt (length (storage_of k)) (2 ^ 24)
+    then storage_note (length (storage_of k)) else []
+
+-- this explains the verdict on an open job, with the note on the size of storage
 abbrev pub IsExplainedOpenly : Job → List ℕ → Type 0
 IsExplainedOpenly k text =
-    (v : Verdict) × (explained : List ℕ) × (hint : List ℕ) × IsExplained false k v explained
-    × (text ≡ explained ++ hint)
+    (v : Verdict) × (explained : List ℕ) × IsExplained false k v explained
+    × (text ≡ explained ++ cure_note k v)
 
--- what is said of an image that may have a name
+-- what is said of an image that may have a name, with the note on an image that is a deck
 abbrev pub IsNoJobText : Option (List ℕ) → ImageOptions → List ℕ → List ℕ → Type 0
 IsNoJobText name o image text =
     (explained : List ℕ) × IsOfOpenJob o image (λ k. IsExplainedOpenly k explained)
-    × (text ≡ codes "chanv: " ++ (name_before name true ++ (codes "no job will do: " ++ explained)))
+    × (text ≡ codes "chanv: " ++ (name_before name true ++ (codes "no job will do: "
+    ++ (explained ++ deck_note image))))

@@ -1,9 +1,13 @@
--- The texts of the usage faults that name an option.
-use Rattle.std.specs.Prelude.{◌++◌, ℕ, List, codes}
+-- The texts of the usage faults that name an option or a file, and of those that the library words.
+use Rattle.std.specs.Prelude.{◌≡◌, ◌⊎◌, ◌↔◌, ◌++◌, ℕ, Bool, false, List, [], Option, None, codes}
+use Rattle.std.specs.Io.KnownBytes.{Appends}
+use Rattle.ccw_core.specs.Written.{AppendsPrefix}
 use Rattle.chan_args.specs.declared.image_words.ImageOption.{ImageOption}
 use Rattle.chan_args.specs.declared.image_words.ImageOption.TheVariants as options
 use Rattle.chan_args.specs.declared.image_words.GrantFault.{GrantFault}
 use Rattle.chan_args.specs.declared.image_words.GrantFault.TheVariants as grants
+use Rattle.chan_run.specs.Bases.{both_bases, meant}
+use Rattle.chan_run.specs.declared.image_options.OptionFault.{OptionFault}
 use Rattle.chan_run.specs.declared.option_fault.TheConstants as texts
 
 -- an option, with the name of its value
@@ -17,15 +21,60 @@ usage_of options.Fetch = codes "--fetch <AREA>"
 usage_of options.Store = codes "--store <AREA>"
 usage_of options.At = codes "--at <ADDRESS>"
 usage_of options.Storage = codes "--storage <SIZE>"
+usage_of options.Open = codes "--open"
 
--- an option's text isn't accepted, and why
-abbrev pub option_fault_text : ImageOption → List ℕ → List ℕ → List ℕ
-option_fault_text option text why =
+-- an option's text isn't accepted, and why, with what is said before and after that
+abbrev pub option_fault_text : ImageOption → List ℕ → List ℕ → List ℕ → List ℕ → List ℕ
+option_fault_text option text front why end =
     codes "error: invalid value '" ++ (text ++ (codes "' for '" ++ (usage_of option
-    ++ (codes "': " ++ (why ++ texts.MORE.now)))))
+    ++ (codes "': " ++ (front ++ (why ++ (end ++ texts.MORE.now)))))))
+
+-- so it was written, or a prefix if a write failed: something is said before if the option read
+-- decimal digits as another number in hexadecimal, and something after if it would have accepted the
+-- number that they are in decimal
+pub record IsFaultSaid (fault : OptionFault) (old new : Option (List ℕ)) (failed : Bool)
+    : Type 0 where
+  pub front : List ℕ
+  pub end : List ℕ
+  pub read : (front ≡ []) ↔ (both_bases fault.option fault.text.now ≡ None)
+  pub meant : (end ≡ []) ↔ (meant fault.option fault.text.now ≡ None)
+  pub whole :
+      failed ≡ false → Appends old new
+      (option_fault_text fault.option fault.text.now front fault.why.now end)
+  pub prefix :
+      AppendsPrefix old new (option_fault_text fault.option fault.text.now front fault.why.now end)
 
 -- options don't say one job
 abbrev pub grants_fault_text : GrantFault → List ℕ
 grants_fault_text (grants.BesideLeast option) =
-    texts.BESIDE.now ++ (usage_of option ++ (codes "'" ++ texts.MORE.now))
+    texts.BESIDE_LEAST.now ++ (usage_of option ++ (codes "'" ++ texts.MORE.now))
+grants_fault_text (grants.BesideOpen option) =
+    texts.BESIDE_OPEN.now ++ (usage_of option ++ (codes "'" ++ texts.MORE.now))
 grants_fault_text grants.NoExtent = texts.NO_EXTENT.now ++ texts.MORE.now
+
+-- the name of a file stands in place of a command
+abbrev pub file_fault_text : List ℕ → List ℕ
+file_fault_text name =
+    codes "error: " ++ (name ++ (texts.NO_COMMAND.now ++ (name ++ (texts.FINDS.now
+    ++ (name ++ (texts.SEARCHES.now ++ texts.MORE.now))))))
+
+-- a text has a tip between these, which ends with an empty line
+abbrev pub IsAroundTip : List ℕ → List ℕ → List ℕ → Type 0
+IsAroundTip text front rest =
+    (tip : List ℕ)
+    × (text ≡ front ++ (texts.TIP.now ++ (tip ++ (texts.EMPTY_LINE.now ++ rest))))
+
+-- it is said whole, or without its tip
+abbrev pub IsTipless : List ℕ → List ℕ → Type 0
+IsTipless text said =
+    (said ≡ text)
+    ⊎ ((front : List ℕ) × (rest : List ℕ) × IsAroundTip text front rest
+    × (said ≡ front ++ (texts.EMPTY_LINE.now ++ rest)))
+
+-- so it was written, or a prefix if a write failed
+pub record IsSaidWithoutTip (text : List ℕ) (old new : Option (List ℕ)) (failed : Bool)
+    : Type 0 where
+  pub said : List ℕ
+  pub is : IsTipless text said
+  pub whole : failed ≡ false → Appends old new said
+  pub prefix : AppendsPrefix old new said

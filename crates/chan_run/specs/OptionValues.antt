@@ -1,9 +1,10 @@
 -- What the options say with which a deck is made of an image of storage.
-use Rattle.std.specs.Prelude.{◌≡◌, ◌∷◌, ◌++◌, ℕ, Bool, List, [], Option, Some, None}
+use Rattle.std.specs.Prelude.{◌≡◌, ◌∷◌, ◌++◌, ℕ, List, [], Option, Some, None}
 use Rattle.std.specs.Prelude.{Result, Ok, Err}
 use Rattle.std.specs.Borrow.{Bor}
 use Rattle.ccw_core.specs.declared.areas.Area.{Area}
 use Rattle.ckd_core.specs.declared.device.Device.{Device}
+use Rattle.chan_args.specs.declared.image_words.AskedJob.{AskedJob}
 use Rattle.chan_args.specs.declared.image_words.ImageOption.{ImageOption}
 use Rattle.chan_args.specs.declared.image_words.ImageOption.TheVariants as options
 use Rattle.chan_args.specs.declared.image_words.ImageWords.{ImageWords}
@@ -61,7 +62,7 @@ pub record Asked : Type 0 where
   pub store : List Area
   pub at : ℕ
   pub size : Option ℕ
-  pub is_least : Bool
+  pub job : AskedJob
 
 -- the options are read in the order of a deck's lines, and then the address of the image and the
 -- size of storage
@@ -87,7 +88,7 @@ options_in w =
         store = store;
         at = at;
         size = size;
-        is_least = w.is_least;
+        job = w.job;
       })
 
 -- the options have this as their value
@@ -103,7 +104,7 @@ asked o =
       store = o.store.items;
       at = o.at;
       size = o.size;
-      is_least = o.is_least;
+      job = o.job;
     }
 
 -- an answer gives what is read, or an allocation was refused

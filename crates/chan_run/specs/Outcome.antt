@@ -13,10 +13,10 @@ use Rattle.chan_run.specs.declared.status.Status.TheVariants as statuses
 use Rattle.chan_run.specs.declared.one_ccw.ShowError.{ShowError}
 use Rattle.chan_run.specs.declared.one_ccw.ShowError.TheVariants as shows
 use Rattle.chan_run.specs.declared.outcome.Outcome.{Outcome}
-use Rattle.chan_run.specs.declared.outcome.Outcome.TheVariants.{Done, Denied, Usage, Refused}
+use Rattle.chan_run.specs.declared.outcome.Outcome.TheVariants.{Done, Denied, Refused}
 use Rattle.chan_run.specs.declared.outcome.Outcome.TheVariants.{NoJob, Unknown, Failed}
 use Rattle.chan_run.specs.Failure.{row_of_failure}
-use Rattle.chan_run.specs.Terms.{word_of_cause, word_of_term}
+use Rattle.chan_run.specs.Terms.{word_of_cause}
 use Rattle.chan_run.specs.Name.{name_before}
 
 -- what each answer is, as an outcome
@@ -43,19 +43,19 @@ wrote (Err fault) = Failed failures.WriteFailed
 abbrev pub status_of : Outcome → ℕ
 status_of Done = 0
 status_of Denied = 1
-status_of Usage = 4
 status_of (Refused line cause) = 2
 status_of (NoJob a r) = (row_of_failure failures.NoJobWillDo).status
-status_of (Unknown t) = (row_of_failure failures.NoSuchWord).status
+status_of (Unknown word) = (row_of_failure failures.NoSuchWord).status
 status_of (Failed failure) = (row_of_failure failure).status
 
--- what is written beside the explanation of a yes, where the text is no deck, and where too many
--- places are reachable
-abbrev pub has_advice : Action → Outcome → Bool
-has_advice (actions.Why all) Done = true
-has_advice (actions.Why all) (Refused line cause) = true
-has_advice (actions.Why all) (Failed failures.TooManyPlaces) = true
-has_advice _ _ = false
+-- advice comes with the explanation of a yes and of too many reachable places, and where the text is
+-- no deck, if it is explained or the input has a name
+abbrev pub has_advice : Bool → Action → Outcome → Bool
+has_advice is_named (actions.Why all) Done = true
+has_advice is_named (actions.Why all) (Refused line cause) = true
+has_advice is_named (actions.Why all) (Failed failures.TooManyPlaces) = true
+has_advice is_named a (Refused line cause) = is_named
+has_advice is_named a end = false
 
 -- all was done that was asked for, so that the output is flushed
 abbrev pub IsDone : Outcome → Type 0
@@ -73,8 +73,8 @@ abbrev pub line_over : Option (List ℕ) → Outcome → List ℕ
 line_over name (Refused number cause) =
     codes "chanv: " ++ (name_before name true ++ (codes "deck line "
     ++ (decimal number ++ (codes ": " ++ (word_of_cause cause ++ 10 ∷ [])))))
-line_over name (Unknown t) =
-    codes "chanv: no such word; the nearest is " ++ (word_of_term t ++ 10 ∷ [])
+line_over name (Unknown word) =
+    codes "chanv: no such word; the nearest is " ++ (word.now ++ 10 ∷ [])
 line_over name (Failed failure) =
     codes "chanv: "
     ++ (name_before name (row_of_failure failure).on_input ++ (row_of_failure failure).line)

@@ -35,7 +35,8 @@ use Rattle.chan_run.specs.declared.status.RunError.{RunError}
 use Rattle.chan_run.specs.declared.status.RunError.TheVariants.{Read, TooLong, Deck, TooManyPlaces}
 use Rattle.chan_run.specs.declared.status.RunError.TheVariants.{Write, Memory}
 use Rattle.chan_run.specs.Input.{GaveAll, GaveOut, GaveTooMuch}
-use Rattle.chan_run.specs.Name.{name_before}
+use Rattle.chan_run.specs.Name.{heading_of, name_before, name_of}
+use Rattle.chan_run.specs.declared.name.Naming.{Naming}
 
 -- the job is that of the deck, its limit on places with it
 pub record IsDeckJob (d : Image) (j : Job) : Type 0 where
@@ -91,30 +92,32 @@ IsNeeded j (No a r) text = IsExplained false j (No a r) text
 
 -- what an action asks for of a job and its verdict: the verdict's line, the listing of the
 -- reachable places, the explanation, some picture, or what is needed; before a verdict and its
--- explanation stands the name of the input, where it has one
-abbrev pub IsAskedText : Option (List ℕ) → Action → Job → Verdict → List ℕ → Type 0
-IsAskedText name actions.Verify j v text = text ≡ name_before name true ++ verdict_line v
-IsAskedText name actions.List j v text =
-    (ps : List Place) × AreReachable j ps × (text ≡ listing (storage_of j) ps v)
-IsAskedText name (actions.Why all) j v text =
-    (why : List ℕ) × IsExplained all j v why × (text ≡ name_before name true ++ why)
-IsAskedText name actions.Graph j v text = Unit {0}
-IsAskedText name actions.Needs j v text = IsNeeded j v text
+-- explanation stands the name of the input, where it has one, and over a listing and over what is
+-- needed that of one of several inputs
+abbrev pub IsAskedText : Naming → Action → Job → Verdict → List ℕ → Type 0
+IsAskedText n actions.Verify j v text = text ≡ name_before (name_of n) true ++ verdict_line v
+IsAskedText n actions.List j v text =
+    (ps : List Place) × AreReachable j ps × (text ≡ heading_of n ++ listing (storage_of j) ps v)
+IsAskedText n (actions.Why all) j v text =
+    (why : List ℕ) × IsExplained all j v why × (text ≡ name_before (name_of n) true ++ why)
+IsAskedText n actions.Graph j v text = Unit {0}
+IsAskedText n actions.Needs j v text =
+    (needed : List ℕ) × IsNeeded j v needed × (text ≡ heading_of n ++ needed)
 
 -- the text of an output
 abbrev pub text_in : Output → List ℕ
 text_in (outputs.Text text) = text.items
-text_in (outputs.Listing looks v) = seen_listing looks.items v
+text_in (outputs.Listing heading looks v) = heading.items ++ seen_listing looks.items v
 
 -- the output is a listing
 abbrev pub IsListing : Output → Type 0
 IsListing (outputs.Text text) = ⊥
-IsListing (outputs.Listing looks v) = Unit {0}
+IsListing (outputs.Listing heading looks v) = Unit {0}
 
 -- the output has what the action asks for; only a listing is written piece by piece
-abbrev pub IsOutput : Option (List ℕ) → Action → Job → Verdict → Output → Type 0
-IsOutput name a j v output =
-    IsAskedText name a j v (text_in output) × (IsListing output → a ≡ actions.List)
+abbrev pub IsOutput : Naming → Action → Job → Verdict → Output → Type 0
+IsOutput n a j v output =
+    IsAskedText n a j v (text_in output) × (IsListing output → a ≡ actions.List)
 
 -- nothing was written, where the writer tells what it holds
 abbrev pub IsUnwritten : Option (List ℕ) → Option (List ℕ) → Type 0
@@ -129,12 +132,12 @@ abbrev pub Answer : Type 0
 Answer = Result (Status × Output) RunError
 
 -- the answer to what an action asks of a job that it judges
-abbrev pub IsJobAnswer : Option (List ℕ) → Action → Job → Answer → Type 0
-IsJobAnswer name a j (Ok (status, output)) =
-    (v : Verdict) × IsAnswer j v × (status ≡ status_of_verdict v) × IsOutput name a j v output
-IsJobAnswer name a j (Err TooManyPlaces) = HasMoreThan j j.limit
-IsJobAnswer name a j (Err Memory) = Unit {0}
-IsJobAnswer name a j (Err e) = ⊥
+abbrev pub IsJobAnswer : Naming → Action → Job → Answer → Type 0
+IsJobAnswer n a j (Ok (status, output)) =
+    (v : Verdict) × IsAnswer j v × (status ≡ status_of_verdict v) × IsOutput n a j v output
+IsJobAnswer n a j (Err TooManyPlaces) = HasMoreThan j j.limit
+IsJobAnswer n a j (Err Memory) = Unit {0}
+IsJobAnswer n a j (Err e) = ⊥
 
 -- the job that an action judges: for what is needed the open job of the program, else the job
 -- itself
@@ -143,15 +146,15 @@ Judges actions.Needs j k = IsOpenJob j k
 Judges a j k = k ≡ j
 
 -- the answer to what an action asks of a job: that of the job that it judges
-abbrev pub IsAnswerOn : Option (List ℕ) → Action → Job → Answer → Type 0
-IsAnswerOn name a j (Err Memory) = Unit {0}
-IsAnswerOn name a j answer = (k : Job) × Judges a j k × IsJobAnswer name a k answer
+abbrev pub IsAnswerOn : Naming → Action → Job → Answer → Type 0
+IsAnswerOn n a j (Err Memory) = Unit {0}
+IsAnswerOn n a j answer = (k : Job) × Judges a j k × IsJobAnswer n a k answer
 
 -- the answer to what an action asks of a text
-abbrev pub IsTextAnswer : Option (List ℕ) → Action → List ℕ → Answer → Type 0
-IsTextAnswer name a t (Err (Deck line cause)) = IsRefused t line cause
-IsTextAnswer name a t (Err Memory) = Unit {0}
-IsTextAnswer name a t answer = IsOfJob t (λ j. IsAnswerOn name a j answer)
+abbrev pub IsTextAnswer : Naming → Action → List ℕ → Answer → Type 0
+IsTextAnswer n a t (Err (Deck line cause)) = IsRefused t line cause
+IsTextAnswer n a t (Err Memory) = Unit {0}
+IsTextAnswer n a t answer = IsOfJob t (λ j. IsAnswerOn n a j answer)
 
 -- what came of writing an answer: all of the output was written, or where a write failed a prefix,
 -- or where memory ran out in a listing; an answer without output stays, and the writer is untouched
@@ -161,8 +164,8 @@ IsWrittenOut (Ok (status, output)) old new untouched (Ok end) =
     (end ≡ status) × Appends old new (text_in output)
 IsWrittenOut (Ok (status, output)) old new untouched (Err Write) =
     AppendsPrefix old new (text_in output)
-IsWrittenOut (Ok (status, outputs.Listing looks v)) old new untouched (Err Memory) =
-    AppendsPrefix old new (seen_listing looks.items v)
+IsWrittenOut (Ok (status, outputs.Listing heading looks v)) old new untouched (Err Memory) =
+    AppendsPrefix old new (text_in (outputs.Listing heading looks v))
 IsWrittenOut (Ok (status, output)) old new untouched (Err e) = ⊥
 IsWrittenOut (Err e) old new untouched end = (end ≡ Err e) × untouched
 
@@ -183,13 +186,13 @@ IsReadFault old new Memory = Unit {0}
 IsReadFault old new fault = ⊥
 
 -- the input was read to its end, this is the answer to its text, and this came of writing it
-pub record AnswersInput (name : Option (List ℕ)) (a : Action)
+pub record AnswersInput (n : Naming) (a : Action)
     (old_in new_in old new : Option (List ℕ)) (untouched : Type 0)
     (end : Result Status RunError) : Type 0 where
   pub text : List ℕ
   pub input : IsInput old_in new_in text
   pub answer : Answer
-  pub answered : IsTextAnswer name a text answer
+  pub answered : IsTextAnswer n a text answer
   pub put : IsWrittenOut answer old new untouched end
 
 -- the input wasn't read to its end, for this fault, and the writer is untouched
@@ -197,8 +200,8 @@ abbrev pub IsUnread : Option (List ℕ) → Option (List ℕ) → Type 0 → Res
 IsUnread old_in new_in untouched end =
     (fault : RunError) × IsReadFault old_in new_in fault × (end ≡ Err fault) × untouched
 
--- what a run over an input that may have a name comes to, of its input and its output
-abbrev pub IsRunAnswer : Option (List ℕ) → Action → Option (List ℕ) → Option (List ℕ)
+-- what a run over an input that is named so comes to, of its input and its output
+abbrev pub IsRunAnswer : Naming → Action → Option (List ℕ) → Option (List ℕ)
     → Option (List ℕ) → Option (List ℕ) → Type 0 → Result Status RunError → Type 0
-IsRunAnswer name a old_in new_in old new untouched end =
-    AnswersInput name a old_in new_in old new untouched end ⊎ IsUnread old_in new_in untouched end
+IsRunAnswer n a old_in new_in old new untouched end =
+    AnswersInput n a old_in new_in old new untouched end ⊎ IsUnread old_in new_in untouched end

@@ -150,7 +150,8 @@ const NO_SUCH_WORD: Row = (
     "a word that chanv doesn't know",
     "no such word\n",
     "\
-The word is neither a reason nor a cause nor the name of an error.
+The word is neither a reason nor a cause nor the name of an error, nor a word of
+the output or the name of a command.
 `chanv explain` without a word lists all.
 ",
     4,

@@ -4,16 +4,19 @@ ghost use Rattle.std.specs.Prelude.{◌≡◌, ◌↔◌, ◌+◌, ◌≤◌, �
 ghost use Rattle.std.specs.Prelude.{string_bytes};
 ghost use Rattle.ccw_core.specs.Held.{bytes_held};
 ghost use Rattle.chan_deck.specs.Parts.{storage_with};
-ghost use Rattle.chan_run.specs.Find.{IsFindAnswer, IsFoundAnswer, IsLineAt};
-ghost use Rattle.chan_run.specs.Outcome.{IsWriteFailure};
+ghost use Rattle.chan_run.specs.Answers.{IsLineSaid};
+ghost use Rattle.chan_run.specs.Find.{IsFindAnswer, IsFindNote, IsFoundAnswer, IsLineAt};
+ghost use Rattle.chan_run.specs.Name.{name_in};
+ghost use Rattle.chan_run.specs.Outcome.{IsDone, IsWriteFailure, line_over};
 ghost use Rattle.chan_run.specs.declared.failure.Failure.TheVariants as failures;
 ghost use Rattle.chan_run.specs.declared.outcome.Outcome.TheVariants.{Failed};
 
 use crate::failure::Failure;
 use crate::image::read_image;
+use crate::image_note::{deck_note, find_note};
 use crate::image_options::ImageOptions;
 use crate::least_job::job_at;
-use crate::outcome::Outcome;
+use crate::outcome::{Outcome, conclude};
 use ccw_core::{Storage, Watched, write_out};
 use chan_deck::{place_image, program_text};
 use chan_find::program_starts;
@@ -25,60 +28,72 @@ use std::io::{Read, Write};
 /// order: the start in six digits, and the verdict on the program's open job, or `too many places`.
 ///
 /// Of the options it uses the device, the limit, and the address and size for the image. Each line
-/// is written with one write, as soon as its verdict is known. After a failed write a prefix of the
-/// lines was written, and after a refused allocation the lines of some first programs. The errors
-/// of the input are those of `answer_image`.
-pub fn find_programs<R: Read, W: Write>(
+/// is written with one write, as soon as its verdict is known, and at the end the output is
+/// flushed. After a failed write a prefix of the lines was written, and after a refused allocation
+/// the lines of some first programs. The errors of the input are those of `answer_image`.
+///
+/// The second writer gets the outcome's line, as `report` writes it, and then a note if the image
+/// is a deck, or if all went well and it has no program.
+pub fn find_programs<R: Read, W: Write, E: Write>(
     alloc: Global,
+    name: Option<&str>,
     options: &ImageOptions,
     from: &mut Watched<R>,
     to: &mut Watched<W>,
+    errors: &mut Watched<E>,
 ) -> Outcome
     requires reader { from.old.failed ≡ false }
     requires writer { to.old.failed ≡ false }
-    ensures answer { IsFindAnswer options.now
+    requires errors { errors.old.failed ≡ false }
+    ensures answer { IsLineSaid (line_over (name_in name.entry) result) (IsFindAnswer options.now
         (R.remaining from.old.device) (R.remaining from.new.device)
-        (W.contents to.old.device) (W.contents to.new.device) result }
+        (W.contents to.old.device) (W.contents to.new.device) result)
+        (E.contents errors.old.device) (E.contents errors.new.device) errors.new.failed }
+    ensures flushed { IsDone result → to.new.flushed ≡ true }
     ensures read { result ≡ Failed failures.ReadFailed ↔ (from.new.failed ≡ true) }
     ensures write { IsWriteFailure result ↔ (to.new.failed ≡ true) }
 {
     let image = match read_image(alloc, options, from) {
         Ok(image) => image,
-        Err(failure) => return Outcome::Failed(failure),
+        Err(failure) => return conclude(name, Outcome::Failed(failure), &[], to, errors),
     };
-    write_programs(alloc, options, image.as_slice(), to)
+    let (came, note) = write_programs(alloc, options, image.as_slice(), to);
+    conclude(name, came, note.as_bytes(), to, errors)
 }
 
-/// Writes a line for each program in an image.
-fn write_programs<W: Write>(
+/// Writes a line for each program in an image, and gives the note on the image, or an empty text.
+fn write_programs<'a, W: Write>(
     alloc: Global,
     options: &ImageOptions,
     image: &[u8],
     to: &mut Watched<W>,
-) -> Outcome
+) -> (Outcome, &'a str)
     requires short { options.now.at + length image.now ≤ 2 ^ 24 }
     requires writer { to.old.failed ≡ false }
     ensures answer { IsFoundAnswer options.now image.now
-        (W.contents to.old.device) (W.contents to.new.device) result }
-    ensures write { IsWriteFailure result ↔ (to.new.failed ≡ true) }
+        (W.contents to.old.device) (W.contents to.new.device) result.0 }
+    ensures note { IsFindNote options.now image.now result.0 result.1.now }
+    ensures read { result.0 ≡ Failed failures.ReadFailed → ⊥ }
+    ensures write { IsWriteFailure result.0 ↔ (to.new.failed ≡ true) }
 {
+    let no_memory = (Outcome::Failed(Failure::OutOfMemory), deck_note(image));
     let Ok(bytes) = place_image(alloc, options.at as usize, image) else {
-        return Outcome::Failed(Failure::OutOfMemory);
+        return no_memory;
     };
     // it isn't too large, since the image ends in storage
     let storage = Storage::new(&bytes).unwrap();
     let Ok(starts) = program_starts(alloc, &storage, options.device) else {
-        return Outcome::Failed(Failure::OutOfMemory);
+        return no_memory;
     };
     for start in starts.as_slice() {
         let Ok(line) = program_line(alloc, options, storage, *start) else {
-            return Outcome::Failed(Failure::OutOfMemory);
+            return no_memory;
         };
         if write_out(line.as_bytes(), to).is_err() {
-            return Outcome::Failed(Failure::WriteFailed);
+            return (Outcome::Failed(Failure::WriteFailed), deck_note(image));
         }
     }
-    Outcome::Done
+    (Outcome::Done, find_note(image, !starts.is_empty()))
 }
 
 /// The line of the program that begins at an address in storage.

@@ -3,7 +3,8 @@
 ghost use Rattle.std.specs.Prelude.{◌≡◌, ◌↔◌, ◌+◌, ◌≤◌, ◌^◌, false, true, length, IfErr, ◌<◌};
 ghost use Rattle.std.specs.Prelude.{if◌then◌else◌, is_some, IfOk, IfSome, IsErrOf, None, unwrap_or};
 ghost use Rattle.chan_run.specs.Image.{IsDeckAnswer, IsDeckText, IsNoDeck, IsNoImage, IsRoom};
-ghost use Rattle.chan_run.specs.Image.{IsWholeImage, filled};
+ghost use Rattle.chan_run.specs.Image.{IsWholeImage, deck_of, filled};
+ghost use Rattle.chan_deck.specs.Image.{Spells};
 ghost use Rattle.chan_run.specs.Outcome.{IsDone, IsWriteFailure};
 ghost use Rattle.chan_run.specs.declared.failure.Failure.TheVariants as failures;
 
@@ -11,9 +12,11 @@ use crate::failure::Failure;
 use crate::image_options::ImageOptions;
 use crate::input::read_input;
 use crate::least_job::least_text;
+use crate::open_deck::open_text;
 use crate::options::PAST_ADDRESSES;
 use crate::outcome::Outcome;
 use ccw_core::{Watched, write_out};
+use chan_args::AskedJob;
 use chan_deck::{Parts, parts_text};
 use std::alloc::{AllocError, Global};
 use std::io::{Read, Write};
@@ -112,9 +115,18 @@ fn deck_text(alloc: Global, options: &ImageOptions, image: &[u8]) -> Result<Vec<
     ensures text { IfOk result (λ text. IsDeckText options.now image.now text.items) }
     ensures none { IfErr result (IsNoDeck options.now image.now) }
 {
-    if options.is_least {
-        return least_text(alloc, options, image);
+    match options.job {
+        AskedJob::Named => Ok(named_text(alloc, options, image)?),
+        AskedJob::Least => least_text(alloc, options, image),
+        AskedJob::Open => Ok(open_text(alloc, options, image)?),
     }
+}
+
+/// The text of the deck that an image makes with the job that the options say.
+fn named_text(alloc: Global, options: &ImageOptions, image: &[u8]) -> Result<Vec<u8>, AllocError>
+    requires { options.now.at + length image.now ≤ 2 ^ 24 }
+    ensures { IfOk result (λ text. Spells text.items (deck_of options.now image.now)) }
+{
     let parts = Parts {
         limit: options.limit,
         device: options.device,
@@ -126,5 +138,5 @@ fn deck_text(alloc: Global, options: &ImageOptions, image: &[u8]) -> Result<Vec<
         at: options.at,
         image,
     };
-    Ok(parts_text(alloc, &parts)?)
+    parts_text(alloc, &parts)
 }

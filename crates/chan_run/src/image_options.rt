@@ -6,7 +6,7 @@ ghost use Rattle.std.specs.Prelude.{unwrap_or};
 ghost use Rattle.chan_run.specs.Options.{IsSize};
 
 use ccw_core::Area;
-use chan_args::ImageOption;
+use chan_args::{AskedJob, ImageOption};
 use chan_walk::Limit;
 use ckd_core::{Device, Extents, FileMask};
 
@@ -33,9 +33,8 @@ pub struct ImageOptions {
     /// How many bytes storage has, with zeros after the image; without a value, as many as the
     /// image needs.
     pub size: Option<u32>,
-    /// Whether the deck grants what the program needs, in place of mask, extents and areas. These
-    /// don't matter then.
-    pub is_least: bool,
+    /// The job of the deck. If it isn't the named one, mask, extents and areas don't matter.
+    pub job: AskedJob,
     pub ghost start_is_address: { IsAddress start },
     pub ghost fetch_are_areas: { All IsArea fetch.items },
     pub ghost store_are_areas: { All IsArea store.items },

@@ -1,6 +1,6 @@
 //! The deck of an image of storage with the least job of its program.
 
-ghost use Rattle.std.specs.Prelude.{◌≡◌, ◌+◌, ◌≤◌, ◌^◌, List, ℕ, true, length, IfErr, IfOk, OnOk};
+ghost use Rattle.std.specs.Prelude.{◌≡◌, ◌+◌, ◌≤◌, ◌^◌, List, ℕ, length, IfErr, IfOk, OnOk};
 ghost use Rattle.std.specs.List.{AllByRecursion};
 ghost use Rattle.ckd_core.specs.Extents.{IsExtent};
 ghost use Rattle.chan_deck.specs.Parts.{storage_with};
@@ -8,6 +8,7 @@ ghost use Rattle.ccw_core.specs.Held.{bytes_held};
 ghost use Rattle.chan_walk.specs.OpenJob.{AreOfOneProgram};
 ghost use Rattle.chan_needs.specs.Rows.{AreNeeds, listed};
 ghost use Rattle.chan_walk.specs.declared.job.Job.{Job};
+ghost use Rattle.chan_args.specs.declared.image_words.AskedJob.TheVariants as jobs;
 ghost use Rattle.chan_run.specs.Image.{HasNoNeeds, IsDeckText, IsNoDeck, IsProgramAt};
 ghost use Rattle.chan_run.specs.Image.{IsProgramIn, extents_for};
 ghost use Rattle.chan_run.specs.declared.image_options.ImageOptions.{ImageOptions};
@@ -29,7 +30,7 @@ pub(crate) fn least_text(
     image: &[u8],
 ) -> Result<Vec<u8>, Outcome>
     requires short { options.now.at + length image.now ≤ 2 ^ 24 }
-    requires least { options.now.is_least ≡ true }
+    requires least { options.now.job ≡ jobs.Least }
     ensures text { IfOk result (λ text. IsDeckText options.now image.now text.items) }
     ensures none { IfErr result (IsNoDeck options.now image.now) }
 {
@@ -110,7 +111,7 @@ fn needs_of(alloc: Global, job: &Job<'_>) -> Result<Needs, Outcome>
 }
 
 /// The extents that grant some runs of cylinders: all of the device's where there is none.
-fn extents_over(alloc: Global, runs: &[(u16, u16)]) -> Result<Extents, AllocError>
+pub(crate) fn extents_over(alloc: Global, runs: &[(u16, u16)]) -> Result<Extents, AllocError>
     requires { AllByRecursion IsExtent runs.now }
     ensures { IfOk result (λ extents. extents ≡ extents_for runs.now) }
 {

@@ -7,32 +7,38 @@
 //!     let mut input = Watched::new(rt.stdin());
 //!     let mut output = Watched::new(rt.stdout());
 //!     let mut errors = Watched::new(rt.stderr());
-//!     exit_status(answer(rt.alloc(), None, Action::Verify, &mut input, &mut output, &mut errors))
+//!     let unnamed = Naming { name: None, is_among: false };
+//!     exit_status(answer(rt.alloc(), unnamed, Action::Verify, &mut input, &mut output, &mut errors))
 //! }
 //! ```
 //!
-//! A name in place of `None` says which of several inputs it is. `run` only reads and writes, and
+//! A `Naming` with a name says which of several inputs it is. `run` only reads and writes, and
 //! `conclude` ends any other command.
 #![tactic(auto)]
 
 mod advice;
 mod answers;
+mod bases;
 mod failure;
 mod find;
 mod image;
+mod image_note;
 mod image_options;
 mod input;
 mod least_job;
 mod meanings;
 mod name;
+mod named_ccw;
 mod nearest;
 mod no_job;
 mod one_ccw;
+mod open_deck;
 mod option_fault;
 mod option_values;
 mod options;
 mod outcome;
 mod output;
+mod output_words;
 mod status;
 mod terms;
 mod texts;
@@ -43,8 +49,12 @@ pub use crate::failure::Failure;
 pub use crate::find::find_programs;
 pub use crate::image_options::{ImageOptions, OptionError, OptionFault};
 pub use crate::meanings::{explain_word, list_words};
+pub use crate::name::Naming;
+pub use crate::named_ccw::show_named;
 pub use crate::one_ccw::{ShowError, show};
-pub use crate::option_fault::{report_grants, report_option};
+pub use crate::option_fault::{
+    report_file, report_grants, report_no_ccw, report_option, report_usage,
+};
 pub use crate::option_values::options_of;
 pub use crate::outcome::{Outcome, conclude, ends_run, exit_status, greater_status, report};
 pub use crate::status::{RunError, Status, run};

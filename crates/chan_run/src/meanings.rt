@@ -1,14 +1,14 @@
 //! What the words of verdicts, of refused decks and of failures mean.
 
 ghost use Rattle.std.specs.Prelude.{◌≡◌, ◌↔◌, false, true};
-ghost use Rattle.chan_run.specs.Terms.{IsWordOf};
-ghost use Rattle.chan_run.specs.Meanings.{IsUnknown, IsWordAnswer, AreTermsListed};
+ghost use Rattle.chan_run.specs.Meanings.{AreTermsListed, AreWordsListed, IsNoWord, IsUnknown};
+ghost use Rattle.chan_run.specs.Meanings.{IsWordAnswer};
 ghost use Rattle.chan_run.specs.Outcome.{IsDone, IsWriteFailure};
-ghost use Rattle.chan_run.specs.declared.terms.Term.{Term};
 
 use crate::failure::{Failure, row};
-use crate::nearest::nearest_term;
+use crate::nearest::nearest_word;
 use crate::outcome::Outcome;
+use crate::output_words::{OUTPUT_WORDS, list_rows, row_for, write_row};
 use crate::terms::{TERMS, Term, term_of, term_word};
 use crate::texts::write_texts;
 use ccw_core::{Watched, write_out};
@@ -67,7 +67,7 @@ larger storage, as with the line `storage` of the deck.
 
 const NOT_IN_TABLE: &str = "\
 A new operation begins at the CCW, and its code isn't in the table of commands
-that chanv knows (docs/DEVICE.md).
+that chanv knows; `man chanv` names the page with the table.
 Use a command of the table. If the CCW should continue a data chain, switch on
 chain data in the CCW before it.
 ";
@@ -147,7 +147,7 @@ The line has none of the forms that may come here.
 See that the lines are in order, that there is one space between two parts and
 nothing after the last, and that each number has all its digits, hexadecimal
 ones in capitals. A deck of version 2 has a line `limit`, and one of version 1
-has none. The forms are in docs/DECK.md.
+has none. `man chanv` names the page with the forms.
 ";
 
 const MASK: &str = "\
@@ -195,8 +195,8 @@ such line, and its limit is 4,096 places.
 
 /// Writes the meaning of a word, and how to fix what it names.
 ///
-/// The word may be in upper or lower case. If no term has it, the outcome is `Unknown` with the
-/// nearest term, or `NoSuchWord` if none is near; `OutOfMemory` may come in their place.
+/// The word may be in upper or lower case. If it isn't one, the outcome is `Unknown` with the
+/// nearest word, or `NoSuchWord` if none is near; `OutOfMemory` may come in their place.
 /// `WriteFailed` comes exactly if a write failed, and then a prefix was written. Only `Done` and
 /// `WriteFailed` write anything.
 pub fn explain_word<W: Write>(alloc: Global, word: &str, to: &mut Watched<W>) -> Outcome
@@ -208,19 +208,22 @@ pub fn explain_word<W: Write>(alloc: Global, word: &str, to: &mut Watched<W>) ->
 {
     match term_of(word) {
         Some(term) => Outcome::of_write(write_out(meaning(term).as_bytes(), to)),
-        None => unknown(alloc, word),
+        None => match row_for(&OUTPUT_WORDS, word) {
+            Some(row) => Outcome::of_write(write_row(row, to)),
+            None => unknown(alloc, word),
+        },
     }
 }
 
-/// The outcome for a word that no term has.
+/// The outcome for a text that is no word.
 fn unknown(alloc: Global, word: &str) -> Outcome
-    requires { (t : Term) → ¬ IsWordOf word.now t }
+    requires { IsNoWord word.now }
     ensures is { IsUnknown word.now result }
     ensures other { IsWriteFailure result → ⊥ }
     ensures undone { IsDone result → ⊥ }
 {
-    match nearest_term(alloc, &TERMS, word) {
-        Ok(Some(term)) => Outcome::Unknown(term),
+    match nearest_word(alloc, word) {
+        Ok(Some(nearest)) => Outcome::Unknown(nearest),
         Ok(None) => Outcome::Failed(Failure::NoSuchWord),
         Err(AllocError) => Outcome::Failed(Failure::OutOfMemory),
     }
@@ -230,11 +233,13 @@ fn unknown(alloc: Global, word: &str) -> Outcome
 /// fails, it has written a prefix of the lines.
 pub fn list_words<W: Write>(to: &mut Watched<W>) -> Outcome
     requires { to.old.failed ≡ false }
-    ensures answer { AreTermsListed TERMS (W.contents to.old.device) (W.contents to.new.device)
-        result }
+    ensures answer { AreWordsListed (W.contents to.old.device) (W.contents to.new.device) result }
     ensures write { IsWriteFailure result ↔ (to.new.failed ≡ true) }
 {
-    list_terms(&TERMS, to)
+    match list_terms(&TERMS, to) {
+        Outcome::Done => list_rows(&OUTPUT_WORDS, to),
+        end => end,
+    }
 }
 
 /// Writes the lines of some terms.

@@ -8,6 +8,7 @@ ghost use Rattle.chan_run.specs.OneCcw.{SpellsCcw, line_of_bytes, shown_line};
 ghost use Rattle.hex.specs.Hex.{decode_sized};
 
 use ccw_core::{Ccw, Watched, write_out};
+use chan_deck::ccw_line;
 use hex::FromHex;
 use std::alloc::{AllocError, Global};
 use std::io::Write;
@@ -28,37 +29,45 @@ pub enum ShowError {
 }
 
 /// Writes the line that shows the CCW spelled by sixteen hexadecimal digits of either case: its
-/// text and a line feed.
+/// text, the name of its command, if that is wanted, and a line feed.
 ///
 /// `NotCcw` comes exactly if the text isn't that, and `Write` exactly if a write failed. Nothing
 /// was written after `NotCcw` and `Memory`, and a prefix of the line after `Write`.
-pub fn show<W: Write>(alloc: Global, text: &str, to: &mut Watched<W>) -> Result<(), ShowError>
+pub fn show<W: Write>(
+    alloc: Global,
+    text: &[u8],
+    is_named: bool,
+    to: &mut Watched<W>,
+) -> Result<(), ShowError>
     requires { to.old.failed ≡ false }
     ensures spelled { OnOk result (SpellsCcw text.now) }
     ensures shown { OnOk result (Appends (W.contents to.old.device) (W.contents to.new.device)
-        (shown_line text.now)) }
+        (shown_line is_named text.now)) }
     ensures not_ccw { IsErrOf result ShowError.NotCcw ↔ ¬ SpellsCcw text.now }
     ensures early { (result ≡ Err ShowError.NotCcw) ⊎ (result ≡ Err ShowError.Memory) → to.new
         ≡ to.old }
     ensures write { IsErrOf result ShowError.Write ↔ (to.new.failed ≡ true) }
     ensures prefix { IsErrOf result ShowError.Write → AppendsPrefix (W.contents to.old.device)
-        (W.contents to.new.device) (shown_line text.now) }
+        (W.contents to.new.device) (shown_line is_named text.now) }
 {
     let bytes = spelled_bytes(text).ok_or(ShowError::NotCcw)?;
-    let line = line_of(alloc, &bytes).map_err(|_| ShowError::Memory)?;
+    let line = line_of(alloc, &bytes, is_named).map_err(|_| ShowError::Memory)?;
     write_out(line.as_bytes(), to).map_err(|_| ShowError::Write)
 }
 
-fn spelled_bytes(text: &str) -> Option<[u8; 8]>
+fn spelled_bytes(text: &[u8]) -> Option<[u8; 8]>
     ensures found { IsSome result ↔ SpellsCcw text.now }
     ensures value { IfSome result (λ bytes. decode_sized text.now 8 ≡ Ok bytes) }
 {
     <[u8; 8]>::from_hex(text).ok()
 }
 
-fn line_of(alloc: Global, bytes: &[u8; 8]) -> Result<String, AllocError>
-    ensures { IfOk result (λ line. string_bytes line ≡ line_of_bytes bytes.now) }
+fn line_of(alloc: Global, bytes: &[u8; 8], is_named: bool) -> Result<String, AllocError>
+    ensures { IfOk result (λ line. string_bytes line ≡ line_of_bytes is_named bytes.now) }
 {
+    if is_named {
+        return ccw_line(alloc, Ccw::from_bytes(bytes));
+    }
     let mut line = Ccw::from_bytes(bytes).text(alloc)?;
     line.push('\n')?;
     Ok(line)

@@ -1,10 +1,12 @@
 //! The usage faults that name an option, in the wording of the command line's library.
 
-ghost use Rattle.std.specs.Prelude.{◌≡◌, ◌↔◌, ◌++◌, false, true, codes, IsErr, OnOk};
+ghost use Rattle.std.specs.Prelude.{◌≡◌, ◌↔◌, ◌++◌, false, true, codes, IfSome, IsErr, OnOk};
 ghost use Rattle.std.specs.Io.KnownBytes.{Appends};
 ghost use Rattle.ccw_core.specs.Written.{AppendsPrefix};
-ghost use Rattle.chan_run.specs.OptionFault.{grants_fault_text, option_fault_text, usage_of};
+ghost use Rattle.chan_run.specs.OptionFault.{IsAroundTip, IsFaultSaid, IsSaidWithoutTip};
+ghost use Rattle.chan_run.specs.OptionFault.{file_fault_text, grants_fault_text, usage_of};
 
+use crate::bases::{correction, reading};
 use crate::image_options::OptionFault;
 use crate::texts::write_texts;
 use ccw_core::{DeviceFault, Watched};
@@ -12,11 +14,33 @@ use chan_args::{GrantFault, ImageOption};
 use std::io::Write;
 
 /// What the text of the usage fault begins with that an option stands beside the least job.
-const BESIDE: &str = "error: the argument '--least' cannot be used with '";
+const BESIDE_LEAST: &str = "error: the argument '--least' cannot be used with '";
 
-/// The text of the usage fault that there is neither an extent nor the least job.
+/// The same beside the open job.
+const BESIDE_OPEN: &str = "error: the argument '--open' cannot be used with '";
+
+/// The text of the usage fault that there is neither an extent nor the least job nor the open job.
 const NO_EXTENT: &str = "error: the following required arguments were not provided:
-  <--extent <FIRST-LAST>|--least>";
+  <--extent <FIRST-LAST>|--least|--open>";
+
+/// The text of the usage fault that there is no CCW to be shown.
+const NO_CCW: &str = "error: the following required arguments were not provided:
+  <CCW>
+
+Usage: chanv show [--name] <CCW>";
+
+// What the text of the usage fault says of a file in place of a command.
+const NO_COMMAND: &str = " isn't a command; chanv verify ";
+
+const FINDS: &str = " judges a deck, chanv find ";
+
+const SEARCHES: &str = " searches an image";
+
+/// What the library's tip begins with, behind an empty line.
+const TIP: &str = "\n\n  tip: to pass '";
+
+/// What ends it.
+const EMPTY_LINE: &str = "\n\n";
 
 /// What ends the text of a usage fault.
 const MORE: &str = "\n\nFor more information, try '--help'.\n";
@@ -24,16 +48,18 @@ const MORE: &str = "\n\nFor more information, try '--help'.\n";
 /// Writes the text of a usage fault that names an option, its text and why that isn't accepted, and
 /// gives the exit status, 4. It takes no memory. A writer that fails doesn't change the
 /// status, and a prefix of the text was written.
+///
+/// If the option read decimal digits as another number in hexadecimal, the text says so; and if it
+/// would have accepted the number that they are in decimal, how that one is written.
 pub fn report_option<W: Write>(fault: OptionFault<'_>, to: &mut Watched<W>) -> u8
     requires { to.old.failed ≡ false }
     ensures status { result ≡ 4 }
-    ensures whole { to.new.failed ≡ false → Appends (W.contents to.old.device)
-        (W.contents to.new.device)
-        (option_fault_text fault.entry.option fault.entry.text.now fault.entry.why.now) }
-    ensures prefix { AppendsPrefix (W.contents to.old.device) (W.contents to.new.device)
-        (option_fault_text fault.entry.option fault.entry.text.now fault.entry.why.now) }
+    ensures said { IsFaultSaid fault.entry (W.contents to.old.device) (W.contents to.new.device)
+        to.new.failed }
 {
     let usage = usage(fault.option);
+    let (read, is_hexadecimal, number) = reading(fault.option, fault.text);
+    let (mark, how) = correction(fault.option, fault.text);
     let _ = write_texts(
         &[
             "error: invalid value '",
@@ -41,7 +67,12 @@ pub fn report_option<W: Write>(fault: OptionFault<'_>, to: &mut Watched<W>) -> u
             "' for '",
             usage,
             "': ",
+            read,
+            is_hexadecimal,
+            number.as_str(),
             fault.why,
+            mark,
+            how.as_str(),
             MORE,
         ],
         to,
@@ -60,22 +91,80 @@ pub fn report_grants<W: Write>(fault: GrantFault, to: &mut Watched<W>) -> u8
         (grants_fault_text fault) }
 {
     let _ = match fault {
-        GrantFault::BesideLeast(option) => write_beside(usage(option), to),
+        GrantFault::BesideLeast(option) => write_beside(BESIDE_LEAST, usage(option), to),
+        GrantFault::BesideOpen(option) => write_beside(BESIDE_OPEN, usage(option), to),
         GrantFault::NoExtent => write_texts(&[NO_EXTENT, MORE], to),
     };
     4
 }
 
-/// Writes the text of the usage fault that an option stands beside the least job.
-fn write_beside<W: Write>(usage: &str, to: &mut Watched<W>) -> Result<(), DeviceFault>
+/// Writes the text of the usage fault that an option stands beside another, which begins so.
+fn write_beside<W: Write>(beside: &str, usage: &str, to: &mut Watched<W>) -> Result<(), DeviceFault>
     requires { to.old.failed ≡ false }
     ensures ok { OnOk result (Appends (W.contents to.old.device) (W.contents to.new.device)
-        (BESIDE.now ++ (usage.now ++ (codes "'" ++ MORE.now)))) }
+        (beside.now ++ (usage.now ++ (codes "'" ++ MORE.now)))) }
     ensures prefix { AppendsPrefix (W.contents to.old.device) (W.contents to.new.device)
-        (BESIDE.now ++ (usage.now ++ (codes "'" ++ MORE.now))) }
+        (beside.now ++ (usage.now ++ (codes "'" ++ MORE.now))) }
     ensures fault { IsErr result ↔ (to.new.failed ≡ true) }
 {
-    write_texts(&[BESIDE, usage, "'", MORE], to)
+    write_texts(&[beside, usage, "'", MORE], to)
+}
+
+/// Writes the text of the usage fault that the name of a file stands in place of a command, and
+/// gives the exit status, 4, as `report_option` does.
+pub fn report_file<W: Write>(name: &str, to: &mut Watched<W>) -> u8
+    requires { to.old.failed ≡ false }
+    ensures status { result ≡ 4 }
+    ensures whole { to.new.failed ≡ false → Appends (W.contents to.old.device)
+        (W.contents to.new.device) (file_fault_text name.now) }
+    ensures prefix { AppendsPrefix (W.contents to.old.device) (W.contents to.new.device)
+        (file_fault_text name.now) }
+{
+    let _ = write_texts(
+        &[
+            "error: ", name, NO_COMMAND, name, FINDS, name, SEARCHES, MORE,
+        ],
+        to,
+    );
+    4
+}
+
+/// Writes the text of the usage fault that there is no CCW to be shown, and gives the exit status, 4,
+/// as `report_option` does.
+pub fn report_no_ccw<W: Write>(to: &mut Watched<W>) -> u8
+    requires { to.old.failed ≡ false }
+    ensures status { result ≡ 4 }
+    ensures whole { to.new.failed ≡ false → Appends (W.contents to.old.device)
+        (W.contents to.new.device) (NO_CCW.now ++ MORE.now) }
+    ensures prefix { AppendsPrefix (W.contents to.old.device) (W.contents to.new.device)
+        (NO_CCW.now ++ MORE.now) }
+{
+    let _ = write_texts(&[NO_CCW, MORE], to);
+    4
+}
+
+/// Writes the text of a usage fault that the command line's library words, without its tip to pass
+/// an option as a value, and gives the exit status, 4, as `report_option` does.
+pub fn report_usage<W: Write>(text: &str, to: &mut Watched<W>) -> u8
+    requires { to.old.failed ≡ false }
+    ensures status { result ≡ 4 }
+    ensures said { IsSaidWithoutTip text.now (W.contents to.old.device) (W.contents to.new.device)
+        to.new.failed }
+{
+    let _ = match around_tip(text) {
+        Some((front, rest)) => write_texts(&[front, EMPTY_LINE, rest], to),
+        None => write_texts(&[text], to),
+    };
+    4
+}
+
+/// What comes before the tip of a text, and behind the empty line that ends it, if it has one.
+fn around_tip(text: &str) -> Option<(&str, &str)>
+    ensures { IfSome result (λ parts. IsAroundTip text.now parts.0.now parts.1.now) }
+{
+    let (front, tip) = text.split_once(TIP)?;
+    let (_, rest) = tip.split_once(EMPTY_LINE)?;
+    Some((front, rest))
 }
 
 /// How an option is written, with the name of its value.
@@ -92,5 +181,6 @@ fn usage<'a>(option: ImageOption) -> &'a str
         ImageOption::Store => "--store <AREA>",
         ImageOption::At => "--at <ADDRESS>",
         ImageOption::Storage => "--storage <SIZE>",
+        ImageOption::Open => "--open",
     }
 }

@@ -124,6 +124,6 @@ pub fn options_of<'a>(
         store,
         at,
         size,
-        is_least: words.is_least,
+        job: words.job,
     })
 }

@@ -50,18 +50,18 @@ const EXTENT_BACKWARDS: &str = "its last cylinder is below its first";
 
 const EXTENT_ABOVE: &str = "its last cylinder is above 202, the device's last";
 
-const AREA_START_ABOVE: &str = "its start is above FFFFFF";
+const AREA_START_ABOVE: &str = "its start is above FFFFFF; both numbers are hexadecimal";
 
-const AREA_LENGTH_ABOVE: &str = "its length is above FFFFFF";
+const AREA_LENGTH_ABOVE: &str = "its length is above FFFFFF; both numbers are hexadecimal";
 
-const AREA_BACKWARDS: &str = "its last byte is below its first";
+const AREA_BACKWARDS: &str = "its last byte is below its first; both numbers are hexadecimal";
 
-const AREA_LAST_ABOVE: &str = "its last byte is above FFFFFF";
+const AREA_LAST_ABOVE: &str = "its last byte is above FFFFFF; both numbers are hexadecimal";
 
 const AREA_LONGEST: &str = "its length, 1000000, is above FFFFFF";
 
 /// The number of 32 bits that digits in a radix write, one or more, without a sign.
-fn number_of(text: &str, radix: u32) -> Option<u32>
+pub(crate) fn number_of(text: &str, radix: u32) -> Option<u32>
     requires lower { 2 ≤ radix }
     requires upper { radix ≤ 16 }
     ensures { result ≡ number_in radix text.now }

@@ -15,7 +15,7 @@ use crate::failure::{Failure, row};
 use crate::name::named;
 use crate::one_ccw::ShowError;
 use crate::status::{RunError, Status};
-use crate::terms::{Term, cause_word, term_word};
+use crate::terms::cause_word;
 use crate::texts::write_texts;
 use ccw_core::{DeviceFault, Watched, write_out};
 use chan_args::Action;
@@ -36,14 +36,12 @@ pub enum Outcome {
     Done,
     /// All was written, and the verdict is no.
     Denied,
-    /// The command line is wrong.
-    Usage,
     /// The text isn't a deck.
     Refused { line: u64, cause: Cause },
     /// The least job was asked for, and this is the verdict on the open job.
     NoJob { address: u32, reason: Reason },
-    /// The word has no meaning, and this one's word is the nearest.
-    Unknown(Term),
+    /// The word has no meaning, and this one is the nearest.
+    Unknown(&'static str),
     /// There is no answer, for this reason.
     Failed(Failure),
 }
@@ -130,16 +128,17 @@ pub fn ends_run(outcome: Outcome) -> bool
     matches!(outcome, Outcome::Failed(Failure::WriteFailed))
 }
 
-/// Whether advice follows the answer of an action: it does for the explanation of a yes, for a text
-/// that isn't a deck, and if too many places are reachable.
-pub(crate) fn has_advice(action: Action, outcome: Outcome) -> bool
-    ensures { result ≡ has_advice action outcome }
+/// Whether advice follows the answer of an action: it does for the explanation of a yes, and of too
+/// many reachable places; and for a text that isn't a deck, if it is explained or has a name.
+pub(crate) fn has_advice(is_named: bool, action: Action, outcome: Outcome) -> bool
+    ensures { result ≡ has_advice is_named action outcome }
 {
     match (action, outcome) {
         (
             Action::Why { .. },
             Outcome::Done | Outcome::Refused { .. } | Outcome::Failed(Failure::TooManyPlaces),
         ) => true,
+        (_, Outcome::Refused { .. }) => is_named,
         _ => false,
     }
 }
@@ -212,7 +211,6 @@ pub fn exit_status(outcome: Outcome) -> u8
     match outcome {
         Outcome::Done => 0,
         Outcome::Denied => 1,
-        Outcome::Usage => 4,
         Outcome::Refused { .. } => 2,
         Outcome::NoJob { .. } => row(Failure::NoJobWillDo).4,
         Outcome::Unknown(_) => row(Failure::NoSuchWord).4,
@@ -236,7 +234,7 @@ pub(crate) fn write_line<W: Write>(
 {
     match outcome {
         Outcome::Refused { line, cause } => write_refusal(name, line, cause, to),
-        Outcome::Unknown(term) => write_texts(&[UNKNOWN, term_word(term), "\n"], to),
+        Outcome::Unknown(word) => write_texts(&[UNKNOWN, word, "\n"], to),
         Outcome::Failed(failure) => write_failure(name, failure, to),
         _ => Ok(()),
     }

@@ -9,6 +9,7 @@ ghost use Rattle.chan_run.specs.Name.{name_before, name_in};
 ghost use Rattle.chan_run.specs.Output.{AreTold, IsExplained, IsListing, IsNeeded, IsOutput};
 ghost use Rattle.chan_run.specs.Output.{text_in};
 
+use crate::name::{Naming, heading_of};
 use ccw_core::{Watched, write_out};
 use chan_args::Action;
 use chan_deck::{
@@ -25,8 +26,8 @@ use std::io::Write;
 pub(crate) enum Output {
     /// A text.
     Text(Vec<u8>),
-    /// The listing of these looks and this verdict, of which no text is held.
-    Listing(Vec<Look>, Verdict),
+    /// The listing of these looks and this verdict behind a heading. No text of it is held.
+    Listing(Vec<u8>, Vec<Look>, Verdict),
 }
 
 /// Writes an output: a text with one write, a listing piece by piece.
@@ -48,38 +49,47 @@ pub(crate) fn write_output<W: Write>(
 {
     match output {
         Output::Text(text) => Ok(write_out(text.as_slice(), to)?),
-        Output::Listing(looks, verdict) => write_seen(alloc, looks.as_slice(), *verdict, to),
+        Output::Listing(heading, looks, verdict) => {
+            write_out(heading.as_slice(), to)?;
+            write_seen(alloc, looks.as_slice(), *verdict, to)
+        }
     }
 }
 
-/// What an action asks for of a job that was surveyed, whose input may have a name.
+/// What an action asks for of a job that was surveyed, whose input is named so.
 pub(crate) fn output_of(
     alloc: Global,
-    name: Option<&str>,
+    naming: Naming<'_>,
     action: Action,
     job: &Job,
     survey: Survey,
 ) -> Result<Output, AllocError>
     requires { IsSurvey job.now survey }
-    ensures { IfOk result (IsOutput (name_in name.entry) action job.now
+    ensures { IfOk result (IsOutput naming.entry action job.now
         (first_verdict survey.offences)) }
 {
     match action {
         Action::Verify => {
             let line = verdict_text(alloc, survey.verdict())?;
-            Ok(Output::Text(text_after(alloc, name, line)?))
+            Ok(Output::Text(text_after(alloc, naming.name, line)?))
         }
         Action::List => {
+            let heading = heading_of(alloc, naming)?;
             let verdict = survey.verdict();
             let (looks, _offences) = survey.into_parts();
-            Ok(Output::Listing(looks, verdict))
+            Ok(Output::Listing(heading, looks, verdict))
         }
         Action::Why { all } => {
             let why = why_text(alloc, all, job, &survey)?;
-            Ok(Output::Text(text_after(alloc, name, why)?))
+            Ok(Output::Text(text_after(alloc, naming.name, why)?))
         }
-        Action::Needs => Ok(Output::Text(needed_text(alloc, job, &survey)?)),
-        Action::Graph => Ok(Output::Text(picture_of(alloc, name, job, survey)?)),
+        Action::Needs => {
+            let mut text = heading_of(alloc, naming)?;
+            let needed = needed_text(alloc, job, &survey)?;
+            text.extend_from_slice(needed.as_slice())?;
+            Ok(Output::Text(text))
+        }
+        Action::Graph => Ok(Output::Text(picture_of(alloc, naming.name, job, survey)?)),
     }
 }
 

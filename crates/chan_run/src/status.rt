@@ -1,15 +1,16 @@
 //! Running over a deck: from the reader's bytes to the writer's.
 
-ghost use Rattle.std.specs.Prelude.{◌≡◌, ◌↔◌, false, true, Err, IfErr, IfOk, IsErrOf, None};
+ghost use Rattle.std.specs.Prelude.{◌≡◌, ◌↔◌, false, true, Err, IfErr, IfOk, IsErrOf};
 ghost use Rattle.chan_args.specs.Actions.{is_why};
 ghost use Rattle.chan_run.specs.Answers.{IsAdvice, IsJobAdvice, came_of};
-ghost use Rattle.chan_run.specs.Name.{name_in};
+ghost use Rattle.chan_run.specs.Name.{unnamed};
 ghost use Rattle.chan_run.specs.Output.{IsAnswerOn, IsInput, IsJobAnswer, IsWrittenOut};
 ghost use Rattle.chan_run.specs.Output.{IsReadFault, IsRunAnswer, IsTextAnswer, status_of_verdict};
 
 use crate::advice::{limit_text, notes_on};
 use crate::failure::Failure;
 use crate::input::{TEXT_LIMIT, read_input};
+use crate::name::Naming;
 use crate::output::{Output, output_of, write_output};
 use ccw_core::{Storage, Watched};
 use chan_args::Action;
@@ -73,7 +74,7 @@ pub fn run<R: Read, W: Write>(
 ) -> Result<Status, RunError>
     requires reader { from.old.failed ≡ false }
     requires writer { to.old.failed ≡ false }
-    ensures answer { IsRunAnswer None action (R.remaining from.old.device)
+    ensures answer { IsRunAnswer unnamed action (R.remaining from.old.device)
         (R.remaining from.new.device) (W.contents to.old.device) (W.contents to.new.device)
         (to.new ≡ to.old) result }
     ensures read { IsErrOf result RunError.Read ↔ (from.new.failed ≡ true) }
@@ -83,7 +84,11 @@ pub fn run<R: Read, W: Write>(
         Ok(text) => text,
         Err(error) => return Err(error),
     };
-    let (answer, _advice) = answer_text(alloc, None, action, false, text.as_slice());
+    let unnamed = Naming {
+        name: None,
+        is_among: false,
+    };
+    let (answer, _advice) = answer_text(alloc, unnamed, action, false, text.as_slice());
     write_answer(alloc, answer, to)
 }
 
@@ -136,15 +141,14 @@ pub(crate) fn read_text<R: Read>(alloc: Global, from: &mut Watched<R>) -> Result
 /// asked for and there is some.
 pub(crate) fn answer_text(
     alloc: Global,
-    name: Option<&str>,
+    naming: Naming<'_>,
     action: Action,
     asked: bool,
     text: &[u8],
 ) -> (Answered, Advice)
-    requires { asked ≡ true → is_why action ≡ true }
-    ensures answer { IsTextAnswer (name_in name.entry) action text.now result.0 }
+    ensures answer { IsTextAnswer naming.entry action text.now result.0 }
     ensures advice { asked ≡ true
-        → IfOk result.1 (λ advice. IsAdvice text.now (came_of result.0) advice.items) }
+        → IfOk result.1 (λ advice. IsAdvice action text.now (came_of result.0) advice.items) }
     ensures read { IsErrOf result.0 RunError.Read → ⊥ }
     ensures write { IsErrOf result.0 RunError.Write → ⊥ }
 {
@@ -164,20 +168,20 @@ pub(crate) fn answer_text(
 
     // The borrow checker asks for the type of what a job borrows.
     let _storage: Storage<'_> = job.storage;
-    answer_on(alloc, name, action, asked, &job)
+    answer_on(alloc, naming, action, asked && action.is_why(), &job)
 }
 
 /// The answer to what an action asks of a job: that of the job that it judges. Beside it stands
 /// what `answer_job` puts there.
 fn answer_on(
     alloc: Global,
-    name: Option<&str>,
+    naming: Naming<'_>,
     action: Action,
     asked: bool,
     job: &Job,
 ) -> (Answered, Advice)
     requires { asked ≡ true → is_why action ≡ true }
-    ensures answer { IsAnswerOn (name_in name.entry) action job.now result.0 }
+    ensures answer { IsAnswerOn naming.entry action job.now result.0 }
     ensures advice { asked ≡ true
         → IfOk result.1 (λ advice. IsJobAdvice job.now (came_of result.0) advice.items) }
 {
@@ -185,11 +189,11 @@ fn answer_on(
         Action::Needs => match OpenJob::of(alloc, job) {
             Ok(open) => {
                 let open_job = open.job();
-                answer_job(alloc, name, Action::Needs, false, &open_job)
+                answer_job(alloc, naming, Action::Needs, false, &open_job)
             }
             Err(_) => (Err(RunError::Memory), Ok(Vec::new(alloc))),
         },
-        _ => answer_job(alloc, name, action, asked, job),
+        _ => answer_job(alloc, naming, action, asked, job),
     }
 }
 
@@ -197,12 +201,12 @@ fn answer_on(
 /// if advice is asked for and the verdict is yes, or its limit where too many places are reachable.
 fn answer_job(
     alloc: Global,
-    name: Option<&str>,
+    naming: Naming<'_>,
     action: Action,
     asked: bool,
     job: &Job,
 ) -> (Answered, Advice)
-    ensures answer { IsJobAnswer (name_in name.entry) action job.now result.0 }
+    ensures answer { IsJobAnswer naming.entry action job.now result.0 }
     ensures advice { asked ≡ true
         → IfOk result.1 (λ advice. IsJobAdvice job.now (came_of result.0) advice.items) }
 {
@@ -224,7 +228,7 @@ fn answer_job(
     } else {
         Ok(Vec::new(alloc))
     };
-    match output_of(alloc, name, action, job, survey) {
+    match output_of(alloc, naming, action, job, survey) {
         Ok(output) => (Ok((status, output)), notes),
         Err(AllocError) => (Err(RunError::Memory), notes),
     }

@@ -1,12 +1,12 @@
 -- What a verdict leaves open: areas lent in vain, CCWs that interrupt, CCWs at which a program ends
--- though chain command is on, and kept areas into which the machine itself stores.
+-- though chain data is on, and kept areas into which the machine itself stores.
 use Rattle.std.specs.Prelude.{◌≡◌, ℕ, zero, suc, ◌<◌, ◌≤◌, nat_lt, Bool, true, false, not, ◌&&◌}
 use Rattle.std.specs.Prelude.{◌⊎◌, ◌↔◌, ◌||◌, List, length, Option, None, Some, IsTrue}
 use Rattle.std.specs.List.{filter}
 use Rattle.std.specs.List.Sorted.{IsStrictlyIncreasing}
 use Rattle.ccw_core.specs.declared.areas.Area.{Area}
 use Rattle.ccw_core.specs.Areas.{lies_in, end_of}
-use Rattle.ccw_core.specs.Ccw.{Fields, chains_command, chains_data, is_on, is_transfer}
+use Rattle.ccw_core.specs.Ccw.{Fields, chains_data, is_on, is_transfer}
 use Rattle.ckd_core.specs.declared.command.Kind.{Kind}
 use Rattle.ckd_core.specs.declared.command.Kind.TheVariants.{Idle, Inward, Outward, Search}
 use Rattle.ckd_core.specs.Command.{Entry as Command, lookup}
@@ -72,11 +72,10 @@ abbrev pub is_idle : Option Command → Bool
 is_idle None = false
 is_idle (Some k) = moves_nothing k.kind
 
--- No Operation or Recalibrate begins, the two commands that move no data, and both chaining flags
--- are on: chain data counts, not chain command, and by it such an operation never goes on
+-- No Operation or Recalibrate begins, the two commands that move no data, and chain data is on: it
+-- counts, whatever chain command is, and by it such an operation never goes on
 abbrev pub ends_there : Place → Fields → Bool
-ends_there p c =
-    is_fresh p.entered && is_idle (lookup c.command) && chains_data c && chains_command c
+ends_there p c = is_fresh p.entered && is_idle (lookup c.command) && chains_data c
 
 -- such a place has no successor
 abbrev pub NothingFollows : Type 0

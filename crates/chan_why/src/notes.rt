@@ -42,9 +42,9 @@ pub struct Notes {
     /// The addresses of the reachable CCWs, transfers apart, whose flag for a program-controlled
     /// interruption is on; each once, rising.
     pub interrupting: Vec<u32>,
-    /// The addresses of the reachable No Operations and Recalibrates with both chaining flags on;
-    /// each once, rising. As chain data is on, and an operation that moves no data never goes on by
-    /// it, the program ends there.
+    /// The addresses of the reachable No Operations and Recalibrates with chain data on; each once,
+    /// rising. As an operation that moves no data never goes on by chain data, the program ends
+    /// there, even if chain command is on too.
     pub ending: Vec<u32>,
     /// The kept areas, as the merged list of the guarded bytes has them, that have a byte of 000018
     /// to 000047 or of 000050 to 000053; each whole, rising. The machine itself stores there,
@@ -147,7 +147,7 @@ fn interrupting(alloc: Global, looks: &[Look]) -> Result<Vec<u32>, AllocError>
     Ok(each_once(addresses))
 }
 
-/// The addresses of the reachable No Operations and Recalibrates with both chaining flags on.
+/// The addresses of the reachable No Operations and Recalibrates with chain data on.
 #[tactic(auto, using(crate::proofs::Noted::addresses_none))]
 fn ending(alloc: Global, looks: &[Look]) -> Result<Vec<u32>, AllocError>
     ensures { IfOk result (λ v. (j : Job) → AreLooks j looks.now
@@ -201,21 +201,19 @@ fn interrupts(look: &Look) -> bool
     }
 }
 
-/// Whether No Operation or Recalibrate begins at a place, with both chaining flags on.
+/// Whether No Operation or Recalibrate begins at a place, with chain data on.
 fn ends_there(look: &Look) -> bool
     ensures { (j : Job) → IsLook j look.now
         → IsTrue result ↔ IsSeenWith noted.ends_there look.now }
 {
     match (look.ccw(), look.command()) {
-        (Some(ccw), Some(command)) => {
-            command.kind() == Kind::Idle && ccw.chains_data() && ccw.chains_command()
-        }
+        (Some(ccw), Some(command)) => { command.kind() == Kind::Idle && ccw.chains_data() }
         _ => false,
     }
 }
 
-/// A law, like those of `laws`: where No Operation or Recalibrate begins with both chaining flags
-/// on, the program ends.
+/// A law, like those of `laws`: where No Operation or Recalibrate begins with chain data on, the
+/// program ends.
 #[tactic(auto, using(crate::proofs::Noted::nothing_follows))]
 fn nothing_follows()
     ensures { NothingFollows }

@@ -15,9 +15,10 @@ ghost use Rattle.chan_run.specs.Outcome.{IsWriteFailure};
 use ccw_core::{Watched, write_out};
 use chan_args::{Action, ImageRequest, Request, read_request};
 use chan_run::{
-    Failure, ImageOptions, OptionError, Outcome, answer, answer_image, conclude, ends_run,
+    Failure, ImageOptions, Naming, OptionError, Outcome, answer, answer_image, conclude, ends_run,
     exit_status, explain_word, find_programs, greater_status, list_words, note_usual_device,
-    options_of, report, report_grants, report_option, show, shown_word, word_of,
+    options_of, report, report_file, report_grants, report_no_ccw, report_option, report_usage,
+    show, show_named, shown_word, word_of,
 };
 use std::alloc::AllocError;
 use std::env::{Env, FillError};
@@ -29,6 +30,12 @@ use std::rt::{Stdin, Stdout};
 
 /// The first size of the room for a word, in bytes.
 const USUAL_ROOM: usize = 256;
+
+/// An input without a name.
+const UNNAMED: Naming<'static> = Naming {
+    name: None,
+    is_among: false,
+};
 
 /// What a deck is read from. One type, so that the program has one function that reads, whose
 /// buffer is on the stack.
@@ -89,8 +96,10 @@ fn read_word(rt: &HostRuntime, number: usize) -> Result<Option<Vec<u8>>, AllocEr
 fn answer_words(rt: &HostRuntime, words: &[String]) -> u8 {
     match read_request(rt.alloc(), words) {
         Request::Show(text) => show_ccw(rt, text),
+        Request::ShowNamed(text) => show_named_ccw(rt, text),
+        Request::NoCcw => report_no_ccw(&mut Watched::new(rt.stderr())),
         Request::Run(action) => {
-            exit_status(run_over(rt, action, None, Input::Standard(rt.stdin())))
+            exit_status(run_over(rt, action, UNNAMED, Input::Standard(rt.stdin())))
         }
         Request::RunNamed(action, names) => run_over_each(rt, action, names.as_slice()),
         Request::Image(request) => answer_request(rt, &request, false),
@@ -102,8 +111,11 @@ fn answer_words(rt: &HostRuntime, words: &[String]) -> u8 {
             Ok(text) => print_out(rt, text.as_str()),
             Err(AllocError) => report_on(rt, None, Outcome::Failed(Failure::OutOfMemory)),
         },
-        Request::Fault(text) => match text.to_string(rt.alloc()) {
-            Ok(text) => print_fault(rt, text.as_str()),
+        Request::NoCommand(word, _) if is_file(rt, word) => {
+            report_file(word, &mut Watched::new(rt.stderr()))
+        }
+        Request::NoCommand(_, text) | Request::Fault(text) => match text.to_string(rt.alloc()) {
+            Ok(text) => report_usage(text.as_str(), &mut Watched::new(rt.stderr())),
             Err(AllocError) => report_on(rt, None, Outcome::Failed(Failure::OutOfMemory)),
         },
         Request::NoMemory => report_on(rt, None, Outcome::Failed(Failure::OutOfMemory)),
@@ -134,17 +146,16 @@ fn print_out(rt: &HostRuntime, text: &str) -> u8 {
     end_with(rt, None, Outcome::of_write(answer), &mut output)
 }
 
-/// Writes what is wrong with the command line, and gives the exit status.
-fn print_fault(rt: &HostRuntime, text: &str) -> u8 {
-    let mut errors = Watched::new(rt.stderr());
-    let _ = write_out(text.as_bytes(), &mut errors);
-    exit_status(Outcome::Usage)
-}
-
 fn show_ccw(rt: &HostRuntime, text: &str) -> u8 {
     let mut output = Watched::new(rt.stdout());
-    let answer = show(rt.alloc(), text, &mut output);
+    let answer = show(rt.alloc(), text.as_bytes(), false, &mut output);
     end_with(rt, None, Outcome::of_show(answer), &mut output)
+}
+
+fn show_named_ccw(rt: &HostRuntime, text: &str) -> u8 {
+    let mut output = Watched::new(rt.stdout());
+    let mut errors = Watched::new(rt.stderr());
+    exit_status(show_named(rt.alloc(), text, &mut output, &mut errors))
 }
 
 fn explain(rt: &HostRuntime, word: &str) -> u8 {
@@ -163,7 +174,11 @@ fn list_terms(rt: &HostRuntime) -> u8 {
 fn run_over_each(rt: &HostRuntime, action: Action, names: &[&str]) -> u8 {
     let mut greatest = 0;
     for name in names {
-        let outcome = run_over_named(rt, action, name);
+        let naming = Naming {
+            name: Some(name),
+            is_among: names.len() > 1,
+        };
+        let outcome = run_over_named(rt, action, name, naming);
         greatest = greater_status(greatest, exit_status(outcome));
         if ends_run(outcome) {
             break;
@@ -173,12 +188,12 @@ fn run_over_each(rt: &HostRuntime, action: Action, names: &[&str]) -> u8 {
 }
 
 /// Runs over the input of this name, which is standard input where it is `-`, and else a file.
-fn run_over_named(rt: &HostRuntime, action: Action, name: &str) -> Outcome {
+fn run_over_named(rt: &HostRuntime, action: Action, name: &str, naming: Naming<'_>) -> Outcome {
     if name == "-" {
-        return run_over(rt, action, Some(name), Input::Standard(rt.stdin()));
+        return run_over(rt, action, naming, Input::Standard(rt.stdin()));
     }
     match open_file(rt, name) {
-        Ok(file) => run_over(rt, action, Some(name), Input::File(file)),
+        Ok(file) => run_over(rt, action, naming, Input::File(file)),
         Err(outcome) => {
             report_on(rt, Some(name), outcome);
             outcome
@@ -197,14 +212,25 @@ fn open_file(rt: &HostRuntime, name: &str) -> Result<File, Outcome> {
     File::open(rt, path.as_str()).map_err(|_| Outcome::Failed(Failure::CannotOpen))
 }
 
-/// Runs over an input that may have a name.
-fn run_over(rt: &HostRuntime, action: Action, name: Option<&str>, input: Input) -> Outcome {
+/// Whether a word is the name of a file that can be read, as it is shown.
+fn is_file(rt: &HostRuntime, word: &str) -> bool {
+    match open_file(rt, word) {
+        Ok(file) => {
+            let mut file = file;
+            file.read(&mut [0]).is_ok()
+        }
+        Err(_) => false,
+    }
+}
+
+/// Runs over an input that is named so.
+fn run_over(rt: &HostRuntime, action: Action, naming: Naming<'_>, input: Input) -> Outcome {
     let mut input = Watched::new(input);
     let mut output = Watched::new(rt.stdout());
     let mut errors = Watched::new(rt.stderr());
     answer(
         rt.alloc(),
-        name,
+        naming,
         action,
         &mut input,
         &mut output,
@@ -255,8 +281,15 @@ fn answer_request_from(
 fn find_in(rt: &HostRuntime, name: Option<&str>, options: &ImageOptions, input: Input) -> u8 {
     let mut input = Watched::new(input);
     let mut output = Watched::new(rt.stdout());
-    let answer = find_programs(rt.alloc(), options, &mut input, &mut output);
-    end_with(rt, name, answer, &mut output)
+    let mut errors = Watched::new(rt.stderr());
+    exit_status(find_programs(
+        rt.alloc(),
+        name,
+        options,
+        &mut input,
+        &mut output,
+        &mut errors,
+    ))
 }
 
 /// Makes a deck of an image that may have a name, and gives the exit status.

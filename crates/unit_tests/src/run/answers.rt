@@ -6,7 +6,7 @@ use crate::run::devices::Broken;
 use crate::shared::{Paper, expect, paper_of};
 use ccw_core::Watched;
 use chan_args::Action;
-use chan_run::{Failure, Outcome, answer, conclude, ends_run};
+use chan_run::{Failure, Naming, Outcome, answer, conclude, ends_run};
 use std::alloc::Global;
 
 /// A No Operation, with areas that it doesn't use.
@@ -63,7 +63,11 @@ fn is_answered(alloc: Global, case: &Case) -> bool {
     });
     let mut errors = Watched::new(paper_of(case.told));
     let action = Action::Why { all: false };
-    let found = answer(alloc, case.name, action, &mut from, &mut to, &mut errors);
+    let naming = Naming {
+        name: case.name,
+        is_among: false,
+    };
+    let found = answer(alloc, naming, action, &mut from, &mut to, &mut errors);
     found == case.outcome
         && to.into_inner().left.is_empty()
         && errors.failed() == case.is_cut_off
@@ -133,7 +137,6 @@ static ENDS: &[(Outcome, Outcome, &str)] = &[
         Outcome::Failed(Failure::WriteFailed),
         "chanv: write failed\n",
     ),
-    (Outcome::Usage, Outcome::Usage, ""),
     (
         Outcome::Failed(Failure::CannotOpen),
         Outcome::Failed(Failure::CannotOpen),

@@ -5,7 +5,7 @@
 use crate::run::devices::Broken;
 use crate::shared::{expect, paper_of};
 use ccw_core::Watched;
-use chan_args::ImageWords;
+use chan_args::{AskedJob, ImageWords};
 use chan_run::{Failure, ImageOptions, Outcome, answer_image, options_of};
 use std::alloc::{AllocError, Global};
 
@@ -35,7 +35,7 @@ end
 ";
 
 /// Two bytes before the program, for which 16 bytes are lent for fetching.
-fn words(alloc: Global, is_least: bool) -> Result<ImageWords<'static>, AllocError> {
+fn words(alloc: Global, job: AskedJob) -> Result<ImageWords<'static>, AllocError> {
     Ok(ImageWords {
         device: "2314",
         mask: "00",
@@ -46,7 +46,7 @@ fn words(alloc: Global, is_least: bool) -> Result<ImageWords<'static>, AllocErro
         store: Vec::new(alloc),
         at: "7FE",
         storage: None,
-        is_least,
+        job,
     })
 }
 
@@ -60,8 +60,8 @@ struct Made<'a> {
 
 /// Whether this comes of the image when a read fails, with the job that is said or with the least.
 /// A write after the text fails.
-fn is_made(alloc: Global, is_least: bool, failing: usize, made: &Made) -> bool {
-    let Ok(words) = words(alloc, is_least) else {
+fn is_made(alloc: Global, job: AskedJob, failing: usize, made: &Made) -> bool {
+    let Ok(words) = words(alloc, job) else {
         return false;
     };
     match options_of(alloc, &words) {
@@ -98,7 +98,11 @@ fn each_read_of_an_image_failing_in_turn(rt: HostRuntime) {
         said: b"chanv: a.bin: read failed\n",
     };
     for failing in 0..IMAGE.len() + 1 {
-        expect(&rt, is_made(rt.alloc(), false, failing, &refused), "read");
+        expect(
+            &rt,
+            is_made(rt.alloc(), AskedJob::Named, failing, &refused),
+            "read",
+        );
     }
 }
 
@@ -111,14 +115,22 @@ fn each_write_of_a_deck_failing_in_turn(rt: HostRuntime) {
             text: &deck[..room],
             said: b"chanv: write failed\n",
         };
-        expect(&rt, is_made(rt.alloc(), false, usize::MAX, &front), "write");
+        expect(
+            &rt,
+            is_made(rt.alloc(), AskedJob::Named, usize::MAX, &front),
+            "write",
+        );
     }
     let whole = Made {
         outcome: Outcome::Done,
         text: deck,
         said: &[],
     };
-    expect(&rt, is_made(rt.alloc(), false, usize::MAX, &whole), "whole");
+    expect(
+        &rt,
+        is_made(rt.alloc(), AskedJob::Named, usize::MAX, &whole),
+        "whole",
+    );
 }
 
 /// What is granted beside the least job counts for nothing. The program refuses it before.
@@ -129,5 +141,9 @@ fn the_least_job_beside_another(rt: HostRuntime) {
         text: LEAST.as_bytes(),
         said: &[],
     };
-    expect(&rt, is_made(rt.alloc(), true, usize::MAX, &least), "least");
+    expect(
+        &rt,
+        is_made(rt.alloc(), AskedJob::Least, usize::MAX, &least),
+        "least",
+    );
 }

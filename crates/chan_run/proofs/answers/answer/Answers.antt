@@ -1,5 +1,4 @@
 use Rattle.std.proofs.Common.{◌≡◌, Err, [], inl, inr, refl, rules}
-use Rattle.chan_run.specs.Name.{name_in}
 use Rattle.chan_run.proofs.Endings.{not_done, put_kept}
 use Rattle.chan_run.proofs.Saying.{said_beside, unread}
 use Rattle.chan_run.proofs.answers.answer.Goals as goal
@@ -34,10 +33,12 @@ returns-clause-told g c =
     let put = c.write_answer-came in
     record {
       more = said.more;
-      is = said_beside (name_in c.args.name) c.args.action _ _ c.in-Ok.text.items answer.result.0 put.result c.flushed-outcome.result
+      is = said_beside c.args.naming c.args.action _ _ c.in-Ok.text.items answer.result.0 put.result c.flushed-outcome.result
           (g.W.Write.contents c.args.to.now.device) (g.W.Write.contents put.new.to.device) (put.new.to ≡ c.args.to.now)
-          answer.result.1 said.more c.in-Ok.ensures.ok put.ensures.put (rw c.of_run-2.ensures.is at c.flushed-outcome.ensures.end)
-          (λ why. rw c.as_slice.ensures.value at (answer.ensures.advice (search (rules, why)))) (rw c.has_advice.ensures at said.is);
+          answer.result.1 c.named_advice-advice.result said.more c.in-Ok.ensures.ok put.ensures.put
+          (rw c.of_run-2.ensures.is at c.flushed-outcome.ensures.end)
+          (λ asked. rw c.as_slice.ensures.value at (answer.ensures.advice (search (rules, asked))))
+          c.named_advice-advice.ensures (rw (c.has_advice-is_advised.ensures, c.is_some-is_named.ensures) at said.is);
       whole = said.whole;
       prefix = said.prefix;
     }
@@ -47,7 +48,7 @@ returns-in-Err-clause-told g c =
     let ends = rw c.of_run.ensures.is at c.conclude.ensures.end in
     record {
       more = [];
-      is = inl (unread c.args.action _ _ c.in-Err.error c.conclude.result c.in-Err.ensures.err ends, refl);
+      is = inl (unread _ c.args.action _ _ c.in-Err.error c.conclude.result c.in-Err.ensures.err ends, refl);
       whole = c.conclude.ensures.line;
       prefix = c.conclude.ensures.prefix;
     }

@@ -1,4 +1,4 @@
-use Rattle.std.proofs.Common.{ap, inl}
+use Rattle.std.proofs.Common.{ap, inl, rules}
 use Rattle.chan_run.proofs.Endings.{image_kept}
 use Rattle.chan_run.proofs.answers.answer_image.Goals as goal
 
@@ -7,11 +7,11 @@ returns-clause-answer g c =
     let o = c.args.options.now in
     let image = c.in-Ok.image.items in
     let came = c.write_image_of-came in
-    let said = c.explain_image-said in
+    let said = c.explain_image-why in
     let end = c.conclude-2 in
     record {
-      why = said.result.1.items;
-      of_image = inl (record {
+      more = c.match-why.more.now;
+      is = inl (record {
         image = image;
         input = c.in-Ok.ensures.ok;
         came = came.result;
@@ -19,9 +19,11 @@ returns-clause-answer g c =
             (λ undone. ap (λ w. g.W.Write.contents w.device) (end.ensures.early (λ done. undone (said.ensures.done.0 done))))
             (rw c.as_slice.ensures.value at came.ensures.answer);
         said = said.result.0;
+        why = _;
         explained = rw c.as_slice-2.ensures.value at said.ensures.explained;
         ended = end.ensures.end;
+        is_more = search rules;
       });
-      whole = rw c.as_slice-3.ensures.value at end.ensures.line;
-      prefix = rw c.as_slice-3.ensures.value at end.ensures.prefix;
+      whole = end.ensures.line;
+      prefix = end.ensures.prefix;
     }

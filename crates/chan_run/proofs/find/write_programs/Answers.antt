@@ -75,3 +75,14 @@ returns-clause-answer g c =
         written = app;
       },
     )
+
+pub returns-clause-note : goal.returns-clause-note
+returns-clause-note g c =
+    let o = c.args.options.now in
+    let image = c.args.image.now in
+    let held : bytes_held c.unwrap-storage.result ≡ storage_with o.at image = search rules in
+    let starts = c.as_slice-start-items in (
+      starts.result.now,
+      starts_over o image _ _ _ held starts.ensures.value c.in-Ok-program_starts.ensures.starts,
+      search rules,
+    )

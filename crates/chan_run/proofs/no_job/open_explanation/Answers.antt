@@ -1,4 +1,4 @@
-use Rattle.std.proofs.Common.{string_bytes, sym}
+use Rattle.std.proofs.Common.{◌++◌, ◌∙◌, ap, string_bytes, sym}
 use Rattle.chan_run.proofs.no_job.open_explanation.Goals as goal
 
 pub returns : goal.returns
@@ -8,8 +8,7 @@ returns c = (
   (
     c.verdict.result,
     string_bytes c.in_ok-explanation.explanation,
-    c.cure_of-cure.result.now,
     rw (sym c.verdict.ensures) at c.in_ok-explanation.ensures,
-    c.in_ok-format.ensures.ok,
+    c.in_ok-format.ensures.ok ∙ ap (λ t. string_bytes c.in_ok-explanation.explanation ++ t) c.in_ok-cure.ensures,
   ),
 )

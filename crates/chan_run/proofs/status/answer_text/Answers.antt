@@ -10,4 +10,4 @@ returns-clause-answer c =
 pub returns-clause-advice : goal.returns-clause-advice
 returns-clause-advice c = λ asked.
     text_advice _ c.args.action c.args.text.now c.in-Ok.deck c.job-job.result c.answer_on.result.0 c.answer_on.result.1 c.in-Ok.ensures.spelled
-    (search rules) c.answer_on.ensures.answer (c.answer_on.ensures.advice asked)
+    (search rules) c.answer_on.ensures.answer (λ why. c.answer_on.ensures.advice (search (rules, asked, why)))

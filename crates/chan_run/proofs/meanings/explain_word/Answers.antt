@@ -1,0 +1,11 @@
+use Rattle.chan_run.proofs.WordAnswers.{row_answer}
+use Rattle.chan_run.proofs.meanings.explain_word.Goals as goal
+
+pub unknown-requires : goal.unknown-requires
+unknown-requires g c = (c.term_of.ensures.none c.in-None.is, c.row_for.ensures.none c.in-None-row_for.is)
+
+pub returns-in-Some-row_for-clause-answer : goal.returns-in-Some-row_for-clause-answer
+returns-in-Some-row_for-clause-answer g c =
+    rw c.of_write-in-Some-row_for.ensures.is (row_answer c.args.word.now _ _
+    (c.in-Some-row_for.row.0.now, c.in-Some-row_for.row.1.now) c.write_row.result c.in-Some-row_for.ensures.some
+    c.write_row.ensures.ok c.write_row.ensures.prefix)

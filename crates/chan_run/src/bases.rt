@@ -1,0 +1,128 @@
+//! Decimal digits that an option reads as a hexadecimal number: what the fault says of them besides.
+
+ghost use Rattle.std.specs.Prelude.{◌≡◌, ◌↔◌, ◌++◌, [], None};
+ghost use Rattle.chan_run.specs.Bases as bases;
+
+use crate::options::{PAST_ADDRESSES, number_of};
+use arrayvec::ArrayString;
+use chan_args::ImageOption;
+use ckd_core::FileMask;
+use std::fmt;
+use std::fmt::Write as _;
+
+/// What follows digits that were read in hexadecimal.
+const IS_HEXADECIMAL: &str = " is hexadecimal here (";
+
+/// A number in decimal, with a comma before every three digits.
+#[derive(Clone, Copy)]
+struct Grouped(u32);
+
+impl fmt::Display for Grouped {
+    fn fmt<W: fmt::Write>(&self, f: &mut fmt::Formatter<W>) -> fmt::Result {
+        let (thousands, ones) = (self.0 / 1_000, self.0 % 1_000);
+        let (millions, thousand) = (thousands / 1_000, thousands % 1_000);
+        let (billions, million) = (millions / 1_000, millions % 1_000);
+        if billions > 0 {
+            write!(f, "{billions},{million:03},{thousand:03},{ones:03}")
+        } else if millions > 0 {
+            write!(f, "{millions},{thousand:03},{ones:03}")
+        } else if thousands > 0 {
+            write!(f, "{thousands},{ones:03}")
+        } else {
+            write!(f, "{ones}")
+        }
+    }
+}
+
+/// Whether an option takes one hexadecimal number.
+fn is_hexadecimal(option: ImageOption) -> bool
+    ensures { result ≡ bases.is_hexadecimal option }
+{
+    matches!(
+        option,
+        ImageOption::Mask | ImageOption::Start | ImageOption::At | ImageOption::Storage
+    )
+}
+
+/// The number that decimal digits write for an option in hexadecimal, and the one in decimal, if it
+/// is another.
+fn both_bases(option: ImageOption, text: &str) -> Option<(u32, u32)>
+    ensures { result ≡ bases.both_bases option text.now }
+{
+    if !is_hexadecimal(option) {
+        return None;
+    }
+    let decimal = number_of(text, 10)?;
+    let hexadecimal = number_of(text, 16)?;
+    if hexadecimal == decimal {
+        return None;
+    }
+    Some((hexadecimal, decimal))
+}
+
+/// Whether an option that takes one hexadecimal number accepts this one.
+fn is_accepted(option: ImageOption, number: u32) -> bool
+    ensures { result ≡ bases.is_accepted option number }
+{
+    match option {
+        ImageOption::Mask => number < 0x100 && FileMask::new(number as u8).is_some(),
+        ImageOption::Start | ImageOption::At => number < PAST_ADDRESSES,
+        ImageOption::Storage => number <= PAST_ADDRESSES && number % 8 == 0,
+        _ => false,
+    }
+}
+
+/// The number that decimal digits write for an option, if it would accept that one.
+fn meant(option: ImageOption, text: &str) -> Option<u32>
+    ensures { result ≡ bases.meant option text.now }
+{
+    let (_, decimal) = both_bases(option, text)?;
+    if is_accepted(option, decimal) {
+        Some(decimal)
+    } else {
+        None
+    }
+}
+
+/// The unit of an option's number.
+fn unit(option: ImageOption) -> &'static str {
+    match option {
+        ImageOption::Storage => " bytes",
+        _ => "",
+    }
+}
+
+/// How an option read a text, if it read decimal digits as another number: the text, that it is
+/// hexadecimal, and the number that it is. Tests hold the wording.
+pub(crate) fn reading(option: ImageOption, text: &str) -> (&str, &str, ArrayString<64>)
+    ensures { (result.0.now ++ (result.1.now ++ result.2.bytes) ≡ [])
+        ↔ (bases.both_bases option text.entry.now ≡ None) }
+{
+    let mut number = ArrayString::new();
+    let Some((hexadecimal, _)) = both_bases(option, text) else {
+        return ("", "", number);
+    };
+    let grouped = Grouped(hexadecimal);
+    let unit = unit(option);
+    // it fits, and if it didn't the text would only be cut off
+    let _ = write!(number, "{grouped}{unit}): ");
+    (text, IS_HEXADECIMAL, number)
+}
+
+/// How to write the number that was meant, if the option would accept it. Tests hold the wording.
+pub(crate) fn correction<'a>(option: ImageOption, text: &str) -> (&'a str, ArrayString<64>)
+    ensures { (result.0.now ++ result.1.bytes ≡ []) ↔ (bases.meant option text.now ≡ None) }
+{
+    let mut how = ArrayString::new();
+    let Some(number) = meant(option, text) else {
+        return ("", how);
+    };
+    let grouped = Grouped(number);
+    let verb = match option {
+        ImageOption::Storage => " bytes are",
+        _ => " is",
+    };
+    // the same holds here
+    let _ = write!(how, "{grouped}{verb} {number:X}");
+    ("; ", how)
+}

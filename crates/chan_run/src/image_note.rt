@@ -1,0 +1,38 @@
+//! The notes on an image of storage that is a deck, or that has no program.
+
+ghost use Rattle.std.specs.Prelude.{◌≡◌};
+ghost use Rattle.chan_run.specs.ImageNote as notes;
+
+/// What a deck begins with, of either version.
+const DECK_FRONT: &str = "chanv deck ";
+
+/// The note on an image that is a deck.
+const IS_DECK: &str = "note: this is a deck; chanv verify judges it\n";
+
+/// The note on an image in which no program was found.
+const HAS_NO_PROGRAM: &str =
+    "note: no program found; if the image is only a part of storage, give --at and --storage\n";
+
+/// Whether an image begins as a deck does.
+fn is_deck(image: &[u8]) -> bool
+    ensures { result ≡ notes.is_deck image.now }
+{
+    image.starts_with(DECK_FRONT.as_bytes())
+}
+
+/// The note on an image that is a deck; on any other there is none.
+pub(crate) fn deck_note<'a>(image: &[u8]) -> &'a str
+    ensures { result.now ≡ notes.deck_note image.now }
+{
+    if is_deck(image) { IS_DECK } else { "" }
+}
+
+/// The note on an image that was searched for programs, and that has some or none.
+pub(crate) fn find_note<'a>(image: &[u8], has_programs: bool) -> &'a str
+    ensures { result.now ≡ notes.find_note image.now has_programs }
+{
+    if is_deck(image) || has_programs {
+        return deck_note(image);
+    }
+    HAS_NO_PROGRAM
+}

@@ -1,0 +1,122 @@
+//! Showing one CCW with the name of its command, from a text as a person writes it.
+
+ghost use Rattle.std.specs.Prelude.{◌≡◌, ◌≢◌, ◌↔◌, [], false, true, string_bytes, IfOk};
+ghost use Rattle.chan_run.specs.Answers.{IsLineSaid};
+ghost use Rattle.chan_run.specs.OneCcw.{IsFaultOf, IsShownNamed, without_blanks};
+ghost use Rattle.chan_run.specs.Options.{digits_in};
+ghost use Rattle.chan_run.specs.Outcome.{IsDone, IsWriteFailure, line_over};
+ghost use Rattle.std.specs.Prelude.{◌≤◌, ◌||◌, None, IsTrue, codes, length, nat_eq};
+ghost use Rattle.std.specs.List.{starts_with};
+
+use crate::failure::Failure;
+use crate::one_ccw::{ShowError, show};
+use crate::outcome::{Outcome, conclude};
+use ccw_core::Watched;
+use std::alloc::{AllocError, Global};
+use std::io::Write;
+
+/// A text without its blanks.
+fn without_blanks(alloc: Global, text: &[u8]) -> Result<Vec<u8>, AllocError>
+    ensures { IfOk result (λ plain. plain.items ≡ without_blanks text.now) }
+{
+    let mut plain = Vec::new(alloc);
+    for byte in text {
+        if *byte != b' ' {
+            plain.push(*byte)?;
+        }
+    }
+    Ok(plain)
+}
+
+/// Whether a text begins with `0x` or `0X`.
+fn is_marked(text: &[u8]) -> bool
+    ensures marked { result ≡ (starts_with nat_eq text.now (codes "0x")
+        || starts_with nat_eq text.now (codes "0X")) }
+    ensures long { IsTrue result → 2 ≤ length text.now }
+{
+    text.starts_with(b"0x") || text.starts_with(b"0X")
+}
+
+/// What stands after `0x` or `0X`, or all of a text that doesn't begin so.
+fn digits_of(text: &[u8]) -> &[u8]
+    ensures { result.now ≡ digits_in text.now }
+{
+    if is_marked(text) { &text[2..] } else { text }
+}
+
+/// Why digits aren't those of a CCW: the first that is none, or how many there are. Tests hold the
+/// text.
+fn fault_of(alloc: Global, digits: &[u8]) -> Result<String, AllocError>
+    ensures { IfOk result (λ text. string_bytes text ≢ []) }
+{
+    match digits.iter().find(|byte| !byte.is_ascii_hexdigit()) {
+        Some(byte) => {
+            let shown = char::from(*byte);
+            format!(in alloc; "'{shown}' isn't a hexadecimal digit\n")
+        }
+        None => {
+            let count = digits.len();
+            format!(in alloc; "a CCW has 16 digits, and this has {count}\n")
+        }
+    }
+}
+
+/// Writes the line that shows the CCW which a text spells, with the name of its command, and
+/// flushes the output. The text is sixteen hexadecimal digits of either case, between which blanks
+/// may stand, and `0x` before them.
+///
+/// The second writer gets the outcome's line. If the text is no CCW, a line follows that says which
+/// character is wrong, or how many digits there are.
+pub fn show_named<W: Write, E: Write>(
+    alloc: Global,
+    text: &str,
+    to: &mut Watched<W>,
+    errors: &mut Watched<E>,
+) -> Outcome
+    requires writer { to.old.failed ≡ false }
+    requires errors { errors.old.failed ≡ false }
+    ensures shown { IsLineSaid (line_over None result) (IsShownNamed text.now
+        (W.contents to.old.device) (W.contents to.new.device) result)
+        (E.contents errors.old.device) (E.contents errors.new.device) errors.new.failed }
+    ensures flushed { IsDone result → to.new.flushed ≡ true }
+    ensures write { IsWriteFailure result ↔ (to.new.failed ≡ true) }
+{
+    let Ok(plain) = without_blanks(alloc, text.as_bytes()) else {
+        return conclude(None, Outcome::Failed(Failure::OutOfMemory), &[], to, errors);
+    };
+    let digits = digits_of(&plain);
+    match show(alloc, digits, true, to) {
+        Ok(()) => conclude(None, Outcome::Done, &[], to, errors),
+        Err(ShowError::NotCcw) => conclude_fault(alloc, digits, to, errors),
+        Err(ShowError::Memory) => {
+            let end = Outcome::Failed(Failure::OutOfMemory);
+            conclude(None, end, &[], to, errors)
+        }
+        Err(ShowError::Write) => {
+            let end = Outcome::Failed(Failure::WriteFailed);
+            conclude(None, end, &[], to, errors)
+        }
+    }
+}
+
+/// Ends with digits that aren't those of a CCW, and says why.
+fn conclude_fault<W: Write, E: Write>(
+    alloc: Global,
+    digits: &[u8],
+    to: &mut Watched<W>,
+    errors: &mut Watched<E>,
+) -> Outcome
+    requires writer { to.old.failed ≡ false }
+    requires errors { errors.old.failed ≡ false }
+    ensures said { IsLineSaid (line_over None result) (IsFaultOf result)
+        (E.contents errors.old.device) (E.contents errors.new.device) errors.new.failed }
+    ensures unwritten { to.new ≡ to.old }
+{
+    match fault_of(alloc, digits) {
+        Ok(fault) => {
+            let end = Outcome::Failed(Failure::NotCcw);
+            conclude(None, end, fault.as_bytes(), to, errors)
+        }
+        Err(AllocError) => conclude(None, Outcome::Failed(Failure::OutOfMemory), &[], to, errors),
+    }
+}
