@@ -13,14 +13,15 @@ _chanv() {
     local failures='cannot-open read-failed deck-too-long image-too-long image-past-storage
         too-many-places no-job-will-do write-failed out-of-memory not-a-ccw no-such-word'
     local output='fresh in out search chained unknown place keep note transfer-in-channel'
-    local commands_of_disk='no-operation seek seek-cylinder seek-head recalibrate set-file-mask sense search-home-
-        address-equal search-id-equal search-id-high search-id-equal-or-high search-key-equal
-        search-key-high search-key-equal-or-high read-home-address read-count read-record-zero
-        read-data read-key-data read-count-key-data write-home-address write-record-zero write-
-        count-key-data write-special-count-key-data erase write-data write-key-data search-home-
-        address-equal-mt search-id-equal-mt search-id-high-mt search-id-equal-or-high-mt search-
-        key-equal-mt search-key-high-mt search-key-equal-or-high-mt read-home-address-mt read-
-        count-mt read-record-zero-mt read-data-mt read-key-data-mt read-count-key-data-mt'
+    local commands_of_disk='no-operation seek seek-cylinder seek-head recalibrate set-file-mask sense
+        search-home-address-equal search-id-equal search-id-high search-id-equal-or-high
+        search-key-equal search-key-high search-key-equal-or-high read-home-address read-count
+        read-record-zero read-data read-key-data read-count-key-data write-home-address
+        write-record-zero write-count-key-data write-special-count-key-data erase write-data
+        write-key-data search-home-address-equal-mt search-id-equal-mt search-id-high-mt
+        search-id-equal-or-high-mt search-key-equal-mt search-key-high-mt
+        search-key-equal-or-high-mt read-home-address-mt read-count-mt read-record-zero-mt
+        read-data-mt read-key-data-mt read-count-key-data-mt'
     local words='--help' files=yes
     # bash splits --device=2311 into three words
     if [[ $before == = ]]; then

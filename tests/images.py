@@ -328,7 +328,7 @@ REFUSED = [
         "1000000 is hexadecimal here (16,777,216): above FFFFFF; 1,000,000 is F4240",
     ),
     (
-        "--start",
+        "--at",
         "<ADDRESS>",
         "16777216",
         "16777216 is hexadecimal here (376,926,742): above FFFFFF",
