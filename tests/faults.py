@@ -35,8 +35,8 @@ ENDINGS = {"list": ".list", "why": ".why", "graph": ".dot", "needs": ".needs"}
 
 LIMIT = "the limit is 2; a deck of version 2 may raise it to 65536 by its line limit\n"
 
-# The other decks: the status, what is said, and what `why` adds. `closed` is standard input that is
-# closed, and there is no `nowhere`.
+# The other decks: the status, what is said, and what is added by `why`, and over a named FILE that
+# isn't a deck by all. `closed` is standard input that is closed, and there is no `nowhere`.
 REFUSED = {
     "damaged": (2, "deck line 3: form\n", "found mask\nexpected mask XX, where X is 0-9 or A-F\n"),
     "empty": (
@@ -52,6 +52,9 @@ REFUSED = {
 }
 
 FIND = ["find", "--device", "2314"]
+NONE_FOUND = (
+    "note: no program found; if the image is only a part of storage, give --at and --storage\n"
+)
 # images of storage that `find` and `deck` refuse; `long` is longer than storage may be too
 OF_IMAGE = "deck --device 2314 --start 800 --extent 10-19 --fetch 900+10 --store 900+10".split()
 REFUSED_IMAGES = {**REFUSED, "long": (2, "image too long\n", "")}
@@ -109,16 +112,21 @@ def make_files(folder):
     (folder / "folder").mkdir()
 
 
-def refused(action, fault, name):
+def refused(action, fault, name, is_among=False):
+    """Among several FILEs each line of a hint begins with its own."""
     status, said, hint = fault
     front = f"{name}: " if name else ""
-    return Ran(status, "", f"chanv: {front}{said}{hint if action == 'why' else ''}")
+    if action != "why" and (not name or hint == LIMIT):
+        hint = ""
+    if is_among:
+        hint = "".join(f"{front}{line}\n" for line in hint.splitlines())
+    return Ran(status, "", f"chanv: {front}{said}{hint}")
 
 
-def of_deck(action, deck, name=""):
+def of_deck(action, deck, name="", is_among=False):
     """What comes of a deck, which is an input with that name, or standard input alone."""
     if deck in REFUSED:
-        return refused(action, REFUSED[deck], name)
+        return refused(action, REFUSED[deck], name, is_among)
     example = EXAMPLES / f"{ANSWERED[deck]}.deck"
     verdict = verdicts_of(EXAMPLES)[example.name]
     front = f"{name}: " if name and action in ("verify", "why") else ""
@@ -145,9 +153,11 @@ def of_image(image, name=""):
 
 def found_in(image, name=""):
     """What `find` writes of an image of storage; one of no bytes has no program."""
-    if image in REFUSED_IMAGES and image != "empty":
-        return refused("find", REFUSED_IMAGES[image], name)
-    return Ran(0, "000800 no 000818 changes-argument\n" if image == "core" else "")
+    if image == "core":
+        return Ran(0, "000800 no 000818 changes-argument\n")
+    if image == "empty":
+        return Ran(0, "", NONE_FOUND)
+    return refused("find", REFUSED_IMAGES[image], name)
 
 
 def over_each(words, inputs, part_of):
@@ -173,7 +183,7 @@ def over_decks():
 
 def over_two_decks(action):
     names = ["yes", "no", "damaged", "empty", "many", "folder", "nowhere", "-"]
-    parts = [of_deck(action, "closed" if name == "-" else name, name) for name in names]
+    parts = [of_deck(action, "closed" if name == "-" else name, name, True) for name in names]
     for one, part in zip(names, parts):
         for other, other_part in zip(names, parts):
             yield Run([action, one, other], "closed", [part, other_part])

@@ -18,6 +18,9 @@ PROGRAM = bytes.fromhex("0300000040000001" "0300000000000001" "0000000000000000"
 PROGRAMS, REFUSED = 1000, 2000
 
 
+EXPECTED = "{}: expected chanv deck 1, chanv deck 2"
+
+
 def lines_of(program, command, names, processes, count):
     """The lines on standard output and on standard error, sorted. A process gets so many names."""
     words = [program, *shlex.split(command)]
@@ -39,7 +42,8 @@ def check_refused(checks, program, room):
     for deck in decks:
         deck.write_text("chanv deck 3\n")
     names = [str(deck) for deck in decks]
-    wanted = [], sorted(f"chanv: {name}: deck line 1: header" for name in names)
+    said = ["chanv: {}: deck line 1: header", "{}: found chanv deck 3", EXPECTED]
+    wanted = [], sorted(line.format(name) for name in names for line in said)
     check_lines(checks, program, "verify", names, REFUSED // PROCESSES, wanted)
 
 
