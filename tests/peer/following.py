@@ -1,7 +1,7 @@
 """Follows a run of the emulator through the machine of tests/model, by the CCWs that it fetched."""
 
-from channel import CHAIN_COMMAND, CHAIN_DATA, COMMANDS, LOW_BITS, SKIP, ccw_at
-from judging import FRESH, NUMBER, Place, first_place, kind_at, program_check, reachable, successors
+from channel import CHAIN_COMMAND, CHAIN_DATA, COMMANDS, LOW_BITS, ccw_at
+from judging import FRESH, Place, first_place, kind_at, program_check, reachable, successors
 from stepping import runs, steps
 
 
@@ -111,9 +111,10 @@ def gathers_for_ever(job):
     """Whether a data chain comes back to a CCW of its own."""
     for place in reachable(job):
         seen = set()
-        while place not in seen and place.entered != FRESH and not program_check(job.storage, place):
+        while place not in seen and place.entered != FRESH:
             seen.add(place)
-            after = successors(place, ccw_at(job.storage, place.address))
+            is_checked = program_check(job.storage, place)
+            after = successors(place, ccw_at(job.storage, place.address)) if not is_checked else []
             place = after[0] if after else Place(0, FRESH, False)
         if place in seen:
             return True
