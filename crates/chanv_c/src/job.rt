@@ -126,10 +126,7 @@ pub(crate) fn make_ready<'a>(alloc: Global, asked: &CJob<'a>) -> Result<Ready<'a
         Ok(parts) => parts,
         Err(fault) => return Err(Refusal::Wrong(fault)),
     };
-    let extents = match extents_of(alloc, asked) {
-        Ok(extents) => extents,
-        Err(refusal) => return Err(refusal),
-    };
+    let extents = extents_of(alloc, asked)?;
     let Some(limit) = Limit::new(asked.limit) else {
         return Err(Refusal::Wrong(JobFault::NotALimit));
     };

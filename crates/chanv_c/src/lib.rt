@@ -10,7 +10,6 @@ mod find;
 mod job;
 mod list;
 mod needs;
-mod question;
 mod refusal;
 mod rows;
 mod start;

@@ -1,32 +1,29 @@
 //! What a channel program needs of each job that it runs under, and what it keeps.
 
 ghost use Rattle.std.specs.Prelude.{◌≡◌, ◌≢◌, ◌<◌, ◌≤◌, ◌↔◌, length, map, IfOk, IfErr, IsTrue};
-ghost use Rattle.std.specs.Prelude.{Option};
+ghost use Rattle.std.specs.Prelude.{OnOk, Option};
 ghost use Rattle.std.specs.List.{All};
 ghost use Rattle.chan_areas.specs.Merged.{IsMerged};
 ghost use Rattle.chan_needs.specs.Remembered.{HoldsAreas, IsInside, bytes_in, total_len};
-ghost use Rattle.chan_walk.specs.Places.{HasMoreThan};
 ghost use Rattle.chan_walk.specs.OpenJob.{open_job, IsOpenJob};
 ghost use Rattle.chan_needs.specs.Rows.{Listed, listed};
 ghost use Rattle.chan_walk.specs.Verdict.{IsVerdict};
-ghost use Rattle.chan_walk.specs.declared.error.WalkError.TheVariants as walk;
 ghost use Rattle.chan_walk.specs.declared.place.Place as place;
 ghost use Rattle.chan_walk.specs.declared.verdict.Verdict as declared;
 ghost use Rattle.chanv_c.specs.Answers.{IsAnswerCode, IsRefusal};
 ghost use Rattle.chanv_c.specs.Job.{IsAskedJob};
 ghost use Rattle.chanv_c.specs.Faults.{HasNoFault};
-ghost use Rattle.chanv_c.specs.Needs.{AreToldNeeds, HasTooManyOpenly, HaveRoom, IsFound, IsOpenFor};
+ghost use Rattle.chanv_c.specs.Needs.{AreToldNeeds, HasTooManyOpenly, HaveRoom, IsFound};
 ghost use Rattle.chanv_c.specs.Needs.{IsToldNo, StandFirst, run_row, told_alone, told_needs};
 
 use crate::codes::{NO, NO_ROOM, YES};
-use crate::job::CJob;
-use crate::question::{Question, answer};
+use crate::job::{CJob, make_ready};
 use crate::refusal::Refusal;
 use crate::rows::{write_areas, write_runs};
 use crate::verify::CVerdict;
 use ccw_core::{Area, Storage};
 use chan_needs::{Extent, Needs, copy_kept, kept_len, needs_from, or_empty};
-use chan_walk::{Job, OpenJob, Place, Reason, Verdict, WalkError, survey};
+use chan_walk::{Job, OpenJob, Place, Reason, Verdict, survey};
 use chan_why::hang_from;
 use std::alloc::Global;
 
@@ -95,7 +92,7 @@ pub extern "C" fn chanv_needs(
         ≡ told_alone (record { extent = out.new.verdict.extent; address = 0; reason = 0 }) }
     ensures no_extent { result < 4 → out.new.verdict.extent ≡ 0 }
 {
-    let (needs, hang) = match answer(alloc, &WhatIsNeeded, job) {
+    let (needs, hang) = match needs_of(alloc, job) {
         Ok(Found::Needed(needs, hang)) => (needs, hang),
         Ok(Found::NoJob { address, reason }) => {
             *out = alone(0, address, u32::from(reason.number()));
@@ -203,60 +200,34 @@ fn write_kept(asked: &CJob<'_>, keep: &[Area], kept: &mut [u8])
     let _count = copy_kept(&storage, keep, kept).unwrap();
 }
 
-/// What does the program need?
-struct WhatIsNeeded;
-
-impl Question<Found> for WhatIsNeeded {
-    ghost use Rattle.chanv_c.specs.Needs.{HasTooManyOpenly, IsFound};
-
-    ghost holds = { λ _. IsFound };
-
-    ghost crowded = { HasTooManyOpenly };
-
-    fn ask(&self, alloc: Global, asked: &CJob<'_>, job: &Job) -> Result<Found, Refusal> {
-        match OpenJob::of(alloc, job) {
-            Ok(open) => found_on(alloc, asked, job, &open.job()),
-            Err(_) => Err(Refusal::Memory),
-        }
-    }
+/// What is found of the program that C asks about.
+fn needs_of(alloc: Global, asked: &CJob<'_>) -> Result<Found, Refusal>
+    ensures answer { IfOk result (IsFound asked.now) }
+    ensures right { OnOk result (HasNoFault asked.now) }
+    ensures refusal { IfErr result (IsRefusal (HasTooManyOpenly asked.now) asked.now) }
+{
+    let ready = make_ready(alloc, asked)?;
+    let job = ready.job(asked);
+    let opened = OpenJob::of(alloc, &job)?;
+    found_on(alloc, asked, &job, &opened.job())
 }
 
 /// What is found of a program by its open job.
-fn found_on(alloc: Global, asked: &CJob<'_>, job: &Job, open: &Job) -> Result<Found, Refusal>
+fn found_on(alloc: Global, asked: &CJob<'_>, job: &Job, opened: &Job) -> Result<Found, Refusal>
     requires asked { IsAskedJob asked.now job.now }
     requires right { HasNoFault asked.now }
-    requires open { IsOpenJob job.now open.now }
-    requires verdict { (v : declared.Verdict) → IsVerdict open.now v
+    requires opened { IsOpenJob job.now opened.now }
+    requires verdict { (v : declared.Verdict) → IsVerdict opened.now v
         ↔ IsVerdict (open_job job.now) v }
     ensures found { IfOk result (IsFound asked.now) }
     ensures refusal { IfErr result (IsRefusal (HasTooManyOpenly asked.now) asked.now) }
 {
-    let survey = match survey(alloc, open) {
-        Ok(survey) => survey,
-        Err(error) => return Err(no_needs(asked, open, error)),
-    };
+    let survey = survey(alloc, opened)?;
     match survey.verdict() {
-        Verdict::Yes => match needs_from(alloc, open, &survey) {
-            Ok(needs) => match hang_from(alloc, &survey) {
-                Ok(hang) => Ok(Found::Needed(needs, hang)),
-                Err(_) => Err(Refusal::Memory),
-            },
-            Err(_) => Err(Refusal::Memory),
-        },
+        Verdict::Yes => {
+            let needs = needs_from(alloc, opened, &survey)?;
+            Ok(Found::Needed(needs, hang_from(alloc, &survey)?))
+        }
         Verdict::No { address, reason } => Ok(Found::NoJob { address, reason }),
-    }
-}
-
-/// Why a call over the open job of the program that C asks about gave no answer.
-pub(crate) fn no_needs(_asked: &CJob<'_>, _open: &Job, error: WalkError) -> Refusal
-    requires open { IsOpenFor _asked.now _open.now }
-    requires right { HasNoFault _asked.now }
-    requires many { error ≡ walk.TooManyPlaces → HasMoreThan _open.now _open.now.limit }
-    ensures refusal { IsRefusal (HasTooManyOpenly _asked.now) _asked.now result }
-    ensures many { error ≡ walk.TooManyPlaces → result ≡ Refusal.TooManyPlaces }
-{
-    match error {
-        WalkError::TooManyPlaces => Refusal::TooManyPlaces,
-        WalkError::Memory => Refusal::Memory,
     }
 }

@@ -1,9 +1,11 @@
 //! Whether a program that C remembers may start, and whether others may write meanwhile.
 
-ghost use Rattle.std.specs.Prelude.{◌≡◌, ◌≢◌, ◌≤◌, ◌<◌, ◌↔◌, None, IsTrue, MatchOption};
+ghost use Rattle.std.specs.Prelude.{◌≡◌, ◌≢◌, ◌≤◌, ◌<◌, ◌↔◌, None, IfErr, IfOk, IsTrue};
+ghost use Rattle.std.specs.Prelude.{MatchOption, OnOk};
 ghost use Rattle.std.specs.List.{All};
 ghost use Rattle.chan_needs.specs.Remembered.{IsKeeperOf, WritesWell};
-ghost use Rattle.chanv_c.specs.Answers.{IsAnswerCode};
+ghost use Rattle.chanv_c.specs.Answers.{IsAnswerCode, IsRefusal};
+ghost use Rattle.chanv_c.specs.Faults.{HasNoFault};
 ghost use Rattle.chanv_c.specs.Start as specs;
 ghost use Rattle.chanv_c.specs.Start.{IsCheckOf, IsFirstLater, IsOfThisVersion, IsWriteRefused};
 ghost use Rattle.chanv_c.specs.Start.{StartsWellFor, check_code, check_told, nothing_told};
@@ -14,12 +16,10 @@ use crate::codes::{
     CHANGED, KEEPS, KEPT, MASK, NO, NO_CYLINDER, NOT_FETCHABLE, NOT_STORABLE, OTHER_DEVICE,
     OTHER_LENGTH, OTHER_START, RESERVED, RESERVED_IN_FLIGHT, STORES, YES,
 };
-use crate::job::CJob;
-use crate::question::{Question, answer};
+use crate::job::{CJob, make_ready};
 use crate::refusal::Refusal;
 use ccw_core::Area;
 use chan_needs::{Conflict, Remembered, Start, StartRefusal, may_start, may_write};
-use chan_walk::Job;
 use std::alloc::Global;
 
 /// `struct chanv_refusal`.
@@ -58,7 +58,7 @@ pub extern "C" fn chanv_check_start(
     ensures nothing { 1 < result → out.new ≡ nothing_told out.new.extent }
     ensures no_extent { result < 4 → out.new.extent ≡ 0 }
 {
-    match answer(alloc, &MayStart { in_flight, program }, job) {
+    match checked(alloc, job, in_flight, program) {
         Ok(check) => {
             *out = told(check);
             code_of(check)
@@ -190,32 +190,27 @@ fn code_of(check: StartCheck) -> u32
     }
 }
 
-/// May the program start beside those in flight?
-#[derive(Clone, Copy)]
-struct MayStart<'a> {
-    in_flight: &'a [Remembered<'a>],
-    program: &'a Remembered<'a>,
-}
-
-impl<'a> Question<StartCheck> for MayStart<'a> {
-    ghost use Rattle.chanv_c.specs.Start.{IsCheckOf};
-
-    ghost holds = { λ m c. IsCheckOf c m.program.now m.in_flight.now };
-
-    ghost crowded = { λ _. ⊥ };
-
-    fn ask(&self, alloc: Global, _asked: &CJob<'_>, job: &Job) -> Result<StartCheck, Refusal> {
-        if !is_of_this_version(self.program) {
-            return Ok(StartCheck::Later);
-        }
-        if let Some(number) = first_later(self.in_flight) {
-            return Ok(StartCheck::LaterInFlight(number));
-        }
-        match may_start(alloc, job, self.program, self.in_flight) {
-            Ok(start) => Ok(StartCheck::Asked(start)),
-            Err(_) => Err(Refusal::Memory),
-        }
+/// Whether the program may start under the job that C asks about, beside those in flight.
+fn checked(
+    alloc: Global,
+    asked: &CJob<'_>,
+    in_flight: &[Remembered<'_>],
+    program: &Remembered<'_>,
+) -> Result<StartCheck, Refusal>
+    ensures answer { IfOk result (IsCheckOf asked.now program.now in_flight.now) }
+    ensures right { OnOk result (HasNoFault asked.now) }
+    ensures refusal { IfErr result (IsRefusal ⊥ asked.now) }
+{
+    let ready = make_ready(alloc, asked)?;
+    let job = ready.job(asked);
+    if !is_of_this_version(program) {
+        return Ok(StartCheck::Later);
     }
+    if let Some(number) = first_later(in_flight) {
+        return Ok(StartCheck::LaterInFlight(number));
+    }
+    let start = may_start(alloc, &job, program, in_flight)?;
+    Ok(StartCheck::Asked(start))
 }
 
 /// Whether a program has no field of a later version.

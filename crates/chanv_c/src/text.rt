@@ -1,18 +1,17 @@
 //! The text that explains the verdict on a channel program.
 
-ghost use Rattle.std.specs.Prelude.{◌≡◌, ◌≢◌, ℕ, ◌<◌, ◌≤◌, ◌⊎◌, length, IfOk, IfErr};
+ghost use Rattle.std.specs.Prelude.{◌≡◌, ◌≢◌, ℕ, ◌<◌, ◌≤◌, ◌⊎◌, length, IfOk, IfErr, OnOk};
 ghost use Rattle.chan_walk.specs.Places.{HasMoreThan};
 ghost use Rattle.chan_walk.specs.declared.error.WalkError.TheVariants as walk;
-ghost use Rattle.chanv_c.specs.Answers.{HasTooMany, IsAnswerCode};
+ghost use Rattle.chanv_c.specs.Answers.{HasTooMany, IsAnswerCode, IsRefusal};
+ghost use Rattle.chanv_c.specs.Faults.{HasNoFault};
 ghost use Rattle.chanv_c.specs.declared.text.Told as declared;
 ghost use Rattle.chanv_c.specs.Needs.{HasTooManyOpenly, StandFirst};
 ghost use Rattle.chanv_c.specs.Text.{IsOpenText, IsText, IsTextOn, IsToldWhole, IsTooLong};
 ghost use Rattle.chanv_c.specs.Text.{verdict_code};
 
 use crate::codes::{NO, NO_ROOM, YES};
-use crate::job::CJob;
-use crate::needs::no_needs;
-use crate::question::{Question, answer, no_answer};
+use crate::job::{CJob, make_ready};
 use crate::refusal::Refusal;
 use chan_deck::explanation_text;
 use chan_walk::{Job, OpenJob, Verdict, WalkError, survey};
@@ -45,7 +44,7 @@ pub extern "C" fn chanv_text(
     ensures number { (extent : ℕ) × IsAnswerCode (HasTooMany job.now) job.now result extent }
     ensures no_len { 1 < result → result ≢ 11 → len.new ≡ 0 }
 {
-    match answer(alloc, &WhichText, job) {
+    match text_on_job(alloc, job) {
         Ok(told) => write_told(&told, buffer, len),
         Err(refusal) => {
             *len = 0;
@@ -72,7 +71,7 @@ pub extern "C" fn chanv_open_text(
     ensures number { (extent : ℕ) × IsAnswerCode (HasTooManyOpenly job.now) job.now result extent }
     ensures no_len { 1 < result → result ≢ 11 → len.new ≡ 0 }
 {
-    match answer(alloc, &WhichOpenText, job) {
+    match text_on_open_job(alloc, job) {
         Ok(told) => write_told(&told, buffer, len),
         Err(refusal) => {
             *len = 0;
@@ -116,47 +115,25 @@ fn write_text(text: &[u8], buffer: &mut [u8])
     buffer[..text.len()].copy_from_slice(text);
 }
 
-/// By which text is the verdict explained?
-struct WhichText;
-
-impl Question<Told> for WhichText {
-    ghost use Rattle.chanv_c.specs.Answers.{HasTooMany};
-    ghost use Rattle.chanv_c.specs.Text.{IsText};
-
-    ghost holds = { λ _. IsText };
-
-    ghost crowded = { HasTooMany };
-
-    fn ask(&self, alloc: Global, asked: &CJob<'_>, job: &Job) -> Result<Told, Refusal> {
-        match told_on(alloc, job) {
-            Ok(told) => Ok(told),
-            Err(error) => Err(no_answer(asked, job, error)),
-        }
-    }
+/// The text on the job that C asks about.
+fn text_on_job(alloc: Global, asked: &CJob<'_>) -> Result<Told, Refusal>
+    ensures answer { IfOk result (IsText asked.now) }
+    ensures right { OnOk result (HasNoFault asked.now) }
+    ensures refusal { IfErr result (IsRefusal (HasTooMany asked.now) asked.now) }
+{
+    let ready = make_ready(alloc, asked)?;
+    Ok(told_on(alloc, &ready.job(asked))?)
 }
 
-/// By which text is the verdict on the open job explained?
-struct WhichOpenText;
-
-impl Question<Told> for WhichOpenText {
-    ghost use Rattle.chanv_c.specs.Needs.{HasTooManyOpenly};
-    ghost use Rattle.chanv_c.specs.Text.{IsOpenText};
-
-    ghost holds = { λ _. IsOpenText };
-
-    ghost crowded = { HasTooManyOpenly };
-
-    fn ask(&self, alloc: Global, asked: &CJob<'_>, job: &Job) -> Result<Told, Refusal> {
-        let open = match OpenJob::of(alloc, job) {
-            Ok(open) => open,
-            Err(_) => return Err(Refusal::Memory),
-        };
-        let open_job = open.job();
-        match told_on(alloc, &open_job) {
-            Ok(told) => Ok(told),
-            Err(error) => Err(no_needs(asked, &open_job, error)),
-        }
-    }
+/// The text on the open job of the program that C asks about.
+fn text_on_open_job(alloc: Global, asked: &CJob<'_>) -> Result<Told, Refusal>
+    ensures answer { IfOk result (IsOpenText asked.now) }
+    ensures right { OnOk result (HasNoFault asked.now) }
+    ensures refusal { IfErr result (IsRefusal (HasTooManyOpenly asked.now) asked.now) }
+{
+    let ready = make_ready(alloc, asked)?;
+    let open = OpenJob::of(alloc, &ready.job(asked))?;
+    Ok(told_on(alloc, &open.job())?)
 }
 
 /// The verdict on a job, with the text that explains it.
@@ -164,18 +141,11 @@ fn told_on(alloc: Global, job: &Job) -> Result<Told, WalkError>
     ensures text { IfOk result (IsTextOn job.now) }
     ensures many { IfErr result (λ e. e ≡ walk.TooManyPlaces → HasMoreThan job.now job.now.limit) }
 {
-    let survey = match survey(alloc, job) {
-        Ok(survey) => survey,
-        Err(error) => return Err(error),
-    };
-    let Ok(witness) = witness_from(alloc, &survey) else {
-        return Err(WalkError::Memory);
-    };
-    match explanation_text(alloc, job, &survey, &witness, &[]) {
-        Ok(text) => Ok(Told {
-            verdict: survey.verdict(),
-            text,
-        }),
-        Err(_) => Err(WalkError::Memory),
-    }
+    let survey = survey(alloc, job)?;
+    let witness = witness_from(alloc, &survey)?;
+    let text = explanation_text(alloc, job, &survey, &witness, &[])?;
+    Ok(Told {
+        verdict: survey.verdict(),
+        text,
+    })
 }

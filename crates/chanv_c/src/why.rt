@@ -1,20 +1,21 @@
 //! Why a channel program may not run: the path to a place that offends, and the cause's values.
 
-ghost use Rattle.std.specs.Prelude.{◌≡◌, ◌≢◌, ◌<◌, ◌↔◌, ◌⊎◌, IsTrue};
+ghost use Rattle.std.specs.Prelude.{◌≡◌, ◌≢◌, ◌<◌, ◌↔◌, ◌⊎◌, IfErr, IfOk, IsTrue, OnOk};
 ghost use Rattle.chan_walk.specs.declared.verdict.Verdict.TheVariants.{Yes};
-ghost use Rattle.chanv_c.specs.Answers.{HasTooMany, IsJudged, IsAnswerCode};
+ghost use Rattle.chanv_c.specs.Answers.{HasTooMany, IsJudged, IsAnswerCode, IsRefusal};
+ghost use Rattle.chanv_c.specs.Faults.{HasNoFault};
 ghost use Rattle.chanv_c.specs.Why as specs;
-ghost use Rattle.chanv_c.specs.Why.{LacksRows, IsTold, IsWrittenTo, told_nothing, verdict_told};
+ghost use Rattle.chanv_c.specs.Why.{IsExplanationFor, IsTold, IsWrittenTo, LacksRows};
+ghost use Rattle.chanv_c.specs.Why.{told_nothing, verdict_told};
 ghost use Rattle.chanv_c.specs.declared.why.Found as declared;
 
 use crate::codes::{NO, NO_ROOM, YES};
 use crate::evidence::{CEvidence, NO_VALUES, cause_told};
-use crate::job::CJob;
-use crate::question::{Question, answer, no_answer};
+use crate::job::{CJob, make_ready};
 use crate::refusal::Refusal;
 use crate::rows::{CPlace, write_path};
 use crate::verify::CVerdict;
-use chan_walk::{Job, Place, Verdict, survey};
+use chan_walk::{Place, Verdict, survey};
 use chan_why::{Witness, witness_from};
 use std::alloc::Global;
 
@@ -61,7 +62,7 @@ pub extern "C" fn chanv_why(
     ensures nothing { result ≢ 1 → result ≢ 11 → out.new ≡ told_nothing out.new.verdict.extent }
     ensures no_extent { result < 4 → out.new.verdict.extent ≡ 0 }
 {
-    let found = match answer(alloc, &Why, job) {
+    let found = match explained(alloc, job) {
         Ok(found) => found,
         Err(refusal) => {
             *out = nothing(refusal.extent());
@@ -152,28 +153,17 @@ fn verdict_of(verdict: Verdict) -> CVerdict
     }
 }
 
-/// Why may the program not run?
-struct Why;
-
-impl Question<Found> for Why {
-    ghost use Rattle.chanv_c.specs.Answers.{HasTooMany};
-    ghost use Rattle.chanv_c.specs.Why.{IsExplanationFor};
-
-    ghost holds = { λ _. IsExplanationFor };
-
-    ghost crowded = { HasTooMany };
-
-    fn ask(&self, alloc: Global, asked: &CJob<'_>, job: &Job) -> Result<Found, Refusal> {
-        let survey = match survey(alloc, job) {
-            Ok(survey) => survey,
-            Err(error) => return Err(no_answer(asked, job, error)),
-        };
-        match witness_from(alloc, &survey) {
-            Ok(witness) => Ok(Found {
-                verdict: survey.verdict(),
-                witness,
-            }),
-            Err(_) => Err(Refusal::Memory),
-        }
-    }
+/// The verdict on the job that C asks about, and what shows it.
+fn explained(alloc: Global, asked: &CJob<'_>) -> Result<Found, Refusal>
+    ensures answer { IfOk result (IsExplanationFor asked.now) }
+    ensures right { OnOk result (HasNoFault asked.now) }
+    ensures refusal { IfErr result (IsRefusal (HasTooMany asked.now) asked.now) }
+{
+    let ready = make_ready(alloc, asked)?;
+    let survey = survey(alloc, &ready.job(asked))?;
+    let witness = witness_from(alloc, &survey)?;
+    Ok(Found {
+        verdict: survey.verdict(),
+        witness,
+    })
 }
