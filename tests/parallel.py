@@ -4,7 +4,6 @@ import shlex
 import tempfile
 from pathlib import Path
 
-from building import short
 from examples import FOLDERS, TEXTS, decks_of
 from running import Ran, run
 
