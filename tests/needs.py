@@ -14,9 +14,12 @@ from examples import FOLDERS, TEXTS, decks_of
 from images import taken_apart
 from running import Ran, run, text_of
 
-CURE = "note: --at says where the image lies in storage, and --storage how long storage is\n"
-# where data begins that goes on outside storage, and how long storage is
-DATA_OUTSIDE = re.compile(r"because (\w+)-\w+ is not in storage of (\w+) bytes")
+CURE = (
+    "note: storage has {} bytes; give --storage if it has more, and --at if the image begins "
+    "elsewhere\n"
+)
+# the reasons for which there may be no command at the start
+AT_THE_START = ("outside-storage", "invalid-code")
 
 # both parts of a file mask, from the laxest bits to the strictest
 WRITES, SEEKS = (0xC0, 0x00, 0x80, 0x40), (0x00, 0x08, 0x10, 0x18)
@@ -117,12 +120,12 @@ def made_of_image(program, deck):
 
 
 def cure_of(deck, explanation):
-    """The note on --at and --storage: the program begins outside storage, or data goes on there."""
-    verdict, *lines = explanation.splitlines()
-    _, address, reason = verdict.split()
-    starts_outside = reason == "outside-storage" and f"start {address}\n" in deck
-    found = DATA_OUTSIDE.search(explanation) if reason == "data-outside" else None
-    return CURE if starts_outside or found and int(found[1], 16) <= int(found[2], 16) else ""
+    """The note on --at and --storage: data leaves storage, or no command is at the start."""
+    _, address, reason = explanation.splitlines()[0].split()
+    is_start = f"start {address}\n" in deck
+    may_cure = reason == "data-outside" or (is_start and reason in AT_THE_START)
+    [size] = re.findall(r"(?m)^storage (.*)$", deck)
+    return CURE.format(size) if may_cure and size != "1000000" else ""
 
 
 def check_deck(checks, program, path):

@@ -39,7 +39,9 @@ def check_refused(checks, program, room):
     for deck in decks:
         deck.write_text("chanv deck 3\n")
     names = [str(deck) for deck in decks]
-    wanted = [], sorted(f"chanv: {name}: deck line 1: header" for name in names)
+    said = "chanv: {0}: deck line 1: header\n{0}: found chanv deck 3\n"
+    said += "{0}: expected chanv deck 1, chanv deck 2\n"
+    wanted = [], sorted("".join(said.format(name) for name in names).splitlines())
     check_lines(checks, program, "verify", names, REFUSED // PROCESSES, wanted)
 
 
