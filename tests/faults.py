@@ -35,8 +35,8 @@ ENDINGS = {"list": ".list", "why": ".why", "graph": ".dot", "needs": ".needs"}
 
 LIMIT = "the limit is 2; a deck of version 2 may raise it to 65536 by its line limit\n"
 
-# The other decks: the status, what is said, and what `why` adds. `closed` is standard input that is
-# closed, and there is no `nowhere`.
+# The other decks: the status, what is said, and what `why` adds, and any other command over a named
+# one that isn't a deck. `closed` is standard input that is closed, and there is no `nowhere`.
 REFUSED = {
     "damaged": (2, "deck line 3: form\n", "found mask\nexpected mask XX, where X is 0-9 or A-F\n"),
     "empty": (
@@ -56,6 +56,9 @@ FIND = ["find", "--device", "2314"]
 OF_IMAGE = "deck --device 2314 --start 800 --extent 10-19 --fetch 900+10 --store 900+10".split()
 REFUSED_IMAGES = {**REFUSED, "long": (2, "image too long\n", "")}
 IMAGES = ("core", "empty", "long", "folder", "nowhere", "closed")
+NONE_FOUND = (
+    "note: no program found; if the image is only a part of storage, give --at and --storage\n"
+)
 MOST_BYTES = 67_108_864
 
 
@@ -109,16 +112,23 @@ def make_files(folder):
     (folder / "folder").mkdir()
 
 
-def refused(action, fault, name):
+def of_one(name, lines, is_among):
+    """Lines beside an answer, which begin with the name of one of several inputs."""
+    return "".join(f"{name}: {line}\n" for line in lines.splitlines()) if is_among else lines
+
+
+def refused(action, fault, name, is_among=False):
     status, said, hint = fault
     front = f"{name}: " if name else ""
-    return Ran(status, "", f"chanv: {front}{said}{hint if action == 'why' else ''}")
+    is_hinted = action == "why" or name and said.startswith("deck line")
+    hint = of_one(name, hint, is_among) if is_hinted else ""
+    return Ran(status, "", f"chanv: {front}{said}{hint}")
 
 
-def of_deck(action, deck, name=""):
+def of_deck(action, deck, name="", is_among=False):
     """What comes of a deck, which is an input with that name, or standard input alone."""
     if deck in REFUSED:
-        return refused(action, REFUSED[deck], name)
+        return refused(action, REFUSED[deck], name, is_among)
     example = EXAMPLES / f"{ANSWERED[deck]}.deck"
     verdict = verdicts_of(EXAMPLES)[example.name]
     front = f"{name}: " if name and action in ("verify", "why") else ""
@@ -126,6 +136,8 @@ def of_deck(action, deck, name=""):
         return Ran(status_of(verdict), f"{front}{verdict}\n")
     notes = example.with_suffix(".notes")
     error = text_of(notes) if action == "why" and "notes" in listed_with(example) else ""
+    error = of_one(name, error, is_among)
+    front = f"{name}:\n" if is_among and action in ("list", "needs") else front
     text = text_of(example.with_suffix(ENDINGS[action]))
     if action == "graph":
         text = picture_of(example, name)
@@ -147,7 +159,8 @@ def found_in(image, name=""):
     """What `find` writes of an image of storage; one of no bytes has no program."""
     if image in REFUSED_IMAGES and image != "empty":
         return refused("find", REFUSED_IMAGES[image], name)
-    return Ran(0, "000800 no 000818 changes-argument\n" if image == "core" else "")
+    found = Ran(0, "000800 no 000818 changes-argument\n")
+    return found if image == "core" else Ran(0, "", NONE_FOUND)
 
 
 def over_each(words, inputs, part_of):
@@ -173,7 +186,7 @@ def over_decks():
 
 def over_two_decks(action):
     names = ["yes", "no", "damaged", "empty", "many", "folder", "nowhere", "-"]
-    parts = [of_deck(action, "closed" if name == "-" else name, name) for name in names]
+    parts = [of_deck(action, "closed" if name == "-" else name, name, True) for name in names]
     for one, part in zip(names, parts):
         for other, other_part in zip(names, parts):
             yield Run([action, one, other], "closed", [part, other_part])
@@ -222,6 +235,8 @@ def runs():
     yield from over_decks()
     yield from over_two_decks("verify")
     yield from over_two_decks("why")
+    yield from over_two_decks("list")
+    yield from over_two_decks("needs")
     yield from over_each(OF_IMAGE, IMAGES, of_image)
     yield from over_each(FIND, IMAGES, found_in)
     yield from over_nothing()
