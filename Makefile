@@ -2,18 +2,19 @@
 # `make test` runs every proof and every test, and `make audit` shows that the proofs mean
 # something: it proves everything again, and tries mutants, which the prover has to refuse.
 # `make lib` builds the library for C. `make install PREFIX=/usr/local` copies what these two built
-# to where users expect it, and builds nothing; `make uninstall` removes it. `make table` prints
-# the contracts.
+# to where users expect it, the libraries to LIBDIR, and builds nothing; `make uninstall` removes it.
+# `make table` prints the contracts.
 
 PREFIX ?= /usr/local
-VERSION = 0.5.0
+LIBDIR ?= $(PREFIX)/lib
+VERSION = 0.6.0
 
 # How many processors a proof may use; each takes up to 1.5 GB of memory.
 JOBS ?= $(shell nproc)
 HALF = $(shell expr \( $(JOBS) + 1 \) / 2)
 
 # The kit with which all was proved last, as `rt version` names it.
-KIT = rattle-kit-13f logic dac8208d650f15bf
+KIT = rattle-kit-13b logic dac8208d650f15bf
 
 # The libraries under chanv. `rt run` in chanv finds them built, and leaves out its quick pass over
 # all sources.
@@ -43,16 +44,14 @@ libraries: can_prove
 $(LIBRARIES):
 	cd crates/$@ && rt lib --jobs $(JOBS)
 
-# Each is built after those that it stands on. For ckd_core and chan_args, which are small, one
-# processor is enough beside the others.
+# Each is built after those that it stands on. For ckd_core, chan_args and chan_find, which are small,
+# one processor is enough beside the others.
 chan_areas: ccw_core
 chan_walk: chan_areas ckd_core
-chan_needs chan_why: chan_walk
-# It stands on chan_walk alone, but only chan_run waits for it, which waits for chan_deck longer.
-chan_find: chan_why
+chan_needs chan_why chan_find: chan_walk
 chan_deck: chan_needs chan_why
 chan_run: chan_args chan_find chan_deck
-ckd_core chan_args: JOBS = 1
+ckd_core chan_args chan_find: JOBS = 1
 
 # Explains the verdict on a deck, with nothing proved: it compiles the sources as they are.
 try:
@@ -88,18 +87,23 @@ proofs:
 unit_tests: libraries
 	cd crates/unit_tests && rt test --jobs $(JOBS)
 
-# The library for C with the kit's runtime, as one object that shows nothing but chanv's calls, in
-# an archive and a shared library, each of which links by itself.
+# The library for C with the kit's runtime and the C file, as one object that shows nothing but
+# chanv's calls, in an archive and a shared library, each of which links by itself.
 lib: can_link
 	cd crates/chanv_c && rt lib --jobs $(JOBS)
 	mkdir -p out
-	ld -r -o out/chanv.o --whole-archive crates/chanv_c/out/libchanv_c.a --no-whole-archive \
-	  "$$(dirname "$$(rt doc)")/c/liblibc_c.a"
+	cp crates/chanv_c/include/chanv.h out/chanv.h
+	$(CC) -std=c99 -O2 -fPIC $(CFLAGS) -Iout -c -o out/chanv_c.o c/chanv.c
+	ld -r -o out/chanv.o out/chanv_c.o --whole-archive crates/chanv_c/out/libchanv_c.a \
+	  --no-whole-archive "$$(dirname "$$(rt doc)")/c/liblibc_c.a"
 	objcopy --wildcard --keep-global-symbol='chanv_*' out/chanv.o
 	rm -f out/libchanv.*
 	ar rcs out/libchanv.a out/chanv.o
-	$(CC) -shared -Wl,-z,defs -Wl,-soname,$(SONAME) -o out/libchanv.so.$(VERSION) out/chanv.o
-	cp crates/chanv_c/include/chanv.h out/chanv.h
+	$(CC) -shared $(HARDENED) -Wl,-soname,$(SONAME) -o out/libchanv.so.$(VERSION) out/chanv.o
+
+# Each symbol is bound when the library is loaded, so that its tables can be read-only then, and the
+# stack of the program stays one from which nothing runs.
+HARDENED = -Wl,-z,defs -Wl,-z,relro,-z,now -Wl,-z,noexecstack
 
 # The name by which programs ask for the shared library. While the first number is 0, structs may
 # change with the second, so the name has both.
@@ -107,6 +111,7 @@ SONAME = libchanv.so.$(basename $(VERSION))
 
 BUILT = crates/chanv/out/chanv out/libchanv.a out/libchanv.so.$(VERSION) out/chanv.h
 TO = $(DESTDIR)$(PREFIX)
+TO_LIB = $(DESTDIR)$(LIBDIR)
 
 install:
 	@for built in $(BUILT); do test -f $$built || \
@@ -115,23 +120,25 @@ install:
 	install -D -m 644 docs/chanv.1 "$(TO)/share/man/man1/chanv.1"
 	install -D -m 644 docs/chanv.bash "$(TO)/share/bash-completion/completions/chanv"
 	install -D -m 644 out/chanv.h "$(TO)/include/chanv.h"
-	install -D -m 644 out/libchanv.a "$(TO)/lib/libchanv.a"
-	install -D out/libchanv.so.$(VERSION) "$(TO)/lib/libchanv.so.$(VERSION)"
-	ln -sf libchanv.so.$(VERSION) "$(TO)/lib/$(SONAME)"
-	ln -sf $(SONAME) "$(TO)/lib/libchanv.so"
-	install -D -m 644 examples/python/chanv.py "$(TO)/share/chanv/python/chanv.py"
+	install -D -m 644 out/libchanv.a "$(TO_LIB)/libchanv.a"
+	install -D out/libchanv.so.$(VERSION) "$(TO_LIB)/libchanv.so.$(VERSION)"
+	ln -sf libchanv.so.$(VERSION) "$(TO_LIB)/$(SONAME)"
+	ln -sf $(SONAME) "$(TO_LIB)/libchanv.so"
+	install -d "$(TO)/share/chanv/python/chanv"
+	install -m 644 python/chanv/*.py python/chanv/py.typed "$(TO)/share/chanv/python/chanv"
 	install -d "$(TO)/share/doc/chanv/docs"
 	install -m 644 README.md CHANGELOG.md "$(TO)/share/doc/chanv"
 	install -m 644 docs/*.md docs/*.svg "$(TO)/share/doc/chanv/docs"
 	install -d "$(TO)/share/doc/chanv/examples"
 	install -m 644 examples/README.md examples/*.deck "$(TO)/share/doc/chanv/examples"
-	install -d "$(TO)/lib/pkgconfig"
-	sed 's|@PREFIX@|$(PREFIX)|; s|@VERSION@|$(VERSION)|' docs/chanv.pc.in > \
-	  "$(TO)/lib/pkgconfig/chanv.pc"
+	install -d "$(TO_LIB)/pkgconfig"
+	sed -e 's|@PREFIX@|$(PREFIX)|; s|@VERSION@|$(VERSION)|' \
+	  -e 's|@LIBDIR@|$(subst $(PREFIX)/,$${prefix}/,$(LIBDIR))|' docs/chanv.pc.in > \
+	  "$(TO_LIB)/pkgconfig/chanv.pc"
 
 uninstall:
 	rm -f "$(TO)/bin/chanv" "$(TO)/share/man/man1/chanv.1" "$(TO)/include/chanv.h" \
-	  "$(TO)/share/bash-completion/completions/chanv" "$(TO)/lib/libchanv.a" \
-	  "$(TO)/lib/libchanv.so" "$(TO)/lib/$(SONAME)" "$(TO)/lib/libchanv.so.$(VERSION)" \
-	  "$(TO)/lib/pkgconfig/chanv.pc"
+	  "$(TO)/share/bash-completion/completions/chanv" "$(TO_LIB)/libchanv.a" \
+	  "$(TO_LIB)/libchanv.so" "$(TO_LIB)/$(SONAME)" "$(TO_LIB)/libchanv.so.$(VERSION)" \
+	  "$(TO_LIB)/pkgconfig/chanv.pc"
 	rm -rf "$(TO)/share/doc/chanv" "$(TO)/share/chanv"

@@ -168,7 +168,7 @@ static uint32_t list(const struct work *work)
 {
     size_t count;
     uint32_t answer = chanv_list(work->job, work->places, MOST_PLACES, &count);
-    return answer != CHANV_LISTED || count != work->job->limit;
+    return answer != CHANV_OK || count != work->job->limit;
 }
 
 static uint32_t why(const struct work *work)
@@ -180,31 +180,40 @@ static uint32_t why(const struct work *work)
 static uint32_t text(const struct work *work)
 {
     static char buffer[8 << 20];
-    size_t length;
-    return chanv_text(work->job, buffer, sizeof buffer, &length);
+    size_t len;
+    return chanv_text(work->job, buffer, sizeof buffer, &len);
 }
 
 static struct chanv_needed needed;
+static uint8_t kept[1 << 20], memory[16 << 20];
 
 static uint32_t what_is_needed(const struct work *work)
 {
     return chanv_needs(work->job, &needed, seek_cylinders, 203, needed_lists[0], MOST_PLACES,
-                       needed_lists[1], MOST_PLACES, needed_lists[2], MOST_PLACES);
+                       needed_lists[1], MOST_PLACES, needed_lists[2], MOST_PLACES, kept,
+                       sizeof kept);
+}
+
+static uint32_t take_in(const struct work *work)
+{
+    struct chanv_program program;
+    size_t len;
+    return chanv_take_in(work->job, memory, sizeof memory, &len, &program, &needed);
 }
 
 enum { IN_FLIGHT = 8 };
 
-static uint32_t may_start(const struct work *work)
+static uint32_t check_start(const struct work *work)
 {
     struct chanv_refusal refusal;
-    return chanv_may_start(work->job, work->in_flight, IN_FLIGHT, work->in_flight, &refusal);
+    return chanv_check_start(work->job, work->in_flight, IN_FLIGHT, work->in_flight, &refusal);
 }
 
-static uint32_t may_write(const struct work *work)
+static uint32_t check_write(const struct work *work)
 {
     static const struct chanv_area area = {0, 8};
     struct chanv_refusal refusal;
-    return chanv_may_write(work->in_flight, IN_FLIGHT, &area, &refusal);
+    return chanv_check_write(work->in_flight, IN_FLIGHT, &area, &refusal);
 }
 
 /* The part of a start that compares the kept bytes. */
@@ -225,8 +234,9 @@ static const struct call {
     const char *name;
     uint32_t (*make)(const struct work *work);
 } calls[] = {
-    {"verify", verify},        {"list", list},       {"why", why},         {"text", text},
-    {"needs", what_is_needed}, {"start", may_start}, {"write", may_write}, {"compare", compare},
+    {"verify", verify},        {"list", list},         {"why", why},
+    {"text", text},            {"needs", what_is_needed}, {"take in", take_in},
+    {"start", check_start},    {"write", check_write}, {"compare", compare},
 };
 
 enum { CALLS = sizeof calls / sizeof *calls };
@@ -300,11 +310,9 @@ static void cost(const char *name, const struct call *call, struct work work, lo
 
 static struct chanv_program remembered(const struct chanv_job *job, long *wrong)
 {
-    static uint8_t kept[16 << 20];
     struct chanv_program program;
-    *wrong += chanv_remember(job, &needed, seek_cylinders, needed_lists[0], needed_lists[1],
-                             needed_lists[2], kept, sizeof kept, &program)
-              != CHANV_LISTED;
+    size_t len;
+    *wrong += chanv_take_in(job, memory, sizeof memory, &len, &program, &needed) != CHANV_OK;
     return program;
 }
 
@@ -314,7 +322,6 @@ static void costs(long *wrong)
     for (int i = 0; i < PROGRAMS; i++) {
         struct chanv_job job = programs[i].make(programs[i].places);
         struct work work = {.job = &job, .places = places[0]};
-        *wrong += what_is_needed(&work) != CHANV_LISTED;
         struct chanv_program in_flight[IN_FLIGHT];
         for (int number = 0; number < IN_FLIGHT; number++)
             in_flight[number] = remembered(&job, wrong);
@@ -333,23 +340,20 @@ static void emulate(const char *name, const struct chanv_job *job, long *wrong)
 {
     double least[3] = {1e9, 1e9, 1e9};
     struct chanv_job still = *job;
-    size_t kept = 0;
     still.storage.at = copied;
     for (int run = 0; run < 50; run++) {
         double times[4] = {now()};
-        *wrong += ask(&emulated, job) != CHANV_LISTED;
+        *wrong += ask(&emulated, job) != CHANV_OK;
         times[1] = now();
-        *wrong += !is_there(&emulated, storage);
+        *wrong += !is_there(&emulated, job->storage);
         times[2] = now();
         memcpy(copied, storage, sizeof storage);
-        *wrong += ask_once(&emulated, &still) != CHANV_LISTED;
+        *wrong += ask_once(&emulated, &still) != CHANV_OK;
         times[3] = now();
         for (int i = 0; i < 3; i++)
             least[i] = times[i + 1] - times[i] < least[i] ? times[i + 1] - times[i] : least[i];
     }
-    for (size_t i = 0; i < emulated.needed.keep; i++)
-        kept += emulated.keep[i].len;
-    printf("%-16s%12zu%12.1f%12.2f%12.1f\n", name, kept, least[0] * 1e6, least[1] * 1e6,
+    printf("%-16s%12zu%12.1f%12.2f%12.1f\n", name, emulated.program.kept.len, least[0] * 1e6, least[1] * 1e6,
            least[2] * 1e6);
 }
 
@@ -361,7 +365,7 @@ static void emulations(long *wrong)
     emulated.copy = calloc(sizeof storage, 1);
     for (int i = 0; i < PROGRAMS && emulated.copy != NULL; i++) {
         struct chanv_job job = programs[i].make(programs[i].places);
-        if (ask_once(&emulated, &job) == CHANV_LISTED)
+        if (ask_once(&emulated, &job) == CHANV_OK)
             emulate(programs[i].name, &job, wrong);
     }
 }

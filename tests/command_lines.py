@@ -75,7 +75,10 @@ OTHERS = [
     ("show --name 8600000000000000", Ran(0, "86 000000 -----0 00 0000 read read-data-mt\n")),
     ("show --name 06000A00200000", Ran(4, "", f"{NOT_CCW}a CCW has 16 digits, and this has 14\n")),
     ("show --name ''", Ran(4, "", f"{NOT_CCW}a CCW has 16 digits, and this has 0\n")),
-    ("show --name 0x06000A002000005", Ran(4, "", f"{NOT_CCW}a CCW has 16 digits, and this has 15\n")),
+    (
+        "show --name 0x06000A002000005",
+        Ran(4, "", f"{NOT_CCW}a CCW has 16 digits, and this has 15\n"),
+    ),
     ("show --name 06000G0020000050", Ran(4, "", f"{NOT_CCW}'G' isn't a hexadecimal digit\n")),
     ("show --name 00x06", Ran(4, "", f"{NOT_CCW}'x' isn't a hexadecimal digit\n")),
     ("show '06 000A00 20 00 0050'", Ran(4, "", NOT_CCW)),

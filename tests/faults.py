@@ -35,8 +35,8 @@ ENDINGS = {"list": ".list", "why": ".why", "graph": ".dot", "needs": ".needs"}
 
 LIMIT = "the limit is 2; a deck of version 2 may raise it to 65536 by its line limit\n"
 
-# The other decks: the status, what is said, and what `why` adds, and any other command over a named
-# one that isn't a deck. `closed` is standard input that is closed, and there is no `nowhere`.
+# The other decks: the status, what is said, and what is added by `why`, and over a named FILE that
+# isn't a deck by all. `closed` is standard input that is closed, and there is no `nowhere`.
 REFUSED = {
     "damaged": (2, "deck line 3: form\n", "found mask\nexpected mask XX, where X is 0-9 or A-F\n"),
     "empty": (
@@ -52,13 +52,13 @@ REFUSED = {
 }
 
 FIND = ["find", "--device", "2314"]
+NONE_FOUND = (
+    "note: no program found; if the image is only a part of storage, give --at and --storage\n"
+)
 # images of storage that `find` and `deck` refuse; `long` is longer than storage may be too
 OF_IMAGE = "deck --device 2314 --start 800 --extent 10-19 --fetch 900+10 --store 900+10".split()
 REFUSED_IMAGES = {**REFUSED, "long": (2, "image too long\n", "")}
 IMAGES = ("core", "empty", "long", "folder", "nowhere", "closed")
-NONE_FOUND = (
-    "note: no program found; if the image is only a part of storage, give --at and --storage\n"
-)
 MOST_BYTES = 67_108_864
 
 
@@ -112,16 +112,14 @@ def make_files(folder):
     (folder / "folder").mkdir()
 
 
-def of_one(name, lines, is_among):
-    """Lines beside an answer, which begin with the name of one of several inputs."""
-    return "".join(f"{name}: {line}\n" for line in lines.splitlines()) if is_among else lines
-
-
 def refused(action, fault, name, is_among=False):
+    """Among several FILEs each line of a hint begins with its own."""
     status, said, hint = fault
     front = f"{name}: " if name else ""
-    is_hinted = action == "why" or name and said.startswith("deck line")
-    hint = of_one(name, hint, is_among) if is_hinted else ""
+    if action != "why" and (not name or hint == LIMIT):
+        hint = ""
+    if is_among:
+        hint = "".join(f"{front}{line}\n" for line in hint.splitlines())
     return Ran(status, "", f"chanv: {front}{said}{hint}")
 
 
@@ -136,7 +134,6 @@ def of_deck(action, deck, name="", is_among=False):
         return Ran(status_of(verdict), f"{front}{verdict}\n")
     notes = example.with_suffix(".notes")
     error = text_of(notes) if action == "why" and "notes" in listed_with(example) else ""
-    error = of_one(name, error, is_among)
     front = f"{name}:\n" if is_among and action in ("list", "needs") else front
     text = text_of(example.with_suffix(ENDINGS[action]))
     if action == "graph":
@@ -157,10 +154,11 @@ def of_image(image, name=""):
 
 def found_in(image, name=""):
     """What `find` writes of an image of storage; one of no bytes has no program."""
-    if image in REFUSED_IMAGES and image != "empty":
-        return refused("find", REFUSED_IMAGES[image], name)
-    found = Ran(0, "000800 no 000818 changes-argument\n")
-    return found if image == "core" else Ran(0, "", NONE_FOUND)
+    if image == "core":
+        return Ran(0, "000800 no 000818 changes-argument\n")
+    if image == "empty":
+        return Ran(0, "", NONE_FOUND)
+    return refused("find", REFUSED_IMAGES[image], name)
 
 
 def over_each(words, inputs, part_of):

@@ -2,19 +2,19 @@
 
 The page is read anew here, over the places and faults of model/, and not as the code finds the
 programs. The images are storages of random jobs, two of them in a row, example decks in noise, and
-bytes that are often CCWs. Then come large images of one shape each. `chanv_find` of the library,
-and `find` of the module for Python, list the same starts.
+bytes that are often CCWs. Then come large images of one shape each. `find` of the package for
+Python, which calls `chanv_find`, lists the same starts.
 """
 
-import os
 import sys
 import tempfile
 from pathlib import Path
 from random import Random
 
-from building import HERE, compile_with
+from building import HERE
 from examples import EXAMPLES, FOLDERS, decks_of
 from model import Answer, answers_of_each
+from package import package
 from running import Ran, run, text_of
 
 sys.path.insert(0, str(HERE / "model"))
@@ -157,31 +157,26 @@ NONE_FOUND = (
     "note: no program found; if the image is only a part of storage, give --at and --storage\n"
 )
 
-EDGES = """\
-no byte: 0 0
-one byte too many: 4 0
-all of storage: 0 0
-another device: 5 0
-both: 4 0
-"""
 
-
-def check_library(checks, library, random, storages):
-    with tempfile.TemporaryDirectory() as room:
-        program = compile_with(library, HERE / "c/find.c", Path(room) / "find")
-        checks.expect("chanv_find at its edges", Ran(0, EDGES), run(program, "edges"))
-        for number in range(IMAGES // 20):
-            image = image_of(random, number, storages)
-            image += bytes(-len(image) % 8)
-            starts = [line.split()[0] for line in lines_of(image, 2314) if line[0] != "n"]
-            wanted = "".join(f"{start}\n" for start in starts)
-            ran = run(program, "2314", given=image)
-            checks.expect(f"chanv_find over image {number}", Ran(0, wanted), ran)
-    image = EXAMPLES / "core.bin"
-    script = f"import chanv; print(chanv.find(open({str(image)!r}, 'rb').read()))"
-    env = {**os.environ, "CHANV_LIBRARY": str(next(library.glob("libchanv.so.*")))}
-    ran = run(sys.executable, "-B", "-c", script, cwd=EXAMPLES / "python", env=env)
-    checks.expect("find of the module for Python", Ran(0, "[2048]\n"), ran)
+def check_library(checks, chanv, random, storages):
+    for number in range(IMAGES // 20):
+        image = image_of(random, number, storages)
+        image += bytes(-len(image) % 8)
+        wanted = [int(line.split()[0], 16) for line in lines_of(image, 2314) if line[0] != "n"]
+        checks.expect(f"chanv_find over image {number}", wanted, chanv.find(image))
+    for name, image, device, wanted in [
+        ("no byte", b"", 2314, []),
+        ("one byte too many", bytes(LARGEST + 1), 2314, 4),
+        ("all of storage", bytes(LARGEST), 2311, []),
+        ("another device", bytes(8), 2312, 5),
+        ("both", bytes(LARGEST + 1), 0, 4),
+        ("an image", (EXAMPLES / "core.bin").read_bytes(), 2314, [0x800]),
+    ]:
+        try:
+            found = chanv.find(image, device)
+        except chanv.NoAnswer as why:
+            found = why.code
+        checks.expect(f"chanv_find over {name}", wanted, found)
 
 
 def check(checks, built):
@@ -191,7 +186,7 @@ def check(checks, built):
     for device in (2311, 2314):
         check_images(checks, program, device, random, storages)
     check_large(checks, program)
-    check_library(checks, built.library(), random, storages)
+    check_library(checks, package(built), random, storages)
     wanted = "000800 no 000818 changes-argument\n"
     note = "note: no --device, so 2314\n"
     ran = run(program, "find", EXAMPLES / "core.bin")

@@ -28,7 +28,7 @@ TOO_LONG = bytes(0x1000001)
 # what stands first on standard error where no device is named, and the words are right
 USUAL_DEVICE = "note: no --device, so 2314\n"
 
-# what can't stand beside the least job or the open job, as given and in a fault's text, and what has
+# what can't come with the least job or the open job, as given and in a fault's text, and what has
 # to be there
 BESIDE = [
     ("--mask=00", "--mask <BYTE>"),
@@ -40,7 +40,10 @@ EITHER = "  <--extent <FIRST-LAST>|--least|--open>"
 
 # options and an image for whose program no job will do, why, and the size of storage that a note
 # names, if its ends may be wrong
-CURE = "note: storage has {} bytes; give --storage if it has more, and --at if the image begins elsewhere\n"
+CURE = (
+    "note: storage has {} bytes; give --storage if it has more, and --at if the image begins"
+    " elsewhere\n"
+)
 UNDOABLE = [
     (
         "zeros alone",

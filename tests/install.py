@@ -30,8 +30,8 @@ def exported(library, *flags):
 
 
 def check_names(checks, to):
-    declared = set(re.findall(r"^\w[\w ]*\b(chanv_\w+)\(", text_of(to / "include/chanv.h"), re.M))
-    declared -= set(re.findall(r"^static .*\b(chanv_\w+)\(", text_of(to / "include/chanv.h"), re.M))
+    header = text_of(to / "include/chanv.h")
+    declared = set(re.findall(r"^\w[\w *]*\b(chanv_\w+)\(", header, re.M))
     checks.expect("what the archive shows", declared, exported(to / "lib/libchanv.a"))
     checks.expect("what the shared one shows", declared, exported(to / "lib/libchanv.so", "-D"))
     soname = re.search(r"SONAME.*\[(.*)\]", run("readelf", "-d", to / "lib/libchanv.so").output)
@@ -52,6 +52,19 @@ def check_example(checks, to, shown):
         built = compile_c(EXAMPLES / "c/ask.c", to / name, *FLAGS, *flags, *more)
         ran = run(built)
         checks.expect(f"the example, {name}", (0, shown, ""), (ran.status, ran.output, ran.error))
+
+
+def check_library_folder(checks, folder):
+    """The libraries and chanv.pc in a folder that isn't lib/ under the prefix."""
+    to, words = folder / "apart", f"LIBDIR={folder / 'apart/lib/x86_64'}"
+    checks.expect("make install with a LIBDIR", 0, make("install", to, words).status)
+    there = to / "lib/x86_64"
+    checks.expect_that("its archive", (there / "libchanv.a").is_file(), "not there")
+    page = text_of(there / "pkgconfig/chanv.pc")
+    checks.expect_that("its folder in chanv.pc", "libdir=${prefix}/lib/x86_64\n" in page, page)
+    checks.expect("make uninstall with it", 0, make("uninstall", to, words).status)
+    left = sorted(it.name for it in to.rglob("*") if not it.is_dir())
+    checks.expect("which leaves nothing", [], left)
 
 
 def check(checks, built):
@@ -83,6 +96,7 @@ def check(checks, built):
         checks.expect("an example, installed", Ran(0, "yes\n"), ran)
         make("install", "/usr", f"DESTDIR={folder / 'stage'}")
         checks.expect_that("a stage", (folder / "stage/usr/bin/chanv").is_file(), "not there")
+        check_library_folder(checks, folder)
         made = ["shared", "static"]
         checks.expect("make uninstall", 0, make("uninstall", to).status)
         left = sorted(it.name for it in to.rglob("*") if not it.is_dir() and it.name not in made)

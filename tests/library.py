@@ -1,12 +1,10 @@
-"""The library for C: its example, answers, edges, refused memory and archive.
+"""The library for C: its example, edges, threads, refused memory and archive.
 
 The programs of c/ and examples/c/ ask it. What they should write was worked out from the rules:
-edges.out, needs.out, nulls.out and threads.out of c/; the verdicts and listings of the decks of examples/ and
-examples/cases/; the paths and values of each no among them in why-examples.out and why-cases.out of
-c/; the words of chan_walk's src/reason.rt; and the example of docs/EMBEDDING.md, whose text has to
-be that of ask.c. A deck's program may start under its job exactly if its verdict is yes. The
-archive may ask only for what the C library has to have, and each growth of memory in a call is
-refused in turn.
+edges.out, needs.out and threads.out of c/; the words of src/reason.rt of chan_walk; and the example
+of docs/EMBEDDING.md, whose text has to be that of ask.c. The archive may ask only for what the C
+library has to have, and each growth of memory in a call is refused in turn. The test `python` asks
+about all decks, `nulls` hands in NULL for each empty list.
 """
 
 import re
@@ -14,35 +12,24 @@ import tempfile
 from pathlib import Path
 
 from building import HERE, ROOT, SANITIZED, c_compiler, compile_c, compile_with, short, version_of
-from examples import (
-    EXAMPLES,
-    FOLDERS,
-    TEXTS,
-    decks_of,
-    listed_with,
-    status_of,
-    status_of_needs,
-    verdicts_of,
-)
+from examples import EXAMPLES
 from refusing import Case, Growths
 from running import Ran, run, text_of
 
 # the programs whose calls get too little room, foreign rows or threads run under the sanitizers
-LINED = ("edges", "needs", "nulls", "threads")
-TESTS = ("decks", "one_call", *LINED)
+LINED = ("edges", "needs", "threads")
+TESTS = ("one_call", *LINED)
 SOURCES = [EXAMPLES / "c/ask.c", *[HERE / f"c/{name}.c" for name in TESTS]]
 MAY_ASK_FOR = {"memcpy", "memmove", "memset", "malloc", "realloc", "free"}
 OF_THE_RUNTIME = {"rattle_alloc", "rattle_realloc", "rattle_dealloc"}
-NAMES = ("verify", "list", "why", "text", "open_text", "needs", "copy_kept", "may_start", "may_write")
-NAMES += ("find", "version")
-CALLS = {f"chanv_{call}" for call in NAMES}
+NAMES = "verify list why text open_text needs take_in check_start check_write find version".split()
+NAMES += "is_fault reason_word answer_word refusal_word entered_word".split()
+CALLS = {f"chanv_{name}" for name in NAMES}
 LAYOUT = ROOT / "crates/chanv_c/include/layout.txt"
 # warnings that a program's own build may ask for
 WARNINGS = ["-Wall", "-Wextra", "-Wpedantic", "-Wconversion", "-Wsign-conversion", "-Werror"]
-IN_CPP = ["-x", "c++", "-std=c++11", "-Wold-style-cast"]
-
-# what chanv_list answers where there is no room
-NO_ROOM = 11
+IN_CPP = ["-x", "c++", "-std=c++17", "-Wold-style-cast"]
+IN_C99 = ["-x", "c", "-std=c99"]
 
 
 def check_document(checks, folder):
@@ -50,7 +37,7 @@ def check_document(checks, folder):
     blocks = re.findall(r"```(\w*)\n(.*?)```", text_of(ROOT / "docs/EMBEDDING.md"), re.S)
     shown = ("c", text_of(EXAMPLES / "c/ask.c")) in blocks
     checks.expect_that("the document shows the example", shown, "another text")
-    for name, word in (("supervisor", "chanv_may_start"), ("emulator", "ask_once")):
+    for name, word in (("supervisor", "chanv_check_start"), ("emulator", "ask_once")):
         parts = [text for language, text in blocks if language == "c" and word in text]
         shown = parts and all(text in text_of(EXAMPLES / f"c/{name}.c") for text in parts)
         checks.expect_that(f"the document shows a part of the {name}", shown, parts)
@@ -104,7 +91,7 @@ def check_layout(checks, library, folder):
     ran = run(compile_c(HERE / "c/layout.c", folder / "layout", *flags))
     versions, _, layout = ran.output.partition("\n")
     version = version_of(library / "chanv.h")
-    checks.expect("the header's version", f"{version} {version} {version}", versions)
+    checks.expect("the header's version", " ".join([version] * 4), versions)
     recorded = text_of(LAYOUT).split("\n")
     recorded = [line for line in recorded if line and line[0] != "#"]
     shared = run("readelf", "-d", next(library.glob("libchanv.so.*"))).output
@@ -114,10 +101,12 @@ def check_layout(checks, library, folder):
 
 
 def check_warnings(checks, library):
-    """A build that asks for many warnings gets none, neither of the header nor of the example."""
+    """A build that asks for many warnings gets none of the header, the example and the C file."""
     look = [*c_compiler(), "-fsyntax-only", f"-I{library}", *WARNINGS]
     ran = run(*look, "-std=c11", EXAMPLES / "c/ask.c")
     checks.expect("warnings of the example", Ran(0), ran)
+    for source in (library / "chanv.h", ROOT / "c/chanv.c"):
+        checks.expect(f"warnings of {source.name} in C99", Ran(0), run(*look, *IN_C99, source))
     if run(*look, *IN_CPP, "/dev/null").status != 0:
         checks.skip("warnings of the header in C++", "no compiler of C++")
         return
@@ -134,71 +123,28 @@ def check_archive(checks, library):
     checks.expect("what the archive gives", CALLS, defined - OF_THE_RUNTIME)
 
 
-def reasons_of(folder):
-    """For each deck the lines of its paths and values, which stand in a block under its name."""
-    blocks = text_of(HERE / f"c/why-{folder.name}.out").rstrip("\n").split("\n\n")
-    return {name: f"{lines}\n" for name, lines in (block.split("\n", 1) for block in blocks)}
-
-
-def check_decks(checks, program):
-    for folder in FOLDERS:
-        verdicts, reasons = verdicts_of(folder), reasons_of(folder)
-        found = [path.name for path in decks_of(folder)]
-        checks.expect(f"{short(folder)}, which decks", sorted(verdicts), found)
-        refused = sorted(name for name, verdict in verdicts.items() if verdict != "yes")
-        checks.expect(f"{short(folder)}, which have a no", refused, sorted(reasons))
-        for name, verdict in verdicts.items():
-            deck, status = folder / name, status_of(verdict)
-            ran = run(program, "verify", given=deck)
-            checks.expect(f"verify {short(deck)}", Ran(status, f"{verdict}\n"), ran)
-            why = f"{verdict}\n{reasons.get(name, '')}"
-            checks.expect(f"why {short(deck)}", Ran(status, why), run(program, "why", given=deck))
-            may_start = "yes" if verdict == "yes" else "no"
-            ran = run(program, "start", given=deck)
-            checks.expect(f"start {short(deck)}", Ran(status, f"{may_start}\n"), ran)
-            if "needs" in listed_with(deck):
-                text = text_of(deck.with_suffix(".needs"))
-                wanted = Ran(status_of_needs(text), text)
-                checks.expect(f"needs {short(deck)}", wanted, run(program, "needs", given=deck))
-            if "list" in listed_with(deck):
-                check_listing(checks, program, deck)
-            if "why" in listed_with(deck) or verdict == "yes":
-                check_text(checks, program, deck, status)
-
-
-def check_texts(checks, program):
-    for name, verdict in verdicts_of(TEXTS).items():
-        if "why" in listed_with(TEXTS / name):
-            check_text(checks, program, TEXTS / name, status_of(verdict))
-
-
-def check_text(checks, program, deck, status):
-    """The text is what `chanv why` prints, which of a yes is its line alone."""
-    wanted = text_of(deck.with_suffix(".why")) if "why" in listed_with(deck) else "yes\n"
-    checks.expect(f"text {short(deck)}", Ran(status, wanted), run(program, "text", given=deck))
-
-
-def check_listing(checks, program, deck):
-    """Address, entry and mark are those of the listing's rows, which the verdict follows."""
-    rows = text_of(deck.with_suffix(".list")).splitlines()[:-1]
-    wanted = "".join(" ".join(row.split(" ")[:3]) + "\n" for row in rows)
-    checks.expect(f"list {short(deck)}", Ran(0, wanted), run(program, "list", given=deck))
-    count = Ran(NO_ROOM, f"{len(rows)}\n")
-    checks.expect(f"count {short(deck)}", count, run(program, "count", given=deck))
+def check_hardening(checks, library):
+    """No stack of a program that loads the library runs, and its tables are read-only."""
+    shared = next(library.glob("libchanv.so.*"))
+    headers = run("readelf", "-lW", shared).output
+    stack = re.search(r"GNU_STACK.* (RWE?) ", headers)
+    checks.expect("what may be done with the stack", "RW", stack and stack[1])
+    checks.expect_that("relocated tables are read-only", "GNU_RELRO" in headers, headers)
+    dynamic = run("readelf", "-dW", shared).output
+    checks.expect_that("each symbol is bound at once", "NOW" in dynamic, dynamic)
 
 
 def refuse_growths(checks, folder):
     growths, program = Growths(folder), folder / "one_call"
-    answers = {"verify": "yes", "list": "3", "why": "2 3", "needs": "1 1 1", "may_start": "yes"}
-    answers |= {"find": "1", "text": "no", "open_text": "no"}
+    answers = {"verify": "yes", "list": "3", "why": "2 3", "needs": "1 1 1", "take_in": "yes"}
+    answers |= {"check_start": "yes", "find": "1", "text": "no", "open_text": "no"}
     setup = [program, "setup"]
     for call, answer in answers.items():
         case = Case(f"chanv_{call}", [program, call], Ran(0, f"{answer}\n"), before=setup)
         growths.refuse_each(checks, case)
     before = growths.run(setup)[1]
-    for call in ("may_write", "copy_kept"):
-        ran = growths.run([program, call])
-        checks.expect(f"chanv_{call} takes no memory", (Ran(0, "yes\n"), before), ran)
+    ran = growths.run([program, "check_write"])
+    checks.expect("chanv_check_write takes no memory", (Ran(0, "yes\n"), before), ran)
 
 
 def check(checks, built):
@@ -215,6 +161,5 @@ def check(checks, built):
         check_layout(checks, library, folder)
         check_warnings(checks, library)
         check_archive(checks, library)
-        check_decks(checks, folder / "decks")
-        check_texts(checks, folder / "decks")
+        check_hardening(checks, library)
         refuse_growths(checks, folder)

@@ -22,7 +22,7 @@ SOURCES = {".rt", ".antt", ".h", ".c", ".py", ".txt", ".edit", ".sh", ".s"}
 
 FENCED = r"(?ms)^```.*?^```$"
 # a path from the top of the repository; NAME and the like stand for any, and make writes out/
-PATH = r"`((?:crates|tests|examples|docs|bench)/[\w./-]+)`"
+PATH = r"`((?:c|crates|tests|examples|docs|bench)/[\w./-]+)`"
 ANY = r"[A-Z]{2,}/|/[A-Z]{2,}\.(?!md)|/out/"
 
 

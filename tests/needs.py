@@ -15,11 +15,9 @@ from images import taken_apart
 from running import Ran, run, text_of
 
 CURE = (
-    "note: storage has {} bytes; give --storage if it has more, and --at if the image begins "
-    "elsewhere\n"
+    "note: storage has {} bytes; give --storage if it has more, and --at if the image begins"
+    " elsewhere\n"
 )
-# the reasons for which there may be no command at the start
-AT_THE_START = ("outside-storage", "invalid-code")
 
 # both parts of a file mask, from the laxest bits to the strictest
 WRITES, SEEKS = (0xC0, 0x00, 0x80, 0x40), (0x00, 0x08, 0x10, 0x18)
@@ -120,12 +118,12 @@ def made_of_image(program, deck):
 
 
 def cure_of(deck, explanation):
-    """The note on --at and --storage: data leaves storage, or no command is at the start."""
-    _, address, reason = explanation.splitlines()[0].split()
-    is_start = f"start {address}\n" in deck
-    may_cure = reason == "data-outside" or (is_start and reason in AT_THE_START)
-    [size] = re.findall(r"(?m)^storage (.*)$", deck)
-    return CURE.format(size) if may_cure and size != "1000000" else ""
+    """The note on the size of storage: data goes past its end, or no command is at the start."""
+    _, address, reason = explanation.partition("\n")[0].split(" ")
+    [size] = re.findall(r"(?m)^storage (\w+)$", deck)
+    is_start = f"start {address}\n" in deck and reason in ("outside-storage", "invalid-code")
+    is_cured = (reason == "data-outside" or is_start) and size != "1000000"
+    return CURE.format(size) if is_cured else ""
 
 
 def check_deck(checks, program, path):

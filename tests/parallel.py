@@ -4,7 +4,6 @@ import shlex
 import tempfile
 from pathlib import Path
 
-from building import short
 from examples import FOLDERS, TEXTS, decks_of
 from running import Ran, run
 
@@ -16,6 +15,9 @@ LONG_NAME = "x" * 5000
 # two No Operations, chained, and then no CCW: a program of 24 bytes
 PROGRAM = bytes.fromhex("0300000040000001" "0300000000000001" "0000000000000000")
 PROGRAMS, REFUSED = 1000, 2000
+
+
+EXPECTED = "{}: expected chanv deck 1, chanv deck 2"
 
 
 def lines_of(program, command, names, processes, count):
@@ -39,9 +41,8 @@ def check_refused(checks, program, room):
     for deck in decks:
         deck.write_text("chanv deck 3\n")
     names = [str(deck) for deck in decks]
-    said = "chanv: {0}: deck line 1: header\n{0}: found chanv deck 3\n"
-    said += "{0}: expected chanv deck 1, chanv deck 2\n"
-    wanted = [], sorted("".join(said.format(name) for name in names).splitlines())
+    said = ["chanv: {}: deck line 1: header", "{}: found chanv deck 3", EXPECTED]
+    wanted = [], sorted(line.format(name) for name in names for line in said)
     check_lines(checks, program, "verify", names, REFUSED // PROCESSES, wanted)
 
 

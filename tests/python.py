@@ -1,25 +1,39 @@
-"""The module of examples/python/ over all decks, with each fault of a job and numbers that C cuts.
+"""The package of python/ over all decks, with each fault of a job and numbers that C cuts.
 
-Its `judge.py` reads each deck of examples/ and examples/cases/ and asks the shared library, whose
-answer has to be the verdict of the deck. It has no answer to a text that `chanv` refuses, or to a
-missing file. The module's own example is carried out too.
+`judge.py` of examples/python/ reads each deck of examples/ and examples/cases/ and asks it. Each
+answer has to be the verdict of the deck; there is none to a text that `chanv` refuses, or to a
+missing file. The package's own example is carried out too. What asks `pip` is left out, by its
+name, where there is no `wheel`, and the check of types where there is no mypy.
 """
 
 import importlib
+import mmap
 import os
-import re
+import pickle
 import sys
 import tempfile
+from ctypes import byref, c_size_t
 from pathlib import Path
 
-from building import short
-from examples import EXAMPLES, FOLDERS, decks_of, listed_with, verdicts_of
-from expecting import CannotRun
+from building import HERE, compile_c, short, version
+from examples import EXAMPLES, FOLDERS, SEARCH_LOOP, TEXTS, decks_of, listed_with, verdicts_of
+from package import FOLDER, package, shared_library
 from refused_decks import DECK, REFUSED, REFUSED_OF_TWO
 from running import Ran, run, text_of
 
-FOLDER = EXAMPLES / "python"
+sys.path.insert(0, str(HERE / "model"))
+
+from judging import endless, reachable  # noqa: E402
+from writing import job_of  # noqa: E402
+
+JUDGE = EXAMPLES / "python/judge.py"
 SMALL_LIMIT = EXAMPLES / "small-limit.deck"
+
+# the values that are hexadecimal numbers, with their digits
+HEXADECIMAL = {"address": 6, "taker": 6, "storage_len": 7, "code": 2, "mask": 2, "bits": 2}
+
+# a library of another version
+OTHER_VERSION = "unsigned chanv_version(void) { return 0x000300; }\n"
 
 # What is wrong with the job, and the code and the wrong extent's index that the header gives it.
 FAULTS = [
@@ -47,11 +61,15 @@ TOO_LARGE = [
 
 
 def judge(library, *decks):
-    return run(sys.executable, "-B", FOLDER / "judge.py", *decks, env=told(library))
+    return run(sys.executable, "-B", JUDGE, *decks, env=told(library))
 
 
-def told(library):
-    return {**os.environ, "CHANV_LIBRARY": str(library)}
+def told(library, folder=FOLDER):
+    return {**os.environ, "CHANV_LIBRARY": str(library), "PYTHONPATH": str(folder)}
+
+
+def python(library, script, folder=FOLDER):
+    return run(sys.executable, "-B", "-c", script, env=told(library, folder))
 
 
 def check_decks(checks, library):
@@ -70,7 +88,7 @@ def check_status(checks, library):
     with tempfile.TemporaryDirectory() as room:
         deck = Path(room) / "two-places.deck"
         deck.write_text(text_of(SMALL_LIMIT).replace("limit 00003", "limit 00002"))
-        error = f"{deck}: no answer: more places are reachable than the limit\n"
+        error = f"{deck}: no answer: too-many-places\n"
         yes = f"{SMALL_LIMIT}: yes\n"
         checks.expect("judge a yes", Ran(0, yes), judge(library, SMALL_LIMIT))
         checks.expect("judge too many", Ran(2, yes, error), judge(library, SMALL_LIMIT, deck))
@@ -103,10 +121,7 @@ def answer_on(chanv, job, changes):
         return type(error).__name__
 
 
-def check_answers(checks, library):
-    os.environ["CHANV_LIBRARY"] = str(library)
-    sys.path.insert(0, str(FOLDER))
-    chanv, judging = importlib.import_module("chanv"), importlib.import_module("judge")
+def check_answers(checks, chanv, judging):
     job = judging.read_deck(text_of(EXAMPLES / "search-loop.deck"))
     checks.expect("the job itself", "yes", answer_on(chanv, job, {}))
     for changes, wanted in FAULTS:
@@ -115,28 +130,75 @@ def check_answers(checks, library):
         checks.expect(f"with {changes}", "OverflowError", answer_on(chanv, job, changes))
 
 
-def check_calls(checks, library):
-    """Over each deck with its own texts: what C and the program say, Python says too."""
-    chanv, judging = importlib.import_module("chanv"), importlib.import_module("judge")
-    for deck in decks_of(EXAMPLES):
-        job, listed = judging.read_deck(text_of(deck)), listed_with(deck)
-        verdict = chanv.verify(job)
-        if "why" in listed:
-            wanted = text_of(deck.with_suffix(".why"))
-            checks.expect(f"text of {deck.name}", wanted, chanv.text(job))
-            told = chanv.why(job) or chanv.Explanation(chanv.Verdict(), {}, [], [])
-            checks.expect(f"verdict of {deck.name}", str(verdict), str(told.verdict))
-            rows = wanted.partition("because")[0].splitlines()[1:]
-            path = [f"{place.address:06X}" for place in told.path]
-            checks.expect(f"path of {deck.name}", [row.split()[0] for row in rows], path)
-        if "list" in listed:
-            rows = [row.split()[:3] for row in text_of(deck.with_suffix(".list")).splitlines()]
-            seen = [
-                [f"{it.address:06X}", it.entered, "t" if it.after_transfer else "-"]
-                for it in chanv.places(job)
-            ]
-            checks.expect(f"places of {deck.name}", rows[:-1], seen)
-        check_needs(checks, chanv, deck, job, verdict)
+def check_calls(checks, chanv, judging, c):
+    """Over each deck: what the rules say, the package says too, and the program's own texts."""
+    for folder in (*FOLDERS, TEXTS):
+        reasons = reasons_of(folder) if folder in FOLDERS else {}
+        verdicts = verdicts_of(folder)
+        refused = {name for name, verdict in verdicts.items() if verdict != "yes"}
+        if reasons:
+            checks.expect(f"{short(folder)}, which have a no", refused, {*reasons})
+        for name, wanted in verdicts.items():
+            deck = folder / name
+            job = judging.read_deck(text_of(deck))
+            verdict = chanv.verify(job)
+            checks.expect(f"verdict of {name}", wanted, str(verdict))
+            if name in reasons or verdict:
+                told = "".join(f"{line}\n" for line in why_of(chanv, c, job))
+                checks.expect(f"why {name}", reasons.get(name, ""), told)
+            check_texts(checks, chanv, deck, job, verdict)
+            check_needs(checks, chanv, deck, job, verdict)
+
+
+def reasons_of(folder):
+    """For each deck the lines of its paths and values, which come in a block after its name."""
+    blocks = text_of(HERE / f"why-{folder.name}.out").rstrip("\n").split("\n\n")
+    return {name: f"{lines}\n" for name, lines in (block.split("\n", 1) for block in blocks)}
+
+
+def row_of(place):
+    return f"{place.address:06X} {place.entered} {'t' if place.after_transfer else '-'}"
+
+
+def why_of(chanv, c, job):
+    """The path, each value of the cause that isn't 0 after its name, and the second path."""
+    told, raw = chanv.why(job), c.Explanation()
+    if told is None:
+        return
+    with chanv._job(job) as made:
+        c.library.chanv_why(byref(made), None, c_size_t(0), None, c_size_t(0), byref(raw))
+    yield from map(row_of, told.path)
+    yield " ".join(values_of(raw.evidence))
+    yield from ["reached by"] * bool(told.second_path) + [*map(row_of, told.second_path)]
+
+
+def values_of(evidence):
+    yield f"because {evidence.reason}"
+    for name in ("range", "gap"):
+        area = getattr(evidence, name)
+        yield from [f"{name} {area.start:06X} {area.len:06X}"] * bool(area.start or area.len)
+    for name, digits in HEXADECIMAL.items():
+        value = getattr(evidence, name)
+        yield from [f"{name} {value:0{digits}X}"] * bool(value)
+    if evidence.given:
+        given, at = [*evidence.bytes][: evidence.given], [*evidence.addresses][: evidence.given]
+        yield f"given {evidence.given} bytes {bytes(given).hex().upper()} at"
+        yield from (f"{address:06X}" for address in at)
+    for name in ("outside", "value", "below", "sets_mask"):
+        value = getattr(evidence, name)
+        yield from [f"{name} {value}"] * bool(value)
+
+
+def check_texts(checks, chanv, deck, job, verdict):
+    """Text and listing are those of the files beside the deck."""
+    listed = listed_with(deck)
+    if "why" in listed or verdict:
+        wanted = text_of(deck.with_suffix(".why")) if "why" in listed else "yes\n"
+        checks.expect(f"text of {deck.name}", wanted, chanv.text(job))
+    if "list" in listed:
+        rows = text_of(deck.with_suffix(".list")).splitlines()[:-1]
+        wanted = [" ".join(row.split(" ")[:3]) for row in rows]
+        checks.expect(f"places of {deck.name}", wanted, [*map(row_of, chanv.places(job))])
 
 
 def check_needs(checks, chanv, deck, job, verdict):
@@ -156,34 +218,122 @@ def check_needs(checks, chanv, deck, job, verdict):
             lines += [f"{word} {at:06X} {size:06X}" for at, size in getattr(program, word)]
         checks.expect(f"needs of {deck.name}", wanted.splitlines(), lines)
     if verdict:
-        notes = text_of(deck.with_suffix(".notes")) if "notes" in listed_with(deck) else ""
-        hangs = re.search(r"(?m)^note: from ([0-9A-F]+) on", notes)
-        hangs_at = int(hangs[1], 16) if hangs else None
+        asked = job_of(text_of(deck))
+        hanging = endless(asked, reachable(asked))
+        hangs_at = min(place.order() for place in hanging)[0] if hanging else None
         checks.expect(f"where {deck.name} may hang", hangs_at, program.hangs_at)
-    permission = chanv.may_start(job, program, [None, program])
-    spared = permission.refusal not in ("stores", "keeps")
-    checks.expect(f"start of {deck.name}", bool(verdict), bool(permission) or not spared)
+    alone, beside = (chanv.may_start(job, program, it) for it in ([], [None, program]))
+    checks.expect(f"start of {deck.name}", bool(verdict), bool(alone))
+    spared = beside.refusal not in ("stores", "keeps")
+    checks.expect(f"{deck.name} beside itself", bool(verdict), bool(beside) or not spared)
     at, size = program.keep[0]
     checks.expect(f"write over {deck.name}", "kept", chanv.may_write((at, size), [program]).refusal)
     checks.expect_that(f"write beside {deck.name}", chanv.may_write((at, 0), [program]), "kept")
 
 
-def check_folder(checks, library):
-    """The module can be imported from any folder, also from one that is right under the root."""
-    at = {"__name__": "chanv", "__file__": "/folder/chanv.py"}
-    script = f"exec(compile({text_of(FOLDER / 'chanv.py')!r}, 'chanv.py', 'exec'), {at!r})"
-    checks.expect("one folder deep", Ran(0), run(sys.executable, "-c", script, env=told(library)))
+def check_storage(checks, chanv, judging):
+    """Storage of each type, asked about with a copy and without, and a number, which has none."""
+    job = vars(judging.read_deck(text_of(SEARCH_LOOP)))
+    held = bytes(job["storage"])
+    with tempfile.TemporaryFile() as file:
+        file.write(held)
+        file.flush()
+        with mmap.mmap(file.fileno(), 0, access=mmap.ACCESS_READ) as mapped:
+            for storage in (held, bytearray(held), memoryview(held), mapped):
+                for copy in (True, False):
+                    asked = chanv.Job(**{**job, "storage": storage, "copy": copy})
+                    name = f"{type(storage).__name__}, copy={copy}"
+                    checks.expect(name, "yes", str(chanv.verify(asked)))
+                    checks.expect(f"find in {name}", [0x800], chanv.find(storage, copy=copy))
+    for ask in (lambda: chanv.verify(chanv.Job(**{**job, "storage": 4096})), lambda: chanv.find(8)):
+        checks.expect("storage that is a number", "TypeError", error_of(ask))
+    for device in (0x10000 + 2314, -1):
+        found = error_of(lambda: chanv.find(held, device))
+        checks.expect(f"find on {device}", "OverflowError", found)
+
+
+def error_of(ask):
+    try:
+        return ask()
+    except (TypeError, OverflowError) as error:
+        return type(error).__name__
+
+
+def check_values(checks, chanv, judging):
+    """What can't change, what can be pickled, and how permissions print."""
+    program = chanv.needs(judging.read_deck(text_of(SEARCH_LOOP)))
+    rows = program.extents, program.fetch, program.store, program.keep
+    checks.expect_that("rows are tuples", all(type(it) is tuple for it in rows), rows)
+    checks.expect("a program, pickled", program, pickle.loads(pickle.dumps(program)))
+    no_job = chanv.NoJob(chanv.Verdict(8, "misaligned"), "text")
+    for error in (chanv.NoAnswer(8, 1), no_job, chanv.WrongLibrary("x")):
+        made = pickle.loads(pickle.dumps(error))
+        same = type(made) is type(error) and vars(made) == vars(error) and str(made) == str(error)
+        checks.expect_that(f"{type(error).__name__}, pickled", same, made)
+        checks.expect_that("it has the base", isinstance(made, chanv.Error), type(made))
+    for permission, text in [
+        (chanv.Permission(), "yes"),
+        (chanv.Permission("no-cylinder", 17), "no: no-cylinder 017"),
+        (chanv.Permission("not-storable", 0), "no: not-storable 000000"),
+        (chanv.Permission("kept", 0, 0), "no: kept 000000 by program 0"),
+        (chanv.Permission("mask"), "no: mask"),
+    ]:
+        checks.expect(f"{text} as text", text, str(permission))
+
+
+def check_library(checks, library, room):
+    """Another version is refused by its name, and so is a library that isn't chanv's."""
+    source = room / "other.c"
+    for text, says in ((OTHER_VERSION, "is version 0.3.0"), ("int other;\n", "isn't chanv's")):
+        source.write_text(text)
+        other = compile_c(source, room / "libother.so", "-shared", "-fPIC")
+        ran = python(other, "import chanv")
+        named = f"chanv._c.WrongLibrary: {other} {says}"
+        checks.expect_that(f"a library that {says}", named in ran.error, ran)
+    at = {"__name__": "_c", "__file__": "/_c.py"}
+    script = f"exec(compile({text_of(FOLDER / 'chanv/_c.py')!r}, '_c.py', 'exec'), {at!r})"
+    checks.expect("right under the root", Ran(0), python(library, script))
+
+
+def check_package(checks, library, room):
+    """The package is installed by pip without a network, and its types are right."""
+    has = "import setuptools, wheel, pip"
+    pythons = (sys.executable, "/usr/bin/python3")
+    able = next((it for it in pythons if run("env", it, "-c", has).status == 0), None)
+    if able is None:
+        checks.skip("pip install", "no Python with pip, setuptools and wheel")
+    else:
+        words = "-m pip install -q --no-build-isolation --no-index --no-deps --target".split()
+        copy = room / "source"
+        checks.expect("a copy", 0, run("cp", "-r", FOLDER, copy).status)
+        ran = run(able, *words, room / "there", copy)
+        checks.expect_that("pip install", ran.status == 0, ran)
+        script = "import chanv; print(chanv.__version__)"
+        wanted = Ran(0, f"{version()}\n")
+        checks.expect("the installed package", wanted, python(library, script, room / "there"))
+    able = next((it for it in pythons if run("env", it, "-m", "mypy", "-V").status == 0), None)
+    if able is None:
+        checks.skip("types", "no mypy")
+    else:
+        cache = room / "cache"
+        ran = run(able, "-m", "mypy", "--strict", "--cache-dir", cache, FOLDER / "chanv")
+        checks.expect_that("types", ran.status == 0, ran)
 
 
 def check(checks, built):
-    library = next(built.library().glob("libchanv.so.*"), None)
-    if library is None:
-        raise CannotRun(f"no libchanv.so in {built.library()}")
-    ran = run(sys.executable, "-B", "-m", "doctest", FOLDER / "chanv.py", env=told(library))
-    checks.expect("the module's example", Ran(0), ran)
-    check_folder(checks, library)
+    library = shared_library(built)
+    chanv = package(built)
+    sys.path.insert(0, str(JUDGE.parent))
+    judging = importlib.import_module("judge")
+    example = "import chanv, doctest, sys; sys.exit(doctest.testmod(chanv).failed)"
+    checks.expect("the package's example", Ran(0), python(library, example))
+    with tempfile.TemporaryDirectory() as room:
+        check_library(checks, library, Path(room))
+        check_package(checks, library, Path(room))
     check_decks(checks, library)
     check_status(checks, library)
     check_refused(checks, library)
-    check_answers(checks, library)
-    check_calls(checks, library)
+    check_answers(checks, chanv, judging)
+    check_storage(checks, chanv, judging)
+    check_values(checks, chanv, judging)
+    check_calls(checks, chanv, judging, package(built, "chanv._c"))

@@ -5,7 +5,7 @@ program whose CCWs, arguments and mask a second thread rewrites meanwhile, also 
 calls run at a time, each in a process of its own. A call has to return, may write only the memory
 that it was handed for that, and has to answer with one of its codes: yes, no, too many places or
 too little room, because the job itself is right. Which of them come is left to chance, except in a
-run of a minute or more: there each has to come. `chanv_may_write` doesn't look at storage, and
+run of 20 seconds or more: there each has to come. `chanv_check_write` doesn't look at storage, and
 always answers yes.
 `ask` of examples/c/emulator.c, which asks about a copy of the kept bytes, has to give an answer
 that holds: the program may start over the copy exactly if the verdict on the copy is yes.
@@ -23,7 +23,7 @@ from running import MOST_SECONDS, run
 AT_ONCE = 4
 SECONDS = 5
 # a run that takes as long sees each code
-LONG = 60
+LONG = 20
 
 # the codes of chanv.h that each call gives over a job without a fault, while there is memory
 CODES = {
@@ -32,9 +32,9 @@ CODES = {
     "why": {0, 1, 2, 11},
     "text": {0, 1, 2, 11},
     "needs": {0, 1, 2, 11},
-    "may_start": {0, 1},
-    "may_write": {0},
-    "copy_kept": {0, 11},
+    "take_in": {0, 1, 2, 11},
+    "check_start": {0, 1},
+    "check_write": {0},
     "emulator": {0, 1, 2},
 }
 

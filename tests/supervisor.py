@@ -1,20 +1,27 @@
 """The worked supervisor over random starts, with others who write what no program in flight keeps.
 
-The program of c/flights.c has a small model of channel and device, and reports when a program in
-flight comes to harm. With the supervisor of examples/c/supervisor.c none does, whatever the seed.
-If the supervisor leaves out one of the checks that the law asks for, some program does.
+The machine is that of tests/model/, and examples/c/supervisor.c decides what may start and what may
+be written. No program in flight does harm, whatever the seed. If the supervisor leaves out one of
+the checks that the law asks for, some program does.
 """
 
+import sys
 import tempfile
+from ctypes import CDLL, POINTER, byref, c_char
 from pathlib import Path
 
 from building import FLAGS, HERE, ROOT, SANITIZED, compile_c
+from package import package
 from running import Ran, run, text_of
+
+sys.path.insert(0, str(HERE / "model"))
+
+from flying import STORAGE, Flights  # noqa: E402
 
 SUPERVISOR = ROOT / "examples/c/supervisor.c"
 SEEDS, STARTS = range(1, 6), 4000
 
-NO_ROOM = 11
+NO_ROOM, MAY_HANG = 11, 100
 # What a careless supervisor leaves out: a name, the text of the check, and the text in its place.
 # The middle two take certain refusals for a yes.
 DENIED = "&refusal) != CHANV_YES)"
@@ -23,55 +30,98 @@ CARELESS = [
     (
         "grants",
         DENIED,
-        "&refusal) == CHANV_NO"
-        " && (refusal.code < CHANV_MASK || refusal.code > CHANV_NOT_STORABLE))",
+        "&refusal) == CHANV_NO && (refusal.code < CHANV_REFUSED_MASK"
+        " || refusal.code > CHANV_REFUSED_NOT_STORABLE))",
     ),
-    ("the comparison", DENIED, "&refusal) == CHANV_NO && refusal.code != CHANV_CHANGED)"),
+    ("the comparison", DENIED, "&refusal) == CHANV_NO && refusal.code != CHANV_REFUSED_CHANGED)"),
     ("hands off", "&refusal) == CHANV_YES;", "&refusal) <= CHANV_NO;"),
 ]
-IS_LISTED = "answer != CHANV_LISTED"
+
+MAY = "!needed.may_hang "
 
 
-def compile_flights(library, supervisor, folder):
-    """Compiles the program with a supervisor, which stands in the folder by itself."""
-    folder.mkdir()
+class Supervisor:
+    """The worked supervisor, over storage that it and Python share."""
+
+    def __init__(self, c, library):
+        self.c, self.library, self.storage = c, CDLL(str(library)), bytearray(STORAGE)
+        self.library.flights_program.restype = POINTER(c.Program)
+        self.bytes = c.bytes_at((c_char * STORAGE).from_buffer(self.storage))
+
+    def made(self, job):
+        extents, areas = self.c.Extent * len(job.extents), [job.fetch, job.store]
+        made = [(self.c.Area * len(rows))(*rows) for rows in areas]
+        lists = self.c.Extents(extents(*job.extents), len(job.extents))
+        fetch, store = (self.c.Areas(rows, len(rows)) for rows in made)
+        numbers = job.start, job.limit, job.device, job.mask
+        return self.c.Job(self.bytes, lists, fetch, store, *numbers)
+
+    def take_in(self, number, job):
+        return self.library.flights_take_in(number, byref(self.made(job))) == 0
+
+    def rows(self, number):
+        """What the program needs: a mask, extents, and areas for fetching and for storing."""
+        rows = self.library.flights_program(number).contents.rows
+        extents, fetch, store = (
+            [it.at[number] for number in range(it.len)]
+            for it in (rows.extents, rows.fetch, rows.store)
+        )
+        areas = [[(it.start, it.len) for it in rows] for rows in (fetch, store)]
+        return rows.mask, [(it.first, it.last) for it in extents], *areas
+
+    def start(self, number, device, job):
+        return self.library.flights_start(number, device, byref(self.made(job)))
+
+    def leave(self, device):
+        self.library.flights_leave(device)
+
+    def may_write(self, address, count):
+        return self.library.flights_may_write(address, count)
+
+
+def compile_flights(library, supervisor, folder, seed):
+    """A library with a supervisor, for each seed another, because it has a table of its own."""
+    folder.mkdir(exist_ok=True)
     (folder / "supervisor.c").write_text(supervisor)
-    linked = [f"-I{library}", f"-I{folder}", library / "libchanv.a"]
-    return compile_c(HERE / "c/flights.c", folder / "flights", *FLAGS, *linked)
+    linked = [f"-I{library}", f"-I{folder}", library / "libchanv.a", "-shared", "-fPIC"]
+    return compile_c(HERE / "c/flights.c", folder / f"{seed}.so", *FLAGS, *linked)
 
 
-def check_careful(checks, program):
+def check_careful(checks, c, library, room):
     for seed in SEEDS:
-        ran = run(program, str(seed), str(STARTS))
-        ended = ran.status == 0 and f" {STARTS} started" in ran.output and not ran.error
-        checks.expect_that(f"{STARTS} starts of the supervisor, seed {seed}", ended, ran)
+        made = compile_flights(library, text_of(SUPERVISOR), room / "careful", seed)
+        flights = Flights(Supervisor(c, made), seed)
+        checks.expect(f"harm in {STARTS} starts, seed {seed}", None, flights.fly(STARTS))
+        each = all(flights.counts.values())
+        checks.expect_that(f"seed {seed} comes to everything", each, flights.counts)
 
 
-def check_careless(checks, library, room):
+def check_careless(checks, c, library, room):
     text = text_of(SUPERVISOR)
     for name, old, new in CARELESS:
         checks.expect(f"the supervisor has {name}, once", 1, text.count(old))
-        program = compile_flights(library, text.replace(old, new), room / name)
-        came = [run(program, str(seed), str(STARTS)) for seed in SEEDS]
-        harmed = [ran for ran in came if ran.status == 1 and ran.output.startswith("harm at ")]
-        checks.expect_that(f"without {name} a program comes to harm", harmed, came)
+        careless = text.replace(old, new)
+        made = (compile_flights(library, careless, room / name, seed) for seed in SEEDS)
+        harms = (Flights(Supervisor(c, it), seed).fly(STARTS) for it, seed in zip(made, SEEDS))
+        harm = next(filter(None, harms), None)
+        checks.expect_that(f"without {name} a program comes to harm", harm, "no harm")
 
 
 def answers_wanted():
-    """What c/answers.c prints: only a program that was listed starts, and writes know its rows."""
+    """What c/answers.c prints: only what was taken in starts, and writes know its rows."""
     for name, answer in [
         ("2 rows", 0),
-        ("16 rows", 0),
-        ("17 rows", NO_ROOM),
-        ("1024 kept bytes", 0),
-        ("1032 kept bytes", NO_ROOM),
+        ("127 rows", 0),
+        ("128 rows", NO_ROOM),
+        ("2040 kept bytes", 0),
+        ("2048 kept bytes", NO_ROOM),
         ("a code of no command", 1),
+        ("a loop", MAY_HANG),
+        ("a loop", 0),
     ]:
         yield f"{name}: {answer}, {'held back' if answer else 'started'}"
-    yield "emulated listed: 0, there"
-    for answer in range(1, 13):
-        yield f"forced: {answer}, held back"
-        yield f"emulated forced: {answer}, not there"
+    yield "emulated 2 rows: 0, there"
+    yield "emulated a code of no command: 1, not there"
     for write, allowed in [
         ("0 800", True),
         ("0 801", False),
@@ -91,22 +141,22 @@ def compile_answers(library, supervisor, folder):
 
 
 def check_answers(checks, library, room):
-    """After each answer of chanv_needs, under the sanitizers: only what was listed starts."""
+    """At the edges of what is taken in, under the sanitizers: only what was taken in starts."""
     text = text_of(SUPERVISOR)
     ran = run(compile_answers(library, text, room / "each answer"))
     wanted = "".join(f"{line}\n" for line in answers_wanted())
-    checks.expect("each answer of chanv_needs", Ran(0, wanted), ran)
-    checks.expect("the supervisor asks whether it was listed, once", 1, text.count(IS_LISTED))
-    careless = text.replace(IS_LISTED, "answer > CHANV_RESERVED_NOT_ZERO")
-    ran = run(compile_answers(library, careless, room / "any answer"))
-    checks.expect_that("or else a program starts without an answer", ran != Ran(0, wanted), ran)
+    checks.expect("each answer of chanv_take_in", Ran(0, wanted), ran)
+    checks.expect("the supervisor looks for a program that may hang, once", 1, text.count(MAY))
+    careless = text.replace(MAY, "1 ")
+    ran = run(compile_answers(library, careless, room / "any program"))
+    checks.expect_that("or else it starts", ran != Ran(0, wanted), ran)
 
 
 def check(checks, built):
     library = built.library()
     with tempfile.TemporaryDirectory() as folder:
         room = Path(folder)
-        program = compile_flights(library, text_of(SUPERVISOR), room / "careful")
-        check_careful(checks, program)
-        check_careless(checks, library, room)
+        c = package(built, "chanv._c")
+        check_careful(checks, c, library, room)
+        check_careless(checks, c, library, room)
         check_answers(checks, library, room)

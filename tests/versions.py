@@ -19,6 +19,7 @@ PLACES = [
     ("crates/chanv_c/src/version.rt", r"= \((\d+), (\d+), (\d+)\);"),
     ("docs/EMBEDDING.md", r"header's version, such as `(.*?)`"),
     ("docs/chanv.1", r'"chanv (\d.*?)"'),
+    ("python/chanv/_c.py", r'VERSION = "(.*)"'),
 ]
 
 
@@ -28,5 +29,5 @@ def check(checks, _built):
         seen = ".".join(found.groups()) if found else None
         checks.expect(f"the version in {name}", version(), seen)
     soname = f"libchanv.so.{version().rpartition('.')[0]}"
-    for name in ("crates/chanv_c/include/layout.txt", "examples/python/chanv.py"):
+    for name in ("crates/chanv_c/include/layout.txt", "python/chanv/_c.py"):
         checks.expect_that(f"the soname in {name}", soname in text_of(ROOT / name), soname)

@@ -2,8 +2,8 @@
 
 Its sections are the words of the table of reasons in docs/VERDICT.md, of the table of causes in
 docs/DECK.md, and of its own table of failures. Each is what `chanv explain` writes, in any case of
-the word's letters. Its table of words of the output has the others, with all commands of
-docs/DEVICE.md. Without a word `chanv explain` lists all these words. Any other word is refused, and
+the word's letters. Its table of words of the output has others, and the commands of docs/DEVICE.md
+are words too. Without a word `chanv explain` lists all these words. Any other word is refused, and
 the nearest is named. And `chanv why` gives the cause of each example deck's no in a form that
 the section of its reason has; each reason has an example.
 """
@@ -25,6 +25,39 @@ TABLES = [
 # the table of other words, and that of the commands, whose second codes have names with -mt
 OTHER = r"(?m)^\| `([a-z-]+)` \| (.*) \|$"
 COMMAND = r"(?m)^\| `[0-9A-F]{2}` \| (?:`([0-9A-F]{2})` )?\| `([a-z-]+)` \|"
+
+# what the commands do on the device, in the order of the list
+DOES = """
+transfer-in-channel: the channel's jump: it goes on at the CCW's data address
+no-operation: moves no data
+seek: moves the arm to a cylinder and selects a head
+seek-cylinder: moves the arm to a cylinder and selects a head
+seek-head: selects a head
+recalibrate: moves the arm to cylinder 0 and selects head 0
+set-file-mask: sets the file mask, which inhibits writes and seeks
+sense: stores the sense bytes, which describe the last error
+search-home-address-equal: looks for a home address that is equal to the argument
+search-id-equal: looks for a record whose identifier is equal to the argument
+search-id-high: looks for a record whose identifier is above the argument
+search-id-equal-or-high: looks for a record whose identifier is at least the argument
+search-key-equal: looks for a record whose key is equal to the argument
+search-key-high: looks for a record whose key is above the argument
+search-key-equal-or-high: looks for a record whose key is at least the argument
+read-home-address: stores the home address of the track
+read-count: stores the count of a record
+read-record-zero: stores count, key and data of record zero
+read-data: stores the data of a record
+read-key-data: stores key and data of a record
+read-count-key-data: stores count, key and data of a record
+write-home-address: writes the home address of the track
+write-record-zero: writes count, key and data of record zero
+write-count-key-data: lays out a new record with count, key and data
+write-special-count-key-data: lays out a part of a record that goes on on another track
+erase: erases the rest of the track
+write-data: writes the data of a record
+write-key-data: writes key and data of a record
+"""
+ON_MORE_TRACKS = "the same as without -mt, also on the next tracks of the cylinder"
 
 # words that have no meaning, and what is said of the nearest
 UNKNOWN = {
@@ -95,17 +128,19 @@ def check_causes(checks, program, causes):
 
 
 def check_others(checks, program, page):
-    """The words of the output, each with its line, and each command among them."""
+    """The words of the output, each with its line, and each command."""
     rows = re.findall(OTHER, page.partition("\n## Words of the output\n")[2])
+    does = [tuple(line.split(": ", 1)) for line in DOES.split("\n")[1:-1]]
+    table = re.findall(COMMAND, text_of(ROOT / "docs/DEVICE.md"))
+    named = {"transfer-in-channel", *(name for _, name in table)}
+    checks.expect("the commands", named, {name for name, _ in does})
+    has_more = {name for mt, name in table if mt}
+    rows += does + [(f"{name}-mt", ON_MORE_TRACKS) for name, _ in does if name in has_more]
     for word, meaning in rows:
         said = Ran(0, f"{word}: {meaning}\n")
         checks.expect(word, said, run(program, "explain", word))
         checks.expect(word.upper(), said, run(program, "explain", word.upper()))
-    table = re.findall(COMMAND, text_of(ROOT / "docs/DEVICE.md"))
-    commands = [name for _, name in table] + [f"{name}-mt" for mt, name in table if mt]
-    words = [word for word, _ in rows]
-    checks.expect("the commands that have a meaning", sorted(commands), sorted(words[10:]))
-    return words
+    return [word for word, _ in rows]
 
 
 def check_list(checks, program, words):

@@ -45,7 +45,7 @@ int main(void)
 
     struct chanv_place places[16];
     size_t count;
-    if (chanv_list(&job, places, 16, &count) != CHANV_LISTED)
+    if (chanv_list(&job, places, 16, &count) != CHANV_OK)
         return 2;
     for (size_t i = 0; i < count; i++)
         printf("%06X entered %u\n", places[i].address, places[i].entered);
@@ -55,7 +55,7 @@ int main(void)
     if (chanv_why(&job, places, 16, NULL, 0, &why) != CHANV_NO)
         return 2;
     printf("no %06X %s\n", why.verdict.address, chanv_reason_word(why.verdict.reason));
-    for (size_t i = 0; i < why.path; i++)
+    for (size_t i = 0; i < why.path_count; i++)
         printf("%06X entered %u\n", places[i].address, places[i].entered);
     printf("%u bytes from %06X on aren't lent\n", why.evidence.gap.len, why.evidence.gap.start);
     return 0;

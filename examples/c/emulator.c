@@ -3,22 +3,20 @@
 #include <chanv.h>
 #include <string.h>
 
-enum { MOST_CYLINDERS = 203, MOST_AREAS = 4096, MOST_KEPT_BYTES = 65536 };
+enum { ROOM = 262144 };
 
 /* A program that was asked about. Zeros in `program` are none, which may not start. */
 struct asked {
     struct chanv_program program;
     uint8_t *copy; /* as long as storage, with the bytes that are kept; the others mean nothing */
-    uint8_t kept[MOST_KEPT_BYTES];
-    struct chanv_needed needed;
-    struct chanv_extent extents[MOST_CYLINDERS];
-    struct chanv_area fetch[MOST_AREAS], store[MOST_AREAS], keep[MOST_AREAS];
+    uint8_t memory[ROOM];
 };
 
 static uint32_t ask_once(struct asked *asked, const struct chanv_job *job)
 {
-    return chanv_needs(job, &asked->needed, asked->extents, MOST_CYLINDERS, asked->fetch,
-                       MOST_AREAS, asked->store, MOST_AREAS, asked->keep, MOST_AREAS);
+    struct chanv_needed needed;
+    size_t len;
+    return chanv_take_in(job, asked->memory, ROOM, &len, &asked->program, &needed);
 }
 
 /* Whether an area lies in storage. Nothing is promised of an answer while storage is written. */
@@ -29,29 +27,24 @@ static int lies_in(struct chanv_area area, size_t length)
 
 /* Asks what the job's program needs while storage is written: twice, and the second answer counts.
  * The first, over storage, means nothing; it only says what to copy. The second is about the copy,
- * which nobody writes, and it holds for any storage as long that has the bytes which are kept. The
- * room for the copy is `calloc(job->storage.len, 1)`, or that of an older program. */
+ * which no thread writes, and it holds for any storage as long that has the bytes that are kept.
+ * The room for the copy is `calloc(job->storage.len, 1)`, or that of an older program. */
 static uint32_t ask(struct asked *asked, const struct chanv_job *job)
 {
     struct chanv_job still = *job;
     uint32_t answer = ask_once(asked, job);
-    memset(&asked->program, 0, sizeof asked->program);
-    if (answer != CHANV_LISTED)
+    if (answer != CHANV_OK)
         return answer;
-    for (size_t i = 0; i < asked->needed.keep && i < MOST_AREAS; i++) {
-        struct chanv_area area = asked->keep[i];
+    for (size_t i = 0; i < asked->program.rows.keep.len; i++) {
+        struct chanv_area area = asked->program.rows.keep.at[i];
         if (lies_in(area, job->storage.len))
             memcpy(asked->copy + area.start, job->storage.at + area.start, area.len);
     }
     still.storage.at = asked->copy;
-    answer = ask_once(asked, &still);
-    if (answer != CHANV_LISTED)
-        return answer;
-    return chanv_remember(&still, &asked->needed, asked->extents, asked->fetch, asked->store,
-                          asked->keep, asked->kept, MOST_KEPT_BYTES, &asked->program);
+    return ask_once(asked, &still);
 }
 
-/* Whether storage, which may be shorter now, has the bytes that the program keeps, if there is one. */
+/* Whether there is a program, and storage, which may be shorter now, has the bytes that it keeps. */
 static int is_there(const struct asked *asked, struct chanv_bytes storage)
 {
     const struct chanv_areas keep = asked->program.rows.keep;
@@ -72,5 +65,5 @@ static int may_begin(const struct asked *asked, const struct chanv_job *job)
     struct chanv_refusal refusal;
     still.storage.at = asked->copy;
     return is_there(asked, job->storage)
-           && chanv_may_start(&still, NULL, 0, &asked->program, &refusal) == CHANV_YES;
+           && chanv_check_start(&still, NULL, 0, &asked->program, &refusal) == CHANV_YES;
 }

@@ -1,7 +1,7 @@
 /* chanvask.h: Hercules asks chanv before it starts a channel program. README.md says how to use it.
  *
  * A program is asked about once, and what it needs is remembered with the bytes that it keeps. At
- * each start chanv_may_start says whether storage still has these bytes, and whether the extents,
+ * each start chanv_check_start says whether storage still has these bytes, and whether the extents,
  * the mask and the storage keys grant what is needed.
  *
  * The library never sees storage itself, which other threads write meanwhile. It sees a copy, into
@@ -21,8 +21,7 @@
 enum {
     CHANVASK_EXTENTS = 32,  /* may stand in a device statement */
     CHANVASK_PROGRAMS = 64, /* are remembered for a device, */
-    CHANVASK_ROWS = 32,     /* unless one has more rows in a list, */
-    CHANVASK_KEPT = 1024,   /* or keeps more bytes */
+    CHANVASK_BYTES = 4096,  /* unless what one needs and keeps takes more bytes */
     CHANVASK_PATH = 64,     /* places of a path are logged */
     CHANVASK_ROUNDS = 16,   /* of bringing blocks; after these all are brought */
     CHANVASK_BLOCK = 2048,  /* bytes have one storage key in S/370 mode */
@@ -30,12 +29,10 @@ enum {
     CHANVASK_BLOCKS = CHANVASK_STORAGE / CHANVASK_BLOCK
 };
 
-/* A program that was asked about: what it needs, and the bytes that it keeps, as they were. */
+/* A program that was asked about, and room for what it needs and keeps. */
 struct chanvask_program {
     struct chanv_program program;
-    struct chanv_extent extents[CHANVASK_ROWS];
-    struct chanv_area fetch[CHANVASK_ROWS], store[CHANVASK_ROWS], keep[CHANVASK_ROWS];
-    BYTE kept[CHANVASK_KEPT]; /* one area behind the other */
+    BYTE memory[CHANVASK_BYTES];
 };
 
 struct CHANVASK {
@@ -181,7 +178,7 @@ static inline struct chanv_job chanvask_look(DEVBLK *dev, U32 start)
         job.storage.len = dev->mainlim + 1;
     ask->questions++;
     for (round = 0; more && round < CHANVASK_ROUNDS; round++) {
-        if (chanv_list(&job, ask->places, CHANV_USUAL_LIMIT, &count) != CHANV_LISTED)
+        if (chanv_list(&job, ask->places, CHANV_USUAL_LIMIT, &count) != CHANV_OK)
             break;
         for (more = 0, i = 0; i < count; i++)
             more |= chanvask_bring_chain(dev, ask->places[i].address);
@@ -191,17 +188,13 @@ static inline struct chanv_job chanvask_look(DEVBLK *dev, U32 start)
     return job;
 }
 
-/* Asks what the job's program needs, and remembers it with the bytes that it keeps, if it can. */
-static inline void chanvask_take_in(struct chanvask_program *taken, const struct chanv_job *job)
+/* Takes the job's program in, if it can. If it can't, the program is zeros, which never start. */
+static inline U32 chanvask_take_in(struct chanvask_program *taken, const struct chanv_job *job)
 {
     struct chanv_needed needed;
+    size_t len;
 
-    memset(&taken->program, 0, sizeof taken->program);
-    if (chanv_needs(job, &needed, taken->extents, CHANVASK_ROWS, taken->fetch, CHANVASK_ROWS,
-                    taken->store, CHANVASK_ROWS, taken->keep, CHANVASK_ROWS)
-        == CHANV_LISTED)
-        chanv_remember(job, &needed, taken->extents, taken->fetch, taken->store, taken->keep,
-                       taken->kept, CHANVASK_KEPT, &taken->program);
+    return chanv_take_in(job, taken->memory, CHANVASK_BYTES, &len, &taken->program, &needed);
 }
 
 /* Of each row those blocks that the key of this start lets a channel fetch from, or store into. */
@@ -256,12 +249,11 @@ static inline int chanvask_may_start(DEVBLK *dev, const struct chanvask_program 
         memcpy(copy + area.start, dev->mainstor + area.start, area.len);
     }
     chanvask_grant(dev, &job, rows->fetch, rows->store);
-    return chanv_may_start(&job, NULL, 0, &taken->program, refusal) == CHANV_YES;
+    return chanv_check_start(&job, NULL, 0, &taken->program, refusal) == CHANV_YES;
 }
 
 static inline void chanvask_log_path(DEVBLK *dev, const struct chanv_place *path, size_t count)
 {
-    static const char *const entries[] = {"fresh", "in", "out", "search"};
     size_t i;
 
     for (i = 0; i < count; i++) {
@@ -270,7 +262,7 @@ static inline void chanvask_log_path(DEVBLK *dev, const struct chanv_place *path
         if (address % 8 == 0 && address < CHANVASK_STORAGE && address < dev->mainlim)
             ccw = fetch_dw(dev->chanvask->copy + address);
         logmsg(_("HHCCV003I %4.4X:  %6.6X %s %16.16llX\n"), dev->devnum, address,
-               entries[path[i].entered], (unsigned long long)ccw);
+               chanv_entered_word(path[i].entered), (unsigned long long)ccw);
     }
 }
 
@@ -284,10 +276,10 @@ static inline void chanvask_log_no(DEVBLK *dev, U32 start, const struct chanv_ex
            why->verdict.address, chanv_reason_word(why->verdict.reason), start,
            dev->chanvask->refuse ? ", not started" : "");
     if (path != NULL)
-        chanvask_log_path(dev, path, why->path);
-    if (path != NULL && why->second_path > 0) {
+        chanvask_log_path(dev, path, why->path_count);
+    if (path != NULL && why->second_path_count > 0) {
         logmsg(_("HHCCV003I %4.4X: reached by\n"), dev->devnum);
-        chanvask_log_path(dev, second_path, why->second_path);
+        chanvask_log_path(dev, second_path, why->second_path_count);
     }
     if (gap.len > 0)
         logmsg(_("HHCCV003I %4.4X: not lent: %6.6X-%6.6X\n"), dev->devnum, gap.start,
@@ -329,10 +321,10 @@ static inline void chanvask_ask(DEVBLK *dev)
 
     clock_gettime(CLOCK_MONOTONIC, &began);
     may_start = chanvask_may_start(dev, taken, start, &refusal);
-    if (!may_start && refusal.code <= CHANV_CHANGED) { /* it isn't the one that was taken in */
+    if (!may_start && refusal.code <= CHANV_REFUSED_CHANGED) { /* it isn't the one that was taken in */
         struct chanv_job job = chanvask_look(dev, start);
-        chanvask_take_in(taken, &job);
-        may_start = chanvask_may_start(dev, taken, start, &refusal);
+        may_start = chanvask_take_in(taken, &job) == CHANV_OK
+                    && chanvask_may_start(dev, taken, start, &refusal);
     }
     if (!may_start)
         answer = chanvask_why(dev, start);

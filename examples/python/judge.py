@@ -1,7 +1,7 @@
 #!/usr/bin/env python3
 """Judges decks through the library: a line for each, as `chanv verify FILE...` writes them.
 
-    python3 judge.py FILE...
+    PYTHONPATH=python python3 examples/python/judge.py FILE...
 
 The status is 0 if each has a yes, 1 if one has a no, and 2 if one has no answer: it can't be read,
 it isn't a deck, or the library gives none.

@@ -1,37 +1,10 @@
 /* Asks at the edges: NULL for empty lists, each fault of a job and two at once, the limits, too
  * little room, several threads. Each line is the name of a case, the call's code, and what it
  * wrote. */
-#include <chanv.h>
-#include <inttypes.h>
+#include "asking.h"
 #include <pthread.h>
-#include <stdio.h>
-#include <stdlib.h>
-#include <string.h>
 
-static uint8_t storage[16777217];
-static struct chanv_extent cylinders[] = {{10, 19}}, backwards[] = {{10, 19}, {9, 3}, {3, 203}},
-                           past[] = {{10, 19}, {0, 202}, {3, 203}, {9, 3}};
-static struct chanv_area fetch[] = {{0x900, 0x10}}, store[] = {{0xA00, 0x100}};
-static struct chanv_area all[] = {{0, 0x1000}};
 static const struct chanv_areas no_areas = {NULL, 0};
-
-/* The job of the usual search loop, which it just has room for. */
-static const struct chanv_job good = {
-    .storage = {storage, 0x1000},
-    .extents = {cylinders, 1},
-    .fetch = {fetch, 1},
-    .store = {store, 1},
-    .start = 0x800,
-    .limit = 3,
-    .device = 2314,
-    .mask = 0x00,
-};
-
-static void put(uint32_t address, uint64_t ccw)
-{
-    for (int i = 0; i < 8; i++)
-        storage[address + i] = (uint8_t)(ccw >> (56 - 8 * i));
-}
 
 /* Whether so many rows from the front are written, and none behind them. */
 static int are_written(const struct chanv_place *rows, size_t room, size_t written)
@@ -54,9 +27,10 @@ static uint32_t why(struct chanv_job job, struct chanv_place *path, size_t room,
         memset(second_path, 0x77, sizeof *second_path * second_room);
     uint32_t answer = chanv_why(&job, path, room, second_path, second_room, told);
     int written = answer == CHANV_NO;
-    printf("why %" PRIu32 ", %zu and %zu", answer, told->path, told->second_path);
-    if (!are_written(path, room, written ? told->path : 0)
-        || !are_written(second_path, second_room, written ? told->second_path : 0))
+    size_t count = written && room != 0 ? told->path_count : 0;
+    size_t second_count = written && second_room != 0 ? told->second_path_count : 0;
+    printf("why %" PRIu32 ", %zu and %zu", answer, told->path_count, told->second_path_count);
+    if (!are_written(path, room, count) || !are_written(second_path, second_room, second_count))
         printf(", wrong rows");
     return answer;
 }
@@ -65,9 +39,12 @@ static uint32_t why(struct chanv_job job, struct chanv_place *path, size_t room,
 static int is_empty(const struct chanv_explanation *told)
 {
     static const struct chanv_evidence no_values;
-    return told->path == 0 && told->second_path == 0 && told->verdict.address == 0
+    for (size_t i = 0; i < sizeof told->reserved / sizeof *told->reserved; i++)
+        if (told->reserved[i] != 0)
+            return 0;
+    return told->path_count == 0 && told->second_path_count == 0 && told->verdict.address == 0
            && told->verdict.reason == 0
-           && memcmp(&told->evidence, &no_values, sizeof no_values) == 0;
+           && memcmp(&told->evidence, &no_values, offsetof(struct chanv_evidence, mask) + 1) == 0;
 }
 
 /* `chanv_why` says what `chanv_verify` said, and what it doesn't tell is 0. */
@@ -105,8 +82,8 @@ static void why_with_room(const char *name, struct chanv_job job, size_t room, s
            told.verdict.address, chanv_reason_word(values.reason), values.range.start,
            values.range.len, values.address);
     if (answer == CHANV_NO) {
-        print_path("path", path, told.path);
-        print_path("second", second_path, told.second_path);
+        print_path("path", path, room == 0 ? 0 : told.path_count);
+        print_path("second", second_path, second_room == 0 ? 0 : told.second_path_count);
     }
     printf("\n");
 }
@@ -123,7 +100,7 @@ static void ask(const char *name, struct chanv_job job)
     memset(rows, 0x77, sizeof rows);
     memcpy(before, rows, sizeof rows);
     uint32_t answer = chanv_list(&job, rows, CHANV_LARGEST_LIMIT + 1, &count);
-    written = answer == CHANV_LISTED ? count : 0;
+    written = answer == CHANV_OK ? count : 0;
     size_t rest = sizeof *rows * (CHANV_LARGEST_LIMIT + 1 - written);
     int is_past = memcmp(rows + written, before + written, rest) != 0;
     const char *more = is_past ? ", written past the end" : "";
@@ -137,7 +114,7 @@ static void list(const char *name, struct chanv_job job, struct chanv_place *row
     size_t count = 77;
     uint32_t answer = chanv_list(&job, rows, room, &count);
     printf("%s: list %" PRIu32 ", %zu", name, answer, count);
-    for (size_t i = 0; answer == CHANV_LISTED && i < count; i++)
+    for (size_t i = 0; answer == CHANV_OK && i < count; i++)
         printf(", %06" PRIX32 " %u %u", rows[i].address, rows[i].entered, rows[i].after_transfer);
     printf("\n");
 }
@@ -153,9 +130,10 @@ static void *ask_often(void *about)
         struct chanv_explanation told;
         size_t count;
         right += chanv_verify(job, &verdict) == CHANV_NO && verdict.address == 0x810
-                 && verdict.reason == 10 && chanv_list(job, rows, 3, &count) == CHANV_LISTED
+                 && verdict.reason == CHANV_REASON_STORE_NOT_LENT
+                 && chanv_list(job, rows, 3, &count) == CHANV_OK
                  && count == 3 && rows[2].address == 0x810
-                 && chanv_why(job, rows, 3, NULL, 0, &told) == CHANV_NO && told.path == 2
+                 && chanv_why(job, rows, 3, NULL, 0, &told) == CHANV_NO && told.path_count == 2
                  && rows[1].address == 0x810;
     }
     return (void *)right;
@@ -201,7 +179,9 @@ static void ask_with_little_room(void)
     ask("a store over the next CCW", job);
     why_with_room("no room, NULL", job, 0, 0);
     why_with_room("room for one and three", job, 1, 3);
+    why_with_room("room for one and none, NULL", job, 1, 0);
     why_with_room("room for two and none, NULL", job, 2, 0);
+    why_with_room("no room, NULL, and room for three", job, 0, 3);
     why_with_room("room for two and two", job, 2, 2);
     why_with_room("room for two and three", job, 2, 3);
     why_with_room("room for four and four", job, 4, 4);
@@ -241,36 +221,12 @@ static void ask_with_another_value(void)
     text_with_room("too many places", job, 4);
 }
 
-/* A job with each fault that it can have at once, of which one after the other is taken away. */
 static void ask_with_faults(void)
 {
-    struct chanv_job job = {
-        .storage = {storage, sizeof storage},
-        .fetch = good.fetch,
-        .store = good.store,
-        .start = 0x800,
-        .limit = 0,
-        .device = 3330,
-        .mask = 0x01,
-        .reserved = {0, 0, 0, (uint64_t)1 << 63},
-    };
-    ask("all faults", job);
-    job.storage.len--;
-    ask("storage of 16 MiB", job);
-    job.device = 2314;
-    ask("a device", job);
-    job.mask = 0xD8;
-    ask("a mask, and no extent, NULL", job);
-    job.extents = (struct chanv_extents){backwards, 3};
-    ask("extents, backwards first", job);
-    job.extents = (struct chanv_extents){past, 4};
-    ask("extents, past the device first", job);
-    job.extents = (struct chanv_extents){past, 2};
-    ask("right extents", job);
-    job.limit = 65537;
-    ask("a limit that is too large", job);
-    job.limit = 65536;
-    ask("a limit, and what is reserved", job);
+    struct chanv_job job;
+    const char *name;
+    for (int step = 0; (name = take_fault_away(step, &job)) != NULL; step++)
+        ask(name, job);
     for (int i = 0; i < 4; i++) {
         memset(job.reserved, 0, sizeof job.reserved);
         job.reserved[i] = 1;
@@ -315,9 +271,7 @@ static void ask_at_the_limits(void)
 
 int main(void)
 {
-    put(0x800, 0x3100090040000005);
-    put(0x808, 0x0800080000000000);
-    put(0x810, 0x06000A0020000050);
+    fill(search_loop);
     ask("search loop", good);
     ask_with_little_room();
     ask_with_nothing_lent();
@@ -327,8 +281,9 @@ int main(void)
     ask_at_the_limits();
     for (uint32_t reason = 0; reason < 18; reason++)
         printf("reason %" PRIu32 ": %s\n", reason, chanv_reason_word(reason));
-    for (uint32_t number = 0; number < 14; number++)
-        printf("number %" PRIu32 ": %s, %s, %s\n", number, chanv_answer_word(number),
-               chanv_refusal_word(number), chanv_entered_word(number));
+    for (uint32_t number = 0; number < 15; number++)
+        printf("number %" PRIu32 ": %s%s, %s, %s\n", number, chanv_answer_word(number),
+               chanv_is_fault(number) ? " (a fault)" : "", chanv_refusal_word(number),
+               chanv_entered_word(number));
     return 0;
 }

@@ -98,7 +98,8 @@ static void change(const struct CHANVASK *ask, U32 start)
     else if (how == 2)
         storage[below(STORAGE)] = (BYTE)below(256);
     else if (how == 3 && taken->program.device != 0) {
-        struct chanv_area area = taken->keep[below((U32)taken->program.rows.keep.len)];
+        const struct chanv_areas *keep = &taken->program.rows.keep;
+        struct chanv_area area = keep->at[below((U32)keep->len)];
         storage[area.start + below(area.len)] ^= (BYTE)(1 << below(8));
     }
 }

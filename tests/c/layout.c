@@ -1,6 +1,6 @@
-/* The header is free of warnings by itself, in C and in C++. The program prints the version three
- * times: as the header's text, by the header's numbers, and as the library says it; and then the
- * layout of the header's structs, which the file that is included lists. */
+/* The header is free of warnings by itself, in C and in C++. The program prints the version four
+ * times: as the header's text, by the header's numbers, and as header and library say it in one
+ * number; and then the layout of the header's structs, which the file that is included lists. */
 #include <chanv.h>
 #include <stdio.h>
 
@@ -9,9 +9,12 @@
 
 int main(void)
 {
-    uint32_t version = chanv_version();
-    printf("%s %d.%d.%d %u.%u.%u\n", CHANV_VERSION, CHANV_VERSION_MAJOR, CHANV_VERSION_MINOR,
-           CHANV_VERSION_PATCH, version >> 16, version >> 8 & 0xFF, version & 0xFF);
+    uint32_t versions[] = {CHANV_VERSION_NUMBER, chanv_version()};
+    printf("%s %d.%d.%d", CHANV_VERSION, CHANV_VERSION_MAJOR, CHANV_VERSION_MINOR,
+           CHANV_VERSION_PATCH);
+    for (int i = 0; i < 2; i++)
+        printf(" %u.%u.%u", versions[i] >> 16, versions[i] >> 8 & 0xFF, versions[i] & 0xFF);
+    printf("\n");
 #include "structs.h"
     return 0;
 }

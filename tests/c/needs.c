@@ -2,39 +2,20 @@
  * less in each list, NULL for empty lists, no job that will do, a limit that only the open job
  * passes, each fault of a job, each refusal, rows from anywhere. Each line is the name of a case,
  * the call's code, and what it told. */
-#include <chanv.h>
-#include <inttypes.h>
-#include <stdio.h>
-#include <string.h>
+#include "asking.h"
 
-enum { ROOM = 4 };
+enum { ROOM = 4, BYTES = 64 };
 
-static uint8_t storage[0x1000], too_large[16777217];
-static struct chanv_extent all_cylinders[] = {{0, 202}}, one_cylinder[] = {{100, 100}};
-static struct chanv_extent backwards[] = {{10, 19}, {9, 3}};
-static struct chanv_area all[] = {{0, 0x1000}};
+static struct chanv_extent one_cylinder[] = {{100, 100}};
 
 /* A job that grants next to nothing. */
 static const struct chanv_job poor = {
-    .storage = {storage, sizeof storage},
+    .storage = {storage, SMALL},
     .extents = {one_cylinder, 1},
     .start = 0x800,
     .limit = CHANV_USUAL_LIMIT,
     .device = 2314,
     .mask = 0x58,
-};
-
-/* Eight bytes of storage. */
-struct word {
-    uint32_t address;
-    uint64_t value;
-};
-
-static const struct word search_loop[] = {
-    {0x800, 0x3100090040000005},
-    {0x808, 0x0800080000000000},
-    {0x810, 0x06000A0020000050},
-    {0, 0},
 };
 
 /* Reads into one place again and again. */
@@ -64,27 +45,20 @@ static const struct word sets_no_mask[] = {
     {0, 0},
 };
 
-static void fill(const struct word *words)
-{
-    memset(storage, 0, sizeof storage);
-    for (; words->address != 0; words++)
-        for (int i = 0; i < 8; i++)
-            storage[words->address + i] = (uint8_t)(words->value >> (56 - 8 * i));
-}
-
-/* How many rows there are in each list, or how many there is room for. */
+/* How many rows there are in each list, and how many bytes are kept; or how much room there is. */
 struct counts {
-    size_t extents, fetch, store, keep;
+    size_t extents, fetch, store, keep, kept;
 };
 
 static struct chanv_extent extents[ROOM];
 static struct chanv_area fetch[ROOM], store[ROOM], keep[ROOM];
+static uint8_t kept[BYTES];
 
 /* Whether the bytes from a row on are as they were before the call. */
-static int are_left(const void *list, size_t size, size_t rows)
+static int are_left(const void *list, size_t all, size_t size, size_t rows)
 {
     const uint8_t *bytes = list;
-    for (size_t i = size * rows; i < size * ROOM; i++)
+    for (size_t i = size * rows; i < all; i++)
         if (bytes[i] != 0x77)
             return 0;
     return 1;
@@ -98,11 +72,15 @@ static void print_areas(const char *name, const struct chanv_area *areas, size_t
 
 static void print_rows(const struct chanv_needed *told)
 {
-    for (size_t i = 0; i < told->extents; i++)
+    const uint8_t *byte = kept;
+    for (size_t i = 0; i < told->extent_count; i++)
         printf(", extent %u %u", extents[i].first, extents[i].last);
-    print_areas("fetch", fetch, told->fetch);
-    print_areas("store", store, told->store);
-    print_areas("keep", keep, told->keep);
+    print_areas("fetch", fetch, told->fetch_count);
+    print_areas("store", store, told->store_count);
+    print_areas("keep", keep, told->keep_count);
+    for (size_t i = 0; i < told->keep_count; byte += keep[i++].len)
+        if (memcmp(byte, storage + keep[i].start, keep[i].len) != 0)
+            printf(", wrong bytes");
 }
 
 /* Asks with so much room, and with NULL where there is none. */
@@ -114,13 +92,17 @@ static uint32_t ask(const char *name, struct chanv_job job, struct counts room,
     memset(fetch, 0x77, sizeof fetch);
     memset(store, 0x77, sizeof store);
     memset(keep, 0x77, sizeof keep);
+    memset(kept, 0x77, sizeof kept);
     uint32_t code =
         chanv_needs(&job, told, room.extents ? extents : NULL, room.extents,
                     room.fetch ? fetch : NULL, room.fetch, room.store ? store : NULL, room.store,
-                    room.keep ? keep : NULL, room.keep);
-    printf("%s: needs %" PRIu32 ", mask %02" PRIX32 ", storage %" PRIX32 ", %zu %zu %zu %zu", name,
-           code, told->mask, told->storage_len, told->extents, told->fetch, told->store,
-           told->keep);
+                    room.keep ? keep : NULL, room.keep, room.kept ? kept : NULL, room.kept);
+    printf("%s: needs %" PRIu32 ", mask %02" PRIX8 ", storage %" PRIX32 ", %zu %zu %zu %zu, %zu",
+           name, code, told->mask, told->storage_len, told->extent_count, told->fetch_count,
+           told->store_count, told->keep_count, told->kept_len);
+    for (size_t i = 0; i < sizeof told->reserved / sizeof *told->reserved; i++)
+        if (told->reserved[i] != 0)
+            printf(", reserved %zu", i);
     if (told->may_hang != 0 || told->hangs_at != 0)
         printf(", may hang %" PRIu32 " at %06" PRIX32, told->may_hang, told->hangs_at);
     if (told->verdict.reason != 0)
@@ -128,15 +110,17 @@ static uint32_t ask(const char *name, struct chanv_job job, struct counts room,
                chanv_reason_word(told->verdict.reason));
     if (told->verdict.extent != 0)
         printf(", wrong extent %zu", told->verdict.extent);
-    struct counts written = {told->extents, told->fetch, told->store, told->keep};
-    if (code == CHANV_LISTED)
+    struct counts written = {told->extent_count, told->fetch_count, told->store_count,
+                             told->keep_count, told->kept_len};
+    if (code == CHANV_OK)
         print_rows(told);
     else
-        written = (struct counts){0, 0, 0, 0};
-    if (!are_left(extents, sizeof *extents, written.extents)
-        || !are_left(fetch, sizeof *fetch, written.fetch)
-        || !are_left(store, sizeof *store, written.store)
-        || !are_left(keep, sizeof *keep, written.keep))
+        written = (struct counts){0, 0, 0, 0, 0};
+    if (!are_left(extents, sizeof extents, sizeof *extents, written.extents)
+        || !are_left(fetch, sizeof fetch, sizeof *fetch, written.fetch)
+        || !are_left(store, sizeof store, sizeof *store, written.store)
+        || !are_left(keep, sizeof keep, sizeof *keep, written.keep)
+        || !are_left(kept, sizeof kept, sizeof *kept, written.kept))
         printf(", wrong rows");
     printf("\n");
     return code;
@@ -146,12 +130,12 @@ static uint32_t ask(const char *name, struct chanv_job job, struct counts room,
 static struct chanv_rows rows_of(const struct chanv_needed *told)
 {
     return (struct chanv_rows){
-        .extents = {extents, told->extents},
-        .fetch = {fetch, told->fetch},
-        .store = {store, told->store},
-        .keep = {keep, told->keep},
+        .extents = {extents, told->extent_count},
+        .fetch = {fetch, told->fetch_count},
+        .store = {store, told->store_count},
+        .keep = {keep, told->keep_count},
         .storage_len = told->storage_len,
-        .mask = (uint8_t)told->mask,
+        .mask = told->mask,
     };
 }
 
@@ -159,21 +143,22 @@ static void ask_with_little_room(void)
 {
     struct chanv_needed told;
     fill(seeks);
-    ask("no room, NULL", poor, (struct counts){0, 0, 0, 0}, &told);
-    ask("one run of cylinders too many", poor, (struct counts){2, 2, 1, 3}, &told);
-    ask("one area for fetching too many", poor, (struct counts){3, 1, 1, 3}, &told);
-    ask("one area for storing too many", poor, (struct counts){3, 2, 0, 3}, &told);
-    ask("one area that is kept too many", poor, (struct counts){3, 2, 1, 2}, &told);
-    ask("exact room", poor, (struct counts){3, 2, 1, 3}, &told);
-    ask("more room", poor, (struct counts){ROOM, ROOM, ROOM, ROOM}, &told);
+    ask("no room, NULL", poor, (struct counts){0, 0, 0, 0, 0}, &told);
+    ask("one run of cylinders too many", poor, (struct counts){2, 2, 1, 3, 58}, &told);
+    ask("one area for fetching too many", poor, (struct counts){3, 1, 1, 3, 58}, &told);
+    ask("one area for storing too many", poor, (struct counts){3, 2, 0, 3, 58}, &told);
+    ask("one area that is kept too many", poor, (struct counts){3, 2, 1, 2, 58}, &told);
+    ask("one byte that is kept too many", poor, (struct counts){3, 2, 1, 3, 57}, &told);
+    ask("exact room", poor, (struct counts){3, 2, 1, 3, 58}, &told);
+    ask("more room", poor, (struct counts){ROOM, ROOM, ROOM, ROOM, BYTES}, &told);
     fill(search_loop);
-    ask("no seek, NULL for its cylinders", poor, (struct counts){0, 1, 1, 1}, &told);
+    ask("no seek, NULL for its cylinders", poor, (struct counts){0, 1, 1, 1, 24}, &told);
 }
 
 /* What the job grants plays no part; its storage, start, limit and faults do. */
 static void ask_about_other_jobs(void)
 {
-    static const struct counts room = {ROOM, ROOM, ROOM, ROOM};
+    static const struct counts room = {ROOM, ROOM, ROOM, ROOM, BYTES};
     struct chanv_needed told;
     struct chanv_job job = poor;
     job.limit = 2;
@@ -197,22 +182,12 @@ static void ask_about_other_jobs(void)
 /* The program of a job with these rows, and with the kept bytes as storage has them now. */
 static struct chanv_program program_of(const struct chanv_job *job, const struct chanv_rows *rows)
 {
-    static uint8_t kept[ROOM * 0x28];
-    struct chanv_bytes whole = {storage, sizeof storage};
-    size_t count;
-    chanv_copy_kept(whole, rows->keep.at, rows->keep.len, kept, sizeof kept, &count);
+    static uint8_t bytes[BYTES];
+    size_t len = 0;
+    for (size_t i = 0; i < rows->keep.len; len += rows->keep.at[i++].len)
+        memcpy(bytes + len, storage + rows->keep.at[i].start, rows->keep.at[i].len);
     return (struct chanv_program){
-        .rows = *rows, .kept = {kept, count}, .start = job->start, .device = job->device};
-}
-
-static void print_refusal(uint32_t answer, const struct chanv_refusal *refusal)
-{
-    printf("%" PRIu32, answer);
-    if (refusal->code != 0)
-        printf(" %s %" PRIX32 " of %zu", chanv_refusal_word(refusal->code), refusal->value,
-               refusal->program);
-    if (refusal->extent != 0)
-        printf(", wrong extent %zu", refusal->extent);
+        .rows = *rows, .kept = {bytes, len}, .start = job->start, .device = job->device};
 }
 
 static void try_beside(const struct chanv_job *job, const struct chanv_program *in_flight,
@@ -220,63 +195,45 @@ static void try_beside(const struct chanv_job *job, const struct chanv_program *
 {
     struct chanv_refusal refusal;
     memset(&refusal, 0x77, sizeof refusal);
-    uint32_t answer = chanv_may_start(job, in_flight, count, program, &refusal);
+    uint32_t answer = chanv_check_start(job, in_flight, count, program, &refusal);
     print_refusal(answer, &refusal);
 }
 
 static void try_start(const char *name, const struct chanv_job *job, const struct chanv_rows *rows)
 {
     struct chanv_program program = program_of(job, rows);
-    printf("%s: may start ", name);
+    printf("%s: start ", name);
     try_beside(job, NULL, 0, &program);
     printf("\n");
 }
 
-/* A call with a job that has a fault, and the same job's needs. */
-static void ask_with_fault(const char *name, struct chanv_job job, struct chanv_program program)
-{
-    static const struct counts room = {ROOM, ROOM, ROOM, ROOM};
-    struct chanv_needed told;
-    printf("%s: may start ", name);
-    try_beside(&job, NULL, 0, &program);
-    printf("; ");
-    ask("its program", job, room, &told);
-}
-
+/* A start under a job with a fault, and what its program needs. */
 static void ask_with_faults(void)
 {
+    static const struct counts room = {ROOM, ROOM, ROOM, ROOM, BYTES};
     static const struct chanv_program nothing = {.rows = {.mask = 0x58}};
-    struct chanv_job job = {.storage = {too_large, sizeof too_large}, .start = 0x800, .mask = 1};
-    ask_with_fault("all faults", job, nothing);
-    job.storage = poor.storage;
-    ask_with_fault("a right storage", job, nothing);
-    job.device = 2311;
-    ask_with_fault("a device", job, nothing);
-    job.mask = 0x18;
-    ask_with_fault("a mask", job, nothing);
-    job.extents = (struct chanv_extents){backwards, 2};
-    ask_with_fault("extents, one backwards", job, nothing);
-    backwards[1] = (struct chanv_extent){9, 203};
-    ask_with_fault("extents, one past the device", job, nothing);
-    job.extents.len = 1;
-    ask_with_fault("right extents", job, nothing);
-    job.limit = 65537, job.reserved[2] = 7;
-    ask_with_fault("a limit that is too large", job, nothing);
-    job.limit = 65536;
-    ask_with_fault("a limit, and what is reserved", job, nothing);
+    struct chanv_needed told;
+    struct chanv_job job;
+    const char *name;
+    for (int step = 0; (name = take_fault_away(step, &job)) != NULL; step++) {
+        printf("%s: start ", name);
+        try_beside(&job, NULL, 0, &nothing);
+        printf("; ");
+        ask("its program", job, room, &told);
+    }
 }
 
 static void try_changed(const char *name, const struct chanv_job *job,
                         const struct chanv_program *program)
 {
-    printf("%s: may start ", name);
+    printf("%s: start ", name);
     try_beside(job, NULL, 0, program);
     printf("\n");
 }
 
 static void try_the_search_loop(void)
 {
-    static const struct counts room = {ROOM, ROOM, ROOM, ROOM};
+    static const struct counts room = {ROOM, ROOM, ROOM, ROOM, BYTES};
     struct chanv_area two[] = {{0x903, 9}, {0x8FF, 4}}, exact[] = {{0x900, 5}};
     struct chanv_area record[] = {{0xA00, 0x50}};
     struct chanv_needed told;
@@ -314,7 +271,7 @@ static void try_the_search_loop(void)
 
 static void try_the_seeks(void)
 {
-    static const struct counts room = {ROOM, ROOM, ROOM, ROOM};
+    static const struct counts room = {ROOM, ROOM, ROOM, ROOM, BYTES};
     struct chanv_extent two[] = {{10, 202}, {0, 0}};
     struct chanv_needed told;
     fill(seeks);
@@ -340,19 +297,16 @@ static void ask_beside(void)
 {
     static const uint64_t reads[] = {0x060007F800000008, 0x060007F900000008, 0x0600081700000008,
                                      0x0600081800000008, 0x0600090000000008, 0x06000A0000000008};
-    static const struct counts room = {ROOM, ROOM, ROOM, ROOM};
-    static uint8_t kept_of_loop[ROOM * 8];
-    struct chanv_area keep_of_loop[ROOM], store_of_loop[ROOM], fetch_of_loop[ROOM];
+    static const struct counts room = {ROOM, ROOM, ROOM, ROOM, BYTES};
+    static uint8_t memory[256];
     struct chanv_needed told;
+    size_t len;
     struct chanv_job job = poor;
     struct chanv_program two[2] = {{.start = 0}};
     job.fetch = job.store = (struct chanv_areas){all, 1};
     fill(search_loop);
-    ask("the search loop", poor, room, &told);
-    memcpy(keep_of_loop, keep, sizeof keep), memcpy(store_of_loop, store, sizeof store);
-    memcpy(fetch_of_loop, fetch, sizeof fetch);
-    chanv_remember(&job, &told, extents, fetch_of_loop, store_of_loop, keep_of_loop, kept_of_loop,
-                   sizeof kept_of_loop, &two[1]);
+    if (chanv_take_in(&job, memory, sizeof memory, &len, &two[1], &told) != CHANV_OK)
+        printf("not taken in\n");
     printf("the search loop beside itself: ");
     try_beside(&job, two, 2, &two[1]);
     printf("\n");
@@ -377,7 +331,7 @@ static void ask_who_writes(void)
     static const struct chanv_area areas[] = {{0x7F8, 8}, {0x7F8, 9},           {0x817, 1},
                                               {0x818, 8}, {0x810, 0},           {0, 0xFFFFFFFF},
                                               {0, 0},     {0xFFFFFFFF, 0xFFFFFFFF}};
-    static const struct counts room = {ROOM, ROOM, ROOM, ROOM};
+    static const struct counts room = {ROOM, ROOM, ROOM, ROOM, BYTES};
     struct chanv_needed told;
     fill(search_loop);
     ask("the search loop", poor, room, &told);
@@ -386,36 +340,91 @@ static void ask_who_writes(void)
     for (size_t i = 0; i < sizeof areas / sizeof *areas; i++) {
         struct chanv_refusal refusal;
         memset(&refusal, 0x77, sizeof refusal);
-        uint32_t answer = chanv_may_write(in_flight, 2, &areas[i], &refusal);
+        uint32_t answer = chanv_check_write(in_flight, 2, &areas[i], &refusal);
         printf("others write %" PRIX32 " from %" PRIX32 ": ", areas[i].len, areas[i].start);
         print_refusal(answer, &refusal);
         printf("\n");
     }
 }
 
-/* The bytes that are kept, copied into too little room, exact room and more. */
-static void ask_for_kept_bytes(void)
+/* Whether an area is one of the memory. */
+static int is_in(const void *at, size_t size, const uint8_t *memory, size_t len)
 {
-    static const struct chanv_area two[] = {{0x800, 3}, {0x810, 2}}, past[] = {{0xFFF, 2}};
-    struct chanv_bytes whole = {storage, sizeof storage}, large = {too_large, sizeof too_large};
-    fill(search_loop);
-    for (size_t room = 4; room < 7; room++) {
-        uint8_t bytes[7] = {9, 9, 9, 9, 9, 9, 9};
-        size_t count = 7;
-        uint32_t answer = chanv_copy_kept(whole, two, 2, bytes, room, &count);
-        printf("%zu bytes of room: %" PRIu32 ", %zu:", room, answer, count);
-        for (size_t i = 0; answer == CHANV_LISTED && i < sizeof bytes; i++)
-            printf(" %02X", bytes[i]);
-        printf("\n");
+    const uint8_t *from = at;
+    return from >= memory && from + size <= memory + len && (uintptr_t)from % 4 == 0;
+}
+
+/* Takes a program in, into so much memory at an address with so much left over by 4. No byte before
+ * and after is written. */
+static void take_in(const char *name, struct chanv_job job, size_t over, size_t room)
+{
+    static _Alignas(8) uint8_t memory[512];
+    static const struct chanv_program none;
+    struct chanv_program program;
+    struct chanv_needed needed;
+    size_t len = 77, first = 8 + over;
+    memset(memory, 0x77, sizeof memory);
+    memset(&program, 0x77, sizeof program);
+    void *at = room == 0 ? NULL : memory + first;
+    uint32_t answer = chanv_take_in(&job, at, room, &len, &program, &needed);
+    printf("%s, %zu bytes: take in %" PRIu32 ", %zu", name, room, answer, len);
+    for (size_t i = 0; i < sizeof memory; i++)
+        if ((i < first || i >= first + room) && memory[i] != 0x77)
+            printf(", written beside the memory");
+    if (answer == CHANV_OK) {
+        const struct chanv_rows *rows = &program.rows;
+        int are_in = is_in(rows->fetch.at, 8 * rows->fetch.len, at, len)
+                     && is_in(rows->store.at, 8 * rows->store.len, at, len)
+                     && is_in(rows->keep.at, 8 * rows->keep.len, at, len);
+        printf(", %zu %zu %zu %zu, %zu%s", rows->extents.len, rows->fetch.len, rows->store.len,
+               rows->keep.len, program.kept.len, are_in ? "" : ", outside");
+        struct chanv_refusal refusal;
+        struct chanv_extent cylinders = {0, 202};
+        job.extents = (struct chanv_extents){&cylinders, 1}, job.mask = 0x40;
+        job.fetch = rows->fetch, job.store = rows->store;
+        printf(", start %" PRIu32, chanv_check_start(&job, NULL, 0, &program, &refusal));
+    } else if (memcmp(&program, &none, sizeof none) != 0) {
+        printf(", a program");
     }
-    size_t count = 7;
-    uint8_t bytes[7];
-    printf("an area past storage: %" PRIu32, chanv_copy_kept(whole, past, 1, bytes, 7, &count));
-    printf(", %zu\n", count), count = 7;
-    printf("too large a storage: %" PRIu32, chanv_copy_kept(large, two, 2, bytes, 7, &count));
-    printf(", %zu\n", count), count = 7;
-    printf("NULL: %" PRIu32, chanv_copy_kept(whole, NULL, 0, NULL, 0, &count));
-    printf(", %zu\n", count);
+    if (needed.verdict.reason != 0)
+        printf(", no %s", chanv_reason_word(needed.verdict.reason));
+    printf("\n");
+}
+
+static void take_programs_in(void)
+{
+    struct chanv_job job = poor;
+    fill(seeks);
+    take_in("the seeks", job, 0, 0);
+    take_in("the seeks", job, 0, 117);
+    take_in("the seeks", job, 0, 118);
+    take_in("the seeks", job, 1, 120);
+    take_in("the seeks", job, 1, 121);
+    take_in("the seeks", job, 3, 480);
+    job.limit = 0;
+    take_in("no limit", job, 0, 480);
+    fill(sets_no_mask);
+    take_in("no job will do", poor, 0, 480);
+}
+
+/* A program, and one in flight, whose `reserved` isn't 0. */
+static void ask_with_fields_of_a_later_version(void)
+{
+    struct chanv_program program = {.start = poor.start, .device = poor.device};
+    struct chanv_program two[2] = {{.start = 0}, program};
+    struct chanv_refusal refusal;
+    for (size_t i = 0; i < 4; i++) {
+        two[1].reserved[i] = 1;
+        printf("in flight: start ");
+        try_beside(&poor, two, 2, &program);
+        printf("; itself: start ");
+        try_beside(&poor, two, 2, &two[1]);
+        printf("; others write ");
+        memset(&refusal, 0x77, sizeof refusal);
+        print_refusal(chanv_check_write(two, 2, all, &refusal), &refusal);
+        printf("\n");
+        two[1].reserved[i] = 0;
+    }
 }
 
 /* Rows that `chanv_needs` didn't give do no harm, whatever is answered. */
@@ -435,10 +444,10 @@ static void ask_with_rows_that_nobody_gave(void)
     int answers = 0;
     for (int mask = 0; mask < 256; mask++) {
         rows.mask = (uint8_t)mask;
-        struct chanv_program program = {rows, {storage, sizeof storage}, poor.start, 2314};
-        rows.storage_len = mask % 2 ? sizeof storage : 0xFFFFFFFF;
-        answers += chanv_may_start(&poor, &program, 1, &program, &refusal) == CHANV_NO
-                   && chanv_may_write(&program, 1, &areas[0], &refusal) == CHANV_NO;
+        struct chanv_program program = {rows, {storage, SMALL}, poor.start, 2314, {0}};
+        rows.storage_len = mask % 2 ? SMALL : 0xFFFFFFFF;
+        answers += chanv_check_start(&poor, &program, 1, &program, &refusal) == CHANV_NO
+                   && chanv_check_write(&program, 1, &areas[0], &refusal) == CHANV_NO;
     }
     printf("rows that nobody gave: %d answers\n", answers);
 }
@@ -452,7 +461,8 @@ int main(void)
     try_the_seeks();
     ask_beside();
     ask_who_writes();
-    ask_for_kept_bytes();
+    take_programs_in();
+    ask_with_fields_of_a_later_version();
     ask_with_rows_that_nobody_gave();
     return 0;
 }

@@ -1,23 +1,14 @@
 /* Makes one call, so that the growths of memory in that call can be refused one by one. It is about
  * the search loop; calls that explain a no are about one whose read stores over the CCW after it.
  *
- *     one_call CALL     such as verify or may_start; prints what it answers, and ends with its
+ *     one_call CALL     such as verify or check_start; prints what it answers, and ends with its
  *                       code, or with 0 if that answer is due
  *     one_call setup    all that comes before the call
  *
  * The status is 99 where something was written that shouldn't be. Nothing here asks for memory.
  */
-#include <chanv.h>
-#include <string.h>
+#include "asking.h"
 #include <unistd.h>
-
-static uint8_t storage[0x1000];
-
-static void put(uint32_t address, uint64_t ccw)
-{
-    for (int i = 0; i < 8; i++)
-        storage[address + i] = (uint8_t)(ccw >> (56 - 8 * i));
-}
 
 static int say(const char *text)
 {
@@ -41,16 +32,28 @@ static int list(const struct chanv_job *job)
     memset(rows, 7, sizeof rows);
     memcpy(before, rows, sizeof rows);
     uint32_t answer = chanv_list(job, rows, 4, &count);
-    size_t written = answer == CHANV_LISTED ? 3 : 0;
+    size_t written = answer == CHANV_OK ? 3 : 0;
     if (count != written
         || memcmp(rows + written, before + written, sizeof *rows * (4 - written)) != 0)
         return 99;
-    return answer == CHANV_LISTED ? say("3\n") : (int)answer;
+    return answer == CHANV_OK ? say("3\n") : (int)answer;
+}
+
+static int is_as(const struct chanv_needed *one, const struct chanv_needed *other)
+{
+    return memcmp(one, other, offsetof(struct chanv_needed, mask) + 1) == 0
+           && memcmp(one->reserved, other->reserved, sizeof one->reserved) == 0;
+}
+
+static int is_untold(const struct chanv_explanation *told)
+{
+    static const struct chanv_explanation none;
+    return memcmp(told, &none, offsetof(struct chanv_explanation, evidence.mask) + 1) == 0
+           && memcmp(told->reserved, none.reserved, sizeof none.reserved) == 0;
 }
 
 static int why(const struct chanv_job *job)
 {
-    static const struct chanv_explanation empty;
     struct chanv_explanation told;
     struct chanv_place path[4], second_path[4], before[4];
     memset(&told, 7, sizeof told);
@@ -59,26 +62,26 @@ static int why(const struct chanv_job *job)
     memcpy(before, path, sizeof path);
     uint32_t answer = chanv_why(job, path, 4, second_path, 4, &told);
     size_t written = answer == CHANV_NO ? 2 : 0, second_written = answer == CHANV_NO ? 3 : 0;
-    if (told.path != written || told.second_path != second_written
+    if (told.path_count != written || told.second_path_count != second_written
         || memcmp(path + written, before, sizeof *path * (4 - written)) != 0
         || memcmp(second_path + second_written, before, sizeof *path * (4 - second_written)) != 0
-        || (answer != CHANV_NO && memcmp(&told, &empty, sizeof empty) != 0))
+        || (answer != CHANV_NO && !is_untold(&told)))
         return 99;
     return answer == CHANV_NO ? say("2 3\n") : (int)answer;
 }
 
-typedef uint32_t telling(const struct chanv_job *job, char *buffer, size_t room, size_t *length);
+typedef uint32_t telling(const struct chanv_job *job, char *buffer, size_t room, size_t *len);
 
 static int tell(telling *call, const struct chanv_job *job)
 {
     char buffer[1024];
-    size_t length = 7;
+    size_t len = 7;
     memset(buffer, 7, sizeof buffer);
-    uint32_t answer = call(job, buffer, sizeof buffer, &length);
-    if ((answer == CHANV_NO) != (length != 0) || length >= sizeof buffer
-        || (length != 0 && buffer[length - 1] != '\n'))
+    uint32_t answer = call(job, buffer, sizeof buffer, &len);
+    if ((answer == CHANV_NO) != (len != 0) || len >= sizeof buffer
+        || (len != 0 && buffer[len - 1] != '\n'))
         return 99;
-    for (size_t i = length; i < sizeof buffer; i++)
+    for (size_t i = len; i < sizeof buffer; i++)
         if (buffer[i] != 7)
             return 99;
     return answer == CHANV_NO ? say("no\n") : (int)answer;
@@ -94,28 +97,52 @@ static int open_text(const struct chanv_job *job)
     return tell(chanv_open_text, job);
 }
 
-/* Room for four rows in each list, of which so many are written. */
+/* Room for four rows in each list, of which so many are written, and for 32 bytes. */
 static int needs(const struct chanv_job *job)
 {
-    static const struct chanv_needed empty;
+    static const struct chanv_needed none;
     struct chanv_needed told;
     struct chanv_extent extents[4];
     struct chanv_area fetch[4], store[4], keep[4], before[4];
+    uint8_t kept[32], kept_before[32];
     memset(&told, 7, sizeof told);
     memset(extents, 7, sizeof extents);
     memset(before, 7, sizeof before);
+    memset(kept_before, 7, sizeof kept_before);
     memcpy(fetch, before, sizeof fetch);
     memcpy(store, before, sizeof store);
     memcpy(keep, before, sizeof keep);
-    uint32_t answer = chanv_needs(job, &told, extents, 4, fetch, 4, store, 4, keep, 4);
-    size_t written = answer == CHANV_LISTED ? 1 : 0, left = sizeof *before * (4 - written);
-    if (told.extents != 0 || told.fetch != written || told.store != written || told.keep != written
+    memcpy(kept, kept_before, sizeof kept);
+    uint32_t answer =
+        chanv_needs(job, &told, extents, 4, fetch, 4, store, 4, keep, 4, kept, sizeof kept);
+    int is_listed = answer == CHANV_OK;
+    size_t written = is_listed ? 1 : 0, left = sizeof *before * (4 - written);
+    size_t kept_len = is_listed ? 24 : 0;
+    if (told.extent_count != 0 || told.fetch_count != written || told.store_count != written
+        || told.keep_count != written || told.kept_len != kept_len
         || memcmp(extents, before, sizeof extents) != 0
         || memcmp(fetch + written, before, left) != 0
         || memcmp(store + written, before, left) != 0 || memcmp(keep + written, before, left) != 0
-        || (answer != CHANV_LISTED && memcmp(&told, &empty, sizeof empty) != 0))
+        || memcmp(kept, storage + 0x800, kept_len) != 0
+        || memcmp(kept + kept_len, kept_before, sizeof kept - kept_len) != 0
+        || (!is_listed && !is_as(&told, &none)))
         return 99;
-    return answer == CHANV_LISTED ? say("1 1 1\n") : (int)answer;
+    return is_listed ? say("1 1 1\n") : (int)answer;
+}
+
+/* Into ample memory, and without memory a program of zeros. */
+static int take_in(const struct chanv_job *job)
+{
+    static const struct chanv_program none;
+    struct chanv_needed needed;
+    struct chanv_program taken;
+    uint8_t memory[256];
+    size_t len = 7;
+    memset(&taken, 7, sizeof taken);
+    uint32_t answer = chanv_take_in(job, memory, sizeof memory, &len, &taken, &needed);
+    if (answer != CHANV_OK && (len != 0 || memcmp(&taken, &none, sizeof none) != 0))
+        return 99;
+    return answer == CHANV_OK && len <= sizeof memory ? say("yes\n") : (int)answer;
 }
 
 /* The search loop, and what it needs. */
@@ -127,7 +154,7 @@ static const struct chanv_program program = {
             .fetch = {fetched, 1},
             .store = {stored, 1},
             .keep = {kept, 1},
-            .storage_len = sizeof storage,
+            .storage_len = SMALL,
             .mask = 0x58,
         },
     .kept = {storage + 0x800, 0x18},
@@ -136,41 +163,32 @@ static const struct chanv_program program = {
 };
 
 /* With itself in flight: it keeps no byte that it stores into. */
-static int may_start(const struct chanv_job *job)
+static int check_start(const struct chanv_job *job)
 {
     static const struct chanv_refusal none;
     struct chanv_refusal refusal;
     memset(&refusal, 7, sizeof refusal);
-    uint32_t answer = chanv_may_start(job, &program, 1, &program, &refusal);
+    uint32_t answer = chanv_check_start(job, &program, 1, &program, &refusal);
     if (memcmp(&refusal, &none, sizeof none) != 0)
         return 99;
     return answer == CHANV_YES ? say("yes\n") : (int)answer;
 }
 
-static int may_write(const struct chanv_job *job)
+static int check_write(const struct chanv_job *job)
 {
     static const struct chanv_area area = {0x900, 5};
     struct chanv_refusal refusal;
     (void)job;
-    uint32_t answer = chanv_may_write(&program, 1, &area, &refusal);
+    uint32_t answer = chanv_check_write(&program, 1, &area, &refusal);
     return answer == CHANV_YES ? say("yes\n") : (int)answer;
-}
-
-static int copy_kept(const struct chanv_job *job)
-{
-    uint8_t bytes[0x18];
-    size_t count;
-    uint32_t answer = chanv_copy_kept(job->storage, kept, 1, bytes, sizeof bytes, &count);
-    int is_same = memcmp(bytes, storage + 0x800, sizeof bytes) == 0;
-    return answer == CHANV_LISTED && is_same ? say("yes\n") : (int)answer + 90;
 }
 
 static int find(const struct chanv_job *job)
 {
     uint32_t starts[] = {7, 7};
     size_t count = 7;
-    uint32_t answer = chanv_find(job->storage, job->device, starts, 2, &count);
-    int is_listed = answer == CHANV_LISTED;
+    uint32_t answer = chanv_find(&job->storage, job->device, starts, 2, &count);
+    int is_listed = answer == CHANV_OK;
     if (count != (size_t)is_listed || starts[0] != (is_listed ? 0x800 : 7) || starts[1] != 7)
         return 99;
     return is_listed ? say("1\n") : (int)answer;
@@ -180,33 +198,23 @@ static const struct call {
     const char *name;
     int (*make)(const struct chanv_job *job);
 } calls[] = {
-    {"verify", verify},       {"list", list},           {"why", why},
-    {"text", text},           {"open_text", open_text}, {"needs", needs},
-    {"may_start", may_start}, {"may_write", may_write}, {"copy_kept", copy_kept},
-    {"find", find},
+    {"verify", verify},           {"list", list},
+    {"why", why},                 {"text", text},
+    {"open_text", open_text},     {"needs", needs},
+    {"take_in", take_in},         {"check_start", check_start},
+    {"check_write", check_write}, {"find", find},
 };
 
 int main(int argc, char **argv)
 {
-    struct chanv_extent cylinders[] = {{10, 19}};
-    struct chanv_area fetch[] = {{0x900, 0x10}}, store[] = {{0xA00, 0x100}}, over[] = {{0x818, 8}};
-    struct chanv_job job = {
-        .storage = {storage, sizeof storage},
-        .extents = {cylinders, 1},
-        .fetch = {fetch, 1},
-        .store = {store, 1},
-        .start = 0x800,
-        .limit = CHANV_USUAL_LIMIT,
-        .device = 2314,
-    };
-    put(0x800, 0x3100090040000005);
-    put(0x808, 0x0800080000000000);
-    put(0x810, 0x06000A0020000050);
+    static const struct chanv_area over[] = {{0x818, 8}};
+    struct chanv_job job = good;
+    fill(search_loop);
     const char *name = argc < 2 ? "setup" : argv[1];
     if (strcmp(name, "why") == 0 || strstr(name, "text") != NULL) {
         put(0x810, 0x0600081840000008);
         put(0x818, 0x0300000000000001);
-        job.store.at = over;
+        job.store.at = over, job.limit = 4;
     }
     for (size_t i = 0; i < sizeof calls / sizeof *calls; i++)
         if (strcmp(name, calls[i].name) == 0)

@@ -2,35 +2,21 @@
  * may. What a call answers then means nothing. But it has to return, with one of the codes that the
  * header gives it, and may write only what it was handed for that.
  *
- *     race SECONDS CALL..     each CALL, such as verify or may_start, for so many seconds
+ *     race SECONDS CALL..     each CALL, such as verify or check_start, for so many seconds
  *
  * The last is `ask` of examples/c/emulator.c, whose answer is about its copy. So what it says of
- * the needs has to agree with the verdict on the copy, at any time after.
- *
- * It prints a line for each CALL: how many calls it made, and how often each code came. The status
- * is 0; it is 1 where a call did anything else, and a line says what.
+ * the needs has to agree with the verdict on the copy, at any time after. A line for each CALL says
+ * how often each code came. The status is 1 where a call did anything else, and a line says what.
  */
 #define _POSIX_C_SOURCE 200809L
-#include <chanv.h>
+#include "asking.h"
 #include <emulator.c>
-#include <inttypes.h>
 #include <pthread.h>
-#include <stdalign.h>
 #include <stdatomic.h>
-#include <stdio.h>
-#include <stdlib.h>
-#include <string.h>
 #include <time.h>
 
-enum { STORAGE = 0x1000, PAST_STORAGE = 0x100, FENCE = 128, CODES = 12 };
-enum { LISTS = 4, MOST_ROWS = 32, MOST_BYTES = 2048 };
-enum { PROGRAM = 0x800, PROGRAM_END = 0x868, DATA = 0x900, DATA_END = 0x938 };
-
-/* Eight bytes of storage: a CCW, or what a CCW points to. */
-struct word {
-    uint32_t address;
-    uint64_t value;
-};
+enum { CODES = 12, LISTS = 5, MOST_ROWS = 32, ROW = MOST_HANDED / MOST_ROWS };
+enum { PROGRAM_END = 0x868, DATA = 0x900, DATA_END = 0x938 };
 
 /* A program with all that is looked at while it is judged. It may run, and has fourteen places. */
 static const struct word right[] = {
@@ -84,83 +70,36 @@ static const struct wrong {
 
 enum { RIGHT = sizeof right / sizeof *right, WRONG = sizeof wrongs / sizeof *wrongs };
 
-static union {
-    uint8_t bytes[STORAGE + PAST_STORAGE];
-    uint64_t words[(STORAGE + PAST_STORAGE) / 8];
-} storage, before;
-
-static const struct chanv_extent cylinders[] = {{10, 19}};
+static uint8_t before[SMALL];
 static const struct chanv_area fetch[] = {{0x900, 0x100}}, store[] = {{0x800, 0x700}};
-static const struct chanv_job job = {
-    .storage = {storage.bytes, STORAGE},
-    .extents = {cylinders, 1},
-    .fetch = {fetch, 1},
-    .store = {store, 1},
-    .start = PROGRAM,
-    .limit = 64,
-    .device = 2314,
-    .mask = 0x00,
-};
+static struct chanv_job job;
 
-/* The word as it stands in storage: the high byte comes first. */
-static uint64_t as_stored(uint64_t value)
-{
-    uint8_t bytes[8];
-    uint64_t stored;
-    for (int i = 0; i < 8; i++)
-        bytes[i] = (uint8_t)(value >> (56 - 8 * i));
-    memcpy(&stored, bytes, 8);
-    return stored;
-}
+/* ---- the second thread */
 
 /* Writes the word, in one go or byte by byte. */
-static void put(struct word word, int in_one_go)
+static void rewrite_word(struct word word, int in_one_go)
 {
-    uint64_t stored = as_stored(word.value);
-    if (in_one_go) {
-        *(volatile uint64_t *)&storage.words[word.address / 8] = stored;
-        return;
-    }
-    uint8_t bytes[8];
-    memcpy(bytes, &stored, 8);
-    for (int i = 0; i < 8; i++)
-        *(volatile uint8_t *)&storage.bytes[word.address + i] = bytes[i];
+    uint64_t in_order = __builtin_bswap64(word.value);
+    if (in_one_go)
+        *(volatile uint64_t *)(void *)&storage[word.address] = in_order;
+    for (int i = 0; !in_one_go && i < 8; i++)
+        *(volatile uint8_t *)&storage[word.address + i] = (uint8_t)(in_order >> (8 * i));
 }
 
 static void put_right(int in_one_go)
 {
     for (int i = 0; i < RIGHT; i++)
-        put(right[i], in_one_go);
-}
-
-/* The program, and behind it the hundred places to which only a wrong transfer leads. */
-static void fill_storage(void)
-{
-    put_right(1);
-    for (uint32_t i = 0; i < 100; i++)
-        put((struct word){0xC00 + 8 * i, 0x0300000040000001}, 1);
-    before = storage;
-}
-
-/* A number that nobody foresees, from the one before it. */
-static uint32_t next(uint64_t *random)
-{
-    *random ^= *random << 13;
-    *random ^= *random >> 7;
-    *random ^= *random << 17;
-    return (uint32_t)(*random >> 32);
+        rewrite_word(right[i], in_one_go);
 }
 
 /* Mostly a part of what a call takes. Now and then it gives the processor up, so that a call is
  * interrupted too where there is but one. */
 static void wait_a_while(uint64_t *random)
 {
-    if (next(random) % 64 == 0) {
-        struct timespec while_asleep = {0, next(random) % 50000};
+    struct timespec while_asleep = {0, below(random, 50000)};
+    if (below(random, 64) == 0)
         nanosleep(&while_asleep, NULL);
-        return;
-    }
-    for (volatile uint32_t i = next(random) % 4096; i > 0; i--)
+    for (volatile uint32_t i = below(random, 4096); i > 0; i--)
         ;
 }
 
@@ -171,26 +110,21 @@ static void *rewrite(void *nothing)
 {
     uint64_t random = 0x9E3779B97F4A7C15;
     while (!is_over) {
-        for (uint32_t i = next(&random) % 4; i > 0; i--)
-            put(wrongs[next(&random) % WRONG].word, next(&random) % 2);
-        if (next(&random) % 4 == 0) {
-            uint32_t address = right[next(&random) % RIGHT].address + next(&random) % 8;
-            *(volatile uint8_t *)&storage.bytes[address] = (uint8_t)next(&random);
+        for (uint32_t i = below(&random, 4); i > 0; i--)
+            rewrite_word(wrongs[below(&random, WRONG)].word, (int)below(&random, 2));
+        if (below(&random, 4) == 0) {
+            uint32_t address = right[below(&random, RIGHT)].address + below(&random, 8);
+            *(volatile uint8_t *)&storage[address] = (uint8_t)below(&random, 256);
         }
         wait_a_while(&random);
-        put_right(next(&random) % 2);
+        put_right((int)below(&random, 2));
         wait_a_while(&random);
     }
     return nothing;
 }
 
-/* Bytes that a call is handed to write, from FENCE on, among bytes that it has to leave alone. */
-struct fenced {
-    alignas(16) uint8_t bytes[FENCE + MOST_BYTES + FENCE];
-    size_t handed;
-};
+/* ---- the calls, each with room for so many rows in its lists, of which it has at most five */
 
-static struct fenced outcome, lists[LISTS], untouched;
 static const char *asked = "before the race";
 
 static void fail(const char *what, uint32_t code)
@@ -199,162 +133,109 @@ static void fail(const char *what, uint32_t code)
     exit(1);
 }
 
-static void *hand(struct fenced *to, size_t handed)
+static struct handed outcome, lists[LISTS];
+static size_t outcome_size, sizes[LISTS];
+
+/* A list of so many rows of this size. */
+static void *rows_of(int list, size_t size, size_t room)
 {
-    memcpy(to->bytes, untouched.bytes, sizeof to->bytes);
-    to->handed = handed;
-    return to->bytes + FENCE;
+    sizes[list] = size * room;
+    return hand(&lists[list]);
 }
 
-/* Hands so many rows of a list, and the lists behind it not at all. */
-static void *hand_last(int list, size_t handed)
+static void *answer_of(size_t size)
 {
-    for (int i = list + 1; i < LISTS; i++)
-        hand(&lists[i], 0);
-    return hand(&lists[list], handed);
-}
-
-static int is_left_alone(const struct fenced *room)
-{
-    size_t past = FENCE + room->handed;
-    return memcmp(room->bytes, untouched.bytes, FENCE) == 0
-           && memcmp(room->bytes + past, untouched.bytes + past, sizeof room->bytes - past) == 0;
-}
-
-static int is_as_before(uint32_t first, uint32_t past)
-{
-    return memcmp(storage.bytes + first, before.bytes + first, past - first) == 0;
-}
-
-/* What nobody was to write. The job itself, its extents and its areas can't be written. */
-static void look_at_the_rest(uint32_t code)
-{
-    if (!is_left_alone(&outcome))
-        fail("written beside the outcome", code);
+    outcome_size = size;
+    memset(sizes, 0, sizeof sizes);
     for (int i = 0; i < LISTS; i++)
-        if (!is_left_alone(&lists[i]))
-            fail("written beside the rows", code);
-    if (!is_as_before(0, PROGRAM) || !is_as_before(PROGRAM_END, DATA)
-        || !is_as_before(DATA_END, STORAGE + PAST_STORAGE))
-        fail("written to storage", code);
+        hand(&lists[i]);
+    return hand(&outcome);
+}
+
+/* No list has more rows than room, if it is wanted. */
+static uint32_t within(uint32_t code, int is_listed, size_t count, size_t room)
+{
+    if (is_listed && room != 0 && count > room)
+        fail("more rows than room", code);
+    return code;
 }
 
 static uint32_t verify(size_t room)
 {
-    struct chanv_verdict *verdict = hand(&outcome, sizeof *verdict);
     (void)room;
-    hand_last(0, 0);
-    return chanv_verify(&job, verdict);
+    return chanv_verify(&job, answer_of(sizeof(struct chanv_verdict)));
 }
 
 static uint32_t list(size_t room)
 {
-    size_t *count = hand(&outcome, sizeof *count);
-    struct chanv_place *rows = hand_last(0, sizeof *rows * room);
-    uint32_t code = chanv_list(&job, rows, room, count);
-    if (code == CHANV_LISTED && *count > room)
-        fail("more places than rows", code);
-    return code;
+    size_t *count = answer_of(sizeof *count);
+    uint32_t code = chanv_list(&job, rows_of(0, sizeof(struct chanv_place), room), room, count);
+    return within(code, code == CHANV_OK, *count, room);
 }
 
-/* The second path gets so much room as the first one leaves. */
 static uint32_t why(size_t room)
 {
-    struct chanv_explanation *told = hand(&outcome, sizeof *told);
-    struct chanv_place *rows = hand(&lists[0], sizeof *rows * room);
-    size_t second_room = MOST_ROWS - room;
-    struct chanv_place *second_rows = hand_last(1, sizeof *second_rows * second_room);
-    uint32_t code = chanv_why(&job, rows, room, second_rows, second_room, told);
-    if (code == CHANV_NO && (told->path > room || told->second_path > second_room))
-        fail("a path of more places than rows", code);
-    return code;
+    struct chanv_explanation *told = answer_of(sizeof *told);
+    size_t size = sizeof(struct chanv_place), second = MOST_ROWS - room;
+    uint32_t code =
+        chanv_why(&job, rows_of(0, size, room), room, rows_of(1, size, second), second, told);
+    within(code, code == CHANV_NO, told->second_path_count, second);
+    return within(code, code == CHANV_NO, told->path_count, room);
 }
 
-/* Some 64 bytes take a row of the text. */
 static uint32_t text(size_t room)
 {
-    size_t *length = hand(&outcome, sizeof *length), bytes = MOST_BYTES / MOST_ROWS * room;
-    char *buffer = hand_last(0, bytes);
-    uint32_t code = chanv_text(&job, buffer, bytes, length);
-    if (code <= CHANV_NO && *length > bytes)
-        fail("a longer text than there is room for", code);
-    return code;
+    size_t *len = answer_of(sizeof *len), bytes = ROW * room;
+    uint32_t code = chanv_text(&job, rows_of(0, 1, bytes), bytes, len);
+    return within(code, code <= CHANV_NO, *len, bytes);
 }
 
 static uint32_t needs(size_t room)
 {
-    struct chanv_needed *told = hand(&outcome, sizeof *told);
-    struct chanv_extent *extents = hand(&lists[0], sizeof *extents * room);
-    struct chanv_area *fetched = hand(&lists[1], sizeof *fetched * room);
-    struct chanv_area *stored = hand(&lists[2], sizeof *stored * room);
-    struct chanv_area *kept = hand_last(3, sizeof *kept * room);
-    uint32_t code = chanv_needs(&job, told, extents, room, fetched, room, stored, room, kept, room);
-    if (code == CHANV_LISTED
-        && (told->extents > room || told->fetch > room || told->store > room || told->keep > room))
-        fail("more to list than rows", code);
-    return code;
+    struct chanv_needed *told = answer_of(sizeof *told);
+    size_t size = sizeof(struct chanv_area), bytes = ROW * room;
+    uint32_t code = chanv_needs(&job, told, rows_of(0, sizeof(struct chanv_extent), room), room,
+                                rows_of(1, size, room), room, rows_of(2, size, room), room,
+                                rows_of(3, size, room), room, rows_of(4, 1, bytes), bytes);
+    const size_t counts[] = {told->extent_count, told->fetch_count, told->store_count,
+                             told->keep_count};
+    for (int i = 0; i < 4; i++)
+        within(code, code == CHANV_OK, counts[i], room);
+    return within(code, code == CHANV_OK, told->kept_len, bytes);
 }
 
-/* What `ask_once` was told, as a program to remember. */
-static uint32_t remember(const struct asked *told, const struct chanv_job *about, uint8_t *kept,
-                         size_t room, struct chanv_program *program)
+static uint32_t take_in(size_t room)
 {
-    return chanv_remember(about, &told->needed, told->extents, told->fetch, told->store, told->keep,
-                          kept, room, program);
+    struct chanv_program *program = answer_of(sizeof *program);
+    struct chanv_needed needed;
+    size_t len, bytes = ROW * room;
+    uint8_t *memory = rows_of(0, 1, bytes);
+    uint32_t code = chanv_take_in(&job, memory, bytes, &len, program, &needed);
+    size_t past = code == CHANV_OK ? (size_t)(program->kept.at - memory) + program->kept.len : 0;
+    within(code, code == CHANV_OK, past, len);
+    return within(code, code == CHANV_OK, len, bytes);
 }
 
 /* The program while it is right, with all that is remembered of it, which no call may write. */
-static struct right {
-    struct asked asked;
-    uint8_t kept[STORAGE];
+static struct remembered {
     struct chanv_program program;
+    uint8_t memory[1024];
 } remembered, remembered_before;
 
-static void look_at_needs(void)
+static uint32_t check_start(size_t room)
 {
-    uint32_t code = ask_once(&remembered.asked, &job);
-    if (code == CHANV_LISTED)
-        code = remember(&remembered.asked, &job, remembered.kept, STORAGE, &remembered.program);
-    if (code != CHANV_LISTED)
-        fail("no needs of the right program", code);
-    remembered_before = remembered;
-}
-
-static uint32_t with_all_left_alone(uint32_t code)
-{
-    if (memcmp(&remembered, &remembered_before, sizeof remembered) != 0)
-        fail("written to the program handed in", code);
-    return code;
-}
-
-static uint32_t may_start(size_t room)
-{
-    struct chanv_refusal *refusal = hand(&outcome, sizeof *refusal);
-    const struct chanv_program *program = &remembered.program;
+    struct chanv_refusal *refusal = answer_of(sizeof *refusal);
     (void)room;
-    hand_last(0, 0);
-    return with_all_left_alone(chanv_may_start(&job, program, 1, program, refusal));
+    return chanv_check_start(&job, &remembered.program, 1, &remembered.program, refusal);
 }
 
 /* This doesn't look at storage, so its answer is always the same. */
-static uint32_t may_write(size_t room)
+static uint32_t check_write(size_t room)
 {
-    struct chanv_refusal *refusal = hand(&outcome, sizeof *refusal);
-    const struct chanv_area area = {0, PROGRAM};
+    static const struct chanv_area area = {0, START};
+    struct chanv_refusal *refusal = answer_of(sizeof *refusal);
     (void)room;
-    hand_last(0, 0);
-    return with_all_left_alone(chanv_may_write(&remembered.program, 1, &area, refusal));
-}
-
-static uint32_t copy_kept(size_t room)
-{
-    size_t *count = hand(&outcome, sizeof *count), bytes = MOST_BYTES / MOST_ROWS * room;
-    uint8_t *kept = hand_last(0, bytes);
-    const struct chanv_areas areas = remembered.program.rows.keep;
-    uint32_t code = chanv_copy_kept(job.storage, areas.at, areas.len, kept, bytes, count);
-    if (code == CHANV_LISTED && *count > bytes)
-        fail("more kept bytes than there is room for", code);
-    return with_all_left_alone(code);
+    return chanv_check_write(&remembered.program, 1, &area, refusal);
 }
 
 /* How often storage had what is kept, and how often it hadn't. */
@@ -362,14 +243,14 @@ static uint64_t there, changed;
 
 static uint32_t emulator(size_t room)
 {
-    static uint8_t copy[STORAGE];
+    static uint8_t copy[SMALL];
     static struct asked asked_by_it = {.copy = copy};
     struct chanv_job still = job;
     struct chanv_verdict verdict;
     (void)room;
-    hand(&outcome, 0), hand_last(0, 0);
+    answer_of(0);
     uint32_t code = ask(&asked_by_it, &job);
-    if (code != CHANV_LISTED)
+    if (code != CHANV_OK)
         return code;
     still.storage.at = copy;
     if (may_begin(&asked_by_it, &still) != (chanv_verify(&still, &verdict) == CHANV_YES))
@@ -389,76 +270,89 @@ static const struct call {
     {"why", why, CODES},
     {"text", text, CODES},
     {"needs", needs, CODES},
-    {"may_start", may_start, CHANV_TOO_MANY_PLACES},
-    {"may_write", may_write, CHANV_TOO_MANY_PLACES},
-    {"copy_kept", copy_kept, CHANV_NO},
+    {"take_in", take_in, CODES},
+    {"check_start", check_start, CHANV_TOO_MANY_PLACES},
+    {"check_write", check_write, CHANV_TOO_MANY_PLACES},
     {"emulator", emulator, CHANV_NO_ROOM},
 };
 
+/* ---- what each call has to leave alone */
+
+static void look_at_the_rest(uint32_t code)
+{
+    static const uint32_t alone[][2] = {{0, START}, {PROGRAM_END, DATA}, {DATA_END, SMALL}};
+    if (!is_left_alone(&outcome, outcome_size))
+        fail("written beside the outcome", code);
+    for (int i = 0; i < LISTS; i++)
+        if (!is_left_alone(&lists[i], sizes[i]))
+            fail("written beside the rows", code);
+    for (int i = 0; i < 3; i++)
+        if (memcmp(storage + alone[i][0], before + alone[i][0], alone[i][1] - alone[i][0]) != 0)
+            fail("written to storage", code);
+    if (memcmp(&remembered, &remembered_before, sizeof remembered) != 0)
+        fail("written to the program handed in", code);
+}
+
 /* The program is right, and each wrong word does what it is there for. */
-static void look_at_each_word(void)
+static void begin(void)
 {
     struct chanv_verdict verdict;
-    if (chanv_verify(&job, &verdict) != CHANV_YES)
-        fail("the program is wrong", verdict.reason);
+    struct chanv_needed needed;
+    size_t len;
+    job = good, job.fetch.at = fetch, job.store.at = store, job.limit = 64;
+    put_right(1);
+    for (uint32_t i = 0; i < 100; i++)
+        put(0xC00 + 8 * i, 0x0300000040000001);
+    memcpy(before, storage, SMALL);
     for (int i = 0; i < WRONG; i++) {
-        put(wrongs[i].word, 1);
-        uint32_t code = chanv_verify(&job, &verdict);
         uint32_t wanted = wrongs[i].reason == 0 ? CHANV_TOO_MANY_PLACES : CHANV_NO;
-        if (code != wanted || verdict.reason != wrongs[i].reason)
+        rewrite_word(wrongs[i].word, 1);
+        if (chanv_verify(&job, &verdict) != wanted || verdict.reason != wrongs[i].reason)
             fail("another reason", verdict.reason);
         put_right(1);
     }
+    uint32_t code = chanv_take_in(&job, remembered.memory, sizeof remembered.memory, &len,
+                                  &remembered.program, &needed);
+    if (code != CHANV_OK || chanv_verify(&job, &verdict) != CHANV_YES)
+        fail("the program is wrong", code);
+    remembered_before = remembered;
 }
 
-static int64_t milliseconds(void)
+static double seconds_now(void)
 {
     struct timespec now;
     clock_gettime(CLOCK_MONOTONIC, &now);
-    return (int64_t)now.tv_sec * 1000 + now.tv_nsec / 1000000;
+    return (double)now.tv_sec + (double)now.tv_nsec / 1e9;
 }
 
-static void make_calls(const struct call *call, long seconds)
+static void make_calls(const struct call *call, double seconds)
 {
-    uint64_t made[CODES] = {0}, all = 0, random = 0x2545F4914F6CDD1D;
-    int64_t end = milliseconds() + 1000 * (int64_t)seconds;
+    uint64_t made[CODES] = {0}, random = 0x2545F4914F6CDD1D;
     asked = call->name;
-    while (milliseconds() < end) {
-        uint32_t code = call->make(next(&random) % (MOST_ROWS + 1));
+    for (double end = seconds_now() + seconds; seconds_now() < end;) {
+        uint32_t code = call->make(below(&random, MOST_ROWS + 1));
         look_at_the_rest(code);
         if (code >= CODES || code == call->never)
             fail("no code of this call", code);
-        made[code]++, all++;
+        made[code]++;
     }
-    printf("%s: %" PRIu64 " calls", call->name, all);
+    printf("%s", call->name);
     for (int code = 0; code < CODES; code++)
         if (made[code] != 0)
             printf(", %" PRIu64 " times %d", made[code], code);
     printf("\n");
-    fflush(stdout);
-}
-
-static const struct call *call_of(const char *name)
-{
-    for (size_t i = 0; i < sizeof calls / sizeof *calls; i++)
-        if (strcmp(calls[i].name, name) == 0)
-            return &calls[i];
-    fail("no such call", 0);
-    return NULL;
 }
 
 int main(int argc, char **argv)
 {
     pthread_t rewriting;
-    long seconds = argc < 2 ? 0 : atol(argv[1]);
-    fill_storage();
-    memset(untouched.bytes, 0x77, sizeof untouched.bytes);
-    look_at_each_word();
-    look_at_needs();
+    begin();
     if (pthread_create(&rewriting, NULL, rewrite, NULL) != 0)
         fail("no second thread", 0);
     for (int i = 2; i < argc; i++)
-        make_calls(call_of(argv[i]), seconds);
+        for (size_t call = 0; call < sizeof calls / sizeof *calls; call++)
+            if (strcmp(calls[call].name, argv[i]) == 0)
+                make_calls(&calls[call], atof(argv[1]));
     if (there + changed != 0)
         printf("kept bytes: there %" PRIu64 " times, changed %" PRIu64 " times\n", there, changed);
     is_over = 1;

@@ -1,48 +1,42 @@
 /* Eight threads ask about starts and writes at once, over the same programs, each with a job of its
  * own. Each answer has to be the one that was given before, with one thread. It prints how many
  * answers differed. */
-#include <chanv.h>
+#include "asking.h"
 #include <pthread.h>
-#include <stdio.h>
 
-enum { THREADS = 8, ROUNDS = 20000, ROOM = 4 };
+enum { THREADS = 8, ROUNDS = 20000, MEMORY = 256 };
 
-static uint8_t storage[0x1000], kept[0x18];
-static const struct chanv_extent cylinders[] = {{0, 202}};
-static const struct chanv_area all[] = {{0, sizeof storage}};
+static uint8_t memory[MEMORY];
 static const uint8_t masks[THREADS] = {0x00, 0x40, 0x80, 0xC0, 0x08, 0x10, 0x18, 0x58};
 static struct chanv_program in_flight[2], program;
 
 static struct chanv_job job_of(int thread)
 {
-    return (struct chanv_job){
-        .storage = {storage, sizeof storage},
-        .extents = {cylinders, 1},
-        .fetch = {all, 1},
-        .store = {all, thread % 2},
-        .start = 0x800,
-        .limit = CHANV_USUAL_LIMIT,
-        .device = thread == 7 ? 2311 : 2314,
-        .mask = masks[thread],
-    };
+    struct chanv_job job = generous();
+    job.store.len = thread % 2;
+    job.device = thread == 7 ? 2311 : 2314;
+    job.mask = masks[thread];
+    return job;
 }
 
 struct answers {
-    uint32_t start, write, copy;
+    uint32_t start, write, taken_in;
     struct chanv_refusal refusals[2];
-    size_t count;
-    uint8_t bytes[sizeof kept];
+    size_t len, kept_len;
+    uint8_t memory[MEMORY];
 };
 
 static void ask(int thread, struct answers *told)
 {
     struct chanv_job job = job_of(thread);
     struct chanv_area area = {0x7F8, 8 + (uint32_t)thread};
+    struct chanv_program taken;
+    struct chanv_needed needed;
     memset(told, 0, sizeof *told);
-    told->start = chanv_may_start(&job, in_flight, 2, &program, &told->refusals[0]);
-    told->write = chanv_may_write(in_flight, 2, &area, &told->refusals[1]);
-    told->copy = chanv_copy_kept(job.storage, program.rows.keep.at, program.rows.keep.len,
-                                 told->bytes, sizeof told->bytes, &told->count);
+    told->start = chanv_check_start(&job, in_flight, 2, &program, &told->refusals[0]);
+    told->write = chanv_check_write(in_flight, 2, &area, &told->refusals[1]);
+    told->taken_in = chanv_take_in(&job, told->memory, MEMORY, &told->len, &taken, &needed);
+    told->kept_len = taken.kept.len;
 }
 
 struct work {
@@ -65,19 +59,13 @@ static void *ask_often(void *about)
 
 int main(void)
 {
-    static const uint8_t loop[] = {0x31, 0, 0x09, 0, 0x40, 0, 0, 5,    8, 0,    8, 0,
-                                   0,    0, 0,    0, 6,    0, 0x0A, 0, 0x20, 0, 0, 0x50};
-    static struct chanv_extent extents[ROOM];
-    static struct chanv_area fetch[ROOM], store[ROOM], keep[ROOM];
     static struct work works[THREADS];
     struct chanv_job job = job_of(1);
     struct chanv_needed needed;
     unsigned long differed = 0;
-    memcpy(storage + 0x800, loop, sizeof loop);
-    if (chanv_needs(&job, &needed, extents, ROOM, fetch, ROOM, store, ROOM, keep, ROOM)
-            != CHANV_LISTED
-        || chanv_remember(&job, &needed, extents, fetch, store, keep, kept, sizeof kept, &program)
-               != CHANV_LISTED)
+    fill(search_loop);
+    size_t len;
+    if (chanv_take_in(&job, memory, MEMORY, &len, &program, &needed) != CHANV_OK)
         return 1;
     in_flight[1] = program;
     for (int i = 0; i < THREADS; i++) {

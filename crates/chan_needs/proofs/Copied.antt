@@ -17,7 +17,7 @@ use Rattle.chan_needs.proofs.Holding.{nowhere}
 abbrev pub bytes_of : List ℕ → Area → List ℕ
 bytes_of s a = take a.len (drop a.start s)
 
-length_of : (s : List ℕ) (a : Area) → IsInside s a → length (bytes_of s a) ≡ a.len
+pub length_of : (s : List ℕ) (a : Area) → IsInside s a → length (bytes_of s a) ≡ a.len
 length_of s a h = let l = length-take a.len (drop a.start s) in let d = length-drop a.start s in omega arith
 
 -- ---- one area more

@@ -2,15 +2,18 @@
 use Rattle.chan_needs.proofs.Names.{and_from, and_parts, Area, AreExactly, arith, both_ways}
 use Rattle.chan_needs.proofs.Names.{cases_lt, drop, end_of, false, get_or, has_cylinder, inl, inr}
 use Rattle.chan_needs.proofs.Names.{IsByteOf, IsLeastOrNone, IsMerged, le-leb, leb-true, length}
-use Rattle.chan_needs.proofs.Names.{lies_in, lies_in-cases, lies_in-nil, List, nat_le, None, Option}
+use Rattle.chan_needs.proofs.Names.{lies_in, lies_in-cases, lies_in-nil, List, map, nat_le, None}
+use Rattle.chan_needs.proofs.Names.{Option}
 use Rattle.chan_needs.proofs.Names.{rules, Some, subst, suc, sym, take, true, zero, ℕ, [], ◌++◌}
 use Rattle.chan_needs.proofs.Names.{◌+◌, ◌<◌, ◌↔◌, ◌∷◌, ◌≡◌, ◌≤◌, ◌⊎◌}
 use Rattle.std.proofs.Common.{◌&&◌, ◌||◌}
 use Rattle.std.proofs.lemmas.Bool.{false_from_ne_true, or_cases, or_left, or_right}
-use Rattle.std.proofs.lemmas.List.{take_all, take_more}
+use Rattle.std.proofs.lemmas.List.{map-append, take_all, take_more}
 use Rattle.std.proofs.lemmas.List.Folds.{list_any-append}
 use Rattle.chan_areas.specs.Merged.{BeginAbove}
 use Rattle.chan_needs.specs.LeastBytes.{lesser_of}
+use Rattle.chan_needs.specs.Rows.{pair}
+use Rattle.chan_needs.specs.declared.extent.Extent.{Extent}
 use Rattle.chan_needs.proofs.Holding.{nowhere}
 use Rattle.chan_areas.proofs.Gaps.{least_same}
 use Rattle.chan_areas.proofs.Merging.{lies_in-append, lies_in-first}
@@ -50,14 +53,20 @@ in_run : (r : ℕ × ℕ) (n : ℕ) → (has_cylinder (r ∷ []) n ≡ true) ↔
 unfolding has_cylinder
 in_run r n = search (rules, or_cases, or_left, and_from, and_parts, le-leb, leb-true)
 
-runs_more : (xs : List (ℕ × ℕ)) (i n : ℕ) → i < length xs → (has_cylinder (take (i + 1) xs) n ≡ true) ↔ ((has_cylinder (take i xs) n ≡ true) ⊎ InRun (get_or xs i (0, 0)) n)
-runs_more xs i n l = rw (take_more xs i (0, 0) l) (search (rules, has_cylinder-append, in_run, or_cases, or_left, or_right))
+-- no run
+abbrev no_run : Extent
+no_run = record { first = 0; last = 0 }
+
+runs_more : (xs : List Extent) (i n : ℕ) → i < length xs → (has_cylinder (map pair (take (i + 1) xs)) n ≡ true) ↔ ((has_cylinder (map pair (take i xs)) n ≡ true) ⊎ InRun (pair (get_or xs i no_run)) n)
+runs_more xs i n l =
+    rw (take_more xs i no_run l, map-append pair (take i xs) (get_or xs i no_run ∷ []))
+    (search (rules, has_cylinder-append, in_run, or_cases, or_left, or_right))
 
 pub least_area : (xs : List Area) (i : ℕ) (P : ℕ → Type 0) (o p q : Option ℕ) → i < length xs → q ≡ lesser_of o p → IsLeastOrNone (λ b. (lies_in (take i xs) b ≡ true) × P b) o → IsLeastOrNone (λ b. IsByteOf (get_or xs i nowhere) b × P b) p → IsLeastOrNone (λ b. (lies_in (take (i + 1) xs) b ≡ true) × P b) q
 least_area xs i P o p q l = least_more (λ b. lies_in (take i xs) b ≡ true) (IsByteOf (get_or xs i nowhere)) (λ b. lies_in (take (i + 1) xs) b ≡ true) P o p q (λ b. areas_more xs i b l)
 
-pub least_run : (xs : List (ℕ × ℕ)) (i : ℕ) (P : ℕ → Type 0) (o p q : Option ℕ) → i < length xs → q ≡ lesser_of o p → IsLeastOrNone (λ n. (has_cylinder (take i xs) n ≡ true) × P n) o → IsLeastOrNone (λ n. InRun (get_or xs i (0, 0)) n × P n) p → IsLeastOrNone (λ n. (has_cylinder (take (i + 1) xs) n ≡ true) × P n) q
-least_run xs i P o p q l = least_more (λ n. has_cylinder (take i xs) n ≡ true) (InRun (get_or xs i (0, 0))) (λ n. has_cylinder (take (i + 1) xs) n ≡ true) P o p q (λ n. runs_more xs i n l)
+pub least_run : (xs : List Extent) (i : ℕ) (P : ℕ → Type 0) (o p q : Option ℕ) → i < length xs → q ≡ lesser_of o p → IsLeastOrNone (λ n. (has_cylinder (map pair (take i xs)) n ≡ true) × P n) o → IsLeastOrNone (λ n. InRun (pair (get_or xs i no_run)) n × P n) p → IsLeastOrNone (λ n. (has_cylinder (map pair (take (i + 1) xs)) n ≡ true) × P n) q
+least_run xs i P o p q l = least_more (λ n. has_cylinder (map pair (take i xs)) n ≡ true) (InRun (pair (get_or xs i no_run))) (λ n. has_cylinder (map pair (take (i + 1) xs)) n ≡ true) P o p q (λ n. runs_more xs i n l)
 
 -- before the first row, and after the last
 pub no_byte : (b : ℕ) → lies_in [] b ≡ true → ⊥
@@ -70,8 +79,8 @@ pub no_cylinder : (n : ℕ) → has_cylinder [] n ≡ true → ⊥
 unfolding has_cylinder
 no_cylinder n h = cc
 
-pub least_in_runs : (xs : List (ℕ × ℕ)) (i : ℕ) (P : ℕ → Type 0) (o : Option ℕ) → length xs ≤ i → IsLeastOrNone (λ n. (has_cylinder (take i xs) n ≡ true) × P n) o → IsLeastOrNone (λ n. (has_cylinder xs n ≡ true) × P n) o
-least_in_runs xs i P o l = subst (λ ys. IsLeastOrNone (λ n. (has_cylinder ys n ≡ true) × P n) o) (take_all i xs l)
+pub least_in_runs : (xs : List Extent) (i : ℕ) (P : ℕ → Type 0) (o : Option ℕ) → length xs ≤ i → IsLeastOrNone (λ n. (has_cylinder (map pair (take i xs)) n ≡ true) × P n) o → IsLeastOrNone (λ n. (has_cylinder (map pair xs) n ≡ true) × P n) o
+least_in_runs xs i P o l = subst (λ (ys : List Extent). IsLeastOrNone (λ n. (has_cylinder (map pair ys) n ≡ true) × P n) o) (take_all i xs l)
 
 -- ---- merged from an area on
 

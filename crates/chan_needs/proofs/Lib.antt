@@ -13,6 +13,7 @@ pub mod Demanding
 pub mod Existing
 pub mod Holding
 pub mod Leasts
+pub mod Inside
 pub mod Kept
 pub mod Copied
 pub mod Seeking

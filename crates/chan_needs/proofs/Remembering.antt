@@ -7,10 +7,12 @@ use Rattle.chan_needs.proofs.Names.{lies_in-cases, lies_in-nil, List, open_job, 
 use Rattle.chan_needs.proofs.Names.{Remembered, rules, same_under_yes, Situation, Some, storage_of}
 use Rattle.chan_needs.proofs.Names.{stores, subst, sym, to_open, true, Yes, yes_clear, ℕ, [], ◌+◌}
 use Rattle.chan_needs.proofs.Names.{◌-◌, ◌<◌, ◌↔◌, ◌∙◌, ◌∷◌, ◌≡◌, ◌⊎◌}
+use Rattle.ckd_core.specs.declared.device.Device.{Device}
+use Rattle.ckd_core.specs.declared.device.Device.TheVariants.{D2311, D2314}
 use Rattle.chan_walk.specs.Counted.{IsCounted, with_storage}
 use Rattle.chan_needs.specs.Needs.{KeepsProgram}
 use Rattle.chan_needs.specs.Remembered.{AreInFlight, IsInFlight, IsRemembered, KeepsNone}
-use Rattle.chan_needs.specs.Remembered.{IsInFlightAt, IsWritten, WritesWell}
+use Rattle.chan_needs.specs.Remembered.{IsInFlightAt, IsWritten, WritesWell, device_number}
 use Rattle.chan_needs.specs.Start.{IsFit, IsBeside, StartsWell}
 use Rattle.chan_needs.specs.Rows.{HasStoreAndKeep, Listed, MayRunBeside, rows_of}
 use Rattle.chan_needs.specs.Asked.{FitIsAsked, IsFlightOf}
@@ -21,6 +23,13 @@ use Rattle.chan_needs.proofs.Asking.{asked_once}
 use Rattle.chan_needs.proofs.Beginning.{asked_may_start, others_may_change}
 use Rattle.chan_walk.proofs.Theory.Transport.{CarriesOver, same_guarded, same_data}
 use Rattle.chan_needs.proofs.Needing.{least_job, yes_is_open, yes_opens}
+
+-- two devices with one number are the same
+pub same_device : (d e : Device) → device_number d ≡ device_number e → d ≡ e
+same_device D2311 D2311 same = refl
+same_device D2311 D2314 same = let bad : 2311 ≡ 2314 = same in absurd (omega (arith, bad))
+same_device D2314 D2311 same = let bad : 2314 ≡ 2311 = same in absurd (omega (arith, bad))
+same_device D2314 D2314 same = refl
 
 -- ---- over another storage that holds what is kept
 
@@ -122,7 +131,7 @@ module _ (j : Job) (p : Remembered) (fs : List Remembered) (proper : IsProper j)
       same = λ b g. same_held (storage_of asked) (storage_of j) p.rows.keep.now p.kept.now b remembered.kept fit.kept ((remembered.needs.keep.bytes b).1 g);
     };
     start = remembered.start ∙ sym fit.program.start;
-    device = remembered.device ∙ sym fit.program.device;
+    device = same_device asked.device j.device (remembered.device ∙ sym fit.program.device);
   }
 
   grants : Grants asked j

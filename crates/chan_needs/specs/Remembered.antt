@@ -6,6 +6,8 @@ use Rattle.std.specs.List.{All, AllWithin, HoldsAt}
 use Rattle.ccw_core.specs.declared.areas.Area.{Area}
 use Rattle.ccw_core.specs.Areas.{end_of}
 use Rattle.ccw_core.specs.Ccw.{byte}
+use Rattle.ckd_core.specs.declared.device.Device.{Device}
+use Rattle.ckd_core.specs.declared.device.Device.TheVariants.{D2311, D2314}
 use Rattle.chan_walk.specs.declared.job.Job.{Job}
 use Rattle.chan_needs.specs.declared.remembered.Remembered.{Remembered}
 use Rattle.chan_walk.specs.declared.verdict.Verdict.TheVariants.{Yes}
@@ -62,14 +64,24 @@ bytes_in s (a ∷ areas) = take a.len (drop a.start s) ++ bytes_in s areas
 abbrev pub HoldsKept : Job → Remembered → Type 0
 HoldsKept j p = HoldsAreas (storage_of j) p.rows.keep.now p.kept.now
 
+-- how many bytes the areas have together
+abbrev pub total_len : List Area → ℕ
+total_len [] = 0
+total_len (a ∷ areas) = a.len + total_len areas
+
 -- ---- what is remembered is true
+
+-- the number by which a device is remembered
+abbrev pub device_number : Device → ℕ
+device_number D2311 = 2311
+device_number D2314 = 2314
 
 -- this is remembered of the program of j: some job will do for it, and these are its needs and the
 -- bytes that it keeps
 pub record IsRemembered (j : Job) (p : Remembered) : Type 0 where
   pub needs : AreNeeds j (rows_of p.rows)
   pub start : j.start ≡ p.start
-  pub device : j.device ≡ p.device
+  pub device : device_number j.device ≡ p.device
   pub kept : HoldsKept j p
 
 -- the program of k, in flight with a yes, is the one that was asked about; only bytes of storage

@@ -1,5 +1,5 @@
 -- Rows of needs: what they say of a program, and what follows from them.
-use Rattle.std.specs.Prelude.{◌≡◌, ℕ, ◌+◌, ◌-◌, ◌<◌, ◌≤◌, true, List, [], ◌∷◌, ◌↔◌, length}
+use Rattle.std.specs.Prelude.{◌≡◌, ℕ, ◌+◌, ◌-◌, ◌<◌, ◌≤◌, true, List, [], ◌∷◌, ◌↔◌, length, map}
 use Rattle.ccw_core.specs.declared.areas.Area.{Area}
 use Rattle.ccw_core.specs.Areas.{lies_in}
 use Rattle.ckd_core.specs.Track.{cylinder_of}
@@ -7,6 +7,7 @@ use Rattle.ckd_core.specs.Extents.{has_cylinder}
 use Rattle.chan_walk.specs.declared.job.Job.{Job}
 use Rattle.chan_needs.specs.declared.needs.Needs.{Needs}
 use Rattle.chan_walk.specs.declared.place.Place.{Place}
+use Rattle.chan_needs.specs.declared.extent.Extent.{Extent}
 use Rattle.chan_needs.specs.declared.rows.Rows.{Rows}
 use Rattle.chan_walk.specs.declared.verdict.Verdict.TheVariants.{Yes}
 use Rattle.chan_walk.specs.Alarm.{IsProper}
@@ -48,12 +49,16 @@ listed n = record {
   keep = n.keep.items;
 }
 
+-- first and last cylinder
+abbrev pub pair : Extent → ℕ × ℕ
+pair e = (e.first, e.last)
+
 -- what rows list
 abbrev pub rows_of : Rows → Listed
 rows_of r = record {
   storage_len = r.storage_len;
   mask = r.mask;
-  extents = r.extents.now;
+  extents = map pair r.extents.now;
   fetch = r.fetch.now;
   store = r.store.now;
   keep = r.keep.now;

@@ -18,7 +18,7 @@ use Rattle.chan_needs.specs.Needs.{Grants}
 use Rattle.chan_needs.specs.Rows.{AreNeeds, HasStoreAndKeep, Listed, MayRunBeside, rows_of}
 use Rattle.chan_walk.specs.Runs.{IsStart, Moment}
 use Rattle.chan_needs.specs.Remembered.{IsFirstChanged, HoldsKept, IsInFlightAt, IsRemembered}
-use Rattle.chan_needs.specs.Remembered.{IsInFlight, AreInFlight}
+use Rattle.chan_needs.specs.Remembered.{IsInFlight, AreInFlight, device_number}
 use Rattle.chan_needs.specs.Rows.{AreBeside, IsConflict}
 
 -- ---- the four conditions of a start
@@ -26,7 +26,7 @@ use Rattle.chan_needs.specs.Rows.{AreBeside, IsConflict}
 -- the job is of the program, whatever storage holds
 pub record IsOfProgram (j : Job) (p : Remembered) : Type 0 where
   pub start : j.start ≡ p.start
-  pub device : j.device ≡ p.device
+  pub device : device_number j.device ≡ p.device
   pub storage_len : length (storage_of j) ≡ p.rows.storage_len
 
 -- the byte at b is one of storage, and lies in an area lent
@@ -68,9 +68,9 @@ pub record IsFit (j : Job) (p : Remembered) (fs : List Remembered) : Type 0 wher
 -- with the program: its start, else its device, else the length of storage
 abbrev pub IsOfAnother : Job → Remembered → StartRefusal → Type 0
 IsOfAnother j p why.OtherStart = j.start ≢ p.start
-IsOfAnother j p why.OtherDevice = (j.start ≡ p.start) × (j.device ≢ p.device)
+IsOfAnother j p why.OtherDevice = (j.start ≡ p.start) × (device_number j.device ≢ p.device)
 IsOfAnother j p why.OtherLength =
-    (j.start ≡ p.start) × (j.device ≡ p.device)
+    (j.start ≡ p.start) × (device_number j.device ≡ p.device)
     × (length (storage_of j) ≢ p.rows.storage_len)
 IsOfAnother j p _ = ⊥
 

@@ -14,7 +14,7 @@ use Rattle.chan_walk.specs.Alarm.{IsProper}
 use Rattle.chan_walk.specs.Argument.{Has}
 use Rattle.chan_needs.specs.History.{Acts, AreWell, Flight, Rests, Situation}
 use Rattle.chan_needs.specs.Remembered.{HoldsKept, IsKeeperOf, IsInFlightAt}
-use Rattle.chan_needs.specs.Remembered.{IsRemembered, IsWritten}
+use Rattle.chan_needs.specs.Remembered.{IsRemembered, IsWritten, device_number}
 use Rattle.chan_needs.specs.Rows.{AreNeeds, rows_of}
 use Rattle.chan_needs.specs.Start.{IsAnswerOf}
 use Rattle.chan_walk.specs.Runs.{IsStart, Moment, Steps}
@@ -119,7 +119,7 @@ pub record CanBeSupervised : Type 0 where
       (s : List ℕ) → (v : Supervision) × (v.situation.storage ≡ s) × IsSupervised (v ∷ [])
   pub remembered :
       (j : Job) (p : Remembered) → AreNeeds j (rows_of p.rows) → j.start ≡ p.start
-      → j.device ≡ p.device → HoldsKept j p → IsRemembered j p
+      → device_number j.device ≡ p.device → HoldsKept j p → IsRemembered j p
   pub lists :
       (programs : ℕ → Option Remembered) (fs : List Remembered)
       → ((i : ℕ) (p : Remembered) → programs i ≡ Some p → Has fs p) → Lists programs fs

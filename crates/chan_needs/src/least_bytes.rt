@@ -1,12 +1,13 @@
 //! The least byte or cylinder of some rows with a property: shared, not lent, in no extent.
 
-ghost use Rattle.std.specs.Prelude.{◌≡◌, ◌<◌, ◌↔◌, ◌≤◌, true, false, IfOk, IsTrue};
+ghost use Rattle.std.specs.Prelude.{◌≡◌, ◌<◌, ◌↔◌, ◌≤◌, true, false, map, IfOk, IsTrue};
 ghost use Rattle.ccw_core.specs.Areas.{lies_in};
 ghost use Rattle.ckd_core.specs.Extents.{has_cylinder};
 ghost use Rattle.chan_areas.specs.Merged.{IsLeastOrNone, IsByteOf, IsMerged};
 ghost use Rattle.chan_needs.specs.LeastBytes.{lesser_of};
-ghost use Rattle.chan_needs.specs.Rows.{IsShared};
+ghost use Rattle.chan_needs.specs.Rows.{IsShared, pair};
 
+use crate::extent::Extent;
 use ccw_core::Area;
 use chan_areas::{Merged, end_of};
 use ckd_core::Extents;
@@ -95,13 +96,13 @@ fn least_beyond(areas: &[Area], lent: &Merged) -> Option<u32>
 
 /// The least cylinder of some runs that lies in no extent.
 #[tactic(auto, using(crate::proofs::Leasts::no_cylinder, crate::proofs::Leasts::least_in_runs))]
-pub(crate) fn least_outside(runs: &[(u16, u16)], extents: &Extents) -> Option<u16>
-    ensures { IsLeastOrNone (λ n. (has_cylinder runs.now n ≡ true)
+pub(crate) fn least_outside(runs: &[Extent], extents: &Extents) -> Option<u16>
+    ensures { IsLeastOrNone (λ n. (has_cylinder (map pair runs.now) n ≡ true)
         × (has_cylinder extents.now n ≡ false)) result }
 {
     let mut least = None;
     for run in runs {
-        least = lesser_cylinder(least, outside(run.0, run.1, extents));
+        least = lesser_cylinder(least, outside(run.first, run.last, extents));
     }
     least
 }

@@ -2,12 +2,13 @@
 //! two programs side by side, start one that was asked about, and let others write meanwhile.
 //!
 //! ```
-//! fn may_run_beside(alloc: Global, needs: &Needs, other: &Needs) -> bool {
-//!     needs.rows().conflict(&other.rows()) == None
+//! fn may_run_beside(program: &Remembered, other: &Remembered) -> bool {
+//!     program.rows.conflict(&other.rows) == None
 //! }
 //! ```
 #![tactic(auto)]
 
+mod extent;
 mod laws;
 mod least_bytes;
 mod needed_mask;
@@ -16,7 +17,8 @@ mod remembered;
 mod rows;
 mod start;
 
+pub use crate::extent::Extent;
 pub use crate::needs::{Needs, needs_from};
-pub use crate::remembered::{Remembered, copy_kept, may_write};
-pub use crate::rows::{Conflict, Rows};
+pub use crate::remembered::{Remembered, copy_kept, kept_len, may_write};
+pub use crate::rows::{Conflict, Rows, or_empty};
 pub use crate::start::{Start, StartRefusal, may_start};

@@ -10,10 +10,11 @@ ghost use Rattle.chan_walk.specs.Offence.{first_verdict};
 ghost use Rattle.chan_walk.specs.OpenJob.{AreOfOneProgram};
 ghost use Rattle.chan_areas.specs.Merged.{AreExactly, EndsBelow};
 ghost use Rattle.chan_needs.specs.Rows.{AreLooksOfYes, AreNeeds, IsSought};
-ghost use Rattle.chan_needs.specs.Rows.{SeeksCylinder, listed, rows_of, run_of};
+ghost use Rattle.chan_needs.specs.Rows.{SeeksCylinder, listed, pair, rows_of, run_of};
 ghost use Rattle.chan_walk.specs.declared.job.Job.{Job};
 ghost use Rattle.chan_walk.specs.declared.verdict.Verdict.TheVariants.{Yes};
 
+use crate::extent::Extent;
 use crate::needed_mask::needed_mask;
 use crate::rows::Rows;
 use ccw_core::Area;
@@ -43,17 +44,29 @@ pub struct Needs {
 }
 
 impl Needs {
-    /// The same, as a view.
-    pub fn rows(&self) -> Rows<'_>
-        ensures { rows_of result ≡ listed self.now }
+    /// The cylinders, as `rows` takes them. `AllocError` means that an allocation failed.
+    pub fn extent_rows(&self, alloc: Global) -> Result<Vec<Extent>, AllocError>
+        ensures { IfOk result (λ v. map pair v.items ≡ self.now.extents.items) }
+    {
+        let mut rows = Vec::new(alloc);
+        for extent in &self.extents {
+            let (first, last) = *extent;
+            rows.push(Extent { first, last })?;
+        }
+        Ok(rows)
+    }
+
+    /// The same as a view, with the rows of `extent_rows`.
+    pub fn rows<'a>(&'a self, extents: &'a [Extent]) -> Rows<'a>
+        ensures { rows_of result ≡ record (listed self.now) { extents = map pair extents.now } }
     {
         Rows {
-            storage_len: self.storage_len,
-            mask: self.mask,
-            extents: &self.extents,
+            extents,
             fetch: &self.fetch,
             store: &self.store,
             keep: &self.keep,
+            storage_len: self.storage_len,
+            mask: self.mask.byte(),
         }
     }
 }

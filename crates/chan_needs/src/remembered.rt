@@ -8,24 +8,28 @@ ghost use Rattle.ccw_core.specs.Held.{bytes_held};
 ghost use Rattle.chan_needs.specs.Remembered.{HoldsAreas, HoldsArea, IsFirstChanged};
 ghost use Rattle.chan_needs.specs.Remembered.{IsFirstChangedIn};
 ghost use Rattle.chan_needs.specs.Remembered.{IsInside, IsKeeperOf, WritesWell, bytes_in};
+ghost use Rattle.chan_needs.specs.Remembered.{total_len};
+ghost use Rattle.chan_areas.specs.Merged.{IsMerged};
 
 use crate::rows::Rows;
 use ccw_core::{Area, Storage};
-use ckd_core::Device;
 
 /// All that a supervisor remembers of a program that it has asked about, so that the program may
-/// start later, and beside others. It may hold anything: the calls that take it say what their
-/// answers mean then.
+/// start later, and beside others; laid out as C does. It may hold anything: the calls that take it
+/// say what their answers mean then.
+#[repr(C)]
 #[derive(Clone, Copy)]
 pub struct Remembered<'a> {
-    /// The address of the first CCW.
-    pub start: u32,
-    /// The device.
-    pub device: Device,
     /// What the program needs and keeps, as `needs` gave it.
     pub rows: Rows<'a>,
     /// The kept bytes as they were, one area after another. What follows them doesn't matter.
     pub kept: &'a [u8],
+    /// The address of the first CCW.
+    pub start: u32,
+    /// The number of the device, 2311 or 2314.
+    pub device: u16,
+    /// Room for the fields of a later version, 0 in this one. No call of this crate looks at it.
+    pub reserved: [u64; 4],
 }
 
 /// Whether others, such as the processor, may write to an area now. `None` comes exactly if no
@@ -72,6 +76,20 @@ pub fn copy_kept(storage: &Storage, areas: &[Area], into: &mut [u8]) -> Option<u
         at += bytes.len();
     }
     Some(at)
+}
+
+/// How many bytes some merged areas have together: as many as `copy_kept` copies.
+#[tactic(auto, using(crate::proofs::Inside::none_total, crate::proofs::Inside::all_total))]
+pub fn kept_len(areas: &[Area]) -> usize
+    requires { IsMerged areas.now }
+    ensures { result ≡ total_len areas.now }
+{
+    let mut len = 0;
+    for area in areas {
+        let area = *area;
+        len += area.len as usize;
+    }
+    len
 }
 
 /// Writes some bytes into a buffer.

@@ -1,13 +1,13 @@
 //! What a program needs, as rows in the caller's memory, and whether two programs may run side by
 //! side.
 
-ghost use Rattle.std.specs.Prelude.{MatchOption};
+ghost use Rattle.std.specs.Prelude.{◌≡◌, MatchOption};
 ghost use Rattle.chan_areas.specs.Merged.{IsLeastOrNone};
 ghost use Rattle.chan_needs.specs.Rows.{IsKeptIn, IsConflict, AreBeside, rows_of};
 
+use crate::extent::Extent;
 use crate::least_bytes::{least_in, least_shared};
 use ccw_core::Area;
-use ckd_core::FileMask;
 
 /// Why two programs may not run side by side.
 #[derive(Clone, Copy, PartialEq, Eq, Debug)]
@@ -20,18 +20,15 @@ pub enum Conflict {
     Keeps(u32),
 }
 
-/// The content of `Needs`, as rows in the caller's memory. Rows from another source do no harm:
-/// each call answers for what they list. The bytes of a list are those of all of its areas
-/// together; the areas may overlap, be empty and come in any order.
+/// The content of `Needs`, as rows in the caller's memory, laid out as C does. Rows from another
+/// source do no harm: each call answers for what they list. The bytes of a list are those of all of
+/// its areas together; the areas may overlap, be empty and come in any order. A list without
+/// elements may come from C with a null pointer, so each call replaces it first.
+#[repr(C)]
 #[derive(Clone, Copy)]
 pub struct Rows<'a> {
-    /// How many bytes storage had when the needs were found.
-    pub storage_len: u32,
-    /// The strictest file mask under which the program has a yes.
-    pub mask: FileMask,
-    /// The cylinders that it seeks, as runs: the first and the last cylinder of each, both
-    /// included.
-    pub extents: &'a [(u16, u16)],
+    /// The cylinders that it seeks, as runs.
+    pub extents: &'a [Extent],
     /// The bytes that it fetches, so that they have to be lent for fetching.
     pub fetch: &'a [Area],
     /// The bytes that it stores into, so that they have to be lent for storing.
@@ -39,6 +36,18 @@ pub struct Rows<'a> {
     /// The bytes that nobody may change while it runs: its CCWs, the arguments of its seeks and the
     /// mask bytes that it sets.
     pub keep: &'a [Area],
+    /// How many bytes storage had when the needs were found.
+    pub storage_len: u32,
+    /// The strictest file mask under which the program has a yes. No job grants an invalid one.
+    pub mask: u8,
+}
+
+/// The list, or an empty one of our own if it has no elements: the pointer of such a list from C
+/// may be null, which no reference is in the proofs.
+pub fn or_empty<'a, T>(list: &'a [T]) -> &'a [T]
+    ensures { result.now ≡ list.now }
+{
+    if list.is_empty() { &[] } else { list }
 }
 
 impl Rows<'_> {
@@ -51,10 +60,10 @@ impl Rows<'_> {
         ensures { MatchOption result (AreBeside (rows_of self.now) (rows_of other.now))
             (IsConflict (rows_of self.now) (rows_of other.now)) }
     {
-        if let Some(byte) = least_shared(self.store, other.keep) {
+        if let Some(byte) = least_shared(or_empty(self.store), or_empty(other.keep)) {
             return Some(Conflict::Stores(byte));
         }
-        let byte = least_shared(other.store, self.keep)?;
+        let byte = least_shared(or_empty(other.store), or_empty(self.keep))?;
         Some(Conflict::Keeps(byte))
     }
 
@@ -63,6 +72,6 @@ impl Rows<'_> {
     pub fn kept_in(&self, area: Area) -> Option<u32>
         ensures { IsLeastOrNone (IsKeptIn (rows_of self.now) area) result }
     {
-        least_in(self.keep, area)
+        least_in(or_empty(self.keep), area)
     }
 }

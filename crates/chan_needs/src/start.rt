@@ -4,13 +4,16 @@ ghost use Rattle.std.specs.Prelude.{◌≡◌, ◌↔◌, IfOk, MatchOption};
 ghost use Rattle.std.specs.List.{All};
 ghost use Rattle.chan_needs.specs.Start.{IsAnswerOf, IsFit, IsBeside, GrantsListed, IsNotBeside};
 ghost use Rattle.chan_needs.specs.Start.{IsNotGranted, IsOfAnother, IsOfProgram, StartsWell};
+ghost use Rattle.chan_needs.specs.Remembered.{device_number};
 ghost use Rattle.chan_needs.specs.Rows.{rows_of};
+ghost use Rattle.ckd_core.specs.Mask.{is_at_least};
 ghost use Rattle.chan_needs.specs.declared.start.Start.TheVariants as answer;
 
 use crate::least_bytes::{least_outside, least_unlent};
 use crate::remembered::{Remembered, first_changed};
-use crate::rows::{Conflict, Rows};
+use crate::rows::{Conflict, Rows, or_empty};
 use chan_walk::Job;
+use ckd_core::{Device, FileMask};
 use std::alloc::{AllocError, Global};
 
 /// Why a program may not start. The variants are in the order in which they are looked for.
@@ -25,7 +28,7 @@ pub enum StartRefusal {
     /// The byte at this address is kept and isn't what it was. It is the first in the order of
     /// `keep`. A byte that lies past storage, or for which `kept` has none, counts as changed.
     Changed(u32),
-    /// The job's mask is too strict.
+    /// The job's mask is too strict, or the program's is invalid.
     Mask,
     /// This cylinder lies in none of the job's extents. It is the least of those needed.
     Cylinder(u16),
@@ -85,7 +88,8 @@ pub fn may_start(
     if let Some(refusal) = of_another(job, program) {
         return Ok(Start::No(refusal));
     }
-    if let Some(address) = first_changed(&job.storage, program.rows.keep, program.kept) {
+    let (keep, kept) = (or_empty(program.rows.keep), or_empty(program.kept));
+    if let Some(address) = first_changed(&job.storage, keep, kept) {
         return Ok(Start::No(StartRefusal::Changed(address)));
     }
     if let Some(refusal) = not_granted(alloc, job, &program.rows)? {
@@ -105,7 +109,7 @@ fn of_another(job: &Job, program: &Remembered) -> Option<StartRefusal>
     if job.start != program.start {
         return Some(StartRefusal::OtherStart);
     }
-    if job.device != program.device {
+    if device_number(job.device) != program.device {
         return Some(StartRefusal::OtherDevice);
     }
     if job.storage.len() != program.rows.storage_len {
@@ -114,21 +118,43 @@ fn of_another(job: &Job, program: &Remembered) -> Option<StartRefusal>
     None
 }
 
+/// The number by which a device is remembered.
+fn device_number(device: Device) -> u16
+    ensures { result ≡ device_number device }
+{
+    match device {
+        Device::D2311 => 2311,
+        Device::D2314 => 2314,
+    }
+}
+
+/// Whether a byte is a file mask, and at least as strict as another.
+#[tactic(auto, unfolding(ckd_core::specs::Mask::is_at_least))]
+fn is_as_strict(byte: u8, than: FileMask) -> bool
+    ensures { result ≡ is_at_least byte than }
+{
+    match FileMask::new(byte) {
+        Some(mask) => mask.at_least(than),
+        None => false,
+    }
+}
+
 /// What rows list and a job doesn't grant.
 fn not_granted(alloc: Global, job: &Job, rows: &Rows) -> Result<Option<StartRefusal>, AllocError>
     ensures { IfOk result (λ o. MatchOption o (GrantsListed job.now (rows_of rows.now))
         (IsNotGranted job.now (rows_of rows.now))) }
 {
-    if !rows.mask.at_least(job.mask) {
+    if !is_as_strict(rows.mask, job.mask) {
         return Ok(Some(StartRefusal::Mask));
     }
-    if let Some(cylinder) = least_outside(rows.extents, job.extents) {
+    if let Some(cylinder) = least_outside(or_empty(rows.extents), job.extents) {
         return Ok(Some(StartRefusal::Cylinder(cylinder)));
     }
-    if let Some(byte) = least_unlent(alloc, rows.fetch, job.fetch, job.storage.len())? {
+    let (fetch, store) = (or_empty(rows.fetch), or_empty(rows.store));
+    if let Some(byte) = least_unlent(alloc, fetch, job.fetch, job.storage.len())? {
         return Ok(Some(StartRefusal::Fetch(byte)));
     }
-    let unlent = least_unlent(alloc, rows.store, job.store, job.storage.len())?;
+    let unlent = least_unlent(alloc, store, job.store, job.storage.len())?;
     Ok(unlent.map(|byte| StartRefusal::Store(byte)))
 }
 

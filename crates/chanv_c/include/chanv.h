@@ -7,9 +7,10 @@
  * The caller's duties:
  *
  * - Each pointer is valid, and aligned for its type, for as many elements as its length says. If
- *   that length is 0 it may be NULL. `job`, `program`, `area`, `out`, `count` and `length` may not.
- * - The memory that a call writes (`out`, `count`, `length` and the lists that have room) lies
- *   apart from each other, from the job and from everything that the job points to.
+ *   that length is 0, the pointer may be NULL. A pointer without a length may not. The memory for
+ *   `chanv_take_in` may have any alignment.
+ * - The memory that a call writes lies apart from the job, from the programs and from everything
+ *   that these point to, and no two lists that a call writes share a byte.
  * - From the call to its return, nothing else writes the job, the programs or anything that these
  *   point to, and nothing else touches the memory that the call writes. If storage is written
  *   meanwhile, the answer means nothing at all. The call still returns with one of its codes and
@@ -18,17 +19,29 @@
  * - No call is made from a signal handler, nor, in the child of a process with threads, between
  *   fork and exec.
  * - malloc, realloc and free are those of one allocator, and aligned as C asks.
- * - Start only a program that got CHANV_YES from `chanv_verify` or `chanv_may_start`.
+ * - Every `reserved` is 0.
  *
  * A program that runs alone needs one call, `chanv_verify`. A supervisor with several programs in
- * flight asks `chanv_needs` once for each program and keeps the answer with `chanv_remember`. It
- * asks `chanv_may_start` before each start and `chanv_may_write` before each write of others. Then
- * all programs in flight are safe, always. This is proved, with four premises that no call checks:
+ * flight takes each in by `chanv_take_in`, asks `chanv_check_start` before each start, and
+ * `chanv_check_write` before each write of others:
  *
- * - at each start the arm is inside the extents of the job;
- * - at each start the job's file mask is in force;
- * - nothing writes a kept byte between `chanv_may_start` and the start;
- * - the machine's own stores (PSWs, the CSW, the timer) spare all kept bytes of programs in flight.
+ *     if (chanv_check_start(&job, in_flight, DEVICES, &program, &refusal) == CHANV_YES)
+ *         ...
+ *
+ * Then all programs in flight are safe, always. This is proved under premises that no call checks:
+ *
+ * 1. The job is true: its bytes are main storage from address 0 on, and its device is the one used.
+ *    Channel and device make only the steps of docs/MACHINE.md.
+ * 2. When a program starts, the arm is inside the job's extents, and the job's file mask is in
+ *    force.
+ * 3. Each program in flight has a device of its own. It stays in the table until the channel makes
+ *    no further step for it.
+ * 4. While a program is in a table, its lists and its kept bytes don't change.
+ * 5. From a question to the start, or to the end of the write, no other program starts, and nothing
+ *    else writes a byte that the programs in the table, or the one that is about to start, keep. So
+ *    hold one lock over the question, the table and the start or the write.
+ * 6. Others write only after CHANV_YES from `chanv_check_write`, and the machine's own stores (of
+ *    PSWs, the CSW and the timer) spare all kept bytes of programs in flight.
  *
  * A call writes only the memory that it was handed for that. It keeps nothing between calls, so
  * several threads may call at once, even about one job.
@@ -38,17 +51,26 @@
 
 #include <stddef.h>
 #include <stdint.h>
-#include <string.h>
 
 #ifdef __cplusplus
 extern "C" {
 #endif
 
-/* The version of this header, as text and number by number; `chanv_version` has the library's. */
-#define CHANV_VERSION "0.5.0"
+/* The version of this header, as text, number by number, and as `chanv_version` gives the
+ * library's: 65,536 times the first number, 256 times the second, and the third. */
+#define CHANV_VERSION "0.6.0"
 #define CHANV_VERSION_MAJOR 0
-#define CHANV_VERSION_MINOR 5
+#define CHANV_VERSION_MINOR 6
 #define CHANV_VERSION_PATCH 0
+#define CHANV_VERSION_NUMBER \
+    (65536 * CHANV_VERSION_MAJOR + 256 * CHANV_VERSION_MINOR + CHANV_VERSION_PATCH)
+
+/* A compiler that knows the attribute warns if an answer isn't looked at. */
+#ifdef __GNUC__
+#define CHANV_MUST_USE __attribute__((warn_unused_result))
+#else
+#define CHANV_MUST_USE
+#endif
 
 /* An area of storage. It may be empty, and it may reach past storage. */
 struct chanv_area {
@@ -91,14 +113,14 @@ struct chanv_job {
 };
 
 /* The usual limit, and the largest. */
-enum { CHANV_USUAL_LIMIT = 4096, CHANV_LARGEST_LIMIT = 65536 };
+enum chanv_limit { CHANV_USUAL_LIMIT = 4096, CHANV_LARGEST_LIMIT = 65536 };
 
 /* What a call returns. 4 to 10 and 12 are faults of the job itself; if several apply, the least is
  * returned, and a job with a fault gets no answer. CHANV_MEMORY may come in place of any other code
  * except 4 to 7: a call looks for these before it takes memory. */
-enum {
+enum chanv_answer {
     CHANV_YES = 0,                /* every run is safe; it may start; others may write */
-    CHANV_LISTED = 0,             /* the places, or the needs, are listed, or the bytes copied */
+    CHANV_OK = CHANV_YES,         /* all that was asked for is written */
     CHANV_NO = 1,                 /* `out` says why not */
     CHANV_TOO_MANY_PLACES = 2,    /* more places are reachable than the limit */
     CHANV_MEMORY = 3,             /* memory ran out */
@@ -113,37 +135,62 @@ enum {
     CHANV_RESERVED_NOT_ZERO = 12  /* `reserved` isn't 0: the job has fields of a later version */
 };
 
-/* The answer of `chanv_verify`, and of `chanv_why` too; unused fields are 0. */
+/* The reasons of a no. */
+enum chanv_reason {
+    CHANV_REASON_MISALIGNED = 1,
+    CHANV_REASON_OUTSIDE_STORAGE = 2,
+    CHANV_REASON_TRANSFER_NOT_ALLOWED = 3,
+    CHANV_REASON_INVALID_CODE = 4,
+    CHANV_REASON_BAD_FORMAT = 5,
+    CHANV_REASON_ZERO_COUNT = 6,
+    CHANV_REASON_DATA_OUTSIDE = 7,
+    CHANV_REASON_NOT_IN_TABLE = 8,
+    CHANV_REASON_INHIBITED = 9,
+    CHANV_REASON_STORE_NOT_LENT = 10,
+    CHANV_REASON_FETCH_NOT_LENT = 11,
+    CHANV_REASON_SHORT_SEEK = 12,
+    CHANV_REASON_SEEK_OUTSIDE = 13,
+    CHANV_REASON_CHANGES_CCW = 14,
+    CHANV_REASON_CHANGES_ARGUMENT = 15,
+    CHANV_REASON_WEAKENS_MASK = 16
+};
+
+/* The answer of `chanv_verify`, and a part of other answers; unused fields are 0. */
 struct chanv_verdict {
     size_t extent;    /* the index of the extent that is wrong, counted from 0 */
     uint32_t address; /* the address of the first offending CCW */
-    uint32_t reason;  /* the number of its reason, 1 to 16 */
+    uint32_t reason;  /* the number of its reason, an `enum chanv_reason` */
 };
 
 /* How the program enters a CCW: by a new operation, or by a data chain that continues an
  * operation that stores, that fetches, or that searches. */
-enum { CHANV_FRESH = 0, CHANV_CHAIN_IN = 1, CHANV_CHAIN_OUT = 2, CHANV_CHAIN_SEARCH = 3 };
+enum chanv_entered {
+    CHANV_ENTERED_FRESH = 0,
+    CHANV_ENTERED_CHAIN_IN = 1,
+    CHANV_ENTERED_CHAIN_OUT = 2,
+    CHANV_ENTERED_CHAIN_SEARCH = 3
+};
 
 /* A place that the program can come to: a CCW, and how the program enters it. */
 struct chanv_place {
     uint32_t address;       /* the address of the CCW */
-    uint8_t entered;        /* how the program enters it */
+    uint8_t entered;        /* how the program enters it, an `enum chanv_entered` */
     uint8_t after_transfer; /* 1 if it counts as reached by a transfer in channel, else 0 */
 };
 
 /* The part of a seek's argument that the job doesn't allow. */
-enum { CHANV_BIN = 1, CHANV_CYLINDER = 2, CHANV_HEAD = 3 };
+enum chanv_part { CHANV_PART_BIN = 1, CHANV_PART_CYLINDER = 2, CHANV_PART_HEAD = 3 };
 
 /* The values of the cause of a no, at the last place of the path. The reason decides which fields
  * have one; all others are 0.
  *
  *     1  misaligned            address
- *     2  outside-storage       range, length
+ *     2  outside-storage       range, storage_len
  *     3  transfer-not-allowed
  *     4  invalid-code          code
  *     5  bad-format            bits
  *     6  zero-count
- *     7  data-outside          range, length
+ *     7  data-outside          range, storage_len
  *     8  not-in-table          code
  *     9  inhibited             code, mask
  *    10  store-not-lent        range, gap
@@ -157,46 +204,49 @@ enum { CHANV_BIN = 1, CHANV_CYLINDER = 2, CHANV_HEAD = 3 };
  *    16  weakens-mask          mask, value
  */
 struct chanv_evidence {
-    uint32_t reason;         /* the number of the reason, 1 to 16 */
+    uint32_t reason;         /* the number of the reason, an `enum chanv_reason` */
     struct chanv_area range; /* the data range of the CCW; for 2 the CCW's own eight bytes */
     struct chanv_area gap;   /* the first run of bytes of the range that no area lends */
     uint32_t address;        /* for 1 the CCW's address; for 14 the least address of a reachable CCW
                                 that has a byte in the range; for 15 the least address in the range
                                 of a byte of a seek's argument, or of a mask that is set */
     uint32_t taker;          /* the address of the CCW that takes the byte at `address` */
-    uint32_t length;         /* how many bytes storage has */
+    uint32_t storage_len;    /* how many bytes storage has */
     uint32_t code;           /* the command code */
-    uint32_t mask;           /* the job's file mask */
     uint32_t bits;           /* the three low flag bits of the CCW */
     uint32_t given;          /* how many of the argument's six bytes the seek's data chain gives;
                                 for 15 the seek is the taker */
-    uint32_t outside;        /* the first wrong part: CHANV_BIN, CHANV_CYLINDER or CHANV_HEAD */
+    uint32_t outside;        /* the first wrong part, an `enum chanv_part` */
     uint32_t value;          /* for 13 that bin, cylinder or head; for 16 the byte that is set */
     uint32_t below;          /* how many heads the device has */
     uint32_t sets_mask;      /* 1 if the taker is a Set File Mask, 0 if it is a seek */
     uint32_t addresses[6];   /* the addresses of the bytes that are given, in order, and then 0 */
     uint8_t bytes[6];        /* these bytes, and then 0 */
+    uint8_t mask;            /* the job's file mask */
 };
 
 /* The answer of `chanv_why`; unused fields are 0. */
 struct chanv_explanation {
     struct chanv_verdict verdict;
-    size_t path;        /* how many places the path has */
-    size_t second_path; /* how many places the second path has */
+    size_t path_count;        /* how many places the path has */
+    size_t second_path_count; /* how many places the second path has */
     struct chanv_evidence evidence;
+    uint64_t reserved[4]; /* 0: room for the values of a later version */
 };
 
 /* The answer of `chanv_needs`, except the lists; unused fields are 0. */
 struct chanv_needed {
     struct chanv_verdict verdict; /* the no if no job will do, or the extent that is wrong */
-    size_t extents;               /* how many rows each list has */
-    size_t fetch;
-    size_t store;
-    size_t keep;
+    size_t extent_count;          /* how many rows each list has */
+    size_t fetch_count;
+    size_t store_count;
+    size_t keep_count;
+    size_t kept_len;      /* how many bytes are kept: all areas of `keep` together */
     uint32_t storage_len; /* how many bytes storage has */
-    uint32_t mask;        /* the strictest file mask that serves */
     uint32_t may_hang;    /* 1 if from some place on only an error or a halt ends the program */
     uint32_t hangs_at;    /* then the address of the first such place */
+    uint8_t mask;         /* the strictest file mask that serves */
+    uint64_t reserved[4]; /* 0: room for the values of a later version */
 };
 
 /* The needs of a program, as `chanv_needs` gave them: its lists with their lengths, and two
@@ -210,7 +260,7 @@ struct chanv_rows {
     uint8_t mask;
 };
 
-/* All that a supervisor remembers of a program; `chanv_remember` fills it. A struct of zeros is no
+/* All that a supervisor remembers of a program; `chanv_take_in` fills it. A struct of zeros is no
  * program: it may not start, and it is in no other program's way. So a table of the programs in
  * flight, indexed by device, may have gaps. A struct with anything else does no harm either: no
  * call reads or writes outside its lists, or fails to return. But then a CHANV_YES means only what
@@ -221,48 +271,55 @@ struct chanv_program {
                                 bytes after them don't matter */
     uint32_t start;          /* the address of the first CCW */
     uint16_t device;         /* 2311 or 2314 */
+    uint64_t reserved[4];    /* 0: room for the fields of a later version */
 };
 
-/* Why a program may not start, in the order in which `chanv_may_start` looks; and why others may
- * not write. */
-enum {
-    CHANV_OTHER_START = 1,   /* the job starts at another address */
-    CHANV_OTHER_DEVICE = 2,  /* the job is for another device, or the program's isn't one */
-    CHANV_OTHER_LENGTH = 3,  /* the job's storage has another length */
-    CHANV_CHANGED = 4,       /* the kept byte at `value` has changed; it is the first that has */
-    CHANV_MASK = 5,          /* the job's mask is too strict, or the program's isn't one */
-    CHANV_NO_CYLINDER = 6,   /* cylinder `value`, the least that is needed and not granted */
-    CHANV_NOT_FETCHABLE = 7, /* the byte at `value`, the least that isn't lent for fetching */
-    CHANV_NOT_STORABLE = 8,  /* the byte at `value`, the least that isn't lent for storing */
-    CHANV_STORES = 9,        /* it would store into the byte at `value`, which `program` keeps */
-    CHANV_KEEPS = 10,        /* it keeps the byte at `value`, into which `program` may store */
-    CHANV_KEPT = 11          /* `program` keeps the byte at `value`: others may not write it */
+/* Why a program may not start, and why others may not write. `chanv_check_start` looks for 12 and
+ * 13 first, and then for 1 to 10 in order. For 9 and 10 it goes through the programs in flight, and
+ * asks of each first what it keeps, then what it stores. `chanv_check_write` looks for 13, and then
+ * for 11. */
+enum chanv_refused {
+    CHANV_REFUSED_OTHER_START = 1,   /* the job starts at another address */
+    CHANV_REFUSED_OTHER_DEVICE = 2,  /* the job is for another device */
+    CHANV_REFUSED_OTHER_LENGTH = 3,  /* the job's storage has another length */
+    CHANV_REFUSED_CHANGED = 4,       /* the kept byte at `value`, the first that has changed, lies
+                                        past storage, or is missing from `kept` */
+    CHANV_REFUSED_MASK = 5,          /* the job's mask is too strict, or the program's is invalid */
+    CHANV_REFUSED_NO_CYLINDER = 6,   /* cylinder `value`, the least needed and not granted */
+    CHANV_REFUSED_NOT_FETCHABLE = 7, /* the byte at `value`, the least that is needed for fetching
+                                        and isn't lent, or lies past storage */
+    CHANV_REFUSED_NOT_STORABLE = 8,  /* the same for storing */
+    CHANV_REFUSED_STORES = 9,        /* it may store into the byte at `value`; `program` keeps it */
+    CHANV_REFUSED_KEEPS = 10,        /* it keeps the byte at `value`; `program` may store into it */
+    CHANV_REFUSED_KEPT = 11,         /* `program` keeps the byte at `value` */
+    CHANV_REFUSED_RESERVED = 12,     /* it has fields of a later version: `reserved` isn't 0 */
+    CHANV_REFUSED_RESERVED_IN_FLIGHT = 13 /* `program` has such fields */
 };
 
-/* A refusal of `chanv_may_start` or `chanv_may_write`; unused fields are 0. */
+/* A refusal of `chanv_check_start` or `chanv_check_write`; unused fields are 0. */
 struct chanv_refusal {
-    size_t extent;  /* the index of the job's extent that is wrong */
-    size_t program; /* the index in `in_flight` of the first program that is in the way */
-    uint32_t code;  /* which refusal it is */
-    uint32_t value; /* the address or the cylinder */
+    size_t extent;        /* the index of the job's extent that is wrong */
+    size_t program;       /* the index in `in_flight` of the first program that is in the way */
+    uint32_t code;        /* which refusal it is, an `enum chanv_refused` */
+    uint32_t value;       /* the address or the cylinder */
+    uint64_t reserved[4]; /* 0: room for the values of a later version */
 };
 
-/* Whether the program may run: CHANV_YES, CHANV_NO, or why there is no answer. A yes has
- * premises: at the start the arm is inside the extents, the job's mask is in force, the device
- * is the one used, and the kept bytes of storage are as they were. */
-uint32_t chanv_verify(const struct chanv_job *job, struct chanv_verdict *out);
+/* Whether the program may run: CHANV_YES, CHANV_NO, or why there is no answer. A yes has premises
+ * 1 and 2 above, and holds as long as storage has this length and the kept bytes don't change. */
+CHANV_MUST_USE uint32_t chanv_verify(const struct chanv_job *job, struct chanv_verdict *out);
 
 /* Lists the places that the program can come to, each once, by address, then by `entered`, then by
- * `after_transfer`. CHANV_LISTED: the first `*count` rows are written, and the others keep their
+ * `after_transfer`. CHANV_OK: the first `*count` rows are written, and the others keep their
  * values. CHANV_NO_ROOM: `*count` is how many rows there would be. Otherwise it returns why
  * there is no answer, and `*count` is the index of the extent that is wrong, or 0. Only for
- * CHANV_LISTED is a row written. There are never more places than the job's limit. */
-uint32_t chanv_list(const struct chanv_job *job, struct chanv_place *rows, size_t room,
-                    size_t *count);
+ * CHANV_OK is a row written. There are never more places than the job's limit. */
+CHANV_MUST_USE uint32_t chanv_list(const struct chanv_job *job, struct chanv_place *rows,
+                                   size_t room, size_t *count);
 
 /* Why the program may not run. CHANV_NO: `out` has the verdict, the values of the cause and the
  * lengths of both paths, and the paths are the first rows of `path` and of `second_path`; the other
- * rows keep their values.
+ * rows keep their values. A path whose room is 0 isn't wanted: it is never too long.
  *
  * The path leads from the first place to one with the verdict's address that offends by its reason.
  * It is the shortest; of several it is the one that goes on to the next CCW, not to the one after a
@@ -270,196 +327,113 @@ uint32_t chanv_list(const struct chanv_job *job, struct chanv_place *rows, size_
  * CCW at `out->evidence.address`, for 15 to the one at `out->evidence.taker`. For any other reason
  * it has no places.
  *
- * CHANV_NO_ROOM: the answer is no, and `out` has the same, but one path or both have more places
- * than rows. CHANV_YES: there is nothing to explain. Otherwise it returns why there is no
+ * CHANV_NO_ROOM: the answer is no, and `out` has the same, but a path that is wanted has more
+ * places than rows. CHANV_YES: there is nothing to explain. Otherwise it returns why there is no
  * answer, like `chanv_verify`, with the extent that is wrong if one is. Only for CHANV_NO is a
  * row written. */
-uint32_t chanv_why(const struct chanv_job *job, struct chanv_place *path, size_t room,
-                   struct chanv_place *second_path, size_t second_room,
-                   struct chanv_explanation *out);
+CHANV_MUST_USE uint32_t chanv_why(const struct chanv_job *job, struct chanv_place *path,
+                                  size_t room, struct chanv_place *second_path,
+                                  size_t second_room, struct chanv_explanation *out);
 
 /* Writes the text that explains the verdict on the job, as `chanv why` prints it, not
- * NUL-terminated. CHANV_YES, CHANV_NO: the first `*length` bytes of `buffer` are the text, and
- * the others keep their values. CHANV_NO_ROOM: the text has `*length` bytes, more than `room`.
- * Otherwise it returns why there is no answer, like `chanv_verify`, and `*length` is 0. Only for
+ * NUL-terminated. CHANV_YES, CHANV_NO: the first `*len` bytes of `buffer` are the text, and
+ * the others keep their values. CHANV_NO_ROOM: the text has `*len` bytes, more than `room`.
+ * Otherwise it returns why there is no answer, like `chanv_verify`, and `*len` is 0. Only for
  * CHANV_YES and CHANV_NO is a byte of `buffer` written. */
-uint32_t chanv_text(const struct chanv_job *job, char *buffer, size_t room, size_t *length);
+CHANV_MUST_USE uint32_t chanv_text(const struct chanv_job *job, char *buffer, size_t room,
+                                   size_t *len);
 
 /* The needs of the job's program, which is its storage, start and device, in every job that it runs
  * under, and the bytes that it keeps: no more, and no less. This job's own grants don't matter, but
  * it may have no fault; its limit counts the places that are reachable if everything is granted.
  *
- * CHANV_LISTED: some job will do. The first `out->extents` rows of `extents` are the cylinders that
- * seeks go to, as runs of first and last; those of `fetch` and `store` are the bytes that are
+ * CHANV_OK: some job will do. The first `out->extent_count` rows of `extents` are the cylinders
+ * that seeks go to, as runs of first and last; those of `fetch` and `store` are the bytes that are
  * fetched, and stored into; those of `keep` are the bytes of CCWs, of seek arguments and of masks
- * that are set. Each list rises, no row is empty, and between two rows there is a gap. The other
- * rows keep their values. `out->mask` is the strictest file mask that serves: it inhibits no
- * command that may begin, and no byte that is set as a mask is weaker. A job of the program whose
- * limit isn't below the number of its places has CHANV_YES exactly if it grants all this.
+ * that are set. Each list rises, no row is empty, and between two rows there is a gap. The first
+ * `out->kept_len` bytes of `kept` are the bytes of storage in the rows of `keep`, one area after
+ * another. The other rows and bytes keep their values. `out->mask` is the strictest file mask that
+ * serves: it inhibits no command that may begin, and no byte that is set as a mask is weaker. A job
+ * of the program whose limit isn't below the number of its places has CHANV_YES exactly if it
+ * grants all this.
  *
  * CHANV_NO: no job will do; `out->verdict` is the verdict if everything is granted. CHANV_NO_ROOM:
- * the same as for CHANV_LISTED, but a list has more rows than room. Otherwise it returns why there
- * is no answer, like `chanv_verify`, with the extent that is wrong if one is. Only for CHANV_LISTED
- * is a row written.
+ * the same as for CHANV_OK, but a list, or `kept`, has too little room. Otherwise it returns why
+ * there is no answer, like `chanv_verify`, with the extent that is wrong if one is. Only for
+ * CHANV_OK is a row or a byte written.
  *
  * The answer holds, before a start and during the run, over storage of `out->storage_len` bytes
  * as long as the kept bytes are as they were; all others may change. */
-uint32_t chanv_needs(const struct chanv_job *job, struct chanv_needed *out,
-                     struct chanv_extent *extents, size_t extents_room,
-                     struct chanv_area *fetch, size_t fetch_room,
-                     struct chanv_area *store, size_t store_room,
-                     struct chanv_area *keep, size_t keep_room);
+CHANV_MUST_USE uint32_t chanv_needs(const struct chanv_job *job, struct chanv_needed *out,
+                                    struct chanv_extent *extents, size_t extents_room,
+                                    struct chanv_area *fetch, size_t fetch_room,
+                                    struct chanv_area *store, size_t store_room,
+                                    struct chanv_area *keep, size_t keep_room,
+                                    uint8_t *kept, size_t kept_room);
+
+/* Takes the job's program in: asks `chanv_needs`, puts the lists and the kept bytes into `memory`,
+ * and fills `program`, which refers to them. Keep `memory` as long as the program.
+ *
+ * CHANV_OK: the program is remembered, and takes the first `*len` bytes of `memory`. CHANV_NO_ROOM:
+ * it takes `*len` bytes, more than `room`. Otherwise it returns like `chanv_needs`, and `*len` is
+ * 0. `out` is always what `chanv_needs` wrote: so it has the verdict if no job will do, and says
+ * whether the program may hang. Unless the answer is CHANV_OK, `program` is zeroed, and no byte of
+ * `memory` is written. */
+CHANV_MUST_USE uint32_t chanv_take_in(const struct chanv_job *job, void *memory, size_t room,
+                                      size_t *len, struct chanv_program *program,
+                                      struct chanv_needed *out);
 
 /* Writes the text that explains the verdict on the open job of the job's program, which grants
  * everything: so after CHANV_NO from `chanv_needs` it says why no job will do. Otherwise it is like
  * `chanv_text`. */
-uint32_t chanv_open_text(const struct chanv_job *job, char *buffer, size_t room, size_t *length);
+CHANV_MUST_USE uint32_t chanv_open_text(const struct chanv_job *job, char *buffer, size_t room,
+                                        size_t *len);
 
-/* Copies the bytes of storage in some areas into `kept`, one area after another. CHANV_LISTED: the
- * first `*count` bytes are these, and the others keep their values. CHANV_NO_ROOM: `kept` is too
- * small, or an area reaches past storage. CHANV_STORAGE_TOO_LARGE is the only other answer, and
- * comes first. With both, `*count` is 0, and part of `kept` may be overwritten. */
-uint32_t chanv_copy_kept(struct chanv_bytes storage, const struct chanv_area *areas, size_t number,
-                         uint8_t *kept, size_t room, size_t *count);
-
-/* Fills `program` with what `chanv_needs` has just answered about the job, and copies the kept
- * bytes of the job's storage into `kept`. CHANV_LISTED: all is remembered. The program refers to
- * the lists and to `kept`, which you keep as long as the program. Otherwise it returns like
- * `chanv_copy_kept`, and `program` is zeroed. `kept` needs as many bytes as the areas of `keep`
- * have together. */
-static inline uint32_t chanv_remember(const struct chanv_job *job,
-                                      const struct chanv_needed *needed,
-                                      const struct chanv_extent *extents,
-                                      const struct chanv_area *fetch,
-                                      const struct chanv_area *store,
-                                      const struct chanv_area *keep, uint8_t *kept, size_t room,
-                                      struct chanv_program *program)
-{
-    size_t count;
-    uint32_t answer = chanv_copy_kept(job->storage, keep, needed->keep, kept, room, &count);
-    memset(program, 0, sizeof *program);
-    if (answer != CHANV_LISTED)
-        return answer;
-    program->rows.extents.at = extents;
-    program->rows.extents.len = needed->extents;
-    program->rows.fetch.at = fetch;
-    program->rows.fetch.len = needed->fetch;
-    program->rows.store.at = store;
-    program->rows.store.len = needed->store;
-    program->rows.keep.at = keep;
-    program->rows.keep.len = needed->keep;
-    program->rows.storage_len = needed->storage_len;
-    program->rows.mask = (uint8_t)needed->mask;
-    program->kept.at = kept;
-    program->kept.len = count;
-    program->start = job->start;
-    program->device = job->device;
-    return CHANV_LISTED;
-}
-
-/* Whether a remembered program may start under the job, with `count` programs in flight.
+/* Whether a remembered program may start under the job, beside the `count` programs in flight.
  *
  * CHANV_YES: the job has the program's start, device and length of storage; each kept byte is as it
  * was; the job grants all needs; and neither this program nor any in flight may store into a byte
  * that the other keeps. If what is remembered of all of them is true, the program may start: its
  * verdict is CHANV_YES, and it and all in flight are safe together. CHANV_NO: `out` has the first
  * refusal. Otherwise it returns why there is no answer, like `chanv_verify`, with the extent that
- * is wrong if one is; never CHANV_TOO_MANY_PLACES.
+ * is wrong if one is. It is never CHANV_TOO_MANY_PLACES, because the limit plays no part.
  *
- * It says nothing about data: one program may read in over bytes that another writes out. */
-uint32_t chanv_may_start(const struct chanv_job *job, const struct chanv_program *in_flight,
-                         size_t count, const struct chanv_program *program,
-                         struct chanv_refusal *out);
+ * It says nothing about data: one program may read in over bytes that another writes out. The cost
+ * is one pass over rows from `chanv_needs`, and the product of their numbers if rows from elsewhere
+ * are out of order: sort those first. */
+CHANV_MUST_USE uint32_t chanv_check_start(const struct chanv_job *job,
+                                          const struct chanv_program *in_flight, size_t count,
+                                          const struct chanv_program *program,
+                                          struct chanv_refusal *out);
 
 /* Whether others, such as the processor, may write to an area of storage now. CHANV_YES: no program
- * in flight keeps a byte of it. CHANV_NO: `out` has CHANV_KEPT, the first program that keeps one,
- * and the least such byte. No memory is taken, and there is no other answer. */
-uint32_t chanv_may_write(const struct chanv_program *in_flight, size_t count,
-                         const struct chanv_area *area, struct chanv_refusal *out);
+ * in flight keeps a byte of it. CHANV_NO: `out` has CHANV_REFUSED_KEPT, the first program that
+ * keeps one, and the least such byte; or CHANV_REFUSED_RESERVED_IN_FLIGHT and the first program
+ * whose `reserved` isn't 0. No memory is taken, and there is no other answer. */
+CHANV_MUST_USE uint32_t chanv_check_write(const struct chanv_program *in_flight, size_t count,
+                                          const struct chanv_area *area,
+                                          struct chanv_refusal *out);
 
 /* Lists the starts of the channel programs in storage, each once, in order; docs/FIND.md says which
- * they are. CHANV_LISTED: the first `*count` of `starts` are written, and the others keep their
- * values. CHANV_NO_ROOM: `*count` is how many there would be. Otherwise it is
- * CHANV_STORAGE_TOO_LARGE, or else CHANV_NOT_A_DEVICE, or else CHANV_MEMORY, and `*count` is 0. Only
- * for CHANV_LISTED is a start written. */
-uint32_t chanv_find(struct chanv_bytes storage, uint16_t device, uint32_t *starts, size_t room,
-                    size_t *count);
+ * they are. CHANV_OK: the first `*count` of `starts` are written, and the others keep their
+ * values. CHANV_NO_ROOM: `*count` is how many there would be. Otherwise it returns
+ * CHANV_STORAGE_TOO_LARGE, or else CHANV_NOT_A_DEVICE, or else CHANV_MEMORY, and `*count` is 0.
+ * Only for CHANV_OK is a start written. */
+CHANV_MUST_USE uint32_t chanv_find(const struct chanv_bytes *storage, uint16_t device,
+                                   uint32_t *starts, size_t room, size_t *count);
 
-/* The library's version: 65,536 times the first number, 256 times the second, and the third. */
+/* 1 if the answer is a fault of the job itself, 4 to 10 or 12, else 0. */
+int chanv_is_fault(uint32_t answer);
+
+/* The library's version, as CHANV_VERSION_NUMBER is the header's. */
 uint32_t chanv_version(void);
 
-/* The word for a reason, or "" for any other number. */
-static inline const char *chanv_reason_word(uint32_t reason)
-{
-    static const char *const words[] = {
-        "",
-        "misaligned",
-        "outside-storage",
-        "transfer-not-allowed",
-        "invalid-code",
-        "bad-format",
-        "zero-count",
-        "data-outside",
-        "not-in-table",
-        "inhibited",
-        "store-not-lent",
-        "fetch-not-lent",
-        "short-seek",
-        "seek-outside",
-        "changes-ccw",
-        "changes-argument",
-        "weakens-mask",
-    };
-    return reason < sizeof words / sizeof *words ? words[reason] : "";
-}
-
-/* The word for what a call returned, or "" for any other number. */
-static inline const char *chanv_answer_word(uint32_t answer)
-{
-    static const char *const words[] = {
-        "yes",
-        "no",
-        "too-many-places",
-        "out-of-memory",
-        "storage-too-large",
-        "not-a-device",
-        "not-a-mask",
-        "no-extent",
-        "extent-backwards",
-        "extent-past-device",
-        "not-a-limit",
-        "no-room",
-        "reserved-not-zero",
-    };
-    return answer < sizeof words / sizeof *words ? words[answer] : "";
-}
-
-/* The word for the code of a refusal, or "" for any other number. */
-static inline const char *chanv_refusal_word(uint32_t code)
-{
-    static const char *const words[] = {
-        "",
-        "other-start",
-        "other-device",
-        "other-length",
-        "changed",
-        "mask",
-        "no-cylinder",
-        "not-fetchable",
-        "not-storable",
-        "stores",
-        "keeps",
-        "kept",
-    };
-    return code < sizeof words / sizeof *words ? words[code] : "";
-}
-
-/* The word for how a program enters a CCW, as a listing has it, or "" for any other number. */
-static inline const char *chanv_entered_word(uint32_t entered)
-{
-    static const char *const words[] = {"fresh", "in", "out", "search"};
-    return entered < sizeof words / sizeof *words ? words[entered] : "";
-}
+/* The word for a number, or "" for any other number: for a reason; for what a call returned; for
+ * the code of a refusal; and for how a program enters a CCW, as a listing has it. */
+const char *chanv_reason_word(uint32_t reason);
+const char *chanv_answer_word(uint32_t answer);
+const char *chanv_refusal_word(uint32_t code);
+const char *chanv_entered_word(uint32_t entered);
 
 #ifdef __cplusplus
 }

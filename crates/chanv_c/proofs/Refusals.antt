@@ -8,8 +8,14 @@ use Rattle.chanv_c.specs.declared.refusal.JobFault.TheVariants.{ExtentPastDevice
 use Rattle.chanv_c.specs.declared.refusal.JobFault.TheVariants.{ReservedNotZero}
 use Rattle.chanv_c.specs.declared.refusal.Refusal.{Refusal}
 use Rattle.chanv_c.specs.declared.refusal.Refusal.TheVariants.{TooManyPlaces, Memory, Wrong}
-use Rattle.chanv_c.specs.Answers.{IsAnswerCode, IsRefusal, refusal_code, refusal_extent}
-use Rattle.chanv_c.specs.Faults.{fault_code}
+use Rattle.chanv_c.specs.Answers.{IsAnswerCode, IsRefusal, refusal_after, refusal_code}
+use Rattle.chanv_c.specs.Answers.{refusal_extent}
+use Rattle.chanv_c.specs.Faults.{HasNoFault, fault_code}
+use Rattle.chan_walk.specs.declared.error.WalkError.{WalkError}
+use Rattle.chan_walk.specs.declared.error.WalkError.TheVariants as walk
+use Rattle.std.proofs.lemmas.Result.{err_from_is_err_and}
+use Rattle.std.specs.Result.{IfErr, IsErrAnd}
+use Rattle.std.specs.declared.result.Result.{Result}
 
 -- a fault's number is from 4 to 12, and not that of too little room
 fault_numbers : (f : JobFault) → (4 ≤ fault_code f) × (fault_code f ≤ 12) × (fault_code f ≢ 11)
@@ -29,6 +35,16 @@ fault_accepts_none n four not (inr room) = absurd (not room)
 memory_accepts_none : {A : Type 0} (n : ℕ) → n ≡ 3 → (n < 3) ⊎ (n ≡ 11) → A
 memory_accepts_none n three (inl few) = absurd (omega (arith, three, few))
 memory_accepts_none n three (inr room) = absurd (omega (arith, three, room))
+
+-- a walk that gave no answer to a job without a fault
+walk_refusal : (crowded : Type 0) (c : CJob) (e : WalkError) → HasNoFault c → (e ≡ walk.TooManyPlaces → crowded)
+    → IsRefusal crowded c (refusal_after e)
+walk_refusal crowded c walk.TooManyPlaces right many = (many refl, right)
+walk_refusal crowded c walk.Memory right many = λ f _. right f
+
+pub walk_refused : {T : Type 0} (crowded : Type 0) (c : CJob) (e : WalkError) (r : Result T Refusal) → HasNoFault c
+    → (e ≡ walk.TooManyPlaces → crowded) → IsErrAnd r (λ y. y ≡ refusal_after e) → IfErr r (IsRefusal crowded c)
+walk_refused crowded c e r right many is = let p = err_from_is_err_and r is in rw (p.1, p.2) (walk_refusal crowded c e right many)
 
 -- a refusal's number says why there is no answer
 pub refusal_number : (crowded : Type 0) (c : CJob) (r : Refusal) → IsRefusal crowded c r

@@ -1,6 +1,8 @@
 -- What the answers to C promise.
 use Rattle.std.specs.Prelude.{◌≡◌, ◌≢◌, ◌<◌, ◌≤◌, ◌⊎◌, ℕ, List, ◌++◌, drop, length, map}
 use Rattle.chan_walk.specs.declared.job.Job.{Job}
+use Rattle.chan_walk.specs.declared.error.WalkError.{WalkError}
+use Rattle.chan_walk.specs.declared.error.WalkError.TheVariants as walk
 use Rattle.chan_walk.specs.declared.place.Place.{Place}
 use Rattle.chan_walk.specs.declared.reason.Reason.{Reason}
 use Rattle.chan_walk.specs.declared.verdict.Verdict.{Verdict}
@@ -62,6 +64,11 @@ pub record AreListed (c : CJob) (count : ℕ) (old new : List CPlace) : Type 0 w
   pub found : AreFound c places
   pub count_is : length places ≡ count
   pub rows : new ≡ map place_row places ++ drop count old
+
+-- what a walk that gave no answer comes to
+abbrev pub refusal_after : WalkError → Refusal
+refusal_after walk.TooManyPlaces = TooManyPlaces
+refusal_after walk.Memory = Memory
 
 -- the number of a refusal in the header
 abbrev pub refusal_code : Refusal → ℕ

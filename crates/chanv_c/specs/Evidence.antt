@@ -22,9 +22,8 @@ no_values = record {
   gap = no_area;
   address = 0;
   taker = 0;
-  length = 0;
+  storage_len = 0;
   code = 0;
-  mask = 0;
   bits = 0;
   given = 0;
   outside = 0;
@@ -33,6 +32,7 @@ no_values = record {
   sets_mask = 0;
   addresses = 0 ∷ 0 ∷ 0 ∷ 0 ∷ 0 ∷ 0 ∷ [];
   bytes = 0 ∷ 0 ∷ 0 ∷ 0 ∷ 0 ∷ 0 ∷ [];
+  mask = 0;
 }
 
 -- 0 for a seek, which has an argument, and 1 for a Set File Mask
@@ -59,12 +59,12 @@ outside_values (Head n m) v = record v { outside = 3; value = n; below = m }
 -- the values of a cause, each in the field that the header says; the other fields are 0
 abbrev pub values_of : Evidence → CEvidence
 values_of (because.Misaligned a) = record no_values { address = a }
-values_of (because.OutsideStorage ccw n) = record no_values { range = ccw; length = n }
+values_of (because.OutsideStorage ccw n) = record no_values { range = ccw; storage_len = n }
 values_of (because.TransferNotAllowed first) = no_values
 values_of (because.InvalidCode code) = record no_values { code = code }
 values_of (because.BadFormat bits) = record no_values { bits = bits }
 values_of because.ZeroCount = no_values
-values_of (because.DataOutside range n) = record no_values { range = range; length = n }
+values_of (because.DataOutside range n) = record no_values { range = range; storage_len = n }
 values_of (because.NotInTable code) = record no_values { code = code }
 values_of (because.Inhibited mask code) = record no_values { mask = mask; code = code }
 values_of (because.StoreNotLent range gap) = record no_values { range = range; gap = gap }

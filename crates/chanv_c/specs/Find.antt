@@ -4,7 +4,7 @@ use Rattle.chan_walk.specs.declared.job.Job.{Job}
 use Rattle.chan_walk.specs.Job.{storage_of}
 use Rattle.chan_walk.specs.OpenJob.{open_job}
 use Rattle.chan_find.specs.Programs.{AreProgramStarts}
-use Rattle.chanv_c.specs.Job.{device_number}
+use Rattle.chan_needs.specs.Remembered.{device_number}
 use Rattle.chanv_c.specs.Needs.{StandFirst}
 
 -- these are the starts of all programs in storage, for the device of this number

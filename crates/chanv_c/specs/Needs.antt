@@ -1,5 +1,5 @@
 -- What the needs that C is told promise.
-use Rattle.std.specs.Prelude.{◌≡◌, ℕ, ◌≤◌, List, ◌++◌, drop, length, Option, None, Some}
+use Rattle.std.specs.Prelude.{◌≡◌, ℕ, ◌≤◌, List, [], ◌∷◌, ◌++◌, drop, length, Option, None, Some}
 use Rattle.ccw_core.specs.declared.areas.Area.{Area}
 use Rattle.chan_walk.specs.declared.job.Job.{Job}
 use Rattle.chan_walk.specs.declared.place.Place.{Place}
@@ -12,7 +12,8 @@ use Rattle.chan_walk.specs.OpenJob.{open_job, IsOpenJob}
 use Rattle.chan_needs.specs.Rows.{AreNeeds, Listed, listed}
 use Rattle.chan_walk.specs.Verdict.{IsVerdict}
 use Rattle.chan_why.specs.Hang.{IsFirstPlace, MayHang}
-use Rattle.chanv_c.specs.declared.job.CExtent.{CExtent}
+use Rattle.chan_needs.specs.Remembered.{total_len}
+use Rattle.chan_needs.specs.declared.extent.Extent.{Extent}
 use Rattle.chanv_c.specs.declared.job.CJob.{CJob}
 use Rattle.chanv_c.specs.declared.needs.CNeeded.{CNeeded}
 use Rattle.chanv_c.specs.declared.needs.Found.{Found}
@@ -57,21 +58,23 @@ IsFound c (found.NoJob a r) = IsJudgedOpenly c (No a r)
 -- ---- what is told
 
 -- the row of a run of cylinders
-abbrev pub run_row : ℕ × ℕ → CExtent
+abbrev pub run_row : ℕ × ℕ → Extent
 run_row r = record { first = r.0; last = r.1 }
 
 -- only a verdict, or which extent is wrong
 abbrev pub told_alone : CVerdict → CNeeded
 told_alone v = record {
   verdict = v;
-  extents = 0;
-  fetch = 0;
-  store = 0;
-  keep = 0;
+  extent_count = 0;
+  fetch_count = 0;
+  store_count = 0;
+  keep_count = 0;
+  kept_len = 0;
   storage_len = 0;
-  mask = 0;
   may_hang = 0;
   hangs_at = 0;
+  mask = 0;
+  reserved = 0 ∷ 0 ∷ 0 ∷ 0 ∷ [];
 }
 
 -- 1 if there is such a place, and its address
@@ -83,18 +86,21 @@ abbrev pub hang_address : Option Place → ℕ
 hang_address None = 0
 hang_address (Some p) = p.address
 
--- how many rows each list has, how long storage is, the mask, and where the program may hang
+-- how many rows each list has, how many bytes are kept, how long storage is, the mask, and where
+-- the program may hang
 abbrev pub told_needs : Listed → Option Place → CNeeded
 told_needs n hang = record {
   verdict = verdict_told Yes;
-  extents = length n.extents;
-  fetch = length n.fetch;
-  store = length n.store;
-  keep = length n.keep;
+  extent_count = length n.extents;
+  fetch_count = length n.fetch;
+  store_count = length n.store;
+  keep_count = length n.keep;
+  kept_len = total_len n.keep;
   storage_len = n.storage_len;
-  mask = n.mask;
   may_hang = hang_number hang;
   hangs_at = hang_address hang;
+  mask = n.mask;
+  reserved = 0 ∷ 0 ∷ 0 ∷ 0 ∷ [];
 }
 
 -- some job will do, and this is told of what the program needs
@@ -114,10 +120,11 @@ pub record IsToldNo (c : CJob) (out : CNeeded) : Type 0 where
 abbrev pub StandFirst : {X : Type 0} → List X → List X → List X → Type 0
 StandFirst rows old new = new ≡ rows ++ drop (length rows) old
 
--- each list has room for its rows
-pub record HaveRoom (n : Listed) (runs : List CExtent) (fetched stored kept : List Area)
-    : Type 0 where
+-- each list has room for its rows, and there is room for the bytes that are kept
+pub record HaveRoom (n : Listed) (runs : List Extent) (fetched stored areas : List Area)
+    (bytes : List ℕ) : Type 0 where
   pub extents : length n.extents ≤ length runs
   pub fetch : length n.fetch ≤ length fetched
   pub store : length n.store ≤ length stored
-  pub keep : length n.keep ≤ length kept
+  pub keep : length n.keep ≤ length areas
+  pub kept : total_len n.keep ≤ length bytes

@@ -1,5 +1,5 @@
 -- What the explanation to C promises.
-use Rattle.std.specs.Prelude.{◌≡◌, ◌≢◌, ℕ, ◌<◌, List, ◌++◌, drop, length, map, ◌⊎◌}
+use Rattle.std.specs.Prelude.{◌≡◌, ◌≢◌, ℕ, ◌<◌, List, [], ◌∷◌, ◌++◌, drop, length, map}
 use Rattle.chan_walk.specs.declared.job.Job.{Job}
 use Rattle.chan_walk.specs.declared.place.Place.{Place}
 use Rattle.chan_walk.specs.declared.verdict.Verdict.{Verdict}
@@ -35,18 +35,20 @@ verdict_told (No a r) = record { extent = 0; address = a; reason = number_of r }
 abbrev pub told : Found → CExplanation
 told x = record {
   verdict = verdict_told x.verdict;
-  path = length x.witness.path.items;
-  second_path = length x.witness.second_path.items;
+  path_count = length x.witness.path.items;
+  second_path_count = length x.witness.second_path.items;
   evidence = cause_told x.witness.evidence;
+  reserved = 0 ∷ 0 ∷ 0 ∷ 0 ∷ [];
 }
 
 -- only which extent is wrong
 abbrev pub told_nothing : ℕ → CExplanation
 told_nothing extent = record {
   verdict = record { extent = extent; address = 0; reason = 0 };
-  path = 0;
-  second_path = 0;
+  path_count = 0;
+  second_path_count = 0;
   evidence = no_values;
+  reserved = 0 ∷ 0 ∷ 0 ∷ 0 ∷ [];
 }
 
 -- the verdict is no, and this is told of its explanation
@@ -59,8 +61,11 @@ pub record IsTold (c : CJob) (x : Found) (out : CExplanation) : Type 0 where
 abbrev pub AreInFront : List Place → List CPlace → List CPlace → Type 0
 AreInFront places old new = new ≡ map place_row places ++ drop (length places) old
 
--- there are more places than rows for them on one path or on both
-abbrev pub IsRoomTooSmall : Found → List CPlace → List CPlace → Type 0
-IsRoomTooSmall x path second_path =
-    (length path < length x.witness.path.items)
-    ⊎ (length second_path < length x.witness.second_path.items)
+-- a path is written if it is wanted, which it is if there is a row for it
+abbrev pub IsWrittenTo : List Place → List CPlace → List CPlace → Type 0
+IsWrittenTo places old new =
+    (0 < length old → AreInFront places old new) × (old ≡ [] → new ≡ [])
+
+-- a path that is wanted has more places than rows
+abbrev pub LacksRows : List Place → List CPlace → Type 0
+LacksRows places rows = (0 < length rows) × (length rows < length places)

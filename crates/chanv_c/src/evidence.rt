@@ -22,11 +22,9 @@ pub struct CEvidence {
     /// The address of the CCW that takes the byte at `address`.
     pub taker: u32,
     /// How many bytes storage has.
-    pub length: u32,
+    pub storage_len: u32,
     /// The command code.
     pub code: u32,
-    /// The job's file mask.
-    pub mask: u32,
     /// The three low flag bits of the CCW.
     pub bits: u32,
     /// How many of the argument's six bytes are given.
@@ -43,6 +41,8 @@ pub struct CEvidence {
     pub addresses: [u32; 6],
     /// These bytes, and then 0.
     pub bytes: [u8; 6],
+    /// The job's file mask.
+    pub mask: u8,
 }
 
 /// An area of no bytes.
@@ -55,9 +55,8 @@ pub(crate) const NO_VALUES: CEvidence = CEvidence {
     gap: NO_AREA,
     address: 0,
     taker: 0,
-    length: 0,
+    storage_len: 0,
     code: 0,
-    mask: 0,
     bits: 0,
     given: 0,
     outside: 0,
@@ -66,6 +65,7 @@ pub(crate) const NO_VALUES: CEvidence = CEvidence {
     sets_mask: 0,
     addresses: [0; 6],
     bytes: [0; 6],
+    mask: 0,
 };
 
 /// The bytes of an argument, and where they stand.
@@ -127,18 +127,18 @@ fn set_mask_number(argument: Option<GivenBytes>) -> u32
 }
 
 /// A range, and what is told of it.
-fn range_values(range: Area, gap: Area, length: u32, address: u32) -> CEvidence
+fn range_values(range: Area, gap: Area, storage_len: u32, address: u32) -> CEvidence
     ensures { result ≡ record specs.no_values {
       range = range;
       gap = gap;
-      length = length;
+      storage_len = storage_len;
       address = address;
     } }
 {
     CEvidence {
         range,
         gap,
-        length,
+        storage_len,
         address,
         ..NO_VALUES
     }
@@ -165,7 +165,7 @@ fn values_of(evidence: Evidence) -> CEvidence
         },
         Evidence::DataOutside { data, length } => range_values(data, NO_AREA, length, 0),
         Evidence::Inhibited { mask, code } => CEvidence {
-            mask: u32::from(mask.byte()),
+            mask: mask.byte(),
             code: u32::from(code),
             ..NO_VALUES
         },
@@ -192,7 +192,7 @@ fn values_of(evidence: Evidence) -> CEvidence
         },
         Evidence::WeakensMask { byte, mask } => CEvidence {
             value: u32::from(byte),
-            mask: u32::from(mask.byte()),
+            mask: mask.byte(),
             ..NO_VALUES
         },
     }

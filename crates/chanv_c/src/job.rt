@@ -3,22 +3,17 @@
 ghost use Rattle.std.specs.Prelude.{◌≡◌, ◌≢◌, [], map, IfOk, IfErr, OnOk, MatchOption};
 ghost use Rattle.ccw_core.specs.Held.{bytes_held};
 ghost use Rattle.chanv_c.specs.Answers.{IsRefusal};
-ghost use Rattle.chanv_c.specs.Job.{IsAskedJob, IsReady, device_number, extents_asked, pair};
+ghost use Rattle.chan_needs.specs.Remembered.{device_number};
+ghost use Rattle.chan_needs.specs.Rows.{pair};
+ghost use Rattle.chanv_c.specs.Job.{IsAskedJob, IsReady, extents_asked};
 ghost use Rattle.chanv_c.specs.Faults.{HasNoFault, HasNoneBelow, IsFirstFault};
 
 use crate::refusal::{JobFault, Refusal};
 use ccw_core::{Area, Storage};
+use chan_needs::{Extent, or_empty};
 use chan_walk::{Job, Limit};
 use ckd_core::{Device, ExtentError, Extents, FileMask};
 use std::alloc::{AllocError, Global};
-
-/// `struct chanv_extent`.
-#[repr(C)]
-#[derive(Clone, Copy)]
-pub struct CExtent {
-    pub first: u16,
-    pub last: u16,
-}
 
 /// `struct chanv_job`. A slice is a pointer and then a length; with a length of 0 the pointer may
 /// be null, and isn't looked at.
@@ -26,7 +21,7 @@ pub struct CExtent {
 #[derive(Clone, Copy)]
 pub struct CJob<'a> {
     pub storage: &'a [u8],
-    pub extents: &'a [CExtent],
+    pub extents: &'a [Extent],
     pub fetch: &'a [Area],
     pub store: &'a [Area],
     pub start: u32,
@@ -35,14 +30,6 @@ pub struct CJob<'a> {
     pub mask: u8,
     /// Room for fields of a later version, in which 0 means today's behaviour.
     pub reserved: [u64; 4],
-}
-
-/// The list, and in the place of one without elements an empty one of our own: its pointer may be
-/// null, which no reference is in the proofs.
-pub(crate) fn or_empty<'a, T>(list: &'a [T]) -> &'a [T]
-    ensures { result.now ≡ list.now }
-{
-    if list.is_empty() { &[] } else { list }
 }
 
 /// The storage, the device and the mask that C names. Storage is borrowed.
@@ -91,7 +78,7 @@ fn parts_of<'a>(asked: &CJob<'a>) -> Result<Parts<'a>, JobFault>
 }
 
 /// The extents as pairs.
-pub(crate) fn pairs_of(alloc: Global, extents: &[CExtent]) -> Result<Vec<(u16, u16)>, AllocError>
+fn pairs_of(alloc: Global, extents: &[Extent]) -> Result<Vec<(u16, u16)>, AllocError>
     ensures pairs { IfOk result (λ pairs. pairs.items ≡ map pair extents.now) }
     ensures some { IfErr result (λ e. extents.now ≢ []) }
 {
@@ -139,10 +126,7 @@ pub(crate) fn make_ready<'a>(alloc: Global, asked: &CJob<'a>) -> Result<Ready<'a
         Ok(parts) => parts,
         Err(fault) => return Err(Refusal::Wrong(fault)),
     };
-    let extents = match extents_of(alloc, asked) {
-        Ok(extents) => extents,
-        Err(refusal) => return Err(refusal),
-    };
+    let extents = extents_of(alloc, asked)?;
     let Some(limit) = Limit::new(asked.limit) else {
         return Err(Refusal::Wrong(JobFault::NotALimit));
     };

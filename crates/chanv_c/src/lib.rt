@@ -4,13 +4,12 @@
 //! `include/chanv.h` declares what this library exports, and says what a caller owes.
 #![tactic(auto)]
 
+mod codes;
 mod evidence;
 mod find;
 mod job;
-mod kept;
 mod list;
 mod needs;
-mod question;
 mod refusal;
 mod rows;
 mod start;
@@ -20,13 +19,12 @@ mod version;
 mod why;
 
 pub use crate::evidence::CEvidence;
-pub use crate::find::chanv_find;
-pub use crate::job::{CExtent, CJob};
-pub use crate::kept::chanv_copy_kept;
+pub use crate::find::{CBytes, chanv_find};
+pub use crate::job::CJob;
 pub use crate::list::chanv_list;
 pub use crate::needs::{CNeeded, chanv_needs};
 pub use crate::rows::CPlace;
-pub use crate::start::{CProgram, CRefusal, CRows, chanv_may_start, chanv_may_write};
+pub use crate::start::{CRefusal, chanv_check_start, chanv_check_write};
 pub use crate::text::{chanv_open_text, chanv_text};
 pub use crate::verify::{CVerdict, chanv_verify};
 pub use crate::version::chanv_version;

@@ -1,13 +1,15 @@
 //! Which CCWs a channel program can come to.
 
-ghost use Rattle.std.specs.Prelude.{◌≡◌, ◌≢◌, ◌<◌, ◌≤◌, length};
-ghost use Rattle.chanv_c.specs.Answers.{AreListed, HasPlaces, HasTooMany, IsAnswerCode};
+ghost use Rattle.std.specs.Prelude.{◌≡◌, ◌≢◌, ◌<◌, ◌≤◌, length, IfErr, IfOk, OnOk};
+ghost use Rattle.chanv_c.specs.Answers.{AreFound, AreListed, HasPlaces, HasTooMany};
+ghost use Rattle.chanv_c.specs.Answers.{IsAnswerCode, IsRefusal};
+ghost use Rattle.chanv_c.specs.Faults.{HasNoFault};
 
-use crate::job::CJob;
-use crate::question::{Question, answer, no_answer};
+use crate::codes::{NO_ROOM, YES};
+use crate::job::{CJob, make_ready};
 use crate::refusal::Refusal;
 use crate::rows::{CPlace, write_rows};
-use chan_walk::{Explored, Job, explore};
+use chan_walk::{Explored, explore};
 use std::alloc::Global;
 
 /// Lists the places that the program can come to, each once, in order: 0 if `rows` took them all,
@@ -28,14 +30,14 @@ pub extern "C" fn chanv_list(
     ensures no_verdict { result ≢ 1 }
     ensures no_count { 2 ≤ result → result ≤ 3 → count.new ≡ 0 }
 {
-    match answer(alloc, &WhichPlaces, job) {
+    match places_of(alloc, job) {
         Ok(found) => {
             *count = found.len();
             if rows.len() < found.len() {
-                return 11;
+                return NO_ROOM;
             }
             write_rows(&found, rows);
-            0
+            YES
         }
         Err(refusal) => {
             *count = refusal.extent();
@@ -44,20 +46,12 @@ pub extern "C" fn chanv_list(
     }
 }
 
-/// Which places can the program come to?
-struct WhichPlaces;
-
-impl Question<Explored> for WhichPlaces {
-    ghost use Rattle.chanv_c.specs.Answers.{AreFound, HasTooMany};
-
-    ghost holds = { λ _. AreFound };
-
-    ghost crowded = { HasTooMany };
-
-    fn ask(&self, alloc: Global, asked: &CJob<'_>, job: &Job) -> Result<Explored, Refusal> {
-        match explore(alloc, job) {
-            Ok(found) => Ok(found),
-            Err(error) => Err(no_answer(asked, job, error)),
-        }
-    }
+/// The places that the program can come to.
+fn places_of(alloc: Global, asked: &CJob<'_>) -> Result<Explored, Refusal>
+    ensures answer { IfOk result (AreFound asked.now) }
+    ensures right { OnOk result (HasNoFault asked.now) }
+    ensures refusal { IfErr result (IsRefusal (HasTooMany asked.now) asked.now) }
+{
+    let ready = make_ready(alloc, asked)?;
+    Ok(explore(alloc, &ready.job(asked))?)
 }

@@ -1,27 +1,29 @@
 //! What a channel program needs of each job that it runs under, and what it keeps.
 
-ghost use Rattle.std.specs.Prelude.{◌≡◌, ◌≢◌, ◌<◌, ◌≤◌, ◌↔◌, map, IfOk, IfErr, IsTrue, Option};
-ghost use Rattle.chan_walk.specs.Places.{HasMoreThan};
+ghost use Rattle.std.specs.Prelude.{◌≡◌, ◌≢◌, ◌<◌, ◌≤◌, ◌↔◌, length, map, IfOk, IfErr, IsTrue};
+ghost use Rattle.std.specs.Prelude.{OnOk, Option};
+ghost use Rattle.std.specs.List.{All};
+ghost use Rattle.chan_areas.specs.Merged.{IsMerged};
+ghost use Rattle.chan_needs.specs.Remembered.{HoldsAreas, IsInside, bytes_in, total_len};
 ghost use Rattle.chan_walk.specs.OpenJob.{open_job, IsOpenJob};
 ghost use Rattle.chan_needs.specs.Rows.{Listed, listed};
 ghost use Rattle.chan_walk.specs.Verdict.{IsVerdict};
-ghost use Rattle.chan_walk.specs.declared.error.WalkError.TheVariants as walk;
 ghost use Rattle.chan_walk.specs.declared.place.Place as place;
 ghost use Rattle.chan_walk.specs.declared.verdict.Verdict as declared;
 ghost use Rattle.chanv_c.specs.Answers.{IsAnswerCode, IsRefusal};
 ghost use Rattle.chanv_c.specs.Job.{IsAskedJob};
 ghost use Rattle.chanv_c.specs.Faults.{HasNoFault};
-ghost use Rattle.chanv_c.specs.Needs.{AreToldNeeds, HasTooManyOpenly, HaveRoom, IsFound, IsOpenFor};
+ghost use Rattle.chanv_c.specs.Needs.{AreToldNeeds, HasTooManyOpenly, HaveRoom, IsFound};
 ghost use Rattle.chanv_c.specs.Needs.{IsToldNo, StandFirst, run_row, told_alone, told_needs};
 
-use crate::job::{CExtent, CJob};
-use crate::question::{Question, answer};
+use crate::codes::{NO, NO_ROOM, YES};
+use crate::job::{CJob, make_ready};
 use crate::refusal::Refusal;
 use crate::rows::{write_areas, write_runs};
 use crate::verify::CVerdict;
-use ccw_core::Area;
-use chan_needs::{Needs, needs_from};
-use chan_walk::{Job, OpenJob, Place, Reason, Verdict, WalkError, survey};
+use ccw_core::{Area, Storage};
+use chan_needs::{Extent, Needs, copy_kept, kept_len, needs_from, or_empty};
+use chan_walk::{Job, OpenJob, Place, Reason, Verdict, survey};
 use chan_why::hang_from;
 use std::alloc::Global;
 
@@ -30,15 +32,18 @@ use std::alloc::Global;
 #[derive(Clone, Copy)]
 pub struct CNeeded {
     pub verdict: CVerdict,
-    pub extents: usize,
-    pub fetch: usize,
-    pub store: usize,
-    pub keep: usize,
+    pub extent_count: usize,
+    pub fetch_count: usize,
+    pub store_count: usize,
+    pub keep_count: usize,
+    /// How many bytes are kept.
+    pub kept_len: usize,
     pub storage_len: u32,
-    pub mask: u32,
     /// 1 if the program may hang, and the address of the first place at which it may.
     pub may_hang: u32,
     pub hangs_at: u32,
+    pub mask: u8,
+    pub reserved: [u64; 4],
 }
 
 /// What is found of a program.
@@ -51,43 +56,47 @@ pub(crate) enum Found {
 }
 
 /// The needs of the job's program in each job that it runs under, and the bytes that it keeps: 0 if
-/// some job will do and each list took its rows; 1 if none will, with the verdict on the open job;
-/// 11 if a list has more rows than room, with the same as for 0 except the rows. Otherwise it says
-/// why there is no answer, like `chanv_verify`; too many places are those that are reachable under
-/// the open job. All else is written as 0. Only for 0 is anything written to the lists. The job's
-/// own grants don't matter.
+/// some job will do and each list took its rows, and `kept` the bytes of storage in the rows of
+/// `keep`; 1 if none will, with the verdict on the open job; 11 if a list or `kept` has too little
+/// room, with the same as for 0 except rows and bytes. Otherwise it says why there is no answer,
+/// like `chanv_verify`; too many places are those that are reachable under the open job. All else
+/// is written as 0. Only for 0 is anything written to the lists and to `kept`. The job's own grants
+/// don't matter.
 #[unsafe(no_mangle)]
 pub extern "C" fn chanv_needs(
     alloc: Global,
     job: &CJob<'_>,
     out: &mut CNeeded,
-    extents: &mut [CExtent],
+    extents: &mut [Extent],
     fetch: &mut [Area],
     store: &mut [Area],
     keep: &mut [Area],
+    kept: &mut [u8],
 ) -> u32
     ensures yes { result ≡ 0 → (n : Listed) × (hang : Option place.Place)
         × AreToldNeeds job.now n hang out.new
         × StandFirst (map run_row n.extents) extents.old extents.new
         × StandFirst n.fetch fetch.old fetch.new
         × StandFirst n.store store.old store.new
-        × StandFirst n.keep keep.old keep.new }
+        × StandFirst n.keep keep.old keep.new
+        × StandFirst (bytes_in job.now.storage.now n.keep) kept.old kept.new
+        × HoldsAreas job.now.storage.now n.keep kept.new }
     ensures no { result ≡ 1 → IsToldNo job.now out.new }
     ensures room { result ≡ 11 → (n : Listed) × (hang : Option place.Place)
         × AreToldNeeds job.now n hang out.new
-        × (HaveRoom n extents.old fetch.old store.old keep.old → ⊥) }
+        × (HaveRoom n extents.old fetch.old store.old keep.old kept.old → ⊥) }
     ensures left { result ≢ 0 → (extents.new ≡ extents.old) × (fetch.new ≡ fetch.old)
-        × (store.new ≡ store.old) × (keep.new ≡ keep.old) }
+        × (store.new ≡ store.old) × (keep.new ≡ keep.old) × (kept.new ≡ kept.old) }
     ensures number { IsAnswerCode (HasTooManyOpenly job.now) job.now result out.new.verdict.extent }
     ensures nothing { 2 ≤ result → result ≢ 11 → out.new
         ≡ told_alone (record { extent = out.new.verdict.extent; address = 0; reason = 0 }) }
     ensures no_extent { result < 4 → out.new.verdict.extent ≡ 0 }
 {
-    let (needs, hang) = match answer(alloc, &WhatIsNeeded, job) {
+    let (needs, hang) = match needs_of(alloc, job) {
         Ok(Found::Needed(needs, hang)) => (needs, hang),
         Ok(Found::NoJob { address, reason }) => {
             *out = alone(0, address, u32::from(reason.number()));
-            return 1;
+            return NO;
         }
         Err(refusal) => {
             *out = alone(refusal.extent(), 0, 0);
@@ -95,14 +104,15 @@ pub extern "C" fn chanv_needs(
         }
     };
     *out = told(&needs, hang);
-    if !have_room(&needs, extents, fetch, store, keep) {
-        return 11;
+    if !have_room(&needs, extents, fetch, store, keep, kept) {
+        return NO_ROOM;
     }
     write_runs(needs.extents.as_slice(), extents);
     write_areas(needs.fetch.as_slice(), fetch);
     write_areas(needs.store.as_slice(), store);
     write_areas(needs.keep.as_slice(), keep);
-    0
+    write_kept(job, needs.keep.as_slice(), kept);
+    YES
 }
 
 /// What is told where there are no needs.
@@ -115,19 +125,22 @@ fn alone(extent: usize, address: u32, reason: u32) -> CNeeded
             address,
             reason,
         },
-        extents: 0,
-        fetch: 0,
-        store: 0,
-        keep: 0,
+        extent_count: 0,
+        fetch_count: 0,
+        store_count: 0,
+        keep_count: 0,
+        kept_len: 0,
         storage_len: 0,
-        mask: 0,
         may_hang: 0,
         hangs_at: 0,
+        mask: 0,
+        reserved: [0; 4],
     }
 }
 
 /// What is told of needs, but for the rows, and of the first place at which the program may hang.
 fn told(needs: &Needs, hang: Option<Place>) -> CNeeded
+    requires { IsMerged needs.now.keep.items }
     ensures { result ≡ told_needs (listed needs.now) hang }
 {
     let (may_hang, hangs_at) = match hang {
@@ -140,88 +153,81 @@ fn told(needs: &Needs, hang: Option<Place>) -> CNeeded
             address: 0,
             reason: 0,
         },
-        extents: needs.extents.len(),
-        fetch: needs.fetch.len(),
-        store: needs.store.len(),
-        keep: needs.keep.len(),
+        extent_count: needs.extents.len(),
+        fetch_count: needs.fetch.len(),
+        store_count: needs.store.len(),
+        keep_count: needs.keep.len(),
+        kept_len: kept_len(&needs.keep),
         storage_len: needs.storage_len,
-        mask: u32::from(needs.mask.byte()),
         may_hang,
         hangs_at,
+        mask: needs.mask.byte(),
+        reserved: [0; 4],
     }
 }
 
-/// Whether each list has room for its rows.
+/// Whether each list has room for its rows, and `kept` for the bytes.
 fn have_room(
     needs: &Needs,
-    extents: &[CExtent],
+    extents: &[Extent],
     fetch: &[Area],
     store: &[Area],
     keep: &[Area],
+    kept: &[u8],
 ) -> bool
+    requires { IsMerged needs.now.keep.items }
     ensures { IsTrue result
-        ↔ HaveRoom (listed needs.now) extents.now fetch.now store.now keep.now }
+        ↔ HaveRoom (listed needs.now) extents.now fetch.now store.now keep.now kept.now }
 {
     needs.extents.len() <= extents.len()
         && needs.fetch.len() <= fetch.len()
         && needs.store.len() <= store.len()
         && needs.keep.len() <= keep.len()
+        && kept_len(&needs.keep) <= kept.len()
 }
 
-/// What does the program need?
-struct WhatIsNeeded;
+/// Writes the bytes of storage in some areas, and leaves what is behind them as it is.
+fn write_kept(asked: &CJob<'_>, keep: &[Area], kept: &mut [u8])
+    requires right { HasNoFault asked.now }
+    requires inside { All (IsInside asked.now.storage.now) keep.now }
+    requires room { total_len keep.now ≤ length kept.old }
+    ensures copied { StandFirst (bytes_in asked.now.storage.now keep.now) kept.old kept.new }
+    ensures held { HoldsAreas asked.now.storage.now keep.now kept.new }
+{
+    // a job without a fault has no storage that is too large
+    let storage = Storage::new(or_empty(asked.storage)).unwrap();
+    // all areas lie in storage, and there is room for them
+    let _count = copy_kept(&storage, keep, kept).unwrap();
+}
 
-impl Question<Found> for WhatIsNeeded {
-    ghost use Rattle.chanv_c.specs.Needs.{HasTooManyOpenly, IsFound};
-
-    ghost holds = { λ _. IsFound };
-
-    ghost crowded = { HasTooManyOpenly };
-
-    fn ask(&self, alloc: Global, asked: &CJob<'_>, job: &Job) -> Result<Found, Refusal> {
-        match OpenJob::of(alloc, job) {
-            Ok(open) => found_on(alloc, asked, job, &open.job()),
-            Err(_) => Err(Refusal::Memory),
-        }
-    }
+/// What is found of the program that C asks about.
+fn needs_of(alloc: Global, asked: &CJob<'_>) -> Result<Found, Refusal>
+    ensures answer { IfOk result (IsFound asked.now) }
+    ensures right { OnOk result (HasNoFault asked.now) }
+    ensures refusal { IfErr result (IsRefusal (HasTooManyOpenly asked.now) asked.now) }
+{
+    let ready = make_ready(alloc, asked)?;
+    let job = ready.job(asked);
+    let opened = OpenJob::of(alloc, &job)?;
+    found_on(alloc, asked, &job, &opened.job())
 }
 
 /// What is found of a program by its open job.
-fn found_on(alloc: Global, asked: &CJob<'_>, job: &Job, open: &Job) -> Result<Found, Refusal>
+fn found_on(alloc: Global, asked: &CJob<'_>, job: &Job, opened: &Job) -> Result<Found, Refusal>
     requires asked { IsAskedJob asked.now job.now }
     requires right { HasNoFault asked.now }
-    requires open { IsOpenJob job.now open.now }
-    requires verdict { (v : declared.Verdict) → IsVerdict open.now v
+    requires opened { IsOpenJob job.now opened.now }
+    requires verdict { (v : declared.Verdict) → IsVerdict opened.now v
         ↔ IsVerdict (open_job job.now) v }
     ensures found { IfOk result (IsFound asked.now) }
     ensures refusal { IfErr result (IsRefusal (HasTooManyOpenly asked.now) asked.now) }
 {
-    let survey = match survey(alloc, open) {
-        Ok(survey) => survey,
-        Err(error) => return Err(no_needs(asked, open, error)),
-    };
+    let survey = survey(alloc, opened)?;
     match survey.verdict() {
-        Verdict::Yes => match needs_from(alloc, open, &survey) {
-            Ok(needs) => match hang_from(alloc, &survey) {
-                Ok(hang) => Ok(Found::Needed(needs, hang)),
-                Err(_) => Err(Refusal::Memory),
-            },
-            Err(_) => Err(Refusal::Memory),
-        },
+        Verdict::Yes => {
+            let needs = needs_from(alloc, opened, &survey)?;
+            Ok(Found::Needed(needs, hang_from(alloc, &survey)?))
+        }
         Verdict::No { address, reason } => Ok(Found::NoJob { address, reason }),
-    }
-}
-
-/// Why a call over the open job of the program that C asks about gave no answer.
-pub(crate) fn no_needs(_asked: &CJob<'_>, _open: &Job, error: WalkError) -> Refusal
-    requires open { IsOpenFor _asked.now _open.now }
-    requires right { HasNoFault _asked.now }
-    requires many { error ≡ walk.TooManyPlaces → HasMoreThan _open.now _open.now.limit }
-    ensures refusal { IsRefusal (HasTooManyOpenly _asked.now) _asked.now result }
-    ensures many { error ≡ walk.TooManyPlaces → result ≡ Refusal.TooManyPlaces }
-{
-    match error {
-        WalkError::TooManyPlaces => Refusal::TooManyPlaces,
-        WalkError::Memory => Refusal::Memory,
     }
 }

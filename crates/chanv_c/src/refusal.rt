@@ -4,6 +4,9 @@ ghost use Rattle.std.specs.Prelude.{◌≡◌};
 ghost use Rattle.chanv_c.specs.Answers.{refusal_code, refusal_extent};
 ghost use Rattle.chanv_c.specs.Faults.{fault_code, fault_extent};
 
+use chan_walk::WalkError;
+use std::alloc::AllocError;
+
 /// The faults of a job as C gives it, in the order in which they count.
 #[derive(Clone, Copy)]
 pub enum JobFault {
@@ -62,6 +65,31 @@ pub enum Refusal {
     Memory,
     /// What C gives is no job, for this fault.
     Wrong(JobFault),
+}
+
+impl From<AllocError> for Refusal {
+    ghost use Rattle.std.specs.Prelude.{◌≡◌};
+    ghost use Rattle.chanv_c.specs.declared.refusal.Refusal.TheVariants.{Memory};
+
+    ghost from_gives = { λ _ e. e ≡ Memory };
+
+    fn from(_error: AllocError) -> Refusal {
+        Refusal::Memory
+    }
+}
+
+impl From<WalkError> for Refusal {
+    ghost use Rattle.std.specs.Prelude.{◌≡◌};
+    ghost use Rattle.chanv_c.specs.Answers.{refusal_after};
+
+    ghost from_gives = { λ error e. e ≡ refusal_after error };
+
+    fn from(error: WalkError) -> Refusal {
+        match error {
+            WalkError::TooManyPlaces => Refusal::TooManyPlaces,
+            WalkError::Memory => Refusal::Memory,
+        }
+    }
 }
 
 impl Refusal {

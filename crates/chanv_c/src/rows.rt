@@ -4,8 +4,8 @@ ghost use Rattle.std.specs.Prelude.{◌≡◌, ◌≤◌, ◌++◌, drop, length
 ghost use Rattle.chanv_c.specs.Answers.{place_row};
 ghost use Rattle.chanv_c.specs.Needs.{StandFirst, run_row};
 
-use crate::job::CExtent;
 use ccw_core::Area;
+use chan_needs::Extent;
 use chan_walk::{Entry, Explored, Place};
 
 /// `struct chanv_place`.
@@ -56,13 +56,13 @@ pub(crate) fn write_path(path: &[Place], rows: &mut [CPlace])
 }
 
 /// Writes the rows of runs of cylinders, and leaves what is behind them as it is.
-pub(crate) fn write_runs(runs: &[(u16, u16)], rows: &mut [CExtent])
+pub(crate) fn write_runs(runs: &[(u16, u16)], rows: &mut [Extent])
     requires { length runs.now ≤ length rows.old }
     ensures { StandFirst (map run_row runs.now) rows.old rows.new }
 {
     for index in 0..runs.len() {
         let (first, last) = runs[index];
-        rows[index] = CExtent { first, last };
+        rows[index] = Extent { first, last };
     }
 }
 

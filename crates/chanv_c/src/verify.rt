@@ -1,13 +1,14 @@
 //! Whether a channel program may run.
 
-ghost use Rattle.std.specs.Prelude.{◌≡◌, ◌≢◌, ◌<◌};
+ghost use Rattle.std.specs.Prelude.{◌≡◌, ◌≢◌, ◌<◌, IfErr, IfOk, OnOk};
 ghost use Rattle.chan_walk.specs.declared.verdict.Verdict.TheVariants.{Yes};
-ghost use Rattle.chanv_c.specs.Answers.{HasTooMany, IsDenied, IsJudged, IsAnswerCode};
+ghost use Rattle.chanv_c.specs.Answers.{HasTooMany, IsDenied, IsJudged, IsAnswerCode, IsRefusal};
+ghost use Rattle.chanv_c.specs.Faults.{HasNoFault};
 
-use crate::job::CJob;
-use crate::question::{Question, answer, no_answer};
+use crate::codes::{NO, YES};
+use crate::job::{CJob, make_ready};
 use crate::refusal::Refusal;
-use chan_walk::{Job, Verdict, verify};
+use chan_walk::{Verdict, verify};
 use std::alloc::Global;
 
 /// `struct chanv_verdict`.
@@ -31,14 +32,14 @@ pub extern "C" fn chanv_verify(alloc: Global, job: &CJob<'_>, out: &mut CVerdict
     ensures no_place { result ≢ 1 → (out.new.address ≡ 0) × (out.new.reason ≡ 0) }
     ensures no_extent { result < 4 → out.new.extent ≡ 0 }
 {
-    match answer(alloc, &MayRun, job) {
+    match verdict_on(alloc, job) {
         Ok(Verdict::Yes) => {
             *out = CVerdict {
                 extent: 0,
                 address: 0,
                 reason: 0,
             };
-            0
+            YES
         }
         Ok(Verdict::No { address, reason }) => {
             *out = CVerdict {
@@ -46,7 +47,7 @@ pub extern "C" fn chanv_verify(alloc: Global, job: &CJob<'_>, out: &mut CVerdict
                 address,
                 reason: u32::from(reason.number()),
             };
-            1
+            NO
         }
         Err(refusal) => {
             *out = CVerdict {
@@ -59,20 +60,12 @@ pub extern "C" fn chanv_verify(alloc: Global, job: &CJob<'_>, out: &mut CVerdict
     }
 }
 
-/// May the program run?
-struct MayRun;
-
-impl Question<Verdict> for MayRun {
-    ghost use Rattle.chanv_c.specs.Answers.{HasTooMany, IsJudged};
-
-    ghost holds = { λ _. IsJudged };
-
-    ghost crowded = { HasTooMany };
-
-    fn ask(&self, alloc: Global, asked: &CJob<'_>, job: &Job) -> Result<Verdict, Refusal> {
-        match verify(alloc, job) {
-            Ok(verdict) => Ok(verdict),
-            Err(error) => Err(no_answer(asked, job, error)),
-        }
-    }
+/// The verdict on the job that C asks about.
+fn verdict_on(alloc: Global, asked: &CJob<'_>) -> Result<Verdict, Refusal>
+    ensures answer { IfOk result (IsJudged asked.now) }
+    ensures right { OnOk result (HasNoFault asked.now) }
+    ensures refusal { IfErr result (IsRefusal (HasTooMany asked.now) asked.now) }
+{
+    let ready = make_ready(alloc, asked)?;
+    Ok(verify(alloc, &ready.job(asked))?)
 }

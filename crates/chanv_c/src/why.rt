@@ -1,19 +1,21 @@
 //! Why a channel program may not run: the path to a place that offends, and the cause's values.
 
-ghost use Rattle.std.specs.Prelude.{◌≡◌, ◌≢◌, ◌<◌};
+ghost use Rattle.std.specs.Prelude.{◌≡◌, ◌≢◌, ◌<◌, ◌↔◌, ◌⊎◌, IfErr, IfOk, IsTrue, OnOk};
 ghost use Rattle.chan_walk.specs.declared.verdict.Verdict.TheVariants.{Yes};
-ghost use Rattle.chanv_c.specs.Answers.{HasTooMany, IsJudged, IsAnswerCode};
+ghost use Rattle.chanv_c.specs.Answers.{HasTooMany, IsJudged, IsAnswerCode, IsRefusal};
+ghost use Rattle.chanv_c.specs.Faults.{HasNoFault};
 ghost use Rattle.chanv_c.specs.Why as specs;
-ghost use Rattle.chanv_c.specs.Why.{AreInFront, IsRoomTooSmall, IsTold, told_nothing, verdict_told};
+ghost use Rattle.chanv_c.specs.Why.{IsExplanationFor, IsTold, IsWrittenTo, LacksRows};
+ghost use Rattle.chanv_c.specs.Why.{told_nothing, verdict_told};
 ghost use Rattle.chanv_c.specs.declared.why.Found as declared;
 
+use crate::codes::{NO, NO_ROOM, YES};
 use crate::evidence::{CEvidence, NO_VALUES, cause_told};
-use crate::job::CJob;
-use crate::question::{Question, answer, no_answer};
+use crate::job::{CJob, make_ready};
 use crate::refusal::Refusal;
 use crate::rows::{CPlace, write_path};
 use crate::verify::CVerdict;
-use chan_walk::{Job, Verdict, survey};
+use chan_walk::{Place, Verdict, survey};
 use chan_why::{Witness, witness_from};
 use std::alloc::Global;
 
@@ -22,9 +24,10 @@ use std::alloc::Global;
 #[derive(Clone, Copy)]
 pub struct CExplanation {
     pub verdict: CVerdict,
-    pub path: usize,
-    pub second_path: usize,
+    pub path_count: usize,
+    pub second_path_count: usize,
     pub evidence: CEvidence,
+    pub reserved: [u64; 4],
 }
 
 /// The verdict on a job, and what shows it.
@@ -36,9 +39,9 @@ pub(crate) struct Found {
 
 /// Why the program may not run: 0 if it may; 1 if it may not, with the verdict, the values of the
 /// cause, the path to a place that offends and, if something is changed, the path to that; 11 if
-/// one of the paths has more places than rows, with the same except the rows. Otherwise it says why
-/// there is no answer, like `chanv_verify`. All else is written as 0. Only for 1 is anything
-/// written to the rows.
+/// a path has more places than rows, with the same except the rows. A path without a row isn't
+/// wanted. Otherwise it says why there is no answer, like `chanv_verify`. All else is written as 0.
+/// Only for 1 is anything written to the rows.
 #[unsafe(no_mangle)]
 pub extern "C" fn chanv_why(
     alloc: Global,
@@ -49,16 +52,17 @@ pub extern "C" fn chanv_why(
 ) -> u32
     ensures yes { result ≡ 0 → IsJudged job.now Yes }
     ensures no { result ≡ 1 → (x : declared.Found) × IsTold job.now x out.new
-        × AreInFront x.witness.path.items path.old path.new
-        × AreInFront x.witness.second_path.items second_path.old second_path.new }
+        × IsWrittenTo x.witness.path.items path.old path.new
+        × IsWrittenTo x.witness.second_path.items second_path.old second_path.new }
     ensures room { result ≡ 11 → (x : declared.Found) × IsTold job.now x out.new
-        × IsRoomTooSmall x path.old second_path.old }
+        × (LacksRows x.witness.path.items path.old
+        ⊎ LacksRows x.witness.second_path.items second_path.old) }
     ensures kept { result ≢ 1 → (path.new ≡ path.old) × (second_path.new ≡ second_path.old) }
     ensures number { IsAnswerCode (HasTooMany job.now) job.now result out.new.verdict.extent }
     ensures nothing { result ≢ 1 → result ≢ 11 → out.new ≡ told_nothing out.new.verdict.extent }
     ensures no_extent { result < 4 → out.new.verdict.extent ≡ 0 }
 {
-    let found = match answer(alloc, &Why, job) {
+    let found = match explained(alloc, job) {
         Ok(found) => found,
         Err(refusal) => {
             *out = nothing(refusal.extent());
@@ -68,7 +72,7 @@ pub extern "C" fn chanv_why(
     match found.verdict {
         Verdict::Yes => {
             *out = nothing(0);
-            return 0;
+            return YES;
         }
         Verdict::No { .. } => *out = told(&found),
     }
@@ -76,12 +80,29 @@ pub extern "C" fn chanv_why(
         found.witness.path.as_slice(),
         found.witness.second_path.as_slice(),
     );
-    if path.len() < first.len() || second_path.len() < second.len() {
-        return 11;
+    if lacks_rows(first, path) || lacks_rows(second, second_path) {
+        return NO_ROOM;
     }
-    write_path(first, path);
-    write_path(second, second_path);
-    1
+    write_wanted(first, path);
+    write_wanted(second, second_path);
+    NO
+}
+
+/// Whether a path that is wanted has more places than rows.
+fn lacks_rows(path: &[Place], rows: &[CPlace]) -> bool
+    ensures { IsTrue result ↔ LacksRows path.now rows.now }
+{
+    !rows.is_empty() && rows.len() < path.len()
+}
+
+/// Writes the rows of a path, if it is wanted.
+fn write_wanted(path: &[Place], rows: &mut [CPlace])
+    requires { LacksRows path.now rows.old → ⊥ }
+    ensures { IsWrittenTo path.now rows.old rows.new }
+{
+    if !rows.is_empty() {
+        write_path(path, rows);
+    }
 }
 
 /// What is told where there is no explanation.
@@ -94,9 +115,10 @@ fn nothing(extent: usize) -> CExplanation
             address: 0,
             reason: 0,
         },
-        path: 0,
-        second_path: 0,
+        path_count: 0,
+        second_path_count: 0,
         evidence: NO_VALUES,
+        reserved: [0; 4],
     }
 }
 
@@ -106,9 +128,10 @@ fn told(found: &Found) -> CExplanation
 {
     CExplanation {
         verdict: verdict_of(found.verdict),
-        path: found.witness.path.len(),
-        second_path: found.witness.second_path.len(),
+        path_count: found.witness.path.len(),
+        second_path_count: found.witness.second_path.len(),
         evidence: cause_told(found.witness.evidence),
+        reserved: [0; 4],
     }
 }
 
@@ -130,28 +153,17 @@ fn verdict_of(verdict: Verdict) -> CVerdict
     }
 }
 
-/// Why may the program not run?
-struct Why;
-
-impl Question<Found> for Why {
-    ghost use Rattle.chanv_c.specs.Answers.{HasTooMany};
-    ghost use Rattle.chanv_c.specs.Why.{IsExplanationFor};
-
-    ghost holds = { λ _. IsExplanationFor };
-
-    ghost crowded = { HasTooMany };
-
-    fn ask(&self, alloc: Global, asked: &CJob<'_>, job: &Job) -> Result<Found, Refusal> {
-        let survey = match survey(alloc, job) {
-            Ok(survey) => survey,
-            Err(error) => return Err(no_answer(asked, job, error)),
-        };
-        match witness_from(alloc, &survey) {
-            Ok(witness) => Ok(Found {
-                verdict: survey.verdict(),
-                witness,
-            }),
-            Err(_) => Err(Refusal::Memory),
-        }
-    }
+/// The verdict on the job that C asks about, and what shows it.
+fn explained(alloc: Global, asked: &CJob<'_>) -> Result<Found, Refusal>
+    ensures answer { IfOk result (IsExplanationFor asked.now) }
+    ensures right { OnOk result (HasNoFault asked.now) }
+    ensures refusal { IfErr result (IsRefusal (HasTooMany asked.now) asked.now) }
+{
+    let ready = make_ready(alloc, asked)?;
+    let survey = survey(alloc, &ready.job(asked))?;
+    let witness = witness_from(alloc, &survey)?;
+    Ok(Found {
+        verdict: survey.verdict(),
+        witness,
+    })
 }

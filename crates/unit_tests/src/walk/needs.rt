@@ -34,15 +34,19 @@ fn are_surveyed(alloc: Global, open: &Job, survey: &Survey, job: &Job) -> bool
 }
 
 fn are_so(alloc: Global, needs: &Needs, job: &Job) -> bool {
+    let Ok(extents) = needs.extent_rows(alloc) else {
+        return false;
+    };
     let mut kept = [0; 24];
-    if copy_kept(&job.storage, needs.rows().keep, &mut kept) != Some(24) {
+    if copy_kept(&job.storage, &needs.keep, &mut kept) != Some(24) {
         return false;
     }
     let program = Remembered {
-        start: job.start,
-        device: job.device,
-        rows: needs.rows(),
+        rows: needs.rows(&extents),
         kept: &kept,
+        start: job.start,
+        device: 2314,
+        reserved: [0; 4],
     };
     kept[0] == 0x31 && may_start(alloc, job, &program, &[]) == Ok(Start::Yes)
 }

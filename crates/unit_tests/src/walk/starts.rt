@@ -4,10 +4,10 @@ use crate::shared::expect;
 use crate::walk::program::{Program, Question, SEARCH_LOOP, USUAL, holds};
 use ccw_core::{Area, Storage};
 use chan_needs::{
-    Conflict, Remembered, Rows, Start, StartRefusal, copy_kept, may_start, may_write,
+    Conflict, Extent, Remembered, Rows, Start, StartRefusal, copy_kept, kept_len, may_start,
+    may_write, or_empty,
 };
 use chan_walk::Job;
-use ckd_core::{Device, FileMask};
 use std::alloc::Global;
 
 fn area(start: u32, len: u32) -> Area {
@@ -15,25 +15,31 @@ fn area(start: u32, len: u32) -> Area {
 }
 
 /// A program in flight that stores into some areas and keeps others.
-fn flight<'a>(mask: FileMask, store: &'a [Area], keep: &'a [Area]) -> Remembered<'a> {
+fn flight<'a>(store: &'a [Area], keep: &'a [Area]) -> Remembered<'a> {
     Remembered {
-        start: 0,
-        device: Device::D2314,
         rows: Rows {
-            storage_len: 0,
-            mask,
             extents: &[],
             fetch: &[],
             store,
             keep,
+            storage_len: 0,
+            mask: 0x01,
         },
         kept: &[],
+        start: 0,
+        device: 0,
+        reserved: [0; 4],
     }
 }
 
 /// Copies what the search loop keeps, where there is room and storage.
 fn are_copied(storage: &Storage, kept: &mut [u8; 24]) -> bool {
-    copy_kept(storage, &[area(0x800, 24)], kept) == Some(24)
+    let keep = [Area {
+        start: 0x800,
+        len: 24,
+    }];
+    kept_len(&keep) == 24
+        && copy_kept(storage, &keep, kept) == Some(24)
         && copy_kept(storage, &[area(0x800, 24)], &mut [0; 23]) == None
         && copy_kept(storage, &[area(4095, 2)], &mut [0; 24]) == None
 }
@@ -41,35 +47,34 @@ fn are_copied(storage: &Storage, kept: &mut [u8; 24]) -> bool {
 /// Whether this is the answer to a start of the search loop. So many of the first parts of what is
 /// remembered are right, and all later ones wrong.
 pub(crate) fn is_answered(alloc: Global, job: &Job, right: usize, answer: Start) -> bool {
-    let Some(mask) = FileMask::new(if right > 4 { 0x00 } else { 0xC0 }) else {
-        return false;
-    };
     let mut kept = [0; 24];
     if !are_copied(&job.storage, &mut kept) {
         return false;
     }
     kept[0] = if right > 3 { 0x31 } else { 0 };
-    let cylinders = [(10, if right > 5 { 19 } else { 20 })];
+    let last = if right > 5 { 19 } else { 20 };
+    let cylinders = [Extent { first: 10, last }];
     let fetch = [area(if right > 6 { 0x900 } else { 0x90C }, 5)];
     let len = if right > 7 { 80 } else { 0xFFFF_FFFF };
     let store = [area(0xA08, 8), area(0xA00, len)];
     let program = Remembered {
-        start: if right > 0 { 0x800 } else { 0x808 },
-        device: [Device::D2311, Device::D2314][usize::from(right > 1)],
         rows: Rows {
-            storage_len: if right > 2 { 4096 } else { 4095 },
-            mask,
-            extents: &cylinders,
+            extents: or_empty(&cylinders),
             fetch: &fetch,
             store: &store,
             keep: &[area(0x800, 24)],
+            storage_len: if right > 2 { 4096 } else { 4095 },
+            mask: if right > 4 { 0x00 } else { 0xC0 },
         },
         kept: &kept,
+        start: if right > 0 { 0x800 } else { 0x808 },
+        device: if right > 1 { 2314 } else { 2311 },
+        reserved: [0; 4],
     };
     let keep = if right > 8 { 0xC00 } else { 0xA4F };
     let keeps = [area(keep, 8)];
     let stores = [area(if right > 9 { 0xC00 } else { 0x817 }, 2)];
-    let others = [flight(mask, &[], &[]), flight(mask, &stores, &keeps)];
+    let others = [flight(&[], &[]), flight(&stores, &keeps)];
     may_start(alloc, job, &program, &others) == Ok(answer)
         && may_write(&others, area(keep + 7, 0xFFFF_FFFF)) == Some((1, keep + 7))
         && may_write(&others, area(keep - 1, 1)) == None

@@ -1,6 +1,6 @@
 -- The pairs so far are those of the extents so far.
 use Rattle.std.proofs.Common.{◌≡◌, map, take}
-use Rattle.chanv_c.specs.Job.{pair}
+use Rattle.chan_needs.specs.Rows.{pair}
 use Rattle.chanv_c.proofs.job.pairs_of.Given as goal
 
 abbrev pub invariant-loop-extent : goal.invariant-loop-extent

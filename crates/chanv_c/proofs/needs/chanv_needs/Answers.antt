@@ -1,7 +1,10 @@
 -- Too many places, by their number, and what is told of needs.
-use Rattle.std.proofs.Common.{ℕ, List, map, subst}
+use Rattle.std.proofs.Common.{◌≤◌, ℕ, List, length, map, subst, sym}
+use Rattle.std.specs.List.{All}
 use Rattle.std.proofs.lemmas.Bool.{both_ways}
 use Rattle.ccw_core.specs.declared.areas.Area.{Area}
+use Rattle.chan_needs.specs.Remembered.{HoldsAreas, IsInside, bytes_in, total_len}
+use Rattle.chan_needs.proofs.Inside.{keep_inside}
 use Rattle.chan_needs.specs.Rows.{listed}
 use Rattle.chanv_c.specs.Needs.{HasTooManyOpenly, IsFound, StandFirst, run_row}
 use Rattle.chanv_c.proofs.Refusals.{refusal_number}
@@ -28,4 +31,19 @@ returns-clause-yes c = λ _. (
   subst (λ (l : List Area). StandFirst l c.args.fetch.now c.write_areas.new.rows) c.as_slice-2.ensures.value c.write_areas.ensures,
   subst (λ (l : List Area). StandFirst l c.args.store.now c.write_areas-2.new.rows) c.as_slice-3.ensures.value c.write_areas-2.ensures,
   subst (λ (l : List Area). StandFirst l c.args.keep.now c.write_areas-3.new.rows) c.as_slice-4.ensures.value c.write_areas-3.ensures,
+  subst (λ (l : List Area). StandFirst (bytes_in c.args.job.now.storage.now l) c.args.kept.now c.write_kept.new.kept) c.as_slice-5.ensures.value c.write_kept.ensures.copied,
+  subst (λ (l : List Area). HoldsAreas c.args.job.now.storage.now l c.write_kept.new.kept) c.as_slice-5.ensures.value c.write_kept.ensures.held,
 )
+
+pub write_kept-requires-clause-inside : goal.write_kept-requires-clause-inside
+write_kept-requires-clause-inside c =
+    let told = subst (IsFound c.args.job.now) c.in-Ok-Needed.field-0-is c.in-Ok-Needed.ensures.answer in
+    let opened = told.judged.is_open in
+    let inside = keep_inside opened.job (listed c.in-Ok-Needed.needs) told.needs in
+    let asked = subst (λ (s : List ℕ). All (IsInside s) c.in-Ok-Needed.needs.keep.items) opened.asked.storage inside in
+    subst (λ (l : List Area). All (IsInside c.args.job.now.storage.now) l) (sym c.as_slice-5.ensures.value) asked
+
+pub write_kept-requires-clause-room : goal.write_kept-requires-clause-room
+write_kept-requires-clause-room c =
+    let room = c.have_room.ensures.0 c.if-not-have_room.false in
+    subst (λ (l : List Area). total_len l ≤ length c.args.kept.now) (sym c.as_slice-5.ensures.value) room.kept

@@ -1,0 +1,186 @@
+/* The part of the library that isn't proved: words, and a call that lays what `chanv_needs` lists
+ * into one piece of memory of the caller. It asks only for proved calls, and takes no memory. */
+#include <chanv.h>
+#include <string.h>
+
+/* ---- words */
+
+static const char *word_of(const char *const *words, size_t count, uint32_t number)
+{
+    return number < count ? words[number] : "";
+}
+
+#define WORD_OF(words, number) word_of(words, sizeof(words) / sizeof *(words), number)
+
+const char *chanv_reason_word(uint32_t reason)
+{
+    static const char *const words[] = {
+        "",
+        "misaligned",
+        "outside-storage",
+        "transfer-not-allowed",
+        "invalid-code",
+        "bad-format",
+        "zero-count",
+        "data-outside",
+        "not-in-table",
+        "inhibited",
+        "store-not-lent",
+        "fetch-not-lent",
+        "short-seek",
+        "seek-outside",
+        "changes-ccw",
+        "changes-argument",
+        "weakens-mask",
+    };
+    return WORD_OF(words, reason);
+}
+
+const char *chanv_answer_word(uint32_t answer)
+{
+    static const char *const words[] = {
+        "yes",
+        "no",
+        "too-many-places",
+        "out-of-memory",
+        "storage-too-large",
+        "not-a-device",
+        "not-a-mask",
+        "no-extent",
+        "extent-backwards",
+        "extent-past-device",
+        "not-a-limit",
+        "no-room",
+        "reserved-not-zero",
+    };
+    return WORD_OF(words, answer);
+}
+
+const char *chanv_refusal_word(uint32_t code)
+{
+    static const char *const words[] = {
+        "",
+        "other-start",
+        "other-device",
+        "other-length",
+        "changed",
+        "mask",
+        "no-cylinder",
+        "not-fetchable",
+        "not-storable",
+        "stores",
+        "keeps",
+        "kept",
+        "reserved-not-zero",
+        "reserved-in-flight",
+    };
+    return WORD_OF(words, code);
+}
+
+const char *chanv_entered_word(uint32_t entered)
+{
+    static const char *const words[] = {"fresh", "in", "out", "search"};
+    return WORD_OF(words, entered);
+}
+
+int chanv_is_fault(uint32_t answer)
+{
+    return (answer >= CHANV_STORAGE_TOO_LARGE && answer <= CHANV_NOT_A_LIMIT)
+           || answer == CHANV_RESERVED_NOT_ZERO;
+}
+
+/* ---- taking a program in */
+
+/* Where each list begins, in bytes from the front of the memory: areas, which are aligned most,
+ * then extents, then the kept bytes. The counts are those of a `struct chanv_needed`. */
+struct layout {
+    size_t fetch, store, keep, extents, kept, end;
+};
+
+static struct layout layout_of(const void *memory, const struct chanv_needed *counts)
+{
+    struct layout at;
+    size_t over = (uintptr_t)memory % sizeof(uint32_t);
+    at.fetch = over == 0 ? 0 : sizeof(uint32_t) - over;
+    at.store = at.fetch + counts->fetch_count * sizeof(struct chanv_area);
+    at.keep = at.store + counts->store_count * sizeof(struct chanv_area);
+    at.extents = at.keep + counts->keep_count * sizeof(struct chanv_area);
+    at.kept = at.extents + counts->extent_count * sizeof(struct chanv_extent);
+    at.end = at.kept + counts->kept_len;
+    return at;
+}
+
+/* Gives each list an equal share of the room. */
+static struct chanv_needed shares_of(size_t room)
+{
+    struct chanv_needed counts = {.kept_len = 0};
+    size_t share = room < sizeof(uint32_t) ? 0 : (room - sizeof(uint32_t)) / 5;
+    counts.fetch_count = counts.store_count = counts.keep_count = share / sizeof(struct chanv_area);
+    counts.extent_count = share / sizeof(struct chanv_extent);
+    counts.kept_len = share;
+    return counts;
+}
+
+static uint32_t ask_into(uint8_t *memory, const struct chanv_needed *rooms,
+                         const struct chanv_job *job, struct chanv_needed *out)
+{
+    struct layout at = layout_of(memory, rooms);
+    return chanv_needs(job, out, (void *)(memory + at.extents), rooms->extent_count,
+                       (void *)(memory + at.fetch), rooms->fetch_count,
+                       (void *)(memory + at.store), rooms->store_count,
+                       (void *)(memory + at.keep), rooms->keep_count, memory + at.kept,
+                       rooms->kept_len);
+}
+
+/* Moves the lists down to where they leave no room between them. */
+static void close_up(uint8_t *memory, const struct layout *from, const struct layout *to)
+{
+    memmove(memory + to->store, memory + from->store, to->keep - to->store);
+    memmove(memory + to->keep, memory + from->keep, to->extents - to->keep);
+    memmove(memory + to->extents, memory + from->extents, to->kept - to->extents);
+    memmove(memory + to->kept, memory + from->kept, to->end - to->kept);
+}
+
+static struct chanv_program program_at(uint8_t *memory, const struct layout *at,
+                                       const struct chanv_job *job,
+                                       const struct chanv_needed *needed)
+{
+    return (struct chanv_program){
+        .rows =
+            {
+                .extents = {(void *)(memory + at->extents), needed->extent_count},
+                .fetch = {(void *)(memory + at->fetch), needed->fetch_count},
+                .store = {(void *)(memory + at->store), needed->store_count},
+                .keep = {(void *)(memory + at->keep), needed->keep_count},
+                .storage_len = needed->storage_len,
+                .mask = needed->mask,
+            },
+        .kept = {memory + at->kept, needed->kept_len},
+        .start = job->start,
+        .device = job->device,
+    };
+}
+
+/* It asks once if the memory is ample, and else a second time for just the room that is needed. */
+uint32_t chanv_take_in(const struct chanv_job *job, void *memory, size_t room, size_t *len,
+                       struct chanv_program *program, struct chanv_needed *out)
+{
+    static uint32_t none; /* to point to if there is no memory */
+    uint8_t *bytes = memory == NULL ? (uint8_t *)&none : memory;
+    struct chanv_needed rooms = shares_of(room);
+    uint32_t answer = ask_into(bytes, &rooms, job, out);
+    struct layout to = layout_of(bytes, out);
+    if (answer == CHANV_NO_ROOM && to.end <= room) {
+        rooms = *out;
+        answer = ask_into(bytes, &rooms, job, out);
+        to = layout_of(bytes, out);
+    }
+    *len = answer == CHANV_OK || answer == CHANV_NO_ROOM ? to.end : 0;
+    memset(program, 0, sizeof *program);
+    if (answer != CHANV_OK)
+        return answer;
+    struct layout from = layout_of(bytes, &rooms);
+    close_up(bytes, &from, &to);
+    *program = program_at(bytes, &to, job, out);
+    return CHANV_OK;
+}

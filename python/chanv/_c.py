@@ -1,0 +1,243 @@
+"""The library for C as Python sees it: the structs of chanv.h, and where the library is."""
+
+import operator
+import os
+from collections.abc import Iterable, Iterator, Sequence
+from contextlib import contextmanager
+from ctypes import CDLL, POINTER, Structure, byref, c_char_p, c_int, c_size_t, c_ssize_t, c_uint8
+from ctypes import c_uint16, c_uint32, c_uint64, c_void_p, cast, py_object, pythonapi
+from pathlib import Path
+from typing import Any
+
+VERSION = "0.6.0"
+SONAME = "libchanv.so.0.6"
+
+# the codes that this package tells apart
+YES, NO, NO_ROOM = 0, 1, 11
+
+
+class Error(Exception):
+    """What this package raises of its own."""
+
+
+class WrongLibrary(Error):
+    """There is no library, or it is one of another version."""
+
+
+class Extent(Structure):
+    _fields_ = [("first", c_uint16), ("last", c_uint16)]
+
+
+class Area(Structure):
+    _fields_ = [("start", c_uint32), ("len", c_uint32)]
+
+
+class Bytes(Structure):
+    _fields_ = [("at", c_void_p), ("len", c_size_t)]
+
+
+class Extents(Structure):
+    _fields_ = [("at", POINTER(Extent)), ("len", c_size_t)]
+
+
+class Areas(Structure):
+    _fields_ = [("at", POINTER(Area)), ("len", c_size_t)]
+
+
+class Job(Structure):
+    _fields_ = [
+        ("storage", Bytes),
+        ("extents", Extents),
+        ("fetch", Areas),
+        ("store", Areas),
+        ("start", c_uint32),
+        ("limit", c_uint32),
+        ("device", c_uint16),
+        ("mask", c_uint8),
+        ("reserved", c_uint64 * 4),
+    ]
+
+
+class Verdict(Structure):
+    _fields_ = [("extent", c_size_t), ("address", c_uint32), ("reason", c_uint32)]
+
+
+class Place(Structure):
+    _fields_ = [("address", c_uint32), ("entered", c_uint8), ("after_transfer", c_uint8)]
+
+
+class Evidence(Structure):
+    _fields_ = [
+        ("reason", c_uint32),
+        ("range", Area),
+        ("gap", Area),
+        ("address", c_uint32),
+        ("taker", c_uint32),
+        ("storage_len", c_uint32),
+        ("code", c_uint32),
+        ("bits", c_uint32),
+        ("given", c_uint32),
+        ("outside", c_uint32),
+        ("value", c_uint32),
+        ("below", c_uint32),
+        ("sets_mask", c_uint32),
+        ("addresses", c_uint32 * 6),
+        ("bytes", c_uint8 * 6),
+        ("mask", c_uint8),
+    ]
+
+
+class Explanation(Structure):
+    _fields_ = [
+        ("verdict", Verdict),
+        ("path_count", c_size_t),
+        ("second_path_count", c_size_t),
+        ("evidence", Evidence),
+        ("reserved", c_uint64 * 4),
+    ]
+
+
+class Needed(Structure):
+    _fields_ = [
+        ("verdict", Verdict),
+        ("extent_count", c_size_t),
+        ("fetch_count", c_size_t),
+        ("store_count", c_size_t),
+        ("keep_count", c_size_t),
+        ("kept_len", c_size_t),
+        ("storage_len", c_uint32),
+        ("may_hang", c_uint32),
+        ("hangs_at", c_uint32),
+        ("mask", c_uint8),
+        ("reserved", c_uint64 * 4),
+    ]
+
+
+class Rows(Structure):
+    _fields_ = [
+        ("extents", Extents),
+        ("fetch", Areas),
+        ("store", Areas),
+        ("keep", Areas),
+        ("storage_len", c_uint32),
+        ("mask", c_uint8),
+    ]
+
+
+class Program(Structure):
+    _fields_ = [
+        ("rows", Rows),
+        ("kept", Bytes),
+        ("start", c_uint32),
+        ("device", c_uint16),
+        ("reserved", c_uint64 * 4),
+    ]
+
+
+class Refusal(Structure):
+    _fields_ = [
+        ("extent", c_size_t),
+        ("program", c_size_t),
+        ("code", c_uint32),
+        ("value", c_uint32),
+        ("reserved", c_uint64 * 4),
+    ]
+
+
+class _Buffer(Structure):
+    """Py_buffer: how Python hands out the memory of an object."""
+
+    _fields_ = [
+        ("at", c_void_p),
+        ("object", py_object),
+        ("len", c_ssize_t),
+        ("item_len", c_ssize_t),
+        ("read_only", c_int),
+        ("dimensions", c_int),
+        ("format", c_char_p),
+        ("shape", c_void_p),
+        ("strides", c_void_p),
+        ("suboffsets", c_void_p),
+        ("internal", c_void_p),
+    ]
+
+
+_get_buffer = pythonapi.PyObject_GetBuffer
+_get_buffer.argtypes = [py_object, POINTER(_Buffer), c_int]
+_release_buffer = pythonapi.PyBuffer_Release
+_release_buffer.argtypes = [POINTER(_Buffer)]
+_release_buffer.restype = None
+
+
+@contextmanager
+def bytes_of(storage: Any, copy: bool) -> Iterator[Bytes]:
+    """The memory of an object with bytes, as long as the block lasts; of a copy, if the object can
+    change and `copy` is on. An object without bytes, such as a number, is a TypeError."""
+    if copy and type(storage) is not bytes:
+        storage = bytes(memoryview(storage))
+    buffer = _Buffer()
+    _get_buffer(storage, byref(buffer), 0)
+    try:
+        yield Bytes(buffer.at, buffer.len)
+    finally:
+        _release_buffer(byref(buffer))
+
+
+def bytes_at(kept: Any) -> Bytes:
+    """The memory of bytes or of an array, which the caller keeps."""
+    at = c_char_p(kept) if isinstance(kept, bytes) else kept
+    return Bytes(cast(at, c_void_p), len(kept))
+
+
+def number(value: Any, bits: int) -> int:
+    """A number, or an OverflowError if C would cut it to fewer bits."""
+    whole: int = operator.index(value)
+    if not 0 <= whole < 1 << bits:
+        raise OverflowError(f"{whole} isn't a number of {bits} bits without a sign")
+    return whole
+
+
+def pairs(rows: Iterable[Sequence[int]], bits: int) -> tuple[tuple[int, int], ...]:
+    """Pairs of numbers that nothing can change."""
+    return tuple((number(first, bits), number(second, bits)) for first, second in rows)
+
+
+def extents(rows: Iterable[Sequence[int]]) -> Extents:
+    made = pairs(rows, 16)
+    return Extents((Extent * len(made))(*(Extent(*it) for it in made)), len(made))
+
+
+def areas(rows: Iterable[Sequence[int]]) -> Areas:
+    made = pairs(rows, 32)
+    return Areas((Area * len(made))(*(Area(*it) for it in made)), len(made))
+
+
+def _version_of(library: CDLL) -> str:
+    packed = library.chanv_version()
+    return f"{packed >> 16}.{packed >> 8 & 255}.{packed & 255}"
+
+
+def _found() -> str:
+    """CHANV_LIBRARY, or else the library beside this package or in its prefix, or just its name."""
+    if "CHANV_LIBRARY" in os.environ:
+        return os.environ["CHANV_LIBRARY"]
+    here = Path(__file__).resolve()
+    rooms = [here.parent, *(above / "lib" for above in here.parents)]
+    rooms += [above / "out" for above in here.parents[2:3]]
+    files = (room / name for room in rooms for name in (SONAME, f"{SONAME}.0"))
+    return next((str(file) for file in files if file.is_file()), SONAME)
+
+
+def _load() -> CDLL:
+    path = _found()
+    try:
+        library = CDLL(path)
+        version = _version_of(library)
+    except (OSError, AttributeError) as error:
+        raise WrongLibrary(f"{path} isn't chanv's library: {error}") from error
+    if version.rpartition(".")[0] != VERSION.rpartition(".")[0]:
+        raise WrongLibrary(f"{path} is version {version}, and this package needs {VERSION}")
+    return library
+
+
+library = _load()

@@ -1,0 +1,131 @@
+"""Programs in flight on the machine, under a supervisor, while others write what it lets them."""
+
+from random import Random
+from typing import NamedTuple
+
+from channel import MASKS
+from judging import Job, first_place
+from making import ARGUMENTS, DATA, PROGRAM, random_job
+from stepping import ENDED, harms, steps
+
+STORAGE, PROGRAMS, DEVICES = 0x800, 12, 8
+
+# programs lie so far apart that the data of one meet the CCWs and arguments of another
+APART = 0x40
+
+
+class Flight(NamedTuple):
+    """A program on a device: its number and job, and the state of its run."""
+
+    number: int
+    job: Job
+    state: tuple
+
+
+class Flights:
+    """What happens on one storage. `supervisor` has the calls of the worked supervisor: `take_in`,
+    `rows`, `start`, `leave` and `may_write`."""
+
+    def __init__(self, supervisor, seed):
+        self.supervisor, self.random = supervisor, Random(seed)
+        self.storage = supervisor.storage
+        self.asked, self.flights, self.was_started = {}, {}, set()
+        self.counts = dict.fromkeys("taken_in refused started again held_back written".split(), 0)
+
+    def below(self, most):
+        return int(self.random.random() * most)
+
+    def count(self, *names):
+        for name in names:
+            self.counts[name] += 1
+
+    def write(self, address, held):
+        """Others write, if they may."""
+        if self.supervisor.may_write(address, len(held)):
+            self.storage[address : address + len(held)] = held
+            self.count("written")
+
+    def write_program(self, number):
+        """Others write a program at some address, in so far as they may, and have it taken in."""
+        job, base = random_job(self.random), APART * self.below((STORAGE - DATA) // APART)
+        for at in range(PROGRAM, DATA, 8):
+            word = job.storage[at : at + 8]
+            if at < ARGUMENTS and any(word):
+                address = (int.from_bytes(word[1:4]) + base) & 0xFFFFFF
+                word = word[:1] + address.to_bytes(3) + word[4:]
+            self.write(at + base, word)
+        asked = job._replace(storage=self.storage, start=job.start + base, limit=4096)
+        is_listed = self.supervisor.take_in(number, asked)
+        self.asked[number] = asked if is_listed else None
+        self.was_started.discard(number)
+        self.count("taken_in" if is_listed else "refused")
+
+    def granted(self, number):
+        """A job that grants just what the program needs, mostly, or about anything."""
+        asked = self.asked[number]
+        mask, extents, fetch, store = self.supervisor.rows(number)
+        if self.below(4) == 0:
+            mask = self.random.choice(MASKS)
+        if not extents or self.below(4) == 0:
+            extents = [(self.below(16), 202)]
+        for areas in (fetch, store):
+            if areas and self.below(8) == 0:
+                start, count = areas[0]
+                areas[0] = (start, count - 1)
+        if self.below(4) == 0:
+            fetch, store = [(8 * self.below(16), STORAGE)], fetch
+        return asked._replace(mask=mask, extents=extents, fetch=fetch, store=store)
+
+    def try_start(self, number, device):
+        job = self.granted(number) if self.asked[number] else None
+        if job is None or not self.supervisor.start(number, device, job):
+            self.count("held_back")
+            return
+        self.flights[device] = Flight(number, job, (first_place(job), ()))
+        self.count("started", *["again"] * (number in self.was_started))
+        self.was_started.add(number)
+
+    def step(self, device):
+        """One step of the program on a device, or a halt. The answer is its harm, if it did any."""
+        flight = self.flights[device]
+        if flight.state == ENDED or self.below(64) == 0:
+            del self.flights[device]
+            self.supervisor.leave(device)
+            return None
+        possible = [*steps(self.storage, *flight.state)]
+        going_on = [it for it in possible if it[1] != ENDED]
+        events, stage = self.random.choice(going_on if going_on and self.below(8) else possible)
+        for reason in harms(flight.job, events):
+            return reason
+        for what, *values in events:
+            if what == "store":
+                address, moved = values
+                self.storage[address : address + moved] = self.random.randbytes(moved)
+        if stage != ENDED and not isinstance(stage, tuple):
+            return stage
+        self.flights[device] = flight._replace(state=stage)
+        return None
+
+    def fly(self, wanted):
+        """Goes on until so many programs were started, or one does harm, which is the answer."""
+        while self.counts["started"] < wanted:
+            harm = None
+            if self.flights and self.below(4) != 0:
+                harm = self.step(self.random.choice([*self.flights]))
+            else:
+                self.start_some()
+            if harm:
+                return harm
+            if self.below(8) == 0:
+                held = self.random.randbytes(1 + self.below(15))
+                self.write(self.below(STORAGE - 16), held)
+        return None
+
+    def start_some(self):
+        """Tries to start some program. One that isn't in flight may be written anew before."""
+        number, device = self.below(PROGRAMS), self.below(DEVICES)
+        is_flying = any(flight.number == number for flight in self.flights.values())
+        if not is_flying and (not self.asked.get(number) or self.below(64) == 0):
+            self.write_program(number)
+        if device not in self.flights:
+            self.try_start(number, device)
