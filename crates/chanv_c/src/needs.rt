@@ -103,8 +103,9 @@ pub extern "C" fn chanv_needs(
             return refusal.code();
         }
     };
-    *out = told(&needs, hang);
-    if !have_room(&needs, extents, fetch, store, keep, kept) {
+    let told = told(&needs, hang);
+    *out = told;
+    if !have_room(&needs, told.kept_len, extents, fetch, store, keep, kept) {
         return NO_ROOM;
     }
     write_runs(needs.extents.as_slice(), extents);
@@ -166,16 +167,17 @@ fn told(needs: &Needs, hang: Option<Place>) -> CNeeded
     }
 }
 
-/// Whether each list has room for its rows, and `kept` for the bytes.
+/// Whether each list has room for its rows, and `kept` for so many bytes.
 fn have_room(
     needs: &Needs,
+    kept_len: usize,
     extents: &[Extent],
     fetch: &[Area],
     store: &[Area],
     keep: &[Area],
     kept: &[u8],
 ) -> bool
-    requires { IsMerged needs.now.keep.items }
+    requires { kept_len ≡ total_len needs.now.keep.items }
     ensures { IsTrue result
         ↔ HaveRoom (listed needs.now) extents.now fetch.now store.now keep.now kept.now }
 {
@@ -183,7 +185,7 @@ fn have_room(
         && needs.fetch.len() <= fetch.len()
         && needs.store.len() <= store.len()
         && needs.keep.len() <= keep.len()
-        && kept_len(&needs.keep) <= kept.len()
+        && kept_len <= kept.len()
 }
 
 /// Writes the bytes of storage in some areas, and leaves what is behind them as it is.

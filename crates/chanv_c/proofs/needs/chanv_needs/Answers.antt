@@ -18,7 +18,7 @@ pub returns-then-not-have_room-clause-room : goal.returns-then-not-have_room-cla
 returns-then-not-have_room-clause-room c = λ _. (
   listed c.in-Ok-Needed.needs,
   c.in-Ok-Needed.hang,
-  record { needs = subst (IsFound c.args.job.now) c.in-Ok-Needed.field-0-is c.in-Ok-Needed.ensures.answer; out_is = c.told.ensures },
+  record { needs = subst (IsFound c.args.job.now) c.in-Ok-Needed.field-0-is c.in-Ok-Needed.ensures.answer; out_is = c.told-told.ensures },
   λ h. both_ways _ c.if-not-have_room.true (c.have_room.ensures.1 h),
 )
 
@@ -26,7 +26,7 @@ pub returns-clause-yes : goal.returns-clause-yes
 returns-clause-yes c = λ _. (
   listed c.in-Ok-Needed.needs,
   c.in-Ok-Needed.hang,
-  record { needs = subst (IsFound c.args.job.now) c.in-Ok-Needed.field-0-is c.in-Ok-Needed.ensures.answer; out_is = c.told.ensures },
+  record { needs = subst (IsFound c.args.job.now) c.in-Ok-Needed.field-0-is c.in-Ok-Needed.ensures.answer; out_is = c.told-told.ensures },
   subst (λ (l : List (ℕ × ℕ)). StandFirst (map run_row l) c.args.extents.now c.write_runs.new.rows) c.as_slice.ensures.value c.write_runs.ensures,
   subst (λ (l : List Area). StandFirst l c.args.fetch.now c.write_areas.new.rows) c.as_slice-2.ensures.value c.write_areas.ensures,
   subst (λ (l : List Area). StandFirst l c.args.store.now c.write_areas-2.new.rows) c.as_slice-3.ensures.value c.write_areas-2.ensures,
