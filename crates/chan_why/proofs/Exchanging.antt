@@ -1,5 +1,5 @@
 -- Whether a data range is lent, from the first byte of it that isn't.
-use Rattle.std.proofs.Common.{◌≡◌, ◌∙◌, ◌<◌, ◌↔◌, Bool, IsTrue, List, None, Option, Some, false, length}
+use Rattle.std.proofs.Common.{◌≡◌, ◌∙◌, ◌<◌, ◌↔◌, Bool, List, None, Option, Some, false, length}
 use Rattle.std.proofs.Common.{refl, subst, sym, true, ℕ}
 use Rattle.ccw_core.specs.declared.areas.Area.{Area}
 use Rattle.ccw_core.specs.Areas.{lies_in}

@@ -1,4 +1,4 @@
-use Rattle.std.proofs.Common.{◌≡◌, ◌∙◌, false, inl, inr, rules, sym, true}
+use Rattle.std.proofs.Common.{inl, inr, rules}
 use Rattle.chan_run.proofs.advice.exchange_on.Goals.{then-branch+in_ok-extend_from_slice, else-branch}
 use Rattle.chan_run.proofs.advice.exchange_on.Goals as goal
 
