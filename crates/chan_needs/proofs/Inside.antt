@@ -1,15 +1,15 @@
 -- What a program keeps lies in storage, and how many bytes that is.
 use Rattle.chan_needs.proofs.Names.{All, and_parts, ap, Area, arith, ccw_of, end_of, get_or, Has}
-use Rattle.chan_needs.proofs.Names.{inl, inr, IsByteOf, IsClear, IsGuarded, IsMerged, Job, leb-true}
-use Rattle.chan_needs.proofs.Names.{length, lies_in, lies_in-cases, List, open_job, refl, storage_of}
-use Rattle.chan_needs.proofs.Names.{subst, suc, sym, take, true, zero, ℕ, [], ◌++◌, ◌+◌, ◌-◌, ◌<◌}
+use Rattle.chan_needs.proofs.Names.{inl, inr, IsClear, IsGuarded, IsMerged, Job, leb-true}
+use Rattle.chan_needs.proofs.Names.{length, lies_in, List, open_job, refl, storage_of}
+use Rattle.chan_needs.proofs.Names.{subst, suc, take, true, zero, ℕ, [], ◌++◌, ◌+◌, ◌-◌, ◌<◌}
 use Rattle.chan_needs.proofs.Names.{◌∙◌, ◌∷◌, ◌≡◌, ◌≤◌, ◌⊎◌}
 use Rattle.std.proofs.lemmas.List.{length-append, take_all, take_more}
 use Rattle.std.proofs.lemmas.List.Elements.{All-cons, All-head, All-nil, All-tail}
 use Rattle.ccw_core.specs.Storage.{is_inside, Stands}
 use Rattle.chan_areas.proofs.Merging.{lies_in-first, lies_in-rest}
 use Rattle.chan_walk.specs.Argument.{argument_addresses}
-use Rattle.chan_walk.specs.Guarded.{IsArgumentByte, IsMaskByte, IsSeekByte}
+use Rattle.chan_walk.specs.Guarded.{IsMaskByte, IsSeekByte}
 use Rattle.chan_walk.specs.Place.{is_fresh}
 use Rattle.chan_walk.specs.declared.place.Place.{Place}
 use Rattle.chan_walk.proofs.Algorithms.Following.{argument_below}
