@@ -92,8 +92,8 @@ extent 010 019
 fetch 000FF0 000020
 store 000FF8 000010
 storage 0001000
-put 000040 0300000048000001
-put 000048 03000000C0000001
+put 000040 0300000048010001
+put 000048 03000000C0FF0001
 end
 """
 
@@ -106,12 +106,54 @@ note: store 000FF8 000010 is used by no reachable CCW
 note: keep 000040 000010 is where the machine stores PSWs, the CSW or the timer
 note: 000040 interrupts: the processor may change any byte that chanv needs doesn't list as keep
 note: 000048 ends the program: chain data counts, and it moves no data
+note: 000040 has 01 in byte 5, which the channel ignores; flags are in byte 4
+note: 000048 has FF in byte 5, which the channel ignores; flags are in byte 4
+"""
+
+# a search loop for whose argument an area is lent for storing, and for whose data one for fetching
+EXCHANGED = """\
+chanv deck 1
+device 2314
+mask 00
+start 000800
+extent 010 019
+fetch 000A00 000100
+store 000900 000005
+storage 0001000
+put 000800 3100090040000005
+put 000808 0800080000FF0000
+put 000810 06000A0020000050
+end
 """
 
 
 def check_order_of_notes(checks, program):
     ran = run(program, "why", given=EACH_NOTE.encode())
     checks.expect("a note of each kind", Ran(0, "yes\n", NOTES), ran)
+    alone = EACH_NOTE.replace("03000000C0FF0001", "0300000080FF0001")
+    ran = run(program, "why", given=alone.encode())
+    checks.expect("chain data alone", Ran(0, "yes\n", NOTES), ran)
+
+
+def check_exchanged_areas(checks, program):
+    """After a no, a note on a range that is lent whole, but the other way."""
+    storing = "note: the whole range is lent for storing\n"
+    fetching = "note: the whole range is lent for fetching\n"
+    exchanged = "fetch 000A00 000100\nstore 000900 000005"
+    for name, lent, verdict, note in [
+        ("exchanged", exchanged, "fetch-not-lent", storing),
+        ("in two parts", "store 000900 000003\nstore 000903 000002", "fetch-not-lent", storing),
+        ("but for a byte", "store 000900 000004", "fetch-not-lent", ""),
+        ("not at all", "store 000905 000010", "fetch-not-lent", ""),
+        ("for fetching alone", "fetch 000900 000200", "store-not-lent", fetching),
+        ("for fetching but for a byte", "fetch 000900 00014F", "store-not-lent", ""),
+    ]:
+        ran = run(program, "why", given=EXCHANGED.replace(exchanged, lent).encode())
+        is_so = ran.status == 1 and ran.output.split()[2] == verdict and ran.error == note
+        checks.expect_that(f"areas lent {name}", is_so, ran)
+    for words in ("verify", "list", "needs"):
+        ran = run(program, words, given=EXCHANGED.encode())
+        checks.expect(f"{words} over exchanged areas", "", ran.error)
 
 
 def check_notes(checks, program, deck):
@@ -200,6 +242,7 @@ def check(checks, built):
         check_lengths(checks, program, deck)
         check_places(checks, program, deck)
         check_order_of_notes(checks, program)
+        check_exchanged_areas(checks, program)
         check_notes(checks, program, deck)
         check_readers(checks, program, deck)
     check_words(checks, program)

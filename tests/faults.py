@@ -134,6 +134,7 @@ def of_deck(action, deck, name="", is_among=False):
         return Ran(status_of(verdict), f"{front}{verdict}\n")
     notes = example.with_suffix(".notes")
     error = text_of(notes) if action == "why" and "notes" in listed_with(example) else ""
+    front = f"{name}:\n" if is_among and action in ("list", "needs") else front
     text = text_of(example.with_suffix(ENDINGS[action]))
     if action == "graph":
         text = picture_of(example, name)
@@ -232,6 +233,8 @@ def runs():
     yield from over_decks()
     yield from over_two_decks("verify")
     yield from over_two_decks("why")
+    yield from over_two_decks("list")
+    yield from over_two_decks("needs")
     yield from over_each(OF_IMAGE, IMAGES, of_image)
     yield from over_each(FIND, IMAGES, found_in)
     yield from over_nothing()

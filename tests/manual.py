@@ -121,8 +121,18 @@ def check_completions(checks, program):
         checks.expect(name, options, completed(*words, "--"))
     listed = sorted(re.findall(r"(?m)^([a-z-]+): ", run(program, "explain").output))
     checks.expect("the words that are completed", listed, completed("explain", ""))
-    devices = completed("deck", "--device", "")
-    checks.expect("the devices that are completed", ["2311", "2314"], devices)
+    for words in (["--device", ""], ["--device", "="], ["--device", "=", "23"]):
+        devices = completed("deck", *words)
+        checks.expect(f"the devices that are completed: {words}", ["2311", "2314"], devices)
+    page = str(PAGE)
+    for words in (
+        ["verify", page[:-2]],
+        ["deck", "--start", "800", "--least", page[:-2]],
+        ["deck", "--open", page[:-2]],
+        ["why", "--all", page[:-2]],
+    ):
+        checks.expect_that(f"a file after {words[:-1]}", page in completed(*words), words)
+    checks.expect("no file after --start", [""], completed("deck", "--start", page[:-2]))
 
 
 def check(checks, built):

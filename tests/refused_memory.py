@@ -21,6 +21,13 @@ NOTES = """\
 note: fetch 000FFF 000002 reaches past storage
 note: fetch 000FFF 000002 is used by no reachable CCW
 """
+# the search loop with its areas exchanged
+EXCHANGED = """\
+no 000800 fetch-not-lent
+000800 fresh t * 31 000900 -C---0 00 0005 write search-id-equal
+because none of 000900-000904 is lent for fetching
+"""
+SEEMS = "note: the whole range is lent for storing\n"
 REFUSED = "chanv: deck line 1: header\n"
 HINT = "found chanv deck 3\nexpected chanv deck 1, chanv deck 2\n"
 
@@ -46,6 +53,7 @@ def commands():
     listing = text_of(EXAMPLES / "search-loop.list")
     return [
         (["show", CCW], b"", f"{CCW_LINE}\n"),
+        (["show", "--name", CCW], b"", f"{CCW_LINE} read-data\n"),
         (["verify"], deck, "yes\n"),
         (["list"], deck, listing),
         (["verify", SEARCH_LOOP], b"", f"{SEARCH_LOOP}: yes\n"),
@@ -102,8 +110,11 @@ def advice_cases(chanv):
     """`why` where notes or a hint follow; where memory runs out for these, a complaint does."""
     lent_in_vain = b"fetch 000FFF 000002\nstore 000A00"
     deck = SEARCH_LOOP.read_bytes().replace(b"store 000A00", lent_in_vain)
+    areas, turned = b"fetch 000900 000010\nstore 000A00", b"fetch 000A00 000100\nstore 000900"
+    exchanged = SEARCH_LOOP.read_bytes().replace(areas, turned)
     for name, given, expected, line in [
         ("notes", deck, Ran(0, "yes\n", NOTES), ""),
+        ("areas that seem exchanged", exchanged, Ran(1, EXCHANGED, SEEMS), ""),
         ("a hint", b"chanv deck 3\n", Ran(2, "", REFUSED + HINT), REFUSED),
     ]:
         yield Case(

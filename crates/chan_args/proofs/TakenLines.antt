@@ -1,7 +1,7 @@
 -- What words in which nothing is wrong name: no command, or that of an action, or `show`, `deck`,
 -- `explain` or `find`.
 use Rattle.std.proofs.Common.{◌++◌, ◌||◌, ◌∙◌, ◌∷◌, ◌≡◌, Bool, List, None, Option, Some, [], ap}
-use Rattle.std.proofs.Common.{codes, cond, false, inl, inr, is_some, length, refl, subst, suc, sym}
+use Rattle.std.proofs.Common.{codes, cond, false, inl, inr, length, refl, subst, suc, sym}
 use Rattle.std.proofs.Common.{true, zero, ℕ}
 use Rattle.clap.specs.Faults.{bundle_fault, bundle_step_fault, check_fault, defaults_fault}
 use Rattle.clap.specs.Faults.{entered_fault, flag_word_fault, flags_fault, level_fault, long_fault}
@@ -9,7 +9,7 @@ use Rattle.clap.specs.Faults.{other_fault, settle_fault, short_fault, step_fault
 use Rattle.clap.specs.Faults.{walk_fault}
 use Rattle.clap.specs.Walk.{Held, Names, Outcome, Step, Text, Walk, after_flag, after_step}
 use Rattle.clap.specs.Walk.{answers_to, arg_by_index, arg_by_long, arg_by_short, bundle_met}
-use Rattle.clap.specs.Walk.{bundle_step, finished, first_of, has_long, has_short, idle}
+use Rattle.clap.specs.Walk.{bundle_step, finished, has_long, has_short, idle}
 use Rattle.clap.specs.Walk.{long_or_other, nothing_held, plain, settled, short_or_plain}
 use Rattle.clap.specs.Walk.{subcommand_met, subcommand_or_other, to_positional, trailing, value}
 use Rattle.clap.specs.Walk.{walk, walk_from, walked}

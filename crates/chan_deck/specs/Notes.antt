@@ -1,9 +1,11 @@
--- The notes as text: areas that adjoin share one, and without notes there is no text. And the note on
--- the size of storage.
+-- The notes as text: areas that adjoin share one, and without notes there is no text. And the notes
+-- on the size of storage and on areas that seem exchanged.
 use Rattle.std.specs.Prelude.{◌≡◌, ◌<◌, ◌+◌, nat_eq, nat_lt, ℕ, Bool, ◌&&◌, if◌then◌else◌}
 use Rattle.std.specs.Prelude.{List, [], ◌∷◌, ◌++◌, codes, length, Option, None, Some}
 use Rattle.ccw_core.specs.declared.areas.Area.{Area}
 use Rattle.chan_walk.specs.declared.place.Place.{Place}
+use Rattle.chan_walk.specs.declared.reason.Reason.{Reason}
+use Rattle.chan_walk.specs.declared.reason.Reason.TheVariants as reasons
 use Rattle.chan_why.specs.declared.notes.Notes.{Notes}
 use Rattle.chan_deck.specs.Item.{size_digits}
 use Rattle.chan_deck.specs.declared.notes.TheConstants as texts
@@ -47,7 +49,14 @@ pub record HasNoNote (n : Notes) (hang : Option Place) : Type 0 where
   pub no_hang : hang ≡ None
   pub interrupting : n.interrupting.items ≡ []
   pub ending : n.ending.items ≡ []
+  pub spare : n.spare.items ≡ []
 
 -- the note on the size of storage
 abbrev pub storage_note : ℕ → List ℕ
 storage_note n = codes "note: storage has " ++ (size_digits n ++ texts.STORAGE_ENDS.now)
+
+-- the note that areas seem exchanged, by the reason of the verdict
+abbrev pub exchange_note : Reason → List ℕ
+exchange_note reasons.FetchNotLent = texts.LENT_FOR_STORING.now
+exchange_note reasons.StoreNotLent = texts.LENT_FOR_FETCHING.now
+exchange_note reason = []

@@ -3,11 +3,12 @@
 
 ghost use Rattle.std.specs.Prelude.{◌≡◌, ◌≤◌, ◌↔◌, ◌^◌, [], length, string_bytes, IfOk, OnOk};
 ghost use Rattle.chan_deck.specs.Notes as adjoining;
-ghost use Rattle.chan_deck.specs.Notes.{GrewBy, HasNoNote, number_of_hangs, storage_note};
+ghost use Rattle.chan_deck.specs.Notes.{GrewBy, HasNoNote, exchange_note, number_of_hangs};
+ghost use Rattle.chan_deck.specs.Notes.{storage_note};
 
-use crate::texts::{Address, Size};
-use ccw_core::Area;
-use chan_walk::Place;
+use crate::texts::{Address, Digits, Size};
+use ccw_core::{Area, Ccw, Storage};
+use chan_walk::{Place, Reason};
 use chan_why::Notes;
 use std::alloc::{AllocError, Global};
 use std::fmt::Write;
@@ -30,6 +31,14 @@ const INTERRUPTS: &str =
 
 /// The note on a CCW that moves no data and has chain data on.
 const ENDS_THERE: &str = " ends the program: chain data counts, and it moves no data";
+
+/// The note on a CCW whose byte 5 isn't zero.
+const SPARE: &str = " in byte 5, which the channel ignores; flags are in byte 4";
+
+// The note on bytes that aren't lent one way, but all the other way.
+const LENT_FOR_STORING: &str = "note: the whole range is lent for storing\n";
+
+const LENT_FOR_FETCHING: &str = "note: the whole range is lent for fetching\n";
 
 /// The end of the note on the size of storage.
 const STORAGE_ENDS: &str =
@@ -123,18 +132,51 @@ fn push_ccws(out: &mut String, what: &str, addresses: &[u32]) -> Result<(), Allo
     push_more(out, addresses.len())
 }
 
-/// The notes on a job as text, in this order:
+/// Adds the notes on the CCWs at some addresses of storage whose byte 5 isn't zero, with that byte.
+fn push_spare(out: &mut String, storage: Storage<'_>, addresses: &[u32]) -> Result<(), AllocError>
+    ensures { OnOk result
+        (GrewBy (length addresses.now) (string_bytes out.old) (string_bytes out.new)) }
+{
+    for number in &addresses[..addresses.len().min(MOST)] {
+        let address = Address(*number);
+        write!(out, "note: {address} has ")?;
+        push_byte(out, storage.ccw_at(*number))?;
+        write!(out, "{SPARE}\n")?;
+    }
+    push_more(out, addresses.len())
+}
+
+/// Adds byte 5 of a CCW, if there is one.
+fn push_byte(out: &mut String, ccw: Option<Ccw>) -> Result<(), AllocError>
+    ensures { OnOk result (length (string_bytes out.old) ≤ length (string_bytes out.new)) }
+{
+    match ccw {
+        Some(ccw) => {
+            let byte = Digits(ccw.spare());
+            write!(out, "{byte}")
+        }
+        None => Ok(()),
+    }
+}
+
+/// The notes on a job with this storage as text, in this order:
 ///
 /// - the lent areas that reach past storage, and those that no reachable CCW uses;
 /// - the kept areas that the machine itself stores into;
 /// - the first place from which on the program never ends by itself;
 /// - the CCWs that ask for an interruption, and those at which the program ends though chain data is
-///   on.
+///   on;
+/// - the CCWs whose byte 5 isn't zero.
 ///
 /// Each kind has a line for each of its first hundred notes, and one line that counts the others.
 /// Areas that adjoin share a note. Without any note the text is empty. An error means that an
 /// allocation failed.
-pub fn notes_text(alloc: Global, notes: &Notes, hang: Option<Place>) -> Result<String, AllocError>
+pub fn notes_text(
+    alloc: Global,
+    storage: Storage<'_>,
+    notes: &Notes,
+    hang: Option<Place>,
+) -> Result<String, AllocError>
     ensures { IfOk result (λ text. (string_bytes text ≡ []) ↔ HasNoNote notes.now hang) }
 {
     let mut text = String::new(alloc);
@@ -164,6 +206,7 @@ pub fn notes_text(alloc: Global, notes: &Notes, hang: Option<Place>) -> Result<S
     push_hang(&mut text, hang)?;
     push_ccws(&mut text, INTERRUPTS, &notes.interrupting)?;
     push_ccws(&mut text, ENDS_THERE, &notes.ending)?;
+    push_spare(&mut text, storage, &notes.spare)?;
     Ok(text)
 }
 
@@ -175,4 +218,16 @@ pub fn storage_note(alloc: Global, size: u32) -> Result<String, AllocError>
 {
     let size = Size(size);
     format!(in alloc; "note: storage has {size}{STORAGE_ENDS}")
+}
+
+/// The note that areas seem exchanged, for a verdict with this reason: what isn't lent one way is
+/// lent the other way. For other reasons the text is empty.
+pub fn exchange_note<'a>(reason: Reason) -> &'a str
+    ensures { result.now ≡ exchange_note reason }
+{
+    match reason {
+        Reason::FetchNotLent => LENT_FOR_STORING,
+        Reason::StoreNotLent => LENT_FOR_FETCHING,
+        _ => "",
+    }
 }

@@ -1,7 +1,7 @@
 -- The text of a fault over an option, from its parts.
-use Rattle.std.proofs.Common.{◌≡◌, ◌∙◌, ◌++◌, List, ap, append_assoc, codes, refl, sym, ℕ}
+use Rattle.std.proofs.Common.{◌≡◌, ◌∙◌, ◌++◌, List, ap, append_assoc, codes, sym, ℕ}
 use Rattle.chan_args.specs.declared.image_words.ImageOption.{ImageOption}
-use Rattle.chan_run.specs.OptionFault.{option_fault_text, usage_of}
+use Rattle.chan_run.specs.OptionFault.{usage_of}
 
 -- parts in a row, of which the first three are one text, and so are the two before the last
 in_a_row : (a b n why m h more : List ℕ)

@@ -12,12 +12,15 @@ use Rattle.chan_walk.specs.declared.job.Job.{Job}
 use Rattle.ccw_core.specs.Written.{AppendsPrefix}
 use Rattle.std.specs.Io.KnownBytes.{Appends}
 use Rattle.chan_run.specs.Answers.{IsAdvice, IsAdviceSaid, IsJobAdvice, IsLineSaid, IsNamedAdvice}
-use Rattle.chan_run.specs.Answers.{IsSaidBeside, came_of, is_advised}
+use Rattle.chan_run.specs.Answers.{IsSaidBeside, IsVerdictAdvice, came_of, is_advised}
+use Rattle.chan_walk.specs.Answers.{IsAnswer}
+use Rattle.chan_walk.specs.declared.verdict.Verdict.{Verdict}
+use Rattle.chan_walk.specs.declared.verdict.Verdict.TheVariants.{No, Yes}
 use Rattle.chan_run.specs.Name.{front_of, fronted, name_of}
 use Rattle.chan_run.specs.declared.name.Naming.{Naming}
 use Rattle.chan_run.specs.Outcome.{IsEnd, has_advice, line_over, ran}
 use Rattle.chan_run.specs.Output.{Answer, IsAnswerOn, IsDeckJob, IsInput, IsReadFault}
-use Rattle.chan_run.specs.Output.{IsWrittenOut}
+use Rattle.chan_run.specs.Output.{IsWrittenOut, status_of_verdict}
 use Rattle.chan_run.specs.declared.failure.Failure.TheVariants as failures
 use Rattle.chan_run.specs.declared.outcome.Outcome.{Outcome}
 use Rattle.chan_run.specs.declared.outcome.Outcome.TheVariants.{Failed, Refused}
@@ -35,9 +38,19 @@ job_advice : (n : Naming) (all : Bool) (t : List ℕ) (deck : Image) (j : Job) (
     → IsAdvice (actions.Why all) t (came_of answer) advice
 job_advice n all t deck j (Ok (statuses.Yes, output)) advice spelled of_deck is h =
     record { deck = deck; spelled = spelled; job = j; of_deck = of_deck; holds = h }
+job_advice n all t deck j (Ok (statuses.No, output)) advice spelled of_deck is h =
+    record { deck = deck; spelled = spelled; job = j; of_deck = of_deck; holds = h }
 job_advice n all t deck j (Err (Deck line cause)) advice spelled of_deck is h = absurd is.2
 job_advice n all t deck j (Err TooManyPlaces) advice spelled of_deck is h = h
 job_advice n all t deck j answer advice spelled of_deck is h = tt
+
+-- what is said of a verdict is the advice on the job
+pub verdict_advice : {E : Type 0} (j : Job) (v : Verdict) (advice : Result (Vec ℕ) E) → IsAnswer j v
+    → IfOk advice (λ x. IsVerdictAdvice j v x.items)
+    → IfOk advice (λ x. IsJobAdvice j (ran (Ok (status_of_verdict v))) x.items)
+verdict_advice j v (Err e) answer is = tt
+verdict_advice j Yes (Ok x) answer is = is
+verdict_advice j (No a r) (Ok x) answer is = (No a r, answer, is)
 
 -- an action that doesn't explain has no advice on a job
 no_job_advice : (n : Naming) (a : Action) (t : List ℕ) (j : Job) (answer : Answer) (advice : List ℕ)

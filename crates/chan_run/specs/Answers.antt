@@ -4,7 +4,11 @@ use Rattle.std.specs.Prelude.{None, Some, Result, Ok, Err, is_some, unwrap_or}
 use Rattle.std.specs.Global.{Vec}
 use Rattle.std.specs.Io.KnownBytes.{Appends}
 use Rattle.ccw_core.specs.Written.{AppendsPrefix}
-use Rattle.chan_deck.specs.Notes.{HasNoNote}
+use Rattle.chan_deck.specs.Notes.{HasNoNote, exchange_note}
+use Rattle.chan_walk.specs.declared.verdict.Verdict.{Verdict}
+use Rattle.chan_walk.specs.declared.verdict.Verdict.TheVariants.{No, Yes}
+use Rattle.chan_walk.specs.Answers.{IsAnswer}
+use Rattle.chan_why.specs.Exchange.{SeemsExchanged}
 use Rattle.chan_walk.specs.declared.job.Job.{Job}
 use Rattle.chan_why.specs.declared.notes.Notes.{Notes}
 use Rattle.chan_why.specs.Hang.{IsFirstPlace, MayHang}
@@ -14,7 +18,7 @@ use Rattle.chan_run.specs.declared.failure.Failure.{Failure}
 use Rattle.chan_run.specs.declared.failure.Failure.TheVariants as failures
 use Rattle.chan_run.specs.declared.image_options.ImageOptions.{ImageOptions}
 use Rattle.chan_run.specs.declared.outcome.Outcome.{Outcome}
-use Rattle.chan_run.specs.declared.outcome.Outcome.TheVariants.{Done, Failed, NoJob, Refused}
+use Rattle.chan_run.specs.declared.outcome.Outcome.TheVariants.{Denied, Done, Failed, NoJob, Refused}
 use Rattle.chan_args.specs.declared.action.Action.{Action}
 use Rattle.chan_args.specs.declared.action.Action.TheVariants as actions
 use Rattle.chan_run.specs.Name.{fronted, front_of, name_of}
@@ -42,11 +46,24 @@ AreNotesSaid j text =
     (n : Notes) × (hang : Option Place) × AreNotes j n × IsFirstPlace (MayHang j) hang
     × ((text ≡ []) ↔ HasNoNote n hang)
 
+-- the text has the note that the areas seem exchanged, if they do
+abbrev pub IsExchangeSaid : Job → Verdict → List ℕ → Type 0
+IsExchangeSaid j Yes text = text ≡ []
+IsExchangeSaid j (No a r) text =
+    (SeemsExchanged j (No a r) × (text ≡ exchange_note r))
+    ⊎ ((¬ SeemsExchanged j (No a r)) × (text ≡ []))
+
+-- the text has what is said of a verdict: the notes after a yes, or that note after a no
+abbrev pub IsVerdictAdvice : Job → Verdict → List ℕ → Type 0
+IsVerdictAdvice j Yes text = AreNotesSaid j text
+IsVerdictAdvice j (No a r) text = IsExchangeSaid j (No a r) text
+
 -- the advice on a job whose answer comes to this: the limit if too many places are reachable, and
--- the notes after a yes
+-- what is said of its verdict
 abbrev pub IsJobAdvice : Job → Outcome → List ℕ → Type 0
 IsJobAdvice j (Failed failures.TooManyPlaces) advice = advice ≢ []
 IsJobAdvice j Done advice = AreNotesSaid j advice
+IsJobAdvice j Denied advice = (v : Verdict) × IsAnswer j v × IsExchangeSaid j v advice
 IsJobAdvice j end advice = Unit {0}
 
 -- the advice on a text whose answer comes to this: the hint if the text isn't a deck, or the advice
@@ -55,6 +72,8 @@ abbrev pub IsAdvice : Action → List ℕ → Outcome → List ℕ → Type 0
 IsAdvice a t (Refused line cause) advice = advice ≢ []
 IsAdvice (actions.Why all) t (Failed failures.TooManyPlaces) advice = advice ≢ []
 IsAdvice (actions.Why all) t Done advice = IsOfJob t (λ j. AreNotesSaid j advice)
+IsAdvice (actions.Why all) t Denied advice =
+    IsOfJob t (λ j. (v : Verdict) × IsAnswer j v × IsExchangeSaid j v advice)
 IsAdvice a t end advice = Unit {0}
 
 -- what an answer comes to if its output is written

@@ -1,6 +1,6 @@
 -- How an input that has a name is named, in a verdict's line and in a line on standard error.
 use Rattle.std.specs.Prelude.{◌++◌, ℕ, Bool, true, false, List, [], Option, Some, None}
-use Rattle.std.specs.Prelude.{◌∷◌, ◌==◌, codes, if◌then◌else◌, option_map}
+use Rattle.std.specs.Prelude.{◌∷◌, ◌==◌, codes, option_map}
 use Rattle.std.specs.Borrow.{Bor}
 use Rattle.std.specs.List.{flat_map}
 use Rattle.chan_run.specs.declared.name.Naming.{Naming}

@@ -6,7 +6,7 @@ use Rattle.chan_walk.specs.Job.{storage_of}
 use Rattle.chan_walk.specs.declared.job.Job.{Job}
 use Rattle.chan_walk.specs.declared.reason.Reason.TheVariants as reasons
 use Rattle.chan_walk.specs.declared.verdict.Verdict.{Verdict}
-use Rattle.chan_walk.specs.declared.verdict.Verdict.TheVariants.{Yes, No}
+use Rattle.chan_walk.specs.declared.verdict.Verdict.TheVariants.{No}
 use Rattle.chan_run.specs.Image.{IsOfOpenJob}
 use Rattle.chan_run.specs.ImageNote.{deck_note}
 use Rattle.chan_run.specs.Name.{name_before}

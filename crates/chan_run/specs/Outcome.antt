@@ -48,10 +48,11 @@ status_of (NoJob a r) = (row_of_failure failures.NoJobWillDo).status
 status_of (Unknown word) = (row_of_failure failures.NoSuchWord).status
 status_of (Failed failure) = (row_of_failure failure).status
 
--- advice comes with the explanation of a yes and of too many reachable places, and where the text is
+-- advice comes with the explanation of a verdict and of too many reachable places, and where the text is
 -- no deck, if it is explained or the input has a name
 abbrev pub has_advice : Bool → Action → Outcome → Bool
 has_advice is_named (actions.Why all) Done = true
+has_advice is_named (actions.Why all) Denied = true
 has_advice is_named (actions.Why all) (Refused line cause) = true
 has_advice is_named (actions.Why all) (Failed failures.TooManyPlaces) = true
 has_advice is_named a (Refused line cause) = is_named

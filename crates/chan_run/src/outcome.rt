@@ -128,15 +128,18 @@ pub fn ends_run(outcome: Outcome) -> bool
     matches!(outcome, Outcome::Failed(Failure::WriteFailed))
 }
 
-/// Whether advice follows the answer of an action: it does for the explanation of a yes, and of too
-/// many reachable places; and for a text that isn't a deck, if it is explained or has a name.
+/// Whether advice follows the answer of an action: it does for the explanation of a verdict, and of
+/// too many reachable places; and for a text that isn't a deck, if it is explained or has a name.
 pub(crate) fn has_advice(is_named: bool, action: Action, outcome: Outcome) -> bool
     ensures { result ≡ has_advice is_named action outcome }
 {
     match (action, outcome) {
         (
             Action::Why { .. },
-            Outcome::Done | Outcome::Refused { .. } | Outcome::Failed(Failure::TooManyPlaces),
+            Outcome::Done
+            | Outcome::Denied
+            | Outcome::Refused { .. }
+            | Outcome::Failed(Failure::TooManyPlaces),
         ) => true,
         (_, Outcome::Refused { .. }) => is_named,
         _ => false,

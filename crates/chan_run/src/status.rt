@@ -7,7 +7,7 @@ ghost use Rattle.chan_run.specs.Name.{unnamed};
 ghost use Rattle.chan_run.specs.Output.{IsAnswerOn, IsInput, IsJobAnswer, IsWrittenOut};
 ghost use Rattle.chan_run.specs.Output.{IsReadFault, IsRunAnswer, IsTextAnswer, status_of_verdict};
 
-use crate::advice::{limit_text, notes_on};
+use crate::advice::{advice_on, limit_text};
 use crate::failure::Failure;
 use crate::input::{TEXT_LIMIT, read_input};
 use crate::name::Naming;
@@ -197,8 +197,8 @@ fn answer_on(
     }
 }
 
-/// The answer to what an action asks of a job that it judges. Beside it stand the notes on the job,
-/// if advice is asked for and the verdict is yes, or its limit where too many places are reachable.
+/// The answer to what an action asks of a job that it judges. Beside it stands the advice on the
+/// verdict, if it is asked for, or the limit where too many places are reachable.
 fn answer_job(
     alloc: Global,
     naming: Naming<'_>,
@@ -223,8 +223,8 @@ fn answer_job(
         Err(WalkError::Memory) => return (Err(RunError::Memory), Ok(Vec::new(alloc))),
     };
     let status = status_of(survey.verdict());
-    let notes = if asked && status == Status::Yes {
-        notes_on(alloc, job, &survey)
+    let notes = if asked {
+        advice_on(alloc, job, &survey)
     } else {
         Ok(Vec::new(alloc))
     };

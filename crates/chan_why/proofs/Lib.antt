@@ -7,5 +7,6 @@ pub mod Changing
 pub mod StoredOver
 pub mod Idle
 pub mod Noted
+pub mod Exchanging
 pub mod Hanging
 pub mod Retracing

@@ -1,7 +1,7 @@
 -- What a verdict leaves open: areas lent in vain, CCWs that interrupt, CCWs at which a program ends
 -- though chain data is on, and kept areas into which the machine itself stores.
 use Rattle.std.specs.Prelude.{◌≡◌, ℕ, zero, suc, ◌<◌, ◌≤◌, nat_lt, Bool, true, false, not, ◌&&◌}
-use Rattle.std.specs.Prelude.{◌⊎◌, ◌↔◌, ◌||◌, List, length, Option, None, Some, IsTrue}
+use Rattle.std.specs.Prelude.{◌⊎◌, ◌↔◌, ◌||◌, ◌==◌, List, length, Option, None, Some, IsTrue}
 use Rattle.std.specs.List.{filter}
 use Rattle.std.specs.List.Sorted.{IsStrictlyIncreasing}
 use Rattle.ccw_core.specs.declared.areas.Area.{Area}
@@ -59,6 +59,10 @@ asks_interruption c = is_on c.flags 0x08
 -- it asks for one with the CCW c; in a transfer in channel the flags mean nothing
 abbrev pub interrupts : Place → Fields → Bool
 interrupts p c = not (is_transfer c) && asks_interruption c
+
+-- byte 5 isn't zero, though the channel ignores it; in a transfer in channel it may have any value
+abbrev pub fills_spare : Place → Fields → Bool
+fills_spare p c = not (is_transfer c) && not (c.spare == 0)
 
 -- the kind moves no data
 abbrev pub moves_nothing : Kind → Bool
@@ -136,6 +140,7 @@ pub record AreNotes (j : Job) (n : Notes) : Type 0 where
   pub interrupting : AreAddressesOf interrupts j n.interrupting.items
   pub ending : AreAddressesOf ends_there j n.ending.items
   pub machine_stores : AreMachineStores j n.machine_stores.items
+  pub spare : AreAddressesOf fills_spare j n.spare.items
 
 -- ---- place by place
 

@@ -12,6 +12,7 @@
 #![tactic(auto)]
 
 mod cause;
+mod exchange;
 mod finder;
 mod hang;
 mod laws;
@@ -20,6 +21,7 @@ mod path;
 mod second_path;
 mod witness;
 
+pub use crate::exchange::seems_exchanged;
 pub use crate::hang::hang_from;
 pub use crate::notes::{Notes, notes_from};
 pub use crate::witness::{Witness, causes_from, witness_from};

@@ -51,6 +51,9 @@ pub struct Notes {
     /// whatever was lent: old PSWs and the CSW in the first range, the timer in the second. No
     /// verdict takes these stores into account.
     pub machine_stores: Vec<Area>,
+    /// The addresses of the reachable CCWs, transfers apart, whose byte 5 isn't zero; each once,
+    /// rising. The channel ignores that byte, but flags may have slipped there from byte 4.
+    pub spare: Vec<u32>,
 }
 
 /// The notes on a job, from its own survey. `AllocError` comes if a growth was refused.
@@ -72,6 +75,7 @@ pub fn notes_from(alloc: Global, job: &Job, survey: &Survey) -> Result<Notes, Al
         interrupting: interrupting(alloc, looks)?,
         ending: ending(alloc, looks)?,
         machine_stores: machine_stores(alloc, survey.guard())?,
+        spare: spare(alloc, looks)?,
     })
 }
 
@@ -160,6 +164,19 @@ fn ending(alloc: Global, looks: &[Look]) -> Result<Vec<u32>, AllocError>
     Ok(each_once(addresses))
 }
 
+/// The addresses of the reachable CCWs, transfers apart, whose byte 5 isn't zero.
+#[tactic(auto, using(crate::proofs::Noted::addresses_none))]
+fn spare(alloc: Global, looks: &[Look]) -> Result<Vec<u32>, AllocError>
+    ensures { IfOk result (λ v. (j : Job) → AreLooks j looks.now
+        → AreReached j (places_of_looks looks.now) → AreAddressesOf noted.fills_spare j v.items) }
+{
+    let mut addresses = Vec::new(alloc);
+    for look in looks {
+        add_address(&mut addresses, look, fills_spare(look))?;
+    }
+    Ok(each_once(addresses))
+}
+
 /// Adds the address of a place, if its CCW counts.
 fn add_address(addresses: &mut Vec<u32>, look: &Look, is_so: bool) -> Result<(), AllocError>
     ensures { OnOk result (AddsAddress is_so look.now.place.address
@@ -197,6 +214,16 @@ fn interrupts(look: &Look) -> bool
 {
     match look.ccw() {
         Some(ccw) => !ccw.is_transfer() && asks_interruption(&ccw),
+        None => false,
+    }
+}
+
+/// Whether the CCW at a place is no transfer, and its byte 5 isn't zero.
+fn fills_spare(look: &Look) -> bool
+    ensures { IsTrue result ↔ IsSeenWith noted.fills_spare look.now }
+{
+    match look.ccw() {
+        Some(ccw) => !ccw.is_transfer() && ccw.spare() != 0,
         None => false,
     }
 }

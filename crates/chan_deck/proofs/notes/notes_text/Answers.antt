@@ -6,7 +6,8 @@ use Rattle.chan_deck.proofs.notes.notes_text.Goals as goal
 pub returns : goal.returns
 returns c = (
   (λ e.
-      let h7 = grew_none _ _ _ c.in_ok-push_ccws-2.ensures e in
+      let h8 = grew_none _ _ _ c.in_ok-push_spare.ensures e in
+      let h7 = grew_none _ _ _ c.in_ok-push_ccws-2.ensures h8.1 in
       let h6 = grew_none _ _ _ c.in_ok-push_ccws.ensures h7.1 in
       let h5 = grew_none _ _ _ c.in_ok-push_hang.ensures h6.1 in
       let h4 = grew_none _ _ _ c.in_ok-push_areas-5.ensures h5.1 in
@@ -23,9 +24,11 @@ returns c = (
         no_hang = none_hangs c.args.hang h5.0;
         interrupting = nothing _ _ c.deref-6.ensures.value h6.0;
         ending = nothing _ _ c.deref-7.ensures.value h7.0;
+        spare = nothing _ _ c.deref-8.ensures.value h8.0;
       }),
   λ h.
-      c.in_ok-push_ccws-2.ensures.none (counted _ _ c.deref-7.ensures.value h.ending)
+      c.in_ok-push_spare.ensures.none (counted _ _ c.deref-8.ensures.value h.spare)
+      ∙ c.in_ok-push_ccws-2.ensures.none (counted _ _ c.deref-7.ensures.value h.ending)
       ∙ c.in_ok-push_ccws.ensures.none (counted _ _ c.deref-6.ensures.value h.interrupting)
       ∙ c.in_ok-push_hang.ensures.none (ap number_of_hangs h.no_hang)
       ∙ c.in_ok-push_areas-5.ensures.none (counted _ _ c.deref-5.ensures.value h.machine_stores)

@@ -1,4 +1,4 @@
-use Rattle.std.proofs.Common.{◌≡◌, ◌∙◌, cond, false, length, refl, rules, sym, take, true}
+use Rattle.std.proofs.Common.{◌∙◌, rules, sym}
 use Rattle.std.proofs.lemmas.Bool.{cond-false, cond-true}
 use Rattle.std.proofs.lemmas.List.{take_all}
 use Rattle.chan_run.specs.Options.{digits_in}

@@ -1,4 +1,4 @@
-use Rattle.std.proofs.Common.{◌≡◌, ◌++◌, List, ap₂, rules, subst, ℕ}
+use Rattle.std.proofs.Common.{◌++◌, List, subst, ℕ}
 use Rattle.std.specs.Io.KnownBytes.{Appends}
 use Rattle.ccw_core.specs.Written.{AppendsPrefix}
 use Rattle.chan_run.specs.declared.option_fault.TheConstants as texts

@@ -18,5 +18,6 @@ returns c =
       unused_store = unused_same _ (IsStoredInto j) (store_of j) c.in_ok-unused-2.field-0.items (c.in_ok-stored.ensures j seen.0 seen.1).bytes c.in_ok-unused-2.ensures;
       interrupting = c.in_ok-interrupting.ensures j seen.0 seen.1;
       ending = c.in_ok-ending.ensures j seen.0 seen.1;
+      spare = c.in_ok-spare.ensures j seen.0 seen.1;
       machine_stores = c.in_ok-machine_stores.ensures j (subst (λ (g : GuardAreas). Guards j g) (sym c.guard.ensures) c.requires.guard);
     }

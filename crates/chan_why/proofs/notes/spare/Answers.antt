@@ -1,0 +1,25 @@
+use Rattle.std.proofs.Common.{◌<◌, List, length, take, sym, subst, arith}
+use Rattle.chan_walk.specs.declared.place.Place.{Place}
+use Rattle.chan_walk.specs.Argument.{Has}
+use Rattle.chan_walk.specs.Look.{places_of_looks}
+use Rattle.chan_why.specs.Notes.{fills_spare}
+use Rattle.chan_walk.proofs.Algorithms.Looking.{look_of, places_next, places_taken}
+use Rattle.chan_why.proofs.Noted.{HasAddress, HoldAddresses, addresses_more, adds_address}
+use Rattle.chan_why.proofs.Noted.{all_addresses}
+use Rattle.chan_why.proofs.notes.spare.Goals as goal
+
+pub loop-look-preserved : goal.loop-look-preserved
+loop-look-preserved c j are =
+    let ls = c.args.looks.now in
+    let i = c.loop-look.look-index in
+    let l = c.look-item.result in
+    let within : i < length ls = omega arith in
+    subst (λ (ps : List Place). HoldAddresses (Has c.add_address.new.addresses.items) (HasAddress fills_spare j) ps) (sym (places_next ls i l within c.look-item.is))
+    (addresses_more (HasAddress fills_spare j) (places_of_looks (take i ls)) l.place c.loop-look.addresses.items c.add_address.new.addresses.items (c.loop-look.invariant j are)
+    (adds_address fills_spare j l c.fills_spare.result c.loop-look.addresses.items c.add_address.new.addresses.items (look_of j ls i l are within c.look-item.is) c.fills_spare.ensures c.in_ok-add_address.ensures))
+
+pub returns : goal.returns
+returns c j are reached =
+    let ls = c.args.looks.now in
+    all_addresses fills_spare j _ (places_of_looks ls) c.loop-look.addresses.items c.each_once.result.items (places_taken ls c.loop-look.look-index (omega arith)) reached
+    (c.loop-look.invariant j are) c.each_once.ensures.rising c.each_once.ensures.same

@@ -1,0 +1,10 @@
+use Rattle.std.proofs.Common.{take}
+use Rattle.chan_walk.specs.declared.job.Job.{Job}
+use Rattle.chan_walk.specs.Argument.{Has}
+use Rattle.chan_walk.specs.Look.{AreLooks, places_of_looks}
+use Rattle.chan_why.specs.Notes.{fills_spare}
+use Rattle.chan_why.proofs.Noted.{HasAddress, HoldAddresses}
+use Rattle.chan_why.proofs.notes.spare.Given as goal
+
+abbrev pub invariant-loop-look : goal.invariant-loop-look
+invariant-loop-look l = (j : Job) → AreLooks j l.looks → HoldAddresses (Has l.addresses.items) (HasAddress fills_spare j) (places_of_looks (take l.look-index l.looks))
