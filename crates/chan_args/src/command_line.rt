@@ -205,8 +205,8 @@ fn no_command<'a>(words: &'a [String], error: Error) -> Request<'a>
 /// Reads the words; the first is the program's name.
 ///
 /// Without a command the request is to verify, and `help --help` is `help`. If clap accepts the
-/// words, the answer is their request; otherwise it is `Help`, `Version`, `NoCommand` or `Fault`, by
-/// the kind of fault that it finds. `NoMemory` may come in place of each.
+/// words, the answer is their request. Otherwise it is `Help`, `Version`, `NoCommand` or `Fault`,
+/// by the kind of fault that it finds. `NoMemory` may come in place of each.
 #[inline(never)]
 pub fn read_request<'a>(alloc: Global, words: &'a [String]) -> Request<'a>
     ensures answer { IsAnswerTo (understood (map string_bytes words.entry.now)) result }

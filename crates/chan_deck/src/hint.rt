@@ -296,11 +296,11 @@ fn push_expected(out: &mut String, spot: &Spot<'_>, cause: Cause) -> Result<(), 
 /// doesn't meet. An error means that an allocation failed.
 ///
 /// The hint shows at most 60 characters of the line, and ` ..` if there are more. A byte that isn't
-/// printable ASCII becomes `\x` and two digits, and so does a blank at the line's end. Words name an
-/// empty line and the end of the text. If several forms may come, the hint lists their keywords, or
-/// gives the pattern of the one whose keyword the line begins with; if the line begins like another
-/// form, it says that this form comes earlier or later. It names a byte-order mark and a carriage
-/// return. If the first bytes aren't text, it names the command that makes a deck.
+/// printable ASCII becomes `\x` and two digits, and so does a blank at the line's end. Words name
+/// an empty line and the end of the text. If several forms may come, the hint lists their keywords,
+/// or gives the pattern of the one whose keyword the line begins with; if the line begins like
+/// another form, it says that this form comes earlier or later. It names a byte-order mark and a
+/// carriage return. If the first bytes aren't text, it names the command that makes a deck.
 pub fn hint_text(alloc: Global, text: &[u8], line: u64, cause: Cause) -> Result<Vec<u8>, AllocError>
     ensures { IfOk result (λ text. text.items ≢ []) }
 {

@@ -164,8 +164,8 @@ fn push_byte(out: &mut String, ccw: Option<Ccw>) -> Result<(), AllocError>
 /// - the lent areas that reach past storage, and those that no reachable CCW uses;
 /// - the kept areas that the machine itself stores into;
 /// - the first place from which on the program never ends by itself;
-/// - the CCWs that ask for an interruption, and those at which the program ends though chain data is
-///   on;
+/// - the CCWs that ask for an interruption, and those at which the program ends though chain data
+///   is on;
 /// - the CCWs whose byte 5 isn't zero.
 ///
 /// Each kind has a line for each of its first hundred notes, and one line that counts the others.

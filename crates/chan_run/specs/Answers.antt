@@ -18,7 +18,8 @@ use Rattle.chan_run.specs.declared.failure.Failure.{Failure}
 use Rattle.chan_run.specs.declared.failure.Failure.TheVariants as failures
 use Rattle.chan_run.specs.declared.image_options.ImageOptions.{ImageOptions}
 use Rattle.chan_run.specs.declared.outcome.Outcome.{Outcome}
-use Rattle.chan_run.specs.declared.outcome.Outcome.TheVariants.{Denied, Done, Failed, NoJob, Refused}
+use Rattle.chan_run.specs.declared.outcome.Outcome.TheVariants.{Denied, Done, Failed, NoJob}
+use Rattle.chan_run.specs.declared.outcome.Outcome.TheVariants.{Refused}
 use Rattle.chan_args.specs.declared.action.Action.{Action}
 use Rattle.chan_args.specs.declared.action.Action.TheVariants as actions
 use Rattle.chan_run.specs.Name.{fronted, front_of, name_of}
@@ -160,4 +161,5 @@ pub record IsUnreadImage (o : ImageOptions) (old_in new_in old new : Option (Lis
 abbrev pub IsImageHandled : Option (List ℕ) → ImageOptions → Option (List ℕ) → Option (List ℕ)
     → Option (List ℕ) → Option (List ℕ) → Outcome → List ℕ → Type 0
 IsImageHandled name o old_in new_in old new end more =
-    IsReadImage name o old_in new_in old new end more ⊎ IsUnreadImage o old_in new_in old new end more
+    IsReadImage name o old_in new_in old new end more
+    ⊎ IsUnreadImage o old_in new_in old new end more

@@ -1,6 +1,6 @@
 -- Decimal digits that an option reads as a hexadecimal number.
-use Rattle.std.specs.Prelude.{ℕ, ◌^◌, ◌%◌, ◌==◌, Bool, true, false, ◌&&◌, not, if◌then◌else◌, nat_lt}
-use Rattle.std.specs.Prelude.{List, Option, Some, None, option_and_then}
+use Rattle.std.specs.Prelude.{ℕ, ◌^◌, ◌%◌, ◌==◌, Bool, true, false, ◌&&◌, not, if◌then◌else◌}
+use Rattle.std.specs.Prelude.{nat_lt, List, Option, Some, None, option_and_then}
 use Rattle.ckd_core.specs.Mask.{is_mask}
 use Rattle.chan_args.specs.declared.image_words.ImageOption.{ImageOption}
 use Rattle.chan_args.specs.declared.image_words.ImageOption.TheVariants as options

@@ -13,8 +13,8 @@ use Rattle.chan_run.specs.Name.{name_before}
 use Rattle.chan_run.specs.Output.{IsExplained}
 use Rattle.chan_run.specs.declared.image_options.ImageOptions.{ImageOptions}
 
--- a verdict may come from wrong ends of the image: data goes past the end of storage, or the program
--- that begins at this address has no command there
+-- a verdict may come from wrong ends of the image: data goes past the end of storage, or the
+-- program that begins at this address has no command there
 abbrev pub is_of_ends : ℕ → Verdict → Bool
 is_of_ends start (No a reasons.DataOutside) = true
 is_of_ends start (No a reasons.OutsideStorage) = a == start

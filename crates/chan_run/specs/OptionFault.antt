@@ -30,8 +30,8 @@ option_fault_text option text front why end =
     ++ (codes "': " ++ (front ++ (why ++ (end ++ texts.MORE.now)))))))
 
 -- so it was written, or a prefix if a write failed: something is said before if the option read
--- decimal digits as another number in hexadecimal, and something after if it would have accepted the
--- number that they are in decimal
+-- decimal digits as another number in hexadecimal, and something after if it would have accepted
+-- the number that they are in decimal
 pub record IsFaultSaid (fault : OptionFault) (old new : Option (List ℕ)) (failed : Bool)
     : Type 0 where
   pub front : List ℕ

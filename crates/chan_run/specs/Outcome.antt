@@ -48,8 +48,8 @@ status_of (NoJob a r) = (row_of_failure failures.NoJobWillDo).status
 status_of (Unknown word) = (row_of_failure failures.NoSuchWord).status
 status_of (Failed failure) = (row_of_failure failure).status
 
--- advice comes with the explanation of a verdict and of too many reachable places, and where the text is
--- no deck, if it is explained or the input has a name
+-- advice comes with the explanation of a verdict and of too many reachable places; and on a text
+-- that isn't a deck, if it is explained or the input has a name
 abbrev pub has_advice : Bool → Action → Outcome → Bool
 has_advice is_named (actions.Why all) Done = true
 has_advice is_named (actions.Why all) Denied = true

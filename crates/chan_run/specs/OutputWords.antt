@@ -41,7 +41,8 @@ IsRowLine row line = line ≡ row_line row
 
 -- the lines of these rows were written, or where a write failed a prefix of those of the first
 abbrev pub AreRowsListed : List OutputRow → Option (List ℕ) → Option (List ℕ) → Outcome → Type 0
-AreRowsListed rows old new Done = (text : List ℕ) × AreLines IsRowLine rows text × Appends old new text
+AreRowsListed rows old new Done =
+    (text : List ℕ) × AreLines IsRowLine rows text × Appends old new text
 AreRowsListed rows old new (Failed failures.WriteFailed) =
     (n : ℕ) × (text : List ℕ) × AreLines IsRowLine (take n rows) text × AppendsPrefix old new text
 AreRowsListed rows old new end = ⊥

@@ -1,4 +1,4 @@
-//! Decimal digits that an option reads as a hexadecimal number: what the fault says of them besides.
+//! Decimal digits that an option reads as a hexadecimal number, and what its fault says of them.
 
 ghost use Rattle.std.specs.Prelude.{◌≡◌, ◌↔◌, ◌++◌, [], None};
 ghost use Rattle.chan_run.specs.Bases as bases;

@@ -8,7 +8,8 @@
 //!     let mut output = Watched::new(rt.stdout());
 //!     let mut errors = Watched::new(rt.stderr());
 //!     let unnamed = Naming { name: None, is_among: false };
-//!     exit_status(answer(rt.alloc(), unnamed, Action::Verify, &mut input, &mut output, &mut errors))
+//!     let verify = Action::Verify;
+//!     exit_status(answer(rt.alloc(), unnamed, verify, &mut input, &mut output, &mut errors))
 //! }
 //! ```
 //!

@@ -129,7 +129,7 @@ pub fn report_file<W: Write>(name: &str, to: &mut Watched<W>) -> u8
     4
 }
 
-/// Writes the text of the usage fault that there is no CCW to be shown, and gives the exit status, 4,
+/// Writes the text of the usage fault that no CCW was given to show, and gives the exit status, 4,
 /// as `report_option` does.
 pub fn report_no_ccw<W: Write>(to: &mut Watched<W>) -> u8
     requires { to.old.failed ≡ false }

@@ -178,8 +178,8 @@ pub(crate) fn write_row<W: Write>(row: OutputWord, to: &mut Watched<W>) -> Resul
 /// Writes the lines of some words.
 pub(crate) fn list_rows<W: Write>(rows: &[OutputWord], to: &mut Watched<W>) -> Outcome
     requires { to.old.failed ≡ false }
-    ensures answer { AreRowsListed (row_texts rows.now) (W.contents to.old.device) (W.contents to.new.device)
-        result }
+    ensures answer { AreRowsListed (row_texts rows.now) (W.contents to.old.device)
+        (W.contents to.new.device) result }
     ensures write { IsWriteFailure result ↔ (to.new.failed ≡ true) }
 {
     for row in rows {
