@@ -7,7 +7,9 @@ pub mod Yes
 pub mod Quiet
 pub mod Paths
 pub mod Operations
+pub mod Changed
 pub mod Alarm
+pub mod Harm
 pub mod Exact
 pub mod Again
 pub mod Answering

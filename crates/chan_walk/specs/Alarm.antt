@@ -23,9 +23,9 @@ use Rattle.chan_walk.specs.Argument.{Has}
 use Rattle.chan_walk.specs.Check.{check}
 use Rattle.chan_walk.specs.Fault.{is_known, begins_seek, allows}
 use Rattle.chan_walk.specs.Guarded.{IsGuarded}
-use Rattle.chan_walk.specs.Headline.{AreSafe, AreSteady, IsSafe, IsSpared, IsSteady}
+use Rattle.chan_walk.specs.Headline.{AreSafe, AreSteady, Holds, IsSafe, IsSpared, IsSteady}
 use Rattle.chan_walk.specs.Job.{storage_of, extents_of, fetch_of, store_of, HasMask}
-use Rattle.chan_walk.specs.Machine.{Gathered, Stage, At, Checked, Event, Command, Store, Fetch}
+use Rattle.chan_walk.specs.Machine.{Gathered, At, Checked, Event, Command, Store, Fetch}
 use Rattle.chan_walk.specs.Machine.{Gather, Seek, SetMask}
 use Rattle.chan_walk.specs.Place.{is_fresh}
 use Rattle.chan_walk.specs.Reachable.{IsPath}
@@ -80,8 +80,9 @@ EachPathIsRun =
 
 -- ---- what a run shows
 
--- a run comes over the places ps to p, with nothing changed so far, and there its next step shows P
-pub record ShowsInStep (j : Job) (p : Place) (ps : List Place) (P : List Event → Stage → Type 0)
+-- a run comes over the places ps to p, with nothing changed so far, and P says what the moment
+-- after its next step shows
+pub record ShowsInStep (j : Job) (p : Place) (ps : List Place) (P : Moment → Type 0)
     : Type 0 where
   pub run : List Moment
   pub at : Moment
@@ -89,7 +90,7 @@ pub record ShowsInStep (j : Job) (p : Place) (ps : List Place) (P : List Event �
   pub is_run : IsRun j (next ∷ at ∷ run)
   pub over : ArePlaces (at ∷ run) (p ∷ ps)
   pub quiet : AllByRecursion (IsQuietMoment j) (at ∷ run)
-  pub shows : P next.events next.stage
+  pub shows : P next
 
 -- no argument of a seek is complete
 abbrev pub NoSeek : List Event → Type 0
@@ -102,10 +103,10 @@ StaysInOperation (m ∷ ms) =
     ((q : Place) × (g : Gathered) × (m.stage ≡ At q g) × (is_fresh q.entered ≡ false))
     × NoSeek m.events × StaysInOperation ms
 
--- a run comes over the places ps to p, with nothing changed so far, and a step of the operation
--- that begins there shows P; P is also told of the moment at p
-pub record ShowsInOperation (j : Job) (p : Place) (ps : List Place)
-    (P : Moment → List Event → Stage → Type 0) : Type 0 where
+-- a run comes over the places ps to p, with nothing changed so far, and P says what the moment at
+-- p and the one after a step of the operation that begins there show
+pub record ShowsInOperation (j : Job) (p : Place) (ps : List Place) (P : Moment → Moment → Type 0)
+    : Type 0 where
   pub run : List Moment
   pub at : Moment
   pub more : List Moment
@@ -114,7 +115,7 @@ pub record ShowsInOperation (j : Job) (p : Place) (ps : List Place)
   pub over : ArePlaces (at ∷ run) (p ∷ ps)
   pub quiet : AllByRecursion (IsQuietMoment j) (at ∷ run)
   pub goes_on : StaysInOperation more
-  pub shows : P at next.events next.stage
+  pub shows : P at next
 
 -- a byte is stored for whose address P holds
 abbrev pub StoresOn : (ℕ → Type 0) → List Event → Type 0
@@ -126,15 +127,20 @@ StoresOn P es =
 abbrev pub FetchesFrom : (ℕ → Type 0) → List Event → Type 0
 FetchesFrom P es = (a : ℕ) × (n : ℕ) × (b : ℕ) × Has es (Fetch a n) × (a ≤ b) × (b < a + n) × P b
 
+-- a byte is stored that some run uses, as P says, and at m it doesn't have its first value
+abbrev pub ChangesUsed : Job → (List Moment → ℕ → Type 0) → Moment → Type 0
+ChangesUsed j P m =
+    StoresOn (λ b. (Holds j b m → ⊥) × (used : List Moment) × IsRun j used × P used b) m.events
+
 -- a run comes over the places ps to p, and there the channel stops it by this program check
 abbrev pub ShowsCheck : Job → Place → List Place → Reason → Type 0
-ShowsCheck j p ps r = ShowsInStep j p ps (λ es stage. stage ≡ Checked r)
+ShowsCheck j p ps r = ShowsInStep j p ps (λ m. m.stage ≡ Checked r)
 
 -- what a run over the places ps shows for a reason at p: the program check itself; a command that
 -- may not begin; a store or a fetch outside lent areas; a seek that begins at p, where the
 -- channel's check passes, and ends or is checked before its sixth byte; an operation that begins at
--- p and seeks where it isn't allowed; a store over what some run uses; a Set File Mask that begins
--- at p and takes a byte that isn't at least as strict as the job's mask
+-- p and seeks where it isn't allowed; a store that changes what some run uses; a Set File Mask that
+-- begins at p and takes a byte that isn't at least as strict as the job's mask
 abbrev pub Shows : Job → Place → List Place → Reason → Type 0
 Shows j p ps Misaligned = ShowsCheck j p ps Misaligned
 Shows j p ps OutsideStorage = ShowsCheck j p ps OutsideStorage
@@ -144,31 +150,27 @@ Shows j p ps BadFormat = ShowsCheck j p ps BadFormat
 Shows j p ps ZeroCount = ShowsCheck j p ps ZeroCount
 Shows j p ps DataOutside = ShowsCheck j p ps DataOutside
 Shows j p ps NotInTable =
-    ShowsInStep j p ps (λ es stage. (code : ℕ) × Has es (Command code) × (is_known code ≡ false))
+    ShowsInStep j p ps (λ m. (code : ℕ) × Has m.events (Command code) × (is_known code ≡ false))
 Shows j p ps Inhibited =
-    ShowsInStep j p ps (λ es stage. (code : ℕ) × Has es (Command code)
+    ShowsInStep j p ps (λ m. (code : ℕ) × Has m.events (Command code)
     × (inhibits j.mask code ≡ true))
 Shows j p ps StoreNotLent =
-    ShowsInStep j p ps (λ es stage. StoresOn (λ b. lies_in (store_of j) b ≡ false) es)
+    ShowsInStep j p ps (λ m. StoresOn (λ b. lies_in (store_of j) b ≡ false) m.events)
 Shows j p ps FetchNotLent =
-    ShowsInStep j p ps (λ es stage. FetchesFrom (λ b. lies_in (fetch_of j) b ≡ false) es)
+    ShowsInStep j p ps (λ m. FetchesFrom (λ b. lies_in (fetch_of j) b ≡ false) m.events)
 Shows j p ps ShortSeek =
-    ShowsInOperation j p ps (λ at es stage. (check at.storage p ≡ None)
+    ShowsInOperation j p ps (λ at m. (check at.storage p ≡ None)
     × (begins_seek p (ccw at.storage p.address) ≡ true)
-    × NoSeek es
-    × (Has es (Seek None) ⊎ ((r : Reason) × (stage ≡ Checked r))))
+    × NoSeek m.events
+    × (Has m.events (Seek None) ⊎ ((r : Reason) × (m.stage ≡ Checked r))))
 Shows j p ps SeekOutside =
-    ShowsInOperation j p ps (λ at es stage. (is_fresh p.entered ≡ true) × (x : List ℕ)
-    × Has es (Seek (Some x)) × (allows j x ≡ false))
-Shows j p ps ChangesCcw =
-    ShowsInStep j p ps (λ es stage. StoresOn
-    (λ b. (used : List Moment) × IsRun j used × UsesInCcw used b) es)
-Shows j p ps ChangesArgument =
-    ShowsInStep j p ps (λ es stage. StoresOn
-    (λ b. (used : List Moment) × IsRun j used × UsesInArgument used b) es)
+    ShowsInOperation j p ps (λ at m. (is_fresh p.entered ≡ true) × (x : List ℕ)
+    × Has m.events (Seek (Some x)) × (allows j x ≡ false))
+Shows j p ps ChangesCcw = ShowsInStep j p ps (ChangesUsed j UsesInCcw)
+Shows j p ps ChangesArgument = ShowsInStep j p ps (ChangesUsed j UsesInArgument)
 Shows j p ps WeakensMask =
-    ShowsInStep j p ps (λ es stage. (is_fresh p.entered ≡ true)
-    × (a : ℕ) × (x : ℕ) × Has es (SetMask a x)
+    ShowsInStep j p ps (λ m. (is_fresh p.entered ≡ true)
+    × (a : ℕ) × (x : ℕ) × Has m.events (SetMask a x)
     × (is_at_least x j.mask ≡ false))
 
 -- each path to an offending place is a witness: a run over exactly this path shows the reason

@@ -22,6 +22,7 @@ pub mod OpenJob
 pub mod Limit
 pub mod Places
 pub mod Answers
+pub mod Harm
 pub mod Offence
 pub mod Paths
 pub mod Seeks

@@ -4,6 +4,7 @@
 ghost use Rattle.chan_walk.specs.Alarm.{EachPathIsRun, EachPathShows, GuardedIsUsed};
 ghost use Rattle.chan_walk.specs.Alarm.{HeadlineAloneIsEnough, NoFalseAlarm, SafeIsYes, StaysSafe};
 ghost use Rattle.chan_walk.specs.Counted.{CountedIsGuarded, SameVerdict, YesByGuarded, YesStays};
+ghost use Rattle.chan_walk.specs.Harm.{HarmlessIsSafe, NoIsHarm, ShownBreaks};
 ghost use Rattle.chan_walk.specs.Headline.{GathersArguments, GuardedStays, StaysReachable};
 ghost use Rattle.chan_walk.specs.Headline.{YesIsSafe, YesIsSafeAmong};
 ghost use Rattle.chan_walk.specs.Offence.{FirstIsVerdict};
@@ -65,6 +66,22 @@ pub(crate) fn first_is_verdict()
 #[tactic(auto, using(crate::proofs::Machine::Alarm::no_false_alarm))]
 pub(crate) fn no_false_alarm()
     ensures { NoFalseAlarm }
+{}
+
+/// Every run is safe and the job is steady exactly if no run does harm.
+pub(crate) fn harmless_is_safe()
+    ensures { HarmlessIsSafe }
+{}
+
+/// What is shown for a reason breaks a promise, in the way of the reason.
+#[tactic(auto, using(crate::proofs::Machine::Harm::shown_breaks))]
+pub(crate) fn shown_breaks()
+    ensures { ShownBreaks }
+{}
+
+/// After every no some run does harm.
+pub(crate) fn no_is_harm()
+    ensures { NoIsHarm }
 {}
 
 /// A job that is safe in every run and steady has the verdict yes.

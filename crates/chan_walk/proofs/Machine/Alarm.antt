@@ -15,14 +15,15 @@ use Rattle.std.proofs.lemmas.Bool.{or_cases, not-true, ltb-true}
 use Rattle.std.proofs.lemmas.List.FromFn.{length-map-range_with_len}
 use Rattle.chan_walk.specs.declared.reason.Reason.TheVariants.{StoreNotLent, FetchNotLent}
 use Rattle.chan_walk.specs.declared.reason.Reason.TheVariants.{ShortSeek}
-use Rattle.chan_walk.specs.Alarm.{IsProper, first_cylinder, ShowsInStep, StoresOn, ShowsCheck}
-use Rattle.chan_walk.specs.Alarm.{Shows, EachPathShows, NoFalseAlarm}
+use Rattle.chan_walk.specs.Alarm.{IsProper, first_cylinder, ShowsInStep, ShowsCheck}
+use Rattle.chan_walk.specs.Alarm.{ChangesUsed, Shows, EachPathShows, NoFalseAlarm}
 use Rattle.chan_walk.specs.Fault.{fetches}
 use Rattle.chan_walk.specs.Guarded.{IsSeekByte, IsMaskByte}
 use Rattle.chan_walk.specs.Machine.{unknown}
 use Rattle.chan_walk.specs.Runs.{UsesInCcw, UsesInArgument}
 use Rattle.chan_walk.proofs.Theory.Areas.{uncovered, home_refused}
 use Rattle.chan_walk.proofs.Theory.Chains.{part_is_no_transfer, chain_begins_with_part}
+use Rattle.chan_walk.proofs.Machine.Changed.{rewrite}
 use Rattle.chan_walk.proofs.Theory.Checks.{passed, Cases, each_case, table_case, check_case}
 use Rattle.chan_walk.proofs.Theory.Commands.{mask_is_outward, mask_is_no_transfer}
 use Rattle.chan_walk.proofs.Machine.Events.{mask_is_used}
@@ -34,11 +35,11 @@ use Rattle.chan_walk.proofs.Machine.Quiet.{full_count, bytes_at, there, Known, C
 use Rattle.chan_walk.proofs.Machine.Quiet.{carry_out}
 use Rattle.chan_walk.proofs.Theory.Granting.{stores_parts}
 
-show_next : {j : Job} {y : ℕ} {p : Place} {ps : List Place} {es : List Event} {st : Stage} {P : List Event → Stage → Type 0} (r : Runs j y p ps) → Step (storage_of j) y j.mask p r.gathered es (storage_of j) y j.mask st → P es st → ShowsInStep j p ps P
-show_next {j = j} {y = y} {p = p} {es = es} {st = st} r step shows = record {
+show_next : {j : Job} {y : ℕ} {p : Place} {ps : List Place} {es : List Event} {t : List ℕ} {st : Stage} {P : Moment → Type 0} (r : Runs j y p ps) → Step (storage_of j) y j.mask p r.gathered es t y j.mask st → P (record { storage = t; arm = y; mask = j.mask; stage = st; events = es }) → ShowsInStep j p ps P
+show_next {j = j} {y = y} {p = p} {es = es} {t = t} {st = st} r step shows = record {
   run = r.run;
   at = record { storage = storage_of j; arm = y; mask = j.mask; stage = At p r.gathered; events = r.events };
-  next = record { storage = storage_of j; arm = y; mask = j.mask; stage = st; events = es };
+  next = record { storage = t; arm = y; mask = j.mask; stage = st; events = es };
   is_run = (r.is_run, step);
   over = ((r.gathered, refl), r.places);
   quiet = r.quiet;
@@ -177,16 +178,17 @@ module _ (j : Job) (proper : IsProper j) where
             )),
       )
 
-  -- a store over a byte for which P holds
-  shows_store : (p : Place) (m : IsReachable j p) → IsClear j p → (P Q : ℕ → Type 0) → ((b : ℕ) → P b → Q b) → StoresOver j p P → ShowsInStep j p m.0 (λ es st. StoresOn Q es)
-  shows_store p m f P Q to o =
+  -- a store that changes a byte which some run uses
+  shows_change : (p : Place) (m : IsReachable j p) → IsClear j p → (P : ℕ → Type 0) (Q : List Moment → ℕ → Type 0) → ((b : ℕ) → P b → (used : List Moment) × IsRun j used × Q used b) → StoresOver j p P → ShowsInStep j p m.0 (ChangesUsed j Q)
+  shows_change p m f P Q to o =
       let c = ccw_of j p in
-      let s = stores_parts p c o.stores in
-      let en = ends_at p m (clear_check j p f) s.0 (clear_good j p f s.0).known in
-      let n : length (there j c) ≡ c.count = length-map-range_with_len (byte (storage_of j)) c.address c.count in
+      let r = run_to p m in
+      let w = rewrite j start p r.gathered (few_at j p r.gathered r.taking) f o.stores in
+      let n : length w.bytes ≡ c.count = w.whole in
       let below = o.below in
-      let lt : o.at < c.address + length (there j c) = omega (arith, below, n) in
-      show_next (run_to p m) en.step (c.address, there j c, o.at, en.stores s.1 s.2, o.from, lt, to o.at o.holds)
+      let lt : o.at < c.address + length w.bytes = omega (arith, below, n) in
+      let u = to o.at o.holds in
+      show_next r w.step (c.address, w.bytes, o.at, w.stores, o.from, lt, (w.changes o.at o.from o.below, u.0, u.1, u.2))
 
   -- each guarded byte is used by some run
   pub ccw_used : (b : ℕ) → IsCcwByte j b → (used : List Moment) × IsRun j used × UsesInCcw used b
@@ -213,10 +215,11 @@ module _ (j : Job) (proper : IsProper j) where
       go (inl s) = of_seek s
       go (inr s) = of_mask s
 
-  shows : (p : Place) (m : IsReachable j p) (r : Reason) → Offends j p r → Shows j p m.0 r
+  -- an offence is shown
+  pub shows : (p : Place) (m : IsReachable j p) (r : Reason) → Offends j p r → Shows j p m.0 r
   shows p m r (inl f) = shows_fault p m r f
-  shows p m r (inr (clear, inl o)) = subst (Shows j p m.0) (sym o.0) (shows_store p m (clear p m) _ _ ccw_used o.1)
-  shows p m r (inr (clear, inr o)) = subst (Shows j p m.0) (sym o.0) (shows_store p m (clear p m) _ _ argument_used o.1)
+  shows p m r (inr (clear, inl o)) = subst (Shows j p m.0) (sym o.0) (shows_change p m (clear p m) _ UsesInCcw ccw_used o.1)
+  shows p m r (inr (clear, inr o)) = subst (Shows j p m.0) (sym o.0) (shows_change p m (clear p m) _ UsesInArgument argument_used o.1)
 
 pub each_path_shows : EachPathShows
 each_path_shows j p ps r proper path offends = shows j proper p (ps, path) r offends

@@ -117,7 +117,7 @@ module _ (j : Job) (bytes : AreBytes (storage_of j)) where
       pub split : moment y (At q g) events ∷ past ≡ upto ++ moment y (At p g₀) ev ∷ run
       pub goes_on : StaysInOperation upto
 
-    close : {q : Place} {g : Gathered} {es : List Event} {st : Stage} {P : Moment → List Event → Stage → Type 0} → Going q g → Step (storage_of j) y j.mask q g es (storage_of j) y j.mask st → P (moment y (At p g₀) ev) es st → ShowsInOperation j p ps P
+    close : {q : Place} {g : Gathered} {es : List Event} {st : Stage} {P : Moment → Moment → Type 0} → Going q g → Step (storage_of j) y j.mask q g es (storage_of j) y j.mask st → P (moment y (At p g₀) ev) (moment y st es) → ShowsInOperation j p ps P
     close {es = es} {st = st} go step shows = record {
       run = run;
       at = moment y (At p g₀) ev;
@@ -146,7 +146,7 @@ module _ (j : Job) (bytes : AreBytes (storage_of j)) where
     -- ---- a chain that gives the six bytes
 
     pub record Finished (l : List ℕ) : Type 0 where
-      pub later : ShowsInOperation j p ps (λ at es st. Has es (Seek (Some (argument (storage_of j) l))))
+      pub later : ShowsInOperation j p ps (λ at m. Has m.events (Seek (Some (argument (storage_of j) l))))
       pub used : List Moment
       pub is_used : IsRun j used
       pub gathers : (b : ℕ) → Has (argument_addresses (storage_of j) l) b → UsesInArgument used b
@@ -220,8 +220,8 @@ module _ (j : Job) (bytes : AreBytes (storage_of j)) where
 
     -- ---- a chain that doesn't
 
-    abbrev pub Stops : Moment → List Event → Stage → Type 0
-    Stops at es st = (check at.storage p ≡ None) × (begins_seek p (ccw at.storage p.address) ≡ true) × NoSeek es × (Has es (Seek None) ⊎ ((r : Reason) × (st ≡ Checked r)))
+    abbrev pub Stops : Moment → Moment → Type 0
+    Stops at m = (check at.storage p ≡ None) × (begins_seek p (ccw at.storage p.address) ≡ true) × NoSeek m.events × (Has m.events (Seek None) ⊎ ((r : Reason) × (m.stage ≡ Checked r)))
 
     -- where the bytes after a step are too few, and no chain gives the rest, the seek stops later
     abbrev StopsFrom : List ℕ → Type 0
