@@ -12,11 +12,11 @@ use Rattle.chan_walk.specs.declared.verdict.Verdict.TheVariants.{Yes}
 use Rattle.chan_walk.specs.Argument.{is_part, Leads}
 use Rattle.chan_walk.specs.Fault.{begins_seek}
 use Rattle.chan_walk.specs.Guarded.{IsCcwByte, Takes, IsGuarded}
-use Rattle.chan_walk.specs.Headline.{EachMomentOfYes}
-use Rattle.chan_walk.specs.Job.{storage_of}
+use Rattle.chan_walk.specs.Headline.{AreSafe, AreSteady, EachMomentOfYes}
+use Rattle.chan_walk.specs.Job.{storage_of, HasMask}
 use Rattle.chan_walk.specs.Place.{ccw_of}
 use Rattle.chan_walk.specs.Reachable.{IsReachable}
-use Rattle.chan_walk.specs.Runs.{IsSameIn}
+use Rattle.chan_walk.specs.Runs.{IsRunAmong, IsSameIn}
 use Rattle.chan_walk.specs.Verdict.{IsVerdict}
 
 -- data chaining leads from the CCW at a to the one at an address, in any number of steps
@@ -67,6 +67,15 @@ abbrev pub YesByGuarded : Type 0
 YesByGuarded =
     (j : Job) (t : Storage) → IsVerdict j Yes
     → IsSameIn (IsGuarded j) (storage_of j) (bytes_held t) → IsVerdict (with_storage j t) Yes
+
+-- so a program may be asked about before it starts: if from the question on nothing else writes a
+-- guarded byte, every run is safe and the job is steady over what storage holds at the start
+abbrev pub SafeSinceAsked : Type 0
+SafeSinceAsked =
+    (j : Job) (t : Storage) → HasMask j → IsVerdict j Yes
+    → IsSameIn (IsGuarded j) (storage_of j) (bytes_held t)
+    → AreSafe (with_storage j t) (IsRunAmong (IsGuarded j) (with_storage j t))
+    × AreSteady (with_storage j t) (IsRunAmong (IsGuarded j) (with_storage j t))
 
 -- and it stays yes over what storage holds at any moment of any run: the program may start again
 abbrev pub YesStays : Type 0

@@ -3,7 +3,8 @@
 
 ghost use Rattle.chan_walk.specs.Alarm.{EachPathIsRun, EachPathShows, GuardedIsUsed};
 ghost use Rattle.chan_walk.specs.Alarm.{HeadlineAloneIsEnough, NoFalseAlarm, SafeIsYes, StaysSafe};
-ghost use Rattle.chan_walk.specs.Counted.{CountedIsGuarded, SameVerdict, YesByGuarded, YesStays};
+ghost use Rattle.chan_walk.specs.Counted.{CountedIsGuarded, SafeSinceAsked, SameVerdict};
+ghost use Rattle.chan_walk.specs.Counted.{YesByGuarded, YesStays};
 ghost use Rattle.chan_walk.specs.Harm.{HarmlessIsSafe, NoIsHarm, ShownBreaks};
 ghost use Rattle.chan_walk.specs.Headline.{GathersArguments, GuardedStays, StaysReachable};
 ghost use Rattle.chan_walk.specs.Headline.{YesIsSafe, YesIsSafeAmong};
@@ -126,6 +127,12 @@ pub(crate) fn counted_is_guarded()
 /// A yes depends on nothing in storage but its length and the guarded bytes.
 pub(crate) fn yes_by_guarded()
     ensures { YesByGuarded }
+{}
+
+/// Where the verdict is yes, and from the question on nothing else writes a guarded byte, every run
+/// is safe and the job is steady, over what storage holds at the start.
+pub(crate) fn safe_since_asked()
+    ensures { SafeSinceAsked }
 {}
 
 /// Where the verdict is yes, it is yes over what storage holds at any moment of any run, so that

@@ -1,15 +1,19 @@
 -- Where the verdict is yes, only guarded bytes count, and as these never change, it is yes again.
 use Rattle.chan_walk.proofs.Names.{ap, begins_seek, byte, ccw, ccw_of, chained, ChainOut}
 use Rattle.chan_walk.proofs.Names.{chains_data, false, Fields, inl, inr, is_part, is_transfer}
+use Rattle.chan_walk.proofs.Names.{bytes_held, IsSameIn}
 use Rattle.chan_walk.proofs.Names.{IsGuarded, IsReachable, IsVerdict, Job, kind_of, Leads, length}
 use Rattle.chan_walk.proofs.Names.{Outward, Place, refl, rules, storage_of, straight_to, subst, sym}
 use Rattle.chan_walk.proofs.Names.{transferred_to, true, Yes, ℕ, ◌+◌, ◌∙◌, ◌≡◌}
-use Rattle.chan_walk.specs.Counted.{IsChained, at_once, further, IsCounted, YesByGuarded, YesStays}
+use Rattle.chan_walk.specs.Counted.{IsChained, at_once, further, IsCounted, SafeSinceAsked}
+use Rattle.chan_walk.specs.Counted.{with_storage, YesByGuarded, YesStays}
 use Rattle.chan_walk.proofs.Theory.Chains.{part_is_no_transfer}
-use Rattle.chan_walk.proofs.Algorithms.Counted.{same_verdict}
+use Rattle.chan_walk.proofs.Algorithms.Counted.{carries_at, same_verdict}
+use Rattle.chan_walk.proofs.Machine.Exact.{sparing_less}
+use Rattle.chan_walk.proofs.Theory.Transport.{same_guarded}
 use Rattle.chan_walk.proofs.Theory.Faults.{yes_clear}
 use Rattle.chan_walk.proofs.Theory.Follows.{by_transfer, by_data}
-use Rattle.chan_walk.proofs.Machine.Yes.{fresh_out, all_kept, onward}
+use Rattle.chan_walk.proofs.Machine.Yes.{fresh_out, all_kept, onward, yes_is_safe_among}
 
 module _ (j : Job) (v : IsVerdict j Yes) where
   -- a reachable place at the address, at which an operation that goes out begins or goes on
@@ -53,6 +57,14 @@ module _ (j : Job) (v : IsVerdict j Yes) where
 
 pub yes_by_guarded : YesByGuarded
 yes_by_guarded j t v h = ((same_verdict j t (record { same_length = h.same_length; same = λ b c. h.same b (counted_is_guarded j v b c) })).1 Yes).0 v
+
+pub safe_since_asked : SafeSinceAsked
+safe_since_asked j t mask v h =
+    let k = with_storage j t in
+    let counted : IsSameIn (IsCounted j) (storage_of j) (bytes_held t) = record { same_length = h.same_length; same = λ b c. h.same b (counted_is_guarded j v b c) } in
+    let among = yes_is_safe_among k mask (yes_by_guarded j t v h) in
+    let spared = sparing_less (IsGuarded j) (IsGuarded k) (λ b g. (same_guarded j k refl (carries_at j t counted) b).1 g) k in
+    (λ run r. among.0 run (spared run r), λ used run b r u s. among.1 used run b (spared used r) u (spared run s))
 
 pub yes_stays : YesStays
 yes_stays j v = all_kept j v _ (λ m k t e. yes_by_guarded j t v (record { same_length = ap length e ∙ k.same_length; same = λ b g. ap (λ s. byte s b) e ∙ k.same b g }))

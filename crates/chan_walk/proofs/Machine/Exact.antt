@@ -28,7 +28,7 @@ guarded_is_used j proper v b = ((guarded_used j proper b, λ u. among (u.0, alon
     among u = used_guarded j v u.0 b (each_ok j v u.0 u.1) u.2
 
 -- others that spare more are among those that spare less
-sparing_less : (P Q : ℕ → Type 0) → ((b : ℕ) → Q b → P b) → (j : Job) (ms : List Moment) → IsRunAmong P j ms → IsRunAmong Q j ms
+pub sparing_less : (P Q : ℕ → Type 0) → ((b : ℕ) → Q b → P b) → (j : Job) (ms : List Moment) → IsRunAmong P j ms → IsRunAmong Q j ms
 sparing_less P Q f j [] r = absurd r
 sparing_less P Q f j (m ∷ []) r = r
 sparing_less P Q f j (n ∷ m ∷ ms) (r, inl w) = (sparing_less P Q f j (m ∷ ms) r, inl w)
