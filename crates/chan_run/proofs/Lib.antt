@@ -11,4 +11,3 @@ mod TipLemmas
 mod NameLemmas
 mod WordAnswers
 mod FaultTexts
-pub mod Saying

@@ -1,111 +1,17 @@
--- What one input comes to: its answer on one writer, and what is said of it on another.
-use Rattle.std.specs.Prelude.{◌≡◌, ◌≢◌, ◌⊎◌, ◌↔◌, ◌++◌, ℕ, Bool, false, true, List, [], Option}
-use Rattle.std.specs.Prelude.{None, Some, Result, Ok, Err, is_some, unwrap_or}
-use Rattle.std.specs.Global.{Vec}
+-- What an image of storage comes to: its deck on one writer, and what is said of it on another.
+use Rattle.std.specs.Prelude.{◌≡◌, ◌⊎◌, ◌++◌, ℕ, Bool, false, List, Option, None, Some, [], unwrap_or}
 use Rattle.std.specs.Io.KnownBytes.{Appends}
 use Rattle.ccw_core.specs.Written.{AppendsPrefix}
-use Rattle.chan_deck.specs.Notes.{HasNoNote, exchange_note}
-use Rattle.chan_walk.specs.declared.verdict.Verdict.{Verdict}
-use Rattle.chan_walk.specs.declared.verdict.Verdict.TheVariants.{No, Yes}
-use Rattle.chan_walk.specs.Answers.{IsAnswer}
-use Rattle.chan_why.specs.Exchange.{SeemsExchanged}
-use Rattle.chan_walk.specs.declared.job.Job.{Job}
-use Rattle.chan_why.specs.declared.notes.Notes.{Notes}
-use Rattle.chan_why.specs.Hang.{IsFirstPlace, MayHang}
-use Rattle.chan_why.specs.Notes.{AreNotes}
-use Rattle.chan_walk.specs.declared.place.Place.{Place}
 use Rattle.chan_run.specs.declared.failure.Failure.{Failure}
 use Rattle.chan_run.specs.declared.failure.Failure.TheVariants as failures
 use Rattle.chan_run.specs.declared.image_options.ImageOptions.{ImageOptions}
 use Rattle.chan_run.specs.declared.outcome.Outcome.{Outcome}
-use Rattle.chan_run.specs.declared.outcome.Outcome.TheVariants.{Denied, Done, Failed, NoJob}
-use Rattle.chan_run.specs.declared.outcome.Outcome.TheVariants.{Refused}
-use Rattle.chan_args.specs.declared.action.Action.{Action}
-use Rattle.chan_args.specs.declared.action.Action.TheVariants as actions
-use Rattle.chan_run.specs.Name.{fronted, front_of, name_of}
-use Rattle.chan_run.specs.declared.name.Naming.{Naming}
-use Rattle.chan_run.specs.declared.status.RunError.{RunError}
-use Rattle.chan_run.specs.declared.status.Status.{Status}
+use Rattle.chan_run.specs.declared.outcome.Outcome.TheVariants.{Failed, NoJob}
 use Rattle.chan_run.specs.Image.{IsDeckAnswer, IsNoImage, IsWholeImage}
 use Rattle.chan_run.specs.ImageNote.{deck_note}
 use Rattle.chan_run.specs.NoJob.{IsNoJobText}
-use Rattle.chan_run.specs.Outcome.{IsEnd, has_advice, line_over, ran}
-use Rattle.chan_run.specs.Output.{Answer, IsInput, IsOfJob, IsRunAnswer, IsUnwritten}
-
--- what an input comes to that is named so: it was run over, and the output was flushed
-abbrev pub IsAnswered : Naming → Action → Option (List ℕ) → Option (List ℕ)
-    → Option (List ℕ) → Option (List ℕ) → Type 0 → Outcome → Type 0
-IsAnswered n a old_in new_in old new untouched end =
-    (came : Result Status RunError) × IsRunAnswer n a old_in new_in old new untouched came
-    × IsEnd (ran came) end
-
--- ---- what is said of an input
-
--- the text has the notes on the job, if there are any
-abbrev pub AreNotesSaid : Job → List ℕ → Type 0
-AreNotesSaid j text =
-    (n : Notes) × (hang : Option Place) × AreNotes j n × IsFirstPlace (MayHang j) hang
-    × ((text ≡ []) ↔ HasNoNote n hang)
-
--- the text has the note that the areas seem exchanged, if they do
-abbrev pub IsExchangeSaid : Job → Verdict → List ℕ → Type 0
-IsExchangeSaid j Yes text = text ≡ []
-IsExchangeSaid j (No a r) text =
-    (SeemsExchanged j (No a r) × (text ≡ exchange_note r))
-    ⊎ ((¬ SeemsExchanged j (No a r)) × (text ≡ []))
-
--- the text has what is said of a verdict: the notes after a yes, or that note after a no
-abbrev pub IsVerdictAdvice : Job → Verdict → List ℕ → Type 0
-IsVerdictAdvice j Yes text = AreNotesSaid j text
-IsVerdictAdvice j (No a r) text = IsExchangeSaid j (No a r) text
-
--- the advice on a job whose answer comes to this: the limit if too many places are reachable, and
--- what is said of its verdict
-abbrev pub IsJobAdvice : Job → Outcome → List ℕ → Type 0
-IsJobAdvice j (Failed failures.TooManyPlaces) advice = advice ≢ []
-IsJobAdvice j Done advice = AreNotesSaid j advice
-IsJobAdvice j Denied advice = (v : Verdict) × IsAnswer j v × IsExchangeSaid j v advice
-IsJobAdvice j end advice = Unit {0}
-
--- the advice on a text whose answer comes to this: the hint if the text isn't a deck, or the advice
--- on its job if its verdict is explained
-abbrev pub IsAdvice : Action → List ℕ → Outcome → List ℕ → Type 0
-IsAdvice a t (Refused line cause) advice = advice ≢ []
-IsAdvice (actions.Why all) t (Failed failures.TooManyPlaces) advice = advice ≢ []
-IsAdvice (actions.Why all) t Done advice = IsOfJob t (λ j. AreNotesSaid j advice)
-IsAdvice (actions.Why all) t Denied advice =
-    IsOfJob t (λ j. (v : Verdict) × IsAnswer j v × IsExchangeSaid j v advice)
-IsAdvice a t end advice = Unit {0}
-
--- what an answer comes to if its output is written
-abbrev pub came_of : Answer → Outcome
-came_of (Ok (status, output)) = ran (Ok status)
-came_of (Err e) = ran (Err e)
-
--- the advice on an input with this text, each line with the name in front if it is one of several
-abbrev pub IsNamedAdvice : Naming → Action → List ℕ → Outcome → List ℕ → Type 0
-IsNamedAdvice n a t end more =
-    (advice : List ℕ) × IsAdvice a t end advice × (more ≡ fronted (front_of n) true advice)
-
--- advice comes with what the action comes to on an input that is named so
-abbrev pub is_advised : Naming → Action → Outcome → Bool
-is_advised n a end = has_advice (is_some n.name) a end
-
--- this is said beside the line of an input that came to this: nothing if it has no advice, else the
--- advice on its text, or that memory ran out for it
-abbrev pub IsSaidBeside : Naming → Action → Option (List ℕ) → Option (List ℕ) → Outcome
-    → List ℕ → Type 0
-IsSaidBeside n a old_in new_in end more =
-    ((is_advised n a end ≡ false) × (more ≡ []))
-    ⊎ ((is_advised n a end ≡ true)
-    × (((t : List ℕ) × IsInput old_in new_in t × IsNamedAdvice n a t end more)
-    ⊎ (more ≡ line_over (name_of n) (Failed failures.OutOfMemory))))
-
--- what is said of advice, if it is wanted: its text, or that memory ran out for it
-abbrev pub IsAdviceSaid : {E : Type 0} → Option (List ℕ) → Bool → Result (Vec ℕ) E → List ℕ → Type 0
-IsAdviceSaid name false advice more = more ≡ []
-IsAdviceSaid name true (Ok text) more = more ≡ text.items
-IsAdviceSaid name true (Err e) more = more ≡ line_over name (Failed failures.OutOfMemory)
+use Rattle.chan_run.specs.Outcome.{IsEnd}
+use Rattle.chan_run.specs.Output.{IsUnwritten}
 
 -- a line was said, and behind it more, of which this holds; a prefix of both if a write failed
 pub record IsLineSaid (line : List ℕ) (IsMore : List ℕ → Type 0) (old new : Option (List ℕ))

@@ -13,7 +13,9 @@ pub mod OptionFault
 pub mod Image
 pub mod ImageNote
 pub mod NoJob
+pub mod Advice
 pub mod Answers
+pub mod Response
 pub mod Find
 pub mod OutputWords
 pub mod Meanings

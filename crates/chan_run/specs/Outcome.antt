@@ -3,8 +3,6 @@ use Rattle.std.specs.Prelude.{◌≡◌, ◌⊎◌, ◌++◌, ◌∷◌, ℕ, Bo
 use Rattle.std.specs.Prelude.{Option, Result, Ok, Err, codes}
 use Rattle.std.specs.Fmt.{decimal}
 use Rattle.ccw_core.specs.declared.watched.DeviceFault.{DeviceFault}
-use Rattle.chan_args.specs.declared.action.Action.{Action}
-use Rattle.chan_args.specs.declared.action.Action.TheVariants as actions
 use Rattle.chan_run.specs.declared.failure.Failure.TheVariants as failures
 use Rattle.chan_run.specs.declared.status.RunError.{RunError}
 use Rattle.chan_run.specs.declared.status.RunError.TheVariants as runs
@@ -36,6 +34,17 @@ ran (Err runs.TooManyPlaces) = Failed failures.TooManyPlaces
 ran (Err runs.Write) = Failed failures.WriteFailed
 ran (Err runs.Memory) = Failed failures.OutOfMemory
 
+-- a run over a deck ends so, if it doesn't fail to write
+abbrev pub IsRunEnd : Outcome → Type 0
+IsRunEnd Done = Unit {0}
+IsRunEnd Denied = Unit {0}
+IsRunEnd (Refused line cause) = Unit {0}
+IsRunEnd (Failed failures.ReadFailed) = Unit {0}
+IsRunEnd (Failed failures.DeckTooLong) = Unit {0}
+IsRunEnd (Failed failures.TooManyPlaces) = Unit {0}
+IsRunEnd (Failed failures.OutOfMemory) = Unit {0}
+IsRunEnd end = ⊥
+
 abbrev pub wrote : Result (Unit {0}) DeviceFault → Outcome
 wrote (Ok _) = Done
 wrote (Err fault) = Failed failures.WriteFailed
@@ -47,16 +56,6 @@ status_of (Refused line cause) = 2
 status_of (NoJob a r) = (row_of_failure failures.NoJobWillDo).status
 status_of (Unknown word) = (row_of_failure failures.NoSuchWord).status
 status_of (Failed failure) = (row_of_failure failure).status
-
--- advice comes with the explanation of a verdict and of too many reachable places; and on a text
--- that isn't a deck, if it is explained or the input has a name
-abbrev pub has_advice : Bool → Action → Outcome → Bool
-has_advice is_named (actions.Why all) Done = true
-has_advice is_named (actions.Why all) Denied = true
-has_advice is_named (actions.Why all) (Refused line cause) = true
-has_advice is_named (actions.Why all) (Failed failures.TooManyPlaces) = true
-has_advice is_named a (Refused line cause) = is_named
-has_advice is_named a end = false
 
 -- all was done that was asked for, so that the output is flushed
 abbrev pub IsDone : Outcome → Type 0

@@ -1,42 +1,38 @@
 //! Answering an input: what the program does with each.
 
 ghost use Rattle.std.specs.Prelude.{◌≡◌, ◌↔◌, ◌+◌, ◌≤◌, ◌^◌, false, length, true};
-ghost use Rattle.std.specs.Prelude.{◌++◌, [], IfOk, IsOkAnd, OnOk, if◌then◌else◌, option_map};
-ghost use Rattle.std.specs.Prelude.{string_bytes};
+ghost use Rattle.std.specs.Prelude.{option_map, string_bytes};
 ghost use Rattle.std.specs.Io.KnownBytes.{Appends};
 ghost use Rattle.ccw_core.specs.Written.{AppendsPrefix};
-ghost use Rattle.chan_run.specs.Answers.{IsAdviceSaid, IsAnswered, IsExplainedImage};
-ghost use Rattle.chan_run.specs.Answers.{IsImageHandled, IsLineSaid, IsSaidBeside};
-ghost use Rattle.chan_run.specs.Name.{front_of, fronted, name_in, name_of};
+ghost use Rattle.chan_run.specs.Answers.{IsExplainedImage, IsImageHandled, IsLineSaid};
+ghost use Rattle.chan_run.specs.Name.{name_in};
 ghost use Rattle.chan_run.specs.Outcome.{IsDone, IsWriteFailure, line_over};
+ghost use Rattle.chan_run.specs.Response.{IsAnswered};
 ghost use Rattle.chan_run.specs.declared.failure.Failure.TheVariants as failures;
 ghost use Rattle.chan_run.specs.declared.outcome.Outcome.TheVariants.{Failed};
 
+use crate::delivery::deliver;
 use crate::failure::Failure;
 use crate::image::{read_image, write_image_of};
 use crate::image_note::deck_note;
 use crate::image_options::ImageOptions;
-use crate::name::{Naming, named};
+use crate::name::Naming;
 use crate::no_job::no_job_text;
-use crate::outcome::{Outcome, conclude, flushed, has_advice, write_line};
-use crate::status::{Advice, answer_text, read_text, write_answer};
-use ccw_core::{DeviceFault, Watched, write_out};
+use crate::outcome::{Outcome, conclude};
+use crate::status::respond_to;
+use ccw_core::{Watched, write_out};
 use chan_args::Action;
-use std::alloc::{AllocError, Global};
+use std::alloc::Global;
 use std::io::{Read, Write};
 
 /// Answers an input that is named so, and says what came of it.
 ///
-/// On the first writer stands what `run` writes, and it is flushed where all of it was written. For
-/// `Verify` and `Why` the name, a colon and a space come before it; for `List` and `Needs` over one
-/// of several inputs, a line with its name and a colon. On the second stands the outcome's line, as
-/// `report` writes it. If the text is no deck, the hint follows for `Why` and for any input with a
-/// name. For `Why` the notes on the job follow where the verdict is yes, and the limit where too
-/// many places are reachable. Over one of several inputs each of these lines begins with its name.
-/// In their place may come the line that memory ran out, which doesn't change the outcome.
+/// On the first writer stands the output of `respond`, and it is flushed where all of it was
+/// written. On the second stands the outcome's line, as `report` writes it, and the advice behind
+/// it; in its place may come the line that memory ran out, which doesn't change the outcome.
 ///
-/// The input is read once and its job walked once. The outcome is what `run` came to, or a failed
-/// write. A second writer that fails doesn't change it, and a prefix was written there.
+/// The input is read once. The outcome is that of `respond`, or why the input wasn't read, or a
+/// failed write. A second writer that fails doesn't change it, and a prefix was written there.
 pub fn answer<R: Read, W: Write, E: Write>(
     alloc: Global,
     naming: Naming<'_>,
@@ -50,80 +46,14 @@ pub fn answer<R: Read, W: Write, E: Write>(
     requires errors { errors.old.failed ≡ false }
     ensures answer { IsAnswered naming.entry action (R.remaining from.old.device)
         (R.remaining from.new.device) (W.contents to.old.device) (W.contents to.new.device)
-        (to.new ≡ to.old) result }
-    ensures told { IsLineSaid (line_over (name_of naming.entry) result)
-        (IsSaidBeside naming.entry action (R.remaining from.old.device)
-        (R.remaining from.new.device) result)
-        (E.contents errors.old.device) (E.contents errors.new.device) errors.new.failed }
+        (E.contents errors.old.device) (E.contents errors.new.device) errors.new.failed result }
+    ensures early { (IsDone result → ⊥) → (IsWriteFailure result → ⊥) → to.new ≡ to.old }
     ensures flushed { IsDone result → to.new.flushed ≡ true }
     ensures read { result ≡ Failed failures.ReadFailed ↔ (from.new.failed ≡ true) }
     ensures write { IsWriteFailure result ↔ (to.new.failed ≡ true) }
 {
-    let text = match read_text(alloc, from) {
-        Ok(text) => text,
-        Err(error) => return conclude(naming.name, Outcome::of_run(Err(error)), &[], to, errors),
-    };
-    let is_named = naming.name.is_some();
-    let asked = is_named || action.is_why();
-    let (answer, advice) = answer_text(alloc, naming, action, asked, text.as_slice());
-    let advice = named_advice(alloc, naming, advice);
-    let came = write_answer(alloc, answer, to);
-    let outcome = flushed(Outcome::of_run(came), to);
-    let is_advised = has_advice(is_named, action, outcome);
-    let _ = tell(naming.name, outcome, is_advised, advice, errors);
-    outcome
-}
-
-/// Advice with the name of one of several inputs before each line.
-fn named_advice(alloc: Global, naming: Naming<'_>, advice: Advice) -> Advice
-    ensures { IfOk result (λ text. IsOkAnd advice (λ plain.
-        text.items ≡ fronted (front_of naming.entry) true plain.items)) }
-{
-    let mut text = Vec::new(alloc);
-    let mut begins = true;
-    for byte in &advice? {
-        push_front(&mut text, naming, begins)?;
-        text.push(*byte)?;
-        begins = *byte == b'\n';
-    }
-    Ok(text)
-}
-
-/// Adds what a line beside the answer begins with, if one begins here.
-fn push_front(text: &mut Vec<u8>, naming: Naming<'_>, begins: bool) -> Result<(), AllocError>
-    ensures { OnOk result (text.new.items
-        ≡ text.old.items ++ (if begins then front_of naming.entry else [])) }
-{
-    if begins {
-        let (name, mark) = named(naming.name, naming.is_among);
-        text.extend_from_slice(name.as_bytes())?;
-        text.extend_from_slice(mark.as_bytes())?;
-    }
-    Ok(())
-}
-
-/// Writes the line of an outcome and, if the outcome has advice, that behind it, or the line that
-/// memory ran out for it.
-fn tell<E: Write>(
-    name: Option<&str>,
-    outcome: Outcome,
-    is_advised: bool,
-    advice: Advice,
-    errors: &mut Watched<E>,
-) -> Result<(), DeviceFault>
-    requires { errors.old.failed ≡ false }
-    ensures { IsLineSaid (line_over (name_in name.entry) outcome)
-        (IsAdviceSaid (name_in name.entry) is_advised advice)
-        (E.contents errors.old.device) (E.contents errors.new.device) errors.new.failed }
-{
-    write_line(name, outcome, errors)?;
-    if !is_advised {
-        return Ok(());
-    }
-    match advice {
-        Ok(text) => write_out(text.as_slice(), errors),
-        Err(AllocError) => write_line(name, Outcome::Failed(Failure::OutOfMemory), errors),
-    }
+    let response = respond_to(alloc, naming, action, from);
+    deliver(naming.name, &response, to, errors)
 }
 
 /// What is said of a deck for which no device is named.

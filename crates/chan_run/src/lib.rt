@@ -20,6 +20,7 @@
 mod advice;
 mod answers;
 mod bases;
+mod delivery;
 mod failure;
 mod find;
 mod image;
@@ -40,12 +41,14 @@ mod options;
 mod outcome;
 mod output;
 mod output_words;
+mod response;
 mod status;
 mod terms;
 mod texts;
 mod word;
 
 pub use crate::answers::{answer, answer_image, note_usual_device};
+pub use crate::delivery::deliver;
 pub use crate::failure::Failure;
 pub use crate::find::find_programs;
 pub use crate::image_options::{ImageOptions, OptionError, OptionFault};
@@ -58,6 +61,7 @@ pub use crate::option_fault::{
 };
 pub use crate::option_values::options_of;
 pub use crate::outcome::{Outcome, conclude, ends_run, exit_status, greater_status, report};
+pub use crate::response::{Response, respond};
 pub use crate::status::{RunError, Status, run};
 pub use crate::terms::Term;
 pub use crate::word::{shown_word, word_of};

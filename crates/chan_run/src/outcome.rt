@@ -6,21 +6,19 @@ ghost use Rattle.std.specs.Io.KnownBytes.{Appends, Keeps};
 ghost use Rattle.ccw_core.specs.Written.{AppendsPrefix};
 ghost use Rattle.chan_run.specs.Failure.{row_of_failure};
 ghost use Rattle.chan_run.specs.Name.{name_in};
-ghost use Rattle.chan_run.specs.Outcome.{IsDone, IsEnd, IsWriteFailure, has_advice, line_over, ran};
+ghost use Rattle.chan_run.specs.Outcome.{IsDone, IsEnd, IsWriteFailure, line_over};
 ghost use Rattle.chan_run.specs.Outcome.{shown, status_of, wrote};
-ghost use Rattle.chan_run.specs.declared.failure.Failure.TheVariants as failures;
+ghost use Rattle.chan_run.specs.Response.{outcome_of};
 ghost use Rattle.chan_run.specs.declared.outcome.Outcome.TheVariants.{Done, Failed, Refused};
 
 use crate::failure::{Failure, row};
 use crate::name::named;
 use crate::one_ccw::ShowError;
-use crate::status::{RunError, Status};
 use crate::terms::cause_word;
 use crate::texts::write_texts;
 use ccw_core::{DeviceFault, Watched, write_out};
-use chan_args::Action;
 use chan_deck::Cause;
-use chan_walk::Reason;
+use chan_walk::{Reason, Verdict};
 use itoa::Buffer;
 use std::alloc::AllocError;
 use std::io::Write;
@@ -60,21 +58,13 @@ impl Outcome {
         }
     }
 
-    /// What `run` came to.
-    pub fn of_run(answer: Result<Status, RunError>) -> Outcome
-        ensures is { result ≡ ran answer }
-        ensures read { result ≡ Failed failures.ReadFailed ↔ IsErrOf answer RunError.Read }
-        ensures write { IsWriteFailure result ↔ IsErrOf answer RunError.Write }
+    /// What an answer comes to that has this verdict.
+    pub(crate) fn of_verdict(verdict: Verdict) -> Outcome
+        ensures { result ≡ outcome_of verdict }
     {
-        match answer {
-            Ok(Status::Yes) => Outcome::Done,
-            Ok(Status::No) => Outcome::Denied,
-            Err(RunError::Read) => Outcome::Failed(Failure::ReadFailed),
-            Err(RunError::TooLong) => Outcome::Failed(Failure::DeckTooLong),
-            Err(RunError::Deck { line, cause }) => Outcome::Refused { line, cause },
-            Err(RunError::TooManyPlaces) => Outcome::Failed(Failure::TooManyPlaces),
-            Err(RunError::Write) => Outcome::Failed(Failure::WriteFailed),
-            Err(RunError::Memory) => Outcome::Failed(Failure::OutOfMemory),
+        match verdict {
+            Verdict::Yes => Outcome::Done,
+            Verdict::No { .. } => Outcome::Denied,
         }
     }
 
@@ -128,24 +118,6 @@ pub fn ends_run(outcome: Outcome) -> bool
     matches!(outcome, Outcome::Failed(Failure::WriteFailed))
 }
 
-/// Whether advice follows the answer of an action: it does for the explanation of a verdict, and of
-/// too many reachable places; and for a text that isn't a deck, if it is explained or has a name.
-pub(crate) fn has_advice(is_named: bool, action: Action, outcome: Outcome) -> bool
-    ensures { result ≡ has_advice is_named action outcome }
-{
-    match (action, outcome) {
-        (
-            Action::Why { .. },
-            Outcome::Done
-            | Outcome::Denied
-            | Outcome::Refused { .. }
-            | Outcome::Failed(Failure::TooManyPlaces),
-        ) => true,
-        (_, Outcome::Refused { .. }) => is_named,
-        _ => false,
-    }
-}
-
 /// Ends a command that came to this outcome, and gives its final outcome. It takes no memory.
 ///
 /// If all was done, it flushes the output; the outcome is a failed write if the flush fails. Then
@@ -177,7 +149,7 @@ pub fn conclude<W: Write, E: Write>(
 }
 
 /// Flushes the output if all was done, and gives the outcome with which the command then ends.
-pub(crate) fn flushed<W: Write>(outcome: Outcome, to: &mut Watched<W>) -> Outcome
+fn flushed<W: Write>(outcome: Outcome, to: &mut Watched<W>) -> Outcome
     requires { IsWriteFailure outcome ↔ (to.old.failed ≡ true) }
     ensures end { IsEnd outcome result }
     ensures flushed { IsDone result → to.new.flushed ≡ true }
@@ -192,7 +164,7 @@ pub(crate) fn flushed<W: Write>(outcome: Outcome, to: &mut Watched<W>) -> Outcom
 }
 
 /// Whether all was done that was asked for.
-fn is_done(outcome: Outcome) -> bool
+pub(crate) fn is_done(outcome: Outcome) -> bool
     ensures { IsTrue result ↔ IsDone outcome }
 {
     matches!(outcome, Outcome::Done | Outcome::Denied)

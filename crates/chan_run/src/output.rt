@@ -1,60 +1,20 @@
-//! What an action asks for of a job that was judged, and how it is written.
+//! What an action asks for of a job that was judged.
 
-ghost use Rattle.std.specs.Prelude.{◌≡◌, ◌↔◌, ◌++◌, false, true, IfOk, IsErrOf, OnOk, string_bytes};
-ghost use Rattle.std.specs.Io.KnownBytes.{Appends};
-ghost use Rattle.ccw_core.specs.Written.{AppendsPrefix};
+ghost use Rattle.std.specs.Prelude.{◌≡◌, ◌++◌, true, IfOk, string_bytes};
+ghost use Rattle.chan_deck.specs.Listing.{seen_listing};
 ghost use Rattle.chan_walk.specs.Offence.{first_verdict};
 ghost use Rattle.chan_walk.specs.JobSurvey.{IsSurvey};
-ghost use Rattle.chan_run.specs.Name.{name_before, name_in};
-ghost use Rattle.chan_run.specs.Output.{AreTold, IsExplained, IsListing, IsNeeded, IsOutput};
-ghost use Rattle.chan_run.specs.Output.{text_in};
+ghost use Rattle.chan_run.specs.Name.{heading_of, name_before, name_in};
+ghost use Rattle.chan_run.specs.Output.{AreTold, IsAskedText, IsExplained, IsNeeded};
 
 use crate::name::{Naming, heading_of};
-use ccw_core::{Watched, write_out};
+use ccw_core::Watched;
 use chan_args::Action;
-use chan_deck::{
-    ListError, Picture, explanation_text, graph_text, needs_text, verdict_text, write_seen,
-};
+use chan_deck::{Picture, explanation_text, graph_text, needs_text, verdict_text, write_seen};
 use chan_needs::needs_from;
 use chan_walk::{Evidence, Job, Look, Survey, Verdict};
 use chan_why::{causes_from, witness_from};
 use std::alloc::{AllocError, Global};
-use std::io::Write;
-
-/// What is answered.
-#[derive(Drop)]
-pub(crate) enum Output {
-    /// A text.
-    Text(Vec<u8>),
-    /// The listing of these looks and this verdict behind a heading. No text of it is held.
-    Listing(Vec<u8>, Vec<Look>, Verdict),
-}
-
-/// Writes an output: a text with one write, a listing piece by piece.
-///
-/// `Write` comes exactly if a write failed, and `Memory` only for a listing. After both a prefix
-/// was written.
-pub(crate) fn write_output<W: Write>(
-    alloc: Global,
-    output: &Output,
-    to: &mut Watched<W>,
-) -> Result<(), ListError>
-    requires { to.old.failed ≡ false }
-    ensures ok { OnOk result (Appends (W.contents to.old.device) (W.contents to.new.device)
-        (text_in output.now)) }
-    ensures prefix { AppendsPrefix (W.contents to.old.device) (W.contents to.new.device)
-        (text_in output.now) }
-    ensures write { IsErrOf result ListError.Write ↔ (to.new.failed ≡ true) }
-    ensures memory { IsErrOf result ListError.Memory → IsListing output.now }
-{
-    match output {
-        Output::Text(text) => Ok(write_out(text.as_slice(), to)?),
-        Output::Listing(heading, looks, verdict) => {
-            write_out(heading.as_slice(), to)?;
-            write_seen(alloc, looks.as_slice(), *verdict, to)
-        }
-    }
-}
 
 /// What an action asks for of a job that was surveyed, whose input is named so.
 pub(crate) fn output_of(
@@ -63,33 +23,49 @@ pub(crate) fn output_of(
     action: Action,
     job: &Job,
     survey: Survey,
-) -> Result<Output, AllocError>
+) -> Result<Vec<u8>, AllocError>
     requires { IsSurvey job.now survey }
-    ensures { IfOk result (IsOutput naming.entry action job.now
-        (first_verdict survey.offences)) }
+    ensures { IfOk result (λ text. IsAskedText naming.entry action job.now
+        (first_verdict survey.offences) text.items) }
 {
     match action {
         Action::Verify => {
             let line = verdict_text(alloc, survey.verdict())?;
-            Ok(Output::Text(text_after(alloc, naming.name, line)?))
+            text_after(alloc, naming.name, line)
         }
         Action::List => {
-            let heading = heading_of(alloc, naming)?;
             let verdict = survey.verdict();
             let (looks, _offences) = survey.into_parts();
-            Ok(Output::Listing(heading, looks, verdict))
+            listing_text(alloc, naming, looks.as_slice(), verdict)
         }
         Action::Why { all } => {
             let why = why_text(alloc, all, job, &survey)?;
-            Ok(Output::Text(text_after(alloc, naming.name, why)?))
+            text_after(alloc, naming.name, why)
         }
         Action::Needs => {
             let mut text = heading_of(alloc, naming)?;
             let needed = needed_text(alloc, job, &survey)?;
             text.extend_from_slice(needed.as_slice())?;
-            Ok(Output::Text(text))
+            Ok(text)
         }
-        Action::Graph => Ok(Output::Text(picture_of(alloc, naming.name, job, survey)?)),
+        Action::Graph => picture_of(alloc, naming.name, job, survey),
+    }
+}
+
+/// The listing of these looks and this verdict behind its heading.
+fn listing_text(
+    alloc: Global,
+    naming: Naming<'_>,
+    looks: &[Look],
+    verdict: Verdict,
+) -> Result<Vec<u8>, AllocError>
+    ensures { IfOk result (λ text. text.items
+        ≡ heading_of naming.entry ++ seen_listing looks.now verdict) }
+{
+    let mut text = Watched::new(heading_of(alloc, naming)?);
+    match write_seen(alloc, looks, verdict, &mut text) {
+        Ok(()) => Ok(text.into_inner()),
+        Err(_) => Err(AllocError),
     }
 }
 

@@ -1,0 +1,138 @@
+-- What is answered to an input: the outcome, and the bytes for each of two writers.
+use Rattle.std.specs.Prelude.{◌≡◌, ◌≢◌, ◌⊎◌, ◌++◌, ◌||◌, ℕ, Bool, false, true, List, [], Option}
+use Rattle.std.specs.Prelude.{None, Some, is_some, option_map}
+use Rattle.std.specs.Global.{Vec}
+use Rattle.std.specs.Io.KnownBytes.{Appends}
+use Rattle.ccw_core.specs.Written.{AppendsPrefix}
+use Rattle.chan_args.specs.Actions.{is_why}
+use Rattle.chan_args.specs.declared.action.Action.{Action}
+use Rattle.chan_deck.specs.Refused.{IsRefused}
+use Rattle.chan_deck.specs.declared.cause.Cause.{Cause}
+use Rattle.chan_walk.specs.Answers.{IsAnswer}
+use Rattle.chan_walk.specs.Places.{HasMoreThan}
+use Rattle.chan_walk.specs.declared.job.Job.{Job}
+use Rattle.chan_walk.specs.declared.verdict.Verdict.{Verdict}
+use Rattle.chan_walk.specs.declared.verdict.Verdict.TheVariants.{Yes, No}
+use Rattle.chan_run.specs.Advice.{IsVerdictAdvice}
+use Rattle.chan_run.specs.Input.{IsInput, IsReadFault}
+use Rattle.chan_run.specs.Name.{front_of, fronted, name_of}
+use Rattle.chan_run.specs.Outcome.{IsDone, line_over}
+use Rattle.chan_run.specs.Output.{IsAskedText, IsOfJob, Judges}
+use Rattle.chan_run.specs.declared.failure.Failure.{Failure}
+use Rattle.chan_run.specs.declared.failure.Failure.TheVariants as failures
+use Rattle.chan_run.specs.declared.name.Naming.{Naming}
+use Rattle.chan_run.specs.declared.outcome.Outcome.{Outcome}
+use Rattle.chan_run.specs.declared.outcome.Outcome.TheVariants.{Denied, Done, Failed, Refused}
+use Rattle.chan_run.specs.declared.response.Response.{Response}
+
+-- ---- the answer to a text
+
+-- the bytes of a text that there may be
+abbrev pub bytes_in : Option (Vec ℕ) → Option (List ℕ)
+bytes_in = option_map (λ text. text.items)
+
+-- this is said beside an answer: advice, with the name before each line, or that memory ran out for
+-- it; and nothing where none is wanted
+abbrev pub IsBeside : Naming → Bool → (List ℕ → Type 0) → Option (List ℕ) → Type 0
+IsBeside n false IsAdvice said = said ≡ Some []
+IsBeside n true IsAdvice None = Unit {0}
+IsBeside n true IsAdvice (Some text) =
+    (advice : List ℕ) × IsAdvice advice × (text ≡ fronted (front_of n) true advice)
+
+-- only this outcome
+pub record IsBare (end : Outcome) (r : Response) : Type 0 where
+  pub outcome : r.outcome ≡ end
+  pub output : r.output.items ≡ []
+  pub advice : bytes_in r.advice ≡ Some []
+
+abbrev pub outcome_of : Verdict → Outcome
+outcome_of Yes = Done
+outcome_of (No address reason) = Denied
+
+-- the job was judged: the output is what the action asks for, with advice if it is explained
+pub record IsJudged (n : Naming) (a : Action) (j : Job) (r : Response) : Type 0 where
+  pub verdict : Verdict
+  pub is : IsAnswer j verdict
+  pub outcome : r.outcome ≡ outcome_of verdict
+  pub output : IsAskedText n a j verdict r.output.items
+  pub advice : IsBeside n (is_why a) (IsVerdictAdvice j verdict) (bytes_in r.advice)
+
+-- too many places are reachable
+pub record IsUnjudged (n : Naming) (a : Action) (j : Job) (r : Response) : Type 0 where
+  pub many : HasMoreThan j j.limit
+  pub outcome : r.outcome ≡ Failed failures.TooManyPlaces
+  pub output : r.output.items ≡ []
+  pub advice : IsBeside n (is_why a) (λ advice. advice ≢ []) (bytes_in r.advice)
+
+-- the text isn't a deck; the hint comes if it is explained or has a name
+pub record IsRefusal (n : Naming) (a : Action) (t : List ℕ) (r : Response) : Type 0 where
+  pub line : ℕ
+  pub cause : Cause
+  pub refused : IsRefused t line cause
+  pub outcome : r.outcome ≡ Refused line cause
+  pub output : r.output.items ≡ []
+  pub advice : IsBeside n (is_some n.name || is_why a) (λ hint. hint ≢ []) (bytes_in r.advice)
+
+-- the answer to what an action asks of a job: that of the job that it judges
+abbrev pub IsOnJob : Naming → Action → Job → Response → Type 0
+IsOnJob n a j r = (k : Job) × Judges a j k × (IsJudged n a k r ⊎ IsUnjudged n a k r)
+
+-- the answer to what an action asks of a text, where memory lasts
+abbrev pub IsAnswerTo : Naming → Action → List ℕ → Response → Type 0
+IsAnswerTo n a t r = IsRefusal n a t r ⊎ IsOfJob t (λ j. IsOnJob n a j r)
+
+-- the answer to what an action asks of a text
+abbrev pub IsResponse : Naming → Action → List ℕ → Response → Type 0
+IsResponse n a t r = IsBare (Failed failures.OutOfMemory) r ⊎ IsAnswerTo n a t r
+
+-- the answer to an input: to its text, or why that wasn't read
+abbrev pub IsInputResponse : Naming → Action → Option (List ℕ) → Option (List ℕ) → Response → Type 0
+IsInputResponse n a old new r =
+    ((t : List ℕ) × IsInput old new t × IsResponse n a t r)
+    ⊎ ((failure : Failure) × IsReadFault old new failure × IsBare (Failed failure) r)
+
+-- ---- its delivery
+
+-- the output was written if there is an answer, or a write failed and a prefix was
+abbrev pub IsPut : Response → Option (List ℕ) → Option (List ℕ) → Outcome → Type 0
+IsPut r old new end =
+    ((end ≡ r.outcome) × (IsDone end → Appends old new r.output.items))
+    ⊎ ((end ≡ Failed failures.WriteFailed) × IsDone r.outcome
+    × AppendsPrefix old new r.output.items)
+
+-- these bytes were written, or where a write failed a prefix of them
+abbrev pub IsSaid : List ℕ → Option (List ℕ) → Option (List ℕ) → Bool → Type 0
+IsSaid bytes old new failed =
+    (failed ≡ false → Appends old new bytes) × AppendsPrefix old new bytes
+
+-- what is said of advice: its text, or the line that memory ran out for it
+abbrev pub advice_bytes : Option (List ℕ) → Option (List ℕ) → List ℕ
+advice_bytes name None = line_over name (Failed failures.OutOfMemory)
+advice_bytes name (Some text) = text
+
+-- the line of an answer, and what is said beside it
+abbrev pub said_of : Option (List ℕ) → Response → List ℕ
+said_of name r = line_over name r.outcome ++ advice_bytes name (bytes_in r.advice)
+
+-- the answer was put on one writer and told on another, or the first one failed and that was told
+abbrev pub IsDelivered : Option (List ℕ) → Response → Option (List ℕ) → Option (List ℕ)
+    → Option (List ℕ) → Option (List ℕ) → Bool → Outcome → Type 0
+IsDelivered name r old new old_errors new_errors failed end =
+    IsPut r old new end
+    × (((end ≡ r.outcome) × IsSaid (said_of name r) old_errors new_errors failed)
+    ⊎ ((end ≡ Failed failures.WriteFailed)
+    × IsSaid (line_over name (Failed failures.WriteFailed)) old_errors new_errors failed))
+
+-- what a run over an input that is named so comes to: its answer was put on the writer
+abbrev pub IsRun : Naming → Action → Option (List ℕ) → Option (List ℕ)
+    → Option (List ℕ) → Option (List ℕ) → Outcome → Type 0
+IsRun n a old_in new_in old new end =
+    (r : Response) × IsInputResponse n a old_in new_in r × IsPut r old new end
+
+-- what an input comes to that is named so: its answer was delivered
+abbrev pub IsAnswered : Naming → Action → Option (List ℕ) → Option (List ℕ)
+    → Option (List ℕ) → Option (List ℕ) → Option (List ℕ) → Option (List ℕ) → Bool → Outcome
+    → Type 0
+IsAnswered n a old_in new_in old new old_errors new_errors failed end =
+    (r : Response) × IsInputResponse n a old_in new_in r
+    × IsDelivered (name_of n) r old new old_errors new_errors failed end

@@ -1,0 +1,97 @@
+//! Delivering an answer: the only place that writes one.
+
+ghost use Rattle.std.specs.Prelude.{◌≡◌, ◌↔◌, ◌++◌, false, true, IfErr, IfOk, IsErr, OnOk};
+ghost use Rattle.std.specs.Io.KnownBytes.{Appends};
+ghost use Rattle.ccw_core.specs.Written.{AppendsPrefix};
+ghost use Rattle.chan_run.specs.Name.{name_in};
+ghost use Rattle.chan_run.specs.Outcome.{IsDone, IsWriteFailure};
+ghost use Rattle.chan_run.specs.Response.{IsDelivered, IsPut, IsSaid, said_of};
+ghost use Rattle.chan_run.specs.declared.failure.Failure.TheVariants as failures;
+ghost use Rattle.chan_run.specs.declared.outcome.Outcome.TheVariants.{Failed};
+
+use crate::failure::Failure;
+use crate::outcome::{Outcome, is_done, report, write_line};
+use crate::response::Response;
+use ccw_core::{DeviceFault, Watched, write_out};
+use std::io::Write;
+
+/// Writes an answer over an input that may have a name, and says what came of it. It takes no
+/// memory.
+///
+/// If all was done, the output is written and flushed; the outcome is a failed write if that fails.
+/// Then it writes the outcome's line, as `report` does, and the advice behind it, or the line that
+/// memory ran out for that. After a failed write only its line is written.
+pub fn deliver<W: Write, E: Write>(
+    name: Option<&str>,
+    response: &Response,
+    to: &mut Watched<W>,
+    errors: &mut Watched<E>,
+) -> Outcome
+    requires writer { to.old.failed ≡ false }
+    requires errors { errors.old.failed ≡ false }
+    requires unwritten { IsWriteFailure response.now.outcome → ⊥ }
+    ensures delivered { IsDelivered (name_in name.entry) response.now
+        (W.contents to.old.device) (W.contents to.new.device)
+        (E.contents errors.old.device) (E.contents errors.new.device) errors.new.failed result }
+    ensures early { (IsDone response.now.outcome → ⊥) → to.new ≡ to.old }
+    ensures flushed { IsDone result → to.new.flushed ≡ true }
+    ensures write { IsWriteFailure result ↔ (to.new.failed ≡ true) }
+{
+    if is_done(response.outcome) && put(response.output.as_slice(), to).is_err() {
+        let failed = Outcome::Failed(Failure::WriteFailed);
+        report(name, failed, errors);
+        return failed;
+    }
+    let _ = tell(name, response, errors);
+    response.outcome
+}
+
+/// Writes the output of an answer, if all was done.
+pub(crate) fn write_output<W: Write>(
+    response: &Response,
+    to: &mut Watched<W>,
+) -> Result<(), DeviceFault>
+    requires { to.old.failed ≡ false }
+    ensures put { IfOk result (λ _. IsPut response.now (W.contents to.old.device)
+        (W.contents to.new.device) response.now.outcome) }
+    ensures broken { IfErr result (λ _. IsPut response.now (W.contents to.old.device)
+        (W.contents to.new.device) (Failed failures.WriteFailed)) }
+    ensures early { (IsDone response.now.outcome → ⊥) → to.new ≡ to.old }
+    ensures fault { IsErr result ↔ (to.new.failed ≡ true) }
+{
+    if is_done(response.outcome) {
+        return write_out(response.output.as_slice(), to);
+    }
+    Ok(())
+}
+
+/// Writes an output and flushes it.
+fn put<W: Write>(output: &[u8], to: &mut Watched<W>) -> Result<(), DeviceFault>
+    requires { to.old.failed ≡ false }
+    ensures ok { OnOk result (Appends (W.contents to.old.device) (W.contents to.new.device)
+        output.now) }
+    ensures prefix { AppendsPrefix (W.contents to.old.device) (W.contents to.new.device)
+        output.now }
+    ensures flushed { OnOk result (to.new.flushed ≡ true) }
+    ensures fault { IsErr result ↔ (to.new.failed ≡ true) }
+{
+    write_out(output, to)?;
+    to.flush()
+}
+
+/// Writes the line of an answer and, behind it, the advice or the line that memory ran out for it.
+fn tell<E: Write>(
+    name: Option<&str>,
+    response: &Response,
+    errors: &mut Watched<E>,
+) -> Result<(), DeviceFault>
+    requires { errors.old.failed ≡ false }
+    ensures { IsSaid (said_of (name_in name.entry) response.now)
+        (E.contents errors.old.device) (E.contents errors.new.device) errors.new.failed }
+{
+    write_line(name, response.outcome, errors)?;
+    match &response.advice {
+        Some(text) => write_out(text.as_slice(), errors),
+        None => write_line(name, Outcome::Failed(Failure::OutOfMemory), errors),
+    }
+}

@@ -1,0 +1,156 @@
+//! What is answered to a text, before anything is written.
+
+ghost use Rattle.std.specs.Prelude.{◌⊎◌, IfOk};
+ghost use Rattle.chan_deck.specs.Refused.{IsRefused};
+ghost use Rattle.chan_run.specs.Output.{IsOfJob};
+ghost use Rattle.chan_run.specs.Response.{IsAnswerTo, IsBare, IsJudged, IsOnJob, IsRefusal};
+ghost use Rattle.chan_run.specs.Response.{IsResponse, IsUnjudged};
+ghost use Rattle.chan_run.specs.declared.failure.Failure.TheVariants as failures;
+ghost use Rattle.chan_run.specs.declared.outcome.Outcome.TheVariants.{Failed};
+
+use crate::advice::{hint_beside, limit_beside, said_beside};
+use crate::failure::Failure;
+use crate::name::Naming;
+use crate::outcome::Outcome;
+use crate::output::output_of;
+use ccw_core::Storage;
+use chan_args::Action;
+use chan_deck::{Cause, DeckError, read_deck};
+use chan_walk::{Job, OpenJob, WalkError, survey};
+use std::alloc::{AllocError, Global};
+
+/// What is answered, for a writer and for another one.
+#[derive(Drop)]
+pub struct Response {
+    /// How it ends if all is written. Its line goes to the second writer.
+    pub outcome: Outcome,
+    /// What goes to the first writer if all was done.
+    pub output: Vec<u8>,
+    /// What follows the outcome's line; `None` if memory ran out for it, which is said then.
+    pub advice: Option<Vec<u8>>,
+}
+
+impl Response {
+    /// An outcome without an output or advice. It takes no memory.
+    pub(crate) fn bare(alloc: Global, outcome: Outcome) -> Response
+        ensures { IsBare outcome result }
+    {
+        Response {
+            outcome,
+            output: Vec::new(alloc),
+            advice: Some(Vec::new(alloc)),
+        }
+    }
+}
+
+/// The answer to what an action asks of a text, over an input that is named so. The text is read
+/// once and its job walked once.
+///
+/// The output is the verdict's line, the listing, the explanation, the picture or what is needed.
+/// For `Verify` and `Why` the name, a colon and a space come before it; for `List` and `Needs` over
+/// one of several inputs, a line with its name and a colon. The advice is, if the text is no deck,
+/// the hint for `Why` and for any input with a name; for `Why` the notes on the job, and the limit
+/// where too many places are reachable. Over one of several inputs each of its lines begins with
+/// its name. Where memory runs out, there is no output.
+pub fn respond(alloc: Global, naming: Naming<'_>, action: Action, text: &[u8]) -> Response
+    ensures { IsResponse naming.entry action text.now result }
+{
+    match answer_to(alloc, naming, action, text) {
+        Ok(response) => response,
+        Err(AllocError) => Response::bare(alloc, Outcome::Failed(Failure::OutOfMemory)),
+    }
+}
+
+/// The answer to what an action asks of a text, where memory lasts.
+fn answer_to(
+    alloc: Global,
+    naming: Naming<'_>,
+    action: Action,
+    text: &[u8],
+) -> Result<Response, AllocError>
+    ensures { IfOk result (IsAnswerTo naming.entry action text.now) }
+{
+    let deck = match read_deck(alloc, text) {
+        Ok(deck) => deck,
+        Err(DeckError::At { line, cause }) => {
+            return Ok(refusal(alloc, naming, action, text, line, cause));
+        }
+        Err(DeckError::Memory) => return Err(AllocError),
+    };
+    let job = deck.job();
+
+    // The borrow checker asks for the type of what a job borrows.
+    let _storage: Storage<'_> = job.storage;
+    answer_on(alloc, naming, action, &job)
+}
+
+/// The answer over a text that is no deck.
+fn refusal(
+    alloc: Global,
+    naming: Naming<'_>,
+    action: Action,
+    text: &[u8],
+    line: u64,
+    cause: Cause,
+) -> Response
+    requires { IsRefused text.now line cause }
+    ensures { IsRefusal naming.entry action text.now result }
+{
+    Response {
+        outcome: Outcome::Refused { line, cause },
+        output: Vec::new(alloc),
+        advice: hint_beside(alloc, naming, action, text, line, cause),
+    }
+}
+
+/// The answer to what an action asks of a job: that of the job that it judges.
+fn answer_on(
+    alloc: Global,
+    naming: Naming<'_>,
+    action: Action,
+    job: &Job,
+) -> Result<Response, AllocError>
+    ensures { IfOk result (IsOnJob naming.entry action job.now) }
+{
+    match action {
+        Action::Needs => match OpenJob::of(alloc, job) {
+            Ok(open) => {
+                let open_job = open.job();
+                answer_of(alloc, naming, Action::Needs, &open_job)
+            }
+            Err(_) => Err(AllocError),
+        },
+        _ => answer_of(alloc, naming, action, job),
+    }
+}
+
+/// The answer to what an action asks of a job that it judges.
+fn answer_of(
+    alloc: Global,
+    naming: Naming<'_>,
+    action: Action,
+    job: &Job,
+) -> Result<Response, AllocError>
+    ensures { IfOk result (λ r. IsJudged naming.entry action job.now r
+        ⊎ IsUnjudged naming.entry action job.now r) }
+{
+    let survey = match survey(alloc, job) {
+        Ok(survey) => survey,
+        Err(WalkError::TooManyPlaces) => {
+            return Ok(Response {
+                outcome: Outcome::Failed(Failure::TooManyPlaces),
+                output: Vec::new(alloc),
+                advice: limit_beside(alloc, naming, action, job.limit),
+            });
+        }
+        Err(WalkError::Memory) => return Err(AllocError),
+    };
+    let outcome = Outcome::of_verdict(survey.verdict());
+    let advice = said_beside(alloc, naming, action, job, &survey);
+    let output = output_of(alloc, naming, action, job, survey)?;
+    Ok(Response {
+        outcome,
+        output,
+        advice,
+    })
+}
