@@ -39,19 +39,6 @@ pub starts_over : (o : ImageOptions) (image held starts items : List ℕ)
 starts_over o image held starts items is same are j over =
     rw same (are j (record { storage = over.storage ∙ sym is; device = over.device }))
 
--- if programs were found, the flush of their lines leaves these written
-pub found_kept : (o : ImageOptions) (image : List ℕ) (old mid new : Option (List ℕ)) (came : Outcome)
-    → Keeps mid new → ((IsDone came → ⊥) → new ≡ mid) → IsFoundAnswer o image old mid came
-    → IsFoundAnswer o image old new came
-found_kept o image old mid new Done keeps same (starts, are, put) = (
-  starts,
-  are,
-  record { text = put.text; lines = put.lines; written = Appends-kept old mid new put.text put.written keeps },
-)
-found_kept o image old mid new (Failed failure) keeps same h =
-    subst (λ (x : Option (List ℕ)). IsFoundAnswer o image old x (Failed failure)) (sym (same (λ done. done))) h
-found_kept o image old mid new came keeps same h = h
-
 -- the line of a row more
 pub rows_more : (rows : List (Bor (List ℕ) × Bor (List ℕ))) (i : ℕ) (d : Bor (List ℕ) × Bor (List ℕ)) (text line : List ℕ)
     → i < length rows → AreLines IsRowLine (take i (row_texts rows)) text

@@ -1,71 +1,47 @@
 -- What an image of storage comes to: its deck on one writer, and what is said of it on another.
-use Rattle.std.specs.Prelude.{◌≡◌, ◌⊎◌, ◌++◌, ℕ, Bool, false, List, Option, None, Some, [], unwrap_or}
-use Rattle.std.specs.Io.KnownBytes.{Appends}
-use Rattle.ccw_core.specs.Written.{AppendsPrefix}
+use Rattle.std.specs.Prelude.{◌≡◌, ◌⊎◌, ℕ, Bool, List, Option, None, Some, []}
 use Rattle.chan_run.specs.declared.failure.Failure.{Failure}
-use Rattle.chan_run.specs.declared.failure.Failure.TheVariants as failures
 use Rattle.chan_run.specs.declared.image_options.ImageOptions.{ImageOptions}
 use Rattle.chan_run.specs.declared.outcome.Outcome.{Outcome}
-use Rattle.chan_run.specs.declared.outcome.Outcome.TheVariants.{Failed, NoJob}
-use Rattle.chan_run.specs.Image.{IsDeckAnswer, IsNoImage, IsWholeImage}
+use Rattle.chan_run.specs.declared.outcome.Outcome.TheVariants.{Done, Failed, NoJob}
+use Rattle.chan_run.specs.declared.response.Response.{Response}
+use Rattle.chan_run.specs.Image.{IsDeckText, IsNoDeck, IsNoImage, IsWholeImage}
 use Rattle.chan_run.specs.ImageNote.{deck_note}
 use Rattle.chan_run.specs.NoJob.{IsNoJobText}
-use Rattle.chan_run.specs.Outcome.{IsEnd}
-use Rattle.chan_run.specs.Output.{IsUnwritten}
-
--- a line was said, and behind it more, of which this holds; a prefix of both if a write failed
-pub record IsLineSaid (line : List ℕ) (IsMore : List ℕ → Type 0) (old new : Option (List ℕ))
-    (failed : Bool) : Type 0 where
-  pub more : List ℕ
-  pub is : IsMore more
-  pub whole : failed ≡ false → Appends old new (line ++ more)
-  pub prefix : AppendsPrefix old new (line ++ more)
-
--- ---- an image of storage
+use Rattle.chan_run.specs.Response.{IsBare, IsDelivered, bytes_in}
 
 -- this text is why no job will do
 abbrev pub IsWhyNoJob : Option (List ℕ) → ImageOptions → List ℕ → Option (List ℕ) → Type 0
 IsWhyNoJob name o image None = ⊥
 IsWhyNoJob name o image (Some why) = IsNoJobText name o image why
 
--- how an image that came to this is explained: by why no job will do, if none will and memory
--- doesn't run out for that, and else by nothing
-abbrev pub IsExplainedImage : Option (List ℕ) → ImageOptions → List ℕ → Outcome → Outcome
+-- what an image comes to, with the output and the advice: its deck, or why there is none
+abbrev pub IsDeckAnswer : Option (List ℕ) → ImageOptions → List ℕ → Outcome → List ℕ
     → Option (List ℕ) → Type 0
-IsExplainedImage name o image (NoJob a r) said why =
-    ((said ≡ NoJob a r) × IsWhyNoJob name o image why)
-    ⊎ ((said ≡ Failed failures.OutOfMemory) × (why ≡ None))
-IsExplainedImage name o image came said why = (said ≡ came) × (why ≡ None)
+IsDeckAnswer name o image Done output advice =
+    IsDeckText o image output × (advice ≡ Some [])
+IsDeckAnswer name o image (NoJob a r) output advice =
+    IsNoDeck o image (NoJob a r) × (output ≡ []) × IsWhyNoJob name o image advice
+IsDeckAnswer name o image end output advice =
+    IsNoDeck o image end × (output ≡ []) × (advice ≡ Some [])
 
--- what follows the line of an image: its explanation, or else the note on an image that is a deck
-abbrev pub said_of_image : List ℕ → Option (List ℕ) → List ℕ
-said_of_image image why = unwrap_or why (deck_note image)
+-- the answer to an image: that, and a note if it is a deck
+pub record IsImageResponse (name : Option (List ℕ)) (o : ImageOptions) (image : List ℕ)
+    (r : Response) : Type 0 where
+  pub answer : IsDeckAnswer name o image r.outcome r.output.items (bytes_in r.advice)
+  pub note : r.note.now ≡ deck_note image
 
--- the input was read to its end, its image was answered and explained, and the output was flushed
-pub record IsReadImage (name : Option (List ℕ)) (o : ImageOptions)
-    (old_in new_in old new : Option (List ℕ)) (end : Outcome) (more : List ℕ) : Type 0 where
-  pub image : List ℕ
-  pub input : IsWholeImage o old_in new_in image
-  pub came : Outcome
-  pub answered : IsDeckAnswer o image old new came
-  pub said : Outcome
-  pub why : Option (List ℕ)
-  pub explained : IsExplainedImage name o image came said why
-  pub ended : IsEnd said end
-  pub is_more : more ≡ said_of_image image why
+-- the answer to an input for an image: to its image, or why that wasn't read
+abbrev pub IsImageAnswer : Option (List ℕ) → ImageOptions → Option (List ℕ) → Option (List ℕ)
+    → Response → Type 0
+IsImageAnswer name o old new r =
+    ((image : List ℕ) × IsWholeImage o old new image × IsImageResponse name o image r)
+    ⊎ ((failure : Failure) × IsNoImage o old new failure × IsBare (Failed failure) [] r)
 
--- it wasn't, and nothing was written
-pub record IsUnreadImage (o : ImageOptions) (old_in new_in old new : Option (List ℕ))
-    (end : Outcome) (more : List ℕ) : Type 0 where
-  pub failure : Failure
-  pub read : IsNoImage o old_in new_in failure
-  pub ended : IsEnd (Failed failure) end
-  pub unwritten : IsUnwritten old new
-  pub none : more ≡ []
-
--- what a deck of an image says of its input and its output, with what follows the line
+-- what an input for an image comes to: its answer was delivered
 abbrev pub IsImageHandled : Option (List ℕ) → ImageOptions → Option (List ℕ) → Option (List ℕ)
-    → Option (List ℕ) → Option (List ℕ) → Outcome → List ℕ → Type 0
-IsImageHandled name o old_in new_in old new end more =
-    IsReadImage name o old_in new_in old new end more
-    ⊎ IsUnreadImage o old_in new_in old new end more
+    → Option (List ℕ) → Option (List ℕ) → Option (List ℕ) → Option (List ℕ) → Bool → Outcome
+    → Type 0
+IsImageHandled name o old_in new_in old new old_errors new_errors failed end =
+    (r : Response) × IsImageAnswer name o old_in new_in r
+    × IsDelivered name r old new old_errors new_errors failed end

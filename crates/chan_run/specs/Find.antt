@@ -1,5 +1,5 @@
 -- The programs that are found in an image of storage, a line for each.
-use Rattle.std.specs.Prelude.{◌≡◌, ◌⊎◌, ℕ, not, List, [], ◌∷◌, ◌++◌, Option, Some, None, take}
+use Rattle.std.specs.Prelude.{◌≡◌, ◌⊎◌, ℕ, Bool, not, List, [], ◌∷◌, ◌++◌, Option, Some, None, take}
 use Rattle.chan_deck.specs.Reading.{is_empty}
 use Rattle.std.specs.Io.KnownBytes.{Appends}
 use Rattle.ccw_core.specs.Written.{AppendsPrefix}
@@ -11,11 +11,12 @@ use Rattle.chan_walk.specs.Answers.{IsAnswer}
 use Rattle.chan_walk.specs.Places.{HasMoreThan}
 use Rattle.chan_walk.specs.OpenJob.{open_job, IsOpenJob}
 use Rattle.chan_find.specs.Programs.{AreProgramStarts, IsJobOver}
-use Rattle.chan_run.specs.Answers.{IsUnreadImage}
-use Rattle.chan_run.specs.Image.{IsProgramAt, IsWholeImage}
+use Rattle.chan_run.specs.Image.{IsNoImage, IsProgramAt, IsWholeImage}
 use Rattle.chan_run.specs.ImageNote.{deck_note, find_note}
-use Rattle.chan_run.specs.Outcome.{IsEnd}
 use Rattle.chan_run.specs.Output.{IsUnwritten}
+use Rattle.chan_run.specs.Response.{IsBare, IsDelivered}
+use Rattle.chan_run.specs.declared.failure.Failure.{Failure}
+use Rattle.chan_run.specs.declared.response.Response.{Response}
 use Rattle.chan_run.specs.declared.failure.Failure.TheVariants as failures
 use Rattle.chan_run.specs.declared.outcome.Outcome.{Outcome}
 use Rattle.chan_run.specs.declared.outcome.Outcome.TheVariants.{Done, Failed}
@@ -84,18 +85,29 @@ IsFindNote o image Done note =
     × (note ≡ find_note image (not (is_empty starts)))
 IsFindNote o image came note = note ≡ deck_note image
 
--- the input was read to its end, its image was searched, and the output was flushed
-pub record IsSearched (o : ImageOptions) (old_in new_in old new : Option (List ℕ)) (end : Outcome)
-    (note : List ℕ) : Type 0 where
+-- the input was read to its end, and its image was searched: only the end is left to be delivered
+pub record IsSearched (o : ImageOptions) (old_in new_in old mid : Option (List ℕ)) (r : Response)
+    : Type 0 where
   pub image : List ℕ
   pub input : IsWholeImage o old_in new_in image
   pub came : Outcome
-  pub found : IsFoundAnswer o image old new came
-  pub ended : IsEnd came end
+  pub found : IsFoundAnswer o image old mid came
+  pub note : List ℕ
   pub noted : IsFindNote o image came note
+  pub is : IsBare came note r
 
--- what a search for programs says of its input and its output, with a note
-abbrev pub IsFindAnswer : ImageOptions → Option (List ℕ) → Option (List ℕ) → Option (List ℕ)
-    → Option (List ℕ) → Outcome → List ℕ → Type 0
-IsFindAnswer o old_in new_in old new end note =
-    IsSearched o old_in new_in old new end note ⊎ IsUnreadImage o old_in new_in old new end note
+-- it wasn't read, and nothing was written
+abbrev pub IsUnsearched : ImageOptions → Option (List ℕ) → Option (List ℕ) → Option (List ℕ)
+    → Option (List ℕ) → Response → Type 0
+IsUnsearched o old_in new_in old mid r =
+    (failure : Failure) × IsNoImage o old_in new_in failure × IsBare (Failed failure) [] r
+    × (mid ≡ old)
+
+-- what a search for programs comes to: it was one or the other, and then the end was delivered
+abbrev pub IsFindAnswer : Option (List ℕ) → ImageOptions → Option (List ℕ) → Option (List ℕ)
+    → Option (List ℕ) → Option (List ℕ) → Option (List ℕ) → Option (List ℕ) → Bool → Outcome
+    → Type 0
+IsFindAnswer name o old_in new_in old new old_errors new_errors failed end =
+    (mid : Option (List ℕ)) × (r : Response)
+    × (IsSearched o old_in new_in old mid r ⊎ IsUnsearched o old_in new_in old mid r)
+    × IsDelivered name r mid new old_errors new_errors failed end

@@ -1,8 +1,6 @@
 -- What is written of an image of storage and the options with which a deck is made of it.
 use Rattle.std.specs.Prelude.{ℕ, ◌+◌, ◌-◌, ◌<◌, ◌≤◌, ◌^◌, ◌≡◌, ◌⊎◌, List, [], ◌∷◌, ◌++◌, length}
 use Rattle.std.specs.Prelude.{Option, Some, None, replicate, unwrap_or}
-use Rattle.std.specs.Io.KnownBytes.{Appends}
-use Rattle.ccw_core.specs.Written.{AppendsPrefix}
 use Rattle.chan_deck.specs.Image.{Image, Spells, limit_of}
 use Rattle.ccw_core.specs.declared.areas.Area.{Area}
 use Rattle.chan_args.specs.declared.image_words.AskedJob.{AskedJob}
@@ -132,15 +130,6 @@ IsDeckText o image text = (d : Image) × IsAskedDeck o.job o image d × Spells t
 abbrev pub IsNoDeck : ImageOptions → List ℕ → Outcome → Type 0
 IsNoDeck o image (Failed failures.OutOfMemory) = Unit {0}
 IsNoDeck o image end = (o.job ≡ jobs.Least) × HasNoNeeds o image end
-
--- what each answer says of an image and the output
-abbrev pub IsDeckAnswer : ImageOptions → List ℕ → Option (List ℕ) → Option (List ℕ)
-    → Outcome → Type 0
-IsDeckAnswer o image old new Done =
-    (text : List ℕ) × IsDeckText o image text × Appends old new text
-IsDeckAnswer o image old new (Failed failures.WriteFailed) =
-    (text : List ℕ) × IsDeckText o image text × AppendsPrefix old new text
-IsDeckAnswer o image old new end = IsNoDeck o image end
 
 -- why no image was read; nothing was written then
 abbrev pub IsNoImage : ImageOptions → Option (List ℕ) → Option (List ℕ) → Failure → Type 0

@@ -8,7 +8,6 @@ use Rattle.chan_walk.specs.declared.reason.Reason.TheVariants as reasons
 use Rattle.chan_walk.specs.declared.verdict.Verdict.{Verdict}
 use Rattle.chan_walk.specs.declared.verdict.Verdict.TheVariants.{No}
 use Rattle.chan_run.specs.Image.{IsOfOpenJob}
-use Rattle.chan_run.specs.ImageNote.{deck_note}
 use Rattle.chan_run.specs.Name.{name_before}
 use Rattle.chan_run.specs.Output.{IsExplained}
 use Rattle.chan_run.specs.declared.image_options.ImageOptions.{ImageOptions}
@@ -33,9 +32,9 @@ IsExplainedOpenly k text =
     (v : Verdict) × (explained : List ℕ) × IsExplained false k v explained
     × (text ≡ explained ++ cure_note k v)
 
--- what is said of an image that may have a name, with the note on an image that is a deck
+-- what is said of an image that may have a name
 abbrev pub IsNoJobText : Option (List ℕ) → ImageOptions → List ℕ → List ℕ → Type 0
 IsNoJobText name o image text =
     (explained : List ℕ) × IsOfOpenJob o image (λ k. IsExplainedOpenly k explained)
     × (text ≡ codes "chanv: " ++ (name_before name true ++ (codes "no job will do: "
-    ++ (explained ++ deck_note image))))
+    ++ explained)))

@@ -1,14 +1,12 @@
 -- What `show` writes of a text of sixteen hexadecimal digits.
 use Rattle.std.specs.Prelude.{ℕ, ◌≡◌, ◌≢◌, ◌==◌, Bool, true, false, not, List, [], ◌∷◌, ◌++◌}
-use Rattle.std.specs.Prelude.{length, Option, Result, Ok, Err}
-use Rattle.std.specs.Io.KnownBytes.{Appends}
+use Rattle.std.specs.Prelude.{◌⊎◌, length, IfSome, IsSome, Result, Ok, Err, Some}
 use Rattle.std.specs.List.{AllPass, filter}
-use Rattle.ccw_core.specs.Written.{AppendsPrefix}
 use Rattle.chan_deck.specs.Listing.{ccw_line}
 use Rattle.chan_run.specs.Options.{digits_in}
-use Rattle.chan_run.specs.Outcome.{IsEnd}
+use Rattle.chan_run.specs.Response.{IsBare, bytes_in}
+use Rattle.chan_run.specs.declared.response.Response.{Response}
 use Rattle.chan_run.specs.declared.failure.Failure.TheVariants as failures
-use Rattle.chan_run.specs.declared.outcome.Outcome.{Outcome}
 use Rattle.chan_run.specs.declared.outcome.Outcome.TheVariants.{Done, Failed}
 use Rattle.hex.specs.Hex.{decode_sized, is_hex_digit}
 use Rattle.hex.specs.declared.error.FromHexError.{FromHexError}
@@ -40,23 +38,27 @@ without_blanks text = filter (λ c. not (c == 32)) text
 abbrev pub plain_digits : List ℕ → List ℕ
 plain_digits text = digits_in (without_blanks text)
 
--- what is said besides of digits that aren't those of a CCW: something, unless memory ran out
-abbrev pub IsFaultOf : Outcome → List ℕ → Type 0
-IsFaultOf (Failed failures.NotCcw) more = more ≢ []
-IsFaultOf (Failed failures.OutOfMemory) more = more ≡ []
-IsFaultOf end more = ⊥
+-- the answer to digits that spell a CCW: the line that shows it with the name of its command
+pub record IsCcwLine (digits : List ℕ) (r : Response) : Type 0 where
+  pub spelled : SpellsCcw digits
+  pub outcome : r.outcome ≡ Done
+  pub output : r.output.items ≡ shown_line true digits
+  pub advice : bytes_in r.advice ≡ Some []
+  pub note : r.note.now ≡ []
 
--- what showing these digits with the name of the command came to
-abbrev pub IsCcwShown : List ℕ → Option (List ℕ) → Option (List ℕ) → Outcome → List ℕ → Type 0
-IsCcwShown digits old new Done more =
-    SpellsCcw digits × Appends old new (shown_line true digits) × (more ≡ [])
-IsCcwShown digits old new (Failed failures.NotCcw) more = (¬ SpellsCcw digits) × (more ≢ [])
-IsCcwShown digits old new (Failed failures.WriteFailed) more =
-    AppendsPrefix old new (shown_line true digits) × (more ≡ [])
-IsCcwShown digits old new (Failed failures.OutOfMemory) more = more ≡ []
-IsCcwShown digits old new end more = ⊥
+-- the answer to digits that don't: why
+pub record IsCcwFault (digits : List ℕ) (r : Response) : Type 0 where
+  pub unspelled : ¬ SpellsCcw digits
+  pub outcome : r.outcome ≡ Failed failures.NotCcw
+  pub output : r.output.items ≡ []
+  pub advice : IfSome (bytes_in r.advice) (λ why. why ≢ [])
+  pub said : IsSome (bytes_in r.advice)
+  pub note : r.note.now ≡ []
 
--- and how it ended, for a text as a person writes it
-abbrev pub IsShownNamed : List ℕ → Option (List ℕ) → Option (List ℕ) → Outcome → List ℕ → Type 0
-IsShownNamed text old new end more =
-    (came : Outcome) × IsCcwShown (plain_digits text) old new came more × IsEnd came end
+abbrev pub IsCcwShown : List ℕ → Response → Type 0
+IsCcwShown digits r = IsCcwLine digits r ⊎ IsCcwFault digits r
+
+-- the answer to a text as a person writes it
+abbrev pub IsNamedCcw : List ℕ → Response → Type 0
+IsNamedCcw text r =
+    IsBare (Failed failures.OutOfMemory) [] r ⊎ IsCcwShown (plain_digits text) r

@@ -45,6 +45,12 @@ IsRunEnd (Failed failures.TooManyPlaces) = Unit {0}
 IsRunEnd (Failed failures.OutOfMemory) = Unit {0}
 IsRunEnd end = ⊥
 
+-- an image that was read ends so, if its deck can be written
+abbrev pub IsImageEnd : Outcome → Type 0
+IsImageEnd (Failed failures.ReadFailed) = ⊥
+IsImageEnd (Failed failures.WriteFailed) = ⊥
+IsImageEnd end = Unit {0}
+
 abbrev pub wrote : Result (Unit {0}) DeviceFault → Outcome
 wrote (Ok _) = Done
 wrote (Err fault) = Failed failures.WriteFailed
@@ -62,10 +68,6 @@ abbrev pub IsDone : Outcome → Type 0
 IsDone Done = Unit {0}
 IsDone Denied = Unit {0}
 IsDone _ = ⊥
-
--- how it ends when it came to this: just so, or where the flush failed that was due then
-abbrev pub IsEnd : Outcome → Outcome → Type 0
-IsEnd came end = (end ≡ came) ⊎ (IsDone came × (end ≡ Failed failures.WriteFailed))
 
 -- the line of an outcome over an input that may have a name; an outcome that says nothing has none.
 -- A line on the input names it; any other is on the program or on what it writes

@@ -39,11 +39,12 @@ IsBeside n true IsAdvice None = Unit {0}
 IsBeside n true IsAdvice (Some text) =
     (advice : List ℕ) × IsAdvice advice × (text ≡ fronted (front_of n) true advice)
 
--- only this outcome
-pub record IsBare (end : Outcome) (r : Response) : Type 0 where
+-- only this outcome, and this note
+pub record IsBare (end : Outcome) (remark : List ℕ) (r : Response) : Type 0 where
   pub outcome : r.outcome ≡ end
   pub output : r.output.items ≡ []
   pub advice : bytes_in r.advice ≡ Some []
+  pub note : r.note.now ≡ remark
 
 abbrev pub outcome_of : Verdict → Outcome
 outcome_of Yes = Done
@@ -56,6 +57,7 @@ pub record IsJudged (n : Naming) (a : Action) (j : Job) (r : Response) : Type 0 
   pub outcome : r.outcome ≡ outcome_of verdict
   pub output : IsAskedText n a j verdict r.output.items
   pub advice : IsBeside n (is_why a) (IsVerdictAdvice j verdict) (bytes_in r.advice)
+  pub note : r.note.now ≡ []
 
 -- too many places are reachable
 pub record IsUnjudged (n : Naming) (a : Action) (j : Job) (r : Response) : Type 0 where
@@ -63,6 +65,7 @@ pub record IsUnjudged (n : Naming) (a : Action) (j : Job) (r : Response) : Type 
   pub outcome : r.outcome ≡ Failed failures.TooManyPlaces
   pub output : r.output.items ≡ []
   pub advice : IsBeside n (is_why a) (λ advice. advice ≢ []) (bytes_in r.advice)
+  pub note : r.note.now ≡ []
 
 -- the text isn't a deck; the hint comes if it is explained or has a name
 pub record IsRefusal (n : Naming) (a : Action) (t : List ℕ) (r : Response) : Type 0 where
@@ -72,6 +75,7 @@ pub record IsRefusal (n : Naming) (a : Action) (t : List ℕ) (r : Response) : T
   pub outcome : r.outcome ≡ Refused line cause
   pub output : r.output.items ≡ []
   pub advice : IsBeside n (is_some n.name || is_why a) (λ hint. hint ≢ []) (bytes_in r.advice)
+  pub note : r.note.now ≡ []
 
 -- the answer to what an action asks of a job: that of the job that it judges
 abbrev pub IsOnJob : Naming → Action → Job → Response → Type 0
@@ -83,13 +87,13 @@ IsAnswerTo n a t r = IsRefusal n a t r ⊎ IsOfJob t (λ j. IsOnJob n a j r)
 
 -- the answer to what an action asks of a text
 abbrev pub IsResponse : Naming → Action → List ℕ → Response → Type 0
-IsResponse n a t r = IsBare (Failed failures.OutOfMemory) r ⊎ IsAnswerTo n a t r
+IsResponse n a t r = IsBare (Failed failures.OutOfMemory) [] r ⊎ IsAnswerTo n a t r
 
 -- the answer to an input: to its text, or why that wasn't read
 abbrev pub IsInputResponse : Naming → Action → Option (List ℕ) → Option (List ℕ) → Response → Type 0
 IsInputResponse n a old new r =
     ((t : List ℕ) × IsInput old new t × IsResponse n a t r)
-    ⊎ ((failure : Failure) × IsReadFault old new failure × IsBare (Failed failure) r)
+    ⊎ ((failure : Failure) × IsReadFault old new failure × IsBare (Failed failure) [] r)
 
 -- ---- its delivery
 
@@ -112,7 +116,12 @@ advice_bytes name (Some text) = text
 
 -- the line of an answer, and what is said beside it
 abbrev pub said_of : Option (List ℕ) → Response → List ℕ
-said_of name r = line_over name r.outcome ++ advice_bytes name (bytes_in r.advice)
+said_of name r =
+    line_over name r.outcome ++ (advice_bytes name (bytes_in r.advice) ++ r.note.now)
+
+-- the line of a failed write, with only the note beside it
+abbrev pub said_unwritten : Option (List ℕ) → Response → List ℕ
+said_unwritten name r = line_over name (Failed failures.WriteFailed) ++ r.note.now
 
 -- the answer was put on one writer and told on another, or the first one failed and that was told
 abbrev pub IsDelivered : Option (List ℕ) → Response → Option (List ℕ) → Option (List ℕ)
@@ -121,7 +130,7 @@ IsDelivered name r old new old_errors new_errors failed end =
     IsPut r old new end
     × (((end ≡ r.outcome) × IsSaid (said_of name r) old_errors new_errors failed)
     ⊎ ((end ≡ Failed failures.WriteFailed)
-    × IsSaid (line_over name (Failed failures.WriteFailed)) old_errors new_errors failed))
+    × IsSaid (said_unwritten name r) old_errors new_errors failed))
 
 -- what a run over an input that is named so comes to: its answer was put on the writer
 abbrev pub IsRun : Naming → Action → Option (List ℕ) → Option (List ℕ)

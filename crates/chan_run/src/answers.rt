@@ -1,24 +1,24 @@
 //! Answering an input: what the program does with each.
 
 ghost use Rattle.std.specs.Prelude.{◌≡◌, ◌↔◌, ◌+◌, ◌≤◌, ◌^◌, false, length, true};
-ghost use Rattle.std.specs.Prelude.{option_map, string_bytes};
 ghost use Rattle.std.specs.Io.KnownBytes.{Appends};
 ghost use Rattle.ccw_core.specs.Written.{AppendsPrefix};
-ghost use Rattle.chan_run.specs.Answers.{IsExplainedImage, IsImageHandled, IsLineSaid};
+ghost use Rattle.chan_run.specs.Answers.{IsImageAnswer, IsImageHandled, IsImageResponse};
 ghost use Rattle.chan_run.specs.Name.{name_in};
-ghost use Rattle.chan_run.specs.Outcome.{IsDone, IsWriteFailure, line_over};
+ghost use Rattle.chan_run.specs.Outcome.{IsDone, IsImageEnd, IsWriteFailure};
 ghost use Rattle.chan_run.specs.Response.{IsAnswered};
 ghost use Rattle.chan_run.specs.declared.failure.Failure.TheVariants as failures;
 ghost use Rattle.chan_run.specs.declared.outcome.Outcome.TheVariants.{Failed};
 
 use crate::delivery::deliver;
 use crate::failure::Failure;
-use crate::image::{read_image, write_image_of};
+use crate::image::{deck_text, read_image};
 use crate::image_note::deck_note;
 use crate::image_options::ImageOptions;
 use crate::name::Naming;
 use crate::no_job::no_job_text;
-use crate::outcome::{Outcome, conclude};
+use crate::outcome::Outcome;
+use crate::response::Response;
 use crate::status::respond_to;
 use ccw_core::{Watched, write_out};
 use chan_args::Action;
@@ -95,50 +95,69 @@ pub fn answer_image<R: Read, W: Write, E: Write>(
     requires reader { from.old.failed ≡ false }
     requires writer { to.old.failed ≡ false }
     requires errors { errors.old.failed ≡ false }
-    ensures answer { IsLineSaid (line_over (name_in name.entry) result)
-        (IsImageHandled (name_in name.entry) options.now
+    ensures answer { IsImageHandled (name_in name.entry) options.now
         (R.remaining from.old.device) (R.remaining from.new.device)
-        (W.contents to.old.device) (W.contents to.new.device) result)
-        (E.contents errors.old.device) (E.contents errors.new.device) errors.new.failed }
+        (W.contents to.old.device) (W.contents to.new.device)
+        (E.contents errors.old.device) (E.contents errors.new.device) errors.new.failed result }
     ensures early { (IsDone result → ⊥) → (IsWriteFailure result → ⊥) → to.new ≡ to.old }
     ensures flushed { IsDone result → to.new.flushed ≡ true }
     ensures read { result ≡ Failed failures.ReadFailed ↔ (from.new.failed ≡ true) }
     ensures write { IsWriteFailure result ↔ (to.new.failed ≡ true) }
 {
-    let image = match read_image(alloc, options, from) {
-        Ok(image) => image,
-        Err(failure) => return conclude(name, Outcome::Failed(failure), &[], to, errors),
-    };
-    let came = write_image_of(alloc, options, image.as_slice(), to);
-    let (said, why) = explain_image(alloc, name, options, image.as_slice(), came);
-    let more = match &why {
-        Some(text) => text.as_bytes(),
-        None => deck_note(image.as_slice()).as_bytes(),
-    };
-    conclude(name, said, more, to, errors)
+    let response = image_answer(alloc, name, options, from);
+    deliver(name, &response, to, errors)
 }
 
-/// What is said of an image that came to this: the outcome, and why no job will do, if none will.
-fn explain_image(
+/// Reads an image to the end of an input, and gives the answer to it, or why it wasn't read.
+fn image_answer<R: Read>(
+    alloc: Global,
+    name: Option<&str>,
+    options: &ImageOptions,
+    from: &mut Watched<R>,
+) -> Response
+    requires { from.old.failed ≡ false }
+    ensures answer { IsImageAnswer (name_in name.entry) options.now
+        (R.remaining from.old.device) (R.remaining from.new.device) result }
+    ensures read { result.outcome ≡ Failed failures.ReadFailed ↔ (from.new.failed ≡ true) }
+    ensures unwritten { IsWriteFailure result.outcome → ⊥ }
+{
+    match read_image(alloc, options, from) {
+        Ok(image) => respond_image(alloc, name, options, image.as_slice()),
+        Err(failure) => Response::bare(alloc, Outcome::Failed(failure), ""),
+    }
+}
+
+/// The answer to an image.
+fn respond_image(
     alloc: Global,
     name: Option<&str>,
     options: &ImageOptions,
     image: &[u8],
-    came: Outcome,
-) -> (Outcome, Option<String>)
+) -> Response
     requires { options.now.at + length image.now ≤ 2 ^ 24 }
-    ensures explained { IsExplainedImage (name_in name.entry) options.now image.now came
-        result.0 (option_map string_bytes result.1) }
-    ensures done { IsDone result.0 ↔ IsDone came }
-    ensures write { IsWriteFailure result.0 ↔ IsWriteFailure came }
-    ensures read { result.0 ≡ Failed failures.ReadFailed → came ≡ Failed failures.ReadFailed }
+    ensures answer { IsImageResponse (name_in name.entry) options.now image.now result }
+    ensures known { IsImageEnd result.outcome }
 {
-    let Outcome::NoJob { .. } = came else {
-        return (came, None);
-    };
-    // The same job was walked before, so this fails only for want of memory.
-    match no_job_text(alloc, name, options, image) {
-        Ok(text) => (came, Some(text)),
-        Err(_) => (Outcome::Failed(Failure::OutOfMemory), None),
+    let note = deck_note(image);
+    match deck_text(alloc, options, image) {
+        Ok(output) => Response {
+            outcome: Outcome::Done,
+            output,
+            advice: Some(Vec::new(alloc)),
+            note,
+        },
+        Err(Outcome::NoJob { address, reason }) => {
+            // The same job was walked before, so this fails only for want of memory.
+            match no_job_text(alloc, name, options, image) {
+                Ok(why) => Response {
+                    outcome: Outcome::NoJob { address, reason },
+                    output: Vec::new(alloc),
+                    advice: Some(why.into_bytes()),
+                    note,
+                },
+                Err(_) => Response::bare(alloc, Outcome::Failed(Failure::OutOfMemory), note),
+            }
+        }
+        Err(end) => Response::bare(alloc, end, note),
     }
 }

@@ -4,13 +4,13 @@ ghost use Rattle.std.specs.Prelude.{◌≡◌, ◌↔◌, ◌++◌, false, true,
 ghost use Rattle.std.specs.Io.KnownBytes.{Appends};
 ghost use Rattle.ccw_core.specs.Written.{AppendsPrefix};
 ghost use Rattle.chan_run.specs.Name.{name_in};
-ghost use Rattle.chan_run.specs.Outcome.{IsDone, IsWriteFailure};
+ghost use Rattle.chan_run.specs.Outcome.{IsDone, IsWriteFailure, line_over};
 ghost use Rattle.chan_run.specs.Response.{IsDelivered, IsPut, IsSaid, said_of};
 ghost use Rattle.chan_run.specs.declared.failure.Failure.TheVariants as failures;
 ghost use Rattle.chan_run.specs.declared.outcome.Outcome.TheVariants.{Failed};
 
 use crate::failure::Failure;
-use crate::outcome::{Outcome, is_done, report, write_line};
+use crate::outcome::{Outcome, is_done, write_line};
 use crate::response::Response;
 use ccw_core::{DeviceFault, Watched, write_out};
 use std::io::Write;
@@ -19,17 +19,16 @@ use std::io::Write;
 /// memory.
 ///
 /// If all was done, the output is written and flushed; the outcome is a failed write if that fails.
-/// Then it writes the outcome's line, as `report` does, and the advice behind it, or the line that
-/// memory ran out for that. After a failed write only its line is written.
+/// Then it writes the outcome's line, as `report` does. Behind it comes the advice, or the line that
+/// memory ran out for that, but not after a failed write; and then the note.
 pub fn deliver<W: Write, E: Write>(
     name: Option<&str>,
     response: &Response,
     to: &mut Watched<W>,
     errors: &mut Watched<E>,
 ) -> Outcome
-    requires writer { to.old.failed ≡ false }
+    requires writer { IsWriteFailure response.now.outcome ↔ (to.old.failed ≡ true) }
     requires errors { errors.old.failed ≡ false }
-    requires unwritten { IsWriteFailure response.now.outcome → ⊥ }
     ensures delivered { IsDelivered (name_in name.entry) response.now
         (W.contents to.old.device) (W.contents to.new.device)
         (E.contents errors.old.device) (E.contents errors.new.device) errors.new.failed result }
@@ -39,10 +38,10 @@ pub fn deliver<W: Write, E: Write>(
 {
     if is_done(response.outcome) && put(response.output.as_slice(), to).is_err() {
         let failed = Outcome::Failed(Failure::WriteFailed);
-        report(name, failed, errors);
+        let _ = tell(name, failed, response.note.as_bytes(), errors);
         return failed;
     }
-    let _ = tell(name, response, errors);
+    let _ = tell_all(name, response, errors);
     response.outcome
 }
 
@@ -79,8 +78,8 @@ fn put<W: Write>(output: &[u8], to: &mut Watched<W>) -> Result<(), DeviceFault>
     to.flush()
 }
 
-/// Writes the line of an answer and, behind it, the advice or the line that memory ran out for it.
-fn tell<E: Write>(
+/// Writes the line of an answer, the advice or the line that memory ran out for it, and the note.
+fn tell_all<E: Write>(
     name: Option<&str>,
     response: &Response,
     errors: &mut Watched<E>,
@@ -89,9 +88,34 @@ fn tell<E: Write>(
     ensures { IsSaid (said_of (name_in name.entry) response.now)
         (E.contents errors.old.device) (E.contents errors.new.device) errors.new.failed }
 {
-    write_line(name, response.outcome, errors)?;
     match &response.advice {
-        Some(text) => write_out(text.as_slice(), errors),
-        None => write_line(name, Outcome::Failed(Failure::OutOfMemory), errors),
+        Some(text) => {
+            tell(name, response.outcome, text.as_slice(), errors)?;
+            write_out(response.note.as_bytes(), errors)
+        }
+        None => {
+            write_line(name, response.outcome, errors)?;
+            let no_memory = Outcome::Failed(Failure::OutOfMemory);
+            tell(name, no_memory, response.note.as_bytes(), errors)
+        }
     }
+}
+
+/// Writes the line of an outcome, and more behind it.
+#[tactic(auto, using(crate::proofs::Writing::prefix_after, crate::proofs::Writing::prefix_of_more))]
+fn tell<E: Write>(
+    name: Option<&str>,
+    outcome: Outcome,
+    more: &[u8],
+    errors: &mut Watched<E>,
+) -> Result<(), DeviceFault>
+    requires { errors.old.failed ≡ false }
+    ensures ok { OnOk result (Appends (E.contents errors.old.device)
+        (E.contents errors.new.device) (line_over (name_in name.entry) outcome ++ more.now)) }
+    ensures prefix { AppendsPrefix (E.contents errors.old.device) (E.contents errors.new.device)
+        (line_over (name_in name.entry) outcome ++ more.now) }
+    ensures fault { IsErr result ↔ (errors.new.failed ≡ true) }
+{
+    write_line(name, outcome, errors)?;
+    write_out(more, errors)
 }

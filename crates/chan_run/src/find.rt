@@ -1,22 +1,24 @@
 //! Finding the programs of an image of storage, a line for each.
 
 ghost use Rattle.std.specs.Prelude.{◌≡◌, ◌↔◌, ◌+◌, ◌≤◌, ◌^◌, false, true, length, IfOk, List, ℕ};
-ghost use Rattle.std.specs.Prelude.{string_bytes};
+ghost use Rattle.std.specs.Prelude.{◌⊎◌, string_bytes};
 ghost use Rattle.ccw_core.specs.Held.{bytes_held};
 ghost use Rattle.chan_deck.specs.Parts.{storage_with};
-ghost use Rattle.chan_run.specs.Answers.{IsLineSaid};
-ghost use Rattle.chan_run.specs.Find.{IsFindAnswer, IsFindNote, IsFoundAnswer, IsLineAt};
+ghost use Rattle.chan_run.specs.Find.{IsFindAnswer, IsFindNote, IsFoundAnswer, IsLineAt, IsSearched};
+ghost use Rattle.chan_run.specs.Find.{IsUnsearched};
 ghost use Rattle.chan_run.specs.Name.{name_in};
-ghost use Rattle.chan_run.specs.Outcome.{IsDone, IsWriteFailure, line_over};
+ghost use Rattle.chan_run.specs.Outcome.{IsDone, IsWriteFailure};
 ghost use Rattle.chan_run.specs.declared.failure.Failure.TheVariants as failures;
 ghost use Rattle.chan_run.specs.declared.outcome.Outcome.TheVariants.{Failed};
 
+use crate::delivery::deliver;
 use crate::failure::Failure;
 use crate::image::read_image;
 use crate::image_note::{deck_note, find_note};
 use crate::image_options::ImageOptions;
 use crate::least_job::job_at;
-use crate::outcome::{Outcome, conclude};
+use crate::outcome::Outcome;
+use crate::response::Response;
 use ccw_core::{Storage, Watched, write_out};
 use chan_deck::{place_image, program_text};
 use chan_find::program_starts;
@@ -45,29 +47,51 @@ pub fn find_programs<R: Read, W: Write, E: Write>(
     requires reader { from.old.failed ≡ false }
     requires writer { to.old.failed ≡ false }
     requires errors { errors.old.failed ≡ false }
-    ensures answer { IsLineSaid (line_over (name_in name.entry) result) (IsFindAnswer options.now
+    ensures answer { IsFindAnswer (name_in name.entry) options.now
         (R.remaining from.old.device) (R.remaining from.new.device)
-        (W.contents to.old.device) (W.contents to.new.device) result)
-        (E.contents errors.old.device) (E.contents errors.new.device) errors.new.failed }
+        (W.contents to.old.device) (W.contents to.new.device)
+        (E.contents errors.old.device) (E.contents errors.new.device) errors.new.failed result }
     ensures flushed { IsDone result → to.new.flushed ≡ true }
     ensures read { result ≡ Failed failures.ReadFailed ↔ (from.new.failed ≡ true) }
     ensures write { IsWriteFailure result ↔ (to.new.failed ≡ true) }
 {
-    let image = match read_image(alloc, options, from) {
-        Ok(image) => image,
-        Err(failure) => return conclude(name, Outcome::Failed(failure), &[], to, errors),
-    };
-    let (came, note) = write_programs(alloc, options, image.as_slice(), to);
-    conclude(name, came, note.as_bytes(), to, errors)
+    let response = search_image(alloc, options, from, to);
+    deliver(name, &response, to, errors)
+}
+
+/// Reads an image and writes its lines, and gives what is then left to be delivered.
+fn search_image<R: Read, W: Write>(
+    alloc: Global,
+    options: &ImageOptions,
+    from: &mut Watched<R>,
+    to: &mut Watched<W>,
+) -> Response
+    requires reader { from.old.failed ≡ false }
+    requires writer { to.old.failed ≡ false }
+    ensures answer { IsSearched options.now
+        (R.remaining from.old.device) (R.remaining from.new.device)
+        (W.contents to.old.device) (W.contents to.new.device) result ⊎ IsUnsearched options.now
+        (R.remaining from.old.device) (R.remaining from.new.device)
+        (W.contents to.old.device) (W.contents to.new.device) result }
+    ensures read { result.outcome ≡ Failed failures.ReadFailed ↔ (from.new.failed ≡ true) }
+    ensures write { IsWriteFailure result.outcome ↔ (to.new.failed ≡ true) }
+{
+    match read_image(alloc, options, from) {
+        Ok(image) => {
+            let (came, note) = write_programs(alloc, options, image.as_slice(), to);
+            Response::bare(alloc, came, note)
+        }
+        Err(failure) => Response::bare(alloc, Outcome::Failed(failure), ""),
+    }
 }
 
 /// Writes a line for each program in an image, and gives the note on the image, or an empty text.
-fn write_programs<'a, W: Write>(
+fn write_programs<W: Write>(
     alloc: Global,
     options: &ImageOptions,
     image: &[u8],
     to: &mut Watched<W>,
-) -> (Outcome, &'a str)
+) -> (Outcome, &'static str)
     requires short { options.now.at + length image.now ≤ 2 ^ 24 }
     requires writer { to.old.failed ≡ false }
     ensures answer { IsFoundAnswer options.now image.now

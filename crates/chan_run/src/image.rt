@@ -2,10 +2,9 @@
 
 ghost use Rattle.std.specs.Prelude.{◌≡◌, ◌↔◌, ◌+◌, ◌≤◌, ◌^◌, false, true, length, IfErr, ◌<◌};
 ghost use Rattle.std.specs.Prelude.{if◌then◌else◌, is_some, IfOk, IfSome, IsErrOf, None, unwrap_or};
-ghost use Rattle.chan_run.specs.Image.{IsDeckAnswer, IsDeckText, IsNoDeck, IsNoImage, IsRoom};
+ghost use Rattle.chan_run.specs.Image.{IsDeckText, IsNoDeck, IsNoImage, IsRoom};
 ghost use Rattle.chan_run.specs.Image.{IsWholeImage, deck_of, filled};
 ghost use Rattle.chan_deck.specs.Image.{Spells};
-ghost use Rattle.chan_run.specs.Outcome.{IsDone, IsWriteFailure};
 ghost use Rattle.chan_run.specs.declared.failure.Failure.TheVariants as failures;
 
 use crate::failure::Failure;
@@ -15,11 +14,11 @@ use crate::least_job::least_text;
 use crate::open_deck::open_text;
 use crate::options::PAST_ADDRESSES;
 use crate::outcome::Outcome;
-use ccw_core::{Watched, write_out};
+use ccw_core::Watched;
 use chan_args::AskedJob;
 use chan_deck::{Parts, parts_text};
 use std::alloc::{AllocError, Global};
-use std::io::{Read, Write};
+use std::io::Read;
 
 /// Reads an image of storage to the end of the input; zeros follow it if a size was asked for.
 ///
@@ -89,28 +88,12 @@ fn too_long(options: &ImageOptions) -> Failure
     }
 }
 
-/// Writes the deck that an image makes with the job that is asked for.
-pub(crate) fn write_image_of<W: Write>(
+/// The text of the deck that an image makes with the job that is asked for.
+pub(crate) fn deck_text(
     alloc: Global,
     options: &ImageOptions,
     image: &[u8],
-    to: &mut Watched<W>,
-) -> Outcome
-    requires short { options.now.at + length image.now ≤ 2 ^ 24 }
-    requires writer { to.old.failed ≡ false }
-    ensures answer { IsDeckAnswer options.now image.now
-        (W.contents to.old.device) (W.contents to.new.device) result }
-    ensures early { (IsDone result → ⊥) → (IsWriteFailure result → ⊥) → to.new ≡ to.old }
-    ensures write { IsWriteFailure result ↔ (to.new.failed ≡ true) }
-{
-    match deck_text(alloc, options, image) {
-        Ok(text) => Outcome::of_write(write_out(text.as_slice(), to)),
-        Err(end) => end,
-    }
-}
-
-/// The text of the deck that an image makes with the job that is asked for.
-fn deck_text(alloc: Global, options: &ImageOptions, image: &[u8]) -> Result<Vec<u8>, Outcome>
+) -> Result<Vec<u8>, Outcome>
     requires { options.now.at + length image.now ≤ 2 ^ 24 }
     ensures text { IfOk result (λ text. IsDeckText options.now image.now text.items) }
     ensures none { IfErr result (IsNoDeck options.now image.now) }

@@ -21,14 +21,14 @@ fn is_deck(image: &[u8]) -> bool
 }
 
 /// The note on an image that is a deck; on any other there is none.
-pub(crate) fn deck_note<'a>(image: &[u8]) -> &'a str
+pub(crate) fn deck_note(image: &[u8]) -> &'static str
     ensures { result.now ≡ notes.deck_note image.now }
 {
     if is_deck(image) { IS_DECK } else { "" }
 }
 
 /// The note on an image that was searched for programs, and that has some or none.
-pub(crate) fn find_note<'a>(image: &[u8], has_programs: bool) -> &'a str
+pub(crate) fn find_note(image: &[u8], has_programs: bool) -> &'static str
     ensures { result.now ≡ notes.find_note image.now has_programs }
 {
     if is_deck(image) || has_programs {

@@ -13,8 +13,8 @@
 //! }
 //! ```
 //!
-//! A `Naming` with a name says which of several inputs it is. `run` only reads and writes, and
-//! `conclude` ends any other command.
+//! A `Naming` with a name says which of several inputs it is. `respond` is the answer to a text as
+//! bytes, and `deliver` writes an answer.
 #![tactic(auto)]
 
 mod advice;
@@ -60,7 +60,7 @@ pub use crate::option_fault::{
     report_file, report_grants, report_no_ccw, report_option, report_usage,
 };
 pub use crate::option_values::options_of;
-pub use crate::outcome::{Outcome, conclude, ends_run, exit_status, greater_status, report};
+pub use crate::outcome::{Outcome, ends_run, exit_status, greater_status, report};
 pub use crate::response::{Response, respond};
 pub use crate::status::{RunError, Status, run};
 pub use crate::terms::Term;

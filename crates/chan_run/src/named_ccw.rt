@@ -1,16 +1,19 @@
 //! Showing one CCW with the name of its command, from a text as a person writes it.
 
 ghost use Rattle.std.specs.Prelude.{◌≡◌, ◌≢◌, ◌↔◌, [], false, true, string_bytes, IfOk};
-ghost use Rattle.chan_run.specs.Answers.{IsLineSaid};
-ghost use Rattle.chan_run.specs.OneCcw.{IsFaultOf, IsShownNamed, without_blanks};
+ghost use Rattle.chan_run.specs.OneCcw.{IsCcwShown, IsNamedCcw, plain_digits, without_blanks};
 ghost use Rattle.chan_run.specs.Options.{digits_in};
-ghost use Rattle.chan_run.specs.Outcome.{IsDone, IsWriteFailure, line_over};
+ghost use Rattle.chan_run.specs.Outcome.{IsDone, IsWriteFailure};
+ghost use Rattle.chan_run.specs.Response.{IsDelivered};
+ghost use Rattle.chan_run.specs.declared.response.Response.{Response};
 ghost use Rattle.std.specs.Prelude.{◌≤◌, ◌||◌, None, IsTrue, codes, length, nat_eq};
 ghost use Rattle.std.specs.List.{starts_with};
 
+use crate::delivery::deliver;
 use crate::failure::Failure;
-use crate::one_ccw::{ShowError, show};
-use crate::outcome::{Outcome, conclude};
+use crate::one_ccw::{ShowError, shown_line};
+use crate::outcome::Outcome;
+use crate::response::Response;
 use ccw_core::Watched;
 use std::alloc::{AllocError, Global};
 use std::io::Write;
@@ -75,48 +78,50 @@ pub fn show_named<W: Write, E: Write>(
 ) -> Outcome
     requires writer { to.old.failed ≡ false }
     requires errors { errors.old.failed ≡ false }
-    ensures shown { IsLineSaid (line_over None result) (IsShownNamed text.now
-        (W.contents to.old.device) (W.contents to.new.device) result)
-        (E.contents errors.old.device) (E.contents errors.new.device) errors.new.failed }
+    ensures shown { (r : Response) × IsNamedCcw text.now r × IsDelivered None r
+        (W.contents to.old.device) (W.contents to.new.device)
+        (E.contents errors.old.device) (E.contents errors.new.device) errors.new.failed result }
     ensures flushed { IsDone result → to.new.flushed ≡ true }
     ensures write { IsWriteFailure result ↔ (to.new.failed ≡ true) }
 {
-    let Ok(plain) = without_blanks(alloc, text.as_bytes()) else {
-        return conclude(None, Outcome::Failed(Failure::OutOfMemory), &[], to, errors);
-    };
-    let digits = digits_of(&plain);
-    match show(alloc, digits, true, to) {
-        Ok(()) => conclude(None, Outcome::Done, &[], to, errors),
-        Err(ShowError::NotCcw) => conclude_fault(alloc, digits, to, errors),
-        Err(ShowError::Memory) => {
-            let end = Outcome::Failed(Failure::OutOfMemory);
-            conclude(None, end, &[], to, errors)
-        }
-        Err(ShowError::Write) => {
-            let end = Outcome::Failed(Failure::WriteFailed);
-            conclude(None, end, &[], to, errors)
-        }
+    let response = respond_named(alloc, text.as_bytes());
+    deliver(None, &response, to, errors)
+}
+
+/// The answer to a text.
+fn respond_named(alloc: Global, text: &[u8]) -> Response
+    ensures answer { IsNamedCcw text.now result }
+    ensures unwritten { IsWriteFailure result.outcome → ⊥ }
+{
+    match named_ccw(alloc, text) {
+        Ok(response) => response,
+        Err(AllocError) => Response::bare(alloc, Outcome::Failed(Failure::OutOfMemory), ""),
     }
 }
 
-/// Ends with digits that aren't those of a CCW, and says why.
-fn conclude_fault<W: Write, E: Write>(
-    alloc: Global,
-    digits: &[u8],
-    to: &mut Watched<W>,
-    errors: &mut Watched<E>,
-) -> Outcome
-    requires writer { to.old.failed ≡ false }
-    requires errors { errors.old.failed ≡ false }
-    ensures said { IsLineSaid (line_over None result) (IsFaultOf result)
-        (E.contents errors.old.device) (E.contents errors.new.device) errors.new.failed }
-    ensures unwritten { to.new ≡ to.old }
+/// The answer to a text, where memory lasts.
+fn named_ccw(alloc: Global, text: &[u8]) -> Result<Response, AllocError>
+    ensures answer { IfOk result (IsCcwShown (plain_digits text.now)) }
+    ensures known { IfOk result (λ r. IsWriteFailure r.outcome → ⊥) }
 {
-    match fault_of(alloc, digits) {
-        Ok(fault) => {
-            let end = Outcome::Failed(Failure::NotCcw);
-            conclude(None, end, fault.as_bytes(), to, errors)
+    let plain = without_blanks(alloc, text)?;
+    let digits = digits_of(&plain);
+    match shown_line(alloc, digits, true) {
+        Ok(line) => Ok(Response {
+            outcome: Outcome::Done,
+            output: line.into_bytes(),
+            advice: Some(Vec::new(alloc)),
+            note: "",
+        }),
+        Err(ShowError::NotCcw) => {
+            let fault = fault_of(alloc, digits)?;
+            Ok(Response {
+                outcome: Outcome::Failed(Failure::NotCcw),
+                output: Vec::new(alloc),
+                advice: Some(fault.into_bytes()),
+                note: "",
+            })
         }
-        Err(AllocError) => conclude(None, Outcome::Failed(Failure::OutOfMemory), &[], to, errors),
+        Err(_) => Err(AllocError),
     }
 }

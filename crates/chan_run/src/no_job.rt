@@ -6,7 +6,6 @@ ghost use Rattle.chan_run.specs.NoJob.{IsExplainedOpenly, IsNoJobText, cure_note
 ghost use Rattle.chan_walk.specs.OpenJob.{IsOpenJob};
 ghost use Rattle.chan_walk.specs.declared.job.Job.{Job};
 
-use crate::image_note::deck_note;
 use crate::image_options::ImageOptions;
 use crate::least_job::job_at;
 use crate::name::named;
@@ -34,8 +33,7 @@ pub(crate) fn no_job_text(
     let job = job_at(options, storage, options.start);
     let explanation = open_explanation(alloc, &job)?;
     let (name, mark) = named(name, true);
-    let note = deck_note(image);
-    Ok(format!(in alloc; "chanv: {name}{mark}no job will do: {explanation}{note}")?)
+    Ok(format!(in alloc; "chanv: {name}{mark}no job will do: {explanation}")?)
 }
 
 /// The explanation of the verdict on a job's open job, and the note on how to cure it.

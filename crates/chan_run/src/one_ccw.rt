@@ -50,9 +50,19 @@ pub fn show<W: Write>(
     ensures prefix { IsErrOf result ShowError.Write → AppendsPrefix (W.contents to.old.device)
         (W.contents to.new.device) (shown_line is_named text.now) }
 {
-    let bytes = spelled_bytes(text).ok_or(ShowError::NotCcw)?;
-    let line = line_of(alloc, &bytes, is_named).map_err(|_| ShowError::Memory)?;
+    let line = shown_line(alloc, text, is_named)?;
     write_out(line.as_bytes(), to).map_err(|_| ShowError::Write)
+}
+
+/// The line that `show` writes.
+pub(crate) fn shown_line(alloc: Global, text: &[u8], is_named: bool) -> Result<String, ShowError>
+    ensures spelled { OnOk result (SpellsCcw text.now) }
+    ensures shown { IfOk result (λ line. string_bytes line ≡ shown_line is_named text.now) }
+    ensures not_ccw { IsErrOf result ShowError.NotCcw ↔ ¬ SpellsCcw text.now }
+    ensures other { IsErrOf result ShowError.Write → ⊥ }
+{
+    let bytes = spelled_bytes(text).ok_or(ShowError::NotCcw)?;
+    line_of(alloc, &bytes, is_named).map_err(|_| ShowError::Memory)
 }
 
 fn spelled_bytes(text: &[u8]) -> Option<[u8; 8]>

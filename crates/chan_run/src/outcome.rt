@@ -2,11 +2,11 @@
 
 ghost use Rattle.std.specs.Prelude.{◌≡◌, ◌≤◌, ◌↔◌, ◌⊎◌, ◌++◌, false, true, IsErr, IsTrue, OnOk};
 ghost use Rattle.std.specs.Prelude.{IsErrOf, IsOk};
-ghost use Rattle.std.specs.Io.KnownBytes.{Appends, Keeps};
+ghost use Rattle.std.specs.Io.KnownBytes.{Appends};
 ghost use Rattle.ccw_core.specs.Written.{AppendsPrefix};
 ghost use Rattle.chan_run.specs.Failure.{row_of_failure};
 ghost use Rattle.chan_run.specs.Name.{name_in};
-ghost use Rattle.chan_run.specs.Outcome.{IsDone, IsEnd, IsWriteFailure, line_over};
+ghost use Rattle.chan_run.specs.Outcome.{IsDone, IsWriteFailure, line_over};
 ghost use Rattle.chan_run.specs.Outcome.{shown, status_of, wrote};
 ghost use Rattle.chan_run.specs.Response.{outcome_of};
 ghost use Rattle.chan_run.specs.declared.outcome.Outcome.TheVariants.{Done, Failed, Refused};
@@ -16,7 +16,7 @@ use crate::name::named;
 use crate::one_ccw::ShowError;
 use crate::terms::cause_word;
 use crate::texts::write_texts;
-use ccw_core::{DeviceFault, Watched, write_out};
+use ccw_core::{DeviceFault, Watched};
 use chan_deck::Cause;
 use chan_walk::{Reason, Verdict};
 use itoa::Buffer;
@@ -116,51 +116,6 @@ pub fn ends_run(outcome: Outcome) -> bool
     ensures { IsTrue result ↔ IsWriteFailure outcome }
 {
     matches!(outcome, Outcome::Failed(Failure::WriteFailed))
-}
-
-/// Ends a command that came to this outcome, and gives its final outcome. It takes no memory.
-///
-/// If all was done, it flushes the output; the outcome is a failed write if the flush fails. Then
-/// it writes the outcome's line, as `report` does, and more behind it.
-pub fn conclude<W: Write, E: Write>(
-    name: Option<&str>,
-    outcome: Outcome,
-    more: &[u8],
-    to: &mut Watched<W>,
-    errors: &mut Watched<E>,
-) -> Outcome
-    requires writer { IsWriteFailure outcome ↔ (to.old.failed ≡ true) }
-    requires errors { errors.old.failed ≡ false }
-    ensures end { IsEnd outcome result }
-    ensures flushed { IsDone result → to.new.flushed ≡ true }
-    ensures kept { Keeps (W.contents to.old.device) (W.contents to.new.device) }
-    ensures early { (IsDone outcome → ⊥) → to.new ≡ to.old }
-    ensures write { IsWriteFailure result ↔ (to.new.failed ≡ true) }
-    ensures line { errors.new.failed ≡ false → Appends (E.contents errors.old.device)
-        (E.contents errors.new.device) (line_over (name_in name.entry) result ++ more.now) }
-    ensures prefix { AppendsPrefix (E.contents errors.old.device) (E.contents errors.new.device)
-        (line_over (name_in name.entry) result ++ more.now) }
-{
-    let end = flushed(outcome, to);
-    if write_line(name, end, errors).is_ok() {
-        let _ = write_out(more, errors);
-    }
-    end
-}
-
-/// Flushes the output if all was done, and gives the outcome with which the command then ends.
-fn flushed<W: Write>(outcome: Outcome, to: &mut Watched<W>) -> Outcome
-    requires { IsWriteFailure outcome ↔ (to.old.failed ≡ true) }
-    ensures end { IsEnd outcome result }
-    ensures flushed { IsDone result → to.new.flushed ≡ true }
-    ensures kept { Keeps (W.contents to.old.device) (W.contents to.new.device) }
-    ensures early { (IsDone outcome → ⊥) → to.new ≡ to.old }
-    ensures write { IsWriteFailure result ↔ (to.new.failed ≡ true) }
-{
-    if is_done(outcome) && to.flush().is_err() {
-        return Outcome::Failed(Failure::WriteFailed);
-    }
-    outcome
 }
 
 /// Whether all was done that was asked for.

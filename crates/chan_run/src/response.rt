@@ -28,17 +28,20 @@ pub struct Response {
     pub output: Vec<u8>,
     /// What follows the outcome's line; `None` if memory ran out for it, which is said then.
     pub advice: Option<Vec<u8>>,
+    /// What follows in any case, also where the output can't be written.
+    pub note: &'static str,
 }
 
 impl Response {
-    /// An outcome without an output or advice. It takes no memory.
-    pub(crate) fn bare(alloc: Global, outcome: Outcome) -> Response
-        ensures { IsBare outcome result }
+    /// An outcome without an output or advice, and a note. It takes no memory.
+    pub fn bare(alloc: Global, outcome: Outcome, note: &'static str) -> Response
+        ensures { IsBare outcome note.now result }
     {
         Response {
             outcome,
             output: Vec::new(alloc),
             advice: Some(Vec::new(alloc)),
+            note,
         }
     }
 }
@@ -57,7 +60,7 @@ pub fn respond(alloc: Global, naming: Naming<'_>, action: Action, text: &[u8]) -
 {
     match answer_to(alloc, naming, action, text) {
         Ok(response) => response,
-        Err(AllocError) => Response::bare(alloc, Outcome::Failed(Failure::OutOfMemory)),
+        Err(AllocError) => Response::bare(alloc, Outcome::Failed(Failure::OutOfMemory), ""),
     }
 }
 
@@ -100,6 +103,7 @@ fn refusal(
         outcome: Outcome::Refused { line, cause },
         output: Vec::new(alloc),
         advice: hint_beside(alloc, naming, action, text, line, cause),
+        note: "",
     }
 }
 
@@ -141,6 +145,7 @@ fn answer_of(
                 outcome: Outcome::Failed(Failure::TooManyPlaces),
                 output: Vec::new(alloc),
                 advice: limit_beside(alloc, naming, action, job.limit),
+                note: "",
             });
         }
         Err(WalkError::Memory) => return Err(AllocError),
@@ -152,5 +157,6 @@ fn answer_of(
         outcome,
         output,
         advice,
+        note: "",
     })
 }

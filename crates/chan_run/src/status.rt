@@ -117,7 +117,7 @@ pub(crate) fn respond_to<R: Read>(
 {
     match read_text(alloc, from) {
         Ok(text) => respond(alloc, naming, action, text.as_slice()),
-        Err(failure) => Response::bare(alloc, Outcome::Failed(failure)),
+        Err(failure) => Response::bare(alloc, Outcome::Failed(failure), ""),
     }
 }
 

@@ -12,13 +12,13 @@
 ghost use Rattle.std.specs.Prelude.{◌≡◌, ◌↔◌, true};
 ghost use Rattle.chan_run.specs.Outcome.{IsWriteFailure};
 
-use ccw_core::{Watched, write_out};
+use ccw_core::Watched;
 use chan_args::{Action, ImageRequest, Request, read_request};
 use chan_run::{
-    Failure, ImageOptions, Naming, OptionError, Outcome, answer, answer_image, conclude, ends_run,
-    exit_status, explain_word, find_programs, greater_status, list_words, note_usual_device,
-    options_of, report, report_file, report_grants, report_no_ccw, report_option, report_usage,
-    show, show_named, shown_word, word_of,
+    Failure, ImageOptions, Naming, OptionError, Outcome, Response, answer, answer_image, deliver,
+    ends_run, exit_status, explain_word, find_programs, greater_status, list_words,
+    note_usual_device, options_of, report, report_file, report_grants, report_no_ccw,
+    report_option, report_usage, show, show_named, shown_word, word_of,
 };
 use std::alloc::AllocError;
 use std::env::{Env, FillError};
@@ -108,7 +108,7 @@ fn answer_words(rt: &HostRuntime, words: &[String]) -> u8 {
         Request::Explain(word) => explain(rt, word),
         Request::Words => list_terms(rt),
         Request::Help(text) | Request::Version(text) => match text.to_string(rt.alloc()) {
-            Ok(text) => print_out(rt, text.as_str()),
+            Ok(text) => print_out(rt, text),
             Err(AllocError) => report_on(rt, None, Outcome::Failed(Failure::OutOfMemory)),
         },
         Request::NoCommand(word, _) if is_file(rt, word) => {
@@ -136,14 +136,20 @@ fn end_with(
 ) -> u8
     requires { IsWriteFailure outcome ↔ (output.old.failed ≡ true) }
 {
-    exit_status(conclude(name, outcome, &[], output, &mut Watched::new(rt.stderr())))
+    let end = Response::bare(rt.alloc(), outcome, "");
+    exit_status(deliver(name, &end, output, &mut Watched::new(rt.stderr())))
 }
 
 /// Writes help or the version, and gives the exit status.
-fn print_out(rt: &HostRuntime, text: &str) -> u8 {
+fn print_out(rt: &HostRuntime, text: String) -> u8 {
+    let help = Response {
+        outcome: Outcome::Done,
+        output: text.into_bytes(),
+        advice: Some(Vec::new(rt.alloc())),
+        note: "",
+    };
     let mut output = Watched::new(rt.stdout());
-    let answer = write_out(text.as_bytes(), &mut output);
-    end_with(rt, None, Outcome::of_write(answer), &mut output)
+    exit_status(deliver(None, &help, &mut output, &mut Watched::new(rt.stderr())))
 }
 
 fn show_ccw(rt: &HostRuntime, text: &str) -> u8 {

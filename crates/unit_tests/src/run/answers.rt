@@ -6,7 +6,7 @@ use crate::run::devices::Broken;
 use crate::shared::{Paper, expect, paper_of};
 use ccw_core::Watched;
 use chan_args::Action;
-use chan_run::{Failure, Naming, Outcome, answer, conclude, ends_run};
+use chan_run::{Failure, Naming, Outcome, Response, answer, deliver, ends_run};
 use std::alloc::Global;
 
 /// A No Operation, with areas that it doesn't use.
@@ -145,7 +145,7 @@ static ENDS: &[(Outcome, Outcome, &str)] = &[
 ];
 
 /// Whether a command over `a.deck` ends so where the flush fails.
-fn is_concluded(came: Outcome, end: Outcome, line: &[u8]) -> bool {
+fn is_concluded(alloc: Global, came: Outcome, wanted: Outcome, line: &[u8]) -> bool {
     if ends_run(came) {
         return false;
     }
@@ -154,13 +154,14 @@ fn is_concluded(came: Outcome, end: Outcome, line: &[u8]) -> bool {
         flushes: false,
     });
     let mut errors = Watched::new(paper_of(line));
-    let found = conclude(Some("a.deck"), came, &[], &mut to, &mut errors);
-    found == end && !errors.failed() && errors.into_inner().left.is_empty()
+    let end = Response::bare(alloc, came, "");
+    let found = deliver(Some("a.deck"), &end, &mut to, &mut errors);
+    found == wanted && !errors.failed() && errors.into_inner().left.is_empty()
 }
 
 #[test]
 fn ends_of_commands(rt: HostRuntime) {
     for (came, end, line) in ENDS {
-        expect(&rt, is_concluded(*came, *end, line.as_bytes()), line);
+        expect(&rt, is_concluded(rt.alloc(), *came, *end, line.as_bytes()), line);
     }
 }
