@@ -1,19 +1,14 @@
 -- The lines of programs that are found, one after another.
 use Rattle.std.proofs.Common.{◌≡◌, ◌∙◌, ◌<◌, ◌++◌, ◌∷◌, [], List, ap, arith, append_assoc}
-use Rattle.std.proofs.Common.{append-nil, length, refl, slice_index_or, subst, suc, sym, take, zero}
-use Rattle.std.proofs.Common.{ℕ, Option}
-use Rattle.std.proofs.KnownBytes.{Appends-kept}
-use Rattle.std.specs.Io.KnownBytes.{Keeps}
+use Rattle.std.proofs.Common.{append-nil, length, refl, slice_index_or, suc, sym, take, zero}
+use Rattle.std.proofs.Common.{ℕ}
 use Rattle.chan_deck.specs.Parts.{storage_with}
 use Rattle.chan_walk.specs.declared.job.Job.{Job}
 use Rattle.chan_walk.specs.OpenJob.{open_job}
 use Rattle.chan_find.specs.Programs.{AreProgramStarts, IsJobOver}
-use Rattle.chan_run.specs.Find.{AreLines, AreStartsInImage, IsFoundAnswer}
-use Rattle.chan_run.specs.Outcome.{IsDone}
+use Rattle.chan_run.specs.Find.{AreLines, AreStartsInImage}
 use Rattle.chan_run.specs.OutputWords.{IsRowLine, row_line, row_texts}
 use Rattle.std.specs.Borrow.{Bor}
-use Rattle.chan_run.specs.declared.outcome.Outcome.{Outcome}
-use Rattle.chan_run.specs.declared.outcome.Outcome.TheVariants.{Done, Failed}
 use Rattle.chan_run.specs.declared.image_options.ImageOptions.{ImageOptions}
 
 -- a line more

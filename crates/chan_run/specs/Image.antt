@@ -20,7 +20,7 @@ use Rattle.chan_run.specs.Output.{IsDeckJob}
 use Rattle.chan_run.specs.declared.failure.Failure.{Failure}
 use Rattle.chan_run.specs.declared.failure.Failure.TheVariants as failures
 use Rattle.chan_run.specs.declared.outcome.Outcome.{Outcome}
-use Rattle.chan_run.specs.declared.outcome.Outcome.TheVariants.{Done, Failed, NoJob}
+use Rattle.chan_run.specs.declared.outcome.Outcome.TheVariants.{Failed, NoJob}
 use Rattle.chan_run.specs.declared.image_options.ImageOptions.{ImageOptions}
 
 -- the deck that the options and an image of storage make

@@ -1,7 +1,5 @@
 -- The texts of the usage faults that name an option or a file, and of those that the library words.
-use Rattle.std.specs.Prelude.{◌≡◌, ◌⊎◌, ◌↔◌, ◌++◌, ℕ, Bool, false, List, [], Option, None, codes}
-use Rattle.std.specs.Io.KnownBytes.{Appends}
-use Rattle.ccw_core.specs.Written.{AppendsPrefix}
+use Rattle.std.specs.Prelude.{◌≡◌, ◌⊎◌, ◌↔◌, ◌++◌, ℕ, List, [], None, codes}
 use Rattle.chan_args.specs.declared.image_words.ImageOption.{ImageOption}
 use Rattle.chan_args.specs.declared.image_words.ImageOption.TheVariants as options
 use Rattle.chan_args.specs.declared.image_words.GrantFault.{GrantFault}
@@ -29,20 +27,14 @@ option_fault_text option text front why end =
     codes "error: invalid value '" ++ (text ++ (codes "' for '" ++ (usage_of option
     ++ (codes "': " ++ (front ++ (why ++ (end ++ texts.MORE.now)))))))
 
--- so it was written, or a prefix if a write failed: something is said before if the option read
--- decimal digits as another number in hexadecimal, and something after if it would have accepted
--- the number that they are in decimal
-pub record IsFaultSaid (fault : OptionFault) (old new : Option (List ℕ)) (failed : Bool)
-    : Type 0 where
+-- so it reads: something is said before if the option read decimal digits as another number in
+-- hexadecimal, and something after if it would have accepted the number that they are in decimal
+pub record IsFaultText (fault : OptionFault) (said : List ℕ) : Type 0 where
   pub front : List ℕ
   pub end : List ℕ
   pub read : (front ≡ []) ↔ (both_bases fault.option fault.text.now ≡ None)
   pub meant : (end ≡ []) ↔ (meant fault.option fault.text.now ≡ None)
-  pub whole :
-      failed ≡ false → Appends old new
-      (option_fault_text fault.option fault.text.now front fault.why.now end)
-  pub prefix :
-      AppendsPrefix old new (option_fault_text fault.option fault.text.now front fault.why.now end)
+  pub is : said ≡ option_fault_text fault.option fault.text.now front fault.why.now end
 
 -- options don't say one job
 abbrev pub grants_fault_text : GrantFault → List ℕ
@@ -70,11 +62,3 @@ IsTipless text said =
     (said ≡ text)
     ⊎ ((front : List ℕ) × (rest : List ℕ) × IsAroundTip text front rest
     × (said ≡ front ++ (texts.EMPTY_LINE.now ++ rest)))
-
--- so it was written, or a prefix if a write failed
-pub record IsSaidWithoutTip (text : List ℕ) (old new : Option (List ℕ)) (failed : Bool)
-    : Type 0 where
-  pub said : List ℕ
-  pub is : IsTipless text said
-  pub whole : failed ≡ false → Appends old new said
-  pub prefix : AppendsPrefix old new said

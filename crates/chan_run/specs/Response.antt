@@ -18,6 +18,7 @@ use Rattle.chan_run.specs.Input.{IsInput, IsReadFault}
 use Rattle.chan_run.specs.Name.{front_of, fronted, name_of}
 use Rattle.chan_run.specs.Outcome.{IsDone, line_over}
 use Rattle.chan_run.specs.Output.{IsAskedText, IsOfJob, Judges}
+use Rattle.chan_run.specs.Said.{IsSaid}
 use Rattle.chan_run.specs.declared.failure.Failure.{Failure}
 use Rattle.chan_run.specs.declared.failure.Failure.TheVariants as failures
 use Rattle.chan_run.specs.declared.name.Naming.{Naming}
@@ -90,24 +91,21 @@ abbrev pub IsResponse : Naming → Action → List ℕ → Response → Type 0
 IsResponse n a t r = IsBare (Failed failures.OutOfMemory) [] r ⊎ IsAnswerTo n a t r
 
 -- the answer to an input: to its text, or why that wasn't read
-abbrev pub IsInputResponse : Naming → Action → Option (List ℕ) → Option (List ℕ) → Response → Type 0
+abbrev pub IsInputResponse : Naming → Action → Option (List ℕ) → Option (List ℕ) → Response
+    → Type 0
 IsInputResponse n a old new r =
     ((t : List ℕ) × IsInput old new t × IsResponse n a t r)
     ⊎ ((failure : Failure) × IsReadFault old new failure × IsBare (Failed failure) [] r)
 
 -- ---- its delivery
 
--- the output was written if there is an answer, or a write failed and a prefix was
+-- the output was written if there is an answer, and else nothing; or a write failed and a prefix was
 abbrev pub IsPut : Response → Option (List ℕ) → Option (List ℕ) → Outcome → Type 0
 IsPut r old new end =
-    ((end ≡ r.outcome) × (IsDone end → Appends old new r.output.items))
+    ((end ≡ r.outcome) × (IsDone end → Appends old new r.output.items)
+    × ((IsDone end → ⊥) → new ≡ old))
     ⊎ ((end ≡ Failed failures.WriteFailed) × IsDone r.outcome
     × AppendsPrefix old new r.output.items)
-
--- these bytes were written, or where a write failed a prefix of them
-abbrev pub IsSaid : List ℕ → Option (List ℕ) → Option (List ℕ) → Bool → Type 0
-IsSaid bytes old new failed =
-    (failed ≡ false → Appends old new bytes) × AppendsPrefix old new bytes
 
 -- what is said of advice: its text, or the line that memory ran out for it
 abbrev pub advice_bytes : Option (List ℕ) → Option (List ℕ) → List ℕ

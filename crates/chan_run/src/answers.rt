@@ -1,12 +1,11 @@
 //! Answering an input: what the program does with each.
 
 ghost use Rattle.std.specs.Prelude.{◌≡◌, ◌↔◌, ◌+◌, ◌≤◌, ◌^◌, false, length, true};
-ghost use Rattle.std.specs.Io.KnownBytes.{Appends};
-ghost use Rattle.ccw_core.specs.Written.{AppendsPrefix};
 ghost use Rattle.chan_run.specs.Answers.{IsImageAnswer, IsImageHandled, IsImageResponse};
 ghost use Rattle.chan_run.specs.Name.{name_in};
 ghost use Rattle.chan_run.specs.Outcome.{IsDone, IsImageEnd, IsWriteFailure};
 ghost use Rattle.chan_run.specs.Response.{IsAnswered};
+ghost use Rattle.chan_run.specs.Said.{IsSaid};
 ghost use Rattle.chan_run.specs.declared.failure.Failure.TheVariants as failures;
 ghost use Rattle.chan_run.specs.declared.outcome.Outcome.TheVariants.{Failed};
 
@@ -20,7 +19,8 @@ use crate::no_job::no_job_text;
 use crate::outcome::Outcome;
 use crate::response::Response;
 use crate::status::respond_to;
-use ccw_core::{Watched, write_out};
+use crate::texts::say;
+use ccw_core::Watched;
 use chan_args::Action;
 use std::alloc::Global;
 use std::io::{Read, Write};
@@ -62,12 +62,10 @@ const USUAL_DEVICE: &str = "note: no --device, so 2314\n";
 /// Names the usual device, for a deck without a named one. If the writer fails, it has a prefix.
 pub fn note_usual_device<E: Write>(errors: &mut Watched<E>)
     requires { errors.old.failed ≡ false }
-    ensures whole { errors.new.failed ≡ false
-        → Appends (E.contents errors.old.device) (E.contents errors.new.device) USUAL_DEVICE.now }
-    ensures prefix { AppendsPrefix (E.contents errors.old.device) (E.contents errors.new.device)
-        USUAL_DEVICE.now }
+    ensures said { IsSaid USUAL_DEVICE.now
+        (E.contents errors.old.device) (E.contents errors.new.device) errors.new.failed }
 {
-    let _ = write_out(USUAL_DEVICE.as_bytes(), errors);
+    let _ = say(USUAL_DEVICE.as_bytes(), errors);
 }
 
 /// Reads an image of storage to the end of the input, writes the one text of the deck that it makes

@@ -5,13 +5,15 @@ ghost use Rattle.std.specs.Io.KnownBytes.{Appends};
 ghost use Rattle.ccw_core.specs.Written.{AppendsPrefix};
 ghost use Rattle.chan_run.specs.Name.{name_in};
 ghost use Rattle.chan_run.specs.Outcome.{IsDone, IsWriteFailure, line_over};
-ghost use Rattle.chan_run.specs.Response.{IsDelivered, IsPut, IsSaid, said_of};
+ghost use Rattle.chan_run.specs.Response.{IsDelivered, IsPut, said_of};
+ghost use Rattle.chan_run.specs.Said.{IsSaid};
 ghost use Rattle.chan_run.specs.declared.failure.Failure.TheVariants as failures;
 ghost use Rattle.chan_run.specs.declared.outcome.Outcome.TheVariants.{Failed};
 
 use crate::failure::Failure;
 use crate::outcome::{Outcome, is_done, write_line};
 use crate::response::Response;
+use crate::texts::say;
 use ccw_core::{DeviceFault, Watched, write_out};
 use std::io::Write;
 
@@ -19,8 +21,8 @@ use std::io::Write;
 /// memory.
 ///
 /// If all was done, the output is written and flushed; the outcome is a failed write if that fails.
-/// Then it writes the outcome's line, as `report` does. Behind it comes the advice, or the line that
-/// memory ran out for that, but not after a failed write; and then the note.
+/// Then it writes the outcome's line, as `report` does. Behind it comes the advice, or the line
+/// that memory ran out for that, but not after a failed write; and then the note.
 pub fn deliver<W: Write, E: Write>(
     name: Option<&str>,
     response: &Response,
@@ -91,7 +93,7 @@ fn tell_all<E: Write>(
     match &response.advice {
         Some(text) => {
             tell(name, response.outcome, text.as_slice(), errors)?;
-            write_out(response.note.as_bytes(), errors)
+            say(response.note.as_bytes(), errors)
         }
         None => {
             write_line(name, response.outcome, errors)?;
@@ -102,7 +104,7 @@ fn tell_all<E: Write>(
 }
 
 /// Writes the line of an outcome, and more behind it.
-#[tactic(auto, using(crate::proofs::Writing::prefix_after, crate::proofs::Writing::prefix_of_more))]
+#[tactic(auto, using(crate::proofs::Writing::said_broken))]
 fn tell<E: Write>(
     name: Option<&str>,
     outcome: Outcome,
@@ -110,12 +112,10 @@ fn tell<E: Write>(
     errors: &mut Watched<E>,
 ) -> Result<(), DeviceFault>
     requires { errors.old.failed ≡ false }
-    ensures ok { OnOk result (Appends (E.contents errors.old.device)
-        (E.contents errors.new.device) (line_over (name_in name.entry) outcome ++ more.now)) }
-    ensures prefix { AppendsPrefix (E.contents errors.old.device) (E.contents errors.new.device)
-        (line_over (name_in name.entry) outcome ++ more.now) }
+    ensures said { IsSaid (line_over (name_in name.entry) outcome ++ more.now)
+        (E.contents errors.old.device) (E.contents errors.new.device) errors.new.failed }
     ensures fault { IsErr result ↔ (errors.new.failed ≡ true) }
 {
     write_line(name, outcome, errors)?;
-    write_out(more, errors)
+    say(more, errors)
 }

@@ -1,7 +1,7 @@
 //! Finding the programs of an image of storage, a line for each.
 
 ghost use Rattle.std.specs.Prelude.{◌≡◌, ◌↔◌, ◌+◌, ◌≤◌, ◌^◌, false, true, length, IfOk, List, ℕ};
-ghost use Rattle.std.specs.Prelude.{◌⊎◌, string_bytes};
+ghost use Rattle.std.specs.Prelude.{◌⊎◌, ℕ, string_bytes};
 ghost use Rattle.ccw_core.specs.Held.{bytes_held};
 ghost use Rattle.chan_deck.specs.Parts.{storage_with};
 ghost use Rattle.chan_run.specs.Find.{IsFindAnswer, IsFindNote, IsFoundAnswer, IsLineAt, IsSearched};

@@ -3,20 +3,15 @@
 ghost use Rattle.std.specs.Prelude.{◌≡◌, ◌≢◌, ◌↔◌, [], false, true, string_bytes, IfOk};
 ghost use Rattle.chan_run.specs.OneCcw.{IsCcwShown, IsNamedCcw, plain_digits, without_blanks};
 ghost use Rattle.chan_run.specs.Options.{digits_in};
-ghost use Rattle.chan_run.specs.Outcome.{IsDone, IsWriteFailure};
-ghost use Rattle.chan_run.specs.Response.{IsDelivered};
-ghost use Rattle.chan_run.specs.declared.response.Response.{Response};
+ghost use Rattle.chan_run.specs.Outcome.{IsWriteFailure};
 ghost use Rattle.std.specs.Prelude.{◌≤◌, ◌||◌, None, IsTrue, codes, length, nat_eq};
 ghost use Rattle.std.specs.List.{starts_with};
 
-use crate::delivery::deliver;
 use crate::failure::Failure;
 use crate::one_ccw::{ShowError, shown_line};
 use crate::outcome::Outcome;
 use crate::response::Response;
-use ccw_core::Watched;
 use std::alloc::{AllocError, Global};
-use std::io::Write;
 
 /// A text without its blanks.
 fn without_blanks(alloc: Global, text: &[u8]) -> Result<Vec<u8>, AllocError>
@@ -64,32 +59,11 @@ fn fault_of(alloc: Global, digits: &[u8]) -> Result<String, AllocError>
     }
 }
 
-/// Writes the line that shows the CCW which a text spells, with the name of its command, and
-/// flushes the output. The text is sixteen hexadecimal digits of either case, between which blanks
-/// may stand, and `0x` before them.
-///
-/// The second writer gets the outcome's line. If the text is no CCW, a line follows that says which
-/// character is wrong, or how many digits there are.
-pub fn show_named<W: Write, E: Write>(
-    alloc: Global,
-    text: &str,
-    to: &mut Watched<W>,
-    errors: &mut Watched<E>,
-) -> Outcome
-    requires writer { to.old.failed ≡ false }
-    requires errors { errors.old.failed ≡ false }
-    ensures shown { (r : Response) × IsNamedCcw text.now r × IsDelivered None r
-        (W.contents to.old.device) (W.contents to.new.device)
-        (E.contents errors.old.device) (E.contents errors.new.device) errors.new.failed result }
-    ensures flushed { IsDone result → to.new.flushed ≡ true }
-    ensures write { IsWriteFailure result ↔ (to.new.failed ≡ true) }
-{
-    let response = respond_named(alloc, text.as_bytes());
-    deliver(None, &response, to, errors)
-}
-
-/// The answer to a text.
-fn respond_named(alloc: Global, text: &[u8]) -> Response
+/// The answer to a text that spells a CCW: the line that shows it with the name of its command. The
+/// text is sixteen hexadecimal digits of either case, between which blanks may stand, and `0x`
+/// before them. If the text is no CCW, the advice says which character is wrong, or how many digits
+/// there are.
+pub fn respond_named(alloc: Global, text: &[u8]) -> Response
     ensures answer { IsNamedCcw text.now result }
     ensures unwritten { IsWriteFailure result.outcome → ⊥ }
 {

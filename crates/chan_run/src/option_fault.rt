@@ -1,9 +1,8 @@
 //! The usage faults that name an option, in the wording of the command line's library.
 
-ghost use Rattle.std.specs.Prelude.{◌≡◌, ◌↔◌, ◌++◌, false, true, codes, IfSome, IsErr, OnOk};
-ghost use Rattle.std.specs.Io.KnownBytes.{Appends};
-ghost use Rattle.ccw_core.specs.Written.{AppendsPrefix};
-ghost use Rattle.chan_run.specs.OptionFault.{IsAroundTip, IsFaultSaid, IsSaidWithoutTip};
+ghost use Rattle.std.specs.Prelude.{◌≡◌, ◌↔◌, ◌++◌, false, true, codes, IfSome, List, ℕ, IsErr};
+ghost use Rattle.chan_run.specs.Said.{IsSaid};
+ghost use Rattle.chan_run.specs.OptionFault.{IsAroundTip, IsFaultText, IsTipless};
 ghost use Rattle.chan_run.specs.OptionFault.{file_fault_text, grants_fault_text, usage_of};
 
 use crate::bases::{correction, reading};
@@ -54,8 +53,8 @@ const MORE: &str = "\n\nFor more information, try '--help'.\n";
 pub fn report_option<W: Write>(fault: OptionFault<'_>, to: &mut Watched<W>) -> u8
     requires { to.old.failed ≡ false }
     ensures status { result ≡ 4 }
-    ensures said { IsFaultSaid fault.entry (W.contents to.old.device) (W.contents to.new.device)
-        to.new.failed }
+    ensures said { (text : List ℕ) × IsFaultText fault.entry text × IsSaid text
+        (W.contents to.old.device) (W.contents to.new.device) to.new.failed }
 {
     let usage = usage(fault.option);
     let (read, is_hexadecimal, number) = reading(fault.option, fault.text);
@@ -85,10 +84,8 @@ pub fn report_option<W: Write>(fault: OptionFault<'_>, to: &mut Watched<W>) -> u
 pub fn report_grants<W: Write>(fault: GrantFault, to: &mut Watched<W>) -> u8
     requires { to.old.failed ≡ false }
     ensures status { result ≡ 4 }
-    ensures whole { to.new.failed ≡ false → Appends (W.contents to.old.device)
-        (W.contents to.new.device) (grants_fault_text fault) }
-    ensures prefix { AppendsPrefix (W.contents to.old.device) (W.contents to.new.device)
-        (grants_fault_text fault) }
+    ensures said { IsSaid (grants_fault_text fault)
+        (W.contents to.old.device) (W.contents to.new.device) to.new.failed }
 {
     let _ = match fault {
         GrantFault::BesideLeast(option) => write_beside(BESIDE_LEAST, usage(option), to),
@@ -101,10 +98,8 @@ pub fn report_grants<W: Write>(fault: GrantFault, to: &mut Watched<W>) -> u8
 /// Writes the text of the usage fault that an option stands beside another, which begins so.
 fn write_beside<W: Write>(beside: &str, usage: &str, to: &mut Watched<W>) -> Result<(), DeviceFault>
     requires { to.old.failed ≡ false }
-    ensures ok { OnOk result (Appends (W.contents to.old.device) (W.contents to.new.device)
-        (beside.now ++ (usage.now ++ (codes "'" ++ MORE.now)))) }
-    ensures prefix { AppendsPrefix (W.contents to.old.device) (W.contents to.new.device)
-        (beside.now ++ (usage.now ++ (codes "'" ++ MORE.now))) }
+    ensures said { IsSaid (beside.now ++ (usage.now ++ (codes "'" ++ MORE.now)))
+        (W.contents to.old.device) (W.contents to.new.device) to.new.failed }
     ensures fault { IsErr result ↔ (to.new.failed ≡ true) }
 {
     write_texts(&[beside, usage, "'", MORE], to)
@@ -115,10 +110,8 @@ fn write_beside<W: Write>(beside: &str, usage: &str, to: &mut Watched<W>) -> Res
 pub fn report_file<W: Write>(name: &str, to: &mut Watched<W>) -> u8
     requires { to.old.failed ≡ false }
     ensures status { result ≡ 4 }
-    ensures whole { to.new.failed ≡ false → Appends (W.contents to.old.device)
-        (W.contents to.new.device) (file_fault_text name.now) }
-    ensures prefix { AppendsPrefix (W.contents to.old.device) (W.contents to.new.device)
-        (file_fault_text name.now) }
+    ensures said { IsSaid (file_fault_text name.now)
+        (W.contents to.old.device) (W.contents to.new.device) to.new.failed }
 {
     let _ = write_texts(
         &[
@@ -134,10 +127,8 @@ pub fn report_file<W: Write>(name: &str, to: &mut Watched<W>) -> u8
 pub fn report_no_ccw<W: Write>(to: &mut Watched<W>) -> u8
     requires { to.old.failed ≡ false }
     ensures status { result ≡ 4 }
-    ensures whole { to.new.failed ≡ false → Appends (W.contents to.old.device)
-        (W.contents to.new.device) (NO_CCW.now ++ MORE.now) }
-    ensures prefix { AppendsPrefix (W.contents to.old.device) (W.contents to.new.device)
-        (NO_CCW.now ++ MORE.now) }
+    ensures said { IsSaid (NO_CCW.now ++ MORE.now)
+        (W.contents to.old.device) (W.contents to.new.device) to.new.failed }
 {
     let _ = write_texts(&[NO_CCW, MORE], to);
     4
@@ -148,8 +139,8 @@ pub fn report_no_ccw<W: Write>(to: &mut Watched<W>) -> u8
 pub fn report_usage<W: Write>(text: &str, to: &mut Watched<W>) -> u8
     requires { to.old.failed ≡ false }
     ensures status { result ≡ 4 }
-    ensures said { IsSaidWithoutTip text.now (W.contents to.old.device) (W.contents to.new.device)
-        to.new.failed }
+    ensures said { (said : List ℕ) × IsTipless text.now said × IsSaid said
+        (W.contents to.old.device) (W.contents to.new.device) to.new.failed }
 {
     let _ = match around_tip(text) {
         Some((front, rest)) => write_texts(&[front, EMPTY_LINE, rest], to),

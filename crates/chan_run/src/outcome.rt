@@ -1,14 +1,13 @@
 //! How the program ends: its exit status, and its line on standard error.
 
-ghost use Rattle.std.specs.Prelude.{◌≡◌, ◌≤◌, ◌↔◌, ◌⊎◌, ◌++◌, false, true, IsErr, IsTrue, OnOk};
+ghost use Rattle.std.specs.Prelude.{◌≡◌, ◌≤◌, ◌↔◌, ◌⊎◌, ◌++◌, false, true, IsErr, IsTrue};
 ghost use Rattle.std.specs.Prelude.{IsErrOf, IsOk};
-ghost use Rattle.std.specs.Io.KnownBytes.{Appends};
-ghost use Rattle.ccw_core.specs.Written.{AppendsPrefix};
 ghost use Rattle.chan_run.specs.Failure.{row_of_failure};
 ghost use Rattle.chan_run.specs.Name.{name_in};
 ghost use Rattle.chan_run.specs.Outcome.{IsDone, IsWriteFailure, line_over};
 ghost use Rattle.chan_run.specs.Outcome.{shown, status_of, wrote};
 ghost use Rattle.chan_run.specs.Response.{outcome_of};
+ghost use Rattle.chan_run.specs.Said.{IsSaid};
 ghost use Rattle.chan_run.specs.declared.outcome.Outcome.TheVariants.{Done, Failed, Refused};
 
 use crate::failure::{Failure, row};
@@ -102,10 +101,8 @@ impl From<AllocError> for Outcome {
 pub fn report<W: Write>(name: Option<&str>, outcome: Outcome, to: &mut Watched<W>) -> u8
     requires { to.old.failed ≡ false }
     ensures status { result ≡ status_of outcome }
-    ensures line { to.new.failed ≡ false → Appends (W.contents to.old.device)
-        (W.contents to.new.device) (line_over (name_in name.entry) outcome) }
-    ensures prefix { AppendsPrefix (W.contents to.old.device) (W.contents to.new.device)
-        (line_over (name_in name.entry) outcome) }
+    ensures said { IsSaid (line_over (name_in name.entry) outcome)
+        (W.contents to.old.device) (W.contents to.new.device) to.new.failed }
 {
     let _ = write_line(name, outcome, to);
     exit_status(outcome)
@@ -156,10 +153,8 @@ pub(crate) fn write_line<W: Write>(
     to: &mut Watched<W>,
 ) -> Result<(), DeviceFault>
     requires { to.old.failed ≡ false }
-    ensures ok { OnOk result (Appends (W.contents to.old.device) (W.contents to.new.device)
-        (line_over (name_in name.entry) outcome)) }
-    ensures prefix { AppendsPrefix (W.contents to.old.device) (W.contents to.new.device)
-        (line_over (name_in name.entry) outcome) }
+    ensures said { IsSaid (line_over (name_in name.entry) outcome)
+        (W.contents to.old.device) (W.contents to.new.device) to.new.failed }
     ensures fault { IsErr result ↔ (to.new.failed ≡ true) }
 {
     match outcome {
@@ -178,10 +173,8 @@ fn write_refusal<W: Write>(
     to: &mut Watched<W>,
 ) -> Result<(), DeviceFault>
     requires { to.old.failed ≡ false }
-    ensures ok { OnOk result (Appends (W.contents to.old.device) (W.contents to.new.device)
-        (line_over (name_in name.entry) (Refused line cause))) }
-    ensures prefix { AppendsPrefix (W.contents to.old.device) (W.contents to.new.device)
-        (line_over (name_in name.entry) (Refused line cause)) }
+    ensures said { IsSaid (line_over (name_in name.entry) (Refused line cause))
+        (W.contents to.old.device) (W.contents to.new.device) to.new.failed }
     ensures fault { IsErr result ↔ (to.new.failed ≡ true) }
 {
     let (name, mark) = named(name, true);
@@ -209,10 +202,8 @@ fn write_failure<W: Write>(
     to: &mut Watched<W>,
 ) -> Result<(), DeviceFault>
     requires { to.old.failed ≡ false }
-    ensures ok { OnOk result (Appends (W.contents to.old.device) (W.contents to.new.device)
-        (line_over (name_in name.entry) (Failed failure))) }
-    ensures prefix { AppendsPrefix (W.contents to.old.device) (W.contents to.new.device)
-        (line_over (name_in name.entry) (Failed failure)) }
+    ensures said { IsSaid (line_over (name_in name.entry) (Failed failure))
+        (W.contents to.old.device) (W.contents to.new.device) to.new.failed }
     ensures fault { IsErr result ↔ (to.new.failed ≡ true) }
 {
     let (name, mark) = named(name, row(failure).5);

@@ -1,12 +1,11 @@
 //! The words of listings, needs and notes, and the names of commands, with what each means.
 
-ghost use Rattle.std.specs.Prelude.{◌≡◌, ◌↔◌, IfSome, IsErr, None, OnOk, false, true};
-ghost use Rattle.std.specs.Io.KnownBytes.{Appends};
-ghost use Rattle.ccw_core.specs.Written.{AppendsPrefix};
+ghost use Rattle.std.specs.Prelude.{◌≡◌, ◌↔◌, IfSome, IsErr, None, false, true};
 ghost use Rattle.std.specs.List.{All};
 ghost use Rattle.chan_run.specs.Outcome.{IsWriteFailure};
 ghost use Rattle.chan_run.specs.OutputWords.{AreRowsListed, IsFirstRow, IsRowFor, row_line};
 ghost use Rattle.chan_run.specs.OutputWords.{row_texts};
+ghost use Rattle.chan_run.specs.Said.{IsSaid};
 
 use crate::failure::Failure;
 use crate::outcome::Outcome;
@@ -166,10 +165,8 @@ pub(crate) fn row_for(rows: &[OutputWord], word: &str) -> Option<OutputWord>
 /// Writes the line of a word.
 pub(crate) fn write_row<W: Write>(row: OutputWord, to: &mut Watched<W>) -> Result<(), DeviceFault>
     requires { to.old.failed ≡ false }
-    ensures ok { OnOk result (Appends (W.contents to.old.device) (W.contents to.new.device)
-        (row_line (row.entry.0.now, row.entry.1.now))) }
-    ensures prefix { AppendsPrefix (W.contents to.old.device) (W.contents to.new.device)
-        (row_line (row.entry.0.now, row.entry.1.now)) }
+    ensures said { IsSaid (row_line (row.entry.0.now, row.entry.1.now))
+        (W.contents to.old.device) (W.contents to.new.device) to.new.failed }
     ensures fault { IsErr result ↔ (to.new.failed ≡ true) }
 {
     write_texts(&[row.0, ": ", row.1, "\n"], to)

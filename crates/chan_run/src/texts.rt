@@ -5,24 +5,32 @@ ghost use Rattle.std.specs.Prelude.{OnOk};
 ghost use Rattle.std.specs.Io.KnownBytes.{Appends};
 ghost use Rattle.ccw_core.specs.Written.{AppendsPrefix};
 ghost use Rattle.chan_run.specs.Name.{concatenated};
+ghost use Rattle.chan_run.specs.Said.{IsSaid};
 
 use arrayvec::ArrayString;
 use ccw_core::{DeviceFault, Watched, write_out};
 use std::io::Write;
 
+/// Writes some bytes.
+pub(crate) fn say<W: Write>(bytes: &[u8], to: &mut Watched<W>) -> Result<(), DeviceFault>
+    requires { to.old.failed ≡ false }
+    ensures said { IsSaid bytes.now
+        (W.contents to.old.device) (W.contents to.new.device) to.new.failed }
+    ensures fault { IsErr result ↔ (to.new.failed ≡ true) }
+{
+    write_out(bytes, to)
+}
+
 /// Writes some texts, one after another: with one write, if together they have at most 4,096 bytes,
 /// which holds a line with any usual name; else each with a write of its own.
-#[tactic(auto, using(crate::proofs::Writing::prefix_after, crate::proofs::Writing::prefix_of_more))]
 pub(crate) fn write_texts<W: Write>(texts: &[&str], to: &mut Watched<W>) -> Result<(), DeviceFault>
     requires { to.old.failed ≡ false }
-    ensures ok { OnOk result (Appends (W.contents to.old.device) (W.contents to.new.device)
-        (concatenated texts.now)) }
-    ensures prefix { AppendsPrefix (W.contents to.old.device) (W.contents to.new.device)
-        (concatenated texts.now) }
+    ensures said { IsSaid (concatenated texts.now)
+        (W.contents to.old.device) (W.contents to.new.device) to.new.failed }
     ensures fault { IsErr result ↔ (to.new.failed ≡ true) }
 {
     match line_of(texts) {
-        Some(line) => write_out(line.as_bytes(), to),
+        Some(line) => say(line.as_bytes(), to),
         None => write_each(texts, to),
     }
 }

@@ -18,7 +18,7 @@ use chan_run::{
     Failure, ImageOptions, Naming, OptionError, Outcome, Response, answer, answer_image, deliver,
     ends_run, exit_status, explain_word, find_programs, greater_status, list_words,
     note_usual_device, options_of, report, report_file, report_grants, report_no_ccw,
-    report_option, report_usage, show, show_named, shown_word, word_of,
+    report_option, report_usage, respond_named, show, shown_word, word_of,
 };
 use std::alloc::AllocError;
 use std::env::{Env, FillError};
@@ -96,7 +96,7 @@ fn read_word(rt: &HostRuntime, number: usize) -> Result<Option<Vec<u8>>, AllocEr
 fn answer_words(rt: &HostRuntime, words: &[String]) -> u8 {
     match read_request(rt.alloc(), words) {
         Request::Show(text) => show_ccw(rt, text),
-        Request::ShowNamed(text) => show_named_ccw(rt, text),
+        Request::ShowNamed(text) => deliver_out(rt, &respond_named(rt.alloc(), text.as_bytes())),
         Request::NoCcw => report_no_ccw(&mut Watched::new(rt.stderr())),
         Request::Run(action) => {
             exit_status(run_over(rt, action, UNNAMED, Input::Standard(rt.stdin())))
@@ -148,20 +148,21 @@ fn print_out(rt: &HostRuntime, text: String) -> u8 {
         advice: Some(Vec::new(rt.alloc())),
         note: "",
     };
+    deliver_out(rt, &help)
+}
+
+/// Delivers an answer, and gives the exit status.
+fn deliver_out(rt: &HostRuntime, response: &Response) -> u8
+    requires { IsWriteFailure response.now.outcome → ⊥ }
+{
     let mut output = Watched::new(rt.stdout());
-    exit_status(deliver(None, &help, &mut output, &mut Watched::new(rt.stderr())))
+    exit_status(deliver(None, response, &mut output, &mut Watched::new(rt.stderr())))
 }
 
 fn show_ccw(rt: &HostRuntime, text: &str) -> u8 {
     let mut output = Watched::new(rt.stdout());
     let answer = show(rt.alloc(), text.as_bytes(), false, &mut output);
     end_with(rt, None, Outcome::of_show(answer), &mut output)
-}
-
-fn show_named_ccw(rt: &HostRuntime, text: &str) -> u8 {
-    let mut output = Watched::new(rt.stdout());
-    let mut errors = Watched::new(rt.stderr());
-    exit_status(show_named(rt.alloc(), text, &mut output, &mut errors))
 }
 
 fn explain(rt: &HostRuntime, word: &str) -> u8 {

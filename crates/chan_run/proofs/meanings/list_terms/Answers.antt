@@ -38,7 +38,7 @@ returns-then-is_err-clause-answer g c =
       suc c.loop-term.term-index,
       text ++ line,
       lines_more IsWordLine c.args.terms.now c.loop-term.term-index _ text line c.loop-term-test.true lines at,
-      prefix_after _ _ _ text line app c.write_texts.ensures.prefix,
+      prefix_after _ _ _ text line app c.write_texts.ensures.said.1,
     )
 
 pub returns-clause-answer : goal.returns-clause-answer
