@@ -13,11 +13,11 @@ use Rattle.chan_walk.specs.Counted.{IsCounted, with_storage}
 use Rattle.chan_needs.specs.Needs.{KeepsProgram}
 use Rattle.chan_needs.specs.Remembered.{AreInFlight, IsInFlight, IsRemembered, KeepsNone}
 use Rattle.chan_needs.specs.Remembered.{IsInFlightAt, IsWritten, WritesWell, device_number}
-use Rattle.chan_needs.specs.Start.{IsFit, IsBeside, StartsWell}
+use Rattle.chan_needs.specs.Start.{IsFit, IsBeside, RememberedIsFit, StartsWell}
 use Rattle.chan_needs.specs.Rows.{HasStoreAndKeep, Listed, MayRunBeside, rows_of}
 use Rattle.chan_needs.specs.Asked.{FitIsAsked, IsFlightOf}
 use Rattle.chan_walk.proofs.Algorithms.Counted.{carries_at}
-use Rattle.chan_needs.proofs.Needed.{grants_from, may_run_beside}
+use Rattle.chan_needs.proofs.Needed.{grants_from, may_run_beside, rows_are_exact}
 use Rattle.chan_walk.proofs.Machine.Again.{counted_is_guarded, yes_by_guarded}
 use Rattle.chan_needs.proofs.Asking.{asked_once}
 use Rattle.chan_needs.proofs.Beginning.{asked_may_start, others_may_change}
@@ -166,6 +166,18 @@ fit_is_asked j a f p fs remembered flying proper fit start = record {
   stage = start.stage;
   events = start.events;
   beside = λ i g e. beside f.job p fs proper fit j remembered g (flying i g e);
+}
+
+pub remembered_is_fit : RememberedIsFit
+remembered_is_fit j k p fs r keeps held grants beside = record {
+  program = record {
+    start = sym keeps.start ∙ r.start;
+    device = ap device_number (sym keeps.device) ∙ r.device;
+    storage_len = keeps.storage.same_length ∙ sym r.needs.storage_len;
+  };
+  kept = held;
+  granted = (rows_are_exact.grants j k (rows_of p.rows) r.needs (keeps.storage.same_length ∙ sym r.needs.storage_len)).1 grants;
+  beside = beside;
 }
 
 pub starts_well : (j : Job) (p : Remembered) (fs : List Remembered) → IsProper j → IsFit j p fs → StartsWell j p fs

@@ -14,7 +14,7 @@ use Rattle.chan_needs.specs.declared.start.Start.TheVariants as answer
 use Rattle.chan_areas.specs.Merged.{IsLeastOf}
 use Rattle.chan_needs.specs.History.{MayStart, Situation}
 use Rattle.chan_walk.specs.Job.{storage_of, extents_of, fetch_of, store_of}
-use Rattle.chan_needs.specs.Needs.{Grants}
+use Rattle.chan_needs.specs.Needs.{Grants, KeepsProgram}
 use Rattle.chan_needs.specs.Rows.{AreNeeds, HasStoreAndKeep, Listed, MayRunBeside, rows_of}
 use Rattle.chan_walk.specs.Runs.{IsStart, Moment}
 use Rattle.chan_needs.specs.Remembered.{IsFirstChanged, HoldsKept, IsInFlightAt, IsRemembered}
@@ -62,6 +62,13 @@ pub record IsFit (j : Job) (p : Remembered) (fs : List Remembered) : Type 0 wher
   pub kept : HoldsKept j p
   pub granted : GrantsListed j (rows_of p.rows)
   pub beside : All (IsBeside p) fs
+
+-- a job that grants what the program needs, over storage that holds what was kept, fits what is
+-- remembered, if the program is beside each in flight
+abbrev pub RememberedIsFit : Type 0
+RememberedIsFit =
+    (j k : Job) (p : Remembered) (fs : List Remembered) → IsRemembered j p → KeepsProgram j k
+    → HoldsKept k p → Grants j k → All (IsBeside p) fs → IsFit k p fs
 
 -- ---- what is wrong if one of them fails
 

@@ -5,7 +5,7 @@ ghost use Rattle.chan_needs.specs.Beside.{MayRunTogether, SafeSideBySide};
 ghost use Rattle.chan_needs.specs.History.{StaysWell};
 ghost use Rattle.chan_needs.specs.Needs.{AskedOnce, LeastJob, NeededMaskIsEnough, NeededMaskExists};
 ghost use Rattle.chan_needs.specs.Needs.{NeededMaskIsOne, NoJobWillDo, SafeIsGranted};
-ghost use Rattle.chan_needs.specs.Start.{RowsAreExact};
+ghost use Rattle.chan_needs.specs.Start.{RememberedIsFit, RowsAreExact};
 ghost use Rattle.chan_needs.specs.Rows.{BesideIsApart};
 ghost use Rattle.chan_needs.specs.Asked.{AskedMayStart, EachMayLeave, EachMayStart, EachMayStep};
 ghost use Rattle.chan_needs.specs.Asked.{FitIsAsked, HistoryBegins, OthersMayChange};
@@ -87,6 +87,12 @@ pub(crate) fn asked_may_start()
 /// A job that fits what is remembered of its program was asked about in this sense.
 pub(crate) fn fit_is_asked()
     ensures { FitIsAsked }
+{}
+
+/// A job fits what was remembered if its storage holds what was kept, it grants what the program
+/// needs, and the program may run beside each in flight.
+pub(crate) fn remembered_is_fit()
+    ensures { RememberedIsFit }
 {}
 
 /// Rows of needs list no more than what is needed.

@@ -27,7 +27,7 @@ use Rattle.chan_walk.specs.Runs.{Moment, Steps}
 use Rattle.chan_walk.specs.Successor.{Successor, chained, next_of, skip_of}
 use Rattle.chan_walk.specs.Verdict.{IsVerdict}
 use Rattle.chan_why.specs.Hang.{CannotEndAt, EndsAfter, EndsTheProgram, HangLasts, SomeRunEnds}
-use Rattle.chan_why.specs.Hang.{HangsAlike, StepsOn, StepsOnUnlessItEnds}
+use Rattle.chan_why.specs.Hang.{HangGoesOn, HangsAlike, StepsOn, StepsOnUnlessItEnds}
 use Rattle.chan_walk.proofs.Machine.Gathering.{advance, begin}
 use Rattle.chan_walk.proofs.Machine.Invariant.{Invariant, Same, Under}
 use Rattle.chan_walk.proofs.Machine.Paths.{Taking, each_path_is_run, few_at}
@@ -195,6 +195,12 @@ pub hang_lasts : HangLasts
 hang_lasts j v [] earlier m r c = tt
 hang_lasts j v (n ∷ []) earlier m r c = (next j v m n r.1 (each_ok j v (m ∷ earlier) r.0).0.kept c, tt)
 hang_lasts j v (n ∷ l ∷ later) earlier m r c = let rest = hang_lasts j v (l ∷ later) earlier m r.0 c in (next j v l n r.1 (each_ok j v (l ∷ (later ++ m ∷ earlier)) r.0).0.kept rest.0, rest)
+
+goes_on : (j : Job) → IsVerdict j Yes → (n : Moment) → Invariant j n.storage n.arm n.mask n.stage → CannotEndAt j n.stage → AreBytes n.storage → (p : Place) (g : Gathered) → n.stage ≡ At p g → StepsOn n
+goes_on j v n i c bytes p g is = let k = subst (Invariant j n.storage n.arm n.mask) is i in steps_on j v p k.stage.0 n g bytes is k (λ e. (subst (CannotEndAt j) is c) ([], e))
+
+pub hang_goes_on : HangGoesOn
+hang_goes_on j v n later earlier m r c bytes p g is = let h = hang_lasts j v (n ∷ later) earlier m r c in goes_on j v n (each_ok j v (n ∷ (later ++ m ∷ earlier)) r).0.kept h.0 bytes p g is
 
 -- ---- a run to an end
 

@@ -50,6 +50,10 @@ IsFirstPlace P (Some p) = P p × ((q : Place) → P q → place_number p ≤ pla
 
 -- ---- what runs show
 
+-- a step of the program leads from m to a place
+abbrev pub StepsOn : Moment → Type 0
+StepsOn m = (n : Moment) × Steps m n × (q : Place) × (g : Gathered) × (n.stage ≡ At q g)
+
 -- a stage at a place that can't end, or at none
 abbrev pub CannotEndAt : Job → Stage → Type 0
 CannotEndAt j (At p g) = CanEnd j p → ⊥
@@ -64,6 +68,14 @@ HangLasts =
     → IsSpared j (later ++ m ∷ earlier) → CannotEndAt j m.stage
     → AllByRecursion (λ n. CannotEndAt j n.stage) later
 
+-- where the verdict is yes, in each run among others: after a moment at a place that can't end,
+-- from each later one at a place some step leads on
+abbrev pub HangGoesOn : Type 0
+HangGoesOn =
+    (j : Job) → IsVerdict j Yes → (n : Moment) (later earlier : List Moment) (m : Moment)
+    → IsSpared j (n ∷ (later ++ m ∷ earlier)) → CannotEndAt j m.stage → AreBytes n.storage
+    → (p : Place) (g : Gathered) → n.stage ≡ At p g → StepsOn n
+
 -- from each reachable place that can end some run of the machine comes to a place that ends the
 -- program
 abbrev pub SomeRunEnds : Type 0
@@ -71,10 +83,6 @@ SomeRunEnds =
     (j : Job) → IsProper j → (p : Place) → IsReachable j p → CanEnd j p
     → (on : List Place) × EndsAfter j p on × (before : List Place) × (run : List Moment)
     × IsRun j run × ArePlaces run (reverse on ++ p ∷ before)
-
--- a step of the program leads from m to a place
-abbrev pub StepsOn : Moment → Type 0
-StepsOn m = (n : Moment) × Steps m n × (q : Place) × (g : Gathered) × (n.stage ≡ At q g)
 
 -- where the verdict is yes, at each moment at a place, with bytes in storage: some step leads on to
 -- a place exactly if this one doesn't end the program

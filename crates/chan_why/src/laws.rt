@@ -1,13 +1,20 @@
 //! The laws of programs that may hang: each is the contract of a function that does nothing, so
 //! that it is proved.
 
-ghost use Rattle.chan_why.specs.Hang.{HangLasts, HangsAlike, SomeRunEnds, StepsOnUnlessItEnds};
+ghost use Rattle.chan_why.specs.Hang.{HangGoesOn, HangLasts, HangsAlike, SomeRunEnds};
+ghost use Rattle.chan_why.specs.Hang.{StepsOnUnlessItEnds};
 
 /// Where the verdict is yes, a run among others that change no guarded byte never comes from a
 /// place that can't end to one that can.
 #[tactic(auto, using(crate::proofs::Hanging::hang_lasts))]
 fn hang_lasts()
     ensures { HangLasts }
+{}
+
+/// Where the verdict is yes, a run that has been at a place that can't end goes on: from each later
+/// moment at a place some step leads to a place.
+fn hang_goes_on()
+    ensures { HangGoesOn }
 {}
 
 /// From each reachable place that can end some run comes to a place that ends the program.
