@@ -5,6 +5,7 @@ use Rattle.chan_walk.specs.declared.place.Place.{Place}
 use Rattle.chan_walk.specs.declared.verdict.Verdict.{Verdict}
 use Rattle.chan_walk.specs.declared.verdict.Verdict.TheVariants.{Yes, No}
 use Rattle.chan_walk.specs.Alarm.{IsShownAt}
+use Rattle.chan_walk.specs.Harm.{MayHarm}
 use Rattle.chan_walk.specs.Places.{AreReachable}
 use Rattle.chan_walk.specs.Headline.{IsSafe, IsSafeAmong, IsSteady, IsSteadyAmong}
 use Rattle.chan_walk.specs.Verdict.{IsVerdict}
@@ -18,10 +19,11 @@ IsSound j v = v ≡ Yes → IsSafe j × IsSteady j
 abbrev pub IsSoundAmong : Job → Verdict → Type 0
 IsSoundAmong j v = v ≡ Yes → IsSafeAmong j × IsSteadyAmong j
 
--- a no has a witness: a run that comes to a place with its address and shows its reason there
+-- a no has a witness: a run that comes to a place with its address and shows its reason there; and
+-- some run does harm
 abbrev pub HasWitness : Job → Verdict → Type 0
 HasWitness j Yes = Unit {0}
-HasWitness j (No a r) = (p : Place) × (p.address ≡ a) × IsShownAt j p r
+HasWitness j (No a r) = (p : Place) × (p.address ≡ a) × IsShownAt j p r × MayHarm j
 
 -- complete: the answer is yes wherever every run is safe and the job is steady
 abbrev pub IsComplete : Job → Verdict → Type 0

@@ -11,13 +11,13 @@ use Rattle.chan_walk.specs.declared.reason.Reason.TheVariants.{FetchNotLent, Sho
 use Rattle.chan_walk.specs.declared.reason.Reason.TheVariants.{ChangesCcw, ChangesArgument}
 use Rattle.chan_walk.specs.declared.reason.Reason.TheVariants.{WeakensMask}
 use Rattle.chan_walk.specs.declared.verdict.Verdict.TheVariants.{No}
-use Rattle.chan_walk.specs.Alarm.{ArePlaces, IsUsed, Shows}
-use Rattle.chan_walk.specs.Answers.{HasWitness}
+use Rattle.chan_walk.specs.Alarm.{ArePlaces, IsProper, IsUsed, Shows}
 use Rattle.chan_walk.specs.Argument.{Has}
 use Rattle.chan_walk.specs.Headline.{Holds, IsSafe, IsSafeEvent, IsSafeMoment, IsSteady}
 use Rattle.chan_walk.specs.Headline.{IsUnchecked}
 use Rattle.chan_walk.specs.Machine.{Event}
 use Rattle.chan_walk.specs.Runs.{Moment, IsRun}
+use Rattle.chan_walk.specs.Verdict.{IsVerdict}
 
 -- at m a byte that some run uses doesn't have its first value
 abbrev pub IsUnsteady : Job → Moment → Type 0
@@ -40,9 +40,9 @@ MayHarm j = (run : List Moment) × IsRun j run × DoesHarm j run
 abbrev pub HarmlessIsSafe : Type 0
 HarmlessIsSafe = (j : Job) → (IsSafe j × IsSteady j) ↔ (MayHarm j → ⊥)
 
--- after every no some run does harm
+-- where the verdict is no, some run does harm
 abbrev pub NoIsHarm : Type 0
-NoIsHarm = (j : Job) (a : ℕ) (r : Reason) → HasWitness j (No a r) → MayHarm j
+NoIsHarm = (j : Job) (a : ℕ) (r : Reason) → IsProper j → IsVerdict j (No a r) → MayHarm j
 
 -- ---- which promise a reason breaks
 

@@ -13,7 +13,9 @@ use crate::error::WalkError;
 use crate::guard::Guard;
 use crate::job::Job;
 use crate::job_survey::Survey;
-use crate::laws::{first_is_verdict, no_false_alarm, safe_is_yes, yes_is_safe, yes_is_safe_among};
+use crate::laws::{
+    first_is_verdict, no_false_alarm, no_is_harm, safe_is_yes, yes_is_safe, yes_is_safe_among,
+};
 use crate::offence::offences_of;
 use crate::verdict::Verdict;
 use crate::walk::{Walk, walk_all};
@@ -34,6 +36,7 @@ pub fn survey(alloc: Global, job: &Job) -> Result<Survey, WalkError>
     yes_is_safe();
     yes_is_safe_among();
     no_false_alarm();
+    no_is_harm();
     safe_is_yes();
     job.show_proper();
     let walk = walk_all(alloc, job)?;
@@ -63,7 +66,7 @@ pub fn survey(alloc: Global, job: &Job) -> Result<Survey, WalkError>
 /// even while others write to storage, as long as they leave the guarded bytes alone.
 ///
 /// `No` names the first offending CCW, by address, and the first reason there, by number; some run
-/// shows it. A job that is safe in every run, and steady, is never answered `No`.
+/// shows it, and some run does harm. A job that is safe in every run, and steady, is never answered `No`.
 ///
 /// `TooManyPlaces` comes exactly if more places are reachable than the job's limit and no growth
 /// was refused, even if one of them offends. `Memory` comes if a growth was refused.

@@ -80,7 +80,7 @@ pub(crate) fn shown_breaks()
     ensures { ShownBreaks }
 {}
 
-/// After every no some run does harm.
+/// Where the verdict is no, some run does harm.
 pub(crate) fn no_is_harm()
     ensures { NoIsHarm }
 {}

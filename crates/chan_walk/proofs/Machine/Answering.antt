@@ -1,10 +1,11 @@
 -- What the laws say of a job's verdict.
 use Rattle.chan_walk.proofs.Names.{Agrees, BTreeMap, IsVerdict, Job, List, nat_cmp, places_of_looks}
-use Rattle.chan_walk.proofs.Names.{refl, rules, Seen, subst, Yes, ℕ, ◌≡◌}
+use Rattle.chan_walk.proofs.Names.{refl, Seen, subst, Yes, ℕ, ◌≡◌}
 use Rattle.chan_walk.specs.declared.verdict.Verdict.{Verdict}
 use Rattle.chan_walk.specs.declared.verdict.Verdict.TheVariants.{No}
 use Rattle.chan_walk.specs.Alarm.{IsProper, NoFalseAlarm}
 use Rattle.chan_walk.specs.Answers.{HasAtMost, HasWitness, IsSound, IsSoundAmong}
+use Rattle.chan_walk.specs.Harm.{NoIsHarm}
 use Rattle.chan_walk.specs.Headline.{YesIsSafe, YesIsSafeAmong}
 use Rattle.chan_walk.specs.Job.{HasMask}
 use Rattle.chan_walk.specs.Marks.{ListsMarks, places_of}
@@ -18,8 +19,9 @@ covers j v mask law h e = law j mask (subst (λ (w : Verdict). IsVerdict j w) e 
 pub covers_among : (j : Job) (v : Verdict) → HasMask j → YesIsSafeAmong → IsVerdict j v → IsSoundAmong j v
 covers_among j v mask law h e = law j mask (subst (λ (w : Verdict). IsVerdict j w) e h)
 
-pub shown : (j : Job) (v : Verdict) → IsProper j → NoFalseAlarm → IsVerdict j v → HasWitness j v
-shown j v proper law h = search rules
+pub shown : (j : Job) (v : Verdict) → IsProper j → NoFalseAlarm → NoIsHarm → IsVerdict j v → HasWitness j v
+shown j Yes proper shows harms h = tt
+shown j (No a r) proper shows harms h = let w = shows j a r proper h in (w.0, w.1, w.2, harms j a r proper h)
 
 -- where one verdict is yes, so is every other
 pub only_yes : (j : Job) (v : Verdict) → IsVerdict j v → IsVerdict j Yes → v ≡ Yes

@@ -17,6 +17,7 @@ use Rattle.chan_walk.specs.Harm.{HasUnsafeEvent, IsHarm, IsStopped, MayHarm, NoI
 use Rattle.chan_walk.specs.Headline.{Holds, IsSafe, IsSafeEvent, IsSafeMoment, IsSteady, IsUnchecked}
 use Rattle.chan_walk.specs.Machine.{Fetch, Gather, SetMask, Store}
 use Rattle.chan_walk.specs.Runs.{Uses, UsesInArgument, UsesInCcw}
+use Rattle.chan_walk.proofs.Machine.Alarm.{no_false_alarm}
 
 -- ---- each reason breaks a promise
 
@@ -98,7 +99,7 @@ pub shown_harms : (j : Job) (p : Place) (ps : List Place) (r : Reason) → Shows
 shown_harms j p ps r s = let b = breaks j p ps r s in (b.last ∷ (b.more ++ b.run), b.is_run, (b.last, inl refl, is_harm j b.last r b.breaks))
 
 pub no_is_harm : NoIsHarm
-no_is_harm j a r w = shown_harms j w.0 w.2.0 r w.2.2
+no_is_harm j a r proper v = let w = no_false_alarm j a r proper v in shown_harms j w.0 w.2.0 r w.2.2
 
 -- ---- harm is the negation of the promise
 
