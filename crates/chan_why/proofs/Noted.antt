@@ -1,7 +1,7 @@
 -- Notes: areas lent in vain, and the addresses of CCWs that pass a test.
 use Rattle.std.proofs.Common.{◌≡◌, ℕ, zero, suc, ◌+◌, ◌<◌, ◌≤◌, Bool, true, not, ◌&&◌, max, nat_lt}
 use Rattle.std.proofs.Common.{IsTrue, List, [], ◌∷◌, ◌++◌, sym, ap, ◌∙◌, subst, ◌⊎◌, inl, inr, ◌↔◌}
-use Rattle.std.proofs.Common.{arith, eqb, rules}
+use Rattle.std.proofs.Common.{arith, eqb, false, refl, rules, is_some, None, Option, Some}
 use Rattle.std.specs.Cmp.Derive.{one_truth}
 use Rattle.std.specs.List.{dedup, filter}
 use Rattle.std.specs.List.Sorted.{IsPermutation, IsStrictlyIncreasing}
@@ -11,20 +11,24 @@ use Rattle.std.proofs.lemmas.List.Kept.{Contains-dedup_nat, Contains-from_dedup}
 use Rattle.std.proofs.lemmas.List.Sorted.{Contains-permutation, IsPermutation-sym}
 use Rattle.ccw_core.specs.declared.areas.Area.{Area}
 use Rattle.ccw_core.specs.Areas.{end_of, lies_in}
-use Rattle.ccw_core.specs.Ccw.{Fields}
-use Rattle.ckd_core.specs.Command.{lookup}
+use Rattle.ccw_core.specs.Ccw.{Fields, chains_data, is_transfer}
+use Rattle.ckd_core.specs.declared.command.Kind.{Kind}
+use Rattle.ckd_core.specs.declared.command.Kind.TheVariants.{Idle, Inward, Outward, Search}
+use Rattle.ckd_core.specs.Command.{Entry as Command, lookup}
 use Rattle.chan_walk.specs.declared.job.Job.{Job}
 use Rattle.chan_walk.specs.declared.place.Entry.{Entry}
 use Rattle.chan_walk.specs.declared.place.Place.{Place}
 use Rattle.chan_walk.specs.Argument.{Has}
-use Rattle.chan_walk.specs.Fault.{kind_of, kind_of_command}
+use Rattle.chan_walk.specs.Fault.{is_known, kind_of, kind_of_command}
 use Rattle.chan_walk.specs.Places.{AreReached}
 use Rattle.chan_walk.specs.Look.{IsLook, Seen}
 use Rattle.chan_why.specs.Notes.{AddsAddress, AreAddressesOf, AreUnused, IsMachineByte}
-use Rattle.chan_why.specs.Notes.{IsSeenWith, HasUsedByte, NothingFollows, has_byte_of}
+use Rattle.chan_why.specs.Notes.{HasNoSuccessor, IsSeenWith, HasUsedByte, NothingFollows}
+use Rattle.chan_why.specs.Notes.{ends_there, has_byte_of, is_idle, moves_nothing}
 use Rattle.chan_why.specs.Notes.{has_machine_byte, meets_any}
 use Rattle.chan_walk.specs.Moved.{Passes}
 use Rattle.chan_walk.specs.Place.{is_fresh, ccw_of}
+use Rattle.chan_walk.specs.Successor.{next_of}
 use Rattle.chan_areas.specs.Merged.{Meets}
 use Rattle.chan_walk.proofs.Algorithms.Moved.{seen_at}
 use Rattle.chan_why.proofs.Idle.{idle_is_no_transfer}
@@ -145,5 +149,26 @@ address_added so here a old new s e n b = search (rules, has_push)
 fresh_kind : (e : Entry) (c : Fields) → is_fresh e ≡ true → kind_of e c ≡ kind_of_command (lookup c.command)
 fresh_kind e c h = search rules
 
+nothing_after : (p : Place) (c : Fields) → ends_there p c ≡ true → HasNoSuccessor p c
+nothing_after p c h = search (rules, and_parts, idle_is_no_transfer, fresh_kind)
+
+all_three : {a b c : Bool} → a ≡ true → b ≡ true → c ≡ true → a && b && c ≡ true
+all_three p q r = search rules
+
+-- a kind that nothing follows with chain data on moves no data
+idle_without_next : (p : Place) (c : Fields) (k : Kind) → is_transfer c ≡ false → chains_data c ≡ true → next_of p c k ≡ None → moves_nothing k ≡ true
+idle_without_next p c Idle t d n = refl
+idle_without_next p c Inward t d n = absurd (cc)
+idle_without_next p c Outward t d n = absurd (cc)
+idle_without_next p c Search t d n = absurd (cc)
+
+idle_if_known : (p : Place) (c : Fields) (o : Option Command) → is_some o ≡ true → is_transfer c ≡ false → chains_data c ≡ true → next_of p c (kind_of_command o) ≡ None → is_idle o ≡ true
+idle_if_known p c None k t d n = absurd (cc)
+idle_if_known p c (Some e) k t d n = idle_without_next p c e.kind t d n
+
+ends_without : (p : Place) (c : Fields) → is_fresh p.entered ≡ true → is_known c.command ≡ true → is_transfer c ≡ false → chains_data c ≡ true → HasNoSuccessor p c → ends_there p c ≡ true
+ends_without p c f k t d n =
+    all_three f (idle_if_known p c (lookup c.command) k t d (subst (λ q. next_of p c q ≡ None) (fresh_kind p.entered c f) n.0)) d
+
 pub nothing_follows : NothingFollows
-nothing_follows p c h = search (rules, and_parts, idle_is_no_transfer, fresh_kind)
+nothing_follows p c = (nothing_after p c, ends_without p c)

@@ -1,5 +1,6 @@
 -- Where a program ends by itself, from where it can end, and where it may hang: from there on only
--- an error or a halt ends it.
+-- an error, an incorrect length or a halt ends it. An end because a record has another length than
+-- the CCWs isn't counted: it depends on what the disk holds.
 use Rattle.std.specs.Prelude.{◌≡◌, ℕ, ◌+◌, ◌<◌, ◌≤◌, Bool, true, false, not, List, [], ◌∷◌, ◌++◌}
 use Rattle.std.specs.Prelude.{length, reverse, slice_get, slice_index_or, Option, None, Some, ◌⊎◌}
 use Rattle.std.specs.Prelude.{◌↔◌, ◌&&◌, ◌/◌, ◌%◌, take, slice_index, is_none, option_map}
@@ -90,6 +91,11 @@ abbrev pub StepsOnUnlessItEnds : Type 0
 StepsOnUnlessItEnds = EachMomentOfYes (λ j m.
     AreBytes m.storage → (p : Place) (g : Gathered) → m.stage ≡ At p g
     → StepsOn m ↔ (EndsTheProgram j p → ⊥))
+
+-- a reachable place that can't end is one at which the program may hang
+abbrev pub EndlessMayHang : Type 0
+EndlessMayHang =
+    (j : Job) (p : Place) → IsReachable j p → (CanEnd j p → ⊥) → MayHang j p
 
 -- a program may hang at the same places under each job with a yes
 abbrev pub HangsAlike : Type 0

@@ -14,7 +14,7 @@ use Rattle.chan_walk.specs.declared.job.Job.{Job}
 use Rattle.chan_why.specs.declared.notes.Notes.{Notes}
 use Rattle.chan_walk.specs.declared.place.Place.{Place}
 use Rattle.chan_walk.specs.Argument.{Has}
-use Rattle.chan_walk.specs.Fault.{kind_of}
+use Rattle.chan_walk.specs.Fault.{is_known, kind_of}
 use Rattle.chan_walk.specs.Guarded.{IsGuarded}
 use Rattle.chan_walk.specs.Job.{fetch_of, storage_of, store_of}
 use Rattle.chan_walk.specs.Look.{Seen}
@@ -81,10 +81,18 @@ is_idle (Some k) = moves_nothing k.kind
 abbrev pub ends_there : Place → Fields → Bool
 ends_there p c = is_fresh p.entered && is_idle (lookup c.command) && chains_data c
 
--- such a place has no successor
-abbrev pub NothingFollows : Type 0
-NothingFollows = (p : Place) (c : Fields) → ends_there p c ≡ true →
+-- a place with this CCW has no successor
+abbrev pub HasNoSuccessor : Place → Fields → Type 0
+HasNoSuccessor p c =
     (next_of p c (kind_of p.entered c) ≡ None) × (skip_of p c (kind_of p.entered c) ≡ None)
+
+-- the program ends there: such a place has no successor; and each place without a successor at
+-- which a command begins with chain data on is one
+abbrev pub NothingFollows : Type 0
+NothingFollows = (p : Place) (c : Fields) →
+    (ends_there p c ≡ true → HasNoSuccessor p c)
+    × (is_fresh p.entered ≡ true → is_known c.command ≡ true → is_transfer c ≡ false
+    → chains_data c ≡ true → HasNoSuccessor p c → ends_there p c ≡ true)
 
 -- a is the address of a reachable CCW that passes the test
 pub record IsAddressOf (test : Place → Fields → Bool) (j : Job) (a : ℕ) : Type 0 where

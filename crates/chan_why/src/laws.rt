@@ -1,8 +1,8 @@
 //! The laws of programs that may hang: each is the contract of a function that does nothing, so
 //! that it is proved.
 
-ghost use Rattle.chan_why.specs.Hang.{HangGoesOn, HangLasts, HangsAlike, SomeRunEnds};
-ghost use Rattle.chan_why.specs.Hang.{StepsOnUnlessItEnds};
+ghost use Rattle.chan_why.specs.Hang.{EndlessMayHang, HangGoesOn, HangLasts, HangsAlike};
+ghost use Rattle.chan_why.specs.Hang.{SomeRunEnds, StepsOnUnlessItEnds};
 
 /// Where the verdict is yes, a run among others that change no guarded byte never comes from a
 /// place that can't end to one that can.
@@ -28,6 +28,11 @@ fn some_run_ends()
 #[tactic(auto, using(crate::proofs::Hanging::steps_on_unless_it_ends))]
 fn steps_on_unless_it_ends()
     ensures { StepsOnUnlessItEnds }
+{}
+
+/// A reachable place that can't end is one at which the program may hang.
+fn endless_may_hang()
+    ensures { EndlessMayHang }
 {}
 
 /// A program may hang at the same places under each job with a yes.

@@ -240,7 +240,7 @@ fn ends_there(look: &Look) -> bool
 }
 
 /// A law, like those of `laws`: where No Operation or Recalibrate begins with chain data on, the
-/// program ends.
+/// program ends; where another command begins with chain data on, it goes on.
 #[tactic(auto, using(crate::proofs::Noted::nothing_follows))]
 fn nothing_follows()
     ensures { NothingFollows }
