@@ -6,6 +6,7 @@ ghost use Rattle.chan_deck.specs.Notes as adjoining;
 ghost use Rattle.chan_deck.specs.Notes.{GrewBy, HasNoNote, exchange_note, number_of_hangs};
 ghost use Rattle.chan_deck.specs.Notes.{storage_note};
 
+use crate::listing::way_word;
 use crate::texts::{Address, Digits, Size};
 use ccw_core::{Area, Ccw, Storage};
 use chan_walk::{Place, Reason};
@@ -23,7 +24,8 @@ const UNUSED: &str = " is used by no reachable CCW";
 const MACHINE_STORES: &str = " is where the machine stores PSWs, the CSW or the timer";
 
 /// The note on the place from which on the program never ends by itself.
-const HANGS: &str = " on the program never ends by itself; only an error or a halt I/O stops it";
+const HANGS: &str =
+    " on the program never ends by itself: only an error, an incorrect length or a Halt I/O stops it";
 
 /// The note on a CCW with the flag for a program-controlled interruption.
 const INTERRUPTS: &str =
@@ -108,14 +110,22 @@ fn push_areas(
     push_more(out, runs.len())
 }
 
-/// Adds the note on the place from which on the program never ends by itself, if there is one.
+/// How a place that a transfer in channel leads to differs in the note on it.
+fn transfer_note(after_transfer: bool) -> &'static str {
+    if after_transfer { ", by a transfer" } else { "" }
+}
+
+/// Adds the note on the place from which on the program never ends by itself, if there is one. It
+/// says how the CCW is entered, since the program may end where the same CCW is entered otherwise.
 fn push_hang(out: &mut String, hang: Option<Place>) -> Result<(), AllocError>
     ensures { OnOk result (GrewBy (number_of_hangs hang) (string_bytes out.old)
         (string_bytes out.new)) }
 {
     if let Some(place) = hang {
         let address = Address(place.address);
-        write!(out, "note: from {address}{HANGS}\n")?;
+        let way = way_word(place.entered);
+        let transfer = transfer_note(place.after_transfer);
+        write!(out, "note: from {address} (entered {way}{transfer}){HANGS}\n")?;
     }
     Ok(())
 }
