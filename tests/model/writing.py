@@ -57,10 +57,9 @@ def hang_note(places):
     """The note on the first of the places from which on the program never ends by itself."""
     if places:
         first = min(places, key=lambda place: place.order())
-        entered = WAY[first.entered] + (", by a transfer" if first.by_transfer else "")
         yield (
-            f"note: from {first.address:06X} (entered {entered}) on the program never ends by "
-            "itself: only an error, an incorrect length or a Halt I/O stops it"
+            f"note: from {first.address:06X} (entered {WAY[first.entered]}) on the program never "
+            "ends by itself: only an error, an incorrect length or a Halt I/O stops it"
         )
 
 

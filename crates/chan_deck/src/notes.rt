@@ -24,8 +24,8 @@ const UNUSED: &str = " is used by no reachable CCW";
 const MACHINE_STORES: &str = " is where the machine stores PSWs, the CSW or the timer";
 
 /// The note on the place from which on the program never ends by itself.
-const HANGS: &str =
-    " on the program never ends by itself: only an error, an incorrect length or a Halt I/O stops it";
+const HANGS: &str = " on the program never ends by itself: \
+    only an error, an incorrect length or a Halt I/O stops it";
 
 /// The note on a CCW with the flag for a program-controlled interruption.
 const INTERRUPTS: &str =
@@ -110,11 +110,6 @@ fn push_areas(
     push_more(out, runs.len())
 }
 
-/// How a place that a transfer in channel leads to differs in the note on it.
-fn transfer_note(after_transfer: bool) -> &'static str {
-    if after_transfer { ", by a transfer" } else { "" }
-}
-
 /// Adds the note on the place from which on the program never ends by itself, if there is one. It
 /// says how the CCW is entered, since the program may end where the same CCW is entered otherwise.
 fn push_hang(out: &mut String, hang: Option<Place>) -> Result<(), AllocError>
@@ -124,8 +119,7 @@ fn push_hang(out: &mut String, hang: Option<Place>) -> Result<(), AllocError>
     if let Some(place) = hang {
         let address = Address(place.address);
         let way = way_word(place.entered);
-        let transfer = transfer_note(place.after_transfer);
-        write!(out, "note: from {address} (entered {way}{transfer}){HANGS}\n")?;
+        write!(out, "note: from {address} (entered {way}){HANGS}\n")?;
     }
     Ok(())
 }

@@ -15,6 +15,7 @@ pub mod Runs
 -- The laws: what a verdict means for every run.
 pub mod Headline
 pub mod Alarm
+pub mod Harm
 pub mod Counted
 pub mod Order
 pub mod OpenJob
@@ -22,7 +23,6 @@ pub mod OpenJob
 pub mod Limit
 pub mod Places
 pub mod Answers
-pub mod Harm
 pub mod Offence
 pub mod Paths
 pub mod Seeks

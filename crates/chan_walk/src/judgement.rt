@@ -65,8 +65,9 @@ pub fn survey(alloc: Global, job: &Job) -> Result<Survey, WalkError>
 /// seeks only inside the extents, sets no weaker mask and issues no inhibited command. This holds
 /// even while others write to storage, as long as they leave the guarded bytes alone.
 ///
-/// `No` names the first offending CCW, by address, and the first reason there, by number; some run
-/// shows it, and some run does harm. A job that is safe in every run, and steady, is never answered `No`.
+/// `No` names the first offending CCW, by address, and the first reason there, by number. Some run
+/// comes to that CCW and shows the reason, and some run does harm: it isn't safe, or it changes a
+/// byte that some run uses. A job that is safe in every run, and steady, is never answered `No`.
 ///
 /// `TooManyPlaces` comes exactly if more places are reachable than the job's limit and no growth
 /// was refused, even if one of them offends. `Memory` comes if a growth was refused.
