@@ -19,3 +19,4 @@ pub mod Copied
 pub mod Seeking
 pub mod Apart
 pub mod Possible
+pub mod Naming

@@ -126,3 +126,15 @@ WritesWell fs area =
     (a : Situation) (before : List Situation) (t : List ℕ) → IsHistory (a ∷ before)
     → AreInFlight a fs → IsWritten area a.storage t
     → (b : Situation) × (b.storage ≡ t) × IsHistory (b ∷ a ∷ before)
+
+-- ---- what the answers name
+
+-- the keeper that is named is the first, with its least byte, and so is the byte that has changed:
+-- there is no other
+pub record NamedIsFirst : Type 0 where
+  pub keeper :
+      (fs : List Remembered) (a : Area) (i j b c : ℕ) → IsKeeperOf fs a (Some (i, b))
+      → IsKeeperOf fs a (Some (j, c)) → (i ≡ j) × (b ≡ c)
+  pub changed :
+      (s : List ℕ) (areas : List Area) (kept : List ℕ) (b c : ℕ) → IsFirstChanged s areas kept b
+      → IsFirstChanged s areas kept c → b ≡ c

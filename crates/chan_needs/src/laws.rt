@@ -9,6 +9,8 @@ ghost use Rattle.chan_needs.specs.Start.{RememberedIsFit, RowsAreExact};
 ghost use Rattle.chan_needs.specs.Rows.{BesideIsApart};
 ghost use Rattle.chan_needs.specs.Asked.{AskedMayStart, EachMayLeave, EachMayStart, EachMayStep};
 ghost use Rattle.chan_needs.specs.Asked.{FitIsAsked, HistoryBegins, OthersMayChange};
+ghost use Rattle.chan_needs.specs.Asked.{WrittenStands};
+ghost use Rattle.chan_needs.specs.Remembered.{NamedIsFirst};
 ghost use Rattle.chan_needs.specs.Supervised.{CanBeSupervised, SupervisedGoesOn};
 ghost use Rattle.chan_needs.specs.Supervised.{SupervisedStaysWell};
 
@@ -110,6 +112,17 @@ pub(crate) fn history_begins()
 /// Others may change any bytes that no program in flight guards.
 pub(crate) fn others_may_change()
     ensures { OthersMayChange }
+{}
+
+/// Storage then holds what others have written.
+pub(crate) fn written_stands()
+    ensures { WrittenStands }
+{}
+
+/// The program that keeps a byte, that byte, and the byte that has changed are the first: the
+/// answers name no other.
+pub(crate) fn named_is_first()
+    ensures { NamedIsFirst }
 {}
 
 /// A program that may start does.
