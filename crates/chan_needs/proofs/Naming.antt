@@ -5,16 +5,13 @@ use Rattle.std.specs.Prelude.{slice_index_or}
 use Rattle.std.specs.List.{AllWithin}
 use Rattle.std.proofs.lemmas.Bool.{cases_lt}
 use Rattle.chan_areas.specs.Merged.{IsLeastOf}
-use Rattle.chan_needs.specs.Asked.{WrittenStands}
+use Rattle.chan_needs.specs.History.{GoesOnToStorage}
 use Rattle.chan_needs.specs.Remembered.{IsFirstChanged, IsFirstChangedIn, IsInFlightAt}
 use Rattle.chan_needs.specs.Remembered.{IsKeeperOf, KeepsNone, NamedIsFirst}
 use Rattle.chan_needs.specs.Rows.{IsKeptIn, rows_of}
 
-pub written_stands : WrittenStands
-written_stands = record {
-  changed = λ may a before t run same. may a before t run same;
-  written = λ fs area may a before t run flying written. may a before t run flying written;
-}
+pub goes_on_to_storage : GoesOnToStorage
+goes_on_to_storage history t goes = goes
 
 same_number : (m n : ℕ) → m ≤ n → n ≤ m → m ≡ n
 same_number m n up down = omega (arith, up, down)

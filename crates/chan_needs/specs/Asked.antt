@@ -1,19 +1,18 @@
 -- A program that was asked about may start later, and how a history goes on.
 use Rattle.std.specs.Prelude.{◌≡◌, ℕ, true, List, [], ◌∷◌, Some, None, IsSome}
-use Rattle.ccw_core.specs.declared.areas.Area.{Area}
 use Rattle.ckd_core.specs.Extents.{has_cylinder}
 use Rattle.chan_walk.specs.declared.job.Job.{Job}
 use Rattle.chan_walk.specs.declared.verdict.Verdict.TheVariants.{Yes}
 use Rattle.chan_walk.specs.Alarm.{IsProper}
 use Rattle.chan_walk.specs.Guarded.{IsGuarded}
-use Rattle.chan_needs.specs.History.{Flight, IsHistory, MayStart, Situation}
+use Rattle.chan_needs.specs.History.{Flight, GoesOnTo, IsHistory, MayStart, Situation}
 use Rattle.chan_walk.specs.Job.{storage_of, extents_of}
 use Rattle.chan_walk.specs.Machine.{At}
 use Rattle.chan_walk.specs.OpenJob.{AreOfOneProgram, open_job}
 use Rattle.chan_needs.specs.Needs.{Grants, IsKept}
 use Rattle.chan_walk.specs.Place.{first_place}
 use Rattle.chan_needs.specs.declared.remembered.Remembered.{Remembered}
-use Rattle.chan_needs.specs.Remembered.{AreInFlight, IsRemembered, IsWritten, WritesWell}
+use Rattle.chan_needs.specs.Remembered.{AreInFlight, IsRemembered}
 use Rattle.chan_needs.specs.Rows.{MayRunBeside}
 use Rattle.chan_needs.specs.Start.{IsFit}
 use Rattle.chan_walk.specs.Runs.{IsSameIn, IsStart, Moment, Steps}
@@ -50,20 +49,7 @@ abbrev pub OthersMayChange : Type 0
 OthersMayChange =
     (a : Situation) (before : List Situation) (t : List ℕ) → IsHistory (a ∷ before)
     → ((i : ℕ) (f : Flight) → a.at i ≡ Some f → IsSameIn (IsGuarded f.job) a.storage t)
-    → (b : Situation) × (b.storage ≡ t) × IsHistory (b ∷ a ∷ before)
-
--- storage then holds what others have written
-pub record WrittenStands : Type 0 where
-  pub changed :
-      OthersMayChange → (a : Situation) (before : List Situation) (t : List ℕ)
-      → IsHistory (a ∷ before)
-      → ((i : ℕ) (f : Flight) → a.at i ≡ Some f → IsSameIn (IsGuarded f.job) a.storage t)
-      → (b : Situation) × (b.storage ≡ t) × IsHistory (b ∷ a ∷ before)
-  pub written :
-      (fs : List Remembered) (area : Area) → WritesWell fs area
-      → (a : Situation) (before : List Situation) (t : List ℕ) → IsHistory (a ∷ before)
-      → AreInFlight a fs → IsWritten area a.storage t
-      → (b : Situation) × (b.storage ≡ t) × IsHistory (b ∷ a ∷ before)
+    → GoesOnTo (a ∷ before) t
 
 -- a program that may start does, under a number that is free
 abbrev pub EachMayStart : Type 0

@@ -13,7 +13,7 @@ use Rattle.chan_needs.specs.declared.remembered.Remembered.{Remembered}
 use Rattle.chan_walk.specs.declared.verdict.Verdict.TheVariants.{Yes}
 use Rattle.chan_walk.specs.Alarm.{IsProper}
 use Rattle.chan_areas.specs.Merged.{IsLeastOf, IsByteOf}
-use Rattle.chan_needs.specs.History.{Flight, IsHistory, Situation}
+use Rattle.chan_needs.specs.History.{Flight, GoesOnTo, IsHistory, Situation}
 use Rattle.chan_walk.specs.Job.{storage_of}
 use Rattle.chan_needs.specs.Needs.{KeepsProgram}
 use Rattle.chan_needs.specs.Rows.{AreNeeds, rows_of, IsKeptIn}
@@ -124,8 +124,7 @@ IsWritten area = IsSameIn (λ b. IsByteOf area b → ⊥)
 abbrev pub WritesWell : List Remembered → Area → Type 0
 WritesWell fs area =
     (a : Situation) (before : List Situation) (t : List ℕ) → IsHistory (a ∷ before)
-    → AreInFlight a fs → IsWritten area a.storage t
-    → (b : Situation) × (b.storage ≡ t) × IsHistory (b ∷ a ∷ before)
+    → AreInFlight a fs → IsWritten area a.storage t → GoesOnTo (a ∷ before) t
 
 -- ---- what the answers name
 

@@ -2,14 +2,13 @@
 //! function that does nothing, so that it is proved.
 
 ghost use Rattle.chan_needs.specs.Beside.{MayRunTogether, SafeSideBySide};
-ghost use Rattle.chan_needs.specs.History.{StaysWell};
+ghost use Rattle.chan_needs.specs.History.{GoesOnToStorage, StaysWell};
 ghost use Rattle.chan_needs.specs.Needs.{AskedOnce, LeastJob, NeededMaskIsEnough, NeededMaskExists};
 ghost use Rattle.chan_needs.specs.Needs.{NeededMaskIsOne, NoJobWillDo, SafeIsGranted};
 ghost use Rattle.chan_needs.specs.Start.{RememberedIsFit, RowsAreExact};
 ghost use Rattle.chan_needs.specs.Rows.{BesideIsApart};
 ghost use Rattle.chan_needs.specs.Asked.{AskedMayStart, EachMayLeave, EachMayStart, EachMayStep};
 ghost use Rattle.chan_needs.specs.Asked.{FitIsAsked, HistoryBegins, OthersMayChange};
-ghost use Rattle.chan_needs.specs.Asked.{WrittenStands};
 ghost use Rattle.chan_needs.specs.Remembered.{NamedIsFirst};
 ghost use Rattle.chan_needs.specs.Supervised.{CanBeSupervised, SupervisedGoesOn};
 ghost use Rattle.chan_needs.specs.Supervised.{SupervisedStaysWell};
@@ -114,9 +113,9 @@ pub(crate) fn others_may_change()
     ensures { OthersMayChange }
 {}
 
-/// Storage then holds what others have written.
-pub(crate) fn written_stands()
-    ensures { WrittenStands }
+/// Where others have changed storage or written, it holds exactly what they wrote.
+pub(crate) fn goes_on_to_storage()
+    ensures { GoesOnToStorage }
 {}
 
 /// The program that keeps a byte, that byte, and the byte that has changed are the first: the
