@@ -79,7 +79,12 @@ OTHERS = [
         "show --name 0x06000A002000005",
         Ran(4, "", f"{NOT_CCW}a CCW has 16 digits, and this has 15\n"),
     ),
+    *(
+        (f"show --name {'0' * n}", Ran(4, "", f"{NOT_CCW}a CCW has 16 digits, and this has {n}\n"))
+        for n in (17, 18, 100)
+    ),
     ("show --name 06000G0020000050", Ran(4, "", f"{NOT_CCW}'G' isn't a hexadecimal digit\n")),
+    ("show --name 06X00G002000005", Ran(4, "", f"{NOT_CCW}'X' isn't a hexadecimal digit\n")),
     ("show --name 00x06", Ran(4, "", f"{NOT_CCW}'x' isn't a hexadecimal digit\n")),
     ("show '06 000A00 20 00 0050'", Ran(4, "", NOT_CCW)),
     ("show 0x06000A0020000050", Ran(4, "", NOT_CCW)),

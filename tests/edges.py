@@ -97,17 +97,22 @@ put 000048 03000000C0FF0001
 end
 """
 
+# how the notes on CCWs go on
+MAY_CHANGE = "the processor may change any byte that chanv needs doesn't list as keep"
+MOVES_NOTHING = "chain data counts, and it moves no data"
+IGNORED = "in byte 5, which the channel ignores; flags are in byte 4"
+
 # what docs/WHY.md says of it, in its order
-NOTES = """\
+NOTES = f"""\
 note: fetch 000FF0 000020 reaches past storage
 note: store 000FF8 000010 reaches past storage
 note: fetch 000FF0 000020 is used by no reachable CCW
 note: store 000FF8 000010 is used by no reachable CCW
 note: keep 000040 000010 is where the machine stores PSWs, the CSW or the timer
-note: 000040 interrupts: the processor may change any byte that chanv needs doesn't list as keep
-note: 000048 ends the program: chain data counts, and it moves no data
-note: 000040 has 01 in byte 5, which the channel ignores; flags are in byte 4
-note: 000048 has FF in byte 5, which the channel ignores; flags are in byte 4
+note: 000040 interrupts: {MAY_CHANGE}
+note: 000048 ends the program: {MOVES_NOTHING}
+note: 000040 has 01 {IGNORED}
+note: 000048 has FF {IGNORED}
 """
 
 # a search loop for whose argument an area is lent for storing, and for whose data one for fetching
@@ -157,8 +162,8 @@ def check_exchanged_areas(checks, program):
 
 
 def check_notes(checks, program, deck):
-    """Areas lent in vain, of which those that adjoin have one note, and CCWs that interrupt: of a
-    sort a hundred notes are written."""
+    """Areas lent in vain, of which those that adjoin have one note, areas that reach past storage,
+    and CCWs of each sort with a note: of a sort a hundred notes are written."""
     head = "chanv deck 1\ndevice 2314\nmask 00\nstart 000800\nextent 010 019\n"
     tail = "storage 0010000\nput 000800 0300000000000001\nend\n"
     more_of = {99: "", 100: "", 101: "note: 1 more such\n", 250: "note: 150 more such\n"}
@@ -170,15 +175,50 @@ def check_notes(checks, program, deck):
         each = [f"note: {line[:-1]} is used by no reachable CCW\n" for line in apart[:100]]
         wanted = Ran(0, "yes\n", "".join([one, *each, more]))
         checks.expect(f"{count} areas lent in vain", wanted, run(program, "why", given=deck))
-    interrupts = (
-        " interrupts: the processor may change any byte that chanv needs doesn't list as keep\n"
-    )
-    for count in (100, 101):
-        chain = chain_of(count, last="0300000008000001")
-        deck.write_text(chain.replace("40000001", "48000001"))
-        each = [f"note: {0x800 + 8 * at:06X}{interrupts}" for at in range(100)]
-        wanted = Ran(0, "yes\n", "".join([*each, more_of[count]]))
-        checks.expect(f"{count} CCWs that interrupt", wanted, run(program, "why", given=deck))
+        check_notes_past_storage(checks, program, deck, count, more)
+        check_notes_on_ccws(checks, program, deck, count, more)
+
+
+def check_notes_past_storage(checks, program, deck, count, more):
+    """As many areas that overlap and reach past storage: each is also lent in vain."""
+    lengths = range(2, 2 * count + 2, 2)
+    areas = {word: [f"{word} 00FFFF {n:06X}" for n in lengths] for word in ("fetch", "store")}
+    lines = "".join(f"{line}\n" for word in areas for line in areas[word])
+    deck.write_text(chain_of(1).replace("storage 0100000", f"{lines}storage 0010000"))
+    notes = [
+        "".join(f"note: {line} {what}\n" for line in areas[word][:100]) + more
+        for what in ("reaches past storage", "is used by no reachable CCW")
+        for word in areas
+    ]
+    wanted = Ran(0, "yes\n", "".join(notes))
+    checks.expect(f"{count} areas past storage", wanted, run(program, "why", given=deck))
+
+
+def ladder_of(count):
+    """So many searches, each before a No Operation with chain data on, which ends the program."""
+    last = 0x800 + 16 * count
+    puts = [
+        f"put {address:06X} 3100080040000005\nput {address + 8:06X} 0300000080000001\n"
+        for address in range(0x800, last, 16)
+    ]
+    head = chain_of(1).partition("storage")[0]
+    end = f"put {last:06X} 0300000000000001\nend\n"
+    return f"{head}fetch 000800 000005\nstorage 0100000\n{''.join(puts)}{end}"
+
+
+def check_notes_on_ccws(checks, program, deck, count, more):
+    """As many CCWs of a sort, each with its note up to the hundredth."""
+    interrupt = chain_of(count, last="0300000008000001").replace("40000001", "48000001")
+    spare = chain_of(count, last="0300000000010001").replace("40000001", "40010001")
+    for name, text, first, step, note in [
+        ("interrupt", interrupt, 0x800, 8, f"interrupts: {MAY_CHANGE}"),
+        ("have byte 5", spare, 0x800, 8, f"has 01 {IGNORED}"),
+        ("end the program", ladder_of(count), 0x808, 16, f"ends the program: {MOVES_NOTHING}"),
+    ]:
+        deck.write_text(text)
+        each = [f"note: {first + step * at:06X} {note}\n" for at in range(min(count, 100))]
+        wanted = Ran(0, "yes\n", "".join([*each, more]))
+        checks.expect(f"{count} CCWs that {name}", wanted, run(program, "why", given=deck))
 
 
 def check_readers(checks, program, deck):

@@ -336,6 +336,13 @@ REFUSED = [
         "16777216",
         "16777216 is hexadecimal here (376,926,742): above FFFFFF",
     ),
+    # its decimal number has ten digits, and all groups but the first are zero
+    (
+        "--at",
+        "<ADDRESS>",
+        "77359400",
+        "77359400 is hexadecimal here (2,000,000,000): above FFFFFF",
+    ),
     ("--at", "<ADDRESS>", "0x1000000", "above FFFFFF"),
     (
         "--storage",

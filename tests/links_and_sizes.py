@@ -1,9 +1,9 @@
-"""The links and paths of the pages lead somewhere, and the pages keep their sizes.
+"""The links and paths of the pages lead somewhere, and README keeps its size.
 
 A page is README.md, CHANGELOG.md, a page of docs/, or a README of another folder. Its links lead to
 pages and headings that exist, and so do the paths of the repository that it names. Each page that
 code names is there, and each file of specs/ in the glossary, with its crate if two crates have one
-of that name. README has at most 130 lines, and README with docs/ at most 180,000 bytes.
+of that name. README has at most 130 lines.
 """
 
 import re
@@ -17,7 +17,7 @@ OTHERS = [ROOT / "CHANGELOG.md", ROOT / "bench/README.md", *sorted(ROOT.glob("ex
 PAGES = [*DOCS, *OTHERS]
 GLOSSARY = ROOT / "docs/GLOSSARY.md"
 
-MOST_LINES, MOST_BYTES = 130, 180_000
+MOST_LINES = 130
 SOURCES = {".rt", ".antt", ".h", ".c", ".py", ".txt", ".edit", ".sh", ".s"}
 
 FENCED = r"(?ms)^```.*?^```$"
@@ -83,5 +83,3 @@ def check(checks, _built):
         check_paths(checks, page)
     lines = len(text_of(DOCS[0]).splitlines())
     checks.expect_that(f"README has at most {MOST_LINES} lines", lines <= MOST_LINES, lines)
-    size = sum(page.stat().st_size for page in DOCS)
-    checks.expect_that(f"the pages have at most {MOST_BYTES} bytes", size <= MOST_BYTES, size)

@@ -404,6 +404,8 @@ HINTS = [
         "device 2311, device 2314; lines end with a line feed alone",
     ),
     (1, "\tdevice\x7f2314~\n", "form", "\\x09device\\x7F2314~", "device 2311, device 2314"),
+    # a carriage return that isn't at the line's end
+    (1, "device\r2314\n", "form", "device\\x0D2314", "device 2311, device 2314"),
     (1, "\xe4\n", "form", "\\xC3\\xA4", "device 2311, device 2314"),
     (
         1,

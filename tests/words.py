@@ -59,6 +59,48 @@ write-key-data: writes key and data of a record
 """
 ON_MORE_TRACKS = "the same as without -mt, also on the next tracks of the cylinder"
 
+# what the list says in a few words of each word that has a section
+IN_SHORT = """
+misaligned: a CCW at an address that isn't a multiple of 8
+outside-storage: a CCW that doesn't lie wholly in main storage
+transfer-not-allowed: a transfer in channel that comes first or after another
+invalid-code: a command code whose low four bits are zero
+bad-format: a flag that is on and must be off
+zero-count: a count of zero
+data-outside: a data range that leaves main storage
+not-in-table: a command code that chanv doesn't know
+inhibited: a command that the file mask inhibits
+store-not-lent: a store into bytes that aren't lent for storing
+fetch-not-lent: a fetch of bytes that aren't lent for fetching
+short-seek: a seek without six bytes for its argument
+seek-outside: a seek outside the extents, the heads or bin 0
+changes-ccw: a store over a reachable CCW
+changes-argument: a store over a seek's argument or a mask byte
+weakens-mask: a Set File Mask to a byte that permits more or isn't a mask
+ended: the deck ends before its line `end` is complete
+header: the first line isn't the header of a deck
+form: the line has none of the forms that may come here
+mask: the mask isn't a file mask
+extent-backwards: the extent's last cylinder is below its first
+extent-past-device: the extent goes on past cylinder 202
+size: storage can't have this size
+put-address: the put's address is out of order or out of storage
+put-zero: the put's bytes are all zero
+after: something follows the line `end`
+limit: the limit on places is 0 or above 65,536
+cannot-open: a FILE that can't be opened
+read-failed: an input that can't be read to its end
+deck-too-long: a text longer than a deck may be
+image-too-long: an image longer than storage may be
+image-past-storage: an image that ends past the size of storage
+too-many-places: more places reachable than the limit
+no-job-will-do: a program for which no job will do
+write-failed: an output that can't be written
+out-of-memory: an allocation that was refused
+not-a-ccw: a word that isn't a CCW's sixteen digits
+no-such-word: a word that chanv doesn't know
+"""
+
 # words that have no meaning, and what is said of the nearest
 UNKNOWN = {
     "": "",
@@ -70,6 +112,9 @@ UNKNOWN = {
     "put-aero": "; the nearest is put-zero",
     "daek-outside": "; the nearest is data-outside",
     "serch-id-equal": "; the nearest is search-id-equal",
+    "WRIT-DATA": "; the nearest is write-data",
+    "write-key-data-m": "; the nearest is write-key-data",
+    "kep": "; the nearest is keep",
     "seek-mt": "",
     "x" * 100_000: "",
 }
@@ -140,16 +185,7 @@ def check_others(checks, program, page):
         said = Ran(0, f"{word}: {meaning}\n")
         checks.expect(word, said, run(program, "explain", word))
         checks.expect(word.upper(), said, run(program, "explain", word.upper()))
-    return [word for word, _ in rows]
-
-
-def check_list(checks, program, words):
-    """Without a word each is listed, in the order of the pages, and what it is in a few words."""
-    ran = run(program, "explain")
-    lines = re.findall(r"(?m)^([a-z-]+): (.+)$", ran.output)
-    checks.expect("the words that are listed", words, [word for word, _ in lines])
-    is_whole = ran == Ran(0, "".join(f"{word}: {said}\n" for word, said in lines))
-    checks.expect_that("the list of words", is_whole and "\n\n" not in ran.output, ran)
+    return [f"{word}: {meaning}\n" for word, meaning in rows]
 
 
 def check(checks, built):
@@ -164,7 +200,10 @@ def check(checks, built):
         meaning = Ran(0, said.get(word, ""))
         checks.expect(word, meaning, run(program, "explain", word))
         checks.expect(word.upper(), meaning, run(program, "explain", word.upper()))
-    check_list(checks, program, listed + check_others(checks, program, page))
+    short = IN_SHORT.removeprefix("\n")
+    checks.expect("the words in short", listed, re.findall(r"(?m)^([a-z-]+): ", short))
+    lines = "".join([short, *check_others(checks, program, page)])
+    checks.expect("the list of words", Ran(0, lines), run(program, "explain"))
     for word, nearest in UNKNOWN.items():
         refused = Ran(4, "", f"chanv: no such word{nearest}\n")
         checks.expect(f"'{word[:20]}'", refused, run(program, "explain", word))
