@@ -4,6 +4,7 @@ use Rattle.chan_needs.proofs.Names.{HoldsAreas, leb-true, length, List, nat_le, 
 use Rattle.chan_needs.proofs.Names.{subst, suc, sym, take, true, ℕ, [], ◌++◌, ◌+◌, ◌-◌, ◌<◌, ◌∙◌}
 use Rattle.chan_needs.proofs.Names.{◌∷◌, ◌≡◌, ◌≤◌}
 use Rattle.std.proofs.Common.{append_assoc, if◌then◌else◌}
+use Rattle.std.proofs.lemmas.Grind.{same_number_lists}
 use Rattle.std.proofs.lemmas.List.{append-nil, drop-drop, drop_all, get_or-drop, get_or-take}
 use Rattle.std.proofs.lemmas.List.{get_or_append_left, length-append, length-take, length-drop}
 use Rattle.std.proofs.lemmas.List.{take-append-drop}
@@ -140,6 +141,19 @@ area_read s a kept now was read fits e same i l =
       omega arith,
       sym (get_or-take a.len (drop a.start s) i 0 l ∙ get_or-drop a.start s i 0) ∙ ap (λ z. get_or z i 0) (sym read.1 ∙ same ∙ e ∙ ap (λ n. take n kept) whole) ∙ get_or-take a.len kept i 0 l,
     )
+
+-- and if it holds what was kept, both are the same
+pub same_bytes : (s : List ℕ) (a : Area) (kept now was : List ℕ) → IsInside s a × (now ≡ bytes_of s a) → a.len ≤ length kept → was ≡ take (a.len - 0) (drop 0 kept) → HoldsArea s a kept → now ≡ was
+same_bytes s a kept now was read fits e held = read.1 ∙ same ∙ sym (e ∙ ap (λ n. take n kept) whole)
+  where
+    whole : a.len - 0 ≡ a.len
+    whole = omega arith
+
+    counted : length (bytes_of s a) ≡ a.len
+    counted = length_of s a read.0
+
+    same : bytes_of s a ≡ take a.len kept
+    same = same_number_lists (bytes_of s a) (take a.len kept) (let l = length-take a.len kept in omega (arith, counted, fits, l)) (λ i l. let below : i < a.len = omega (arith, l, counted) in get_or-take a.len (drop a.start s) i 0 below ∙ get_or-drop a.start s i 0 ∙ (held i below).2 ∙ sym (get_or-take a.len kept i 0 below))
 
 -- what holds when all areas were copied
 pub ruleset copy_rules = (all_counted, all_written, all_held)

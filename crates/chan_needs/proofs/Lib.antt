@@ -20,3 +20,5 @@ pub mod Seeking
 pub mod Apart
 pub mod Possible
 pub mod Naming
+pub mod Staying
+pub mod Lasting

@@ -34,16 +34,16 @@ same_device D2314 D2314 same = refl
 -- ---- over another storage that holds what is kept
 
 module _ (j k : Job) (keeps : KeepsProgram j k) (v : IsVerdict (open_job j) Yes) where
-  abbrev there : Job
+  abbrev pub there : Job
   there = with_storage (open_job j) k.storage
 
-  counted : IsSameIn (IsCounted (open_job j)) (storage_of j) (storage_of k)
+  pub counted : IsSameIn (IsCounted (open_job j)) (storage_of j) (storage_of k)
   counted = record { same_length = keeps.storage.same_length; same = λ b c. keeps.storage.same b (counted_is_guarded (open_job j) v b c) }
 
-  yes_there : IsVerdict there Yes
+  pub yes_there : IsVerdict there Yes
   yes_there = yes_by_guarded (open_job j) k.storage v keeps.storage
 
-  carry : (p : Place) → IsReachable (open_job j) p → IsReachable there p → CarriesOver (open_job j) there p × CarriesOver there (open_job j) p
+  pub carry : (p : Place) → IsReachable (open_job j) p → IsReachable there p → CarriesOver (open_job j) there p × CarriesOver there (open_job j) p
   carry = carries_at (open_job j) k.storage counted
 
   of_one : AreOfOneProgram k there
@@ -55,7 +55,7 @@ module _ (j k : Job) (keeps : KeepsProgram j k) (v : IsVerdict (open_job j) Yes)
   pub yes_open : IsVerdict (open_job k) Yes
   yes_open = yes_opens k there of_one proper_there yes_there
 
-  open_there : AreOfOneProgram there (open_job k)
+  pub open_there : AreOfOneProgram there (open_job k)
   open_there = to_open k there of_one
 
   both : {A B C : Type 0} → A ↔ B → B ↔ C → A ↔ C

@@ -7,3 +7,4 @@ pub mod Asked
 pub mod Remembered
 pub mod Start
 pub mod Supervised
+pub mod Staying

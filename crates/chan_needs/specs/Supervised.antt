@@ -2,18 +2,19 @@
 -- a yes of `may_start`, and lets others write only if `may_write` names no program, has all
 -- programs in flight well.
 use Rattle.std.specs.Prelude.{◌≡◌, ℕ, List, [], ◌∷◌, length, map, Option, Some, None, IsSome}
-use Rattle.std.specs.Prelude.{◌⊎◌}
+use Rattle.std.specs.Prelude.{◌⊎◌, false, true}
 use Rattle.std.specs.List.{AllByRecursion}
 use Rattle.ccw_core.specs.declared.areas.Area.{Area}
 use Rattle.chan_walk.specs.declared.job.Job.{Job}
 use Rattle.chan_needs.specs.declared.remembered.Remembered.{Remembered}
 use Rattle.chan_needs.specs.declared.start.Start.TheVariants.{Yes}
+use Rattle.ccw_core.specs.Areas.{lies_in}
 use Rattle.ccw_core.specs.Ccw.{byte}
 use Rattle.chan_areas.specs.Merged.{IsByteOf}
 use Rattle.chan_walk.specs.Alarm.{IsProper}
 use Rattle.chan_walk.specs.Argument.{Has}
 use Rattle.chan_needs.specs.History.{Acts, AreWell, Flight, Rests, Situation}
-use Rattle.chan_needs.specs.Remembered.{HoldsKept, IsKeeperOf, IsInFlightAt}
+use Rattle.chan_needs.specs.Remembered.{HoldsKept, IsKeeperOf, IsInFlightAt, KeepsNone}
 use Rattle.chan_needs.specs.Remembered.{IsRemembered, IsWritten, device_number}
 use Rattle.chan_needs.specs.Rows.{AreNeeds, rows_of}
 use Rattle.chan_needs.specs.Start.{IsAnswerOf}
@@ -135,3 +136,33 @@ pub record CanBeSupervised : Type 0 where
   pub may_write :
       (v : Supervision) (t : List ℕ) (area : Area) (fs : List Remembered) → Lists v.programs fs
       → IsKeeperOf fs area None → IsWritten area v.situation.storage t → MayWrite v t
+
+-- ---- a write that lasts, such as a tape's input into a buffer
+
+-- what stands for the write in the table: it stores over the area, and keeps nothing
+pub record IsLastingWrite (area : Area) (f : Remembered) : Type 0 where
+  pub stores : (b : ℕ) → IsByteOf area b → lies_in f.rows.store.now b ≡ true
+  pub keeps : (b : ℕ) → lies_in f.rows.keep.now b ≡ false
+
+-- no program in flight keeps a byte of the area
+abbrev pub IsSparedBy : Area → Supervision → Type 0
+IsSparedBy area v =
+    (i : ℕ) (p : Remembered) → IsSome (v.situation.at i) → v.programs i ≡ Some p
+    → KeepsNone area p
+
+-- each start was asked about with the write in the list
+abbrev pub IsListedAt : Remembered → Supervision → Supervision → Type 0
+IsListedAt f v w = (i : ℕ) (s : StartsAt v w i) → Has s.allowed.in_flight f
+
+-- while the write is in the table, no program that keeps a byte of the area starts; so at each
+-- moment others may write into the area, by a table of the programs in flight and the write
+pub record LastingWrites : Type 0 where
+  pub stays :
+      (f : Remembered) (area : Area) (v w : Supervision) → IsLastingWrite area f
+      → IsSparedBy area v → GoesOn v w → IsListedAt f v w → IsSparedBy area w
+  pub may_write :
+      (f : Remembered) (area : Area) (v : Supervision) (fs : List Remembered) (t : List ℕ)
+      → IsLastingWrite area f → IsSparedBy area v → Lists v.programs fs
+      → ((g : Remembered) → Has fs g
+      → (g ≡ f) ⊎ ((i : ℕ) × IsSome (v.situation.at i) × (v.programs i ≡ Some g)))
+      → IsWritten area v.situation.storage t → MayWrite v t

@@ -10,7 +10,8 @@ ghost use Rattle.chan_needs.specs.Rows.{BesideIsApart};
 ghost use Rattle.chan_needs.specs.Asked.{AskedMayStart, EachMayLeave, EachMayStart, EachMayStep};
 ghost use Rattle.chan_needs.specs.Asked.{FitIsAsked, HistoryBegins, OthersMayChange};
 ghost use Rattle.chan_needs.specs.Remembered.{NamedIsFirst};
-ghost use Rattle.chan_needs.specs.Supervised.{CanBeSupervised, SupervisedGoesOn};
+ghost use Rattle.chan_needs.specs.Staying.{AnswerStays, HeldStaysTrue, NeedsStay};
+ghost use Rattle.chan_needs.specs.Supervised.{CanBeSupervised, LastingWrites, SupervisedGoesOn};
 ghost use Rattle.chan_needs.specs.Supervised.{SupervisedStaysWell};
 
 /// Programs may start and leave at any time on one storage, while others change what none in flight
@@ -152,9 +153,35 @@ pub(crate) fn supervised_goes_on()
     ensures { SupervisedGoesOn }
 {}
 
+/// While a write that lasts has its place in the table, others may write into its area at each
+/// moment: no program that keeps a byte of it starts.
+pub(crate) fn lasting_writes()
+    ensures { LastingWrites }
+{}
+
 /// Supervision begins over any storage, and what is remembered, listed, allowed and written follows
 /// from its parts: the laws on it are about something.
 #[tactic(auto, using(crate::proofs::Possible::can_be_supervised))]
 pub(crate) fn can_be_supervised()
     ensures { CanBeSupervised }
+{}
+
+/// Needs depend on the kept bytes alone: they are the same over each storage that is as long and
+/// the same in these.
+#[tactic(auto, using(crate::proofs::Staying::needs_stay))]
+pub(crate) fn needs_stay()
+    ensures { NeedsStay }
+{}
+
+/// So what was found over a copy of the kept bytes is true of each storage that holds them,
+/// whatever was written while they were copied.
+#[tactic(auto, using(crate::proofs::Staying::held_stays_true))]
+pub(crate) fn held_stays_true()
+    ensures { HeldStaysTrue }
+{}
+
+/// The answer to the question before a start is the same over each storage that is as long and the
+/// same in the kept bytes: a yes survives each write to other bytes.
+pub(crate) fn answer_stays()
+    ensures { AnswerStays }
 {}

@@ -123,19 +123,17 @@ fn changed_in(storage: &Storage, area: Area, kept: &[u8]) -> Option<u32>
     if is_held(storage, area, kept) {
         return None;
     }
-    for i in 0..area.len {
-        let address = area.start + i;
-        if !is_same(storage, address, kept, i) {
-            return Some(address);
-        }
-    }
-    None
+    Some(first_changed_in(storage, area, kept))
 }
 
-/// Whether an area holds these bytes, compared all at once.
+/// Whether an area holds these bytes, compared all at once. No byte that is held is looked at
+/// twice: a channel may store while the question is answered.
 fn is_held(storage: &Storage, area: Area, kept: &[u8]) -> bool
-    ensures { IsTrue result → HoldsArea (bytes_held storage.now) area kept.now }
+    ensures { IsTrue result ↔ HoldsArea (bytes_held storage.now) area kept.now }
 {
+    if area.len == 0 {
+        return true;
+    }
     match (
         storage.range(area.start, area.len),
         kept.get(..area.len as usize),
@@ -143,6 +141,21 @@ fn is_held(storage: &Storage, area: Area, kept: &[u8]) -> bool
         (Some(now), Some(then)) => now == then,
         _ => false,
     }
+}
+
+/// The first byte of an area that isn't what it was, if one isn't. It only names the byte: if all
+/// were put back meanwhile, it names the first.
+fn first_changed_in(storage: &Storage, area: Area, kept: &[u8]) -> u32
+    requires { HoldsArea (bytes_held storage.now) area kept.now → ⊥ }
+    ensures { IsFirstChangedIn (bytes_held storage.now) area kept.now result }
+{
+    for i in 0..area.len {
+        let address = area.start + i;
+        if !is_same(storage, address, kept, i) {
+            return address;
+        }
+    }
+    area.start
 }
 
 /// Whether the byte at an address of storage is the kept byte with this number.

@@ -137,7 +137,7 @@ module _ (j : Job) (t : Storage) (h : IsSameIn (IsCounted j) (storage_of j) (byt
   abbrev u : List ℕ
   u = storage_of (with_storage j t)
 
-  ccw_same : (p : Place) → IsReachable j p → Stands s p.address → ccw_of j p ≡ ccw_of there p
+  pub ccw_same : (p : Place) → IsReachable j p → Stands s p.address → ccw_of j p ≡ ccw_of there p
   ccw_same p r st = same_ccw s u p.address (λ b le lt. sym (h.same b (inl (record { place = p; reached = r; stands = st; from = le; below = lt }))))
 
   check_same : (p : Place) → IsReachable j p → check s p ≡ check u p
@@ -166,13 +166,13 @@ module _ (j : Job) (t : Storage) (h : IsSameIn (IsCounted j) (storage_of j) (byt
         same_reads s u (argument_addresses s l) (λ x m. sym (h.same x (inr (inr (record { place = p; reached = r; takes = inl (record { seeks = b; chain = l; is_chain = k; has = m }) })))))
         ∙ ap (map (byte u)) (seek_addresses l k)
 
-    argument_to : (x : Option (List ℕ)) → HasArgument s p.address x → HasArgument u p.address x
+    pub argument_to : (x : Option (List ℕ)) → HasArgument s p.address x → HasArgument u p.address x
     argument_to None a = λ l k. a l (seek_chain_from l k)
     argument_to (Some x) a = (a.0, seek_chain_to a.0 a.1, a.2 ∙ argument_same a.0 a.1)
 
   -- ---- own faults
 
-  mask_byte_same : (p : Place) → IsReachable j p → begins_set_mask p (ccw_of j p) ≡ true → byte s (ccw_of j p).address ≡ byte u (ccw_of j p).address
+  pub mask_byte_same : (p : Place) → IsReachable j p → begins_set_mask p (ccw_of j p) ≡ true → byte s (ccw_of j p).address ≡ byte u (ccw_of j p).address
   mask_byte_same p r b = sym (h.same (ccw_of j p).address (inr (inr (record { place = p; reached = r; takes = inr (record { sets = b; at = refl }) }))))
 
   seeks_apart : (p : Place) (c : Fields) (x y : Option (List ℕ)) (b : Bool) → begins_seek p c ≡ b → (b ≡ true → x ≡ y) → seek_faults j p c x ≡ seek_faults there p c y

@@ -1,6 +1,6 @@
 use Rattle.chan_needs.proofs.Names.{arith, bytes_held, length, ◌+◌, ◌-◌, ◌<◌, ◌^◌}
 use Rattle.chan_needs.proofs.Kept.{address_fits}
-use Rattle.chan_needs.proofs.remembered.changed_in.Goals as goal
+use Rattle.chan_needs.proofs.remembered.first_changed_in.Goals as goal
 
 pub overflow_add-address : goal.overflow_add-address
 overflow_add-address c =

@@ -1,6 +1,6 @@
 use Rattle.chan_needs.proofs.Names.{bytes_held, ℕ, ◌<◌}
 use Rattle.chan_needs.specs.Remembered.{HoldsByte}
-use Rattle.chan_needs.proofs.remembered.changed_in.Given as goal
+use Rattle.chan_needs.proofs.remembered.first_changed_in.Given as goal
 
 abbrev pub invariant-loop-i : goal.invariant-loop-i
 invariant-loop-i l = (k : ℕ) → k < l.i → HoldsByte (bytes_held l.storage) l.area l.kept k
