@@ -27,7 +27,14 @@ use Rattle.chan_walk.specs.Runs.{Moment, Steps}
 use Rattle.chan_walk.specs.Successor.{Successor, chained, next_of, skip_of}
 use Rattle.chan_walk.specs.Verdict.{IsVerdict}
 use Rattle.chan_why.specs.Hang.{CannotEndAt, EndsAfter, EndsTheProgram, HangLasts, SomeRunEnds}
-use Rattle.chan_why.specs.Hang.{HangGoesOn, HangsAlike, StepsOn, StepsOnUnlessItEnds}
+use Rattle.chan_why.specs.Hang.{HangGoesOn, HangsAlike, HangStays, StepsOn, StepsOnUnlessItEnds}
+use Rattle.ccw_core.specs.Held.{bytes_held}
+use Rattle.chan_walk.specs.Counted.{IsCounted, with_storage}
+use Rattle.chan_walk.specs.Runs.{IsSameIn}
+use Rattle.chan_walk.proofs.Algorithms.Counted.{carries_at}
+use Rattle.chan_walk.proofs.Machine.Again.{counted_is_guarded}
+use Rattle.chan_walk.proofs.Theory.Transport.{CarriesOver, same_reached}
+use Rattle.std.proofs.Common.{◌↔◌}
 use Rattle.chan_walk.proofs.Machine.Gathering.{advance, begin}
 use Rattle.chan_walk.proofs.Machine.Invariant.{Invariant, Same, Under}
 use Rattle.chan_walk.proofs.Machine.Paths.{Taking, each_path_is_run, few_at}
@@ -224,3 +231,44 @@ ends_over j k one w (q ∷ on) p m e = let f : IsClear k p × Successor k p q = 
 
 pub hangs_alike : HangsAlike
 hangs_alike j k one v w p h = (((same_under_yes j k one v w).0 p).0 h.0, λ can. h.1 (can.0, ends_over k j (turned j k one) v can.0 p h.0 can.1))
+
+-- ---- one job over two storages
+
+module _ (j k : Job) (on : (p : Place) → IsReachable j p → IsReachable k p × CarriesOver j k p) where
+  succeeds_there : (p q : Place) → ccw_of j p ≡ ccw_of k p → Successor j p q ↔ Successor k p q
+  succeeds_there p q same = (
+    (λ s. subst (λ c. (next_of p c (kind_of p.entered c) ≡ Some q) ⊎ (skip_of p c (kind_of p.entered c) ≡ Some q)) same s),
+    λ s. subst (λ c. (next_of p c (kind_of p.entered c) ≡ Some q) ⊎ (skip_of p c (kind_of p.entered c) ≡ Some q)) (sym same) s,
+  )
+
+  ends_there : (places : List Place) (p : Place) → IsReachable j p → EndsAfter j p places → EndsAfter k p places
+  ends_there [] p m e =
+      let over = (on p m).1 in
+      record { clear = over.clear e.clear; last = λ q s. e.last q ((succeeds_there p q (over.ccw e.clear)).1 s) }
+  ends_there (q ∷ places) p m e =
+      let over = (on p m).1 in
+      ((over.clear e.0.0, (succeeds_there p q (over.ccw e.0.0)).0 e.0.1), ends_there places q (p ∷ m.0, (m.1, e.0.0, e.0.1)) e.1)
+
+pub hang_stays : HangStays
+hang_stays j t v same p = (
+  (λ h. (to.0 h.0, λ can. h.1 (can.0, ends_there there j back can.0 p (to.0 h.0) can.1))),
+  λ h. (to.1 h.0, λ can. h.1 (can.0, ends_there j there on can.0 p (to.1 h.0) can.1)),
+)
+  where
+    there : Job
+    there = with_storage j t
+
+    counted : IsSameIn (IsCounted j) (storage_of j) (bytes_held t)
+    counted = record { same_length = same.same_length; same = λ b c. same.same b (counted_is_guarded j v b c) }
+
+    reached : (q : Place) → IsReachable j q ↔ IsReachable there q
+    reached q = same_reached j there refl (carries_at j t counted) q
+
+    to : IsReachable j p ↔ IsReachable there p
+    to = reached p
+
+    on : (q : Place) → IsReachable j q → IsReachable there q × CarriesOver j there q
+    on q m = let n = (reached q).0 m in (n, (carries_at j t counted q m n).0)
+
+    back : (q : Place) → IsReachable there q → IsReachable j q × CarriesOver there j q
+    back q n = let m = (reached q).1 n in (m, (carries_at j t counted q m n).1)

@@ -6,6 +6,8 @@ use Rattle.std.specs.Prelude.{length, reverse, slice_get, slice_index_or, Option
 use Rattle.std.specs.Prelude.{◌↔◌, ◌&&◌, ◌/◌, ◌%◌, take, slice_index, is_none, option_map}
 use Rattle.std.specs.Prelude.{if◌then◌else◌}
 use Rattle.std.specs.List.{AllByRecursion, count_by}
+use Rattle.ccw_core.specs.declared.storage.Storage.{Storage}
+use Rattle.ccw_core.specs.Held.{bytes_held}
 use Rattle.chan_walk.specs.declared.job.Job.{Job}
 use Rattle.chan_walk.specs.declared.place.Place.{Place}
 use Rattle.chan_walk.specs.declared.verdict.Verdict.TheVariants.{Yes}
@@ -14,14 +16,17 @@ use Rattle.chan_why.specs.declared.hang.Predecessor.{Predecessor}
 use Rattle.chan_why.specs.declared.hang.Predecessors.{Predecessors}
 use Rattle.chan_walk.specs.Alarm.{AreBytes, ArePlaces, IsProper}
 use Rattle.chan_walk.specs.Argument.{Has}
+use Rattle.chan_walk.specs.Counted.{with_storage}
 use Rattle.chan_walk.specs.Fault.{IsClear}
+use Rattle.chan_walk.specs.Guarded.{IsGuarded}
 use Rattle.chan_walk.specs.Headline.{EachMomentOfYes, IsSpared}
 use Rattle.chan_walk.specs.Look.{Seen}
 use Rattle.chan_walk.specs.Machine.{Gathered, Stage, At, Ended, Checked}
 use Rattle.chan_walk.specs.OpenJob.{AreOfOneProgram}
 use Rattle.chan_walk.specs.Places.{place_number}
 use Rattle.chan_walk.specs.Reachable.{IsReachable}
-use Rattle.chan_walk.specs.Runs.{Moment, IsRun, Steps}
+use Rattle.chan_walk.specs.Job.{storage_of}
+use Rattle.chan_walk.specs.Runs.{IsSameIn, Moment, IsRun, Steps}
 use Rattle.chan_walk.specs.Successor.{Successor}
 use Rattle.chan_walk.specs.Verdict.{IsVerdict}
 use Rattle.chan_walk.specs.Walk.{Follows}
@@ -102,6 +107,14 @@ abbrev pub HangsAlike : Type 0
 HangsAlike =
     (j k : Job) → AreOfOneProgram j k → IsVerdict j Yes → IsVerdict k Yes → (p : Place)
     → MayHang j p → MayHang k p
+
+-- over another storage that is as long and the same in each guarded byte, a program with a yes may
+-- hang at the same places
+abbrev pub HangStays : Type 0
+HangStays =
+    (j : Job) (t : Storage) → IsVerdict j Yes
+    → IsSameIn (IsGuarded j) (storage_of j) (bytes_held t)
+    → (p : Place) → MayHang j p ↔ MayHang (with_storage j t) p
 
 -- ---- how the code finds it, backwards from the places that end the program
 

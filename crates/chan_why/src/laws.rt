@@ -1,7 +1,7 @@
 //! The laws of programs that may hang: each is the contract of a function that does nothing, so
 //! that it is proved.
 
-ghost use Rattle.chan_why.specs.Hang.{EndlessMayHang, HangGoesOn, HangLasts, HangsAlike};
+ghost use Rattle.chan_why.specs.Hang.{EndlessMayHang, HangGoesOn, HangLasts, HangStays, HangsAlike};
 ghost use Rattle.chan_why.specs.Hang.{SomeRunEnds, StepsOnUnlessItEnds};
 
 /// Where the verdict is yes, a run among others that change no guarded byte never comes from a
@@ -33,6 +33,12 @@ fn steps_on_unless_it_ends()
 /// A reachable place that can't end is one at which the program may hang.
 fn endless_may_hang()
     ensures { EndlessMayHang }
+{}
+
+/// A program with a yes may hang at the same places over each storage that is as long and the same
+/// in each guarded byte.
+fn hang_stays()
+    ensures { HangStays }
 {}
 
 /// A program may hang at the same places under each job with a yes.
