@@ -15,11 +15,15 @@ address_text a =
     else if nat_lt a (2 ^ 28) then size_digits a
     else encode_upper (to_be_bytes w32 a)
 
--- `yes`, or `no`, the address and the reason's word, with its line feed
+-- `yes`, or `no`, the address and the reason's word
+abbrev pub verdict_words : Verdict → List ℕ
+verdict_words Yes = codes "yes"
+verdict_words (No address reason) =
+    codes "no " ++ address_text address ++ codes " " ++ word_of reason
+
+-- the same with a line feed
 abbrev pub verdict_line : Verdict → List ℕ
-verdict_line Yes = codes "yes" ++ 10 ∷ []
-verdict_line (No address reason) =
-    codes "no " ++ address_text address ++ codes " " ++ word_of reason ++ 10 ∷ []
+verdict_line v = verdict_words v ++ 10 ∷ []
 
 -- the line of a program that starts at an address: the address, and the verdict, if there is one
 abbrev pub program_line : ℕ → Option Verdict → List ℕ

@@ -1,13 +1,14 @@
-//! The picture of a program, in Graphviz's language. It is proved that its last line closes it;
-//! tests hold the rest.
+//! The picture of a program, in Graphviz's language. It is proved that its title has the verdict, and
+//! that its last line closes it; tests hold the rest.
 
-ghost use Rattle.std.specs.Prelude.{string_bytes, IfOk};
-ghost use Rattle.chan_deck.specs.Graph.{IsClosed};
+ghost use Rattle.std.specs.Prelude.{◌≡◌, ◌++◌, codes, option_map, string_bytes, IfOk, OnOk};
+ghost use Rattle.chan_deck.specs.Graph.{IsPictureOf, escaped, escaped_byte, titled};
+ghost use Rattle.chan_deck.specs.Texts.{verdict_words};
 
 use crate::explanation::push_cause;
 use crate::layout::{Arrow, Layout, Row, arrow_to, first_offence, first_row, layout_of, row_at};
 use crate::listing::{name_of, transfer_word, way_word};
-use crate::texts::{Address, Digits, Range, Size, verdict_text};
+use crate::texts::{Address, Digits, Range, Size, push_verdict};
 use chan_walk::{
     Direction, Entry, Evidence, Job, Look, Offence, Place, Verdict, data_of, first_place,
 };
@@ -34,7 +35,7 @@ const STYLES: &str =
 /// A program that was judged, as it is drawn.
 #[derive(Clone, Copy)]
 pub struct Picture<'a> {
-    /// The name of its deck, which begins the title; none for standard input.
+    /// The name of its deck in ASCII, which begins the title; none for standard input.
     pub name: Option<&'a str>,
     pub job: &'a Job<'a>,
     pub verdict: Verdict,
@@ -64,15 +65,44 @@ impl fmt::Display for Node {
 
 // ---- the title
 
-/// Adds some text, with a backslash before each quote and each backslash.
-fn push_escaped(out: &mut String, text: &str) -> Result<(), AllocError> {
-    for character in text.chars() {
-        if character == '"' || character == '\\' {
-            out.push('\\')?;
-        }
-        out.push(character)?;
+/// Adds a byte of a name, with a backslash before a quote and a backslash.
+fn push_escaped_byte(out: &mut String, byte: u8) -> Result<(), AllocError>
+    ensures { OnOk result (string_bytes out.new ≡ string_bytes out.old ++ escaped_byte byte) }
+{
+    if byte == b'"' || byte == b'\\' {
+        out.push('\\')?;
+        return out.push(char::from(byte));
     }
-    Ok(())
+    if byte < 128 {
+        out.push(char::from(byte))
+    } else {
+        out.push('?')
+    }
+}
+
+/// The start of the picture, as far as the verdict: its title begins with the name of the deck.
+fn title_of(alloc: Global, name: Option<&str>, verdict: Verdict) -> Result<String, AllocError>
+    ensures { IfOk result (λ text. string_bytes text
+        ≡ codes "digraph program {\n  graph [label=\""
+        ++ titled (option_map (λ n. n.now) name.entry) ++ verdict_words verdict) }
+{
+    let mut title = String::from_str(alloc, "digraph program {\n  graph [label=\"")?;
+    if let Some(name) = name {
+        push_name(&mut title, name.as_bytes())?;
+    }
+    push_verdict(&mut title, verdict)?;
+    Ok(title)
+}
+
+/// Adds the name of a deck, a colon and a space.
+fn push_name(out: &mut String, name: &[u8]) -> Result<(), AllocError>
+    ensures { OnOk result (string_bytes out.new
+        ≡ string_bytes out.old ++ (escaped name.now ++ codes ": ")) }
+{
+    for at in 0..name.len() {
+        push_escaped_byte(out, name[at])?;
+    }
+    out.push_str(": ")
 }
 
 /// Adds the cylinders granted.
@@ -89,22 +119,15 @@ fn push_cylinders(out: &mut String, extents: &[(u16, u16)]) -> Result<(), AllocE
     Ok(())
 }
 
-/// Adds the title: the verdict, and for whom it is one.
-fn push_title(alloc: Global, out: &mut String, picture: &Picture) -> Result<(), AllocError> {
-    out.push_str("digraph program {\n  graph [label=\"")?;
-    if let Some(name) = picture.name {
-        push_escaped(out, name)?;
-        out.push_str(": ")?;
-    }
+/// Adds the second line of the title: for whom the verdict is one.
+fn push_grants(out: &mut String, picture: &Picture) -> Result<(), AllocError> {
     let job = picture.job;
-    let verdict = verdict_text(alloc, picture.verdict)?;
-    let verdict = verdict.trim_end();
     let device = match job.device {
         Device::D2311 => "2311",
         Device::D2314 => "2314",
     };
     let mask = Digits(job.mask.byte());
-    write!(out, "{verdict}\\n{device}, mask {mask}")?;
+    write!(out, "{device}, mask {mask}")?;
     push_cylinders(out, job.extents.pairs())?;
     let size = Size(job.storage.len());
     let color = match picture.verdict {
@@ -455,16 +478,26 @@ fn push_arrows(
 /// A transfer in channel is a label on the arrow through it. A place that offends is alone in a
 /// pink box, with its reasons and their causes.
 pub fn graph_text(alloc: Global, picture: &Picture) -> Result<String, AllocError>
-    ensures { IfOk result (λ text. IsClosed (string_bytes text)) }
+    ensures { IfOk result (λ text. IsPictureOf (option_map (λ n. n.now) picture.now.name)
+        picture.now.verdict (string_bytes text)) }
 {
+    let mut text = title_of(alloc, picture.name, picture.verdict)?;
+    text.push_str("\\n")?;
+    let body = body_of(alloc, picture)?;
+    text.push_str(body.as_str())?;
+    text.push_str("}\n")?;
+    Ok(text)
+}
+
+/// All that stands between the verdict in the title and the last line.
+fn body_of(alloc: Global, picture: &Picture) -> Result<String, AllocError> {
     let first = first_place(picture.job);
     let layout = layout_of(alloc, first, picture.looks, picture.offences)?;
     let mut out = String::new(alloc);
-    push_title(alloc, &mut out, picture)?;
+    push_grants(&mut out, picture)?;
     out.push_str(STYLES)?;
     push_boxes(alloc, &mut out, picture, &layout)?;
     push_start(&mut out, picture, &layout, first)?;
     push_arrows(alloc, &mut out, picture, &layout)?;
-    out.push_str("}\n")?;
     Ok(out)
 }

@@ -1,6 +1,6 @@
 //! The lines of a verdict and of a program that was found.
 
-ghost use Rattle.std.specs.Prelude.{◌≡◌, IfOk, string_bytes};
+ghost use Rattle.std.specs.Prelude.{◌≡◌, ◌++◌, IfOk, OnOk, string_bytes};
 ghost use Rattle.hex.specs.Hex.{encode_upper};
 ghost use Rattle.chan_deck.specs.Texts as text;
 
@@ -95,19 +95,30 @@ impl fmt::Display for Range {
     }
 }
 
+/// Adds a verdict to a text: `yes`, or `no`, the address and the reason's word.
+pub(crate) fn push_verdict(out: &mut String, verdict: Verdict) -> Result<(), AllocError>
+    ensures { OnOk result (string_bytes out.new
+        ≡ string_bytes out.old ++ text.verdict_words verdict) }
+{
+    match verdict {
+        Verdict::Yes => out.push_str("yes"),
+        Verdict::No { address, reason } => {
+            let address = Address(address);
+            let word = reason.word();
+            write!(out, "no {address} {word}")
+        }
+    }
+}
+
 /// The line of a verdict with its end: `yes`, or `no`, the address and the reason's word. An error
 /// means that an allocation failed.
 pub fn verdict_text(alloc: Global, verdict: Verdict) -> Result<String, AllocError>
     ensures { IfOk result (λ t. string_bytes t ≡ text.verdict_line verdict) }
 {
-    match verdict {
-        Verdict::Yes => String::from_str(alloc, "yes\n"),
-        Verdict::No { address, reason } => {
-            let address = Address(address);
-            let word = reason.word();
-            format!(in alloc; "no {address} {word}\n")
-        }
-    }
+    let mut line = String::new(alloc);
+    push_verdict(&mut line, verdict)?;
+    line.push('\n')?;
+    Ok(line)
 }
 
 /// The line of a program that was found: its start in six digits, and the verdict on its open job,
