@@ -1,7 +1,7 @@
 """The library for C: its example, edges, threads, refused memory and archive.
 
 The programs of c/ and examples/c/ ask it. What they should write was worked out from the rules:
-edges.out, needs.out and threads.out of c/; the words of src/reason.rt of chan_walk; and the example
+edges.out, needs.out, memory.out and threads.out of c/; the words of src/reason.rt of chan_walk; and the example
 of docs/EMBEDDING.md, whose text has to be that of ask.c. The archive may ask only for what the C
 library has to have, and each growth of memory in a call is refused in turn. The test `python` asks
 about all decks, `nulls` hands in NULL for each empty list.
@@ -17,7 +17,7 @@ from refusing import Case, Growths
 from running import Ran, run, text_of
 
 # the programs whose calls get too little room, foreign rows or threads run under the sanitizers
-LINED = ("edges", "needs", "threads")
+LINED = ("edges", "needs", "memory", "threads")
 TESTS = ("one_call", *LINED)
 SOURCES = [EXAMPLES / "c/ask.c", *[HERE / f"c/{name}.c" for name in TESTS]]
 MAY_ASK_FOR = {"memcpy", "memmove", "memset", "malloc", "realloc", "free"}
@@ -83,7 +83,8 @@ def structs_of(header):
 
 def check_layout(checks, library, folder):
     """The recorded layout and soname are those of the header and of the shared library."""
-    lines = []
+    enums = re.findall(r"(?m)^enum (\w+) \{", text_of(library / "chanv.h"))
+    lines = [f"ENUM({name});" for name in enums]
     for struct, fields in structs_of(library / "chanv.h"):
         lines += [f"SIZE({struct});", *[f"FIELD({struct}, {field});" for field in fields]]
     (folder / "structs.h").write_text("\n".join(lines) + "\n")
@@ -112,6 +113,70 @@ def check_warnings(checks, library):
         return
     header = library / "chanv.h"
     checks.expect("warnings of the header in C++", Ran(0), run(*look, *IN_CPP, header))
+
+
+# A call with a mistake in it, the option that finds it, and the same call without.
+MISTAKES = [
+    ("an answer compared with a reason", "enum-compare", "{answer} == CHANV_REASON_MISALIGNED"),
+    ("an answer compared with a refusal", "enum-compare", "{answer} == CHANV_REFUSED_KEPT"),
+    ("no verdict", "nonnull", "chanv_verify(&job, NULL) == CHANV_YES"),
+    ("no job", "nonnull", "chanv_verify(NULL, &verdict) == CHANV_YES"),
+    ("no count", "nonnull", "chanv_list(&job, NULL, 0, NULL, &len) == CHANV_OK"),
+    ("no extent", "nonnull", "chanv_list(&job, NULL, 0, &len, NULL) == CHANV_OK"),
+    ("no explanation", "nonnull", "chanv_why(&job, NULL, 0, NULL, 0, NULL) == CHANV_NO"),
+    ("no length", "nonnull", "chanv_text(&job, NULL, 0, NULL) == CHANV_OK"),
+    ("no length of the open text", "nonnull", "chanv_open_text(&job, NULL, 0, NULL) == CHANV_OK"),
+    ("no needs", "nonnull", "chanv_needs(&job, NULL, {none}) == CHANV_OK"),
+    ("no length of the memory", "nonnull", "chanv_take_in(&job, NULL, 0, NULL, &it, &told) == 0"),
+    ("no program", "nonnull", "chanv_take_in(&job, NULL, 0, &len, NULL, &told) == 0"),
+    ("no needs of a program", "nonnull", "chanv_take_in(&job, NULL, 0, &len, &it, NULL) == 0"),
+    ("no program to start", "nonnull", "chanv_check_start(&job, NULL, 0, NULL, &no) == 0"),
+    ("no refusal of a start", "nonnull", "chanv_check_start(&job, NULL, 0, &it, NULL) == 0"),
+    ("no area", "nonnull", "chanv_check_write(NULL, 0, NULL, &no) == CHANV_YES"),
+    ("no refusal of a write", "nonnull", "chanv_check_write(NULL, 0, &area, NULL) == CHANV_YES"),
+    ("no storage", "nonnull", "chanv_find(NULL, 2314, NULL, 0, &len) == CHANV_OK"),
+    ("no count of starts", "nonnull", "chanv_find(&job.storage, 2314, NULL, 0, NULL) == 0"),
+]
+RIGHT = [
+    "{answer} == CHANV_NO",
+    "chanv_list(&job, NULL, 0, &len, &len) == CHANV_OK",
+    "chanv_why(&job, NULL, 0, NULL, 0, &why) == CHANV_NO",
+    "chanv_text(&job, NULL, 0, &len) == CHANV_OK",
+    "chanv_needs(&job, &told, {none}) == CHANV_OK",
+    "chanv_take_in(&job, NULL, 0, &len, &it, &told) == CHANV_OK",
+    "chanv_check_start(&job, NULL, 0, &it, &no) == CHANV_YES",
+    "chanv_check_write(NULL, 0, &area, &no) == CHANV_YES",
+    "chanv_find(&job.storage, 2314, NULL, 0, &len) == CHANV_OK",
+]
+ASKING = """#include <chanv.h>
+int ask(struct chanv_job job, struct chanv_area area, struct chanv_program it);
+int ask(struct chanv_job job, struct chanv_area area, struct chanv_program it)
+{{
+    struct chanv_verdict verdict = {{0, 0, 0}};
+    struct chanv_refusal no;
+    struct chanv_needed told;
+    struct chanv_explanation why;
+    size_t len = 0;
+    enum chanv_answer answer = chanv_verify(&job, &verdict);
+    (void)area, (void)it, (void)no, (void)told, (void)why, (void)len;
+    return answer == CHANV_NO_ROOM || {};
+}}
+"""
+
+
+def check_mistakes(checks, library, folder):
+    """A compiler finds an answer that is compared with something else, and NULL where it mustn't be;
+    and it finds no fault with NULL where it may be."""
+    source = folder / "mistake.c"
+    look = [*c_compiler(), "-fsyntax-only", f"-I{library}", "-std=c11", "-Wall", "-Wextra"]
+    words = {"answer": "answer", "none": "NULL, 0, NULL, 0, NULL, 0, NULL, 0, NULL, 0"}
+    for name, option, call in [*MISTAKES, *((it, None, it) for it in RIGHT)]:
+        source.write_text(ASKING.format(call.format(**words)))
+        ran = run(*look, source)
+        if option:
+            checks.expect_that(f"{name} is found", f"[-W{option}]" in ran.error, ran)
+        else:
+            checks.expect(f"no fault with {name}", Ran(0), ran)
 
 
 def check_archive(checks, library):
@@ -160,6 +225,7 @@ def check(checks, built):
             check_lines(checks, folder, name)
         check_layout(checks, library, folder)
         check_warnings(checks, library)
+        check_mistakes(checks, library, folder)
         check_archive(checks, library)
         check_hardening(checks, library)
         refuse_growths(checks, folder)
