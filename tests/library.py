@@ -115,38 +115,18 @@ def check_warnings(checks, library):
     checks.expect("warnings of the header in C++", Ran(0), run(*look, *IN_CPP, header))
 
 
-# A call with a mistake in it, the option that finds it, and the same call without.
-MISTAKES = [
-    ("an answer compared with a reason", "enum-compare", "{answer} == CHANV_REASON_MISALIGNED"),
-    ("an answer compared with a refusal", "enum-compare", "{answer} == CHANV_REFUSED_KEPT"),
-    ("no verdict", "nonnull", "chanv_verify(&job, NULL) == CHANV_YES"),
-    ("no job", "nonnull", "chanv_verify(NULL, &verdict) == CHANV_YES"),
-    ("no count", "nonnull", "chanv_list(&job, NULL, 0, NULL, &len) == CHANV_OK"),
-    ("no extent", "nonnull", "chanv_list(&job, NULL, 0, &len, NULL) == CHANV_OK"),
-    ("no explanation", "nonnull", "chanv_why(&job, NULL, 0, NULL, 0, NULL) == CHANV_NO"),
-    ("no length", "nonnull", "chanv_text(&job, NULL, 0, NULL) == CHANV_OK"),
-    ("no length of the open text", "nonnull", "chanv_open_text(&job, NULL, 0, NULL) == CHANV_OK"),
-    ("no needs", "nonnull", "chanv_needs(&job, NULL, {none}) == CHANV_OK"),
-    ("no length of the memory", "nonnull", "chanv_take_in(&job, NULL, 0, NULL, &it, &told) == 0"),
-    ("no program", "nonnull", "chanv_take_in(&job, NULL, 0, &len, NULL, &told) == 0"),
-    ("no needs of a program", "nonnull", "chanv_take_in(&job, NULL, 0, &len, &it, NULL) == 0"),
-    ("no program to start", "nonnull", "chanv_check_start(&job, NULL, 0, NULL, &no) == 0"),
-    ("no refusal of a start", "nonnull", "chanv_check_start(&job, NULL, 0, &it, NULL) == 0"),
-    ("no area", "nonnull", "chanv_check_write(NULL, 0, NULL, &no) == CHANV_YES"),
-    ("no refusal of a write", "nonnull", "chanv_check_write(NULL, 0, &area, NULL) == CHANV_YES"),
-    ("no storage", "nonnull", "chanv_find(NULL, 2314, NULL, 0, &len) == CHANV_OK"),
-    ("no count of starts", "nonnull", "chanv_find(&job.storage, 2314, NULL, 0, NULL) == 0"),
-]
+# Each call as it may be made, with NULL for each list.
 RIGHT = [
-    "{answer} == CHANV_NO",
-    "chanv_list(&job, NULL, 0, &len, &len) == CHANV_OK",
-    "chanv_why(&job, NULL, 0, NULL, 0, &why) == CHANV_NO",
-    "chanv_text(&job, NULL, 0, &len) == CHANV_OK",
-    "chanv_needs(&job, &told, {none}) == CHANV_OK",
-    "chanv_take_in(&job, NULL, 0, &len, &it, &told) == CHANV_OK",
-    "chanv_check_start(&job, NULL, 0, &it, &no) == CHANV_YES",
-    "chanv_check_write(NULL, 0, &area, &no) == CHANV_YES",
-    "chanv_find(&job.storage, 2314, NULL, 0, &len) == CHANV_OK",
+    "chanv_verify(&job, &verdict)",
+    "chanv_list(&job, NULL, 0, &len, &len)",
+    "chanv_why(&job, NULL, 0, NULL, 0, &why)",
+    "chanv_text(&job, NULL, 0, &len)",
+    "chanv_open_text(&job, NULL, 0, &len)",
+    "chanv_needs(&job, &told, NULL, 0, NULL, 0, NULL, 0, NULL, 0, NULL, 0)",
+    "chanv_take_in(&job, NULL, 0, &len, &it, &told)",
+    "chanv_check_start(&job, NULL, 0, &it, &no)",
+    "chanv_check_write(NULL, 0, &area, &no)",
+    "chanv_find(&job.storage, 2314, NULL, 0, &len)",
 ]
 ASKING = """#include <chanv.h>
 int ask(struct chanv_job job, struct chanv_area area, struct chanv_program it);
@@ -157,11 +137,20 @@ int ask(struct chanv_job job, struct chanv_area area, struct chanv_program it)
     struct chanv_needed told;
     struct chanv_explanation why;
     size_t len = 0;
-    enum chanv_answer answer = chanv_verify(&job, &verdict);
-    (void)area, (void)it, (void)no, (void)told, (void)why, (void)len;
-    return answer == CHANV_NO_ROOM || {};
+    (void)job, (void)area, (void)it, (void)no, (void)told, (void)why, (void)len, (void)verdict;
+    return {};
 }}
 """
+
+
+def mistakes_of(call):
+    """The call compared with what isn't an answer, and with NULL where it mustn't be, each with the
+    warning that finds it."""
+    yield f"{call} == CHANV_REASON_MISALIGNED", "enum-compare"
+    yield f"{call} == CHANV_REFUSED_KEPT", "enum-compare"
+    for pointer in dict.fromkeys(re.findall(r"&[\w.]+", call)):
+        for at in (it.start() for it in re.finditer(rf"{re.escape(pointer)}\b(?!\.)", call)):
+            yield f"{call[:at]}NULL{call[at + len(pointer) :]} == CHANV_YES", "nonnull"
 
 
 def check_mistakes(checks, library, folder):
@@ -169,14 +158,13 @@ def check_mistakes(checks, library, folder):
     and it finds no fault with NULL where it may be."""
     source = folder / "mistake.c"
     look = [*c_compiler(), "-fsyntax-only", f"-I{library}", "-std=c11", "-Wall", "-Wextra"]
-    words = {"answer": "answer", "none": "NULL, 0, NULL, 0, NULL, 0, NULL, 0, NULL, 0"}
-    for name, option, call in [*MISTAKES, *((it, None, it) for it in RIGHT)]:
-        source.write_text(ASKING.format(call.format(**words)))
-        ran = run(*look, source)
-        if option:
-            checks.expect_that(f"{name} is found", f"[-W{option}]" in ran.error, ran)
-        else:
-            checks.expect(f"no fault with {name}", Ran(0), ran)
+    for call in RIGHT:
+        source.write_text(ASKING.format(f"{call} == CHANV_NO"))
+        checks.expect(f"no fault with {call}", Ran(0), run(*look, source))
+        for mistake, option in mistakes_of(call):
+            source.write_text(ASKING.format(mistake))
+            ran = run(*look, source)
+            checks.expect_that(f"{mistake} is found", f"[-W{option}]" in ran.error, ran)
 
 
 def check_archive(checks, library):

@@ -31,11 +31,7 @@ pub returns-clause-answer : goal.returns-clause-answer
 returns-clause-answer c = record {
   job = c.job-job.result;
   asked = c.job-job.ensures;
-  check = (
-    c.is_of_this_version.ensures.0 c.if-not-is_of_this_version.false,
-    rw c.in_default.is at c.first_later.ensures,
-    c.in_ok-start.ensures.answer,
-  );
+  check = (c.is_of_this_version.ensures.0 c.if-not-is_of_this_version.false, rw c.in_default.is at c.first_later.ensures, c.in_ok-start.ensures.answer);
   well = λ yes. let e : c.in_ok-start.start ≡ answer.Yes = cc in c.in_ok-start.ensures.well e;
   due = λ _ _ fit. ap Asked (c.in_ok-start.ensures.exact.1 fit);
 }
