@@ -20,6 +20,15 @@ EVERYWHERE, EACH = [(0, SIZE)], [(0, 202)]
 
 # a search loop that lends what it needs, at 000800
 LOOP = {0x800: "3100090040000005", 0x808: "0800080000000000", 0x810: "06000A0020000050"}
+# A CCW at 0007F0 that ends the program if it is entered fresh, as after the search, and that the data
+# chain of the CCW at 000810 leads to again and again.
+TWO_WAYS = {
+    0x7F0: "03000A1080000010",
+    0x7F8: "080007F000000000",
+    0x800: "3100090040000005",
+    0x808: "080007F000000000",
+    0x818: "080007F000000000",
+}
 
 
 def storage_of(words, size=SIZE):
@@ -120,6 +129,10 @@ def check_hang_at_zero(checks, chanv):
     checks.expect("a hang at 0", (0, "fresh"), (program.hangs_at, program.hangs_entered))
     for name, made in copies_of(program):
         checks.expect(f"a hang at 0, {name}", (0, "fresh"), (made.hangs_at, made.hangs_entered))
+    for code, entered in (("06", "in"), ("05", "out"), ("31", "search")):
+        program = chanv.needs(job_of(chanv, {**TWO_WAYS, 0x810: f"{code}000A0080000008"}, 0x800))
+        seen = program.hangs_at, program.hangs_entered
+        checks.expect(f"a hang in the data chain of {code}", (0x7F0, entered), seen)
     ends = chanv.needs(job_of(chanv, LOOP, 0x800))
     checks.expect("no hang", (None, None), (ends.hangs_at, ends.hangs_entered))
 
