@@ -32,6 +32,16 @@ from writing import job_of  # noqa: E402
 JUDGE = EXAMPLES / "python/judge.py"
 SMALL_LIMIT = EXAMPLES / "small-limit.deck"
 
+# a deck whose first CCW, at 000000, is zeros
+AT_ZERO = """chanv deck 1
+device 2314
+mask 00
+start 000000
+extent 000 202
+storage 0000800
+end
+"""
+
 # the values that are hexadecimal numbers, with their digits
 HEXADECIMAL = {"address": 6, "taker": 6, "storage_len": 7, "code": 2, "mask": 2, "bits": 2}
 
@@ -98,6 +108,9 @@ def check_status(checks, library):
         yes = f"{SMALL_LIMIT}: yes\n"
         checks.expect("judge a yes", Ran(0, yes), judge(library, SMALL_LIMIT))
         checks.expect("judge too many", Ran(2, yes, error), judge(library, SMALL_LIMIT, deck))
+        deck.write_text(AT_ZERO)
+        no = f"{deck}: no 000000 invalid-code\n"
+        checks.expect("judge a no at 0", Ran(1, no), judge(library, deck))
 
 
 def check_refused(checks, library):
