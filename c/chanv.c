@@ -174,8 +174,8 @@ static struct chanv_program program_at(uint8_t *memory, const struct layout *at,
 enum chanv_answer chanv_take_in(const struct chanv_job *job, void *memory, size_t room, size_t *len,
                                 struct chanv_program *program, struct chanv_needed *out)
 {
-    static uint32_t none; /* to point to if there is no memory */
-    uint8_t *bytes = memory == NULL ? (uint8_t *)&none : memory;
+    static uint32_t none; /* to point to if there is no memory, or less than the padding */
+    uint8_t *bytes = room < MOST_PADDING ? (uint8_t *)&none : memory;
     struct chanv_needed rooms = shares_of(room);
     enum chanv_answer answer = ask_into(bytes, &rooms, job, out);
     if (answer == CHANV_NO_ROOM && total_of(out) <= room) {

@@ -449,6 +449,13 @@ def check_types(checks, room):
     checks.expect_that("types", ran.status == 0, ran)
 
 
+def check_readme(checks, library):
+    """The example of the package's README prints what stands behind its last line."""
+    [code] = re.findall(r"(?s)```python\n(.*?)```", text_of(FOLDER / "README.md"))
+    [says] = re.findall(r"print\(.*\)  # (.*)\n", code)
+    checks.expect("the README's example", Ran(0, f"{says}\n"), python(library, code))
+
+
 def check(checks, built):
     library = shared_library(built)
     chanv = package(built)
@@ -456,6 +463,7 @@ def check(checks, built):
     judging = importlib.import_module("judge")
     example = "import chanv, doctest, sys; sys.exit(doctest.testmod(chanv).failed)"
     checks.expect("the package's example", Ran(0), python(library, example))
+    check_readme(checks, library)
     with tempfile.TemporaryDirectory() as room:
         check_library(checks, library, Path(room))
         check_places(checks, library, Path(room) / "places")
