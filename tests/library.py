@@ -1,8 +1,8 @@
 """The library for C: its example, edges, threads, refused memory and archive.
 
 The programs of c/ and examples/c/ ask it. What they should write was worked out from the rules:
-edges.out, needs.out, memory.out and threads.out of c/; the words of src/reason.rt of chan_walk; and the example
-of docs/EMBEDDING.md, whose text has to be that of ask.c. The archive may ask only for what the C
+edges.out, needs.out, memory.out and threads.out of c/; the words of src/reason.rt of chan_walk; and
+the example of docs/EMBEDDING.md, whose text has to be that of ask.c. The archive may ask only for what the C
 library has to have, and each growth of memory in a call is refused in turn. The test `python` asks
 about all decks, `nulls` hands in NULL for each empty list.
 """
@@ -154,8 +154,8 @@ def mistakes_of(call):
 
 
 def check_mistakes(checks, library, folder):
-    """A compiler finds an answer that is compared with something else, and NULL where it mustn't be;
-    and it finds no fault with NULL where it may be."""
+    """A compiler finds an answer that is compared with something else, and NULL where it mustn't
+    be; and it finds no fault with NULL where it may be."""
     source = folder / "mistake.c"
     look = [*c_compiler(), "-fsyntax-only", f"-I{library}", "-std=c11", "-Wall", "-Wextra"]
     for call in RIGHT:

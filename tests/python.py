@@ -2,9 +2,9 @@
 
 `judge.py` of examples/python/ reads each deck of examples/ and examples/cases/ and asks it. Each
 answer has to be the verdict of the deck; there is none to a text that `chanv` refuses, or to a
-missing file. The package's own example is carried out too. It looks for the library only in its own prefix
-or checkout, and `pip` installs it without a network in a plain environment. What asks `pip` is left
-out, by its name, where there is no `venv`, and the check of types where there is no mypy.
+missing file. The package's own example is carried out too. It looks for the library only in its own
+prefix or checkout, and `pip` installs it without a network in a plain environment. What asks `pip`
+is left out, by its name, where there is no `venv`, and the check of types where there is no mypy.
 """
 
 import importlib
@@ -339,7 +339,8 @@ def check_library(checks, library, room):
         named = f"chanv._c.WrongLibrary: {says.format(other)}"
         checks.expect_that(f"a call with a library that is {other.stem}", named in ran.error, ran)
     at = {"__name__": "_c", "__file__": "/_c.py"}
-    script = f"at = {at!r}; exec(compile({text_of(FOLDER / 'chanv/_c.py')!r}, '_c.py', 'exec'), at)\n"
+    code = text_of(FOLDER / "chanv/_c.py")
+    script = f"at = {at!r}; exec(compile({code!r}, '_c.py', 'exec'), at)\n"
     script += "print(at['__getattr__']('library').chanv_version() >> 16)"
     checks.expect("right under the root", Ran(0, "0\n"), python(library, script))
 
@@ -349,12 +350,11 @@ def soname():
     return name
 
 
-def ask_from(package, library, at=None):
-    """Asks a copy of the package in a folder, with the library copied to a place, if there is one."""
+def ask_from(package, library, at):
+    """Asks a copy of the package in a folder, with the library copied to a place."""
     shutil.copytree(FOLDER / "chanv", package / "chanv", ignore=lambda *_: ["__pycache__"])
-    if at:
-        at.parent.mkdir(parents=True, exist_ok=True)
-        shutil.copy(library, at)
+    at.parent.mkdir(parents=True, exist_ok=True)
+    shutil.copy(library, at)
     found = {**os.environ, "PYTHONPATH": str(package)}
     found.pop("CHANV_LIBRARY", None)
     return run(sys.executable, "-B", "-c", ASK, env=found)
@@ -433,14 +433,17 @@ def check_pip(checks, library, room):
         checks.skip("what pip leaves in the checkout", "no git")
 
 
-PACK = "import sys; sys.path.insert(0, 'backend'); import building; building.build_sdist(sys.argv[1])"
+PACK = """
+import sys
+sys.path.insert(0, "backend")
+import building
+building.build_sdist(sys.argv[1])
+"""
 
 
 def check_types(checks, room):
-    able = next(
-        (it for it in (sys.executable, "/usr/bin/python3") if run(it, "-m", "mypy", "-V").status == 0),
-        None,
-    )
+    pythons = (sys.executable, "/usr/bin/python3")
+    able = next((it for it in pythons if run(it, "-m", "mypy", "-V").status == 0), None)
     if able is None:
         checks.skip("types", "no mypy")
         return

@@ -20,8 +20,8 @@ EVERYWHERE, EACH = [(0, SIZE)], [(0, 202)]
 
 # a search loop that lends what it needs, at 000800
 LOOP = {0x800: "3100090040000005", 0x808: "0800080000000000", 0x810: "06000A0020000050"}
-# A CCW at 0007F0 that ends the program if it is entered fresh, as after the search, and that the data
-# chain of the CCW at 000810 leads to again and again.
+# A CCW at 0007F0 that ends the program if it is entered fresh, as after the search, and that the
+# data chain of the CCW at 000810 leads to again and again.
 TWO_WAYS = {
     0x7F0: "03000A1080000010",
     0x7F8: "080007F000000000",
@@ -140,7 +140,7 @@ def check_hang_at_zero(checks, chanv):
 # ---- both types of device
 
 def check_devices(checks, chanv):
-    """A seek to head 10 is right on a 2314, which has 20 heads, and wrong on a 2311, which has 10."""
+    """A seek to head 10 is right on a 2314, which has 20, and wrong on a 2311, which has 10."""
     words = {0x800: "0700090040000006", 0x808: "06000A0020000010", 0x900: "00000000000A0000"}
     for device, heads, line in [
         (2311, 10, "no 000800 seek-outside"),
@@ -320,8 +320,8 @@ def check_programs(checks, chanv):
     checks.expect("a table's values", "kept", chanv.may_write((0x800, 1), table.values()).refusal)
     checks.expect("nobody", True, bool(chanv.may_write((0x800, 1), [None])))
     checks.expect("a start beside nobody", True, bool(chanv.may_start(job, program, [None])))
-    wrong = [{0: program}, table, [0], [""], [False], [program, 0], [()], [[program]], ["x"], program]
-    for in_flight in wrong:
+    wrong = [{0: program}, table, [0], [""], [False], [program, 0], [()], [[program]], ["x"]]
+    for in_flight in [*wrong, program]:
         about = f"{type(in_flight).__name__} in flight"
         found = error_of(lambda: chanv.may_write((0x800, 1), in_flight))
         checks.expect(f"a write, {about}", TypeError, type(found))

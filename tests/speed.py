@@ -5,9 +5,9 @@ second one, a half million areas in the worst order, and as many offences with t
 bounds are seconds of a processor, some ten times as many as one of 2020 needs. An algorithm that
 compares each with each needs more than that.
 
-A start with 4,096 rows in order, and one with 64 KiB of kept bytes, are bounded in instructions, some
-three times as many as `chanv_check_start` takes: the product of the rows, and a comparison of each
-byte alone, take more. valgrind counts them; where there is none, this part is left out, by its name.
+A start with 4,096 rows in order, and one with 64 KiB of kept bytes, are bounded in instructions,
+some three times as many as `chanv_check_start` takes: the product of the rows, and a comparison of
+each byte alone, take more. valgrind counts them; without it this part is left out, by its name.
 """
 
 import os
@@ -59,8 +59,8 @@ def timed(program, command, deck):
 
 def counted(program, words):
     """The status, and the instructions of `chanv_check_start` alone, if valgrind says how many."""
-    how = ["--tool=callgrind", "--callgrind-out-file=/dev/null", "--toggle-collect=chanv_check_start"]
-    ran = run("valgrind", *how, program, *words)
+    how = ["--callgrind-out-file=/dev/null", "--toggle-collect=chanv_check_start"]
+    ran = run("valgrind", "--tool=callgrind", *how, program, *words)
     found = re.search(r"Collected : (\d+)", ran.error)
     return ran.status, int(found[1]) if found else None
 

@@ -9,12 +9,12 @@
 
 enum { UNITS = 8, MOST_BYTES = 2048, MAY_HANG = 100 };
 
-/* Whether it takes in programs that, from some place on, only an error, an incorrect length or a halt
- * ends. */
+/* Whether it takes in programs that, from some place on, only an error, an incorrect length or a
+ * halt ends. */
 static int takes_hanging = 0;
 
-/* A program that was taken in. The program points into `memory`, which has MOST_BYTES and stays where
- * it is, so this struct may be copied. */
+/* A program that was taken in. The program points into `memory`, which has MOST_BYTES and stays
+ * where it is, so this struct may be copied. */
 struct taken {
     struct chanv_program program;
     uint8_t *memory;
@@ -37,8 +37,8 @@ static uint32_t take_in(struct taken *taken, const struct chanv_job *job)
     return MAY_HANG;
 }
 
-/* Starts the program on a unit that is free, if it may start. It is in flight until the channel makes
- * no further step for it. */
+/* Starts the program on a unit that is free, if it may start. It is in flight until the channel
+ * makes no further step for it. */
 static int start(const struct taken *taken, int unit, const struct chanv_job *job)
 {
     struct chanv_refusal refusal;

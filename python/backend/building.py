@@ -13,7 +13,7 @@ import zipfile
 from pathlib import Path
 
 HERE = Path(__file__).resolve().parent.parent
-PACKAGE = sorted(it for it in (HERE / "chanv").iterdir() if it.suffix == ".py" or it.name == "py.typed")
+PACKAGE = [*sorted((HERE / "chanv").glob("*.py")), HERE / "chanv/py.typed"]
 SOURCES = [HERE / "pyproject.toml", HERE / "README.md", Path(__file__).resolve(), *PACKAGE]
 VERSION = re.findall(r'(?m)^VERSION = "(.*)"$', (HERE / "chanv/_c.py").read_text())[0]
 NAME = f"chanv-{VERSION}"

@@ -197,8 +197,10 @@ class Explanation:
 
 @dataclass(frozen=True)
 class Program:
-    """All that is remembered of a program; `needs` makes it, and nothing changes it. The lists become
-    tuples at once."""
+    """All that is remembered of a program; `needs` makes it, and nothing changes it.
+
+    The lists become tuples at once, so that they may come from an iterator.
+    """
 
     start: int
     device: int  # the type of the device

@@ -221,14 +221,15 @@ def areas(rows: Iterable[Sequence[int]]) -> Areas:
 
 
 def _rooms() -> Iterator[Path]:
-    """Where a library of this package may be: `lib` of the prefix in which the package is installed,
-    by `make install` or by pip, or `out` of the checkout that it is a part of."""
+    """Where a library of this package may be: `lib` of the prefix in which `make install` or pip put
+    the package, or `out` of the checkout that it is a part of."""
     here = Path(__file__).resolve()
     is_installed = here.parts[-5:-1] == ("share", "chanv", "python", "chanv")
     is_of_pip = here.parts[-5:-4] == ("lib",) and here.parts[-3] in PACKAGES_OF_PIP
+    is_here = here.parts[-3:-1] == ("python", "chanv")
     if is_installed or is_of_pip:
         yield here.parents[4] / "lib"
-    elif here.parts[-3:-1] == ("python", "chanv") and (here.parents[1] / "pyproject.toml").is_file():
+    elif is_here and (here.parents[1] / "pyproject.toml").is_file():
         yield here.parents[2] / "out"
 
 

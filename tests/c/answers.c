@@ -35,8 +35,8 @@ static struct chanv_job job_of(uint8_t code, uint32_t count)
     };
 }
 
-/* Takes a program in over whatever was in its struct, and tries to start a copy of the struct, which
- * has to do when the struct itself is gone. */
+/* Takes a program in over whatever was in its struct, and tries to start a copy of the struct,
+ * which has to do when the struct itself is gone. */
 static void take_in_and_start(const char *name, const struct chanv_job *job)
 {
     struct taken program, moved;

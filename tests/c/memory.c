@@ -1,8 +1,8 @@
-/* Takes programs in that keep 8 bytes, 9 and so on up to 64, at each offset of the memory from 0 to 15
- * and into each room up to what is needed, and far beyond. At each address the need is the same, no
- * byte is written before or after the room, and none at all unless the answer is CHANV_OK; then the
- * program is the one that `chanv_needs` lists. It prints a line for each number of kept bytes, and
- * one for each case that is wrong. */
+/* Takes programs in that keep 8 bytes, 9 and so on up to 64, at each offset of the memory from 0 to
+ * 15 and into each room up to what is needed, and far beyond. At each address the need is the same,
+ * no byte is written before or after the room, and none at all unless the answer is CHANV_OK; then
+ * the program is the one that `chanv_needs` lists. It prints a line for each number of kept bytes,
+ * and one for each case that is wrong. */
 #include "asking.h"
 
 enum { SEEK = 0x07, SET_MASK = 0x1F, NO_OPERATION = 0x03, CHAIN = 0x40 };
@@ -22,8 +22,8 @@ static void put_ccw(uint32_t at, uint8_t code, uint32_t data, int is_last, uint3
                 | count);
 }
 
-/* Where the argument of a seek at START begins, of which so many bytes aren't bytes of the CCWs. The
- * others are such that the argument is a right one. */
+/* Where the argument of a seek at START begins, of which so many bytes aren't bytes of the CCWs.
+ * The others are such that the argument is a right one. */
 static uint32_t argument_of(uint32_t bytes, uint32_t ccws)
 {
     uint32_t end = START + 8 * ccws;
@@ -116,8 +116,8 @@ static void take_in(const struct chanv_job *job, const struct chanv_needed *told
 static void try_all(const struct chanv_job *job, uint32_t bytes, int is_no)
 {
     struct chanv_needed told;
-    enum chanv_answer answer =
-        chanv_needs(job, &told, extents, ROOM, fetch, ROOM, store, ROOM, keep, ROOM, kept, sizeof kept);
+    enum chanv_answer answer = chanv_needs(job, &told, extents, ROOM, fetch, ROOM, store, ROOM,
+                                           keep, ROOM, kept, sizeof kept);
     size_t areas = told.fetch_count + told.store_count + told.keep_count;
     size_t need = is_no ? 0 : 3 + 8 * areas + 4 * told.extent_count + told.kept_len;
     if (answer != (is_no ? CHANV_NO : CHANV_OK) || told.kept_len != bytes)

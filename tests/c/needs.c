@@ -38,8 +38,8 @@ static const struct word seeks[] = {
     {0, 0},
 };
 
-/* A CCW at 0007F0 that ends the program if it is entered fresh, as after a search, and that the data
- * chain of a read, a write or a search leads to again and again. */
+/* A CCW at 0007F0 that ends the program if it is entered fresh, as after a search, and that the
+ * data chain of a read, a write or a search leads to again and again. */
 static const struct word two_ways[] = {
     {0x7F0, 0x03000A1080000010},
     {0x7F8, 0x080007F000000000},

@@ -70,7 +70,8 @@ static int why(const struct chanv_job *job)
     return answer == CHANV_NO ? say("2 3\n") : (int)answer;
 }
 
-typedef enum chanv_answer telling(const struct chanv_job *job, char *buffer, size_t room, size_t *len);
+typedef enum chanv_answer telling(const struct chanv_job *job, char *buffer, size_t room,
+                                  size_t *len);
 
 static int tell(telling *call, const struct chanv_job *job)
 {

@@ -86,7 +86,7 @@ class Flights:
         return job._replace(device=device)
 
     def try_start(self, number, unit):
-        """The answer is harm if the program starts on another type of device than it was asked for."""
+        """The answer is a harm if it starts on another type of device than it was asked for."""
         job = self.granted(number) if self.asked[number] else None
         if job is None or not self.supervisor.start(number, unit, job):
             self.count("held_back")

@@ -54,8 +54,8 @@ pub record StartsWellFor (c : CJob) (p : Remembered) (fs : List Remembered) : Ty
   pub asked : IsAskedJob c job
   pub well : StartsWell job p fs
 
--- if what C remembers of the program of `was` is true, a job without a fault over storage that holds
--- what was kept, and that grants what the program needs, is answered so, provided that the program
+-- if what C remembers of the program of `was` is true, a job without a fault, over storage that
+-- holds what was kept, that grants what the program needs is answered so, provided that the program
 -- is beside each in flight, and all are of this version
 abbrev pub StartsIfDue : CJob → Remembered → List Remembered → Type 0 → Type 0
 StartsIfDue c p fs Answered =

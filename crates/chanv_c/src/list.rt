@@ -14,8 +14,8 @@ use std::alloc::Global;
 
 /// Lists the places that the program can come to, each once, in order: 0 if `rows` took them all,
 /// 11 if they are more than `rows` has room for; then `count` is their number. Otherwise it says
-/// why there is no answer, like `chanv_verify`, and `count` is 0. `extent` is the index of the extent
-/// that is wrong, or 0. Only for 0 is anything written to `rows`.
+/// why there is no answer, like `chanv_verify`, and `count` is 0. `extent` is the index of the
+/// extent that is wrong, or 0. Only for 0 is anything written to `rows`.
 #[unsafe(no_mangle)]
 pub extern "C" fn chanv_list(
     alloc: Global,
