@@ -5,7 +5,8 @@
 
 enum { ROOM = 262144 };
 
-/* A program that was asked about. Zeros in `program` are none, which may not start. */
+/* A program that was asked about, which points into `memory`: so keep the struct where it is. Zeros
+ * in `program` are none, which may not start. */
 struct asked {
     struct chanv_program program;
     uint8_t *copy; /* as long as storage, with the bytes that are kept; the others mean nothing */
