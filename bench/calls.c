@@ -166,8 +166,8 @@ static uint32_t verify(const struct work *work)
 
 static uint32_t list(const struct work *work)
 {
-    size_t count;
-    uint32_t answer = chanv_list(work->job, work->places, MOST_PLACES, &count);
+    size_t count, extent;
+    uint32_t answer = chanv_list(work->job, work->places, MOST_PLACES, &count, &extent);
     return answer != CHANV_OK || count != work->job->limit;
 }
 

@@ -91,6 +91,9 @@ int chanv_is_fault(uint32_t answer)
 
 /* ---- taking a program in */
 
+/* How many bytes at the front of the memory may be left free, so that areas are aligned. */
+enum { MOST_PADDING = sizeof(uint32_t) - 1 };
+
 /* Where each list begins, in bytes from the front of the memory: areas, which are aligned most,
  * then extents, then the kept bytes. The counts are those of a `struct chanv_needed`. */
 struct layout {
@@ -100,8 +103,7 @@ struct layout {
 static struct layout layout_of(const void *memory, const struct chanv_needed *counts)
 {
     struct layout at;
-    size_t over = (uintptr_t)memory % sizeof(uint32_t);
-    at.fetch = over == 0 ? 0 : sizeof(uint32_t) - over;
+    at.fetch = -(uintptr_t)memory % sizeof(uint32_t);
     at.store = at.fetch + counts->fetch_count * sizeof(struct chanv_area);
     at.keep = at.store + counts->store_count * sizeof(struct chanv_area);
     at.extents = at.keep + counts->keep_count * sizeof(struct chanv_area);
@@ -110,19 +112,26 @@ static struct layout layout_of(const void *memory, const struct chanv_needed *co
     return at;
 }
 
+/* How many bytes the lists take at any address: all padding is counted, though less may be left. */
+static size_t total_of(const struct chanv_needed *counts)
+{
+    struct layout from_start = layout_of(NULL, counts);
+    return from_start.end + MOST_PADDING;
+}
+
 /* Gives each list an equal share of the room. */
 static struct chanv_needed shares_of(size_t room)
 {
     struct chanv_needed counts = {.kept_len = 0};
-    size_t share = room < sizeof(uint32_t) ? 0 : (room - sizeof(uint32_t)) / 5;
+    size_t share = room < MOST_PADDING ? 0 : (room - MOST_PADDING) / 5;
     counts.fetch_count = counts.store_count = counts.keep_count = share / sizeof(struct chanv_area);
     counts.extent_count = share / sizeof(struct chanv_extent);
     counts.kept_len = share;
     return counts;
 }
 
-static uint32_t ask_into(uint8_t *memory, const struct chanv_needed *rooms,
-                         const struct chanv_job *job, struct chanv_needed *out)
+static enum chanv_answer ask_into(uint8_t *memory, const struct chanv_needed *rooms,
+                                  const struct chanv_job *job, struct chanv_needed *out)
 {
     struct layout at = layout_of(memory, rooms);
     return chanv_needs(job, out, (void *)(memory + at.extents), rooms->extent_count,
@@ -162,24 +171,22 @@ static struct chanv_program program_at(uint8_t *memory, const struct layout *at,
 }
 
 /* It asks once if the memory is ample, and else a second time for just the room that is needed. */
-uint32_t chanv_take_in(const struct chanv_job *job, void *memory, size_t room, size_t *len,
-                       struct chanv_program *program, struct chanv_needed *out)
+enum chanv_answer chanv_take_in(const struct chanv_job *job, void *memory, size_t room, size_t *len,
+                                struct chanv_program *program, struct chanv_needed *out)
 {
-    static uint32_t none; /* to point to if there is no memory */
-    uint8_t *bytes = memory == NULL ? (uint8_t *)&none : memory;
+    static uint32_t none; /* to point to if there is no memory, or less than the padding */
+    uint8_t *bytes = room < MOST_PADDING ? (uint8_t *)&none : memory;
     struct chanv_needed rooms = shares_of(room);
-    uint32_t answer = ask_into(bytes, &rooms, job, out);
-    struct layout to = layout_of(bytes, out);
-    if (answer == CHANV_NO_ROOM && to.end <= room) {
+    enum chanv_answer answer = ask_into(bytes, &rooms, job, out);
+    if (answer == CHANV_NO_ROOM && total_of(out) <= room) {
         rooms = *out;
         answer = ask_into(bytes, &rooms, job, out);
-        to = layout_of(bytes, out);
     }
-    *len = answer == CHANV_OK || answer == CHANV_NO_ROOM ? to.end : 0;
+    *len = answer == CHANV_OK || answer == CHANV_NO_ROOM ? total_of(out) : 0;
     memset(program, 0, sizeof *program);
     if (answer != CHANV_OK)
         return answer;
-    struct layout from = layout_of(bytes, &rooms);
+    struct layout from = layout_of(bytes, &rooms), to = layout_of(bytes, out);
     close_up(bytes, &from, &to);
     *program = program_at(bytes, &to, job, out);
     return CHANV_OK;

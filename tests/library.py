@@ -1,8 +1,8 @@
 """The library for C: its example, edges, threads, refused memory and archive.
 
 The programs of c/ and examples/c/ ask it. What they should write was worked out from the rules:
-edges.out, needs.out and threads.out of c/; the words of src/reason.rt of chan_walk; and the example
-of docs/EMBEDDING.md, whose text has to be that of ask.c. The archive may ask only for what the C
+edges.out, needs.out, memory.out and threads.out of c/; the words of src/reason.rt of chan_walk; and
+the example of docs/EMBEDDING.md, whose text has to be that of ask.c. The archive may ask only for what the C
 library has to have, and each growth of memory in a call is refused in turn. The test `python` asks
 about all decks, `nulls` hands in NULL for each empty list.
 """
@@ -17,7 +17,7 @@ from refusing import Case, Growths
 from running import Ran, run, text_of
 
 # the programs whose calls get too little room, foreign rows or threads run under the sanitizers
-LINED = ("edges", "needs", "threads")
+LINED = ("edges", "needs", "memory", "threads")
 TESTS = ("one_call", *LINED)
 SOURCES = [EXAMPLES / "c/ask.c", *[HERE / f"c/{name}.c" for name in TESTS]]
 MAY_ASK_FOR = {"memcpy", "memmove", "memset", "malloc", "realloc", "free"}
@@ -83,7 +83,8 @@ def structs_of(header):
 
 def check_layout(checks, library, folder):
     """The recorded layout and soname are those of the header and of the shared library."""
-    lines = []
+    enums = re.findall(r"(?m)^enum (\w+) \{", text_of(library / "chanv.h"))
+    lines = [f"ENUM({name});" for name in enums]
     for struct, fields in structs_of(library / "chanv.h"):
         lines += [f"SIZE({struct});", *[f"FIELD({struct}, {field});" for field in fields]]
     (folder / "structs.h").write_text("\n".join(lines) + "\n")
@@ -112,6 +113,58 @@ def check_warnings(checks, library):
         return
     header = library / "chanv.h"
     checks.expect("warnings of the header in C++", Ran(0), run(*look, *IN_CPP, header))
+
+
+# Each call as it may be made, with NULL for each list.
+RIGHT = [
+    "chanv_verify(&job, &verdict)",
+    "chanv_list(&job, NULL, 0, &len, &len)",
+    "chanv_why(&job, NULL, 0, NULL, 0, &why)",
+    "chanv_text(&job, NULL, 0, &len)",
+    "chanv_open_text(&job, NULL, 0, &len)",
+    "chanv_needs(&job, &told, NULL, 0, NULL, 0, NULL, 0, NULL, 0, NULL, 0)",
+    "chanv_take_in(&job, NULL, 0, &len, &it, &told)",
+    "chanv_check_start(&job, NULL, 0, &it, &no)",
+    "chanv_check_write(NULL, 0, &area, &no)",
+    "chanv_find(&job.storage, 2314, NULL, 0, &len)",
+]
+ASKING = """#include <chanv.h>
+int ask(struct chanv_job job, struct chanv_area area, struct chanv_program it);
+int ask(struct chanv_job job, struct chanv_area area, struct chanv_program it)
+{{
+    struct chanv_verdict verdict = {{0, 0, 0}};
+    struct chanv_refusal no;
+    struct chanv_needed told;
+    struct chanv_explanation why;
+    size_t len = 0;
+    (void)job, (void)area, (void)it, (void)no, (void)told, (void)why, (void)len, (void)verdict;
+    return {};
+}}
+"""
+
+
+def mistakes_of(call):
+    """The call compared with what isn't an answer, and with NULL where it mustn't be, each with the
+    warning that finds it."""
+    yield f"{call} == CHANV_REASON_MISALIGNED", "enum-compare"
+    yield f"{call} == CHANV_REFUSED_KEPT", "enum-compare"
+    for pointer in dict.fromkeys(re.findall(r"&[\w.]+", call)):
+        for at in (it.start() for it in re.finditer(rf"{re.escape(pointer)}\b(?!\.)", call)):
+            yield f"{call[:at]}NULL{call[at + len(pointer) :]} == CHANV_YES", "nonnull"
+
+
+def check_mistakes(checks, library, folder):
+    """A compiler finds an answer that is compared with something else, and NULL where it mustn't
+    be; and it finds no fault with NULL where it may be."""
+    source = folder / "mistake.c"
+    look = [*c_compiler(), "-fsyntax-only", f"-I{library}", "-std=c11", "-Wall", "-Wextra"]
+    for call in RIGHT:
+        source.write_text(ASKING.format(f"{call} == CHANV_NO"))
+        checks.expect(f"no fault with {call}", Ran(0), run(*look, source))
+        for mistake, option in mistakes_of(call):
+            source.write_text(ASKING.format(mistake))
+            ran = run(*look, source)
+            checks.expect_that(f"{mistake} is found", f"[-W{option}]" in ran.error, ran)
 
 
 def check_archive(checks, library):
@@ -160,6 +213,7 @@ def check(checks, built):
             check_lines(checks, folder, name)
         check_layout(checks, library, folder)
         check_warnings(checks, library)
+        check_mistakes(checks, library, folder)
         check_archive(checks, library)
         check_hardening(checks, library)
         refuse_growths(checks, folder)

@@ -99,8 +99,10 @@ class Asking:
         return self.written(self.library.chanv_verify, self.job(), self.c.Verdict)
 
     def list(self, first=0, list_number=100):
-        given = self.job(first), *self.rows(list_number, self.c.Place)
-        return self.counted(self.library.chanv_list, *given)
+        count, extent = c_size_t(77), c_size_t(77)
+        given = *self.rows(list_number, self.c.Place), byref(count), byref(extent)
+        code, seen = self.written(self.library.chanv_list, self.job(first), *given)
+        return code, [*seen, count.value, extent.value]
 
     def list_into(self):
         return self.list(100, 0)

@@ -2,20 +2,23 @@
 
 `judge.py` of examples/python/ reads each deck of examples/ and examples/cases/ and asks it. Each
 answer has to be the verdict of the deck; there is none to a text that `chanv` refuses, or to a
-missing file. The package's own example is carried out too. What asks `pip` is left out, by its
-name, where there is no `wheel`, and the check of types where there is no mypy.
+missing file. The package's own example is carried out too. It looks for the library only in its own
+prefix or checkout, and `pip` installs it without a network in a plain environment. What asks `pip`
+is left out, by its name, where there is no `venv`, and the check of types where there is no mypy.
 """
 
 import importlib
 import mmap
 import os
 import pickle
+import re
+import shutil
 import sys
 import tempfile
 from ctypes import byref, c_size_t
 from pathlib import Path
 
-from building import HERE, compile_c, short, version
+from building import HERE, ROOT, compile_c, short, version
 from examples import EXAMPLES, FOLDERS, SEARCH_LOOP, TEXTS, decks_of, listed_with, verdicts_of
 from package import FOLDER, package, shared_library
 from refused_decks import DECK, REFUSED, REFUSED_OF_TWO
@@ -29,8 +32,21 @@ from writing import job_of  # noqa: E402
 JUDGE = EXAMPLES / "python/judge.py"
 SMALL_LIMIT = EXAMPLES / "small-limit.deck"
 
+# a deck whose first CCW, at 000000, is zeros
+AT_ZERO = """chanv deck 1
+device 2314
+mask 00
+start 000000
+extent 000 202
+storage 0000800
+end
+"""
+
 # the values that are hexadecimal numbers, with their digits
 HEXADECIMAL = {"address": 6, "taker": 6, "storage_len": 7, "code": 2, "mask": 2, "bits": 2}
+
+# the ways in which a CCW is entered, in the order of the header
+ENTERED = ("fresh", "in", "out", "search")
 
 # a library of another version
 OTHER_VERSION = "unsigned chanv_version(void) { return 0x000300; }\n"
@@ -92,6 +108,9 @@ def check_status(checks, library):
         yes = f"{SMALL_LIMIT}: yes\n"
         checks.expect("judge a yes", Ran(0, yes), judge(library, SMALL_LIMIT))
         checks.expect("judge too many", Ran(2, yes, error), judge(library, SMALL_LIMIT, deck))
+        deck.write_text(AT_ZERO)
+        no = f"{deck}: no 000000 invalid-code\n"
+        checks.expect("judge a no at 0", Ran(1, no), judge(library, deck))
 
 
 def check_refused(checks, library):
@@ -220,8 +239,10 @@ def check_needs(checks, chanv, deck, job, verdict):
     if verdict:
         asked = job_of(text_of(deck))
         hanging = endless(asked, reachable(asked))
-        hangs_at = min(place.order() for place in hanging)[0] if hanging else None
-        checks.expect(f"where {deck.name} may hang", hangs_at, program.hangs_at)
+        first = min((place.order() for place in hanging), default=None)
+        place = (first[0], ENTERED[first[1]]) if first else (None, None)
+        seen = program.hangs_at, program.hangs_entered
+        checks.expect(f"where {deck.name} may hang", place, seen)
     alone, beside = (chanv.may_start(job, program, it) for it in ([], [None, program]))
     checks.expect(f"start of {deck.name}", bool(verdict), bool(alone))
     spared = beside.refusal not in ("stores", "keeps")
@@ -281,43 +302,161 @@ def check_values(checks, chanv, judging):
         checks.expect(f"{text} as text", text, str(permission))
 
 
+ASK = "import chanv; print(chanv.verify(chanv.Job(bytes(8), 0, [(0, 1)])))"
+ASKED = Ran(0, "no 000000 invalid-code\n")
+CATCH = """
+import chanv
+for kind in (ImportError, chanv.WrongLibrary, chanv.Error):
+    try:
+        chanv.verify(chanv.Job(bytes(8), 0, [(0, 1)]))
+    except kind as error:
+        print(error)
+"""
+
+
 def check_library(checks, library, room):
-    """Another version is refused by its name, and so is a library that isn't chanv's."""
-    source = room / "other.c"
-    for text, says in ((OTHER_VERSION, "is version 0.3.0"), ("int other;\n", "isn't chanv's")):
-        source.write_text(text)
-        other = compile_c(source, room / "libother.so", "-shared", "-fPIC")
-        ran = python(other, "import chanv")
-        named = f"chanv._c.WrongLibrary: {other} {says}"
-        checks.expect_that(f"a library that {says}", named in ran.error, ran)
+    """Another library is refused by its name when it is asked, and help works without any."""
+    source, text = room / "other.c", room / "text.so"
+    text.write_text("no library\n")
+    libraries = [(room / "missing.so", "there is no library {}"), (text, "{} isn't chanv's")]
+    for name, code, says in (
+        ("old", OTHER_VERSION, "{} is version 0.3.0, and this package needs "),
+        ("other", "int other;\n", "{} isn't chanv's library"),
+    ):
+        source.write_text(code)
+        made = compile_c(source, room / f"{name}.so", "-shared", "-fPIC")
+        libraries.append((made, says))
+    for other, says in libraries:
+        ran = python(other, CATCH)
+        lines = ran.output.splitlines()
+        is_so = ran.status == 0 and len(lines) == 3
+        is_so = is_so and all(line.startswith(says.format(other)) for line in lines)
+        checks.expect_that(f"a library that is {other.stem}", is_so, ran)
+        ran = python(other, "import chanv; help(chanv); help(chanv.verify)")
+        is_so = ran.status == 0 and "The verdict on a job." in ran.output
+        checks.expect_that(f"help with a library that is {other.stem}", is_so, ran)
+        ran = python(other, ASK)
+        named = f"chanv._c.WrongLibrary: {says.format(other)}"
+        checks.expect_that(f"a call with a library that is {other.stem}", named in ran.error, ran)
     at = {"__name__": "_c", "__file__": "/_c.py"}
-    script = f"exec(compile({text_of(FOLDER / 'chanv/_c.py')!r}, '_c.py', 'exec'), {at!r})"
-    checks.expect("right under the root", Ran(0), python(library, script))
+    code = text_of(FOLDER / "chanv/_c.py")
+    script = f"at = {at!r}; exec(compile({code!r}, '_c.py', 'exec'), at)\n"
+    script += "print(at['__getattr__']('library').chanv_version() >> 16)"
+    checks.expect("right under the root", Ran(0, "0\n"), python(library, script))
 
 
-def check_package(checks, library, room):
-    """The package is installed by pip without a network, and its types are right."""
-    has = "import setuptools, wheel, pip"
-    pythons = (sys.executable, "/usr/bin/python3")
-    able = next((it for it in pythons if run("env", it, "-c", has).status == 0), None)
-    if able is None:
-        checks.skip("pip install", "no Python with pip, setuptools and wheel")
+def soname():
+    [name] = re.findall(r'SONAME = "(.*)"', text_of(FOLDER / "chanv/_c.py"))
+    return name
+
+
+def ask_from(package, library, at):
+    """Asks a copy of the package in a folder, with the library copied to a place."""
+    shutil.copytree(FOLDER / "chanv", package / "chanv", ignore=lambda *_: ["__pycache__"])
+    at.parent.mkdir(parents=True, exist_ok=True)
+    shutil.copy(library, at)
+    found = {**os.environ, "PYTHONPATH": str(package)}
+    found.pop("CHANV_LIBRARY", None)
+    return run(sys.executable, "-B", "-c", ASK, env=found)
+
+
+def check_places(checks, library, room):
+    """Where the package looks: in `lib` of its own prefix, or in `out` of its checkout."""
+    name = soname()
+    for about, package, at in [
+        ("make install", "a/share/chanv/python", f"a/lib/{name}"),
+        ("pip", "b/lib/python3.11/site-packages", f"b/lib/{name}"),
+        ("Debian's pip", "c/lib/python3/dist-packages", f"c/lib/{name}"),
+    ]:
+        ran = ask_from(room / package, library, room / at)
+        checks.expect(f"as {about} leaves it", ASKED, ran)
+    checkout = room / "d/python"
+    checkout.mkdir(parents=True)
+    shutil.copy(FOLDER / "pyproject.toml", checkout)
+    checks.expect("in a checkout", ASKED, ask_from(checkout, library, room / f"d/out/{name}.0"))
+    for about, package, at in [
+        ("the folder above", "e/deep", f"e/lib/{name}"),
+        ("a folder far above", "f/deep/er/still", f"f/lib/{name}"),
+        ("the package itself", "g", f"g/chanv/{name}"),
+        ("the out of what isn't a checkout", "h/python", f"h/out/{name}"),
+        ("the lib of a target folder", "i/lib/here", f"i/lib/{name}"),
+    ]:
+        ran = ask_from(room / package, library, room / at)
+        is_so = str(room) not in ran.error.partition("WrongLibrary")[2] and ran != ASKED
+        system = any(Path(it, name).exists() for it in ("/usr/lib", "/usr/local/lib"))
+        if system:
+            checks.skip(f"not in {about}", f"the system has {name}")
+        else:
+            checks.expect_that(f"it doesn't look in {about}", is_so, ran)
+
+
+def check_pip(checks, library, room):
+    """pip installs the package in a plain environment without a network, and leaves the checkout as
+    it was."""
+    there, checkout = room / "there", room / "checkout"
+    if run(sys.executable, "-m", "venv", there).status != 0:
+        checks.skip("pip install", "no venv with pip")
+        return
+    shutil.copytree(FOLDER, checkout / "python", ignore=lambda *_: ["__pycache__"])
+    shutil.copy(ROOT / ".gitignore", checkout)
+    git = ["git", "-C", checkout, "-c", "user.name=x", "-c", "user.email=x"]
+    has_git = all(
+        run(*git, *words).status == 0
+        for words in (["init", "-q"], ["add", "."], ["commit", "-qm", "the package"])
+    )
+    offline = {**os.environ, "PIP_NO_INDEX": "1", "PIP_CONFIG_FILE": os.devnull}
+    offline.pop("PIP_FIND_LINKS", None)
+    offline.pop("PYTHONPATH", None)
+    offline["CHANV_LIBRARY"] = str(library)
+    pip, asked = [there / "bin/pip", "install", "-q"], [there / "bin/python", "-c", ASK]
+    about = "from importlib.metadata import metadata as m; import chanv; it = m('chanv'); "
+    about += "print(it['Version'], chanv.__version__, it.get_payload())"
+    readme = text_of(FOLDER / "README.md")
+    for words in (["./python"], ["--editable", "./python"]):
+        ran = run(*pip, *words, env=offline, cwd=checkout)
+        checks.expect_that(f"pip install {words[0]}", ran.status == 0, ran)
+        checks.expect(f"what {words[0]} installed", ASKED, run(*asked, env=offline, cwd=room))
+        wanted = Ran(0, f"{version()} {version()} {readme}\n")
+        ran = run(there / "bin/python", "-c", about, env=offline, cwd=room)
+        checks.expect(f"the metadata of {words[0]}", wanted, ran)
+        run(there / "bin/pip", "uninstall", "-qy", "chanv", env=offline)
+    packed = run(there / "bin/python", "-B", "-c", PACK, room, env=offline, cwd=checkout / "python")
+    archive = room / f"chanv-{version()}.tar.gz"
+    checks.expect_that("an archive of the sources", archive.is_file(), packed)
+    ran = run(*pip, archive, env=offline, cwd=room)
+    checks.expect_that("pip install of the archive", ran.status == 0, ran)
+    checks.expect("what the archive installed", ASKED, run(*asked, env=offline, cwd=room))
+    if has_git:
+        left = run(*git, "status", "--porcelain", "--untracked-files=all")
+        checks.expect("what pip leaves in the checkout", Ran(0), left)
     else:
-        words = "-m pip install -q --no-build-isolation --no-index --no-deps --target".split()
-        copy = room / "source"
-        checks.expect("a copy", 0, run("cp", "-r", FOLDER, copy).status)
-        ran = run(able, *words, room / "there", copy)
-        checks.expect_that("pip install", ran.status == 0, ran)
-        script = "import chanv; print(chanv.__version__)"
-        wanted = Ran(0, f"{version()}\n")
-        checks.expect("the installed package", wanted, python(library, script, room / "there"))
-    able = next((it for it in pythons if run("env", it, "-m", "mypy", "-V").status == 0), None)
+        checks.skip("what pip leaves in the checkout", "no git")
+
+
+PACK = """
+import sys
+sys.path.insert(0, "backend")
+import building
+building.build_sdist(sys.argv[1])
+"""
+
+
+def check_types(checks, room):
+    pythons = (sys.executable, "/usr/bin/python3")
+    able = next((it for it in pythons if run(it, "-m", "mypy", "-V").status == 0), None)
     if able is None:
         checks.skip("types", "no mypy")
-    else:
-        cache = room / "cache"
-        ran = run(able, "-m", "mypy", "--strict", "--cache-dir", cache, FOLDER / "chanv")
-        checks.expect_that("types", ran.status == 0, ran)
+        return
+    cache = room / "cache"
+    ran = run(able, "-m", "mypy", "--strict", "--cache-dir", cache, FOLDER / "chanv")
+    checks.expect_that("types", ran.status == 0, ran)
+
+
+def check_readme(checks, library):
+    """The example of the package's README prints what stands behind its last line."""
+    [code] = re.findall(r"(?s)```python\n(.*?)```", text_of(FOLDER / "README.md"))
+    [says] = re.findall(r"print\(.*\)  # (.*)\n", code)
+    checks.expect("the README's example", Ran(0, f"{says}\n"), python(library, code))
 
 
 def check(checks, built):
@@ -327,9 +466,12 @@ def check(checks, built):
     judging = importlib.import_module("judge")
     example = "import chanv, doctest, sys; sys.exit(doctest.testmod(chanv).failed)"
     checks.expect("the package's example", Ran(0), python(library, example))
+    check_readme(checks, library)
     with tempfile.TemporaryDirectory() as room:
         check_library(checks, library, Path(room))
-        check_package(checks, library, Path(room))
+        check_places(checks, library, Path(room) / "places")
+        check_pip(checks, library, Path(room))
+        check_types(checks, Path(room))
     check_decks(checks, library)
     check_status(checks, library)
     check_refused(checks, library)

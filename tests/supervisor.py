@@ -26,7 +26,7 @@ NO_ROOM, MAY_HANG = 11, 100
 # The middle two take certain refusals for a yes.
 DENIED = "&refusal) != CHANV_YES)"
 CARELESS = [
-    ("beside", "(job, in_flight, DEVICES,", "(job, in_flight, 0,"),
+    ("beside", "(job, in_flight, UNITS,", "(job, in_flight, 0,"),
     (
         "grants",
         DENIED,
@@ -113,13 +113,17 @@ def answers_wanted():
         ("2 rows", 0),
         ("127 rows", 0),
         ("128 rows", NO_ROOM),
-        ("2040 kept bytes", 0),
-        ("2048 kept bytes", NO_ROOM),
+        ("2032 kept bytes", 0),
+        ("2040 kept bytes", NO_ROOM),
         ("a code of no command", 1),
+        ("for a 2311", 0),
+        ("for a 2314", 0),
         ("a loop", MAY_HANG),
         ("a loop", 0),
     ]:
-        yield f"{name}: {answer}, {'held back' if answer else 'started'}"
+        started = f"{name}: {answer}, {'held back' if answer else 'started'}"
+        other = {"for a 2311": ", on a 2314 held back", "for a 2314": ", on a 2311 held back"}
+        yield started + other.get(name, "")
     yield "emulated 2 rows: 0, there"
     yield "emulated a code of no command: 1, not there"
     for write, allowed in [

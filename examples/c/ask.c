@@ -32,7 +32,7 @@ int main(void)
     };
 
     struct chanv_verdict verdict;
-    uint32_t answer = chanv_verify(&job, &verdict);
+    enum chanv_answer answer = chanv_verify(&job, &verdict);
     if (answer == CHANV_NO) {
         printf("no %06X %s\n", verdict.address, chanv_reason_word(verdict.reason));
         return 1;
@@ -44,8 +44,8 @@ int main(void)
     printf("yes\n");
 
     struct chanv_place places[16];
-    size_t count;
-    if (chanv_list(&job, places, 16, &count) != CHANV_OK)
+    size_t count, extent;
+    if (chanv_list(&job, places, 16, &count, &extent) != CHANV_OK)
         return 2;
     for (size_t i = 0; i < count; i++)
         printf("%06X entered %u\n", places[i].address, places[i].entered);

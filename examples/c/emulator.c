@@ -5,14 +5,15 @@
 
 enum { ROOM = 262144 };
 
-/* A program that was asked about. Zeros in `program` are none, which may not start. */
+/* A program that was asked about, which points into `memory`: so keep the struct where it is. Zeros
+ * in `program` are none, which may not start. */
 struct asked {
     struct chanv_program program;
     uint8_t *copy; /* as long as storage, with the bytes that are kept; the others mean nothing */
     uint8_t memory[ROOM];
 };
 
-static uint32_t ask_once(struct asked *asked, const struct chanv_job *job)
+static enum chanv_answer ask_once(struct asked *asked, const struct chanv_job *job)
 {
     struct chanv_needed needed;
     size_t len;
@@ -29,10 +30,10 @@ static int lies_in(struct chanv_area area, size_t length)
  * The first, over storage, means nothing; it only says what to copy. The second is about the copy,
  * which no thread writes, and it holds for any storage as long that has the bytes that are kept.
  * The room for the copy is `calloc(job->storage.len, 1)`, or that of an older program. */
-static uint32_t ask(struct asked *asked, const struct chanv_job *job)
+static enum chanv_answer ask(struct asked *asked, const struct chanv_job *job)
 {
     struct chanv_job still = *job;
-    uint32_t answer = ask_once(asked, job);
+    enum chanv_answer answer = ask_once(asked, job);
     if (answer != CHANV_OK)
         return answer;
     for (size_t i = 0; i < asked->program.rows.keep.len; i++) {

@@ -7,19 +7,21 @@
 #include <chanv.h>
 #include <string.h>
 
-enum { DEVICES = 8, MOST_BYTES = 2048, MAY_HANG = 100 };
+enum { UNITS = 8, MOST_BYTES = 2048, MAY_HANG = 100 };
 
-/* Whether it takes in programs that only an error or a halt ends from some place on. */
+/* Whether it takes in programs that, from some place on, only an error, an incorrect length or a
+ * halt ends. */
 static int takes_hanging = 0;
 
-/* A program that was taken in, and room for what it needs and keeps. */
+/* A program that was taken in. The program points into `memory`, which has MOST_BYTES and stays
+ * where it is, so this struct may be copied. */
 struct taken {
     struct chanv_program program;
-    uint8_t memory[MOST_BYTES];
+    uint8_t *memory;
 };
 
-/* The programs in flight, each with a device of its own. Zeros are no program. */
-static struct chanv_program in_flight[DEVICES];
+/* The programs in flight, by the number of the unit. Zeros are no program. */
+static struct chanv_program in_flight[UNITS];
 
 /* Takes the job's program in. Only after CHANV_OK may it start; MAY_HANG is why a program is
  * refused that may never end by itself. It isn't in flight now, and nothing writes storage. */
@@ -27,31 +29,31 @@ static uint32_t take_in(struct taken *taken, const struct chanv_job *job)
 {
     struct chanv_needed needed;
     size_t len;
-    uint32_t answer = chanv_take_in(job, taken->memory, sizeof taken->memory, &len,
-                                    &taken->program, &needed);
+    enum chanv_answer answer =
+        chanv_take_in(job, taken->memory, MOST_BYTES, &len, &taken->program, &needed);
     if (answer != CHANV_OK || !needed.may_hang || takes_hanging)
         return answer;
     memset(&taken->program, 0, sizeof taken->program);
     return MAY_HANG;
 }
 
-/* Starts the program on a device that is free, if it may start. It is in flight until the channel
+/* Starts the program on a unit that is free, if it may start. It is in flight until the channel
  * makes no further step for it. */
-static int start(const struct taken *taken, int device, const struct chanv_job *job)
+static int start(const struct taken *taken, int unit, const struct chanv_job *job)
 {
     struct chanv_refusal refusal;
-    if (in_flight[device].device != 0)
+    if (in_flight[unit].device != 0)
         return 0;
-    if (chanv_check_start(job, in_flight, DEVICES, &taken->program, &refusal) != CHANV_YES)
+    if (chanv_check_start(job, in_flight, UNITS, &taken->program, &refusal) != CHANV_YES)
         return 0;
-    in_flight[device] = taken->program;
+    in_flight[unit] = taken->program;
     return 1;
 }
 
-/* The program on a device has ended, or was halted. It may start again without a new question. */
-static void leave(int device)
+/* The program on a unit has ended, or was halted. It may start again without a new question. */
+static void leave(int unit)
 {
-    memset(&in_flight[device], 0, sizeof in_flight[device]);
+    memset(&in_flight[unit], 0, sizeof in_flight[unit]);
 }
 
 /* Whether others, such as the processor, may write these bytes now. */
@@ -59,5 +61,5 @@ static int may_write(uint32_t address, uint32_t length)
 {
     struct chanv_area area = {address, length};
     struct chanv_refusal refusal;
-    return chanv_check_write(in_flight, DEVICES, &area, &refusal) == CHANV_YES;
+    return chanv_check_write(in_flight, UNITS, &area, &refusal) == CHANV_YES;
 }

@@ -172,13 +172,13 @@ static inline struct chanv_job chanvask_look(DEVBLK *dev, U32 start)
         .mask = 0xC0,
     };
     int round, more = 1;
-    size_t i, count;
+    size_t i, count, extent;
 
     if (dev->mainlim < CHANVASK_STORAGE)
         job.storage.len = dev->mainlim + 1;
     ask->questions++;
     for (round = 0; more && round < CHANVASK_ROUNDS; round++) {
-        if (chanv_list(&job, ask->places, CHANV_USUAL_LIMIT, &count) != CHANV_OK)
+        if (chanv_list(&job, ask->places, CHANV_USUAL_LIMIT, &count, &extent) != CHANV_OK)
             break;
         for (more = 0, i = 0; i < count; i++)
             more |= chanvask_bring_chain(dev, ask->places[i].address);

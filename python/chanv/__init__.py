@@ -26,14 +26,16 @@ yes
 no: kept 000810 by program 0
 
 chanv.h has the caller's duties and the premises of these answers. The library is the one that
-CHANV_LIBRARY names, else one beside this package or in the prefix where it is installed, or
-whatever the loader finds under the library's name.
+CHANV_LIBRARY names, else the one in `lib` of the prefix where this package is installed, or in
+`out` of its checkout, or whatever the system finds under the library's name. It is loaded by the
+first call, which raises WrongLibrary if there is none of this version.
 """
 
 from collections.abc import Callable, Iterable, Iterator, Sequence
 from contextlib import contextmanager
 from ctypes import Array, byref, c_char_p, c_size_t, c_uint16, c_uint32, create_string_buffer
-from dataclasses import dataclass, fields
+from dataclasses import dataclass, field, fields
+from enum import IntEnum
 from mmap import mmap
 from typing import Any, Union
 
@@ -42,6 +44,7 @@ from ._c import Error, WrongLibrary
 from ._c import VERSION as __version__
 
 __all__ = [
+    "Answer",
     "Error",
     "Explanation",
     "Job",
@@ -64,7 +67,7 @@ __all__ = [
 ]
 
 Storage = Union[bytes, bytearray, memoryview, mmap]
-Pairs = Iterable[Sequence[int]]
+Pairs = Sequence[Sequence[int]]
 
 # the values of each reason, by the names of chanv.h
 _VALUES = {
@@ -91,15 +94,36 @@ _WITH_VALUE = "changed no-cylinder not-fetchable not-storable stores keeps kept"
 _WITH_PROGRAM = "stores keeps kept reserved-in-flight".split()
 
 
+class Answer(IntEnum):
+    """What a call of the library returns: `enum chanv_answer` of chanv.h, which says when."""
+
+    YES = 0
+    NO = 1
+    TOO_MANY_PLACES = 2
+    MEMORY = 3
+    STORAGE_TOO_LARGE = 4
+    NOT_A_DEVICE = 5
+    NOT_A_MASK = 6
+    NO_EXTENT = 7
+    EXTENT_BACKWARDS = 8
+    EXTENT_PAST_DEVICE = 9
+    NOT_A_LIMIT = 10
+    NO_ROOM = 11
+    RESERVED_NOT_ZERO = 12
+
+
+_OF_AN_EXTENT = (Answer.EXTENT_BACKWARDS, Answer.EXTENT_PAST_DEVICE)
+
+
 class NoAnswer(Error):
     """Neither yes nor no: the library's code, and the index of the extent if one is wrong."""
 
     def __init__(self, code: int, extent: int = 0) -> None:
         super().__init__(code, extent)
-        self.code, self.extent = code, extent
+        self.code, self.extent = Answer(code), extent
 
     def __str__(self) -> str:
-        which = f" (extent {self.extent})" if self.code in (8, 9) else ""
+        which = f" (extent {self.extent})" if self.code in _OF_AN_EXTENT else ""
         return _word("answer", self.code) + which
 
 
@@ -119,18 +143,23 @@ class Job:
     """A channel program before its start, and all that it may use.
 
     Each call copies storage that can change, because Python's other threads run meanwhile. With
-    `copy=False` it doesn't: then nothing may write storage from the call to its return.
+    `copy=False` it doesn't: then nothing may write storage from the call to its return. The lists
+    become tuples at once, so that they may come from an iterator.
     """
 
-    storage: Storage  # main storage from address 0 on, as it is now
+    storage: Storage = field(repr=False)  # main storage from address 0 on, as it is now
     start: int  # the address of the first CCW
     extents: Pairs  # the cylinders of the file, as pairs of first and last
     fetch: Pairs = ()  # the areas lent for fetching, as pairs of start and length
     store: Pairs = ()  # the areas lent for storing
-    device: int = 2314
+    device: int = 2314  # the type of the device: 2311 or 2314
     mask: int = 0
     limit: int = 4096
     copy: bool = True
+
+    def __post_init__(self) -> None:
+        for name in ("extents", "fetch", "store"):
+            object.__setattr__(self, name, _c.held(getattr(self, name)))
 
 
 @dataclass(frozen=True)
@@ -168,10 +197,13 @@ class Explanation:
 
 @dataclass(frozen=True)
 class Program:
-    """All that is remembered of a program; `needs` makes it, and nothing changes it."""
+    """All that is remembered of a program; `needs` makes it, and nothing changes it.
+
+    The lists become tuples at once, so that they may come from an iterator.
+    """
 
     start: int
-    device: int
+    device: int  # the type of the device
     storage_len: int
     mask: int  # the strictest that serves
     extents: Pairs
@@ -180,21 +212,20 @@ class Program:
     keep: Pairs
     kept: bytes  # the kept bytes as they were
     hangs_at: int | None = None  # the first address from which on it never ends by itself
+    hangs_entered: str | None = None  # and how it enters the CCW there
 
     def __post_init__(self) -> None:
-        keep = _c.areas(self.keep)
-        lists = _c.extents(self.extents), _c.areas(self.fetch), _c.areas(self.store), keep
-        rows = _c.Rows(*lists, _c.number(self.storage_len, 32), _c.number(self.mask, 8))
-        kept = bytes(memoryview(self.kept))
-        numbers = _c.number(self.start, 32), _c.number(self.device, 16)
-        made = _c.Program(rows, _c.bytes_at(kept), *numbers)
         for name, bits in (("extents", 16), ("fetch", 32), ("store", 32), ("keep", 32)):
             object.__setattr__(self, name, _c.pairs(getattr(self, name), bits))
-        object.__setattr__(self, "kept", kept)
-        object.__setattr__(self, "_made", made)
+        object.__setattr__(self, "kept", bytes(memoryview(self.kept)))
+        areas = (_c.areas(it) for it in (self.fetch, self.store, self.keep))
+        numbers = _c.number(self.storage_len, 32), _c.number(self.mask, 8)
+        rows = _c.Rows(_c.extents(self.extents), *areas, *numbers)
+        few = _c.number(self.start, 32), _c.number(self.device, 16)
+        object.__setattr__(self, "_made", _c.Program(rows, _c.bytes_at(self.kept), *few))
 
     def __reduce__(self) -> Any:
-        return Program, tuple(getattr(self, field.name) for field in fields(self))
+        return Program, tuple(getattr(self, it.name) for it in fields(self))
 
 
 @dataclass(frozen=True)
@@ -235,13 +266,13 @@ def verify(job: Job) -> Verdict:
 
 def places(job: Job) -> list[Place]:
     """The places that the program can come to, in order."""
-    count, answer, rows = c_size_t(), _c.NO_ROOM, (_c.Place * 0)()
+    count, extent, answer, rows = c_size_t(), c_size_t(), _c.NO_ROOM, (_c.Place * 0)()
     with _job(job) as made:
         while answer == _c.NO_ROOM:
             rows = (_c.Place * count.value)()
-            room = c_size_t(len(rows))
-            answer = _c.library.chanv_list(byref(made), rows, room, byref(count))
-    _must_answer(answer, count.value)
+            given = rows, c_size_t(len(rows)), byref(count), byref(extent)
+            answer = _c.library.chanv_list(byref(made), *given)
+    _must_answer(answer, extent.value)
     return _places(rows, count.value)
 
 
@@ -314,6 +345,7 @@ def needs(job: Job) -> Program:
         keep=keep,
         kept=lists[4].raw,
         hangs_at=out.hangs_at if out.may_hang else None,
+        hangs_entered=_word("entered", out.hangs_entered) if out.may_hang else None,
     )
 
 
@@ -323,10 +355,10 @@ def may_start(job: Job, program: Program, in_flight: Iterable[Program | None] = 
     It is `chanv_check_start`, and a yes has the premises that chanv.h lists.
     """
     out, flying = _c.Refusal(), _programs(in_flight)
+    starting = byref(_made_of(program))
     with _job(job) as made:
-        answer = _c.library.chanv_check_start(
-            byref(made), flying, c_size_t(len(flying)), _programs([program]), byref(out)
-        )
+        given = flying, c_size_t(len(flying)), starting, byref(out)
+        answer = _c.library.chanv_check_start(byref(made), *given)
     _must_answer(answer, out.extent)
     return _permission(out)
 
@@ -405,7 +437,15 @@ def _text(call: Callable[..., int], made: _c.Job) -> str:
     return buffer.raw[: length.value].decode("ascii")
 
 
+def _made_of(program: Program) -> _c.Program:
+    """The program for C; anything else, such as a key of a table, is a TypeError."""
+    if not isinstance(program, Program):
+        raise TypeError(f"a Program was expected, not {type(program).__name__}")
+    made: _c.Program = getattr(program, "_made")
+    return made
+
+
 def _programs(programs: Iterable[Program | None]) -> Any:
     """The programs in a row, with zeros for None."""
-    made = [getattr(it, "_made") if it else _c.Program() for it in programs]
+    made = [_c.Program() if it is None else _made_of(it) for it in programs]
     return (_c.Program * len(made))(*made)

@@ -9,19 +9,21 @@ from ctypes import c_uint16, c_uint32, c_uint64, c_void_p, cast, py_object, pyth
 from pathlib import Path
 from typing import Any
 
-VERSION = "0.6.0"
-SONAME = "libchanv.so.0.6"
+VERSION = "0.7.0"
+SONAME = "libchanv.so.0.7"
 
 # the codes that this package tells apart
 YES, NO, NO_ROOM = 0, 1, 11
+
+PACKAGES_OF_PIP = ("site-packages", "dist-packages")
 
 
 class Error(Exception):
     """What this package raises of its own."""
 
 
-class WrongLibrary(Error):
-    """There is no library, or it is one of another version."""
+class WrongLibrary(Error, ImportError):
+    """There is no library, or what is there isn't one of this version; the first call raises it."""
 
 
 class Extent(Structure):
@@ -109,6 +111,7 @@ class Needed(Structure):
         ("may_hang", c_uint32),
         ("hangs_at", c_uint32),
         ("mask", c_uint8),
+        ("hangs_entered", c_uint8),
         ("reserved", c_uint64 * 4),
     ]
 
@@ -202,6 +205,11 @@ def pairs(rows: Iterable[Sequence[int]], bits: int) -> tuple[tuple[int, int], ..
     return tuple((number(first, bits), number(second, bits)) for first, second in rows)
 
 
+def held(rows: Iterable[Sequence[int]]) -> tuple[tuple[int, int], ...]:
+    """The same of numbers of any size; rows from an iterator are taken from it here, once."""
+    return tuple((first, second) for first, second in rows)
+
+
 def extents(rows: Iterable[Sequence[int]]) -> Extents:
     made = pairs(rows, 16)
     return Extents((Extent * len(made))(*(Extent(*it) for it in made)), len(made))
@@ -212,32 +220,55 @@ def areas(rows: Iterable[Sequence[int]]) -> Areas:
     return Areas((Area * len(made))(*(Area(*it) for it in made)), len(made))
 
 
-def _version_of(library: CDLL) -> str:
-    packed = library.chanv_version()
-    return f"{packed >> 16}.{packed >> 8 & 255}.{packed & 255}"
+def _rooms() -> Iterator[Path]:
+    """Where a library of this package may be: `lib` of the prefix in which `make install` or pip put
+    the package, or `out` of the checkout that it is a part of."""
+    here = Path(__file__).resolve()
+    is_installed = here.parts[-5:-1] == ("share", "chanv", "python", "chanv")
+    is_of_pip = here.parts[-5:-4] == ("lib",) and here.parts[-3] in PACKAGES_OF_PIP
+    is_here = here.parts[-3:-1] == ("python", "chanv")
+    if is_installed or is_of_pip:
+        yield here.parents[4] / "lib"
+    elif is_here and (here.parents[1] / "pyproject.toml").is_file():
+        yield here.parents[2] / "out"
 
 
 def _found() -> str:
-    """CHANV_LIBRARY, or else the library beside this package or in its prefix, or just its name."""
+    """CHANV_LIBRARY, or else the library of this package, or else its name, for the system."""
     if "CHANV_LIBRARY" in os.environ:
         return os.environ["CHANV_LIBRARY"]
-    here = Path(__file__).resolve()
-    rooms = [here.parent, *(above / "lib" for above in here.parents)]
-    rooms += [above / "out" for above in here.parents[2:3]]
-    files = (room / name for room in rooms for name in (SONAME, f"{SONAME}.0"))
+    files = (room / name for room in _rooms() for name in (SONAME, f"{SONAME}.0"))
     return next((str(file) for file in files if file.is_file()), SONAME)
+
+
+def _version_of(library: CDLL) -> str:
+    packed = library.chanv_version()
+    return f"{packed >> 16}.{packed >> 8 & 255}.{packed & 255}"
 
 
 def _load() -> CDLL:
     path = _found()
     try:
         library = CDLL(path)
+    except OSError as error:
+        if os.sep in path and os.path.exists(path):
+            raise WrongLibrary(f"{path} isn't chanv's library: {error}") from error
+        told = "; CHANV_LIBRARY can name it" if path == SONAME else ""
+        raise WrongLibrary(f"there is no library {path}{told}: {error}") from error
+    try:
         version = _version_of(library)
-    except (OSError, AttributeError) as error:
+    except AttributeError as error:
         raise WrongLibrary(f"{path} isn't chanv's library: {error}") from error
     if version.rpartition(".")[0] != VERSION.rpartition(".")[0]:
         raise WrongLibrary(f"{path} is version {version}, and this package needs {VERSION}")
     return library
 
 
-library = _load()
+library: CDLL
+
+
+def __getattr__(name: str) -> Any:
+    """The library is loaded when it is first asked for, so that help works without it."""
+    if name != "library":
+        raise AttributeError(f"module {__name__!r} has no attribute {name!r}")
+    return globals().setdefault(name, _load())

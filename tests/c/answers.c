@@ -10,7 +10,7 @@ enum { STORAGE = 0x4000, START = 0x800, DATA = 0x2000 };
 enum { READ = 0x06, TRANSFER = 0x08, NO_OPERATION = 0x03, CHAIN = 0x40 };
 
 static uint8_t storage[STORAGE], copy[STORAGE];
-static struct taken program;
+static uint8_t memory[MOST_BYTES];
 static struct asked asked;
 static const struct chanv_extent cylinders = {0, 202};
 static const struct chanv_area all = {0, STORAGE};
@@ -35,12 +35,38 @@ static struct chanv_job job_of(uint8_t code, uint32_t count)
     };
 }
 
+/* Takes a program in over whatever was in its struct, and tries to start a copy of the struct,
+ * which has to do when the struct itself is gone. */
+static void take_in_and_start(const char *name, const struct chanv_job *job)
+{
+    struct taken program, moved;
+    memset(&program, 0xFF, sizeof program);
+    program.memory = memory;
+    uint32_t answer = take_in(&program, job);
+    moved = program;
+    memset(&program, 0xFF, sizeof program);
+    printf("%s: %u, %s\n", name, answer, start(&moved, 0, job) ? "started" : "held back");
+    leave(0);
+}
+
 static void try_program(const char *name, uint8_t code, uint32_t count)
 {
     struct chanv_job job = job_of(code, count);
-    memset(&program, 0xFF, sizeof program);
+    take_in_and_start(name, &job);
+}
+
+/* A program for a device of one type may start under a job of this type, and of no other. */
+static void try_other_device(uint16_t device, uint16_t other)
+{
+    struct chanv_job job = job_of(READ, 2);
+    struct taken program = {.memory = memory};
+    job.device = device;
     uint32_t answer = take_in(&program, &job);
-    printf("%s: %u, %s\n", name, answer, start(&program, 0, &job) ? "started" : "held back");
+    int same = start(&program, 0, &job);
+    leave(0);
+    job.device = other;
+    printf("for a %u: %u, %s, on a %u %s\n", device, answer, same ? "started" : "held back", other,
+           start(&program, 0, &job) ? "started" : "held back");
     leave(0);
 }
 
@@ -51,12 +77,8 @@ static void try_hanging(void)
     struct chanv_job job = job_of(READ, 3);
     memcpy(storage + START, loop, sizeof loop);
     memcpy(storage + START + 16, loop + 8, 4);
-    for (takes_hanging = 0; takes_hanging < 2; takes_hanging++) {
-        memset(&program, 0xFF, sizeof program);
-        uint32_t answer = take_in(&program, &job);
-        printf("a loop: %u, %s\n", answer, start(&program, 0, &job) ? "started" : "held back");
-        leave(0);
-    }
+    for (takes_hanging = 0; takes_hanging < 2; takes_hanging++)
+        take_in_and_start("a loop", &job);
     takes_hanging = 0;
 }
 
@@ -78,6 +100,7 @@ static void try_emulated(const char *name, uint8_t code, uint32_t count)
 static void try_writes(void)
 {
     struct chanv_job job = job_of(READ, 2);
+    struct taken program = {.memory = memory};
     take_in(&program, &job);
     start(&program, 0, &job);
     const struct chanv_area writes[] = {{0, START}, {0, START + 1},          {START + 15, 1},
@@ -93,9 +116,11 @@ int main(void)
     try_program("2 rows", READ, 2);
     try_program("127 rows", READ, 127);
     try_program("128 rows", READ, 128);
+    try_program("2032 kept bytes", NO_OPERATION, 254);
     try_program("2040 kept bytes", NO_OPERATION, 255);
-    try_program("2048 kept bytes", NO_OPERATION, 256);
     try_program("a code of no command", 0xFF, 1);
+    try_other_device(2311, 2314);
+    try_other_device(2314, 2311);
     try_hanging();
     try_emulated("2 rows", READ, 2);
     try_emulated("a code of no command", 0xFF, 1);

@@ -93,27 +93,29 @@ static void ask(const char *name, struct chanv_job job)
 {
     static struct chanv_place rows[CHANV_LARGEST_LIMIT + 1], before[CHANV_LARGEST_LIMIT + 1];
     struct chanv_verdict verdict = {77, 77, 77};
-    size_t count = 77, written;
+    size_t count = 77, extent = 77, written;
     uint32_t verified = chanv_verify(&job, &verdict);
     printf("%s: verify %" PRIu32 ", %06" PRIX32 " %s, extent %zu", name, verified, verdict.address,
            verdict.reason ? chanv_reason_word(verdict.reason) : "-", verdict.extent);
     memset(rows, 0x77, sizeof rows);
     memcpy(before, rows, sizeof rows);
-    uint32_t answer = chanv_list(&job, rows, CHANV_LARGEST_LIMIT + 1, &count);
+    uint32_t answer = chanv_list(&job, rows, CHANV_LARGEST_LIMIT + 1, &count, &extent);
     written = answer == CHANV_OK ? count : 0;
     size_t rest = sizeof *rows * (CHANV_LARGEST_LIMIT + 1 - written);
     int is_past = memcmp(rows + written, before + written, rest) != 0;
     const char *more = is_past ? ", written past the end" : "";
-    printf("; list %" PRIu32 ", %zu%s; ", answer, count, more);
+    printf("; list %" PRIu32 ", %zu, extent %zu%s; ", answer, count, extent, more);
     ask_why(job, verified, &verdict);
 }
 
 /* Asks with so much room. */
 static void list(const char *name, struct chanv_job job, struct chanv_place *rows, size_t room)
 {
-    size_t count = 77;
-    uint32_t answer = chanv_list(&job, rows, room, &count);
+    size_t count = 77, extent = 77;
+    uint32_t answer = chanv_list(&job, rows, room, &count, &extent);
     printf("%s: list %" PRIu32 ", %zu", name, answer, count);
+    if (extent != 0)
+        printf(", extent %zu", extent);
     for (size_t i = 0; answer == CHANV_OK && i < count; i++)
         printf(", %06" PRIX32 " %u %u", rows[i].address, rows[i].entered, rows[i].after_transfer);
     printf("\n");
@@ -128,10 +130,10 @@ static void *ask_often(void *about)
         struct chanv_verdict verdict;
         struct chanv_place rows[3];
         struct chanv_explanation told;
-        size_t count;
+        size_t count, extent;
         right += chanv_verify(job, &verdict) == CHANV_NO && verdict.address == 0x810
                  && verdict.reason == CHANV_REASON_STORE_NOT_LENT
-                 && chanv_list(job, rows, 3, &count) == CHANV_OK
+                 && chanv_list(job, rows, 3, &count, &extent) == CHANV_OK
                  && count == 3 && rows[2].address == 0x810
                  && chanv_why(job, rows, 3, NULL, 0, &told) == CHANV_NO && told.path_count == 2
                  && rows[1].address == 0x810;

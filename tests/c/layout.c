@@ -1,9 +1,11 @@
 /* The header is free of warnings by itself, in C and in C++. The program prints the version four
  * times: as the header's text, by the header's numbers, and as header and library say it in one
- * number; and then the layout of the header's structs, which the file that is included lists. */
+ * number; and then the sizes of its enums and the layout of its structs, which the file that is
+ * included lists. */
 #include <chanv.h>
 #include <stdio.h>
 
+#define ENUM(type) printf("enum %s %zu\n", #type, sizeof(enum type))
 #define SIZE(type) printf("struct %s %zu\n", #type, sizeof(struct type))
 #define FIELD(type, field) printf("    %s %zu\n", #field, offsetof(struct type, field))
 

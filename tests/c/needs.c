@@ -38,6 +38,18 @@ static const struct word seeks[] = {
     {0, 0},
 };
 
+/* A CCW at 0007F0 that ends the program if it is entered fresh, as after a search, and that the
+ * data chain of a read, a write or a search leads to again and again. */
+static const struct word two_ways[] = {
+    {0x7F0, 0x03000A1080000010},
+    {0x7F8, 0x080007F000000000},
+    {0x800, 0x3100090040000005},
+    {0x808, 0x080007F000000000},
+    {0x810, 0x06000A0080000008},
+    {0x818, 0x080007F000000000},
+    {0, 0},
+};
+
 /* Sets the mask to the byte 01, which is none. */
 static const struct word sets_no_mask[] = {
     {0x800, 0x1F00090000000001},
@@ -103,8 +115,9 @@ static uint32_t ask(const char *name, struct chanv_job job, struct counts room,
     for (size_t i = 0; i < sizeof told->reserved / sizeof *told->reserved; i++)
         if (told->reserved[i] != 0)
             printf(", reserved %zu", i);
-    if (told->may_hang != 0 || told->hangs_at != 0)
-        printf(", may hang %" PRIu32 " at %06" PRIX32, told->may_hang, told->hangs_at);
+    if (told->may_hang != 0 || told->hangs_at != 0 || told->hangs_entered != 0)
+        printf(", may hang %" PRIu32 " at %06" PRIX32 " %s", told->may_hang, told->hangs_at,
+               chanv_entered_word(told->hangs_entered));
     if (told->verdict.reason != 0)
         printf(", no %06" PRIX32 " %s", told->verdict.address,
                chanv_reason_word(told->verdict.reason));
@@ -177,6 +190,15 @@ static void ask_about_other_jobs(void)
     ask("no job will do", poor, room, &told);
     fill(endless);
     ask("a read without end", poor, room, &told);
+    static const struct {
+        const char *name;
+        uint8_t code;
+    } chains[] = {{"a read", 0x06}, {"a write", 0x05}, {"a search", 0x31}};
+    for (size_t i = 0; i < sizeof chains / sizeof *chains; i++) {
+        fill(two_ways), storage[0x810] = chains[i].code;
+        printf("the data chain of ");
+        ask(chains[i].name, poor, room, &told);
+    }
 }
 
 /* The program of a job with these rows, and with the kept bytes as storage has them now. */
@@ -396,11 +418,14 @@ static void take_programs_in(void)
     struct chanv_job job = poor;
     fill(seeks);
     take_in("the seeks", job, 0, 0);
-    take_in("the seeks", job, 0, 117);
-    take_in("the seeks", job, 0, 118);
+    take_in("the seeks", job, 0, 120);
+    take_in("the seeks", job, 0, 121);
     take_in("the seeks", job, 1, 120);
     take_in("the seeks", job, 1, 121);
     take_in("the seeks", job, 3, 480);
+    job.device = 2311;
+    take_in("the seeks on a 2311", job, 2, 121);
+    job.device = 2314;
     job.limit = 0;
     take_in("no limit", job, 0, 480);
     fill(sets_no_mask);

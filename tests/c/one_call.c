@@ -28,12 +28,12 @@ static int verify(const struct chanv_job *job)
 static int list(const struct chanv_job *job)
 {
     struct chanv_place rows[4], before[4];
-    size_t count = 7;
+    size_t count = 7, extent = 7;
     memset(rows, 7, sizeof rows);
     memcpy(before, rows, sizeof rows);
-    uint32_t answer = chanv_list(job, rows, 4, &count);
+    uint32_t answer = chanv_list(job, rows, 4, &count, &extent);
     size_t written = answer == CHANV_OK ? 3 : 0;
-    if (count != written
+    if (count != written || extent != 0
         || memcmp(rows + written, before + written, sizeof *rows * (4 - written)) != 0)
         return 99;
     return answer == CHANV_OK ? say("3\n") : (int)answer;
@@ -41,7 +41,7 @@ static int list(const struct chanv_job *job)
 
 static int is_as(const struct chanv_needed *one, const struct chanv_needed *other)
 {
-    return memcmp(one, other, offsetof(struct chanv_needed, mask) + 1) == 0
+    return memcmp(one, other, offsetof(struct chanv_needed, hangs_entered) + 1) == 0
            && memcmp(one->reserved, other->reserved, sizeof one->reserved) == 0;
 }
 
@@ -70,7 +70,8 @@ static int why(const struct chanv_job *job)
     return answer == CHANV_NO ? say("2 3\n") : (int)answer;
 }
 
-typedef uint32_t telling(const struct chanv_job *job, char *buffer, size_t room, size_t *len);
+typedef enum chanv_answer telling(const struct chanv_job *job, char *buffer, size_t room,
+                                  size_t *len);
 
 static int tell(telling *call, const struct chanv_job *job)
 {

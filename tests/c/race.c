@@ -168,9 +168,10 @@ static uint32_t verify(size_t room)
 
 static uint32_t list(size_t room)
 {
-    size_t *count = answer_of(sizeof *count);
-    uint32_t code = chanv_list(&job, rows_of(0, sizeof(struct chanv_place), room), room, count);
-    return within(code, code == CHANV_OK, *count, room);
+    size_t *counts = answer_of(2 * sizeof *counts);
+    uint32_t code = chanv_list(&job, rows_of(0, sizeof(struct chanv_place), room), room, counts,
+                               counts + 1);
+    return within(code, code == CHANV_OK, *counts, room);
 }
 
 static uint32_t why(size_t room)

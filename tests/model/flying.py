@@ -8,14 +8,17 @@ from judging import Job, first_place
 from making import ARGUMENTS, DATA, PROGRAM, random_job
 from stepping import ENDED, harms, steps
 
-STORAGE, PROGRAMS, DEVICES = 0x800, 12, 8
+STORAGE, PROGRAMS, UNITS = 0x800, 12, 8
+
+# the types of device
+TYPES = (2311, 2314)
 
 # programs lie so far apart that the data of one meet the CCWs and arguments of another
 APART = 0x40
 
 
 class Flight(NamedTuple):
-    """A program on a device: its number and job, and the state of its run."""
+    """A program on a unit: its number and job, and the state of its run."""
 
     number: int
     job: Job
@@ -30,7 +33,8 @@ class Flights:
         self.supervisor, self.random = supervisor, Random(seed)
         self.storage = supervisor.storage
         self.asked, self.flights, self.was_started = {}, {}, set()
-        self.counts = dict.fromkeys("taken_in refused started again held_back written".split(), 0)
+        names = "taken_in refused started again held_back written other_device".split()
+        self.counts = dict.fromkeys([*names, *(f"on_{it}" for it in TYPES)], 0)
 
     def below(self, most):
         return int(self.random.random() * most)
@@ -74,23 +78,32 @@ class Flights:
                 areas[0] = (start, count - 1)
         if self.below(4) == 0:
             fetch, store = [(8 * self.below(16), STORAGE)], fetch
-        return asked._replace(mask=mask, extents=extents, fetch=fetch, store=store)
+        device = asked.device
+        if self.below(8) == 0:
+            [device] = {*TYPES} - {device}
+            self.count("other_device")
+        job = asked._replace(mask=mask, extents=extents, fetch=fetch, store=store)
+        return job._replace(device=device)
 
-    def try_start(self, number, device):
+    def try_start(self, number, unit):
+        """The answer is a harm if it starts on another type of device than it was asked for."""
         job = self.granted(number) if self.asked[number] else None
-        if job is None or not self.supervisor.start(number, device, job):
+        if job is None or not self.supervisor.start(number, unit, job):
             self.count("held_back")
-            return
-        self.flights[device] = Flight(number, job, (first_place(job), ()))
-        self.count("started", *["again"] * (number in self.was_started))
+            return None
+        if job.device != self.asked[number].device:
+            return "on another type of device"
+        self.flights[unit] = Flight(number, job, (first_place(job), ()))
+        self.count("started", f"on_{job.device}", *["again"] * (number in self.was_started))
         self.was_started.add(number)
+        return None
 
-    def step(self, device):
-        """One step of the program on a device, or a halt. The answer is its harm, if it did any."""
-        flight = self.flights[device]
+    def step(self, unit):
+        """One step of the program on a unit, or a halt. The answer is its harm, if it did any."""
+        flight = self.flights[unit]
         if flight.state == ENDED or self.below(64) == 0:
-            del self.flights[device]
-            self.supervisor.leave(device)
+            del self.flights[unit]
+            self.supervisor.leave(unit)
             return None
         possible = [*steps(self.storage, *flight.state)]
         going_on = [it for it in possible if it[1] != ENDED]
@@ -103,7 +116,7 @@ class Flights:
                 self.storage[address : address + moved] = self.random.randbytes(moved)
         if stage != ENDED and not isinstance(stage, tuple):
             return stage
-        self.flights[device] = flight._replace(state=stage)
+        self.flights[unit] = flight._replace(state=stage)
         return None
 
     def fly(self, wanted):
@@ -113,7 +126,7 @@ class Flights:
             if self.flights and self.below(4) != 0:
                 harm = self.step(self.random.choice([*self.flights]))
             else:
-                self.start_some()
+                harm = self.start_some()
             if harm:
                 return harm
             if self.below(8) == 0:
@@ -123,9 +136,8 @@ class Flights:
 
     def start_some(self):
         """Tries to start some program. One that isn't in flight may be written anew before."""
-        number, device = self.below(PROGRAMS), self.below(DEVICES)
+        number, unit = self.below(PROGRAMS), self.below(UNITS)
         is_flying = any(flight.number == number for flight in self.flights.values())
         if not is_flying and (not self.asked.get(number) or self.below(64) == 0):
             self.write_program(number)
-        if device not in self.flights:
-            self.try_start(number, device)
+        return None if unit in self.flights else self.try_start(number, unit)

@@ -25,7 +25,7 @@
  * flight takes each in by `chanv_take_in`, asks `chanv_check_start` before each start, and
  * `chanv_check_write` before each write of others:
  *
- *     if (chanv_check_start(&job, in_flight, DEVICES, &program, &refusal) == CHANV_YES)
+ *     if (chanv_check_start(&job, in_flight, UNITS, &program, &refusal) == CHANV_YES)
  *         ...
  *
  * Then all programs in flight are safe, always. This is proved under premises that no call checks:
@@ -34,8 +34,8 @@
  *    Channel and device make only the steps of docs/MACHINE.md.
  * 2. When a program starts, the arm is inside the job's extents, and the job's file mask is in
  *    force.
- * 3. Each program in flight has a device of its own. It stays in the table until the channel makes
- *    no further step for it.
+ * 3. Each program in flight has a unit of its own, that is, a device at an address of its own. It
+ *    stays in the table until the channel makes no further step for it.
  * 4. While a program is in a table, its lists and its kept bytes don't change.
  * 5. From a question to the start, or to the end of the write, no other program starts, and nothing
  *    else writes a byte that the programs in the table, or the one that is about to start, keep. So
@@ -58,18 +58,21 @@ extern "C" {
 
 /* The version of this header, as text, number by number, and as `chanv_version` gives the
  * library's: 65,536 times the first number, 256 times the second, and the third. */
-#define CHANV_VERSION "0.6.0"
+#define CHANV_VERSION "0.7.0"
 #define CHANV_VERSION_MAJOR 0
-#define CHANV_VERSION_MINOR 6
+#define CHANV_VERSION_MINOR 7
 #define CHANV_VERSION_PATCH 0
 #define CHANV_VERSION_NUMBER \
     (65536 * CHANV_VERSION_MAJOR + 256 * CHANV_VERSION_MINOR + CHANV_VERSION_PATCH)
 
-/* A compiler that knows the attribute warns if an answer isn't looked at. */
+/* A compiler that knows the attributes warns if an answer isn't looked at, and if NULL is passed
+ * for one of the pointers with these numbers, counted from 1. */
 #ifdef __GNUC__
 #define CHANV_MUST_USE __attribute__((warn_unused_result))
+#define CHANV_NOT_NULL(...) __attribute__((nonnull(__VA_ARGS__)))
 #else
 #define CHANV_MUST_USE
+#define CHANV_NOT_NULL(...)
 #endif
 
 /* An area of storage. It may be empty, and it may reach past storage. */
@@ -107,7 +110,7 @@ struct chanv_job {
     struct chanv_areas store;     /* lent for storing, from the device into storage */
     uint32_t start;               /* the address of the first CCW */
     uint32_t limit;               /* how many places may be reachable, 1 to 65,536 */
-    uint16_t device;              /* 2311 or 2314 */
+    uint16_t device;              /* the type of the device, 2311 or 2314 */
     uint8_t mask;                 /* the file mask that is in force at the start */
     uint64_t reserved[4];         /* 0: room for the fields of a later version */
 };
@@ -117,7 +120,9 @@ enum chanv_limit { CHANV_USUAL_LIMIT = 4096, CHANV_LARGEST_LIMIT = 65536 };
 
 /* What a call returns. 4 to 10 and 12 are faults of the job itself; if several apply, the least is
  * returned, and a job with a fault gets no answer. CHANV_MEMORY may come in place of any other code
- * except 4 to 7: a call looks for these before it takes memory. */
+ * except 4 to 7: a call looks for these before it takes memory. Keep an answer in a variable of
+ * this type: then a compiler can warn (-Wenum-compare) if it is compared with a reason or a
+ * refusal. */
 enum chanv_answer {
     CHANV_YES = 0,                /* every run is safe; it may start; others may write */
     CHANV_OK = CHANV_YES,         /* all that was asked for is written */
@@ -125,7 +130,7 @@ enum chanv_answer {
     CHANV_TOO_MANY_PLACES = 2,    /* more places are reachable than the limit */
     CHANV_MEMORY = 3,             /* memory ran out */
     CHANV_STORAGE_TOO_LARGE = 4,  /* storage has more than 16,777,216 bytes */
-    CHANV_NOT_A_DEVICE = 5,       /* there is no such device */
+    CHANV_NOT_A_DEVICE = 5,       /* there is no such type of device */
     CHANV_NOT_A_MASK = 6,         /* a bit of the mask is on that isn't in C0 or 18 */
     CHANV_NO_EXTENT = 7,          /* there is no extent */
     CHANV_EXTENT_BACKWARDS = 8,   /* the first wrong extent has its first cylinder above its last */
@@ -241,11 +246,14 @@ struct chanv_needed {
     size_t fetch_count;
     size_t store_count;
     size_t keep_count;
-    size_t kept_len;      /* how many bytes are kept: all areas of `keep` together */
-    uint32_t storage_len; /* how many bytes storage has */
-    uint32_t may_hang;    /* 1 if from some place on only an error or a halt ends the program */
-    uint32_t hangs_at;    /* then the address of the first such place */
-    uint8_t mask;         /* the strictest file mask that serves */
+    size_t kept_len;       /* how many bytes are kept: all areas of `keep` together */
+    uint32_t storage_len;  /* how many bytes storage has */
+    uint32_t may_hang;     /* 1 if from some place on only an error, an incorrect length or a halt
+                              ends the program */
+    uint32_t hangs_at;     /* then the address of the first such place */
+    uint8_t mask;          /* the strictest file mask that serves */
+    uint8_t hangs_entered; /* how the program enters the CCW at `hangs_at`, an `enum chanv_entered`;
+                              entered otherwise, the CCW may lead to an end */
     uint64_t reserved[4]; /* 0: room for the values of a later version */
 };
 
@@ -262,15 +270,15 @@ struct chanv_rows {
 
 /* All that a supervisor remembers of a program; `chanv_take_in` fills it. A struct of zeros is no
  * program: it may not start, and it is in no other program's way. So a table of the programs in
- * flight, indexed by device, may have gaps. A struct with anything else does no harm either: no
- * call reads or writes outside its lists, or fails to return. But then a CHANV_YES means only what
- * the call compares. */
+ * flight with a place for each unit may have gaps. A struct with anything else does no harm either:
+ * no call reads or writes outside its lists, or fails to return. But then a CHANV_YES means only
+ * what the call compares. */
 struct chanv_program {
     struct chanv_rows rows;  /* what it needs and keeps */
     struct chanv_bytes kept; /* the kept bytes as they were, one area of `rows.keep` after another;
                                 bytes after them don't matter */
     uint32_t start;          /* the address of the first CCW */
-    uint16_t device;         /* 2311 or 2314 */
+    uint16_t device;         /* the type of the device, 2311 or 2314 */
     uint64_t reserved[4];    /* 0: room for the fields of a later version */
 };
 
@@ -280,7 +288,7 @@ struct chanv_program {
  * for 11. */
 enum chanv_refused {
     CHANV_REFUSED_OTHER_START = 1,   /* the job starts at another address */
-    CHANV_REFUSED_OTHER_DEVICE = 2,  /* the job is for another device */
+    CHANV_REFUSED_OTHER_DEVICE = 2,  /* the job is for another type of device */
     CHANV_REFUSED_OTHER_LENGTH = 3,  /* the job's storage has another length */
     CHANV_REFUSED_CHANGED = 4,       /* the kept byte at `value`, the first that has changed, lies
                                         past storage, or is missing from `kept` */
@@ -307,15 +315,17 @@ struct chanv_refusal {
 
 /* Whether the program may run: CHANV_YES, CHANV_NO, or why there is no answer. A yes has premises
  * 1 and 2 above, and holds as long as storage has this length and the kept bytes don't change. */
-CHANV_MUST_USE uint32_t chanv_verify(const struct chanv_job *job, struct chanv_verdict *out);
+CHANV_MUST_USE CHANV_NOT_NULL(1, 2)
+enum chanv_answer chanv_verify(const struct chanv_job *job, struct chanv_verdict *out);
 
 /* Lists the places that the program can come to, each once, by address, then by `entered`, then by
  * `after_transfer`. CHANV_OK: the first `*count` rows are written, and the others keep their
- * values. CHANV_NO_ROOM: `*count` is how many rows there would be. Otherwise it returns why
- * there is no answer, and `*count` is the index of the extent that is wrong, or 0. Only for
- * CHANV_OK is a row written. There are never more places than the job's limit. */
-CHANV_MUST_USE uint32_t chanv_list(const struct chanv_job *job, struct chanv_place *rows,
-                                   size_t room, size_t *count);
+ * values. CHANV_NO_ROOM: `*count` is how many rows there would be. Otherwise it returns why there
+ * is no answer, and `*count` is 0. `*extent` is the index of the extent that is wrong if one is,
+ * else 0. Only for CHANV_OK is a row written. There are never more places than the job's limit. */
+CHANV_MUST_USE CHANV_NOT_NULL(1, 4, 5)
+enum chanv_answer chanv_list(const struct chanv_job *job, struct chanv_place *rows, size_t room,
+                             size_t *count, size_t *extent);
 
 /* Why the program may not run. CHANV_NO: `out` has the verdict, the values of the cause and the
  * lengths of both paths, and the paths are the first rows of `path` and of `second_path`; the other
@@ -331,21 +341,23 @@ CHANV_MUST_USE uint32_t chanv_list(const struct chanv_job *job, struct chanv_pla
  * places than rows. CHANV_YES: there is nothing to explain. Otherwise it returns why there is no
  * answer, like `chanv_verify`, with the extent that is wrong if one is. Only for CHANV_NO is a
  * row written. */
-CHANV_MUST_USE uint32_t chanv_why(const struct chanv_job *job, struct chanv_place *path,
-                                  size_t room, struct chanv_place *second_path,
-                                  size_t second_room, struct chanv_explanation *out);
+CHANV_MUST_USE CHANV_NOT_NULL(1, 6)
+enum chanv_answer chanv_why(const struct chanv_job *job, struct chanv_place *path, size_t room,
+                            struct chanv_place *second_path, size_t second_room,
+                            struct chanv_explanation *out);
 
 /* Writes the text that explains the verdict on the job, as `chanv why` prints it, not
  * NUL-terminated. CHANV_YES, CHANV_NO: the first `*len` bytes of `buffer` are the text, and
  * the others keep their values. CHANV_NO_ROOM: the text has `*len` bytes, more than `room`.
  * Otherwise it returns why there is no answer, like `chanv_verify`, and `*len` is 0. Only for
  * CHANV_YES and CHANV_NO is a byte of `buffer` written. */
-CHANV_MUST_USE uint32_t chanv_text(const struct chanv_job *job, char *buffer, size_t room,
-                                   size_t *len);
+CHANV_MUST_USE CHANV_NOT_NULL(1, 4)
+enum chanv_answer chanv_text(const struct chanv_job *job, char *buffer, size_t room, size_t *len);
 
 /* The needs of the job's program, which is its storage, start and device, in every job that it runs
  * under, and the bytes that it keeps: no more, and no less. This job's own grants don't matter, but
- * it may have no fault; its limit counts the places that are reachable if everything is granted.
+ * the job must have no fault; its limit counts the places that are reachable if everything is
+ * granted.
  *
  * CHANV_OK: some job will do. The first `out->extent_count` rows of `extents` are the cylinders
  * that seeks go to, as runs of first and last; those of `fetch` and `store` are the bytes that are
@@ -364,30 +376,34 @@ CHANV_MUST_USE uint32_t chanv_text(const struct chanv_job *job, char *buffer, si
  *
  * The answer holds, before a start and during the run, over storage of `out->storage_len` bytes
  * as long as the kept bytes are as they were; all others may change. */
-CHANV_MUST_USE uint32_t chanv_needs(const struct chanv_job *job, struct chanv_needed *out,
-                                    struct chanv_extent *extents, size_t extents_room,
-                                    struct chanv_area *fetch, size_t fetch_room,
-                                    struct chanv_area *store, size_t store_room,
-                                    struct chanv_area *keep, size_t keep_room,
-                                    uint8_t *kept, size_t kept_room);
+CHANV_MUST_USE CHANV_NOT_NULL(1, 2)
+enum chanv_answer chanv_needs(const struct chanv_job *job, struct chanv_needed *out,
+                              struct chanv_extent *extents, size_t extents_room,
+                              struct chanv_area *fetch, size_t fetch_room,
+                              struct chanv_area *store, size_t store_room,
+                              struct chanv_area *keep, size_t keep_room,
+                              uint8_t *kept, size_t kept_room);
 
 /* Takes the job's program in: asks `chanv_needs`, puts the lists and the kept bytes into `memory`,
- * and fills `program`, which refers to them. Keep `memory` as long as the program.
+ * and fills `program`, which refers to them. Keep `memory` where it is, as long as the program or a
+ * copy of it is used.
  *
- * CHANV_OK: the program is remembered, and takes the first `*len` bytes of `memory`. CHANV_NO_ROOM:
- * it takes `*len` bytes, more than `room`. Otherwise it returns like `chanv_needs`, and `*len` is
- * 0. `out` is always what `chanv_needs` wrote: so it has the verdict if no job will do, and says
- * whether the program may hang. Unless the answer is CHANV_OK, `program` is zeroed, and no byte of
- * `memory` is written. */
-CHANV_MUST_USE uint32_t chanv_take_in(const struct chanv_job *job, void *memory, size_t room,
-                                      size_t *len, struct chanv_program *program,
-                                      struct chanv_needed *out);
+ * CHANV_OK: the program is remembered, and takes the first `*len` bytes of `memory`. All of `room`
+ * is scratch: the bytes after these lose their values too. CHANV_NO_ROOM: it takes `*len` bytes,
+ * more than `room`. At each address of `memory` it takes as many. Otherwise it returns like
+ * `chanv_needs`, and `*len` is 0. `out` is always what `chanv_needs` wrote: so it has the verdict
+ * if no job will do, and says whether the program may hang. Unless the answer is CHANV_OK,
+ * `program` is zeroed, and no byte of `memory` is written. */
+CHANV_MUST_USE CHANV_NOT_NULL(1, 4, 5, 6)
+enum chanv_answer chanv_take_in(const struct chanv_job *job, void *memory, size_t room, size_t *len,
+                                struct chanv_program *program, struct chanv_needed *out);
 
 /* Writes the text that explains the verdict on the open job of the job's program, which grants
  * everything: so after CHANV_NO from `chanv_needs` it says why no job will do. Otherwise it is like
  * `chanv_text`. */
-CHANV_MUST_USE uint32_t chanv_open_text(const struct chanv_job *job, char *buffer, size_t room,
-                                        size_t *len);
+CHANV_MUST_USE CHANV_NOT_NULL(1, 4)
+enum chanv_answer chanv_open_text(const struct chanv_job *job, char *buffer, size_t room,
+                                  size_t *len);
 
 /* Whether a remembered program may start under the job, beside the `count` programs in flight.
  *
@@ -396,31 +412,34 @@ CHANV_MUST_USE uint32_t chanv_open_text(const struct chanv_job *job, char *buffe
  * that the other keeps. If what is remembered of all of them is true, the program may start: its
  * verdict is CHANV_YES, and it and all in flight are safe together. CHANV_NO: `out` has the first
  * refusal. Otherwise it returns why there is no answer, like `chanv_verify`, with the extent that
- * is wrong if one is. It is never CHANV_TOO_MANY_PLACES, because the limit plays no part.
+ * is wrong if one is. It looks for each fault of the job, 4 to 10 and 12, and so for a limit that
+ * isn't a limit. But no place is counted: it never returns CHANV_TOO_MANY_PLACES.
  *
  * It says nothing about data: one program may read in over bytes that another writes out. The cost
  * is one pass over rows from `chanv_needs`, and the product of their numbers if rows from elsewhere
  * are out of order: sort those first. */
-CHANV_MUST_USE uint32_t chanv_check_start(const struct chanv_job *job,
-                                          const struct chanv_program *in_flight, size_t count,
-                                          const struct chanv_program *program,
-                                          struct chanv_refusal *out);
+CHANV_MUST_USE CHANV_NOT_NULL(1, 4, 5)
+enum chanv_answer chanv_check_start(const struct chanv_job *job,
+                                    const struct chanv_program *in_flight, size_t count,
+                                    const struct chanv_program *program,
+                                    struct chanv_refusal *out);
 
 /* Whether others, such as the processor, may write to an area of storage now. CHANV_YES: no program
  * in flight keeps a byte of it. CHANV_NO: `out` has CHANV_REFUSED_KEPT, the first program that
  * keeps one, and the least such byte; or CHANV_REFUSED_RESERVED_IN_FLIGHT and the first program
  * whose `reserved` isn't 0. No memory is taken, and there is no other answer. */
-CHANV_MUST_USE uint32_t chanv_check_write(const struct chanv_program *in_flight, size_t count,
-                                          const struct chanv_area *area,
-                                          struct chanv_refusal *out);
+CHANV_MUST_USE CHANV_NOT_NULL(3, 4)
+enum chanv_answer chanv_check_write(const struct chanv_program *in_flight, size_t count,
+                                    const struct chanv_area *area, struct chanv_refusal *out);
 
-/* Lists the starts of the channel programs in storage, each once, in order; docs/FIND.md says which
- * they are. CHANV_OK: the first `*count` of `starts` are written, and the others keep their
- * values. CHANV_NO_ROOM: `*count` is how many there would be. Otherwise it returns
- * CHANV_STORAGE_TOO_LARGE, or else CHANV_NOT_A_DEVICE, or else CHANV_MEMORY, and `*count` is 0.
- * Only for CHANV_OK is a start written. */
-CHANV_MUST_USE uint32_t chanv_find(const struct chanv_bytes *storage, uint16_t device,
-                                   uint32_t *starts, size_t room, size_t *count);
+/* Lists the starts of the channel programs in storage for this type of device, each once, in order;
+ * docs/FIND.md says which they are. CHANV_OK: the first `*count` of `starts` are written, and the
+ * others keep their values. CHANV_NO_ROOM: `*count` is how many there would be. Otherwise it
+ * returns CHANV_STORAGE_TOO_LARGE, or else CHANV_NOT_A_DEVICE, or else CHANV_MEMORY, and `*count`
+ * is 0. Only for CHANV_OK is a start written. */
+CHANV_MUST_USE CHANV_NOT_NULL(1, 5)
+enum chanv_answer chanv_find(const struct chanv_bytes *storage, uint16_t device, uint32_t *starts,
+                             size_t room, size_t *count);
 
 /* 1 if the answer is a fault of the job itself, 4 to 10 or 12, else 0. */
 int chanv_is_fault(uint32_t answer);

@@ -2,3 +2,4 @@ pub mod Refusals
 pub mod Written
 pub mod Starts
 pub mod Beginnings
+pub mod Jobs

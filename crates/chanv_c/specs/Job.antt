@@ -23,6 +23,33 @@ pub record IsAskedJob (c : CJob) (j : Job) : Type 0 where
   pub store : store_of j ≡ c.store.now
   pub limit : j.limit ≡ c.limit
 
+-- two jobs agree in every field
+pub record AreAlike (j k : Job) : Type 0 where
+  pub storage : storage_of j ≡ storage_of k
+  pub start : j.start ≡ k.start
+  pub device : j.device ≡ k.device
+  pub mask : j.mask ≡ k.mask
+  pub extents : extents_of j ≡ extents_of k
+  pub fetch : fetch_of j ≡ fetch_of k
+  pub store : store_of j ≡ store_of k
+  pub limit : j.limit ≡ k.limit
+
+-- two structs of C name the same in every field
+pub record NameAlike (c d : CJob) : Type 0 where
+  pub storage : c.storage.now ≡ d.storage.now
+  pub start : c.start ≡ d.start
+  pub device : c.device ≡ d.device
+  pub mask : c.mask ≡ d.mask
+  pub extents : extents_asked c ≡ extents_asked d
+  pub fetch : c.fetch.now ≡ d.fetch.now
+  pub store : c.store.now ≡ d.store.now
+  pub limit : c.limit ≡ d.limit
+
+-- a struct of C asks about one job alone, and two that ask about one job name the same
+pub record AskedIsOne : Type 0 where
+  pub job : (c : CJob) (j k : Job) → IsAskedJob c j → IsAskedJob c k → AreAlike j k
+  pub named : (c d : CJob) (j : Job) → IsAskedJob c j → IsAskedJob d j → NameAlike c d
+
 -- what was made ready is what C named
 pub record IsReady (c : CJob) (r : Ready) : Type 0 where
   pub storage : bytes_held r.parts.storage ≡ c.storage.now

@@ -7,7 +7,7 @@ use Rattle.chan_walk.specs.declared.reason.Reason.{Reason}
 use Rattle.chan_walk.specs.declared.verdict.Verdict.{Verdict}
 use Rattle.chan_walk.specs.declared.verdict.Verdict.TheVariants.{Yes, No}
 use Rattle.chan_walk.specs.Answers.{IsAnswer}
-use Rattle.chan_walk.specs.Places.{HasMoreThan}
+use Rattle.chan_walk.specs.Places.{HasMoreThan, entry_number}
 use Rattle.chan_walk.specs.OpenJob.{open_job, IsOpenJob}
 use Rattle.chan_needs.specs.Rows.{AreNeeds, Listed, listed}
 use Rattle.chan_walk.specs.Verdict.{IsVerdict}
@@ -74,10 +74,11 @@ told_alone v = record {
   may_hang = 0;
   hangs_at = 0;
   mask = 0;
+  hangs_entered = 0;
   reserved = 0 ∷ 0 ∷ 0 ∷ 0 ∷ [];
 }
 
--- 1 if there is such a place, and its address
+-- 1 if there is such a place, its address, and how it is entered
 abbrev pub hang_number : Option Place → ℕ
 hang_number None = 0
 hang_number (Some p) = 1
@@ -85,6 +86,10 @@ hang_number (Some p) = 1
 abbrev pub hang_address : Option Place → ℕ
 hang_address None = 0
 hang_address (Some p) = p.address
+
+abbrev pub hang_entry : Option Place → ℕ
+hang_entry None = 0
+hang_entry (Some p) = entry_number p.entered
 
 -- how many rows each list has, how many bytes are kept, how long storage is, the mask, and where
 -- the program may hang
@@ -100,6 +105,7 @@ told_needs n hang = record {
   may_hang = hang_number hang;
   hangs_at = hang_address hang;
   mask = n.mask;
+  hangs_entered = hang_entry hang;
   reserved = 0 ∷ 0 ∷ 0 ∷ 0 ∷ [];
 }
 

@@ -8,12 +8,14 @@ use Rattle.chan_needs.specs.declared.rows.Conflict.TheVariants as way
 use Rattle.chan_needs.specs.declared.start.StartRefusal.{StartRefusal}
 use Rattle.chan_needs.specs.declared.start.StartRefusal.TheVariants as why
 use Rattle.chan_needs.specs.declared.start.Start.TheVariants as answer
-use Rattle.chan_needs.specs.Remembered.{IsInFlightAt, IsKeeperOf}
-use Rattle.chan_needs.specs.Start.{IsAnswerOf, StartsWell}
+use Rattle.chan_needs.specs.Needs.{Grants, KeepsProgram}
+use Rattle.chan_needs.specs.Remembered.{HoldsKept, IsInFlightAt, IsKeeperOf, IsRemembered}
+use Rattle.chan_needs.specs.Start.{IsAnswerOf, IsBeside, IsFit, StartsWell}
 use Rattle.chanv_c.specs.declared.job.CJob.{CJob}
 use Rattle.chanv_c.specs.declared.start.CRefusal.{CRefusal}
 use Rattle.chanv_c.specs.declared.start.StartCheck.{StartCheck}
 use Rattle.chanv_c.specs.declared.start.StartCheck.TheVariants.{Later, LaterInFlight, Asked}
+use Rattle.chanv_c.specs.Faults.{HasNoFault}
 use Rattle.chanv_c.specs.Job.{IsAskedJob}
 
 -- ---- whether a program may start
@@ -35,19 +37,31 @@ IsCheckUnder j p fs Later = IsOfThisVersion p → ⊥
 IsCheckUnder j p fs (LaterInFlight i) = IsOfThisVersion p × IsFirstLater fs i
 IsCheckUnder j p fs (Asked s) = IsOfThisVersion p × All IsOfThisVersion fs × IsAnswerOf j p fs s
 
--- the answer for what C asks; if what C remembers is true, a program with a yes may start
+-- the answer for what C asks; if what C remembers is true, a program with a yes may start; and one
+-- of this version that fits has a yes
 pub record IsCheckOf (c : CJob) (p : Remembered) (fs : List Remembered) (k : StartCheck) : Type 0
   where
     pub job : Job
     pub asked : IsAskedJob c job
     pub check : IsCheckUnder job p fs k
     pub well : k ≡ Asked answer.Yes → StartsWell job p fs
+    pub due :
+        IsOfThisVersion p → All IsOfThisVersion fs → IsFit job p fs → k ≡ Asked answer.Yes
 
 -- if what C remembers is true, the program may start
 pub record StartsWellFor (c : CJob) (p : Remembered) (fs : List Remembered) : Type 0 where
   pub job : Job
   pub asked : IsAskedJob c job
   pub well : StartsWell job p fs
+
+-- if what C remembers of the program of `was` is true, a job without a fault, over storage that
+-- holds what was kept, that grants what the program needs is answered so, provided that the program
+-- is beside each in flight, and all are of this version
+abbrev pub StartsIfDue : CJob → Remembered → List Remembered → Type 0 → Type 0
+StartsIfDue c p fs Answered =
+    (was job : Job) → IsRemembered was p → IsAskedJob c job → HasNoFault c → KeepsProgram was job
+    → HoldsKept job p → Grants was job → All (IsBeside p) fs → IsOfThisVersion p
+    → All IsOfThisVersion fs → Answered
 
 -- ---- what is told
 

@@ -8,6 +8,7 @@ mod codes;
 mod evidence;
 mod find;
 mod job;
+mod laws;
 mod list;
 mod needs;
 mod refusal;

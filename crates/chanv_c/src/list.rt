@@ -1,6 +1,6 @@
 //! Which CCWs a channel program can come to.
 
-ghost use Rattle.std.specs.Prelude.{◌≡◌, ◌≢◌, ◌<◌, ◌≤◌, length, IfErr, IfOk, OnOk};
+ghost use Rattle.std.specs.Prelude.{◌≡◌, ◌≢◌, ◌<◌, ◌⊎◌, length, IfErr, IfOk, OnOk};
 ghost use Rattle.chanv_c.specs.Answers.{AreFound, AreListed, HasPlaces, HasTooMany};
 ghost use Rattle.chanv_c.specs.Answers.{IsAnswerCode, IsRefusal};
 ghost use Rattle.chanv_c.specs.Faults.{HasNoFault};
@@ -14,22 +14,25 @@ use std::alloc::Global;
 
 /// Lists the places that the program can come to, each once, in order: 0 if `rows` took them all,
 /// 11 if they are more than `rows` has room for; then `count` is their number. Otherwise it says
-/// why there is no answer, like `chanv_verify`, and `count` is the index of the extent that is
-/// wrong, or 0. Only for 0 is anything written to `rows`.
+/// why there is no answer, like `chanv_verify`, and `count` is 0. `extent` is the index of the
+/// extent that is wrong, or 0. Only for 0 is anything written to `rows`.
 #[unsafe(no_mangle)]
 pub extern "C" fn chanv_list(
     alloc: Global,
     job: &CJob<'_>,
     rows: &mut [CPlace],
     count: &mut usize,
+    extent: &mut usize,
 ) -> u32
     ensures listed { result ≡ 0 → AreListed job.now count.new rows.old rows.new }
     ensures room { result ≡ 11 → HasPlaces job.now count.new × (length rows.old < count.new) }
     ensures kept { result ≢ 0 → rows.new ≡ rows.old }
-    ensures number { IsAnswerCode (HasTooMany job.now) job.now result count.new }
+    ensures number { IsAnswerCode (HasTooMany job.now) job.now result extent.new }
     ensures no_verdict { result ≢ 1 }
-    ensures no_count { 2 ≤ result → result ≤ 3 → count.new ≡ 0 }
+    ensures no_count { result ≢ 0 → result ≢ 11 → count.new ≡ 0 }
+    ensures no_extent { (result < 4) ⊎ (result ≡ 11) → extent.new ≡ 0 }
 {
+    (*count, *extent) = (0, 0);
     match places_of(alloc, job) {
         Ok(found) => {
             *count = found.len();
@@ -40,7 +43,7 @@ pub extern "C" fn chanv_list(
             YES
         }
         Err(refusal) => {
-            *count = refusal.extent();
+            *extent = refusal.extent();
             refusal.code()
         }
     }

@@ -19,7 +19,7 @@ ghost use Rattle.chanv_c.specs.Needs.{IsToldNo, StandFirst, run_row, told_alone,
 use crate::codes::{NO, NO_ROOM, YES};
 use crate::job::{CJob, make_ready};
 use crate::refusal::Refusal;
-use crate::rows::{write_areas, write_runs};
+use crate::rows::{entry_number, write_areas, write_runs};
 use crate::verify::CVerdict;
 use ccw_core::{Area, Storage};
 use chan_needs::{Extent, Needs, copy_kept, kept_len, needs_from, or_empty};
@@ -39,10 +39,12 @@ pub struct CNeeded {
     /// How many bytes are kept.
     pub kept_len: usize,
     pub storage_len: u32,
-    /// 1 if the program may hang, and the address of the first place at which it may.
+    /// 1 if the program may hang, and the first place at which it may: its address, and how it is
+    /// entered.
     pub may_hang: u32,
     pub hangs_at: u32,
     pub mask: u8,
+    pub hangs_entered: u8,
     pub reserved: [u64; 4],
 }
 
@@ -135,6 +137,7 @@ fn alone(extent: usize, address: u32, reason: u32) -> CNeeded
         may_hang: 0,
         hangs_at: 0,
         mask: 0,
+        hangs_entered: 0,
         reserved: [0; 4],
     }
 }
@@ -144,9 +147,9 @@ fn told(needs: &Needs, hang: Option<Place>) -> CNeeded
     requires { IsMerged needs.now.keep.items }
     ensures { result ≡ told_needs (listed needs.now) hang }
 {
-    let (may_hang, hangs_at) = match hang {
-        Some(place) => (1, place.address),
-        None => (0, 0),
+    let (may_hang, hangs_at, hangs_entered) = match hang {
+        Some(place) => (1, place.address, entry_number(place.entered)),
+        None => (0, 0, 0),
     };
     CNeeded {
         verdict: CVerdict {
@@ -163,6 +166,7 @@ fn told(needs: &Needs, hang: Option<Place>) -> CNeeded
         may_hang,
         hangs_at,
         mask: needs.mask.byte(),
+        hangs_entered,
         reserved: [0; 4],
     }
 }

@@ -1,6 +1,7 @@
 //! The rows that C is told.
 
 ghost use Rattle.std.specs.Prelude.{◌≡◌, ◌≤◌, ◌++◌, drop, length, map};
+ghost use Rattle.chan_walk.specs.Places.{entry_number};
 ghost use Rattle.chanv_c.specs.Answers.{place_row};
 ghost use Rattle.chanv_c.specs.Needs.{StandFirst, run_row};
 
@@ -17,18 +18,25 @@ pub struct CPlace {
     pub after_transfer: u8,
 }
 
+/// The number in the header of the way in which a CCW is entered.
+pub(crate) fn entry_number(entered: Entry) -> u8
+    ensures { result ≡ entry_number entered }
+{
+    match entered {
+        Entry::Fresh => 0,
+        Entry::ChainIn => 1,
+        Entry::ChainOut => 2,
+        Entry::ChainSearch => 3,
+    }
+}
+
 /// The row of a place.
 fn row_of(place: Place) -> CPlace
     ensures { result ≡ place_row place }
 {
     CPlace {
         address: place.address,
-        entered: match place.entered {
-            Entry::Fresh => 0,
-            Entry::ChainIn => 1,
-            Entry::ChainOut => 2,
-            Entry::ChainSearch => 3,
-        },
+        entered: entry_number(place.entered),
         after_transfer: u8::from(place.after_transfer),
     }
 }

@@ -1,14 +1,15 @@
 //! Whether a program that C remembers may start, and whether others may write meanwhile.
 
-ghost use Rattle.std.specs.Prelude.{◌≡◌, ◌≢◌, ◌≤◌, ◌<◌, ◌↔◌, None, IfErr, IfOk, IsTrue};
-ghost use Rattle.std.specs.Prelude.{MatchOption, OnOk};
+ghost use Rattle.std.specs.Prelude.{◌≡◌, ◌≢◌, ◌≤◌, ◌<◌, ◌↔◌, ◌⊎◌, None, IfErr, IfOk, IsTrue};
+ghost use Rattle.std.specs.Prelude.{MatchOption, OnOk, [], ◌∷◌};
 ghost use Rattle.std.specs.List.{All};
 ghost use Rattle.chan_needs.specs.Remembered.{IsKeeperOf, WritesWell};
 ghost use Rattle.chanv_c.specs.Answers.{IsAnswerCode, IsRefusal};
 ghost use Rattle.chanv_c.specs.Faults.{HasNoFault};
 ghost use Rattle.chanv_c.specs.Start as specs;
 ghost use Rattle.chanv_c.specs.Start.{IsCheckOf, IsFirstLater, IsOfThisVersion, IsWriteRefused};
-ghost use Rattle.chanv_c.specs.Start.{StartsWellFor, check_code, check_told, nothing_told};
+ghost use Rattle.chanv_c.specs.Start.{StartsIfDue, StartsWellFor, check_code, check_told};
+ghost use Rattle.chanv_c.specs.Start.{nothing_told};
 ghost use Rattle.chanv_c.specs.Start.{refusal_told};
 ghost use Rattle.chanv_c.specs.declared.start.StartCheck as declared;
 
@@ -53,6 +54,11 @@ pub extern "C" fn chanv_check_start(
     // If what is remembered is true, a program with a yes may start.
     ensures well { result ≡ 0 → StartsWellFor job.now program.now in_flight.now }
 
+    // And a program may start wherever that is safe, unless memory runs out.
+    ensures due { StartsIfDue job.now program.now in_flight.now ((result ≡ 0) ⊎ (result ≡ 3)) }
+
+    ensures version { result ≡ 0 → (program.now.reserved ≡ 0 ∷ 0 ∷ 0 ∷ 0 ∷ [])
+        × All (λ f. f.reserved ≡ 0 ∷ 0 ∷ 0 ∷ 0 ∷ []) in_flight.now }
     ensures number { IsAnswerCode ⊥ job.now result out.new.extent }
     ensures room { result ≢ 11 }
     ensures nothing { 1 < result → out.new ≡ nothing_told out.new.extent }
@@ -79,7 +85,8 @@ pub extern "C" fn chanv_check_write(
     out: &mut CRefusal,
 ) -> u32
     ensures spared { result ≡ 0 → IsKeeperOf in_flight.now area.now None }
-    ensures version { result ≡ 0 → All IsOfThisVersion in_flight.now }
+    ensures version { result ≡ 0
+        → All (λ f. f.reserved ≡ 0 ∷ 0 ∷ 0 ∷ 0 ∷ []) in_flight.now }
 
     // If what is remembered of those in flight is true, the history goes on with what is written.
     ensures well { result ≡ 0 → WritesWell in_flight.now area.now }

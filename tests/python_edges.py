@@ -1,0 +1,348 @@
+"""The package of python/ at its edges: address 0, both types of device, each code and each field.
+
+What is expected was worked out from the rules and from the header. Every way of asking is tried: a
+no at 000000 stays a no, a program of a 2311 isn't one of a 2314, each code comes with its extent,
+and no field is lost on the way. Lists may come from iterators, and in flight only a program counts.
+"""
+
+import copy
+import dataclasses
+import pickle
+import re
+
+from building import ROOT
+from package import package
+from running import text_of
+
+SIZE = 0x1000
+HEADER = ROOT / "crates/chanv_c/include/chanv.h"
+EVERYWHERE, EACH = [(0, SIZE)], [(0, 202)]
+
+# a search loop that lends what it needs, at 000800
+LOOP = {0x800: "3100090040000005", 0x808: "0800080000000000", 0x810: "06000A0020000050"}
+# A CCW at 0007F0 that ends the program if it is entered fresh, as after the search, and that the
+# data chain of the CCW at 000810 leads to again and again.
+TWO_WAYS = {
+    0x7F0: "03000A1080000010",
+    0x7F8: "080007F000000000",
+    0x800: "3100090040000005",
+    0x808: "080007F000000000",
+    0x818: "080007F000000000",
+}
+
+
+def storage_of(words, size=SIZE):
+    held = bytearray(size)
+    for address, word in words.items():
+        held[address : address + 8] = bytes.fromhex(word)
+    return bytes(held)
+
+
+def job_of(chanv, words, start, **more):
+    """A job that grants everything, or what is said."""
+    lent = {"extents": EACH, "fetch": EVERYWHERE, "store": EVERYWHERE}
+    return chanv.Job(storage_of(words), start, **{**lent, **more})
+
+
+def error_of(ask):
+    """The error of a call, or its answer."""
+    try:
+        return ask()
+    except Exception as error:
+        return error
+
+
+# ---- a no at 000000
+
+# the CCWs, the start, what the job lends, and the reason
+AT_ZERO = [
+    ("no command", {}, 0, {}, "invalid-code"),
+    ("a read", {0: "0600010020000010"}, 0, {"store": []}, "store-not-lent"),
+    ("a read over itself", {0: "0600000020000008"}, 0, {}, "changes-ccw"),
+    ("a read that a transfer leads to", {0: "0600010020000010", 8: "0800000000000000"}, 8, {}, ""),
+]
+
+
+def check_no_at_zero(checks, chanv):
+    for name, words, start, more, reason in AT_ZERO[:3]:
+        job, line = job_of(chanv, words, start, **more), f"no 000000 {reason}"
+        verdict = chanv.verify(job)
+        checks.expect(f"{name} at 0, verify", (0, reason), (verdict.address, verdict.reason))
+        checks.expect(f"{name} at 0, as a condition", False, bool(verdict))
+        checks.expect(f"{name} at 0, as text", line, str(verdict))
+        told = chanv.why(job)
+        checks.expect(f"{name} at 0, why", verdict, told and told.verdict)
+        path = told and [(it.address, it.entered) for it in told.path]
+        checks.expect(f"{name} at 0, the path", [(0, "fresh")], path)
+        checks.expect(f"{name} at 0, the text", line, chanv.text(job).partition("\n")[0])
+        places = [(it.address, it.entered) for it in chanv.places(job)]
+        checks.expect(f"{name} at 0, the places", [(0, "fresh")], places)
+        check_needs_at_zero(checks, chanv, name, job, "yes" if more else line)
+    job = job_of(chanv, *AT_ZERO[3][1:3])
+    refused = [str(chanv.verify(job)), error_of(lambda: chanv.needs(job)).verdict.address]
+    checks.expect("a transfer that comes first", ["no 000008 transfer-not-allowed", 8], refused)
+
+
+def check_needs_at_zero(checks, chanv, name, job, line):
+    checks.expect(f"{name} at 0, the open text", line, chanv.open_text(job).partition("\n")[0])
+    needed = error_of(lambda: chanv.needs(job))
+    if line == "yes":
+        checks.expect(f"{name} at 0, what it keeps", ((0, 8),), needed.keep)
+        return
+    checks.expect(f"{name} at 0, no job", chanv.NoJob, type(needed))
+    checks.expect(f"{name} at 0, its verdict", line, str(needed.verdict))
+    checks.expect(f"{name} at 0, its text", f"no job will do: {line}", str(needed))
+    checks.expect(f"{name} at 0, its reason", line, needed.explanation.partition("\n")[0])
+
+
+def check_refusals_at_zero(checks, chanv):
+    """The refusals of a start and of a write that name the byte 000000, the cylinder 0, and the
+    program 0."""
+    read = {0: "0600010020000010"}
+    program = chanv.needs(job_of(chanv, read, 0))
+    fetching = {8: "3100000020000005"}
+    over = chanv.needs(job_of(chanv, {8: "0600000020000008"}, 8))
+    seek = {0: "0700010020000006"}
+    rows = [
+        ("changed 000000", {**read, 0: "0700010020000010"}, program, {}, []),
+        ("not-fetchable 000000", fetching, None, {"fetch": [(1, 9)]}, []),
+        ("not-storable 000000", {8: "0600000020000008"}, over, {"store": [(1, 9)]}, []),
+        ("no-cylinder 000", seek, None, {"extents": [(1, 202)]}, []),
+        ("stores 000000 by program 0", {8: "0600000020000008"}, over, {}, [program]),
+        ("keeps 000000 by program 0", read, program, {}, [over]),
+    ]
+    for line, words, asked, more, in_flight in rows:
+        start = min(words)
+        asked = asked or chanv.needs(job_of(chanv, words, start))
+        found = chanv.may_start(job_of(chanv, words, start, **more), asked, in_flight)
+        checks.expect(f"a start: {line}", (f"no: {line}", False), (str(found), bool(found)))
+    found = chanv.may_write((0, 1), [program])
+    line = "no: kept 000000 by program 0"
+    checks.expect("a write over 0", (line, False), (str(found), bool(found)))
+    found = chanv.may_write((8, 8), [None, program])
+    checks.expect("a write beside it", ("yes", True), (str(found), bool(found)))
+
+
+def check_hang_at_zero(checks, chanv):
+    loop = {0: "0600010040000010", 8: "0800000000000000"}
+    program = chanv.needs(job_of(chanv, loop, 0))
+    checks.expect("a hang at 0", (0, "fresh"), (program.hangs_at, program.hangs_entered))
+    for name, made in copies_of(program):
+        checks.expect(f"a hang at 0, {name}", (0, "fresh"), (made.hangs_at, made.hangs_entered))
+    for code, entered in (("06", "in"), ("05", "out"), ("31", "search")):
+        program = chanv.needs(job_of(chanv, {**TWO_WAYS, 0x810: f"{code}000A0080000008"}, 0x800))
+        seen = program.hangs_at, program.hangs_entered
+        checks.expect(f"a hang in the data chain of {code}", (0x7F0, entered), seen)
+    ends = chanv.needs(job_of(chanv, LOOP, 0x800))
+    checks.expect("no hang", (None, None), (ends.hangs_at, ends.hangs_entered))
+
+
+# ---- both types of device
+
+def check_devices(checks, chanv):
+    """A seek to head 10 is right on a 2314, which has 20, and wrong on a 2311, which has 10."""
+    words = {0x800: "0700090040000006", 0x808: "06000A0020000010", 0x900: "00000000000A0000"}
+    for device, heads, line in [
+        (2311, 10, "no 000800 seek-outside"),
+        (2314, 20, "yes"),
+    ]:
+        job = job_of(chanv, words, 0x800, device=device)
+        checks.expect(f"on a {device}, verify", line, str(chanv.verify(job)))
+        checks.expect(f"on a {device}, text", line, chanv.text(job).splitlines()[0])
+        checks.expect(f"on a {device}, open text", line, chanv.open_text(job).splitlines()[0])
+        starts = [] if device == 2311 else [0x800]
+        checks.expect(f"on a {device}, find", starts, chanv.find(job.storage, device))
+        told, needed = chanv.why(job), error_of(lambda: chanv.needs(job))
+        if device == 2311:
+            checks.expect(f"on a {device}, how many heads", heads, told.values["below"])
+            checks.expect(f"on a {device}, needs", line, str(needed.verdict))
+        else:
+            checks.expect(f"on a {device}, why", None, told)
+            checks.expect(f"on a {device}, needs", 2314, needed.device)
+    checks.expect("find, usually", [0x800], chanv.find(storage_of(words)))
+    checks.expect("a job, usually", 2314, job_of(chanv, words, 0x800).device)
+    asked = {
+        device: chanv.needs(job_of(chanv, LOOP, 0x800, device=device)) for device in (2311, 2314)
+    }
+    for device, program in asked.items():
+        checks.expect(f"a program for a {device}", device, program.device)
+        for other in asked:
+            job = job_of(chanv, LOOP, 0x800, device=other)
+            line = "yes" if other == device else "no: other-device"
+            found = str(chanv.may_start(job, program))
+            checks.expect(f"a program for a {device} on a {other}", line, found)
+
+
+# ---- each code
+
+# what is wrong with the job, the code's name, and the index of the extent
+FAULTS = [
+    ({"limit": 2}, "TOO_MANY_PLACES", 0),
+    ({"storage": bytes(0x1000001)}, "STORAGE_TOO_LARGE", 0),
+    ({"device": 2305}, "NOT_A_DEVICE", 0),
+    ({"mask": 0x20}, "NOT_A_MASK", 0),
+    ({"extents": []}, "NO_EXTENT", 0),
+    ({"extents": [(0, 1), (19, 10)]}, "EXTENT_BACKWARDS", 1),
+    ({"extents": [(19, 10)]}, "EXTENT_BACKWARDS", 0),
+    ({"extents": [(0, 1), (2, 2), (10, 203)]}, "EXTENT_PAST_DEVICE", 2),
+    ({"extents": [(10, 203)]}, "EXTENT_PAST_DEVICE", 0),
+    ({"limit": 0}, "NOT_A_LIMIT", 0),
+    ({"limit": 65537}, "NOT_A_LIMIT", 0),
+]
+# the calls that don't tell which extent is wrong
+WITHOUT_EXTENT = ("text", "open_text")
+
+
+def check_codes(checks, chanv):
+    enum = re.search(r"(?s)enum chanv_answer \{(.*?)\n\};", text_of(HEADER))[1]
+    wanted = {name: int(number) for name, number in re.findall(r"CHANV_(\w+) = (\d+)", enum)}
+    checks.expect("the codes", wanted, {it.name: int(it) for it in chanv.Answer})
+    program = chanv.needs(job_of(chanv, LOOP, 0x800))
+    calls = [getattr(chanv, it) for it in "verify places why text open_text needs".split()]
+    for changes, name, extent in FAULTS:
+        job = dataclasses.replace(job_of(chanv, LOOP, 0x800), **changes)
+        for call in (*calls, may_start := lambda it: chanv.may_start(it, program)):
+            about = f"{name}, {'may_start' if call is may_start else call.__name__}"
+            if call is may_start and name == "TOO_MANY_PLACES":
+                checks.expect(about, "yes", str(call(job)))
+                continue
+            told = 0 if call.__name__ in WITHOUT_EXTENT else extent
+            check_no_answer(checks, chanv, about, error_of(lambda: call(job)), name, told)
+    for device, size, name in [(2314, SIZE << 12, ""), (2305, SIZE, "NOT_A_DEVICE")]:
+        found = error_of(lambda: chanv.find(bytes(size), device))
+        if name:
+            check_no_answer(checks, chanv, f"{name}, find", found, name, 0)
+        else:
+            checks.expect("find in 16 MiB", [], found)
+    found = error_of(lambda: chanv.find(bytes((SIZE << 12) + 1)))
+    check_no_answer(checks, chanv, "find in more", found, "STORAGE_TOO_LARGE", 0)
+
+
+def check_no_answer(checks, chanv, about, found, name, extent):
+    checks.expect(about, chanv.NoAnswer, type(found))
+    if not isinstance(found, chanv.NoAnswer):
+        return
+    checks.expect(f"{about}, code", chanv.Answer[name], found.code)
+    checks.expect(f"{about}, type of the code", chanv.Answer, type(found.code))
+    checks.expect(f"{about}, extent", extent, found.extent)
+    word = name.lower().replace("_", "-")
+    is_wrong = name in ("EXTENT_BACKWARDS", "EXTENT_PAST_DEVICE")
+    wanted = f"{word} (extent {extent})" if is_wrong else word
+    checks.expect(f"{about}, text", wanted, str(found))
+    made = pickle.loads(pickle.dumps(found))
+    seen = type(made.code), made.code, made.extent
+    checks.expect(f"{about}, pickled", (chanv.Answer, found.code, extent), seen)
+
+
+def check_limit(checks, chanv):
+    """Usually 4,096 places may be reachable, and not one more."""
+    [usual] = re.findall(r"CHANV_USUAL_LIMIT = (\d+)", text_of(HEADER))
+    checks.expect("the usual limit", int(usual), job_of(chanv, LOOP, 0x800).limit)
+    for count in (4096, 4097):
+        ccws = bytes.fromhex("0300000060000001") * (count - 1) + bytes.fromhex("0300000020000001")
+        job = chanv.Job(ccws, 0, extents=EACH)
+        found = error_of(lambda: chanv.verify(job))
+        code = getattr(found, "code", "yes" if found else "no")
+        wanted = "yes" if count == 4096 else chanv.Answer.TOO_MANY_PLACES
+        checks.expect(f"{count} places", wanted, code)
+
+
+# ---- each field
+
+# a program in which no two fields are alike
+FIELDS = {
+    "start": 0x808,
+    "device": 2311,
+    "storage_len": 0x2000,
+    "mask": 0x48,
+    "extents": ((3, 5), (9, 9)),
+    "fetch": ((0x10, 1),),
+    "store": ((0x20, 2), (0x30, 3)),
+    "keep": ((0x808, 8), (0x900, 2)),
+    "kept": b"0123456789",
+    "hangs_at": 0x810,
+    "hangs_entered": "out",
+}
+LISTS = ("extents", "fetch", "store", "keep")
+
+
+def copies_of(value):
+    yield "pickled", pickle.loads(pickle.dumps(value))
+    yield "copied", copy.copy(value)
+    yield "copied deeply", copy.deepcopy(value)
+    yield "replaced", dataclasses.replace(value)
+
+
+def check_fields(checks, chanv):
+    names = [it.name for it in dataclasses.fields(chanv.Program)]
+    checks.expect("the fields of a program", [*FIELDS], names)
+    for how in (tuple, list, iter, lambda rows: (it for it in rows)):
+        rows = {name: how(FIELDS[name]) for name in LISTS}
+        program = chanv.Program(**{**FIELDS, **rows})
+        for name, made in [("made", program), *copies_of(program)]:
+            held = {it: getattr(made, it) for it in FIELDS}
+            checks.expect(f"a program, {name}", FIELDS, held)
+            checks.expect(f"a program, {name}, the same", True, made == program)
+            kept = [chanv.may_write((at, 1), [made]).value for at in (0x807, 0x80F, 0x901, 0x902)]
+            checks.expect(f"a program, {name}, keeps", [None, 0x80F, 0x901, None], kept)
+    other = dataclasses.replace(program, keep=iter([(0x40, 10)]))
+    checks.expect("another list", 0x40, chanv.may_write((0, SIZE), [other]).value)
+    words = chanv.why(job_of(chanv, LOOP, 0x800, store=[]))
+    for value in (words, words.verdict, words.path[0], chanv.Permission("kept", 0, 0)):
+        name = type(value).__name__
+        checks.expect(f"{name}, pickled", value, pickle.loads(pickle.dumps(value)))
+
+
+def check_jobs(checks, chanv):
+    """A job holds its lists, whatever they came from, and prints without storage."""
+    lent = {"extents": [(10, 19)], "fetch": [(0x900, 0x10)], "store": [(0xA00, 0x100)]}
+    for how in (tuple, list, iter, lambda rows: (it for it in rows)):
+        job = chanv.Job(storage_of(LOOP), 0x800, **{name: how(it) for name, it in lent.items()})
+        answers = [str(chanv.verify(job)) for _ in range(2)]
+        checks.expect("a job, asked twice", ["yes", "yes"], answers)
+        held = job.extents, job.fetch, job.store
+        wanted = tuple(tuple(it) for it in lent.values())
+        checks.expect("the lists of a job", wanted, held)
+        checks.expect("a job, pickled", job, pickle.loads(pickle.dumps(job)))
+    rows = [[10, 19]]
+    job = chanv.Job(storage_of(LOOP), 0x800, rows, lent["fetch"], lent["store"])
+    rows[0][0], rows[0][1] = 19, 10
+    checks.expect("a job whose list was changed", "yes", str(chanv.verify(job)))
+    shown = repr(job)
+    checks.expect_that("a job as text", "storage" not in shown and "start=2048" in shown, shown)
+
+
+def check_programs(checks, chanv):
+    """In flight only a program counts, or None; to start, only a program."""
+    job = job_of(chanv, LOOP, 0x800)
+    program = chanv.needs(job)
+    table = {0x190: program, 0: None}
+    checks.expect("a table's values", "kept", chanv.may_write((0x800, 1), table.values()).refusal)
+    checks.expect("nobody", True, bool(chanv.may_write((0x800, 1), [None])))
+    checks.expect("a start beside nobody", True, bool(chanv.may_start(job, program, [None])))
+    wrong = [{0: program}, table, [0], [""], [False], [program, 0], [()], [[program]], ["x"]]
+    for in_flight in [*wrong, program]:
+        about = f"{type(in_flight).__name__} in flight"
+        found = error_of(lambda: chanv.may_write((0x800, 1), in_flight))
+        checks.expect(f"a write, {about}", TypeError, type(found))
+        found = error_of(lambda: chanv.may_start(job, program, in_flight))
+        checks.expect(f"a start, {about}", TypeError, type(found))
+    for start in (None, 0, "", [program], job):
+        found = error_of(lambda: chanv.may_start(job, start))
+        checks.expect(f"a start of {type(start).__name__}", TypeError, type(found))
+
+
+def check(checks, built):
+    chanv = package(built)
+    for part in (
+        check_no_at_zero,
+        check_refusals_at_zero,
+        check_hang_at_zero,
+        check_devices,
+        check_codes,
+        check_limit,
+        check_fields,
+        check_jobs,
+        check_programs,
+    ):
+        part(checks, chanv)
