@@ -3,3 +3,4 @@ pub mod Written
 pub mod Starts
 pub mod Beginnings
 pub mod Jobs
+pub mod Copies

@@ -1,5 +1,6 @@
 -- What the needs that C is told promise.
-use Rattle.std.specs.Prelude.{◌≡◌, ℕ, ◌≤◌, List, [], ◌∷◌, ◌++◌, drop, length, Option, None, Some}
+use Rattle.std.specs.Prelude.{◌≡◌, ℕ, ◌≤◌, List, [], ◌∷◌, ◌++◌, drop, length, map, Option, None}
+use Rattle.std.specs.Prelude.{Some}
 use Rattle.ccw_core.specs.declared.areas.Area.{Area}
 use Rattle.chan_walk.specs.declared.job.Job.{Job}
 use Rattle.chan_walk.specs.declared.place.Place.{Place}
@@ -7,12 +8,13 @@ use Rattle.chan_walk.specs.declared.reason.Reason.{Reason}
 use Rattle.chan_walk.specs.declared.verdict.Verdict.{Verdict}
 use Rattle.chan_walk.specs.declared.verdict.Verdict.TheVariants.{Yes, No}
 use Rattle.chan_walk.specs.Answers.{IsAnswer}
+use Rattle.chan_walk.specs.Job.{storage_of}
 use Rattle.chan_walk.specs.Places.{HasMoreThan, entry_number}
 use Rattle.chan_walk.specs.OpenJob.{open_job, IsOpenJob}
 use Rattle.chan_needs.specs.Rows.{AreNeeds, Listed, listed}
 use Rattle.chan_walk.specs.Verdict.{IsVerdict}
 use Rattle.chan_why.specs.Hang.{IsFirstPlace, MayHang}
-use Rattle.chan_needs.specs.Remembered.{total_len}
+use Rattle.chan_needs.specs.Remembered.{HoldsAreas, bytes_in, device_number, total_len}
 use Rattle.chan_needs.specs.declared.extent.Extent.{Extent}
 use Rattle.chanv_c.specs.declared.job.CJob.{CJob}
 use Rattle.chanv_c.specs.declared.needs.CNeeded.{CNeeded}
@@ -134,3 +136,45 @@ pub record HaveRoom (n : Listed) (runs : List Extent) (fetched stored areas : Li
   pub store : length n.store ≤ length stored
   pub keep : length n.keep ≤ length areas
   pub kept : total_len n.keep ≤ length bytes
+
+-- ---- over a copy
+
+-- d asks for the program of c over another storage, which is as long and holds these bytes; what c
+-- grants doesn't matter
+pub record IsOver (c : CJob) (copy : List ℕ) (d : CJob) : Type 0 where
+  pub storage : d.storage.now ≡ copy
+  pub same_length : length copy ≡ length c.storage.now
+  pub start : d.start ≡ c.start
+  pub device : d.device ≡ c.device
+  pub limit : d.limit ≡ c.limit
+
+-- these are the needs over each storage that is as long and holds the bytes that were kept
+abbrev pub AreNeedsWhereHeld : CJob → Listed → List ℕ → Type 0
+AreNeedsWhereHeld c n kept =
+    (k : Job) → k.start ≡ c.start → device_number k.device ≡ c.device
+    → length (storage_of k) ≡ length c.storage.now → HoldsAreas (storage_of k) n.keep kept
+    → AreNeeds k n
+
+-- the needs of the program of c are told, all their rows and the kept bytes are written, and they
+-- are the needs wherever these bytes are held
+pub record AreWrittenNeeds (c : CJob) (out : CNeeded) (runs new_runs : List Extent)
+    (fetched new_fetched stored new_stored areas new_areas : List Area) (bytes new_bytes : List ℕ)
+    : Type 0 where
+  pub needs : Listed
+  pub hang : Option Place
+  pub told : AreToldNeeds c needs hang out
+  pub extents : StandFirst (map run_row needs.extents) runs new_runs
+  pub fetch : StandFirst needs.fetch fetched new_fetched
+  pub store : StandFirst needs.store stored new_stored
+  pub keep : StandFirst needs.keep areas new_areas
+  pub kept : StandFirst (bytes_in c.storage.now needs.keep) bytes new_bytes
+  pub held : HoldsAreas c.storage.now needs.keep new_bytes
+  pub stays : AreNeedsWhereHeld c needs new_bytes
+
+-- the needs of the program of c are told, but there is too little room for the rows and the bytes
+pub record HaveTooLittleRoom (c : CJob) (out : CNeeded) (runs : List Extent)
+    (fetched stored areas : List Area) (bytes : List ℕ) : Type 0 where
+  pub needs : Listed
+  pub hang : Option Place
+  pub told : AreToldNeeds c needs hang out
+  pub room : HaveRoom needs runs fetched stored areas bytes → ⊥

@@ -4,7 +4,11 @@ pub(crate) const YES: u32 = 0;
 
 pub(crate) const NO: u32 = 1;
 
+pub(crate) const MEMORY: u32 = 3;
+
 pub(crate) const NO_ROOM: u32 = 11;
+
+pub(crate) const CHANGED_MEANWHILE: u32 = 13;
 
 pub(crate) const OTHER_START: u32 = 1;
 

@@ -23,7 +23,7 @@ pub use crate::evidence::CEvidence;
 pub use crate::find::{CBytes, chanv_find};
 pub use crate::job::CJob;
 pub use crate::list::chanv_list;
-pub use crate::needs::{CNeeded, chanv_needs};
+pub use crate::needs::{CNeeded, needs_by_copy};
 pub use crate::rows::CPlace;
 pub use crate::start::{CRefusal, chanv_check_start, chanv_check_write};
 pub use crate::text::{chanv_open_text, chanv_text};

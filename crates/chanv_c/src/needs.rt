@@ -1,22 +1,22 @@
 //! What a channel program needs of each job that it runs under, and what it keeps.
 
-ghost use Rattle.std.specs.Prelude.{◌≡◌, ◌≢◌, ◌<◌, ◌≤◌, ◌↔◌, length, map, IfOk, IfErr, IsTrue};
-ghost use Rattle.std.specs.Prelude.{OnOk, Option};
+ghost use Rattle.std.specs.Prelude.{◌≡◌, ◌≢◌, ◌<◌, ◌≤◌, ◌↔◌, ◌⊎◌, length, IfOk, IfErr, IsTrue};
+ghost use Rattle.std.specs.Prelude.{OnOk};
 ghost use Rattle.std.specs.List.{All};
 ghost use Rattle.chan_areas.specs.Merged.{IsMerged};
 ghost use Rattle.chan_needs.specs.Remembered.{HoldsAreas, IsInside, bytes_in, total_len};
 ghost use Rattle.chan_walk.specs.OpenJob.{open_job, IsOpenJob};
-ghost use Rattle.chan_needs.specs.Rows.{Listed, listed};
+ghost use Rattle.chan_needs.specs.Rows.{listed};
 ghost use Rattle.chan_walk.specs.Verdict.{IsVerdict};
-ghost use Rattle.chan_walk.specs.declared.place.Place as place;
 ghost use Rattle.chan_walk.specs.declared.verdict.Verdict as declared;
 ghost use Rattle.chanv_c.specs.Answers.{IsAnswerCode, IsRefusal};
 ghost use Rattle.chanv_c.specs.Job.{IsAskedJob};
 ghost use Rattle.chanv_c.specs.Faults.{HasNoFault};
-ghost use Rattle.chanv_c.specs.Needs.{AreToldNeeds, HasTooManyOpenly, HaveRoom, IsFound};
-ghost use Rattle.chanv_c.specs.Needs.{IsToldNo, StandFirst, run_row, told_alone, told_needs};
+ghost use Rattle.chanv_c.specs.Needs.{AreWrittenNeeds, HasTooManyOpenly, HaveRoom, HaveTooLittleRoom};
+ghost use Rattle.chanv_c.specs.Needs.{IsFound, IsOver, IsToldNo, StandFirst, told_alone, told_needs};
+ghost use Rattle.chanv_c.specs.declared.job.CJob as asked;
 
-use crate::codes::{NO, NO_ROOM, YES};
+use crate::codes::{CHANGED_MEANWHILE, MEMORY, NO, NO_ROOM, YES};
 use crate::job::{CJob, make_ready};
 use crate::refusal::Refusal;
 use crate::rows::{entry_number, write_areas, write_runs};
@@ -57,17 +57,22 @@ pub(crate) enum Found {
     NoJob { address: u32, reason: Reason },
 }
 
-/// The needs of the job's program in each job that it runs under, and the bytes that it keeps: 0 if
-/// some job will do and each list took its rows, and `kept` the bytes of storage in the rows of
-/// `keep`; 1 if none will, with the verdict on the open job; 11 if a list or `kept` has too little
-/// room, with the same as for 0 except rows and bytes. Otherwise it says why there is no answer,
-/// like `chanv_verify`; too many places are those that are reachable under the open job. All else
-/// is written as 0. Only for 0 is anything written to the lists and to `kept`. The job's own grants
-/// don't matter.
+/// The needs of the job's program in each job that it runs under, and the bytes that it keeps,
+/// whatever is written to storage meanwhile: 0 if some job will do and each list took its rows, and
+/// `kept` the bytes in the rows of `keep`; 1 if none will, with the verdict on the open job; 11 if a
+/// list or `kept` has too little room, with the same as for 0 except rows and bytes; 13 if storage
+/// changed during the call. Otherwise it says why there is no answer, like `chanv_verify`; too many
+/// places are those that are reachable under the open job, and 3 comes too if the copy isn't as long
+/// as storage. All else is written as 0. Only for 0 is anything written to the lists and to `kept`.
+/// The job's own grants don't matter.
+///
+/// A first look at storage only says which bytes to copy. Each is read once more, and what is judged
+/// is the copy, which nothing else writes. Before the call it may hold anything.
 #[unsafe(no_mangle)]
-pub extern "C" fn chanv_needs(
+pub extern "C" fn needs_by_copy(
     alloc: Global,
     job: &CJob<'_>,
+    copy: &mut [u8],
     out: &mut CNeeded,
     extents: &mut [Extent],
     fetch: &mut [Area],
@@ -75,27 +80,22 @@ pub extern "C" fn chanv_needs(
     keep: &mut [Area],
     kept: &mut [u8],
 ) -> u32
-    ensures yes { result ≡ 0 → (n : Listed) × (hang : Option place.Place)
-        × AreToldNeeds job.now n hang out.new
-        × StandFirst (map run_row n.extents) extents.old extents.new
-        × StandFirst n.fetch fetch.old fetch.new
-        × StandFirst n.store store.old store.new
-        × StandFirst n.keep keep.old keep.new
-        × StandFirst (bytes_in job.now.storage.now n.keep) kept.old kept.new
-        × HoldsAreas job.now.storage.now n.keep kept.new }
+    ensures yes { result ≡ 0 → (c : asked.CJob) × IsOver job.now copy.new c
+        × AreWrittenNeeds c out.new extents.old extents.new fetch.old fetch.new store.old store.new
+        keep.old keep.new kept.old kept.new }
     ensures no { result ≡ 1 → IsToldNo job.now out.new }
-    ensures room { result ≡ 11 → (n : Listed) × (hang : Option place.Place)
-        × AreToldNeeds job.now n hang out.new
-        × (HaveRoom n extents.old fetch.old store.old keep.old kept.old → ⊥) }
+    ensures room { result ≡ 11 → (c : asked.CJob) × IsOver job.now copy.new c
+        × HaveTooLittleRoom c out.new extents.old fetch.old store.old keep.old kept.old }
     ensures left { result ≢ 0 → (extents.new ≡ extents.old) × (fetch.new ≡ fetch.old)
         × (store.new ≡ store.old) × (keep.new ≡ keep.old) × (kept.new ≡ kept.old) }
-    ensures number { IsAnswerCode (HasTooManyOpenly job.now) job.now result out.new.verdict.extent }
+    ensures number { result ≢ 13 → IsAnswerCode (HasTooManyOpenly job.now) job.now result
+        out.new.verdict.extent }
     ensures nothing { 2 ≤ result → result ≢ 11 → out.new
         ≡ told_alone (record { extent = out.new.verdict.extent; address = 0; reason = 0 }) }
-    ensures no_extent { result < 4 → out.new.verdict.extent ≡ 0 }
+    ensures no_extent { (result < 4) ⊎ (result ≡ 13) → out.new.verdict.extent ≡ 0 }
 {
-    let (needs, hang) = match needs_of(alloc, job) {
-        Ok(Found::Needed(needs, hang)) => (needs, hang),
+    let first = match needs_of(alloc, job) {
+        Ok(Found::Needed(needs, _)) => needs,
         Ok(Found::NoJob { address, reason }) => {
             *out = alone(0, address, u32::from(reason.number()));
             return NO;
@@ -105,6 +105,83 @@ pub extern "C" fn chanv_needs(
             return refusal.code();
         }
     };
+    if !copy_areas(job, first.keep.as_slice(), copy) {
+        *out = alone(0, 0, 0);
+        return MEMORY;
+    }
+    let still = CJob {
+        storage: copy,
+        ..*job
+    };
+    let copied = first.keep.as_slice();
+    needs_over(alloc, &still, copied, out, extents, fetch, store, keep, kept)
+}
+
+/// Copies the bytes of the job's storage in some areas to where they are in storage, each by one
+/// look; false if the copy isn't as long. Nothing is promised of the bytes: storage may be written
+/// meanwhile.
+fn copy_areas(job: &CJob<'_>, areas: &[Area], copy: &mut [u8]) -> bool
+    ensures { IsTrue result → length copy.new ≡ length job.now.storage.now }
+{
+    if copy.len() != job.storage.len() {
+        return false;
+    }
+    for area in areas {
+        copy_area(or_empty(job.storage), *area, copy);
+    }
+    true
+}
+
+/// Copies the bytes in an area to where they are in storage, if the area lies in both.
+fn copy_area(storage: &[u8], area: Area, copy: &mut [u8])
+    ensures { length copy.new ≡ length copy.old }
+{
+    let start = area.start as usize;
+    let end = start + area.len as usize;
+    if let (Some(from), Some(to)) = (storage.get(start..end), copy.get_mut(start..end)) {
+        to.copy_from_slice(from);
+    }
+}
+
+/// The needs of the program of a job whose storage is a copy of these areas of storage: what
+/// `needs_by_copy` answers if the program keeps exactly the bytes that were copied. If it doesn't,
+/// storage changed while they were copied.
+fn needs_over(
+    alloc: Global,
+    still: &CJob<'_>,
+    copied: &[Area],
+    out: &mut CNeeded,
+    extents: &mut [Extent],
+    fetch: &mut [Area],
+    store: &mut [Area],
+    keep: &mut [Area],
+    kept: &mut [u8],
+) -> u32
+    ensures yes { result ≡ 0 → AreWrittenNeeds still.now out.new extents.old extents.new
+        fetch.old fetch.new store.old store.new keep.old keep.new kept.old kept.new }
+    ensures room { result ≡ 11 → HaveTooLittleRoom still.now out.new extents.old fetch.old store.old
+        keep.old kept.old }
+    ensures left { result ≢ 0 → (extents.new ≡ extents.old) × (fetch.new ≡ fetch.old)
+        × (store.new ≡ store.old) × (keep.new ≡ keep.old) × (kept.new ≡ kept.old) }
+    ensures code { (result ≡ 0) ⊎ (result ≡ 3) ⊎ (result ≡ 11) ⊎ (result ≡ 13) }
+    ensures nothing { (result ≡ 3) ⊎ (result ≡ 13) → out.new
+        ≡ told_alone (record { extent = 0; address = 0; reason = 0 }) }
+{
+    let (needs, hang) = match needs_of(alloc, still) {
+        Ok(Found::Needed(needs, hang)) => (needs, hang),
+        Err(Refusal::Memory) => {
+            *out = alone(0, 0, 0);
+            return MEMORY;
+        }
+        _ => {
+            *out = alone(0, 0, 0);
+            return CHANGED_MEANWHILE;
+        }
+    };
+    if needs.keep.as_slice() != copied {
+        *out = alone(0, 0, 0);
+        return CHANGED_MEANWHILE;
+    }
     let told = told(&needs, hang);
     *out = told;
     if !have_room(&needs, told.kept_len, extents, fetch, store, keep, kept) {
@@ -114,7 +191,7 @@ pub extern "C" fn chanv_needs(
     write_areas(needs.fetch.as_slice(), fetch);
     write_areas(needs.store.as_slice(), store);
     write_areas(needs.keep.as_slice(), keep);
-    write_kept(job, needs.keep.as_slice(), kept);
+    write_kept(still, needs.keep.as_slice(), kept);
     YES
 }
 
