@@ -1,5 +1,5 @@
 -- What the number of an answer says of the job.
-use Rattle.std.proofs.Common.{◌≡◌, ◌≢◌, ◌<◌, ◌≤◌, ◌⊎◌, ℕ, refl, arith, inl, inr}
+use Rattle.std.proofs.Common.{◌≡◌, ◌≢◌, ◌<◌, ◌≤◌, ◌⊎◌, ◌∷◌, [], ℕ, zero, suc, List, Some, true, ap, length, refl, arith, inl, inr, subst}
 use Rattle.chanv_c.specs.declared.job.CJob.{CJob}
 use Rattle.chanv_c.specs.declared.refusal.JobFault.{JobFault}
 use Rattle.chanv_c.specs.declared.refusal.JobFault.TheVariants.{StorageTooLarge, NotADevice}
@@ -10,7 +10,13 @@ use Rattle.chanv_c.specs.declared.refusal.Refusal.{Refusal}
 use Rattle.chanv_c.specs.declared.refusal.Refusal.TheVariants.{TooManyPlaces, Memory, Wrong}
 use Rattle.chanv_c.specs.Answers.{IsAnswerCode, IsRefusal, refusal_after, refusal_code}
 use Rattle.chanv_c.specs.Answers.{refusal_extent}
-use Rattle.chanv_c.specs.Faults.{HasNoFault, fault_code}
+use Rattle.chanv_c.specs.Faults.{HasJobFault, HasNoFault, RightHasNoFault, fault_code}
+use Rattle.chanv_c.specs.Job.{extents_asked}
+use Rattle.chan_walk.specs.Limit.{IsLimit}
+use Rattle.ckd_core.specs.Extents.{AreExtents, IsExtent}
+use Rattle.ckd_core.specs.Mask.{is_mask}
+use Rattle.std.specs.List.{AllByRecursion, slice_get}
+use Rattle.std.proofs.lemmas.Bool.{both_ways}
 use Rattle.chan_walk.specs.declared.error.WalkError.{WalkError}
 use Rattle.chan_walk.specs.declared.error.WalkError.TheVariants as walk
 use Rattle.std.proofs.lemmas.Result.{err_from_is_err_and}
@@ -72,3 +78,30 @@ refusal_number crowded c (Wrong f) is =
       accepted = fault_accepts_none (fault_code f) four room;
       last = last;
     }
+
+-- ---- a job within all bounds
+
+extent_at : (es : List (ℕ × ℕ)) (i : ℕ) (e : ℕ × ℕ) → AllByRecursion IsExtent es → slice_get es i ≡ Some e → IsExtent e
+extent_at [] i e right is = absurd (let bad : ⊥ = cc in bad)
+extent_at (x ∷ xs) zero e right is = let same : x ≡ e = cc in subst IsExtent same right.0
+extent_at (x ∷ xs) (suc i) e right is = extent_at xs i e right.1 is
+
+no_other_device : (n : ℕ) → (n ≡ 2311) ⊎ (n ≡ 2314) → (n ≢ 2311) × (n ≢ 2314) → ⊥
+no_other_device n (inl is) neither = neither.0 is
+no_other_device n (inr is) neither = neither.1 is
+
+module _ (c : CJob) (small : length c.storage.now ≤ 16777216) (device : (c.device ≡ 2311) ⊎ (c.device ≡ 2314))
+    (mask : is_mask c.mask ≡ true) (extents : AreExtents (extents_asked c)) (low : 1 ≤ c.limit) (high : c.limit ≤ 65536)
+    (reserved : c.reserved ≡ 0 ∷ 0 ∷ 0 ∷ 0 ∷ []) where
+  no_fault : (f : JobFault) → HasJobFault c f → ⊥
+  no_fault StorageTooLarge large = omega (arith, small, large)
+  no_fault NotADevice neither = no_other_device c.device device neither
+  no_fault NotAMask bad = both_ways _ bad mask
+  no_fault NoExtent none = let some = extents.0 in let zero' = ap length none in omega (arith, some, zero')
+  no_fault (ExtentBackwards i) w = let e = extent_at (extents_asked c) i w.pair extents.1 w.stands in let order = e.0 in let wrong = w.wrong in omega (arith, order, wrong)
+  no_fault (ExtentPastDevice i) w = let e = extent_at (extents_asked c) i w.pair extents.1 w.stands in let there = e.1 in let past = w.wrong.1 in omega (arith, there, past)
+  no_fault NotALimit bad = bad (low, high)
+  no_fault ReservedNotZero bad = bad reserved
+
+pub right_has_no_fault : RightHasNoFault
+right_has_no_fault c small device mask extents low high reserved = no_fault c small device mask extents low high reserved

@@ -1,5 +1,6 @@
 -- What can be wrong with a job as C gives it, and which of it counts.
-use Rattle.std.specs.Prelude.{◌≡◌, ◌≢◌, ℕ, ◌<◌, false, [], ◌∷◌, length}
+use Rattle.std.specs.Prelude.{◌≡◌, ◌≢◌, ℕ, ◌<◌, ◌≤◌, ◌⊎◌, false, true, [], ◌∷◌, length}
+use Rattle.ckd_core.specs.Extents.{AreExtents}
 use Rattle.ckd_core.specs.Faults.{IsBackwards, IsFirstWrong, IsPastDevice}
 use Rattle.ckd_core.specs.Mask.{is_mask}
 use Rattle.chan_walk.specs.Limit.{IsLimit}
@@ -52,6 +53,13 @@ HasNoneBelow c n = (f : JobFault) → fault_code f < n → HasJobFault c f → �
 -- nothing is wrong with the job
 abbrev pub HasNoFault : CJob → Type 0
 HasNoFault c = (f : JobFault) → HasJobFault c f → ⊥
+
+-- a job within all bounds has none
+abbrev pub RightHasNoFault : Type 0
+RightHasNoFault =
+    (c : CJob) → length c.storage.now ≤ 16777216 → (c.device ≡ 2311) ⊎ (c.device ≡ 2314)
+    → is_mask c.mask ≡ true → AreExtents (extents_asked c) → 1 ≤ c.limit → c.limit ≤ 65536
+    → c.reserved ≡ 0 ∷ 0 ∷ 0 ∷ 0 ∷ [] → HasNoFault c
 
 -- the fault applies, and none before it
 pub record IsFirstFault (c : CJob) (f : JobFault) : Type 0 where

@@ -60,8 +60,8 @@ pub record StartsWellFor (c : CJob) (p : Remembered) (fs : List Remembered) : Ty
 abbrev pub StartsIfDue : CJob → Remembered → List Remembered → Type 0 → Type 0
 StartsIfDue c p fs Answered =
     (was job : Job) → IsRemembered was p → IsAskedJob c job → HasNoFault c → KeepsProgram was job
-    → HoldsKept job p → Grants was job → All (IsBeside p) fs → IsOfThisVersion p
-    → All IsOfThisVersion fs → Answered
+    → HoldsKept job p → Grants was job → All (IsBeside p) fs
+    → p.reserved ≡ 0 ∷ 0 ∷ 0 ∷ 0 ∷ [] → All (λ f. f.reserved ≡ 0 ∷ 0 ∷ 0 ∷ 0 ∷ []) fs → Answered
 
 -- ---- what is told
 

@@ -54,7 +54,7 @@ pub extern "C" fn chanv_check_start(
     // If what is remembered is true, a program with a yes may start.
     ensures well { result ≡ 0 → StartsWellFor job.now program.now in_flight.now }
 
-    // And a program may start wherever that is safe, unless memory runs out.
+    // If what is remembered is true, a program that fits has a yes, unless memory runs out.
     ensures due { StartsIfDue job.now program.now in_flight.now ((result ≡ 0) ⊎ (result ≡ 3)) }
 
     ensures version { result ≡ 0 → (program.now.reserved ≡ 0 ∷ 0 ∷ 0 ∷ 0 ∷ [])
@@ -87,6 +87,8 @@ pub extern "C" fn chanv_check_write(
     ensures spared { result ≡ 0 → IsKeeperOf in_flight.now area.now None }
     ensures version { result ≡ 0
         → All (λ f. f.reserved ≡ 0 ∷ 0 ∷ 0 ∷ 0 ∷ []) in_flight.now }
+    ensures free { IsKeeperOf in_flight.now area.now None
+        → All (λ f. f.reserved ≡ 0 ∷ 0 ∷ 0 ∷ 0 ∷ []) in_flight.now → result ≡ 0 }
 
     // If what is remembered of those in flight is true, the history goes on with what is written.
     ensures well { result ≡ 0 → WritesWell in_flight.now area.now }
