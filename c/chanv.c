@@ -1,6 +1,8 @@
-/* The part of the library that isn't proved: words, and a call that lays what `chanv_needs` lists
- * into one piece of memory of the caller. It asks only for proved calls, and takes no memory. */
+/* The part of the library that isn't proved: words, memory for a copy of storage, and a call that
+ * lays what `chanv_needs` lists into one piece of memory of the caller. It asks only for proved
+ * calls. */
 #include <chanv.h>
+#include <stdlib.h>
 #include <string.h>
 
 /* ---- words */
@@ -52,6 +54,7 @@ const char *chanv_answer_word(uint32_t answer)
         "not-a-limit",
         "no-room",
         "reserved-not-zero",
+        "changed-meanwhile",
     };
     return WORD_OF(words, answer);
 }
@@ -68,9 +71,9 @@ const char *chanv_refusal_word(uint32_t code)
         "no-cylinder",
         "not-fetchable",
         "not-storable",
-        "stores",
-        "keeps",
-        "kept",
+        "stores-over-kept",
+        "keeps-stored-over",
+        "writes-over-kept",
         "reserved-not-zero",
         "reserved-in-flight",
     };
@@ -87,6 +90,39 @@ int chanv_is_fault(uint32_t answer)
 {
     return (answer >= CHANV_STORAGE_TOO_LARGE && answer <= CHANV_NOT_A_LIMIT)
            || answer == CHANV_RESERVED_NOT_ZERO;
+}
+
+/* ---- needs */
+
+/* The proved call: it writes to the copy only what the program keeps, and judges the copy. */
+enum chanv_answer needs_by_copy(const struct chanv_job *job, uint8_t *copy, size_t copy_len,
+                                struct chanv_needed *out, struct chanv_extent *extents,
+                                size_t extents_room, struct chanv_area *fetch, size_t fetch_room,
+                                struct chanv_area *store, size_t store_room,
+                                struct chanv_area *keep, size_t keep_room, uint8_t *kept,
+                                size_t kept_room);
+
+enum { LARGEST_STORAGE = 16777216 };
+
+/* The copy is as long as storage, and what it holds doesn't matter: so it isn't zeroed, and only
+ * the few pages that are written cost anything. Without memory it has no bytes, and the proved call
+ * says so, unless the job has a fault that comes first. */
+enum chanv_answer chanv_needs(const struct chanv_job *job, struct chanv_needed *out,
+                              struct chanv_extent *extents, size_t extents_room,
+                              struct chanv_area *fetch, size_t fetch_room,
+                              struct chanv_area *store, size_t store_room,
+                              struct chanv_area *keep, size_t keep_room,
+                              uint8_t *kept, size_t kept_room)
+{
+    uint8_t none;
+    size_t len = job->storage.len;
+    uint8_t *made = len == 0 || len > LARGEST_STORAGE ? NULL : malloc(len);
+    enum chanv_answer answer =
+        needs_by_copy(job, made == NULL ? &none : made, made == NULL ? 0 : len, out, extents,
+                      extents_room, fetch, fetch_room, store, store_room, keep, keep_room, kept,
+                      kept_room);
+    free(made);
+    return answer;
 }
 
 /* ---- taking a program in */
@@ -170,7 +206,8 @@ static struct chanv_program program_at(uint8_t *memory, const struct layout *at,
     };
 }
 
-/* It asks once if the memory is ample, and else a second time for just the room that is needed. */
+/* It asks once if the memory is ample, and else a second time for just the room that is needed. If
+ * that doesn't suffice then, the program has changed in between. */
 enum chanv_answer chanv_take_in(const struct chanv_job *job, void *memory, size_t room, size_t *len,
                                 struct chanv_program *program, struct chanv_needed *out)
 {
@@ -181,6 +218,10 @@ enum chanv_answer chanv_take_in(const struct chanv_job *job, void *memory, size_
     if (answer == CHANV_NO_ROOM && total_of(out) <= room) {
         rooms = *out;
         answer = ask_into(bytes, &rooms, job, out);
+        if (answer == CHANV_NO_ROOM) {
+            memset(out, 0, sizeof *out);
+            answer = CHANV_CHANGED_MEANWHILE;
+        }
     }
     *len = answer == CHANV_OK || answer == CHANV_NO_ROOM ? total_of(out) : 0;
     memset(program, 0, sizeof *program);

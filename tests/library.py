@@ -147,7 +147,7 @@ def mistakes_of(call):
     """The call compared with what isn't an answer, and with NULL where it mustn't be, each with the
     warning that finds it."""
     yield f"{call} == CHANV_REASON_MISALIGNED", "enum-compare"
-    yield f"{call} == CHANV_REFUSED_KEPT", "enum-compare"
+    yield f"{call} == CHANV_REFUSED_WRITES_OVER_KEPT", "enum-compare"
     for pointer in dict.fromkeys(re.findall(r"&[\w.]+", call)):
         for at in (it.start() for it in re.finditer(rf"{re.escape(pointer)}\b(?!\.)", call)):
             yield f"{call[:at]}NULL{call[at + len(pointer) :]} == CHANV_YES", "nonnull"

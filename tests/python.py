@@ -245,10 +245,10 @@ def check_needs(checks, chanv, deck, job, verdict):
         checks.expect(f"where {deck.name} may hang", place, seen)
     alone, beside = (chanv.may_start(job, program, it) for it in ([], [None, program]))
     checks.expect(f"start of {deck.name}", bool(verdict), bool(alone))
-    spared = beside.refusal not in ("stores", "keeps")
+    spared = beside.refusal not in ("stores-over-kept", "keeps-stored-over")
     checks.expect(f"{deck.name} beside itself", bool(verdict), bool(beside) or not spared)
     at, size = program.keep[0]
-    checks.expect(f"write over {deck.name}", "kept", chanv.may_write((at, size), [program]).refusal)
+    checks.expect(f"write over {deck.name}", "writes-over-kept", chanv.may_write((at, size), [program]).refusal)
     checks.expect_that(f"write beside {deck.name}", chanv.may_write((at, 0), [program]), "kept")
 
 
@@ -296,7 +296,7 @@ def check_values(checks, chanv, judging):
         (chanv.Permission(), "yes"),
         (chanv.Permission("no-cylinder", 17), "no: no-cylinder 017"),
         (chanv.Permission("not-storable", 0), "no: not-storable 000000"),
-        (chanv.Permission("kept", 0, 0), "no: kept 000000 by program 0"),
+        (chanv.Permission("writes-over-kept", 0, 0), "no: writes-over-kept 000000 by program 0"),
         (chanv.Permission("mask"), "no: mask"),
     ]:
         checks.expect(f"{text} as text", text, str(permission))

@@ -117,7 +117,7 @@ def check_refusals_at_zero(checks, chanv):
         found = chanv.may_start(job_of(chanv, words, start, **more), asked, in_flight)
         checks.expect(f"a start: {line}", (f"no: {line}", False), (str(found), bool(found)))
     found = chanv.may_write((0, 1), [program])
-    line = "no: kept 000000 by program 0"
+    line = "no: writes-over-kept 000000 by program 0"
     checks.expect("a write over 0", (line, False), (str(found), bool(found)))
     found = chanv.may_write((8, 8), [None, program])
     checks.expect("a write beside it", ("yes", True), (str(found), bool(found)))
@@ -288,7 +288,7 @@ def check_fields(checks, chanv):
     other = dataclasses.replace(program, keep=iter([(0x40, 10)]))
     checks.expect("another list", 0x40, chanv.may_write((0, SIZE), [other]).value)
     words = chanv.why(job_of(chanv, LOOP, 0x800, store=[]))
-    for value in (words, words.verdict, words.path[0], chanv.Permission("kept", 0, 0)):
+    for value in (words, words.verdict, words.path[0], chanv.Permission("writes-over-kept", 0, 0)):
         name = type(value).__name__
         checks.expect(f"{name}, pickled", value, pickle.loads(pickle.dumps(value)))
 
@@ -317,7 +317,7 @@ def check_programs(checks, chanv):
     job = job_of(chanv, LOOP, 0x800)
     program = chanv.needs(job)
     table = {0x190: program, 0: None}
-    checks.expect("a table's values", "kept", chanv.may_write((0x800, 1), table.values()).refusal)
+    checks.expect("a table's values", "writes-over-kept", chanv.may_write((0x800, 1), table.values()).refusal)
     checks.expect("nobody", True, bool(chanv.may_write((0x800, 1), [None])))
     checks.expect("a start beside nobody", True, bool(chanv.may_start(job, program, [None])))
     wrong = [{0: program}, table, [0], [""], [False], [program, 0], [()], [[program]], ["x"]]

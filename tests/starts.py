@@ -83,8 +83,8 @@ def conflict_of(program, in_flight):
         if other is None:
             continue
         for word, store, keep in [
-            ("stores", program.store, other.keep),
-            ("keeps", other.store, program.keep),
+            ("stores-over-kept", program.store, other.keep),
+            ("keeps-stored-over", other.store, program.keep),
         ]:
             byte = least(bytes_of(store) & bytes_of(keep))
             if byte is not None:
@@ -96,7 +96,7 @@ def keeper_of(area, in_flight):
     for number, other in enumerate(in_flight):
         byte = least(bytes_of([area]) & bytes_of(other.keep)) if other else None
         if byte is not None:
-            return "kept", byte, number
+            return "writes-over-kept", byte, number
     return None
 
 

@@ -90,8 +90,9 @@ _VALUES = {
 }
 
 # the refusals with an address or a cylinder, and those with a program in flight
-_WITH_VALUE = "changed no-cylinder not-fetchable not-storable stores keeps kept".split()
-_WITH_PROGRAM = "stores keeps kept reserved-in-flight".split()
+_OVER_KEPT = "stores-over-kept keeps-stored-over writes-over-kept".split()
+_WITH_VALUE = [*"changed no-cylinder not-fetchable not-storable".split(), *_OVER_KEPT]
+_WITH_PROGRAM = [*_OVER_KEPT, "reserved-in-flight"]
 
 
 class Answer(IntEnum):
@@ -110,6 +111,7 @@ class Answer(IntEnum):
     NOT_A_LIMIT = 10
     NO_ROOM = 11
     RESERVED_NOT_ZERO = 12
+    CHANGED_MEANWHILE = 13
 
 
 _OF_AN_EXTENT = (Answer.EXTENT_BACKWARDS, Answer.EXTENT_PAST_DEVICE)
@@ -319,7 +321,9 @@ def find(storage: Storage, device: int = 2314, copy: bool = True) -> list[int]:
 
 
 def needs(job: Job) -> Program:
-    """What the program needs in every job and keeps, to be remembered. It raises NoJob."""
+    """What the program needs in every job and keeps, to be remembered. It raises NoJob if no job
+    will do, and NoAnswer with CHANGED_MEANWHILE if storage changed during the call; so copy=False
+    is safe here even while other threads write storage. Ask again then."""
     out, answer = _c.Needed(), _c.NO_ROOM
     lists: list[Any] = []
     with _job(job) as made:

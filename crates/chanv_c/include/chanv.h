@@ -11,11 +11,22 @@
  *   `chanv_take_in` may have any alignment.
  * - The memory that a call writes lies apart from the job, from the programs and from everything
  *   that these point to, and no two lists that a call writes share a byte.
- * - From the call to its return, nothing else writes the job, the programs or anything that these
- *   point to, and nothing else touches the memory that the call writes. If storage is written
- *   meanwhile, the answer means nothing at all. The call still returns with one of its codes and
- *   writes nothing else; this is tested, not proved. docs/EMBEDDING.md shows an emulator whose
- *   threads write storage.
+ * - From the call to its return, nothing else writes the job, the table, or the lists and the kept
+ *   bytes that these point to, and nothing else touches the memory that the call writes.
+ * - Storage is another matter, because channels in flight store into it at any time:
+ *   - During `chanv_needs` and `chanv_take_in` anything may write storage. The answer is about a
+ *     private copy, each byte of which is read once; if storage changed too much for that, the call
+ *     returns CHANV_CHANGED_MEANWHILE. Ask again, but not without end, and then refuse the program.
+ *     Of all answers only CHANV_OK allows anything.
+ *   - From the beginning of `chanv_check_start` until the program has left, its kept bytes are
+ *     written by no one but programs that are in the table throughout, and by others only after
+ *     CHANV_YES from `chanv_check_write`, asked with the program in the table. All other bytes may
+ *     change at any time.
+ *   - `chanv_check_write` doesn't read storage.
+ *   - During `chanv_verify`, `chanv_why`, `chanv_list`, `chanv_find` and the calls for texts nothing
+ *     writes storage: they are for storage that is quiet, or for a copy. If it is written, the
+ *     answer means nothing; the call still returns with one of its codes and writes nothing else,
+ *     which is tested, not proved.
  * - No call is made from a signal handler, nor, in the child of a process with threads, between
  *   fork and exec.
  * - malloc, realloc and free are those of one allocator, and aligned as C asks.
@@ -35,13 +46,18 @@
  * 2. When a program starts, the arm is inside the job's extents, and the job's file mask is in
  *    force.
  * 3. Each program in flight has a unit of its own, that is, a device at an address of its own. It
- *    stays in the table until the channel makes no further step for it.
+ *    leaves the table only after the channel's last store for it is visible.
  * 4. While a program is in a table, its lists and its kept bytes don't change.
  * 5. From a question to the start, or to the end of the write, no other program starts, and nothing
  *    else writes a byte that the programs in the table, or the one that is about to start, keep. So
  *    hold one lock over the question, the table and the start or the write.
  * 6. Others write only after CHANV_YES from `chanv_check_write`, and the machine's own stores (of
  *    PSWs, the CSW and the timer) spare all kept bytes of programs in flight.
+ *
+ * A write that lasts, such as a tape's input into a buffer, has a place in the table: a program
+ * whose `rows.store` is the area, and which is zero otherwise. Put it there after CHANV_YES from
+ * `chanv_check_write`, and take it out after the last byte is written. Meanwhile no program that
+ * keeps a byte of the area gets CHANV_YES, so others may write into the area all the time.
  *
  * A call writes only the memory that it was handed for that. It keeps nothing between calls, so
  * several threads may call at once, even about one job.
@@ -137,7 +153,8 @@ enum chanv_answer {
     CHANV_EXTENT_PAST_DEVICE = 9, /* the first wrong extent has its last cylinder above 202 */
     CHANV_NOT_A_LIMIT = 10,       /* the limit is 0, or above 65,536 */
     CHANV_NO_ROOM = 11,           /* there is more to write than room; for `chanv_why`, with a no */
-    CHANV_RESERVED_NOT_ZERO = 12  /* `reserved` isn't 0: the job has fields of a later version */
+    CHANV_RESERVED_NOT_ZERO = 12, /* `reserved` isn't 0: the job has fields of a later version */
+    CHANV_CHANGED_MEANWHILE = 13  /* storage changed during the call: ask again */
 };
 
 /* The reasons of a no. */
@@ -287,20 +304,23 @@ struct chanv_program {
  * asks of each first what it keeps, then what it stores. `chanv_check_write` looks for 13, and then
  * for 11. */
 enum chanv_refused {
-    CHANV_REFUSED_OTHER_START = 1,   /* the job starts at another address */
-    CHANV_REFUSED_OTHER_DEVICE = 2,  /* the job is for another type of device */
-    CHANV_REFUSED_OTHER_LENGTH = 3,  /* the job's storage has another length */
-    CHANV_REFUSED_CHANGED = 4,       /* the kept byte at `value`, the first that has changed, lies
-                                        past storage, or is missing from `kept` */
-    CHANV_REFUSED_MASK = 5,          /* the job's mask is too strict, or the program's is invalid */
-    CHANV_REFUSED_NO_CYLINDER = 6,   /* cylinder `value`, the least needed and not granted */
-    CHANV_REFUSED_NOT_FETCHABLE = 7, /* the byte at `value`, the least that is needed for fetching
-                                        and isn't lent, or lies past storage */
-    CHANV_REFUSED_NOT_STORABLE = 8,  /* the same for storing */
-    CHANV_REFUSED_STORES = 9,        /* it may store into the byte at `value`; `program` keeps it */
-    CHANV_REFUSED_KEEPS = 10,        /* it keeps the byte at `value`; `program` may store into it */
-    CHANV_REFUSED_KEPT = 11,         /* `program` keeps the byte at `value` */
-    CHANV_REFUSED_RESERVED = 12,     /* it has fields of a later version: `reserved` isn't 0 */
+    CHANV_REFUSED_OTHER_START = 1,        /* the job starts at another address */
+    CHANV_REFUSED_OTHER_DEVICE = 2,       /* the job is for another type of device */
+    CHANV_REFUSED_OTHER_LENGTH = 3,       /* the job's storage has another length */
+    CHANV_REFUSED_CHANGED = 4,            /* the kept byte at `value`, the first that has changed,
+                                             lies past storage, or is missing from `kept` */
+    CHANV_REFUSED_MASK = 5,               /* the job's mask is too strict, or the program's is
+                                             invalid */
+    CHANV_REFUSED_NO_CYLINDER = 6,        /* cylinder `value`, the least needed and not granted */
+    CHANV_REFUSED_NOT_FETCHABLE = 7,      /* the byte at `value`, the least that is needed for
+                                             fetching and isn't lent, or lies past storage */
+    CHANV_REFUSED_NOT_STORABLE = 8,       /* the same for storing */
+    CHANV_REFUSED_STORES_OVER_KEPT = 9,   /* it may store over the byte at `value`, which `program`
+                                             keeps */
+    CHANV_REFUSED_KEEPS_STORED_OVER = 10, /* it keeps the byte at `value`, which `program` may store
+                                             over */
+    CHANV_REFUSED_WRITES_OVER_KEPT = 11,  /* `program` keeps the byte at `value` */
+    CHANV_REFUSED_RESERVED = 12,          /* it has fields of a later version: `reserved` isn't 0 */
     CHANV_REFUSED_RESERVED_IN_FLIGHT = 13 /* `program` has such fields */
 };
 
@@ -370,12 +390,15 @@ enum chanv_answer chanv_text(const struct chanv_job *job, char *buffer, size_t r
  * grants all this.
  *
  * CHANV_NO: no job will do; `out->verdict` is the verdict if everything is granted. CHANV_NO_ROOM:
- * the same as for CHANV_OK, but a list, or `kept`, has too little room. Otherwise it returns why
- * there is no answer, like `chanv_verify`, with the extent that is wrong if one is. Only for
- * CHANV_OK is a row or a byte written.
+ * the same as for CHANV_OK, but a list, or `kept`, has too little room. CHANV_CHANGED_MEANWHILE:
+ * storage was written during the call, so ask again; over quiet storage it never comes. Otherwise it
+ * returns why there is no answer, like `chanv_verify`, with the extent that is wrong if one is. Only
+ * for CHANV_OK is a row or a byte written.
  *
- * The answer holds, before a start and during the run, over storage of `out->storage_len` bytes
- * as long as the kept bytes are as they were; all others may change. */
+ * CHANV_OK holds, before a start and during the run, over each storage of `out->storage_len` bytes
+ * that holds the kept bytes; all others may change, also during the call. If storage is written
+ * during the call, each other answer may be about a mixture of old and new bytes. The call takes
+ * memory as long as storage, of which it writes what the program keeps. */
 CHANV_MUST_USE CHANV_NOT_NULL(1, 2)
 enum chanv_answer chanv_needs(const struct chanv_job *job, struct chanv_needed *out,
                               struct chanv_extent *extents, size_t extents_room,
@@ -425,8 +448,8 @@ enum chanv_answer chanv_check_start(const struct chanv_job *job,
                                     struct chanv_refusal *out);
 
 /* Whether others, such as the processor, may write to an area of storage now. CHANV_YES: no program
- * in flight keeps a byte of it. CHANV_NO: `out` has CHANV_REFUSED_KEPT, the first program that
- * keeps one, and the least such byte; or CHANV_REFUSED_RESERVED_IN_FLIGHT and the first program
+ * in flight keeps a byte of it. CHANV_NO: `out` has CHANV_REFUSED_WRITES_OVER_KEPT, the first
+ * program that keeps one, and the least such byte; or CHANV_REFUSED_RESERVED_IN_FLIGHT and the first program
  * whose `reserved` isn't 0. No memory is taken, and there is no other answer. */
 CHANV_MUST_USE CHANV_NOT_NULL(3, 4)
 enum chanv_answer chanv_check_write(const struct chanv_program *in_flight, size_t count,

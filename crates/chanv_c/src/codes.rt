@@ -26,11 +26,11 @@ pub(crate) const NOT_FETCHABLE: u32 = 7;
 
 pub(crate) const NOT_STORABLE: u32 = 8;
 
-pub(crate) const STORES: u32 = 9;
+pub(crate) const STORES_OVER_KEPT: u32 = 9;
 
-pub(crate) const KEEPS: u32 = 10;
+pub(crate) const KEEPS_STORED_OVER: u32 = 10;
 
-pub(crate) const KEPT: u32 = 11;
+pub(crate) const WRITES_OVER_KEPT: u32 = 11;
 
 pub(crate) const RESERVED: u32 = 12;
 

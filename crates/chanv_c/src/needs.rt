@@ -114,7 +114,9 @@ pub extern "C" fn needs_by_copy(
         ..*job
     };
     let copied = first.keep.as_slice();
-    needs_over(alloc, &still, copied, out, extents, fetch, store, keep, kept)
+    needs_over(
+        alloc, &still, copied, out, extents, fetch, store, keep, kept,
+    )
 }
 
 /// Copies the bytes of the job's storage in some areas to where they are in storage, each by one

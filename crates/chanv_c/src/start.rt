@@ -14,8 +14,9 @@ ghost use Rattle.chanv_c.specs.Start.{refusal_told};
 ghost use Rattle.chanv_c.specs.declared.start.StartCheck as declared;
 
 use crate::codes::{
-    CHANGED, KEEPS, KEPT, MASK, NO, NO_CYLINDER, NOT_FETCHABLE, NOT_STORABLE, OTHER_DEVICE,
-    OTHER_LENGTH, OTHER_START, RESERVED, RESERVED_IN_FLIGHT, STORES, YES,
+    CHANGED, KEEPS_STORED_OVER, MASK, NO, NO_CYLINDER, NOT_FETCHABLE, NOT_STORABLE, OTHER_DEVICE,
+    OTHER_LENGTH, OTHER_START, RESERVED, RESERVED_IN_FLIGHT, STORES_OVER_KEPT, WRITES_OVER_KEPT,
+    YES,
 };
 use crate::job::{CJob, make_ready};
 use crate::refusal::Refusal;
@@ -109,7 +110,7 @@ pub extern "C" fn chanv_check_write(
         Some((program, byte)) => {
             *out = CRefusal {
                 program,
-                ..refused(KEPT, byte)
+                ..refused(WRITES_OVER_KEPT, byte)
             };
             NO
         }
@@ -165,11 +166,11 @@ fn told_of(refusal: StartRefusal) -> CRefusal
         StartRefusal::Store(byte) => refused(NOT_STORABLE, byte),
         StartRefusal::Beside(program, Conflict::Stores(byte)) => CRefusal {
             program,
-            ..refused(STORES, byte)
+            ..refused(STORES_OVER_KEPT, byte)
         },
         StartRefusal::Beside(program, Conflict::Keeps(byte)) => CRefusal {
             program,
-            ..refused(KEEPS, byte)
+            ..refused(KEEPS_STORED_OVER, byte)
         },
     }
 }
