@@ -143,6 +143,10 @@ int ask(struct chanv_job job, struct chanv_area area, struct chanv_program it)
 """
 
 
+# whether a compiler knows in C of which enum a constant is: GCC does
+TELLS_APART = "enum one { A }; enum other { B }; enum one f(void); int g(void) { return f() == B; }"
+
+
 def mistakes_of(call):
     """The call compared with what isn't an answer, and with NULL where it mustn't be, each with the
     warning that finds it."""
@@ -158,10 +162,16 @@ def check_mistakes(checks, library, folder):
     be; and it finds no fault with NULL where it may be."""
     source = folder / "mistake.c"
     look = [*c_compiler(), "-fsyntax-only", f"-I{library}", "-std=c11", "-Wall", "-Wextra"]
+    source.write_text(TELLS_APART)
+    tells_apart = "[-Wenum-compare]" in run(*look, source).error
+    if not tells_apart:
+        checks.skip("answers compared with reasons", "the compiler doesn't tell constants apart")
     for call in RIGHT:
         source.write_text(ASKING.format(f"{call} == CHANV_NO"))
         checks.expect(f"no fault with {call}", Ran(0), run(*look, source))
         for mistake, option in mistakes_of(call):
+            if option == "enum-compare" and not tells_apart:
+                continue
             source.write_text(ASKING.format(mistake))
             ran = run(*look, source)
             checks.expect_that(f"{mistake} is found", f"[-W{option}]" in ran.error, ran)

@@ -137,8 +137,7 @@ enum chanv_limit { CHANV_USUAL_LIMIT = 4096, CHANV_LARGEST_LIMIT = 65536 };
 /* What a call returns. 4 to 10 and 12 are faults of the job itself; if several apply, the least is
  * returned, and a job with a fault gets no answer. CHANV_MEMORY may come in place of any other code
  * except 4 to 7: a call looks for these before it takes memory. Keep an answer in a variable of
- * this type: then a compiler can warn (-Wenum-compare) if it is compared with a reason or a
- * refusal. */
+ * this type: then GCC warns (-Wenum-compare) if it is compared with a reason or a refusal. */
 enum chanv_answer {
     CHANV_YES = 0,                /* every run is safe; it may start; others may write */
     CHANV_OK = CHANV_YES,         /* all that was asked for is written */
