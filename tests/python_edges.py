@@ -108,8 +108,8 @@ def check_refusals_at_zero(checks, chanv):
         ("not-fetchable 000000", fetching, None, {"fetch": [(1, 9)]}, []),
         ("not-storable 000000", {8: "0600000020000008"}, over, {"store": [(1, 9)]}, []),
         ("no-cylinder 000", seek, None, {"extents": [(1, 202)]}, []),
-        ("stores 000000 by program 0", {8: "0600000020000008"}, over, {}, [program]),
-        ("keeps 000000 by program 0", read, program, {}, [over]),
+        ("stores-over-kept 000000 by program 0", {8: "0600000020000008"}, over, {}, [program]),
+        ("keeps-stored-over 000000 by program 0", read, program, {}, [over]),
     ]
     for line, words, asked, more, in_flight in rows:
         start = min(words)

@@ -17,7 +17,7 @@ SIZE = 48
 
 # each answer that random rows lead to
 ANSWERS = """yes other-start other-device other-length changed mask no-cylinder not-fetchable
-    not-storable stores keeps kept""".split()
+    not-storable stores-over-kept keeps-stored-over writes-over-kept""".split()
 
 
 def strictness(mask):

@@ -23,7 +23,7 @@ again, and holds one lock from the question until the start or the write is done
 >>> print(may_write((0x900, 16), in_flight.values()))         # data may change
 yes
 >>> print(may_write((0x810, 8), in_flight.values()))
-no: kept 000810 by program 0
+no: writes-over-kept 000810 by program 0
 
 chanv.h has the caller's duties and the premises of these answers. The library is the one that
 CHANV_LIBRARY names, else the one in `lib` of the prefix where this package is installed, or in
