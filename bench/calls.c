@@ -8,9 +8,9 @@
  * The programs are the search loop; seeks and reads by turns, each another CCW, of so many places;
  * and 64 of these with 200,000 areas lent for storing, no two of which adjoin. The first table has
  * for each call the time, the most memory that it holds, its growths, and its stack beyond what a
- * thread takes that makes none; the second, the time of an emulator that asks by a copy, of what a
- * program keeps or of all storage; the third, the calls a second, each measured for two seconds,
- * three times, of which the best is printed. A time is the least of half a second of calls, or of
+ * thread takes that makes none; the second, the time in which an emulator takes a program in; the
+ * third, the calls a second, each measured for two seconds, three times, of which the best is
+ * printed. A time is the least of half a second of calls, or of
  * fifty. The status is 1 if an answer isn't the right one.
  */
 #define _GNU_SOURCE
@@ -21,12 +21,13 @@
 #include <stdatomic.h>
 #include <stdio.h>
 #include <stdlib.h>
+#include <string.h>
 #include <time.h>
 
 enum { START = 0x800, SECONDS = 2, RUNS = 3, MOST_THREADS = 4, MOST_PLACES = CHANV_LARGEST_LIMIT };
 enum { AREAS = 200000, STACK = 1 << 20, UNTOUCHED = 0xA5 };
 
-static uint8_t storage[16777216], copied[sizeof storage];
+static uint8_t storage[16777216];
 static uint8_t stack[STACK] __attribute__((aligned(4096)));
 static struct chanv_extent cylinders[] = {{10, 19}}, seek_cylinders[203];
 static struct chanv_area fetch[1], store[AREAS], needed_lists[3][MOST_PLACES];
@@ -331,42 +332,24 @@ static void costs(long *wrong)
     }
 }
 
-/* ---- asking about a copy */
+/* ---- taking programs in */
 
-static struct asked emulated;
-
-/* Of what is kept: asking twice, then comparing. Of all storage: copying it, then asking. */
-static void emulate(const char *name, const struct chanv_job *job, long *wrong)
+/* As an emulator does, whose threads write storage; here it is quiet. */
+static void take_programs_in(long *wrong)
 {
-    double least[3] = {1e9, 1e9, 1e9};
-    struct chanv_job still = *job;
-    still.storage.at = copied;
-    for (int run = 0; run < 50; run++) {
-        double times[4] = {now()};
-        *wrong += ask(&emulated, job) != CHANV_OK;
-        times[1] = now();
-        *wrong += !is_there(&emulated, job->storage);
-        times[2] = now();
-        memcpy(copied, storage, sizeof storage);
-        *wrong += ask_once(&emulated, &still) != CHANV_OK;
-        times[3] = now();
-        for (int i = 0; i < 3; i++)
-            least[i] = times[i + 1] - times[i] < least[i] ? times[i + 1] - times[i] : least[i];
-    }
-    printf("%-16s%12zu%12.1f%12.2f%12.1f\n", name, emulated.program.kept.len, least[0] * 1e6, least[1] * 1e6,
-           least[2] * 1e6);
-}
-
-/* A program with more areas that are kept than there is room for is left out. */
-static void emulations(long *wrong)
-{
-    printf("\n%-16s%12s%12s%12s%12s\n", "program", "bytes kept", "ask, us", "compare, us",
-           "16 MiB, us");
-    emulated.copy = calloc(sizeof storage, 1);
-    for (int i = 0; i < PROGRAMS && emulated.copy != NULL; i++) {
+    static struct asked emulated;
+    printf("\n%-16s%12s%12s\n", "program", "bytes kept", "ask, us");
+    for (int i = 0; i < PROGRAMS; i++) {
         struct chanv_job job = programs[i].make(programs[i].places);
-        if (ask_once(&emulated, &job) == CHANV_OK)
-            emulate(programs[i].name, &job, wrong);
+        double least = 1e9;
+        if (ask(&emulated, &job) == CHANV_NO_ROOM)
+            continue;
+        for (int run = 0; run < 50; run++) {
+            double begun = now();
+            *wrong += ask(&emulated, &job) != CHANV_OK;
+            least = now() - begun < least ? now() - begun : least;
+        }
+        printf("%-16s%12zu%12.1f\n", programs[i].name, emulated.program.kept.len, least * 1e6);
     }
 }
 
@@ -427,7 +410,7 @@ int main(void)
 {
     long wrong = 0;
     costs(&wrong);
-    emulations(&wrong);
+    take_programs_in(&wrong);
     speeds(&wrong);
     return wrong != 0;
 }

@@ -2,8 +2,8 @@
  * write too. It takes each program in, and asks before each start and before each write of others.
  * That is all: by the law behind these calls, no program in flight then meets a program check,
  * moves a byte that it wasn't lent, seeks outside its extents or issues an inhibited command.
- * chanv.h lists the premises. A supervisor with threads holds one lock during each function below,
- * and keeps it until the program has been started or the bytes are written. */
+ * chanv.h lists the premises. A supervisor with threads holds one lock during each function below
+ * but take_in, and keeps it until the program has been started or the bytes are written. */
 #include <chanv.h>
 #include <string.h>
 
@@ -24,7 +24,9 @@ struct taken {
 static struct chanv_program in_flight[UNITS];
 
 /* Takes the job's program in. Only after CHANV_OK may it start; MAY_HANG is why a program is
- * refused that may never end by itself. It isn't in flight now, and nothing writes storage. */
+ * refused that may never end by itself. It isn't in flight now. The channels of other programs may
+ * store meanwhile, even over this one: chanv judges a private copy of what the program keeps. If it
+ * answers CHANV_CHANGED_MEANWHILE, the caller may ask again, but not without end. */
 static uint32_t take_in(struct taken *taken, const struct chanv_job *job)
 {
     struct chanv_needed needed;
