@@ -7,7 +7,9 @@ compares each with each needs more than that.
 
 A start with 4,096 rows in order, and one with 64 KiB of kept bytes, are bounded in instructions,
 some three times as many as `chanv_check_start` takes: the product of the rows, and a comparison of
-each byte alone, take more. valgrind counts them; without it this part is left out, by its name.
+each byte alone, take more. So is a picture of 65,536 places, with some 100,000 arrows: a search from
+the first place on for each takes more. valgrind counts the instructions; without it this part is
+left out, by its name.
 """
 
 import os
@@ -34,6 +36,9 @@ INSTRUCTIONS = [
     (("bytes", "65536"), 100_000),
 ]
 
+# the deck whose picture is drawn, and how many instructions that may take
+PICTURE = "comb-65536", 2_000_000_000
+
 # the processor time after which the system ends a run
 LAST_SECOND = 20
 
@@ -57,31 +62,33 @@ def timed(program, command, deck):
     return child.returncode, used.ru_utime + used.ru_stime
 
 
-def counted(program, words):
-    """The status, and the instructions of `chanv_check_start` alone, if valgrind says how many."""
-    how = ["--callgrind-out-file=/dev/null", "--toggle-collect=chanv_check_start"]
-    ran = run("valgrind", "--tool=callgrind", *how, program, *words)
+def check_count(checks, name, most, *words, given=b"", only=()):
+    """A run takes at most so many instructions, or only what a function takes of it."""
+    how = ["--callgrind-out-file=/dev/null", *only]
+    ran = run("valgrind", "--tool=callgrind", *how, *words, given=given)
     found = re.search(r"Collected : (\d+)", ran.error)
-    return ran.status, int(found[1]) if found else None
+    count = int(found[1]) if found else 0
+    checks.expect(name, 0, ran.status)
+    checks.expect_that(f"{name}, at most {most} instructions", 0 < count <= most, count)
 
 
-def check_instructions(checks, library, room):
+def check_instructions(checks, built, decks, room):
     if shutil.which("valgrind") is None:
-        checks.skip("instructions of chanv_check_start", "no valgrind")
+        checks.skip("instructions", "no valgrind")
         return
-    program = compile_with(library, HERE / "c/many_rows.c", room / "many_rows")
+    program = compile_with(built.library(), HERE / "c/many_rows.c", room / "many_rows")
+    only = ["--toggle-collect=chanv_check_start"]
     for words, most in INSTRUCTIONS:
-        name = f"check_start, {' '.join(words)}"
-        status, count = counted(program, words)
-        checks.expect(name, 0, status)
-        is_so = count is not None and 0 < count <= most
-        checks.expect_that(f"{name}, at most {most} instructions", is_so, count)
+        check_count(checks, f"check_start, {' '.join(words)}", most, program, *words, only=only)
+    name, most = PICTURE
+    deck = "".join(decks[name]()).encode()
+    check_count(checks, f"graph {name}", most, built.chanv(), "graph", given=deck)
 
 
 def check(checks, built):
-    with tempfile.TemporaryDirectory() as room:
-        check_instructions(checks, built.library(), Path(room))
     program, decks = built.chanv(), decks_of_bench()
+    with tempfile.TemporaryDirectory() as room:
+        check_instructions(checks, built, decks, Path(room))
     with tempfile.TemporaryDirectory() as room:
         for name, command, most, wanted in BOUNDS:
             deck = Path(room) / f"{name}.deck"
