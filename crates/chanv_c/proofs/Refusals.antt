@@ -12,7 +12,6 @@ use Rattle.chanv_c.specs.Answers.{IsAnswerCode, IsRefusal, refusal_after, refusa
 use Rattle.chanv_c.specs.Answers.{refusal_extent}
 use Rattle.chanv_c.specs.Faults.{HasJobFault, HasNoFault, RightHasNoFault, fault_code}
 use Rattle.chanv_c.specs.Job.{extents_asked}
-use Rattle.chan_walk.specs.Limit.{IsLimit}
 use Rattle.ckd_core.specs.Extents.{AreExtents, IsExtent}
 use Rattle.ckd_core.specs.Mask.{is_mask}
 use Rattle.std.specs.List.{AllByRecursion, slice_get}
