@@ -54,7 +54,7 @@ pub use crate::find::find_programs;
 pub use crate::image_options::{ImageOptions, OptionError, OptionFault};
 pub use crate::meanings::{explain_word, list_words};
 pub use crate::name::Naming;
-pub use crate::named_ccw::respond_named;
+pub use crate::named_ccw::respond_to_ccw;
 pub use crate::one_ccw::{ShowError, show};
 pub use crate::option_fault::{
     report_file, report_grants, report_no_ccw, report_option, report_usage,

@@ -18,7 +18,7 @@ use chan_run::{
     Failure, ImageOptions, Naming, OptionError, Outcome, Response, answer, answer_image, deliver,
     ends_run, exit_status, explain_word, find_programs, greater_status, list_words,
     note_usual_device, options_of, report, report_file, report_grants, report_no_ccw,
-    report_option, report_usage, respond_named, show, shown_word, word_of,
+    report_option, report_usage, respond_to_ccw, show, shown_word, word_of,
 };
 use std::alloc::AllocError;
 use std::env::{Env, FillError};
@@ -96,7 +96,7 @@ fn read_word(rt: &HostRuntime, number: usize) -> Result<Option<Vec<u8>>, AllocEr
 fn answer_words(rt: &HostRuntime, words: &[String]) -> u8 {
     match read_request(rt.alloc(), words) {
         Request::Show(text) => show_ccw(rt, text),
-        Request::ShowNamed(text) => deliver_out(rt, &respond_named(rt.alloc(), text.as_bytes())),
+        Request::ShowNamed(text) => deliver_out(rt, &respond_to_ccw(rt.alloc(), text.as_bytes())),
         Request::NoCcw => report_no_ccw(&mut Watched::new(rt.stderr())),
         Request::Run(action) => {
             exit_status(run_over(rt, action, UNNAMED, Input::Standard(rt.stdin())))
