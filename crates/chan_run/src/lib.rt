@@ -64,4 +64,4 @@ pub use crate::outcome::{Outcome, ends_run, exit_status, greater_status, report}
 pub use crate::response::{Response, respond};
 pub use crate::status::{RunError, Status, run};
 pub use crate::terms::Term;
-pub use crate::word::{shown_word, word_of};
+pub use crate::word::shown_word;
