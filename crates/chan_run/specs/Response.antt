@@ -126,8 +126,8 @@ said_of name r =
 abbrev pub said_unwritten : Option (List ℕ) → Response → List ℕ
 said_unwritten name r = line_over name (Failed failures.WriteFailed) ++ r.note.now
 
--- one writer got the output of an answer, and another one what is said of it; or the first one
--- failed, and the other one got the line of that
+-- the first writer got the output of an answer, and the second what is said of it; or the first
+-- failed, and the second got the line of that
 abbrev pub IsDelivered : Option (List ℕ) → Response → Option (List ℕ) → Option (List ℕ)
     → Option (List ℕ) → Option (List ℕ) → Bool → Outcome → Type 0
 IsDelivered name r old new old_errors new_errors failed end =
