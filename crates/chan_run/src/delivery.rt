@@ -88,8 +88,9 @@ fn tell<E: Write>(
     errors: &mut Watched<E>,
 ) -> Result<(), DeviceFault>
     requires { errors.old.failed ≡ false }
-    ensures { WriterGot (said_of (name_in name.entry) response.now)
+    ensures said { WriterGot (said_of (name_in name.entry) response.now)
         (E.contents errors.old.device) (E.contents errors.new.device) errors.new.failed }
+    ensures fault { IsErr result ↔ (errors.new.failed ≡ true) }
 {
     match &response.advice {
         Some(text) => {
