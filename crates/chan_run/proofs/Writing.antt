@@ -6,8 +6,8 @@ use Rattle.std.specs.Io.KnownBytes.{Appends}
 use Rattle.std.proofs.lemmas.List.{length-append, take_all}
 use Rattle.ccw_core.specs.Written.{AppendsPrefix}
 pub use Rattle.ccw_core.proofs.Prefixes.{prefix_after, prefix_of_more}
-use Rattle.chan_run.specs.Name.{concatenated}
-use Rattle.chan_run.specs.Said.{IsSaid}
+use Rattle.chan_run.specs.Texts.{concatenated}
+use Rattle.chan_run.specs.Texts.{WriterGot}
 
 -- some texts before one, and this one, are no longer than all of them
 pub no_longer : (texts : List (Bor (List ℕ))) (i : ℕ) (d : Bor (List ℕ)) → i < length texts
@@ -28,13 +28,13 @@ after_first (text ∷ texts) d a b c some h k =
     prefix_after a b c text.now (concatenated texts) h (rw (take_all (length (text ∷ texts) - 1) texts (omega arith)) at k)
 
 -- bytes were written, and then more
-pub said_more : (a b c : Option (List ℕ)) (xs ys : List ℕ) (f g : Bool) → f ≡ false → IsSaid xs a b f
-    → IsSaid ys b c g → IsSaid (xs ++ ys) a c g
-said_more a b c xs ys f g sound first more =
+pub got_more : (a b c : Option (List ℕ)) (xs ys : List ℕ) (f g : Bool) → f ≡ false → WriterGot xs a b f
+    → WriterGot ys b c g → WriterGot (xs ++ ys) a c g
+got_more a b c xs ys f g sound first more =
     (λ s. Appends-trans a b c xs ys (first.0 sound) (more.0 s), prefix_after a b c xs ys (first.0 sound) more.1)
 
 -- a write of the first of some bytes failed
-pub said_broken : (a b : Option (List ℕ)) (xs ys : List ℕ) (f : Bool) → f ≡ true → IsSaid xs a b f
-    → IsSaid (xs ++ ys) a b f
-said_broken a b xs ys f broken first =
+pub got_front : (a b : Option (List ℕ)) (xs ys : List ℕ) (f : Bool) → f ≡ true → WriterGot xs a b f
+    → WriterGot (xs ++ ys) a b f
+got_front a b xs ys f broken first =
     (λ sound. let bad : true ≡ false = sym broken ∙ sound in absurd cc, prefix_of_more a b xs ys first.1)

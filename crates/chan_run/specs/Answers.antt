@@ -8,7 +8,7 @@ use Rattle.chan_run.specs.declared.response.Response.{Response}
 use Rattle.chan_run.specs.Image.{IsDeckText, IsNoDeck, IsNoImage, IsWholeImage}
 use Rattle.chan_run.specs.ImageNote.{deck_note}
 use Rattle.chan_run.specs.NoJob.{IsNoJobText}
-use Rattle.chan_run.specs.Response.{IsBare, IsDelivered, bytes_in}
+use Rattle.chan_run.specs.Response.{IsBareResponse, IsDelivered, advice_in}
 
 -- this text is why no job will do
 abbrev pub IsWhyNoJob : Option (List ℕ) → ImageOptions → List ℕ → Option (List ℕ) → Type 0
@@ -28,20 +28,20 @@ IsDeckAnswer name o image end output advice =
 -- the answer to an image: that, and a note if it is a deck
 pub record IsImageResponse (name : Option (List ℕ)) (o : ImageOptions) (image : List ℕ)
     (r : Response) : Type 0 where
-  pub answer : IsDeckAnswer name o image r.outcome r.output.items (bytes_in r.advice)
+  pub answer : IsDeckAnswer name o image r.outcome r.output.items (advice_in r.advice)
   pub note : r.note.now ≡ deck_note image
 
 -- the answer to an input for an image: to its image, or why that wasn't read
-abbrev pub IsImageAnswer : Option (List ℕ) → ImageOptions → Option (List ℕ) → Option (List ℕ)
+abbrev pub IsImageInputResponse : Option (List ℕ) → ImageOptions → Option (List ℕ) → Option (List ℕ)
     → Response → Type 0
-IsImageAnswer name o old new r =
+IsImageInputResponse name o old new r =
     ((image : List ℕ) × IsWholeImage o old new image × IsImageResponse name o image r)
-    ⊎ ((failure : Failure) × IsNoImage o old new failure × IsBare (Failed failure) [] r)
+    ⊎ ((failure : Failure) × IsNoImage o old new failure × IsBareResponse (Failed failure) [] r)
 
 -- what an input for an image comes to: its answer was delivered
-abbrev pub IsImageHandled : Option (List ℕ) → ImageOptions → Option (List ℕ) → Option (List ℕ)
+abbrev pub IsImageAnswered : Option (List ℕ) → ImageOptions → Option (List ℕ) → Option (List ℕ)
     → Option (List ℕ) → Option (List ℕ) → Option (List ℕ) → Option (List ℕ) → Bool → Outcome
     → Type 0
-IsImageHandled name o old_in new_in old new old_errors new_errors failed end =
-    (r : Response) × IsImageAnswer name o old_in new_in r
+IsImageAnswered name o old_in new_in old new old_errors new_errors failed end =
+    (r : Response) × IsImageInputResponse name o old_in new_in r
     × IsDelivered name r old new old_errors new_errors failed end

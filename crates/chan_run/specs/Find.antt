@@ -14,7 +14,7 @@ use Rattle.chan_find.specs.Programs.{AreProgramStarts, IsJobOver}
 use Rattle.chan_run.specs.Image.{IsNoImage, IsProgramAt, IsWholeImage}
 use Rattle.chan_run.specs.ImageNote.{deck_note, find_note}
 use Rattle.chan_run.specs.Output.{IsUnwritten}
-use Rattle.chan_run.specs.Response.{IsBare, IsDelivered}
+use Rattle.chan_run.specs.Response.{IsBareResponse, IsDelivered}
 use Rattle.chan_run.specs.declared.failure.Failure.{Failure}
 use Rattle.chan_run.specs.declared.response.Response.{Response}
 use Rattle.chan_run.specs.declared.failure.Failure.TheVariants as failures
@@ -63,8 +63,8 @@ pub record AreWritten (Wrote : List ℕ → Type 0) (o : ImageOptions) (image : 
   pub lines : AreLinesAt o image starts text
   pub written : Wrote text
 
--- what each answer says of an image and the output: all lines were written; or a prefix of the
--- lines of the first programs was, when a write failed or memory ran out
+-- what each outcome of a search says of an image and the output: all lines were written; or, if a
+-- write failed, a prefix of the lines of the first programs; or, if memory ran out, these lines
 abbrev pub IsFoundAnswer : ImageOptions → List ℕ → Option (List ℕ) → Option (List ℕ)
     → Outcome → Type 0
 IsFoundAnswer o image old new Done =
@@ -94,20 +94,25 @@ pub record IsSearched (o : ImageOptions) (old_in new_in old mid : Option (List �
   pub found : IsFoundAnswer o image old mid came
   pub note : List ℕ
   pub noted : IsFindNote o image came note
-  pub is : IsBare came note r
+  pub is : IsBareResponse came note r
 
 -- it wasn't read, and nothing was written
 abbrev pub IsUnsearched : ImageOptions → Option (List ℕ) → Option (List ℕ) → Option (List ℕ)
     → Option (List ℕ) → Response → Type 0
 IsUnsearched o old_in new_in old mid r =
-    (failure : Failure) × IsNoImage o old_in new_in failure × IsBare (Failed failure) [] r
+    (failure : Failure) × IsNoImage o old_in new_in failure × IsBareResponse (Failed failure) [] r
     × (mid ≡ old)
 
--- what a search for programs comes to: it was one or the other, and then the end was delivered
-abbrev pub IsFindAnswer : Option (List ℕ) → ImageOptions → Option (List ℕ) → Option (List ℕ)
+-- what is left to be delivered of a search for programs, when its lines are written
+abbrev pub IsFindResponse : ImageOptions → Option (List ℕ) → Option (List ℕ) → Option (List ℕ)
+    → Option (List ℕ) → Response → Type 0
+IsFindResponse o old_in new_in old mid r =
+    IsSearched o old_in new_in old mid r ⊎ IsUnsearched o old_in new_in old mid r
+
+-- what a search for programs comes to: its lines were written, and then its end was delivered
+abbrev pub IsFindAnswered : Option (List ℕ) → ImageOptions → Option (List ℕ) → Option (List ℕ)
     → Option (List ℕ) → Option (List ℕ) → Option (List ℕ) → Option (List ℕ) → Bool → Outcome
     → Type 0
-IsFindAnswer name o old_in new_in old new old_errors new_errors failed end =
-    (mid : Option (List ℕ)) × (r : Response)
-    × (IsSearched o old_in new_in old mid r ⊎ IsUnsearched o old_in new_in old mid r)
+IsFindAnswered name o old_in new_in old new old_errors new_errors failed end =
+    (mid : Option (List ℕ)) × (r : Response) × IsFindResponse o old_in new_in old mid r
     × IsDelivered name r mid new old_errors new_errors failed end

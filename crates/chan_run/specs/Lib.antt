@@ -15,7 +15,7 @@ pub mod ImageNote
 pub mod NoJob
 pub mod Advice
 pub mod Answers
-pub mod Said
+pub mod Texts
 pub mod Response
 pub mod Find
 pub mod OutputWords

@@ -2,7 +2,6 @@
 use Rattle.std.specs.Prelude.{◌++◌, ℕ, Bool, true, false, List, [], Option, Some, None}
 use Rattle.std.specs.Prelude.{◌∷◌, ◌==◌, codes, option_map}
 use Rattle.std.specs.Borrow.{Bor}
-use Rattle.std.specs.List.{flat_map}
 use Rattle.chan_run.specs.declared.name.Naming.{Naming}
 
 -- the name that an input may have, in the code and in what is said of it
@@ -42,7 +41,3 @@ unfoldable pub fronted : List ℕ → Bool → List ℕ → List ℕ
 fronted front begins [] = []
 fronted front true (b ∷ bs) = front ++ (b ∷ fronted front (b == 10) bs)
 fronted front false (b ∷ bs) = b ∷ fronted front (b == 10) bs
-
--- some texts, one behind the other
-abbrev pub concatenated : List (Bor (List ℕ)) → List ℕ
-concatenated = flat_map (λ text. text.now)

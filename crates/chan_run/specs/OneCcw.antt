@@ -4,7 +4,7 @@ use Rattle.std.specs.Prelude.{◌⊎◌, length, IfSome, IsSome, Result, Ok, Err
 use Rattle.std.specs.List.{AllPass, filter}
 use Rattle.chan_deck.specs.Listing.{ccw_line}
 use Rattle.chan_run.specs.Options.{digits_in}
-use Rattle.chan_run.specs.Response.{IsBare, bytes_in}
+use Rattle.chan_run.specs.Response.{IsBareResponse, advice_in}
 use Rattle.chan_run.specs.declared.response.Response.{Response}
 use Rattle.chan_run.specs.declared.failure.Failure.TheVariants as failures
 use Rattle.chan_run.specs.declared.outcome.Outcome.TheVariants.{Done, Failed}
@@ -43,7 +43,7 @@ pub record IsCcwLine (digits : List ℕ) (r : Response) : Type 0 where
   pub spelled : SpellsCcw digits
   pub outcome : r.outcome ≡ Done
   pub output : r.output.items ≡ shown_line true digits
-  pub advice : bytes_in r.advice ≡ Some []
+  pub advice : advice_in r.advice ≡ Some []
   pub note : r.note.now ≡ []
 
 -- the answer to digits that don't: why
@@ -51,14 +51,14 @@ pub record IsCcwFault (digits : List ℕ) (r : Response) : Type 0 where
   pub unspelled : ¬ SpellsCcw digits
   pub outcome : r.outcome ≡ Failed failures.NotCcw
   pub output : r.output.items ≡ []
-  pub advice : IfSome (bytes_in r.advice) (λ why. why ≢ [])
-  pub said : IsSome (bytes_in r.advice)
+  pub advice : IfSome (advice_in r.advice) (λ why. why ≢ [])
+  pub said : IsSome (advice_in r.advice)
   pub note : r.note.now ≡ []
 
 abbrev pub IsCcwShown : List ℕ → Response → Type 0
 IsCcwShown digits r = IsCcwLine digits r ⊎ IsCcwFault digits r
 
 -- the answer to a text as a person writes it
-abbrev pub IsNamedCcw : List ℕ → Response → Type 0
-IsNamedCcw text r =
-    IsBare (Failed failures.OutOfMemory) [] r ⊎ IsCcwShown (plain_digits text) r
+abbrev pub IsCcwResponse : List ℕ → Response → Type 0
+IsCcwResponse text r =
+    IsBareResponse (Failed failures.OutOfMemory) [] r ⊎ IsCcwShown (plain_digits text) r

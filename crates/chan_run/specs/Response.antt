@@ -1,4 +1,5 @@
--- What is answered to an input: the outcome, and the bytes for each of two writers.
+-- What is answered to an input: the outcome, and the bytes for each of two writers; and what the
+-- writers got of it.
 use Rattle.std.specs.Prelude.{◌≡◌, ◌≢◌, ◌⊎◌, ◌++◌, ◌||◌, ℕ, Bool, false, true, List, [], Option}
 use Rattle.std.specs.Prelude.{None, Some, is_some, option_map}
 use Rattle.std.specs.Global.{Vec}
@@ -18,7 +19,7 @@ use Rattle.chan_run.specs.Input.{IsInput, IsReadFault}
 use Rattle.chan_run.specs.Name.{front_of, fronted, name_of}
 use Rattle.chan_run.specs.Outcome.{IsDone, line_over}
 use Rattle.chan_run.specs.Output.{IsAskedText, IsOfJob, Judges}
-use Rattle.chan_run.specs.Said.{IsSaid}
+use Rattle.chan_run.specs.Texts.{WriterGot}
 use Rattle.chan_run.specs.declared.failure.Failure.{Failure}
 use Rattle.chan_run.specs.declared.failure.Failure.TheVariants as failures
 use Rattle.chan_run.specs.declared.name.Naming.{Naming}
@@ -28,80 +29,84 @@ use Rattle.chan_run.specs.declared.response.Response.{Response}
 
 -- ---- the answer to a text
 
--- the bytes of a text that there may be
-abbrev pub bytes_in : Option (Vec ℕ) → Option (List ℕ)
-bytes_in = option_map (λ text. text.items)
+-- the bytes of the advice, if memory lasted for it
+abbrev pub advice_in : Option (Vec ℕ) → Option (List ℕ)
+advice_in = option_map (λ text. text.items)
 
--- this is said beside an answer: advice, with the name before each line, or that memory ran out for
--- it; and nothing where none is wanted
-abbrev pub IsBeside : Naming → Bool → (List ℕ → Type 0) → Option (List ℕ) → Type 0
-IsBeside n false IsAdvice said = said ≡ Some []
-IsBeside n true IsAdvice None = Unit {0}
-IsBeside n true IsAdvice (Some text) =
+-- the advice beside an answer: if some is wanted, such advice with the name before each line,
+-- unless memory ran out for it; and else nothing
+abbrev pub IsWantedAdvice : Naming → Bool → (List ℕ → Type 0) → Option (List ℕ) → Type 0
+IsWantedAdvice n false IsAdvice advice = advice ≡ Some []
+IsWantedAdvice n true IsAdvice None = Unit {0}
+IsWantedAdvice n true IsAdvice (Some text) =
     (advice : List ℕ) × IsAdvice advice × (text ≡ fronted (front_of n) true advice)
 
--- only this outcome, and this note
-pub record IsBare (end : Outcome) (remark : List ℕ) (r : Response) : Type 0 where
+-- only this outcome and this note, without an output or advice
+pub record IsBareResponse (end : Outcome) (remark : List ℕ) (r : Response) : Type 0 where
   pub outcome : r.outcome ≡ end
   pub output : r.output.items ≡ []
-  pub advice : bytes_in r.advice ≡ Some []
+  pub advice : advice_in r.advice ≡ Some []
   pub note : r.note.now ≡ remark
 
+-- the outcome of an answer with this verdict
 abbrev pub outcome_of : Verdict → Outcome
 outcome_of Yes = Done
 outcome_of (No address reason) = Denied
 
 -- the job was judged: the output is what the action asks for, with advice if it is explained
-pub record IsJudged (n : Naming) (a : Action) (j : Job) (r : Response) : Type 0 where
+pub record IsVerdictResponse (n : Naming) (a : Action) (j : Job) (r : Response) : Type 0 where
   pub verdict : Verdict
   pub is : IsAnswer j verdict
   pub outcome : r.outcome ≡ outcome_of verdict
   pub output : IsAskedText n a j verdict r.output.items
-  pub advice : IsBeside n (is_why a) (IsVerdictAdvice j verdict) (bytes_in r.advice)
+  pub advice : IsWantedAdvice n (is_why a) (IsVerdictAdvice j verdict) (advice_in r.advice)
   pub note : r.note.now ≡ []
 
 -- too many places are reachable
-pub record IsUnjudged (n : Naming) (a : Action) (j : Job) (r : Response) : Type 0 where
+pub record IsLimitResponse (n : Naming) (a : Action) (j : Job) (r : Response) : Type 0 where
   pub many : HasMoreThan j j.limit
   pub outcome : r.outcome ≡ Failed failures.TooManyPlaces
   pub output : r.output.items ≡ []
-  pub advice : IsBeside n (is_why a) (λ advice. advice ≢ []) (bytes_in r.advice)
+  pub advice : IsWantedAdvice n (is_why a) (λ advice. advice ≢ []) (advice_in r.advice)
   pub note : r.note.now ≡ []
 
 -- the text isn't a deck; the hint comes if it is explained or has a name
-pub record IsRefusal (n : Naming) (a : Action) (t : List ℕ) (r : Response) : Type 0 where
+pub record IsRefusalResponse (n : Naming) (a : Action) (t : List ℕ) (r : Response) : Type 0 where
   pub line : ℕ
   pub cause : Cause
   pub refused : IsRefused t line cause
   pub outcome : r.outcome ≡ Refused line cause
   pub output : r.output.items ≡ []
-  pub advice : IsBeside n (is_some n.name || is_why a) (λ hint. hint ≢ []) (bytes_in r.advice)
+  pub advice :
+      IsWantedAdvice n (is_some n.name || is_why a) (λ hint. hint ≢ []) (advice_in r.advice)
   pub note : r.note.now ≡ []
 
 -- the answer to what an action asks of a job: that of the job that it judges
-abbrev pub IsOnJob : Naming → Action → Job → Response → Type 0
-IsOnJob n a j r = (k : Job) × Judges a j k × (IsJudged n a k r ⊎ IsUnjudged n a k r)
+abbrev pub IsJobResponse : Naming → Action → Job → Response → Type 0
+IsJobResponse n a j r =
+    (k : Job) × Judges a j k × (IsVerdictResponse n a k r ⊎ IsLimitResponse n a k r)
 
 -- the answer to what an action asks of a text, where memory lasts
-abbrev pub IsAnswerTo : Naming → Action → List ℕ → Response → Type 0
-IsAnswerTo n a t r = IsRefusal n a t r ⊎ IsOfJob t (λ j. IsOnJob n a j r)
+abbrev pub IsTextResponse : Naming → Action → List ℕ → Response → Type 0
+IsTextResponse n a t r = IsRefusalResponse n a t r ⊎ IsOfJob t (λ j. IsJobResponse n a j r)
 
 -- the answer to what an action asks of a text
 abbrev pub IsResponse : Naming → Action → List ℕ → Response → Type 0
-IsResponse n a t r = IsBare (Failed failures.OutOfMemory) [] r ⊎ IsAnswerTo n a t r
+IsResponse n a t r = IsBareResponse (Failed failures.OutOfMemory) [] r ⊎ IsTextResponse n a t r
 
 -- the answer to an input: to its text, or why that wasn't read
 abbrev pub IsInputResponse : Naming → Action → Option (List ℕ) → Option (List ℕ) → Response
     → Type 0
 IsInputResponse n a old new r =
     ((t : List ℕ) × IsInput old new t × IsResponse n a t r)
-    ⊎ ((failure : Failure) × IsReadFault old new failure × IsBare (Failed failure) [] r)
+    ⊎ ((failure : Failure) × IsReadFault old new failure × IsBareResponse (Failed failure) [] r)
 
 -- ---- its delivery
 
--- the output was written if there is an answer, and else nothing; or a write failed and a prefix was
-abbrev pub IsPut : Response → Option (List ℕ) → Option (List ℕ) → Outcome → Type 0
-IsPut r old new end =
+-- what a writer got of an answer's output: all of it if all was done, and else nothing; or a write
+-- failed, and it got a prefix
+abbrev pub IsOutputWritten : Response → Option (List ℕ) → Option (List ℕ) → Outcome → Type 0
+IsOutputWritten r old new end =
     ((end ≡ r.outcome) × (IsDone end → Appends old new r.output.items)
     × ((IsDone end → ⊥) → new ≡ old))
     ⊎ ((end ≡ Failed failures.WriteFailed) × IsDone r.outcome
@@ -115,26 +120,27 @@ advice_bytes name (Some text) = text
 -- the line of an answer, and what is said beside it
 abbrev pub said_of : Option (List ℕ) → Response → List ℕ
 said_of name r =
-    line_over name r.outcome ++ (advice_bytes name (bytes_in r.advice) ++ r.note.now)
+    line_over name r.outcome ++ (advice_bytes name (advice_in r.advice) ++ r.note.now)
 
 -- the line of a failed write, with only the note beside it
 abbrev pub said_unwritten : Option (List ℕ) → Response → List ℕ
 said_unwritten name r = line_over name (Failed failures.WriteFailed) ++ r.note.now
 
--- the answer was put on one writer and told on another, or the first one failed and that was told
+-- the first writer got the output of an answer, and the second what is said of it; or the first
+-- failed, and the second got the line of that
 abbrev pub IsDelivered : Option (List ℕ) → Response → Option (List ℕ) → Option (List ℕ)
     → Option (List ℕ) → Option (List ℕ) → Bool → Outcome → Type 0
 IsDelivered name r old new old_errors new_errors failed end =
-    IsPut r old new end
-    × (((end ≡ r.outcome) × IsSaid (said_of name r) old_errors new_errors failed)
+    IsOutputWritten r old new end
+    × (((end ≡ r.outcome) × WriterGot (said_of name r) old_errors new_errors failed)
     ⊎ ((end ≡ Failed failures.WriteFailed)
-    × IsSaid (said_unwritten name r) old_errors new_errors failed))
+    × WriterGot (said_unwritten name r) old_errors new_errors failed))
 
--- what a run over an input that is named so comes to: its answer was put on the writer
-abbrev pub IsRun : Naming → Action → Option (List ℕ) → Option (List ℕ)
+-- what a run over an input that is named so comes to: a writer got the output of its answer
+abbrev pub IsRunAnswer : Naming → Action → Option (List ℕ) → Option (List ℕ)
     → Option (List ℕ) → Option (List ℕ) → Outcome → Type 0
-IsRun n a old_in new_in old new end =
-    (r : Response) × IsInputResponse n a old_in new_in r × IsPut r old new end
+IsRunAnswer n a old_in new_in old new end =
+    (r : Response) × IsInputResponse n a old_in new_in r × IsOutputWritten r old new end
 
 -- what an input comes to that is named so: its answer was delivered
 abbrev pub IsAnswered : Naming → Action → Option (List ℕ) → Option (List ℕ)

@@ -8,7 +8,7 @@ ghost use Rattle.chan_walk.specs.Offence.{first_verdict};
 ghost use Rattle.chan_walk.specs.declared.verdict.Verdict.TheVariants.{No};
 ghost use Rattle.chan_run.specs.Advice.{AreNotesSaid, IsExchangeSaid, IsVerdictAdvice};
 ghost use Rattle.chan_run.specs.Name.{front_of, fronted};
-ghost use Rattle.chan_run.specs.Response.{IsBeside, bytes_in};
+ghost use Rattle.chan_run.specs.Response.{IsWantedAdvice, advice_in};
 
 use crate::name::{Naming, named};
 use chan_args::Action;
@@ -26,8 +26,8 @@ pub(crate) fn hint_beside(
     line: u64,
     cause: Cause,
 ) -> Option<Vec<u8>>
-    ensures { IsBeside naming.entry (is_some naming.entry.name || is_why action)
-        (λ hint. hint ≢ []) (bytes_in result) }
+    ensures { IsWantedAdvice naming.entry (is_some naming.entry.name || is_why action)
+        (λ hint. hint ≢ []) (advice_in result) }
 {
     if !(naming.name.is_some() || action.is_why()) {
         return Some(Vec::new(alloc));
@@ -43,7 +43,8 @@ pub(crate) fn limit_beside(
     action: Action,
     limit: Limit,
 ) -> Option<Vec<u8>>
-    ensures { IsBeside naming.entry (is_why action) (λ advice. advice ≢ []) (bytes_in result) }
+    ensures { IsWantedAdvice naming.entry (is_why action)
+        (λ advice. advice ≢ []) (advice_in result) }
 {
     if !action.is_why() {
         return Some(Vec::new(alloc));
@@ -53,7 +54,7 @@ pub(crate) fn limit_beside(
 }
 
 /// For `Why`, the advice on a job that was surveyed.
-pub(crate) fn said_beside(
+pub(crate) fn notes_beside(
     alloc: Global,
     naming: Naming<'_>,
     action: Action,
@@ -61,8 +62,8 @@ pub(crate) fn said_beside(
     survey: &Survey,
 ) -> Option<Vec<u8>>
     requires { IsSurvey job.now survey.now }
-    ensures { IsBeside naming.entry (is_why action)
-        (IsVerdictAdvice job.now (first_verdict survey.now.offences)) (bytes_in result) }
+    ensures { IsWantedAdvice naming.entry (is_why action)
+        (IsVerdictAdvice job.now (first_verdict survey.now.offences)) (advice_in result) }
 {
     if !action.is_why() {
         return Some(Vec::new(alloc));

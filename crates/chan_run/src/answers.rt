@@ -1,11 +1,11 @@
 //! Answering an input: what the program does with each.
 
 ghost use Rattle.std.specs.Prelude.{◌≡◌, ◌↔◌, ◌+◌, ◌≤◌, ◌^◌, false, length, true};
-ghost use Rattle.chan_run.specs.Answers.{IsImageAnswer, IsImageHandled, IsImageResponse};
+ghost use Rattle.chan_run.specs.Answers.{IsImageAnswered, IsImageInputResponse, IsImageResponse};
 ghost use Rattle.chan_run.specs.Name.{name_in};
 ghost use Rattle.chan_run.specs.Outcome.{IsDone, IsImageEnd, IsWriteFailure};
 ghost use Rattle.chan_run.specs.Response.{IsAnswered};
-ghost use Rattle.chan_run.specs.Said.{IsSaid};
+ghost use Rattle.chan_run.specs.Texts.{WriterGot};
 ghost use Rattle.chan_run.specs.declared.failure.Failure.TheVariants as failures;
 ghost use Rattle.chan_run.specs.declared.outcome.Outcome.TheVariants.{Failed};
 
@@ -18,8 +18,8 @@ use crate::name::Naming;
 use crate::no_job::no_job_text;
 use crate::outcome::Outcome;
 use crate::response::Response;
-use crate::status::respond_to;
-use crate::texts::say;
+use crate::status::respond_to_input;
+use crate::texts::write_bytes;
 use ccw_core::Watched;
 use chan_args::Action;
 use std::alloc::Global;
@@ -52,7 +52,7 @@ pub fn answer<R: Read, W: Write, E: Write>(
     ensures read { result ≡ Failed failures.ReadFailed ↔ (from.new.failed ≡ true) }
     ensures write { IsWriteFailure result ↔ (to.new.failed ≡ true) }
 {
-    let response = respond_to(alloc, naming, action, from);
+    let response = respond_to_input(alloc, naming, action, from);
     deliver(naming.name, &response, to, errors)
 }
 
@@ -62,10 +62,10 @@ const USUAL_DEVICE: &str = "note: no --device, so 2314\n";
 /// Names the usual device, for a deck without a named one. If the writer fails, it has a prefix.
 pub fn note_usual_device<E: Write>(errors: &mut Watched<E>)
     requires { errors.old.failed ≡ false }
-    ensures said { IsSaid USUAL_DEVICE.now
+    ensures said { WriterGot USUAL_DEVICE.now
         (E.contents errors.old.device) (E.contents errors.new.device) errors.new.failed }
 {
-    let _ = say(USUAL_DEVICE.as_bytes(), errors);
+    let _ = write_bytes(USUAL_DEVICE.as_bytes(), errors);
 }
 
 /// Reads an image of storage to the end of the input, writes the one text of the deck that it makes
@@ -93,7 +93,7 @@ pub fn answer_image<R: Read, W: Write, E: Write>(
     requires reader { from.old.failed ≡ false }
     requires writer { to.old.failed ≡ false }
     requires errors { errors.old.failed ≡ false }
-    ensures answer { IsImageHandled (name_in name.entry) options.now
+    ensures answer { IsImageAnswered (name_in name.entry) options.now
         (R.remaining from.old.device) (R.remaining from.new.device)
         (W.contents to.old.device) (W.contents to.new.device)
         (E.contents errors.old.device) (E.contents errors.new.device) errors.new.failed result }
@@ -102,31 +102,31 @@ pub fn answer_image<R: Read, W: Write, E: Write>(
     ensures read { result ≡ Failed failures.ReadFailed ↔ (from.new.failed ≡ true) }
     ensures write { IsWriteFailure result ↔ (to.new.failed ≡ true) }
 {
-    let response = image_answer(alloc, name, options, from);
+    let response = respond_to_image_input(alloc, name, options, from);
     deliver(name, &response, to, errors)
 }
 
 /// Reads an image to the end of an input, and gives the answer to it, or why it wasn't read.
-fn image_answer<R: Read>(
+fn respond_to_image_input<R: Read>(
     alloc: Global,
     name: Option<&str>,
     options: &ImageOptions,
     from: &mut Watched<R>,
 ) -> Response
     requires { from.old.failed ≡ false }
-    ensures answer { IsImageAnswer (name_in name.entry) options.now
+    ensures answer { IsImageInputResponse (name_in name.entry) options.now
         (R.remaining from.old.device) (R.remaining from.new.device) result }
     ensures read { result.outcome ≡ Failed failures.ReadFailed ↔ (from.new.failed ≡ true) }
     ensures unwritten { IsWriteFailure result.outcome → ⊥ }
 {
     match read_image(alloc, options, from) {
-        Ok(image) => respond_image(alloc, name, options, image.as_slice()),
+        Ok(image) => respond_to_image(alloc, name, options, image.as_slice()),
         Err(failure) => Response::bare(alloc, Outcome::Failed(failure), ""),
     }
 }
 
 /// The answer to an image.
-fn respond_image(
+fn respond_to_image(
     alloc: Global,
     name: Option<&str>,
     options: &ImageOptions,

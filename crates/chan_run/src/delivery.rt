@@ -5,15 +5,15 @@ ghost use Rattle.std.specs.Io.KnownBytes.{Appends};
 ghost use Rattle.ccw_core.specs.Written.{AppendsPrefix};
 ghost use Rattle.chan_run.specs.Name.{name_in};
 ghost use Rattle.chan_run.specs.Outcome.{IsDone, IsWriteFailure, line_over};
-ghost use Rattle.chan_run.specs.Response.{IsDelivered, IsPut, said_of};
-ghost use Rattle.chan_run.specs.Said.{IsSaid};
+ghost use Rattle.chan_run.specs.Response.{IsDelivered, IsOutputWritten, said_of};
+ghost use Rattle.chan_run.specs.Texts.{WriterGot};
 ghost use Rattle.chan_run.specs.declared.failure.Failure.TheVariants as failures;
 ghost use Rattle.chan_run.specs.declared.outcome.Outcome.TheVariants.{Failed};
 
 use crate::failure::Failure;
 use crate::outcome::{Outcome, is_done, write_line};
 use crate::response::Response;
-use crate::texts::say;
+use crate::texts::write_bytes;
 use ccw_core::{DeviceFault, Watched, write_out};
 use std::io::Write;
 
@@ -38,12 +38,12 @@ pub fn deliver<W: Write, E: Write>(
     ensures flushed { IsDone result → to.new.flushed ≡ true }
     ensures write { IsWriteFailure result ↔ (to.new.failed ≡ true) }
 {
-    if is_done(response.outcome) && put(response.output.as_slice(), to).is_err() {
+    if is_done(response.outcome) && write_and_flush(response.output.as_slice(), to).is_err() {
         let failed = Outcome::Failed(Failure::WriteFailed);
-        let _ = tell(name, failed, response.note.as_bytes(), errors);
+        let _ = tell_line(name, failed, response.note.as_bytes(), errors);
         return failed;
     }
-    let _ = tell_all(name, response, errors);
+    let _ = tell(name, response, errors);
     response.outcome
 }
 
@@ -53,9 +53,9 @@ pub(crate) fn write_output<W: Write>(
     to: &mut Watched<W>,
 ) -> Result<(), DeviceFault>
     requires { to.old.failed ≡ false }
-    ensures put { IfOk result (λ _. IsPut response.now (W.contents to.old.device)
+    ensures put { IfOk result (λ _. IsOutputWritten response.now (W.contents to.old.device)
         (W.contents to.new.device) response.now.outcome) }
-    ensures broken { IfErr result (λ _. IsPut response.now (W.contents to.old.device)
+    ensures broken { IfErr result (λ _. IsOutputWritten response.now (W.contents to.old.device)
         (W.contents to.new.device) (Failed failures.WriteFailed)) }
     ensures early { (IsDone response.now.outcome → ⊥) → to.new ≡ to.old }
     ensures fault { IsErr result ↔ (to.new.failed ≡ true) }
@@ -67,7 +67,7 @@ pub(crate) fn write_output<W: Write>(
 }
 
 /// Writes an output and flushes it.
-fn put<W: Write>(output: &[u8], to: &mut Watched<W>) -> Result<(), DeviceFault>
+fn write_and_flush<W: Write>(output: &[u8], to: &mut Watched<W>) -> Result<(), DeviceFault>
     requires { to.old.failed ≡ false }
     ensures ok { OnOk result (Appends (W.contents to.old.device) (W.contents to.new.device)
         output.now) }
@@ -80,42 +80,44 @@ fn put<W: Write>(output: &[u8], to: &mut Watched<W>) -> Result<(), DeviceFault>
     to.flush()
 }
 
-/// Writes the line of an answer, the advice or the line that memory ran out for it, and the note.
-fn tell_all<E: Write>(
+/// Writes what goes to the second writer: the outcome's line, the advice or the line that memory
+/// ran out for it, and the note.
+fn tell<E: Write>(
     name: Option<&str>,
     response: &Response,
     errors: &mut Watched<E>,
 ) -> Result<(), DeviceFault>
     requires { errors.old.failed ≡ false }
-    ensures { IsSaid (said_of (name_in name.entry) response.now)
+    ensures said { WriterGot (said_of (name_in name.entry) response.now)
         (E.contents errors.old.device) (E.contents errors.new.device) errors.new.failed }
+    ensures fault { IsErr result ↔ (errors.new.failed ≡ true) }
 {
     match &response.advice {
         Some(text) => {
-            tell(name, response.outcome, text.as_slice(), errors)?;
-            say(response.note.as_bytes(), errors)
+            tell_line(name, response.outcome, text.as_slice(), errors)?;
+            write_bytes(response.note.as_bytes(), errors)
         }
         None => {
             write_line(name, response.outcome, errors)?;
             let no_memory = Outcome::Failed(Failure::OutOfMemory);
-            tell(name, no_memory, response.note.as_bytes(), errors)
+            tell_line(name, no_memory, response.note.as_bytes(), errors)
         }
     }
 }
 
 /// Writes the line of an outcome, and more behind it.
-#[tactic(auto, using(crate::proofs::Writing::said_broken))]
-fn tell<E: Write>(
+#[tactic(auto, using(crate::proofs::Writing::got_front))]
+fn tell_line<E: Write>(
     name: Option<&str>,
     outcome: Outcome,
     more: &[u8],
     errors: &mut Watched<E>,
 ) -> Result<(), DeviceFault>
     requires { errors.old.failed ≡ false }
-    ensures said { IsSaid (line_over (name_in name.entry) outcome ++ more.now)
+    ensures said { WriterGot (line_over (name_in name.entry) outcome ++ more.now)
         (E.contents errors.old.device) (E.contents errors.new.device) errors.new.failed }
     ensures fault { IsErr result ↔ (errors.new.failed ≡ true) }
 {
     write_line(name, outcome, errors)?;
-    say(more, errors)
+    write_bytes(more, errors)
 }

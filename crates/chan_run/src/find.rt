@@ -1,11 +1,11 @@
 //! Finding the programs of an image of storage, a line for each.
 
 ghost use Rattle.std.specs.Prelude.{◌≡◌, ◌↔◌, ◌+◌, ◌≤◌, ◌^◌, false, true, length, IfOk, List, ℕ};
-ghost use Rattle.std.specs.Prelude.{◌⊎◌, ℕ, string_bytes};
+ghost use Rattle.std.specs.Prelude.{string_bytes};
 ghost use Rattle.ccw_core.specs.Held.{bytes_held};
 ghost use Rattle.chan_deck.specs.Parts.{storage_with};
-ghost use Rattle.chan_run.specs.Find.{IsFindAnswer, IsFindNote, IsFoundAnswer, IsLineAt, IsSearched};
-ghost use Rattle.chan_run.specs.Find.{IsUnsearched};
+ghost use Rattle.chan_run.specs.Find.{IsFindAnswered, IsFindNote, IsFindResponse, IsFoundAnswer};
+ghost use Rattle.chan_run.specs.Find.{IsLineAt};
 ghost use Rattle.chan_run.specs.Name.{name_in};
 ghost use Rattle.chan_run.specs.Outcome.{IsDone, IsWriteFailure};
 ghost use Rattle.chan_run.specs.declared.failure.Failure.TheVariants as failures;
@@ -47,7 +47,7 @@ pub fn find_programs<R: Read, W: Write, E: Write>(
     requires reader { from.old.failed ≡ false }
     requires writer { to.old.failed ≡ false }
     requires errors { errors.old.failed ≡ false }
-    ensures answer { IsFindAnswer (name_in name.entry) options.now
+    ensures answer { IsFindAnswered (name_in name.entry) options.now
         (R.remaining from.old.device) (R.remaining from.new.device)
         (W.contents to.old.device) (W.contents to.new.device)
         (E.contents errors.old.device) (E.contents errors.new.device) errors.new.failed result }
@@ -68,9 +68,7 @@ fn search_image<R: Read, W: Write>(
 ) -> Response
     requires reader { from.old.failed ≡ false }
     requires writer { to.old.failed ≡ false }
-    ensures answer { IsSearched options.now
-        (R.remaining from.old.device) (R.remaining from.new.device)
-        (W.contents to.old.device) (W.contents to.new.device) result ⊎ IsUnsearched options.now
+    ensures answer { IsFindResponse options.now
         (R.remaining from.old.device) (R.remaining from.new.device)
         (W.contents to.old.device) (W.contents to.new.device) result }
     ensures read { result.outcome ≡ Failed failures.ReadFailed ↔ (from.new.failed ≡ true) }
@@ -78,14 +76,15 @@ fn search_image<R: Read, W: Write>(
 {
     match read_image(alloc, options, from) {
         Ok(image) => {
-            let (came, note) = write_programs(alloc, options, image.as_slice(), to);
-            Response::bare(alloc, came, note)
+            let (outcome, note) = write_programs(alloc, options, image.as_slice(), to);
+            Response::bare(alloc, outcome, note)
         }
         Err(failure) => Response::bare(alloc, Outcome::Failed(failure), ""),
     }
 }
 
-/// Writes a line for each program in an image, and gives the note on the image, or an empty text.
+/// Writes a line for each program in an image, as each verdict is known, and says what came of it.
+/// Beside that stands the note on the image, or an empty text.
 fn write_programs<W: Write>(
     alloc: Global,
     options: &ImageOptions,

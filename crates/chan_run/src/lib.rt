@@ -54,7 +54,7 @@ pub use crate::find::find_programs;
 pub use crate::image_options::{ImageOptions, OptionError, OptionFault};
 pub use crate::meanings::{explain_word, list_words};
 pub use crate::name::Naming;
-pub use crate::named_ccw::respond_named;
+pub use crate::named_ccw::respond_to_ccw;
 pub use crate::one_ccw::{ShowError, show};
 pub use crate::option_fault::{
     report_file, report_grants, report_no_ccw, report_option, report_usage,
@@ -64,4 +64,4 @@ pub use crate::outcome::{Outcome, ends_run, exit_status, greater_status, report}
 pub use crate::response::{Response, respond};
 pub use crate::status::{RunError, Status, run};
 pub use crate::terms::Term;
-pub use crate::word::{shown_word, word_of};
+pub use crate::word::shown_word;

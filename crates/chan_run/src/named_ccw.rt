@@ -1,7 +1,7 @@
 //! Showing one CCW with the name of its command, from a text as a person writes it.
 
 ghost use Rattle.std.specs.Prelude.{◌≡◌, ◌≢◌, ◌↔◌, [], false, true, string_bytes, IfOk};
-ghost use Rattle.chan_run.specs.OneCcw.{IsCcwShown, IsNamedCcw, plain_digits, without_blanks};
+ghost use Rattle.chan_run.specs.OneCcw.{IsCcwShown, IsCcwResponse, plain_digits, without_blanks};
 ghost use Rattle.chan_run.specs.Options.{digits_in};
 ghost use Rattle.chan_run.specs.Outcome.{IsWriteFailure};
 ghost use Rattle.std.specs.Prelude.{◌≤◌, ◌||◌, None, IsTrue, codes, length, nat_eq};
@@ -63,18 +63,18 @@ fn fault_of(alloc: Global, digits: &[u8]) -> Result<String, AllocError>
 /// text is sixteen hexadecimal digits of either case, between which blanks may stand, and `0x`
 /// before them. If the text is no CCW, the advice says which character is wrong, or how many digits
 /// there are.
-pub fn respond_named(alloc: Global, text: &[u8]) -> Response
-    ensures answer { IsNamedCcw text.now result }
+pub fn respond_to_ccw(alloc: Global, text: &[u8]) -> Response
+    ensures answer { IsCcwResponse text.now result }
     ensures unwritten { IsWriteFailure result.outcome → ⊥ }
 {
-    match named_ccw(alloc, text) {
+    match shown_ccw(alloc, text) {
         Ok(response) => response,
         Err(AllocError) => Response::bare(alloc, Outcome::Failed(Failure::OutOfMemory), ""),
     }
 }
 
 /// The answer to a text, where memory lasts.
-fn named_ccw(alloc: Global, text: &[u8]) -> Result<Response, AllocError>
+fn shown_ccw(alloc: Global, text: &[u8]) -> Result<Response, AllocError>
     ensures answer { IfOk result (IsCcwShown (plain_digits text.now)) }
     ensures known { IfOk result (λ r. IsWriteFailure r.outcome → ⊥) }
 {

@@ -1,7 +1,7 @@
 //! The usage faults that name an option, in the wording of the command line's library.
 
 ghost use Rattle.std.specs.Prelude.{◌≡◌, ◌↔◌, ◌++◌, false, true, codes, IfSome, List, ℕ, IsErr};
-ghost use Rattle.chan_run.specs.Said.{IsSaid};
+ghost use Rattle.chan_run.specs.Texts.{WriterGot};
 ghost use Rattle.chan_run.specs.OptionFault.{IsAroundTip, IsFaultText, IsTipless};
 ghost use Rattle.chan_run.specs.OptionFault.{file_fault_text, grants_fault_text, usage_of};
 
@@ -53,7 +53,7 @@ const MORE: &str = "\n\nFor more information, try '--help'.\n";
 pub fn report_option<W: Write>(fault: OptionFault<'_>, to: &mut Watched<W>) -> u8
     requires { to.old.failed ≡ false }
     ensures status { result ≡ 4 }
-    ensures said { (text : List ℕ) × IsFaultText fault.entry text × IsSaid text
+    ensures said { (text : List ℕ) × IsFaultText fault.entry text × WriterGot text
         (W.contents to.old.device) (W.contents to.new.device) to.new.failed }
 {
     let usage = usage(fault.option);
@@ -84,7 +84,7 @@ pub fn report_option<W: Write>(fault: OptionFault<'_>, to: &mut Watched<W>) -> u
 pub fn report_grants<W: Write>(fault: GrantFault, to: &mut Watched<W>) -> u8
     requires { to.old.failed ≡ false }
     ensures status { result ≡ 4 }
-    ensures said { IsSaid (grants_fault_text fault)
+    ensures said { WriterGot (grants_fault_text fault)
         (W.contents to.old.device) (W.contents to.new.device) to.new.failed }
 {
     let _ = match fault {
@@ -98,7 +98,7 @@ pub fn report_grants<W: Write>(fault: GrantFault, to: &mut Watched<W>) -> u8
 /// Writes the text of the usage fault that an option stands beside another, which begins so.
 fn write_beside<W: Write>(beside: &str, usage: &str, to: &mut Watched<W>) -> Result<(), DeviceFault>
     requires { to.old.failed ≡ false }
-    ensures said { IsSaid (beside.now ++ (usage.now ++ (codes "'" ++ MORE.now)))
+    ensures said { WriterGot (beside.now ++ (usage.now ++ (codes "'" ++ MORE.now)))
         (W.contents to.old.device) (W.contents to.new.device) to.new.failed }
     ensures fault { IsErr result ↔ (to.new.failed ≡ true) }
 {
@@ -110,7 +110,7 @@ fn write_beside<W: Write>(beside: &str, usage: &str, to: &mut Watched<W>) -> Res
 pub fn report_file<W: Write>(name: &str, to: &mut Watched<W>) -> u8
     requires { to.old.failed ≡ false }
     ensures status { result ≡ 4 }
-    ensures said { IsSaid (file_fault_text name.now)
+    ensures said { WriterGot (file_fault_text name.now)
         (W.contents to.old.device) (W.contents to.new.device) to.new.failed }
 {
     let _ = write_texts(
@@ -127,7 +127,7 @@ pub fn report_file<W: Write>(name: &str, to: &mut Watched<W>) -> u8
 pub fn report_no_ccw<W: Write>(to: &mut Watched<W>) -> u8
     requires { to.old.failed ≡ false }
     ensures status { result ≡ 4 }
-    ensures said { IsSaid (NO_CCW.now ++ MORE.now)
+    ensures said { WriterGot (NO_CCW.now ++ MORE.now)
         (W.contents to.old.device) (W.contents to.new.device) to.new.failed }
 {
     let _ = write_texts(&[NO_CCW, MORE], to);
@@ -139,7 +139,7 @@ pub fn report_no_ccw<W: Write>(to: &mut Watched<W>) -> u8
 pub fn report_usage<W: Write>(text: &str, to: &mut Watched<W>) -> u8
     requires { to.old.failed ≡ false }
     ensures status { result ≡ 4 }
-    ensures said { (said : List ℕ) × IsTipless text.now said × IsSaid said
+    ensures said { (said : List ℕ) × IsTipless text.now said × WriterGot said
         (W.contents to.old.device) (W.contents to.new.device) to.new.failed }
 {
     let _ = match around_tip(text) {

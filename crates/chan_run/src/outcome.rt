@@ -7,7 +7,7 @@ ghost use Rattle.chan_run.specs.Name.{name_in};
 ghost use Rattle.chan_run.specs.Outcome.{IsDone, IsWriteFailure, line_over};
 ghost use Rattle.chan_run.specs.Outcome.{shown, status_of, wrote};
 ghost use Rattle.chan_run.specs.Response.{outcome_of};
-ghost use Rattle.chan_run.specs.Said.{IsSaid};
+ghost use Rattle.chan_run.specs.Texts.{WriterGot};
 ghost use Rattle.chan_run.specs.declared.outcome.Outcome.TheVariants.{Done, Failed, Refused};
 
 use crate::failure::{Failure, row};
@@ -68,7 +68,7 @@ impl Outcome {
     }
 
     /// What a write of all that was asked for came to.
-    pub fn of_write(answer: Result<(), DeviceFault>) -> Outcome
+    pub(crate) fn of_write(answer: Result<(), DeviceFault>) -> Outcome
         ensures is { result ≡ wrote answer }
         ensures done { result ≡ Done ↔ IsOk answer }
         ensures write { IsWriteFailure result ↔ IsErr answer }
@@ -101,7 +101,7 @@ impl From<AllocError> for Outcome {
 pub fn report<W: Write>(name: Option<&str>, outcome: Outcome, to: &mut Watched<W>) -> u8
     requires { to.old.failed ≡ false }
     ensures status { result ≡ status_of outcome }
-    ensures said { IsSaid (line_over (name_in name.entry) outcome)
+    ensures said { WriterGot (line_over (name_in name.entry) outcome)
         (W.contents to.old.device) (W.contents to.new.device) to.new.failed }
 {
     let _ = write_line(name, outcome, to);
@@ -153,7 +153,7 @@ pub(crate) fn write_line<W: Write>(
     to: &mut Watched<W>,
 ) -> Result<(), DeviceFault>
     requires { to.old.failed ≡ false }
-    ensures said { IsSaid (line_over (name_in name.entry) outcome)
+    ensures said { WriterGot (line_over (name_in name.entry) outcome)
         (W.contents to.old.device) (W.contents to.new.device) to.new.failed }
     ensures fault { IsErr result ↔ (to.new.failed ≡ true) }
 {
@@ -173,7 +173,7 @@ fn write_refusal<W: Write>(
     to: &mut Watched<W>,
 ) -> Result<(), DeviceFault>
     requires { to.old.failed ≡ false }
-    ensures said { IsSaid (line_over (name_in name.entry) (Refused line cause))
+    ensures said { WriterGot (line_over (name_in name.entry) (Refused line cause))
         (W.contents to.old.device) (W.contents to.new.device) to.new.failed }
     ensures fault { IsErr result ↔ (to.new.failed ≡ true) }
 {
@@ -202,7 +202,7 @@ fn write_failure<W: Write>(
     to: &mut Watched<W>,
 ) -> Result<(), DeviceFault>
     requires { to.old.failed ≡ false }
-    ensures said { IsSaid (line_over (name_in name.entry) (Failed failure))
+    ensures said { WriterGot (line_over (name_in name.entry) (Failed failure))
         (W.contents to.old.device) (W.contents to.new.device) to.new.failed }
     ensures fault { IsErr result ↔ (to.new.failed ≡ true) }
 {

@@ -5,7 +5,7 @@ ghost use Rattle.std.specs.List.{All};
 ghost use Rattle.chan_run.specs.Outcome.{IsWriteFailure};
 ghost use Rattle.chan_run.specs.OutputWords.{AreRowsListed, IsFirstRow, IsRowFor, row_line};
 ghost use Rattle.chan_run.specs.OutputWords.{row_texts};
-ghost use Rattle.chan_run.specs.Said.{IsSaid};
+ghost use Rattle.chan_run.specs.Texts.{WriterGot};
 
 use crate::failure::Failure;
 use crate::outcome::Outcome;
@@ -165,7 +165,7 @@ pub(crate) fn row_for(rows: &[OutputWord], word: &str) -> Option<OutputWord>
 /// Writes the line of a word.
 pub(crate) fn write_row<W: Write>(row: OutputWord, to: &mut Watched<W>) -> Result<(), DeviceFault>
     requires { to.old.failed ≡ false }
-    ensures said { IsSaid (row_line (row.entry.0.now, row.entry.1.now))
+    ensures said { WriterGot (row_line (row.entry.0.now, row.entry.1.now))
         (W.contents to.old.device) (W.contents to.new.device) to.new.failed }
     ensures fault { IsErr result ↔ (to.new.failed ≡ true) }
 {

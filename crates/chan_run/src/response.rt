@@ -3,12 +3,13 @@
 ghost use Rattle.std.specs.Prelude.{◌⊎◌, IfOk};
 ghost use Rattle.chan_deck.specs.Refused.{IsRefused};
 ghost use Rattle.chan_run.specs.Output.{IsOfJob};
-ghost use Rattle.chan_run.specs.Response.{IsAnswerTo, IsBare, IsJudged, IsOnJob, IsRefusal};
-ghost use Rattle.chan_run.specs.Response.{IsResponse, IsUnjudged};
+ghost use Rattle.chan_run.specs.Response.{IsBareResponse, IsJobResponse, IsLimitResponse};
+ghost use Rattle.chan_run.specs.Response.{IsRefusalResponse, IsResponse, IsTextResponse};
+ghost use Rattle.chan_run.specs.Response.{IsVerdictResponse};
 ghost use Rattle.chan_run.specs.declared.failure.Failure.TheVariants as failures;
 ghost use Rattle.chan_run.specs.declared.outcome.Outcome.TheVariants.{Failed};
 
-use crate::advice::{hint_beside, limit_beside, said_beside};
+use crate::advice::{hint_beside, limit_beside, notes_beside};
 use crate::failure::Failure;
 use crate::name::Naming;
 use crate::outcome::Outcome;
@@ -19,7 +20,7 @@ use chan_deck::{Cause, DeckError, read_deck};
 use chan_walk::{Job, OpenJob, WalkError, survey};
 use std::alloc::{AllocError, Global};
 
-/// What is answered, for a writer and for another one.
+/// What a command answers: what it writes and says, before anything of it is written.
 #[derive(Drop)]
 pub struct Response {
     /// How it ends if all is written. Its line goes to the second writer.
@@ -35,7 +36,7 @@ pub struct Response {
 impl Response {
     /// An outcome without an output or advice, and a note. It takes no memory.
     pub fn bare(alloc: Global, outcome: Outcome, note: &'static str) -> Response
-        ensures { IsBare outcome note.now result }
+        ensures { IsBareResponse outcome note.now result }
     {
         Response {
             outcome,
@@ -58,25 +59,25 @@ impl Response {
 pub fn respond(alloc: Global, naming: Naming<'_>, action: Action, text: &[u8]) -> Response
     ensures { IsResponse naming.entry action text.now result }
 {
-    match answer_to(alloc, naming, action, text) {
+    match respond_to_text(alloc, naming, action, text) {
         Ok(response) => response,
         Err(AllocError) => Response::bare(alloc, Outcome::Failed(Failure::OutOfMemory), ""),
     }
 }
 
 /// The answer to what an action asks of a text, where memory lasts.
-fn answer_to(
+fn respond_to_text(
     alloc: Global,
     naming: Naming<'_>,
     action: Action,
     text: &[u8],
 ) -> Result<Response, AllocError>
-    ensures { IfOk result (IsAnswerTo naming.entry action text.now) }
+    ensures { IfOk result (IsTextResponse naming.entry action text.now) }
 {
     let deck = match read_deck(alloc, text) {
         Ok(deck) => deck,
         Err(DeckError::At { line, cause }) => {
-            return Ok(refusal(alloc, naming, action, text, line, cause));
+            return Ok(respond_to_refused_text(alloc, naming, action, text, line, cause));
         }
         Err(DeckError::Memory) => return Err(AllocError),
     };
@@ -84,11 +85,11 @@ fn answer_to(
 
     // The borrow checker asks for the type of what a job borrows.
     let _storage: Storage<'_> = job.storage;
-    answer_on(alloc, naming, action, &job)
+    respond_to_job(alloc, naming, action, &job)
 }
 
-/// The answer over a text that is no deck.
-fn refusal(
+/// The answer to a text that isn't a deck.
+fn respond_to_refused_text(
     alloc: Global,
     naming: Naming<'_>,
     action: Action,
@@ -97,7 +98,7 @@ fn refusal(
     cause: Cause,
 ) -> Response
     requires { IsRefused text.now line cause }
-    ensures { IsRefusal naming.entry action text.now result }
+    ensures { IsRefusalResponse naming.entry action text.now result }
 {
     Response {
         outcome: Outcome::Refused { line, cause },
@@ -107,36 +108,37 @@ fn refusal(
     }
 }
 
-/// The answer to what an action asks of a job: that of the job that it judges.
-fn answer_on(
+/// The answer to what an action asks of a job: `Needs` judges its open job, any other action the
+/// job itself.
+fn respond_to_job(
     alloc: Global,
     naming: Naming<'_>,
     action: Action,
     job: &Job,
 ) -> Result<Response, AllocError>
-    ensures { IfOk result (IsOnJob naming.entry action job.now) }
+    ensures { IfOk result (IsJobResponse naming.entry action job.now) }
 {
     match action {
         Action::Needs => match OpenJob::of(alloc, job) {
             Ok(open) => {
                 let open_job = open.job();
-                answer_of(alloc, naming, Action::Needs, &open_job)
+                respond_to_judged_job(alloc, naming, Action::Needs, &open_job)
             }
             Err(_) => Err(AllocError),
         },
-        _ => answer_of(alloc, naming, action, job),
+        _ => respond_to_judged_job(alloc, naming, action, job),
     }
 }
 
-/// The answer to what an action asks of a job that it judges.
-fn answer_of(
+/// The answer to what an action asks of the job that it judges.
+fn respond_to_judged_job(
     alloc: Global,
     naming: Naming<'_>,
     action: Action,
     job: &Job,
 ) -> Result<Response, AllocError>
-    ensures { IfOk result (λ r. IsJudged naming.entry action job.now r
-        ⊎ IsUnjudged naming.entry action job.now r) }
+    ensures { IfOk result (λ r. IsVerdictResponse naming.entry action job.now r
+        ⊎ IsLimitResponse naming.entry action job.now r) }
 {
     let survey = match survey(alloc, job) {
         Ok(survey) => survey,
@@ -151,7 +153,7 @@ fn answer_of(
         Err(WalkError::Memory) => return Err(AllocError),
     };
     let outcome = Outcome::of_verdict(survey.verdict());
-    let advice = said_beside(alloc, naming, action, job, &survey);
+    let advice = notes_beside(alloc, naming, action, job, &survey);
     let output = output_of(alloc, naming, action, job, survey)?;
     Ok(Response {
         outcome,

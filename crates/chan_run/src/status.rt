@@ -4,7 +4,7 @@ ghost use Rattle.std.specs.Prelude.{◌≡◌, ◌↔◌, false, true, IfErr, If
 ghost use Rattle.chan_run.specs.Input.{IsInput, IsReadFault};
 ghost use Rattle.chan_run.specs.Name.{unnamed};
 ghost use Rattle.chan_run.specs.Outcome.{IsRunEnd, ran};
-ghost use Rattle.chan_run.specs.Response.{IsInputResponse, IsRun};
+ghost use Rattle.chan_run.specs.Response.{IsInputResponse, IsRunAnswer};
 ghost use Rattle.chan_run.specs.declared.failure.Failure.TheVariants as failures;
 ghost use Rattle.chan_run.specs.declared.outcome.Outcome.TheVariants.{Failed};
 
@@ -68,7 +68,7 @@ pub fn run<R: Read, W: Write>(
 ) -> Result<Status, RunError>
     requires reader { from.old.failed ≡ false }
     requires writer { to.old.failed ≡ false }
-    ensures answer { IsRun unnamed action (R.remaining from.old.device)
+    ensures answer { IsRunAnswer unnamed action (R.remaining from.old.device)
         (R.remaining from.new.device) (W.contents to.old.device) (W.contents to.new.device)
         (ran result) }
     ensures early { (IsOk result → ⊥) → (IsErrOf result RunError.Write → ⊥) → to.new ≡ to.old }
@@ -79,7 +79,7 @@ pub fn run<R: Read, W: Write>(
         name: None,
         is_among: false,
     };
-    let response = respond_to(alloc, unnamed, action, from);
+    let response = respond_to_input(alloc, unnamed, action, from);
     match write_output(&response, to) {
         Ok(()) => came_of(response.outcome),
         Err(_) => Err(RunError::Write),
@@ -103,7 +103,7 @@ fn came_of(end: Outcome) -> Result<Status, RunError>
 }
 
 /// Reads an input to its end, and gives the answer to its text, or why it wasn't read.
-pub(crate) fn respond_to<R: Read>(
+pub(crate) fn respond_to_input<R: Read>(
     alloc: Global,
     naming: Naming<'_>,
     action: Action,

@@ -4,17 +4,17 @@ ghost use Rattle.std.specs.Prelude.{◌≡◌, ◌↔◌, ◌≤◌, false, true
 ghost use Rattle.std.specs.Prelude.{OnOk};
 ghost use Rattle.std.specs.Io.KnownBytes.{Appends};
 ghost use Rattle.ccw_core.specs.Written.{AppendsPrefix};
-ghost use Rattle.chan_run.specs.Name.{concatenated};
-ghost use Rattle.chan_run.specs.Said.{IsSaid};
+ghost use Rattle.chan_run.specs.Texts.{concatenated};
+ghost use Rattle.chan_run.specs.Texts.{WriterGot};
 
 use arrayvec::ArrayString;
 use ccw_core::{DeviceFault, Watched, write_out};
 use std::io::Write;
 
 /// Writes some bytes.
-pub(crate) fn say<W: Write>(bytes: &[u8], to: &mut Watched<W>) -> Result<(), DeviceFault>
+pub(crate) fn write_bytes<W: Write>(bytes: &[u8], to: &mut Watched<W>) -> Result<(), DeviceFault>
     requires { to.old.failed ≡ false }
-    ensures said { IsSaid bytes.now
+    ensures said { WriterGot bytes.now
         (W.contents to.old.device) (W.contents to.new.device) to.new.failed }
     ensures fault { IsErr result ↔ (to.new.failed ≡ true) }
 {
@@ -25,12 +25,12 @@ pub(crate) fn say<W: Write>(bytes: &[u8], to: &mut Watched<W>) -> Result<(), Dev
 /// which holds a line with any usual name; else each with a write of its own.
 pub(crate) fn write_texts<W: Write>(texts: &[&str], to: &mut Watched<W>) -> Result<(), DeviceFault>
     requires { to.old.failed ≡ false }
-    ensures said { IsSaid (concatenated texts.now)
+    ensures said { WriterGot (concatenated texts.now)
         (W.contents to.old.device) (W.contents to.new.device) to.new.failed }
     ensures fault { IsErr result ↔ (to.new.failed ≡ true) }
 {
     match line_of(texts) {
-        Some(line) => say(line.as_bytes(), to),
+        Some(line) => write_bytes(line.as_bytes(), to),
         None => write_each(texts, to),
     }
 }

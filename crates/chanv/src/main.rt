@@ -18,15 +18,15 @@ use chan_run::{
     Failure, ImageOptions, Naming, OptionError, Outcome, Response, answer, answer_image, deliver,
     ends_run, exit_status, explain_word, find_programs, greater_status, list_words,
     note_usual_device, options_of, report, report_file, report_grants, report_no_ccw,
-    report_option, report_usage, respond_named, show, shown_word, word_of,
+    report_option, report_usage, respond_to_ccw, show, shown_word,
 };
 use std::alloc::AllocError;
 use std::env::{Env, FillError};
 use std::fs::File;
-use std::io;
 use std::io::Read;
 use std::process::ExitCode;
 use std::rt::{Stdin, Stdout};
+use std::{io, str};
 
 /// The first size of the room for a word, in bytes.
 const USUAL_ROOM: usize = 256;
@@ -36,6 +36,29 @@ const UNNAMED: Naming<'static> = Naming {
     name: None,
     is_among: false,
 };
+
+/// The words of the command line.
+#[derive(Drop)]
+struct Words {
+    /// Each as it is shown. So nothing that is written of them is more than a line, or brings a
+    /// terminal anything but text.
+    shown: Vec<String>,
+    /// The bytes of each, by which a file is opened.
+    bytes: Vec<Vec<u8>>,
+}
+
+impl Words {
+    /// The number of the first word that is shown so, from this number on; none is shown like
+    /// another. Without one, how many words there are.
+    fn number_of(&self, from: usize, name: &str) -> usize {
+        for number in from..self.shown.len() {
+            if self.shown[number].as_str() == name {
+                return number;
+            }
+        }
+        self.shown.len()
+    }
+}
 
 /// What a deck is read from. One type, so that the program has one function that reads, whose
 /// buffer is on the stack.
@@ -56,22 +79,23 @@ impl Read for Input {
 
 fn main(rt: HostRuntime) -> ExitCode {
     ExitCode::from(match read_words(&rt) {
-        Ok(words) => answer_words(&rt, words.as_slice()),
+        Ok(words) => answer_words(&rt, &words),
         Err(AllocError) => report_on(&rt, None, Outcome::Failed(Failure::OutOfMemory)),
     })
 }
 
-/// The words of the command line, each as it is shown. So nothing that is written of them is more
-/// than a line, or brings a terminal anything but text.
-fn read_words(rt: &HostRuntime) -> Result<Vec<String>, AllocError> {
-    let mut words = Vec::new(rt.alloc());
+/// The words of the command line.
+fn read_words(rt: &HostRuntime) -> Result<Words, AllocError> {
+    let mut shown = Vec::new(rt.alloc());
+    let mut bytes = Vec::new(rt.alloc());
     for number in 0..usize::MAX {
         let Some(word) = read_word(rt, number)? else {
             break;
         };
-        words.push(shown_word(rt.alloc(), word.as_slice())?)?;
+        shown.push(shown_word(rt.alloc(), word.as_slice())?)?;
+        bytes.push(word)?;
     }
-    Ok(words)
+    Ok(Words { shown, bytes })
 }
 
 /// The word of this number, if there is one.
@@ -93,17 +117,17 @@ fn read_word(rt: &HostRuntime, number: usize) -> Result<Option<Vec<u8>>, AllocEr
 }
 
 /// Does what the words ask for, and gives the exit status.
-fn answer_words(rt: &HostRuntime, words: &[String]) -> u8 {
-    match read_request(rt.alloc(), words) {
+fn answer_words(rt: &HostRuntime, words: &Words) -> u8 {
+    match read_request(rt.alloc(), words.shown.as_slice()) {
         Request::Show(text) => show_ccw(rt, text),
-        Request::ShowNamed(text) => deliver_out(rt, &respond_named(rt.alloc(), text.as_bytes())),
+        Request::ShowNamed(text) => deliver_out(rt, &respond_to_ccw(rt.alloc(), text.as_bytes())),
         Request::NoCcw => report_no_ccw(&mut Watched::new(rt.stderr())),
         Request::Run(action) => {
             exit_status(run_over(rt, action, UNNAMED, Input::Standard(rt.stdin())))
         }
-        Request::RunNamed(action, names) => run_over_each(rt, action, names.as_slice()),
-        Request::Image(request) => answer_request(rt, &request, false),
-        Request::Find(request) => answer_request(rt, &request, true),
+        Request::RunNamed(action, names) => run_over_each(rt, words, action, names.as_slice()),
+        Request::Image(request) => answer_request(rt, words, &request, false),
+        Request::Find(request) => answer_request(rt, words, &request, true),
         Request::Grants(fault) => report_grants(fault, &mut Watched::new(rt.stderr())),
         Request::Explain(word) => explain(rt, word),
         Request::Words => list_terms(rt),
@@ -111,7 +135,7 @@ fn answer_words(rt: &HostRuntime, words: &[String]) -> u8 {
             Ok(text) => print_out(rt, text),
             Err(AllocError) => report_on(rt, None, Outcome::Failed(Failure::OutOfMemory)),
         },
-        Request::NoCommand(word, _) if is_file(rt, word) => {
+        Request::NoCommand(word, _) if is_file(rt, words, word) => {
             report_file(word, &mut Watched::new(rt.stderr()))
         }
         Request::NoCommand(_, text) | Request::Fault(text) => match text.to_string(rt.alloc()) {
@@ -128,16 +152,11 @@ fn report_on(rt: &HostRuntime, name: Option<&str>, outcome: Outcome) -> u8 {
 }
 
 /// Ends with an outcome of which this is the output, and gives the exit status.
-fn end_with(
-    rt: &HostRuntime,
-    name: Option<&str>,
-    outcome: Outcome,
-    output: &mut Watched<Stdout>,
-) -> u8
+fn end_with(rt: &HostRuntime, outcome: Outcome, output: &mut Watched<Stdout>) -> u8
     requires { IsWriteFailure outcome ↔ (output.old.failed ≡ true) }
 {
     let end = Response::bare(rt.alloc(), outcome, "");
-    exit_status(deliver(name, &end, output, &mut Watched::new(rt.stderr())))
+    exit_status(deliver(None, &end, output, &mut Watched::new(rt.stderr())))
 }
 
 /// Writes help or the version, and gives the exit status.
@@ -162,30 +181,34 @@ fn deliver_out(rt: &HostRuntime, response: &Response) -> u8
 fn show_ccw(rt: &HostRuntime, text: &str) -> u8 {
     let mut output = Watched::new(rt.stdout());
     let answer = show(rt.alloc(), text.as_bytes(), false, &mut output);
-    end_with(rt, None, Outcome::of_show(answer), &mut output)
+    end_with(rt, Outcome::of_show(answer), &mut output)
 }
 
 fn explain(rt: &HostRuntime, word: &str) -> u8 {
     let mut output = Watched::new(rt.stdout());
     let answer = explain_word(rt.alloc(), word, &mut output);
-    end_with(rt, None, answer, &mut output)
+    end_with(rt, answer, &mut output)
 }
 
 fn list_terms(rt: &HostRuntime) -> u8 {
     let mut output = Watched::new(rt.stdout());
     let answer = list_words(&mut output);
-    end_with(rt, None, answer, &mut output)
+    end_with(rt, answer, &mut output)
 }
 
-/// Runs over each input in turn, up to a failed write, and gives the greatest status.
-fn run_over_each(rt: &HostRuntime, action: Action, names: &[&str]) -> u8 {
+/// Runs over each input in turn, up to a failed write, and gives the greatest status. The names
+/// are in the order of the words.
+fn run_over_each(rt: &HostRuntime, words: &Words, action: Action, names: &[&str]) -> u8 {
     let mut greatest = 0;
+    let mut number = 0;
     for name in names {
         let naming = Naming {
             name: Some(name),
             is_among: names.len() > 1,
         };
-        let outcome = run_over_named(rt, action, name, naming);
+        number = words.number_of(number, name);
+        let input = open_input(rt, words, number, name);
+        let outcome = run_over_opened(rt, action, naming, input);
         greatest = greater_status(greatest, exit_status(outcome));
         if ends_run(outcome) {
             break;
@@ -194,34 +217,54 @@ fn run_over_each(rt: &HostRuntime, action: Action, names: &[&str]) -> u8 {
     greatest
 }
 
-/// Runs over the input of this name, which is standard input where it is `-`, and else a file.
-fn run_over_named(rt: &HostRuntime, action: Action, name: &str, naming: Naming<'_>) -> Outcome {
+/// The input of this name: standard input if it is `-`, and else the file that the word of this
+/// number names.
+fn open_input(
+    rt: &HostRuntime,
+    words: &Words,
+    number: usize,
+    name: &str,
+) -> Result<Input, Outcome> {
     if name == "-" {
-        return run_over(rt, action, naming, Input::Standard(rt.stdin()));
+        return Ok(Input::Standard(rt.stdin()));
     }
-    match open_file(rt, name) {
-        Ok(file) => run_over(rt, action, naming, Input::File(file)),
+    match open_file(rt, words, number) {
+        Ok(file) => Ok(Input::File(file)),
+        Err(outcome) => Err(outcome),
+    }
+}
+
+/// Runs over an input that is named so, or reports that it can't be opened.
+fn run_over_opened(
+    rt: &HostRuntime,
+    action: Action,
+    naming: Naming<'_>,
+    input: Result<Input, Outcome>,
+) -> Outcome {
+    match input {
+        Ok(input) => run_over(rt, action, naming, input),
         Err(outcome) => {
-            report_on(rt, Some(name), outcome);
+            report_on(rt, naming.name, outcome);
             outcome
         }
     }
 }
 
-/// Opens the file whose name is shown so. One whose name isn't UTF-8 can't be opened.
-fn open_file(rt: &HostRuntime, name: &str) -> Result<File, Outcome> {
-    let Ok(word) = word_of(rt.alloc(), name) else {
-        return Err(Outcome::Failed(Failure::OutOfMemory));
+/// Opens the file that the word of this number names. A name that isn't UTF-8 can't be opened.
+fn open_file(rt: &HostRuntime, words: &Words, number: usize) -> Result<File, Outcome> {
+    let cannot_open = Outcome::Failed(Failure::CannotOpen);
+    let Some(bytes) = words.bytes.get(number) else {
+        return Err(cannot_open);
     };
-    let Ok(path) = String::from_utf8(word) else {
-        return Err(Outcome::Failed(Failure::CannotOpen));
+    let Ok(path) = str::from_utf8(bytes.as_slice()) else {
+        return Err(cannot_open);
     };
-    File::open(rt, path.as_str()).map_err(|_| Outcome::Failed(Failure::CannotOpen))
+    File::open(rt, path).map_err(|_| cannot_open)
 }
 
-/// Whether a word is the name of a file that can be read, as it is shown.
-fn is_file(rt: &HostRuntime, word: &str) -> bool {
-    match open_file(rt, word) {
+/// Whether a word that is shown so is the name of a file that can be read.
+fn is_file(rt: &HostRuntime, words: &Words, shown: &str) -> bool {
+    match open_file(rt, words, words.number_of(0, shown)) {
         Ok(file) => {
             let mut file = file;
             file.read(&mut [0]).is_ok()
@@ -246,7 +289,7 @@ fn run_over(rt: &HostRuntime, action: Action, naming: Naming<'_>, input: Input) 
 }
 
 /// Finds the programs in an image of storage, or makes a deck of it, and gives the exit status.
-fn answer_request(rt: &HostRuntime, request: &ImageRequest<'_>, finds: bool) -> u8 {
+fn answer_request(rt: &HostRuntime, words: &Words, request: &ImageRequest<'_>, finds: bool) -> u8 {
     let options = match options_of(rt.alloc(), &request.words) {
         Ok(options) => options,
         Err(OptionError::Wrong(fault)) => {
@@ -263,7 +306,7 @@ fn answer_request(rt: &HostRuntime, request: &ImageRequest<'_>, finds: bool) -> 
     }
     match request.file {
         None => answer_request_from(rt, None, &options, finds, Input::Standard(rt.stdin())),
-        Some(name) => match open_file(rt, name) {
+        Some(name) => match open_file(rt, words, words.number_of(0, name)) {
             Ok(file) => answer_request_from(rt, Some(name), &options, finds, Input::File(file)),
             Err(outcome) => report_on(rt, Some(name), outcome),
         },

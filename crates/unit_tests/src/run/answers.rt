@@ -162,6 +162,10 @@ fn is_concluded(alloc: Global, came: Outcome, wanted: Outcome, line: &[u8]) -> b
 #[test]
 fn ends_of_commands(rt: HostRuntime) {
     for (came, end, line) in ENDS {
-        expect(&rt, is_concluded(rt.alloc(), *came, *end, line.as_bytes()), line);
+        expect(
+            &rt,
+            is_concluded(rt.alloc(), *came, *end, line.as_bytes()),
+            line,
+        );
     }
 }

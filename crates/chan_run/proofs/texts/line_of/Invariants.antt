@@ -1,5 +1,5 @@
 use Rattle.std.proofs.Common.{◌≡◌, take}
-use Rattle.chan_run.specs.Name.{concatenated}
+use Rattle.chan_run.specs.Texts.{concatenated}
 use Rattle.chan_run.proofs.texts.line_of.Given as goal
 
 abbrev pub invariant-loop-text : goal.invariant-loop-text

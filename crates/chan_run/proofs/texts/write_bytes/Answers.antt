@@ -1,5 +1,5 @@
 use Rattle.chan_run.proofs.Endings.{written_if_sound}
-use Rattle.chan_run.proofs.texts.say.Goals as goal
+use Rattle.chan_run.proofs.texts.write_bytes.Goals as goal
 
 pub returns-clause-said : goal.returns-clause-said
 returns-clause-said g c =

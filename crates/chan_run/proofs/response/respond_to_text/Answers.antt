@@ -1,13 +1,13 @@
 use Rattle.std.proofs.Common.{inr, rules}
 use Rattle.std.proofs.lemmas.Result.{IfOk-weaker}
-use Rattle.chan_run.proofs.response.answer_to.Goals as goal
+use Rattle.chan_run.proofs.response.respond_to_text.Goals as goal
 
 pub returns : goal.returns
 returns c =
-    IfOk-weaker c.answer_on.result _ _ (λ r is. inr (record {
+    IfOk-weaker c.respond_to_job.result _ _ (λ r is. inr (record {
       deck = c.in-Ok.deck;
       spelled = c.in-Ok.ensures.spelled;
       job = c.job-job.result;
       of_deck = search rules;
       holds = is;
-    })) c.answer_on.ensures
+    })) c.respond_to_job.ensures
