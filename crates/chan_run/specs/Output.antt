@@ -4,6 +4,7 @@ use Rattle.std.specs.List.{AllZip}
 use Rattle.std.specs.Io.KnownBytes.{Appends}
 use Rattle.chan_deck.specs.Image.{Image, Spells, limit_of}
 use Rattle.chan_deck.specs.Explanation.{explanation}
+use Rattle.chan_deck.specs.Graph.{IsPictureOf}
 use Rattle.chan_deck.specs.Listing.{listing}
 use Rattle.chan_deck.specs.Needs.{needs_text}
 use Rattle.chan_deck.specs.Texts.{verdict_line}
@@ -79,7 +80,7 @@ IsNeeded j Yes text = IsNeedsText j text
 IsNeeded j (No a r) text = IsExplained false j (No a r) text
 
 -- what an action asks for of a job and its verdict: the verdict's line, the listing of the
--- reachable places, the explanation, some picture, or what is needed; before a verdict and its
+-- reachable places, the explanation, a picture, or what is needed; before a verdict and its
 -- explanation stands the name of the input, where it has one, and over a listing and over what is
 -- needed that of one of several inputs
 abbrev pub IsAskedText : Naming → Action → Job → Verdict → List ℕ → Type 0
@@ -88,7 +89,7 @@ IsAskedText n actions.List j v text =
     (ps : List Place) × AreReachable j ps × (text ≡ heading_of n ++ listing (storage_of j) ps v)
 IsAskedText n (actions.Why all) j v text =
     (why : List ℕ) × IsExplained all j v why × (text ≡ name_before (name_of n) true ++ why)
-IsAskedText n actions.Graph j v text = Unit {0}
+IsAskedText n actions.Graph j v text = IsPictureOf (name_of n) v text
 IsAskedText n actions.Needs j v text =
     (needed : List ℕ) × IsNeeded j v needed × (text ≡ heading_of n ++ needed)
 

@@ -1,6 +1,7 @@
 //! What an action asks for of a job that was judged.
 
 ghost use Rattle.std.specs.Prelude.{◌≡◌, ◌++◌, true, IfOk, string_bytes};
+ghost use Rattle.chan_deck.specs.Graph.{IsPictureOf};
 ghost use Rattle.chan_deck.specs.Listing.{seen_listing};
 ghost use Rattle.chan_walk.specs.Offence.{first_verdict};
 ghost use Rattle.chan_walk.specs.JobSurvey.{IsSurvey};
@@ -69,7 +70,7 @@ fn listing_text(
     }
 }
 
-/// The picture of a job that was surveyed. Tests hold its text.
+/// The picture of a job that was surveyed. Tests hold its text behind the title.
 fn picture_of(
     alloc: Global,
     name: Option<&str>,
@@ -77,6 +78,8 @@ fn picture_of(
     survey: Survey,
 ) -> Result<Vec<u8>, AllocError>
     requires { IsSurvey job.now survey }
+    ensures { IfOk result (λ text. IsPictureOf (name_in name.entry)
+        (first_verdict survey.offences) text.items) }
 {
     let causes = causes_from(alloc, &survey)?;
     let verdict = survey.verdict();
