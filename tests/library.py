@@ -37,7 +37,7 @@ def check_document(checks, folder):
     blocks = re.findall(r"```(\w*)\n(.*?)```", text_of(ROOT / "docs/EMBEDDING.md"), re.S)
     shown = ("c", text_of(EXAMPLES / "c/ask.c")) in blocks
     checks.expect_that("the document shows the example", shown, "another text")
-    for name, word in (("supervisor", "chanv_check_start"), ("emulator", "ask_once")):
+    for name, word in (("supervisor", "chanv_check_start"), ("emulator", "MOST_TIMES")):
         parts = [text for language, text in blocks if language == "c" and word in text]
         shown = parts and all(text in text_of(EXAMPLES / f"c/{name}.c") for text in parts)
         checks.expect_that(f"the document shows a part of the {name}", shown, parts)

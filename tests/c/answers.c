@@ -9,7 +9,7 @@
 enum { STORAGE = 0x4000, START = 0x800, DATA = 0x2000 };
 enum { READ = 0x06, TRANSFER = 0x08, NO_OPERATION = 0x03, CHAIN = 0x40 };
 
-static uint8_t storage[STORAGE], copy[STORAGE];
+static uint8_t storage[STORAGE];
 static uint8_t memory[MOST_BYTES];
 static struct asked asked;
 static const struct chanv_extent cylinders = {0, 202};
@@ -86,7 +86,6 @@ static void try_emulated(const char *name, uint8_t code, uint32_t count)
 {
     struct chanv_job job = job_of(code, count);
     memset(&asked, 0xFF, sizeof asked);
-    asked.copy = copy;
     uint32_t answer = ask(&asked, &job);
     const char *there = may_begin(&asked, &job) ? "there" : "not there";
     /* of a shorter storage nothing past its end is read */
