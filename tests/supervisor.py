@@ -35,6 +35,7 @@ CARELESS = [
     ),
     ("the comparison", DENIED, "&refusal) == CHANV_NO && refusal.code != CHANV_REFUSED_CHANGED)"),
     ("hands off", "&refusal) == CHANV_YES;", "&refusal) <= CHANV_NO;"),
+    ("a look at the unit", "in_flight[unit].device != 0", "unit < 0"),
 ]
 
 MAY = "!needed.may_hang "

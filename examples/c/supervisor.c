@@ -52,7 +52,8 @@ static int start(const struct taken *taken, int unit, const struct chanv_job *jo
     return 1;
 }
 
-/* The program on a unit has ended, or was halted. It may start again without a new question. */
+/* The program on a unit has ended, or was halted, and the channel's last store is visible. It may be
+ * started again without being taken in again. */
 static void leave(int unit)
 {
     memset(&in_flight[unit], 0, sizeof in_flight[unit]);

@@ -33,7 +33,7 @@ class Flights:
         self.supervisor, self.random = supervisor, Random(seed)
         self.storage = supervisor.storage
         self.asked, self.flights, self.was_started = {}, {}, set()
-        names = "taken_in refused started again held_back written other_device".split()
+        names = "taken_in refused started again held_back busy written other_device".split()
         self.counts = dict.fromkeys([*names, *(f"on_{it}" for it in TYPES)], 0)
 
     def below(self, most):
@@ -86,11 +86,14 @@ class Flights:
         return job._replace(device=device)
 
     def try_start(self, number, unit):
-        """The answer is a harm if it starts on another type of device than it was asked for."""
+        """The answer is a harm if it starts on a unit in use, or on another type of device than it
+        was asked for."""
         job = self.granted(number) if self.asked[number] else None
         if job is None or not self.supervisor.start(number, unit, job):
-            self.count("held_back")
+            self.count("held_back", *["busy"] * (unit in self.flights))
             return None
+        if unit in self.flights:
+            return "on a unit that another program uses"
         if job.device != self.asked[number].device:
             return "on another type of device"
         self.flights[unit] = Flight(number, job, (first_place(job), ()))
@@ -140,4 +143,4 @@ class Flights:
         is_flying = any(flight.number == number for flight in self.flights.values())
         if not is_flying and (not self.asked.get(number) or self.below(64) == 0):
             self.write_program(number)
-        return None if unit in self.flights else self.try_start(number, unit)
+        return self.try_start(number, unit)
