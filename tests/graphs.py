@@ -5,15 +5,18 @@
 Of each example and of 500 other jobs: the rows are exactly the places that the model reaches, apart
 from transfers without a fault; each arrow is a successor, through such a transfer or not; each
 successor has its arrow, is the next row of its box, or is a search that a transfer repeats; and the
-pink boxes are exactly the places that offend, with their reasons. The title has the verdict and the
-grants, a row says what its CCW does with its data, the arrow from `start` leads to the first row of
-a box, and the boxes of one address, and no others, are in its frame.
+pink boxes are exactly the places that offend, with their reasons. An arrow within a box begins and
+ends at its rows, and one that says `stores over` leads from the row that stores to the row of the
+CCW or of a CCW that takes the argument. The title has the verdict and the grants, a row says what
+its CCW does with its data, the arrow from `start` leads to the first row of a box, and the boxes of
+one address, and no others, are in its frame.
 """
 
 import re
 import sys
 import tempfile
 from collections import Counter
+from itertools import product
 from pathlib import Path
 from random import Random
 from typing import NamedTuple
@@ -36,6 +39,7 @@ from judging import (  # noqa: E402
     does_fetch,
     does_store,
     first_place,
+    guarded,
     offences,
     reachable,
     successors,
@@ -51,9 +55,10 @@ MOST_ROWS, MOST_EXTENTS = 40, 4
 WAYS = {"fresh": FRESH, "in": "inward", "out": "outward", "search": "search"}
 
 TITLE = re.compile(r'digraph program \{\n  graph \[label="((?:[^"\\]|\\.)*)"')
-BOX = re.compile(r'  "(\w+) (\w+) ([t-])" \[label="([^"]*)"(.*)\];')
+BOX = re.compile(r'  "(\w+) (\w+) ([t-])" \[label=<<table border="(\d)" ([^>]*)>(.*)</table>>\];')
+LINE = re.compile(r'<tr><td align="left"(?: port="(\w+)")?>([^<]*)</td></tr>')
 FRAME = re.compile(r'  subgraph "cluster_(\w+)" \{.*')
-ARROW = re.compile(r'  "([^"]*)" -> "([^"]*)"(?: \[(.*)\])?;')
+ARROW = re.compile(r'  "([^"]*)"(?::(\w+):e)? -> "([^"]*)"(?::(\w+):e)?(?: \[(.*)\])?;')
 CHAINED = re.compile(r"chained, (\w+)")
 UNTIL = re.compile(r"until found \(TIC (\w+)\)")
 MOVES = re.compile(r"  (stores |fetches|skips  ) (\w+-\w+)")
@@ -67,11 +72,15 @@ class Row(NamedTuple):
     by_transfer: bool
 
 
+def cell_of(row):
+    return f"row{row.address:06X}"
+
+
 class Wanted:
     """What the model wants drawn of a job: rows, arrows between them, and offences."""
 
     def __init__(self, job):
-        self.storage, self.faults = job.storage, reachable(job)
+        self.job, self.storage, self.faults = job, job.storage, reachable(job)
         self.first = self.row(first_place(job))
         places = [place for place in self.faults if not self.is_passage(place)]
         self.rows = sorted({self.row(place) for place in places}, key=self.order)
@@ -128,6 +137,31 @@ class Wanted:
             return None
         return verb, f"{ccw.address:06X}-{ccw.address + ccw.count - 1:06X}"
 
+    def stored_over(self, row):
+        """For each kind of guarded byte that a row stores over the addresses of which one is that
+        of the CCW or of one that takes the argument."""
+        place = next(place for place in self.faults if self.row(place) == row)
+        ccw = ccw_at(self.storage, row.address)
+        data = range(ccw.address, ccw.address + ccw.count) if ccw else ()
+        found = []
+        if "changes-ccw" in self.reasons[row]:
+            over = {place.address for place in self.faults if over_ccw(data, place.address)}
+            found.append({min(over)})
+        if "changes-argument" in self.reasons[row]:
+            byte = min(guarded(self.job, self.faults)[1].intersection(data))
+            found.append({place.address for place in self.faults if self.takes(place, byte)})
+        return found
+
+    def takes(self, place, byte):
+        """Whether the CCW at a place takes a byte as part of a seek argument or as a file mask."""
+        ccw = ccw_at(self.storage, place.address)
+        alone = {place: self.faults[place]} if ccw else {}
+        return byte in guarded(self.job, alone)[1]
+
+    def first_at(self, address):
+        """The first row at an address, if it has one."""
+        return next((row for row in self.rows if row.address == address), None)
+
     def after(self, row, count):
         """The row that comes so many rows later in a box."""
         for _ in range(count):
@@ -145,19 +179,28 @@ class Wanted:
         return arrows[0][1] if is_loop else None
 
 
+def over_ccw(data, address):
+    return any(address <= byte < address + 8 for byte in (*data,))
+
+
 class Drawn:
     """What a picture has: a title, boxes of rows, the frame of each, arrows and ends."""
 
     def __init__(self, text):
         self.title = TITLE.match(text)[1]
         self.boxes, self.pink, self.left_out, self.until, self.moves = {}, {}, {}, {}, {}
+        self.named, self.cells = set(), {}
         self.frames, frame = {}, None
         for line in text.splitlines():
             box, opened = BOX.fullmatch(line), FRAME.fullmatch(line)
             if box:
-                address, way, transfer, label, style = box.groups()
+                address, way, transfer, border, style, lines = box.groups()
                 name = f"{address} {way} {transfer}"
-                self.read_box(name, label.split("\\l")[:-1], style)
+                if LINE.sub("", lines):
+                    raise ValueError(f"a box has more than lines: {lines}")
+                self.read_box(name, LINE.findall(lines.replace("&#160;", " ")), style)
+                if border == "2":
+                    self.named.add(name)
                 self.frames[name] = frame
             elif opened:
                 # a frame in a frame is none that any box wants
@@ -165,22 +208,24 @@ class Drawn:
             elif line == "  }":
                 frame = None
         self.arrows, self.ends, self.stores, self.found = Counter(), [], [], Counter()
-        for source, target, style in ARROW.findall(text):
+        for source, source_cell, target, target_cell, style in ARROW.findall(text):
+            ends = (source, source_cell), (target, target_cell)
             if target.startswith("end "):
                 self.ends.append(source)
             elif "stores over" in style:
-                self.stores.append((source, target))
+                self.stores.append((*ends, "dotted" in style))
             else:
                 through = re.search(r"TIC (\w+)", style)
                 through = int(through[1], 16) if through else None
-                self.arrows[source, target, through, "dashed" in style] += 1
-                self.found["dashed" in style, '" found' in style] += 1
+                self.arrows[*ends, through, "dashed" in style] += 1
+                self.found["dashed" in style, '" if found' in style] += 1
         self.start = re.findall(r'  start -> "([^"]*)";', text)
 
     def read_box(self, name, lines, style):
         address, way, transfer = name.split(" ")
-        rows, reasons = [], set()
-        for line in lines:
+        rows, reasons, cells = [], set(), []
+        for cell, line in lines:
+            cells += [cell] if cell else []
             more = re.fullmatch(r"\.\.\. +(\d+) more", line)
             if more:
                 self.left_out[name] = int(more[1])
@@ -198,8 +243,8 @@ class Drawn:
                 self.moves[row] = (moves[1], moves[2]) if moves else None
                 if UNTIL.search(line):
                     self.until[row] = int(UNTIL.search(line)[1], 16)
-        self.boxes[name] = rows
-        if "fillcolor" in style:
+        self.boxes[name], self.cells[name] = rows, cells
+        if "bgcolor" in style:
             self.pink[name] = reasons
 
 
@@ -222,6 +267,9 @@ def check_rows(checks, name, wanted, drawn):
     checks.expect(f"the pink boxes of {name}", offending, pink)
     lengths = {len(drawn.boxes[box]) for box in drawn.pink}
     checks.expect_that(f"a pink box of {name} has one row", lengths <= {1}, lengths)
+    for box, drawn_rows in drawn.boxes.items():
+        cells = [cell_of(row) if row else "more" for row in drawn_rows]
+        checks.expect(f"the cells of {box} of {name}", cells, drawn.cells[box])
 
 
 def check_long_box(checks, name, wanted, rows, more):
@@ -253,8 +301,43 @@ def check_frames(checks, name, drawn):
     checks.expect(f"the frames of {name}", frames, drawn.frames)
 
 
+def boxes_and_cells(wanted, drawn):
+    """The box and the cell of each row, also of those left out."""
+    found = {}
+    for box, rows in drawn.boxes.items():
+        for row, after in zip(rows, [*rows[1:], None]):
+            if row:
+                found[row] = box, cell_of(row)
+            if row and after is None:
+                # rows are left out behind this one, unless it's the last
+                more = drawn.left_out.get(box, 0) if row != rows[-1] else 0
+                left_out = {wanted.after(row, count): (box, "more") for count in range(1, more + 1)}
+                found.update(left_out)
+    return found
+
+
+def check_stores(checks, name, wanted, drawn):
+    """An arrow leads from a row that stores over a CCW or an argument to a row of its address, and
+    one is enough for two that lead to the same row."""
+    cells = boxes_and_cells(wanted, drawn)
+    for row in wanted.rows:
+        rows = [{wanted.first_at(one) for one in over} for over in wanted.stored_over(row)]
+        ways = {tuple(dict.fromkeys(filter(None, way))) for way in product(*rows)}
+        stores = [target for source, target, _ in drawn.stores if source == cells[row]]
+        which = [tuple(cells[one] for one in way) for way in ways]
+        checks.expect_that(f"what {row} of {name} stores over", tuple(stores) in which, stores)
+    checks.expect_that(
+        f"arrows of {name} for what is stored over are dotted",
+        all(is_dotted for *_, is_dotted in drawn.stores),
+        drawn.stores,
+    )
+    sources = {source for source, *_ in drawn.stores}
+    checks.expect_that(f"rows of {name} store", sources <= {*cells.values()}, sources)
+
+
 def check_arrows(checks, name, wanted, drawn):
-    """Within a box each row leads to the next alone, so its arrows are those of its last row."""
+    """Within a box each row leads to the next alone, so its arrows are those of its last row. One
+    that leads back into the box does so from row to row."""
     box_of = {row: box for box, rows in drawn.boxes.items() for row in rows if row}
     is_labelled = len(drawn.boxes) <= MOST_LABELLED
     arrows, ends = Counter(), []
@@ -270,7 +353,10 @@ def check_arrows(checks, name, wanted, drawn):
                 continue
             for target, through, is_skip in led:
                 through = through if is_labelled else None
-                arrows[box, box_of[target], through, is_skip and not until] += 1
+                both = (box, ""), (box_of[target], "")
+                if box == box_of[target]:
+                    both = (box, cell_of(row)), (box, cell_of(target))
+                arrows[*both, through, is_skip and not until] += 1
             if not led and not until and not wanted.fault(row):
                 ends.append(box)
     checks.expect(f"the arrows of {name}", arrows, drawn.arrows)
@@ -281,16 +367,20 @@ def check_arrows(checks, name, wanted, drawn):
     found = Counter(is_found for *_, is_found in drawn.arrows.elements())
     labels = {(is_found, is_found and is_labelled): found[is_found] for is_found in found}
     checks.expect(f"the labels of {name} on what was found", labels, drawn.found)
-    targets = {target for _, target, *_ in drawn.arrows} | {target for _, target in drawn.stores}
-    checks.expect_that(f"arrows of {name} lead to boxes", targets <= {*drawn.boxes}, targets)
 
 
 def check_picture(checks, deck, job, text):
     name, wanted, drawn = deck.stem, Wanted(job), Drawn(text)
-    check_title(checks, name, deck, job, offences(job, wanted.faults), drawn)
+    found = offences(job, wanted.faults)
+    check_title(checks, name, deck, job, found, drawn)
+    named = found[0][0].address if found else None
+    boxes = {box for box, rows in drawn.boxes.items() if rows[0].address == named}
+    checks.expect(f"the boxes of {name} with the address of its verdict", boxes, drawn.named)
     check_rows(checks, name, wanted, drawn)
     check_frames(checks, name, drawn)
     check_arrows(checks, name, wanted, drawn)
+    check_stores(checks, name, wanted, drawn)
+    return drawn
 
 
 def check_names(checks, program, room):
@@ -313,6 +403,9 @@ TWICE = """06000080A0000004 06000084A0000004 0600008860000004 3100008060000005
 0800000800000000 0800001000000000""".split()
 # a ring that begins at its second CCW, and data of no bytes
 RING, NO_DATA = [GOES_ON, GOES_ON, "0800000000000000"], ["0600008000000000"]
+# a read over a CCW that is drawn, and over one of those that are left out of a long box
+OVER_DRAWN = [*[GOES_ON] * 45, "0600001020000008"]
+OVER_LEFT_OUT = [*[GOES_ON] * 45, "060000B020000008"]
 
 
 def job_over(ccws, start=0, extents=((0, 202),)):
@@ -323,7 +416,7 @@ def job_over(ccws, start=0, extents=((0, 202),)):
 
 def made_jobs():
     """Jobs that are rare among random ones."""
-    yield from map(job_over, [*LARGE, TWICE, NO_DATA])
+    yield from map(job_over, [*LARGE, TWICE, NO_DATA, RING, OVER_DRAWN, OVER_LEFT_OUT])
     yield job_over(RING, 8)
     for count in (3, 4, 5, 7):
         yield job_over([LAST], extents=[(10 * at, 10 * at + 5) for at in range(count)])
@@ -347,6 +440,8 @@ def jobs_of(room):
 
 
 def check(checks, built):
+    # how many arrows lead to each kind of cell, each of which some picture has
+    within, over = Counter(), Counter()
     with tempfile.TemporaryDirectory() as room:
         for deck, job in jobs_of(room):
             faults = reachable(job)
@@ -355,5 +450,9 @@ def check(checks, built):
             ran = run(built.chanv(), "graph", deck)
             status = 1 if offences(job, faults) else 0
             checks.expect(f"the status of {deck.stem}", status, ran.status)
-            check_picture(checks, deck, job, ran.output)
+            drawn = check_picture(checks, deck, job, ran.output)
+            within.update(cell != "" for (_, cell), *_ in drawn.arrows)
+            over.update(cell == "more" for _, (_, cell), _ in drawn.stores)
         check_names(checks, built.chanv(), Path(room))
+    checks.expect_that("arrows within boxes, and between them", len(within) == 2, within)
+    checks.expect_that("rows stored over, drawn and left out", len(over) == 2, over)

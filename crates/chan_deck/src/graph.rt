@@ -6,7 +6,10 @@ ghost use Rattle.chan_deck.specs.Graph.{IsPictureOf, escaped, escaped_byte, titl
 ghost use Rattle.chan_deck.specs.Texts.{verdict_words};
 
 use crate::explanation::push_cause;
-use crate::layout::{Arrow, Layout, Row, arrow_to, first_offence, first_row, layout_of, row_at};
+use crate::layout::{
+    Arrow, Layout, MOST_ROWS, Row, arrow_to, first_offence, first_row, is_left_out_of, layout_of,
+    row_at,
+};
 use crate::listing::{name_of, transfer_word, way_word};
 use crate::texts::{Address, Digits, Range, Size, push_verdict};
 use chan_walk::{
@@ -17,17 +20,13 @@ use std::alloc::{AllocError, Global};
 use std::fmt;
 use std::fmt::Write as _;
 
-/// Of a box with more rows than these only the first and the last half of so many are drawn.
-const MOST_ROWS: usize = 40;
-
 /// Above so many boxes arrows have no labels, which Graphviz takes long to place.
 const MOST_LABELLED: usize = 200;
 
 /// How many extents the title names.
 const MOST_EXTENTS: usize = 4;
 
-const STYLES: &str =
-    "  node [shape=box, fontname=\"monospace\", fontsize=10, margin=\"0.12,0.06\", height=0.2];
+const STYLES: &str = "  node [shape=plain, fontname=\"monospace\", fontsize=10];
   edge [arrowsize=0.7, fontname=\"sans-serif\", fontsize=9];
   start [shape=plaintext, fontname=\"sans-serif\", margin=0.03];
 ";
@@ -60,6 +59,50 @@ impl fmt::Display for Node {
         let way = way_word(self.0.entered);
         let transfer = transfer_word(self.0.after_transfer);
         write!(f, "{address} {way} {transfer}")
+    }
+}
+
+/// A cell of a box: the row at an address, or the one that says how many rows are left out.
+#[derive(Clone, Copy)]
+enum Cell {
+    Row(u32),
+    LeftOut,
+}
+
+impl fmt::Display for Cell {
+    ghost use Rattle.std.specs.Prelude.{None};
+
+    ghost output = { λ _. None };
+
+    fn fmt<W: fmt::Write>(&self, f: &mut fmt::Formatter<W>) -> fmt::Result {
+        match self {
+            Cell::Row(address) => {
+                let address = Address(*address);
+                write!(f, "row{address}")
+            }
+            Cell::LeftOut => f.write_str("more"),
+        }
+    }
+}
+
+/// Where an arrow begins or ends: at a box, or at the right of a cell of it.
+#[derive(Clone, Copy)]
+struct End {
+    node: Node,
+    cell: Option<Cell>,
+}
+
+impl fmt::Display for End {
+    ghost use Rattle.std.specs.Prelude.{None};
+
+    ghost output = { λ _. None };
+
+    fn fmt<W: fmt::Write>(&self, f: &mut fmt::Formatter<W>) -> fmt::Result {
+        let node = self.node;
+        match self.cell {
+            Some(cell) => write!(f, "\"{node}\":{cell}:e"),
+            None => write!(f, "\"{node}\""),
+        }
     }
 }
 
@@ -137,7 +180,7 @@ fn push_grants(out: &mut String, picture: &Picture) -> Result<(), AllocError> {
     write!(
         out,
         ", storage {size}\", labelloc=t, fontname=\"sans-serif\", fontsize=12,\n    \
-         fontcolor=\"{color}\", ranksep=0.3, nodesep=0.4];\n"
+         fontcolor=\"{color}\", ranksep=0.45, nodesep=0.4];\n"
     )
 }
 
@@ -179,47 +222,72 @@ fn verb_at(look: &Look) -> Option<&'static str> {
     if reads { Some("skips  ") } else { None }
 }
 
-/// Adds the line of a row; `width` is that of the longest name in its box.
-fn push_row(out: &mut String, row: &Row, width: usize) -> Result<(), AllocError> {
+/// The text of a row; `width` is that of the longest name in its box.
+fn row_text(alloc: Global, row: &Row, width: usize) -> Result<String, AllocError> {
     let look = row.look;
     let address = Address(look.place().address);
     let (name, way) = name_at(look);
-    write!(out, "{address}  {name}{way}")?;
+    let mut text = format!(in alloc; "{address}  {name}{way}")?;
     if let (Some(verb), Some(ccw)) = (verb_at(look), look.ccw()) {
         for _ in width_at(look)..width {
-            out.push(' ')?;
+            text.push(' ')?;
         }
         let range = Range(data_of(&ccw));
-        write!(out, "  {verb} {range}")?;
+        write!(text, "  {verb} {range}")?;
     }
     if let Some(transfer) = row.until {
         let transfer = Address(transfer);
-        write!(out, "  until found (TIC {transfer})")?;
+        write!(text, "  until found (TIC {transfer})")?;
     }
-    out.push_str("\\l")
+    Ok(text)
+}
+
+/// Adds a text as it stands in a table, where several blanks would else be one.
+fn push_unbroken(out: &mut String, text: &str) -> Result<(), AllocError> {
+    for character in text.chars() {
+        if character == ' ' {
+            out.push_str("&#160;")?;
+        } else {
+            out.push(character)?;
+        }
+    }
+    Ok(())
+}
+
+/// Adds a line of a box. Arrows may lead to it if it is a cell of its own.
+fn push_line(out: &mut String, cell: Option<Cell>, text: &str) -> Result<(), AllocError> {
+    out.push_str("<tr><td align=\"left\"")?;
+    if let Some(cell) = cell {
+        write!(out, " port=\"{cell}\"")?;
+    }
+    out.push('>')?;
+    push_unbroken(out, text)?;
+    out.push_str("</td></tr>")
 }
 
 /// Adds the lines of the rows of a box.
-fn push_rows(out: &mut String, looks: &[Look], rows: &[usize]) -> Result<(), AllocError> {
+fn push_rows(
+    alloc: Global,
+    out: &mut String,
+    looks: &[Look],
+    rows: &[usize],
+) -> Result<(), AllocError> {
     let mut width = 0;
     for at in rows {
         if let Some(look) = looks.get(*at) {
             width = width.max(width_at(look));
         }
     }
-    let left_out = if rows.len() > MOST_ROWS {
-        MOST_ROWS / 2..rows.len() - MOST_ROWS / 2
-    } else {
-        0..0
-    };
     for (k, at) in rows.iter().enumerate() {
-        if left_out.contains(&k) {
-            if k == left_out.start {
-                let more = left_out.len();
-                write!(out, "...     {more} more\\l")?;
+        if is_left_out_of(rows.len(), k) {
+            if k == MOST_ROWS / 2 {
+                let more = rows.len().saturating_sub(MOST_ROWS);
+                let text = format!(in alloc; "...     {more} more")?;
+                push_line(out, Some(Cell::LeftOut), text.as_str())?;
             }
         } else if let Some(row) = row_at(looks, *at) {
-            push_row(out, &row, width)?;
+            let cell = Cell::Row(row.look.place().address);
+            push_line(out, Some(cell), row_text(alloc, &row, width)?.as_str())?;
         }
     }
     Ok(())
@@ -234,14 +302,26 @@ fn push_reason(
     cause: Evidence,
 ) -> Result<(), AllocError> {
     let word = offence.reason.word();
-    write!(out, "{word}:\\l  ")?;
+    let reason = format!(in alloc; "{word}:")?;
+    push_line(out, None, reason.as_str())?;
     let mut text = String::new(alloc);
     push_cause(alloc, &mut text, cause)?;
-    match (text.split_once(", over "), text.split_once(": ")) {
-        (Some((data, over)), _) => write!(out, "{data},\\l  over {over}\\l"),
-        (None, Some((wrong, given))) => write!(out, "{wrong}:\\l  {given}\\l"),
-        (None, None) => write!(out, "{text}\\l"),
+    let (first, second) = match (text.split_once(", over "), text.split_once(": ")) {
+        (Some((data, over)), _) => (
+            format!(in alloc; "  {data},")?,
+            format!(in alloc; "  over {over}")?,
+        ),
+        (None, Some((wrong, given))) => (
+            format!(in alloc; "  {wrong}:")?,
+            format!(in alloc; "  {given}")?,
+        ),
+        (None, None) => (format!(in alloc; "  {text}")?, String::new(alloc)),
+    };
+    push_line(out, None, first.as_str())?;
+    if second.is_empty() {
+        return Ok(());
     }
+    push_line(out, None, second.as_str())
 }
 
 /// The offences of a place, each with its cause. Offences are in order of addresses.
@@ -283,24 +363,27 @@ fn push_box(
     rows: &[usize],
 ) -> Result<(), AllocError> {
     let name = Node(place);
-    write!(out, "  \"{name}\" [label=\"")?;
-    push_rows(out, picture.looks, rows)?;
-    let offences = offences_of(alloc, picture, place)?;
-    if offences.is_empty() {
-        return out.push_str("\"];\n");
-    }
-    for (offence, cause) in &offences {
-        push_reason(alloc, out, *offence, *cause)?;
-    }
     let width = if is_named(picture.verdict, place) {
         2
     } else {
         1
     };
+    let offences = offences_of(alloc, picture, place)?;
+    let colors = if offences.is_empty() {
+        ""
+    } else {
+        " color=\"#B00000\" bgcolor=\"#FFE9E9\""
+    };
     write!(
         out,
-        "\", color=\"#B00000\", style=filled, fillcolor=\"#FFE9E9\", penwidth={width}];\n"
-    )
+        "  \"{name}\" [label=<<table border=\"{width}\" cellborder=\"0\" cellspacing=\"0\" \
+         cellpadding=\"1\"{colors}>"
+    )?;
+    push_rows(alloc, out, picture.looks, rows)?;
+    for (offence, cause) in &offences {
+        push_reason(alloc, out, *offence, *cause)?;
+    }
+    out.push_str("</table>>];\n")
 }
 
 /// Adds the boxes, and a frame round those of one address.
@@ -346,13 +429,47 @@ fn node_of(looks: &[Look], layout: &Layout, at: usize) -> Option<Node> {
     Some(Node(look.place()))
 }
 
-/// Adds an arrow from a box to one that it doesn't lead to straight. One by status modifier is
+/// Where an arrow begins or ends that belongs to this row of a box.
+fn row_of(looks: &[Look], layout: &Layout, at: usize) -> Option<End> {
+    let cell = if layout.is_left_out(at) {
+        Cell::LeftOut
+    } else {
+        Cell::Row(looks.get(at)?.place().address)
+    };
+    Some(End {
+        node: node_of(looks, layout, at)?,
+        cell: Some(cell),
+    })
+}
+
+/// Where an arrow from one row to another begins and ends: in one box at the rows, and else at the
+/// boxes, since it leads from the last row to the first.
+fn ends_of(looks: &[Look], layout: &Layout, from: usize, to: usize) -> Option<(End, End)> {
+    let (from, to) = if layout.head(from) == layout.head(to) {
+        (row_of(looks, layout, from)?, row_of(looks, layout, to)?)
+    } else {
+        let (from, to) = (node_of(looks, layout, from)?, node_of(looks, layout, to)?);
+        (
+            End {
+                node: from,
+                cell: None,
+            },
+            End {
+                node: to,
+                cell: None,
+            },
+        )
+    };
+    Some((from, to))
+}
+
+/// Adds an arrow from a row to one that it doesn't lead to straight. One by status modifier is
 /// dashed, and keeps its boxes in one column.
 fn push_arrow(
     out: &mut String,
     picture: &Picture,
     layout: &Layout,
-    from: Node,
+    at: usize,
     arrow: Option<Arrow>,
     is_found: bool,
 ) -> Result<(), AllocError> {
@@ -362,17 +479,17 @@ fn push_arrow(
     if layout.head(arrow.to) != Some(arrow.to) {
         return Ok(());
     }
-    let Some(to) = node_of(picture.looks, layout, arrow.to) else {
+    let Some((from, to)) = ends_of(picture.looks, layout, at, arrow.to) else {
         return Ok(());
     };
-    write!(out, "  \"{from}\" -> \"{to}\"")?;
+    write!(out, "  {from} -> {to}")?;
     let style = if is_found {
         "style=dashed, weight=8"
     } else {
         ""
     };
     let is_labelled = layout.boxes <= MOST_LABELLED;
-    let found = if is_found && is_labelled { "found" } else { "" };
+    let found = if is_found && is_labelled { "if found" } else { "" };
     match arrow.through {
         Some(transfer) if is_labelled => {
             let transfer = Address(transfer);
@@ -396,29 +513,32 @@ fn changed_at(cause: Evidence) -> Option<u32> {
     }
 }
 
-/// Adds the red arrows from the box of a place to those of what it stores over, one to each.
+/// Adds the red arrows from the row of a place to those of what it stores over, one to each.
 fn push_changes(
     alloc: Global,
     out: &mut String,
     picture: &Picture,
     layout: &Layout,
+    at: usize,
     place: Place,
 ) -> Result<(), AllocError> {
-    let from = Node(place);
+    let Some(from) = row_of(picture.looks, layout, at) else {
+        return Ok(());
+    };
     let mut last: Option<usize> = None;
     for (_, cause) in &offences_of(alloc, picture, place)? {
         let Some(address) = changed_at(*cause) else {
             continue;
         };
-        let head = first_row(picture.looks, address).and_then(|at| layout.head(at));
-        if head == last {
+        let row = first_row(picture.looks, address);
+        if row == last {
             continue;
         }
-        last = head;
-        if let Some(to) = head.and_then(|at| node_of(picture.looks, layout, at)) {
+        last = row;
+        if let Some(to) = row.and_then(|at| row_of(picture.looks, layout, at)) {
             write!(
                 out,
-                "  \"{from}\" -> \"{to}\" [color=\"#B00000\", fontcolor=\"#B00000\", \
+                "  {from} -> {to} [style=dotted, color=\"#B00000\", fontcolor=\"#B00000\", \
                  penwidth=1.5, constraint=false, label=\" stores over \"];\n"
             )?;
         }
@@ -461,12 +581,12 @@ fn push_arrows(
         let (Some(row), Some(from)) = (row_at(looks, at), node_of(looks, layout, at)) else {
             continue;
         };
-        push_arrow(out, picture, layout, from, row.next, false)?;
-        push_arrow(out, picture, layout, from, row.skip, row.until.is_none())?;
+        push_arrow(out, picture, layout, at, row.next, false)?;
+        push_arrow(out, picture, layout, at, row.skip, row.until.is_none())?;
         if row.next.is_none() && row.skip.is_none() && row.look.fault().is_none() {
             push_end(out, from)?;
         }
-        push_changes(alloc, out, picture, layout, row.look.place())?;
+        push_changes(alloc, out, picture, layout, at, row.look.place())?;
     }
     Ok(())
 }
@@ -476,7 +596,8 @@ fn push_arrows(
 ///
 /// CCWs stand in boxes, a row each; those behind each other to which no other way leads share one.
 /// A transfer in channel is a label on the arrow through it. A place that offends is alone in a
-/// pink box, with its reasons and their causes.
+/// pink box, with its reasons and their causes. A dashed arrow is taken if a search finds, and a
+/// dotted one leads from a row to the row that it stores over.
 pub fn graph_text(alloc: Global, picture: &Picture) -> Result<String, AllocError>
     ensures { IfOk result (λ text. IsPictureOf (option_map (λ n. n.now) picture.now.name)
         picture.now.verdict (string_bytes text)) }

@@ -4,6 +4,15 @@
 use chan_walk::{Look, Offence, Place};
 use std::alloc::{AllocError, Global};
 
+/// Of a box with more rows than these only the first and the last half of so many are drawn.
+pub(crate) const MOST_ROWS: usize = 40;
+
+/// Whether a row, numbered from zero, is left out of a box with so many.
+pub(crate) fn is_left_out_of(length: usize, number: usize) -> bool {
+    let first = MOST_ROWS / 2;
+    length > MOST_ROWS && first <= number && number < length.saturating_sub(first)
+}
+
 /// An arrow from one row to another. Rows have the index of their look.
 #[derive(Clone, Copy)]
 pub(crate) struct Arrow {
@@ -138,6 +147,10 @@ fn offends(offences: &[Offence], place: Place) -> bool {
 pub(crate) struct Layout {
     /// For each place with a row the row that begins its box.
     heads: Vec<Option<usize>>,
+    /// For each place with a row the row's number in its box.
+    numbers: Vec<usize>,
+    /// For each row that begins a box how many rows the box has.
+    lengths: Vec<usize>,
     /// For each place whether another row has its address, so that they are in one frame.
     framed: Vec<bool>,
     /// How many boxes there are.
@@ -148,6 +161,16 @@ impl Layout {
     /// The row that begins the box of a row.
     pub(crate) fn head(&self, at: usize) -> Option<usize> {
         self.heads.get(at).copied().flatten()
+    }
+
+    /// Whether the row is left out of its box, which has too many.
+    pub(crate) fn is_left_out(&self, at: usize) -> bool {
+        let number = self.numbers.get(at).copied().unwrap_or(0);
+        let length = match self.head(at) {
+            Some(head) => self.lengths.get(head).copied().unwrap_or(0),
+            None => 0,
+        };
+        is_left_out_of(length, number)
     }
 
     /// Whether another row has the address of this one.
@@ -238,12 +261,16 @@ pub(crate) fn layout_of(
         framed.get(at).copied().unwrap_or(true) || offends(offences, row.look.place())
     };
     let mut heads: Vec<Option<usize>> = Vec::new(alloc);
+    let mut numbers: Vec<usize> = Vec::new(alloc);
+    let mut lengths: Vec<usize> = Vec::new(alloc);
+    lengths.resize(looks.len(), 0)?;
     let mut boxes: usize = 0;
     // The row before, if more may join it, and the head of its box.
     let mut open: Option<(Row, usize)> = None;
     for at in 0..looks.len() {
         let Some(row) = row_at(looks, at) else {
             heads.push(None)?;
+            numbers.push(0)?;
             continue;
         };
         let apart = is_apart(at, &row);
@@ -258,10 +285,16 @@ pub(crate) fn layout_of(
             }
         };
         heads.push(Some(head))?;
+        if head < lengths.len() {
+            numbers.push(lengths[head])?;
+            lengths[head] = lengths[head].saturating_add(1);
+        }
         open = if apart { None } else { Some((row, head)) };
     }
     Ok(Layout {
         heads,
+        numbers,
+        lengths,
         framed,
         boxes,
     })
