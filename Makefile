@@ -58,8 +58,8 @@ ckd_core chan_args chan_find: JOBS = 1
 try:
 	@exec < "$(DECK)" && cd crates/chanv && { rt try -- why || test $$? -eq 1; }
 
-# Compiles the same sources by plain rustc, with nothing proved. The crates are Debian's, or come from
-# crates.io; rustc/README.md says more.
+# Compiles the same sources by plain rustc, with nothing proved. Rust's crates are Debian's, or come
+# from crates.io; rustc/README.md says more.
 rustc:
 	rustc/strip.py out/rustc
 	cd out/rustc && cargo build --quiet --release -p chanv

@@ -2,12 +2,14 @@
 """Makes a Cargo workspace of the sources, which plain rustc compiles with nothing proved.
 
     rustc/strip.py [FOLDER] [--crates FOLDER|crates.io]
+    rustc/strip.py --packages
 
 From each .rt file the script takes away what only the prover reads. Line ends stay, so a message of
 rustc names the line of the .rt file. Five forms are written as Rust has them: see FORMS. Each file
 gets the prelude of kit/, which gives Rattle's names of `std` over Rust's. shims/ has the crates
 whose calls differ from Rust's. The other crates are Rust's own: Debian's, if its packages
-librust-*-dev are installed, and otherwise those of crates.io.
+librust-*-dev are installed, and otherwise those of crates.io. --packages prints the packages of
+Debian that are missing here.
 """
 
 import argparse
@@ -23,13 +25,12 @@ ROOT = HERE.parent
 # Rust's crates that are used as they are. Every other crate that crates.txt names is in shims/.
 REAL = {"arrayvec": "0.7", "byteorder": "1", "itoa": "1", "thiserror": "1"}
 
-# Where Debian's packages put Rust's crates, which ones are needed, and how to get them with a
-# compiler. Its package rustc is older than OLDEST.
+# Where Debian's packages put Rust's crates, and the crates that are needed, with all that they use.
 DEBIAN = Path("/usr/share/cargo/registry")
 NEEDED = ["arrayvec", "byteorder", "clap", "hex", "itoa", "strsim", "thiserror"]
-PACKAGES = ["rustc-web", "cargo-web", *(f"librust-{crate}-dev" for crate in NEEDED)]
-INSTALL = f"on Debian 12: apt-get install {' '.join(PACKAGES)}"
+# The first version that has edition 2024. Debian 12's packages rustc and cargo are older.
 OLDEST = (1, 85)
+COMPILER = ["rustc-web", "cargo-web"]
 
 # What is copied as it is: comments, text, characters, lifetimes and words.
 OPAQUE = re.compile(
@@ -149,15 +150,25 @@ def lacking(folder):
     return [name for name in NEEDED if not any(folder.glob(f"{name}-[0-9]*"))]
 
 
-def find_cargo():
-    """Ends the script if there is no cargo, or only an old one."""
+def fault_of_cargo():
+    """What is wrong with cargo here, or None."""
     if shutil.which("cargo") is None:
-        sys.exit(f"rustc/strip.py: no cargo; {INSTALL}")
+        return "no cargo"
     said = subprocess.run(["cargo", "--version"], capture_output=True, text=True).stdout
     found = re.match(r"cargo (\d+)\.(\d+)", said)
-    if found is None or tuple(map(int, found.groups())) < OLDEST:
-        oldest = ".".join(map(str, OLDEST))
-        sys.exit(f"rustc/strip.py: {said.strip() or 'cargo'} is older than {oldest}; {INSTALL}")
+    if found and tuple(map(int, found.groups())) >= OLDEST:
+        return None
+    return f"{said.strip() or 'cargo'} is older than {'.'.join(map(str, OLDEST))}"
+
+
+def packages():
+    """The packages of Debian that are missing here."""
+    crates = [f"librust-{name}-dev" for name in lacking(DEBIAN)]
+    return COMPILER * bool(fault_of_cargo()) + crates
+
+
+def install():
+    return f"on Debian 12: apt-get install {' '.join(packages())}"
 
 
 def source_of(given):
@@ -167,7 +178,7 @@ def source_of(given):
     names = lacking(DEBIAN)
     if names:
         about = f"{DEBIAN} lacks {', '.join(names)}, so the crates come from crates.io"
-        print(f"rustc/strip.py: {about}; {INSTALL}", file=sys.stderr)
+        print(f"rustc/strip.py: {about}; {install()}", file=sys.stderr)
     return None if names else DEBIAN
 
 
@@ -203,8 +214,13 @@ def main():
     given = argparse.ArgumentParser(description=__doc__.splitlines()[0])
     given.add_argument("to", nargs="?", type=Path, default=ROOT / "out/rustc", metavar="FOLDER")
     given.add_argument("--crates", metavar="FOLDER|crates.io", help="where Rust's crates are")
+    given.add_argument("--packages", action="store_true", help="print what Debian's apt installs")
     given = given.parse_args()
-    find_cargo()
+    if given.packages:
+        print(*packages())
+        return
+    if fault := fault_of_cargo():
+        sys.exit(f"rustc/strip.py: {fault}; {install()}")
     write_source(given.to, source_of(given.crates))
     for path in [HERE / "Cargo.toml", *HERE.glob("kit/**/*.*"), *HERE.glob("shims/**/*.*")]:
         write(given.to / path.relative_to(HERE), path.read_text())

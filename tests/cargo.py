@@ -1,4 +1,4 @@
-"""Builds the sources by plain rustc, as rustc/ has it, for the tests `rustc` and `rustc_library`."""
+"""Builds the program and the library for C by plain rustc, as rustc/ says, for the tests."""
 
 import os
 import platform
@@ -30,11 +30,9 @@ def stripping():
 
 def missing():
     """What is missing to build here without a network, or None."""
-    if shutil.which("cargo") is None:
-        return "no cargo"
     strip = stripping()
     names = strip.lacking(strip.DEBIAN)
-    return f"{strip.DEBIAN} lacks {', '.join(names)}" if names else None
+    return strip.fault_of_cargo() or (f"no crates {', '.join(names)}" if names else None)
 
 
 def workspace():
@@ -73,7 +71,7 @@ def sanitized_library():
 
 
 def linked(folder, made, *flags):
-    """Links the library with its C file, as `make lib` does, into an archive and a shared library."""
+    """Links the library with its C file, like `make lib`: an archive and a shared library."""
     folder.mkdir(exist_ok=True)
     shutil.copy(ROOT / "crates/chanv_c/include/chanv.h", folder)
     shutil.copy(made / "libchanv_c.a", folder / "libchanv.a")

@@ -1,4 +1,4 @@
-"""The library for C by plain rustc, with nothing proved: the tests of the library, under sanitizers.
+"""The library for C by plain rustc, with nothing proved, under sanitizers and the library's tests.
 
 The Rust part is built under AddressSanitizer, with each overflow and each assertion of Rust's
 library checked; the C file and the programs of c/ are under UndefinedBehaviorSanitizer too. The
