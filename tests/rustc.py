@@ -20,7 +20,7 @@ from concurrent.futures import ThreadPoolExecutor
 from pathlib import Path
 from random import Random
 
-from building import version
+from building import ROOT, version
 from cargo import CHECKED, cargo, missing, program, workspace
 from command_lines import FAULTS, rows
 from damaged_decks import damaged
@@ -150,8 +150,11 @@ def check_command_lines(checks, programs):
 
 
 def check_unit_tests(checks):
+    sources = [text_of(path) for path in (ROOT / "crates/unit_tests/src").rglob("*.rt")]
     ran = run("cargo", "test", *CHECKED, "-p", "unit_tests", cwd=workspace(), timeout=None)
-    checks.expect_that("the unit tests", ran.status == 0 and "test result: ok" in ran.output, ran)
+    checks.expect_that("the unit tests", ran.status == 0, ran)
+    passed = sum(map(int, re.findall(r"test result: ok. (\d+) passed", ran.output)))
+    checks.expect("how many unit tests", "".join(sources).count("#[test]"), passed)
 
 
 def growths_of(case):
