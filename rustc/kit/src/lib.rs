@@ -9,7 +9,7 @@ pub mod runtime;
 pub mod text;
 pub mod vec;
 
-pub use ::std::{convert, error, fmt, io};
+pub use ::std::{convert, error, fmt, io, str};
 
 pub mod alloc {
     use ::std::fmt;
