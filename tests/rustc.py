@@ -1,15 +1,15 @@
 """The same sources by plain rustc, with nothing proved, against the proved program.
 
 The program of rustc/ is built with each overflow and each assertion of Rust's library checked. Its
-unit tests pass. Both programs write the same with the same status over all example decks, damaged
-and refused decks, random jobs of the model, their storage as images, each command line, each word
-and each code. So a fault of the kit's compiler or library shows, unless Rust's has the same. Usage
-faults are compared by status: their words are those of clap, whose versions differ. Each growth of
-memory is refused too.
+unit tests pass. Both programs write the same with the same status over all example decks, large,
+damaged and refused decks, random jobs of the model, their storage as images, each command line,
+each word and each code. So a fault of the kit's compiler or library shows, unless Rust's has the
+same. Usage faults are compared by status: their words are those of clap, whose versions differ.
+Each growth of memory is refused too.
 
-All of it takes a minute of four processors. Without RUSTC_JOBS, which says how many random jobs
-there are, there are few, and only some commands are refused memory. Without cargo or the crates the
-test is left out, by its name.
+RUSTC_JOBS says how many random jobs there are. Without it there are few, and only one command is
+refused memory: all takes two minutes of a processor, and this half of that, most of it the build.
+Without cargo or the crates the test is left out, by its name.
 """
 
 import os
@@ -31,6 +31,7 @@ from refused_decks import DECK, HINTS, LINES, NO_DECKS, OLDER, OLDER_HINTS, REFU
 from refused_memory import advice_cases, command_cases
 from refusing import Growths
 from running import Ran, run, text_of
+from speed import decks_of_bench
 
 FEW = 300
 AT_ONCE = 4
@@ -45,6 +46,8 @@ OF_AN_IMAGE = [
     "deck --start {start:06X} --open {path}",
     "deck --start {start:06X} --extent 0-9 --store 0+100 --mask 58 {path}",
 ]
+# decks of bench/ with as many places as a deck of version 1 may have
+LARGE = ["places", "loops", "chain", "ring", "comb", "offends"]
 # the start in an image that isn't of a job
 START = 0x800
 
@@ -74,6 +77,9 @@ def inputs_in(folder, count):
     """The decks, and each image with a start; random jobs and texts are written into the folder."""
     decks = [deck for each in (*FOLDERS, TEXTS) for deck in decks_of(each)]
     images = [(START, path) for path in (*decks, *sorted(EXAMPLES.glob("*.bin")))]
+    for name in LARGE:
+        decks.append(folder / f"{name}.deck")
+        decks[-1].write_text("".join(decks_of_bench()[name]()))
     for number, text in enumerate(texts()):
         decks.append(folder / f"text-{number}.deck")
         decks[-1].write_bytes(text)
