@@ -3,7 +3,8 @@
 # something: it proves everything again, and tries mutants, which the prover has to refuse.
 # `make lib` builds the library for C. `make install PREFIX=/usr/local` copies what these two built
 # to where users expect it, the libraries to LIBDIR, and builds nothing; `make uninstall` removes it.
-# `make table` prints the contracts.
+# `make table` prints the contracts. `make rustc` needs no kit: from the same sources plain rustc
+# builds out/rustc/target/release/chanv-rustc, with nothing proved.
 
 PREFIX ?= /usr/local
 LIBDIR ?= $(PREFIX)/lib
@@ -28,7 +29,7 @@ BESIDE = --jobs=3
 DECK ?= examples/changes-argument.deck
 
 .PHONY: run libraries $(LIBRARIES) test audit proofs mutants unit_tests lib install uninstall try
-.PHONY: table can_prove can_link can_test can_audit
+.PHONY: rustc table can_prove can_link can_test can_audit
 
 run: libraries
 	cd crates/chanv && rt run --jobs $(JOBS) < stdin
@@ -56,6 +57,13 @@ ckd_core chan_args chan_find: JOBS = 1
 # Explains the verdict on a deck, with nothing proved: it compiles the sources as they are.
 try:
 	@exec < "$(DECK)" && cd crates/chanv && { rt try -- why || test $$? -eq 1; }
+
+# Compiles the same sources by plain rustc, with nothing proved. Rust's crates are Debian's, or come
+# from crates.io; rustc/README.md says more.
+rustc:
+	rustc/strip.py out/rustc
+	cd out/rustc && cargo build --quiet --release -p chanv
+	@echo "out/rustc/target/release/chanv-rustc is built, and nothing of it is proved"
 
 # Prints each public function with the clauses of its contract and its mutants.
 table:

@@ -95,15 +95,16 @@ def carry_out(name, check, *given):
     return checks
 
 
-def finish(tests):
+def finish(tests, may_skip=True):
     """Names what was skipped, and prints the last line over all tests. The status is 0 if all
-    passed, 1 if a check failed or none was made, and 2 if a test couldn't run."""
+    passed, 1 if a check failed or none was made, and 2 if a test couldn't run. What was skipped
+    counts as failed if it may not be."""
     whole = Checks("all")
-    for test in tests:
-        for part in test.skipped:
-            say(part)
+    skipped = [part for test in tests for part in test.skipped]
+    for part in skipped:
+        say(part if may_skip else f"FAILED {part}")
     whole.passed = sum(test.passed for test in tests)
-    whole.failed = sum(test.failed for test in tests)
+    whole.failed = sum(test.failed for test in tests) + (0 if may_skip else len(skipped))
     say(whole)
     if not all(test.could_run for test in tests):
         return 2

@@ -13,7 +13,8 @@ from running import text_of
 from sources import CRATES
 
 DOCS = [ROOT / "README.md", *sorted((ROOT / "docs").glob("*.md"))]
-OTHERS = [ROOT / "CHANGELOG.md", ROOT / "bench/README.md", *sorted(ROOT.glob("examples/**/*.md"))]
+OTHERS = [ROOT / "CHANGELOG.md", ROOT / "bench/README.md", ROOT / "rustc/README.md"]
+OTHERS += sorted(ROOT.glob("examples/**/*.md"))
 PAGES = [*DOCS, *OTHERS]
 GLOSSARY = ROOT / "docs/GLOSSARY.md"
 
@@ -22,7 +23,7 @@ SOURCES = {".rt", ".antt", ".h", ".c", ".py", ".txt", ".edit", ".sh", ".s"}
 
 FENCED = r"(?ms)^```.*?^```$"
 # a path from the top of the repository; NAME and the like stand for any, and make writes out/
-PATH = r"`((?:c|crates|tests|examples|docs|bench)/[\w./-]+)`"
+PATH = r"`((?:c|crates|tests|examples|docs|bench|rustc)/[\w./-]+)`"
 ANY = r"[A-Z]{2,}/|/[A-Z]{2,}\.(?!md)|/out/"
 
 

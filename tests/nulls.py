@@ -4,8 +4,8 @@ A call has to answer and write the same as with another pointer in NULL's place.
 the rules: over the search loop, of which 24 bytes are kept, 5 are fetched and 80 stored.
 """
 
-from ctypes import byref, c_char, c_size_t, c_uint8, c_uint16, c_uint32, c_void_p, cast
-from ctypes import create_string_buffer
+from ctypes import Array, Structure, byref, c_char, c_size_t, c_uint8, c_uint16, c_uint32, c_void_p
+from ctypes import cast, create_string_buffer
 
 from package import package
 
@@ -39,6 +39,13 @@ CALLS = [
     ("write_with_none", ["in flight"], "0 0"),
     ("find", ["storage", "starts"], "0 11 0"),
 ]
+
+
+def value_of(it):
+    """All that a struct or an array holds, without the bytes between fields, which mean nothing."""
+    if isinstance(it, Structure):
+        return [value_of(getattr(it, name)) for name, *_ in it._fields_]
+    return [value_of(element) for element in it] if isinstance(it, Array) else it
 
 
 class Asking:
@@ -89,7 +96,7 @@ class Asking:
         made = [it() if isinstance(it, type) else it for it in given]
         code = call(*(byref(it) if hasattr(it, "_fields_") else it for it in made))
         outputs = [it for it, kind in zip(made, given) if isinstance(kind, type)]
-        return code, [bytes(it) for it in outputs] + [bytes(it) for it in self.held]
+        return code, [value_of(it) for it in (*outputs, *self.held)]
 
     def rows(self, number, kind, room=ROOM):
         at, count = self.list_at(number, (kind * room)())

@@ -1,0 +1,234 @@
+#!/usr/bin/env python3
+"""Makes a Cargo workspace of the sources, which plain rustc compiles with nothing proved.
+
+    rustc/strip.py [FOLDER] [--crates FOLDER|crates.io]
+    rustc/strip.py --packages
+
+From each .rt file the script takes away what only the prover reads. Line ends stay, so a message of
+rustc names the line of the .rt file. Five forms are written as Rust has them: see FORMS. Each file
+gets the prelude of kit/, which gives Rattle's names of `std` over Rust's. shims/ has the crates
+whose calls differ from Rust's. The other crates are Rust's own: Debian's, if its packages
+librust-*-dev are installed, and otherwise those of crates.io. --packages prints the packages of
+Debian that are missing here.
+"""
+
+import argparse
+import re
+import shutil
+import subprocess
+import sys
+from pathlib import Path
+
+HERE = Path(__file__).resolve().parent
+ROOT = HERE.parent
+
+# Rust's crates that are used as they are. Every other crate that crates.txt names is in shims/.
+REAL = {"arrayvec": "0.7", "byteorder": "1", "itoa": "1", "thiserror": "1"}
+
+# Where Debian's packages put Rust's crates, and the crates that are needed, with all that they use.
+DEBIAN = Path("/usr/share/cargo/registry")
+NEEDED = ["arrayvec", "byteorder", "clap", "hex", "itoa", "strsim", "thiserror"]
+# The first version that has edition 2024. Debian 12's packages rustc and cargo are older.
+OLDEST = (1, 85)
+COMPILER = ["rustc-web", "cargo-web"]
+
+# What is copied as it is: comments, text, characters, lifetimes and words.
+OPAQUE = re.compile(
+    r"//[^\n]*|/\*.*?\*/|b?\"(?:[^\"\\]|\\.)*\"|b?'(?:[^'\\\n]|\\[^\n]{1,8}?)'|'\w+|\w+", re.S
+)
+# How something for the prover begins: a ghost item, a clause, an attribute for tactics.
+GHOST = re.compile(r"(?:pub(?:\([\w:]+\))?\s+)?ghost\b")
+CLAUSE = re.compile(r"(?:requires|ensures)\b\*?\s*\w*\s*(?=\{)")
+TACTIC = re.compile(r"#!?\[(?:tactic|cycle)\b")
+
+PRELUDE = "#[allow(unused_imports)] use ::kit::prelude::*; "
+
+
+def derived(found):
+    """A derive without `Drop`: Rust drops every value."""
+    names = [name for name in found[1].split(", ") if name != "Drop"]
+    return f"#[derive({', '.join(names)})]" if names else ""
+
+
+# What Rust has otherwise: derives and bounds of `Drop`, the writer of a `fmt`, and the runtime that
+# `main` or a test is given.
+FORMS = [
+    (re.compile(r"#\[derive\(([\w, ]*)\)\]"), derived),
+    (re.compile(r"(?<=\w): Drop\b"), lambda found: ""),
+    (
+        re.compile(r"fn fmt<W: fmt::Write>\(&self, f: &mut fmt::Formatter<W>\)"),
+        lambda found: "fn fmt(&self, f: &mut fmt::Formatter<'_>)",
+    ),
+    (
+        re.compile(r"fn main\(rt: HostRuntime\)"),
+        lambda found: "kit::main!(begun); fn begun(rt: HostRuntime)",
+    ),
+    (
+        re.compile(r"fn (\w+)\(rt: HostRuntime\)([^{]*)\{"),
+        lambda found: f"fn {found[1]}(){found[2]}{{ let rt = HostRuntime::new();",
+    ),
+]
+
+
+def after_brackets(text, at):
+    """The place after the brackets that begin at `at`."""
+    depth = 0
+    while True:
+        if text[at] == '"':
+            at = OPAQUE.match(text, at).end()
+            continue
+        depth += (text[at] in "{[(") - (text[at] in "}])")
+        at += 1
+        if depth == 0:
+            return at
+
+
+def after_ghost(text, at):
+    """The place after a ghost item: after its `;` or `,`, or before the end of its block."""
+    while text[at] not in ";,}":
+        at = after_brackets(text, at) if text[at] in "{[(" else at + 1
+    return at + (text[at] != "}")
+
+
+def piece(text, at):
+    """What Rust reads in place of what begins at `at`, and the place after that."""
+    if found := GHOST.match(text, at):
+        return "", after_ghost(text, found.end())
+    if found := CLAUSE.match(text, at):
+        return "", after_brackets(text, found.end())
+    if TACTIC.match(text, at):
+        return "", after_brackets(text, text.index("[", at))
+    for form, written in FORMS:
+        if found := form.match(text, at):
+            return written(found), found.end()
+    if found := OPAQUE.match(text, at):
+        return found[0], found.end()
+    return text[at], at + 1
+
+
+def strip(text):
+    """The text of a .rt file as Rust reads it."""
+    pieces, at, begun = [], 0, False
+    while at < len(text):
+        put, end = piece(text, at)
+        if not begun and put.strip() and not put.startswith("//!"):
+            begun = True
+            put = ("#![no_main] " if "fn main(" in text else "") + PRELUDE + put
+        pieces.append(put or "\n" * text.count("\n", at, end))
+        at = end
+    # no spaces stay at the end of a line that lost something
+    return re.sub(r"[ \t]+(?=\n)", "", "".join(pieces))
+
+
+def crates():
+    """Each crate of crates.txt: its name, its other words, and the crates that it uses."""
+    for line in (ROOT / "crates.txt").read_text().splitlines():
+        if line and not line.startswith("#"):
+            head, _, needs = line.partition(":")
+            name, *words = head.split()
+            yield name, words, needs.split()
+
+
+def manifest(name, words, needs, own):
+    """The Cargo.toml of a crate. The program is named so that it isn't taken for the proved one."""
+    lines = ["[package]", f'name = "{name}"', 'version = "0.0.0"', 'edition = "2024"']
+    lines += ["[lints]", "workspace = true"]
+    if name == "chanv":
+        lines += ["[[bin]]", 'name = "chanv-rustc"', 'path = "src/main.rs"']
+    if "staticlib" in words:
+        lines += ["[lib]", 'crate-type = ["staticlib"]']
+    lines += ["[dependencies]", 'kit = { path = "../kit" }']
+    for need in needs:
+        where = f"../{need}" if need in own else f"../shims/{need}"
+        by_path = f'{{ path = "{where}" }}'
+        lines.append(f'{need} = "{REAL[need]}"' if need in REAL else f"{need} = {by_path}")
+    return "".join(f"{line}\n" for line in lines)
+
+
+def lacking(folder):
+    """The crates that a folder of Debian's lacks."""
+    return [name for name in NEEDED if not any(folder.glob(f"{name}-[0-9]*"))]
+
+
+def fault_of_cargo():
+    """What is wrong with cargo here, or None."""
+    if shutil.which("cargo") is None:
+        return "no cargo"
+    said = subprocess.run(["cargo", "--version"], capture_output=True, text=True).stdout
+    found = re.match(r"cargo (\d+)\.(\d+)", said)
+    if found and tuple(map(int, found.groups())) >= OLDEST:
+        return None
+    return f"{said.strip() or 'cargo'} is older than {'.'.join(map(str, OLDEST))}"
+
+
+def packages():
+    """The packages of Debian that are missing here."""
+    crates = [f"librust-{name}-dev" for name in lacking(DEBIAN)]
+    return COMPILER * bool(fault_of_cargo()) + crates
+
+
+def install():
+    return f"on Debian 12: apt-get install {' '.join(packages())}"
+
+
+def source_of(given):
+    """The folder of Rust's crates, or None for crates.io."""
+    if given:
+        return None if given == "crates.io" else Path(given).absolute()
+    names = lacking(DEBIAN)
+    if names:
+        about = f"{DEBIAN} lacks {', '.join(names)}, so the crates come from crates.io"
+        print(f"rustc/strip.py: {about}; {install()}", file=sys.stderr)
+    return None if names else DEBIAN
+
+
+def write(path, text):
+    """Writes a file, unless it has this text: then cargo needn't compile it again."""
+    if path.exists() and path.read_text() == text:
+        return False
+    path.parent.mkdir(parents=True, exist_ok=True)
+    path.write_text(text)
+    return True
+
+
+def write_source(folder, crates):
+    """Tells cargo where the crates come from. The other source's versions may be others."""
+    text = ""
+    if crates:
+        text = '[source.crates-io]\nreplace-with = "folder"\n[source.folder]\n'
+        text += f'directory = "{crates}"\n'
+    if write(folder / ".cargo/config.toml", text):
+        (folder / "Cargo.lock").unlink(missing_ok=True)
+
+
+def write_crate(folder, name, words, needs, own):
+    write(folder / name / "Cargo.toml", manifest(name, words, needs, own))
+    for source in (ROOT / "crates" / name / "src").rglob("*.rt"):
+        text = strip(source.read_text())
+        if source.name in ("lib.rt", "main.rt"):
+            text = f"{text}\n#[macro_use]\nextern crate kit as std;\n"
+        write(folder / source.relative_to(ROOT / "crates").with_suffix(".rs"), text)
+
+
+def main():
+    given = argparse.ArgumentParser(description=__doc__.splitlines()[0])
+    given.add_argument("to", nargs="?", type=Path, default=ROOT / "out/rustc", metavar="FOLDER")
+    given.add_argument("--crates", metavar="FOLDER|crates.io", help="where Rust's crates are")
+    given.add_argument("--packages", action="store_true", help="print what Debian's apt installs")
+    given = given.parse_args()
+    if given.packages:
+        print(*packages())
+        return
+    if fault := fault_of_cargo():
+        sys.exit(f"rustc/strip.py: {fault}; {install()}")
+    write_source(given.to, source_of(given.crates))
+    for path in [HERE / "Cargo.toml", *HERE.glob("kit/**/*.*"), *HERE.glob("shims/**/*.*")]:
+        write(given.to / path.relative_to(HERE), path.read_text())
+    rows = [*crates()]
+    own = {name for name, _, _ in rows}
+    for name, words, needs in rows:
+        write_crate(given.to, name, words, needs, own)
+
+
+if __name__ == "__main__":
+    main()

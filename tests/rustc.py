@@ -1,0 +1,196 @@
+"""The same sources by plain rustc, with nothing proved, against the proved program.
+
+The program of rustc/ is built with each overflow and each assertion of Rust's library checked. Its
+unit tests pass. Both programs write the same with the same status over all example decks, large,
+damaged and refused decks, random jobs of the model, their storage as images, each command line,
+each word and each code. So a fault of the kit's compiler or library shows, unless Rust's has the
+same. Usage faults are compared by status: their words are those of clap, whose versions differ.
+Each growth of memory is refused too.
+
+RUSTC_JOBS says how many random jobs there are. Without it there are few, and only one command is
+refused memory: all takes two minutes of a processor, and this half of that, most of it the build.
+Without cargo or the crates the test is left out, by its name.
+"""
+
+import os
+import re
+import shlex
+import tempfile
+from concurrent.futures import ThreadPoolExecutor
+from pathlib import Path
+from random import Random
+
+from building import ROOT, version
+from cargo import CHECKED, cargo, missing, program, workspace
+from command_lines import FAULTS, rows
+from damaged_decks import damaged
+from examples import EXAMPLES, FOLDERS, SEARCH_LOOP, TEXTS, decks_of
+from expecting import Checks
+from model import SEED, deck_of, jobs_of
+from refused_decks import DECK, HINTS, LINES, NO_DECKS, OLDER, OLDER_HINTS, REFUSED, REFUSED_OF_TWO
+from refused_memory import advice_cases, command_cases
+from refusing import Growths
+from running import Ran, run, text_of
+from speed import decks_of_bench
+
+FEW = 300
+AT_ONCE = 4
+
+# commands over all decks at once, over a deck, and over an image
+OF_DECKS = ["verify", "list", "why", "why --all", "needs"]
+OF_A_DECK = ["graph {path}"]
+OF_AN_IMAGE = [
+    "find {path}",
+    "find --device 2311 {path}",
+    "deck --start {start:06X} --least {path}",
+    "deck --start {start:06X} --open {path}",
+    "deck --start {start:06X} --extent 0-9 --store 0+100 --mask 58 {path}",
+]
+# decks of bench/ with as many places as a deck of version 1 may have
+LARGE = ["places", "loops", "chain", "ring", "comb", "offends"]
+# the start in an image that isn't of a job
+START = 0x800
+
+EACH = '"$1" {} 2>&1 < /dev/null; echo "status $?"\n'
+
+
+def as_chanv(program, room):
+    """A link to a program in a folder of its own: help shows the name by which it was called."""
+    link = Path(tempfile.mkdtemp(dir=room)) / "chanv"
+    link.symlink_to(program)
+    return link
+
+
+def texts():
+    """Decks that the other tests make, most of which are refused."""
+    yield from (deck for _, deck, *_ in damaged(SEARCH_LOOP.read_bytes()))
+    for base, table in ((DECK, REFUSED), (text_of(TEXTS / "deck-two.deck"), REFUSED_OF_TWO)):
+        yield from (base.replace(old, new, 1).encode() for _, old, new, *_ in table)
+    yield from (text.encode() for text, *_ in NO_DECKS)
+    for base, table in ((LINES, HINTS), (OLDER, OLDER_HINTS)):
+        for count, more, *_ in table:
+            front = base.splitlines(keepends=True)[:count]
+            yield "".join([*front, more]).encode()
+
+
+def inputs_in(folder, count):
+    """The decks, and each image with a start; random jobs and texts are written into the folder."""
+    decks = [deck for each in (*FOLDERS, TEXTS) for deck in decks_of(each)]
+    images = [(START, path) for path in (*decks, *sorted(EXAMPLES.glob("*.bin")))]
+    for name in LARGE:
+        decks.append(folder / f"{name}.deck")
+        decks[-1].write_text("".join(decks_of_bench()[name]()))
+    for number, text in enumerate(texts()):
+        decks.append(folder / f"text-{number}.deck")
+        decks[-1].write_bytes(text)
+    for number, job in enumerate(jobs_of(Random(SEED), count)):
+        decks.append(folder / f"job-{number}.deck")
+        decks[-1].write_text("".join(f"{line}\n" for line in deck_of(job)))
+        images.append((job.start, folder / f"job-{number}.bin"))
+        images[-1][1].write_bytes(bytes(job.storage))
+    return decks, images
+
+
+def answers_of_each(programs, lines):
+    """What each program writes for each command line, with its status."""
+    with tempfile.NamedTemporaryFile("w", suffix=".sh") as script:
+        script.write("".join(EACH.format(line) for line in lines))
+        script.flush()
+        for it in programs:
+            ran = run("bash", script.name, it, timeout=None)
+            yield re.split(r"(?m)^status (\d+)\n", ran.output)
+
+
+def check_lines(checks, programs, lines):
+    """Compares what the programs write for each of many command lines, some of them at a time."""
+    parts = [lines[at::AT_ONCE] for at in range(AT_ONCE)]
+    with ThreadPoolExecutor(AT_ONCE) as beside:
+        found = beside.map(lambda part: [*answers_of_each(programs, part)], parts)
+        for part, (proved, plain) in zip(parts, found):
+            checks.expect("how many answers", 2 * len(part) + 1, len(proved))
+            checks.expect("how many answers of rustc", len(proved), len(plain))
+            for at, line in enumerate(part):
+                both = [tuple(texts[2 * at : 2 * at + 2]) for texts in (proved, plain)]
+                checks.expect(line, *both)
+
+
+def check_decks(checks, programs, decks):
+    """Compares the commands that take many decks."""
+    pairs = [(command, it) for command in OF_DECKS for it in programs]
+    with ThreadPoolExecutor(AT_ONCE) as beside:
+        ran = beside.map(lambda pair: run(pair[1], *pair[0].split(), *decks, timeout=None), pairs)
+        found = [*ran]
+    for command, proved, plain in zip(OF_DECKS, found[::2], found[1::2]):
+        checks.expect(f"{command} over {len(decks)} decks", proved, plain)
+
+
+def check_inputs(checks, programs, folder, count):
+    decks, images = inputs_in(folder, count)
+    check_decks(checks, programs, decks)
+    lines = [command.format(path=path) for command in OF_A_DECK for path in decks]
+    for command in OF_AN_IMAGE:
+        lines += [command.format(start=start, path=path) for start, path in images]
+    check_lines(checks, programs, lines)
+
+
+def check_words(checks, programs):
+    listed = run(programs[0], "explain").output.splitlines()
+    words = [line.split()[0] for line in listed if line]
+    ccws = [f"{code:02X}000A002{code % 16:X}000050" for code in range(256)]
+    lines = [f"explain {word}" for word in words]
+    lines += [f"{command} {ccw}" for command in ("show", "show --name") for ccw in ccws]
+    check_lines(checks, programs, lines)
+
+
+def check_command_lines(checks, programs):
+    """The words of a usage fault are clap's, except where a file is named in place of a command."""
+    of_clap = {line for line, text, _ in FAULTS if "isn't a command" not in text}
+    for line, _ in rows():
+        how = {"given": SEARCH_LOOP, "cwd": EXAMPLES}
+        both = [run(it, *shlex.split(line), **how) for it in programs]
+        if both[0].output == f"chanv {version()}\n":
+            both[0] = Ran(0, f"chanv {version()} (not proved)\n")
+        if line in of_clap:
+            both = [ran._replace(error=ran.error.partition(" ")[0]) for ran in both]
+        checks.expect(f"chanv {line}", *both)
+
+
+def check_unit_tests(checks):
+    sources = [text_of(path) for path in (ROOT / "crates/unit_tests/src").rglob("*.rt")]
+    ran = run("cargo", "test", *CHECKED, "-p", "unit_tests", cwd=workspace(), timeout=None)
+    checks.expect_that("the unit tests", ran.status == 0, ran)
+    passed = sum(map(int, re.findall(r"test result: ok. (\d+) passed", ran.output)))
+    checks.expect("how many unit tests", "".join(sources).count("#[test]"), passed)
+
+
+def growths_of(case):
+    """The checks of a case in which each growth is refused."""
+    checks = Checks("rustc")
+    with tempfile.TemporaryDirectory() as room:
+        Growths(room).refuse_each(checks, case)
+    return checks
+
+
+def check_growths(checks, plain, is_whole):
+    """A refused growth is reported, also by the crates that can't go on without memory."""
+    cases = [*command_cases(plain), *advice_cases(plain)]
+    with ThreadPoolExecutor(AT_ONCE) as beside:
+        for done in beside.map(growths_of, cases if is_whole else cases[:1]):
+            checks.passed += done.passed
+            checks.failed += done.failed
+
+
+def check(checks, built):
+    if why := missing():
+        checks.skip("all of it", why)
+        return
+    count = int(os.environ.get("RUSTC_JOBS") or 0)
+    plain = program()
+    check_unit_tests(checks)
+    with tempfile.TemporaryDirectory() as room:
+        folder = Path(room)
+        programs = [as_chanv(it, folder) for it in (built.chanv(), plain)]
+        check_inputs(checks, programs, folder, count or FEW)
+        check_words(checks, programs)
+        check_command_lines(checks, programs)
+    check_growths(checks, plain, count)

@@ -1,0 +1,101 @@
+"""The library for C by plain rustc, with nothing proved, under sanitizers and the library's tests.
+
+The Rust part is built under AddressSanitizer, with each overflow and each assertion of Rust's
+library checked; the C file and the programs of c/ are under UndefinedBehaviorSanitizer too. The
+programs of c/ have to write over it what they write over the proved library, and tests of Python
+run over it; if RUSTC_JOBS is set, as in the gate, so do those that take long: rooms of all sizes,
+the rest of Python, races, and programs that change. Each growth of memory is refused, without
+sanitizers, which have their own memory.
+
+Without cargo or the crates the test is left out, by its name. If this compiler has no
+AddressSanitizer, all runs without sanitizers, and that is named too.
+"""
+
+import os
+import re
+import shlex
+import tempfile
+from concurrent.futures import ThreadPoolExecutor
+from pathlib import Path
+from typing import NamedTuple
+
+import cargo
+from building import HERE, SANITIZED, c_compiler, compile_with
+from expecting import CannotRun
+from library import LINED, check_layout, check_lines, refuse_growths
+from running import run
+
+# tests of tests/run; Python loads the sanitizer before itself
+IN_PYTHON, LONG_IN_PYTHON = ["nulls", "python_edges"], ["python"]
+LONG_IN_C = ["changing", "races"]
+# the program of c/ that takes long under sanitizers
+LONG = "memory"
+
+
+class Library(NamedTuple):
+    """The library under test, what C programs with it are compiled with, and what Python needs."""
+
+    folder: Path
+    flags: list
+    environment: dict
+
+
+def library_under_test(checks):
+    try:
+        folder = cargo.sanitized_library()
+    except CannotRun as why:
+        checks.skip("sanitizers", str(why).splitlines()[-1])
+        return Library(cargo.library(), [], {})
+    # what Python itself leaves behind isn't meant
+    first = {"LD_PRELOAD": cargo.runtime_of("asan"), "ASAN_OPTIONS": "detect_leaks=0"}
+    return Library(folder, SANITIZED, first)
+
+
+def check_programs(checks, library, room, is_whole):
+    for name in LINED:
+        if name != LONG or is_whole:
+            compile_with(library.folder, HERE / f"c/{name}.c", room / name, *library.flags)
+            check_lines(checks, room, name)
+
+
+def check_growths(checks, room):
+    plain = cargo.library()
+    check_layout(checks, plain, room)
+    compile_with(plain, HERE / "c/one_call.c", room / "one_call")
+    refuse_growths(checks, room)
+
+
+def check_tests(checks, library, chanv, is_whole):
+    """Runs tests of tests/run over the library, and counts what they count."""
+    compiler = {**os.environ, "CC": shlex.join([*c_compiler(), *library.flags])}
+    groups = [(IN_PYTHON + LONG_IN_PYTHON * is_whole, compiler | library.environment)]
+    groups += [(LONG_IN_C, compiler)] * is_whole
+    where = ["--library", library.folder, "--program", chanv]
+
+    def ran_with(group):
+        names, environment = group
+        return run(HERE / "run", *names, *where, env=environment, timeout=None)
+
+    with ThreadPoolExecutor() as beside:
+        for (names, _), ran in zip(groups, beside.map(ran_with, groups)):
+            count(checks, " ".join(names), ran)
+
+
+def count(checks, names, ran):
+    *lines, last = ran.output.splitlines() or [""]
+    found = re.fullmatch(r"(\d+) passed, (\d+) failed", last)
+    checks.passed += int(found[1]) if found else 0
+    checks.skipped += [line for line in lines if line.startswith("skipped ")]
+    if ran.status != 0 or not found:
+        checks.fail(f"{names} over it", *ran.output.splitlines(), *ran.error.splitlines())
+
+
+def check(checks, built):
+    if why := cargo.missing():
+        checks.skip("all of it", why)
+        return
+    library, is_whole = library_under_test(checks), bool(os.environ.get("RUSTC_JOBS"))
+    with tempfile.TemporaryDirectory() as room:
+        check_programs(checks, library, Path(room), is_whole)
+        check_growths(checks, Path(room))
+    check_tests(checks, library, built.chanv(), is_whole)
