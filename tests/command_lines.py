@@ -62,6 +62,7 @@ IS_PAST = "chanv: core.bin: image past storage\n"
 CCW, SHOWN = "06000A0020000050", "06 000A00 --L--0 00 0050 read\n"
 NAMED, TRANSFER = "06 000A00 --L--0 00 0050 read read-data\n", "transfer-in-channel"
 NOT_CCW = "chanv: not a CCW\n"
+NO_SUCH_WORD = "chanv: no such word; chanv explain lists all words\n"
 OTHERS = [
     (f"show {CCW}", Ran(0, SHOWN)),
     (f"show -- {CCW}", Ran(0, SHOWN)),
@@ -90,16 +91,16 @@ OTHERS = [
     ("show 0x06000A0020000050", Ran(4, "", NOT_CCW)),
     ("show -", Ran(4, "", NOT_CCW)),
     ("show -- -06", Ran(4, "", "chanv: not a CCW\n")),
-    ("explain no-such-word-at-all", Ran(4, "", "chanv: no such word\n")),
-    ("explain -", Ran(4, "", "chanv: no such word\n")),
+    ("explain no-such-word-at-all", Ran(4, "", NO_SUCH_WORD)),
+    ("explain -- --", Ran(4, "", NO_SUCH_WORD)),
     ("find core.bin", Ran(0, FOUND, NOTE)),
     ("find --device 2314 core.bin", Ran(0, FOUND)),
     ("find --device=2314 --limit 2 -- core.bin", Ran(0, "000800 too many places\n")),
     ("find --device 2314 --storage 100 core.bin", Ran(4, "", IS_PAST)),
     (f"find --device 2314 {LOOP}", Ran(0, "", IS_DECK)),
-    ("verify ./-", Ran(3, "", "chanv: ./-: cannot open\n")),
-    ("verify -- --help", Ran(3, "", "chanv: --help: cannot open\n")),
-    ("list ''", Ran(3, "", "chanv: : cannot open\n")),
+    ("verify ./-", Ran(3, "", "chanv: ./-: cannot open: no such file\n")),
+    ("verify -- --help", Ran(3, "", "chanv: --help: cannot open: no such file\n")),
+    ("list ''", Ran(3, "", "chanv: : cannot open: no such file\n")),
     ("--version", Ran(0, f"chanv {version()}\n")),
     ("-V", Ran(0, f"chanv {version()}\n")),
     ("--version --fast", Ran(0, f"chanv {version()}\n")),
