@@ -127,6 +127,10 @@ chanv verify [FILE]...
        chanv explain [WORD]
        chanv show [--name] <CCW>"""
 VERIFY, WHY = "chanv verify [FILE]...", "chanv why [--all] [FILE]..."
+FIND = "chanv find [OPTIONS] [FILE]"
+ONE_FILE = "chanv {} takes one FILE; run it once for each"
+ONE_CCW = "chanv show takes one CCW; put it in quotation marks after --name"
+TAKEN = "chanv deck takes one FILE, and '{0}' is taken for it; give the address as --start {0}"
 DECK = """\
 chanv deck --start <ADDRESS> <--least|--open> [OPTIONS] [FILE]
        chanv deck --start <ADDRESS> --extent <FIRST-LAST> [OPTIONS] [FILE]"""
@@ -158,24 +162,32 @@ FAULTS = [
     ("--version=x", NO_MORE.format("x", "--version"), PROGRAM),
     ("verify --fast", STRAY.format("--fast"), VERIFY),
     ("verify --all", STRAY.format("--all"), VERIFY),
-    (f"graph {LOOP} b", EXTRA, "chanv graph [FILE]"),
-    ("graph - b", EXTRA, "chanv graph [FILE]"),
-    (f"graph {LOOP} b c", EXTRA, "chanv graph [FILE]"),
-    ("find core.bin b", EXTRA, "chanv find [OPTIONS] [FILE]"),
-    ("find --quick", STRAY.format("--quick"), "chanv find [OPTIONS] [FILE]"),
+    (f"graph {LOOP} b", ONE_FILE.format("graph"), "chanv graph [FILE]"),
+    ("graph - b", ONE_FILE.format("graph"), "chanv graph [FILE]"),
+    (f"graph {LOOP} b c", ONE_FILE.format("graph"), "chanv graph [FILE]"),
+    ("graph --all", STRAY.format("--all"), "chanv graph [FILE]"),
+    ("find core.bin b", ONE_FILE.format("find"), FIND),
+    ("find --quick", STRAY.format("--quick"), FIND),
+    ("find --start 800 core.bin", STRAY.format("--start"), FIND),
+    ("find core.bin --start=800", STRAY.format("--start"), FIND),
     ("find --limit", NO_VALUE.format("--limit <PLACES>"), ""),
     ("why --all=x", NO_MORE.format("x", "--all"), WHY),
     ("why --all --all", TWICE.format("--all"), WHY),
     ("show", f"{LACKING}\n  <CCW>", SHOW),
     ("show --name", f"{LACKING}\n  <CCW>", SHOW),
-    (f"show {CCW} b", EXTRA, SHOW),
-    ("show 06 000A00 20 00 0050", STRAY.format("000A00"), SHOW),
+    (f"show {CCW} b", ONE_CCW, SHOW),
+    ("show 06 000A00 20 00 0050", ONE_CCW, SHOW),
+    ("show --name 06 000A00 20 00 0050", ONE_CCW, SHOW),
     ("show -06", STRAY.format("-0"), SHOW),
     ("explain mask b", EXTRA, "chanv explain [WORD]"),
     ("deck", f"{LACKING}\n  --start <ADDRESS>", DECK),
     ("deck core.bin", f"{LACKING}\n  --start <ADDRESS>", DECK),
     ("deck --mask 00", f"{LACKING}\n  --start <ADDRESS>", DECK),
-    ("deck --start 8 --extent 0-9 a b", EXTRA, DECK),
+    ("deck --start 8 --extent 0-9 a.b c.d", STRAY.format("c.d"), DECK),
+    ("deck 800 core.bin", TAKEN.format("800"), DECK),
+    ("deck --least 3A98 core.bin", TAKEN.format("3A98"), DECK),
+    ("deck --device 2314 --open 800 core.bin", TAKEN.format("800"), DECK),
+    ("deck --extent 0-9 core.bin b", EXTRA, DECK),
     ("deck --start 8 --start 8", TWICE.format("--start <ADDRESS>"), DECK),
     ("deck --start 8 --least --least", TWICE.format("--least"), DECK),
     ("deck --start", NO_VALUE.format("--start <ADDRESS>"), ""),

@@ -118,7 +118,7 @@ def refused(action, fault, name, is_among=False):
     if name in ("", "-"):
         said = said.replace(": it is a folder", "")
     front = f"{name}: " if name else ""
-    if action != "why" and (not name or hint == LIMIT):
+    if action != "why" and (hint == LIMIT or action != "graph" and not name):
         hint = ""
     if is_among:
         hint = "".join(f"{front}{line}\n" for line in hint.splitlines())

@@ -139,7 +139,13 @@ fn answer_words(rt: &HostRuntime, words: &Words) -> u8 {
             report_file(word, &mut Watched::new(rt.stderr()))
         }
         Request::NoCommand(_, text) | Request::Fault(text) => match text.to_string(rt.alloc()) {
-            Ok(text) => report_usage(text.as_str(), &mut Watched::new(rt.stderr())),
+            Ok(text) => {
+                report_usage(
+                    words.shown.as_slice(),
+                    text.as_str(),
+                    &mut Watched::new(rt.stderr()),
+                )
+            }
             Err(AllocError) => report_on(rt, None, Outcome::Failed(Failure::OutOfMemory)),
         },
         Request::NoMemory => report_on(rt, None, Outcome::Failed(Failure::OutOfMemory)),
