@@ -10,9 +10,12 @@ _chanv() {
         seek-outside changes-ccw changes-argument weakens-mask'
     local causes='ended header form mask extent-backwards extent-past-device size put-address
         put-zero after limit'
-    local failures='cannot-open read-failed deck-too-long image-too-long image-past-storage
-        too-many-places no-job-will-do write-failed out-of-memory not-a-ccw no-such-word'
-    local output='fresh in out search chained unknown place keep note transfer-in-channel'
+    local failures='cannot-open no-such-file permission-denied is-a-folder read-failed
+        deck-too-long image-too-long image-past-storage too-many-places
+        no-job-will-do write-failed out-of-memory not-a-ccw no-such-word'
+    local output='yes no place fresh in out search t flags invalid control read write read-backward
+        transfer chained unknown no-ccw because also extent fetch store keep lent argument
+        cylinder head guarded fetches stores skips found expected note transfer-in-channel'
     local commands_of_disk='no-operation seek seek-cylinder seek-head recalibrate set-file-mask sense
         search-home-address-equal search-id-equal search-id-high search-id-equal-or-high
         search-key-equal search-key-high search-key-equal-or-high read-home-address read-count

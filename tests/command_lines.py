@@ -62,6 +62,7 @@ IS_PAST = "chanv: core.bin: image past storage\n"
 CCW, SHOWN = "06000A0020000050", "06 000A00 --L--0 00 0050 read\n"
 NAMED, TRANSFER = "06 000A00 --L--0 00 0050 read read-data\n", "transfer-in-channel"
 NOT_CCW = "chanv: not a CCW\n"
+NO_SUCH_WORD = "chanv: no such word; chanv explain lists all words\n"
 OTHERS = [
     (f"show {CCW}", Ran(0, SHOWN)),
     (f"show -- {CCW}", Ran(0, SHOWN)),
@@ -90,16 +91,16 @@ OTHERS = [
     ("show 0x06000A0020000050", Ran(4, "", NOT_CCW)),
     ("show -", Ran(4, "", NOT_CCW)),
     ("show -- -06", Ran(4, "", "chanv: not a CCW\n")),
-    ("explain no-such-word-at-all", Ran(4, "", "chanv: no such word\n")),
-    ("explain -", Ran(4, "", "chanv: no such word\n")),
+    ("explain no-such-word-at-all", Ran(4, "", NO_SUCH_WORD)),
+    ("explain -- --", Ran(4, "", NO_SUCH_WORD)),
     ("find core.bin", Ran(0, FOUND, NOTE)),
     ("find --device 2314 core.bin", Ran(0, FOUND)),
     ("find --device=2314 --limit 2 -- core.bin", Ran(0, "000800 too many places\n")),
     ("find --device 2314 --storage 100 core.bin", Ran(4, "", IS_PAST)),
     (f"find --device 2314 {LOOP}", Ran(0, "", IS_DECK)),
-    ("verify ./-", Ran(3, "", "chanv: ./-: cannot open\n")),
-    ("verify -- --help", Ran(3, "", "chanv: --help: cannot open\n")),
-    ("list ''", Ran(3, "", "chanv: : cannot open\n")),
+    ("verify ./-", Ran(3, "", "chanv: ./-: cannot open: no such file\n")),
+    ("verify -- --help", Ran(3, "", "chanv: --help: cannot open: no such file\n")),
+    ("list ''", Ran(3, "", "chanv: : cannot open: no such file\n")),
     ("--version", Ran(0, f"chanv {version()}\n")),
     ("-V", Ran(0, f"chanv {version()}\n")),
     ("--version --fast", Ran(0, f"chanv {version()}\n")),
@@ -126,6 +127,10 @@ chanv verify [FILE]...
        chanv explain [WORD]
        chanv show [--name] <CCW>"""
 VERIFY, WHY = "chanv verify [FILE]...", "chanv why [--all] [FILE]..."
+FIND = "chanv find [OPTIONS] [FILE]"
+ONE_FILE = "chanv {} takes one FILE; run it once for each"
+ONE_CCW = "chanv show takes one CCW; put it in quotation marks after --name"
+TAKEN = "chanv deck takes one FILE, and '{0}' is taken for it; give the address as --start {0}"
 DECK = """\
 chanv deck --start <ADDRESS> <--least|--open> [OPTIONS] [FILE]
        chanv deck --start <ADDRESS> --extent <FIRST-LAST> [OPTIONS] [FILE]"""
@@ -157,24 +162,32 @@ FAULTS = [
     ("--version=x", NO_MORE.format("x", "--version"), PROGRAM),
     ("verify --fast", STRAY.format("--fast"), VERIFY),
     ("verify --all", STRAY.format("--all"), VERIFY),
-    (f"graph {LOOP} b", EXTRA, "chanv graph [FILE]"),
-    ("graph - b", EXTRA, "chanv graph [FILE]"),
-    (f"graph {LOOP} b c", EXTRA, "chanv graph [FILE]"),
-    ("find core.bin b", EXTRA, "chanv find [OPTIONS] [FILE]"),
-    ("find --quick", STRAY.format("--quick"), "chanv find [OPTIONS] [FILE]"),
+    (f"graph {LOOP} b", ONE_FILE.format("graph"), "chanv graph [FILE]"),
+    ("graph - b", ONE_FILE.format("graph"), "chanv graph [FILE]"),
+    (f"graph {LOOP} b c", ONE_FILE.format("graph"), "chanv graph [FILE]"),
+    ("graph --all", STRAY.format("--all"), "chanv graph [FILE]"),
+    ("find core.bin b", ONE_FILE.format("find"), FIND),
+    ("find --quick", STRAY.format("--quick"), FIND),
+    ("find --start 800 core.bin", STRAY.format("--start"), FIND),
+    ("find core.bin --start=800", STRAY.format("--start"), FIND),
     ("find --limit", NO_VALUE.format("--limit <PLACES>"), ""),
     ("why --all=x", NO_MORE.format("x", "--all"), WHY),
     ("why --all --all", TWICE.format("--all"), WHY),
     ("show", f"{LACKING}\n  <CCW>", SHOW),
     ("show --name", f"{LACKING}\n  <CCW>", SHOW),
-    (f"show {CCW} b", EXTRA, SHOW),
-    ("show 06 000A00 20 00 0050", STRAY.format("000A00"), SHOW),
+    (f"show {CCW} b", ONE_CCW, SHOW),
+    ("show 06 000A00 20 00 0050", ONE_CCW, SHOW),
+    ("show --name 06 000A00 20 00 0050", ONE_CCW, SHOW),
     ("show -06", STRAY.format("-0"), SHOW),
     ("explain mask b", EXTRA, "chanv explain [WORD]"),
     ("deck", f"{LACKING}\n  --start <ADDRESS>", DECK),
     ("deck core.bin", f"{LACKING}\n  --start <ADDRESS>", DECK),
     ("deck --mask 00", f"{LACKING}\n  --start <ADDRESS>", DECK),
-    ("deck --start 8 --extent 0-9 a b", EXTRA, DECK),
+    ("deck --start 8 --extent 0-9 a.b c.d", STRAY.format("c.d"), DECK),
+    ("deck 800 core.bin", TAKEN.format("800"), DECK),
+    ("deck --least 3A98 core.bin", TAKEN.format("3A98"), DECK),
+    ("deck --device 2314 --open 800 core.bin", TAKEN.format("800"), DECK),
+    ("deck --extent 0-9 core.bin b", EXTRA, DECK),
     ("deck --start 8 --start 8", TWICE.format("--start <ADDRESS>"), DECK),
     ("deck --start 8 --least --least", TWICE.format("--least"), DECK),
     ("deck --start", NO_VALUE.format("--start <ADDRESS>"), ""),

@@ -6,6 +6,7 @@ Status, standard output and standard error are those of README and docs/OUTPUT.m
 import tempfile
 from pathlib import Path
 
+from command_lines import NO_SUCH_WORD
 from examples import EXAMPLES, SEARCH_LOOP
 from faults import texts_of_help
 from running import Ran, run, run_in_bash, text_of
@@ -258,7 +259,7 @@ def check_hostile_words(checks, program):
         checks.expect_that(f"{words}", (ran.status, ran.output) == (4, "") and is_said, ran)
     for word in (b"mask\xff", "mask\n"):
         ran = run(program, "explain", word)
-        checks.expect(f"explain {word!r}", Ran(4, "", "chanv: no such word\n"), ran)
+        checks.expect(f"explain {word!r}", Ran(4, "", NO_SUCH_WORD), ran)
 
 
 def check_small_stack(checks, program):

@@ -24,7 +24,7 @@ from examples import (
     verdicts_of,
 )
 from running import Ran, run_in_bash, text_of
-from words import sections_of
+from words import LISTS_ALL, sections_of
 
 CCW, CCW_LINE = "06000A0020000050", "06 000A00 --L--0 00 0050 read\n"
 WRITE_FAILED = "chanv: write failed\n"
@@ -46,8 +46,8 @@ REFUSED = {
     ),
     "many": (2, "too many places\n", LIMIT),
     "long": (2, "deck too long\n", ""),
-    "folder": (3, "read failed\n", ""),
-    "nowhere": (3, "cannot open\n", ""),
+    "folder": (3, "read failed: it is a folder\n", ""),
+    "nowhere": (3, "cannot open: no such file\n", ""),
     "closed": (3, "read failed\n", ""),
 }
 
@@ -115,8 +115,10 @@ def make_files(folder):
 def refused(action, fault, name, is_among=False):
     """Among several FILEs each line of a hint begins with its own."""
     status, said, hint = fault
+    if name in ("", "-"):
+        said = said.replace(": it is a folder", "")
     front = f"{name}: " if name else ""
-    if action != "why" and (not name or hint == LIMIT):
+    if action != "why" and (hint == LIMIT or action != "graph" and not name):
         hint = ""
     if is_among:
         hint = "".join(f"{front}{line}\n" for line in hint.splitlines())
@@ -199,8 +201,11 @@ def over_nothing():
         (["show", CCW], Ran(0, CCW_LINE)),
         (["show", "0800"], Ran(4, "", "chanv: not a CCW\n")),
         (["explain", "changes-ccw"], Ran(0, meaning)),
-        (["explain", "nothing"], Ran(4, "", "chanv: no such word\n")),
-        (["explain", "masks"], Ran(4, "", "chanv: no such word; the nearest is mask\n")),
+        (["explain", "nothing"], Ran(4, "", f"chanv: no such word; {LISTS_ALL}\n")),
+        (
+            ["explain", "masks"],
+            Ran(4, "", f"chanv: no such word; the nearest is mask, and {LISTS_ALL}\n"),
+        ),
         (["judge"], Ran(4, "", f"{fault}For more information, try '--help'.\n")),
         (["--version"], Ran(0, f"chanv {version()}\n")),
         (["-V"], Ran(0, f"chanv {version()}\n")),

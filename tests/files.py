@@ -45,7 +45,7 @@ def make_files(folder):
 def check_names(checks, program, folder):
     """Standard input is the deck `no`."""
     listing, notes = text_of(EXAMPLES / "search-loop.list"), text_of(VAIN.with_suffix(".notes"))
-    missing, damaged = "chanv: nowhere: cannot open\n", f"chanv: damaged: {DAMAGED}"
+    missing, damaged = "chanv: nowhere: cannot open: no such file\n", f"chanv: damaged: {DAMAGED}"
     among = damaged + of_one("damaged", HINT)
     for words, status, output, error in [
         ("verify yes", 0, YES, ""),
@@ -56,8 +56,8 @@ def check_names(checks, program, folder):
         ("verify many", 2, "", "chanv: many: too many places\n"),
         ("verify nowhere", 3, "", missing),
         ("verify nowhere damaged yes", 3, YES, missing + among),
-        ("verify folder yes", 3, YES, "chanv: folder: read failed\n"),
-        ("verify ''", 3, "", "chanv: : cannot open\n"),
+        ("verify folder yes", 3, YES, "chanv: folder: read failed: it is a folder\n"),
+        ("verify ''", 3, "", "chanv: : cannot open: no such file\n"),
         ("verify 'no right'", 2, "", f"chanv: no right: deck line 1: ended\n{EMPTY_HINT}"),
         ("verify -- yes", 0, YES, ""),
         ("list yes", 0, listing, ""),
@@ -75,7 +75,7 @@ def check_names(checks, program, folder):
         ("verify vain", 0, "vain: yes\n", ""),
         ("needs vain", 0, text_of(VAIN.with_suffix(".needs")), ""),
         ("list nowhere", 3, "", missing),
-        ("list folder", 3, "", "chanv: folder: read failed\n"),
+        ("list folder", 3, "", "chanv: folder: read failed: it is a folder\n"),
     ]:
         ran = run(program, *shlex.split(words), cwd=folder, given=folder / "no")
         checks.expect(words, Ran(status, output, error), ran)
@@ -120,6 +120,18 @@ def check_streams(checks, program, folder):
         checks.expect(f"{words} {redirection}", Ran(3, output, error), ran)
 
 
+def check_rights(checks, program, folder):
+    """A file that the user may not read: the superuser may read any, so another user tries."""
+    secret = folder / "secret"
+    secret.touch(mode=0)
+    folder.chmod(0o755)
+    user = {"user": 65534} if os.geteuid() == 0 else {}
+    for words in ("verify secret", "graph secret", "find --device 2314 secret"):
+        ran = run(program, *words.split(), cwd=folder, **user)
+        error = "chanv: secret: cannot open: permission denied\n"
+        checks.expect(words, Ran(3, "", error), ran)
+
+
 # names that would forge a line, reach a terminal, or be taken for another, and how they are shown
 HOSTILE = [
     (b"good.deck: yes\nevil.deck", "good.deck: yes\\x0Aevil.deck"),
@@ -135,7 +147,8 @@ def check_hostile_names(checks, program, folder):
     """Each name stands on its line, in printable ASCII; a wrong one stops nothing."""
     job = "deck --device 2314 --start 800 --least".split()
     for name, said in [*HOSTILE, (NOT_TEXT, NOT_TEXT_SHOWN)]:
-        missing = Ran(3, YES, f"chanv: {said}: cannot open\n")
+        why = "" if name == NOT_TEXT else ": no such file"
+        missing = Ran(3, YES, f"chanv: {said}: cannot open{why}\n")
         checks.expect(f"no {name}", missing, run(program, "verify", name, "yes", cwd=folder))
         ran = run(program, *job, name, cwd=folder)
         checks.expect(f"no image {name}", missing._replace(output=""), ran)
@@ -186,5 +199,6 @@ def check(checks, built):
         check_names(checks, program, folder)
         check_standard_input(checks, program, folder)
         check_streams(checks, program, folder)
+        check_rights(checks, program, folder)
         check_hostile_names(checks, program, folder)
         check_limits(checks, program, folder)

@@ -457,8 +457,8 @@ def check_spellings(checks, program):
         for file, expected in [
             (core, Ran(0, text)),
             (long, Ran(2, "", f"chanv: {long}: image too long\n")),
-            (folder, Ran(3, "", f"chanv: {folder}: read failed\n")),
-            (none, Ran(3, "", f"chanv: {none}: cannot open\n")),
+            (folder, Ran(3, "", f"chanv: {folder}: read failed: it is a folder\n")),
+            (none, Ran(3, "", f"chanv: {none}: cannot open: no such file\n")),
         ]:
             checks.expect(f"the file {file}", expected, made(program, *plain, file))
 
@@ -555,7 +555,7 @@ def check_least(checks, program):
         checks.expect(name, Ran(1, "", said), ran)
     cured = made(program, *least, "--storage", "1000", given=LATE_BUFFER)
     checks.expect("a larger storage", (0, ""), (cured.status, cured.error))
-    missing = Ran(3, "", "chanv: none: cannot open\n")
+    missing = Ran(3, "", "chanv: none: cannot open: no such file\n")
     checks.expect("no image", missing, made(program, *least, "none"))
 
 

@@ -119,7 +119,7 @@ def check_completions(checks, program):
         options = sorted(re.findall(r"(?:  |, )(--[a-z]*)", said))
         name = f"the options that are completed: chanv {' '.join(words)}"
         checks.expect(name, options, completed(*words, "--"))
-    listed = sorted(re.findall(r"(?m)^([a-z-]+): ", run(program, "explain").output))
+    listed = sorted(re.findall(r"(?m)^([a-z][a-z-]*): ", run(program, "explain").output))
     checks.expect("the words that are completed", listed, completed("explain", ""))
     for words in (["--device", ""], ["--device", "="], ["--device", "=", "23"]):
         devices = completed("deck", *words)

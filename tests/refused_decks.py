@@ -464,10 +464,11 @@ def check_refused(checks, program, deck, rows):
 
 
 def check_each_command(checks, program):
-    """Each command over decks says the same, and `why` adds its hint. Nothing is written."""
+    """Each command says the same; `why` and `graph` add the hint. Nothing is written."""
     for text, line, cause, found, expected in NO_DECKS:
         for action in ("verify", "list", "why", "graph", "needs"):
-            hint = f"found {found}\nexpected {expected}\n" if action == "why" else ""
+            is_hinted = action in ("why", "graph")
+            hint = f"found {found}\nexpected {expected}\n" if is_hinted else ""
             refused = Ran(2, "", f"chanv: deck line {line}: {cause}\n{hint}")
             ran = run(program, action, given=text.encode())
             checks.expect(f"{action}, {text!r}", refused, ran)

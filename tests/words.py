@@ -3,8 +3,9 @@
 Its sections are the words of the table of reasons in docs/VERDICT.md, of the table of causes in
 docs/DECK.md, and of its own table of failures. Each is what `chanv explain` writes, in any case of
 the word's letters. Its table of words of the output has others, and the commands of docs/DEVICE.md
-are words too. Without a word `chanv explain` lists all these words. Any other word is refused, and
-the nearest is named. And `chanv why` gives the cause of each example deck's no in a form that
+are words too, each with its code. Each word that `verify`, `list`, `why` or `needs` writes about an
+example is known. Without a word `chanv explain` lists all these words. Any other word is refused,
+and the nearest is named. And `chanv why` gives the cause of each example deck's no in a form that
 the section of its reason has; each reason has an example.
 """
 
@@ -19,12 +20,12 @@ WORDS = "WORDS.md"
 TABLES = [
     ("VERDICT.md", "The rules", r"\| \d+ \| `([a-z-]+)` \|"),
     ("DECK.md", "How a text is refused", r"\| `([a-z-]+)` \| (?!may)"),
-    (WORDS, "Lines in place of an answer", r"\| `([a-z-]+)` \| `[a-zA-Z :]+` \| \d \|"),
+    (WORDS, "Lines in place of an answer", r"\| `([a-z-]+)` \| `[a-zA-Z :;.]+` \| \d \|"),
 ]
 
 # the table of other words, and that of the commands, whose second codes have names with -mt
-OTHER = r"(?m)^\| `([a-z-]+)` \| (.*) \|$"
-COMMAND = r"(?m)^\| `[0-9A-F]{2}` \| (?:`([0-9A-F]{2})` )?\| `([a-z-]+)` \|"
+OTHER = r"(?m)^\| `([^`]+)` \| (.*) \|$"
+COMMAND = r"(?m)^\| `([0-9A-F]{2})` \| (?:`([0-9A-F]{2})` )?\| `([a-z-]+)` \|"
 
 # what the commands do on the device, in the order of the list
 DOES = """
@@ -80,15 +81,18 @@ weakens-mask: a Set File Mask to a byte that permits more or isn't a mask
 ended: the deck ends before its line `end` is complete
 header: the first line isn't the header of a deck
 form: the line has none of the forms that may come here
-mask: the mask isn't a file mask
+mask: the file mask; or a deck's byte that isn't a file mask
 extent-backwards: the extent's last cylinder is below its first
 extent-past-device: the extent goes on past cylinder 202
 size: storage can't have this size
 put-address: the put's address is out of order or out of storage
 put-zero: the put's bytes are all zero
 after: something follows the line `end`
-limit: the limit on places is 0 or above 65,536
+limit: how many places may be reachable; or a number that isn't a limit
 cannot-open: a FILE that can't be opened
+no-such-file: a FILE that doesn't exist
+permission-denied: a FILE that you may not read
+is-a-folder: a FILE that is a folder
 read-failed: an input that can't be read to its end
 deck-too-long: a text longer than a deck may be
 image-too-long: an image longer than storage may be
@@ -101,23 +105,35 @@ not-a-ccw: a word that isn't a CCW's sixteen digits
 no-such-word: a word that chanv doesn't know
 """
 
-# words that have no meaning, and what is said of the nearest
+# how the line on a word without a meaning ends
+LISTS_ALL = "chanv explain lists all words"
+
+# words that have no meaning, and the nearest
 UNKNOWN = {
     "": "",
-    "deck": "",
     "changes": "",
-    "changes-ccw ": "; the nearest is changes-ccw",
-    "CHANGES-CWC": "; the nearest is changes-ccw",
-    "too many places": "; the nearest is too-many-places",
-    "put-aero": "; the nearest is put-zero",
-    "daek-outside": "; the nearest is data-outside",
-    "serch-id-equal": "; the nearest is search-id-equal",
-    "WRIT-DATA": "; the nearest is write-data",
-    "write-key-data-m": "; the nearest is write-key-data",
-    "kep": "; the nearest is keep",
+    "changes-ccw ": "changes-ccw",
+    "CHANGES-CWC": "changes-ccw",
+    "too many place": "too many places",
+    "reached  by": "reached by",
+    "put-aero": "put-zero",
+    "7": "",
+    "007": "",
+    "0g": "",
+    "mask 9": "",
+    "mask 098": "",
+    "daek-outside": "data-outside",
+    "serch-id-equal": "search-id-equal",
+    "WRIT-DATA": "write-data",
+    "write-key-data-m": "write-key-data",
+    "kep": "keep",
     "seek-mt": "",
     "x" * 100_000: "",
 }
+
+# what begins a line of an answer whose rest is a sentence, and what numbers and flags are
+PHRASES = ["because", "stored over by", "reached by", "note", "help", "found", "expected"]
+NUMBER, FLAGS = re.compile(r"[0-9A-F]{2,8}|\d+"), re.compile(r"[D-][C-][L-][S-][P-][0-7]")
 
 # what stands for a value in the form of a cause
 VALUES = {
@@ -172,15 +188,43 @@ def check_causes(checks, program, causes):
     checks.expect("the reasons that an example has", sorted(causes), sorted(shown))
 
 
+def words_of(text):
+    """The words of an answer: phrases that begin a line, and else all but numbers."""
+    for line in text.splitlines():
+        phrase = next((phrase for phrase in PHRASES if line.startswith(phrase)), "")
+        parts = re.sub(r"[(),]", "", line).split(" ")
+        flags = "".join(part for part in parts if FLAGS.fullmatch(part)).strip("01234567")
+        words = [part for part in parts if not NUMBER.fullmatch(part) and not FLAGS.fullmatch(part)]
+        yield from [phrase] if phrase else [*words, *flags]
+
+
+def check_printed(checks, program):
+    """Each word that an answer about an example has is one that is explained."""
+    found = {}
+    for folder in (*FOLDERS, TEXTS):
+        for name in verdicts_of(folder):
+            for command in ("verify", "list", "why", "why --all", "needs"):
+                ran = run(program, *command.split(" "), given=folder / name)
+                found |= dict.fromkeys(words_of(ran.output), f"{command} {name}")
+                found |= dict.fromkeys(words_of(ran.error), f"{command} {name}")
+    checks.expect_that("some phrase is found", {"because", "reached by"} <= set(found), found)
+    for word, where in found.items():
+        ran = run(program, "explain", "--", word)
+        checks.expect_that(f"{word}, from {where}", ran.status == 0 and ran.output, ran)
+
+
 def check_others(checks, program, page):
     """The words of the output, each with its line, and each command."""
     rows = re.findall(OTHER, page.partition("\n## Words of the output\n")[2])
     does = [tuple(line.split(": ", 1)) for line in DOES.split("\n")[1:-1]]
     table = re.findall(COMMAND, text_of(ROOT / "docs/DEVICE.md"))
-    named = {"transfer-in-channel", *(name for _, name in table)}
+    codes = {name: code for code, _, name in table}
+    named = {"transfer-in-channel", *codes}
     checks.expect("the commands", named, {name for name, _ in does})
-    has_more = {name for mt, name in table if mt}
-    rows += does + [(f"{name}-mt", ON_MORE_TRACKS) for name, _ in does if name in has_more]
+    more = {name: mt for _, mt, name in table if mt}
+    does[0] = (does[0][0], f"{does[0][1]} (codes 08, 18 to F8)")
+    rows += does[:1] + [(name, f"{what} (code {codes[name]})") for name, what in does[1:]]
+    rows += [(f"{it}-mt", f"{ON_MORE_TRACKS} (code {more[it]})") for it, _ in does if it in more]
     for word, meaning in rows:
         said = Ran(0, f"{word}: {meaning}\n")
         checks.expect(word, said, run(program, "explain", word))
@@ -205,7 +249,9 @@ def check(checks, built):
     lines = "".join([short, *check_others(checks, program, page)])
     checks.expect("the list of words", Ran(0, lines), run(program, "explain"))
     for word, nearest in UNKNOWN.items():
-        refused = Ran(4, "", f"chanv: no such word{nearest}\n")
+        near = f"the nearest is {nearest}, and " if nearest else ""
+        refused = Ran(4, "", f"chanv: no such word; {near}{LISTS_ALL}\n")
         checks.expect(f"'{word[:20]}'", refused, run(program, "explain", word))
+    check_printed(checks, program)
     causes = {word: forms for word, forms in causes_of(page) if word in words_under(*TABLES[0])}
     check_causes(checks, program, causes)

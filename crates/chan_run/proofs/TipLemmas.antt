@@ -1,10 +1,10 @@
 -- A text around its tip.
-use Rattle.std.proofs.Common.{◌≡◌, ◌++◌, ◌∙◌, List, ℕ, ap, ap₂, sym}
+use Rattle.std.proofs.Common.{◌≡◌, ◌++◌, ◌∙◌, List, ℕ, ap, ap₂, append_assoc, sym}
 use Rattle.std.proofs.lemmas.List.{take-append-drop}
 use Rattle.std.specs.Str.Pattern.{FindsText, SplitsAroundMatch}
 
 -- a text that is split has the match between its parts
-split_parts : (mark text front back : List ℕ) → SplitsAroundMatch (FindsText mark) text front back
+pub split_parts : (mark text front back : List ℕ) → SplitsAroundMatch (FindsText mark) text front back
     → text ≡ front ++ (mark ++ back)
 split_parts mark text front back (i, j, found, is_front, is_back, order, first, last) =
     sym (take-append-drop i text) ∙ ap₂ (λ a b. a ++ b) (sym is_front) (found.1.split ∙ ap (λ t. mark ++ t) (sym is_back))
@@ -18,3 +18,9 @@ around mark end text front tip before rest outer inner = (
   split_parts mark text front tip outer
       ∙ ap (λ t. front ++ (mark ++ t)) (split_parts end tip before rest inner),
 )
+
+-- four parts before an end are one
+pub joined : (a b c d end : List ℕ) → a ++ (b ++ (c ++ (d ++ end))) ≡ (a ++ (b ++ (c ++ d))) ++ end
+joined a b c d end =
+    sym (append_assoc a (b ++ (c ++ d)) end
+    ∙ ap (λ t. a ++ t) (append_assoc b (c ++ d) end ∙ ap (λ t. b ++ t) (append_assoc c d end)))

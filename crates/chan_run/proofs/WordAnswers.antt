@@ -1,9 +1,12 @@
 -- The answer on a word of the output.
 use Rattle.std.proofs.Common.{◌≡◌, ◌↔◌, Bool, Err, IsErr, List, Ok, Option, Result, false, inr, refl, true, ℕ}
 use Rattle.ccw_core.specs.declared.watched.DeviceFault.{DeviceFault}
-use Rattle.chan_run.specs.Meanings.{IsWordAnswer}
+use Rattle.chan_run.specs.Meanings.{AreTermsListed, AreWordsListed, IsWordAnswer}
 use Rattle.chan_run.specs.Outcome.{wrote}
-use Rattle.chan_run.specs.OutputWords.{IsFirstRow, OutputRow, output_words, row_line}
+use Rattle.chan_run.specs.OutputWords.{AreRowsListed, IsFirstRow, OutputRow, output_words, row_line}
+use Rattle.chan_run.specs.declared.outcome.Outcome.{Outcome}
+use Rattle.chan_run.specs.declared.outcome.Outcome.TheVariants.{Denied, Done, Failed, NoJob, Refused, Unknown}
+use Rattle.chan_run.specs.declared.terms.TheConstants as texts
 use Rattle.chan_run.specs.Texts.{WriterGot}
 
 -- no write failed if the last one didn't
@@ -17,3 +20,13 @@ pub row_answer : (text : List ℕ) (old new : Option (List ℕ)) (row : OutputRo
     → WriterGot (row_line row) old new failed → IsWordAnswer text old new (wrote r)
 row_answer text old new row (Ok u) failed first fault said = (row_line row, inr (row, first, refl), said.0 (sound failed fault))
 row_answer text old new row (Err e) failed first fault said = (row_line row, inr (row, first, refl), said.1)
+
+-- the lines of the terms, and then those of the other words
+pub words_listed : (old mid new : Option (List ℕ)) (end : Outcome) → AreTermsListed texts.TERMS old mid Done
+    → AreRowsListed output_words mid new end → AreWordsListed old new end
+words_listed old mid new Done terms rows = (mid, terms, rows)
+words_listed old mid new Denied terms rows = inr (mid, terms, rows)
+words_listed old mid new (Refused line cause) terms rows = inr (mid, terms, rows)
+words_listed old mid new (NoJob a r) terms rows = inr (mid, terms, rows)
+words_listed old mid new (Unknown word) terms rows = inr (mid, terms, rows)
+words_listed old mid new (Failed failure) terms rows = inr (mid, terms, rows)

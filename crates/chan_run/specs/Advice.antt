@@ -1,5 +1,7 @@
 -- What is said beside a verdict that is explained.
-use Rattle.std.specs.Prelude.{◌≡◌, ◌⊎◌, ◌↔◌, ℕ, List, [], Option}
+use Rattle.std.specs.Prelude.{◌≡◌, ◌⊎◌, ◌↔◌, ℕ, Bool, false, true, List, [], Option}
+use Rattle.chan_args.specs.declared.action.Action.{Action}
+use Rattle.chan_args.specs.declared.action.Action.TheVariants as actions
 use Rattle.chan_deck.specs.Notes.{HasNoNote, exchange_note}
 use Rattle.chan_walk.specs.declared.job.Job.{Job}
 use Rattle.chan_walk.specs.declared.place.Place.{Place}
@@ -9,6 +11,12 @@ use Rattle.chan_why.specs.Exchange.{SeemsExchanged}
 use Rattle.chan_why.specs.Hang.{IsFirstPlace, MayHang}
 use Rattle.chan_why.specs.Notes.{AreNotes}
 use Rattle.chan_why.specs.declared.notes.Notes.{Notes}
+
+-- the hint on a refused line comes whether or not the input has a name
+abbrev pub is_hinted : Action → Bool
+is_hinted (actions.Why all) = true
+is_hinted actions.Graph = true
+is_hinted _ = false
 
 -- the text has the notes on the job, if there are any
 abbrev pub AreNotesSaid : Job → List ℕ → Type 0

@@ -17,6 +17,12 @@ failure_row word line status on_input =
 abbrev pub row_of_failure : Failure → Row
 row_of_failure failures.CannotOpen =
     failure_row (codes "cannot-open") (codes "cannot open\n") 3 true
+row_of_failure failures.NoSuchFile =
+    failure_row (codes "no-such-file") (codes "cannot open: no such file\n") 3 true
+row_of_failure failures.PermissionDenied =
+    failure_row (codes "permission-denied") (codes "cannot open: permission denied\n") 3 true
+row_of_failure failures.IsFolder =
+    failure_row (codes "is-a-folder") (codes "read failed: it is a folder\n") 3 true
 row_of_failure failures.ReadFailed =
     failure_row (codes "read-failed") (codes "read failed\n") 3 true
 row_of_failure failures.DeckTooLong =
@@ -35,4 +41,5 @@ row_of_failure failures.OutOfMemory =
     failure_row (codes "out-of-memory") (codes "out of memory\n") 3 true
 row_of_failure failures.NotCcw = failure_row (codes "not-a-ccw") (codes "not a CCW\n") 4 false
 row_of_failure failures.NoSuchWord =
-    failure_row (codes "no-such-word") (codes "no such word\n") 4 false
+    failure_row (codes "no-such-word") (codes "no such word; chanv explain lists all words\n") 4
+    false

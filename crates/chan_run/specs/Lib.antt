@@ -10,6 +10,7 @@ pub mod OneCcw
 pub mod OptionValues
 pub mod Bases
 pub mod OptionFault
+pub mod ExtraWord
 pub mod Image
 pub mod ImageNote
 pub mod NoJob

@@ -5,6 +5,7 @@ use Rattle.chan_args.specs.declared.image_words.ImageOption.TheVariants as optio
 use Rattle.chan_args.specs.declared.image_words.GrantFault.{GrantFault}
 use Rattle.chan_args.specs.declared.image_words.GrantFault.TheVariants as grants
 use Rattle.chan_run.specs.Bases.{both_bases, meant}
+use Rattle.chan_run.specs.ExtraWord.{IsRephrased, IsWithoutTip}
 use Rattle.chan_run.specs.declared.image_options.OptionFault.{OptionFault}
 use Rattle.chan_run.specs.declared.option_fault.TheConstants as texts
 
@@ -60,5 +61,11 @@ IsAroundTip text front rest =
 abbrev pub IsTipless : List ℕ → List ℕ → Type 0
 IsTipless text said =
     (said ≡ text)
-    ⊎ ((front : List ℕ) × (rest : List ℕ) × IsAroundTip text front rest
+    ⊎ (((front : List ℕ) × (rest : List ℕ) × IsAroundTip text front rest
     × (said ≡ front ++ (texts.EMPTY_LINE.now ++ rest)))
+    ⊎ ((front : List ℕ) × (rest : List ℕ) × IsWithoutTip text front rest
+    × (said ≡ front ++ rest)))
+
+-- it is said so, or with another first line
+abbrev pub IsUsageText : List ℕ → List ℕ → Type 0
+IsUsageText text said = IsTipless text said ⊎ IsRephrased text said

@@ -14,7 +14,7 @@ use Rattle.chan_walk.specs.Places.{HasMoreThan}
 use Rattle.chan_walk.specs.declared.job.Job.{Job}
 use Rattle.chan_walk.specs.declared.verdict.Verdict.{Verdict}
 use Rattle.chan_walk.specs.declared.verdict.Verdict.TheVariants.{Yes, No}
-use Rattle.chan_run.specs.Advice.{IsVerdictAdvice}
+use Rattle.chan_run.specs.Advice.{IsVerdictAdvice, is_hinted}
 use Rattle.chan_run.specs.Input.{IsInput, IsReadFault}
 use Rattle.chan_run.specs.Name.{front_of, fronted, name_of}
 use Rattle.chan_run.specs.Outcome.{IsDone, line_over}
@@ -70,7 +70,7 @@ pub record IsLimitResponse (n : Naming) (a : Action) (j : Job) (r : Response) : 
   pub advice : IsWantedAdvice n (is_why a) (λ advice. advice ≢ []) (advice_in r.advice)
   pub note : r.note.now ≡ []
 
--- the text isn't a deck; the hint comes if it is explained or has a name
+-- the text isn't a deck; the hint comes if it is explained or drawn, or has a name
 pub record IsRefusalResponse (n : Naming) (a : Action) (t : List ℕ) (r : Response) : Type 0 where
   pub line : ℕ
   pub cause : Cause
@@ -78,7 +78,7 @@ pub record IsRefusalResponse (n : Naming) (a : Action) (t : List ℕ) (r : Respo
   pub outcome : r.outcome ≡ Refused line cause
   pub output : r.output.items ≡ []
   pub advice :
-      IsWantedAdvice n (is_some n.name || is_why a) (λ hint. hint ≢ []) (advice_in r.advice)
+      IsWantedAdvice n (is_some n.name || is_hinted a) (λ hint. hint ≢ []) (advice_in r.advice)
   pub note : r.note.now ≡ []
 
 -- the answer to what an action asks of a job: that of the job that it judges

@@ -6,7 +6,7 @@ ghost use Rattle.chan_args.specs.Actions.{is_why};
 ghost use Rattle.chan_walk.specs.JobSurvey.{IsSurvey};
 ghost use Rattle.chan_walk.specs.Offence.{first_verdict};
 ghost use Rattle.chan_walk.specs.declared.verdict.Verdict.TheVariants.{No};
-ghost use Rattle.chan_run.specs.Advice.{AreNotesSaid, IsExchangeSaid, IsVerdictAdvice};
+ghost use Rattle.chan_run.specs.Advice.{AreNotesSaid, IsExchangeSaid, IsVerdictAdvice, is_hinted};
 ghost use Rattle.chan_run.specs.Name.{front_of, fronted};
 ghost use Rattle.chan_run.specs.Response.{IsWantedAdvice, advice_in};
 
@@ -17,7 +17,7 @@ use chan_walk::{Job, Limit, Reason, Survey, Verdict};
 use chan_why::{hang_from, notes_from, seems_exchanged};
 use std::alloc::{AllocError, Global};
 
-/// The hint on a line that is refused, for `Why` and for any input with a name.
+/// The hint on a line that is refused, for `Why`, for `Graph` and for any input with a name.
 pub(crate) fn hint_beside(
     alloc: Global,
     naming: Naming<'_>,
@@ -26,14 +26,21 @@ pub(crate) fn hint_beside(
     line: u64,
     cause: Cause,
 ) -> Option<Vec<u8>>
-    ensures { IsWantedAdvice naming.entry (is_some naming.entry.name || is_why action)
+    ensures { IsWantedAdvice naming.entry (is_some naming.entry.name || is_hinted action)
         (λ hint. hint ≢ []) (advice_in result) }
 {
-    if !(naming.name.is_some() || action.is_why()) {
+    if !(naming.name.is_some() || is_hinted(action)) {
         return Some(Vec::new(alloc));
     }
     let hint = hint_text(alloc, text, line, cause).ok()?;
     fronted(alloc, naming, hint.as_slice()).ok()
+}
+
+/// Whether the hint on a line that is refused comes whether or not the input has a name.
+fn is_hinted(action: Action) -> bool
+    ensures { result ≡ is_hinted action }
+{
+    matches!(action, Action::Why { .. } | Action::Graph)
 }
 
 /// For `Why`, what the limit on places is, and how it may be raised.

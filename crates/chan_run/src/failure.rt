@@ -19,9 +19,46 @@ const CANNOT_OPEN: Row = (
     "a FILE that can't be opened",
     "cannot open\n",
     "\
-The FILE can't be opened: it doesn't exist, or you may not read it.
+The FILE can't be opened: it doesn't exist, you may not read it, or its name
+isn't UTF-8.
 Correct the name or the permissions. If the name isn't UTF-8, rename the FILE,
 or hand it to standard input.
+",
+    3,
+    true,
+);
+
+const NO_SUCH_FILE: Row = (
+    "no-such-file",
+    "a FILE that doesn't exist",
+    "cannot open: no such file\n",
+    "\
+The system says that no file has this name.
+Correct the name, or the folder where you run chanv.
+",
+    3,
+    true,
+);
+
+const PERMISSION_DENIED: Row = (
+    "permission-denied",
+    "a FILE that you may not read",
+    "cannot open: permission denied\n",
+    "\
+The system says that you may not read the FILE, or not enter its folder.
+Correct the permissions, or hand the FILE to standard input.
+",
+    3,
+    true,
+);
+
+const IS_A_FOLDER: Row = (
+    "is-a-folder",
+    "a FILE that is a folder",
+    "read failed: it is a folder\n",
+    "\
+The FILE is a folder, which has no text.
+Name the files in it.
 ",
     3,
     true,
@@ -45,8 +82,8 @@ const DECK_TOO_LONG: Row = (
     "deck too long\n",
     "\
 The deck's text has more than 67,108,864 bytes.
-Merge its areas, and leave out those that the program doesn't need. An image of
-storage isn't a deck: `chanv deck` makes one from it.
+Merge its areas, and leave out areas that the program doesn't need. An image of
+storage isn't a deck: `chanv deck` turns it into a deck.
 ",
     2,
     true,
@@ -83,10 +120,11 @@ const TOO_MANY_PLACES: Row = (
     "more places reachable than the limit",
     "too many places\n",
     "\
-More places are reachable than the limit: 4,096, unless the deck has another.
-Raise it, to at most 65,536, by the line `limit` of a deck of version 2 or by
---limit of `chanv deck`. A place is a CCW with a way to enter it: a chain that
-runs on through storage reaches one every 8 bytes.
+More places are reachable than the limit: 4,096, unless the deck says otherwise.
+There is neither a yes nor a no.
+Raise the limit, to at most 65,536: by the line `limit` of a deck of version 2,
+or by --limit. A place is a CCW with a way to enter it: a chain that runs on
+through storage reaches one every 8 bytes.
 ",
     2,
     true,
@@ -100,8 +138,9 @@ const NO_JOB_WILL_DO: Row = (
 You asked for the least job, but no job will do: the verdict is no even if the
 job grants everything. The explanation after this line says which CCW offends,
 and why.
-Correct the program; `chanv explain` has more on the reason. If the image
-belongs at another address, or storage is longer, say so with --at or --storage.
+If the image belongs at another address, or storage is longer, say so by --at or
+--storage. Otherwise correct the program; `chanv explain` has more on the
+reason.
 ",
     1,
     true,
@@ -114,7 +153,7 @@ const WRITE_FAILED: Row = (
     "\
 Writing to standard output failed: it is full or closed, or its reader has gone
 away. The output may be only a part of the answer.
-Correct this, and run the command again.
+Correct the output, and run the command again.
 ",
     3,
     false,
@@ -148,11 +187,10 @@ Write a CCW's eight bytes as two digits each, without spaces.
 const NO_SUCH_WORD: Row = (
     "no-such-word",
     "a word that chanv doesn't know",
-    "no such word\n",
+    "no such word; chanv explain lists all words\n",
     "\
-The word is neither a reason nor a cause nor the name of an error, nor a word of
-the output or the name of a command.
-`chanv explain` without a word lists all.
+chanv doesn't know this word.
+`chanv explain` without a word lists all words.
 ",
     4,
     false,
@@ -163,6 +201,12 @@ the output or the name of a command.
 pub enum Failure {
     /// The input can't be opened.
     CannotOpen,
+    /// There is no file of this name.
+    NoSuchFile,
+    /// The user may not read the file.
+    PermissionDenied,
+    /// The file is a folder.
+    IsFolder,
     /// A read failed.
     ReadFailed,
     /// The text is longer than a deck's may be.
@@ -192,6 +236,9 @@ pub(crate) fn row(failure: Failure) -> Row
 {
     match failure {
         Failure::CannotOpen => CANNOT_OPEN,
+        Failure::NoSuchFile => NO_SUCH_FILE,
+        Failure::PermissionDenied => PERMISSION_DENIED,
+        Failure::IsFolder => IS_A_FOLDER,
         Failure::ReadFailed => READ_FAILED,
         Failure::DeckTooLong => DECK_TOO_LONG,
         Failure::ImageTooLong => IMAGE_TOO_LONG,

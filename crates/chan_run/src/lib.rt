@@ -21,6 +21,7 @@ mod advice;
 mod answers;
 mod bases;
 mod delivery;
+mod extra_word;
 mod failure;
 mod find;
 mod image;

@@ -19,19 +19,21 @@ use std::io::Write;
 
 const MISALIGNED: &str = "\
 The CCW's address isn't a multiple of 8, so there can be no CCW.
-Only the start or a transfer in channel leads to such an address: correct the
-one that does. `chanv why` shows how the program comes there.
+Correct the start, or the transfer in channel that leads there: nothing else
+leads to such an address. `chanv why` shows the path.
 ";
 
 const OUTSIDE_STORAGE: &str = "\
 The CCW's eight bytes don't lie wholly in main storage.
+If the program starts there, correct --start, which is hexadecimal, or --at.
 If a chain goes on too far, switch off chain data and chain command in its last
-CCW. Otherwise correct the start or the transfer in channel that leads there, or
-judge a larger storage, as with the line `storage` of the deck.
+CCW. Otherwise correct the transfer in channel that leads there, or judge a
+larger storage: a line `storage` in a deck, or --storage.
 ";
 
 const TRANSFER_NOT_ALLOWED: &str = "\
-The program begins with a transfer in channel, or one leads to another.
+The program begins with a transfer in channel, or a transfer leads to a
+transfer.
 Start at a command, and let a transfer point straight at the CCW to which the
 next transfer would lead.
 ";
@@ -39,58 +41,65 @@ next transfer would lead.
 const INVALID_CODE: &str = "\
 A new operation begins at the CCW, and the low four bits of its code are zero,
 which no command has.
-Correct the code. If the CCW should continue a data chain, switch on chain data
-in the CCW before it; if the program should end before it, switch off chain
-command in the last CCW. In a row with `invalid chained` the code doesn't count,
-because a data chain leads there. If the program reads in CCWs that it then
-runs, read them in first, and then ask: bytes that aren't there yet can't be
-judged.
+If storage has only zeros there, suspect the image: it may be incomplete, or
+--start or --at may be wrong. If the program reads in CCWs that it then runs,
+run the part that reads them, and then ask about the rest. Otherwise correct
+the code; or switch on chain data in the CCW before it, if it should continue a
+data chain; or switch off chain command there, if the program should end. In a
+row with `invalid chained` the code doesn't count.
 ";
 
 const BAD_FORMAT: &str = "\
 One of the three low bits of the CCW's flags is on.
 Switch off the bits 07 of the CCW's byte 4: they must be zero in every CCW
-except a transfer in channel.
+except a transfer in channel. Bit 04 is indirect addressing on later systems,
+which chanv doesn't cover.
 ";
 
 const ZERO_COUNT: &str = "\
-The CCW's count is zero.
-Set it to 1 or more. Every CCW except a transfer in channel needs that, even one
-that moves no data, such as No Operation.
+The CCW's count is zero, which the channel refuses.
+Set it to 1 or more. Every CCW except a transfer in channel needs a count, even
+a No Operation, which moves no data.
 ";
 
 const DATA_OUTSIDE: &str = "\
 The CCW's data address plus its count is more than the length of main storage.
-Correct one of the two, even if the CCW skips or moves no data, or judge a
-larger storage, as with the line `storage` of the deck.
+If the image lacks buffers at its end, judge a larger storage: a line `storage`
+in a deck, or --storage. Otherwise correct address or count. The whole range
+counts, even if the CCW skips or moves no data.
 ";
 
 const NOT_IN_TABLE: &str = "\
 A new operation begins at the CCW, and its code isn't in the table of commands
-that chanv knows; `man chanv` names the page with the table.
+that chanv knows; `man chanv` names the page with the table. The table leaves
+out Read IPL, Restore, Space Count, File Scan, Reserve, Release and all commands
+of later disks.
 Use a command of the table. If the CCW should continue a data chain, switch on
 chain data in the CCW before it.
 ";
 
 const INHIBITED: &str = "\
 A new operation begins at the CCW, and the file mask inhibits its command.
-Use a command that the mask permits, or judge under the mask that the
-supervisor will have set, as with the line `mask` of the deck. A Set File Mask
-doesn't help, because the job's mask judges all commands.
+Judge under the mask that the supervisor will have set: the line `mask` of a
+deck, or --mask. `chanv needs` lists the strictest mask that serves. Otherwise
+use a command that the mask permits. A Set File Mask in the program doesn't
+help, because the job's mask judges all commands.
 ";
 
 const STORE_NOT_LENT: &str = "\
 The CCW stores, and a byte of its data range lies in no area lent for storing.
-Lend the area, as with a line `store` in the deck, or shorten the count. If you
-don't want all of a record, chain data to a CCW with the flag skip, which stores
-nothing. `chanv why` names the bytes.
+`chanv needs` lists all areas that the program needs, and `chanv why` names the
+bytes. Lend them, by a line `store` in a deck or by --store, or shorten the
+count. If you don't want all of a record, chain data to a CCW with the flag
+skip, which stores nothing.
 ";
 
 const FETCH_NOT_LENT: &str = "\
 The CCW fetches, and a byte of its data range lies in no area lent for
 fetching. Writes fetch, but so do searches, seeks and Set File Mask.
-Lend the area, as with a line `fetch` in the deck, or shorten the count.
-`chanv why` names the bytes.
+`chanv needs` lists all areas that the program needs, and `chanv why` names the
+bytes. Lend them, by a line `fetch` in a deck or by --fetch, or shorten the
+count.
 ";
 
 const SHORT_SEEK: &str = "\
@@ -103,32 +112,37 @@ follow give the rest. `chanv why` says how many bytes there are.
 const SEEK_OUTSIDE: &str = "\
 A seek's argument has a bin other than zero, a cylinder in no extent, or a head
 that the device lacks; or no extent has cylinder 0, to which a Recalibrate goes.
-Correct the argument, which is two bytes each of bin, cylinder and head, or
-lend the cylinder, as with a line `extent` in the deck. All three seeks are
-judged by the whole argument. `chanv why` has the values.
+`chanv why` has the values. Correct the argument, which is two bytes each of
+bin, cylinder and head; or lend the cylinder, by a line `extent` in a deck or by
+--extent. All three seeks are judged by the whole argument, even Seek Head,
+which uses the head alone.
 ";
 
 const CHANGES_CCW: &str = "\
 The CCW stores, and its data range meets a CCW that the program can reach.
-Move the data, shorten the count, or use the flag skip. The whole range
+Move the data, shorten the count, or use the flag skip. If a loader reads over
+its own CCWs, put its last search and read outside that data. The whole range
 counts, however few bytes the device gives, and so does a CCW that comes
 earlier. `chanv why` names the CCW, and shows how the program comes there.
 ";
 
 const CHANGES_ARGUMENT: &str = "\
 The CCW stores, and its data range meets the argument of a seek or the mask
-byte of a Set File Mask that the program can reach.
-Move the data or the argument, shorten the count, or use the flag skip. The
-whole range counts, however few bytes the device gives. `chanv why` names the
-byte.
+byte of a Set File Mask that the program can reach. `chanv why` names the byte.
+If the data is the argument that the seek should use, as in an index search,
+judge the program in two parts: switch off chain command in the CCW before the
+seek, run that part, and then ask about the program that starts at the seek.
+Otherwise move the data or the argument, shorten the count, or use the flag
+skip. The whole range counts, however few bytes the device gives.
 ";
 
 const WEAKENS_MASK: &str = "\
 A Set File Mask sets a byte that isn't a file mask, or that permits what the
 job's mask inhibits.
-Set a byte that is at least as strict. From lax to strict, the bits for writes
-are C0, 00, 80 and 40, those for seeks are 00, 08, 10 and 18, and no other bit
-may be on.
+Judge under the mask that is in force before the program's own: the line `mask`
+of a deck, or --mask. Or set a byte that is at least as strict. From lax to
+strict, the bits for writes are C0, 00, 80 and 40, the bits for seeks are 00,
+08, 10 and 18, and no other bit may be on.
 ";
 
 const ENDED: &str = "\
@@ -139,20 +153,23 @@ Check that nothing was cut off: each line ends with a line feed, even the last.
 const HEADER: &str = "\
 Line 1 is neither `chanv deck 1` nor `chanv deck 2`.
 Write one of the two, with nothing before it and only a line feed after it.
-An image of storage isn't a deck: `chanv deck` makes one from it.
+An image of storage isn't a deck: `chanv deck` turns it into a deck.
 ";
 
 const FORM: &str = "\
 The line has none of the forms that may come here.
-See that the lines are in order, that there is one space between two parts and
-nothing after the last, and that each number has all its digits, hexadecimal
-ones in capitals. A deck of version 2 has a line `limit`, and one of version 1
-has none. `man chanv` names the page with the forms.
+`chanv why` shows which may. See that the lines are in order, that there is one
+space between two parts and nothing after the last, and that each number has all
+its digits, hexadecimal digits in capitals. A deck of version 2 has a line
+`limit`; a deck of version 1 has none. `man chanv` names the page on decks.
 ";
 
 const MASK: &str = "\
-The mask isn't a file mask: one of the bits 27 is on.
-Only the bits C0, which decide over writes, and 18, over seeks, may be on.
+The file mask: a byte that says which writes and seeks a program may issue. A
+deck has the mask that is in force at the start, and `chanv needs` lists the
+strictest mask that serves.
+As the cause of a refused deck: one of the bits 27 is on. Only the bits C0,
+which decide over writes, and 18, over seeks, may be on.
 ";
 
 const EXTENT_BACKWARDS: &str = "\
@@ -161,7 +178,7 @@ Write the lower number first. Both are decimal.
 ";
 
 const EXTENT_PAST_DEVICE: &str = "\
-The extent's last cylinder is above 202, the last one of a 2311 and of a 2314.
+The extent's last cylinder is above 202, the last of a 2311 and of a 2314.
 Write a number of at most 202. It is decimal.
 ";
 
@@ -188,9 +205,10 @@ Remove everything after the line feed of `end`, even an empty line.
 ";
 
 const LIMIT: &str = "\
-The limit on places is 0 or above 65,536.
-Write a number from 00001 to 65536. It is decimal. A deck of version 1 has no
-such line, and its limit is 4,096 places.
+How many places may be reachable: 4,096 in a deck of version 1, and what the
+line `limit` says in a deck of version 2.
+As the cause of a refused deck: the number is 0 or above 65,536. Write 00001 to
+65536. It is decimal.
 ";
 
 /// Writes the meaning of a word, and how to fix what it names.
@@ -295,14 +313,14 @@ fn cause_brief(cause: Cause) -> &'static str {
         Cause::Ended => "the deck ends before its line `end` is complete",
         Cause::Header => "the first line isn't the header of a deck",
         Cause::Form => "the line has none of the forms that may come here",
-        Cause::Mask => "the mask isn't a file mask",
+        Cause::Mask => "the file mask; or a deck's byte that isn't a file mask",
         Cause::ExtentBackwards => "the extent's last cylinder is below its first",
         Cause::ExtentPastDevice => "the extent goes on past cylinder 202",
         Cause::Size => "storage can't have this size",
         Cause::PutAddress => "the put's address is out of order or out of storage",
         Cause::PutZero => "the put's bytes are all zero",
         Cause::After => "something follows the line `end`",
-        Cause::Limit => "the limit on places is 0 or above 65,536",
+        Cause::Limit => "how many places may be reachable; or a number that isn't a limit",
     }
 }
 

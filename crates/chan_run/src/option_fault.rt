@@ -2,10 +2,11 @@
 
 ghost use Rattle.std.specs.Prelude.{◌≡◌, ◌↔◌, ◌++◌, false, true, codes, IfSome, List, ℕ, IsErr};
 ghost use Rattle.chan_run.specs.Texts.{WriterGot};
-ghost use Rattle.chan_run.specs.OptionFault.{IsAroundTip, IsFaultText, IsTipless};
+ghost use Rattle.chan_run.specs.OptionFault.{IsAroundTip, IsFaultText, IsTipless, IsUsageText};
 ghost use Rattle.chan_run.specs.OptionFault.{file_fault_text, grants_fault_text, usage_of};
 
 use crate::bases::{correction, reading};
+use crate::extra_word::{around_storage, rephrased};
 use crate::image_options::OptionFault;
 use crate::texts::write_texts;
 use ccw_core::{DeviceFault, Watched};
@@ -134,19 +135,39 @@ pub fn report_no_ccw<W: Write>(to: &mut Watched<W>) -> u8
     4
 }
 
-/// Writes the text of a usage fault that the command line's library words, without its tip to pass
-/// an option as a value, and gives the exit status, 4, as `report_option` does.
-pub fn report_usage<W: Write>(text: &str, to: &mut Watched<W>) -> u8
+/// Writes the text of a usage fault that the command line's library words, and gives the exit
+/// status, 4, as `report_option` does. It leaves out the library's tips to pass an option as a value
+/// and to give `--storage` for `--start`. If a command that takes one FILE or one CCW gets a word
+/// too many, the first line says so.
+pub fn report_usage<'a, W: Write>(words: &'a [String], text: &'a str, to: &mut Watched<W>) -> u8
     requires { to.old.failed ≡ false }
     ensures status { result ≡ 4 }
-    ensures said { (said : List ℕ) × IsTipless text.now said × WriterGot said
+    ensures said { (said : List ℕ) × IsUsageText text.now said × WriterGot said
         (W.contents to.old.device) (W.contents to.new.device) to.new.failed }
 {
-    let _ = match around_tip(text) {
-        Some((front, rest)) => write_texts(&[front, EMPTY_LINE, rest], to),
-        None => write_texts(&[text], to),
+    let _ = match rephrased(words, text) {
+        Some(((said, word, more, again), rest)) => {
+            write_texts(&[said, word, more, again, "\n", rest], to)
+        }
+        None => write_tipless(text, to),
     };
     4
+}
+
+/// Writes a text without a tip, if it has one of those that are left out.
+fn write_tipless<W: Write>(text: &str, to: &mut Watched<W>) -> Result<(), DeviceFault>
+    requires { to.old.failed ≡ false }
+    ensures said { (said : List ℕ) × IsTipless text.now said × WriterGot said
+        (W.contents to.old.device) (W.contents to.new.device) to.new.failed }
+    ensures fault { IsErr result ↔ (to.new.failed ≡ true) }
+{
+    match around_storage(text) {
+        Some((front, rest)) => write_texts(&[front, rest], to),
+        None => match around_tip(text) {
+            Some((front, rest)) => write_texts(&[front, EMPTY_LINE, rest], to),
+            None => write_texts(&[text], to),
+        },
+    }
 }
 
 /// What comes before the tip of a text, and behind the empty line that ends it, if it has one.

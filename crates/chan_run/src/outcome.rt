@@ -25,6 +25,9 @@ use std::io::Write;
 /// What the line on a word without a meaning begins with, if another one's is near.
 const UNKNOWN: &str = "chanv: no such word; the nearest is ";
 
+/// What ends it.
+const LISTS_ALL: &str = ", and chanv explain lists all words\n";
+
 /// How a run of the program ended. The texts of help, of the version, of a usage fault and on a
 /// program that no job will do for are written before.
 #[derive(Clone, Copy, PartialEq, Eq)]
@@ -159,7 +162,7 @@ pub(crate) fn write_line<W: Write>(
 {
     match outcome {
         Outcome::Refused { line, cause } => write_refusal(name, line, cause, to),
-        Outcome::Unknown(word) => write_texts(&[UNKNOWN, word, "\n"], to),
+        Outcome::Unknown(word) => write_texts(&[UNKNOWN, word, LISTS_ALL], to),
         Outcome::Failed(failure) => write_failure(name, failure, to),
         _ => Ok(()),
     }

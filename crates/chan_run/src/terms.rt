@@ -21,7 +21,7 @@ pub enum Term {
 }
 
 /// The terms in the order of the list: the reasons by number, then the causes, then the failures.
-pub(crate) const TERMS: [Term; 38] = [
+pub(crate) const TERMS: [Term; 41] = [
     Term::Reason(Reason::Misaligned),
     Term::Reason(Reason::OutsideStorage),
     Term::Reason(Reason::TransferNotAllowed),
@@ -50,6 +50,9 @@ pub(crate) const TERMS: [Term; 38] = [
     Term::Cause(Cause::After),
     Term::Cause(Cause::Limit),
     Term::Failure(Failure::CannotOpen),
+    Term::Failure(Failure::NoSuchFile),
+    Term::Failure(Failure::PermissionDenied),
+    Term::Failure(Failure::IsFolder),
     Term::Failure(Failure::ReadFailed),
     Term::Failure(Failure::DeckTooLong),
     Term::Failure(Failure::ImageTooLong),

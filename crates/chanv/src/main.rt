@@ -139,7 +139,13 @@ fn answer_words(rt: &HostRuntime, words: &Words) -> u8 {
             report_file(word, &mut Watched::new(rt.stderr()))
         }
         Request::NoCommand(_, text) | Request::Fault(text) => match text.to_string(rt.alloc()) {
-            Ok(text) => report_usage(text.as_str(), &mut Watched::new(rt.stderr())),
+            Ok(text) => {
+                report_usage(
+                    words.shown.as_slice(),
+                    text.as_str(),
+                    &mut Watched::new(rt.stderr()),
+                )
+            }
             Err(AllocError) => report_on(rt, None, Outcome::Failed(Failure::OutOfMemory)),
         },
         Request::NoMemory => report_on(rt, None, Outcome::Failed(Failure::OutOfMemory)),
@@ -259,7 +265,31 @@ fn open_file(rt: &HostRuntime, words: &Words, number: usize) -> Result<File, Out
     let Ok(path) = str::from_utf8(bytes.as_slice()) else {
         return Err(cannot_open);
     };
-    File::open(rt, path).map_err(|_| cannot_open)
+    match File::open(rt, path) {
+        Ok(file) => no_folder(file),
+        Err(error) => Err(Outcome::Failed(fault_of(error.kind()))),
+    }
+}
+
+/// Why a file can't be opened or read, as far as the system tells.
+fn fault_of(kind: io::ErrorKind) -> Failure {
+    match kind {
+        io::ErrorKind::NotFound => Failure::NoSuchFile,
+        io::ErrorKind::PermissionDenied => Failure::PermissionDenied,
+        io::ErrorKind::IsADirectory => Failure::IsFolder,
+        _ => Failure::CannotOpen,
+    }
+}
+
+/// A file that isn't a folder. A read of no bytes tells: it waits for none.
+fn no_folder(file: File) -> Result<File, Outcome> {
+    let mut file = file;
+    match file.read(&mut []) {
+        Err(error) if error.kind() == io::ErrorKind::IsADirectory => {
+            Err(Outcome::Failed(Failure::IsFolder))
+        }
+        _ => Ok(file),
+    }
 }
 
 /// Whether a word that is shown so is the name of a file that can be read.

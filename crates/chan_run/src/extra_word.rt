@@ -1,0 +1,101 @@
+//! What is said of a word that a command doesn't take, in place of the library's first line.
+
+ghost use Rattle.std.specs.Prelude.{◌≡◌, ◌≢◌, ◌++◌, ◌∷◌, IfSome, None, option_map};
+ghost use Rattle.chan_run.specs.ExtraWord as specs;
+ghost use Rattle.chan_run.specs.ExtraWord.{IsFirstLine, IsWithoutTip};
+ghost use Rattle.chan_run.specs.Options.{number_in};
+
+use crate::options::number_of;
+
+/// How the library's text on a word begins that a command doesn't take.
+const UNEXPECTED: &str = "error: unexpected argument '";
+
+/// The same of an option.
+const UNEXPECTED_OPTION: &str = "error: unexpected argument '-";
+
+// What is said in its place for the commands that take one FILE or one CCW.
+const ONE_OF_GRAPH: &str = "error: chanv graph takes one FILE; run it once for each";
+
+const ONE_OF_FIND: &str = "error: chanv find takes one FILE; run it once for each";
+
+const ONE_OF_SHOW: &str = "error: chanv show takes one CCW; put it in quotation marks after --name";
+
+/// What is said for `deck` if an address stands where the FILE does, around that address.
+const ONE_OF_DECK: &str = "error: chanv deck takes one FILE, and '";
+
+const GIVE_START: &str = "' is taken for it; give the address as --start ";
+
+/// The library's tip for the option `--start` of a command that has none: another option.
+const STORAGE_TIP: &str = "\n\n  tip: a similar argument exists: '--storage'";
+
+/// What ends a line.
+const LINE_FEED: &str = "\n";
+
+/// A first line in parts: a text, a word, a text and the word again.
+pub(crate) type FirstLine<'a> = (&'a str, &'a str, &'a str, &'a str);
+
+/// What is said of a word too many for a command that takes one.
+fn takes_one<'a>(command: &str) -> Option<&'a str>
+    ensures { option_map (λ text. text.now) result ≡ specs.takes_one command.now }
+{
+    match command {
+        "graph" => Some(ONE_OF_GRAPH),
+        "find" => Some(ONE_OF_FIND),
+        "show" => Some(ONE_OF_SHOW),
+        _ => None,
+    }
+}
+
+/// The first word of `deck` that is a hexadecimal number where the FILE stands: after the command
+/// or after an option without a value.
+fn taken_for_file(words: &[String]) -> Option<&str>
+    ensures { IfSome result (λ word. number_in 16 word.now ≢ None) }
+{
+    for number in 2..words.len() {
+        let (before, word) = (words[number - 1].as_str(), words[number].as_str());
+        let is_file = before == "deck" || before == "--least" || before == "--open";
+        if is_file && number_of(word, 16).is_some() {
+            return Some(word);
+        }
+    }
+    None
+}
+
+/// The first line for these words of a command.
+fn first_line_of<'a>(command: &str, words: &'a [String]) -> Option<FirstLine<'a>>
+    ensures { IfSome result (λ line. IsFirstLine command.now
+        (line.0.now ++ (line.1.now ++ (line.2.now ++ line.3.now)))) }
+{
+    if command == "deck" {
+        let word = taken_for_file(words)?;
+        return Some((ONE_OF_DECK, word, GIVE_START, word));
+    }
+    let text = takes_one(command)?;
+    Some((text, "", "", ""))
+}
+
+/// The first line that is said of these words in place of that of the library's text, and what
+/// follows it; `None` if the text stays as it is.
+pub(crate) fn rephrased<'a>(words: &'a [String], text: &'a str) -> Option<(FirstLine<'a>, &'a str)>
+    ensures { IfSome result (λ said. specs.IsRephrased text.entry.now (said.0.0.now
+        ++ (said.0.1.now ++ (said.0.2.now ++ (said.0.3.now ++ 10 ∷ said.1.now))))) }
+{
+    if !text.starts_with(UNEXPECTED) || text.starts_with(UNEXPECTED_OPTION) {
+        return None;
+    }
+    let command = words.get(1)?;
+    let line = first_line_of(command.as_str(), words)?;
+    let (_, rest) = text.split_once(LINE_FEED)?;
+    Some((line, rest))
+}
+
+/// What comes before and after the tip of a text that names `--storage` for `--start`.
+pub(crate) fn around_storage(text: &str) -> Option<(&str, &str)>
+    ensures { IfSome result (λ parts. IsWithoutTip text.now parts.0.now parts.1.now) }
+{
+    if !text.starts_with("error: unexpected argument '--start'") {
+        return None;
+    }
+    let (front, rest) = text.split_once(STORAGE_TIP)?;
+    Some((front, rest))
+}
