@@ -188,6 +188,73 @@ def check_causes(checks, program, causes):
     checks.expect("the reasons that an example has", sorted(causes), sorted(shown))
 
 
+# the columns of the table of commands, and of the two tables of masks
+CLASS = r"(?m)^\| `([0-9A-F]{2})` \| (?:`([0-9A-F]{2})` )?\| `([a-z-]+)` \| \w+ \| (\w+) \|"
+BITS = r"(?m)^\| `([0-9A-F]{2})` \| (none|\w+(?:, \w+)*) \|$"
+
+# words that are codes of no command of the table, and what is said of them
+OTHER_CODES = {
+    "00": "00: group invalid, no command, because the low four bits are zero",
+    "F0": "F0: group invalid, no command, because the low four bits are zero",
+    "02": "02: group read, read-ipl: not in the table of commands that chanv knows",
+    "b4": "B4: group sense, reserve: not in the table of commands that chanv knows",
+    "0C": "0C: group read-backward, not in the table of commands that chanv knows",
+    "08": "08: group transfer, transfer-in-channel: the channel's jump: it goes on at the CCW's "
+    "data address; no mask inhibits it",
+    "f8": "F8: group transfer, transfer-in-channel: the channel's jump: it goes on at the CCW's "
+    "data address; no mask inhibits it",
+}
+NO_MASKS = {"20": "20", "ff": "FF", "01": "01"}
+
+
+def inhibited_by(page):
+    """The classes that each choice of the bits C0 and of the bits 18 inhibits."""
+    rows = re.findall(BITS, page.partition("mask bits `C0`")[2].partition("A mask inhibits")[0])
+    each = [(int(bits, 16), set(named.split(", ")) - {"none"}) for bits, named in rows]
+    return each[:4], each[4:]
+
+
+def group_of(code):
+    """The word of the group of a code, by the table of docs/DEVICE.md."""
+    last = {0: "invalid", 4: "sense", 8: "transfer", 12: "read-backward"}
+    return last[code % 16] if code % 4 == 0 else ["", "write", "read", "control"][code % 4]
+
+
+def check_codes(checks, program):
+    """A command code is a word, as is `mask` with a byte."""
+    page = text_of(ROOT / "docs/DEVICE.md")
+    writes, seeks = inhibited_by(page)
+    does = dict(line.split(": ", 1) for line in DOES.split("\n")[1:-1])
+    classes = {}
+    for code, mt, name, of_class in re.findall(CLASS, page):
+        classes[int(code, 16)] = name, of_class
+        bits = [
+            (which, [f"{byte:02X}" for byte, named in each if of_class in named])
+            for which, each in (("C0", writes), ("18", seeks))
+        ]
+        said = "no mask inhibits it"
+        for which, those in bits:
+            if those:
+                front = ", ".join(those[:-1]) + " or " if those[1:] else ""
+                said = f"a mask inhibits it if its bits {which} are {front}{those[-1]}"
+        for word, whole, what in ((code, name, does[name]), (mt, f"{name}-mt", ON_MORE_TRACKS)):
+            if word:
+                line = f"{word}: group {group_of(int(word, 16))}, {whole}: {what}; {said}\n"
+                checks.expect(word, Ran(0, line), run(program, "explain", word.lower()))
+    for word, line in OTHER_CODES.items():
+        checks.expect(word, Ran(0, f"{line}\n"), run(program, "explain", word))
+    for write, of_writes in writes:
+        for seek, of_seeks in seeks:
+            those = of_writes | of_seeks
+            names = [name for _, (name, it) in sorted(classes.items()) if it in those]
+            line = f"mask {write | seek:02X}: inhibits {', '.join(names) or 'no command'}\n"
+            ran = run(program, "explain", f"mask {write | seek:02x}")
+            checks.expect(f"mask {write | seek:02X}", Ran(0, line), ran)
+    for byte, shown in NO_MASKS.items():
+        line = f"mask {shown}: isn't a file mask; only the bits C0 and 18 may be on\n"
+        checks.expect(f"mask {byte}", Ran(0, line), run(program, "explain", f"mask {byte}"))
+
+
 def words_of(text):
     """The words of an answer: phrases that begin a line, and else all but numbers."""
     for line in text.splitlines():
@@ -253,5 +320,6 @@ def check(checks, built):
         refused = Ran(4, "", f"chanv: no such word; {near}{LISTS_ALL}\n")
         checks.expect(f"'{word[:20]}'", refused, run(program, "explain", word))
     check_printed(checks, program)
+    check_codes(checks, program)
     causes = {word: forms for word, forms in causes_of(page) if word in words_under(*TABLES[0])}
     check_causes(checks, program, causes)

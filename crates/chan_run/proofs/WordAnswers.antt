@@ -1,5 +1,6 @@
 -- The answer on a word of the output.
-use Rattle.std.proofs.Common.{◌≡◌, ◌↔◌, Bool, Err, IsErr, List, Ok, Option, Result, false, inr, refl, true, ℕ}
+use Rattle.std.specs.Io.KnownBytes.{Appends}
+use Rattle.std.proofs.Common.{OnOk, ◌≡◌, ◌↔◌, Bool, Err, IsErr, List, Ok, Option, Result, false, inl, inr, refl, true, ℕ}
 use Rattle.ccw_core.specs.declared.watched.DeviceFault.{DeviceFault}
 use Rattle.chan_run.specs.Meanings.{AreTermsListed, AreWordsListed, IsWordAnswer}
 use Rattle.chan_run.specs.Outcome.{wrote}
@@ -7,7 +8,9 @@ use Rattle.chan_run.specs.OutputWords.{AreRowsListed, IsFirstRow, OutputRow, out
 use Rattle.chan_run.specs.declared.outcome.Outcome.{Outcome}
 use Rattle.chan_run.specs.declared.outcome.Outcome.TheVariants.{Denied, Done, Failed, NoJob, Refused, Unknown}
 use Rattle.chan_run.specs.declared.terms.TheConstants as texts
+use Rattle.chan_run.specs.Spelled.{IsSpelled}
 use Rattle.chan_run.specs.Texts.{WriterGot}
+use Rattle.ccw_core.specs.Written.{AppendsPrefix}
 
 -- no write failed if the last one didn't
 sound : (failed : Bool) → (false ≡ true) ↔ (failed ≡ true) → failed ≡ false
@@ -18,8 +21,15 @@ sound false fault = refl
 pub row_answer : (text : List ℕ) (old new : Option (List ℕ)) (row : OutputRow) (r : Result (Unit {0}) DeviceFault)
     (failed : Bool) → IsFirstRow text output_words row → IsErr r ↔ (failed ≡ true)
     → WriterGot (row_line row) old new failed → IsWordAnswer text old new (wrote r)
-row_answer text old new row (Ok u) failed first fault said = (row_line row, inr (row, first, refl), said.0 (sound failed fault))
-row_answer text old new row (Err e) failed first fault said = (row_line row, inr (row, first, refl), said.1)
+row_answer text old new row (Ok u) failed first fault said = (row_line row, inr (inl (row, first, refl)), said.0 (sound failed fault))
+row_answer text old new row (Err e) failed first fault said = (row_line row, inr (inl (row, first, refl)), said.1)
+
+-- the line on a code or a mask was written, or a prefix
+pub spelled_answer : (text line : List ℕ) (old new : Option (List ℕ)) (r : Result (Unit {0}) DeviceFault) (end : Outcome)
+    → end ≡ wrote r → IsSpelled text → OnOk r (Appends old new line) → AppendsPrefix old new line
+    → IsWordAnswer text old new end
+spelled_answer text line old new (Ok u) end was is ok prefix = rw was ((line, inr (inr is), ok))
+spelled_answer text line old new (Err e) end was is ok prefix = rw was ((line, inr (inr is), prefix))
 
 -- the lines of the terms, and then those of the other words
 pub words_listed : (old mid new : Option (List ℕ)) (end : Outcome) → AreTermsListed texts.TERMS old mid Done

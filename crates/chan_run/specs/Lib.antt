@@ -20,4 +20,5 @@ pub mod Texts
 pub mod Response
 pub mod Find
 pub mod OutputWords
+pub mod Spelled
 pub mod Meanings

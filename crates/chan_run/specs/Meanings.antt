@@ -10,18 +10,25 @@ use Rattle.chan_run.specs.declared.terms.Term.{Term}
 use Rattle.chan_run.specs.Find.{AreLines}
 use Rattle.chan_run.specs.OutputWords.{AreRowsListed, IsFirstRow, IsRowFor, OutputRow}
 use Rattle.chan_run.specs.OutputWords.{output_words, row_line}
+use Rattle.chan_run.specs.Spelled.{IsSpelled}
 use Rattle.chan_run.specs.Terms.{IsWordOf, word_of_term}
 use Rattle.chan_run.specs.declared.terms.TheConstants as texts
 
--- the text is no word: no term has it, and it is none of the output
-abbrev pub IsNoWord : List ℕ → Type 0
-IsNoWord text = ((t : Term) → ¬ IsWordOf text t) × All (λ row. ¬ IsRowFor text row) output_words
+-- the text is in no table: no term has it, and it is none of the output
+abbrev pub IsInNoTable : List ℕ → Type 0
+IsInNoTable text =
+    ((t : Term) → ¬ IsWordOf text t) × All (λ row. ¬ IsRowFor text row) output_words
 
--- what is said of a text that is no word: that it is unknown, or that memory ran out
+-- the text is no word: it is in no table, and neither a command code nor a mask
+abbrev pub IsNoWord : List ℕ → Type 0
+IsNoWord text = IsInNoTable text × (¬ IsSpelled text)
+
+-- what is said of a text that is no word: that it is unknown; or that memory ran out, of one that
+-- is in no table
 abbrev pub IsUnknown : List ℕ → Outcome → Type 0
 IsUnknown text (Unknown word) = IsNoWord text
 IsUnknown text (Failed failures.NoSuchWord) = IsNoWord text
-IsUnknown text (Failed failures.OutOfMemory) = IsNoWord text
+IsUnknown text (Failed failures.OutOfMemory) = IsInNoTable text
 IsUnknown text _ = ⊥
 
 -- the line of a term: its word, and what it is in a few words
@@ -48,11 +55,13 @@ AreWordsListed old new end =
     ⊎ ((mid : Option (List ℕ)) × AreTermsListed texts.TERMS old mid Done
     × AreRowsListed output_words mid new end)
 
--- this is the meaning of a text: some meaning of its term, or the line of its word of the output
+-- this is the meaning of a text: some meaning of its term, the line of its word of the output, or
+-- some line on the code or the mask that it spells
 abbrev pub IsMeaning : List ℕ → List ℕ → Type 0
 IsMeaning text meaning =
     ((t : Term) × IsWordOf text t)
-    ⊎ ((row : OutputRow) × IsFirstRow text output_words row × (meaning ≡ row_line row))
+    ⊎ (((row : OutputRow) × IsFirstRow text output_words row × (meaning ≡ row_line row))
+    ⊎ IsSpelled text)
 
 -- the text's meaning was written, or where a write failed a prefix of it
 abbrev pub IsWordAnswer : List ℕ → Option (List ℕ) → Option (List ℕ) → Outcome → Type 0

@@ -43,6 +43,7 @@ mod outcome;
 mod output;
 mod output_words;
 mod response;
+mod spelled;
 mod status;
 mod terms;
 mod texts;

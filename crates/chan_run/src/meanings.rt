@@ -1,14 +1,15 @@
 //! What the words of verdicts, of refused decks and of failures mean.
 
 ghost use Rattle.std.specs.Prelude.{◌≡◌, ◌↔◌, false, true};
-ghost use Rattle.chan_run.specs.Meanings.{AreTermsListed, AreWordsListed, IsNoWord, IsUnknown};
-ghost use Rattle.chan_run.specs.Meanings.{IsWordAnswer};
+ghost use Rattle.chan_run.specs.Meanings.{AreTermsListed, AreWordsListed, IsInNoTable, IsNoWord};
+ghost use Rattle.chan_run.specs.Meanings.{IsUnknown, IsWordAnswer};
 ghost use Rattle.chan_run.specs.Outcome.{IsDone, IsWriteFailure};
 
 use crate::failure::{Failure, row};
 use crate::nearest::nearest_word;
 use crate::outcome::Outcome;
 use crate::output_words::{OUTPUT_WORDS, list_rows, row_for, write_row};
+use crate::spelled::spelled_text;
 use crate::terms::{TERMS, Term, term_of, term_word};
 use crate::texts::write_texts;
 use ccw_core::{Watched, write_out};
@@ -213,7 +214,8 @@ As the cause of a refused deck: the number is 0 or above 65,536. Write 00001 to
 
 /// Writes the meaning of a word, and how to fix what it names.
 ///
-/// The word may be in upper or lower case. If it isn't one, the outcome is `Unknown` with the
+/// The word may be in upper or lower case. It may also be a command code, as `07`, or a file mask,
+/// as `mask 98`. If it isn't one, the outcome is `Unknown` with the
 /// nearest word, or `NoSuchWord` if none is near; `OutOfMemory` may come in their place.
 /// `WriteFailed` comes exactly if a write failed, and then a prefix was written. Only `Done` and
 /// `WriteFailed` write anything.
@@ -228,8 +230,25 @@ pub fn explain_word<W: Write>(alloc: Global, word: &str, to: &mut Watched<W>) ->
         Some(term) => Outcome::of_write(write_out(meaning(term).as_bytes(), to)),
         None => match row_for(&OUTPUT_WORDS, word) {
             Some(row) => Outcome::of_write(write_row(row, to)),
-            None => unknown(alloc, word),
+            None => explain_spelled(alloc, word, to),
         },
+    }
+}
+
+/// Writes the line on a text in no table, if it is a command code or a file mask.
+#[tactic(auto, using(crate::proofs::WordAnswers::spelled_answer))]
+fn explain_spelled<W: Write>(alloc: Global, word: &str, to: &mut Watched<W>) -> Outcome
+    requires writer { to.old.failed ≡ false }
+    requires word { IsInNoTable word.now }
+    ensures answer { IsWordAnswer word.now (W.contents to.old.device) (W.contents to.new.device)
+        result }
+    ensures early { (IsDone result → ⊥) → (IsWriteFailure result → ⊥) → to.new ≡ to.old }
+    ensures write { IsWriteFailure result ↔ (to.new.failed ≡ true) }
+{
+    match spelled_text(alloc, word.as_bytes()) {
+        Ok(Some(text)) => Outcome::of_write(write_out(text.as_bytes(), to)),
+        Ok(None) => unknown(alloc, word),
+        Err(AllocError) => Outcome::Failed(Failure::OutOfMemory),
     }
 }
 

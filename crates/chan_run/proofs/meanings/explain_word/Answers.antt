@@ -1,8 +1,8 @@
 use Rattle.chan_run.proofs.WordAnswers.{row_answer}
 use Rattle.chan_run.proofs.meanings.explain_word.Goals as goal
 
-pub unknown-requires : goal.unknown-requires
-unknown-requires g c = (c.term_of.ensures.none c.in-None.is, c.row_for.ensures.none c.in-None-row_for.is)
+pub explain_spelled-requires-clause-word : goal.explain_spelled-requires-clause-word
+explain_spelled-requires-clause-word g c = (c.term_of.ensures.none c.in-None.is, c.row_for.ensures.none c.in-None-row_for.is)
 
 pub returns-in-Some-row_for-clause-answer : goal.returns-in-Some-row_for-clause-answer
 returns-in-Some-row_for-clause-answer g c =
