@@ -151,14 +151,8 @@ pub(crate) const OUTPUT_WORDS: [OutputWord; 99] = [
         "argument",
         "the bytes that a seek (bin, cylinder, head), a search or a Set File Mask takes",
     ),
-    (
-        "cylinder",
-        "where a seek moves the arm, 0 to 202; in a path, of the seek that begins there",
-    ),
-    (
-        "head",
-        "which of a cylinder's tracks is read or written; in a path, of the seek that begins there",
-    ),
+    ("cylinder", "where a seek moves the arm, 0 to 202"),
+    ("head", "which of a cylinder's tracks is read or written"),
     (
         "guarded",
         "bytes that no reachable CCW may store over: CCWs, arguments of seeks, mask bytes",
