@@ -1,5 +1,5 @@
--- What is proved of a picture's text: its title has the name of the deck and the verdict, and its last
--- line closes it. Tests hold the rest.
+-- What is proved of a picture's text: its title has the name of the deck and the verdict, and its
+-- last line closes it. Tests hold the rest.
 use Rattle.std.specs.Prelude.{◌≡◌, ◌++◌, ◌==◌, ◌||◌, ◌∷◌, [], ℕ, List, codes, nat_lt}
 use Rattle.std.specs.Prelude.{Option, None, Some, if◌then◌else◌}
 use Rattle.std.specs.List.{flat_map}

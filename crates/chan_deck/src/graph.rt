@@ -1,5 +1,5 @@
-//! The picture of a program, in Graphviz's language. It is proved that its title has the verdict, and
-//! that its last line closes it; tests hold the rest.
+//! The picture of a program, in Graphviz's language. It is proved that its title has the verdict,
+//! and that its last line closes it; tests hold the rest.
 
 ghost use Rattle.std.specs.Prelude.{◌≡◌, ◌++◌, codes, option_map, string_bytes, IfOk, OnOk};
 ghost use Rattle.chan_deck.specs.Graph.{IsPictureOf, escaped, escaped_byte, titled};

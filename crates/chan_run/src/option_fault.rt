@@ -136,9 +136,9 @@ pub fn report_no_ccw<W: Write>(to: &mut Watched<W>) -> u8
 }
 
 /// Writes the text of a usage fault that the command line's library words, and gives the exit
-/// status, 4, as `report_option` does. It leaves out the library's tips to pass an option as a value
-/// and to give `--storage` for `--start`. If a command that takes one FILE or one CCW gets a word
-/// too many, the first line says so.
+/// status, 4, as `report_option` does. It leaves out the library's tips to pass an option as a
+/// value and to give `--storage` for `--start`. If a command that takes one FILE or one CCW gets a
+/// word too many, the first line says so.
 pub fn report_usage<'a, W: Write>(words: &'a [String], text: &'a str, to: &mut Watched<W>) -> u8
     requires { to.old.failed ≡ false }
     ensures status { result ≡ 4 }

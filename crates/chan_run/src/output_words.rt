@@ -58,7 +58,7 @@ pub(crate) const OUTPUT_WORDS: [OutputWord; 99] = [
     ),
     (
         "flags",
-        "D chain data, C chain command, L suppress length, S skip, P interrupt; a digit for low bits",
+        "D chain data, C chain command, L suppress length, S skip, P interrupt; digit: low bits",
     ),
     (
         "D",

@@ -12,8 +12,9 @@ ghost use Rattle.chan_walk.specs.declared.verdict.Verdict as declared;
 ghost use Rattle.chanv_c.specs.Answers.{IsAnswerCode, IsRefusal};
 ghost use Rattle.chanv_c.specs.Job.{IsAskedJob};
 ghost use Rattle.chanv_c.specs.Faults.{HasNoFault};
-ghost use Rattle.chanv_c.specs.Needs.{AreWrittenNeeds, HasTooManyOpenly, HaveRoom, HaveTooLittleRoom};
-ghost use Rattle.chanv_c.specs.Needs.{IsFound, IsOver, IsToldNo, StandFirst, told_alone, told_needs};
+ghost use Rattle.chanv_c.specs.Needs.{AreWrittenNeeds, HasTooManyOpenly, HaveRoom};
+ghost use Rattle.chanv_c.specs.Needs.{HaveTooLittleRoom, IsFound, IsOver, IsToldNo, StandFirst};
+ghost use Rattle.chanv_c.specs.Needs.{told_alone, told_needs};
 ghost use Rattle.chanv_c.specs.declared.job.CJob as asked;
 
 use crate::codes::{CHANGED_MEANWHILE, MEMORY, NO, NO_ROOM, YES};
@@ -59,15 +60,15 @@ pub(crate) enum Found {
 
 /// The needs of the job's program in each job that it runs under, and the bytes that it keeps,
 /// whatever is written to storage meanwhile: 0 if some job will do and each list took its rows, and
-/// `kept` the bytes in the rows of `keep`; 1 if none will, with the verdict on the open job; 11 if a
-/// list or `kept` has too little room, with the same as for 0 except rows and bytes; 13 if storage
-/// changed during the call. Otherwise it says why there is no answer, like `chanv_verify`; too many
-/// places are those that are reachable under the open job, and 3 comes too if the copy isn't as long
-/// as storage. All else is written as 0. Only for 0 is anything written to the lists and to `kept`.
-/// The job's own grants don't matter.
+/// `kept` the bytes in the rows of `keep`; 1 if none will, with the verdict on the open job; 11 if
+/// a list or `kept` has too little room, with the same as for 0 except rows and bytes; 13 if
+/// storage changed during the call. Otherwise it says why there is no answer, like `chanv_verify`;
+/// too many places are those that are reachable under the open job, and 3 comes too if the copy
+/// isn't as long as storage. All else is written as 0. Only for 0 is anything written to the lists
+/// and to `kept`. The job's own grants don't matter.
 ///
-/// A first look at storage only says which bytes to copy. Each is read once more, and what is judged
-/// is the copy, which nothing else writes. Before the call it may hold anything.
+/// A first look at storage only says which bytes to copy. Each is read once more, and what is
+/// judged is the copy, which nothing else writes. Before the call it may hold anything.
 #[unsafe(no_mangle)]
 pub extern "C" fn needs_by_copy(
     alloc: Global,
