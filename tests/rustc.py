@@ -135,9 +135,11 @@ def check_inputs(checks, programs, folder, count):
 
 def check_words(checks, programs):
     listed = run(programs[0], "explain").output.splitlines()
-    words = [line.split()[0] for line in listed if line]
+    words = [line.partition(": ")[0] for line in listed if line]
+    near = [f"{word}x" for word in words if word != "-"]
+    codes = [f"{front}{code:02X}" for front in ("", "mask ") for code in range(256)]
     ccws = [f"{code:02X}000A002{code % 16:X}000050" for code in range(256)]
-    lines = [f"explain {word}" for word in words]
+    lines = [f"explain {shlex.quote(word)}" for word in (*words, *near, *codes)]
     lines += [f"{command} {ccw}" for command in ("show", "show --name") for ccw in ccws]
     check_lines(checks, programs, lines)
 
