@@ -489,7 +489,11 @@ fn push_arrow(
         ""
     };
     let is_labelled = layout.boxes <= MOST_LABELLED;
-    let found = if is_found && is_labelled { "if found" } else { "" };
+    let found = if is_found && is_labelled {
+        "if found"
+    } else {
+        ""
+    };
     match arrow.through {
         Some(transfer) if is_labelled => {
             let transfer = Address(transfer);
