@@ -1,7 +1,6 @@
 -- What is found of a program over a copy of the bytes that it keeps.
-use Rattle.std.proofs.Common.{◌≡◌, ◌∙◌, ℕ, List, Option, ap, length, subst, sym}
+use Rattle.std.proofs.Common.{◌∙◌, ℕ, List, Option, ap, length, subst, sym}
 use Rattle.chan_walk.specs.Job.{storage_of}
-use Rattle.chan_walk.specs.declared.job.Job.{Job}
 use Rattle.chan_walk.specs.declared.place.Place.{Place}
 use Rattle.chan_needs.specs.Needs.{KeepsProgram}
 use Rattle.chan_needs.specs.Remembered.{HoldsAreas}
