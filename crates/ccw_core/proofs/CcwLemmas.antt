@@ -32,4 +32,5 @@ pub ccw-same : (s t : List ℕ) (a b : ℕ) → ((i : ℕ) → i < 8 → get_or 
 unfolding ccw
 ccw-same s t a b same =
     let zero : get_or s a 0 ≡ get_or t b 0 = let e : a + 0 ≡ a = omega arith in let f : b + 0 ≡ b = omega arith in rw (e, f) at (same 0 (omega arith)) in
-    rw (zero, same 1 (omega arith), same 2 (omega arith), same 3 (omega arith), same 4 (omega arith), same 5 (omega arith), same 6 (omega arith), same 7 (omega arith)) refl
+    rw (zero, same 1 (omega arith), same 2 (omega arith), same 3 (omega arith))
+    (rw (same 4 (omega arith), same 5 (omega arith), same 6 (omega arith), same 7 (omega arith)) refl)

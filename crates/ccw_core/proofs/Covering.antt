@@ -59,7 +59,8 @@ pub record IsGapAmong (areas : List Area) (start end i stop : ℕ) : Type 0 wher
   pub inside : (b : ℕ) → start ≤ b → b < stop → lies_in (take i areas) b ≡ false
   pub after : stop < end → lies_in areas stop ≡ true
 
-module _ (areas : List Area) (start end i stop : ℕ) (d : Area) (g : IsGapAmong areas start end i stop) (l : i < length areas) (out : lies_in areas start ≡ false) where
+module _ (areas : List Area) (start end i stop : ℕ) (d : Area)
+    (g : IsGapAmong areas start end i stop) (l : i < length areas) (out : lies_in areas start ≡ false) where
   abbrev area : Area
   area = get_or areas i d
 
@@ -74,7 +75,12 @@ module _ (areas : List Area) (start end i stop : ℕ) (d : Area) (g : IsGapAmong
 
   -- it doesn't
   pub stops_later : (start < area.start → 0 < area.len → stop ≤ area.start) → IsGapAmong areas start end (i + 1) stop
-  stops_later later = record { filled = g.filled; within = g.within; inside = λ b h k. lies_in-more areas i d b l (g.inside b h k) (outside b h k); after = g.after }
+  stops_later later = record {
+    filled = g.filled;
+    within = g.within;
+    inside = λ b h k. lies_in-more areas i d b l (g.inside b h k) (outside b h k);
+    after = g.after;
+  }
     where
       empty_or_before : (b : ℕ) → start ≤ b → b < stop → (start < area.start) ⊎ (area.start ≤ start) → (b < area.start) ⊎ (area.start + area.len ≤ b)
       empty_or_before b h k (inl s) = by_len (cases_lt 0 area.len)

@@ -51,7 +51,8 @@ ccw_at-some s a c h = go (is_aligned a) (is_inside (length s) a) refl refl h
 pub ccw_at-none : (s : List ℕ) (a : ℕ) → ccw_at s a ≡ None → (is_aligned a && is_inside (length s) a) ≡ false
 ccw_at-none s a h = go (is_aligned a && is_inside (length s) a) refl h
   where
-    go : (x : Bool) → (is_aligned a && is_inside (length s) a) ≡ x → (if x then Some (ccw s a) else None) ≡ None → (is_aligned a && is_inside (length s) a) ≡ false
+    go : (x : Bool) → (is_aligned a && is_inside (length s) a) ≡ x
+        → (if x then Some (ccw s a) else None) ≡ None → (is_aligned a && is_inside (length s) a) ≡ false
     go true e k = absurd (cc)
     go false e k = e
 

@@ -5,7 +5,7 @@ ghost use Rattle.ccw_core.specs.Areas.{IsGap, covered, lies_in};
 
 /// An area of storage. It may be empty, and it may reach past storage.
 ///
-/// It is laid out as in C, so that a caller in C can hand in its own.
+/// Its layout is that of C, so that a caller in C can hand in its own areas.
 #[repr(C)]
 #[derive(Clone, Copy, PartialEq, Eq)]
 pub struct Area {
@@ -17,9 +17,9 @@ pub struct Area {
 
 /// Whether each byte of a range lies in some area.
 ///
-/// Adjoining areas count together, and an empty range is always covered. No sum wraps, also not
-/// near 2^32. The cost is at most the square of the number of areas, whatever the lengths: it jumps
-/// from the end of an area to the end of the next, and looks for each through all areas.
+/// Adjoining areas may cover a range together, and an empty range is always covered. No sum wraps,
+/// not even near 2^32. The cost is at most the square of the number of areas, whatever the lengths:
+/// the search jumps from the end of an area to the end of the next, and looks through all areas.
 pub fn covers(areas: &[Area], start: u32, len: u32) -> bool
     ensures { result ≡ covered areas.now start len }
 {
@@ -27,8 +27,8 @@ pub fn covers(areas: &[Area], start: u32, len: u32) -> bool
     gap_start(areas, u64::from(start), end) >= end
 }
 
-/// The first bytes in a row of a range that lie in no area, if there are any. The range has to end
-/// below 2^32. The cost is that of `covers`.
+/// The first run of bytes of a range that lies in no area, if there is a run. The range has to end
+/// below 2^32. It costs as much as `covers`.
 pub fn gap_among(areas: &[Area], range: Area) -> Option<Area>
     requires { range.start + range.len < 2 ^ 32 }
     ensures { IsGap areas.now range result }
@@ -43,8 +43,8 @@ pub fn gap_among(areas: &[Area], range: Area) -> Option<Area>
     Some(Area { start, len })
 }
 
-/// The first address from `start` on and before `end` that lies in no area; at least `end` if each
-/// does.
+/// The first address from `start` on and before `end` that lies in no area; at least `end` if every
+/// address there lies in an area.
 fn gap_start(areas: &[Area], start: u64, end: u64) -> u64
     requires { end < 2 ^ 33 }
     ensures from { start ≤ result }
@@ -62,8 +62,8 @@ fn gap_start(areas: &[Area], start: u64, end: u64) -> u64
     at
 }
 
-/// The first address after `start`, which lies in no area, that lies in some area; `end` if none
-/// before it does.
+/// The first address after `start` that lies in some area, or `end` if no address before `end`
+/// does. `start` lies in no area.
 fn gap_end(areas: &[Area], start: u32, end: u32) -> u32
     requires order { start < end }
     requires out { lies_in areas.now start ≡ false }
@@ -81,7 +81,7 @@ fn gap_end(areas: &[Area], start: u32, end: u32) -> u32
     stop
 }
 
-/// The end of the first area that has the byte at an address, or that address where none has it.
+/// The end of the first area with the byte at an address, or the address if no area has its byte.
 fn reach(areas: &[Area], address: u64) -> u64
     ensures each { (b : ℕ) → address ≤ b → b < result → lies_in areas.now b ≡ true }
     ensures stops { result ≤ address → lies_in areas.now address ≡ false }

@@ -54,8 +54,8 @@ impl Model for Ccw {
 }
 
 impl Ccw {
-    /// A CCW of these fields: `None` exactly if the address is 16,777,216 or more, since it has 24
-    /// bits.
+    /// A CCW of these fields. It is `None` exactly if the address is 16,777,216 or more: an address
+    /// has 24 bits.
     pub fn new(command: u8, address: u32, flags: u8, spare: u8, count: u16) -> Option<Ccw>
         ensures found { IsSome result ↔ (address < 16777216) }
         ensures refused { IsNone result ↔ (16777216 ≤ address) }
@@ -162,7 +162,7 @@ impl Ccw {
         self.flags & CcwFlags::CD.bits() != 0
     }
 
-    /// Chain command, unless data is chained: the next CCW begins an operation of its own.
+    /// Chain command, unless data is chained: the next CCW begins a new operation.
     #[tactic(auto, unfolding(crate::specs::Ccw::chains_command))]
     pub fn chains_command(&self) -> bool
         ensures { result ≡ specs.chains_command self.now }

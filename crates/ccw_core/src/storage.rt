@@ -1,4 +1,4 @@
-//! Main storage as it stands.
+//! Main storage as it is now.
 
 ghost use Rattle.std.specs.Prelude.{◌≡◌, ◌≤◌, ◌<◌, ◌↔◌, ℕ, length, IsOk, IsErr, IfOk};
 ghost use Rattle.std.specs.Prelude.{option_copied};
@@ -11,7 +11,7 @@ use thiserror::Error;
 /// The most bytes that storage may have, 16,777,216: addresses have 24 bits.
 const STORAGE_LIMIT: usize = 16_777_216;
 
-/// More than 16,777,216 bytes of storage.
+/// The error for more than 16,777,216 bytes of storage.
 #[derive(Clone, Copy, PartialEq, Eq, Debug, Error)]
 #[error("storage is larger than 16,777,216 bytes")]
 pub struct TooLarge;
@@ -49,8 +49,8 @@ impl<'a> Storage<'a> {
         self.bytes.len() as u32
     }
 
-    /// The channel command word at an address: `None` exactly if the address isn't a multiple of 8,
-    /// or the eight bytes from there on aren't wholly in storage. Nothing wraps round.
+    /// The channel command word at an address. It is `None` exactly if the address isn't a multiple
+    /// of 8, or the eight bytes from there on aren't wholly in storage. Nothing wraps round.
     pub fn ccw_at(&self, address: u32) -> Option<Ccw>
         ensures { result ≡ ccw_at (bytes_held self.now) address }
     {
@@ -62,7 +62,7 @@ impl<'a> Storage<'a> {
         Some(Ccw::from_bytes(word))
     }
 
-    /// The byte at an address, and zero past the end of storage.
+    /// The byte at an address, or zero past the end of storage.
     pub fn byte_at(&self, address: u32) -> u8
         ensures { result ≡ byte (bytes_held self.now) address }
     {

@@ -9,7 +9,7 @@ use std::io::{Read, Write};
 use std::marker::Model;
 use thiserror::Error;
 
-/// A device failed: it returned an error, or took none of the bytes that it was given.
+/// The device failed: it returned an error, or took none of the bytes that it was given.
 #[derive(Clone, Copy, PartialEq, Eq, Debug, Error)]
 #[error("the device failed")]
 pub struct DeviceFault;
@@ -17,8 +17,7 @@ pub struct DeviceFault;
 /// A reader or writer that remembers whether a call of it failed, and whether it has been flushed
 /// since the last write.
 ///
-/// A caller that passed it down several layers can still tell a device that failed from one that
-/// didn't.
+/// A caller that passed it down several layers can still tell whether the device failed.
 #[derive(Drop)]
 pub struct Watched<T> {
     inner: T,
@@ -35,7 +34,7 @@ impl<T> Model for Watched<T> {
 }
 
 impl<T> Watched<T> {
-    /// Watches a device, of which no call has failed so far.
+    /// Watches a device. No call has failed so far.
     pub fn new(inner: T) -> Watched<T>
         ensures held { result.device ≡ inner }
         ensures sound { result.failed ≡ false }
@@ -86,10 +85,10 @@ impl<T> Watched<T> {
 }
 
 impl<R: Read> Watched<R> {
-    /// Reads once, into the front of the buffer, and says how many bytes came; none come at the
-    /// end of the input.
+    /// Reads once, into the front of the buffer, and says how many bytes came: 0 at the end of the
+    /// input.
     ///
-    /// An error of any kind is a fault, an interruption too: it isn't tried again.
+    /// Every error is a fault, even an interruption: no call is tried again.
     pub fn read(&mut self, buffer: &mut [u8]) -> Result<usize, DeviceFault>
         ensures bound { IfOk result (λ n. n ≤ length buffer.new) }
         ensures bytes { ReadConsumes (R.remaining self.old.device) (R.remaining self.new.device)
@@ -107,8 +106,8 @@ impl<R: Read> Watched<R> {
 impl<W: Write> Watched<W> {
     /// Writes once, and says how many bytes, from the front, were taken.
     ///
-    /// An error of any kind is a fault, an interruption too, and so is a call that takes none of
-    /// some bytes. A fault has written nothing.
+    /// Every error is a fault, even an interruption. A call that takes none of some bytes is a
+    /// fault too. A fault has written nothing.
     pub fn write(&mut self, bytes: &[u8]) -> Result<usize, DeviceFault>
         ensures bound { IfOk result (λ n. n ≤ length bytes.now) }
         ensures moves { IfOk result (λ n. 0 < length bytes.now → 0 < n) }
@@ -142,8 +141,8 @@ impl<W: Write> Watched<W> {
     }
 }
 
-/// Writes all the bytes, in as many calls as the writer needs. After a fault some number of them,
-/// from the front, were written.
+/// Writes all the bytes, in as many calls as the writer needs. After a fault a prefix of the bytes
+/// was written.
 pub fn write_out<W: Write>(bytes: &[u8], to: &mut Watched<W>) -> Result<(), DeviceFault>
     requires { to.old.failed ≡ false }
     ensures ok { OnOk result (Appends (W.contents to.old.device) (W.contents to.new.device)

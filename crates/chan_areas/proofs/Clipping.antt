@@ -19,8 +19,12 @@ pub clipped_low : (n m : ℕ) (xs ys : List Area) → ys ≡ map (clip n) xs →
 clipped_low n m xs ys e l = subst (All (EndsBelow m)) (sym e) (All-map (EndsBelow m) (clip n) xs (λ i d k. omega arith))
 
 -- and has the bytes below n
-pub clipped_bytes : (n : ℕ) (xs ys merged : List Area) → ys ≡ map (clip n) xs → AreExactly (λ b. lies_in ys b ≡ true) merged → AreExactly (λ b. (b < n) × (lies_in xs b ≡ true)) merged
+pub clipped_bytes : (n : ℕ) (xs ys merged : List Area) → ys ≡ map (clip n) xs
+    → AreExactly (λ b. lies_in ys b ≡ true) merged → AreExactly (λ b. (b < n) × (lies_in xs b ≡ true)) merged
 clipped_bytes n xs ys merged e h = record {
   merged = h.merged;
-  bytes = λ b. let f = subst (λ zs. (lies_in merged b ≡ true) ↔ (lies_in zs b ≡ true)) e (h.bytes b) in let g = lies_in-clip n xs b in ((λ k. g.0 (f.0 k)), λ k. f.1 (g.1 k));
+  bytes = λ b.
+      let f = subst (λ zs. (lies_in merged b ≡ true) ↔ (lies_in zs b ≡ true)) e (h.bytes b) in
+      let g = lies_in-clip n xs b in
+      ((λ k. g.0 (f.0 k)), λ k. f.1 (g.1 k));
 }

@@ -8,11 +8,13 @@ use Rattle.ccw_core.proofs.Covering.{covered-false, covered-true}
 use Rattle.chan_areas.specs.Merged.{IsByteIn, IsByteOf, IsFirstAbove, IsLeastOf, IsLeastOrNone}
 
 -- the first byte of a range in an area is the first of the area found, or the range's own first
-pub first_of_next : (xs : List Area) (start len n : ℕ) (a : Area) → IsFirstAbove xs start a → n ≡ max a.start start → n < start + len → IsLeastOf (IsByteIn xs start len) n
+pub first_of_next : (xs : List Area) (start len n : ℕ) (a : Area) → IsFirstAbove xs start a
+    → n ≡ max a.start start → n < start + len → IsLeastOf (IsByteIn xs start len) n
 first_of_next xs start len n a next e l = search rules
 
 -- past it there is none
-pub none_from_next : (xs : List Area) (start len n : ℕ) (a : Area) → IsFirstAbove xs start a → n ≡ max a.start start → start + len ≤ n → (m : ℕ) → IsByteIn xs start len m → ⊥
+pub none_from_next : (xs : List Area) (start len n : ℕ) (a : Area) → IsFirstAbove xs start a
+    → n ≡ max a.start start → start + len ≤ n → (m : ℕ) → IsByteIn xs start len m → ⊥
 none_from_next xs start len n a next e l m h = search rules
 
 -- ---- the gap from the first byte in no area on

@@ -46,7 +46,8 @@ pub same_before : (xs ys zs : List Area) (b : ℕ) → lies_in xs b ≡ lies_in 
 same_before xs ys zs b e = lies_in-append xs zs b ∙ ap (λ t. t || lies_in zs b) e ∙ sym (lies_in-append ys zs b)
 
 -- one area for two
-pub one_for_two : (x y r : Area) (b : ℕ) → (IsByteOf r b → IsByteOf x b ⊎ IsByteOf y b) → (IsByteOf x b → IsByteOf r b) → (IsByteOf y b → IsByteOf r b) → lies_in (r ∷ []) b ≡ lies_in (x ∷ y ∷ []) b
+pub one_for_two : (x y r : Area) (b : ℕ) → (IsByteOf r b → IsByteOf x b ⊎ IsByteOf y b)
+    → (IsByteOf x b → IsByteOf r b) → (IsByteOf y b → IsByteOf r b) → lies_in (r ∷ []) b ≡ lies_in (x ∷ y ∷ []) b
 one_for_two x y r b f g h = search (rules, lies_in-cases, lies_in-first, lies_in-rest, both_ways, lies_in-nil)
 
 -- in another order
@@ -57,7 +58,8 @@ bytes_moved xs ys b p = list_any-IsPermutation (λ x. nat_le x.start b && nat_lt
 -- ---- the run that grows
 
 -- the run has the area's bytes already
-pub run_stays : (xs : List Area) (run area : Area) → run.start ≤ area.start → (area.len ≡ 0) ⊎ (end_of area ≤ end_of run) → HaveSameBytes (xs ++ run ∷ []) (xs ++ run ∷ area ∷ [])
+pub run_stays : (xs : List Area) (run area : Area) → run.start ≤ area.start
+    → (area.len ≡ 0) ⊎ (end_of area ≤ end_of run) → HaveSameBytes (xs ++ run ∷ []) (xs ++ run ∷ area ∷ [])
 run_stays xs run area order w b = search (rules, same_after, one_for_two)
 
 -- the run is empty
@@ -69,7 +71,8 @@ pub run_ends : (xs ys : List Area) (run area : Area) → ys ≡ xs ++ run ∷ []
 run_ends xs ys run area e b = ap (λ z. lies_in (z ++ area ∷ []) b) e ∙ ap (λ z. lies_in z b) (append_assoc xs (run ∷ []) (area ∷ []))
 
 -- the run grows
-pub run_grows : (xs : List Area) (run area r : Area) → r.start ≡ run.start → end_of r ≡ end_of area → run.start ≤ area.start → area.start ≤ end_of run → end_of run ≤ end_of area → HaveSameBytes (xs ++ r ∷ []) (xs ++ run ∷ area ∷ [])
+pub run_grows : (xs : List Area) (run area r : Area) → r.start ≡ run.start → end_of r ≡ end_of area → run.start ≤ area.start
+    → area.start ≤ end_of run → end_of run ≤ end_of area → HaveSameBytes (xs ++ r ∷ []) (xs ++ run ∷ area ∷ [])
 run_grows xs run area r s e order near far b = search (rules, same_after, one_for_two, cases_lt)
 
 -- ---- what is merged so far
@@ -102,11 +105,14 @@ runs_push xs ys run area e p l r = grind (arith, common_steps, All-append, runs_
 -- ---- over areas in order of start
 
 -- the areas to come begin no earlier than the run
-pub order_next : (xs : List Area) (i k r : ℕ) (z d : Area) → IsNonDecreasingBy start_of xs → r ≤ (get_or xs i z).start → i + 1 ≤ k → k < length xs → r ≤ (get_or xs k d).start
+pub order_next : (xs : List Area) (i k r : ℕ) (z d : Area) → IsNonDecreasingBy start_of xs
+    → r ≤ (get_or xs i z).start → i + 1 ≤ k → k < length xs → r ≤ (get_or xs k d).start
 order_next xs i k r z d s l h b = let e = s i k z (omega arith) b in let f = ap start_of (get_or_default xs k z d b) in omega arith
 
 -- the bytes so far, with those of the next area
-pub bytes_next : (merged now xs : List Area) (run r area : Area) (i b : ℕ) → i < length xs → get_or xs i area ≡ area → lies_in (merged ++ run ∷ []) b ≡ lies_in (take i xs) b → lies_in (now ++ r ∷ []) b ≡ lies_in (merged ++ run ∷ area ∷ []) b → lies_in (now ++ r ∷ []) b ≡ lies_in (take (i + 1) xs) b
+pub bytes_next : (merged now xs : List Area) (run r area : Area) (i b : ℕ) → i < length xs
+    → get_or xs i area ≡ area → lies_in (merged ++ run ∷ []) b ≡ lies_in (take i xs) b
+    → lies_in (now ++ r ∷ []) b ≡ lies_in (merged ++ run ∷ area ∷ []) b → lies_in (now ++ r ∷ []) b ≡ lies_in (take (i + 1) xs) b
 bytes_next merged now xs run r area i b l e f g =
     g
     ∙ ap (λ z. lies_in z b) (sym (append_assoc merged (run ∷ []) (area ∷ [])))
@@ -174,7 +180,8 @@ merged_is_unique (x ∷ xs) (y ∷ ys) m n s =
     let d = same_ends y x ys xs n m back (sym start) in
     let len : x.len ≡ y.len = omega arith in
     let e = same_area x y start len in
-    let rests = merged_is_unique xs ys m.2 n.2 (λ b. one_truth (lies_in xs b) (lies_in ys b) (λ k. rest_within x y xs ys b e m s k) (λ k. rest_within y x ys xs b (sym e) n back k)) in
+    let rests = merged_is_unique xs ys m.2 n.2
+    (λ b. one_truth (lies_in xs b) (lies_in ys b) (λ k. rest_within x y xs ys b e m s k) (λ k. rest_within y x ys xs b (sym e) n back k)) in
     ap (λ z. z ∷ xs) e ∙ ap (λ z. y ∷ z) rests
 
 -- ---- where areas end
@@ -201,7 +208,8 @@ pub exactly_low : (n : ℕ) (areas merged : List Area) → AreExactly (λ b. lie
 exactly_low n areas merged h low = ends_low n merged h.merged (λ b lies. lies_low n areas b low ((h.bytes b).0 lies))
 
 -- merged areas with the bytes of areas that are sorted have those of the areas as they were given
-pub exactly_sorted : (xs sorted given merged : List Area) → IsPermutation xs sorted → given ≡ sorted → IsMerged merged → HaveSameBytes merged given → AreExactly (λ b. lies_in xs b ≡ true) merged
+pub exactly_sorted : (xs sorted given merged : List Area) → IsPermutation xs sorted → given ≡ sorted
+    → IsMerged merged → HaveSameBytes merged given → AreExactly (λ b. lies_in xs b ≡ true) merged
 exactly_sorted xs sorted given merged p e m h =
     let same : HaveSameBytes merged xs = λ b. h b ∙ ap (λ z. lies_in z b) e ∙ sym (bytes_moved xs sorted b p) in
     record { merged = m; bytes = λ b. ((λ k. sym (same b) ∙ k), λ k. same b ∙ k) }

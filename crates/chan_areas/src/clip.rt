@@ -5,7 +5,7 @@ ghost use Rattle.chan_areas.specs.Clip as clips;
 
 use ccw_core::Area;
 
-/// The part of an area that lies in storage of a length.
+/// The part of an area that lies in storage of this length.
 pub(crate) fn clip(area: Area, length: u32) -> Area
     ensures { result ≡ clips.clip length area }
 {

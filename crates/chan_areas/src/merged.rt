@@ -16,15 +16,15 @@ use ccw_core::Area;
 use std::alloc::{AllocError, Global};
 use std::marker::Model;
 
-/// The address after that of an area's last byte.
+/// The address after an area's last byte.
 pub fn end_of(area: &Area) -> u64
     ensures { result ≡ areas.end_of area.now }
 {
     u64::from(area.start) + u64::from(area.len)
 }
 
-/// Areas as one list: none is empty, they are in order of start, at least one byte lies between
-/// two, and each ends below 2^32.
+/// Areas as one list: no area is empty, they are in order of start, at least one byte lies between
+/// two areas, and each ends below 2^32.
 #[derive(Drop)]
 pub struct Merged {
     areas: Vec<Area>,
@@ -39,9 +39,9 @@ impl Model for Merged {
 }
 
 impl Merged {
-    /// The one merged list that has the bytes of these areas. Each has to end below 2^32.
+    /// The only merged list with the bytes of these areas. Each area has to end below 2^32.
     ///
-    /// The cost is that of sorting.
+    /// It costs a sort.
     pub fn new(alloc: Global, areas: Vec<Area>) -> Result<Merged, AllocError>
         requires { All (EndsBelow (2 ^ 32)) areas.items }
         ensures { IfOk result (AreExactly (λ b. lies_in areas.items b ≡ true)) }
@@ -52,8 +52,8 @@ impl Merged {
         Ok(Merged { areas })
     }
 
-    /// The one merged list of the bytes of these areas that lie in storage of a length. The cost is
-    /// that of sorting.
+    /// The only merged list with the bytes of these areas that lie in storage of this length. It
+    /// costs a sort.
     #[tactic(auto, using(std::proofs::lemmas::List::map_more))]
     pub fn clipped(alloc: Global, areas: &[Area], length: u32) -> Result<Merged, AllocError>
         ensures { IfOk result (AreExactly (λ b. (b < length) × (lies_in areas.now b ≡ true))) }
@@ -74,7 +74,7 @@ impl Merged {
         &self.areas
     }
 
-    /// The list, taken out.
+    /// The list, by value.
     pub fn into_areas(self) -> Vec<Area>
         ensures areas { result.items ≡ self }
         ensures merged { IsMerged result.items }
@@ -91,7 +91,7 @@ impl Merged {
         areas.get(at).copied()
     }
 
-    /// Whether a byte of a range lies in some area. The cost is that of a binary search.
+    /// Whether a byte of a range lies in some area. It costs a binary search.
     #[tactic(auto, using(crate::proofs::Searching::meets_next))]
     pub fn meets(&self, start: u32, len: u32) -> bool
         ensures { IsTrue result ↔ Meets self.now start len }
@@ -106,7 +106,7 @@ impl Merged {
         }
     }
 
-    /// The first byte of a range that lies in some area. The cost is that of a binary search.
+    /// The first byte of a range that lies in some area. It costs a binary search.
     #[tactic(auto, using(crate::proofs::Gaps::first_of_next, crate::proofs::Gaps::none_from_next))]
     pub fn first_in(&self, start: u32, len: u32) -> Option<u32>
         ensures { IsLeastOrNone (IsByteIn self.now start len) result }
@@ -121,7 +121,7 @@ impl Merged {
         }
     }
 
-    /// The first byte of a range that lies in no area. The cost is that of a binary search.
+    /// The first byte of a range that lies in no area. It costs a binary search.
     pub fn first_outside(&self, range: Area) -> Option<u32>
         ensures { IsLeastOrNone (λ b. IsByteOf range b × (lies_in self.now b ≡ false)) result }
     {
@@ -136,8 +136,8 @@ impl Merged {
         }
     }
 
-    /// The first bytes in a row of a range that lie in no area, if there are any. The cost is that
-    /// of a binary search, and of another one if there are.
+    /// The first run of bytes of a range that lies in no area, if there is a run. It costs a binary
+    /// search, and a second if there is a run.
     pub fn gap(&self, range: Area) -> Option<Area>
         requires { EndsBelow (2 ^ 32) range }
         ensures { IsGap self.now range result }
@@ -155,8 +155,8 @@ impl Merged {
     }
 }
 
-/// Takes an area to the run that may still grow, and puts a run that is done to those merged. Two
-/// areas are one run where no byte lies between them.
+/// Extends the last run by `area`, or starts a new run and adds the last run to the merged runs.
+/// Two areas are one run if no byte lies between them.
 #[tactic(auto, using(crate::proofs::Merging::run_joins))]
 fn join(merged: &mut Vec<Area>, run: Area, area: Area) -> Result<Area, AllocError>
     requires runs { AreRuns merged.old.items run }
@@ -190,7 +190,7 @@ fn join(merged: &mut Vec<Area>, run: Area, area: Area) -> Result<Area, AllocErro
     })
 }
 
-/// The merged list of areas that are in order of start.
+/// Merges areas that are in order of start.
 #[tactic(auto, using(crate::proofs::Merging::runs_begin))]
 fn merge_sorted(alloc: Global, areas: &[Area]) -> Result<Vec<Area>, AllocError>
     requires sorted { IsNonDecreasingBy start_of areas.now }
@@ -210,7 +210,7 @@ fn merge_sorted(alloc: Global, areas: &[Area]) -> Result<Vec<Area>, AllocError>
     Ok(merged)
 }
 
-/// A law: two merged lists that have the same bytes are the same list.
+/// A law: two merged lists with equal bytes are equal.
 #[tactic(auto, using(crate::proofs::Merging::merged_is_unique))]
 fn merged_is_unique()
     ensures { MergedIsUnique }

@@ -61,7 +61,8 @@ middle_address n bytes k e lt some h =
     let first : get_or bytes 0 0 ≡ n / 16777216 % 256 = ap (λ b. get_or b 0 0) e in
     let digit : k ≡ n / 16777216 = omega (arith, h, first) in
     ap (λ t. t ++ last_six bytes) (encode_ascii (slice_index upper_digits k) (digit_ascii k)) ∙ ap (λ j. slice_index upper_digits j ∷ last_six bytes) digit
-    ∙ ap (λ t. slice_index upper_digits (n / 16777216) ∷ t) (ap last_six e ∙ last_digits n) ∙ sym (seven_digits n (omega (arith, some.0, first)) (omega (arith, some.1, first)))
+    ∙ ap (λ t. slice_index upper_digits (n / 16777216) ∷ t) (ap last_six e ∙ last_digits n)
+    ∙ sym (seven_digits n (omega (arith, some.0, first)) (omega (arith, some.1, first)))
 
 -- one whose first byte has two
 pub long_address : (n : ℕ) (bytes : List ℕ) → bytes ≡ to_be_bytes w32 n → n < 2 ^ 32 → 16 ≤ get_or bytes 0 0
@@ -71,7 +72,8 @@ long_address n bytes e lt some =
     ap (λ b. encode_upper (get_or b 0 0 ∷ []) ++ last_six b) e ∙ all_digits n ∙ sym (eight_digits n (omega (arith, some, first)))
 
 -- the seven digits of a size
-pub size_told : (n : ℕ) (bytes : List ℕ) (k : ℕ) → bytes ≡ to_be_bytes w32 n → k ≡ get_or bytes 0 0 % 16 → encode_utf8 (slice_index upper_digits k) ++ last_six bytes ≡ size_digits n
+pub size_told : (n : ℕ) (bytes : List ℕ) (k : ℕ) → bytes ≡ to_be_bytes w32 n → k ≡ get_or bytes 0 0 % 16
+    → encode_utf8 (slice_index upper_digits k) ++ last_six bytes ≡ size_digits n
 unfolding encode_with
 size_told n bytes k e h =
     let digit : k ≡ n / 16777216 % 256 % 16 = h ∙ ap (λ b. get_or b 0 0 % 16) e in

@@ -130,7 +130,8 @@ past_limit : (v : Version) (js : List Item) → size_said (limit_line v ++ js) �
 past_limit One js = refl
 past_limit (Two n) js = refl
 
-past_all : {X : Type 0} (f : X → Item) → ((x : X) (js : List Item) → size_said (f x ∷ js) ≡ size_said js) → (xs : List X) (js : List Item) → size_said (map f xs ++ js) ≡ size_said js
+past_all : {X : Type 0} (f : X → Item) → ((x : X) (js : List Item) → size_said (f x ∷ js) ≡ size_said js)
+    → (xs : List X) (js : List Item) → size_said (map f xs ++ js) ≡ size_said js
 past_all f past [] js = refl
 past_all f past (x ∷ xs) js = past x (map f xs ++ js) ∙ past_all f past xs js
 
@@ -177,7 +178,8 @@ Judges s l r = IfErr r (For s l)
 -- a cause of what a line says that no earlier cause can apply to
 blamed : (s : State) (l : List ℕ) (i : Item) (c : Cause) → IsState s → is_whole s ≡ false → IsTold (said s) l i
     → Applies (said s) (whole_line l) c → ((other : Cause) → rank other < rank c → Wrong (said s) i other → ⊥) → For s l c
-blamed s l i c is open_yet told h none = is_cause (said s) (whole_line l) c (ended_said s is ∙ open_yet) h (λ other lt k. none other lt (wrong (said s) l i other told k))
+blamed s l i c is open_yet told h none =
+    is_cause (said s) (whole_line l) c (ended_said s is ∙ open_yet) h (λ other lt k. none other lt (wrong (said s) l i other told k))
 
 extent_cause : (h : Heading) (es : List (ℕ × ℕ)) (fs ss : List Area) (l : List ℕ) (a b : ℕ)
     → IsState (Listing h es fs ss) → IsTold (said (Listing h es fs ss)) l (extent a b)
@@ -260,11 +262,13 @@ early before l c lt h = absurd (omega arith)
 
 in_form : (s : State) (l : List ℕ) → IsState s → is_whole s ≡ false → (said s ≡ [] → ⊥) → ((i : Item) → Says l i → stands s i ≡ false) → For s l causes.Form
 in_form s l is open_yet some all =
-    is_cause (said s) (whole_line l) causes.Form (ended_said s is ∙ open_yet) (λ i says. stands_said s i is ∙ all i says) (λ other lt h. some (early (said s) l other lt h).1)
+    is_cause (said s) (whole_line l) causes.Form (ended_said s is ∙ open_yet) (λ i says. stands_said s i is ∙ all i says)
+    (λ other lt h. some (early (said s) l other lt h).1)
 
 form_cause : (s : State) (l : List ℕ) → IsState s → ((i : Item) → Says l i → stands s i ≡ false) → For s l (no_form s)
 form_cause Opening l is all =
-    is_cause [] (whole_line l) causes.Header refl (refl, λ h same. absurd (cc (all (header h) (tt, same)))) (λ other lt h. omega (arith, (early [] l other (omega arith) h).0))
+    is_cause [] (whole_line l) causes.Header refl (refl, λ h same. absurd (cc (all (header h) (tt, same))))
+    (λ other lt h. omega (arith, (early [] l other (omega arith) h).0))
 form_cause (Whole d) l is all = after_cause d (whole_line l) tt
 form_cause s l is all = in_form s l is refl (λ e. absurd cc) all
 
@@ -277,7 +281,8 @@ item_cause s l i is says =
     (λ f. form_cause s l is (λ j other. ap (λ k. stands s k) (says_one l j i other says) ∙ f))
 
 -- a line that is refused has the cause for which it is refused
-pub line_cause : (s : State) (l : List ℕ) (o : Option Item) (c : Cause) → IsState s → IsSaid l o → after_line s o ≡ Err c → IsDeckCause (said s) (whole_line l) c
+pub line_cause : (s : State) (l : List ℕ) (o : Option Item) (c : Cause) → IsState s → IsSaid l o
+    → after_line s o ≡ Err c → IsDeckCause (said s) (whole_line l) c
 line_cause s l (Some i) c is says e = IfErr-at_err (For s l) e (item_cause s l i is says)
 line_cause s l None c is none e = IfErr-at_err (For s l) e (form_cause s l is (λ i says. absurd (none i says)))
 

@@ -31,7 +31,8 @@ use Rattle.chan_deck.specs.declared.cause.Cause.{Cause}
 
 -- ---- runs
 
-after : (r : Result State Cause) (f g : State → Result State Cause) (k : State → Result State Cause) → ((t : State) → g t ≡ and_then (f t) k) → and_then r g ≡ and_then (and_then r f) k
+after : (r : Result State Cause) (f g : State → Result State Cause) (k : State → Result State Cause)
+    → ((t : State) → g t ≡ and_then (f t) k) → and_then r g ≡ and_then (and_then r f) k
 after (Ok s) f g k h = h s
 after (Err c) f g k h = refl
 
@@ -60,23 +61,28 @@ run-says s t (i ∷ js) is forms e =
 over_extents : (h : Heading) (es xs : List (ℕ × ℕ)) → AllByRecursion IsExtent xs → run (Listing h es [] []) (map extent_of xs) ≡ Ok (Listing h (es ++ xs) [] [])
 over_extents h es [] all = rw append-nil refl
 over_extents h es (x ∷ xs) all =
-    rw (le-ltb x.1 x.0 all.0.0, le-ltb 202 x.1 all.0.1) (over_extents h (es ++ x ∷ []) xs all.1 ∙ ap (λ t. Ok (Listing h t [] [])) (append_assoc es (x ∷ []) xs))
+    rw (le-ltb x.1 x.0 all.0.0, le-ltb 202 x.1 all.0.1)
+    (over_extents h (es ++ x ∷ []) xs all.1 ∙ ap (λ t. Ok (Listing h t [] [])) (append_assoc es (x ∷ []) xs))
 
-over_fetches : (h : Heading) (e : ℕ × ℕ) (es : List (ℕ × ℕ)) (fs xs : List Area) → run (Listing h (e ∷ es) fs []) (map fetch xs) ≡ Ok (Listing h (e ∷ es) (fs ++ xs) [])
+over_fetches : (h : Heading) (e : ℕ × ℕ) (es : List (ℕ × ℕ)) (fs xs : List Area)
+    → run (Listing h (e ∷ es) fs []) (map fetch xs) ≡ Ok (Listing h (e ∷ es) (fs ++ xs) [])
 over_fetches h e es fs [] = rw append-nil refl
 over_fetches h e es fs (x ∷ xs) = over_fetches h e es (fs ++ x ∷ []) xs ∙ ap (λ t. Ok (Listing h (e ∷ es) t [])) (append_assoc fs (x ∷ []) xs)
 
-over_stores : (h : Heading) (e : ℕ × ℕ) (es : List (ℕ × ℕ)) (fs ss xs : List Area) → run (Listing h (e ∷ es) fs ss) (map store xs) ≡ Ok (Listing h (e ∷ es) fs (ss ++ xs))
+over_stores : (h : Heading) (e : ℕ × ℕ) (es : List (ℕ × ℕ)) (fs ss xs : List Area)
+    → run (Listing h (e ∷ es) fs ss) (map store xs) ≡ Ok (Listing h (e ∷ es) fs (ss ++ xs))
 over_stores h e es fs ss [] = rw append-nil refl
 over_stores h e es fs ss (x ∷ xs) = over_stores h e es fs (ss ++ x ∷ []) xs ∙ ap (λ t. Ok (Listing h (e ∷ es) fs t)) (append_assoc ss (x ∷ []) xs)
 
-over_lists : (h : Heading) (es : List (ℕ × ℕ)) (fs ss : List Area) → AreExtents es → run (Listing h [] [] []) (map extent_of es ++ map fetch fs ++ map store ss) ≡ Ok (Listing h es fs ss)
+over_lists : (h : Heading) (es : List (ℕ × ℕ)) (fs ss : List Area) → AreExtents es
+    → run (Listing h [] [] []) (map extent_of es ++ map fetch fs ++ map store ss) ≡ Ok (Listing h es fs ss)
 over_lists h [] fs ss are = absurd (omega (arith, are.0))
 over_lists h (e ∷ es) fs ss are =
     let xs = map extent_of (e ∷ es) in
-    run-append (Listing h [] [] []) (xs ++ map fetch fs) (map store ss)
-    ∙ ap (λ r. and_then r (λ t. run t (map store ss)))
-    (run-append (Listing h [] [] []) xs (map fetch fs) ∙ ap (λ r. and_then r (λ t. run t (map fetch fs))) (over_extents h [] (e ∷ es) are.1) ∙ over_fetches h e es [] fs)
+    let fetched : run (Listing h [] [] []) (xs ++ map fetch fs) ≡ Ok (Listing h (e ∷ es) fs []) =
+    run-append (Listing h [] [] []) xs (map fetch fs)
+    ∙ ap (λ r. and_then r (λ t. run t (map fetch fs))) (over_extents h [] (e ∷ es) are.1) ∙ over_fetches h e es [] fs in
+    run-append (Listing h [] [] []) (xs ++ map fetch fs) (map store ss) ∙ ap (λ r. and_then r (λ t. run t (map store ss))) fetched
     ∙ over_stores h e es fs [] ss
 
 -- ---- puts
@@ -153,8 +159,9 @@ reads_deck d is =
     let right : is_size size ≡ true = rw (is.whole, le-leb size (2 ^ 24) is.size) refl in
     let full : pad filled.0 size ≡ d.storage = filled.2 in
     let H = header (header_of d.version) ∷ device d.device ∷ mask d.mask ∷ start d.start ∷ limit_line d.version in
+    let joined : H ++ E ++ F ++ S ≡ H ++ (E ++ F ++ S) = ap (λ t. t ++ S) (append_assoc H E F) ∙ append_assoc H (E ++ F) S in
     let parts : items d ≡ H ++ ((E ++ F ++ S) ++ storage size ∷ P ++ end ∷ []) =
-    ap (λ t. t ++ end ∷ []) (ap (λ t. t ++ storage size ∷ P) (ap (λ t. t ++ S) (append_assoc H E F) ∙ append_assoc H (E ++ F) S) ∙ append_assoc H (E ++ F ++ S) (storage size ∷ P))
+    ap (λ t. t ++ end ∷ []) (ap (λ t. t ++ storage size ∷ P) joined ∙ append_assoc H (E ++ F ++ S) (storage size ∷ P))
     ∙ append_assoc H ((E ++ F ++ S) ++ storage size ∷ P) (end ∷ []) in
     ap (λ t. run Opening t) parts ∙ by_version d.version d.device d.mask d.start ((E ++ F ++ S) ++ storage size ∷ P ++ end ∷ []) is.limit is.mask.1
     ∙ run-append (Listing h [] [] []) ((E ++ F ++ S) ++ storage size ∷ P) (end ∷ [])
@@ -166,19 +173,26 @@ reads_deck d is =
 
 -- ---- what has been read can go on
 
+-- an extent, the storage and the end, which make a deck of each heading
+abbrev last_lines : List Item
+last_lines = extent 0 0 ∷ storage 0 ∷ end ∷ []
+
+last_form : AllByRecursion HasForm last_lines
+last_form = ((lit< tt, lit< tt), (lit< tt, (tt, tt)))
+
 -- some more lines make a deck of it
 pub completes : (s : State) → IsState s → (js : List Item) × (d : Image) × AllByRecursion HasForm js × (run s js ≡ Ok (Whole d))
 completes Opening is =
-    (header numbers.One ∷ device D2311 ∷ mask 0 ∷ start 0 ∷ extent 0 0 ∷ storage 0 ∷ end ∷ [], _, (tt, (tt, (lit< tt, (lit< tt, ((lit< tt, lit< tt), (lit< tt, (tt, tt))))))), refl)
-completes (Named numbers.One) is = (device D2311 ∷ mask 0 ∷ start 0 ∷ extent 0 0 ∷ storage 0 ∷ end ∷ [], _, (tt, (lit< tt, (lit< tt, ((lit< tt, lit< tt), (lit< tt, (tt, tt)))))), refl)
+    (header numbers.One ∷ device D2311 ∷ mask 0 ∷ start 0 ∷ last_lines, _, (tt, (tt, (lit< tt, (lit< tt, last_form)))), refl)
+completes (Named numbers.One) is = (device D2311 ∷ mask 0 ∷ start 0 ∷ last_lines, _, (tt, (lit< tt, (lit< tt, last_form))), refl)
 completes (Named numbers.Two) is =
-    (device D2311 ∷ mask 0 ∷ start 0 ∷ limit 1 ∷ extent 0 0 ∷ storage 0 ∷ end ∷ [], _, (tt, (lit< tt, (lit< tt, (lit< tt, ((lit< tt, lit< tt), (lit< tt, (tt, tt))))))), refl)
-completes (OnDevice numbers.One v) is = (mask 0 ∷ start 0 ∷ extent 0 0 ∷ storage 0 ∷ end ∷ [], _, (lit< tt, (lit< tt, ((lit< tt, lit< tt), (lit< tt, (tt, tt))))), refl)
-completes (OnDevice numbers.Two v) is = (mask 0 ∷ start 0 ∷ limit 1 ∷ extent 0 0 ∷ storage 0 ∷ end ∷ [], _, (lit< tt, (lit< tt, (lit< tt, ((lit< tt, lit< tt), (lit< tt, (tt, tt)))))), refl)
-completes (Masked numbers.One v m) is = (start 0 ∷ extent 0 0 ∷ storage 0 ∷ end ∷ [], _, (lit< tt, ((lit< tt, lit< tt), (lit< tt, (tt, tt)))), refl)
-completes (Masked numbers.Two v m) is = (start 0 ∷ limit 1 ∷ extent 0 0 ∷ storage 0 ∷ end ∷ [], _, (lit< tt, (lit< tt, ((lit< tt, lit< tt), (lit< tt, (tt, tt))))), refl)
-completes (Started v m a) is = (limit 1 ∷ extent 0 0 ∷ storage 0 ∷ end ∷ [], _, (lit< tt, ((lit< tt, lit< tt), (lit< tt, (tt, tt)))), refl)
-completes (Listing h [] [] []) is = (extent 0 0 ∷ storage 0 ∷ end ∷ [], _, ((lit< tt, lit< tt), (lit< tt, (tt, tt))), refl)
+    (device D2311 ∷ mask 0 ∷ start 0 ∷ limit 1 ∷ last_lines, _, (tt, (lit< tt, (lit< tt, (lit< tt, last_form)))), refl)
+completes (OnDevice numbers.One v) is = (mask 0 ∷ start 0 ∷ last_lines, _, (lit< tt, (lit< tt, last_form)), refl)
+completes (OnDevice numbers.Two v) is = (mask 0 ∷ start 0 ∷ limit 1 ∷ last_lines, _, (lit< tt, (lit< tt, (lit< tt, last_form))), refl)
+completes (Masked numbers.One v m) is = (start 0 ∷ last_lines, _, (lit< tt, last_form), refl)
+completes (Masked numbers.Two v m) is = (start 0 ∷ limit 1 ∷ last_lines, _, (lit< tt, (lit< tt, last_form)), refl)
+completes (Started v m a) is = (limit 1 ∷ last_lines, _, (lit< tt, last_form), refl)
+completes (Listing h [] [] []) is = (last_lines, _, last_form, refl)
 completes (Listing h [] (f ∷ fs) ss) is = absurd (cc (is.right.after.0))
 completes (Listing h [] [] (s ∷ ss)) is = absurd (cc (is.right.after.1))
 completes (Listing h (e ∷ es) fs ss) is = (storage 0 ∷ end ∷ [], _, (lit< tt, (tt, tt)), refl)

@@ -45,8 +45,10 @@ one_more digits bytes i b within width so_far pair =
     let twice : 2 * (i + 1) ≡ 2 * i + 1 + 1 = omega arith in
     let high = digit (b / 16) in
     let low = digit (b % 16) in
-    let front : take (2 * i + 1) digits ≡ encode_upper (take i bytes) ++ high ∷ [] = take_more digits (2 * i) 0 (omega (arith, width)) ∙ ap₂ (λ (t : List ℕ) (d : ℕ). t ++ d ∷ []) so_far pair.1 in
-    let whole : take (2 * i + 1 + 1) digits ≡ (encode_upper (take i bytes) ++ high ∷ []) ++ low ∷ [] = take_more digits (2 * i + 1) 0 width ∙ ap₂ (λ (t : List ℕ) (d : ℕ). t ++ d ∷ []) front pair.2 in
+    let front : take (2 * i + 1) digits ≡ encode_upper (take i bytes) ++ high ∷ [] =
+    take_more digits (2 * i) 0 (omega (arith, width)) ∙ ap₂ (λ (t : List ℕ) (d : ℕ). t ++ d ∷ []) so_far pair.1 in
+    let whole : take (2 * i + 1 + 1) digits ≡ (encode_upper (take i bytes) ++ high ∷ []) ++ low ∷ [] =
+    take_more digits (2 * i + 1) 0 width ∙ ap₂ (λ (t : List ℕ) (d : ℕ). t ++ d ∷ []) front pair.2 in
     ap (λ k. take k digits) twice ∙ whole ∙ append_assoc (encode_upper (take i bytes)) (high ∷ []) (low ∷ [])
     ∙ sym (joined (take i bytes) (b ∷ [])) ∙ ap encode_upper (sym (take_more_set bytes i b within))
 
@@ -58,7 +60,8 @@ none_yet = refl
 pub no_pair : (digits other : List ℕ) (i : ℕ) → i < length other → AllByRecursion IsByte other → digits ≡ encode_upper other
     → IsPair (get_or digits (2 * i) 0) (get_or digits (2 * i + 1) 0) None → ⊥
 no_pair digits other i lt are same none =
-    none (get_or other i 0) (bytes_at other are i) (ap (λ t. get_or t (2 * i) 0) same ∙ high_digit other i lt) (ap (λ t. get_or t (2 * i + 1) 0) same ∙ low_digit other i lt)
+    none (get_or other i 0) (bytes_at other are i)
+    (ap (λ t. get_or t (2 * i) 0) same ∙ high_digit other i lt) (ap (λ t. get_or t (2 * i + 1) 0) same ∙ low_digit other i lt)
 
 -- a byte that is written is a byte
 pub bytes_set : (bytes : List ℕ) (i x : ℕ) → x < 256 → IsBytes bytes → IsBytes (set bytes i x)

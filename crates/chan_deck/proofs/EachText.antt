@@ -30,8 +30,9 @@ judged_from (suc k) t s n rest st len =
       | inr e ↦ end_judged t s n rest st e
       | inl x ↦
           let read = line_read x.0 in
+          let left : length (split rest).0 ≡ suc (length (split x.1).0) = ap (λ (p : List (List ℕ) × List ℕ). length p.0) x.2 in
           by_result (after_line s read.0)
-          (λ next goes. judged_from k t next (n + 1) x.1 (takes t s next n rest x.0 x.1 read.0 st x.2 read.1 goes) (omega (arith, len, ap (λ (p : List (List ℕ) × List ℕ). length p.0) x.2)))
+          (λ next goes. judged_from k t next (n + 1) x.1 (takes t s next n rest x.0 x.1 read.0 st x.2 read.1 goes) (omega (arith, len, left)))
           (λ c bad. inr (n, c, refuses_line t s n rest x.0 x.1 read.0 c st x.2 read.1 bad))
     ]
 

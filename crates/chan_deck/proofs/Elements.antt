@@ -12,6 +12,7 @@ all_drop P zero xs h = h
 all_drop P (suc k) [] h = tt
 all_drop P (suc k) (x ∷ xs) h = all_drop P k xs h.1
 
-pub all_map : {X Y : Type 0} (P : X → Type 0) (Q : Y → Type 0) (f : X → Y) → ((x : X) → P x → Q (f x)) → (xs : List X) → AllByRecursion P xs → AllByRecursion Q (map f xs)
+pub all_map : {X Y : Type 0} (P : X → Type 0) (Q : Y → Type 0) (f : X → Y) → ((x : X) → P x → Q (f x))
+    → (xs : List X) → AllByRecursion P xs → AllByRecursion Q (map f xs)
 all_map P Q f each [] h = tt
 all_map P Q f each (x ∷ xs) h = (each x h.0, all_map P Q f each xs h.1)

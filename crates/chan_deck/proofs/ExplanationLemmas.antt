@@ -1,33 +1,33 @@
 -- The explanation, row by row and line by line.
 use Rattle.std.proofs.Common.{◌≡◌, ◌∷◌, [], ◌++◌, ◌∙◌, ◌+◌, ◌-◌, ◌<◌, ◌≤◌, ap, sym, List, ℕ, zero}
-use Rattle.std.proofs.Common.{suc, true, false, Option, Some, refl, nat_eq, append_assoc}
+use Rattle.std.proofs.Common.{suc, true, Option, Some, refl, nat_eq, append_assoc}
 use Rattle.std.proofs.Common.{append-nil, arith, codes, drop, drop-cons, get_or, length}
-use Rattle.std.proofs.Common.{length-drop, slice_get}
+use Rattle.std.proofs.Common.{length-drop, slice_get, subst}
 use Rattle.std.proofs.lemmas.Bool.Decides.{nat_tests}
+use Rattle.std.proofs.lemmas.List.{drop_all}
 use Rattle.std.specs.Fmt.{decimal}
 use Rattle.std.specs.Int.{w16, to_be_bytes}
 use Rattle.hex.specs.Hex.{encode_upper, encode_with}
-use Rattle.ccw_core.specs.Ccw.{Fields}
-use Rattle.ccw_core.specs.Storage.{ccw_at}
-use Rattle.ckd_core.specs.Command.{Entry as TableEntry}
 use Rattle.ckd_core.specs.Mask.{is_mask, least_permitted}
 use Rattle.chan_walk.specs.declared.evidence.Outside.TheVariants.{Bin, Head}
+use Rattle.chan_walk.specs.declared.job.Job.{Job}
 use Rattle.chan_walk.specs.declared.offence.Offence.{Offence}
 use Rattle.chan_walk.specs.declared.evidence.Evidence.{Evidence}
 use Rattle.chan_walk.specs.declared.place.Place.{Place}
 use Rattle.chan_walk.specs.declared.argument.GivenBytes.{GivenBytes}
 use Rattle.chan_walk.specs.Read.{addresses_given}
-use Rattle.chan_deck.specs.Explanation.{also_after, also_lines, next_lines, argument_text}
-use Rattle.chan_deck.specs.Explanation.{given_text, path_rows, ranges_text, seek_text, taken_text}
-use Rattle.chan_deck.specs.Explanation.{weaker_text}
+use Rattle.chan_deck.specs.Explanation.{AddsText, ArePathRows, IsPathRow, also_after, also_lines}
+use Rattle.chan_deck.specs.Explanation.{argument_text, given_text, next_lines, ranges_text}
+use Rattle.chan_deck.specs.Explanation.{seek_text, taken_text, weaker_text}
 use Rattle.chan_deck.specs.Texts.{address_text}
 use Rattle.chan_deck.specs.Item.{byte_digits}
-use Rattle.chan_deck.specs.Listing.{command_name, command_of, row, row_with}
+use Rattle.chan_deck.specs.Listing.{command_name}
 
 -- ---- the cause
 
 pub bin_told : (held bytes : List ℕ) (n : ℕ) → bytes ≡ to_be_bytes w16 n
-    → held ++ (codes "bin " ++ (encode_upper (get_or bytes 0 0 ∷ []) ++ (encode_upper (get_or bytes 1 0 ∷ []) ++ codes " is not zero"))) ≡ held ++ seek_text (Bin n)
+    → held ++ (codes "bin " ++ (encode_upper (get_or bytes 0 0 ∷ []) ++ (encode_upper (get_or bytes 1 0 ∷ []) ++ codes " is not zero")))
+    ≡ held ++ seek_text (Bin n)
 unfolding encode_with
 bin_told held bytes n e = ap (λ b. held ++ (codes "bin " ++ (encode_upper (get_or b 0 0 ∷ []) ++ (encode_upper (get_or b 1 0 ∷ []) ++ codes " is not zero")))) e
 
@@ -38,63 +38,66 @@ head_told held n m = ap (λ t. held ++ (codes "head " ++ t)) (sym (append_assoc 
 pub short_told : (held told a b c d : List ℕ) → told ≡ held ++ (a ++ (b ++ c)) → told ++ d ≡ held ++ (a ++ b ++ c ++ d)
 short_told held told a b c d e = ap (λ t. t ++ d) e ∙ append_assoc held (a ++ (b ++ c)) d ∙ ap (λ t. held ++ (t ++ d)) (sym (append_assoc a b c))
 
-pub sought_told : (held first told outside : List ℕ) (o : Option GivenBytes) (g : GivenBytes) → o ≡ Some g → first ≡ held ++ outside → told ≡ first ++ codes ": the argument is "
+pub sought_told : (held first told outside : List ℕ) (o : Option GivenBytes) (g : GivenBytes)
+    → o ≡ Some g → first ≡ held ++ outside → told ≡ first ++ codes ": the argument is "
     → told ++ given_text g ≡ held ++ (outside ++ argument_text o)
 sought_told held first told outside o g is e f =
     let l = codes ": the argument is " in
     ap (λ t. t ++ given_text g) (f ∙ ap (λ t. t ++ l) e) ∙ append_assoc (held ++ outside) l (given_text g) ∙ append_assoc held outside (l ++ given_text g)
     ∙ ap (λ z. held ++ (outside ++ argument_text z)) (sym is)
 
-pub taken_told : (held told addresses : List ℕ) (b : ℕ) (o : Option GivenBytes) (g : GivenBytes) → o ≡ Some g → told ≡ held ++ (address_text b ++ codes " of the argument ") → addresses ≡ addresses_given g
+pub taken_told : (held told addresses : List ℕ) (b : ℕ) (o : Option GivenBytes) (g : GivenBytes)
+    → o ≡ Some g → told ≡ held ++ (address_text b ++ codes " of the argument ") → addresses ≡ addresses_given g
     → told ++ ranges_text addresses ≡ held ++ taken_text b o
 taken_told held told addresses b o g is e f =
     let l = codes " of the argument " in
-    ap (λ t. t ++ ranges_text addresses) e ∙ append_assoc held (address_text b ++ l) (ranges_text addresses) ∙ ap (λ t. held ++ (address_text b ++ l ++ ranges_text t)) f
-    ∙ ap (λ z. held ++ taken_text b z) (sym is)
+    ap (λ t. t ++ ranges_text addresses) e ∙ append_assoc held (address_text b ++ l) (ranges_text addresses)
+    ∙ ap (λ t. held ++ (address_text b ++ l ++ ranges_text t)) f ∙ ap (λ z. held ++ taken_text b z) (sym is)
 
 -- six texts behind what is held, in either grouping
 regrouped : (h a d c m p n : List ℕ) → h ++ (a ++ (d ++ (c ++ (m ++ (p ++ n))))) ≡ h ++ (a ++ d ++ c ++ m ++ p ++ n)
 regrouped h a d c m p n =
-    ap (λ t. h ++ t) (sym (append_assoc (a ++ d ++ c ++ m) p n ∙ append_assoc (a ++ d ++ c) m (p ++ n) ∙ append_assoc (a ++ d) c (m ++ (p ++ n)) ∙ append_assoc a d (c ++ (m ++ (p ++ n)))))
+    ap (λ t. h ++ t) (sym (append_assoc (a ++ d ++ c ++ m) p n ∙ append_assoc (a ++ d ++ c) m (p ++ n)
+    ∙ append_assoc (a ++ d) c (m ++ (p ++ n)) ∙ append_assoc a d (c ++ (m ++ (p ++ n)))))
 
-pub weaker_told : (held : List ℕ) (b mask is weaker : ℕ) (name : List ℕ) → is_mask b ≡ true → is ≡ mask → weaker ≡ b → name ≡ command_name (least_permitted weaker mask)
-    → held ++ (codes "mask byte " ++ (byte_digits b ++ (codes " is not as strict as " ++ (byte_digits is ++ (codes ": it permits " ++ name))))) ≡ held ++ weaker_text b mask
+pub weaker_told : (held : List ℕ) (b mask is weaker : ℕ) (name : List ℕ)
+    → is_mask b ≡ true → is ≡ mask → weaker ≡ b → name ≡ command_name (least_permitted weaker mask)
+    → held ++ (codes "mask byte " ++ (byte_digits b ++ (codes " is not as strict as " ++ (byte_digits is ++ (codes ": it permits " ++ name)))))
+    ≡ held ++ weaker_text b mask
 weaker_told held b mask is weaker name m e w n =
     let told = n ∙ ap (λ k. command_name (least_permitted k mask)) w in
     rw m (ap (λ k. held ++ (codes "mask byte " ++ (byte_digits b ++ (codes " is not as strict as " ++ (byte_digits k ++ (codes ": it permits " ++ name)))))) e
     ∙ ap (λ t. held ++ (codes "mask byte " ++ (byte_digits b ++ (codes " is not as strict as " ++ (byte_digits mask ++ (codes ": it permits " ++ t)))))) told
-    ∙ regrouped held (codes "mask byte ") (byte_digits b) (codes " is not as strict as ") (byte_digits mask) (codes ": it permits ") (command_name (least_permitted b mask)))
+    ∙ regrouped held (codes "mask byte ") (byte_digits b) (codes " is not as strict as ") (byte_digits mask)
+    (codes ": it permits ") (command_name (least_permitted b mask)))
 
 -- ---- the rows of a path
 
--- they begin with that of its first place, marked where no place follows
-row_first : (s : List ℕ) (p : Place) (ps : List Place) → path_rows s (p ∷ ps) ≡ row s p (nat_eq (length ps) 0) ++ path_rows s ps
-row_first s p [] = sym (append-nil (row s p true))
-row_first s p (q ∷ ps) =
-    let more : nat_eq (length (q ∷ ps)) 0 ≡ false = grind (arith, nat_tests) in
-    ap (λ b. row s p b ++ path_rows s (q ∷ ps)) (sym more)
+rows_more : (j : Job) (ps : List Place) (at : ℕ) (d : Place) (first rest : List ℕ) → at < length ps
+    → IsPathRow j (get_or ps at d) (nat_eq (at + 1) (length ps)) first
+    → ArePathRows j (drop (at + 1) ps) rest → ArePathRows j (drop at ps) (first ++ rest)
+rows_more j ps at d first rest lt is are =
+    let next : at + 1 ≡ suc at = omega arith in
+    let ends : nat_eq (at + 1) (length ps) ≡ nat_eq (length (drop (suc at) ps)) 0 = grind (arith, nat_tests, length-drop (suc at) ps) in
+    let here = subst (λ b. IsPathRow j (get_or ps at d) b first) ends is in
+    let left = subst (λ n. ArePathRows j (drop n ps) rest) next are in
+    subst (λ qs. ArePathRows j qs (first ++ rest)) (sym (drop-cons ps at d lt)) (first, rest, here, left, refl)
 
--- the rows from a place of the path on
-rows_left : (s : List ℕ) (ps : List Place) (at : ℕ) (d : Place) → at < length ps
-    → path_rows s (drop at ps) ≡ row s (get_or ps at d) (nat_eq (at + 1) (length ps)) ++ path_rows s (drop (at + 1) ps)
-rows_left s ps at d lt =
-    let next : suc at ≡ at + 1 = omega arith in
-    let p = get_or ps at d in
-    let ends : nat_eq (length (drop (suc at) ps)) 0 ≡ nat_eq (at + 1) (length ps) = grind (arith, nat_tests, length-drop (suc at) ps) in
-    ap (path_rows s) (drop-cons ps at d lt) ∙ row_first s p (drop (suc at) ps)
-    ∙ ap (λ b. row s p b ++ path_rows s (drop (suc at) ps)) ends ∙ ap (λ n. row s p (nat_eq (at + 1) (length ps)) ++ path_rows s (drop n ps)) next
+-- what is written, with any rows of the places that are left, is rows of all
+abbrev pub HasRows : Job → List Place → ℕ → List ℕ → List ℕ → Type 0
+HasRows j ps at old held = (rest : List ℕ) → ArePathRows j (drop at ps) rest → AddsText (ArePathRows j ps) old (held ++ rest)
 
--- one row more, of what stands at its place
-pub path_more : (s : List ℕ) (ps : List Place) (at : ℕ) (d : Place) (held more whole : List ℕ) (c : Option Fields) (command : Option TableEntry)
-    → at < length ps → c ≡ ccw_at s (get_or ps at d).address → command ≡ command_of (ccw_at s (get_or ps at d).address)
-    → more ≡ held ++ row_with (get_or ps at d) c command (nat_eq (at + 1) (length ps))
-    → held ++ path_rows s (drop at ps) ≡ whole → more ++ path_rows s (drop (at + 1) ps) ≡ whole
-path_more s ps at d held more whole c command lt stands is told before =
-    let p = get_or ps at d in
-    let last = nat_eq (at + 1) (length ps) in
-    let rest = path_rows s (drop (at + 1) ps) in
-    ap (λ t. t ++ rest) (told ∙ ap (λ x. held ++ row_with p x command last) stands ∙ ap (λ x. held ++ row_with p (ccw_at s p.address) x last) is)
-    ∙ append_assoc held (row s p last) rest ∙ ap (λ t. held ++ t) (sym (rows_left s ps at d lt)) ∙ before
+pub path_more : (j : Job) (ps : List Place) (at : ℕ) (d : Place) (old held new : List ℕ) → at < length ps
+    → AddsText (IsPathRow j (get_or ps at d) (nat_eq (at + 1) (length ps))) held new
+    → HasRows j ps at old held → HasRows j ps (at + 1) old new
+path_more j ps at d old held new lt (first, is, e) before rest are =
+    subst (AddsText (ArePathRows j ps) old) (sym (append_assoc held first rest) ∙ ap (λ t. t ++ rest) (sym e))
+    (before (first ++ rest) (rows_more j ps at d first rest lt is are))
+
+pub path_whole : (j : Job) (ps : List Place) (at : ℕ) (old held : List ℕ) → length ps ≤ at → HasRows j ps at old held → AddsText (ArePathRows j ps) old held
+path_whole j ps at old held past before =
+    let none = subst (λ qs. ArePathRows j qs []) (sym (drop_all at ps past)) refl in
+    subst (AddsText (ArePathRows j ps) old) (append-nil held) (before [] none)
 
 -- ---- the lines of the other offences
 
@@ -110,7 +113,8 @@ first_left (e ∷ es) (suc n) = first_left es n
 
 -- those of the offences behind one of them
 lines_left : (os : List Offence) (es : List Evidence) (at : ℕ) (d : Offence) → 0 < at → at < length os
-    → also_lines (drop (at - 1) os) (drop (at - 1) es) ≡ next_lines (get_or os (at - 1) d) (get_or os at d) (slice_get es at) ++ also_lines (drop at os) (drop at es)
+    → also_lines (drop (at - 1) os) (drop (at - 1) es)
+    ≡ next_lines (get_or os (at - 1) d) (get_or os at d) (slice_get es at) ++ also_lines (drop at os) (drop at es)
 lines_left os es at d some lt =
     let o = get_or os (at - 1) d in
     let p = get_or os at d in
@@ -119,10 +123,12 @@ lines_left os es at d some lt =
     let both : drop (at - 1) os ≡ o ∷ p ∷ drop (suc at) os = drop-cons os (at - 1) d (omega arith) ∙ ap (λ n. o ∷ drop n os) next ∙ ap (λ t. o ∷ t) here in
     let rest : drop 1 (drop (at - 1) es) ≡ drop at es = drop_one es (at - 1) ∙ ap (λ n. drop n es) next in
     ap (λ t. also_lines t (drop (at - 1) es)) both ∙ ap (λ z. next_lines o p (slice_get z 0) ++ also_after p (drop (suc at) os) (drop 1 z)) rest
-    ∙ ap (λ z. next_lines o p z ++ also_after p (drop (suc at) os) (drop 1 (drop at es))) (first_left es at) ∙ ap (λ t. next_lines o p (slice_get es at) ++ also_lines t (drop at es)) (sym here)
+    ∙ ap (λ z. next_lines o p z ++ also_after p (drop (suc at) os) (drop 1 (drop at es))) (first_left es at)
+    ∙ ap (λ t. next_lines o p (slice_get es at) ++ also_lines t (drop at es)) (sym here)
 
 -- one line more, or none for an offence that is like the one before it
-pub others_more : (os : List Offence) (es : List Evidence) (at : ℕ) (d : Offence) (cause : Option Evidence) (held more whole : List ℕ) → 0 < at → at < length os → cause ≡ slice_get es at
+pub others_more : (os : List Offence) (es : List Evidence) (at : ℕ) (d : Offence) (cause : Option Evidence) (held more whole : List ℕ)
+    → 0 < at → at < length os → cause ≡ slice_get es at
     → more ≡ held ++ next_lines (get_or os (at - 1) d) (get_or os at d) cause
     → held ++ also_lines (drop (at - 1) os) (drop (at - 1) es) ≡ whole → more ++ also_lines (drop (at + 1 - 1) os) (drop (at + 1 - 1) es) ≡ whole
 others_more os es at d cause held more whole some lt is told before =
@@ -135,6 +141,7 @@ no_line [] es h = refl
 no_line (o ∷ []) es h = refl
 no_line (o ∷ p ∷ os) es h = absurd (omega (arith, h))
 
-pub none_left : (os : List Offence) (es : List Evidence) (at : ℕ) (held whole : List ℕ) → length os ≤ at → 0 < at → held ++ also_lines (drop (at - 1) os) (drop (at - 1) es) ≡ whole → held ≡ whole
+pub none_left : (os : List Offence) (es : List Evidence) (at : ℕ) (held whole : List ℕ) → length os ≤ at → 0 < at
+    → held ++ also_lines (drop (at - 1) os) (drop (at - 1) es) ≡ whole → held ≡ whole
 none_left os es at held whole h some before =
     sym (append-nil held) ∙ ap (λ t. held ++ t) (sym (no_line (drop (at - 1) os) (drop (at - 1) es) (omega (arith, length-drop (at - 1) os)))) ∙ before

@@ -66,16 +66,22 @@ written S new word next a z low fits eight is =
     let whole : S ≡ T ++ replicate (length S - next) 0 = sym (take-append-drop next S) ∙ ap (λ t. T ++ t) z in
     let at-is : a ≡ length T + (a - next) = omega arith in
     let m : a - next ≡ a - length T = omega arith in
-    let front : take a S ≡ pad T a = ap (λ k. take k S) at-is ∙ ap (λ t. take (length T + (a - next)) t) whole ∙ take-append-add T (replicate (length S - next) 0) (a - next) ∙ ap (λ t. T ++ t) (take-replicate {X = ℕ} (a - next) (length S - next) 0 (omega arith)) ∙ ap (λ k. T ++ replicate k 0) m in
+    let front : take a S ≡ pad T a =
+    ap (λ k. take k S) at-is ∙ ap (λ t. take (length T + (a - next)) t) whole ∙ take-append-add T (replicate (length S - next) 0) (a - next)
+    ∙ ap (λ t. T ++ t) (take-replicate {X = ℕ} (a - next) (length S - next) 0 (omega arith)) ∙ ap (λ k. T ++ replicate k 0) m in
     let lenF : length (take a S ++ word) ≡ a + 8 = omega (arith, length-append (take a S) word, length-take a S) in
     let past : next + (a + 8 - next) ≡ a + 8 = omega arith in
     let w8 : a + length word ≡ a + 8 = omega arith in
-    let rest : drop (a + length word) S ≡ replicate (length S - next - (a + 8 - next)) 0 = ap (λ k. drop k S) (w8 ∙ sym past) ∙ sym (drop-drop (a + 8 - next) next S) ∙ ap (λ t. drop (a + 8 - next) t) z ∙ drop-replicate (a + 8 - next) (length S - next) 0 in
-    let len : length new ≡ length S = ap length is ∙ omega (arith, length-append (take a S ++ word) (drop (a + length word) S), length-drop (a + length word) S) in
+    let rest : drop (a + length word) S ≡ replicate (length S - next - (a + 8 - next)) 0 =
+    ap (λ k. drop k S) (w8 ∙ sym past) ∙ sym (drop-drop (a + 8 - next) next S) ∙ ap (λ t. drop (a + 8 - next) t) z
+    ∙ drop-replicate (a + 8 - next) (length S - next) 0 in
+    let len : length new ≡ length S =
+    ap length is ∙ omega (arith, length-append (take a S ++ word) (drop (a + length word) S), length-drop (a + length word) S) in
     record {
       len = len;
       front = ap (λ t. take (a + 8) t) is ∙ take_at (take a S ++ word) (drop (a + length word) S) (a + 8) lenF ∙ ap (λ t. t ++ word) front;
-      behind = ap (λ t. drop (a + 8) t) is ∙ drop_at (take a S ++ word) (drop (a + length word) S) (a + 8) lenF ∙ rest ∙ ap (λ (k : ℕ). replicate k 0) (omega (arith, len));
+      behind = ap (λ t. drop (a + 8) t) is ∙ drop_at (take a S ++ word) (drop (a + length word) S) (a + 8) lenF
+          ∙ rest ∙ ap (λ (k : ℕ). replicate k 0) (omega (arith, len));
     }
 
 -- a put that is taken

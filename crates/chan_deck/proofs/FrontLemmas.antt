@@ -34,7 +34,9 @@ Line = List ℕ
 split_line : (l t : List ℕ) → HasNoFeed l → split (l ++ 10 ∷ t) ≡ (l ∷ (split t).0, (split t).1)
 unfolding split
 split_line [] t h = refl
-split_line (b ∷ l) t h = ap (λ q. cond q ([] ∷ (split (l ++ 10 ∷ t)).0, (split (l ++ 10 ∷ t)).1) (onto_first b (split (l ++ 10 ∷ t)))) h.0 ∙ ap (λ p. onto_first b p) (split_line l t h.1)
+split_line (b ∷ l) t h =
+    let whole = split (l ++ 10 ∷ t) in
+    ap (λ q. cond q ([] ∷ whole.0, whole.1) (onto_first b whole)) h.0 ∙ ap (λ p. onto_first b p) (split_line l t h.1)
 
 -- whole lines at the front of a text are its first lines
 pub split_text : (ls : List Line) (t : List ℕ) → AllByRecursion HasNoFeed ls → split (text ls ++ t) ≡ (ls ++ (split t).0, (split t).1)
@@ -52,7 +54,8 @@ pub lines_no_feed : (t : List ℕ) → AllByRecursion HasNoFeed (lines t)
 unfolding split
 lines_no_feed [] = tt
 lines_no_feed (b ∷ t) =
-    cond_both (b == 10) _ _ (λ (p : List Line × List ℕ). AllByRecursion HasNoFeed p.0) (λ _. (tt, lines_no_feed t)) (λ h. onto_no_feed b (split t) h (lines_no_feed t))
+    cond_both (b == 10) _ _ (λ (p : List Line × List ℕ). AllByRecursion HasNoFeed p.0)
+    (λ _. (tt, lines_no_feed t)) (λ h. onto_no_feed b (split t) h (lines_no_feed t))
 
 onto_join : (b : ℕ) (p : List Line × List ℕ) → text (onto_first b p).0 ++ (onto_first b p).1 ≡ b ∷ (text p.0 ++ p.1)
 onto_join b ([], rest) = refl
@@ -100,8 +103,10 @@ items_form d is =
     let S = map store d.store in
     let opened : AllByRecursion HasForm H = (tt, (tt, (is.mask.0, (is.start, limit_form d.version is.limit)))) in
     let size : n < 2 ^ 28 = omega (arith, is.size) in
-    let filled : AllByRecursion HasForm (storage n ∷ P) = (size, puts_form (n / 8) 0 d.storage (omega (arith, is.whole)) (omega (arith, is.size, is.whole)) is.bytes) in
-    let with_extents = all_append HasForm H E opened (all_map IsExtent HasForm extent_of (λ e h. (omega (arith, h.0, h.1), omega (arith, h.1))) d.extents is.extents.1) in
+    let filled : AllByRecursion HasForm (storage n ∷ P) =
+    (size, puts_form (n / 8) 0 d.storage (omega (arith, is.whole)) (omega (arith, is.size, is.whole)) is.bytes) in
+    let extents = all_map IsExtent HasForm extent_of (λ e h. (omega (arith, h.0, h.1), omega (arith, h.1))) d.extents is.extents.1 in
+    let with_extents = all_append HasForm H E opened extents in
     let with_fetch = all_append HasForm (H ++ E) F with_extents (all_map IsArea HasForm fetch (λ a h. h) d.fetch is.fetch) in
     let with_store = all_append HasForm (H ++ E ++ F) S with_fetch (all_map IsArea HasForm store (λ a h. h) d.store is.store) in
     let with_puts = all_append HasForm (H ++ E ++ F ++ S) (storage n ∷ P) with_store filled in
@@ -110,10 +115,12 @@ items_form d is =
 pub split_deck : (d : Image) → split (spelling d) ≡ (map line (items d), [])
 unfolding split
 split_deck d =
-    ap (λ x. split x) (sym (append-nil (spelling d))) ∙ split_text (map line (items d)) [] (no_feeds_said (items d)) ∙ ap (λ ls. (ls, [])) (append-nil (map line (items d)))
+    ap (λ x. split x) (sym (append-nil (spelling d))) ∙ split_text (map line (items d)) [] (no_feeds_said (items d))
+    ∙ ap (λ ls. (ls, [])) (append-nil (map line (items d)))
 
 -- lines with which a deck's text begins are its first lines
-pub front_lines : (ls : List Line) → AllByRecursion HasNoFeed ls → BeginsSomeDeck (text ls) → (d : Image) × (more : List Line) × IsDeck d × (map line (items d) ≡ ls ++ more)
+pub front_lines : (ls : List Line) → AllByRecursion HasNoFeed ls → BeginsSomeDeck (text ls)
+    → (d : Image) × (more : List Line) × IsDeck d × (map line (items d) ≡ ls ++ more)
 front_lines ls h f =
     (f.0, (split f.1).0, f.2.0, ap (λ (p : List Line × List ℕ). p.0) (sym (split_deck f.0) ∙ ap (λ x. split x) (sym f.2.1) ∙ split_text ls f.1 h))
 
@@ -146,7 +153,8 @@ said_once (i ∷ is) (j ∷ js) hi hj e =
 -- no text spells two decks
 pub one_deck : (d e : Image) → IsDeck d → IsDeck e → spelling d ≡ spelling e → d ≡ e
 one_deck d e is js same =
-    let lines_same : map line (items d) ≡ map line (items e) = ap (λ (p : List Line × List ℕ). p.0) (sym (split_deck d) ∙ ap (λ x. split x) same ∙ split_deck e) in
+    let lines_same : map line (items d) ≡ map line (items e) =
+    ap (λ (p : List Line × List ℕ). p.0) (sym (split_deck d) ∙ ap (λ x. split x) same ∙ split_deck e) in
     let items_same = said_once (items d) (items e) (items_form d is) (items_form e js) lines_same in
     cc (reads_deck d is, ap (λ x. run Opening x) items_same ∙ reads_deck e js)
 
@@ -171,7 +179,8 @@ fronts t s n rest st m h =
     let short : m ≤ length ls = omega (arith, length-map st.said line, st.number) in
     let front : take m (lines t) ≡ take m ls = ap (λ (p : List Line × List ℕ). take m p.0) st.parts ∙ take-append-le m ls (split rest).0 short in
     let whole : text ls ≡ text (take m ls) ++ text (drop m ls) = ap text (sym (take-append-drop m ls)) ∙ text-append (take m ls) (drop m ls) in
-    let spelled : spelling c.1 ≡ text ls ++ text (map line c.0) = ap (λ x. text (map line x)) its ∙ ap text (map-append line st.said c.0) ∙ text-append ls (map line c.0) in (
+    let spelled : spelling c.1 ≡ text ls ++ text (map line c.0) =
+    ap (λ x. text (map line x)) its ∙ ap text (map-append line st.said c.0) ∙ text-append ls (map line c.0) in (
       c.1,
       text (drop m ls) ++ text (map line c.0),
       (
@@ -197,7 +206,9 @@ pub no_front : (t : List ℕ) (s : State) (n : ℕ) (rest l after : List ℕ) (c
 no_front t s n rest l after c st e all f =
     let ls = map line st.said in
     let n-is : n ≡ length ls + 1 = omega (arith, length-map st.said line, st.number) in
-    let first : take n (lines t) ≡ ls ++ l ∷ [] = ap (λ k. take k (lines t)) n-is ∙ ap (λ x. take (length ls + 1) x) (lines_left t s n rest l after st e) ∙ take-append-add ls (l ∷ (split after).0) 1 in
+    let first : take n (lines t) ≡ ls ++ l ∷ [] =
+    ap (λ k. take k (lines t)) n-is ∙ ap (λ x. take (length ls + 1) x) (lines_left t s n rest l after st e)
+    ∙ take-append-add ls (l ∷ (split after).0) 1 in
     let d = front_lines (take n (lines t)) (all_take HasNoFeed n (lines t) (lines_no_feed t)) f in
     let deck : map line (items d.0) ≡ ls ++ l ∷ d.1 = d.3 ∙ ap (λ x. x ++ d.1) first ∙ append_assoc ls (l ∷ []) d.1 in
     let same = same_front st.said (items d.0) l d.1 st.forms (items_form d.0 d.2) deck in
@@ -213,7 +224,8 @@ whole_front t n d sp = (
   text (drop n (lines t)) ++ (split t).1,
   (
     sp.0,
-    sym (append_assoc (text (take n (lines t))) (text (drop n (lines t))) (split t).1) ∙ ap (λ x. x ++ (split t).1) (sym (text-append (take n (lines t)) (drop n (lines t))) ∙ ap text (take-append-drop n (lines t)))
+    sym (append_assoc (text (take n (lines t))) (text (drop n (lines t))) (split t).1)
+        ∙ ap (λ x. x ++ (split t).1) (sym (text-append (take n (lines t)) (drop n (lines t))) ∙ ap text (take-append-drop n (lines t)))
         ∙ join t ∙ sp.1,
   ),
 )
@@ -227,13 +239,16 @@ refused_at_line t s n rest l after c st e all = record {
   least = fronts t s n rest st;
   here = λ le f. no_front t s n rest l after c st e all f;
   within =
-      let len : length (lines t) ≡ length (map line st.said) + suc (length (split after).0) = ap length (lines_left t s n rest l after st e) ∙ length-append (map line st.said) (l ∷ (split after).0) in
+      let len : length (lines t) ≡ length (map line st.said) + suc (length (split after).0) =
+      ap length (lines_left t s n rest l after st e) ∙ length-append (map line st.said) (l ∷ (split after).0) in
       omega (arith, len, length-map st.said line, st.number);
 }
 
 pub refused_at_end : (t : List ℕ) (s : State) (n : ℕ) (rest : List ℕ) → HasRead t s n rest → split rest ≡ ([], rest) → IsRefusedAt t n
 refused_at_end t s n rest st e =
-    let len : length (lines t) ≡ length (map line st.said) = ap (λ (p : List Line × List ℕ). length p.0) st.parts ∙ ap (λ (p : List Line × List ℕ). length (map line st.said ++ p.0)) e ∙ ap length (append-nil (map line st.said)) in
+    let len : length (lines t) ≡ length (map line st.said) =
+    ap (λ (p : List Line × List ℕ). length p.0) st.parts ∙ ap (λ (p : List Line × List ℕ). length (map line st.said ++ p.0)) e
+    ∙ ap length (append-nil (map line st.said)) in
     record {
       least = fronts t s n rest st;
       here = λ le f. absurd (omega (arith, len, length-map st.said line, st.number));

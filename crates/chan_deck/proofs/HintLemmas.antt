@@ -129,10 +129,12 @@ none_taken t b before = record {
 pub all_behind : (t : List ℕ) (n k : ℕ) (b : Before) (rest : List ℕ) → AreTaken t k b rest → n ≡ k → IsBehind t n b rest
 all_behind t n k b rest h same =
     behind t n k b rest h
-    (ap (λ (p : List (List ℕ) × List ℕ). take n p.0) h.parts ∙ take-append-le n h.done (split rest).0 (omega (arith, h.count, same)) ∙ take_all n h.done (omega (arith, h.count, same)))
+    (ap (λ (p : List (List ℕ) × List ℕ). take n p.0) h.parts ∙ take-append-le n h.done (split rest).0 (omega (arith, h.count, same))
+    ∙ take_all n h.done (omega (arith, h.count, same)))
 
 -- or there are no more
 pub fewer_behind : (t : List ℕ) (n k : ℕ) (b : Before) (rest : List ℕ) → AreTaken t k b rest → k < n → split rest ≡ ([], rest) → IsBehind t n b rest
 fewer_behind t n k b rest h more none =
     behind t n k b rest h
-    (ap (λ (p : List (List ℕ) × List ℕ). take n p.0) (h.parts ∙ ap (λ (p : List (List ℕ) × List ℕ). (h.done ++ p.0, p.1)) none) ∙ ap (take n) (append-nil h.done) ∙ take_all n h.done (omega (arith, h.count, more)))
+    (ap (λ (p : List (List ℕ) × List ℕ). take n p.0) (h.parts ∙ ap (λ (p : List (List ℕ) × List ℕ). (h.done ++ p.0, p.1)) none)
+    ∙ ap (take n) (append-nil h.done) ∙ take_all n h.done (omega (arith, h.count, more)))

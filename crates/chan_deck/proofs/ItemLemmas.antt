@@ -56,10 +56,14 @@ cylinder_no_feed : (n : ℕ) → HasNoFeed (cylinder_digits n)
 cylinder_no_feed n = (above_feed _ (omega arith), (above_feed _ (omega arith), (above_feed _ (omega arith), tt)))
 
 limit_no_feed : (n : ℕ) → HasNoFeed (limit_digits n)
-limit_no_feed n = (above_feed _ (omega arith), (above_feed _ (omega arith), (above_feed _ (omega arith), (above_feed _ (omega arith), (above_feed _ (omega arith), tt)))))
+limit_no_feed n =
+    let above = λ (c : ℕ). above_feed (48 + c) (omega arith) in
+    (above (n / 10000), (above (n / 1000 % 10), (above (n / 100 % 10), (above (n / 10 % 10), (above (n % 10), tt)))))
 
 area_no_feed : (a : Area) → HasNoFeed (area_digits a)
-area_no_feed a = no_feed-append (address_digits a.start) (32 ∷ address_digits a.len) (upper_no_feed (bytes_high_first 3 a.start)) (refl, upper_no_feed (bytes_high_first 3 a.len))
+area_no_feed a =
+    no_feed-append (address_digits a.start) (32 ∷ address_digits a.len) (upper_no_feed (bytes_high_first 3 a.start))
+    (refl, upper_no_feed (bytes_high_first 3 a.len))
 
 pub line_no_feed : (i : Item) → HasNoFeed (line i)
 line_no_feed (header numbers.One) = from_test (line (header numbers.One)) refl
@@ -72,7 +76,9 @@ line_no_feed (extent first last) =
     (no_feed-append (cylinder_digits first) (32 ∷ cylinder_digits last) (cylinder_no_feed first) (refl, cylinder_no_feed last))
 line_no_feed (fetch a) = no_feed-append (codes "fetch ") (area_digits a) (from_test (codes "fetch ") refl) (area_no_feed a)
 line_no_feed (store a) = no_feed-append (codes "store ") (area_digits a) (from_test (codes "store ") refl) (area_no_feed a)
-line_no_feed (storage n) = no_feed-append (codes "storage ") (size_digits n) (from_test (codes "storage ") refl) (all_drop (λ b. (b == 10) ≡ false) 1 (encode_upper (bytes_high_first 4 n)) (upper_no_feed (bytes_high_first 4 n)))
+line_no_feed (storage n) =
+    no_feed-append (codes "storage ") (size_digits n) (from_test (codes "storage ") refl)
+    (all_drop (λ b. (b == 10) ≡ false) 1 (encode_upper (bytes_high_first 4 n)) (upper_no_feed (bytes_high_first 4 n)))
 line_no_feed (put a word) =
     no_feed-append (codes "put ") (address_digits a ++ (codes " " ++ encode_upper word)) (from_test (codes "put ") refl)
     (no_feed-append (address_digits a) (32 ∷ encode_upper word) (upper_no_feed (bytes_high_first 3 a)) (refl, upper_no_feed word))

@@ -48,7 +48,8 @@ pub no_line : (t : List ℕ) → position (λ b. b == 10) t ≡ None → split t
 no_line t e = none_ends t (grind (arith, nat_tests, e))
 
 -- a line feed behind bytes without one is the first
-pub first_feed : (front rest : List ℕ) (n : ℕ) → length front ≡ n → list_any feed front ≡ false → slice_index rest 0 ≡ 10 → position feed (front ++ rest) ≡ Some n
+pub first_feed : (front rest : List ℕ) (n : ℕ) → length front ≡ n → list_any feed front ≡ false
+    → slice_index rest 0 ≡ 10 → position feed (front ++ rest) ≡ Some n
 first_feed [] [] n len none e = absurd (omega (arith, e))
 first_feed [] (b ∷ rest) n len none e = grind (arith, common_steps, nat_tests, len, e)
 first_feed (b ∷ front) rest n len none e = grind (arith, common_steps, nat_tests, len, e, none, first_feed front rest (length front) refl)

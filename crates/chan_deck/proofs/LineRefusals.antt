@@ -19,7 +19,8 @@ no_put h es fs ss n bytes (found.Put a w) puts ends = absurd (puts a w refl)
 no_put h es fs ss n bytes found.End puts ends = absurd (ends refl)
 no_put h es fs ss n bytes i puts ends = refl
 
-pub good_size : (h : Heading) (fs ss : List Area) (es : List (ℕ × ℕ)) (n : ℕ) → 0 < length es → is_size n ≡ true → step (Listing h es fs ss) (storage n) ≡ Ok (Filling h es fs ss n [])
+pub good_size : (h : Heading) (fs ss : List Area) (es : List (ℕ × ℕ)) (n : ℕ) → 0 < length es → is_size n ≡ true
+    → step (Listing h es fs ss) (storage n) ≡ Ok (Filling h es fs ss n [])
 good_size h fs ss [] n some e = absurd (omega arith)
 good_size h fs ss (x ∷ es) n some e = ap (λ b. cond b (Ok (Filling h (x ∷ es) fs ss n [])) (Err causes.Size)) e
 

@@ -32,10 +32,10 @@ row_seen : (j : Job) (v : Verdict) (l : Seen) → IsLook j l → seen_row v l �
 row_seen j v l h =
     let p = l.place in
     let marked = is_named v p.address in
+    let way = address_text p.address ++ codes " " ++ way_word p.entered ++ codes " " ++ transfer_word p.after_transfer in
     ap (λ x. row_with p l.ccw x marked) h.command
     ∙ ap (λ x. row_with p x (begun_at p x) marked) h.ccw
-    ∙ ap (λ w. address_text p.address ++ codes " " ++ way_word p.entered ++ codes " " ++ transfer_word p.after_transfer ++ codes " " ++ mark_word marked ++ codes " " ++ w ++ 10 ∷ [])
-    (word_seen p (ccw_at (storage_of j) p.address))
+    ∙ ap (λ w. way ++ codes " " ++ mark_word marked ++ codes " " ++ w ++ 10 ∷ []) (word_seen p (ccw_at (storage_of j) p.address))
 
 rows_seen : (j : Job) (v : Verdict) (ls : List Seen) → AreLooks j ls → flat_map (seen_row v) ls ≡ flat_map (marked_row (storage_of j) v) (places_of_looks ls)
 rows_seen j v [] h = refl

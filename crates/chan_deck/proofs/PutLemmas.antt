@@ -24,7 +24,8 @@ puts-append (suc m) n at xs ys h =
     let k : suc m + n ≡ suc (m + n) = omega arith in
     let at-is : at + 8 * suc m ≡ at + 8 + 8 * m = omega arith in
     let rest = puts-append m n (at + 8) (drop 8 xs) ys (omega (arith, length-drop 8 xs)) in
-    rw (k, take-append-le 8 xs ys long, drop-append-le 8 xs ys long, at-is, rest) (both (is_zero (take 8 xs)) (puts m (at + 8) (drop 8 xs)) (put at (take 8 xs)) (puts n (at + 8 + 8 * m) ys))
+    rw (k, take-append-le 8 xs ys long, drop-append-le 8 xs ys long, at-is, rest)
+    (both (is_zero (take 8 xs)) (puts m (at + 8) (drop 8 xs)) (put at (take 8 xs)) (puts n (at + 8 + 8 * m) ys))
 
 take-zeros : (k m : ℕ) → is_zero (take k (replicate m 0)) ≡ true
 take-zeros zero m = refl
@@ -36,10 +37,13 @@ unfolding puts
 puts-zero zero m at = refl
 puts-zero (suc n) m at = rw (take-zeros 8 m, drop-replicate {X = ℕ} 8 m 0) (puts-zero n (m - 8) (at + 8))
 
-pub puts-padded : (n : ℕ) (bytes : List ℕ) → length bytes ≤ n → n % 8 ≡ 0 → length bytes % 8 ≡ 0 → puts (n / 8) 0 (pad bytes n) ≡ puts (length bytes / 8) 0 bytes
+pub puts-padded : (n : ℕ) (bytes : List ℕ) → length bytes ≤ n → n % 8 ≡ 0 → length bytes % 8 ≡ 0
+    → puts (n / 8) 0 (pad bytes n) ≡ puts (length bytes / 8) 0 bytes
 puts-padded n bytes h i j =
     let m : n / 8 ≡ length bytes / 8 + (n - length bytes) / 8 = omega arith in
-    rw (m, puts-append (length bytes / 8) ((n - length bytes) / 8) 0 bytes (replicate (n - length bytes) 0) (omega arith), puts-zero ((n - length bytes) / 8) (n - length bytes) (0 + 8 * (length bytes / 8))) (append-nil _)
+    let parts = puts-append (length bytes / 8) ((n - length bytes) / 8) 0 bytes (replicate (n - length bytes) 0) (omega arith) in
+    let zeros = puts-zero ((n - length bytes) / 8) (n - length bytes) (0 + 8 * (length bytes / 8)) in
+    rw (m, parts, zeros) (append-nil _)
 
 one_put : (a : ℕ) (word : List ℕ) → length word ≡ 8 → is_zero word ≡ false → puts 1 a word ≡ put a word ∷ []
 unfolding puts
@@ -56,4 +60,5 @@ puts-put a bytes word h i j k z =
     let two = puts-append (a / 8) 1 0 (pad bytes a) word (len ∙ omega arith) in
     let at : 0 + 8 * (a / 8) ≡ a = omega arith in
     let one : puts 1 (0 + 8 * (a / 8)) word ≡ put a word ∷ [] = rw (at) (one_put a word k z) in
-    ap (λ q. puts q 0 (pad bytes a ++ word)) m ∙ two ∙ ap (λ is. puts (a / 8) 0 (pad bytes a) ++ is) one ∙ ap (λ is. is ++ put a word ∷ []) (puts-padded a bytes h i j)
+    ap (λ q. puts q 0 (pad bytes a ++ word)) m ∙ two ∙ ap (λ is. puts (a / 8) 0 (pad bytes a) ++ is) one
+    ∙ ap (λ is. is ++ put a word ∷ []) (puts-padded a bytes h i j)

@@ -41,7 +41,8 @@ takes t s next n rest l after (Some i) st e says goes = record {
   runs = run-append Opening st.said (i ∷ []) ∙ ap (λ r. and_then r (λ q. run q (i ∷ []))) st.runs ∙ ap (λ r. and_then r (λ q. Ok q)) goes;
   parts =
       let more : map line st.said ++ l ∷ (split after).0 ≡ map line (st.said ++ i ∷ []) ++ (split after).0 =
-      ap (λ x. map line st.said ++ x ∷ (split after).0) says.1 ∙ sym (append_assoc (map line st.said) (line i ∷ []) (split after).0) ∙ ap (λ x. x ++ (split after).0) (sym (map-append line st.said (i ∷ []))) in
+      ap (λ x. map line st.said ++ x ∷ (split after).0) says.1 ∙ sym (append_assoc (map line st.said) (line i ∷ []) (split after).0)
+      ∙ ap (λ x. x ++ (split after).0) (sym (map-append line st.said (i ∷ []))) in
       st.parts ∙ ap (λ (p : List (List ℕ) × List ℕ). (map line st.said ++ p.0, p.1)) e ∙ ap (λ x. (x, (split after).1)) more;
   number = omega (arith, st.number, length-append st.said (i ∷ []));
 }
@@ -52,7 +53,9 @@ behind_said : (t : List ℕ) (s : State) (n : ℕ) (rest : List ℕ) (st : HasRe
 behind_said t s n rest st =
     let ls = map line st.said in
     let k : n - 1 ≡ length ls = omega (arith, length-map st.said line, st.number) in
-    ap (λ j. found_in (drop j (lines t)) (split t).1) k ∙ ap (λ (p : List (List ℕ) × List ℕ). found_in (drop (length ls) p.0) p.1) st.parts ∙ ap (λ x. found_in x (split rest).1) (drop-append_seam ls (split rest).0)
+    ap (λ j. found_in (drop j (lines t)) (split t).1) k
+    ∙ ap (λ (p : List (List ℕ) × List ℕ). found_in (drop (length ls) p.0) p.1) st.parts
+    ∙ ap (λ x. found_in x (split rest).1) (drop-append_seam ls (split rest).0)
 
 are_said : (t : List ℕ) (s : State) (n : ℕ) (rest : List ℕ) (st : HasRead t s n rest) → AreSaid (n - 1) t st.said
 are_said t s n rest st =
@@ -79,7 +82,8 @@ refuses_line t s n rest l after o c st e said bad =
     record {
       none = λ d spells. no_front t s n rest l after c st e all (whole_front t n d spells);
       at_line = refused_at_line t s n rest l after c st e all;
-      for_cause = with_cause t s n rest (whole_line l) c st (ap (λ (p : List (List ℕ) × List ℕ). found_in p.0 p.1) e) (line_cause s l o c (is_state t s n rest st) said bad);
+      for_cause = with_cause t s n rest (whole_line l) c st (ap (λ (p : List (List ℕ) × List ℕ). found_in p.0 p.1) e)
+          (line_cause s l o c (is_state t s n rest st) said bad);
     }
 
 not_whole : {A : Type 0} (s : State) (d : Image) (r : Result State Cause) → is_whole s ≡ false → r ≡ Ok s → r ≡ Ok (Whole d) → A
@@ -88,18 +92,24 @@ not_whole s d r e f g =
     absurd (cc (ap is_whole same, e))
 
 -- a deck whose lines these are has been read
-deck_read : (t : List ℕ) (s : State) (n : ℕ) (rest : List ℕ) (d : Image) (st : HasRead t s n rest) → Spells t d → (split rest).0 ≡ [] → (run Opening st.said ≡ Ok (Whole d)) × ((split rest).1 ≡ [])
+deck_read : (t : List ℕ) (s : State) (n : ℕ) (rest : List ℕ) (d : Image) (st : HasRead t s n rest) → Spells t d
+    → (split rest).0 ≡ [] → (run Opening st.said ≡ Ok (Whole d)) × ((split rest).1 ≡ [])
 deck_read t s n rest d st spells none =
-    let same : (map line st.said ++ (split rest).0, (split rest).1) ≡ (map line (items d), []) = sym st.parts ∙ ap (λ x. split x) spells.1 ∙ split_deck d in
-    let lines_same : map line st.said ≡ map line (items d) = sym (append-nil (map line st.said)) ∙ ap (λ x. map line st.said ++ x) (sym none) ∙ ap (λ (p : List (List ℕ) × List ℕ). p.0) same in
-    (ap (λ x. run Opening x) (said_once st.said (items d) st.forms (items_form d spells.0) lines_same) ∙ reads_deck d spells.0, ap (λ (p : List (List ℕ) × List ℕ). p.1) same)
+    let same : (map line st.said ++ (split rest).0, (split rest).1) ≡ (map line (items d), []) =
+    sym st.parts ∙ ap (λ x. split x) spells.1 ∙ split_deck d in
+    let lines_same : map line st.said ≡ map line (items d) =
+    sym (append-nil (map line st.said)) ∙ ap (λ x. map line st.said ++ x) (sym none) ∙ ap (λ (p : List (List ℕ) × List ℕ). p.0) same in
+    let items_same = said_once st.said (items d) st.forms (items_form d spells.0) lines_same in
+    (ap (λ x. run Opening x) items_same ∙ reads_deck d spells.0, ap (λ (p : List (List ℕ) × List ℕ). p.1) same)
 
 -- the text ends before `end`
-pub refuses_end : (t : List ℕ) (s : State) (n : ℕ) (rest : List ℕ) → HasRead t s n rest → split rest ≡ ([], rest) → is_whole s ≡ false → IsRefused t n causes.Ended
+pub refuses_end : (t : List ℕ) (s : State) (n : ℕ) (rest : List ℕ) → HasRead t s n rest → split rest ≡ ([], rest)
+    → is_whole s ≡ false → IsRefused t n causes.Ended
 refuses_end t s n rest st e open_yet = record {
   none = λ d spells. not_whole s d (run Opening st.said) open_yet st.runs (deck_read t s n rest d st spells (ap (λ (p : List (List ℕ) × List ℕ). p.0) e)).0;
   at_line = refused_at_end t s n rest st e;
-  for_cause = with_cause t s n rest (part rest) causes.Ended st (ap (λ (p : List (List ℕ) × List ℕ). found_in p.0 p.1) e) (end_cause s rest (is_state t s n rest st) open_yet);
+  for_cause = with_cause t s n rest (part rest) causes.Ended st (ap (λ (p : List (List ℕ) × List ℕ). found_in p.0 p.1) e)
+      (end_cause s rest (is_state t s n rest st) open_yet);
 }
 
 -- what stands first in a text: a whole line, or all of it without a line feed
@@ -125,10 +135,13 @@ refuses_more t d n b rest st =
           let read = line_read x.0 in
           refuses_line t (Whole d) n (b ∷ rest) x.0 x.1 read.0 causes.After st x.2 read.1 (none_more d read.0)
       | inr e ↦
+          let no_line : (split (b ∷ rest)).0 ≡ [] = ap (λ (p : List (List ℕ) × List ℕ). p.0) e in
+          let all_left : (split (b ∷ rest)).1 ≡ b ∷ rest = ap (λ (p : List (List ℕ) × List ℕ). p.1) e in
           record {
-            none = λ f spells. absurd (omega (arith, ap length (sym (ap (λ (p : List (List ℕ) × List ℕ). p.1) e) ∙ (deck_read t (Whole d) n (b ∷ rest) f st spells (ap (λ (p : List (List ℕ) × List ℕ). p.0) e)).1)));
+            none = λ f spells. absurd (omega (arith, ap length (sym all_left ∙ (deck_read t (Whole d) n (b ∷ rest) f st spells no_line).1)));
             at_line = refused_at_end t (Whole d) n (b ∷ rest) st e;
-            for_cause = with_cause t (Whole d) n (b ∷ rest) (part (b ∷ rest)) causes.After st (ap (λ (p : List (List ℕ) × List ℕ). found_in p.0 p.1) e) (after_cause d (part (b ∷ rest)) tt);
+            for_cause = with_cause t (Whole d) n (b ∷ rest) (part (b ∷ rest)) causes.After st
+                (ap (λ (p : List (List ℕ) × List ℕ). found_in p.0 p.1) e) (after_cause d (part (b ∷ rest)) tt);
           }
     ]
 
@@ -141,7 +154,8 @@ spells_deck t d n st =
     let parts : split t ≡ (map line st.said, []) = st.parts ∙ ap (λ x. (x, [])) (append-nil (map line st.said)) in
     let said_all : items d ≡ st.said = says_said t (Whole d) n [] st in (
       (is_state t (Whole d) n [] st).right,
-      sym (join t) ∙ ap (λ (p : List (List ℕ) × List ℕ). text p.0 ++ p.1) parts ∙ append-nil (text (map line st.said)) ∙ ap (λ x. text (map line x)) (sym said_all),
+      sym (join t) ∙ ap (λ (p : List (List ℕ) × List ℕ). text p.0 ++ p.1) parts ∙ append-nil (text (map line st.said))
+          ∙ ap (λ x. text (map line x)) (sym said_all),
     )
 
 -- the line `end` was read: a deck ends there, or a byte follows
@@ -178,7 +192,8 @@ for_cause_at t n b c hb hc =
 pub one_refusal : (t : List ℕ) (n m : ℕ) (b c : Cause) → IsRefused t n b → IsRefused t m c → (n ≡ m) × (b ≡ c)
 one_refusal t n m b c hn hm =
     let lines_same = one_line t n m hn.at_line hm.at_line in
-    (lines_same, for_cause_at t m b c (subst (λ k. (before : List Item) × AreSaid (k - 1) t before × IsDeckCause before (found_behind (k - 1) t) b) lines_same hn.for_cause) hm.for_cause)
+    let at_one = subst (λ k. (before : List Item) × AreSaid (k - 1) t before × IsDeckCause before (found_behind (k - 1) t) b) lines_same hn.for_cause in
+    (lines_same, for_cause_at t m b c at_one hm.for_cause)
 
 -- ---- what an answer of reading tells
 

@@ -62,7 +62,8 @@ same_is d e h =
     ap (λ v. record d { version = v }) version ∙ ap (λ v. record d { version = e.version; device = v }) device
     ∙ ap (λ v. record d { version = e.version; device = e.device; mask = v }) mask
     ∙ ap (λ v. record d { version = e.version; device = e.device; mask = e.mask; start = v }) start
-    ∙ ap (λ v. record e { extents = v; fetch = d.fetch; store = d.store; storage = d.storage }) extents ∙ ap (λ v. record e { fetch = v; store = d.store; storage = d.storage }) fetch
+    ∙ ap (λ v. record e { extents = v; fetch = d.fetch; store = d.store; storage = d.storage }) extents
+    ∙ ap (λ v. record e { fetch = v; store = d.store; storage = d.storage }) fetch
     ∙ ap (λ v. record e { store = v; storage = d.storage }) store ∙ ap (λ v. record e { storage = v }) storage
 
 pub is_same : (d e : Image) → d ≡ e → same_decks d e ≡ true

@@ -96,7 +96,8 @@ pub data Ends : State → Option Item → Type 0 where
   at_limit : (n : ℕ) (v : Device) (m a : ℕ) → Ends (Listing (record { version = Two n; device = v; mask = m; start = a }) [] [] []) (Some (limit n))
   at_extent : (h : Heading) (e : ℕ × ℕ) (es : List (ℕ × ℕ)) (first last : ℕ) → Ends (Listing h (e ∷ es) [] []) (Some (extent first last))
   at_fetch : (h : Heading) (e : ℕ × ℕ) (es : List (ℕ × ℕ)) (f : Area) (fs : List Area) (a : Area) → Ends (Listing h (e ∷ es) (f ∷ fs) []) (Some (fetch a))
-  at_store : (h : Heading) (e : ℕ × ℕ) (es : List (ℕ × ℕ)) (fs : List Area) (s : Area) (ss : List Area) (a : Area) → Ends (Listing h (e ∷ es) fs (s ∷ ss)) (Some (store a))
+  at_store : (h : Heading) (e : ℕ × ℕ) (es : List (ℕ × ℕ)) (fs : List Area) (s : Area) (ss : List Area) (a : Area)
+      → Ends (Listing h (e ∷ es) fs (s ∷ ss)) (Some (store a))
   at_storage : (h : Heading) (es : List (ℕ × ℕ)) (fs ss : List Area) (n : ℕ) → Ends (Filling h es fs ss n []) (Some (storage n))
   at_put : (h : Heading) (es : List (ℕ × ℕ)) (fs ss : List Area) (n : ℕ) (bytes : List ℕ) (a : ℕ) (word : List ℕ) → a + 8 ≡ length bytes
       → Ends (Filling h es fs ss n bytes) (Some (put a word))
@@ -251,7 +252,8 @@ put_more h es fs ss n bytes a word is form =
         },
       ),
       at_put h es fs ss n (pad bytes a ++ word) a word (sym len),
-      rw (puts-put a bytes word above aligned is.1.words form.1.0 some) (sym (append_assoc (lists h es fs ss) (storage n ∷ puts (length bytes / 8) 0 bytes) (put a word ∷ []))),
+      rw (puts-put a bytes word above aligned is.1.words form.1.0 some)
+          (sym (append_assoc (lists h es fs ss) (storage n ∷ puts (length bytes / 8) 0 bytes) (put a word ∷ []))),
     ))) (λ _. tt)
 
 -- the deck that a filled state would be
@@ -285,11 +287,13 @@ opened h is = record { heading = is; after = (refl, refl); extents = tt; fetch =
 judged_more : (s : State) (i : Item) → IsRight s → HasForm i → stands s i ≡ true → Goes s i (after_item s i)
 judged_more Opening (header h) is form f = (tt, at_header h, refl)
 judged_more (Named h) (device v) is form f = (tt, at_device h v, refl)
-judged_more (OnDevice h v) (mask m) is form f = cond_both (is_mask m) _ _ (Goes (OnDevice h v) (mask m)) (λ right. ((form, right), at_mask h v m, refl)) (λ _. tt)
+judged_more (OnDevice h v) (mask m) is form f =
+    cond_both (is_mask m) _ _ (Goes (OnDevice h v) (mask m)) (λ right. ((form, right), at_mask h v m, refl)) (λ _. tt)
 judged_more (Masked numbers.One v m) (start a) is form f = (opened _ (record { limit = tt; mask = is; start = form }), at_start v m a, refl)
 judged_more (Masked numbers.Two v m) (start a) is form f = ((is, form), at_second_start v m a, refl)
 judged_more (Started v m a) (limit n) is form f =
-    cond_both (is_limit n) _ _ (Goes (Started v m a) (limit n)) (λ right. (opened _ (record { limit = limit_parts n right; mask = is.0; start = is.1 }), at_limit n v m a, refl)) (λ _. tt)
+    cond_both (is_limit n) _ _ (Goes (Started v m a) (limit n))
+    (λ right. (opened _ (record { limit = limit_parts n right; mask = is.0; start = is.1 }), at_limit n v m a, refl)) (λ _. tt)
 judged_more (Listing h es [] []) (extent first last) is form f = extent_more h es first last is
 judged_more (Listing h (e ∷ es) fs []) (fetch a) is form f = fetch_more h e es fs a is form
 judged_more (Listing h (e ∷ es) fs ss) (store a) is form f = store_more h e es fs ss a is form

@@ -1,6 +1,6 @@
 -- The listing: a row for each place that a program can come to, and the line of the verdict.
-use Rattle.std.specs.Prelude.{ℕ, ◌==◌, Bool, true, false, List, ◌∷◌, [], ◌++◌, codes, Option, Some}
-use Rattle.std.specs.Prelude.{None, if◌then◌else◌}
+use Rattle.std.specs.Prelude.{◌≡◌, ℕ, ◌==◌, Bool, true, false, List, ◌∷◌, [], ◌++◌, codes, Option}
+use Rattle.std.specs.Prelude.{Some, None, if◌then◌else◌}
 use Rattle.std.specs.List.{flat_map}
 use Rattle.ccw_core.specs.Ccw.{Fields, ccw_text, is_transfer}
 use Rattle.ccw_core.specs.Storage.{ccw_at}
@@ -60,13 +60,16 @@ word_text entered (Some c) command = ccw_text c ++ codes " " ++ operation_name e
 abbrev pub ccw_line : Fields → List ℕ
 ccw_line c = word_text Fresh (Some c) (lookup c.command) ++ 10 ∷ []
 
--- `address way transfer mark ccw name`, for a place at which this CCW stands with this command,
--- with its line feed
-abbrev pub row_with : Place → Option Fields → Option table.Entry → Bool → List ℕ
-row_with p c command marked =
+-- `address way transfer mark ccw name`, for a place at which this CCW stands with this command
+abbrev pub row_words : Place → Option Fields → Option table.Entry → Bool → List ℕ
+row_words p c command marked =
     address_text p.address ++ codes " " ++ way_word p.entered ++ codes " "
     ++ transfer_word p.after_transfer ++ codes " " ++ mark_word marked ++ codes " "
-    ++ word_text p.entered c command ++ 10 ∷ []
+    ++ word_text p.entered c command
+
+-- the same with its line feed
+abbrev pub row_with : Place → Option Fields → Option table.Entry → Bool → List ℕ
+row_with p c command marked = row_words p c command marked ++ 10 ∷ []
 
 -- the row of a place in this storage
 abbrev pub row : List ℕ → Place → Bool → List ℕ
@@ -88,6 +91,10 @@ rows s v ps = flat_map (marked_row s v) ps
 -- the whole listing
 abbrev pub listing : List ℕ → List Place → Verdict → List ℕ
 listing s ps v = rows s v ps ++ verdict_line v
+
+-- the last line of a wide listing is the verdict's; tests hold the rows
+abbrev pub IsWideListing : Verdict → List ℕ → Type 0
+IsWideListing v text = (rows : List ℕ) × (text ≡ rows ++ verdict_line v)
 
 -- the row of what a look at a place showed
 abbrev pub seen_row : Verdict → Seen → List ℕ

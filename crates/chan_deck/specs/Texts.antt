@@ -25,7 +25,9 @@ verdict_words (No address reason) =
 abbrev pub verdict_line : Verdict → List ℕ
 verdict_line v = verdict_words v ++ 10 ∷ []
 
--- the line of a program that starts at an address: the address, and the verdict, if there is one
-abbrev pub program_line : ℕ → Option Verdict → List ℕ
-program_line a None = address_text a ++ codes " too many places\n"
-program_line a (Some v) = address_text a ++ (codes " " ++ verdict_line v)
+-- the line of a program that starts at an address: the address, and the verdict, if there is one,
+-- with what the program looks like
+abbrev pub program_line : ℕ → Option Verdict → List ℕ → List ℕ
+program_line a None shape = address_text a ++ codes " too many places\n"
+program_line a (Some v) shape =
+    address_text a ++ (codes " " ++ (verdict_words v ++ (shape ++ 10 ∷ [])))

@@ -1,19 +1,23 @@
 //! The explanation of a verdict: what `chanv why` writes.
 
-ghost use Rattle.std.specs.Prelude.{◌≡◌, ◌++◌, string_bytes, IfOk, OnOk, option_map, slice_get};
+ghost use Rattle.std.specs.Prelude.{◌≡◌, ◌+◌, ◌==◌, ◌++◌, string_bytes, IfOk, OnOk, option_map};
+ghost use Rattle.std.specs.Prelude.{slice_get};
 ghost use Rattle.chan_deck.specs.Explanation as texts;
 ghost use Rattle.chan_deck.specs.Listing.{command_name};
 ghost use Rattle.ckd_core.specs.Entries.{entry_of};
 ghost use Rattle.ckd_core.specs.Further as further_codes;
 ghost use Rattle.chan_walk.specs.declared.evidence.Evidence.TheVariants as because;
-ghost use Rattle.chan_walk.specs.Job.{storage_of};
+ghost use Rattle.chan_deck.specs.Explanation.{AddsText, ArePathRows, AreSecondRows, IsPathRow};
+ghost use Rattle.chan_deck.specs.Explanation.{IsExplanationText, IsOffenceText, IsWitnessText};
 
-use crate::listing::{push_row, standing_at};
+use crate::listing::{push_words, standing_at};
 use crate::texts::{Address, Digits, Range, Size, verdict_text};
 use ccw_core::Area;
-use chan_walk::{Evidence, GivenBytes, Job, Offence, Outside, Place, Survey};
+use chan_walk::{
+    Evidence, GivenBytes, Job, Offence, Outside, Place, Setting, Survey, Verdict, setting_at,
+};
 use chan_why::Witness;
-use ckd_core::{Command, FileMask, further_name, lookup};
+use ckd_core::{Command, FileMask, Track, further_name, lookup};
 use std::alloc::{AllocError, Global};
 use std::fmt::Write as _;
 
@@ -104,18 +108,44 @@ fn push_seek(out: &mut String, outside: Outside) -> Result<(), AllocError>
     }
 }
 
-/// Adds what stands between two addresses in a row of them: nothing where the second follows the
-/// first, and else the end of one range and the begin of another.
-fn push_between(out: &mut String, one: u32, other: u32) -> Result<(), AllocError>
-    ensures { OnOk result (string_bytes out.new
-        ≡ string_bytes out.old ++ texts.between one other) }
+/// Whether an address comes right after another.
+fn follows(one: u32, other: u32) -> bool
+    ensures { result ≡ (other == one + 1) }
 {
-    if u64::from(other) == u64::from(one) + 1 {
+    u64::from(other) == u64::from(one) + 1
+}
+
+/// Adds the end of a range behind its first address, unless it has that address alone.
+fn push_end(out: &mut String, begin: u32, last: u32) -> Result<(), AllocError>
+    ensures { OnOk result (string_bytes out.new
+        ≡ string_bytes out.old ++ texts.range_end begin last) }
+{
+    if last == begin {
         return Ok(());
     }
-    let one = Address(one);
+    let last = Address(last);
+    write!(out, "-{last}")
+}
+
+/// Adds what stands between two addresses in a row of them: nothing where the second follows the
+/// first, and else the end of the range that begins with `begin`, and the begin of another.
+fn push_between(out: &mut String, begin: u32, one: u32, other: u32) -> Result<(), AllocError>
+    ensures { OnOk result (string_bytes out.new
+        ≡ string_bytes out.old ++ texts.between begin one other) }
+{
+    if follows(one, other) {
+        return Ok(());
+    }
+    push_end(out, begin, one)?;
     let other = Address(other);
-    write!(out, "-{one}, {other}")
+    write!(out, ", {other}")
+}
+
+/// Where the range of the second of two addresses begins, if that of the first does with `begin`.
+fn begin_after(begin: u32, one: u32, other: u32) -> u32
+    ensures { result ≡ texts.begin_after begin one other }
+{
+    if follows(one, other) { begin } else { other }
 }
 
 /// Adds the ranges of some addresses in their order.
@@ -126,13 +156,14 @@ fn push_ranges(out: &mut String, addresses: &[u32]) -> Result<(), AllocError>
     if addresses.is_empty() {
         return Ok(());
     }
-    let first = Address(addresses[0]);
+    let mut begin = addresses[0];
+    let first = Address(begin);
     write!(out, "{first}")?;
     for at in 1..addresses.len() {
-        push_between(out, addresses[at - 1], addresses[at])?;
+        push_between(out, begin, addresses[at - 1], addresses[at])?;
+        begin = begin_after(begin, addresses[at - 1], addresses[at]);
     }
-    let last = Address(addresses[addresses.len() - 1]);
-    write!(out, "-{last}")
+    push_end(out, begin, addresses[addresses.len() - 1])
 }
 
 /// Adds the bytes of an argument, and where they stand.
@@ -278,23 +309,55 @@ fn push_because(alloc: Global, out: &mut String, evidence: Evidence) -> Result<(
     out.push('\n')
 }
 
+/// Adds what an operation sets, if it sets anything.
+pub(crate) fn push_setting(out: &mut String, setting: Option<Setting>) -> Result<(), AllocError>
+    ensures { OnOk result (string_bytes out.new
+        ≡ string_bytes out.old ++ texts.setting_text setting) }
+{
+    match setting {
+        None => Ok(()),
+        Some(Setting::Arm(Track { cylinder, head })) => {
+            write!(out, " (cylinder {cylinder}, head {head})")
+        }
+        Some(Setting::Mask(byte)) => {
+            let byte = Digits(byte);
+            write!(out, " (mask {byte})")
+        }
+    }
+}
+
+/// Adds the row of a place of a path, with what is set there.
+fn push_path_row(
+    alloc: Global,
+    out: &mut String,
+    job: &Job,
+    place: Place,
+    marked: bool,
+) -> Result<(), AllocError>
+    ensures { OnOk result (AddsText (IsPathRow job.now place marked) (string_bytes out.old)
+        (string_bytes out.new)) }
+{
+    let (ccw, command) = standing_at(job, place.address);
+    push_words(alloc, out, place, ccw, command, marked)?;
+    push_setting(out, setting_at(job, place))?;
+    out.push('\n')
+}
+
 /// Adds a row for each place of a path, the last of them marked.
 fn push_path(alloc: Global, out: &mut String, job: &Job, path: &[Place]) -> Result<(), AllocError>
-    ensures { OnOk result (string_bytes out.new
-        ≡ string_bytes out.old ++ texts.path_rows (storage_of job.now) path.now) }
+    ensures { OnOk result (AddsText (ArePathRows job.now path.now) (string_bytes out.old)
+        (string_bytes out.new)) }
 {
     for at in 0..path.len() {
-        let place = path[at];
-        let (ccw, command) = standing_at(job, place.address);
-        push_row(alloc, out, place, ccw, command, at + 1 == path.len())?;
+        push_path_row(alloc, out, job, path[at], at + 1 == path.len())?;
     }
     Ok(())
 }
 
 /// Adds the path to what is changed, if there is one.
 fn push_second(alloc: Global, out: &mut String, job: &Job, path: &[Place]) -> Result<(), AllocError>
-    ensures { OnOk result (string_bytes out.new
-        ≡ string_bytes out.old ++ texts.second_rows (storage_of job.now) path.now) }
+    ensures { OnOk result (AddsText (AreSecondRows job.now path.now) (string_bytes out.old)
+        (string_bytes out.new)) }
 {
     if path.is_empty() {
         return Ok(());
@@ -390,8 +453,8 @@ fn push_witness(
     job: &Job,
     witness: &Witness,
 ) -> Result<(), AllocError>
-    ensures { OnOk result (string_bytes out.new ≡ string_bytes out.old
-        ++ texts.witness_text (storage_of job.now) witness.now witness.now.evidence) }
+    ensures { OnOk result (AddsText (IsWitnessText job.now witness.now witness.now.evidence)
+        (string_bytes out.old) (string_bytes out.new)) }
 {
     let Some(evidence) = witness.evidence else {
         return Ok(());
@@ -402,13 +465,28 @@ fn push_witness(
     push_second(alloc, out, job, witness.second_path.as_slice())
 }
 
-/// The explanation of a verdict as text: its line; the path to an offending place, a row for each
+/// The line of a verdict, and what shows an offence: the path to an offending place, a row for each
 /// place, the last marked; the cause, with its values; the place that stores over the path's end;
-/// the path to the CCW or argument that is changed; and a line for each other address and reason
-/// that offends, followed by the line of its cause if the caller hands in the causes of all
-/// offences. An error means that an allocation failed.
+/// and the path to the CCW or argument that is changed. An error means that an allocation failed.
 ///
-/// The rows show the CCWs in the job's storage, whether or not the explanation is the job's.
+/// The rows show the CCWs in the job's storage, whether or not the witness is the job's. A row at
+/// which a seek, Recalibrate or Set File Mask begins says at its end what it sets.
+pub fn offence_text(
+    alloc: Global,
+    job: &Job,
+    verdict: Verdict,
+    witness: &Witness,
+) -> Result<String, AllocError>
+    ensures { IfOk result (λ t. IsOffenceText job.now verdict witness.now (string_bytes t)) }
+{
+    let mut text = verdict_text(alloc, verdict)?;
+    push_witness(alloc, &mut text, job, witness)?;
+    Ok(text)
+}
+
+/// The explanation of a verdict as text: that of `offence_text` for the witness of its offence, and
+/// a line for each other address and reason that offends, followed by the line of its cause if the
+/// caller hands in the causes of all offences. An error means that an allocation failed.
 pub fn explanation_text(
     alloc: Global,
     job: &Job,
@@ -417,11 +495,10 @@ pub fn explanation_text(
     causes: &[Evidence],
 ) -> Result<String, AllocError>
     ensures { IfOk result
-        (λ t. string_bytes t ≡ texts.explanation (storage_of job.now)
-        survey.now.offences causes.now witness.now) }
+        (λ t. IsExplanationText job.now survey.now.offences causes.now witness.now
+        (string_bytes t)) }
 {
-    let mut text = verdict_text(alloc, survey.verdict())?;
-    push_witness(alloc, &mut text, job, witness)?;
+    let mut text = offence_text(alloc, job, survey.verdict(), witness)?;
     push_others(alloc, &mut text, survey.offences(), causes)?;
     Ok(text)
 }

@@ -5,16 +5,18 @@ ghost use Rattle.std.specs.Prelude.{◌≡◌, ◌++◌, codes, option_map, stri
 ghost use Rattle.chan_deck.specs.Graph.{IsPictureOf, escaped, escaped_byte, titled};
 ghost use Rattle.chan_deck.specs.Texts.{verdict_words};
 
-use crate::explanation::push_cause;
+use crate::explanation::{push_cause, push_setting};
 use crate::layout::{
-    Arrow, Layout, MOST_ROWS, Row, arrow_to, first_offence, first_row, is_left_out_of, layout_of,
-    row_at,
+    Arrow, Layout, MOST_ROWS, Row, Scene, arrow_to, first_offence, first_row, is_left_out_of,
+    layout_of, row_at,
 };
 use crate::listing::{name_of, transfer_word, way_word};
 use crate::texts::{Address, Digits, Range, Size, push_verdict};
 use chan_walk::{
     Direction, Entry, Evidence, Job, Look, Offence, Place, Verdict, data_of, first_place,
+    setting_at,
 };
+use chan_why::can_end;
 use ckd_core::{Device, Kind};
 use std::alloc::{AllocError, Global};
 use std::fmt;
@@ -23,8 +25,10 @@ use std::fmt::Write as _;
 /// Above so many boxes arrows have no labels, which Graphviz takes long to place.
 const MOST_LABELLED: usize = 200;
 
-/// How many extents the title names.
+/// How many extents the title names, and how many notes it has.
 const MOST_EXTENTS: usize = 4;
+
+const MOST_NOTES: usize = 8;
 
 const STYLES: &str = "  node [shape=plain, fontname=\"monospace\", fontsize=10];
   edge [arrowsize=0.7, fontname=\"sans-serif\", fontsize=9];
@@ -43,6 +47,11 @@ pub struct Picture<'a> {
     pub offences: &'a [Offence],
     /// The cause of each offence.
     pub causes: &'a [Evidence],
+    /// The last place of the path to the verdict's place that stores over what stands there, as its
+    /// witness tells.
+    pub stored_over: Option<Place>,
+    /// The notes on the job, a line each; lines that don't begin with `note: ` are left out.
+    pub notes: &'a str,
 }
 
 /// A place as the name of its node.
@@ -162,7 +171,25 @@ fn push_cylinders(out: &mut String, extents: &[(u16, u16)]) -> Result<(), AllocE
     Ok(())
 }
 
-/// Adds the second line of the title: for whom the verdict is one.
+/// Adds the notes, of many only the first.
+fn push_notes(out: &mut String, notes: &str) -> Result<(), AllocError> {
+    let mut count: usize = 0;
+    for line in notes.lines() {
+        if line.starts_with("note: ") {
+            if count < MOST_NOTES {
+                write!(out, "\\n{line}")?;
+            }
+            count = count.saturating_add(1);
+        }
+    }
+    let more = count.saturating_sub(MOST_NOTES);
+    if more > 0 {
+        write!(out, "\\n{more} more notes")?;
+    }
+    Ok(())
+}
+
+/// Adds the second line of the title: for whom the verdict is one; and the notes.
 fn push_grants(out: &mut String, picture: &Picture) -> Result<(), AllocError> {
     let job = picture.job;
     let device = match job.device {
@@ -177,9 +204,11 @@ fn push_grants(out: &mut String, picture: &Picture) -> Result<(), AllocError> {
         Verdict::Yes => "#006000",
         Verdict::No { .. } => "#B00000",
     };
+    write!(out, ", storage {size}")?;
+    push_notes(out, picture.notes)?;
     write!(
         out,
-        ", storage {size}\", labelloc=t, fontname=\"sans-serif\", fontsize=12,\n    \
+        "\", labelloc=t, fontname=\"sans-serif\", fontsize=12,\n    \
          fontcolor=\"{color}\", ranksep=0.45, nodesep=0.4];\n"
     )
 }
@@ -187,7 +216,7 @@ fn push_grants(out: &mut String, picture: &Picture) -> Result<(), AllocError> {
 // ---- boxes
 
 /// The name of what stands at a place, in two parts: for a CCW of a data chain also its way.
-fn name_at(look: &Look) -> (&'static str, &'static str) {
+pub(crate) fn name_at(look: &Look) -> (&'static str, &'static str) {
     let entered = look.place().entered;
     match look.ccw() {
         None => ("no-ccw", ""),
@@ -198,19 +227,26 @@ fn name_at(look: &Look) -> (&'static str, &'static str) {
     }
 }
 
-/// How many letters the name has.
-fn width_at(look: &Look) -> usize {
+/// The name of what stands at a place, with what is set there.
+fn name_text(alloc: Global, job: &Job, look: &Look) -> Result<String, AllocError> {
     let (name, way) = name_at(look);
-    name.len().saturating_add(way.len())
+    let mut text = format!(in alloc; "{name}{way}")?;
+    let setting = setting_at(job, look.place());
+    if setting.is_some() {
+        text.push(' ')?;
+    }
+    push_setting(&mut text, setting)?;
+    Ok(text)
 }
 
 /// What a CCW does with its data range, if it has one.
-fn verb_at(look: &Look) -> Option<&'static str> {
-    if look.ccw()?.count() == 0 {
+pub(crate) fn verb_at(look: &Look) -> Option<&'static str> {
+    let ccw = look.ccw()?;
+    if ccw.is_transfer() || ccw.count() == 0 {
         return None;
     }
     if look.moves(Direction::Store) {
-        return Some("stores ");
+        return Some("stores");
     }
     if look.moves(Direction::Fetch) {
         return Some("fetches");
@@ -219,25 +255,29 @@ fn verb_at(look: &Look) -> Option<&'static str> {
         Some(command) => command.kind() == Kind::Inward,
         None => look.place().entered == Entry::ChainIn,
     };
-    if reads { Some("skips  ") } else { None }
+    if reads { Some("skips") } else { None }
 }
 
 /// The text of a row; `width` is that of the longest name in its box.
-fn row_text(alloc: Global, row: &Row, width: usize) -> Result<String, AllocError> {
+fn row_text(alloc: Global, job: &Job, row: &Row, width: usize) -> Result<String, AllocError> {
     let look = row.look;
     let address = Address(look.place().address);
-    let (name, way) = name_at(look);
-    let mut text = format!(in alloc; "{address}  {name}{way}")?;
+    let name = name_text(alloc, job, look)?;
+    let mut text = format!(in alloc; "{address}  {name}")?;
     if let (Some(verb), Some(ccw)) = (verb_at(look), look.ccw()) {
-        for _ in width_at(look)..width {
+        for _ in name.len()..width {
             text.push(' ')?;
         }
         let range = Range(data_of(&ccw));
-        write!(text, "  {verb} {range}")?;
+        write!(text, "  {verb:<7} {range}")?;
     }
     if let Some(transfer) = row.until {
         let transfer = Address(transfer);
         write!(text, "  until found (TIC {transfer})")?;
+    }
+    if let Some(address) = row.stored_by {
+        let address = Address(address);
+        write!(text, "  stored over by {address}")?;
     }
     Ok(text)
 }
@@ -269,13 +309,14 @@ fn push_line(out: &mut String, cell: Option<Cell>, text: &str) -> Result<(), All
 fn push_rows(
     alloc: Global,
     out: &mut String,
-    looks: &[Look],
+    job: &Job,
+    scene: Scene<'_>,
     rows: &[usize],
 ) -> Result<(), AllocError> {
     let mut width = 0;
     for at in rows {
-        if let Some(look) = looks.get(*at) {
-            width = width.max(width_at(look));
+        if let Some(look) = scene.looks.get(*at) {
+            width = width.max(name_text(alloc, job, look)?.len());
         }
     }
     for (k, at) in rows.iter().enumerate() {
@@ -285,9 +326,9 @@ fn push_rows(
                 let text = format!(in alloc; "...     {more} more")?;
                 push_line(out, Some(Cell::LeftOut), text.as_str())?;
             }
-        } else if let Some(row) = row_at(looks, *at) {
+        } else if let Some(row) = row_at(scene, *at) {
             let cell = Cell::Row(row.look.place().address);
-            push_line(out, Some(cell), row_text(alloc, &row, width)?.as_str())?;
+            push_line(out, Some(cell), row_text(alloc, job, &row, width)?.as_str())?;
         }
     }
     Ok(())
@@ -354,13 +395,15 @@ fn is_named(verdict: Verdict, place: Place) -> bool {
 }
 
 /// Adds the box of some rows, of which this place is the first: a pink one if it offends, and then
-/// it is alone.
+/// it is alone; a yellow one if it is endless.
 fn push_box(
     alloc: Global,
     out: &mut String,
     picture: &Picture,
+    scene: Scene<'_>,
     place: Place,
     rows: &[usize],
+    is_endless: bool,
 ) -> Result<(), AllocError> {
     let name = Node(place);
     let width = if is_named(picture.verdict, place) {
@@ -369,17 +412,22 @@ fn push_box(
         1
     };
     let offences = offences_of(alloc, picture, place)?;
-    let colors = if offences.is_empty() {
-        ""
-    } else {
+    let colors = if !offences.is_empty() {
         " color=\"#B00000\" bgcolor=\"#FFE9E9\""
+    } else if is_endless {
+        " bgcolor=\"#FFF6D5\""
+    } else {
+        ""
     };
     write!(
         out,
         "  \"{name}\" [label=<<table border=\"{width}\" cellborder=\"0\" cellspacing=\"0\" \
          cellpadding=\"1\"{colors}>"
     )?;
-    push_rows(alloc, out, picture.looks, rows)?;
+    push_rows(alloc, out, picture.job, scene, rows)?;
+    if is_endless {
+        push_line(out, None, "never ends by itself")?;
+    }
     for (offence, cause) in &offences {
         push_reason(alloc, out, *offence, *cause)?;
     }
@@ -391,9 +439,11 @@ fn push_boxes(
     alloc: Global,
     out: &mut String,
     picture: &Picture,
+    scene: Scene<'_>,
     layout: &Layout,
+    ends: &[bool],
 ) -> Result<(), AllocError> {
-    let looks = picture.looks;
+    let looks = scene.looks;
     let mut frame: Option<u32> = None;
     for (at, look) in looks.iter().enumerate() {
         if layout.head(at) != Some(at) {
@@ -413,7 +463,8 @@ fn push_boxes(
             frame = Some(place.address);
         }
         let rows = layout.rows(alloc, at)?;
-        push_box(alloc, out, picture, place, &rows)?;
+        let is_endless = ends.get(at).copied() == Some(false);
+        push_box(alloc, out, picture, scene, place, &rows, is_endless)?;
     }
     if frame.is_some() {
         out.push_str("  }\n")?;
@@ -522,6 +573,7 @@ fn push_changes(
     alloc: Global,
     out: &mut String,
     picture: &Picture,
+    scene: Scene<'_>,
     layout: &Layout,
     at: usize,
     place: Place,
@@ -534,7 +586,7 @@ fn push_changes(
         let Some(address) = changed_at(*cause) else {
             continue;
         };
-        let row = first_row(picture.looks, address);
+        let row = first_row(scene, address);
         if row == last {
             continue;
         }
@@ -553,12 +605,12 @@ fn push_changes(
 /// Adds the arrow to the box of the first place.
 fn push_start(
     out: &mut String,
-    picture: &Picture,
+    scene: Scene<'_>,
     layout: &Layout,
     first: Place,
 ) -> Result<(), AllocError> {
-    let arrow = arrow_to(picture.looks, Some(first));
-    match arrow.and_then(|arrow| node_of(picture.looks, layout, arrow.to)) {
+    let arrow = arrow_to(scene, Some(first));
+    match arrow.and_then(|arrow| node_of(scene.looks, layout, arrow.to)) {
         Some(first) => write!(out, "  start -> \"{first}\";\n"),
         None => Ok(()),
     }
@@ -578,11 +630,12 @@ fn push_arrows(
     alloc: Global,
     out: &mut String,
     picture: &Picture,
+    scene: Scene<'_>,
     layout: &Layout,
 ) -> Result<(), AllocError> {
-    let looks = picture.looks;
+    let looks = scene.looks;
     for at in 0..looks.len() {
-        let (Some(row), Some(from)) = (row_at(looks, at), node_of(looks, layout, at)) else {
+        let (Some(row), Some(from)) = (row_at(scene, at), node_of(looks, layout, at)) else {
             continue;
         };
         push_arrow(out, picture, layout, at, row.next, false)?;
@@ -590,7 +643,7 @@ fn push_arrows(
         if row.next.is_none() && row.skip.is_none() && row.look.fault().is_none() {
             push_end(out, from)?;
         }
-        push_changes(alloc, out, picture, layout, at, row.look.place())?;
+        push_changes(alloc, out, picture, scene, layout, at, row.look.place())?;
     }
     Ok(())
 }
@@ -599,9 +652,10 @@ fn push_arrows(
 /// allocation failed.
 ///
 /// CCWs stand in boxes, a row each; those behind each other to which no other way leads share one.
-/// A transfer in channel is a label on the arrow through it. A place that offends is alone in a
-/// pink box, with its reasons and their causes. A dashed arrow is taken if a search finds, and a
-/// dotted one leads from a row to the row that it stores over.
+/// A transfer in channel is a label on the arrow through it, unless something is stored over it. A
+/// place that offends is alone in a pink box, with its reasons and their causes; after a yes, boxes
+/// from which the program never ends by itself are yellow. A dashed arrow is taken if a search
+/// finds, and a dotted one leads from a row to the row that it stores over.
 pub fn graph_text(alloc: Global, picture: &Picture) -> Result<String, AllocError>
     ensures { IfOk result (λ text. IsPictureOf (option_map (λ n. n.now) picture.now.name)
         picture.now.verdict (string_bytes text)) }
@@ -614,15 +668,55 @@ pub fn graph_text(alloc: Global, picture: &Picture) -> Result<String, AllocError
     Ok(text)
 }
 
+/// Notes that the CCWs at some addresses are stored over, unless that is noted already.
+fn note_stores(stored_by: &mut [Option<u32>], looks: &[Look], from: u32, to: u64, by: u32) {
+    let first = looks.partition_point(|look| look.place().address < from);
+    for at in first..looks.len().min(stored_by.len()) {
+        if u64::from(looks[at].place().address) >= to {
+            return;
+        }
+        stored_by[at] = stored_by[at].or(Some(by));
+    }
+}
+
+/// For each place the address of the CCW that stores over its own and so offends; for the verdict's
+/// place of the CCW that stores over what stands there.
+fn stores_over(alloc: Global, picture: &Picture) -> Result<Vec<Option<u32>>, AllocError> {
+    let looks = picture.looks;
+    let mut stored_by = Vec::new(alloc);
+    stored_by.resize(looks.len(), None)?;
+    if let (Verdict::No { address, .. }, Some(by)) = (picture.verdict, picture.stored_over) {
+        let to = u64::from(address).saturating_add(1);
+        note_stores(&mut stored_by, looks, address, to, by.address);
+    }
+    for (offence, cause) in picture.offences.iter().zip(picture.causes) {
+        if let Evidence::ChangesCcw { data, .. } = cause {
+            let to = u64::from(data.start).saturating_add(u64::from(data.len));
+            let by = offence.place.address;
+            note_stores(&mut stored_by, looks, data.start.saturating_sub(7), to, by);
+        }
+    }
+    Ok(stored_by)
+}
+
 /// All that stands between the verdict in the title and the last line.
 fn body_of(alloc: Global, picture: &Picture) -> Result<String, AllocError> {
     let first = first_place(picture.job);
-    let layout = layout_of(alloc, first, picture.looks, picture.offences)?;
+    let stored_by = stores_over(alloc, picture)?;
+    let scene = Scene {
+        looks: picture.looks,
+        stored_by: &stored_by,
+    };
+    let layout = layout_of(alloc, first, scene, picture.offences)?;
+    let ends = match picture.verdict {
+        Verdict::Yes => can_end(alloc, picture.looks)?,
+        Verdict::No { .. } => Vec::new(alloc),
+    };
     let mut out = String::new(alloc);
     push_grants(&mut out, picture)?;
     out.push_str(STYLES)?;
-    push_boxes(alloc, &mut out, picture, &layout)?;
-    push_start(&mut out, picture, &layout, first)?;
-    push_arrows(alloc, &mut out, picture, &layout)?;
+    push_boxes(alloc, &mut out, picture, scene, &layout, &ends)?;
+    push_start(&mut out, scene, &layout, first)?;
+    push_arrows(alloc, &mut out, picture, scene, &layout)?;
     Ok(out)
 }

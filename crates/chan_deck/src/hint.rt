@@ -127,13 +127,12 @@ const BYTE_ORDER_MARK: &[u8] = b"\xEF\xBB\xBF";
 fn push_shown(out: &mut String, line: &[u8]) -> Result<(), AllocError> {
     let mut room = SHOWN;
     for (at, byte) in line.iter().enumerate() {
-        let is_seen = byte.is_ascii_graphic() || (*byte == b' ' && at + 1 < line.len());
-        let width = if is_seen { 1 } else { 4 };
+        let width = width_at(line, at);
         if width > room {
             return out.push_str(" ..");
         }
         room -= width;
-        if is_seen {
+        if width == 1 {
             out.push(char::from(*byte))?;
         } else {
             let digits = Digits(*byte);
@@ -141,6 +140,14 @@ fn push_shown(out: &mut String, line: &[u8]) -> Result<(), AllocError> {
         }
     }
     Ok(())
+}
+
+/// How many characters a byte of a line takes as it is shown.
+fn width_at(line: &[u8], at: usize) -> usize {
+    match line.get(at) {
+        Some(byte) if byte.is_ascii_graphic() || (*byte == b' ' && at < line.len() - 1) => 1,
+        _ => 4,
+    }
 }
 
 /// Adds the line that was found, or words for an empty line and for the end of the text.
@@ -171,7 +178,7 @@ fn push_keywords(out: &mut String, forms: &[Form]) -> Result<(), AllocError> {
 fn push_order(out: &mut String, spot: &Spot<'_>, forms: &[Form]) -> Result<(), AllocError> {
     let Some(form) = begun_as(&FORMS, spot.found) else {
         if spot.found.starts_with(b"keep ") {
-            return out.push_str("; keep isn't a line of a deck");
+            return out.push_str("; keep is a line of chanv needs, not of a deck");
         }
         return Ok(());
     };
@@ -184,23 +191,36 @@ fn push_order(out: &mut String, spot: &Spot<'_>, forms: &[Form]) -> Result<(), A
     let word = form.keyword();
     match form {
         Form::Limit if spot.before.last.is_some() && !spot.before.is_second => {
-            out.push_str("; only chanv deck 2 has limit")
+            out.push_str("; only a deck of version 2 has limit")
         }
         _ if form.number() < first.number() => write!(out, "; {word} comes earlier"),
         _ => write!(out, "; {word} comes later"),
     }
 }
 
-/// If the text begins with a byte-order mark, or the line ends with a carriage return, adds what is
-/// wrong with it.
+/// If the text begins with a byte-order mark, or the line has a no-break blank or ends with a
+/// carriage return, adds what is wrong with it.
 fn push_bytes(out: &mut String, spot: &Spot<'_>) -> Result<(), AllocError> {
     if spot.before.last.is_none() && spot.found.starts_with(BYTE_ORDER_MARK) {
         out.push_str("; a byte-order mark comes before it")?;
+    }
+    if has_pair(spot.found, 0xC2, 0xA0) {
+        out.push_str("; \\xC2\\xA0 is a no-break blank")?;
     }
     if spot.found.ends_with(b"\r") {
         out.push_str("; lines end with a line feed alone")?;
     }
     Ok(())
+}
+
+/// Whether a line has two bytes one behind the other.
+fn has_pair(line: &[u8], first: u8, second: u8) -> bool {
+    for at in 1..line.len() {
+        if line[at - 1] == first && line[at] == second {
+            return true;
+        }
+    }
+    false
 }
 
 /// Adds the forms that may come at a spot: the pattern of the only one, or of the one that the line
@@ -237,7 +257,7 @@ fn push_place(out: &mut String, spot: &Spot<'_>) -> Result<(), AllocError> {
         let size = Size(spot.before.size.unwrap_or(0));
         return write!(
             out,
-            "an address at which storage of {size} bytes has eight bytes"
+            "an address whose eight bytes lie in storage of {size} bytes"
         );
     }
     out.push_str("an address")?;
@@ -248,23 +268,22 @@ fn push_place(out: &mut String, spot: &Spot<'_>) -> Result<(), AllocError> {
     out.push_str(" that is a multiple of 8")
 }
 
-/// The condition that a line refused for this cause doesn't meet, or `""` for a cause whose text
-/// depends on the line.
+/// What a line refused for this cause has to be, or `""` if that depends on the line.
 fn condition(cause: Cause) -> &'static str {
     match cause {
         Cause::Mask => "a mask with only bits of C0 and 18 on",
-        Cause::ExtentBackwards => "a last cylinder that isn't below the first",
+        Cause::ExtentBackwards => "a last cylinder at or above the first",
         Cause::ExtentPastDevice => "a last cylinder of at most 202",
         Cause::Size => "a multiple of 8 that is at most 1000000",
-        Cause::PutZero => "eight bytes that aren't all zero",
-        Cause::After => "nothing after the line end",
+        Cause::PutZero => "eight bytes that aren't all zero; leave the line out, storage is zero",
+        Cause::After => "no byte after the line end",
         Cause::Limit => "a limit from 00001 to 65536",
         _ => "",
     }
 }
 
 /// Whether the input isn't text, judged by the first bytes of its first line. A byte-order mark may
-/// come before them.
+/// come before them, and a no-break blank between them.
 fn is_no_text(spot: &Spot<'_>) -> bool {
     let line = spot
         .found
@@ -272,14 +291,28 @@ fn is_no_text(spot: &Spot<'_>) -> bool {
         .unwrap_or(spot.found);
     spot.before.last.is_none()
         && line.iter().take(SHOWN).any(|byte| {
-            !byte.is_ascii_graphic() && *byte != b' ' && *byte != b'\t' && *byte != b'\r'
+            !byte.is_ascii_graphic() && !matches!(*byte, b' ' | b'\t' | b'\r' | 0xC2 | 0xA0)
         })
+}
+
+/// Whether the text begins as one in UTF-16 does: with its byte-order mark, or with a `c` in two
+/// bytes.
+fn is_in_utf_16(spot: &Spot<'_>) -> bool {
+    spot.before.last.is_none()
+        && [b"\xFF\xFE", b"\xFE\xFF", b"c\0", b"\0c"]
+            .iter()
+            .any(|front| spot.found.starts_with(*front))
 }
 
 /// Adds the text or the condition that belongs there.
 fn push_expected(out: &mut String, spot: &Spot<'_>, cause: Cause) -> Result<(), AllocError> {
+    if is_in_utf_16(spot) {
+        return out.push_str("a deck in ASCII; this text is in UTF-16");
+    }
     if is_no_text(spot) {
-        return out.push_str("a deck, which is text; chanv deck makes one of an image of storage");
+        return out.push_str(
+            "a deck, which is text; chanv deck turns an image of storage into a deck",
+        );
     }
     match cause {
         Cause::Ended if !spot.is_whole && !spot.found.is_empty() => {
@@ -291,23 +324,80 @@ fn push_expected(out: &mut String, spot: &Spot<'_>, cause: Cause) -> Result<(), 
     }
 }
 
+/// Adds a line with a caret under the first character that the only form that may come there, or
+/// the one that the line begins like, doesn't have at its place, if the line is text and that is
+/// shown.
+fn push_caret(out: &mut String, spot: &Spot<'_>, cause: Cause) -> Result<(), AllocError> {
+    let form = match (cause, forms_behind(spot.before.last, spot.before.is_second)) {
+        (Cause::Form | Cause::Header, [form]) => *form,
+        (Cause::Form, forms) => match begun_as(forms, spot.found) {
+            Some(form) => form,
+            None => return Ok(()),
+        },
+        _ => return Ok(()),
+    };
+    if spot.found.is_empty() || is_no_text(spot) {
+        return Ok(());
+    }
+    let mut indent = 0usize;
+    for at in 0..fitting(form, spot.found) {
+        indent = indent.saturating_add(width_at(spot.found, at));
+    }
+    if indent > SHOWN {
+        return Ok(());
+    }
+    for _ in 0.."found ".len() + indent {
+        out.push(' ')?;
+    }
+    out.push_str("^\n")
+}
+
+/// How many first bytes of a line are as a form has them.
+fn fitting(form: Form, line: &[u8]) -> usize {
+    form.pattern()
+        .split(", ")
+        .map(|pattern| fitting_one(pattern.as_bytes(), line))
+        .max()
+        .unwrap_or(0)
+}
+
+/// How many first bytes of a line are as a pattern has them.
+fn fitting_one(pattern: &[u8], line: &[u8]) -> usize {
+    for at in 0..line.len() {
+        let fits = match pattern.get(at) {
+            Some(b'X') => matches!(line[at], b'0'..=b'9' | b'A'..=b'F'),
+            Some(b'N') => line[at].is_ascii_digit(),
+            Some(letter) => line[at] == *letter,
+            None => false,
+        };
+        if !fits {
+            return at;
+        }
+    }
+    line.len()
+}
+
 /// The hint for a text that is refused at this line for this cause: a line `found ` with the
-/// refused line, and a line `expected ` with the text that may replace it, or the condition that it
-/// doesn't meet. An error means that an allocation failed.
+/// refused line; below its first wrong character, if there is one, a caret; and a line `expected `
+/// with the text that may replace it, or the condition that it doesn't meet. An error means that an
+/// allocation failed.
 ///
 /// The hint shows at most 60 characters of the line, and ` ..` if there are more. A byte that isn't
 /// printable ASCII becomes `\x` and two digits, and so does a blank at the line's end. Words name
 /// an empty line and the end of the text. If several forms may come, the hint lists their keywords,
 /// or gives the pattern of the one whose keyword the line begins with; if the line begins like
-/// another form, it says that this form comes earlier or later. It names a byte-order mark and a
-/// carriage return. If the first bytes aren't text, it names the command that makes a deck.
+/// another form, it says that this form comes earlier or later. It names a byte-order mark, a
+/// no-break blank and a carriage return. If the first bytes aren't text, it names the command that
+/// makes a deck.
 pub fn hint_text(alloc: Global, text: &[u8], line: u64, cause: Cause) -> Result<Vec<u8>, AllocError>
     ensures { IfOk result (λ text. text.items ≢ []) }
 {
     let spot = spot_behind(text, line.saturating_sub(1));
     let mut out = String::from_str(alloc, "found ")?;
     push_found(&mut out, &spot)?;
-    out.push_str("\nexpected ")?;
+    out.push_str("\n")?;
+    push_caret(&mut out, &spot, cause)?;
+    out.push_str("expected ")?;
     push_expected(&mut out, &spot, cause)?;
     out.push_str("\n")?;
     Ok(out.into_bytes())

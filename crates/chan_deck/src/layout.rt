@@ -13,6 +13,14 @@ pub(crate) fn is_left_out_of(length: usize, number: usize) -> bool {
     length > MOST_ROWS && first <= number && number < length.saturating_sub(first)
 }
 
+/// The looks at the places of a program, in order, and for each the address of the CCW that is said
+/// to store over its CCW.
+#[derive(Clone, Copy)]
+pub(crate) struct Scene<'a> {
+    pub(crate) looks: &'a [Look],
+    pub(crate) stored_by: &'a [Option<u32>],
+}
+
 /// An arrow from one row to another. Rows have the index of their look.
 #[derive(Clone, Copy)]
 pub(crate) struct Arrow {
@@ -31,6 +39,8 @@ pub(crate) struct Row<'a> {
     pub(crate) next: Option<Arrow>,
     /// The arrow that status modifier takes.
     pub(crate) skip: Option<Arrow>,
+    /// The address of the CCW that stores over this one.
+    pub(crate) stored_by: Option<u32>,
 }
 
 /// Whether a transfer in channel stands at a place.
@@ -41,9 +51,20 @@ fn is_transfer(look: &Look) -> bool {
     }
 }
 
-/// Whether a place is drawn as a label on arrows alone: a transfer without a fault is.
-fn is_passage(look: &Look) -> bool {
-    is_transfer(look) && look.fault().is_none()
+/// Whether a place is drawn as a label on arrows alone: a transfer without a fault is, unless
+/// something is stored over it.
+fn is_passage(scene: Scene<'_>, at: usize) -> bool {
+    match scene.looks.get(at) {
+        Some(look) => {
+            is_transfer(look) && look.fault().is_none() && stored_at(scene, at).is_none()
+        }
+        None => false,
+    }
+}
+
+/// The address of the CCW that stores over that of a look.
+fn stored_at(scene: Scene<'_>, at: usize) -> Option<u32> {
+    scene.stored_by.get(at).copied().flatten()
 }
 
 /// Whether two places differ only in whether a transfer leads there, which matters for a transfer
@@ -54,7 +75,7 @@ fn are_twins(one: &Look, other: &Look) -> bool {
 }
 
 /// The first of a place and its twin.
-fn first_twin(looks: &[Look], at: usize) -> usize {
+pub(crate) fn first_twin(looks: &[Look], at: usize) -> usize {
     let before = at.saturating_sub(1);
     match (looks.get(before), looks.get(at)) {
         (Some(one), Some(other)) if are_twins(one, other) => before,
@@ -63,10 +84,11 @@ fn first_twin(looks: &[Look], at: usize) -> usize {
 }
 
 /// The arrow to a place, if it was looked at.
-pub(crate) fn arrow_to(looks: &[Look], place: Option<Place>) -> Option<Arrow> {
+pub(crate) fn arrow_to(scene: Scene<'_>, place: Option<Place>) -> Option<Arrow> {
+    let looks = scene.looks;
     let at = index_of(looks, place?)?;
     let look = looks.get(at)?;
-    if !is_passage(look) {
+    if !is_passage(scene, at) {
         return Some(Arrow {
             to: first_twin(looks, at),
             through: None,
@@ -90,14 +112,14 @@ fn index_of(looks: &[Look], place: Place) -> Option<usize> {
 }
 
 /// The row of a place, if it has one of its own.
-pub(crate) fn row_at(looks: &[Look], at: usize) -> Option<Row<'_>> {
-    let look = looks.get(at)?;
-    if is_passage(look) || first_twin(looks, at) != at {
+pub(crate) fn row_at<'a>(scene: Scene<'a>, at: usize) -> Option<Row<'a>> {
+    let look = scene.looks.get(at)?;
+    if is_passage(scene, at) || first_twin(scene.looks, at) != at {
         return None;
     }
     let onward = look.next();
-    let next = arrow_to(looks, onward.next);
-    let skip = arrow_to(looks, onward.skip);
+    let next = arrow_to(scene, onward.next);
+    let skip = arrow_to(scene, onward.skip);
     let until = match (next, skip) {
         (Some(next), Some(_)) if next.to == at => next.through,
         _ => None,
@@ -108,17 +130,19 @@ pub(crate) fn row_at(looks: &[Look], at: usize) -> Option<Row<'_>> {
         until,
         next,
         skip,
+        stored_by: stored_at(scene, at),
     })
 }
 
 /// The first row at an address.
-pub(crate) fn first_row(looks: &[Look], address: u32) -> Option<usize> {
+pub(crate) fn first_row(scene: Scene<'_>, address: u32) -> Option<usize> {
+    let looks = scene.looks;
     let first = looks.partition_point(|look| look.place().address < address);
     for at in first..looks.len() {
         if looks.get(at)?.place().address != address {
             return None;
         }
-        if row_at(looks, at).is_some() {
+        if row_at(scene, at).is_some() {
             return Some(at);
         }
     }
@@ -202,14 +226,12 @@ fn count(ways: &mut Vec<u32>, arrow: Option<Arrow>) {
 }
 
 /// How many arrows lead to each row; one more leads to that of the first place.
-fn ways_in(alloc: Global, first: Place, looks: &[Look]) -> Result<Vec<u32>, AllocError> {
+fn ways_in(alloc: Global, first: Place, scene: Scene<'_>) -> Result<Vec<u32>, AllocError> {
     let mut ways = Vec::new(alloc);
-    for _ in looks {
-        ways.push(0)?;
-    }
-    count(&mut ways, arrow_to(looks, Some(first)));
-    for at in 0..looks.len() {
-        if let Some(row) = row_at(looks, at) {
+    ways.resize(scene.looks.len(), 0)?;
+    count(&mut ways, arrow_to(scene, Some(first)));
+    for at in 0..scene.looks.len() {
+        if let Some(row) = row_at(scene, at) {
             count(&mut ways, row.next);
             count(&mut ways, row.skip);
         }
@@ -218,12 +240,12 @@ fn ways_in(alloc: Global, first: Place, looks: &[Look]) -> Result<Vec<u32>, Allo
 }
 
 /// For each place whether another row has its address.
-fn framed_rows(alloc: Global, looks: &[Look]) -> Result<Vec<bool>, AllocError> {
+fn framed_rows(alloc: Global, scene: Scene<'_>) -> Result<Vec<bool>, AllocError> {
     let mut framed = Vec::new(alloc);
     let mut last: Option<(usize, u32)> = None;
-    for at in 0..looks.len() {
+    for at in 0..scene.looks.len() {
         framed.push(false)?;
-        let Some(row) = row_at(looks, at) else {
+        let Some(row) = row_at(scene, at) else {
             continue;
         };
         let address = row.look.place().address;
@@ -252,11 +274,12 @@ fn leads_straight(row: &Row, to: usize) -> bool {
 pub(crate) fn layout_of(
     alloc: Global,
     first: Place,
-    looks: &[Look],
+    scene: Scene<'_>,
     offences: &[Offence],
 ) -> Result<Layout, AllocError> {
-    let ways = ways_in(alloc, first, looks)?;
-    let framed = framed_rows(alloc, looks)?;
+    let looks = scene.looks;
+    let ways = ways_in(alloc, first, scene)?;
+    let framed = framed_rows(alloc, scene)?;
     let is_apart = |at: usize, row: &Row| {
         framed.get(at).copied().unwrap_or(true) || offends(offences, row.look.place())
     };
@@ -268,7 +291,7 @@ pub(crate) fn layout_of(
     // The row before, if more may join it, and the head of its box.
     let mut open: Option<(Row, usize)> = None;
     for at in 0..looks.len() {
-        let Some(row) = row_at(looks, at) else {
+        let Some(row) = row_at(scene, at) else {
             heads.push(None)?;
             numbers.push(0)?;
             continue;

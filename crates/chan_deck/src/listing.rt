@@ -132,8 +132,29 @@ pub fn ccw_line(alloc: Global, ccw: Ccw) -> Result<String, AllocError>
     Ok(line)
 }
 
-/// Adds the row of a place to a text, given the CCW that stands there and the command of its code.
-pub(crate) fn push_row(
+/// Adds the row of a place to a text without its line feed, given the CCW that stands there and the
+/// command of its code.
+pub(crate) fn push_words(
+    alloc: Global,
+    out: &mut String,
+    place: Place,
+    ccw: Option<Ccw>,
+    command: Option<Command>,
+    marked: bool,
+) -> Result<(), AllocError>
+    ensures { OnOk result (string_bytes out.new
+        ≡ string_bytes out.old ++ list.row_words place ccw (option_map entry_of command) marked) }
+{
+    let address = Address(place.address);
+    let way = way_word(place.entered);
+    let transfer = transfer_word(place.after_transfer);
+    let mark = mark_word(marked);
+    write!(out, "{address} {way} {transfer} {mark} ")?;
+    push_word(alloc, out, place.entered, ccw, command)
+}
+
+/// Adds the row of a place with its line feed in the same way.
+fn push_row(
     alloc: Global,
     out: &mut String,
     place: Place,
@@ -144,12 +165,7 @@ pub(crate) fn push_row(
     ensures { OnOk result (string_bytes out.new
         ≡ string_bytes out.old ++ list.row_with place ccw (option_map entry_of command) marked) }
 {
-    let address = Address(place.address);
-    let way = way_word(place.entered);
-    let transfer = transfer_word(place.after_transfer);
-    let mark = mark_word(marked);
-    write!(out, "{address} {way} {transfer} {mark} ")?;
-    push_word(alloc, out, place.entered, ccw, command)?;
+    push_words(alloc, out, place, ccw, command, marked)?;
     out.push('\n')
 }
 

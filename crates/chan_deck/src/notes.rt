@@ -29,18 +29,18 @@ const HANGS: &str = " on the program never ends by itself: \
 
 /// The note on a CCW with the flag for a program-controlled interruption.
 const INTERRUPTS: &str =
-    " interrupts: the processor may change any byte that chanv needs doesn't list as keep";
+    " interrupts: the processor may then change any byte not listed as keep by chanv needs";
 
 /// The note on a CCW that moves no data and has chain data on.
-const ENDS_THERE: &str = " ends the program: chain data counts, and it moves no data";
+const ENDS_THERE: &str = " ends the program: chain data is on, and the command moves no data";
 
 /// The note on a CCW whose byte 5 isn't zero.
 const SPARE: &str = " in byte 5, which the channel ignores; flags are in byte 4";
 
 // The note on bytes that aren't lent one way, but all the other way.
-const LENT_FOR_STORING: &str = "note: the whole range is lent for storing\n";
+const LENT_FOR_STORING: &str = "note: the whole range is lent, but for storing\n";
 
-const LENT_FOR_FETCHING: &str = "note: the whole range is lent for fetching\n";
+const LENT_FOR_FETCHING: &str = "note: the whole range is lent, but for fetching\n";
 
 /// The end of the note on the size of storage.
 const STORAGE_ENDS: &str =

@@ -78,7 +78,7 @@ impl fmt::Display for Size {
     }
 }
 
-/// A range of storage as text: the addresses of its first byte and of its last.
+/// A range of storage as text: the addresses of its first byte and of its last, if it is another.
 #[derive(Clone, Copy)]
 pub(crate) struct Range(pub(crate) Area);
 
@@ -89,8 +89,12 @@ impl fmt::Display for Range {
     ghost output = { λ r. Some (range_text r.0) };
 
     fn fmt<W: fmt::Write>(&self, f: &mut fmt::Formatter<W>) -> fmt::Result {
+        let last = self.0.start.saturating_add(self.0.len.saturating_sub(1));
         let first = Address(self.0.start);
-        let last = Address(self.0.start.saturating_add(self.0.len.saturating_sub(1)));
+        if last == self.0.start {
+            return write!(f, "{first}");
+        }
+        let last = Address(last);
         write!(f, "{first}-{last}")
     }
 }
@@ -121,21 +125,24 @@ pub fn verdict_text(alloc: Global, verdict: Verdict) -> Result<String, AllocErro
     Ok(line)
 }
 
-/// The line of a program that was found: its start in six digits, and the verdict on its open job,
-/// or `too many places` if there is none. An error means that an allocation failed.
+/// The line of a program that was found: its start in six digits, and the verdict on its open job
+/// with what the program looks like, or `too many places` if there is none. An error means that an
+/// allocation failed.
 pub fn program_text(
     alloc: Global,
     start: u32,
     verdict: Option<Verdict>,
+    shape: &str,
 ) -> Result<String, AllocError>
-    ensures { IfOk result (λ t. string_bytes t ≡ text.program_line start verdict) }
+    ensures { IfOk result (λ t. string_bytes t ≡ text.program_line start verdict shape.now) }
 {
     let start = Address(start);
-    match verdict {
-        None => format!(in alloc; "{start} too many places\n"),
-        Some(verdict) => {
-            let verdict = verdict_text(alloc, verdict)?;
-            format!(in alloc; "{start} {verdict}")
-        }
-    }
+    let Some(verdict) = verdict else {
+        return format!(in alloc; "{start} too many places\n");
+    };
+    let mut line = format!(in alloc; "{start} ")?;
+    push_verdict(&mut line, verdict)?;
+    line.push_str(shape)?;
+    line.push('\n')?;
+    Ok(line)
 }

@@ -45,7 +45,8 @@ plain_read j a c e p = subst (λ (c : Fields). (is_known c.command ≡ true) × 
 
 -- ---- growing
 
-pub grown_put : (o : Option Place) (q : Place) (m : List ℕ) (ps : List Place) (n : List ℕ) (qs : List Place) → o ≡ Some q → length n ≡ length m → IsPut q m n → qs ≡ ps ++ q ∷ [] → IsGrown (λ p. o ≡ Some p) m ps n qs
+pub grown_put : (o : Option Place) (q : Place) (m : List ℕ) (ps : List Place) (n : List ℕ) (qs : List Place)
+    → o ≡ Some q → length n ≡ length m → IsPut q m n → qs ≡ ps ++ q ∷ [] → IsGrown (λ p. o ≡ Some p) m ps n qs
 grown_put o q m ps n qs e len put is = record {
   len = len;
   keeps = λ p h. (put.marks p).1 (inl h);
@@ -70,7 +71,8 @@ grown_put o q m ps n qs e len put is = record {
     pending p (inl h) = inl h
     pending p (inr f) = inr ((put.marks p).1 (inr f))
 
-pub grown_both : (P Q : Place → Type 0) (m : List ℕ) (ps : List Place) (n : List ℕ) (qs : List Place) (o : List ℕ) (rs : List Place) → IsGrown P m ps n qs → IsGrown Q n qs o rs → IsGrown (λ p. P p ⊎ Q p) m ps o rs
+pub grown_both : (P Q : Place → Type 0) (m : List ℕ) (ps : List Place) (n : List ℕ) (qs : List Place) (o : List ℕ) (rs : List Place)
+    → IsGrown P m ps n qs → IsGrown Q n qs o rs → IsGrown (λ p. P p ⊎ Q p) m ps o rs
 grown_both P Q m ps n qs o rs one other = record {
   len = other.len ∙ one.len;
   keeps = λ p h. other.keeps p (one.keeps p h);
@@ -101,7 +103,8 @@ grown_both P Q m ps n qs o rs one other = record {
         second (inl k) = inl k
         second (inr k) = inr (other.keeps p k)
 
-pub grown_as : (P Q : Place → Type 0) (m : List ℕ) (ps : List Place) (n : List ℕ) (qs : List Place) → ((p : Place) → P p ↔ Q p) → IsGrown P m ps n qs → IsGrown Q m ps n qs
+pub grown_as : (P Q : Place → Type 0) (m : List ℕ) (ps : List Place) (n : List ℕ) (qs : List Place)
+    → ((p : Place) → P p ↔ Q p) → IsGrown P m ps n qs → IsGrown Q m ps n qs
 grown_as P Q m ps n qs same g = record {
   len = g.len;
   keeps = g.keeps;
@@ -119,7 +122,8 @@ grown_as P Q m ps n qs same g = record {
 -- ---- what one place steps to
 
 -- a plain place steps to its successors and to the same CCW as a start, and to nothing else
-pub steps_exactly : (j : Job) (p : Place) (n : Next) → AreSuccessors j p n → IsPlain j p → (q : Place) → (((n.next ≡ Some q) ⊎ (n.skip ≡ Some q)) ⊎ (Some (start_at p.address) ≡ Some q)) ↔ StepsTo j p q
+pub steps_exactly : (j : Job) (p : Place) (n : Next) → AreSuccessors j p n → IsPlain j p → (q : Place)
+    → (((n.next ≡ Some q) ⊎ (n.skip ≡ Some q)) ⊎ (Some (start_at p.address) ≡ Some q)) ↔ StepsTo j p q
 steps_exactly j p n are plain q = (to, from)
   where
     to : ((n.next ≡ Some q) ⊎ (n.skip ≡ Some q)) ⊎ (Some (start_at p.address) ≡ Some q) → StepsTo j p q
@@ -132,11 +136,14 @@ steps_exactly j p n are plain q = (to, from)
     from (f, inl (inr e)) = inl (inr (are.skip plain.clear ∙ e))
     from (f, inr e) = inr (ap Some (sym e))
 
-pub stepped : (j : Job) (p : Place) (next : Next) (m : List ℕ) (ps : List Place) (n : List ℕ) (qs : List Place) (o : List ℕ) (rs : List Place) (u : List ℕ) (ts : List Place) → AreSuccessors j p next → IsPlain j p
-    → IsGrown (λ q. next.next ≡ Some q) m ps n qs → IsGrown (λ q. next.skip ≡ Some q) n qs o rs → IsGrown (λ q. Some (start_at p.address) ≡ Some q) o rs u ts → IsGrown (StepsTo j p) m ps u ts
+pub stepped : (j : Job) (p : Place) (next : Next)
+    (m : List ℕ) (ps : List Place) (n : List ℕ) (qs : List Place) (o : List ℕ) (rs : List Place) (u : List ℕ) (ts : List Place)
+    → AreSuccessors j p next → IsPlain j p → IsGrown (λ q. next.next ≡ Some q) m ps n qs → IsGrown (λ q. next.skip ≡ Some q) n qs o rs
+    → IsGrown (λ q. Some (start_at p.address) ≡ Some q) o rs u ts → IsGrown (StepsTo j p) m ps u ts
 stepped j p next m ps n qs o rs u ts are plain a b c =
     grown_as _ (StepsTo j p) m ps u ts (steps_exactly j p next are plain)
-    (grown_both (λ q. (next.next ≡ Some q) ⊎ (next.skip ≡ Some q)) (λ q. Some (start_at p.address) ≡ Some q) m ps o rs u ts (grown_both (λ q. next.next ≡ Some q) (λ q. next.skip ≡ Some q) m ps n qs o rs a b) c)
+    (grown_both (λ q. (next.next ≡ Some q) ⊎ (next.skip ≡ Some q)) (λ q. Some (start_at p.address) ≡ Some q) m ps o rs u ts
+    (grown_both (λ q. next.next ≡ Some q) (λ q. next.skip ≡ Some q) m ps n qs o rs a b) c)
 
 -- ---- what one start leads to
 
@@ -153,7 +160,8 @@ byte_of : (m n : List ℕ) (p : Place) → length n ≡ length m → HasByte m p
 byte_of m n p e b = record { aligned = b.aligned; within = omega (arith, b.within, e) }
 
 -- the last pending place is followed
-pub followed_on : (j : Job) (a : ℕ) (m n o : List ℕ) (ps qs rs : List Place) (p : Place) → AreClosed j m → IsFollowed j a m n ps → ps ≡ qs ++ p ∷ [] → IsGrown (StepsTo j p) n qs o rs → IsFollowed j a m o rs
+pub followed_on : (j : Job) (a : ℕ) (m n o : List ℕ) (ps qs rs : List Place) (p : Place) → AreClosed j m
+    → IsFollowed j a m n ps → ps ≡ qs ++ p ∷ [] → IsGrown (StepsTo j p) n qs o rs → IsFollowed j a m o rs
 followed_on j a m n o ps qs rs p closed f is g = record {
   len = g.len ∙ f.len;
   keeps = λ q h. g.keeps q (f.keeps q h);

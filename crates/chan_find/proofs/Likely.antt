@@ -81,7 +81,8 @@ module _ (j : Job) (v : IsVerdict j Yes) (two : HasTwoCcws j) where
   back : (p : Place) (q : Place) → Successor j (start_at a) p → q ≡ transferred_to a p.entered → (r : Place) → Successor j q r → Successor j (start_at a) r
   back p q s e r h = go p (follows (start_at a) (ccw_of j (start_at a)) _ p s) (subst (λ z. Successor j z r) e h)
     where
-      go : (p : Place) → Follows (start_at a) (ccw_of j (start_at a)) (kind_of Fresh (ccw_of j (start_at a))) p → Successor j (transferred_to a p.entered) r → Successor j (start_at a) r
+      go : (p : Place) → Follows (start_at a) (ccw_of j (start_at a)) (kind_of Fresh (ccw_of j (start_at a))) p
+          → Successor j (transferred_to a p.entered) r → Successor j (start_at a) r
       go p (by_transfer t) h = let n = no_transfer (start_at a) first refl in let same : true ≡ false = sym t ∙ n in absurd (cc)
       go p (by_data {e = e} t d k) h = on r (follows (transferred_to a e) (ccw_of j (start_at a)) _ r h)
         where

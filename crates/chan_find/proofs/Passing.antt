@@ -31,7 +31,8 @@ likely_byte j m a e l = stands_byte j m (start_at a) e (likely_stands j a l)
 -- ---- what is closed
 
 -- closed marks that have a start's first place have all CCWs that the start has trails to
-pub closed_has : (j : Job) (m : List ℕ) (a : ℕ) (p : Place) → length m ≡ length (storage_of j) / 8 → AreClosed j m → IsMarked m (start_at a) → HasTrail j a p → Stands (storage_of j) p.address → IsMarked m p
+pub closed_has : (j : Job) (m : List ℕ) (a : ℕ) (p : Place) → length m ≡ length (storage_of j) / 8
+    → AreClosed j m → IsMarked m (start_at a) → HasTrail j a p → Stands (storage_of j) p.address → IsMarked m p
 closed_has j m a p e closed h (qs, t) s = go p qs t s
   where
     go : (p : Place) (qs : List Place) → IsTrail j a (p ∷ qs) → Stands (storage_of j) p.address → IsMarked m p
@@ -121,7 +122,9 @@ has_reverse (x ∷ xs) b = turned x xs b (has_reverse xs b)
 
 pub rising_reverse : (xs : List ℕ) → IsOrdered (λ a b. b < a) xs → IsRising (reverse xs)
 rising_reverse [] h = tt
-rising_reverse (x ∷ xs) h = subst IsRising (sym (reverse-append (x ∷ []) xs)) (ordered_push (λ a b. a < b) (reverse xs) x (rising_reverse xs h.1) (λ y k. h.0 y ((has_reverse xs y).0 k)))
+rising_reverse (x ∷ xs) h =
+    subst IsRising (sym (reverse-append (x ∷ []) xs))
+    (ordered_push (λ a b. a < b) (reverse xs) x (rising_reverse xs h.1) (λ y k. h.0 y ((has_reverse xs y).0 k)))
 
 -- ---- a pass
 
@@ -141,7 +144,8 @@ pub record IsNext (Before : ℕ → ℕ → Type 0) (P Done Then : ℕ → Type 
   pub before : (b : ℕ) → P b → Done b → Before b a
   pub done : (b : ℕ) → P b → Before b a → Done b
 
-pub passed_none : (j : Job) (Before : ℕ → ℕ → Type 0) (P Done : ℕ → Type 0) (ms ys : List ℕ) → ((b : ℕ) → P b → Done b → ⊥) → ((p : Place) → IsMarked ms p → ⊥) → ys ≡ [] → IsPassed j Before P Done ms ys
+pub passed_none : (j : Job) (Before : ℕ → ℕ → Type 0) (P Done : ℕ → Type 0) (ms ys : List ℕ)
+    → ((b : ℕ) → P b → Done b → ⊥) → ((p : Place) → IsMarked ms p → ⊥) → ys ≡ [] → IsPassed j Before P Done ms ys
 passed_none j Before P Done ms ys undone none d = subst (λ z. IsPassed j Before P Done ms z) (sym d) (record {
   come = λ p h. absurd (none p h);
   each = λ b p k. absurd (undone b p k);
@@ -150,7 +154,8 @@ passed_none j Before P Done ms ys undone none d = subst (λ z. IsPassed j Before
   ordered = tt;
 })
 
-module _ (j : Job) (Before : ℕ → ℕ → Type 0) (P Done Then : ℕ → Type 0) (a : ℕ) (likely : (b : ℕ) → P b → IsLikely j b) (x : IsNext Before P Done Then a) (ms ys : List ℕ) (u : IsPassed j Before P Done ms ys) where
+module _ (j : Job) (Before : ℕ → ℕ → Type 0) (P Done Then : ℕ → Type 0) (a : ℕ) (likely : (b : ℕ) → P b → IsLikely j b)
+    (x : IsNext Before P Done Then a) (ms ys : List ℕ) (u : IsPassed j Before P Done ms ys) where
   -- it is taken: nothing before it leads to it
   passed_more : (ns zs : List ℕ) → P a → length ms ≡ length (storage_of j) / 8 → AreClosed j ms → IsTaken j a ms ys ns zs → IsPassed j Before P Then ns zs
   passed_more ns zs here len closed t = subst (λ z. IsPassed j Before P Then ns z) (sym t.taken) (record {
@@ -170,7 +175,10 @@ module _ (j : Job) (Before : ℕ → ℕ → Type 0) (P Done Then : ℕ → Type
       all b f (inr e) = (has_push ys a b).1 (inr (sym e))
 
       first : IsFirst j Before P a
-      first = record { holds = here; none = λ b p before l. t.new (closed_has j ms b (start_at a) len closed (u.each b p (x.done b p before)) l (likely_stands j a t.likely)) }
+      first = record {
+        holds = here;
+        none = λ b p before l. t.new (closed_has j ms b (start_at a) len closed (u.each b p (x.done b p before)) l (likely_stands j a t.likely));
+      }
 
       only : (b : ℕ) → Has ys b ⊎ (a ≡ b) → IsFirst j Before P b × Then b
       only b (inl h) = let o = u.only b h in (o.0, x.on b o.0.holds o.1)
@@ -200,12 +208,15 @@ module _ (j : Job) (Before : ℕ → ℕ → Type 0) (P Done Then : ℕ → Type
       all b f (inl d) = u.all b f d
       all b f (inr e) = absurd (none b f e)
 
-  pub passed : (ns zs : List ℕ) → (IsLikely j a → P a) → length ms ≡ length (storage_of j) / 8 → AreClosed j ms → IsOffered j a ms ys ns zs → IsPassed j Before P Then ns zs
+  pub passed : (ns zs : List ℕ) → (IsLikely j a → P a) → length ms ≡ length (storage_of j) / 8
+      → AreClosed j ms → IsOffered j a ms ys ns zs → IsPassed j Before P Then ns zs
   passed ns zs here len closed (inl t) = passed_more ns zs (here t.likely) len closed t
-  passed ns zs here len closed (inr (stays, m, y)) = subst (λ z. IsPassed j Before P Then z zs) (sym m) (subst (λ z. IsPassed j Before P Then ms z) (sym y) (passed_by (λ p. stays (likely a p))))
+  passed ns zs here len closed (inr (stays, m, y)) =
+      subst (λ z. IsPassed j Before P Then z zs) (sym m) (subst (λ z. IsPassed j Before P Then ms z) (sym y) (passed_by (λ p. stays (likely a p))))
 
 -- what is done is led to by what was taken
-pub passed_led : (j : Job) (Before : ℕ → ℕ → Type 0) (P Done : ℕ → Type 0) (ms ys : List ℕ) → IsPassed j Before P Done ms ys → (b : ℕ) → P b → Done b → (a : ℕ) × Has ys a × LeadsTo j a b
+pub passed_led : (j : Job) (Before : ℕ → ℕ → Type 0) (P Done : ℕ → Type 0) (ms ys : List ℕ)
+    → IsPassed j Before P Done ms ys → (b : ℕ) → P b → Done b → (a : ℕ) × Has ys a × LeadsTo j a b
 passed_led j Before P Done ms ys u b p d = u.come (start_at b) (u.each b p d)
 
 -- ---- upwards
@@ -222,8 +233,10 @@ aligned_next k b e l = pick (cases_lt b (k * 8))
     pick (inl h) = inl h
     pick (inr h) = inr (grind (arith, e, h, l))
 
-pub up_turn : (j : Job) (ms ns old new : List ℕ) (a : ℕ) → (k : ℕ) × (a ≡ k * 8) → length ms ≡ length (storage_of j) / 8 → AreClosed j ms → IsUpTo j ms old a → IsOffered j a ms old ns new → IsUpTo j ns new (a + 8)
-up_turn j ms ns old new a at len closed u o = passed j (λ b c. b < c) (IsLikely j) (λ b. b < a) (λ b. b < a + 8) a (λ b l. l) next ms old u ns new (λ l. l) len closed o
+pub up_turn : (j : Job) (ms ns old new : List ℕ) (a : ℕ) → (k : ℕ) × (a ≡ k * 8) → length ms ≡ length (storage_of j) / 8
+    → AreClosed j ms → IsUpTo j ms old a → IsOffered j a ms old ns new → IsUpTo j ns new (a + 8)
+up_turn j ms ns old new a at len closed u o =
+    passed j (λ b c. b < c) (IsLikely j) (λ b. b < a) (λ b. b < a + 8) a (λ b l. l) next ms old u ns new (λ l. l) len closed o
   where
     parts : (b : ℕ) → IsLikely j b → b < a + 8 → (b < a) ⊎ (b ≡ a)
     parts b l m = subst (λ z. (b < z) ⊎ (b ≡ z)) (sym at.1) (aligned_next at.0 b (likely_stands j b l).0 (omega (arith, at.1, m)))
@@ -262,7 +275,8 @@ pub rest_all : (j : Job) (rest : List ℕ) → AreRoots j rest → IsRest j rest
 rest_all j rest r = record { roots = r.only; left = λ b k. inl (r.each b k); rising = increasing_rises rest r.ordered }
 
 pub down_none : (j : Job) (ms rest kept : List ℕ) → AreRoots j rest → ((p : Place) → IsMarked ms p → ⊥) → kept ≡ [] → IsDownTo j ms rest kept
-down_none j ms rest kept r none d = passed_none j (λ b c. c < b) (IsRoot j) (IsAbove rest) ms kept (λ b k above. let l = above b (r.each b k) in omega (arith, l)) none d
+down_none j ms rest kept r none d =
+    passed_none j (λ b c. c < b) (IsRoot j) (IsAbove rest) ms kept (λ b k above. let l = above b (r.each b k) in omega (arith, l)) none d
 
 -- the last one is the next
 module _ (j : Job) (rest front : List ℕ) (s : ℕ) (is : rest ≡ front ++ s ∷ []) (r : IsRest j rest) where
@@ -314,10 +328,13 @@ module _ (j : Job) (rest front : List ℕ) (s : ℕ) (is : rest ≡ front ++ s �
       left b (inl h) = one b (from b h)
       left b (inr a) = inr (λ y h. a y (to y h))
 
-  pub down_turn : (ms ns old new : List ℕ) → length ms ≡ length (storage_of j) / 8 → AreClosed j ms → IsDownTo j ms rest old → IsOffered j s ms old ns new → IsDownTo j ns front new
-  down_turn ms ns old new len closed u o = passed j (λ b c. c < b) (IsRoot j) (IsAbove rest) (IsAbove front) s (λ b k. k.holds) next ms old u ns new (λ l. r.roots s last) len closed o
+  pub down_turn : (ms ns old new : List ℕ) → length ms ≡ length (storage_of j) / 8 → AreClosed j ms
+      → IsDownTo j ms rest old → IsOffered j s ms old ns new → IsDownTo j ns front new
+  down_turn ms ns old new len closed u o =
+      passed j (λ b c. c < b) (IsRoot j) (IsAbove rest) (IsAbove front) s (λ b k. k.holds) next ms old u ns new (λ l. r.roots s last) len closed o
 
-pub down_all : (j : Job) (ms rest kept turned : List ℕ) → AreLedTo j (IsLikely j) (IsRoot j) → IsDownTo j ms rest kept → length rest ≡ 0 → turned ≡ reverse kept → AreProgramStarts j turned
+pub down_all : (j : Job) (ms rest kept turned : List ℕ) → AreLedTo j (IsLikely j) (IsRoot j)
+    → IsDownTo j ms rest kept → length rest ≡ 0 → turned ≡ reverse kept → AreProgramStarts j turned
 down_all j ms [] kept turned covered d none e = subst (AreProgramStarts j) (sym e) (record {
   ordered = rising_increases (reverse kept) (rising_reverse kept d.ordered);
   each = λ a s. (has_reverse kept a).1 (d.all a (program_is_high j a s) (λ y h. absurd h));

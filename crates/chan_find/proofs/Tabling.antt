@@ -63,7 +63,8 @@ marked_byte m p h = go (cases_lt (p.address / 8) (length m))
 
 -- ---- one mark more
 
-module _ (m n : List ℕ) (q : Place) (byte : HasByte m q) (off : IsMarked m q → ⊥) (is : n ≡ slice_set m (q.address / 8) (bit_or (slice_index m (q.address / 8)) (1 * 2 ^ way_of q % 2 ^ 8))) where
+module _ (m n : List ℕ) (q : Place) (byte : HasByte m q) (off : IsMarked m q → ⊥)
+    (is : n ≡ slice_set m (q.address / 8) (bit_or (slice_index m (q.address / 8)) (1 * 2 ^ way_of q % 2 ^ 8))) where
   abbrev at : ℕ
   at = q.address / 8
 
@@ -104,7 +105,11 @@ module _ (m n : List ℕ) (q : Place) (byte : HasByte m q) (off : IsMarked m q �
     where
       go : (p.address / 8 ≡ at) ⊎ (p.address / 8 ≡ at → ⊥) → (way_of p ≡ way_of q) ⊎ (way_of p ≡ way_of q → ⊥) → IsMarked m p ⊎ (q ≡ p)
       go (inl e) (inl w) = inr (sym (same_place p q (same_word p.address q.address h.aligned byte.aligned e) w))
-      go (inl e) (inr w) = inl (record { aligned = h.aligned; on = ap (λ z. bit_at (slice_index m z) (way_of p)) e ∙ sym (others (way_of p) w) ∙ ap (λ z. bit_at z (way_of p)) (sym here ∙ ap (slice_index n) (sym e)) ∙ h.on })
+      go (inl e) (inr w) = inl (record {
+        aligned = h.aligned;
+        on = ap (λ z. bit_at (slice_index m z) (way_of p)) e ∙ sym (others (way_of p) w)
+            ∙ ap (λ z. bit_at z (way_of p)) (sym here ∙ ap (slice_index n) (sym e)) ∙ h.on;
+      })
       go (inr d) w = inl (record { aligned = h.aligned; on = ap (λ z. bit_at z (way_of p)) (sym (there (p.address / 8) d)) ∙ h.on })
 
   from : (p : Place) → IsMarked m p ⊎ (q ≡ p) → IsMarked n p
@@ -112,12 +117,20 @@ module _ (m n : List ℕ) (q : Place) (byte : HasByte m q) (off : IsMarked m q �
   from p (inl h) = go (cases_eq (p.address / 8) at) (cases_eq (way_of p) (way_of q))
     where
       go : (p.address / 8 ≡ at) ⊎ (p.address / 8 ≡ at → ⊥) → (way_of p ≡ way_of q) ⊎ (way_of p ≡ way_of q → ⊥) → IsMarked n p
-      go (inl e) (inl w) = record { aligned = h.aligned; on = ap (λ z. bit_at (slice_index n z) (way_of p)) e ∙ ap (λ z. bit_at z (way_of p)) here ∙ ap (bit_at new) w ∙ on }
-      go (inl e) (inr w) = record { aligned = h.aligned; on = ap (λ z. bit_at (slice_index n z) (way_of p)) e ∙ ap (λ z. bit_at z (way_of p)) here ∙ others (way_of p) w ∙ ap (λ z. bit_at (slice_index m z) (way_of p)) (sym e) ∙ h.on }
+      go (inl e) (inl w) = record {
+        aligned = h.aligned;
+        on = ap (λ z. bit_at (slice_index n z) (way_of p)) e ∙ ap (λ z. bit_at z (way_of p)) here ∙ ap (bit_at new) w ∙ on;
+      }
+      go (inl e) (inr w) = record {
+        aligned = h.aligned;
+        on = ap (λ z. bit_at (slice_index n z) (way_of p)) e ∙ ap (λ z. bit_at z (way_of p)) here
+            ∙ others (way_of p) w ∙ ap (λ z. bit_at (slice_index m z) (way_of p)) (sym e) ∙ h.on;
+      }
       go (inr d) w = record { aligned = h.aligned; on = ap (λ z. bit_at z (way_of p)) (there (p.address / 8) d) ∙ h.on }
 
   is_put : IsPut q m n
   is_put = record { marks = λ p. (to p, from p); fewer = fewer }
 
-pub put_one : (m n : List ℕ) (q : Place) → HasByte m q → (IsMarked m q → ⊥) → n ≡ slice_set m (q.address / 8) (bit_or (slice_index m (q.address / 8)) (1 * 2 ^ way_of q % 2 ^ 8)) → IsPut q m n
+pub put_one : (m n : List ℕ) (q : Place) → HasByte m q → (IsMarked m q → ⊥)
+    → n ≡ slice_set m (q.address / 8) (bit_or (slice_index m (q.address / 8)) (1 * 2 ^ way_of q % 2 ^ 8)) → IsPut q m n
 put_one m n q byte off is = is_put m n q byte off is

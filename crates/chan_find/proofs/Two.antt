@@ -97,12 +97,18 @@ after p c q (inl (e, f)) h = go (subst (λ z. Leads z (idle 0x60) q) e (subst (�
   where
     go : Leads one (idle 0x60) q → q ≡ other
     go (inl n) = let e : Some other ≡ Some q = sym after_one.0 ∙ subst (λ k. next_of one (idle 0x60) k ≡ Some q) (moves_none 0x60) n in cc
-    go (inr n) = let e : ◌≡◌ {A = Option Place} None (Some q) = sym after_one.1 ∙ subst (λ k. skip_of one (idle 0x60) k ≡ Some q) (moves_none 0x60) n in absurd cc
+    go (inr n) =
+        let e : ◌≡◌ {A = Option Place} None (Some q) = sym after_one.1 ∙ subst (λ k. skip_of one (idle 0x60) k ≡ Some q) (moves_none 0x60) n in
+        absurd cc
 after p c q (inr (e, f)) h = go (subst (λ z. Leads z (idle 0x20) q) e (subst (λ z. Leads p z q) f h))
   where
     go : Leads other (idle 0x20) q → q ≡ other
-    go (inl n) = let e : ◌≡◌ {A = Option Place} None (Some q) = sym after_other.0 ∙ subst (λ k. next_of other (idle 0x20) k ≡ Some q) (moves_none 0x20) n in absurd cc
-    go (inr n) = let e : ◌≡◌ {A = Option Place} None (Some q) = sym after_other.1 ∙ subst (λ k. skip_of other (idle 0x20) k ≡ Some q) (moves_none 0x20) n in absurd cc
+    go (inl n) =
+        let e : ◌≡◌ {A = Option Place} None (Some q) = sym after_other.0 ∙ subst (λ k. next_of other (idle 0x20) k ≡ Some q) (moves_none 0x20) n in
+        absurd cc
+    go (inr n) =
+        let e : ◌≡◌ {A = Option Place} None (Some q) = sym after_other.1 ∙ subst (λ k. skip_of other (idle 0x20) k ≡ Some q) (moves_none 0x20) n in
+        absurd cc
 
 -- the CCW of either is idle, and entered Fresh
 flags_at : (p : Place) (c : Fields) → IsOfTwo p c → (f : ℕ) × (c ≡ idle f) × (p.entered ≡ Fresh)
@@ -152,7 +158,12 @@ module _ (j : Job) (s : storage_of j ≡ two_no_operations) (start : j.start ≡
   first = ap start_at (sym start)
 
   second : IsPath j (other ∷ one ∷ [])
-  second = (first, clear one (two_one one refl), inl (subst (λ z. next_of one z (kind_of Fresh z) ≡ Some other) (sym (two_ccw)) (subst (λ k. next_of one (idle 0x60) k ≡ Some other) (sym (moves_none 0x60)) after_one.0)))
+  second = (
+    first,
+    clear one (two_one one refl),
+    inl (subst (λ z. next_of one z (kind_of Fresh z) ≡ Some other) (sym (two_ccw))
+        (subst (λ k. next_of one (idle 0x60) k ≡ Some other) (sym (moves_none 0x60)) after_one.0)),
+  )
     where
       two_ccw : ccw_of j one ≡ idle 0x60
       two_ccw = rw s reads.0

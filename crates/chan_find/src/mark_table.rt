@@ -8,15 +8,15 @@ ghost use Rattle.chan_walk.specs.declared.place.Place as places;
 use chan_walk::Place;
 use std::alloc::{AllocError, Global};
 
-/// A set of places at which CCWs stand: a byte for each doubleword of storage, with a bit for each
-/// way of entry.
+/// A set of places with CCWs: a byte for each doubleword of storage, with a bit for each way of
+/// entry.
 #[derive(Drop)]
 pub(crate) struct MarkTable {
     bytes: Vec<u8>,
 }
 
 impl MarkTable {
-    /// No place at all, for storage of a length.
+    /// The empty set, for storage of this length.
     pub(crate) fn new(alloc: Global, storage_len: u32) -> Result<MarkTable, AllocError>
         ensures len { IfOk result (λ t. length t.bytes.items ≡ storage_len / 8) }
         ensures none { IfOk result (λ t. (p : places.Place) → IsMarked t.bytes.items p → ⊥) }
@@ -26,7 +26,7 @@ impl MarkTable {
         Ok(MarkTable { bytes })
     }
 
-    /// The index of a place's byte, if a CCW stands there.
+    /// The index of a place's byte, if there is a CCW.
     fn index_of(&self, place: Place) -> Option<usize>
         ensures { MatchOption result (HasByte self.now.bytes.items place → ⊥)
             (λ at. HasByte self.now.bytes.items place × (at ≡ place.address / 8)) }
@@ -52,7 +52,7 @@ impl MarkTable {
         }
     }
 
-    /// Marks a place, unless it is marked already or no CCW stands there; and whether it did.
+    /// Marks a place, unless it is marked already or holds no CCW, and says whether it did.
     pub(crate) fn put(&mut self, place: Place) -> bool
         ensures len { length self.new.bytes.items ≡ length self.old.bytes.items }
         ensures put { MatchBool result

@@ -19,8 +19,8 @@ use chan_walk::{Job, Limit, Look, OpenJob, Place, look_at};
 use ckd_core::{Device, lookup};
 use std::alloc::{AllocError, Global};
 
-/// Whether a second CCW stands at a place: it is plain, no transfer, and at another address than
-/// the start.
+/// Whether a place holds a second CCW: the place is plain, not a transfer, and not at the start's
+/// address.
 fn is_second(look: &Look, start: u32) -> bool
     ensures { (j : Job) → IsLook j look.now → IsTrue result ↔ IsSecond j start look.now.place }
 {
@@ -30,7 +30,7 @@ fn is_second(look: &Look, start: u32) -> bool
     }
 }
 
-/// Whether there is a place, and a second CCW stands at it.
+/// Whether there is a place, and it holds a second CCW.
 fn is_second_at(job: &Job, start: u32, place: Option<Place>) -> bool
     ensures { IsTrue result ↔ IsSomeAnd place (IsSecond job.now start) }
 {
@@ -40,7 +40,7 @@ fn is_second_at(job: &Job, start: u32, place: Option<Place>) -> bool
     }
 }
 
-/// Whether there is a plain place, and a second CCW stands at it or at a successor.
+/// Whether there is a plain place, and it or a successor holds a second CCW.
 fn has_second_from(job: &Job, start: u32, place: Option<Place>) -> bool
     ensures { IsTrue result ↔ IsSomeAnd place (HasSecondFrom job.now start) }
 {
@@ -58,8 +58,8 @@ fn has_second_from(job: &Job, start: u32, place: Option<Place>) -> bool
     is_second_at(job, start, next.next) || is_second_at(job, start, next.skip)
 }
 
-/// Whether the CCW at an address, by two of its bytes alone, may be a plain start: its code is a
-/// command's and its byte 5 is zero. Most of what is no program fails here, before a look.
+/// Whether the CCW at an address, by two of its bytes alone, may be a plain start: its code is the
+/// code of a command and its byte 5 is zero. Most data fails here, before a look.
 fn may_be_plain(job: &Job, start: u32) -> bool
     ensures { IsPlain job.now (program.start_at start) → IsTrue result }
 {
@@ -69,7 +69,7 @@ fn may_be_plain(job: &Job, start: u32) -> bool
     }
 }
 
-/// Whether a start is likely: it is plain, and a second CCW stands one or two successors on.
+/// Whether a start is likely: it is plain, and there is a second CCW one or two successors on.
 fn is_likely(job: &Job, start: u32) -> bool
     ensures { IsTrue result ↔ IsLikely job.now start }
 {
@@ -84,7 +84,8 @@ fn is_likely(job: &Job, start: u32) -> bool
     has_second_from(job, start, next.next) || has_second_from(job, start, next.skip)
 }
 
-/// Takes a start, if it is likely and nothing taken leads to it, and covers all that it leads to.
+/// Takes a start, if it is likely and no start taken so far leads to it, and covers all places that
+/// it leads to.
 fn offer(
     covered: &mut Covered,
     job: &Job,
@@ -105,7 +106,7 @@ fn offer(
     Ok(())
 }
 
-/// The likely starts that no lower one leads to, in order.
+/// The likely starts to which no lower likely start leads, in order.
 fn roots(alloc: Global, job: &Job) -> Result<Vec<u32>, AllocError>
     ensures { IfOk result (λ v. AreRoots job.now v.items) }
 {
@@ -119,7 +120,8 @@ fn roots(alloc: Global, job: &Job) -> Result<Vec<u32>, AllocError>
     Ok(roots)
 }
 
-/// Of these, from the highest down, those that no higher one leads to, in order.
+/// The starts of a list to which no higher start of the list leads, in order; it goes through them
+/// from the highest down.
 fn highest_apart(alloc: Global, job: &Job, roots: Vec<u32>) -> Result<Vec<u32>, AllocError>
     requires { AreRoots job.now roots.items }
     ensures { IfOk result (λ v. AreProgramStarts job.now v.items) }
@@ -145,13 +147,13 @@ fn starts_of(alloc: Global, job: &Job) -> Result<Vec<u32>, AllocError>
 /// The starts of all programs in storage, each once, in order. Its CCWs are judged under the
 /// device's open job.
 ///
-/// A program starts where nothing likely leads in from outside; of a ring of starts, each of which
-/// leads to the others, the lowest counts. A job with a yes has its start in the list or is led to
-/// by one of the list, unless its program has a single CCW or keeps something in byte 5 of one.
+/// A program starts at a likely start to which no likely start from outside leads; of starts that
+/// lead to each other, the lowest counts. The start of a job with a yes is in the list, or a start
+/// of the list leads to it, unless its program has a single CCW or a byte 5 that isn't zero.
 ///
-/// `AllocError` comes only if a growth was refused. The call takes a byte for each doubleword of
-/// storage, the list, and room for the places from which it has yet to step on. With n bytes of
-/// storage the cost is n: a few looks for each doubleword and each way in which it can be entered.
+/// `AllocError` comes only if a growth was refused. The call takes memory for a byte for each
+/// doubleword of storage, for the list, and for the places from which it has yet to step on. With n
+/// bytes of storage the cost is n: a few looks for each doubleword and each way to enter it.
 pub fn program_starts(
     alloc: Global,
     storage: &Storage,

@@ -38,12 +38,12 @@ pub(crate) fn is_plain(look: &Look) -> bool
 #[derive(Drop)]
 pub(crate) struct Covered {
     marks: MarkTable,
-    /// Those of them from which it has yet to step on.
+    /// The places from which it has yet to step on.
     pending: Vec<Place>,
 }
 
 impl Covered {
-    /// No place at all.
+    /// No place yet.
     pub(crate) fn new(alloc: Global, job: &Job) -> Result<Covered, AllocError>
         ensures settled { IfOk result (IsSettled job.now) }
         ensures none { IfOk result (λ c. (p : places.Place) → IsMarked c.marks.bytes.items p → ⊥) }
@@ -54,14 +54,14 @@ impl Covered {
         })
     }
 
-    /// Whether it has the place.
+    /// Whether some start has a trail to the place.
     pub(crate) fn has(&self, place: Place) -> bool
         ensures { IsTrue result ↔ IsMarked self.now.marks.bytes.items place }
     {
         self.marks.has(place)
     }
 
-    /// Adds a place, unless it is there already or no CCW stands there.
+    /// Adds a place, unless it is there already or holds no CCW.
     fn add(&mut self, place: Option<Place>) -> Result<(), AllocError>
         ensures { OnOk result (IsGrown (λ p. place ≡ Some p)
             self.old.marks.bytes.items self.old.pending.items
@@ -75,7 +75,7 @@ impl Covered {
         Ok(())
     }
 
-    /// Adds what a place steps to.
+    /// Adds the places to which a place steps.
     fn step_on(&mut self, job: &Job, place: Place) -> Result<(), AllocError>
         ensures { OnOk result (IsGrown (StepsTo job.now place)
             self.old.marks.bytes.items self.old.pending.items

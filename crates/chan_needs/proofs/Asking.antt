@@ -27,4 +27,7 @@ asked_once j k h v grants =
     yes_there = granted_yes j there one granted v
 
 pub safe_is_granted : SafeIsGranted
-safe_is_granted j k one proper = (λ s. (least_job j k one proper).0 (safe_is_yes k proper s.0 s.1), λ g. yes_is_safe k proper.2 ((least_job j k one proper).1 g))
+safe_is_granted j k one proper = (
+  λ s. (least_job j k one proper).0 (safe_is_yes k proper s.0 s.1),
+  λ g. yes_is_safe k proper.2 ((least_job j k one proper).1 g),
+)

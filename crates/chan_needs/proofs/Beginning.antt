@@ -87,7 +87,8 @@ module _ (a : Situation) (i : ℕ) (x : Option Flight) (t : List ℕ) (shares : 
       go (inl e) = inl e.1
       go (inr e) = inr (subst (λ z. Rests (a.at k) (picked z x (all_moved t (a.at k)))) (sym e.0) (moved_rests t (a.at k)))
 
-  acts_next : (before : List Situation) → IsHistory (a ∷ before) → Acts a after (a.at i) x → (b : Situation) × (b.storage ≡ t) × (b.at i ≡ x) × IsHistory (b ∷ a ∷ before)
+  acts_next : (before : List Situation) → IsHistory (a ∷ before) → Acts a after (a.at i) x
+      → (b : Situation) × (b.storage ≡ t) × (b.at i ≡ x) × IsHistory (b ∷ a ∷ before)
   acts_next before h acts = (after, refl, here, (h, inl (i, subst (λ y. Acts a after (a.at i) y) (sym here) acts, others)))
 
 -- the one program is this

@@ -13,7 +13,13 @@ use Rattle.chan_walk.specs.Runs.{Moment, IsStart, Steps, Waits}
 use Rattle.chan_needs.proofs.History.{stays_well}
 
 begins : (j : Job) (m : Moment) → IsStart j m → Begins j m
-begins j m s = record { storage = record { same_length = ap length s.storage; same = λ b _. ap (λ z. byte z b) s.storage }; arm = s.arm; mask = s.mask; stage = s.stage; events = s.events }
+begins j m s = record {
+  storage = record { same_length = ap length s.storage; same = λ b _. ap (λ z. byte z b) s.storage };
+  arm = s.arm;
+  mask = s.mask;
+  stage = s.stage;
+  events = s.events;
+}
 
 stays : (m : Moment) → m.events ≡ [] → Waits m m
 stays m e = record { arm = refl; mask = refl; stage = refl; events = e }
@@ -59,7 +65,11 @@ module _ (j k : Job) (h : HasMask j) (i : HasMask k) (apart : AreApart j k) wher
   one m = record { storage = m.one.storage; at = slots (one_of m) None; shared = slots_on _ (one_of m) None (some_on _ _ refl) (none_on _) }
 
   abbrev both : Both → Situation
-  both m = record { storage = m.one.storage; at = slots (one_of m) (other_of m); shared = slots_on _ (one_of m) (other_of m) (some_on _ _ refl) (some_on _ _ m.shared) }
+  both m = record {
+    storage = m.one.storage;
+    at = slots (one_of m) (other_of m);
+    shared = slots_on _ (one_of m) (other_of m) (some_on _ _ refl) (some_on _ _ m.shared);
+  }
 
   one_starts : (m : Both) → IsStart j m.one → ComesNext (none m) (one m)
   one_starts m s = inl (0, (may, refl), others 0 None None (one_of m) None (inl refl) (inr tt))
@@ -70,7 +80,13 @@ module _ (j k : Job) (h : HasMask j) (i : HasMask k) (apart : AreApart j k) wher
       no_one (suc (suc n)) g e = absurd cc
 
       may : MayStart (none m) (record { job = j; moment = m.one })
-      may = record { mask = h; verdict = apart.one; begins = begins j m.one s; spares = λ n g e. absurd (no_one n g e); spared = λ n g e. absurd (no_one n g e) }
+      may = record {
+        mask = h;
+        verdict = apart.one;
+        begins = begins j m.one s;
+        spares = λ n g e. absurd (no_one n g e);
+        spared = λ n g e. absurd (no_one n g e);
+      }
 
   other_starts : (m : Both) → IsStart j m.one → IsStart k m.other → ComesNext (one m) (both m)
   other_starts m s t = inl (1, (may, refl), others 1 (one_of m) None (one_of m) (other_of m) (inr (refl, stays m.one s.events)) (inl refl))
@@ -81,7 +97,13 @@ module _ (j k : Job) (h : HasMask j) (i : HasMask k) (apart : AreApart j k) wher
       is_one (suc (suc n)) g e = absurd cc
 
       may : MayStart (one m) (record { job = k; moment = m.other })
-      may = record { mask = i; verdict = apart.other; begins = begins k m.other t; spares = λ n g e. subst (λ z. MayStoreOver k (IsGuarded z) → ⊥) (is_one n g e) apart.other_spares; spared = λ n g e. subst (λ z. MayStoreOver z (IsGuarded k) → ⊥) (is_one n g e) apart.one_spares }
+      may = record {
+        mask = i;
+        verdict = apart.other;
+        begins = begins k m.other t;
+        spares = λ n g e. subst (λ z. MayStoreOver k (IsGuarded z) → ⊥) (is_one n g e) apart.other_spares;
+        spared = λ n g e. subst (λ z. MayStoreOver z (IsGuarded k) → ⊥) (is_one n g e) apart.one_spares;
+      }
 
   next : (m n : Both) → (Steps m.one n.one × Waits m.other n.other) ⊎ (Waits m.one n.one × Steps m.other n.other) → ComesNext (both m) (both n)
   next m n (inl w) = inl (0, (refl, w.0), others 0 (one_of m) (other_of m) (one_of n) (other_of n) (inl refl) (inr (refl, w.1)))
@@ -97,7 +119,8 @@ module _ (j k : Job) (h : HasMask j) (i : HasMask k) (apart : AreApart j k) wher
       nothing (suc (suc n)) = refl
   is_history (n ∷ m ∷ ms) r = let k = is_history (m ∷ ms) r.0 in (k.0, (k.1, next m n r.1))
 
-  safe : (run : List Both) (before : List Situation) → AllByRecursion AreWell (map both run ++ before) → AllByRecursion (IsSafeMoment j) (moments_of_one run) × AllByRecursion (IsSafeMoment k) (moments_of_other run)
+  safe : (run : List Both) (before : List Situation) → AllByRecursion AreWell (map both run ++ before)
+      → AllByRecursion (IsSafeMoment j) (moments_of_one run) × AllByRecursion (IsSafeMoment k) (moments_of_other run)
   safe [] before w = (tt, tt)
   safe (m ∷ ms) before w =
       let r = safe ms before w.1 in

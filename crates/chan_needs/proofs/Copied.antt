@@ -47,23 +47,17 @@ module _ (s : List ℕ) (areas : List Area) (i : ℕ) (old : List ℕ) (n : ℕ)
     count : length (take n now ++ bytes) ≡ n + length bytes
     count = let x = length-append (take n now) bytes in let y = length-take n now in let f = h.fits in omega arith
 
-    -- it has too many bytes
-    pub too_many : length now - n < length bytes → length (bytes_in s areas) ≤ length old → ⊥
-    too_many room fits =
-        let same = h.same_length in
-        let c = count in
-        let x = ap length whole in
-        let y = length-append (take n now ++ bytes) (bytes_in s (drop (suc i) areas)) in
-        omega arith
-
     -- it is copied
-    pub copied_more : (new : List ℕ) → IsInside s (get_or areas i nowhere) → n + length bytes ≤ length now → new ≡ (take n now ++ bytes) ++ drop (n + length bytes) now → AreCopied s areas (i + 1) old (n + length bytes) new
+    pub copied_more : (new : List ℕ) → IsInside s (get_or areas i nowhere) → n + length bytes ≤ length now
+        → new ≡ (take n now ++ bytes) ++ drop (n + length bytes) now → AreCopied s areas (i + 1) old (n + length bytes) new
     copied_more new inside room w = record {
-      inside = λ k. h.inside (subst (All (IsInside s)) (sym next) (All-cons (IsInside s) (get_or areas i nowhere) (drop (suc i) areas) inside (subst (λ (z : ℕ). All (IsInside s) (drop z areas)) one k)));
+      inside = λ k. h.inside (subst (All (IsInside s)) (sym next)
+          (All-cons (IsInside s) (get_or areas i nowhere) (drop (suc i) areas) inside (subst (λ (z : ℕ). All (IsInside s) (drop z areas)) one k)));
       fits = let d = same in omega arith;
       same_length = same ∙ h.same_length;
       front = whole ∙ ap (λ z. z ++ bytes_in s (drop (suc i) areas)) (sym taken) ∙ ap (λ z. take (n + length bytes) new ++ bytes_in s (drop z areas)) (sym one);
-      rest = again drop ∙ drop-append_seam (take n now ++ bytes) more ∙ sym (drop-drop (length bytes) n now) ∙ ap (λ z. drop (length bytes) z) h.rest ∙ drop-drop (length bytes) n old;
+      rest = again drop ∙ drop-append_seam (take n now ++ bytes) more ∙ sym (drop-drop (length bytes) n now)
+          ∙ ap (λ z. drop (length bytes) z) h.rest ∙ drop-drop (length bytes) n old;
     }
       where
         one : i + 1 ≡ suc i
@@ -73,7 +67,12 @@ module _ (s : List ℕ) (areas : List Area) (i : ℕ) (old : List ℕ) (n : ℕ)
         more = drop (n + length bytes) now
 
         same : length new ≡ length now
-        same = let x = ap length w in let y = length-append (take n now ++ bytes) (drop (n + length bytes) now) in let z = length-drop (n + length bytes) now in let c = count in omega arith
+        same =
+            let x = ap length w in
+            let y = length-append (take n now ++ bytes) (drop (n + length bytes) now) in
+            let z = length-drop (n + length bytes) now in
+            let c = count in
+            omega arith
 
         again : (part : ℕ → List ℕ → List ℕ) → part (n + length bytes) new ≡ part (length (take n now ++ bytes)) ((take n now ++ bytes) ++ more)
         again part = ap (part (n + length bytes)) w ∙ ap (λ m. part m ((take n now ++ bytes) ++ more)) (sym count)
@@ -96,7 +95,8 @@ holds_area s a more h i l =
 copied_holds : (s : List ℕ) (areas : List Area) (more : List ℕ) → All (IsInside s) areas → HoldsAreas s areas (bytes_in s areas ++ more)
 copied_holds s [] more h = tt
 copied_holds s (a ∷ areas) more h = (
-  subst (HoldsArea s a) (sym (append_assoc (bytes_of s a) (bytes_in s areas) more)) (holds_area s a (bytes_in s areas ++ more) (All-head (IsInside s) a areas h)),
+  subst (HoldsArea s a) (sym (append_assoc (bytes_of s a) (bytes_in s areas) more))
+      (holds_area s a (bytes_in s areas ++ more) (All-head (IsInside s) a areas h)),
   subst (HoldsAreas s areas) (sym rest) (copied_holds s areas more (All-tail (IsInside s) a areas h)),
 )
   where
@@ -119,7 +119,10 @@ module _ (s : List ℕ) (areas : List Area) (i : ℕ) (old : List ℕ) (n : ℕ)
   all_written = sym (take-append-drop n now) ∙ ap (λ z. z ++ drop n now) (sym all_taken) ∙ ap (λ z. bytes_in s areas ++ z) h.rest
 
   pub all_fit : All (IsInside s) areas × (length (bytes_in s areas) ≤ length old)
-  all_fit = (h.inside (subst (All (IsInside s)) (sym (drop_all i areas l)) (All-nil (IsInside s))), let c = all_counted in let f = h.fits in let e = h.same_length in omega arith)
+  all_fit = (
+    h.inside (subst (All (IsInside s)) (sym (drop_all i areas l)) (All-nil (IsInside s))),
+    let c = all_counted in let f = h.fits in let e = h.same_length in omega arith,
+  )
 
   pub all_held : HoldsAreas s areas now
   all_held = subst (HoldsAreas s areas) (sym all_written) (copied_holds s areas (drop n old) all_fit.0)
@@ -133,17 +136,20 @@ range_read s a bytes e = go (nat_le (a.start + a.len) (length s)) refl e
     go false f g = absurd cc
 
 -- an area that was read whole and is the same as what was kept
-pub area_read : (s : List ℕ) (a : Area) (kept now was : List ℕ) → IsInside s a × (now ≡ bytes_of s a) → a.len ≤ length kept → was ≡ take (a.len - 0) (drop 0 kept) → now ≡ was → HoldsArea s a kept
+pub area_read : (s : List ℕ) (a : Area) (kept now was : List ℕ) → IsInside s a × (now ≡ bytes_of s a)
+    → a.len ≤ length kept → was ≡ take (a.len - 0) (drop 0 kept) → now ≡ was → HoldsArea s a kept
 area_read s a kept now was read fits e same i l =
     let inside = read.0 in
     let whole : a.len - 0 ≡ a.len = omega arith in (
       omega arith,
       omega arith,
-      sym (get_or-take a.len (drop a.start s) i 0 l ∙ get_or-drop a.start s i 0) ∙ ap (λ z. get_or z i 0) (sym read.1 ∙ same ∙ e ∙ ap (λ n. take n kept) whole) ∙ get_or-take a.len kept i 0 l,
+      sym (get_or-take a.len (drop a.start s) i 0 l ∙ get_or-drop a.start s i 0)
+          ∙ ap (λ z. get_or z i 0) (sym read.1 ∙ same ∙ e ∙ ap (λ n. take n kept) whole) ∙ get_or-take a.len kept i 0 l,
     )
 
 -- and if it holds what was kept, both are the same
-pub same_bytes : (s : List ℕ) (a : Area) (kept now was : List ℕ) → IsInside s a × (now ≡ bytes_of s a) → a.len ≤ length kept → was ≡ take (a.len - 0) (drop 0 kept) → HoldsArea s a kept → now ≡ was
+pub same_bytes : (s : List ℕ) (a : Area) (kept now was : List ℕ) → IsInside s a × (now ≡ bytes_of s a)
+    → a.len ≤ length kept → was ≡ take (a.len - 0) (drop 0 kept) → HoldsArea s a kept → now ≡ was
 same_bytes s a kept now was read fits e held = read.1 ∙ same ∙ sym (e ∙ ap (λ n. take n kept) whole)
   where
     whole : a.len - 0 ≡ a.len
@@ -153,7 +159,10 @@ same_bytes s a kept now was read fits e held = read.1 ∙ same ∙ sym (e ∙ ap
     counted = length_of s a read.0
 
     same : bytes_of s a ≡ take a.len kept
-    same = same_number_lists (bytes_of s a) (take a.len kept) (let l = length-take a.len kept in omega (arith, counted, fits, l)) (λ i l. let below : i < a.len = omega (arith, l, counted) in get_or-take a.len (drop a.start s) i 0 below ∙ get_or-drop a.start s i 0 ∙ (held i below).2 ∙ sym (get_or-take a.len kept i 0 below))
+    same =
+        same_number_lists (bytes_of s a) (take a.len kept) (let l = length-take a.len kept in omega (arith, counted, fits, l)) (λ i l.
+        let below : i < a.len = omega (arith, l, counted) in
+        get_or-take a.len (drop a.start s) i 0 below ∙ get_or-drop a.start s i 0 ∙ (held i below).2 ∙ sym (get_or-take a.len kept i 0 below))
 
 -- what holds when all areas were copied
 pub ruleset copy_rules = (all_counted, all_written, all_held)

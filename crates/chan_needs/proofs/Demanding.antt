@@ -80,7 +80,8 @@ module _ (j : Job) (p : Place) (k : Command) (h : begun p (ccw_of j p) ≡ Some 
   pub bounds_at_command : class_sets_mask k.class ≡ false → AreBounds (ServesAt j p) (writes_up_to k.class) (seeks_up_to k.class)
   bounds_at_command other = bounds_same _ (ServesAt j p) _ _ (serves_command other) (λ m. permits_when m k.class)
 
-  pub bounds_at_byte : k.class ≡ SetMask → IsClear j p → AreBounds (ServesAt j p) (write_level (byte (storage_of j) c.address)) (seek_level (byte (storage_of j) c.address))
+  pub bounds_at_byte : k.class ≡ SetMask → IsClear j p
+      → AreBounds (ServesAt j p) (write_level (byte (storage_of j) c.address)) (seek_level (byte (storage_of j) c.address))
   bounds_at_byte same clear =
       let sets : begins_set_mask p c ≡ true = sets_it ∙ ap class_sets_mask same in
       let strict = (clear_good j p clear (mask_is_no_transfer c (and_parts _ _ sets).1)).strict sets in
@@ -106,12 +107,14 @@ module _ (j : Job) (l : Seen) (look : IsLook j l) (clear : IsClear j l.place) wh
   pub bounds_class : (k : Command) → l.command ≡ Some k → (k.class ≡ SetMask → ⊥) → AreBounds (ServesAt j l.place) (writes_up_to k.class) (seeks_up_to k.class)
   bounds_class k e other = bounds_at_command j l.place k (sym (command_at j l look clear) ∙ e) (other_class k.class other)
 
-  pub bounds_byte : (k : Command) → l.command ≡ Some k → k.class ≡ SetMask → AreBounds (ServesAt j l.place) (write_level (byte_of l.read)) (seek_level (byte_of l.read))
+  pub bounds_byte : (k : Command) → l.command ≡ Some k → k.class ≡ SetMask
+      → AreBounds (ServesAt j l.place) (write_level (byte_of l.read)) (seek_level (byte_of l.read))
   bounds_byte k e same =
       let h = sym (command_at j l look clear) ∙ e in
       let sets : begins_set_mask l.place (ccw_of j l.place) ≡ true = sets_it j l.place k h ∙ ap class_sets_mask same in
       let ccw = ccw_seen j l look (clear_stands j l.place clear) in
-      let is : byte_of l.read ≡ byte (storage_of j) (ccw_of j l.place).address = byte_read (storage_of j) l.place (ccw_of j l.place) l.read sets (look.read clear (ccw_of j l.place) ccw) in
+      let is : byte_of l.read ≡ byte (storage_of j) (ccw_of j l.place).address =
+      byte_read (storage_of j) l.place (ccw_of j l.place) l.read sets (look.read clear (ccw_of j l.place) ccw) in
       subst (λ b. AreBounds (ServesAt j l.place) (write_level b) (seek_level b)) (sym is) (bounds_at_byte j l.place k h same clear)
 
 -- ---- at many
@@ -123,8 +126,11 @@ ServesEach j ps m = (p : Place) → Has ps p → ServesAt j p m
 pub bounds_first : (j : Job) → AreBounds (ServesEach j []) 3 3
 bounds_first j = bounds_of_any (ServesEach j []) (λ m p h. absurd h)
 
-pub bounds_next : (j : Job) (ps : List Place) (p : Place) (w s v t : ℕ) → AreBounds (ServesEach j ps) w s → AreBounds (ServesAt j p) v t → AreBounds (ServesEach j (ps ++ p ∷ [])) (min w v) (min s t)
-bounds_next j ps p w s v t f g = bounds_same (λ x. ServesEach j ps x × ServesAt j p x) (ServesEach j (ps ++ p ∷ [])) _ _ (λ x. (both x, parts x)) (bounds_of_both (ServesEach j ps) (ServesAt j p) w s v t f g)
+pub bounds_next : (j : Job) (ps : List Place) (p : Place) (w s v t : ℕ) → AreBounds (ServesEach j ps) w s
+    → AreBounds (ServesAt j p) v t → AreBounds (ServesEach j (ps ++ p ∷ [])) (min w v) (min s t)
+bounds_next j ps p w s v t f g =
+    bounds_same (λ x. ServesEach j ps x × ServesAt j p x) (ServesEach j (ps ++ p ∷ [])) _ _
+    (λ x. (both x, parts x)) (bounds_of_both (ServesEach j ps) (ServesAt j p) w s v t f g)
   where
     both : (x : ℕ) → ServesEach j ps x × ServesAt j p x → ServesEach j (ps ++ p ∷ []) x
     both x w q k = search (rules, has_cases)
@@ -157,8 +163,17 @@ demand_of : (j : Job) (p : Place) → IsClear j p → HasBounds (ServesAt j p)
 demand_of j p clear = go (begun p (ccw_of j p)) refl
   where
     of_command : (k : Command) → begun p (ccw_of j p) ≡ Some k → (k.class ≡ SetMask) ⊎ (class_sets_mask k.class ≡ false) → HasBounds (ServesAt j p)
-    of_command k h (inl same) = record { writes = write_level (byte (storage_of j) (ccw_of j p).address); seeks = seek_level (byte (storage_of j) (ccw_of j p).address); few_writes = write_level-le (byte (storage_of j) (ccw_of j p).address); few_seeks = seek_level-le (byte (storage_of j) (ccw_of j p).address); are = bounds_at_byte j p k h same clear }
-    of_command k h (inr other) = record { writes = writes_up_to k.class; seeks = seeks_up_to k.class; few_writes = writes_up_to-le k.class; few_seeks = seeks_up_to-le k.class; are = bounds_at_command j p k h other }
+    of_command k h (inl same) =
+        let b = byte (storage_of j) (ccw_of j p).address in
+        let are = bounds_at_byte j p k h same clear in
+        record { writes = write_level b; seeks = seek_level b; few_writes = write_level-le b; few_seeks = seek_level-le b; are = are }
+    of_command k h (inr other) = record {
+      writes = writes_up_to k.class;
+      seeks = seeks_up_to k.class;
+      few_writes = writes_up_to-le k.class;
+      few_seeks = seeks_up_to-le k.class;
+      are = bounds_at_command j p k h other;
+    }
 
     go : (o : Option Command) → begun p (ccw_of j p) ≡ o → HasBounds (ServesAt j p)
     go None e = record { writes = 3; seeks = 3; few_writes = omega arith; few_seeks = omega arith; are = bounds_of_any (ServesAt j p) (serves_none j p e) }
@@ -174,7 +189,8 @@ demand_of_each j (p ∷ ps) clear =
       seeks = min a.seeks b.seeks;
       few_writes = omega (arith, a.few_writes);
       few_seeks = omega (arith, a.few_seeks);
-      are = bounds_same (λ x. ServesAt j p x × ServesEach j ps x) (ServesEach j (p ∷ ps)) _ _ (λ x. (both x, parts x)) (bounds_of_both (ServesAt j p) (ServesEach j ps) a.writes a.seeks b.writes b.seeks a.are b.are);
+      are = bounds_same (λ x. ServesAt j p x × ServesEach j ps x) (ServesEach j (p ∷ ps)) _ _ (λ x. (both x, parts x))
+          (bounds_of_both (ServesAt j p) (ServesEach j ps) a.writes a.seeks b.writes b.seeks a.are b.are);
     }
   where
     both : (x : ℕ) → ServesAt j p x × ServesEach j ps x → ServesEach j (p ∷ ps) x

@@ -34,7 +34,8 @@ has_or_not : (ps : List Place) (q : Place) → Has ps q ⊎ (Has ps q → ⊥)
 has_or_not [] q = inr (λ h. h)
 has_or_not (p ∷ ps) q = go (cases_Bool (eqb (place_number p) (place_number q))) (has_or_not ps q)
   where
-    go : (eqb (place_number p) (place_number q) ≡ true) ⊎ (eqb (place_number p) (place_number q) ≡ false) → Has ps q ⊎ (Has ps q → ⊥) → Has (p ∷ ps) q ⊎ (Has (p ∷ ps) q → ⊥)
+    go : (eqb (place_number p) (place_number q) ≡ true) ⊎ (eqb (place_number p) (place_number q) ≡ false)
+        → Has ps q ⊎ (Has ps q → ⊥) → Has (p ∷ ps) q ⊎ (Has (p ∷ ps) q → ⊥)
     go (inl e) r = inl (inl (same_number p q (eqb-true _ _ e)))
     go (inr e) (inl h) = inl (inr h)
     go (inr e) (inr n) = inr absent
@@ -47,7 +48,8 @@ adds_or_not : (n : ℕ) (o : Option Place) (ps : List Place) (fs : List ℕ) →
 adds_or_not n None ps fs = inl (ps, fs, (refl, refl))
 adds_or_not n (Some q) ps fs = go (has_or_not ps q) (cases_lt (length ps) n)
   where
-    go : Has ps q ⊎ (Has ps q → ⊥) → (length ps < n) ⊎ (n ≤ length ps) → ((qs : List Place) × (gs : List ℕ) × Adds n (Some q) 0 ps qs fs gs) ⊎ Overflows n (Some q) ps
+    go : Has ps q ⊎ (Has ps q → ⊥) → (length ps < n) ⊎ (n ≤ length ps)
+        → ((qs : List Place) × (gs : List ℕ) × Adds n (Some q) 0 ps qs fs gs) ⊎ Overflows n (Some q) ps
     go (inl h) l = inl (ps, fs, inl (h, refl, refl))
     go (inr f) (inl l) = inl (ps ++ q ∷ [], fs ++ 0 ∷ [], inr (f, refl, l, refl))
     go (inr f) (inr l) = inr (f, l)
@@ -64,7 +66,9 @@ module _ (j : Job) (clear : AreClear j) where
 
   few : (ps : List Place) → AreDistinct ps → ((p : Place) → Has ps p → IsReachable j p) → length ps ≤ bound
   few ps apart only =
-      let l : length (map place_number ps) ≤ bound = length-le_from_distinct_below (map place_number ps) bound (distinct place_number same_number ps apart) (λ k h. let r = has_number k ps h in subst (λ n. n < bound) r.2 (below r.0 (only r.0 r.1))) in
+      let l : length (map place_number ps) ≤ bound =
+      length-le_from_distinct_below (map place_number ps) bound (distinct place_number same_number ps apart)
+      (λ k h. let r = has_number k ps h in subst (λ n. n < bound) r.2 (below r.0 (only r.0 r.1))) in
       omega (arith, l, length-map ps place_number)
 
   no_more : HasMoreThan j bound → ⊥
@@ -88,11 +92,14 @@ module _ (j : Job) (clear : AreClear j) where
       leads : Leads j ps i n.0
       leads = record { from = p; there = slice_get-get_or ps i (first_place j) h; each = follows_exactly j p n.0 n.1 }
 
-      on : (a : (qs : List Place) × (gs : List ℕ) × Adds bound n.0.next 0 ps qs [] gs) → ((rs : List Place) × (hs : List ℕ) × Adds bound n.0.skip 0 a.0 rs a.1 hs) ⊎ Overflows bound n.0.skip a.0 → (qs : List Place) × IsWalked j bound qs (i + 1)
+      on : (a : (qs : List Place) × (gs : List ℕ) × Adds bound n.0.next 0 ps qs [] gs)
+          → ((rs : List Place) × (hs : List ℕ) × Adds bound n.0.skip 0 a.0 rs a.1 hs) ⊎ Overflows bound n.0.skip a.0
+          → (qs : List Place) × IsWalked j bound qs (i + 1)
       on a (inl b) = (b.0, walked_on j bound n.0 0 ps a.0 b.0 [] a.1 b.1 i w h leads a.2 b.2)
       on a (inr o) = absurd (no_more (skip_overflows j bound n.0 0 ps a.0 [] a.1 i w leads a.2 o))
 
-      go : ((qs : List Place) × (gs : List ℕ) × Adds bound n.0.next 0 ps qs [] gs) ⊎ Overflows bound n.0.next ps → (qs : List Place) × IsWalked j bound qs (i + 1)
+      go : ((qs : List Place) × (gs : List ℕ) × Adds bound n.0.next 0 ps qs [] gs) ⊎ Overflows bound n.0.next ps
+          → (qs : List Place) × IsWalked j bound qs (i + 1)
       go (inl a) = on a (adds_or_not bound n.0.skip a.0 a.1)
       go (inr o) = absurd (no_more (next_overflows j bound n.0 ps i w leads o))
 
@@ -103,7 +110,8 @@ module _ (j : Job) (clear : AreClear j) where
   walk zero i ps w f = done ps i w (omega (arith, f, w.few))
   walk (suc left) i ps w f = go (cases_lt i (length ps)) (λ qs v. walk left (i + 1) qs v (omega (arith, f)))
     where
-      go : (i < length ps) ⊎ (length ps ≤ i) → ((qs : List Place) → IsWalked j bound qs (i + 1) → (rs : List Place) × AreReached j rs) → (qs : List Place) × AreReached j qs
+      go : (i < length ps) ⊎ (length ps ≤ i)
+          → ((qs : List Place) → IsWalked j bound qs (i + 1) → (rs : List Place) × AreReached j rs) → (qs : List Place) × AreReached j qs
       go (inl h) on = let o = one_on ps i w h in on o.0 o.1
       go (inr h) on = done ps i w h
 
@@ -116,7 +124,10 @@ module _ (j : Job) (clear : AreClear j) where
 -- ---- the needed mask
 
 pub needed_mask_exists : NeededMaskExists
-needed_mask_exists j v = (mask_of b.writes b.seeks, strictest (Serves j) b.writes b.seeks b.few_writes b.few_seeks (bounds_same (ServesEach k all.0) (Serves j) b.writes b.seeks (λ m. (to m, from m)) b.are))
+needed_mask_exists j v = (
+  mask_of b.writes b.seeks,
+  strictest (Serves j) b.writes b.seeks b.few_writes b.few_seeks (bounds_same (ServesEach k all.0) (Serves j) b.writes b.seeks (λ m. (to m, from m)) b.are),
+)
   where
     k : Job
     k = open_job j

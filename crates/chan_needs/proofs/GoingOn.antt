@@ -4,7 +4,7 @@ use Rattle.chan_needs.proofs.Names.{Option, refl, Remembered, Rests, Some, subst
 use Rattle.chan_needs.proofs.Names.{◌∷◌, ◌≡◌, ◌⊎◌}
 use Rattle.std.proofs.Common.{◌≢◌, ◌==◌}
 use Rattle.std.proofs.lemmas.Bool.Decides.{eqb_tells}
-use Rattle.chan_needs.specs.Supervised.{IsSupervised, RestsAt, SupervisedGoesOn, Supervision}
+use Rattle.chan_needs.specs.Supervised.{IsAllowed, IsSupervised, RestsAt, StartsAt, SupervisedGoesOn, Supervision}
 use Rattle.chan_needs.proofs.Beginning.{after, here, moved_rests, others, picked, rewritten}
 use Rattle.chan_needs.proofs.Beginning.{shares_of}
 
@@ -18,7 +18,8 @@ module _ (v : Supervision) (i : ℕ) (x : Option Flight) (p : Option Remembered)
   rest_others : (k : ℕ) → (k ≡ i) ⊎ RestsAt v next k
   rest_others k = go (eqb_tells k i) (others v.situation i x t shares k)
     where
-      go : (((k == i) ≡ true) × (k ≡ i)) ⊎ (((k == i) ≡ false) × (k ≢ i)) → (k ≡ i) ⊎ Rests (v.situation.at k) (next.situation.at k) → (k ≡ i) ⊎ RestsAt v next k
+      go : (((k == i) ≡ true) × (k ≡ i)) ⊎ (((k == i) ≡ false) × (k ≢ i))
+          → (k ≡ i) ⊎ Rests (v.situation.at k) (next.situation.at k) → (k ≡ i) ⊎ RestsAt v next k
       go (inl e) r = inl e.1
       go (inr e) (inl r) = inl r
       go (inr e) (inr r) = inr (r, ap (λ z. picked z p (v.programs k)) e.0)
@@ -27,8 +28,10 @@ module _ (v : Supervision) (i : ℕ) (x : Option Flight) (p : Option Remembered)
   here_next = here v.situation i x t shares
 
 -- a program in flight goes on, or leaves
-acts_on : (v : Supervision) (before : List Supervision) (i : ℕ) (x : Option Flight) (p : Option Remembered) (t : List ℕ) (shares : (f : Flight) → x ≡ Some f → f.moment.storage ≡ t) → IsSupervised (v ∷ before) → IsSome (v.situation.at i)
-    → Acts v.situation (next v i x p t shares).situation (v.situation.at i) x → (IsSome x → p ≡ v.programs i) → IsSupervised (next v i x p t shares ∷ v ∷ before)
+acts_on : (v : Supervision) (before : List Supervision) (i : ℕ) (x : Option Flight) (p : Option Remembered) (t : List ℕ)
+    (shares : (f : Flight) → x ≡ Some f → f.moment.storage ≡ t)
+    → IsSupervised (v ∷ before) → IsSome (v.situation.at i) → Acts v.situation (next v i x p t shares).situation (v.situation.at i) x
+    → (IsSome x → p ≡ v.programs i) → IsSupervised (next v i x p t shares ∷ v ∷ before)
 acts_on v before i x p t shares run there acts noted = (
   run,
   inl (
@@ -50,14 +53,15 @@ supervised_goes_on = record {
       let p = Some s.program in (
         next v i x p v.situation.storage shares,
         here_next v i x p v.situation.storage shares,
-        (run, inl (i, inl (record { allowed = s; there = here_next v i x p v.situation.storage shares; noted = noted_here v i x p v.situation.storage shares; storage = refl }), rest_others v i x p v.situation.storage shares)),
+        (run, inl (i, inl (starts_next v i s), rest_others v i x p v.situation.storage shares)),
       );
   steps = λ v before i f n run there step.
       let g : Flight = record f { moment = n } in
       let shares = shares_of g n.storage refl in (
         next v i (Some g) (v.programs i) n.storage shares,
         here_next v i (Some g) (v.programs i) n.storage shares,
-        acts_on v before i (Some g) (v.programs i) n.storage shares run (subst IsSome (sym there) refl) (subst (λ y. Acts v.situation (next v i (Some g) (v.programs i) n.storage shares).situation y (Some g)) (sym there) (refl, step)) (λ some. refl),
+        acts_on v before i (Some g) (v.programs i) n.storage shares run (subst IsSome (sym there) refl)
+            (subst (λ y. Acts v.situation (next v i (Some g) (v.programs i) n.storage shares).situation y (Some g)) (sym there) (refl, step)) (λ some. refl),
       );
   leaves = λ v before i run there. (
     next v i None None v.situation.storage (none_shares v),
@@ -65,15 +69,32 @@ supervised_goes_on = record {
     noted_here v i None None v.situation.storage (none_shares v),
     acts_on v before i None None v.situation.storage (none_shares v) run there (leaves v i (v.situation.at i) there) (λ some. absurd (none_some some)),
   );
-  writes = λ v before t run m. (record { situation = rewritten v.situation t; programs = v.programs }, refl, (run, inr (m, λ k. (moved_rests t (v.situation.at k), refl))));
+  writes = λ v before t run m. (
+    record { situation = rewritten v.situation t; programs = v.programs },
+    refl,
+    (run, inr (m, λ k. (moved_rests t (v.situation.at k), refl))),
+  );
 }
   where
+    -- a program that may start is there, and remembered
+    starts_next : (v : Supervision) (i : ℕ) (s : IsAllowed v i)
+        → StartsAt v (next v i (Some s.flight) (Some s.program) v.situation.storage (shares_of s.flight v.situation.storage s.storage)) i
+    starts_next v i s =
+        let shares = shares_of s.flight v.situation.storage s.storage in
+        record {
+          allowed = s;
+          there = here_next v i (Some s.flight) (Some s.program) v.situation.storage shares;
+          noted = noted_here v i (Some s.flight) (Some s.program) v.situation.storage shares;
+          storage = refl;
+        }
+
     none_shares : (v : Supervision) (f : Flight) → None ≡ Some f → f.moment.storage ≡ v.situation.storage
     none_shares v f e = absurd cc
 
     none_some : IsSome {T = Flight} None → ⊥
     none_some e = absurd cc
 
-    leaves : (v : Supervision) (i : ℕ) (y : Option Flight) → IsSome y → Acts v.situation (next v i None None v.situation.storage (none_shares v)).situation y None
+    leaves : (v : Supervision) (i : ℕ) (y : Option Flight) → IsSome y
+        → Acts v.situation (next v i None None v.situation.storage (none_shares v)).situation y None
     leaves v i None some = absurd cc
     leaves v i (Some f) some = refl

@@ -12,7 +12,8 @@ use Rattle.chan_walk.proofs.Theory.Lists.{all_map}
 use Rattle.chan_walk.proofs.Machine.Yes.{no_change, each_ok, step_spares, yes_is_safe_among}
 
 -- a step of one program leaves what another sees as it was, where P holds
-seen : (j : Job) → IsVerdict j Yes → (P : ℕ → Type 0) → (MayStoreOver j P → ⊥) → (m n : Moment) (ms : List Moment) → IsSpared j (m ∷ ms) → Steps m n → (s t : List ℕ) → s ≡ m.storage → t ≡ n.storage → IsSameIn P s t
+seen : (j : Job) → IsVerdict j Yes → (P : ℕ → Type 0) → (MayStoreOver j P → ⊥) → (m n : Moment) (ms : List Moment)
+    → IsSpared j (m ∷ ms) → Steps m n → (s t : List ℕ) → s ≡ m.storage → t ≡ n.storage → IsSameIn P s t
 seen j v P never m n ms r w s t e f =
     let k = step_spares j v P never m.storage m.arm m.mask m.stage n.events n.storage n.arm n.mask n.stage w (each_ok j v (m ∷ ms) r).0.kept in
     record { same_length = rw e (rw f k.same_length); same = λ b h. rw e (rw f (k.same b h)) }
@@ -80,15 +81,28 @@ next_sound a b next sound = record { kept = λ i g e. kept i g (next.each i g e)
     apart i k f g (inl d) (inr w) = subst (λ z. MayStoreOver f.job (IsGuarded z) → ⊥) (sym w.same) ((next.may f d).spares k w.f w.there)
     apart i k f g (inr v) (inl e) = subst (λ z. MayStoreOver z (IsGuarded g.job) → ⊥) (sym v.same) ((next.may g e).spared i v.f v.there)
     apart i k f g (inr v) (inr w) =
-        subst (λ z. MayStoreOver z (IsGuarded g.job) → ⊥) (sym v.same) (subst (λ z. MayStoreOver v.f.job (IsGuarded z) → ⊥) (sym w.same) (sound.apart i k v.f w.f v.there w.there))
+        subst (λ z. MayStoreOver z (IsGuarded g.job) → ⊥) (sym v.same)
+        (subst (λ z. MayStoreOver v.f.job (IsGuarded z) → ⊥) (sym w.same) (sound.apart i k v.f w.f v.there w.there))
 
 module _ (a b : Situation) (sound : Sound a) where
   -- one that waits while storage stays, or changes in no byte that it guards
-  waited : (i : ℕ) (g : Flight) (x : Option Flight) → a.at i ≡ x → b.at i ≡ Some g → Rests x (Some g) → ((f : Flight) → a.at i ≡ Some f → IsSameIn (IsGuarded f.job) a.storage b.storage) → Was a i g
+  waited : (i : ℕ) (g : Flight) (x : Option Flight) → a.at i ≡ x → b.at i ≡ Some g → Rests x (Some g)
+      → ((f : Flight) → a.at i ≡ Some f → IsSameIn (IsGuarded f.job) a.storage b.storage) → Was a i g
   waited i g None d e r h = absurd r
   waited i g (Some f) d e r h =
       let s = h f d in
-      record { f = f; there = d; same = r.0; goes = inr (r.1, record { same_length = rw (a.shared i f d) (rw (b.shared i g e) s.same_length); same = λ z u. rw (a.shared i f d) (rw (b.shared i g e) (s.same z u)) }) }
+      record {
+        f = f;
+        there = d;
+        same = r.0;
+        goes = inr (
+          r.1,
+          record {
+            same_length = rw (a.shared i f d) (rw (b.shared i g e) s.same_length);
+            same = λ z u. rw (a.shared i f d) (rw (b.shared i g e) (s.same z u));
+          },
+        );
+      }
 
   stays : b.storage ≡ a.storage → (P : ℕ → Type 0) → IsSameIn P a.storage b.storage
   stays e P = subst (IsSameIn P a.storage) (sym e) (record { same_length = refl; same = λ z u. refl })
@@ -109,7 +123,10 @@ module _ (a b : Situation) (sound : Sound a) where
   acts i (Some f) (Some g) d e w r = record { new = None; may = λ h z. absurd cc; each = λ k h z. inr (each k h z (r k)) }
     where
       spared : (k : ℕ) (h : Flight) → a.at k ≡ Some h → IsSameIn (IsGuarded h.job) a.storage b.storage
-      spared k h z = let kept = sound.kept i f d in seen f.job kept.verdict (IsGuarded h.job) (sound.apart i k f h d z) f.moment g.moment kept.before kept.spared w.1 a.storage b.storage (sym (a.shared i f d)) (sym (b.shared i g e))
+      spared k h z =
+          let kept = sound.kept i f d in
+          seen f.job kept.verdict (IsGuarded h.job) (sound.apart i k f h d z) f.moment g.moment
+          kept.before kept.spared w.1 a.storage b.storage (sym (a.shared i f d)) (sym (b.shared i g e))
 
       each : (k : ℕ) (h : Flight) → b.at k ≡ Some h → (k ≡ i) ⊎ Rests (a.at k) (b.at k) → Was a k h
       each k h z (inl q) =
@@ -120,10 +137,11 @@ module _ (a b : Situation) (sound : Sound a) where
 
   next : ComesNext a b → Next a b
   next (inl w) = acts w.0 (a.at w.0) (b.at w.0) refl refl w.1 w.2
-  next (inr w) = record { new = None; may = λ f z. absurd cc; each = λ k g z. inr (waited k g (a.at k) refl z (subst (Rests (a.at k)) z (w k).0) (λ f d. spared k f d (w k).1)) }
+  next (inr w) = record { new = None; may = λ f z. absurd cc; each = λ k g z. inr (waits k g z (subst (Rests (a.at k)) z (w k).0) (w k).1) }
     where
-      spared : (k : ℕ) (f : Flight) → a.at k ≡ Some f → Spares (a.at k) a.storage b.storage → IsSameIn (IsGuarded f.job) a.storage b.storage
-      spared k f d h = subst (λ x. Spares x a.storage b.storage) d h
+      -- each waits, while storage changes in no byte that it guards
+      waits : (k : ℕ) (g : Flight) → b.at k ≡ Some g → Rests (a.at k) (Some g) → Spares (a.at k) a.storage b.storage → Was a k g
+      waits k g z r h = waited k g (a.at k) refl z r (λ f d. subst (λ x. Spares x a.storage b.storage) d h)
 
 all_sound : (history : List Situation) → IsHistory history → AllByRecursion Sound history
 all_sound [] h = absurd h
@@ -142,4 +160,8 @@ stays_well history h = all_map Sound AreWell (λ a s i f e. well f (s.kept i f e
     well f k =
         let ms = f.moment ∷ k.before in
         let o = (each_ok f.job k.verdict ms k.spared).0.kept in
-        record { run = (k.before, k.spared); safe = ((yes_is_safe_among f.job k.mask k.verdict).0 ms k.spared).0; same = record { same_length = o.same_length; same = o.same } }
+        record {
+          run = (k.before, k.spared);
+          safe = ((yes_is_safe_among f.job k.mask k.verdict).0 ms k.spared).0;
+          same = record { same_length = o.same_length; same = o.same };
+        }

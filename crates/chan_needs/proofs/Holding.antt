@@ -33,15 +33,23 @@ turned xs ys us vs h = record { one = h.other; other = h.one; rests = λ b s. le
 
 -- past an area that ends before all that is left of the other list
 past : (xs ys us vs : List Area) (x y : Area) → end_of x ≤ y.start → AreAhead xs ys (x ∷ us) (y ∷ vs) → AreAhead xs ys us (y ∷ vs)
-past xs ys us vs x y l h = record { one = h.one.2; other = h.other; rests = λ b s. let r = h.rests b s in let from = bytes_from y vs b h.other r.1 in search (rules, lies_in-cases) }
+past xs ys us vs x y l h = record {
+  one = h.one.2;
+  other = h.other;
+  rests = λ b s. let r = h.rests b s in let from = bytes_from y vs b h.other r.1 in search (rules, lies_in-cases);
+}
 
-pub ahead_one : (xs ys : List Area) (i m : ℕ) → i < length xs → m < length ys → end_of (get_or xs i nowhere) ≤ (get_or ys m nowhere).start → AreAhead xs ys (drop i xs) (drop m ys) → AreAhead xs ys (drop (i + 1) xs) (drop m ys)
+pub ahead_one : (xs ys : List Area) (i m : ℕ) → i < length xs → m < length ys → end_of (get_or xs i nowhere) ≤ (get_or ys m nowhere).start
+    → AreAhead xs ys (drop i xs) (drop m ys) → AreAhead xs ys (drop (i + 1) xs) (drop m ys)
 ahead_one xs ys i m l k e h = rw (rest_of ys m k) (past xs ys _ _ (get_or xs i nowhere) (get_or ys m nowhere) e (rw (rest_of xs i l, rest_of ys m k) at h))
 
-pub ahead_other : (xs ys : List Area) (i m : ℕ) → i < length xs → m < length ys → end_of (get_or ys m nowhere) ≤ (get_or xs i nowhere).start → AreAhead xs ys (drop i xs) (drop m ys) → AreAhead xs ys (drop i xs) (drop (m + 1) ys)
+pub ahead_other : (xs ys : List Area) (i m : ℕ) → i < length xs → m < length ys → end_of (get_or ys m nowhere) ≤ (get_or xs i nowhere).start
+    → AreAhead xs ys (drop i xs) (drop m ys) → AreAhead xs ys (drop i xs) (drop (m + 1) ys)
 ahead_other xs ys i m l k e h = turned ys xs _ _ (ahead_one ys xs m i k l e (turned xs ys _ _ h))
 
-pub share_here : (xs ys : List Area) (i m n : ℕ) → i < length xs → m < length ys → (get_or ys m nowhere).start < end_of (get_or xs i nowhere) → (get_or xs i nowhere).start < end_of (get_or ys m nowhere) → n ≡ max (get_or xs i nowhere).start (get_or ys m nowhere).start → AreAhead xs ys (drop i xs) (drop m ys) → IsLeastOf (IsShared xs ys) n
+pub share_here : (xs ys : List Area) (i m n : ℕ) → i < length xs → m < length ys
+    → (get_or ys m nowhere).start < end_of (get_or xs i nowhere) → (get_or xs i nowhere).start < end_of (get_or ys m nowhere)
+    → n ≡ max (get_or xs i nowhere).start (get_or ys m nowhere).start → AreAhead xs ys (drop i xs) (drop m ys) → IsLeastOf (IsShared xs ys) n
 share_here xs ys i m n l k a b e h =
     let one = rw (rest_of xs i l) at h.one in
     let other = rw (rest_of ys m k) at h.other in

@@ -83,7 +83,8 @@ total-append [] ys = omega arith
 total-append (x ∷ xs) ys = let more = total-append xs ys in omega (arith, more)
 
 -- merged areas are so far apart that their sum stays below the end of the last
-total_below : (n : ℕ) (x : Area) (xs : List Area) (i : ℕ) → n ≤ x.start → IsMerged (x ∷ xs) → i < length (x ∷ xs) → n + total_len (take (suc i) (x ∷ xs)) ≤ end_of (get_or (x ∷ xs) i nowhere)
+total_below : (n : ℕ) (x : Area) (xs : List Area) (i : ℕ) → n ≤ x.start → IsMerged (x ∷ xs)
+    → i < length (x ∷ xs) → n + total_len (take (suc i) (x ∷ xs)) ≤ end_of (get_or (x ∷ xs) i nowhere)
 total_below n x xs zero first m l = omega (arith, first)
 total_below n x [] (suc i) first m l = absurd (omega (arith, l))
 total_below n x (y ∷ xs) (suc i) first m l =

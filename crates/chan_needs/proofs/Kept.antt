@@ -1,14 +1,9 @@
 -- The bytes that are kept, compared area by area.
 use Rattle.chan_needs.proofs.Names.{Area, arith, drop, drop-cons, get_or, HoldsAreas, inl, inr}
-use Rattle.chan_needs.proofs.Names.{length, List, subst, suc, sym, zero, ℕ, [], ◌+◌, ◌-◌, ◌<◌, ◌^◌}
-use Rattle.chan_needs.proofs.Names.{◌∷◌, ◌≡◌, ◌≤◌}
+use Rattle.chan_needs.proofs.Names.{length, List, subst, suc, sym, ℕ, [], ◌+◌, ◌<◌}
+use Rattle.chan_needs.proofs.Names.{◌∷◌, ◌≡◌}
 use Rattle.chan_needs.specs.Remembered.{HoldsArea, IsFirstChanged}
 use Rattle.chan_needs.proofs.Holding.{nowhere}
-
--- the address of a byte after one of storage fits
-pub address_fits : (start i n : ℕ) → start < 2 ^ 32 → n ≤ 2 ^ 24 → (0 < i → start + (i - 1) < n) → start + i < 2 ^ 32
-address_fits start zero n a b h = omega arith
-address_fits start (suc i) n a b h = let l = h (omega arith) in omega arith
 
 -- what the areas from i on say of the bytes that are left is what all say of all
 pub record IsLeft (s : List ℕ) (areas : List Area) (kept : List ℕ) (i : ℕ) (rest : List ℕ) : Type 0 where
@@ -21,8 +16,13 @@ module _ (s : List ℕ) (areas : List Area) (kept : List ℕ) (i : ℕ) (rest : 
 
   pub left_more : (more : List ℕ) → more ≡ drop (get_or areas i nowhere).len rest → HoldsArea s (get_or areas i nowhere) rest → IsLeft s areas kept (i + 1) more
   left_more more e h = record {
-    holds = λ k. left.holds (subst (λ (xs : List Area). HoldsAreas s xs rest) (sym next) (h, subst (λ n. HoldsAreas s (drop n areas) (drop (get_or areas i nowhere).len rest)) one (subst (λ z. HoldsAreas s (drop (i + 1) areas) z) e k)));
-    changed = λ b k. left.changed b (subst (λ (xs : List Area). IsFirstChanged s xs rest b) (sym next) (inr (h, subst (λ n. IsFirstChanged s (drop n areas) (drop (get_or areas i nowhere).len rest) b) one (subst (λ z. IsFirstChanged s (drop (i + 1) areas) z b) e k))));
+    holds = λ k. left.holds (subst (λ (xs : List Area). HoldsAreas s xs rest) (sym next)
+        (h, subst (λ n. HoldsAreas s (drop n areas) (drop (get_or areas i nowhere).len rest)) one (subst (λ z. HoldsAreas s (drop (i + 1) areas) z) e k)));
+    changed = λ b k. left.changed b (subst (λ (xs : List Area). IsFirstChanged s xs rest b) (sym next) (inr (
+      h,
+      subst (λ n. IsFirstChanged s (drop n areas) (drop (get_or areas i nowhere).len rest) b) one
+          (subst (λ z. IsFirstChanged s (drop (i + 1) areas) z b) e k),
+    )));
   }
     where
       one : i + 1 ≡ suc i

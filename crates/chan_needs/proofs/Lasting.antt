@@ -37,7 +37,8 @@ module _ (f : Remembered) (area : Area) (v w : Supervision) (write : IsLastingWr
   acts : (i : ℕ) (p : Remembered) → IsListedAt f v w → StartsAt v w i ⊎ GoesOnAt v w i → IsSome (w.situation.at i) → w.programs i ≡ Some p → KeepsNone area p
   acts i p listed (inl s) some noted =
       let same : s.allowed.program ≡ p = cc in
-      subst (KeepsNone area) same (beside_keeps_none f s.allowed.program area write (of_all (IsBeside s.allowed.program) s.allowed.in_flight f s.allowed.answer.beside (listed i s)))
+      subst (KeepsNone area) same
+      (beside_keeps_none f s.allowed.program area write (of_all (IsBeside s.allowed.program) s.allowed.in_flight f s.allowed.answer.beside (listed i s)))
   acts i p listed (inr g) some noted = spared i p g.there (sym (g.noted some) ∙ noted)
 
   stays : GoesOn v w → IsListedAt f v w → IsSparedBy area w
@@ -56,6 +57,7 @@ lasting_writes = record {
       record { area = area; in_flight = fs; lists = lists; answer = to_all (KeepsNone area) fs none; written = written };
 }
   where
-    spares : (f : Remembered) (area : Area) (v : Supervision) (g : Remembered) → IsLastingWrite area f → IsSparedBy area v → (g ≡ f) ⊎ ((i : ℕ) × IsSome (v.situation.at i) × (v.programs i ≡ Some g)) → KeepsNone area g
+    spares : (f : Remembered) (area : Area) (v : Supervision) (g : Remembered) → IsLastingWrite area f
+        → IsSparedBy area v → (g ≡ f) ⊎ ((i : ℕ) × IsSome (v.situation.at i) × (v.programs i ≡ Some g)) → KeepsNone area g
     spares f area v g write spared (inl e) = subst (KeepsNone area) (sym e) (none_kept f area write)
     spares f area v g write spared (inr at) = spared at.0 g at.1 at.2

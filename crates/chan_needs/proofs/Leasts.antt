@@ -20,7 +20,8 @@ use Rattle.chan_areas.proofs.Merging.{lies_in-append, lies_in-first}
 
 -- ---- the lesser of two leasts
 
-least_either : (P Q R : ℕ → Type 0) → ((b : ℕ) → R b → P b ⊎ Q b) → ((b : ℕ) → P b → R b) → ((b : ℕ) → Q b → R b) → (o p : Option ℕ) → IsLeastOrNone P o → IsLeastOrNone Q p → IsLeastOrNone R (lesser_of o p)
+least_either : (P Q R : ℕ → Type 0) → ((b : ℕ) → R b → P b ⊎ Q b) → ((b : ℕ) → P b → R b) → ((b : ℕ) → Q b → R b)
+    → (o p : Option ℕ) → IsLeastOrNone P o → IsLeastOrNone Q p → IsLeastOrNone R (lesser_of o p)
 least_either P Q R split one other None None h k = search (rules, split)
 least_either P Q R split one other None (Some n) h k = search (rules, split, other)
 least_either P Q R split one other (Some m) None h k = search (rules, split, one)
@@ -29,8 +30,11 @@ least_either P Q R split one other (Some m) (Some n) h k = search (rules, split,
 -- ---- row by row
 
 -- the least so far, and that of one row more
-least_more : (Old Here New P : ℕ → Type 0) (o p q : Option ℕ) → ((b : ℕ) → New b ↔ (Old b ⊎ Here b)) → q ≡ lesser_of o p → IsLeastOrNone (λ b. Old b × P b) o → IsLeastOrNone (λ b. Here b × P b) p → IsLeastOrNone (λ b. New b × P b) q
-least_more Old Here New P o p q more e h k = subst (IsLeastOrNone (λ b. New b × P b)) (sym e) (least_either (λ b. Old b × P b) (λ b. Here b × P b) (λ b. New b × P b)
+least_more : (Old Here New P : ℕ → Type 0) (o p q : Option ℕ) → ((b : ℕ) → New b ↔ (Old b ⊎ Here b)) → q ≡ lesser_of o p
+    → IsLeastOrNone (λ b. Old b × P b) o → IsLeastOrNone (λ b. Here b × P b) p → IsLeastOrNone (λ b. New b × P b) q
+least_more Old Here New P o p q more e h k =
+    subst (IsLeastOrNone (λ b. New b × P b)) (sym e)
+    (least_either (λ b. Old b × P b) (λ b. Here b × P b) (λ b. New b × P b)
     (λ b r. elim ((more b).0 r.0) [
       | inl x ↦ inl (x, r.1)
       | inr x ↦ inr (x, r.1)
@@ -39,8 +43,10 @@ least_more Old Here New P o p q more e h k = subst (IsLeastOrNone (λ b. New b �
     (λ b r. ((more b).1 (inr r.0), r.1))
     o p h k)
 
-areas_more : (xs : List Area) (i b : ℕ) → i < length xs → (lies_in (take (i + 1) xs) b ≡ true) ↔ ((lies_in (take i xs) b ≡ true) ⊎ IsByteOf (get_or xs i nowhere) b)
-areas_more xs i b l = rw (take_more xs i nowhere l) (search (rules, lies_in-append, lies_in-cases, lies_in-first, or_cases, or_left, or_right, lies_in-nil, both_ways))
+areas_more : (xs : List Area) (i b : ℕ) → i < length xs
+    → (lies_in (take (i + 1) xs) b ≡ true) ↔ ((lies_in (take i xs) b ≡ true) ⊎ IsByteOf (get_or xs i nowhere) b)
+areas_more xs i b l =
+    rw (take_more xs i nowhere l) (search (rules, lies_in-append, lies_in-cases, lies_in-first, or_cases, or_left, or_right, lies_in-nil, both_ways))
 
 abbrev pub InRun : ℕ × ℕ → ℕ → Type 0
 InRun r n = (r.0 ≤ n) × (n ≤ r.1)
@@ -57,29 +63,39 @@ in_run r n = search (rules, or_cases, or_left, and_from, and_parts, le-leb, leb-
 abbrev no_run : Extent
 no_run = record { first = 0; last = 0 }
 
-runs_more : (xs : List Extent) (i n : ℕ) → i < length xs → (has_cylinder (map pair (take (i + 1) xs)) n ≡ true) ↔ ((has_cylinder (map pair (take i xs)) n ≡ true) ⊎ InRun (pair (get_or xs i no_run)) n)
+runs_more : (xs : List Extent) (i n : ℕ) → i < length xs
+    → (has_cylinder (map pair (take (i + 1) xs)) n ≡ true) ↔ ((has_cylinder (map pair (take i xs)) n ≡ true) ⊎ InRun (pair (get_or xs i no_run)) n)
 runs_more xs i n l =
     rw (take_more xs i no_run l, map-append pair (take i xs) (get_or xs i no_run ∷ []))
     (search (rules, has_cylinder-append, in_run, or_cases, or_left, or_right))
 
-pub least_area : (xs : List Area) (i : ℕ) (P : ℕ → Type 0) (o p q : Option ℕ) → i < length xs → q ≡ lesser_of o p → IsLeastOrNone (λ b. (lies_in (take i xs) b ≡ true) × P b) o → IsLeastOrNone (λ b. IsByteOf (get_or xs i nowhere) b × P b) p → IsLeastOrNone (λ b. (lies_in (take (i + 1) xs) b ≡ true) × P b) q
-least_area xs i P o p q l = least_more (λ b. lies_in (take i xs) b ≡ true) (IsByteOf (get_or xs i nowhere)) (λ b. lies_in (take (i + 1) xs) b ≡ true) P o p q (λ b. areas_more xs i b l)
+pub least_area : (xs : List Area) (i : ℕ) (P : ℕ → Type 0) (o p q : Option ℕ) → i < length xs
+    → q ≡ lesser_of o p → IsLeastOrNone (λ b. (lies_in (take i xs) b ≡ true) × P b) o
+    → IsLeastOrNone (λ b. IsByteOf (get_or xs i nowhere) b × P b) p → IsLeastOrNone (λ b. (lies_in (take (i + 1) xs) b ≡ true) × P b) q
+least_area xs i P o p q l =
+    least_more (λ b. lies_in (take i xs) b ≡ true) (IsByteOf (get_or xs i nowhere)) (λ b. lies_in (take (i + 1) xs) b ≡ true) P o p q (λ b. areas_more xs i b l)
 
-pub least_run : (xs : List Extent) (i : ℕ) (P : ℕ → Type 0) (o p q : Option ℕ) → i < length xs → q ≡ lesser_of o p → IsLeastOrNone (λ n. (has_cylinder (map pair (take i xs)) n ≡ true) × P n) o → IsLeastOrNone (λ n. InRun (pair (get_or xs i no_run)) n × P n) p → IsLeastOrNone (λ n. (has_cylinder (map pair (take (i + 1) xs)) n ≡ true) × P n) q
-least_run xs i P o p q l = least_more (λ n. has_cylinder (map pair (take i xs)) n ≡ true) (InRun (pair (get_or xs i no_run))) (λ n. has_cylinder (map pair (take (i + 1) xs)) n ≡ true) P o p q (λ n. runs_more xs i n l)
+pub least_run : (xs : List Extent) (i : ℕ) (P : ℕ → Type 0) (o p q : Option ℕ) → i < length xs → q ≡ lesser_of o p
+    → IsLeastOrNone (λ n. (has_cylinder (map pair (take i xs)) n ≡ true) × P n) o → IsLeastOrNone (λ n. InRun (pair (get_or xs i no_run)) n × P n) p
+    → IsLeastOrNone (λ n. (has_cylinder (map pair (take (i + 1) xs)) n ≡ true) × P n) q
+least_run xs i P o p q l =
+    least_more (λ n. has_cylinder (map pair (take i xs)) n ≡ true) (InRun (pair (get_or xs i no_run)))
+    (λ n. has_cylinder (map pair (take (i + 1) xs)) n ≡ true) P o p q (λ n. runs_more xs i n l)
 
 -- before the first row, and after the last
 pub no_byte : (b : ℕ) → lies_in [] b ≡ true → ⊥
 no_byte b h = both_ways _ (lies_in-nil b) h
 
-pub least_in_areas : (xs : List Area) (i : ℕ) (P : ℕ → Type 0) (o : Option ℕ) → length xs ≤ i → IsLeastOrNone (λ b. (lies_in (take i xs) b ≡ true) × P b) o → IsLeastOrNone (λ b. (lies_in xs b ≡ true) × P b) o
+pub least_in_areas : (xs : List Area) (i : ℕ) (P : ℕ → Type 0) (o : Option ℕ) → length xs ≤ i
+    → IsLeastOrNone (λ b. (lies_in (take i xs) b ≡ true) × P b) o → IsLeastOrNone (λ b. (lies_in xs b ≡ true) × P b) o
 least_in_areas xs i P o l = subst (λ ys. IsLeastOrNone (λ b. (lies_in ys b ≡ true) × P b) o) (take_all i xs l)
 
 pub no_cylinder : (n : ℕ) → has_cylinder [] n ≡ true → ⊥
 unfolding has_cylinder
 no_cylinder n h = cc
 
-pub least_in_runs : (xs : List Extent) (i : ℕ) (P : ℕ → Type 0) (o : Option ℕ) → length xs ≤ i → IsLeastOrNone (λ n. (has_cylinder (map pair (take i xs)) n ≡ true) × P n) o → IsLeastOrNone (λ n. (has_cylinder (map pair xs) n ≡ true) × P n) o
+pub least_in_runs : (xs : List Extent) (i : ℕ) (P : ℕ → Type 0) (o : Option ℕ) → length xs ≤ i
+    → IsLeastOrNone (λ n. (has_cylinder (map pair (take i xs)) n ≡ true) × P n) o → IsLeastOrNone (λ n. (has_cylinder (map pair xs) n ≡ true) × P n) o
 least_in_runs xs i P o l = subst (λ (ys : List Extent). IsLeastOrNone (λ n. (has_cylinder (map pair ys) n ≡ true) × P n) o) (take_all i xs l)
 
 -- ---- merged from an area on
@@ -89,7 +105,8 @@ begin_above n [] h m = tt
 begin_above n (x ∷ []) h m = (h (omega arith), tt)
 begin_above n (x ∷ y ∷ xs) h m = let l = h (omega arith) in let k = m.1.0 in (l, begin_above n (y ∷ xs) (λ z. omega arith) m.2)
 
-pub merged_from : (xs : List Area) (i : ℕ) → i < length xs → 0 < (get_or xs i nowhere).len → (suc i < length xs → end_of (get_or xs i nowhere) < (get_or xs (suc i) nowhere).start) → IsMerged (drop (suc i) xs) → IsMerged (drop i xs)
+pub merged_from : (xs : List Area) (i : ℕ) → i < length xs → 0 < (get_or xs i nowhere).len
+    → (suc i < length xs → end_of (get_or xs i nowhere) < (get_or xs (suc i) nowhere).start) → IsMerged (drop (suc i) xs) → IsMerged (drop i xs)
 merged_from [] i l f a m = absurd (omega arith)
 merged_from (x ∷ xs) zero l f a m = (f, begin_above (end_of x) xs (λ k. a (omega arith)) m, m)
 merged_from (x ∷ xs) (suc i) l f a m = merged_from xs i (omega arith) f (λ k. a (omega arith)) m
@@ -97,7 +114,9 @@ merged_from (x ∷ xs) (suc i) l f a m = merged_from xs i (omega arith) f (λ k.
 -- ---- what was lent, as far as it lies in storage
 
 -- a byte that lies in none of the merged areas isn't one of storage that was lent, and the other way round
-pub least_clipped : (n : ℕ) (areas lent merged : List Area) → AreExactly (λ b. (b < n) × (lies_in lent b ≡ true)) merged → (o : Option ℕ) → IsLeastOrNone (λ b. (lies_in areas b ≡ true) × (lies_in merged b ≡ false)) o → IsLeastOrNone (λ b. (lies_in areas b ≡ true) × ((b < n) × (lies_in lent b ≡ true) → ⊥)) o
+pub least_clipped : (n : ℕ) (areas lent merged : List Area) → AreExactly (λ b. (b < n) × (lies_in lent b ≡ true)) merged
+    → (o : Option ℕ) → IsLeastOrNone (λ b. (lies_in areas b ≡ true) × (lies_in merged b ≡ false)) o
+    → IsLeastOrNone (λ b. (lies_in areas b ≡ true) × ((b < n) × (lies_in lent b ≡ true) → ⊥)) o
 least_clipped n areas lent merged are o least =
     least_same _ _ o
     (λ b m. (m.0, λ h. both_ways (lies_in merged b) m.1 ((are.bytes b).1 h)))

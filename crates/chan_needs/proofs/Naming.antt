@@ -19,7 +19,8 @@ same_number m n up down = omega (arith, up, down)
 -- ---- the keeper
 
 -- no program before number i keeps a byte of the area, so one that does has no smaller number
-not_before : (fs : List Remembered) (a : Area) (i j b : ℕ) (f : Remembered) → AllWithin (KeepsNone a) fs 0 i → IsInFlightAt fs j f → IsKeptIn (rows_of f.rows) a b → i ≤ j
+not_before : (fs : List Remembered) (a : Area) (i j b : ℕ) (f : Remembered)
+    → AllWithin (KeepsNone a) fs 0 i → IsInFlightAt fs j f → IsKeptIn (rows_of f.rows) a b → i ≤ j
 not_before fs a i j b f none at kept = go (cases_lt j i)
   where
     go : (j < i) ⊎ (i ≤ j) → i ≤ j
@@ -41,7 +42,8 @@ one_keeper fs a i j b c one other =
 -- ---- the byte that has changed
 
 -- each byte of an area before its first changed one holds, so another changed byte comes no earlier
-not_earlier : (s : List ℕ) (a : Area) (kept : List ℕ) (b c : ℕ) (one : IsFirstChangedIn s a kept b) (other : IsFirstChangedIn s a kept c) → one.number ≤ other.number
+not_earlier : (s : List ℕ) (a : Area) (kept : List ℕ) (b c : ℕ) (one : IsFirstChangedIn s a kept b) (other : IsFirstChangedIn s a kept c)
+    → one.number ≤ other.number
 not_earlier s a kept b c one other = go (cases_lt other.number one.number)
   where
     go : (other.number < one.number) ⊎ (one.number ≤ other.number) → one.number ≤ other.number
@@ -49,7 +51,8 @@ not_earlier s a kept b c one other = go (cases_lt other.number one.number)
     go (inr after) = after
 
 one_byte : (s : List ℕ) (a : Area) (kept : List ℕ) (b c : ℕ) → IsFirstChangedIn s a kept b → IsFirstChangedIn s a kept c → b ≡ c
-one_byte s a kept b c one other = one.at ∙ ap (λ n. a.start + n) (same_number _ _ (not_earlier s a kept b c one other) (not_earlier s a kept c b other one)) ∙ sym other.at
+one_byte s a kept b c one other =
+    one.at ∙ ap (λ n. a.start + n) (same_number _ _ (not_earlier s a kept b c one other) (not_earlier s a kept c b other one)) ∙ sym other.at
 
 one_changed : (s : List ℕ) (areas : List Area) (kept : List ℕ) (b c : ℕ) → IsFirstChanged s areas kept b → IsFirstChanged s areas kept c → b ≡ c
 one_changed s [] kept b c one other = absurd one

@@ -39,7 +39,10 @@ module _ (j k : Job) (one : AreOfOneProgram j k) where
   }
 
   seeks_over : (p : Place) (x : List ℕ) → SeeksTo j p x → SeeksTo k p x
-  seeks_over p x h = subst (λ s. ((begins_seek p (ccw s p.address) ≡ true) × HasArgument s p.address (Some x)) ⊎ ((begins_recalibrate p (ccw s p.address) ≡ true) × (x ≡ home))) one.storage h
+  seeks_over p x h =
+      subst
+      (λ s. ((begins_seek p (ccw s p.address) ≡ true) × HasArgument s p.address (Some x)) ⊎ ((begins_recalibrate p (ccw s p.address) ≡ true) × (x ≡ home)))
+      one.storage h
 
 -- ---- what was found
 
@@ -53,7 +56,8 @@ pub record AreFound (k : Job) (ps : List Place) (n : Listed) (cylinders : List A
   pub store : AreExactly (IsStoredInto k) n.store
   pub keep : AreExactly (IsGuarded k) n.keep
 
-pub are_needs : (j k : Job) (ls : List Seen) (n : Listed) (cylinders : List Area) → AreOfOneProgram j k → AreLooksOfYes k ls → AreFound k (places_of_looks ls) n cylinders → AreNeeds j n
+pub are_needs : (j k : Job) (ls : List Seen) (n : Listed) (cylinders : List Area) → AreOfOneProgram j k
+    → AreLooksOfYes k ls → AreFound k (places_of_looks ls) n cylinders → AreNeeds j n
 are_needs j k ls n cylinders one are found = record {
   verdict = granted;
   storage_len = found.storage_len ∙ ap length (sym one.storage);
@@ -84,7 +88,10 @@ are_needs j k ls n cylinders one are found = record {
 
     served : (m : ℕ) → ServesEach k ps m ↔ Serves j m
     served m = (
-      (λ f p r. let h = f p (are.reached.0 p ((same.0 p).1 r)) in let t = serves_over k (open_job j) there p m h in record { permits = t.permits; admits = t.admits }),
+      (λ f p r.
+          let h = f p (are.reached.0 p ((same.0 p).1 r)) in
+          let t = serves_over k (open_job j) there p m h in
+          record { permits = t.permits; admits = t.admits }),
       λ f p h. let t = f p ((same.0 p).0 (are.reached.1 p h)) in serves_over j k one p m t,
     )
 
@@ -95,7 +102,8 @@ are_needs j k ls n cylinders one are found = record {
     )
 
 -- the looks of a survey, where the first offence is none
-pub survey_looks : (k : Job) (s : Surveyed) (ls : List Seen) → IsSurvey k s → first_verdict s.offences ≡ Yes → FirstIsVerdict → ls ≡ s.looks → AreLooksOfYes k ls
+pub survey_looks : (k : Job) (s : Surveyed) (ls : List Seen) → IsSurvey k s
+    → first_verdict s.offences ≡ Yes → FirstIsVerdict → ls ≡ s.looks → AreLooksOfYes k ls
 survey_looks k s ls is none law e =
     let r = reached_looks k s.looks ls s.found_from is.found e in
     record {
@@ -109,7 +117,8 @@ survey_looks k s ls is none law e =
 
 module _ (j : Job) (n : Listed) (h : AreNeeds j n) where
   -- each byte that is needed is one of storage
-  inside : (test : Place → Fields → Bool) → ((p : Place) (c : Fields) → test p c ≡ true → is_transfer c ≡ false) → (areas : List Area) → AreExactly (IsDataOf test (open_job j)) areas → (b : ℕ) → lies_in areas b ≡ true → b < length (storage_of j)
+  inside : (test : Place → Fields → Bool) → ((p : Place) (c : Fields) → test p c ≡ true → is_transfer c ≡ false) → (areas : List Area)
+      → AreExactly (IsDataOf test (open_job j)) areas → (b : ℕ) → lies_in areas b ≡ true → b < length (storage_of j)
   inside test moves areas are b m =
       let d = (are.bytes b).0 m in
       let c = clear_check (open_job j) d.place (yes_clear (open_job j) h.verdict d.place d.reached) in
@@ -127,7 +136,8 @@ module _ (j : Job) (n : Listed) (h : AreNeeds j n) where
     abbrev pub Lent : List Area → List Area → Type 0
     Lent areas lent = (b : ℕ) → lies_in areas b ≡ true → lies_in lent b ≡ true
 
-    pub grants_from : is_at_least n.mask k.mask ≡ true → ((c : ℕ) → has_cylinder n.extents c ≡ true → has_cylinder (extents_of k) c ≡ true) → Lent n.fetch (fetch_of k) → Lent n.store (store_of k) → Grants j k
+    pub grants_from : is_at_least n.mask k.mask ≡ true → ((c : ℕ) → has_cylinder n.extents c ≡ true → has_cylinder (extents_of k) c ≡ true)
+        → Lent n.fetch (fetch_of k) → Lent n.store (store_of k) → Grants j k
     grants_from mask extents fetch store = record {
       mask = (needed_mask_is_enough j n.mask k.mask h.mask).1 mask;
       extents = λ c m. extents c ((h.extents.cylinders c).1 m);
@@ -152,14 +162,17 @@ module _ (j : Job) (n : Listed) (h : AreNeeds j n) where
 -- ---- side by side
 
 -- no byte that one program needs for storing is kept by the other, where their rows share none
-spares : (j k : Job) (n m : Listed) → HasStoreAndKeep j n → HasStoreAndKeep k m → ((b : ℕ) → IsShared n.store m.keep b → ⊥) → (b : ℕ) → IsNeededForStoring j b → IsKept k b → ⊥
+spares : (j k : Job) (n m : Listed) → HasStoreAndKeep j n → HasStoreAndKeep k m
+    → ((b : ℕ) → IsShared n.store m.keep b → ⊥) → (b : ℕ) → IsNeededForStoring j b → IsKept k b → ⊥
 spares j k n m f g never b s t = never b ((f.store.bytes b).1 s, (g.keep.bytes b).1 t)
 
-shared : (j k : Job) (n m : Listed) → HasStoreAndKeep j n → HasStoreAndKeep k m → ((b : ℕ) → IsNeededForStoring j b → IsKept k b → ⊥) → (b : ℕ) → IsShared n.store m.keep b → ⊥
+shared : (j k : Job) (n m : Listed) → HasStoreAndKeep j n → HasStoreAndKeep k m
+    → ((b : ℕ) → IsNeededForStoring j b → IsKept k b → ⊥) → (b : ℕ) → IsShared n.store m.keep b → ⊥
 shared j k n m f g never b s = never b ((f.store.bytes b).0 s.0) ((g.keep.bytes b).0 s.1)
 
 -- where rows are true, two that share nothing may run beside one another
-pub may_run_beside : (j k : Job) (n m : Listed) → HasStoreAndKeep j n → HasStoreAndKeep k m → ((b : ℕ) → IsShared n.store m.keep b → ⊥) → ((b : ℕ) → IsShared m.store n.keep b → ⊥) → MayRunBeside j k
+pub may_run_beside : (j k : Job) (n m : Listed) → HasStoreAndKeep j n → HasStoreAndKeep k m
+    → ((b : ℕ) → IsShared n.store m.keep b → ⊥) → ((b : ℕ) → IsShared m.store n.keep b → ⊥) → MayRunBeside j k
 may_run_beside j k n m f g one other = record { one_spares = spares j k n m f g one; other_spares = spares k j m n g f other }
 
 pub rows_are_exact : RowsAreExact

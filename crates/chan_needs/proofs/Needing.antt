@@ -39,7 +39,10 @@ open_has n h = let d : nat_le 0 n ≡ true = le-leb 0 n (omega arith) in let e :
 
 all_lie : (j : Job) (b : ℕ) → b < length (storage_of j) → lies_in (all_storage j) b ≡ true
 unfolding lies_in
-all_lie j b h = let d : nat_le 0 b ≡ true = le-leb 0 b (omega arith) in let e : nat_lt b (0 + length (storage_of j)) ≡ true = lt-ltb b (0 + length (storage_of j)) (omega arith) in rw (d, e) refl
+all_lie j b h =
+    let d : nat_le 0 b ≡ true = le-leb 0 b (omega arith) in
+    let e : nat_lt b (0 + length (storage_of j)) ≡ true = lt-ltb b (0 + length (storage_of j)) (omega arith) in
+    rw (d, e) refl
 
 pub opens : (j k : Job) → AreOfOneProgram j k → IsProper k → GrantsMore k (open_job j)
 opens j k one proper = record {
@@ -75,7 +78,8 @@ module _ (j k : Job) (one : AreOfOneProgram j k) (v : IsVerdict k Yes) where
       go (inl (seeks, has)) =
           let f = clear m.place m.reached in
           let g = good m.place m.reached (seek_is_no_transfer (ccw_of j m.place) (and_parts _ _ seeks).1) in
-          let there : HasArgument (storage_of k) m.place.address (Some m.argument) = subst (λ t. HasArgument t m.place.address (Some m.argument)) one.storage has in
+          let there : HasArgument (storage_of k) m.place.address (Some m.argument) =
+          subst (λ t. HasArgument t m.place.address (Some m.argument)) one.storage has in
           let same : f.0 ≡ Some m.argument = argument_unique (storage_of k) m.place.address f.0 (Some m.argument) f.1 there in
           let allowed : is_refused k (Some m.argument) ≡ false = subst (λ x. is_refused k x ≡ false) same (g.allowed seeks) in
           allows_cylinder k m.argument (not-false _ allowed)
@@ -87,27 +91,37 @@ module _ (j k : Job) (one : AreOfOneProgram j k) (v : IsVerdict k Yes) where
   yes_grants = record {
     mask = λ p r. record {
       permits = λ b. let a = and_parts _ _ b in (good p r (not-true _ a.1)).permitted a.0;
-      admits = λ b. subst (λ s. is_at_least (byte s (ccw_of j p).address) k.mask ≡ true) (sym one.storage) ((good p r (mask_is_no_transfer (ccw_of j p) (and_parts _ _ b).1)).strict b);
+      admits = λ b. subst (λ s. is_at_least (byte s (ccw_of j p).address) k.mask ≡ true) (sym one.storage)
+          ((good p r (mask_is_no_transfer (ccw_of j p) (and_parts _ _ b).1)).strict b);
     };
     extents = has_needed;
-    fetch = λ b m. let a = fetches_parts m.place (ccw_of j m.place) m.passes.1 in covered_at (fetch_of k) _ _ b ((good m.place m.reached a.0).fetch_lent a.1) m.from m.below;
-    store = λ b m. let a = stores_parts m.place (ccw_of j m.place) m.passes.1 in covered_at (store_of k) _ _ b ((good m.place m.reached a.0).store_lent a.1 a.2) m.from m.below;
+    fetch = λ b m.
+        let a = fetches_parts m.place (ccw_of j m.place) m.passes.1 in
+        covered_at (fetch_of k) _ _ b ((good m.place m.reached a.0).fetch_lent a.1) m.from m.below;
+    store = λ b m.
+        let a = stores_parts m.place (ccw_of j m.place) m.passes.1 in
+        covered_at (store_of k) _ _ b ((good m.place m.reached a.0).store_lent a.1 a.2) m.from m.below;
   }
 
 -- ---- and what grants it has the open job's yes
 
 module _ (j k : Job) (one : AreOfOneProgram j k) (grants : Grants j k) where
-  allowed_under : (p : Place) → IsOpenlyReachable j p → (x : Option (List ℕ)) → HasArgument (storage_of j) p.address x → begins_seek p (ccw_of j p) ≡ true → is_refused (open_job j) x ≡ false → is_refused k x ≡ false
+  allowed_under : (p : Place) → IsOpenlyReachable j p → (x : Option (List ℕ)) → HasArgument (storage_of j) p.address x
+      → begins_seek p (ccw_of j p) ≡ true → is_refused (open_job j) x ≡ false → is_refused k x ≡ false
   allowed_under p r None a s h = refl
   allowed_under p r (Some x) a s h =
-      not_from_true _ (allows_from (open_job j) k x (same_heads (open_job j) k (from_open j k one)) (not-false _ h) (grants.extents (cylinder_of x) (record { place = p; reached = r; argument = x; seeks = inl (s, a); at = refl })))
+      not_from_true _ (allows_from (open_job j) k x (same_heads (open_job j) k (from_open j k one)) (not-false _ h)
+      (grants.extents (cylinder_of x) (record { place = p; reached = r; argument = x; seeks = inl (s, a); at = refl })))
 
-  good_under : (p : Place) → IsOpenlyReachable j p → Stands (storage_of j) p.address → (x : Option (List ℕ)) → HasArgument (storage_of j) p.address x → is_transfer (ccw_of j p) ≡ false → IsGood (open_job j) p (ccw_of j p) x → IsGood k p (ccw_of j p) x
+  good_under : (p : Place) → IsOpenlyReachable j p → Stands (storage_of j) p.address → (x : Option (List ℕ))
+      → HasArgument (storage_of j) p.address x → is_transfer (ccw_of j p) ≡ false → IsGood (open_job j) p (ccw_of j p) x → IsGood k p (ccw_of j p) x
   good_under p r at x a t g = record {
     known = g.known;
     permitted = λ f. (grants.mask p r).permits (and_from _ _ f (not_from_false _ t));
-    store_lent = λ f n. covered-true (store_of k) _ _ (λ b le lt. grants.store b (record { place = p; reached = r; passes = (at, stores_from _ _ _ t f n); from = le; below = lt }));
-    fetch_lent = λ f. covered-true (fetch_of k) _ _ (λ b le lt. grants.fetch b (record { place = p; reached = r; passes = (at, and_from _ _ (not_from_false _ t) f); from = le; below = lt }));
+    store_lent = λ f n. covered-true (store_of k) _ _
+        (λ b le lt. grants.store b (record { place = p; reached = r; passes = (at, stores_from _ _ _ t f n); from = le; below = lt }));
+    fetch_lent = λ f. covered-true (fetch_of k) _ _
+        (λ b le lt. grants.fetch b (record { place = p; reached = r; passes = (at, and_from _ _ (not_from_false _ t) f); from = le; below = lt }));
     argued = g.argued;
     allowed = λ s. allowed_under p r x a s (g.allowed s);
     home = λ s. grants.extents 0 (record { place = p; reached = r; argument = home; seeks = inr (s, refl); at = refl });
@@ -123,7 +137,8 @@ module _ (j k : Job) (one : AreOfOneProgram j k) (grants : Grants j k) where
       clear_there : AreClear k
       clear_there p m =
           let r = reach_clear (open_job j) k back (yes_clear (open_job j) v) p m in
-          clear_over (open_job j) k back p (yes_clear (open_job j) v p r) (λ x a t fits g. good_under p r (check_stands (storage_of j) p (clear_check (open_job j) p (yes_clear (open_job j) v p r))) x a t g)
+          clear_over (open_job j) k back p (yes_clear (open_job j) v p r)
+          (λ x a t fits g. good_under p r (check_stands (storage_of j) p (clear_check (open_job j) p (yes_clear (open_job j) v p r))) x a t g)
 
 pub yes_opens : (j k : Job) → AreOfOneProgram j k → IsProper k → IsVerdict k Yes → IsVerdict (open_job j) Yes
 yes_opens j k one proper v = more_is_yes k (open_job j) (to_open j k one) (opens j k one proper) v

@@ -31,7 +31,19 @@ can_be_supervised = record {
   remembered = λ j p needs start device kept. record { needs = needs; start = start; device = device; kept = kept };
   lists = λ programs fs listed i p e. numbered fs p (listed i p e);
   allowed = λ v i j p f fs remembered proper start storage lists answer free. (
-    record { asked = j; program = p; remembered = remembered; flight = f; proper = proper; start = start; storage = storage; in_flight = fs; lists = lists; answer = answer; free = free },
+    record {
+      asked = j;
+      program = p;
+      remembered = remembered;
+      flight = f;
+      proper = proper;
+      start = start;
+      storage = storage;
+      in_flight = fs;
+      lists = lists;
+      answer = answer;
+      free = free;
+    },
     refl,
     refl,
   );

@@ -67,7 +67,9 @@ module _ (j k : Job) (keeps : KeepsProgram j k) (v : IsVerdict (open_job j) Yes)
 
   -- and stored into
   pub stored_same : (b : ℕ) → IsNeededForStoring j b ↔ IsNeededForStoring k b
-  stored_same b = both (same_data (open_job j) there refl carry (yes_clear (open_job j) v) (yes_clear there yes_there) stores b) (data_under_yes there (open_job k) open_there yes_there yes_open stores b)
+  stored_same b =
+      both (same_data (open_job j) there refl carry (yes_clear (open_job j) v) (yes_clear there yes_there) stores b)
+      (data_under_yes there (open_job k) open_there yes_there yes_open stores b)
 
   -- so what rows say of storing and keeping stays true
   pub rows_stay : (n : Listed) → HasStoreAndKeep j n → HasStoreAndKeep k n
@@ -93,7 +95,8 @@ at_number P fs n f all number = subst P (number.1 f) (all n f number.0)
 -- ---- who may write
 
 -- what is written where nobody keeps a byte spares all in flight
-pub spared_by : (fs : List Remembered) (area : Area) → All (KeepsNone area) fs → (a : Situation) (t : List ℕ) → AreInFlight a fs → IsWritten area a.storage t → (i : ℕ) (g : Flight) → a.at i ≡ Some g → IsSameIn (IsGuarded g.job) a.storage t
+pub spared_by : (fs : List Remembered) (area : Area) → All (KeepsNone area) fs → (a : Situation) (t : List ℕ) → AreInFlight a fs
+    → IsWritten area a.storage t → (i : ℕ) (g : Flight) → a.at i ≡ Some g → IsSameIn (IsGuarded g.job) a.storage t
 spared_by fs area none a t flying written i g e = go (flying i g e)
   where
     go : (n : ℕ) × (f : Remembered) × IsInFlightAt fs n f × IsInFlight f g.job → IsSameIn (IsGuarded g.job) a.storage t
@@ -108,7 +111,8 @@ writes_well fs area none a before t history flying written = others_may_change a
 -- ---- what may start
 
 -- two storages that hold the same bytes are the same there
-pub same_held : (s t : List ℕ) (areas : List Area) (kept : List ℕ) (b : ℕ) → HoldsAreas s areas kept → HoldsAreas t areas kept → lies_in areas b ≡ true → byte t b ≡ byte s b
+pub same_held : (s t : List ℕ) (areas : List Area) (kept : List ℕ) (b : ℕ)
+    → HoldsAreas s areas kept → HoldsAreas t areas kept → lies_in areas b ≡ true → byte t b ≡ byte s b
 same_held s t [] kept b h k m = absurd (both_ways (lies_in [] b) (lies_in-nil b) m)
 same_held s t (a ∷ areas) kept b h k m = go (same_held s t areas (drop a.len kept) b h.1 k.1) (lies_in-cases a areas b m)
   where
@@ -135,7 +139,9 @@ module _ (j : Job) (p : Remembered) (fs : List Remembered) (proper : IsProper j)
   }
 
   grants : Grants asked j
-  grants = grants_from asked (rows_of p.rows) remembered.needs j fit.granted.mask fit.granted.extents (λ b l. (fit.granted.fetch b l).1) (λ b l. (fit.granted.store b l).1)
+  grants =
+      grants_from asked (rows_of p.rows) remembered.needs j fit.granted.mask fit.granted.extents
+      (λ b l. (fit.granted.fetch b l).1) (λ b l. (fit.granted.store b l).1)
 
   verdict : IsVerdict j Yes
   verdict = asked_once asked j keeps remembered.needs.verdict grants

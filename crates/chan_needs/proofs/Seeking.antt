@@ -59,7 +59,8 @@ module _ (j : Job) (l : Seen) (look : IsLook j l) (clear : IsClear j l.place) wh
   unfolding is_seek recalibrates
   goes_by_none e =
       let h : begun p c ≡ None = sym (command_at j l look clear) ∙ e in
-      no_seek j p (avoids _ _ (λ f. ap (class_passes class_is_seek) (none_from p c h f))) (avoids _ _ (λ f. ap (class_passes class_recalibrates) (none_from p c h f)))
+      no_seek j p (avoids _ _ (λ f. ap (class_passes class_is_seek) (none_from p c h f)))
+      (avoids _ _ (λ f. ap (class_passes class_recalibrates) (none_from p c h f)))
 
   module _ (k : Command) (e : l.command ≡ Some k) where
     abbrev found : (is_fresh p.entered ≡ true) × (lookup c.command ≡ Some k)
@@ -100,15 +101,19 @@ module _ (j : Job) (l : Seen) (look : IsLook j l) (clear : IsClear j l.place) wh
         from (x, inl s, at) = ap (option_map cylinder_of) (argument_unique (storage_of j) p.address (argument_of l.read) (Some x) has s.1) ∙ ap Some at
         from (x, inr s, at) = absurd (both_ways _ (homes_it ∙ g) s.0)
 
-pub is_other : (k : MaskClass) → (k ≡ Seek → ⊥) → (k ≡ SeekCylinder → ⊥) → (k ≡ SeekHead → ⊥) → (k ≡ Recalibrate → ⊥) → (class_is_seek k ≡ false) × (class_recalibrates k ≡ false)
+pub is_other : (k : MaskClass) → (k ≡ Seek → ⊥) → (k ≡ SeekCylinder → ⊥) → (k ≡ SeekHead → ⊥)
+    → (k ≡ Recalibrate → ⊥) → (class_is_seek k ≡ false) × (class_recalibrates k ≡ false)
 is_other k a b d e = search rules
 
 pub is_seek_of : (k : MaskClass) → (k ≡ Seek) ⊎ ((k ≡ SeekCylinder) ⊎ (k ≡ SeekHead)) → (class_is_seek k ≡ true) × (class_recalibrates k ≡ false)
 is_seek_of k h = search rules
 
 -- the cylinder counts as an area of one byte
-pub adds_cylinder : (j : Job) (p : Place) (o : Option ℕ) (m : ℕ) (old new : List Area) → GoesTo j p o → o ≡ Some m → new ≡ old ++ byte_area m ∷ [] → AddsBytes old new (SeeksCylinder j p)
-adds_cylinder j p o m old new goes e is = adds_areas old (byte_area m ∷ []) new (SeeksCylinder j p) is (λ b. ((λ h. to b ((lies_in-bytes (m ∷ []) b).0 h)), λ h. (lies_in-bytes (m ∷ []) b).1 (from b h)))
+pub adds_cylinder : (j : Job) (p : Place) (o : Option ℕ) (m : ℕ) (old new : List Area)
+    → GoesTo j p o → o ≡ Some m → new ≡ old ++ byte_area m ∷ [] → AddsBytes old new (SeeksCylinder j p)
+adds_cylinder j p o m old new goes e is =
+    adds_areas old (byte_area m ∷ []) new (SeeksCylinder j p) is
+    (λ b. ((λ h. to b ((lies_in-bytes (m ∷ []) b).0 h)), λ h. (lies_in-bytes (m ∷ []) b).1 (from b h)))
   where
     to : (b : ℕ) → Has (m ∷ []) b → SeeksCylinder j p b
     to b (inl d) = (goes b).0 (e ∙ ap Some d)
@@ -157,14 +162,17 @@ in_runs (a ∷ areas) n m = (to (in_runs areas n m.2), from (in_runs areas n m.2
         go (inl i) = or_left _ _ (and_from _ _ (le-leb _ _ i.0) (le-leb _ _ (omega (arith, i.1))))
         go (inr r) = or_right _ _ (rest.1 r)
 
-pub runs_of : (P Q : ℕ → Type 0) (areas : List Area) (runs : List (ℕ × ℕ)) → ((n : ℕ) → P n ↔ Q n) → AreExactly P areas → runs ≡ map run_of areas → AreRunsOf Q runs
+pub runs_of : (P Q : ℕ → Type 0) (areas : List Area) (runs : List (ℕ × ℕ))
+    → ((n : ℕ) → P n ↔ Q n) → AreExactly P areas → runs ≡ map run_of areas → AreRunsOf Q runs
 runs_of P Q areas runs f h e = subst (AreRunsOf Q) (sym e) (record {
   rising = rising_runs areas h.merged;
   cylinders = λ n. let r = in_runs areas n h.merged in let b = h.bytes n in ((λ t. (f n).0 (b.0 (r.0 t))), λ q. r.1 (b.1 ((f n).1 q)));
 })
 
-pub runs_next : (areas : List Area) (i : ℕ) (d : Area) (old new : List (ℕ × ℕ)) → i < length areas → old ≡ map run_of (take i areas) → new ≡ old ++ run_of (get_or areas i d) ∷ [] → new ≡ map run_of (take (i + 1) areas)
+pub runs_next : (areas : List Area) (i : ℕ) (d : Area) (old new : List (ℕ × ℕ)) → i < length areas
+    → old ≡ map run_of (take i areas) → new ≡ old ++ run_of (get_or areas i d) ∷ [] → new ≡ map run_of (take (i + 1) areas)
 runs_next areas i d old new l e f = grind (arith, common_steps, take-suc, map-append)
 
-pub sought_all : (j : Job) (ps : List Place) (areas : List Area) → AreReached j ps → HoldBytes (SeeksCylinder j) ps areas → (n : ℕ) → (lies_in areas n ≡ true) ↔ IsSought j n
+pub sought_all : (j : Job) (ps : List Place) (areas : List Area) → AreReached j ps
+    → HoldBytes (SeeksCylinder j) ps areas → (n : ℕ) → (lies_in areas n ≡ true) ↔ IsSought j n
 sought_all j ps areas r f n = search rules

@@ -44,11 +44,15 @@ module _ (j k : Job) (keeps : KeepsProgram j k) (v : IsVerdict (open_job j) Yes)
 
   -- the same places are reachable
   reached_same : (p : Place) → IsReachable (open_job j) p ↔ IsReachable (open_job k) p
-  reached_same p = both (same_reached (open_job j) mid refl (carry j k keeps v) p) ((same_under_yes mid (open_job k) (open_there j k keeps v) (yes_there j k keeps v) (yes_open j k keeps v)).0 p)
+  reached_same p =
+      both (same_reached (open_job j) mid refl (carry j k keeps v) p)
+      ((same_under_yes mid (open_job k) (open_there j k keeps v) (yes_there j k keeps v) (yes_open j k keeps v)).0 p)
 
   -- and fetched from
   fetched_same : (b : ℕ) → IsNeededForFetching j b ↔ IsNeededForFetching k b
-  fetched_same b = both (same_data (open_job j) mid refl (carry j k keeps v) (yes_clear (open_job j) v) (yes_clear mid (yes_there j k keeps v)) fetches b) (data_under_yes mid (open_job k) (open_there j k keeps v) (yes_there j k keeps v) (yes_open j k keeps v) fetches b)
+  fetched_same b =
+      both (same_data (open_job j) mid refl (carry j k keeps v) (yes_clear (open_job j) v) (yes_clear mid (yes_there j k keeps v)) fetches b)
+      (data_under_yes mid (open_job k) (open_there j k keeps v) (yes_there j k keeps v) (yes_open j k keeps v) fetches b)
 
   module _ (p : Place) (r : IsReachable (open_job j) p) where
     stands : Stands (storage_of j) p.address
@@ -58,7 +62,9 @@ module _ (j k : Job) (keeps : KeepsProgram j k) (v : IsVerdict (open_job j) Yes)
     same = ccw_same (open_job j) k.storage (counted j k keeps v) p r stands
 
     admits_same : (b : begins_set_mask p (ccw_of j p) ≡ true) → byte (storage_of j) (ccw_of j p).address ≡ byte (storage_of k) (ccw_of k p).address
-    admits_same b = subst (λ (c : Fields). byte (storage_of j) (ccw_of j p).address ≡ byte (storage_of k) c.address) same (mask_byte_same (open_job j) k.storage (counted j k keeps v) p r b)
+    admits_same b =
+        subst (λ (c : Fields). byte (storage_of j) (ccw_of j p).address ≡ byte (storage_of k) c.address) same
+        (mask_byte_same (open_job j) k.storage (counted j k keeps v) p r b)
 
     serves_to : (m : ℕ) → ServesAt j p m → ServesAt k p m
     serves_to m h = record {
@@ -95,8 +101,16 @@ module _ (j k : Job) (keeps : KeepsProgram j k) (v : IsVerdict (open_job j) Yes)
 
   sought_same : (c : ℕ) → IsNeededCylinder j c ↔ IsNeededCylinder k c
   sought_same c = (
-    (λ h. record { place = h.place; reached = (reached_same h.place).0 h.reached; argument = h.argument; seeks = seeks_to h.place h.reached h.argument h.seeks; at = h.at }),
-    λ h. let r = (reached_same h.place).1 h.reached in record { place = h.place; reached = r; argument = h.argument; seeks = seeks_from h.place r h.argument h.seeks; at = h.at },
+    (λ h. record {
+      place = h.place;
+      reached = (reached_same h.place).0 h.reached;
+      argument = h.argument;
+      seeks = seeks_to h.place h.reached h.argument h.seeks;
+      at = h.at;
+    }),
+    λ h.
+        let r = (reached_same h.place).1 h.reached in
+        record { place = h.place; reached = r; argument = h.argument; seeks = seeks_from h.place r h.argument h.seeks; at = h.at },
   )
 
 pub needs_stay : NeedsStay
@@ -117,7 +131,10 @@ needs_stay j k n keeps h =
 pub held_stays_true : HeldStaysTrue
 held_stays_true j k p h start device len held =
     let keeps : KeepsProgram j k = record {
-      storage = record { same_length = len; same = λ b kept. same_held (storage_of j) (storage_of k) p.rows.keep.now p.kept.now b h.kept held ((h.needs.keep.bytes b).1 kept) };
+      storage = record {
+        same_length = len;
+        same = λ b kept. same_held (storage_of j) (storage_of k) p.rows.keep.now p.kept.now b h.kept held ((h.needs.keep.bytes b).1 kept);
+      };
       start = h.start ∙ sym start;
       device = same_device j.device k.device (h.device ∙ sym device);
     } in
@@ -133,7 +150,8 @@ module _ (s u : List ℕ) (len : length u ≡ length s) where
     λ h. (subst (λ n. a.start + i < n) len h.0, h.1, sym same ∙ h.2),
   )
 
-  same_changed_in : (a : Area) (kept : List ℕ) (b : ℕ) → ((i : ℕ) → i < a.len → byte u (a.start + i) ≡ byte s (a.start + i)) → IsFirstChangedIn s a kept b → IsFirstChangedIn u a kept b
+  same_changed_in : (a : Area) (kept : List ℕ) (b : ℕ) → ((i : ℕ) → i < a.len → byte u (a.start + i) ≡ byte s (a.start + i))
+      → IsFirstChangedIn s a kept b → IsFirstChangedIn u a kept b
   same_changed_in a kept b same c = record {
     number = c.number;
     within = c.within;
@@ -142,16 +160,19 @@ module _ (s u : List ℕ) (len : length u ≡ length s) where
     changed = λ h. c.changed ((same_holds a kept c.number (same c.number c.within)).1 h);
   }
 
-  holds_over : (areas : List Area) (kept : List ℕ) → ((b : ℕ) → lies_in areas b ≡ true → byte u b ≡ byte s b) → HoldsAreas s areas kept → HoldsAreas u areas kept
+  holds_over : (areas : List Area) (kept : List ℕ) → ((b : ℕ) → lies_in areas b ≡ true → byte u b ≡ byte s b)
+      → HoldsAreas s areas kept → HoldsAreas u areas kept
   holds_over [] kept same h = tt
   holds_over (a ∷ areas) kept same h = (
     (λ i l. (same_holds a kept i (same (a.start + i) (lies_in-first a areas (a.start + i) (omega arith, omega (arith, l))))).0 (h.0 i l)),
     holds_over areas (drop a.len kept) (λ b m. same b (lies_in-rest a areas b m)) h.1,
   )
 
-  changed_over : (areas : List Area) (kept : List ℕ) (b : ℕ) → ((b : ℕ) → lies_in areas b ≡ true → byte u b ≡ byte s b) → IsFirstChanged s areas kept b → IsFirstChanged u areas kept b
+  changed_over : (areas : List Area) (kept : List ℕ) (b : ℕ) → ((b : ℕ) → lies_in areas b ≡ true → byte u b ≡ byte s b)
+      → IsFirstChanged s areas kept b → IsFirstChanged u areas kept b
   changed_over [] kept b same c = absurd c
-  changed_over (a ∷ areas) kept b same (inl c) = inl (same_changed_in a kept b (λ i l. same (a.start + i) (lies_in-first a areas (a.start + i) (omega arith, omega (arith, l)))) c)
+  changed_over (a ∷ areas) kept b same (inl c) =
+      inl (same_changed_in a kept b (λ i l. same (a.start + i) (lies_in-first a areas (a.start + i) (omega arith, omega (arith, l)))) c)
   changed_over (a ∷ areas) kept b same (inr c) = inr (
     (λ i l. (same_holds a kept i (same (a.start + i) (lies_in-first a areas (a.start + i) (omega arith, omega (arith, l))))).0 (c.0 i l)),
     changed_over areas (drop a.len kept) b (λ b m. same b (lies_in-rest a areas b m)) c.1,
@@ -227,5 +248,10 @@ module _ (j : Job) (t : Storage) (p : Remembered) (same : IsSameIn (λ b. lies_i
   refusal_over fs r (inr (inr (inr h))) = inr (inr (inr (of_program h.0, held_over h.1, granted (rows_of p.rows) h.2, h.3)))
 
 pub answer_stays : AnswerStays
-answer_stays j t p fs answer.Yes same h = record { program = of_program j t p same h.program; kept = held_over j t p same h.kept; granted = granted j t p same (rows_of p.rows) h.granted; beside = h.beside }
+answer_stays j t p fs answer.Yes same h = record {
+  program = of_program j t p same h.program;
+  kept = held_over j t p same h.kept;
+  granted = granted j t p same (rows_of p.rows) h.granted;
+  beside = h.beside;
+}
 answer_stays j t p fs (answer.No r) same h = refusal_over j t p same fs r h

@@ -43,26 +43,36 @@ module _ (v w : Supervision) (h : IsTrueAt v) where
     now = s.allowed
 
     started : MayStart v.situation now.flight × IsInFlight now.program now.flight.job
-    started = starts_well now.flight.job now.program now.in_flight now.proper now.answer now.asked v.situation now.flight.moment now.remembered (listed_in_flight v now.in_flight h now.lists) now.start
+    started =
+        starts_well now.flight.job now.program now.in_flight now.proper now.answer now.asked v.situation
+        now.flight.moment now.remembered (listed_in_flight v now.in_flight h now.lists) now.start
 
     starts : Acts v.situation w.situation (v.situation.at i) (w.situation.at i)
-    starts = subst (λ x. Acts v.situation w.situation x (w.situation.at i)) (sym now.free) (subst (λ x. Acts v.situation w.situation None x) (sym s.there) (started.0, s.storage))
+    starts =
+        subst (λ x. Acts v.situation w.situation x (w.situation.at i)) (sym now.free)
+        (subst (λ x. Acts v.situation w.situation None x) (sym s.there) (started.0, s.storage))
 
     starts_true : (g : Flight) → w.situation.at i ≡ Some g → IsNoted w i g
-    starts_true g e = let q : Some now.flight ≡ Some g = sym s.there ∙ e in let t : now.flight ≡ g = cc in (now.program, s.noted, subst (λ (f : Flight). IsInFlight now.program f.job) t started.1)
+    starts_true g e =
+        let q : Some now.flight ≡ Some g = sym s.there ∙ e in
+        let t : now.flight ≡ g = cc in
+        (now.program, s.noted, subst (λ (f : Flight). IsInFlight now.program f.job) t started.1)
 
   -- a step, or the end
-  acted : (i : ℕ) (g : Flight) (x : Option Flight) → v.situation.at i ≡ x → IsSome x → Acts v.situation w.situation x (Some g) → w.programs i ≡ v.programs i → IsNoted w i g
+  acted : (i : ℕ) (g : Flight) (x : Option Flight) → v.situation.at i ≡ x → IsSome x
+      → Acts v.situation w.situation x (Some g) → w.programs i ≡ v.programs i → IsNoted w i g
   acted i g None e some acts noted = absurd cc
   acted i g (Some f) e some acts noted = stayed i f g e acts.0 noted
 
   goes_true : (i : ℕ) (s : GoesOnAt v w i) (g : Flight) → w.situation.at i ≡ Some g → IsNoted w i g
-  goes_true i s g e = acted i g (v.situation.at i) refl s.there (subst (Acts v.situation w.situation (v.situation.at i)) e s.acts) (s.noted (subst IsSome (sym e) refl))
+  goes_true i s g e =
+      acted i g (v.situation.at i) refl s.there (subst (Acts v.situation w.situation (v.situation.at i)) e s.acts) (s.noted (subst IsSome (sym e) refl))
 
   -- a write
   spares : (r : IsWriting v w) (k : ℕ) (x : Option Flight) → v.situation.at k ≡ x → Spares x v.situation.storage w.situation.storage
   spares r k None e = tt
-  spares r k (Some f) e = spared_by r.0.in_flight r.0.area r.0.answer v.situation w.situation.storage (listed_in_flight v r.0.in_flight h r.0.lists) r.0.written k f e
+  spares r k (Some f) e =
+      spared_by r.0.in_flight r.0.area r.0.answer v.situation w.situation.storage (listed_in_flight v r.0.in_flight h r.0.lists) r.0.written k f e
 
   -- the program under number i starts, makes a step or leaves
   module _ (i : ℕ) where

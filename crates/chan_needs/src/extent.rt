@@ -1,4 +1,4 @@
-//! Whole cylinders, laid out as C does.
+//! Whole cylinders, in the layout of C.
 
 /// Whole cylinders: the first and the last, both included.
 #[repr(C)]

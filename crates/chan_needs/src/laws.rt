@@ -14,90 +14,91 @@ ghost use Rattle.chan_needs.specs.Staying.{AnswerStays, HeldStaysTrue, NeedsStay
 ghost use Rattle.chan_needs.specs.Supervised.{CanBeSupervised, LastingWrites, SupervisedGoesOn};
 ghost use Rattle.chan_needs.specs.Supervised.{SupervisedStaysWell};
 
-/// Programs may start and leave at any time on one storage, while others change what none in flight
-/// guards: where each that starts has a yes and is apart from those in flight, each in flight is
-/// safe, and what it guards is as it was when its verdict was given.
+/// Programs may start and leave at any time on one storage, while others change bytes that no
+/// program in flight guards. If each program that starts has a yes and is apart from the programs
+/// in flight, each program in flight is safe, and what it guards is as it was when it got its
+/// verdict.
 #[tactic(auto, using(crate::proofs::History::stays_well))]
 pub(crate) fn stays_well()
     ensures { StaysWell }
 {}
 
-/// So are two programs that run side by side, where both verdicts are yes and neither may store
-/// over what the other guards.
+/// Two programs that run side by side are safe if both verdicts are yes and neither may store over
+/// what the other guards.
 #[tactic(auto, using(crate::proofs::Beside::safe_side_by_side))]
 pub(crate) fn safe_side_by_side()
     ensures { SafeSideBySide }
 {}
 
-/// Any two may run so, by the steps of either.
+/// Any two programs may run side by side, by steps of either.
 #[tactic(auto, using(crate::proofs::Possible::may_run_together))]
 pub(crate) fn may_run_together()
     ensures { MayRunTogether }
 {}
 
-/// The least job: for each job of a program the verdict is yes exactly where it is for the open job
-/// and the job grants what the program needs.
+/// The least job: the verdict on a job of a program is yes exactly if the open job has a yes and
+/// the job grants what the program needs.
 pub(crate) fn least_job()
     ensures { LeastJob }
 {}
 
-/// It need be asked only once: the same answer serves over another storage that is as long and the
-/// same in each kept byte.
+/// One question is enough: the answer holds over every storage of the same length that is equal in
+/// every kept byte.
 pub(crate) fn asked_once()
     ensures { AskedOnce }
 {}
 
-/// The needed mask says all that is asked of a job's mask.
+/// A job's mask serves exactly if the needed mask is at least as strict.
 pub(crate) fn needed_mask_is_enough()
     ensures { NeededMaskIsEnough }
 {}
 
-/// There is no other needed mask.
+/// There is at most one needed mask.
 pub(crate) fn needed_mask_is_one()
     ensures { NeededMaskIsOne }
 {}
 
-/// Where the verdict on the open job is yes, there is a needed mask.
+/// If the verdict on the open job is yes, there is a needed mask.
 #[tactic(auto, using(crate::proofs::Existing::needed_mask_exists))]
 pub(crate) fn needed_mask_exists()
     ensures { NeededMaskExists }
 {}
 
-/// Where the verdict on the open job is no, it is yes under no job of the program.
+/// If the verdict on the open job is no, no job of the program has a yes.
 pub(crate) fn no_job_will_do()
     ensures { NoJobWillDo }
 {}
 
-/// Every run is safe and the job is steady exactly where the verdict on the open job is yes and
-/// what is needed is granted.
+/// Every run is safe and the job is steady exactly if the verdict on the open job is yes and the
+/// job grants the needs.
 pub(crate) fn safe_is_granted()
     ensures { SafeIsGranted }
 {}
 
-/// Two programs may run side by side exactly where two of their jobs, each with a yes, are apart.
+/// Two programs are beside each other exactly if two of their jobs, each with a yes, are apart.
 #[tactic(auto, using(crate::proofs::Apart::beside_is_apart))]
 pub(crate) fn beside_is_apart()
     ensures { BesideIsApart }
 {}
 
-/// A program that was asked about, whose kept bytes are the same and whose needs are granted, may
-/// start.
+/// A program that was asked about may start if its kept bytes are unchanged and its needs granted.
 pub(crate) fn asked_may_start()
     ensures { AskedMayStart }
 {}
 
-/// A job that fits what is remembered of its program was asked about in this sense.
+/// A job that fits what is remembered of its program satisfies every premise of `asked_may_start`.
 pub(crate) fn fit_is_asked()
     ensures { FitIsAsked }
 {}
 
-/// A job fits what was remembered if its storage holds what was kept, it grants what the program
-/// needs, and the program may run beside each in flight.
+/// A job fits what is remembered if its storage holds the kept bytes, it grants what the program
+/// needs, and the program may run beside each program in flight.
 pub(crate) fn remembered_is_fit()
     ensures { RememberedIsFit }
 {}
 
-/// Rows of needs list no more than what is needed.
+/// A job grants the rows of needs exactly if it grants the needs; so with two programs beside each
+/// other.
 #[tactic(auto, using(crate::proofs::Needed::rows_are_exact))]
 pub(crate) fn rows_are_exact()
     ensures { RowsAreExact }
@@ -114,74 +115,74 @@ pub(crate) fn others_may_change()
     ensures { OthersMayChange }
 {}
 
-/// Where others have changed storage or written, it holds exactly what they wrote.
+/// When others have written, storage holds exactly what they wrote.
 pub(crate) fn goes_on_to_storage()
     ensures { GoesOnToStorage }
 {}
 
-/// The program that keeps a byte, that byte, and the byte that has changed are the first: the
-/// answers name no other.
+/// Answers name the first program that keeps a byte, its least such byte, and the first byte that
+/// has changed.
 pub(crate) fn named_is_first()
     ensures { NamedIsFirst }
 {}
 
-/// A program that may start does.
+/// A history can go on with the start of a program that may start.
 pub(crate) fn each_may_start()
     ensures { EachMayStart }
 {}
 
-/// A program in flight may make each step of the machine.
+/// A history can go on with each step of a program in flight.
 pub(crate) fn each_may_step()
     ensures { EachMayStep }
 {}
 
-/// A program in flight may leave at any time.
+/// A history can go on with the end of a program in flight.
 pub(crate) fn each_may_leave()
     ensures { EachMayLeave }
 {}
 
-/// A supervisor that starts programs only after a yes of `may_start`, and lets others write only if
-/// `may_write` names no program, has all programs in flight well.
+/// All programs in flight are well under a supervisor that starts programs only after a yes of
+/// `may_start`, and lets others write only if `may_write` names no program.
 #[tactic(auto, using(crate::proofs::Supervising::supervised_stays_well))]
 pub(crate) fn supervised_stays_well()
     ensures { SupervisedStaysWell }
 {}
 
-/// What the calls allow may happen, and so may each step and each end.
+/// Each start and write that the calls allow can happen, and each step and each end.
 #[tactic(auto, using(crate::proofs::GoingOn::supervised_goes_on))]
 pub(crate) fn supervised_goes_on()
     ensures { SupervisedGoesOn }
 {}
 
-/// While a write that lasts has its place in the table, others may write into its area at each
-/// moment: no program that keeps a byte of it starts.
+/// While a write that lasts is in the table, no program that keeps a byte of its area starts; so
+/// others may write into the area at each moment.
 pub(crate) fn lasting_writes()
     ensures { LastingWrites }
 {}
 
-/// Supervision begins over any storage, and what is remembered, listed, allowed and written follows
-/// from its parts: the laws on it are about something.
+/// The laws on supervision aren't empty: it begins over any storage, and what is remembered,
+/// listed, allowed and written follows from its parts.
 #[tactic(auto, using(crate::proofs::Possible::can_be_supervised))]
 pub(crate) fn can_be_supervised()
     ensures { CanBeSupervised }
 {}
 
-/// Needs depend on the kept bytes alone: they are the same over each storage that is as long and
-/// the same in these.
+/// Needs depend on the kept bytes alone: they are equal over every storage of the same length with
+/// the same kept bytes.
 #[tactic(auto, using(crate::proofs::Staying::needs_stay))]
 pub(crate) fn needs_stay()
     ensures { NeedsStay }
 {}
 
-/// So what was found over a copy of the kept bytes is true of each storage that holds them,
+/// So needs found over a copy of the kept bytes are true of each storage that holds these bytes,
 /// whatever was written while they were copied.
 #[tactic(auto, using(crate::proofs::Staying::held_stays_true))]
 pub(crate) fn held_stays_true()
     ensures { HeldStaysTrue }
 {}
 
-/// The answer to the question before a start is the same over each storage that is as long and the
-/// same in the kept bytes: a yes survives each write to other bytes.
+/// The answer of `may_start` is the same over every storage of the same length with the same kept
+/// bytes: a yes survives each write to other bytes.
 pub(crate) fn answer_stays()
     ensures { AnswerStays }
 {}

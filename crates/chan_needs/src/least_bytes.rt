@@ -1,4 +1,4 @@
-//! The least byte or cylinder of some rows with a property: shared, not lent, in no extent.
+//! The least byte or cylinder of rows that is shared, not lent, or in no extent.
 
 ghost use Rattle.std.specs.Prelude.{◌≡◌, ◌<◌, ◌↔◌, ◌≤◌, true, false, map, IfOk, IsTrue};
 ghost use Rattle.ccw_core.specs.Areas.{lies_in};
@@ -13,7 +13,7 @@ use chan_areas::{Merged, end_of};
 use ckd_core::Extents;
 use std::alloc::{AllocError, Global};
 
-/// The least byte of an area that lies in one of some areas.
+/// The least byte of an area that also lies in some of these areas.
 #[tactic(auto, using(crate::proofs::Leasts::no_byte, crate::proofs::Leasts::least_in_areas))]
 pub(crate) fn least_in(areas: &[Area], range: Area) -> Option<u32>
     ensures { IsLeastOrNone (λ b. (lies_in areas.now b ≡ true) × IsByteOf range b) result }
@@ -28,8 +28,8 @@ pub(crate) fn least_in(areas: &[Area], range: Area) -> Option<u32>
     least
 }
 
-/// The least byte that lies in both of two lists. The cost is one pass over both if they are
-/// merged or one has a single area, and otherwise the product of their lengths.
+/// The least byte that lies in both lists. It costs one pass over both if they are merged or if a
+/// list has a single area, and otherwise the product of their lengths.
 #[tactic(auto, using(crate::proofs::Leasts::no_byte, crate::proofs::Leasts::least_in_areas))]
 pub(crate) fn least_shared(one: &[Area], other: &[Area]) -> Option<u32>
     ensures { IsLeastOrNone (IsShared one.now other.now) result }
@@ -45,7 +45,7 @@ pub(crate) fn least_shared(one: &[Area], other: &[Area]) -> Option<u32>
     least
 }
 
-/// The least byte that lies in both of two merged lists. The cost is one pass over both.
+/// The least byte that lies in both merged lists. It costs one pass over both.
 #[tactic(auto, using(crate::proofs::Holding::ahead_rules))]
 fn least_of_merged(one: &[Area], other: &[Area]) -> Option<u32>
     requires one { IsMerged one.now }
@@ -66,8 +66,8 @@ fn least_of_merged(one: &[Area], other: &[Area]) -> Option<u32>
     None
 }
 
-/// The least byte of some areas that lies past storage or in no area lent. The cost is that of
-/// sorting those lent, and of a binary search for each of the others.
+/// The least byte of the areas that lies past storage or in no lent area. It costs a sort of the
+/// lent areas, and a binary search for each of the other areas.
 pub(crate) fn least_unlent(
     alloc: Global,
     areas: &[Area],
@@ -81,7 +81,7 @@ pub(crate) fn least_unlent(
     Ok(least_beyond(areas, &lent))
 }
 
-/// The least byte of some areas that lies in no area of a merged list.
+/// The least byte of the areas that lies in no area of a merged list.
 #[tactic(auto, using(crate::proofs::Leasts::no_byte, crate::proofs::Leasts::least_in_areas))]
 fn least_beyond(areas: &[Area], lent: &Merged) -> Option<u32>
     ensures { IsLeastOrNone (λ b. (lies_in areas.now b ≡ true) × (lies_in lent.now b ≡ false))
@@ -94,7 +94,7 @@ fn least_beyond(areas: &[Area], lent: &Merged) -> Option<u32>
     least
 }
 
-/// The least cylinder of some runs that lies in no extent.
+/// The least cylinder of the runs that lies in no extent.
 #[tactic(auto, using(crate::proofs::Leasts::no_cylinder, crate::proofs::Leasts::least_in_runs))]
 pub(crate) fn least_outside(runs: &[Extent], extents: &Extents) -> Option<u16>
     ensures { IsLeastOrNone (λ n. (has_cylinder (map pair runs.now) n ≡ true)
@@ -118,7 +118,7 @@ fn lesser(one: Option<u32>, other: Option<u32>) -> Option<u32>
     }
 }
 
-/// The same for cylinders.
+/// The lesser of two cylinders, if there are two.
 fn lesser_cylinder(one: Option<u16>, other: Option<u16>) -> Option<u16>
     ensures { result ≡ lesser_of one other }
 {
@@ -141,7 +141,8 @@ fn overlap(one: Area, other: Area) -> Option<u32>
     }
 }
 
-/// The least cylinder of a run that lies in no extent. It stops at the first past the device.
+/// The least cylinder of a run that lies in no extent. The search stops at the first cylinder past
+/// the device.
 fn outside(first: u16, last: u16, extents: &Extents) -> Option<u16>
     ensures { IsLeastOrNone (λ n. ((first ≤ n) × (n ≤ last))
         × (has_cylinder extents.now n ≡ false)) result }
@@ -154,7 +155,7 @@ fn outside(first: u16, last: u16, extents: &Extents) -> Option<u16>
     None
 }
 
-/// Whether a list is merged: no area is empty, they rise, and at least one byte lies between two.
+/// Whether a list is merged: no area is empty, areas rise, and at least one byte lies between two.
 fn are_merged(areas: &[Area]) -> bool
     ensures { IsTrue result ↔ IsMerged areas.now }
 {

@@ -1,5 +1,5 @@
-//! What a program needs of each job that it runs under, and what a supervisor may do with that: run
-//! two programs side by side, start one that was asked about, and let others write meanwhile.
+//! What a program needs of each job that it runs under, and what a supervisor may do: run two
+//! programs side by side, start a program that was asked about, and let others write meanwhile.
 //!
 //! ```
 //! fn may_run_beside(program: &Remembered, other: &Remembered) -> bool {

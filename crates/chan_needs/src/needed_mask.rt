@@ -11,7 +11,7 @@ ghost use Rattle.chan_walk.specs.declared.place.Place.{Place};
 use chan_walk::Look;
 use ckd_core::{FileMask, Levels, MaskClass};
 
-/// The strictest mask that serves where these are the looks at all reachable places.
+/// The strictest mask that serves, from the looks at all reachable places.
 pub(crate) fn needed_mask(looks: &[Look]) -> FileMask
     ensures { (j : Job) → AreLooksOfYes j looks.now
         → IsStrictest (λ m. (p : Place) → Has (places_of_looks looks.now) p → ServesAt j p m)
@@ -24,8 +24,8 @@ pub(crate) fn needed_mask(looks: &[Look]) -> FileMask
     FileMask::of_levels(levels)
 }
 
-/// The levels that a place asks for: the mask lets the command begin that begins there, and the
-/// byte that Set File Mask takes there is at least as strict.
+/// The strictest levels that a place permits: they don't inhibit the command that begins there, and
+/// the byte that Set File Mask takes there is at least as strict.
 fn demanded(look: &Look) -> Levels
     ensures { (j : Job) → IsLook j look.now → IsClear j look.now.place
         → AreBounds (ServesAt j look.now.place) result.writes result.seeks }

@@ -23,12 +23,12 @@ use chan_walk::{Direction, Job, Look, Survey, data_moved, kept};
 use ckd_core::{FileMask, MaskClass};
 use std::alloc::{AllocError, Global};
 
-/// The needs of a program in each job that it runs under, and the bytes that it keeps: no more, and
-/// no less. A job of the program has the verdict yes exactly if it grants all this.
+/// Exactly what a program needs of each job that it runs under, and the bytes that it keeps. A job
+/// of the program has the verdict yes exactly if it grants all this.
 #[derive(Drop)]
 pub struct Needs {
-    /// How many bytes storage has: the answer holds over storage that is as long and the same in
-    /// each kept byte.
+    /// How many bytes storage has: the answer holds over every storage of this length with the same
+    /// kept bytes.
     pub storage_len: u32,
     /// The strictest mask that serves: it inhibits no command that may begin, and each byte that
     /// Set File Mask may take is at least as strict.
@@ -37,9 +37,9 @@ pub struct Needs {
     pub extents: Vec<(u16, u16)>,
     /// The bytes that are fetched: areas without a gap, rising.
     pub fetch: Vec<Area>,
-    /// The bytes that are stored into, as such a list.
+    /// The bytes that are stored into: areas without a gap, rising.
     pub store: Vec<Area>,
-    /// The bytes that may not change while the program runs, as such a list.
+    /// The bytes that may not change while the program runs: areas without a gap, rising.
     pub keep: Vec<Area>,
 }
 
@@ -56,7 +56,7 @@ impl Needs {
         Ok(rows)
     }
 
-    /// The same as a view, with the rows of `extent_rows`.
+    /// These needs as a view, with the rows of `extent_rows`.
     pub fn rows<'a>(&'a self, extents: &'a [Extent]) -> Rows<'a>
         ensures { rows_of result ≡ record (listed self.now) { extents = map pair extents.now } }
     {
@@ -106,7 +106,7 @@ fn sought(alloc: Global, looks: &[Look]) -> Result<Merged, AllocError>
     Merged::new(alloc, cylinders)
 }
 
-/// Adds the cylinder that the seek goes to that begins at a place, if one does.
+/// Adds the cylinder to which the seek at a place goes, if a seek begins there.
 fn add_cylinder(cylinders: &mut Vec<Area>, look: &Look) -> Result<(), AllocError>
     requires { All (EndsBelow (2 ^ 16 + 1)) cylinders.old.items }
     ensures low { OnOk result (All (EndsBelow (2 ^ 16 + 1)) cylinders.new.items) }
@@ -122,7 +122,7 @@ fn add_cylinder(cylinders: &mut Vec<Area>, look: &Look) -> Result<(), AllocError
     Ok(())
 }
 
-/// The cylinder that the seek goes to that begins at a place; Recalibrate goes to cylinder 0.
+/// The cylinder to which the seek at a place goes; Recalibrate goes to cylinder 0.
 fn cylinder(look: &Look) -> Option<u16>
     ensures { (j : Job) → IsLook j look.now → IsClear j look.now.place
         → (n : ℕ) → (result ≡ Some n) ↔ SeeksCylinder j look.now.place n }

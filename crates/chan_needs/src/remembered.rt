@@ -15,28 +15,29 @@ use crate::rows::Rows;
 use ccw_core::{Area, Storage};
 
 /// All that a supervisor remembers of a program that it has asked about, so that the program may
-/// start later, and beside others; laid out as C does. It may hold anything: the calls that take it
-/// say what their answers mean then.
+/// start later, together with others. The layout is that of C. The struct may hold anything: each
+/// call that takes it says what its answer means then.
 #[repr(C)]
 #[derive(Clone, Copy)]
 pub struct Remembered<'a> {
     /// What the program needs and keeps, as `needs` gave it.
     pub rows: Rows<'a>,
-    /// The kept bytes as they were, one area after another. What follows them doesn't matter.
+    /// The kept bytes as they were, area after area. Bytes after them don't matter.
     pub kept: &'a [u8],
     /// The address of the first CCW.
     pub start: u32,
     /// The number of the device, 2311 or 2314.
     pub device: u16,
-    /// Room for the fields of a later version, 0 in this one. No call of this crate looks at it.
+    /// Room for the fields of a later version; 0 in this version. No call of this crate looks at
+    /// it.
     pub reserved: [u64; 4],
 }
 
 /// Whether others, such as the processor, may write to an area now. `None` comes exactly if no
-/// program in flight keeps a byte of it. Otherwise the answer is the number of the first program
-/// that does, and the least such byte.
+/// program in flight keeps a byte of the area. Otherwise the answer is the number of the first
+/// program that keeps one of its bytes, and the least byte that this program keeps there.
 ///
-/// The cost is one pass over the areas that are kept, and no memory is taken.
+/// The call takes one pass over the kept areas, and no memory.
 pub fn may_write(in_flight: &[Remembered], area: Area) -> Option<(usize, u32)>
     ensures keeper { IsKeeperOf in_flight.now area result }
 
@@ -51,9 +52,9 @@ pub fn may_write(in_flight: &[Remembered], area: Area) -> Option<(usize, u32)>
     None
 }
 
-/// Copies the bytes of storage in some areas into a buffer, one area after another, as `kept` wants
-/// them, and answers how many there are. `None` comes exactly if an area reaches past storage or
-/// the buffer is too small. Part of the buffer may then be overwritten. No memory is taken.
+/// Copies the bytes of storage in these areas into a buffer, area after area, in the form of
+/// `kept`, and answers how many there are. `None` comes exactly if an area reaches past storage or
+/// the buffer is too small. Part of the buffer may then be overwritten. The call takes no memory.
 #[tactic(auto, using(crate::proofs::Copied::copy_rules))]
 pub fn copy_kept(storage: &Storage, areas: &[Area], into: &mut [u8]) -> Option<usize>
     ensures count { IfSome result (λ n. n
@@ -63,7 +64,7 @@ pub fn copy_kept(storage: &Storage, areas: &[Area], into: &mut [u8]) -> Option<u
     ensures some { IsSome result ↔ (All (IsInside (bytes_held storage.now)) areas.now
         × (length (bytes_in (bytes_held storage.now) areas.now) ≤ length into.old)) }
 
-    // Storage then holds them, until one of them changes.
+    // Storage then holds the bytes, until a byte changes.
     ensures held { IsSome result → HoldsAreas (bytes_held storage.now) areas.now into.new }
 {
     let mut at = 0;
@@ -78,7 +79,7 @@ pub fn copy_kept(storage: &Storage, areas: &[Area], into: &mut [u8]) -> Option<u
     Some(at)
 }
 
-/// How many bytes some merged areas have together: as many as `copy_kept` copies.
+/// How many bytes merged areas have together. `copy_kept` copies as many.
 #[tactic(auto, using(crate::proofs::Inside::none_total, crate::proofs::Inside::all_total))]
 pub fn kept_len(areas: &[Area]) -> usize
     requires { IsMerged areas.now }
@@ -92,7 +93,7 @@ pub fn kept_len(areas: &[Area]) -> usize
     len
 }
 
-/// Writes some bytes into a buffer.
+/// Writes bytes into a buffer.
 fn write_at(into: &mut [u8], at: usize, bytes: &[u8])
     requires { at + length bytes.now ≤ length into.old }
     ensures { into.new ≡ (take at into.old ++ bytes.now) ++ drop (at + length bytes.now) into.old }
@@ -100,7 +101,7 @@ fn write_at(into: &mut [u8], at: usize, bytes: &[u8])
     into[at..at + bytes.len()].copy_from_slice(bytes);
 }
 
-/// The first of the bytes that are kept, in the order of the areas, that isn't what it was.
+/// The first kept byte, in the order of the areas, that has changed.
 pub(crate) fn first_changed(storage: &Storage, areas: &[Area], kept: &[u8]) -> Option<u32>
     ensures { MatchOption result (HoldsAreas (bytes_held storage.now) areas.now kept.now)
         (IsFirstChanged (bytes_held storage.now) areas.now kept.now) }
@@ -115,7 +116,7 @@ pub(crate) fn first_changed(storage: &Storage, areas: &[Area], kept: &[u8]) -> O
     None
 }
 
-/// The first byte of an area that isn't what it was.
+/// The first byte of an area that has changed.
 fn changed_in(storage: &Storage, area: Area, kept: &[u8]) -> Option<u32>
     ensures { MatchOption result (HoldsArea (bytes_held storage.now) area kept.now)
         (IsFirstChangedIn (bytes_held storage.now) area kept.now) }
@@ -126,8 +127,8 @@ fn changed_in(storage: &Storage, area: Area, kept: &[u8]) -> Option<u32>
     Some(first_changed_in(storage, area, kept))
 }
 
-/// Whether an area holds these bytes, compared all at once. No byte that is held is looked at
-/// twice: a channel may store while the question is answered.
+/// Whether an area holds these bytes, compared all at once. A channel may store meanwhile, so the
+/// call looks at no byte twice.
 fn is_held(storage: &Storage, area: Area, kept: &[u8]) -> bool
     ensures { IsTrue result ↔ HoldsArea (bytes_held storage.now) area kept.now }
 {
@@ -143,8 +144,8 @@ fn is_held(storage: &Storage, area: Area, kept: &[u8]) -> bool
     }
 }
 
-/// The first byte of an area that isn't what it was, if one isn't. It only names the byte: if all
-/// were put back meanwhile, it names the first.
+/// The first byte of an area that has changed, for an area that doesn't hold its bytes. If all
+/// bytes were put back meanwhile, it is the area's first byte.
 fn first_changed_in(storage: &Storage, area: Area, kept: &[u8]) -> u32
     requires { HoldsArea (bytes_held storage.now) area kept.now → ⊥ }
     ensures { IsFirstChangedIn (bytes_held storage.now) area kept.now result }

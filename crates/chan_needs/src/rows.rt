@@ -12,18 +12,18 @@ use ccw_core::Area;
 /// Why two programs may not run side by side.
 #[derive(Clone, Copy, PartialEq, Eq, Debug)]
 pub enum Conflict {
-    /// The program stores into the byte at this address, which the other keeps. It is the least
-    /// such byte.
+    /// The program stores into the byte at this address, which the other program keeps: the least
+    /// byte of this kind.
     Stores(u32),
-    /// The program keeps the byte at this address, and the other stores into it. It is the least
-    /// such byte, and the program stores into none that the other keeps.
+    /// The program keeps the byte at this address, and the other program stores into it: the least
+    /// byte of this kind. The program stores into no byte that the other keeps.
     Keeps(u32),
 }
 
-/// The content of `Needs`, as rows in the caller's memory, laid out as C does. Rows from another
-/// source do no harm: each call answers for what they list. The bytes of a list are those of all of
-/// its areas together; the areas may overlap, be empty and come in any order. A list without
-/// elements may come from C with a null pointer, so each call replaces it first.
+/// The content of `Needs`, as rows in the caller's memory, in the layout of C. Rows from elsewhere
+/// do no harm: each call answers for what they list. A list stands for all bytes of its areas; the
+/// areas may overlap, be empty and come in any order. A list without elements may come from C with
+/// a null pointer, so each call replaces it first.
 #[repr(C)]
 #[derive(Clone, Copy)]
 pub struct Rows<'a> {
@@ -33,8 +33,8 @@ pub struct Rows<'a> {
     pub fetch: &'a [Area],
     /// The bytes that it stores into, so that they have to be lent for storing.
     pub store: &'a [Area],
-    /// The bytes that nobody may change while it runs: its CCWs, the arguments of its seeks and the
-    /// mask bytes that it sets.
+    /// The bytes that nothing else may change while it runs: its CCWs, the arguments of its seeks
+    /// and the mask bytes that it sets.
     pub keep: &'a [Area],
     /// How many bytes storage had when the needs were found.
     pub storage_len: u32,
@@ -42,8 +42,8 @@ pub struct Rows<'a> {
     pub mask: u8,
 }
 
-/// The list, or an empty one of our own if it has no elements: the pointer of such a list from C
-/// may be null, which no reference is in the proofs.
+/// The list, or an empty list of our own if it has no elements: from C its pointer may be null, and
+/// in the proofs no reference is null.
 pub fn or_empty<'a, T>(list: &'a [T]) -> &'a [T]
     ensures { result.now ≡ list.now }
 {
@@ -52,10 +52,10 @@ pub fn or_empty<'a, T>(list: &'a [T]) -> &'a [T]
 
 impl Rows<'_> {
     /// Why two programs may not run side by side: `None` exactly if neither stores into a byte that
-    /// the other keeps, as their rows list them. The rows may come from any source.
+    /// the other keeps, by their rows. The rows may come from anywhere.
     ///
-    /// The cost is one pass over both rows if their lists are merged, as those of `needs` are, and
-    /// otherwise the product of their lengths. No memory is taken.
+    /// The call takes one pass over both rows if their lists are merged, like the lists of `needs`,
+    /// and otherwise the product of their lengths. It takes no memory.
     pub fn conflict(&self, other: &Rows) -> Option<Conflict>
         ensures { MatchOption result (AreBeside (rows_of self.now) (rows_of other.now))
             (IsConflict (rows_of self.now) (rows_of other.now)) }
@@ -67,8 +67,8 @@ impl Rows<'_> {
         Some(Conflict::Keeps(byte))
     }
 
-    /// The least byte of an area that the rows list as kept, if there is one. The rows may come
-    /// from any source. The cost is one pass over the areas kept, and no memory is taken.
+    /// The least byte of an area that the rows list as kept, if they list one. The rows may come
+    /// from anywhere. The call takes one pass over the kept areas, and no memory.
     pub fn kept_in(&self, area: Area) -> Option<u32>
         ensures { IsLeastOrNone (IsKeptIn (rows_of self.now) area) result }
     {

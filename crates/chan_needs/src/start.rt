@@ -1,4 +1,4 @@
-//! Whether a program that was asked about may start now, beside those in flight.
+//! Whether a program that was asked about may start now, together with the programs in flight.
 
 ghost use Rattle.std.specs.Prelude.{◌≡◌, ◌↔◌, IfOk, MatchOption};
 ghost use Rattle.std.specs.List.{All};
@@ -16,29 +16,30 @@ use chan_walk::Job;
 use ckd_core::{Device, FileMask};
 use std::alloc::{AllocError, Global};
 
-/// Why a program may not start. The variants are in the order in which they are looked for.
+/// Why a program may not start. `may_start` looks for the variants in this order.
 #[derive(Clone, Copy, PartialEq, Eq, Debug)]
 pub enum StartRefusal {
-    /// The job starts at another address than the program.
+    /// The job doesn't start at the program's address.
     OtherStart,
     /// The job is for another device.
     OtherDevice,
     /// The job's storage has another length.
     OtherLength,
-    /// The byte at this address is kept and isn't what it was. It is the first in the order of
-    /// `keep`. A byte that lies past storage, or for which `kept` has none, counts as changed.
+    /// The kept byte at this address has changed; it is the first in the order of `keep`. A byte
+    /// that lies past storage or is missing from `kept` counts as changed.
     Changed(u32),
     /// The job's mask is too strict, or the program's is invalid.
     Mask,
-    /// This cylinder lies in none of the job's extents. It is the least of those needed.
+    /// This cylinder lies in no extent of the job. It is the least needed cylinder that doesn't.
     Cylinder(u16),
-    /// The byte at this address wasn't lent for fetching, or lies past storage. It is the least of
-    /// those needed.
+    /// The byte at this address wasn't lent for fetching, or lies past storage. It is the least
+    /// needed byte of this kind.
     Fetch(u32),
-    /// The byte at this address wasn't lent for storing, or lies past storage. It is the least of
-    /// those needed.
+    /// The byte at this address wasn't lent for storing, or lies past storage. It is the least
+    /// needed byte of this kind.
     Store(u32),
-    /// The program may not run beside the program with this number, the first such in flight.
+    /// The program may not run beside the program with this number, the first in flight that is in
+    /// the way.
     Beside(usize, Conflict),
 }
 
@@ -51,26 +52,27 @@ pub enum Start {
     No(StartRefusal),
 }
 
-/// Whether a program that was asked about may start under a job, beside those in flight.
+/// Whether a program that was asked about may start under a job, together with the programs in
+/// flight.
 ///
-/// `Yes` comes exactly if all four of these hold, looked at in this order:
+/// `Yes` comes exactly if four conditions hold, tried in this order:
 ///
 /// 1. the job is of the program: same start, same device, same length of storage;
 /// 2. storage holds what was kept;
 /// 3. the job grants what the rows list: mask, cylinders, bytes for fetching, bytes for storing;
-/// 4. neither the program nor any in flight stores into a byte that the other keeps.
+/// 4. neither the program nor any program in flight stores into a byte that the other keeps.
 ///
-/// `No` names the first that fails. This is so for rows from any source. If what is remembered of
-/// the program and of those in flight is true, the answer is about the programs themselves. After a
-/// `Yes` the program may start, and what is remembered of it is true of it in flight. A grant or a
-/// program in flight is named only if the needs are really not granted, or the two really can't run
-/// side by side.
+/// `No` names the first condition that fails. This holds for rows from anywhere. If what is
+/// remembered of the program and of the programs in flight is true, the answer is about the
+/// programs themselves: after a `Yes` the program may start, and what is remembered of it is true
+/// of it in flight. Refusals are exact: `No` names a grant only if the job doesn't grant the needs,
+/// and a program in flight only if the two can't run side by side.
 ///
-/// With k kept bytes, a areas lent, p programs in flight, and n rows at most for each program, the
+/// With k kept bytes, a lent areas, p programs in flight, and at most n rows for each program, the
 /// cost is k + (n + a) log a + p n, and up to 203 look-ups for each run of cylinders. Two programs
-/// whose areas aren't merged cost the product of their numbers; `needs` gives merged ones. Memory
-/// is taken only for the areas lent, for two copies of one of their two lists at a time. `Err`
-/// means that there was too little.
+/// whose areas aren't merged cost the product of their numbers; `needs` gives merged areas. The
+/// call takes memory only for the lent areas: two copies of one of their two lists at a time. `Err`
+/// means that memory ran out.
 pub fn may_start(
     alloc: Global,
     job: &Job,
@@ -101,7 +103,7 @@ pub fn may_start(
     }
 }
 
-/// Why a job isn't of the program that is remembered.
+/// Why a job isn't a job of the remembered program.
 fn of_another(job: &Job, program: &Remembered) -> Option<StartRefusal>
     ensures { MatchOption result (IsOfProgram job.now program.now)
         (IsOfAnother job.now program.now) }
@@ -128,7 +130,7 @@ fn device_number(device: Device) -> u16
     }
 }
 
-/// Whether a byte is a file mask, and at least as strict as another.
+/// Whether a byte is a file mask, and at least as strict as a second byte.
 #[tactic(auto, unfolding(ckd_core::specs::Mask::is_at_least))]
 fn is_as_strict(byte: u8, than: FileMask) -> bool
     ensures { result ≡ is_at_least byte than }
@@ -139,7 +141,7 @@ fn is_as_strict(byte: u8, than: FileMask) -> bool
     }
 }
 
-/// What rows list and a job doesn't grant.
+/// What the rows list but the job doesn't grant.
 fn not_granted(alloc: Global, job: &Job, rows: &Rows) -> Result<Option<StartRefusal>, AllocError>
     ensures { IfOk result (λ o. MatchOption o (GrantsListed job.now (rows_of rows.now))
         (IsNotGranted job.now (rows_of rows.now))) }
@@ -158,7 +160,7 @@ fn not_granted(alloc: Global, job: &Job, rows: &Rows) -> Result<Option<StartRefu
     Ok(unlent.map(|byte| StartRefusal::Store(byte)))
 }
 
-/// The first in flight that the program may not run beside, and their conflict.
+/// The first program in flight beside which the program may not run, and their conflict.
 fn not_beside(program: &Remembered, in_flight: &[Remembered]) -> Option<StartRefusal>
     ensures { MatchOption result (All (IsBeside program.now) in_flight.now)
         (IsNotBeside program.now in_flight.now) }

@@ -26,6 +26,7 @@ pub mod Answers
 pub mod Offence
 pub mod Paths
 pub mod Seeks
+pub mod Setting
 pub mod Moved
 -- What only ties the code to all this.
 pub mod Direction

@@ -39,14 +39,16 @@ module _ (j : Job) (ls : List Seen) (fs : List ℕ) (f : HasFound j ls fs) where
   abbrev ps : List Place
   ps = places_of_looks ls
 
-  pub back_next : (to at : ℕ) (p : Place) (path more : List Place) → 0 < at → slice_get ps (slice_index fs at) ≡ Some p → more ≡ path ++ p ∷ [] → IsWayBack j ps to at path → IsWayBack j ps to (slice_index fs at) more
+  pub back_next : (to at : ℕ) (p : Place) (path more : List Place) → 0 < at → slice_get ps (slice_index fs at) ≡ Some p
+      → more ≡ path ++ p ∷ [] → IsWayBack j ps to at path → IsWayBack j ps to (slice_index fs at) more
   back_next to at p path more pos e d b = record {
     current = p;
     front = b.front ++ b.current ∷ [];
     is = d ∙ ap (λ z. z ++ p ∷ []) b.is;
     there = e;
     goes = λ rest best.
-        let r = b.goes (p ∷ rest) (best_next j ps fs f.at f.traced f.all f.walked.apart (all_found j j.limit ps f.at f.walked f.all) at b.current p rest pos b.there best) in
+        let r = b.goes (p ∷ rest)
+        (best_next j ps fs f.at f.traced f.all f.walked.apart (all_found j j.limit ps f.at f.walked f.all) at b.current p rest pos b.there best) in
         record { last = r.last; before = r.before; is = append_assoc b.front (b.current ∷ []) (p ∷ rest) ∙ r.is; best = r.best };
   }
 
@@ -54,7 +56,8 @@ module _ (j : Job) (ls : List Seen) (fs : List ℕ) (f : HasFound j ls fs) where
   back_end to path turned d b =
       let same : ◌≡◌ {A = Option Place} (Some (first_place j)) (Some b.current) = sym f.traced.begins ∙ b.there in
       let is : first_place j ≡ b.current = cc in
-      let r = b.goes [] (subst (λ z. IsBest j ps 0 z []) is (best_first j ps fs f.at f.traced f.all f.walked.apart (all_found j j.limit ps f.at f.walked f.all))) in
+      let r =
+      b.goes [] (subst (λ z. IsBest j ps 0 z []) is (best_first j ps fs f.at f.traced f.all f.walked.apart (all_found j j.limit ps f.at f.walked f.all))) in
       record { last = r.last; before = r.before; is = d ∙ ap reverse (b.is ∙ r.is); best = r.best }
 
   -- where the place at an index was found from
@@ -77,7 +80,9 @@ same_flag : (b : Bool) → beq b b ≡ true
 same_flag b = search rules
 
 pub same_place : (p q : Place) → p ≡ q → are_same p q ≡ true
-same_place p q e = subst (λ (z : Place). are_same p z ≡ true) e (and_from _ _ (eq-eqb p.address p.address refl) (and_from _ _ (same_entry p.entered) (same_flag p.after_transfer)))
+same_place p q e =
+    subst (λ (z : Place). are_same p z ≡ true) e
+    (and_from _ _ (eq-eqb p.address p.address refl) (and_from _ _ (same_entry p.entered) (same_flag p.after_transfer)))
 
 pub within_looks : (ls : List Seen) (p : Place) (k : ℕ) → slice_get (places_of_looks ls) k ≡ Some p → k < length ls
 within_looks ls p k e = omega (arith, number_of_places ls, slice_get_within (places_of_looks ls) k p e)

@@ -44,8 +44,18 @@ own_is_cause j p e h = h
 
 pub over_ccw : (j : Job) (p : Place) → StoresOver j p (IsCcwByte j) → (a : ℕ) × IsCcwIn j (data_at j p) a
 over_ccw j p o =
-    let h = o.holds in
-    (h.place.address, record { place = h.place; reached = h.reached; address = refl; stands = h.stands; filled = omega (arith, o.from, o.below); from = omega (arith, o.from, h.below); below = omega (arith, o.below, h.from) })
+    let h = o.holds in (
+      h.place.address,
+      record {
+        place = h.place;
+        reached = h.reached;
+        address = refl;
+        stands = h.stands;
+        filled = omega (arith, o.from, o.below);
+        from = omega (arith, o.from, h.below);
+        below = omega (arith, o.below, h.from);
+      },
+    )
 
 pub over_argument : (j : Job) (p : Place) → StoresOver j p (IsArgumentByte j) → (b : ℕ) × IsArgumentIn j (data_at j p) b
 over_argument j p o = (o.at, record { from = o.from; below = o.below; argument = o.holds })

@@ -54,7 +54,10 @@ module _ (j : Job) (areas : List Area) (g : (b : ℕ) → (lies_in areas b ≡ t
       from : (b : ℕ) → r.start ≤ b → b < end_of r → a ≤ b → b < a + 8 → (b : ℕ) × IsByteIn areas r.start r.len b × (b < a + 8)
       from b h k c d =
           let here : m.place.address ≡ a = m.address in
-          (b, (h, k, (g b).1 (record { place = m.place; reached = m.reached; stands = subst (Stands (storage_of j)) (sym m.address) m.stands; from = omega (arith, here); below = omega (arith, here) })), d)
+          let stands : Stands (storage_of j) m.place.address = subst (Stands (storage_of j)) (sym m.address) m.stands in
+          let there : IsCcwByte j b =
+          record { place = m.place; reached = m.reached; stands = stands; from = omega (arith, here); below = omega (arith, here) } in
+          (b, (h, k, (g b).1 there), d)
 
       go : (r.start < a) ⊎ (a ≤ r.start) → (b : ℕ) × IsByteIn areas r.start r.len b × (b < a + 8)
       go (inl c) = from a (omega arith) m.below (omega arith) (omega arith)
@@ -67,8 +70,18 @@ module _ (j : Job) (areas : List Area) (g : (b : ℕ) → (lies_in areas b ≡ t
   pub least_ccw : (b : ℕ) → IsLeastOf (IsByteIn areas r.start r.len) b → IsLeastOf (IsCcwIn j r) (b - b % 8)
   least_ccw b m =
       let c = (g b).0 m.0.2 in
-      let e = round_down c.place.address b (aligned (storage_of j) c.place.address c.stands) c.from c.below in
-      (subst (IsCcwIn j r) (sym e) (record { place = c.place; reached = c.reached; address = refl; stands = c.stands; filled = omega (arith, m.0.0, m.0.1); from = let f = c.below in omega (arith, m.0.0); below = let f = c.from in omega (arith, m.0.1) }), bound)
+      let e = round_down c.place.address b (aligned (storage_of j) c.place.address c.stands) c.from c.below in (
+        subst (IsCcwIn j r) (sym e) (record {
+          place = c.place;
+          reached = c.reached;
+          address = refl;
+          stands = c.stands;
+          filled = omega (arith, m.0.0, m.0.1);
+          from = let f = c.below in omega (arith, m.0.0);
+          below = let f = c.from in omega (arith, m.0.1);
+        }),
+        bound,
+      )
     where
       bound : (a : ℕ) → IsCcwIn j r a → b - b % 8 ≤ a
       bound a k =
@@ -97,7 +110,8 @@ argument_taken j p b (read.Short g) h (inr m) = absurd (seek_or_mask p (ccw_of j
 argument_taken j p b (read.Whole g) h k = (h.0, h.1)
 argument_taken j p b (read.Mask at x) h k = sets_only p (ccw_of j p) h.0
 
-pub taken_whole : (j : Job) (l : Seen) → IsLook j l → (b : ℕ) (o : Option GivenBytes) → o ≡ whole_of l.read → IsArgumentByteOf j l.place b → IsArgumentAt j l.place o
+pub taken_whole : (j : Job) (l : Seen) → IsLook j l → (b : ℕ) (o : Option GivenBytes)
+    → o ≡ whole_of l.read → IsArgumentByteOf j l.place b → IsArgumentAt j l.place o
 taken_whole j l look b o e takes =
     let c = ccw_seen j l look (clear_stands j l.place (takes_clear j l.place b takes)) in
     subst (IsArgumentAt j l.place) (sym e) (argument_taken j l.place b l.read (look.read (takes_clear j l.place b takes) (ccw_of j l.place) c) takes)
@@ -122,8 +136,8 @@ module _ (j : Job) (ls : List Seen) (fs : List ℕ) (f : HasFound j ls fs) where
   one_taker b None m n = absurd (reached_at j ls fs f (λ q. IsArgumentByteOf j q b) n m.place m.reached (takes_of j b m))
   one_taker b (Some i) m n = refl
 
-  pub taken_at : (b i a : ℕ) (argument : Option GivenBytes) (l : Seen) → IsFirstWhere (λ q. IsArgumentByteOf j q b) (places_of_looks ls) (Some i) → i < length ls → l ≡ get_or ls i l
-      → a ≡ l.place.address → (IsArgumentByteOf j l.place b → IsArgumentAt j l.place argument) → IsTakenAt j b a argument
+  pub taken_at : (b i a : ℕ) (argument : Option GivenBytes) (l : Seen) → IsFirstWhere (λ q. IsArgumentByteOf j q b) (places_of_looks ls) (Some i)
+      → i < length ls → l ≡ get_or ls i l → a ≡ l.place.address → (IsArgumentByteOf j l.place b → IsArgumentAt j l.place argument) → IsTakenAt j b a argument
   taken_at b i a argument l n h e address is =
       let r = best_where j ls fs f (λ q. IsArgumentByteOf j q b) i l.place n (place_at ls i l h e) in
       (l.place, r.0, r.1, sym address, is r.1.holds)
@@ -135,14 +149,17 @@ first_within P ls i h = within_looks ls h.0.0 i h.0.1
 -- ---- the second path
 
 module _ (j : Job) (ls : List Seen) (fs : List ℕ) (f : HasFound j ls fs) where
-  pub second_found : (e : Evidence) (i : ℕ) (places : List Place) → IsSecondPathEnd j e (places_of_looks ls) (Some i) → IsPathAt j (places_of_looks ls) i places → IsSecondPath j e places
+  pub second_found : (e : Evidence) (i : ℕ) (places : List Place) → IsSecondPathEnd j e (places_of_looks ls) (Some i)
+      → IsPathAt j (places_of_looks ls) i places → IsSecondPath j e places
   second_found (because.ChangesCcw d a) i places n at = path_where j ls fs f (λ q. q.address ≡ a) i places n at
   second_found (because.ChangesArgument d b t s) i places n at = path_where j ls fs f (λ q. IsArgumentByteOf j q b) i places n at
   second_found e i places n at = absurd (cc)
 
-  pub none_found : (e : Evidence) (p : Place) (places : List Place) → IsCause j p e → IsSecondPathEnd j e (places_of_looks ls) None → places ≡ [] → IsSecondPath j e places
+  pub none_found : (e : Evidence) (p : Place) (places : List Place) → IsCause j p e
+      → IsSecondPathEnd j e (places_of_looks ls) None → places ≡ [] → IsSecondPath j e places
   none_found (because.ChangesCcw d a) p places h n is = absurd (reached_at j ls fs f (λ q. q.address ≡ a) n h.1.0.place h.1.0.reached h.1.0.address)
-  none_found (because.ChangesArgument d b t s) p places h n is = absurd (reached_at j ls fs f (λ q. IsArgumentByteOf j q b) n h.1.0.argument.place h.1.0.argument.reached (takes_of j b h.1.0.argument))
+  none_found (because.ChangesArgument d b t s) p places h n is =
+      absurd (reached_at j ls fs f (λ q. IsArgumentByteOf j q b) n h.1.0.argument.place h.1.0.argument.reached (takes_of j b h.1.0.argument))
   none_found e p places h n is = is
 
   pub changed_within : (e : Evidence) (i : ℕ) → IsSecondPathEnd j e (places_of_looks ls) (Some i) → i < length ls
@@ -155,4 +172,5 @@ module _ (j : Job) (ls : List Seen) (fs : List ℕ) (f : HasFound j ls fs) where
 pub found_least : (j : Job) (g : GuardAreas) → Guards j g → (areas : List Area) → areas ≡ g.arguments → (r : Area) (o : Option ℕ) (b : ℕ) → o ≡ Some b
     → IsLeastOrNone (λ b. IsByteIn areas r.start r.len b) o → IsLeastOf (IsArgumentIn j r) b
 found_least j g guards areas same r o b is n =
-    least_argument j g.arguments guards.arguments r b (subst (λ (o : Option ℕ). IsLeastOrNone (λ b. IsByteIn g.arguments r.start r.len b) o) is (subst (λ (xs : List Area). IsLeastOrNone (λ b. IsByteIn xs r.start r.len b) o) same n))
+    least_argument j g.arguments guards.arguments r b (subst (λ (o : Option ℕ). IsLeastOrNone (λ b. IsByteIn g.arguments r.start r.len b) o) is
+    (subst (λ (xs : List Area). IsLeastOrNone (λ b. IsByteIn xs r.start r.len b) o) same n))

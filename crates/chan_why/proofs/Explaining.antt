@@ -57,19 +57,22 @@ module _ (j : Job) (ls : List Seen) (fs : List ℕ) (f : HasFound j ls fs) (os :
       let is : h.0.0 ≡ p = cc in
       subst (λ (q : Place). Offending j (offence q o.reason)) is (are.only (offence h.0.0 o.reason) h.0.2.1)
 
-  pub evidence_found : (i : ℕ) (p : Place) (path : List Place) (e : Evidence) → slice_get ps i ≡ Some p → IsPathAt j ps i path → IsEvidence j (offence p o.reason) e → IsEvidenceOf j (No o.place.address o.reason) path (Some e)
+  pub evidence_found : (i : ℕ) (p : Place) (path : List Place) (e : Evidence) → slice_get ps i ≡ Some p
+      → IsPathAt j ps i path → IsEvidence j (offence p o.reason) e → IsEvidenceOf j (No o.place.address o.reason) path (Some e)
   evidence_found i p path e here a v =
       let same : ◌≡◌ {A = Option Place} (Some p) (Some a.last) = sym here ∙ a.best.here in
       let is : p ≡ a.last = cc in
       (a.last, a.before, a.is, subst (λ (q : Place). IsEvidence j (offence q o.reason) e) is v)
 
-  pub cause_found : (i : ℕ) (p : Place) (e : Evidence) → slice_get ps i ≡ Some p → IsFirstWhere (IsLike os o) ps (Some i) → IsEvidence j (offence p o.reason) e → IsCauseOf j o e
+  pub cause_found : (i : ℕ) (p : Place) (e : Evidence) → slice_get ps i ≡ Some p
+      → IsFirstWhere (IsLike os o) ps (Some i) → IsEvidence j (offence p o.reason) e → IsCauseOf j o e
   cause_found i p e here h v =
       let b = best_where j ls fs f (OffendsAt j o.place.address o.reason) i p (first_offending i h) here in
       (reverse (p ∷ b.0), record { last = p; before = b.0; is = refl; path = b.1 }, (p, b.0, refl, v))
 
 -- the place of this index is the first that is like an offence of the survey
-module _ (j : Job) (s : Surveyed) (is : IsSurvey j s) (o : Offence) (listed : Has s.offences o) (at : ℕ) (first : IsFirstWhere (IsLike s.offences o) (places_of_looks s.looks) (Some at)) (l : Seen) (seen : l ≡ get_or s.looks at l) where
+module _ (j : Job) (s : Surveyed) (is : IsSurvey j s) (o : Offence) (listed : Has s.offences o) (at : ℕ)
+    (first : IsFirstWhere (IsLike s.offences o) (places_of_looks s.looks) (Some at)) (l : Seen) (seen : l ≡ get_or s.looks at l) where
   within : at < length s.looks
   within = first_within (IsLike s.offences o) s.looks at first
 
@@ -90,8 +93,8 @@ module _ (j : Job) (s : Surveyed) (is : IsSurvey j s) (o : Offence) (listed : Ha
   }
 
 -- one more cause
-pub cause_more : (j : Job) (os : List Offence) (i n : ℕ) (d : Offence) (es : List Evidence) (e : Evidence) → i < length os → n ≡ suc i → AllZip (IsCauseOf j) (take i os) es → IsCauseOf j (get_or os i d) e
-    → AllZip (IsCauseOf j) (take n os) (es ++ e ∷ [])
+pub cause_more : (j : Job) (os : List Offence) (i n : ℕ) (d : Offence) (es : List Evidence) (e : Evidence) → i < length os
+    → n ≡ suc i → AllZip (IsCauseOf j) (take i os) es → IsCauseOf j (get_or os i d) e → AllZip (IsCauseOf j) (take n os) (es ++ e ∷ [])
 cause_more j [] i n d es e lt next each cause = absurd (omega (arith, lt))
 cause_more j (o ∷ os) zero n d [] e lt next each cause = rw next (cause, tt)
 cause_more j (o ∷ os) zero n d (v ∷ vs) e lt next each cause = absurd each
@@ -99,7 +102,8 @@ cause_more j (o ∷ os) (suc i) n d [] e lt next each cause = absurd each
 cause_more j (o ∷ os) (suc i) n d (v ∷ vs) e lt next each cause = rw next (each.0, cause_more j os i (suc i) d vs e (omega (arith, lt)) refl each.1 cause)
 
 -- the place that stores over what stands at the path's end
-pub stored_told : (j : Job) (a : ℕ) (r : Reason) (path : List Place) (by shown : Option Place) → IsStoredBefore j (reverse path) by → (is_no_command r ≡ true → shown ≡ by) → (is_no_command r ≡ false → shown ≡ None) → IsStoredOver j (No a r) path shown
+pub stored_told : (j : Job) (a : ℕ) (r : Reason) (path : List Place) (by shown : Option Place) → IsStoredBefore j (reverse path) by
+    → (is_no_command r ≡ true → shown ≡ by) → (is_no_command r ≡ false → shown ≡ None) → IsStoredOver j (No a r) path shown
 stored_told j a r path by shown s told other = ((λ e. subst (IsStoredBefore j (reverse path)) (sym (told e)) s), other)
 
 -- the first offence is the verdict
@@ -112,6 +116,7 @@ verdict_first [] o e = absurd (cc)
 verdict_first (t ∷ os) o e = let is : o ≡ t = cc in ap (λ (z : Offence). No z.place.address z.reason) is
 
 -- a run over the path shows the reason
-pub witness : (j : Job) (os : List Offence) (path : List Place) → IsProper j → EachPathShows → IsPathOf j (first_verdict os) path → IsWitness j (first_verdict os) path
+pub witness : (j : Job) (os : List Offence) (path : List Place) → IsProper j
+    → EachPathShows → IsPathOf j (first_verdict os) path → IsWitness j (first_verdict os) path
 witness j [] path proper law h = tt
 witness j (o ∷ os) path proper law h = (h.last, h.before, h.is, h.path.holds.0, law j h.last h.before o.reason proper h.path.path h.path.holds.1)

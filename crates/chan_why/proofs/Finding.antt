@@ -21,7 +21,8 @@ use Rattle.chan_walk.proofs.Theory.Lists.{at_has}
 abbrev pub NoneBefore : (Place → Type 0) → List Place → ℕ → Type 0
 NoneBefore P ps i = (k : ℕ) (p : Place) → k < i → slice_get ps k ≡ Some p → P p → ⊥
 
-pub none_more : (P : Place → Type 0) (ls : List Seen) (i : ℕ) (l : Seen) → i < length ls → l ≡ get_or ls i l → (P l.place → ⊥) → NoneBefore P (places_of_looks ls) i → NoneBefore P (places_of_looks ls) (i + 1)
+pub none_more : (P : Place → Type 0) (ls : List Seen) (i : ℕ) (l : Seen) → i < length ls → l ≡ get_or ls i l
+    → (P l.place → ⊥) → NoneBefore P (places_of_looks ls) i → NoneBefore P (places_of_looks ls) (i + 1)
 none_more P ls i l h e n old k p lt d holds = search (rules, cases_lt, place_at)
 
 pub none_at_all : (P : Place → Type 0) (ls : List Seen) (i : ℕ) → length ls ≤ i → NoneBefore P (places_of_looks ls) i → IsFirstWhere P (places_of_looks ls) None
@@ -44,8 +45,10 @@ module _ (j : Job) (ls : List Seen) (fs : List ℕ) (f : HasFound j ls fs) where
   best_at (suc n) zero p h e = search (rules, best_first, all_found)
   best_at (suc n) (suc k) p h e =
       let r = f.traced.from (suc k) (omega arith) (slice_get_within ps (suc k) p e) in
-      let b = best_at n (slice_index fs (suc k)) r.parent (omega (arith, r.earlier)) r.there in
-      (r.parent ∷ b.0, best_next j ps fs f.at f.traced f.all f.walked.apart (all_found j j.limit ps f.at f.walked f.all) (suc k) p r.parent b.0 (omega arith) e b.1)
+      let b = best_at n (slice_index fs (suc k)) r.parent (omega (arith, r.earlier)) r.there in (
+        r.parent ∷ b.0,
+        best_next j ps fs f.at f.traced f.all f.walked.apart (all_found j j.limit ps f.at f.walked f.all) (suc k) p r.parent b.0 (omega arith) e b.1,
+      )
 
   -- the best path to the first place for which P holds is the path to such a place
   where_first : (P : Place → Type 0) (i : ℕ) (p : Place) (before : List Place) → IsFirstWhere P ps (Some i) → IsBest j ps i p before → IsPathWhere j P p before
@@ -67,5 +70,6 @@ module _ (j : Job) (ls : List Seen) (fs : List ℕ) (f : HasFound j ls fs) where
   pub path_where : (P : Place → Type 0) (i : ℕ) (places : List Place) → IsFirstWhere P ps (Some i) → IsPathAt j ps i places → ArePathWhere j P places
   path_where P i places h a = record { last = a.last; before = a.before; is = a.is; path = where_first P i a.last a.before h a.best }
 
-  pub best_where : (P : Place → Type 0) (i : ℕ) (p : Place) → IsFirstWhere P ps (Some i) → slice_get ps i ≡ Some p → (before : List Place) × IsPathWhere j P p before
+  pub best_where : (P : Place → Type 0) (i : ℕ) (p : Place) → IsFirstWhere P ps (Some i)
+      → slice_get ps i ≡ Some p → (before : List Place) × IsPathWhere j P p before
   best_where P i p h e = let b = best_at (i + 1) i p (omega arith) e in (b.0, where_first P i p b.0 h b.1)

@@ -50,16 +50,26 @@ use Rattle.chan_walk.proofs.Theory.SameCcws.{same_ccw}
 
 -- ---- where a step leads
 
-led_by : {p q : Place} {c : Fields} {k : Kind} {m : ℕ} {g h : Gathered} {es : List Event} {st : Stage} → Continues p c k m g es st → st ≡ At q h → is_transfer c ≡ false → Follows p c k q
+led_by : {p q : Place} {c : Fields} {k : Kind} {m : ℕ} {g h : Gathered} {es : List Event} {st : Stage}
+    → Continues p c k m g es st → st ≡ At q h → is_transfer c ≡ false → Follows p c k q
 led_by machine.ends is t = absurd (cc)
-led_by {p = p} {q = q} {c = c} {k = k} (machine.on_data {e = e} cd ch mc) is t = let same : straight_to (p.address + 8) e ≡ q = cc in subst (Follows p c k) same (by_data t cd ch)
-led_by {p = p} {q = q} {c = c} {k = k} (machine.on_command cd cm) is t = let same : straight_to (p.address + 8) Fresh ≡ q = cc in subst (Follows p c k) same (by_command t cd cm)
-led_by {p = p} {q = q} {c = c} {k = k} (machine.on_skip cd cm ks) is t = let same : straight_to (p.address + 16) Fresh ≡ q = cc in subst (Follows p c k) same (by_skip t cd cm ks)
+led_by {p = p} {q = q} {c = c} {k = k} (machine.on_data {e = e} cd ch mc) is t =
+    let same : straight_to (p.address + 8) e ≡ q = cc in
+    subst (Follows p c k) same (by_data t cd ch)
+led_by {p = p} {q = q} {c = c} {k = k} (machine.on_command cd cm) is t =
+    let same : straight_to (p.address + 8) Fresh ≡ q = cc in
+    subst (Follows p c k) same (by_command t cd cm)
+led_by {p = p} {q = q} {c = c} {k = k} (machine.on_skip cd cm ks) is t =
+    let same : straight_to (p.address + 16) Fresh ≡ q = cc in
+    subst (Follows p c k) same (by_skip t cd cm ks)
 led_by (machine.on_short cd mc) is t = absurd (cc)
 
-led : {s : List ℕ} {y f : ℕ} {p q : Place} {g h : Gathered} {es : List Event} {t : List ℕ} {y' f' : ℕ} {st : Stage} → Step s y f p g es t y' f' st → st ≡ At q h → Follows p (ccw s p.address) (kind_of p.entered (ccw s p.address)) q
+led : {s : List ℕ} {y f : ℕ} {p q : Place} {g h : Gathered} {es : List Event} {t : List ℕ} {y' f' : ℕ} {st : Stage}
+    → Step s y f p g es t y' f' st → st ≡ At q h → Follows p (ccw s p.address) (kind_of p.entered (ccw s p.address)) q
 led (machine.checked e) is = absurd (cc)
-led {s = s} {p = p} {q = q} (machine.transferred e t) is = let same : transferred_to (ccw s p.address).address p.entered ≡ q = cc in subst (Follows p (ccw s p.address) _) same (by_transfer t)
+led {s = s} {p = p} {q = q} (machine.transferred e t) is =
+    let same : transferred_to (ccw s p.address).address p.entered ≡ q = cc in
+    subst (Follows p (ccw s p.address) _) same (by_transfer t)
 led (machine.unknown e t fr un) is = absurd (cc)
 led (machine.carried e t known le mv sk hm fm gs) is = led_by gs is t
 
@@ -71,7 +81,8 @@ Fills p c None = Unit {0}
 Fills p c (Some x) = (kind_of p.entered c ≡ Outward) × (length x + c.count < 6 → chains_data c ≡ true)
 
 -- so it is done where data chaining is off
-done : (j : Job) (p : Place) (c : Fields) (g : Gathered) (es : List Event) (after : Gathered) → Fills p c g → chains_data c ≡ false → Left j c (full_count (kind_of p.entered c) c) g es after → after ≡ None
+done : (j : Job) (p : Place) (c : Fields) (g : Gathered) (es : List Event) (after : Gathered) → Fills p c g
+    → chains_data c ≡ false → Left j c (full_count (kind_of p.entered c) c) g es after → after ≡ None
 done j p c None es after f cd l = l.0
 done j p c (Some x) es after f cd (inr l) = l.1
 done j p c (Some x) es after f cd (inl l) =
@@ -80,6 +91,13 @@ done j p c (Some x) es after f cd (inl l) =
 
 whole : {e : Entry} (k : Kind) (c : Fields) → chained k ≡ Some e → full_count k c ≡ c.count
 whole k c h = search rules
+
+-- from p, with what a seek has gathered, the CCW c leads on to q
+abbrev LeadsOn : Place → Gathered → Place → Fields → Type 0
+LeadsOn p g q c =
+    IsFew (under_way p c g)
+    × (is_transfer c ≡ false → (is_fresh p.entered ≡ true → is_known c.command ≡ true) × Fills p c (under_way p c g))
+    × Follows p c (kind_of p.entered c) q
 
 -- a step from p to some place
 record Onward (s : List ℕ) (y f : ℕ) (p : Place) (g : Gathered) : Type 0 where
@@ -92,17 +110,32 @@ record Onward (s : List ℕ) (y f : ℕ) (p : Place) (g : Gathered) : Type 0 whe
   step : Step s y f p g es after arm mask (At to gathered)
 
 -- j is a job over the storage of a moment, with the mask in force there
-module _ (j : Job) (y : ℕ) (p : Place) (g : Gathered) (bytes : AreBytes (storage_of j)) (e : check (storage_of j) p ≡ None) (few : IsFew (under_way p (ccw_of j p) g)) where
-  onward : {to : Place} {h : Gathered} → Known j p → is_transfer (ccw_of j p) ≡ false → Continues p (ccw_of j p) (kind_at j p) (bytes_at j p) (seek_at j y p g few).after [] (At to h) → Onward (storage_of j) y j.mask p g
-  onward {to = to} {h = h} known t goes = let r = carry_out j bytes y p g few e t known tt goes in record { es = r.es; after = storage_of j; arm = y; mask = j.mask; to = to; gathered = h; step = r.step }
+module _ (j : Job) (y : ℕ) (p : Place) (g : Gathered) (bytes : AreBytes (storage_of j))
+    (e : check (storage_of j) p ≡ None) (few : IsFew (under_way p (ccw_of j p) g)) where
+  onward : {to : Place} {h : Gathered} → Known j p → is_transfer (ccw_of j p) ≡ false
+      → Continues p (ccw_of j p) (kind_at j p) (bytes_at j p) (seek_at j y p g few).after [] (At to h) → Onward (storage_of j) y j.mask p g
+  onward {to = to} {h = h} known t goes =
+      let r = carry_out j bytes y p g few e t known tt goes in
+      record {
+        es = r.es;
+        after = storage_of j;
+        arm = y;
+        mask = j.mask;
+        to = to;
+        gathered = h;
+        step = r.step;
+      }
 
-  by_chaining : Known j p → Fills p (ccw_of j p) (under_way p (ccw_of j p) g) → is_transfer (ccw_of j p) ≡ false → chains_data (ccw_of j p) ≡ false → chains_command (ccw_of j p) ≡ true → Onward (storage_of j) y j.mask p g
+  by_chaining : Known j p → Fills p (ccw_of j p) (under_way p (ccw_of j p) g) → is_transfer (ccw_of j p) ≡ false
+      → chains_data (ccw_of j p) ≡ false → chains_command (ccw_of j p) ≡ true → Onward (storage_of j) y j.mask p g
   by_chaining known fills t cd cm =
       let sk = seek_at j y p g few in
       let none = done j p (ccw_of j p) (under_way p (ccw_of j p) g) sk.es sk.after fills cd sk.left in
-      onward known t (subst (λ z. Continues p (ccw_of j p) (kind_at j p) (bytes_at j p) z [] (At (straight_to (p.address + 8) Fresh) None)) (sym none) (machine.on_command cd cm))
+      onward known t (subst (λ z. Continues p (ccw_of j p) (kind_at j p) (bytes_at j p) z [] (At (straight_to (p.address + 8) Fresh) None))
+      (sym none) (machine.on_command cd cm))
 
-  steps : {q : Place} → (is_transfer (ccw_of j p) ≡ false → Known j p × Fills p (ccw_of j p) (under_way p (ccw_of j p) g)) → Follows p (ccw_of j p) (kind_at j p) q → Onward (storage_of j) y j.mask p g
+  steps : {q : Place} → (is_transfer (ccw_of j p) ≡ false → Known j p × Fills p (ccw_of j p) (under_way p (ccw_of j p) g))
+      → Follows p (ccw_of j p) (kind_at j p) q → Onward (storage_of j) y j.mask p g
   steps r (by_transfer t) = record { es = []; after = storage_of j; arm = y; mask = j.mask; to = _; gathered = g; step = machine.transferred e t }
   steps r (by_data t cd ch) = onward (r t).0 t (machine.on_data cd ch (whole (kind_at j p) (ccw_of j p) ch))
   steps r (by_command t cd cm) = by_chaining (r t).0 (r t).1 t cd cm
@@ -116,14 +149,18 @@ module _ (j : Job) (v : IsVerdict j Yes) (p : Place) (reached : IsReachable j p)
 
   -- the CCW is what it was
   ccw_kept : (s : List ℕ) → Same j s → ccw s p.address ≡ ccw_of j p
-  ccw_kept s same = same_ccw s (storage_of j) p.address (λ b le lt. same b (inl (record { place = p; reached = reached; stands = clear_stands j p clear; from = le; below = lt })))
+  ccw_kept s same =
+      same_ccw s (storage_of j) p.address
+      (λ b le lt. same b (inl (record { place = p; reached = reached; stands = clear_stands j p clear; from = le; below = lt })))
 
   -- a step leads to a successor
-  led_on : {s : List ℕ} {y f : ℕ} {q : Place} {g h : Gathered} {es : List Event} {t : List ℕ} {y' f' : ℕ} {st : Stage} → Same j s → Step s y f p g es t y' f' st → st ≡ At q h → Successor j p q
+  led_on : {s : List ℕ} {y f : ℕ} {q : Place} {g h : Gathered} {es : List Event} {t : List ℕ} {y' f' : ℕ} {st : Stage}
+      → Same j s → Step s y f p g es t y' f' st → st ≡ At q h → Successor j p q
   led_on {s = s} {q = q} same w is = succeeds p (ccw_of j p) _ q (subst (λ c. Follows p c (kind_of p.entered c) q) (ccw_kept s same) (led w is))
 
   -- a place without a successor ends the program
-  on_or_end : (EndsTheProgram j p → ⊥) → (o r : Option Place) → next_of p (ccw_of j p) (kind_of p.entered (ccw_of j p)) ≡ o → skip_of p (ccw_of j p) (kind_of p.entered (ccw_of j p)) ≡ r → (q : Place) × Successor j p q
+  on_or_end : (EndsTheProgram j p → ⊥) → (o r : Option Place) → next_of p (ccw_of j p) (kind_of p.entered (ccw_of j p)) ≡ o
+      → skip_of p (ccw_of j p) (kind_of p.entered (ccw_of j p)) ≡ r → (q : Place) × Successor j p q
   on_or_end n (Some q) r d e = (q, inl d)
   on_or_end n None (Some q) d e = (q, inr e)
   on_or_end n None None d e = absurd (n (record { clear = clear; last = last }))
@@ -140,16 +177,26 @@ module _ (j : Job) (v : IsVerdict j Yes) (p : Place) (reached : IsReachable j p)
       taking (Some x) u = (u.0, u.1, u.3)
 
   -- the argument of a seek is whole
-  fills : is_transfer (ccw_of j p) ≡ false → (b : Bool) → begins_seek p (ccw_of j p) ≡ b → (g : Gathered) → Under j p g → Fills p (ccw_of j p) (if b then Some [] else g)
+  fills : is_transfer (ccw_of j p) ≡ false → (b : Bool) → begins_seek p (ccw_of j p) ≡ b
+      → (g : Gathered) → Under j p g → Fills p (ccw_of j p) (if b then Some [] else g)
   fills t false is None u = tt
-  fills t false is (Some x) u = (ap (λ e. kind_of e (ccw_of j p)) u.0, λ l. (advance (storage_of j) u.1 p x (ccw_of j p).count u.3 t (omega arith)).chains (omega (arith, length-with_taken (storage_of j) (ccw_of j p) (ccw_of j p).count x)) refl)
+  fills t false is (Some x) u = (
+    ap (λ e. kind_of e (ccw_of j p)) u.0,
+    λ l. (advance (storage_of j) u.1 p x (ccw_of j p).count u.3 t (omega arith)).chains
+        (omega (arith, length-with_taken (storage_of j) (ccw_of j p) (ccw_of j p).count x)) refl,
+  )
   fills t true is g u = begun clear.0 clear.1 ((clear_good j p clear t).argued is)
     where
       begun : (x : Option (List ℕ)) → HasArgument (storage_of j) p.address x → is_none x ≡ false → Fills p (ccw_of j p) (Some [])
       begun None h miss = absurd (cc)
-      begun (Some x) h miss = (fresh_out p (ccw_of j p) is, λ l. (advance (storage_of j) h.0 p [] (ccw_of j p).count (begin (storage_of j) h.0 p h.1) t (omega arith)).chains (omega (arith, length-with_taken (storage_of j) (ccw_of j p) (ccw_of j p).count [])) refl)
+      begun (Some x) h miss = (
+        fresh_out p (ccw_of j p) is,
+        λ l. (advance (storage_of j) h.0 p [] (ccw_of j p).count (begin (storage_of j) h.0 p h.1) t (omega arith)).chains
+            (omega (arith, length-with_taken (storage_of j) (ccw_of j p) (ccw_of j p).count [])) refl,
+      )
 
-  steps_on : (m : Moment) (g : Gathered) → AreBytes m.storage → m.stage ≡ At p g → Invariant j m.storage m.arm m.mask (At p g) → (EndsTheProgram j p → ⊥) → StepsOn m
+  steps_on : (m : Moment) (g : Gathered) → AreBytes m.storage → m.stage ≡ At p g
+      → Invariant j m.storage m.arm m.mask (At p g) → (EndsTheProgram j p → ⊥) → StepsOn m
   steps_on m g bytes is i n = (
     record { storage = on.after; arm = on.arm; mask = on.mask; stage = At on.to on.gathered; events = on.es },
     subst (λ st. StepFrom m.storage m.arm m.mask st on.es on.after on.arm on.mask (At on.to on.gathered)) (sym is) on.step,
@@ -160,34 +207,47 @@ module _ (j : Job) (v : IsVerdict j Yes) (p : Place) (reached : IsReachable j p)
     where
       -- the job over the storage of the moment
       there : Job
-      there = record j { storage = record (j.storage) { bytes = record (j.storage.bytes) { now = m.storage }; small = omega (arith, i.same_length, j.storage.small); fits = bytes }; mask = m.mask }
+      there =
+          record j {
+            storage = record (j.storage)
+                { bytes = record (j.storage.bytes) { now = m.storage }; small = omega (arith, i.same_length, j.storage.small); fits = bytes };
+            mask = m.mask;
+          }
 
       same : ccw_of j p ≡ ccw_of there p
       same = sym (ccw_kept m.storage i.same)
 
       checked : check m.storage p ≡ None
-      checked = ap (λ n. check_of n p (ccw m.storage p.address)) i.same_length ∙ ap (check_of (length (storage_of j)) p) (ccw_kept m.storage i.same) ∙ clear_check j p clear
+      checked =
+          ap (λ n. check_of n p (ccw m.storage p.address)) i.same_length
+          ∙ ap (check_of (length (storage_of j)) p) (ccw_kept m.storage i.same) ∙ clear_check j p clear
 
       q : (q : Place) × Successor j p q
       q = on_or_end n _ _ refl refl
 
       -- what is so of the CCW as it was is so of it now
-      ready : (c : Fields) → ccw_of j p ≡ c → IsFew (under_way p c g) × (is_transfer c ≡ false → (is_fresh p.entered ≡ true → is_known c.command ≡ true) × Fills p c (under_way p c g)) × Follows p c (kind_of p.entered c) q.0
-      ready c e = subst (λ c. IsFew (under_way p c g) × (is_transfer c ≡ false → (is_fresh p.entered ≡ true → is_known c.command ≡ true) × Fills p c (under_way p c g)) × Follows p c (kind_of p.entered c) q.0) e (few g i.stage.1, λ t. ((clear_good j p clear t).known, fills t (begins_seek p (ccw_of j p)) refl g i.stage.1), follows p (ccw_of j p) _ q.0 q.1)
+      ready : (c : Fields) → ccw_of j p ≡ c → LeadsOn p g q.0 c
+      ready c e =
+          subst (LeadsOn p g q.0) e
+          (few g i.stage.1, λ t. ((clear_good j p clear t).known, fills t (begins_seek p (ccw_of j p)) refl g i.stage.1), follows p (ccw_of j p) _ q.0 q.1)
 
       on : Onward m.storage m.arm m.mask p g
       on = let r = ready (ccw_of there p) same in steps there m.arm p g bytes checked r.0 r.1 r.2
 
 pub steps_on_unless_it_ends : StepsOnUnlessItEnds
-steps_on_unless_it_ends j v = all_kept j v _ (λ m i bytes p g is. let k = subst (Invariant j m.storage m.arm m.mask) is i in (to m p g is k, steps_on j v p k.stage.0 m g bytes is k))
+steps_on_unless_it_ends j v =
+    all_kept j v _ (λ m i bytes p g is. let k = subst (Invariant j m.storage m.arm m.mask) is i in (to m p g is k, steps_on j v p k.stage.0 m g bytes is k))
   where
     to : (m : Moment) (p : Place) (g : Gathered) → m.stage ≡ At p g → Invariant j m.storage m.arm m.mask (At p g) → StepsOn m → EndsTheProgram j p → ⊥
-    to m p g is k n e = e.last n.2 (led_on j v p k.stage.0 k.same (subst (λ st. StepFrom m.storage m.arm m.mask st n.0.events n.0.storage n.0.arm n.0.mask n.0.stage) is n.1) n.4)
+    to m p g is k n e =
+        e.last n.2
+        (led_on j v p k.stage.0 k.same (subst (λ st. StepFrom m.storage m.arm m.mask st n.0.events n.0.storage n.0.arm n.0.mask n.0.stage) is n.1) n.4)
 
 -- ---- a place that can't end
 
 module _ (j : Job) (v : IsVerdict j Yes) where
-  stays : (s : List ℕ) (y f : ℕ) (a : Stage) (es : List Event) (t : List ℕ) (y' f' : ℕ) (b : Stage) → StepFrom s y f a es t y' f' b → Invariant j s y f a → CannotEndAt j a → CannotEndAt j b
+  stays : (s : List ℕ) (y f : ℕ) (a : Stage) (es : List Event) (t : List ℕ) (y' f' : ℕ) (b : Stage)
+      → StepFrom s y f a es t y' f' b → Invariant j s y f a → CannotEndAt j a → CannotEndAt j b
   stays s y f a es t y' f' Ended w k c = tt
   stays s y f a es t y' f' (Checked r) w k c = tt
   stays s y f (At p g) es t y' f' (At q h) w k c = λ e. c (q ∷ e.0, ((yes_clear j v p k.stage.0, led_on j v p k.stage.0 k.same w refl), e.1))
@@ -201,19 +261,28 @@ module _ (j : Job) (v : IsVerdict j Yes) where
 pub hang_lasts : HangLasts
 hang_lasts j v [] earlier m r c = tt
 hang_lasts j v (n ∷ []) earlier m r c = (next j v m n r.1 (each_ok j v (m ∷ earlier) r.0).0.kept c, tt)
-hang_lasts j v (n ∷ l ∷ later) earlier m r c = let rest = hang_lasts j v (l ∷ later) earlier m r.0 c in (next j v l n r.1 (each_ok j v (l ∷ (later ++ m ∷ earlier)) r.0).0.kept rest.0, rest)
+hang_lasts j v (n ∷ l ∷ later) earlier m r c =
+    let rest = hang_lasts j v (l ∷ later) earlier m r.0 c in
+    (next j v l n r.1 (each_ok j v (l ∷ (later ++ m ∷ earlier)) r.0).0.kept rest.0, rest)
 
-goes_on : (j : Job) → IsVerdict j Yes → (n : Moment) → Invariant j n.storage n.arm n.mask n.stage → CannotEndAt j n.stage → AreBytes n.storage → (p : Place) (g : Gathered) → n.stage ≡ At p g → StepsOn n
-goes_on j v n i c bytes p g is = let k = subst (Invariant j n.storage n.arm n.mask) is i in steps_on j v p k.stage.0 n g bytes is k (λ e. (subst (CannotEndAt j) is c) ([], e))
+goes_on : (j : Job) → IsVerdict j Yes → (n : Moment) → Invariant j n.storage n.arm n.mask n.stage
+    → CannotEndAt j n.stage → AreBytes n.storage → (p : Place) (g : Gathered) → n.stage ≡ At p g → StepsOn n
+goes_on j v n i c bytes p g is =
+    let k = subst (Invariant j n.storage n.arm n.mask) is i in
+    steps_on j v p k.stage.0 n g bytes is k (λ e. (subst (CannotEndAt j) is c) ([], e))
 
 pub hang_goes_on : HangGoesOn
-hang_goes_on j v n later earlier m r c bytes p g is = let h = hang_lasts j v (n ∷ later) earlier m r c in goes_on j v n (each_ok j v (n ∷ (later ++ m ∷ earlier)) r).0.kept h.0 bytes p g is
+hang_goes_on j v n later earlier m r c bytes p g is =
+    let h = hang_lasts j v (n ∷ later) earlier m r c in
+    goes_on j v n (each_ok j v (n ∷ (later ++ m ∷ earlier)) r).0.kept h.0 bytes p g is
 
 -- ---- a run to an end
 
 path_on : (j : Job) (p : Place) (on before : List Place) → IsPath j (p ∷ before) → EndsAfter j p on → IsPath j (reverse on ++ p ∷ before)
 path_on j p [] before h e = h
-path_on j p (q ∷ on) before h e = subst (IsPath j) (sym (ap (λ z. z ++ p ∷ before) (reverse-append (q ∷ []) on) ∙ append_assoc (reverse on) (q ∷ []) (p ∷ before))) (path_on j q on (p ∷ before) (h, e.0.0, e.0.1) e.1)
+path_on j p (q ∷ on) before h e =
+    subst (IsPath j) (sym (ap (λ z. z ++ p ∷ before) (reverse-append (q ∷ []) on) ∙ append_assoc (reverse on) (q ∷ []) (p ∷ before)))
+    (path_on j q on (p ∷ before) (h, e.0.0, e.0.1) e.1)
 
 pub some_run_ends : SomeRunEnds
 some_run_ends j proper p reached can =
@@ -223,11 +292,15 @@ some_run_ends j proper p reached can =
 -- ---- two jobs of one program
 
 succeeds_over : (j k : Job) → AreOfOneProgram j k → (p q : Place) → Successor j p q → Successor k p q
-succeeds_over j k one p q s = subst (λ s. (next_of p (ccw s p.address) (kind_of p.entered (ccw s p.address)) ≡ Some q) ⊎ (skip_of p (ccw s p.address) (kind_of p.entered (ccw s p.address)) ≡ Some q)) one.storage s
+succeeds_over j k one p q s =
+    subst (λ s. (next_of p (ccw s p.address) (kind_of p.entered (ccw s p.address)) ≡ Some q)
+    ⊎ (skip_of p (ccw s p.address) (kind_of p.entered (ccw s p.address)) ≡ Some q)) one.storage s
 
 ends_over : (j k : Job) → AreOfOneProgram j k → IsVerdict k Yes → (on : List Place) (p : Place) → IsReachable k p → EndsAfter j p on → EndsAfter k p on
 ends_over j k one w [] p m e = record { clear = yes_clear k w p m; last = λ q s. e.last q (succeeds_over k j (turned j k one) p q s) }
-ends_over j k one w (q ∷ on) p m e = let f : IsClear k p × Successor k p q = (yes_clear k w p m, succeeds_over j k one p q e.0.1) in (f, ends_over j k one w on q (p ∷ m.0, (m.1, f.0, f.1)) e.1)
+ends_over j k one w (q ∷ on) p m e =
+    let f : IsClear k p × Successor k p q = (yes_clear k w p m, succeeds_over j k one p q e.0.1) in
+    (f, ends_over j k one w on q (p ∷ m.0, (m.1, f.0, f.1)) e.1)
 
 pub hangs_alike : HangsAlike
 hangs_alike j k one v w p h = (((same_under_yes j k one v w).0 p).0 h.0, λ can. h.1 (can.0, ends_over k j (turned j k one) v can.0 p h.0 can.1))

@@ -32,7 +32,8 @@ use Rattle.std.proofs.lemmas.Option.{slice_get-get_or, slice_get_within}
 -- ---- one more
 
 -- the least of what was known of a key, and of the one that is noted
-least_noted : (P : ℕ → Type 0) (at n : ℕ) (o : Option ℕ) → IsLeastOrNone P o → IsLesserOf o at n → (Q : ℕ → Type 0) → ((a : ℕ) → Q a ↔ (P a ⊎ (a ≡ at))) → IsLeastOf Q n
+least_noted : (P : ℕ → Type 0) (at n : ℕ) (o : Option ℕ) → IsLeastOrNone P o
+    → IsLesserOf o at n → (Q : ℕ → Type 0) → ((a : ℕ) → Q a ↔ (P a ⊎ (a ≡ at))) → IsLeastOf Q n
 least_noted P at n None none is Q q = (subst Q (sym is) ((q at).1 (inr refl)), λ a h. from a ((q a).0 h))
   where
     from : (a : ℕ) → P a ⊎ (a ≡ at) → n ≤ a
@@ -49,12 +50,14 @@ least_noted P at n (Some b) old is Q q = (held (cases_lt at b), λ a h. from a (
     from a (inr e) = omega (arith, is, e)
 
 -- an index with one more look that has a key
-pub note_more : (H G : ℕ → ℕ → Type 0) (key at : ℕ) (old new : BTreeMap ℕ ℕ) → ((k a : ℕ) → G k a ↔ (H k a ⊎ ((k ≡ key) × (a ≡ at)))) → IsIndex H old → KeepsLeast key at old new → IsIndex G new
+pub note_more : (H G : ℕ → ℕ → Type 0) (key at : ℕ) (old new : BTreeMap ℕ ℕ)
+    → ((k a : ℕ) → G k a ↔ (H k a ⊎ ((k ≡ key) × (a ≡ at)))) → IsIndex H old → KeepsLeast key at old new → IsIndex G new
 note_more H G key at old new more h n k = go (cases_eq k key)
   where
     go : (k ≡ key) ⊎ (k ≡ key → ⊥) → IsLeastOrNone (G k) (tree.get nat_cmp new k)
     go (inl e) =
-        let least = least_noted (H k) at n.least (tree.get nat_cmp old k) (h k) (subst (λ z. IsLesserOf (tree.get nat_cmp old z) at n.least) (sym e) n.lesser) (G k)
+        let least = least_noted (H k) at n.least (tree.get nat_cmp old k) (h k)
+        (subst (λ z. IsLesserOf (tree.get nat_cmp old z) at n.least) (sym e) n.lesser) (G k)
         (λ a. (λ g. both a ((more k a).0 g), back a)) in
         subst (IsLeastOrNone (G k)) (sym (ap (tree.get nat_cmp new) e ∙ n.noted)) least
       where
@@ -65,7 +68,9 @@ note_more H G key at old new more h n k = go (cases_eq k key)
         back : (a : ℕ) → H k a ⊎ (a ≡ at) → G k a
         back a (inl x) = (more k a).1 (inl x)
         back a (inr x) = (more k a).1 (inr (e, x))
-    go (inr d) = subst (IsLeastOrNone (G k)) (sym (n.others k d)) (least_same (H k) (G k) (tree.get nat_cmp old k) (λ a x. (more k a).1 (inl x)) (λ a g. only a ((more k a).0 g)) (h k))
+    go (inr d) =
+        subst (IsLeastOrNone (G k)) (sym (n.others k d))
+        (least_same (H k) (G k) (tree.get nat_cmp old k) (λ a x. (more k a).1 (inl x)) (λ a g. only a ((more k a).0 g)) (h k))
       where
         only : (a : ℕ) → H k a ⊎ ((k ≡ key) × (a ≡ at)) → H k a
         only a (inl x) = x
@@ -77,7 +82,8 @@ same_keys H G m e h k = least_same (H k) (G k) (tree.get nat_cmp m k) (λ a. (e 
 -- ---- the keys of the looks
 
 -- one byte more of those that a look takes
-pub byte_more : (ls : List Seen) (at : ℕ) (xs : List ℕ) (i x d : ℕ) → i < length xs → x ≡ get_or xs i d → (k a : ℕ) → TakesSoFar ls at xs (i + 1) k a ↔ (TakesSoFar ls at xs i k a ⊎ ((k ≡ x) × (a ≡ at)))
+pub byte_more : (ls : List Seen) (at : ℕ) (xs : List ℕ) (i x d : ℕ) → i < length xs → x ≡ get_or xs i d
+    → (k a : ℕ) → TakesSoFar ls at xs (i + 1) k a ↔ (TakesSoFar ls at xs i k a ⊎ ((k ≡ x) × (a ≡ at)))
 byte_more ls at xs i x d h is k a = (to, from)
   where
     there : slice_get xs i ≡ Some x
@@ -161,14 +167,16 @@ look_there (x ∷ ls) zero p e = let s : x.place ≡ p = cc in (x, refl, s)
 look_there (x ∷ ls) (suc k) p e = look_there ls k p e
 
 -- a place that was looked at has an index
-pub some_place : (ls : List Seen) (p : Place) (o : Option ℕ) → IsLeastOrNone (IsAtPlace ls (length ls) (place_number p)) o → Has (places_of_looks ls) p → IsSome o
+pub some_place : (ls : List Seen) (p : Place) (o : Option ℕ)
+    → IsLeastOrNone (IsAtPlace ls (length ls) (place_number p)) o → Has (places_of_looks ls) p → IsSome o
 some_place ls p None none h =
     let k = at_has (places_of_looks ls) p h in
     let l = look_there ls k.0 p k.2 in
     absurd (none k.0 (omega (arith, k.1, number_of_places ls), (l.0, l.1, ap place_number (sym l.2))))
 some_place ls p (Some b) is h = refl
 
-module _ (ls : List Seen) (apart : AreDistinct (places_of_looks ls)) (os : List Offence) (i : ℕ) (o d : Offence) (h : i < length os) (is : o ≡ get_or os i d) (at : ℕ) (found : IsLeastOf (IsAtPlace ls (length ls) (place_number o.place)) at) where
+module _ (ls : List Seen) (apart : AreDistinct (places_of_looks ls)) (os : List Offence) (i : ℕ) (o d : Offence)
+    (h : i < length os) (is : o ≡ get_or os i d) (at : ℕ) (found : IsLeastOf (IsAtPlace ls (length ls) (place_number o.place)) at) where
   there : slice_get os i ≡ Some o
   there = slice_get-get_or os i d h ∙ ap Some (sym is)
 
@@ -185,36 +193,71 @@ module _ (ls : List Seen) (apart : AreDistinct (places_of_looks ls)) (os : List 
       to g = go (cases_lt g.number i)
         where
           go : (g.number < i) ⊎ (i ≤ g.number) → IsOfKind ls os i k a ⊎ ((k ≡ n) × (a ≡ at))
-          go (inl c) = inl (record { number = g.number; offence = g.offence; look = g.look; below = c; listed = g.listed; kind = g.kind; seen = g.seen; place = g.place })
+          go (inl c) = inl (record {
+            number = g.number;
+            offence = g.offence;
+            look = g.look;
+            below = c;
+            listed = g.listed;
+            kind = g.kind;
+            seen = g.seen;
+            place = g.place;
+          })
           go (inr c) =
               let b = g.below in
               let z : g.number ≡ i = omega arith in
               let s : ◌≡◌ {A = Option Offence} (Some g.offence) (Some o) = sym (subst (λ y. slice_get os y ≡ Some g.offence) z g.listed) ∙ there in
               let same : g.offence ≡ o = cc in
               let place : g.look.place ≡ seen.place = g.place ∙ ap (λ (t : Offence). t.place) same ∙ sym seen_at in
-              inr (g.kind ∙ ap kind_number same ∙ sym e, same_index (places_of_looks ls) seen.place a at apart (place_there ls a g.look g.seen ∙ ap Some place) (place_there ls at seen found.0.1.1))
+              inr (
+                g.kind ∙ ap kind_number same ∙ sym e,
+                same_index (places_of_looks ls) seen.place a at apart (place_there ls a g.look g.seen ∙ ap Some place) (place_there ls at seen found.0.1.1),
+              )
 
       from : IsOfKind ls os i k a ⊎ ((k ≡ n) × (a ≡ at)) → IsOfKind ls os (i + 1) k a
-      from (inl g) = record { number = g.number; offence = g.offence; look = g.look; below = let b = g.below in omega arith; listed = g.listed; kind = g.kind; seen = g.seen; place = g.place }
-      from (inr g) = record { number = i; offence = o; look = seen; below = omega arith; listed = there; kind = g.0 ∙ e; seen = subst (λ y. slice_get ls y ≡ Some seen) (sym g.1) found.0.1.1; place = seen_at }
+      from (inl g) = record {
+        number = g.number;
+        offence = g.offence;
+        look = g.look;
+        below = let b = g.below in omega arith;
+        listed = g.listed;
+        kind = g.kind;
+        seen = g.seen;
+        place = g.place;
+      }
+      from (inr g) = record {
+        number = i;
+        offence = o;
+        look = seen;
+        below = omega arith;
+        listed = there;
+        kind = g.0 ∙ e;
+        seen = subst (λ y. slice_get ls y ≡ Some seen) (sym g.1) found.0.1.1;
+        place = seen_at;
+      }
 
 -- ---- the first place that is found
 
 -- the least index at which something is so is that of the first place for which P holds
-pub first_where : (P : Place → Type 0) (ps : List Place) (H : ℕ → Type 0) → ((k : ℕ) (p : Place) → slice_get ps k ≡ Some p → P p → H k) → ((k : ℕ) → H k → (p : Place) × (slice_get ps k ≡ Some p) × P p)
-    → (o : Option ℕ) → IsLeastOrNone H o → IsFirstWhere P ps o
+pub first_where : (P : Place → Type 0) (ps : List Place) (H : ℕ → Type 0) → ((k : ℕ) (p : Place) → slice_get ps k ≡ Some p → P p → H k)
+    → ((k : ℕ) → H k → (p : Place) × (slice_get ps k ≡ Some p) × P p) → (o : Option ℕ) → IsLeastOrNone H o → IsFirstWhere P ps o
 first_where P ps H to back None none = λ k p e h. none k (to k p e h)
 first_where P ps H to back (Some i) least = (back i least.0, λ k p c e h. let le = least.1 k (to k p e h) in omega arith)
 
 -- what the index has of a byte is the first place that takes it
-pub taker_found : (j : Job) (ls : List Seen) (b : ℕ) (m : BTreeMap ℕ ℕ) (o : Option ℕ) → AreLooks j ls → IsIndex (TakesByte ls (length ls)) m → o ≡ tree.get nat_cmp m b → IsFirstWhere (λ q. IsArgumentByteOf j q b) (places_of_looks ls) o
-taker_found j ls b m o looks index is = first_where (λ q. IsArgumentByteOf j q b) (places_of_looks ls) (TakesByte ls (length ls) b) to back o (subst (IsLeastOrNone (TakesByte ls (length ls) b)) (sym is) (index b))
+pub taker_found : (j : Job) (ls : List Seen) (b : ℕ) (m : BTreeMap ℕ ℕ) (o : Option ℕ) → AreLooks j ls
+    → IsIndex (TakesByte ls (length ls)) m → o ≡ tree.get nat_cmp m b → IsFirstWhere (λ q. IsArgumentByteOf j q b) (places_of_looks ls) o
+taker_found j ls b m o looks index is =
+    first_where (λ q. IsArgumentByteOf j q b) (places_of_looks ls) (TakesByte ls (length ls) b) to back o
+    (subst (IsLeastOrNone (TakesByte ls (length ls) b)) (sym is) (index b))
   where
     to : (k : ℕ) (p : Place) → slice_get (places_of_looks ls) k ≡ Some p → IsArgumentByteOf j p b → TakesByte ls (length ls) b k
     to k p e h =
         let l = look_there ls k p e in
-        let n = slice_get_within (places_of_looks ls) k p e in
-        (omega (arith, n, number_of_places ls), (l.0, l.1, ((looks l.0 (has_at ls k l.0 l.1)).argument b).1 (subst (λ (q : Place). IsArgumentByteOf j q b) (sym l.2) h)))
+        let n = slice_get_within (places_of_looks ls) k p e in (
+          omega (arith, n, number_of_places ls),
+          (l.0, l.1, ((looks l.0 (has_at ls k l.0 l.1)).argument b).1 (subst (λ (q : Place). IsArgumentByteOf j q b) (sym l.2) h)),
+        )
 
     back : (k : ℕ) → TakesByte ls (length ls) b k → (p : Place) × (slice_get (places_of_looks ls) k ≡ Some p) × IsArgumentByteOf j p b
     back k g =
@@ -225,20 +268,35 @@ same_kind : (o t : Offence) → kind_number o ≡ kind_number t → (o.place.add
 same_kind o t e = search rules
 
 -- what the index has of an address and a reason is the first place that so offends
-pub like_found : (ls : List Seen) (os : List Offence) (o : Offence) (m : BTreeMap ℕ ℕ) (at : Option ℕ) → IsIndex (IsOfKind ls os (length os)) m → at ≡ tree.get nat_cmp m (kind_number o) → IsFirstWhere (IsLike os o) (places_of_looks ls) at
-like_found ls os o m at index is = first_where (IsLike os o) (places_of_looks ls) (IsOfKind ls os (length os) (kind_number o)) to back at (subst (IsLeastOrNone (IsOfKind ls os (length os) (kind_number o))) (sym is) (index (kind_number o)))
+pub like_found : (ls : List Seen) (os : List Offence) (o : Offence) (m : BTreeMap ℕ ℕ) (at : Option ℕ)
+    → IsIndex (IsOfKind ls os (length os)) m → at ≡ tree.get nat_cmp m (kind_number o) → IsFirstWhere (IsLike os o) (places_of_looks ls) at
+like_found ls os o m at index is =
+    first_where (IsLike os o) (places_of_looks ls) (IsOfKind ls os (length os) (kind_number o)) to back at
+    (subst (IsLeastOrNone (IsOfKind ls os (length os) (kind_number o))) (sym is) (index (kind_number o)))
   where
     to : (k : ℕ) (p : Place) → slice_get (places_of_looks ls) k ≡ Some p → IsLike os o p → IsOfKind ls os (length os) (kind_number o) k
     to k p e h =
         let l = look_there ls k p e in
         let x = at_has os (offence p o.reason) h.1 in
-        record { number = x.0; offence = offence p o.reason; look = l.0; below = x.1; listed = x.2; kind = ap (λ a. a * 32 + number_of o.reason) (sym h.0); seen = l.1; place = l.2 }
+        record {
+          number = x.0;
+          offence = offence p o.reason;
+          look = l.0;
+          below = x.1;
+          listed = x.2;
+          kind = ap (λ a. a * 32 + number_of o.reason) (sym h.0);
+          seen = l.1;
+          place = l.2;
+        }
 
     back : (k : ℕ) → IsOfKind ls os (length os) (kind_number o) k → (p : Place) × (slice_get (places_of_looks ls) k ≡ Some p) × IsLike os o p
     back k g =
         let same = same_kind o g.offence g.kind in
-        let is : g.offence ≡ offence g.look.place o.reason = cong g.offence g.look.place o.reason (sym g.place) (sym same.1) in
-        (g.look.place, place_there ls k g.look g.seen, (ap (λ (q : Place). q.address) g.place ∙ sym same.0, subst (Has os) is (has_at os g.number g.offence g.listed)))
+        let is : g.offence ≡ offence g.look.place o.reason = cong g.offence g.look.place o.reason (sym g.place) (sym same.1) in (
+          g.look.place,
+          place_there ls k g.look g.seen,
+          (ap (λ (q : Place). q.address) g.place ∙ sym same.0, subst (Has os) is (has_at os g.number g.offence g.listed)),
+        )
       where
         cong : (t : Offence) (p : Place) (r : Reason) → t.place ≡ p → t.reason ≡ r → t ≡ offence p r
         cong t p r e f = ap (λ (q : Place). offence q t.reason) e ∙ ap (λ (s : Reason). offence p s) f

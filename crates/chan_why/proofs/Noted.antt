@@ -110,10 +110,12 @@ HoldAddresses In P ps = (a : ℕ) → In a ↔ ((p : Place) × Has ps p × P p a
 pub addresses_none : (P : Place → ℕ → Type 0) (xs : List ℕ) → xs ≡ [] → HoldAddresses (Has xs) P []
 addresses_none P xs e a = ((λ h. absurd (subst (λ z. Has z a) e h)), λ h. absurd h.1)
 
-pub addresses_more : (P : Place → ℕ → Type 0) (ps : List Place) (p : Place) (old new : List ℕ) → HoldAddresses (Has old) P ps → ((a : ℕ) → Has new a ↔ (Has old a ⊎ P p a)) → HoldAddresses (Has new) P (ps ++ p ∷ [])
+pub addresses_more : (P : Place → ℕ → Type 0) (ps : List Place) (p : Place) (old new : List ℕ)
+    → HoldAddresses (Has old) P ps → ((a : ℕ) → Has new a ↔ (Has old a ⊎ P p a)) → HoldAddresses (Has new) P (ps ++ p ∷ [])
 addresses_more P ps p old new f g a = one_more (λ q. P q a) ps p (Has old a) (Has new a) (f a) (g a)
 
-pub adds_address : (test : Place → Fields → Bool) (j : Job) (l : Seen) (so : Bool) (old new : List ℕ) → IsLook j l → IsTrue so ↔ IsSeenWith test l → AddsAddress so l.place.address old new → (a : ℕ) → Has new a ↔ (Has old a ⊎ HasAddress test j l.place a)
+pub adds_address : (test : Place → Fields → Bool) (j : Job) (l : Seen) (so : Bool) (old new : List ℕ) → IsLook j l
+    → IsTrue so ↔ IsSeenWith test l → AddsAddress so l.place.address old new → (a : ℕ) → Has new a ↔ (Has old a ⊎ HasAddress test j l.place a)
 adds_address test j l so old new look same adds a = ((λ h. to ((adds a).0 h)), λ h. (adds a).1 (from h))
   where
     to : Has old a ⊎ (IsTrue so × (l.place.address ≡ a)) → Has old a ⊎ HasAddress test j l.place a
@@ -128,7 +130,8 @@ adds_address test j l so old new look same adds a = ((λ h. to ((adds a).0 h)), 
     from (inr h) = inr (same.1 (ccw_of j l.place, ccw_seen j l look h.0.0, h.0.1), h.1)
 
 -- over the reachable places, each once
-pub all_addresses : (test : Place → Fields → Bool) (j : Job) (some ps : List Place) (xs ys : List ℕ) → some ≡ ps → AreReached j ps → HoldAddresses (Has xs) (HasAddress test j) some → IsStrictlyIncreasing ys → ((a : ℕ) → Has ys a ↔ Has xs a) → AreAddressesOf test j ys
+pub all_addresses : (test : Place → Fields → Bool) (j : Job) (some ps : List Place) (xs ys : List ℕ) → some ≡ ps → AreReached j ps
+    → HoldAddresses (Has xs) (HasAddress test j) some → IsStrictlyIncreasing ys → ((a : ℕ) → Has ys a ↔ Has xs a) → AreAddressesOf test j ys
 all_addresses test j some ps xs ys e r f up same = search rules
 
 -- sorted, and each once
@@ -162,11 +165,13 @@ idle_without_next p c Inward t d n = absurd (cc)
 idle_without_next p c Outward t d n = absurd (cc)
 idle_without_next p c Search t d n = absurd (cc)
 
-idle_if_known : (p : Place) (c : Fields) (o : Option Command) → is_some o ≡ true → is_transfer c ≡ false → chains_data c ≡ true → next_of p c (kind_of_command o) ≡ None → is_idle o ≡ true
+idle_if_known : (p : Place) (c : Fields) (o : Option Command) → is_some o ≡ true → is_transfer c ≡ false
+    → chains_data c ≡ true → next_of p c (kind_of_command o) ≡ None → is_idle o ≡ true
 idle_if_known p c None k t d n = absurd (cc)
 idle_if_known p c (Some e) k t d n = idle_without_next p c e.kind t d n
 
-ends_without : (p : Place) (c : Fields) → is_fresh p.entered ≡ true → is_known c.command ≡ true → is_transfer c ≡ false → chains_data c ≡ true → HasNoSuccessor p c → ends_there p c ≡ true
+ends_without : (p : Place) (c : Fields) → is_fresh p.entered ≡ true → is_known c.command ≡ true
+    → is_transfer c ≡ false → chains_data c ≡ true → HasNoSuccessor p c → ends_there p c ≡ true
 ends_without p c f k t d n =
     all_three f (idle_if_known p c (lookup c.command) k t d (subst (λ q. next_of p c q ≡ None) (fresh_kind p.entered c f) n.0)) d
 

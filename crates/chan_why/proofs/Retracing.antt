@@ -70,21 +70,30 @@ taken_at (z ∷ xs) (suc m) (suc i) l = taken_at xs m i (omega arith)
 -- ---- rows
 
 ends_other : (n r : ℕ) (ps : List Predecessor) (x : Predecessor) (m : ℕ) → (row_of n x.of ≡ r → ⊥) → EndsAt n r ps m → EndsAt n r (ps ++ x ∷ []) m
-ends_other n r ps x m d e = record { last = λ k is. let l = e.last k is in (l.0, front_at ps (x ∷ []) k l.0 l.1, l.2); none = λ i p le s. go i p le (pushed ps x p i s) }
+ends_other n r ps x m d e = record {
+  last = λ k is. let l = e.last k is in (l.0, front_at ps (x ∷ []) k l.0 l.1, l.2);
+  none = λ i p le s. go i p le (pushed ps x p i s);
+}
   where
     go : (i : ℕ) (p : Predecessor) → m ≤ i → (slice_get ps i ≡ Some p) ⊎ ((i ≡ length ps) × (x ≡ p)) → row_of n p.of ≡ r → ⊥
     go i p le (inl s) = e.none i p le s
     go i p le (inr s) = λ h. d (ap (λ (z : Predecessor). row_of n z.of) s.1 ∙ h)
 
 ends_here : (n : ℕ) (ps : List Predecessor) (x : Predecessor) → EndsAt n (row_of n x.of) (ps ++ x ∷ []) (length ps + 1)
-ends_here n ps x = record { last = λ k is. let e : length ps ≡ k = omega (arith, is) in (x, subst (λ z. slice_get (ps ++ x ∷ []) z ≡ Some x) e (last_at ps x), refl); none = λ i p le s. go i p le (pushed ps x p i s) }
+ends_here n ps x = record {
+  last = λ k is. let e : length ps ≡ k = omega (arith, is) in (x, subst (λ z. slice_get (ps ++ x ∷ []) z ≡ Some x) e (last_at ps x), refl);
+  none = λ i p le s. go i p le (pushed ps x p i s);
+}
   where
     go : (i : ℕ) (p : Predecessor) → length ps + 1 ≤ i → (slice_get ps i ≡ Some p) ⊎ ((i ≡ length ps) × (x ≡ p)) → row_of n p.of ≡ row_of n x.of → ⊥
     go i p le (inl s) h = absurd (omega (arith, le, slice_get_within ps i p s))
     go i p le (inr s) h = absurd (omega (arith, le, s.0))
 
 -- one more in its row
-rows_more : (p q : Predecessors) (x : Predecessor) → AreRows p → q.list.items ≡ p.list.items ++ x ∷ [] → x.before ≡ get_or p.ends.items (row_of (length p.ends.items) x.of) 0 → q.ends.items ≡ set p.ends.items (row_of (length p.ends.items) x.of) (length p.list.items + 1) → row_of (length p.ends.items) x.of < length p.ends.items → AreRows q
+rows_more : (p q : Predecessors) (x : Predecessor) → AreRows p → q.list.items ≡ p.list.items ++ x ∷ []
+    → x.before ≡ get_or p.ends.items (row_of (length p.ends.items) x.of) 0
+    → q.ends.items ≡ set p.ends.items (row_of (length p.ends.items) x.of) (length p.list.items + 1)
+    → row_of (length p.ends.items) x.of < length p.ends.items → AreRows q
 rows_more p q x a list before ends low = record {
   some = omega (arith, a.some, len);
   ends = λ r l. rw (len, list, ends) (end r (omega (arith, l, len)) (cases_eq r at));
@@ -104,17 +113,27 @@ rows_more p q x a list before ends low = record {
     len = ap length ends ∙ length-set p.ends.items at (length ps + 1)
 
     end : (r : ℕ) → r < n → (r ≡ at) ⊎ (r ≡ at → ⊥) → EndsAt n r (ps ++ x ∷ []) (get_or (set p.ends.items at (length ps + 1)) r 0)
-    end r l (inl e) = subst (λ z. EndsAt n z (ps ++ x ∷ []) (get_or (set p.ends.items at (length ps + 1)) z 0)) (sym e) (subst (EndsAt n at (ps ++ x ∷ [])) (sym (get_or-set_same p.ends.items at (length ps + 1) 0 low)) (ends_here n ps x))
-    end r l (inr d) = subst (EndsAt n r (ps ++ x ∷ [])) (sym (get_or-set_other p.ends.items at r (length ps + 1) 0 d)) (ends_other n r ps x (get_or p.ends.items r 0) (λ e. d (sym e)) (a.ends r l))
+    end r l (inl e) =
+        subst (λ z. EndsAt n z (ps ++ x ∷ []) (get_or (set p.ends.items at (length ps + 1)) z 0)) (sym e)
+        (subst (EndsAt n at (ps ++ x ∷ [])) (sym (get_or-set_same p.ends.items at (length ps + 1) 0 low)) (ends_here n ps x))
+    end r l (inr d) =
+        subst (EndsAt n r (ps ++ x ∷ [])) (sym (get_or-set_other p.ends.items at r (length ps + 1) 0 d))
+        (ends_other n r ps x (get_or p.ends.items r 0) (λ e. d (sym e)) (a.ends r l))
 
     old : (i : ℕ) (y : Predecessor) → (slice_get ps i ≡ Some y) ⊎ ((i ≡ length ps) × (x ≡ y)) → EndsAt n (row_of n y.of) (take i (ps ++ x ∷ [])) y.before
-    old i y (inl s) = subst (λ z. EndsAt n (row_of n y.of) z y.before) (sym (take-append-le i ps (x ∷ []) (omega (arith, slice_get_within ps i y s)))) (a.before i y s)
-    old i y (inr s) = subst (λ (y : Predecessor). EndsAt n (row_of n y.of) (take i (ps ++ x ∷ [])) y.before) s.1 (subst (λ z. EndsAt n at z x.before) (sym (take_at ps (x ∷ []) i (sym s.0))) (subst (EndsAt n at ps) (sym before) (a.ends at low)))
+    old i y (inl s) =
+        subst (λ z. EndsAt n (row_of n y.of) z y.before) (sym (take-append-le i ps (x ∷ []) (omega (arith, slice_get_within ps i y s)))) (a.before i y s)
+    old i y (inr s) =
+        subst (λ (y : Predecessor). EndsAt n (row_of n y.of) (take i (ps ++ x ∷ [])) y.before) s.1
+        (subst (λ z. EndsAt n at z x.before) (sym (take_at ps (x ∷ []) i (sym s.0))) (subst (EndsAt n at ps) (sym before) (a.ends at low)))
 
 pub nothing_added : (at : ℕ) (p : Predecessors) → AreRows p → AddsPredecessor at None p p
 nothing_added at p a = record { rows = a; has = λ of k. search rules }
 
-pub one_added : (at of : ℕ) (p q : Predecessors) (x : Predecessor) → x.of ≡ of → x.at ≡ at → AreRows p → q.list.items ≡ p.list.items ++ x ∷ [] → x.before ≡ get_or p.ends.items (row_of (length p.ends.items) x.of) 0 → q.ends.items ≡ set p.ends.items (row_of (length p.ends.items) x.of) (length p.list.items + 1) → row_of (length p.ends.items) x.of < length p.ends.items → AddsPredecessor at (Some of) p q
+pub one_added : (at of : ℕ) (p q : Predecessors) (x : Predecessor) → x.of ≡ of → x.at ≡ at → AreRows p
+    → q.list.items ≡ p.list.items ++ x ∷ [] → x.before ≡ get_or p.ends.items (row_of (length p.ends.items) x.of) 0
+    → q.ends.items ≡ set p.ends.items (row_of (length p.ends.items) x.of) (length p.list.items + 1)
+    → row_of (length p.ends.items) x.of < length p.ends.items → AddsPredecessor at (Some of) p q
 one_added at of p q x e d a list before ends low = record { rows = rows_more p q x a list before ends low; has = λ o k. (to o k, from o k) }
   where
     to : (o k : ℕ) → HasBefore q.list.items o k → HasBefore p.list.items o k ⊎ ((Some of ≡ Some o) × (at ≡ k))
@@ -126,23 +145,35 @@ one_added at of p q x e d a list before ends low = record { rows = rows_more p q
 
     from : (o k : ℕ) → HasBefore p.list.items o k ⊎ ((Some of ≡ Some o) × (at ≡ k)) → HasBefore q.list.items o k
     from o k (inl h) = (h.0, subst (λ z. Has z h.0) (sym list) (has_left p.list.items (x ∷ []) h.0 h.1), h.2, h.3)
-    from o k (inr h) = let same : of ≡ o = let s = h.0 in cc in (x, subst (λ z. Has z x) (sym list) ((has_push p.list.items x x).1 (inr refl)), e ∙ same, d ∙ h.1)
+    from o k (inr h) =
+        let same : of ≡ o = let s = h.0 in cc in
+        (x, subst (λ z. Has z x) (sym list) ((has_push p.list.items x x).1 (inr refl)), e ∙ same, d ∙ h.1)
 
 -- no predecessor yet, in n rows
 pub no_rows : (p : Predecessors) (n : ℕ) → 0 < n → p.list.items ≡ [] → p.ends.items ≡ replicate n 0 → AreRows p
-no_rows p n l list ends = record { some = omega (arith, ap length ends, length-replicate {A = ℕ} n 0); ends = end; before = λ i x s. absurd (none i x (subst (λ z. slice_get z i ≡ Some x) list s)) }
+no_rows p n l list ends = record {
+  some = omega (arith, ap length ends, length-replicate {A = ℕ} n 0);
+  ends = end;
+  before = λ i x s. absurd (none i x (subst (λ z. slice_get z i ≡ Some x) list s));
+}
   where
     none : (i : ℕ) (x : Predecessor) → slice_get [] i ≡ Some x → ⊥
     none i x s = absurd (cc)
 
     end : (r : ℕ) → r < length p.ends.items → EndsAt (length p.ends.items) r p.list.items (get_or p.ends.items r 0)
     end r m =
-        let zero_at : get_or p.ends.items r 0 ≡ 0 = ap (λ z. get_or z r 0) ends ∙ get_or-replicate n r 0 0 (omega (arith, m, ap length ends, length-replicate {A = ℕ} n 0)) in
+        let zero_at : get_or p.ends.items r 0 ≡ 0 =
+        ap (λ z. get_or z r 0) ends ∙ get_or-replicate n r 0 0 (omega (arith, m, ap length ends, length-replicate {A = ℕ} n 0)) in
         record { last = λ k is. absurd (omega (arith, is, zero_at)); none = λ i x le s. absurd (none i x (subst (λ z. slice_get z i ≡ Some x) list s)) }
 
 -- one look more
-pub before_more : (ls : List Seen) (i : ℕ) (l : Seen) (p q r t : Predecessors) → slice_get ls i ≡ Some l → ArePredecessors ls i p.list.items → AddsPredecessor i (end_after l) p q → AddsPredecessor i (one_after l.next.next) q r → AddsPredecessor i (one_after l.next.skip) r t → ArePredecessors ls (i + 1) t.list.items
-before_more ls i l p q r t here are x y z = record { only = λ at of h. only at of ((all of at).0 h); each = λ at of m w. (all of at).1 (each at of w (cases_lt at i) m) }
+pub before_more : (ls : List Seen) (i : ℕ) (l : Seen) (p q r t : Predecessors) → slice_get ls i ≡ Some l
+    → ArePredecessors ls i p.list.items → AddsPredecessor i (end_after l) p q → AddsPredecessor i (one_after l.next.next) q r
+    → AddsPredecessor i (one_after l.next.skip) r t → ArePredecessors ls (i + 1) t.list.items
+before_more ls i l p q r t here are x y z = record {
+  only = λ at of h. only at of ((all of at).0 h);
+  each = λ at of m w. (all of at).1 (each at of w (cases_lt at i) m);
+}
   where
     all : (of at : ℕ) → HasBefore t.list.items of at ↔ (HasBefore p.list.items of at ⊎ (ComesAfter l of × (i ≡ at)))
     all of at = search (rules, x.has of at, y.has of at, z.has of at)
@@ -183,7 +214,8 @@ finds_both n P Q f g h one other = record {
   found = λ k. search (rules, one.found k, other.found k);
 }
 
-marks_more : (ms : List Bool) (fs : List ℕ) (at k : ℕ) → at < length ms → (get_or ms k false ≡ true) ↔ Has fs k → (get_or (set ms at true) k false ≡ true) ↔ (Has fs k ⊎ (at ≡ k))
+marks_more : (ms : List Bool) (fs : List ℕ) (at k : ℕ) → at < length ms
+    → (get_or ms k false ≡ true) ↔ Has fs k → (get_or (set ms at true) k false ≡ true) ↔ (Has fs k ⊎ (at ≡ k))
 marks_more ms fs at k l same = go (cases_eq k at)
   where
     go : (k ≡ at) ⊎ (k ≡ at → ⊥) → (get_or (set ms at true) k false ≡ true) ↔ (Has fs k ⊎ (at ≡ k))
@@ -195,12 +227,21 @@ marks_more ms fs at k l same = go (cases_eq k at)
         back e (inr h) = absurd (d (sym h))
 
 -- one look more
-pub find_one : (n : ℕ) (f g : Found) (at : ℕ) → MarksFound n f → at < n → get_or f.marks.items at false ≡ false → g.marks.items ≡ set f.marks.items at true → g.order.items ≡ f.order.items ++ at ∷ [] → FindsMore n (λ k. at ≡ k) f g
+pub find_one : (n : ℕ) (f g : Found) (at : ℕ) → MarksFound n f → at < n → get_or f.marks.items at false ≡ false
+    → g.marks.items ≡ set f.marks.items at true → g.order.items ≡ f.order.items ++ at ∷ [] → FindsMore n (λ k. at ≡ k) f g
 find_one n f g at m l off marks order = record {
   marked = record {
     len = ap length marks ∙ length-set f.marks.items at true ∙ m.len;
     agrees = λ k. search (rules, found k, more k);
-    once = omega (arith, m.once, ap length order, length-append f.order.items (at ∷ []), ap (count_by not) marks, sum_by-set (λ b. cond (not b) 1 0) f.marks.items at true false within, ap {B = ℕ} (λ b. cond (not b) 1 0) off);
+    once = omega (
+      arith,
+      m.once,
+      ap length order,
+      length-append f.order.items (at ∷ []),
+      ap (count_by not) marks,
+      sum_by-set (λ b. cond (not b) 1 0) f.marks.items at true false within,
+      ap {B = ℕ} (λ b. cond (not b) 1 0) off,
+    );
   };
   more = at ∷ [];
   order = order;
@@ -221,7 +262,9 @@ found_within n f i m l = go (cases_lt (get_or f.order.items i 0) n)
   where
     go : (get_or f.order.items i 0 < n) ⊎ (n ≤ get_or f.order.items i 0) → get_or f.order.items i 0 < n
     go (inl h) = h
-    go (inr h) = absurd (both_ways _ (get_or_past f.marks.items (get_or f.order.items i 0) false (omega (arith, m.len))) ((m.agrees (get_or f.order.items i 0)).1 (has_get f.order.items i l)))
+    go (inr h) =
+        absurd (both_ways _ (get_or_past f.marks.items (get_or f.order.items i 0) false (omega (arith, m.len)))
+        ((m.agrees (get_or f.order.items i 0)).1 (has_get f.order.items i l)))
 
 -- ---- those before something
 
@@ -241,21 +284,28 @@ pub none_listed : (n : ℕ) (ps : List Predecessor) (of end k : ℕ) → EndsAt 
 none_listed n ps of end k e h = e.none h.0 h.1 h.2 h.3 (ap (row_of n) h.4)
 
 pub below_end : (n r m end : ℕ) (ps : List Predecessor) → EndsAt n r (take m ps) end → 0 < end → (end - 1 < m) × (end - 1 < length ps)
-below_end n r m end ps e l = let w = slice_get_within (take m ps) (end - 1) (e.last (end - 1) (omega arith)).0 (e.last (end - 1) (omega arith)).1 in (omega (arith, w, length-take m ps), omega (arith, w, length-take m ps))
+below_end n r m end ps e l =
+    let w = slice_get_within (take m ps) (end - 1) (e.last (end - 1) (omega arith)).0 (e.last (end - 1) (omega arith)).1 in
+    (omega (arith, w, length-take m ps), omega (arith, w, length-take m ps))
 
 ends_within : (n r : ℕ) (ps : List Predecessor) (end : ℕ) → EndsAt n r ps end → end ≤ length ps
 ends_within n r ps zero e = omega arith
 ends_within n r ps (suc k) e = let l = e.last k (omega arith) in omega (arith, slice_get_within ps k l.0 l.1)
 
 -- from the last one of a row to the one before it
-pub row_before : (p : Predecessors) (n of m end : ℕ) (x : Predecessor) → n ≡ length p.ends.items → AreRows p → EndsAt n (row_of n of) (take m p.list.items) end → 0 < end → slice_get p.list.items (end - 1) ≡ Some x → EndsAt n (row_of n of) (take (end - 1) p.list.items) x.before × (x.before < end)
+pub row_before : (p : Predecessors) (n of m end : ℕ) (x : Predecessor) → n ≡ length p.ends.items → AreRows p → EndsAt n (row_of n of) (take m p.list.items) end
+    → 0 < end → slice_get p.list.items (end - 1) ≡ Some x → EndsAt n (row_of n of) (take (end - 1) p.list.items) x.before × (x.before < end)
 row_before p n of m end x is a e l here =
     let last = e.last (end - 1) (omega arith) in
-    let same = same_at p.list.items (end - 1) (end - 1) last.0 x (sym (taken_at p.list.items m (end - 1) (below_end n (row_of n of) m end p.list.items e l).0) ∙ last.1) here refl in
-    let b = subst (λ n. EndsAt n (row_of n x.of) (take (end - 1) p.list.items) x.before) (sym is) (a.before (end - 1) x here) in
-    (subst (λ r. EndsAt n r (take (end - 1) p.list.items) x.before) (sym (ap (λ (z : Predecessor). row_of n z.of) same) ∙ last.2) b, omega (arith, l, ends_within n (row_of n x.of) (take (end - 1) p.list.items) x.before b, length-take (end - 1) p.list.items))
+    let same = same_at p.list.items (end - 1) (end - 1) last.0 x
+    (sym (taken_at p.list.items m (end - 1) (below_end n (row_of n of) m end p.list.items e l).0) ∙ last.1) here refl in
+    let b = subst (λ n. EndsAt n (row_of n x.of) (take (end - 1) p.list.items) x.before) (sym is) (a.before (end - 1) x here) in (
+      subst (λ r. EndsAt n r (take (end - 1) p.list.items) x.before) (sym (ap (λ (z : Predecessor). row_of n z.of) same) ∙ last.2) b,
+      omega (arith, l, ends_within n (row_of n x.of) (take (end - 1) p.list.items) x.before b, length-take (end - 1) p.list.items),
+    )
 
-pub listed_more : (n : ℕ) (ps : List Predecessor) (of end k : ℕ) (x : Predecessor) → 0 < end → slice_get ps (end - 1) ≡ Some x → EndsAt n (row_of n of) (take (end - 1) ps) x.before → x.before < end → (IsListed ps of end k ⊎ ((x.of ≡ of) × (x.at ≡ k))) ↔ IsListed ps of x.before k
+pub listed_more : (n : ℕ) (ps : List Predecessor) (of end k : ℕ) (x : Predecessor) → 0 < end → slice_get ps (end - 1) ≡ Some x
+    → EndsAt n (row_of n of) (take (end - 1) ps) x.before → x.before < end → (IsListed ps of end k ⊎ ((x.of ≡ of) × (x.at ≡ k))) ↔ IsListed ps of x.before k
 listed_more n ps of end k x some here e less = (to, λ h. let d = row_done n ps of (end - 1) x.before k e h in from d (cases_lt d.0 end))
   where
     to : IsListed ps of end k ⊎ ((x.of ≡ of) × (x.at ≡ k)) → IsListed ps of x.before k
@@ -283,7 +333,8 @@ module _ (j : Job) (ls : List Seen) (are : AreLooks j ls) where
   shown k l e q = follows_exactly j l.place l.next (are l (has_at ls k l e)).next q
 
   -- what comes after a place: a successor, or the end
-  comes : (k n : ℕ) (l : Seen) → slice_get ls k ≡ Some l → ComesAfter l n → ((q : Place) × Follows j l.place q × (place_number q + 1 ≡ n)) ⊎ ((n ≡ 0) × EndsTheProgram j l.place)
+  comes : (k n : ℕ) (l : Seen) → slice_get ls k ≡ Some l → ComesAfter l n
+      → ((q : Place) × Follows j l.place q × (place_number q + 1 ≡ n)) ⊎ ((n ≡ 0) × EndsTheProgram j l.place)
   comes k n l e (inr (inl h)) = let r = after_is l.next.next n h in inl (r.0, (shown k l e r.0).0 (inl r.1), r.2)
   comes k n l e (inr (inr h)) = let r = after_is l.next.skip n h in inl (r.0, (shown k l e r.0).0 (inr r.1), r.2)
   comes k n l e (inl h) = inr (r.0, record { clear = clear; last = λ q s. last q ((shown k l e q).1 (clear, s)) })
@@ -332,7 +383,12 @@ module _ (j : Job) (ls : List Seen) (are : AreLooks j ls) where
     at_look n k l e h = let b = preds.only k n h in subst (λ x. ComesAfter x n) (same_at ls k k b.0 l b.1 e refl) b.2
 
     pub retraces_begin : (n : ℕ) (f g : Found) → f.order.items ≡ [] → FindsMore n (HasBefore before 0) f g → Retraces g.order.items 0
-    retraces_begin n f g none more = record { within = omega arith; only = λ k l e h. only k l e ((more.found k).0 h); first = λ k b. (more.found k).1 (inr (listed 0 k b)); closed = λ m l c. absurd (omega arith) }
+    retraces_begin n f g none more = record {
+      within = omega arith;
+      only = λ k l e h. only k l e ((more.found k).0 h);
+      first = λ k b. (more.found k).1 (inr (listed 0 k b));
+      closed = λ m l c. absurd (omega arith);
+    }
       where
         ends : (l : Seen) → ((q : Place) × Follows j l.place q × (place_number q + 1 ≡ 0)) ⊎ (◌≡◌ {A = ℕ} 0 0 × EndsTheProgram j l.place) → CanEnd j l.place
         ends l (inl h) = absurd (omega (arith, h.2))
@@ -342,31 +398,41 @@ module _ (j : Job) (ls : List Seen) (are : AreLooks j ls) where
         only k l e (inl h) = absurd (subst (λ z. Has z k) none h)
         only k l e (inr h) = ends l (comes k 0 l e (at_look 0 k l e h))
 
-    pub retraces_on : (n : ℕ) (f g : Found) (i : ℕ) (l : Seen) → i < length f.order.items → slice_get ls (get_or f.order.items i 0) ≡ Some l → FindsMore n (HasBefore before (place_number l.place + 1)) f g → Retraces f.order.items i → Retraces g.order.items (i + 1)
+    pub retraces_on : (n : ℕ) (f g : Found) (i : ℕ) (l : Seen) → i < length f.order.items → slice_get ls (get_or f.order.items i 0) ≡ Some l
+        → FindsMore n (HasBefore before (place_number l.place + 1)) f g → Retraces f.order.items i → Retraces g.order.items (i + 1)
     retraces_on n f g i l here at more t = record {
       within = omega (arith, here, ap length more.order, length-append f.order.items more.more);
       only = λ k m e h. only k m e ((more.found k).0 h);
       first = λ k b. (more.found k).1 (inl (t.first k b));
-      closed = λ o m c e k b. closed o m c (cases_lt o i) (ap (λ z. get_or z o 0) more.order ∙ get_or_append_left f.order.items more.more 0 o (omega (arith, c, here))) e k b;
+      closed = λ o m c e k b.
+          closed o m c (cases_lt o i) (ap (λ z. get_or z o 0) more.order ∙ get_or_append_left f.order.items more.more 0 o (omega (arith, c, here))) e k b;
     }
       where
-        goes_on : (m : Seen) → ((q : Place) × Follows j m.place q × (place_number q + 1 ≡ place_number l.place + 1)) ⊎ ((place_number l.place + 1 ≡ 0) × EndsTheProgram j m.place) → CanEnd j m.place
-        goes_on m (inl h) = let can = t.only (get_or f.order.items i 0) l at (has_get f.order.items i here) in (l.place ∷ can.0, (subst (λ z. Follows j m.place z) (same_number h.0 l.place (omega (arith, h.2))) h.1, can.1))
+        goes_on : (m : Seen) → ((q : Place) × Follows j m.place q × (place_number q + 1 ≡ place_number l.place + 1))
+            ⊎ ((place_number l.place + 1 ≡ 0) × EndsTheProgram j m.place) → CanEnd j m.place
+        goes_on m (inl h) =
+            let can = t.only (get_or f.order.items i 0) l at (has_get f.order.items i here) in
+            (l.place ∷ can.0, (subst (λ z. Follows j m.place z) (same_number h.0 l.place (omega (arith, h.2))) h.1, can.1))
         goes_on m (inr h) = absurd (omega (arith, h.0))
 
         only : (k : ℕ) (m : Seen) → slice_get ls k ≡ Some m → Has f.order.items k ⊎ HasBefore before (place_number l.place + 1) k → CanEnd j m.place
         only k m e (inl h) = t.only k m e h
         only k m e (inr h) = goes_on m (comes k (place_number l.place + 1) m e (at_look (place_number l.place + 1) k m e h))
 
-        closed : (o : ℕ) (m : Seen) → o < i + 1 → (o < i) ⊎ (i ≤ o) → get_or g.order.items o 0 ≡ get_or f.order.items o 0 → slice_get ls (get_or g.order.items o 0) ≡ Some m → (k : ℕ) → ComesBefore ls k (place_number m.place + 1) → Has g.order.items k
+        closed : (o : ℕ) (m : Seen) → o < i + 1 → (o < i) ⊎ (i ≤ o) → get_or g.order.items o 0 ≡ get_or f.order.items o 0
+            → slice_get ls (get_or g.order.items o 0) ≡ Some m → (k : ℕ) → ComesBefore ls k (place_number m.place + 1) → Has g.order.items k
         closed o m c (inl d) was e k b = (more.found k).1 (inl (t.closed o m d (sym (ap (slice_get ls) was) ∙ e) k b))
         closed o m c (inr d) was e k b =
             let is : o ≡ i = omega arith in
             let same = same_at ls (get_or g.order.items o 0) (get_or f.order.items i 0) m l e at (was ∙ ap (λ z. get_or f.order.items z 0) is) in
             (more.found k).1 (inr (listed (place_number l.place + 1) k (subst (λ (z : Seen). ComesBefore ls k (place_number z.place + 1)) same b)))
 
-  pub retraced : AreReached j (places_of_looks ls) → (n : ℕ) (f : Found) (i : ℕ) → MarksFound n f → length f.order.items ≤ i → Retraces f.order.items i → (k : ℕ) (p : Place) → slice_get (places_of_looks ls) k ≡ Some p → (get_or f.marks.items k false ≡ true) ↔ CanEnd j p
-  retraced reached n f i m all t k p e = ((λ h. let l = look_there ls k p e in subst (CanEnd j) l.2 (t.only k l.0 l.1 ((m.agrees k).0 h))), λ can. (m.agrees k).1 (go can.0 k p e can.1))
+  pub retraced : AreReached j (places_of_looks ls) → (n : ℕ) (f : Found) (i : ℕ) → MarksFound n f → length f.order.items ≤ i
+      → Retraces f.order.items i → (k : ℕ) (p : Place) → slice_get (places_of_looks ls) k ≡ Some p → (get_or f.marks.items k false ≡ true) ↔ CanEnd j p
+  retraced reached n f i m all t k p e = (
+    (λ h. let l = look_there ls k p e in subst (CanEnd j) l.2 (t.only k l.0 l.1 ((m.agrees k).0 h))),
+    λ can. (m.agrees k).1 (go can.0 k p e can.1),
+  )
     where
       go : (on : List Place) (k : ℕ) (p : Place) → slice_get (places_of_looks ls) k ≡ Some p → EndsAfter j p on → Has f.order.items k
       go [] k p e x = let l = look_there ls k p e in t.first k (l.0, l.1, ended k l.0 l.1 (subst (EndsTheProgram j) (sym l.2) x))
@@ -386,7 +452,8 @@ first_same : (P Q : Place → Type 0) (o : Option Place) → ((p : Place) → P 
 first_same P Q None to back h = λ p q. h p (back p q)
 first_same P Q (Some a) to back h = (to a h.0, λ p q. h.1 p (back p q))
 
-first_more : (P Q : Place → Type 0) (o : Option Place) (q r : Place) → IsEarlier o q r → ((p : Place) → P p → Q p) → Q q → ((p : Place) → Q p → P p ⊎ (q ≡ p)) → IsFirstPlace P o → IsFirstPlace Q (Some r)
+first_more : (P Q : Place → Type 0) (o : Option Place) (q r : Place) → IsEarlier o q r → ((p : Place) → P p → Q p)
+    → Q q → ((p : Place) → Q p → P p ⊎ (q ≡ p)) → IsFirstPlace P o → IsFirstPlace Q (Some r)
 first_more P Q None q r e to here split h = (subst Q (sym e) here, λ p m. go p (split p m))
   where
     go : (p : Place) → P p ⊎ (q ≡ p) → place_number r ≤ place_number p
@@ -414,7 +481,8 @@ module _ (ps : List Place) (marks : List Bool) (i : ℕ) (o : Option Place) (h :
       back p l (inr c) = let e : i ≡ l.0 = omega (arith, l.1) in absurd (both_ways _ (ap (λ z. get_or marks z false) e ∙ l.3) on)
 
   pub left_more : (q r : Place) → slice_get ps i ≡ Some q → get_or marks i false ≡ false → IsEarlier o q r → IsFirstPlace (IsLeft ps marks (i + 1)) (Some r)
-  left_more q r here off e = first_more (IsLeft ps marks i) (IsLeft ps marks (i + 1)) o q r e keeps (i, omega arith, here, off) (λ p l. split p l (cases_lt l.0 i)) h
+  left_more q r here off e =
+      first_more (IsLeft ps marks i) (IsLeft ps marks (i + 1)) o q r e keeps (i, omega arith, here, off) (λ p l. split p l (cases_lt l.0 i)) h
     where
       split : (p : Place) (l : IsLeft ps marks (i + 1) p) → (l.0 < i) ⊎ (i ≤ l.0) → IsLeft ps marks i p ⊎ (q ≡ p)
       split p l (inl c) = inl (l.0, c, l.2, l.3)
@@ -424,8 +492,14 @@ module _ (ps : List Place) (marks : List Bool) (i : ℕ) (o : Option Place) (h :
           let same : q ≡ p = cc in
           inr same
 
-pub first_hang : (j : Job) (ls : List Seen) (marks : List Bool) (o : Option Place) → AreReached j (places_of_looks ls) → ((k : ℕ) (p : Place) → slice_get (places_of_looks ls) k ≡ Some p → (get_or marks k false ≡ true) ↔ CanEnd j p) → IsFirstPlace (IsLeft (places_of_looks ls) marks (length ls)) o → IsFirstPlace (MayHang j) o
-first_hang j ls marks o reached each h = first_same (IsLeft (places_of_looks ls) marks (length ls)) (MayHang j) o (λ p l. (reached.1 p (has_at (places_of_looks ls) l.0 p l.2), λ can. both_ways _ l.3 ((each l.0 p l.2).1 can))) from h
+pub first_hang : (j : Job) (ls : List Seen) (marks : List Bool) (o : Option Place) → AreReached j (places_of_looks ls)
+    → ((k : ℕ) (p : Place) → slice_get (places_of_looks ls) k ≡ Some p → (get_or marks k false ≡ true) ↔ CanEnd j p)
+    → IsFirstPlace (IsLeft (places_of_looks ls) marks (length ls)) o → IsFirstPlace (MayHang j) o
+first_hang j ls marks o reached each h =
+    first_same (IsLeft (places_of_looks ls) marks (length ls)) (MayHang j) o
+    (λ p l. (reached.1 p (has_at (places_of_looks ls) l.0 p l.2), λ can. both_ways _ l.3 ((each l.0 p l.2).1 can))) from h
   where
     from : (p : Place) → MayHang j p → IsLeft (places_of_looks ls) marks (length ls) p
-    from p m = let k = at_has (places_of_looks ls) p (reached.0 p m.0) in (k.0, omega (arith, k.1, number_of_places ls), k.2, false_from_ne_true _ (λ e. m.1 ((each k.0 p k.2).0 e)))
+    from p m =
+        let k = at_has (places_of_looks ls) p (reached.0 p m.0) in
+        (k.0, omega (arith, k.1, number_of_places ls), k.2, false_from_ne_true _ (λ e. m.1 ((each k.0 p k.2).0 e)))

@@ -9,7 +9,8 @@ abbrev pub IsLater : Job → ℕ → Place → Option Place → Option Place →
 IsLater j a q (Some p) o = o ≡ Some p
 IsLater j a q None o = (StoresAt j a q × (o ≡ Some q)) ⊎ ((StoresAt j a q → ⊥) × (o ≡ None))
 
-pub last_more : (j : Job) (a : ℕ) (qs : List Place) (q : Place) (o new : Option Place) → IsLater j a q o new → IsLastStore j a qs o → IsLastStore j a (qs ++ q ∷ []) new
+pub last_more : (j : Job) (a : ℕ) (qs : List Place) (q : Place) (o new : Option Place)
+    → IsLater j a q o new → IsLastStore j a qs o → IsLastStore j a (qs ++ q ∷ []) new
 last_more j a [] q o new l e = subst (λ z. IsLater j a q z new) e l
 last_more j a (x ∷ qs) q o new l (inl (s, e)) = inl (s, subst (λ z. IsLater j a q z new) e l)
 last_more j a (x ∷ qs) q o new l (inr (n, r)) = inr (n, last_more j a qs q o new l r)

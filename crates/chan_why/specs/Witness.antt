@@ -1,5 +1,6 @@
 -- A verdict explained by its witness: the path to an offending place.
-use Rattle.std.specs.Prelude.{◌≡◌, ℕ, true, false, List, [], ◌∷◌, reverse, Option, None, Some, ◌⊎◌}
+use Rattle.std.specs.Prelude.{◌≡◌, ◌==◌, ℕ, true, false, List, [], ◌∷◌, reverse, Option, None, Some}
+use Rattle.std.specs.Prelude.{◌⊎◌, if◌then◌else◌}
 use Rattle.ccw_core.specs.Storage.{Stands}
 use Rattle.chan_walk.specs.declared.evidence.Evidence.{Evidence}
 use Rattle.chan_walk.specs.declared.job.Job.{Job}
@@ -12,6 +13,7 @@ use Rattle.chan_walk.specs.Alarm.{Shows}
 use Rattle.chan_walk.specs.Argument.{Has}
 use Rattle.chan_why.specs.Cause.{IsEvidence, IsSecondPath}
 use Rattle.chan_walk.specs.Place.{data_at, ccw_of}
+use Rattle.chan_why.specs.declared.witness.Witness.{Witness}
 use Rattle.chan_why.specs.SecondPath.{HasByteOf}
 use Rattle.chan_walk.specs.Fault.{stores}
 use Rattle.chan_walk.specs.Job.{storage_of}
@@ -75,6 +77,19 @@ IsStoredOver j Yes places o = o ≡ None
 IsStoredOver j (No a r) places o =
     (is_no_command r ≡ true → IsStoredBefore j (reverse places) o)
     × (is_no_command r ≡ false → o ≡ None)
+
+-- this shows the verdict, if it is a no: the path, its run, the cause, and what changes what
+pub record IsWitnessOf (j : Job) (v : Verdict) (w : Witness) : Type 0 where
+  pub path : IsPathOf j v w.path.items
+  pub shown : IsWitness j v w.path.items
+  pub evidence : IsEvidenceOf j v w.path.items w.evidence
+  pub stored : IsStoredOver j v w.path.items w.stored_over
+  pub second : IsSecondPathOf j w.evidence w.second_path.items
+
+-- the first of some offences at an address: in their order the one with the least reason
+abbrev pub offence_at : ℕ → List Offence → Option Offence
+offence_at a [] = None
+offence_at a (o ∷ os) = if o.place.address == a then Some o else offence_at a os
 
 -- ---- the causes of all offences
 

@@ -154,8 +154,9 @@ impl Found {
     }
 }
 
-/// For each look whether its place can end.
-fn can_end(alloc: Global, looks: &[Look]) -> Result<Vec<bool>, AllocError>
+/// For each of the looks at all reachable places, in any order, whether the program can end from
+/// its place. `AllocError` comes if a growth was refused. The cost is that of `hang_from`.
+pub fn can_end(alloc: Global, looks: &[Look]) -> Result<Vec<bool>, AllocError>
     ensures len { IfOk result (λ v. length v.items ≡ length looks.now) }
     ensures each { IfOk result (λ v. (j : Job) → AreLooks j looks.now
         → AreReached j (places_of_looks looks.now) → (k : ℕ) (p : places.Place)

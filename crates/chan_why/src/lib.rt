@@ -22,6 +22,6 @@ mod second_path;
 mod witness;
 
 pub use crate::exchange::seems_exchanged;
-pub use crate::hang::hang_from;
+pub use crate::hang::{can_end, hang_from};
 pub use crate::notes::{Notes, notes_from};
-pub use crate::witness::{Witness, causes_from, witness_from};
+pub use crate::witness::{Witness, causes_from, offence_at, witness_from, witness_of};

@@ -1,17 +1,18 @@
 //! What shows that a program may not run: the path to a place that offends, and the values of the
 //! cause.
 
-ghost use Rattle.std.specs.Prelude.{◌≡◌, ◌<◌, true, false, None, IfOk, length};
+ghost use Rattle.std.specs.Prelude.{◌≡◌, ◌<◌, true, false, None, IfOk, IfSome, length};
 ghost use Rattle.std.specs.List.{AllZip};
 ghost use Rattle.chan_why.specs.Finder.{Finds};
-ghost use Rattle.chan_why.specs.Witness.{IsCaseOf, IsCauseOf, IsEvidenceOf, IsPathOf};
-ghost use Rattle.chan_why.specs.Witness.{IsSecondPathOf, IsStoredOver, IsWitness};
+ghost use Rattle.chan_why.specs.Witness as specs;
+ghost use Rattle.chan_why.specs.Witness.{IsCaseOf, IsCauseOf, IsWitnessOf};
 ghost use Rattle.chan_walk.specs.Argument.{Has};
 ghost use Rattle.chan_walk.specs.JobSurvey.{IsSurvey};
 ghost use Rattle.chan_walk.specs.Look.{places_of_looks};
 ghost use Rattle.chan_walk.specs.Offence.{first_verdict};
 ghost use Rattle.chan_walk.specs.Reason.{is_no_command};
 ghost use Rattle.chan_walk.specs.declared.job.Job.{Job};
+ghost use Rattle.chan_walk.specs.declared.verdict.Verdict.TheVariants.{No};
 
 use crate::cause::evidence_at;
 use crate::finder::Finder;
@@ -20,7 +21,7 @@ use crate::second_path::second_path;
 use chan_walk::{Evidence, Offence, Place, Reason, Survey};
 use std::alloc::{AllocError, Global};
 
-/// The witness of the first of a job's offences.
+/// The witness of one of a job's offences, of which the first is the verdict's.
 ///
 /// The path leads to a place with its address that offends by its reason. It is the shortest of all
 /// such paths; of several that are equally short it is the one that goes on to `next`, not to
@@ -49,35 +50,52 @@ pub struct Witness {
 /// With n places, the cost is n log n.
 pub fn witness_from(alloc: Global, survey: &Survey) -> Result<Witness, AllocError>
     requires { (j : Job) × IsSurvey j survey.now }
-    ensures path { IfOk result (λ w. (j : Job) → IsSurvey j survey.now
-        → IsPathOf j (first_verdict survey.now.offences) w.path.items) }
-    ensures shown { IfOk result (λ w. (j : Job) → IsSurvey j survey.now
-        → IsWitness j (first_verdict survey.now.offences) w.path.items) }
-    ensures evidence { IfOk result (λ w. (j : Job) → IsSurvey j survey.now
-        → IsEvidenceOf j (first_verdict survey.now.offences) w.path.items w.evidence) }
-    ensures stored { IfOk result (λ w. (j : Job) → IsSurvey j survey.now
-        → IsStoredOver j (first_verdict survey.now.offences) w.path.items w.stored_over) }
-    ensures second { IfOk result (λ w. (j : Job) → IsSurvey j survey.now
-        → IsSecondPathOf j w.evidence w.second_path.items) }
+    ensures { IfOk result (λ w. (j : Job) → IsSurvey j survey.now
+        → IsWitnessOf j (first_verdict survey.now.offences) w) }
 {
-    let Some(first) = survey.offences().first() else {
-        return Ok(Witness {
+    match survey.offences().first() {
+        Some(first) => witness_of(alloc, survey, *first),
+        None => Ok(Witness {
             path: Vec::new(alloc),
             evidence: None,
             stored_over: None,
             second_path: Vec::new(alloc),
-        });
-    };
+        }),
+    }
+}
+
+/// The witness of any offence of the job that was surveyed, chosen as for the first, at the same
+/// cost. `AllocError` comes if a growth was refused.
+pub fn witness_of(alloc: Global, survey: &Survey, offence: Offence) -> Result<Witness, AllocError>
+    requires { (j : Job) × IsSurvey j survey.now × Has survey.now.offences offence }
+    ensures { IfOk result (λ w. (j : Job) → IsSurvey j survey.now
+        → IsWitnessOf j (No offence.place.address offence.reason) w) }
+{
     let finder = Finder::new(alloc, survey)?;
-    let (at, evidence) = case_of(survey, &finder, *first);
+    let (at, evidence) = case_of(survey, &finder, offence);
     let Path { places, stored_by } = path_at(alloc, survey, at)?;
     let second_path = second_path(alloc, survey, &finder, &evidence)?;
     Ok(Witness {
         path: places,
         evidence: Some(evidence),
-        stored_over: told_over(first.reason, stored_by),
+        stored_over: told_over(offence.reason, stored_by),
         second_path,
     })
+}
+
+/// The offence at an address, of several the one with the least reason; `None` if none is there.
+/// The cost is that of reading all offences.
+pub fn offence_at(survey: &Survey, address: u32) -> Option<Offence>
+    ensures first { result ≡ specs.offence_at address survey.now.offences }
+    ensures listed { IfSome result (Has survey.now.offences) }
+{
+    let offences = survey.offences();
+    for offence in offences {
+        if offence.place.address == address {
+            return Some(*offence);
+        }
+    }
+    None
 }
 
 /// The index of the place at which the path to an offence ends, and the evidence there.

@@ -1,65 +1,68 @@
-/* chanv.h: may a System/360 channel program run, why may it not, which CCWs can it come to, and
- * what must every job grant it?
+/* chanv.h: may a System/360 channel program run, why not, which CCWs can it reach, and what must a
+ * job grant it?
  *
- * Link with -lchanv. docs/EMBEDDING.md has whole examples, and says what is proved about the calls,
- * what is trusted, what a call costs, and what isn't covered.
+ * Link with -lchanv. docs/EMBEDDING.md shows an example, and says what is proved, what is trusted,
+ * and what isn't covered. docs/SUPERVISOR.md lists the duties of a supervisor with several programs
+ * in flight.
  *
- * The caller's duties:
+ * Rules for the caller:
  *
  * - Each pointer is valid, and aligned for its type, for as many elements as its length says. If
- *   that length is 0, the pointer may be NULL. A pointer without a length may not. The memory for
- *   `chanv_take_in` may have any alignment.
+ *   the length is 0, the pointer may be NULL. A pointer without a length may not be NULL. The
+ *   memory for `chanv_take_in` may have any alignment.
  * - The memory that a call writes lies apart from the job, from the programs and from everything
- *   that these point to, and no two lists that a call writes share a byte.
+ *   that these point to. No two lists that a call writes share a byte.
  * - From the call to its return, nothing else writes the job, the table, or the lists and the kept
  *   bytes that these point to, and nothing else touches the memory that the call writes.
  * - Storage is another matter, because channels in flight store into it at any time:
  *   - During `chanv_needs` and `chanv_take_in` anything may write storage. The answer is about a
- *     private copy, each byte of which is read once; if storage changed too much for that, the call
- *     returns CHANV_CHANGED_MEANWHILE. Ask again, but not without end, and then refuse the program.
- *     Of all answers only CHANV_OK allows anything.
- *   - From the beginning of `chanv_check_start` until the program has left, its kept bytes are
- *     written by no one but programs that are in the table throughout, and by others only after
- *     CHANV_YES from `chanv_check_write`, asked with the program in the table. All other bytes may
- *     change at any time.
+ *     private copy, each byte of which the call reads once. If storage changed too much for that,
+ *     the call returns CHANV_CHANGED_MEANWHILE: ask again, but not without end, and then refuse the
+ *     program. Of all answers only CHANV_OK allows anything.
+ *   - From the beginning of `chanv_check_start` until the program has left, only programs that are
+ *     in the table throughout write its kept bytes, and others only after CHANV_YES from
+ *     `chanv_check_write`, asked with the program in the table. All other bytes may change at any
+ *     time.
  *   - `chanv_check_write` doesn't read storage.
- *   - During `chanv_verify`, `chanv_why`, `chanv_list`, `chanv_find` and the calls for texts nothing
- *     writes storage: they are for storage that is quiet, or for a copy. If it is written, the
- *     answer means nothing; the call still returns with one of its codes and writes nothing else,
- *     which is tested, not proved.
+ *   - During `chanv_verify`, `chanv_why`, `chanv_list`, `chanv_find` and the calls for texts
+ *     nothing writes storage: ask about quiet storage, or about a copy. If storage is written, the
+ *     answer means nothing. The call still returns with one of its codes and writes nothing else;
+ *     this is tested, not proved.
  * - No call is made from a signal handler, nor, in the child of a process with threads, between
  *   fork and exec.
  * - malloc, realloc and free are those of one allocator, and aligned as C asks.
  * - Every `reserved` is 0.
  *
  * A program that runs alone needs one call, `chanv_verify`. A supervisor with several programs in
- * flight takes each in by `chanv_take_in`, asks `chanv_check_start` before each start, and
+ * flight takes each program in by `chanv_take_in`, asks `chanv_check_start` before each start, and
  * `chanv_check_write` before each write of others:
  *
  *     if (chanv_check_start(&job, in_flight, UNITS, &program, &refusal) == CHANV_YES)
  *         ...
  *
- * Then all programs in flight are safe, always. This is proved under premises that no call checks:
+ * Then all programs in flight are safe at every moment. This is proved under premises that no call
+ * checks (docs/THEOREM.md; docs/SUPERVISOR.md says how to meet them):
  *
- * 1. The job is true: its bytes are main storage from address 0 on, and its device is the one used.
- *    Channel and device make only the steps of docs/MACHINE.md.
+ * 1. The job is true: its bytes are main storage from address 0 on, its device is the device used,
+ *    and the program starts at the job's start. Channel and device make only the steps of the
+ *    machine. After a machine check or a channel control check nothing is promised.
  * 2. When a program starts, the arm is inside the job's extents, and the job's file mask is in
  *    force.
  * 3. Each program in flight has a unit of its own, that is, a device at an address of its own. It
- *    leaves the table only after the channel's last store for it is visible.
- * 4. While a program is in a table, its lists and its kept bytes don't change.
+ *    leaves the table of programs in flight only after the channel's last store for it is visible.
+ * 4. While a program is in the table, its lists and its kept bytes don't change.
  * 5. From a question to the start, or to the end of the write, no other program starts, and nothing
- *    else writes a byte that the programs in the table, or the one that is about to start, keep. So
- *    hold one lock over the question, the table and the start or the write.
- * 6. Others write only after CHANV_YES from `chanv_check_write`, and the machine's own stores (of
- *    PSWs, the CSW and the timer) spare all kept bytes of programs in flight.
+ *    else writes a byte that a program in the table or the program about to start keeps.
+ * 6. Others write only after a yes of `chanv_check_write`, and the machine's own stores (of PSWs,
+ *    the CSW and the timer) spare every byte that a program in flight keeps.
  *
- * A write that lasts, such as a tape's input into a buffer, has a place in the table: a program
- * whose `rows.store` is the area, and which is zero otherwise. Put it there after CHANV_YES from
- * `chanv_check_write`, and take it out after the last byte is written. Meanwhile no program that
- * keeps a byte of the area gets CHANV_YES, so others may write into the area all the time.
+ * For 5 hold one lock over the question, the table, and the start or the write. A write that lasts,
+ * such as a tape's input into a buffer, has a row in the table: a program whose `rows.store` is the
+ * area, and which is zero otherwise. Enter it after CHANV_YES from `chanv_check_write`, and take it
+ * out after the last byte is written. Meanwhile no program that keeps a byte of the area gets
+ * CHANV_YES, so others may write into the area all the time.
  *
- * A call writes only the memory that it was handed for that. It keeps nothing between calls, so
+ * A call writes only the memory that it was handed for that. It keeps nothing after it returns, so
  * several threads may call at once, even about one job.
  */
 #ifndef CHANV_H
@@ -72,8 +75,8 @@
 extern "C" {
 #endif
 
-/* The version of this header, as text, number by number, and as `chanv_version` gives the
- * library's: 65,536 times the first number, 256 times the second, and the third. */
+/* The version of this header: as text, number by number, and as one number, 65,536 times the first
+ * number plus 256 times the second plus the third. `chanv_version` gives the library's number. */
 #define CHANV_VERSION "0.7.0"
 #define CHANV_VERSION_MAJOR 0
 #define CHANV_VERSION_MINOR 7
@@ -81,8 +84,8 @@ extern "C" {
 #define CHANV_VERSION_NUMBER \
     (65536 * CHANV_VERSION_MAJOR + 256 * CHANV_VERSION_MINOR + CHANV_VERSION_PATCH)
 
-/* A compiler that knows the attributes warns if an answer isn't looked at, and if NULL is passed
- * for one of the pointers with these numbers, counted from 1. */
+/* A compiler that knows the attributes warns if the caller ignores an answer, or passes NULL for
+ * one of the pointers with these numbers, counted from 1. */
 #ifdef __GNUC__
 #define CHANV_MUST_USE __attribute__((warn_unused_result))
 #define CHANV_NOT_NULL(...) __attribute__((nonnull(__VA_ARGS__)))
@@ -97,7 +100,7 @@ struct chanv_area {
     uint32_t len;   /* how many bytes it has */
 };
 
-/* Whole cylinders of the file. */
+/* Cylinders of the file, from `first` to `last`. */
 struct chanv_extent {
     uint16_t first;
     uint16_t last;
@@ -118,10 +121,10 @@ struct chanv_areas {
     size_t len;
 };
 
-/* A channel program before its start, and all that it may use. */
+/* A channel program before its start, and everything that it may use. */
 struct chanv_job {
     struct chanv_bytes storage;   /* main storage from address 0 on, as it is now */
-    struct chanv_extents extents; /* the cylinders of the file, one extent or more */
+    struct chanv_extents extents; /* the cylinders of the file; one extent or more */
     struct chanv_areas fetch;     /* lent for fetching, from storage to the device */
     struct chanv_areas store;     /* lent for storing, from the device into storage */
     uint32_t start;               /* the address of the first CCW */
@@ -134,24 +137,25 @@ struct chanv_job {
 /* The usual limit, and the largest. */
 enum chanv_limit { CHANV_USUAL_LIMIT = 4096, CHANV_LARGEST_LIMIT = 65536 };
 
-/* What a call returns. 4 to 10 and 12 are faults of the job itself; if several apply, the least is
- * returned, and a job with a fault gets no answer. CHANV_MEMORY may come in place of any other code
- * except 4 to 7: a call looks for these before it takes memory. Keep an answer in a variable of
- * this type: then GCC warns (-Wenum-compare) if it is compared with a reason or a refusal. */
+/* What a call returns. 4 to 10 and 12 are faults of the job itself: a job with a fault gets no
+ * answer, and of several faults the call returns the least. CHANV_MEMORY may come in place of any
+ * other code except 4 to 7, because a call looks for these faults before it takes memory. Keep an
+ * answer in a variable of this type: then GCC warns (-Wenum-compare) if you compare it with a
+ * reason or a refusal. */
 enum chanv_answer {
     CHANV_YES = 0,                /* every run is safe; it may start; others may write */
-    CHANV_OK = CHANV_YES,         /* all that was asked for is written */
+    CHANV_OK = CHANV_YES,         /* all that you asked for is written */
     CHANV_NO = 1,                 /* `out` says why not */
     CHANV_TOO_MANY_PLACES = 2,    /* more places are reachable than the limit */
     CHANV_MEMORY = 3,             /* memory ran out */
     CHANV_STORAGE_TOO_LARGE = 4,  /* storage has more than 16,777,216 bytes */
-    CHANV_NOT_A_DEVICE = 5,       /* there is no such type of device */
-    CHANV_NOT_A_MASK = 6,         /* a bit of the mask is on that isn't in C0 or 18 */
+    CHANV_NOT_A_DEVICE = 5,       /* the type of device is neither 2311 nor 2314 */
+    CHANV_NOT_A_MASK = 6,         /* a bit of the mask outside C0 and 18 is on */
     CHANV_NO_EXTENT = 7,          /* there is no extent */
     CHANV_EXTENT_BACKWARDS = 8,   /* the first wrong extent has its first cylinder above its last */
     CHANV_EXTENT_PAST_DEVICE = 9, /* the first wrong extent has its last cylinder above 202 */
     CHANV_NOT_A_LIMIT = 10,       /* the limit is 0, or above 65,536 */
-    CHANV_NO_ROOM = 11,           /* there is more to write than room; for `chanv_why`, with a no */
+    CHANV_NO_ROOM = 11,           /* there is more to write than room; from `chanv_why`: a no too */
     CHANV_RESERVED_NOT_ZERO = 12, /* `reserved` isn't 0: the job has fields of a later version */
     CHANV_CHANGED_MEANWHILE = 13  /* storage changed during the call: ask again */
 };
@@ -176,15 +180,15 @@ enum chanv_reason {
     CHANV_REASON_WEAKENS_MASK = 16
 };
 
-/* The answer of `chanv_verify`, and a part of other answers; unused fields are 0. */
+/* The verdict, written by `chanv_verify` and as a part of other answers; unused fields are 0. */
 struct chanv_verdict {
-    size_t extent;    /* the index of the extent that is wrong, counted from 0 */
+    size_t extent;    /* the index of the first wrong extent, counted from 0 */
     uint32_t address; /* the address of the first offending CCW */
     uint32_t reason;  /* the number of its reason, an `enum chanv_reason` */
 };
 
-/* How the program enters a CCW: by a new operation, or by a data chain that continues an
- * operation that stores, that fetches, or that searches. */
+/* How the program enters a CCW: a new operation begins, or a data chain continues an operation that
+ * stores, fetches or searches. */
 enum chanv_entered {
     CHANV_ENTERED_FRESH = 0,
     CHANV_ENTERED_CHAIN_IN = 1,
@@ -192,18 +196,18 @@ enum chanv_entered {
     CHANV_ENTERED_CHAIN_SEARCH = 3
 };
 
-/* A place that the program can come to: a CCW, and how the program enters it. */
+/* A place that the program can reach: a CCW, and how the program enters it. */
 struct chanv_place {
     uint32_t address;       /* the address of the CCW */
     uint8_t entered;        /* how the program enters it, an `enum chanv_entered` */
     uint8_t after_transfer; /* 1 if it counts as reached by a transfer in channel, else 0 */
 };
 
-/* The part of a seek's argument that the job doesn't allow. */
+/* The first part of a seek's argument that the job doesn't allow. */
 enum chanv_part { CHANV_PART_BIN = 1, CHANV_PART_CYLINDER = 2, CHANV_PART_HEAD = 3 };
 
 /* The values of the cause of a no, at the last place of the path. The reason decides which fields
- * have one; all others are 0.
+ * are set; all others are 0.
  *
  *     1  misaligned            address
  *     2  outside-storage       range, storage_len
@@ -230,19 +234,19 @@ struct chanv_evidence {
     struct chanv_area gap;   /* the first run of bytes of the range that no area lends */
     uint32_t address;        /* for 1 the CCW's address; for 14 the least address of a reachable CCW
                                 that has a byte in the range; for 15 the least address in the range
-                                of a byte of a seek's argument, or of a mask that is set */
+                                of a byte of a seek's argument or of a mask byte */
     uint32_t taker;          /* the address of the CCW that takes the byte at `address` */
     uint32_t storage_len;    /* how many bytes storage has */
     uint32_t code;           /* the command code */
     uint32_t bits;           /* the three low flag bits of the CCW */
     uint32_t given;          /* how many of the argument's six bytes the seek's data chain gives;
-                                for 15 the seek is the taker */
+                                for 15 of the seek at `taker` */
     uint32_t outside;        /* the first wrong part, an `enum chanv_part` */
     uint32_t value;          /* for 13 that bin, cylinder or head; for 16 the byte that is set */
     uint32_t below;          /* how many heads the device has */
     uint32_t sets_mask;      /* 1 if the taker is a Set File Mask, 0 if it is a seek */
-    uint32_t addresses[6];   /* the addresses of the bytes that are given, in order, and then 0 */
-    uint8_t bytes[6];        /* these bytes, and then 0 */
+    uint32_t addresses[6];   /* the addresses of the bytes that are given, in order, then zeros */
+    uint8_t bytes[6];        /* the bytes at these addresses, then zeros */
     uint8_t mask;            /* the job's file mask */
 };
 
@@ -250,23 +254,23 @@ struct chanv_evidence {
 struct chanv_explanation {
     struct chanv_verdict verdict;
     size_t path_count;        /* how many places the path has */
-    size_t second_path_count; /* how many places the second path has */
+    size_t second_path_count; /* how many places the second path has; often 0 */
     struct chanv_evidence evidence;
     uint64_t reserved[4]; /* 0: room for the values of a later version */
 };
 
 /* The answer of `chanv_needs`, except the lists; unused fields are 0. */
 struct chanv_needed {
-    struct chanv_verdict verdict; /* the no if no job will do, or the extent that is wrong */
-    size_t extent_count;          /* how many rows each list has */
+    struct chanv_verdict verdict; /* the no if no job will do, or the first wrong extent */
+    size_t extent_count;          /* how many rows each of the four lists has */
     size_t fetch_count;
     size_t store_count;
     size_t keep_count;
-    size_t kept_len;       /* how many bytes are kept: all areas of `keep` together */
+    size_t kept_len;       /* how many bytes all areas of `keep` have together */
     uint32_t storage_len;  /* how many bytes storage has */
     uint32_t may_hang;     /* 1 if from some place on only an error, an incorrect length or a halt
                               ends the program */
-    uint32_t hangs_at;     /* then the address of the first such place */
+    uint32_t hangs_at;     /* the least address of a CCW from which on it does */
     uint8_t mask;          /* the strictest file mask that serves */
     uint8_t hangs_entered; /* how the program enters the CCW at `hangs_at`, an `enum chanv_entered`;
                               entered otherwise, the CCW may lead to an end */
@@ -285,118 +289,123 @@ struct chanv_rows {
 };
 
 /* All that a supervisor remembers of a program; `chanv_take_in` fills it. A struct of zeros is no
- * program: it may not start, and it is in no other program's way. So a table of the programs in
- * flight with a place for each unit may have gaps. A struct with anything else does no harm either:
- * no call reads or writes outside its lists, or fails to return. But then a CHANV_YES means only
- * what the call compares. */
+ * program: it may not start, and it stops no other program. So a table of the programs in flight
+ * with a row for each unit may have gaps. If you fill the struct with anything else, each call
+ * still returns, and reads and writes only within its lists; but a CHANV_YES means only what the
+ * call compares. */
 struct chanv_program {
     struct chanv_rows rows;  /* what it needs and keeps */
-    struct chanv_bytes kept; /* the kept bytes as they were, one area of `rows.keep` after another;
-                                bytes after them don't matter */
+    struct chanv_bytes kept; /* the kept bytes as they were, area after area of `rows.keep`; bytes
+                                after them don't matter */
     uint32_t start;          /* the address of the first CCW */
     uint16_t device;         /* the type of the device, 2311 or 2314 */
     uint64_t reserved[4];    /* 0: room for the fields of a later version */
 };
 
-/* Why a program may not start, and why others may not write. `chanv_check_start` looks for 12 and
- * 13 first, and then for 1 to 10 in order. For 9 and 10 it goes through the programs in flight, and
- * asks of each first what it keeps, then what it stores. `chanv_check_write` looks for 13, and then
- * for 11. */
+/* Why a program may not start, or others may not write. `chanv_check_start` looks for 12 and 13
+ * first, then for 1 to 10 in order; for 9 and 10 it goes through the programs in flight, and looks
+ * for 9 and then for 10 at each. `chanv_check_write` looks for 13, then for 11. */
 enum chanv_refused {
     CHANV_REFUSED_OTHER_START = 1,        /* the job starts at another address */
     CHANV_REFUSED_OTHER_DEVICE = 2,       /* the job is for another type of device */
     CHANV_REFUSED_OTHER_LENGTH = 3,       /* the job's storage has another length */
-    CHANV_REFUSED_CHANGED = 4,            /* the kept byte at `value`, the first that has changed,
-                                             lies past storage, or is missing from `kept` */
+    CHANV_REFUSED_CHANGED = 4,            /* `value`: the first kept byte that has changed, lies
+                                             past storage or is missing from `kept` */
     CHANV_REFUSED_MASK = 5,               /* the job's mask is too strict, or the program's is
                                              invalid */
-    CHANV_REFUSED_NO_CYLINDER = 6,        /* cylinder `value`, the least needed and not granted */
-    CHANV_REFUSED_NOT_FETCHABLE = 7,      /* the byte at `value`, the least that is needed for
-                                             fetching and isn't lent, or lies past storage */
-    CHANV_REFUSED_NOT_STORABLE = 8,       /* the same for storing */
+    CHANV_REFUSED_NO_CYLINDER = 6,        /* `value`: the least needed cylinder not granted */
+    CHANV_REFUSED_NOT_FETCHABLE = 7,      /* `value`: the least byte needed for fetching that isn't
+                                             lent or lies past storage */
+    CHANV_REFUSED_NOT_STORABLE = 8,       /* `value`: the least byte needed for storing that isn't
+                                             lent or lies past storage */
     CHANV_REFUSED_STORES_OVER_KEPT = 9,   /* it may store over the byte at `value`, which `program`
                                              keeps */
     CHANV_REFUSED_KEEPS_STORED_OVER = 10, /* it keeps the byte at `value`, which `program` may store
                                              over */
     CHANV_REFUSED_WRITES_OVER_KEPT = 11,  /* `program` keeps the byte at `value` */
-    CHANV_REFUSED_RESERVED = 12,          /* it has fields of a later version: `reserved` isn't 0 */
-    CHANV_REFUSED_RESERVED_IN_FLIGHT = 13 /* `program` has such fields */
+    CHANV_REFUSED_RESERVED = 12,          /* its `reserved` isn't 0: fields of a later version */
+    CHANV_REFUSED_RESERVED_IN_FLIGHT = 13 /* the `reserved` of `program` isn't 0 */
 };
 
 /* A refusal of `chanv_check_start` or `chanv_check_write`; unused fields are 0. */
 struct chanv_refusal {
-    size_t extent;        /* the index of the job's extent that is wrong */
-    size_t program;       /* the index in `in_flight` of the first program that is in the way */
-    uint32_t code;        /* which refusal it is, an `enum chanv_refused` */
+    size_t extent;        /* the index of the job's first wrong extent */
+    size_t program;       /* the index in `in_flight` of the first program in the way */
+    uint32_t code;        /* the refusal, an `enum chanv_refused` */
     uint32_t value;       /* the address or the cylinder */
     uint64_t reserved[4]; /* 0: room for the values of a later version */
 };
 
-/* Whether the program may run: CHANV_YES, CHANV_NO, or why there is no answer. A yes has premises
- * 1 and 2 above, and holds as long as storage has this length and the kept bytes don't change. */
+/* May the program run? CHANV_YES, CHANV_NO, or why there is no answer. A yes has premises 1 and 2
+ * above, and holds as long as storage has this length and the kept bytes don't change. */
 CHANV_MUST_USE CHANV_NOT_NULL(1, 2)
 enum chanv_answer chanv_verify(const struct chanv_job *job, struct chanv_verdict *out);
 
-/* Lists the places that the program can come to, each once, by address, then by `entered`, then by
- * `after_transfer`. CHANV_OK: the first `*count` rows are written, and the others keep their
- * values. CHANV_NO_ROOM: `*count` is how many rows there would be. Otherwise it returns why there
- * is no answer, and `*count` is 0. `*extent` is the index of the extent that is wrong if one is,
- * else 0. Only for CHANV_OK is a row written. There are never more places than the job's limit. */
+/* Which places can the program reach? Each is listed once, by address, then by `entered`, then by
+ * `after_transfer`. There are never more places than the job's limit.
+ *
+ * CHANV_OK: the first `*count` rows are written; the other rows keep their values.
+ * CHANV_NO_ROOM: `*count` is how many rows there would be.
+ * Otherwise the call returns why there is no answer, and `*count` is 0. `*extent` is the index of
+ * the first wrong extent, or 0. A row is written only for CHANV_OK. */
 CHANV_MUST_USE CHANV_NOT_NULL(1, 4, 5)
 enum chanv_answer chanv_list(const struct chanv_job *job, struct chanv_place *rows, size_t room,
                              size_t *count, size_t *extent);
 
-/* Why the program may not run. CHANV_NO: `out` has the verdict, the values of the cause and the
- * lengths of both paths, and the paths are the first rows of `path` and of `second_path`; the other
- * rows keep their values. A path whose room is 0 isn't wanted: it is never too long.
+/* Why may the program not run? Pass room 0 to skip a path.
  *
- * The path leads from the first place to one with the verdict's address that offends by its reason.
- * It is the shortest; of several it is the one that goes on to the next CCW, not to the one after a
- * skip. The second path, chosen in the same way, leads to the bytes that are changed: for 14 to the
- * CCW at `out->evidence.address`, for 15 to the one at `out->evidence.taker`. For any other reason
- * it has no places.
+ * CHANV_NO: `out` has the verdict, the values of the cause and the lengths of both paths. The paths
+ * are the first rows of `path` and of `second_path`; the other rows keep their values.
+ * CHANV_NO_ROOM: the answer is no, and `out` has all of that, but a path that you didn't skip has
+ * more places than rows.
+ * CHANV_YES: there is nothing to explain.
+ * Otherwise the call returns why there is no answer, like `chanv_verify`, with the first wrong
+ * extent if there is one. A row is written only for CHANV_NO.
  *
- * CHANV_NO_ROOM: the answer is no, and `out` has the same, but a path that is wanted has more
- * places than rows. CHANV_YES: there is nothing to explain. Otherwise it returns why there is no
- * answer, like `chanv_verify`, with the extent that is wrong if one is. Only for CHANV_NO is a
- * row written. */
+ * The path leads from the first place to a place with the verdict's address that offends by the
+ * verdict's reason. It is the shortest path; of several it is the path that goes on to the next
+ * CCW, not to the CCW after a skip. The second path, chosen in the same way, leads to the bytes
+ * that are changed: for 14 to the CCW at `out->evidence.address`, for 15 to the CCW at
+ * `out->evidence.taker`. For any other reason it has no places. */
 CHANV_MUST_USE CHANV_NOT_NULL(1, 6)
 enum chanv_answer chanv_why(const struct chanv_job *job, struct chanv_place *path, size_t room,
                             struct chanv_place *second_path, size_t second_room,
                             struct chanv_explanation *out);
 
-/* Writes the text that explains the verdict on the job, as `chanv why` prints it, not
- * NUL-terminated. CHANV_YES, CHANV_NO: the first `*len` bytes of `buffer` are the text, and
- * the others keep their values. CHANV_NO_ROOM: the text has `*len` bytes, more than `room`.
- * Otherwise it returns why there is no answer, like `chanv_verify`, and `*len` is 0. Only for
- * CHANV_YES and CHANV_NO is a byte of `buffer` written. */
+/* Writes the text that explains the verdict on the job, as `chanv why` prints it. It is not
+ * NUL-terminated.
+ *
+ * CHANV_YES, CHANV_NO: the first `*len` bytes of `buffer` are the text; the other bytes keep their
+ * values.
+ * CHANV_NO_ROOM: the text has `*len` bytes, more than `room`.
+ * Otherwise the call returns why there is no answer, like `chanv_verify`, and `*len` is 0. A byte
+ * of `buffer` is written only for CHANV_YES and CHANV_NO. */
 CHANV_MUST_USE CHANV_NOT_NULL(1, 4)
 enum chanv_answer chanv_text(const struct chanv_job *job, char *buffer, size_t room, size_t *len);
 
-/* The needs of the job's program, which is its storage, start and device, in every job that it runs
- * under, and the bytes that it keeps: no more, and no less. This job's own grants don't matter, but
- * the job must have no fault; its limit counts the places that are reachable if everything is
- * granted.
+/* What must every job grant the job's program, and which bytes does the program keep? The program
+ * is the job's storage, start and device. The job's own grants don't matter, but the job must have
+ * no fault. Its limit counts the places that are reachable if everything is granted.
  *
  * CHANV_OK: some job will do. The first `out->extent_count` rows of `extents` are the cylinders
- * that seeks go to, as runs of first and last; those of `fetch` and `store` are the bytes that are
- * fetched, and stored into; those of `keep` are the bytes of CCWs, of seek arguments and of masks
- * that are set. Each list rises, no row is empty, and between two rows there is a gap. The first
- * `out->kept_len` bytes of `kept` are the bytes of storage in the rows of `keep`, one area after
- * another. The other rows and bytes keep their values. `out->mask` is the strictest file mask that
- * serves: it inhibits no command that may begin, and no byte that is set as a mask is weaker. A job
- * of the program whose limit isn't below the number of its places has CHANV_YES exactly if it
- * grants all this.
- *
- * CHANV_NO: no job will do; `out->verdict` is the verdict if everything is granted. CHANV_NO_ROOM:
- * the same as for CHANV_OK, but a list, or `kept`, has too little room. CHANV_CHANGED_MEANWHILE:
- * storage was written during the call, so ask again; over quiet storage it never comes. Otherwise it
- * returns why there is no answer, like `chanv_verify`, with the extent that is wrong if one is. Only
- * for CHANV_OK is a row or a byte written.
+ * that seeks go to; the rows of `fetch` and `store` are the bytes that are fetched and stored into;
+ * the rows of `keep` are the bytes of CCWs, of seek arguments and of masks that are set. Each list
+ * rises, no row is empty, and between two rows there is a gap. The first `out->kept_len` bytes of
+ * `kept` are the bytes of storage in the rows of `keep`, area after area. The other rows and bytes
+ * keep their values. `out->mask` is the strictest file mask that serves: it inhibits no command
+ * that may begin, and no byte that is set as a mask is weaker. A job of the program gets CHANV_YES
+ * exactly if it grants all this, provided that its limit isn't below the number of its places.
+ * CHANV_NO: no job will do; `out->verdict` is the verdict if everything is granted.
+ * CHANV_NO_ROOM: `out` has all that it has for CHANV_OK, but a list, or `kept`, has too little
+ * room.
+ * CHANV_CHANGED_MEANWHILE: storage was written during the call, so ask again; over quiet storage
+ * this answer never comes.
+ * Otherwise the call returns why there is no answer, like `chanv_verify`, with the first wrong
+ * extent if there is one. A row or a byte is written only for CHANV_OK.
  *
  * CHANV_OK holds, before a start and during the run, over each storage of `out->storage_len` bytes
- * that holds the kept bytes; all others may change, also during the call. If storage is written
- * during the call, each other answer may be about a mixture of old and new bytes. The call takes
+ * with the same kept bytes; all other bytes may change, also during the call. If storage is written
+ * during the call, every other answer may be about a mixture of old and new bytes. The call takes
  * memory as long as storage, of which it writes what the program keeps. */
 CHANV_MUST_USE CHANV_NOT_NULL(1, 2)
 enum chanv_answer chanv_needs(const struct chanv_job *job, struct chanv_needed *out,
@@ -410,67 +419,75 @@ enum chanv_answer chanv_needs(const struct chanv_job *job, struct chanv_needed *
  * and fills `program`, which refers to them. Keep `memory` where it is, as long as the program or a
  * copy of it is used.
  *
- * CHANV_OK: the program is remembered, and takes the first `*len` bytes of `memory`. All of `room`
- * is scratch: the bytes after these lose their values too. CHANV_NO_ROOM: it takes `*len` bytes,
- * more than `room`. At each address of `memory` it takes as many. Otherwise it returns like
- * `chanv_needs`, and `*len` is 0. `out` is always what `chanv_needs` wrote: so it has the verdict
- * if no job will do, and says whether the program may hang. Unless the answer is CHANV_OK,
- * `program` is zeroed, and no byte of `memory` is written. */
+ * CHANV_OK: the program is remembered, in the first `*len` bytes of `memory`. The other bytes of
+ * `memory` lose their values too.
+ * CHANV_NO_ROOM: it takes `*len` bytes, more than `room`; it takes as many at each address.
+ * Otherwise the call returns like `chanv_needs`, and `*len` is 0.
+ *
+ * `out` is always what `chanv_needs` wrote: it has the verdict if no job will do, and says whether
+ * the program may hang. Unless the answer is CHANV_OK, `program` is zeroed, and no byte of `memory`
+ * is written. */
 CHANV_MUST_USE CHANV_NOT_NULL(1, 4, 5, 6)
 enum chanv_answer chanv_take_in(const struct chanv_job *job, void *memory, size_t room, size_t *len,
                                 struct chanv_program *program, struct chanv_needed *out);
 
-/* Writes the text that explains the verdict on the open job of the job's program, which grants
- * everything: so after CHANV_NO from `chanv_needs` it says why no job will do. Otherwise it is like
- * `chanv_text`. */
+/* Like `chanv_text`, but about the open job of the job's program, which grants everything. So after
+ * CHANV_NO from `chanv_needs` the text says why no job will do. */
 CHANV_MUST_USE CHANV_NOT_NULL(1, 4)
 enum chanv_answer chanv_open_text(const struct chanv_job *job, char *buffer, size_t room,
                                   size_t *len);
 
-/* Whether a remembered program may start under the job, beside the `count` programs in flight.
+/* May a remembered program start under the job, together with the `count` programs in flight?
  *
- * CHANV_YES: the job has the program's start, device and length of storage; each kept byte is as it
- * was; the job grants all needs; and neither this program nor any in flight may store into a byte
- * that the other keeps. If what is remembered of all of them is true, the program may start: its
- * verdict is CHANV_YES, and it and all in flight are safe together. CHANV_NO: `out` has the first
- * refusal. Otherwise it returns why there is no answer, like `chanv_verify`, with the extent that
- * is wrong if one is. It looks for each fault of the job, 4 to 10 and 12, and so for a limit that
- * isn't a limit. But no place is counted: it never returns CHANV_TOO_MANY_PLACES.
+ * CHANV_YES: four conditions hold. The job has the program's start, device and length of storage;
+ * each kept byte is as it was; the job grants all needs; and neither this program nor any program
+ * in flight may store into a byte that the other keeps. If what is remembered of all of them is
+ * true, the program may start: its verdict is CHANV_YES, and it is safe together with all in
+ * flight.
+ * CHANV_NO: `out` has the first refusal.
+ * Otherwise the call returns why there is no answer, like `chanv_verify`, with the first wrong
+ * extent if there is one. It looks for each fault of the job, 4 to 10 and 12, even for an invalid
+ * limit. But it counts no places, so it never returns CHANV_TOO_MANY_PLACES.
  *
- * It says nothing about data: one program may read in over bytes that another writes out. The cost
- * is one pass over rows from `chanv_needs`, and the product of their numbers if rows from elsewhere
- * are out of order: sort those first. */
+ * It says nothing about data: a program may read in over bytes that another program writes out. It
+ * goes once over rows that come from `chanv_needs`. For rows from elsewhere that are out of order
+ * the cost is the product of their numbers: sort them first. */
 CHANV_MUST_USE CHANV_NOT_NULL(1, 4, 5)
 enum chanv_answer chanv_check_start(const struct chanv_job *job,
                                     const struct chanv_program *in_flight, size_t count,
                                     const struct chanv_program *program,
                                     struct chanv_refusal *out);
 
-/* Whether others, such as the processor, may write to an area of storage now. CHANV_YES: no program
- * in flight keeps a byte of it. CHANV_NO: `out` has CHANV_REFUSED_WRITES_OVER_KEPT, the first
- * program that keeps one, and the least such byte; or CHANV_REFUSED_RESERVED_IN_FLIGHT and the first program
- * whose `reserved` isn't 0. No memory is taken, and there is no other answer. */
+/* May others, such as the processor, write to an area of storage now? The call takes no memory and
+ * has no other answer.
+ *
+ * CHANV_YES: no program in flight keeps a byte of the area.
+ * CHANV_NO: `out` has CHANV_REFUSED_WRITES_OVER_KEPT, the first program that keeps a byte of the
+ * area, and the least such byte; or CHANV_REFUSED_RESERVED_IN_FLIGHT and the first program whose
+ * `reserved` isn't 0. */
 CHANV_MUST_USE CHANV_NOT_NULL(3, 4)
 enum chanv_answer chanv_check_write(const struct chanv_program *in_flight, size_t count,
                                     const struct chanv_area *area, struct chanv_refusal *out);
 
-/* Lists the starts of the channel programs in storage for this type of device, each once, in order;
- * docs/FIND.md says which they are. CHANV_OK: the first `*count` of `starts` are written, and the
- * others keep their values. CHANV_NO_ROOM: `*count` is how many there would be. Otherwise it
- * returns CHANV_STORAGE_TOO_LARGE, or else CHANV_NOT_A_DEVICE, or else CHANV_MEMORY, and `*count`
- * is 0. Only for CHANV_OK is a start written. */
+/* Which channel programs for this type of device are in storage? Their starts are listed once each,
+ * in order; docs/OLD-PROGRAMS.md says which starts these are.
+ *
+ * CHANV_OK: the first `*count` of `starts` are written; the others keep their values.
+ * CHANV_NO_ROOM: `*count` is how many there would be.
+ * Otherwise `*count` is 0, and the call returns CHANV_STORAGE_TOO_LARGE, or else
+ * CHANV_NOT_A_DEVICE, or else CHANV_MEMORY. A start is written only for CHANV_OK. */
 CHANV_MUST_USE CHANV_NOT_NULL(1, 5)
 enum chanv_answer chanv_find(const struct chanv_bytes *storage, uint16_t device, uint32_t *starts,
                              size_t room, size_t *count);
 
-/* 1 if the answer is a fault of the job itself, 4 to 10 or 12, else 0. */
+/* 1 if the answer is a fault of the job itself (4 to 10, or 12), else 0. */
 int chanv_is_fault(uint32_t answer);
 
 /* The library's version, as CHANV_VERSION_NUMBER is the header's. */
 uint32_t chanv_version(void);
 
-/* The word for a number, or "" for any other number: for a reason; for what a call returned; for
- * the code of a refusal; and for how a program enters a CCW, as a listing has it. */
+/* The word for a reason; for what a call returned; for the code of a refusal; and for how a program
+ * enters a CCW, as in a listing. For any other number the word is "". */
 const char *chanv_reason_word(uint32_t reason);
 const char *chanv_answer_word(uint32_t answer);
 const char *chanv_refusal_word(uint32_t code);

@@ -11,13 +11,17 @@ use Rattle.chanv_c.specs.declared.job.CJob.{CJob}
 use Rattle.chanv_c.specs.Needs.{AreNeedsOf, AreNeedsWhereHeld}
 
 -- the needs over one storage are those over each that is as long and holds the kept bytes
-pub where_held : (c : CJob) (n : Listed) (hang : Option Place) (kept : List ℕ) → AreNeedsOf c n hang → HoldsAreas c.storage.now n.keep kept → AreNeedsWhereHeld c n kept
+pub where_held : (c : CJob) (n : Listed) (hang : Option Place) (kept : List ℕ)
+    → AreNeedsOf c n hang → HoldsAreas c.storage.now n.keep kept → AreNeedsWhereHeld c n kept
 where_held c n hang kept h held k start device len holds =
     let j = h.judged.is_open.job in
     let asked = h.judged.is_open.asked in
     let there : HoldsAreas (storage_of j) n.keep kept = subst (λ (s : List ℕ). HoldsAreas s n.keep kept) (sym asked.storage) held in
     let keeps : KeepsProgram j k = record {
-      storage = record { same_length = len ∙ sym (ap (λ (s : List ℕ). length s) asked.storage); same = λ b is_kept. same_held (storage_of j) (storage_of k) n.keep kept b there holds ((h.needs.keep.bytes b).1 is_kept) };
+      storage = record {
+        same_length = len ∙ sym (ap (λ (s : List ℕ). length s) asked.storage);
+        same = λ b is_kept. same_held (storage_of j) (storage_of k) n.keep kept b there holds ((h.needs.keep.bytes b).1 is_kept);
+      };
       start = asked.start ∙ sym start;
       device = same_device j.device k.device (asked.device ∙ sym device);
     } in

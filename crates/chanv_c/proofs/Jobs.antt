@@ -54,8 +54,10 @@ fits_alike j k p fs a fit = record {
   granted = record {
     mask = subst (λ (m : ℕ). is_at_least p.rows.mask m ≡ true) a.mask fit.granted.mask;
     extents = λ c h. subst (λ (es : List (ℕ × ℕ)). has_cylinder es c ≡ true) a.extents (fit.granted.extents c h);
-    fetch = λ b h. let lent = fit.granted.fetch b h in (subst (λ (s : List ℕ). b < length s) a.storage lent.0, subst (λ (l : List Area). lies_in l b ≡ true) a.fetch lent.1);
-    store = λ b h. let lent = fit.granted.store b h in (subst (λ (s : List ℕ). b < length s) a.storage lent.0, subst (λ (l : List Area). lies_in l b ≡ true) a.store lent.1);
+    fetch = λ b h. let lent = fit.granted.fetch b h in
+        (subst (λ (s : List ℕ). b < length s) a.storage lent.0, subst (λ (l : List Area). lies_in l b ≡ true) a.fetch lent.1);
+    store = λ b h. let lent = fit.granted.store b h in
+        (subst (λ (s : List ℕ). b < length s) a.storage lent.0, subst (λ (l : List Area). lies_in l b ≡ true) a.store lent.1);
   };
   beside = fit.beside;
 }

@@ -97,8 +97,12 @@ module _ (c : CJob) (small : length c.storage.now ≤ 16777216) (device : (c.dev
   no_fault NotADevice neither = no_other_device c.device device neither
   no_fault NotAMask bad = both_ways _ bad mask
   no_fault NoExtent none = let some = extents.0 in let zero' = ap length none in omega (arith, some, zero')
-  no_fault (ExtentBackwards i) w = let e = extent_at (extents_asked c) i w.pair extents.1 w.stands in let order = e.0 in let wrong = w.wrong in omega (arith, order, wrong)
-  no_fault (ExtentPastDevice i) w = let e = extent_at (extents_asked c) i w.pair extents.1 w.stands in let there = e.1 in let past = w.wrong.1 in omega (arith, there, past)
+  no_fault (ExtentBackwards i) w =
+      let e = extent_at (extents_asked c) i w.pair extents.1 w.stands in
+      let order = e.0 in let wrong = w.wrong in omega (arith, order, wrong)
+  no_fault (ExtentPastDevice i) w =
+      let e = extent_at (extents_asked c) i w.pair extents.1 w.stands in
+      let there = e.1 in let past = w.wrong.1 in omega (arith, there, past)
   no_fault NotALimit bad = bad (low, high)
   no_fault ReservedNotZero bad = bad reserved
 

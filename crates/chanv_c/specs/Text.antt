@@ -6,10 +6,9 @@ use Rattle.chan_walk.specs.declared.verdict.Verdict.{Verdict}
 use Rattle.chan_walk.specs.declared.verdict.Verdict.TheVariants.{Yes, No}
 use Rattle.chan_why.specs.declared.witness.Witness.{Witness}
 use Rattle.chan_walk.specs.Answers.{IsAnswer}
-use Rattle.chan_why.specs.Witness.{IsEvidenceOf, IsPathOf, IsSecondPathOf, IsStoredOver, IsWitness}
-use Rattle.chan_walk.specs.Job.{storage_of}
+use Rattle.chan_why.specs.Witness.{IsWitnessOf}
 use Rattle.chan_walk.specs.Offence.{AreOffences, first_verdict}
-use Rattle.chan_deck.specs.Explanation.{explanation}
+use Rattle.chan_deck.specs.Explanation.{IsExplanationText}
 use Rattle.chanv_c.specs.declared.job.CJob.{CJob}
 use Rattle.chanv_c.specs.declared.text.Told.{Told}
 use Rattle.chanv_c.specs.Job.{IsAskedJob}
@@ -23,12 +22,8 @@ pub record IsTextOn (job : Job) (t : Told) : Type 0 where
   pub offending : AreOffences job offences
   pub first : t.verdict ≡ first_verdict offences
   pub witness : Witness
-  pub path : IsPathOf job t.verdict witness.path.items
-  pub shown : IsWitness job t.verdict witness.path.items
-  pub evidence : IsEvidenceOf job t.verdict witness.path.items witness.evidence
-  pub stored : IsStoredOver job t.verdict witness.path.items witness.stored_over
-  pub second : IsSecondPathOf job witness.evidence witness.second_path.items
-  pub text : string_bytes t.text ≡ explanation (storage_of job) offences [] witness
+  pub shows : IsWitnessOf job t.verdict witness
+  pub text : IsExplanationText job offences [] witness (string_bytes t.text)
 
 -- it is on the job that C asks about
 abbrev pub IsText : CJob → Told → Type 0

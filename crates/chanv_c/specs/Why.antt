@@ -5,7 +5,7 @@ use Rattle.chan_walk.specs.declared.place.Place.{Place}
 use Rattle.chan_walk.specs.declared.verdict.Verdict.{Verdict}
 use Rattle.chan_walk.specs.declared.verdict.Verdict.TheVariants.{Yes, No}
 use Rattle.chan_walk.specs.Answers.{IsAnswer}
-use Rattle.chan_why.specs.Witness.{IsEvidenceOf, IsPathOf, IsSecondPathOf, IsWitness}
+use Rattle.chan_why.specs.Witness.{IsWitnessOf}
 use Rattle.chan_walk.specs.Reason.{number_of}
 use Rattle.chanv_c.specs.declared.job.CJob.{CJob}
 use Rattle.chanv_c.specs.declared.why.CExplanation.{CExplanation}
@@ -21,10 +21,7 @@ pub record IsExplanationFor (c : CJob) (x : Found) : Type 0 where
   pub job : Job
   pub asked : IsAskedJob c job
   pub answer : IsAnswer job x.verdict
-  pub path : IsPathOf job x.verdict x.witness.path.items
-  pub shown : IsWitness job x.verdict x.witness.path.items
-  pub evidence : IsEvidenceOf job x.verdict x.witness.path.items x.witness.evidence
-  pub second : IsSecondPathOf job x.witness.evidence x.witness.second_path.items
+  pub shows : IsWitnessOf job x.verdict x.witness
 
 -- a verdict; no extent is wrong
 abbrev pub verdict_told : Verdict → CVerdict

@@ -11,13 +11,13 @@ use chan_walk::{Evidence, GivenBytes, Outside};
 #[repr(C)]
 #[derive(Clone, Copy)]
 pub struct CEvidence {
-    /// The reason's number, 1 to 16; 0 if nothing is told.
+    /// The reason's number, 1 to 16; 0 without an explanation.
     pub reason: u32,
     /// The data range of the CCW; for 2 the CCW's own eight bytes.
     pub range: Area,
     /// The first run of bytes of the range that no area lends.
     pub gap: Area,
-    /// The CCW's address for 1, that of the CCW changed for 14, that of the byte changed for 15.
+    /// For 1 the CCW's address, for 14 the address of the CCW that is changed, for 15 of the byte.
     pub address: u32,
     /// The address of the CCW that takes the byte at `address`.
     pub taker: u32,
@@ -37,9 +37,9 @@ pub struct CEvidence {
     pub below: u32,
     /// 1 if a Set File Mask takes the byte, 0 if a seek does.
     pub sets_mask: u32,
-    /// The addresses of the bytes that are given, in order, and then 0.
+    /// The addresses of the bytes that are given, in order, then zeros.
     pub addresses: [u32; 6],
-    /// These bytes, and then 0.
+    /// The bytes at these addresses, then zeros.
     pub bytes: [u8; 6],
     /// The job's file mask.
     pub mask: u8,
@@ -48,7 +48,7 @@ pub struct CEvidence {
 /// An area of no bytes.
 const NO_AREA: Area = Area { start: 0, len: 0 };
 
-/// No value.
+/// Evidence without a value: all zeros.
 pub(crate) const NO_VALUES: CEvidence = CEvidence {
     reason: 0,
     range: NO_AREA,
@@ -68,7 +68,7 @@ pub(crate) const NO_VALUES: CEvidence = CEvidence {
     mask: 0,
 };
 
-/// The bytes of an argument, and where they stand.
+/// The bytes of an argument, and their addresses.
 fn given_values(given: GivenBytes) -> CEvidence
     ensures { result ≡ specs.given_values given }
 {
@@ -85,7 +85,7 @@ fn given_values(given: GivenBytes) -> CEvidence
     }
 }
 
-/// Those of the argument of a seek, if it is told.
+/// The bytes of a seek's argument, if the cause shows it.
 fn argument_values(argument: Option<GivenBytes>) -> CEvidence
     ensures { result ≡ specs.argument_values argument }
 {
@@ -95,7 +95,7 @@ fn argument_values(argument: Option<GivenBytes>) -> CEvidence
     }
 }
 
-/// What is outside, beside other values.
+/// Adds to other values the part of an argument that is outside.
 fn outside_values(outside: Outside, values: CEvidence) -> CEvidence
     ensures { result ≡ specs.outside_values outside values }
 {
@@ -126,7 +126,7 @@ fn set_mask_number(argument: Option<GivenBytes>) -> u32
     u32::from(argument.is_none())
 }
 
-/// A range, and what is told of it.
+/// The values of a cause about a data range.
 fn range_values(range: Area, gap: Area, storage_len: u32, address: u32) -> CEvidence
     ensures { result ≡ record specs.no_values {
       range = range;
@@ -198,7 +198,7 @@ fn values_of(evidence: Evidence) -> CEvidence
     }
 }
 
-/// The number of the reason and the values of a cause, none of them where there is none.
+/// The number of the reason and the values of a cause; all zeros without a cause.
 pub(crate) fn cause_told(evidence: Option<Evidence>) -> CEvidence
     ensures { result ≡ specs.cause_told evidence }
 {

@@ -11,17 +11,17 @@ use chan_find::program_starts;
 use chan_needs::or_empty;
 use std::alloc::Global;
 
-/// `struct chanv_bytes`. Beside a length of 0 the pointer may be null, as in a job.
+/// `struct chanv_bytes`. If the length is 0, the pointer may be null, as in a job.
 #[repr(C)]
 #[derive(Clone, Copy)]
 pub struct CBytes<'a> {
     pub bytes: &'a [u8],
 }
 
-/// Lists the starts of the programs in storage, each once, in order: 0 if `starts` took them all,
-/// 11 if they are more than `starts` has room for; then `count` is their number. Otherwise `count`
-/// is 0: storage has more than 16,777,216 bytes (4), or else there is no such device (5), or else
-/// memory ran out (3). Only for 0 is anything written to `starts`.
+/// Lists the starts of the programs in storage, each once, in order: 0 if `starts` has room for
+/// all, 11 if it doesn't; then `count` is their number. Otherwise `count` is 0: storage has more
+/// than 16,777,216 bytes (4), or else the device is unknown (5), or else memory ran out (3).
+/// `starts` is written only for 0.
 #[unsafe(no_mangle)]
 pub extern "C" fn chanv_find(
     alloc: Global,
@@ -60,7 +60,7 @@ pub extern "C" fn chanv_find(
     YES
 }
 
-/// Writes the starts, and leaves the rest as it is.
+/// Writes the starts, and leaves the rest of the room as it is.
 fn write_starts(found: &[u32], starts: &mut [u32])
     requires { length found.now ≤ length starts.old }
     ensures { StandFirst found.now starts.old starts.new }

@@ -15,8 +15,8 @@ use chan_walk::{Job, Limit};
 use ckd_core::{Device, ExtentError, Extents, FileMask};
 use std::alloc::{AllocError, Global};
 
-/// `struct chanv_job`. A slice is a pointer and then a length; with a length of 0 the pointer may
-/// be null, and isn't looked at.
+/// `struct chanv_job`. A slice is a pointer and then a length. If the length is 0, the pointer may
+/// be null, and no code looks at it.
 #[repr(C)]
 #[derive(Clone, Copy)]
 pub struct CJob<'a> {
@@ -28,7 +28,7 @@ pub struct CJob<'a> {
     pub limit: u32,
     pub device: u16,
     pub mask: u8,
-    /// Room for fields of a later version, in which 0 means today's behaviour.
+    /// Room for fields of a later version; 0 means today's behaviour.
     pub reserved: [u64; 4],
 }
 
@@ -40,7 +40,7 @@ struct Parts<'a> {
     mask: FileMask,
 }
 
-/// The device of that number.
+/// The device with this number.
 pub(crate) fn device_of(number: u16) -> Option<Device>
     ensures { MatchOption result
         ((number ≢ 2311) × (number ≢ 2314))
@@ -53,7 +53,7 @@ pub(crate) fn device_of(number: u16) -> Option<Device>
     }
 }
 
-/// The storage, the device and the mask, or what is wrong with the first of them that is.
+/// The storage, the device and the mask, or the first fault of them.
 fn parts_of<'a>(asked: &CJob<'a>) -> Result<Parts<'a>, JobFault>
     ensures storage { IfOk result (λ parts. bytes_held parts.storage ≡ asked.now.storage.now) }
     ensures device { IfOk result (λ parts. device_number parts.device ≡ asked.now.device) }
@@ -89,7 +89,7 @@ fn pairs_of(alloc: Global, extents: &[Extent]) -> Result<Vec<(u16, u16)>, AllocE
     Ok(pairs)
 }
 
-/// The extents of the file, or what is wrong with them.
+/// The extents of the file, or their fault.
 fn extents_of(alloc: Global, asked: &CJob<'_>) -> Result<Extents, Refusal>
     requires { HasNoneBelow asked.now 7 }
     ensures extents { IfOk result (λ extents. extents ≡ extents_asked asked.now) }

@@ -1,7 +1,7 @@
-//! chanv for C: a supervisor asks whether a channel program may run, why it may not, which CCWs it
-//! can come to, and what it needs of each job that it runs under.
+//! chanv for C: a supervisor asks whether a channel program may run, why not, which CCWs it can
+//! reach, and what it needs of each job that it runs under.
 //!
-//! `include/chanv.h` declares what this library exports, and says what a caller owes.
+//! `include/chanv.h` declares what this library exports, and lists the rules for a caller.
 #![tactic(auto)]
 
 mod codes;

@@ -1,4 +1,4 @@
-//! Which CCWs a channel program can come to.
+//! Which CCWs a channel program can reach.
 
 ghost use Rattle.std.specs.Prelude.{◌≡◌, ◌≢◌, ◌<◌, ◌⊎◌, length, IfErr, IfOk, OnOk};
 ghost use Rattle.chanv_c.specs.Answers.{AreFound, AreListed, HasPlaces, HasTooMany};
@@ -12,10 +12,10 @@ use crate::rows::{CPlace, write_rows};
 use chan_walk::{Explored, explore};
 use std::alloc::Global;
 
-/// Lists the places that the program can come to, each once, in order: 0 if `rows` took them all,
-/// 11 if they are more than `rows` has room for; then `count` is their number. Otherwise it says
-/// why there is no answer, like `chanv_verify`, and `count` is 0. `extent` is the index of the
-/// extent that is wrong, or 0. Only for 0 is anything written to `rows`.
+/// Lists the places that the program can reach, each once, in order: 0 if `rows` has room for all,
+/// 11 if it doesn't; then `count` is their number. Otherwise it says why there is no answer, like
+/// `chanv_verify`, and `count` is 0. `extent` is the index of the first wrong extent, or 0. `rows`
+/// is written only for 0.
 #[unsafe(no_mangle)]
 pub extern "C" fn chanv_list(
     alloc: Global,
@@ -49,7 +49,7 @@ pub extern "C" fn chanv_list(
     }
 }
 
-/// The places that the program can come to.
+/// The places that the program can reach.
 fn places_of(alloc: Global, asked: &CJob<'_>) -> Result<Explored, Refusal>
     ensures answer { IfOk result (AreFound asked.now) }
     ensures right { OnOk result (HasNoFault asked.now) }

@@ -40,8 +40,8 @@ pub struct CNeeded {
     /// How many bytes are kept.
     pub kept_len: usize,
     pub storage_len: u32,
-    /// 1 if the program may hang, and the first place at which it may: its address, and how it is
-    /// entered.
+    /// 1 if the program may hang, and the first place at which it may: its address, and how the
+    /// program enters it.
     pub may_hang: u32,
     pub hangs_at: u32,
     pub mask: u8,
@@ -49,26 +49,28 @@ pub struct CNeeded {
     pub reserved: [u64; 4],
 }
 
-/// What is found of a program.
+/// What the open job shows of a program.
 #[derive(Drop)]
 pub(crate) enum Found {
     /// What it needs and keeps, and the first place at which it may hang.
     Needed(Needs, Option<Place>),
-    /// No job will do, since the open job has this no.
+    /// No job will do: this is the no of the open job.
     NoJob { address: u32, reason: Reason },
 }
 
 /// The needs of the job's program in each job that it runs under, and the bytes that it keeps,
-/// whatever is written to storage meanwhile: 0 if some job will do and each list took its rows, and
-/// `kept` the bytes in the rows of `keep`; 1 if none will, with the verdict on the open job; 11 if
-/// a list or `kept` has too little room, with the same as for 0 except rows and bytes; 13 if
-/// storage changed during the call. Otherwise it says why there is no answer, like `chanv_verify`;
-/// too many places are those that are reachable under the open job, and 3 comes too if the copy
-/// isn't as long as storage. All else is written as 0. Only for 0 is anything written to the lists
-/// and to `kept`. The job's own grants don't matter.
+/// whatever is written to storage meanwhile: 0 if some job will do, and each list has room for its
+/// rows and `kept` for the bytes in the rows of `keep`; 1 if no job will do, with the verdict on
+/// the open job; 11 if a list or `kept` has too little room, with all that 0 gives except rows and
+/// bytes; 13 if storage changed during the call. Otherwise it says why there is no answer, like
+/// `chanv_verify`: 2 counts the places that are reachable under the open job, and 3 comes too if
+/// the copy isn't as long as storage. All else is written as 0. The lists and `kept` are written
+/// only for
+/// 0. The job's own grants don't matter.
 ///
-/// A first look at storage only says which bytes to copy. Each is read once more, and what is
-/// judged is the copy, which nothing else writes. Before the call it may hold anything.
+/// A first look at storage only says which bytes to copy. The call reads each of these bytes once
+/// more, and judges the copy, which nothing else writes. Before the call the copy may hold
+/// anything.
 #[unsafe(no_mangle)]
 pub extern "C" fn needs_by_copy(
     alloc: Global,
@@ -120,9 +122,9 @@ pub extern "C" fn needs_by_copy(
     )
 }
 
-/// Copies the bytes of the job's storage in some areas to where they are in storage, each by one
-/// look; false if the copy isn't as long. Nothing is promised of the bytes: storage may be written
-/// meanwhile.
+/// Copies the bytes of the job's storage in these areas to their addresses in the copy, each by one
+/// look; false if the copy isn't as long as storage. The contract promises nothing about the bytes:
+/// storage may be written meanwhile.
 fn copy_areas(job: &CJob<'_>, areas: &[Area], copy: &mut [u8]) -> bool
     ensures { IsTrue result → length copy.new ≡ length job.now.storage.now }
 {
@@ -135,7 +137,7 @@ fn copy_areas(job: &CJob<'_>, areas: &[Area], copy: &mut [u8]) -> bool
     true
 }
 
-/// Copies the bytes in an area to where they are in storage, if the area lies in both.
+/// Copies the bytes in an area to their addresses in the copy, if the area lies in both.
 fn copy_area(storage: &[u8], area: Area, copy: &mut [u8])
     ensures { length copy.new ≡ length copy.old }
 {
@@ -198,7 +200,7 @@ fn needs_over(
     YES
 }
 
-/// What is told where there are no needs.
+/// The answer without needs: all zeros except a verdict or the index of an extent.
 fn alone(extent: usize, address: u32, reason: u32) -> CNeeded
     ensures { result ≡ told_alone (record { extent = extent; address = address; reason = reason }) }
 {
@@ -222,7 +224,7 @@ fn alone(extent: usize, address: u32, reason: u32) -> CNeeded
     }
 }
 
-/// What is told of needs, but for the rows, and of the first place at which the program may hang.
+/// The answer about needs and the first place at which the program may hang, without the rows.
 fn told(needs: &Needs, hang: Option<Place>) -> CNeeded
     requires { IsMerged needs.now.keep.items }
     ensures { result ≡ told_needs (listed needs.now) hang }
@@ -272,7 +274,7 @@ fn have_room(
         && kept_len <= kept.len()
 }
 
-/// Writes the bytes of storage in some areas, and leaves what is behind them as it is.
+/// Writes the bytes of storage in these areas, and leaves the rest of the room as it is.
 fn write_kept(asked: &CJob<'_>, keep: &[Area], kept: &mut [u8])
     requires right { HasNoFault asked.now }
     requires inside { All (IsInside asked.now.storage.now) keep.now }
@@ -286,7 +288,7 @@ fn write_kept(asked: &CJob<'_>, keep: &[Area], kept: &mut [u8])
     let _count = copy_kept(&storage, keep, kept).unwrap();
 }
 
-/// What is found of the program that C asks about.
+/// What the open job shows of the program that C asks about.
 fn needs_of(alloc: Global, asked: &CJob<'_>) -> Result<Found, Refusal>
     ensures answer { IfOk result (IsFound asked.now) }
     ensures right { OnOk result (HasNoFault asked.now) }
@@ -298,7 +300,7 @@ fn needs_of(alloc: Global, asked: &CJob<'_>) -> Result<Found, Refusal>
     found_on(alloc, asked, &job, &opened.job())
 }
 
-/// What is found of a program by its open job.
+/// Judges a program by its open job.
 fn found_on(alloc: Global, asked: &CJob<'_>, job: &Job, opened: &Job) -> Result<Found, Refusal>
     requires asked { IsAskedJob asked.now job.now }
     requires right { HasNoFault asked.now }

@@ -12,19 +12,19 @@ use std::alloc::AllocError;
 pub enum JobFault {
     /// Storage has more than 16,777,216 bytes.
     StorageTooLarge,
-    /// There is no device of this number.
+    /// The device number is unknown.
     NotADevice,
-    /// The byte is no file mask.
+    /// The byte isn't a file mask.
     NotAMask,
     /// There is no extent.
     NoExtent,
-    /// The extent of this index is the first that is wrong: its first cylinder is above its last.
+    /// The extent of this index is the first wrong extent: its first cylinder is above its last.
     ExtentBackwards(usize),
-    /// The extent of this index is the first that is wrong: it ends past the device.
+    /// The extent of this index is the first wrong extent: it ends past the device.
     ExtentPastDevice(usize),
     /// The limit is 0, or above 65,536.
     NotALimit,
-    /// What is reserved isn't 0: the caller goes by a later version.
+    /// `reserved` isn't 0: the caller goes by a later version.
     ReservedNotZero,
 }
 
@@ -63,7 +63,7 @@ pub enum Refusal {
     TooManyPlaces,
     /// An allocation was refused.
     Memory,
-    /// What C gives is no job, for this fault.
+    /// The struct of C isn't a job: it has this fault.
     Wrong(JobFault),
 }
 

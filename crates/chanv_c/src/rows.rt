@@ -1,4 +1,4 @@
-//! The rows that C is told.
+//! The rows that C gets.
 
 ghost use Rattle.std.specs.Prelude.{◌≡◌, ◌≤◌, ◌++◌, drop, length, map};
 ghost use Rattle.chan_walk.specs.Places.{entry_number};
@@ -41,7 +41,7 @@ fn row_of(place: Place) -> CPlace
     }
 }
 
-/// Writes the rows of the places, and leaves what is behind them as it is.
+/// Writes the rows of places, and leaves the rest of the room as it is.
 pub(crate) fn write_rows(found: &Explored, rows: &mut [CPlace])
     requires { length found.now ≤ length rows.old }
     ensures { rows.new ≡ map place_row found.now ++ drop (length found.now) rows.old }
@@ -53,7 +53,7 @@ pub(crate) fn write_rows(found: &Explored, rows: &mut [CPlace])
     }
 }
 
-/// Writes the rows of the places of a path, and leaves what is behind them as it is.
+/// Writes the rows of the places of a path, and leaves the rest of the room as it is.
 pub(crate) fn write_path(path: &[Place], rows: &mut [CPlace])
     requires { length path.now ≤ length rows.old }
     ensures { rows.new ≡ map place_row path.now ++ drop (length path.now) rows.old }
@@ -63,7 +63,7 @@ pub(crate) fn write_path(path: &[Place], rows: &mut [CPlace])
     }
 }
 
-/// Writes the rows of runs of cylinders, and leaves what is behind them as it is.
+/// Writes the rows of runs of cylinders, and leaves the rest of the room as it is.
 pub(crate) fn write_runs(runs: &[(u16, u16)], rows: &mut [Extent])
     requires { length runs.now ≤ length rows.old }
     ensures { StandFirst (map run_row runs.now) rows.old rows.new }
@@ -74,7 +74,7 @@ pub(crate) fn write_runs(runs: &[(u16, u16)], rows: &mut [Extent])
     }
 }
 
-/// Writes areas, and leaves what is behind them as it is.
+/// Writes areas, and leaves the rest of the room as it is.
 pub(crate) fn write_areas(areas: &[Area], rows: &mut [Area])
     requires { length areas.now ≤ length rows.old }
     ensures { StandFirst areas.now rows.old rows.new }

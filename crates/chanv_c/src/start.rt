@@ -35,11 +35,11 @@ pub struct CRefusal {
     pub reserved: [u64; 4],
 }
 
-/// Whether a program that is remembered may start under the job, beside those in flight: 0 if it
-/// may; 1 if not, with the first refusal in `out`. Otherwise it says why there is no answer, like
-/// `chanv_verify`, with the extent that is wrong if one is.
+/// Whether a remembered program may start under the job, together with the programs in flight: 0 if
+/// it may; 1 if not, with the first refusal in `out`. Otherwise it says why there is no answer,
+/// like `chanv_verify`, with the first wrong extent if there is one.
 ///
-/// A zeroed program may not start, and in flight it is in no other program's way.
+/// A zeroed program may not start, and in flight it stops no other program.
 #[unsafe(no_mangle)]
 pub extern "C" fn chanv_check_start(
     alloc: Global,
@@ -78,7 +78,8 @@ pub extern "C" fn chanv_check_start(
 }
 
 /// Whether others may write to the area now: 0 if each program in flight is of this version and
-/// keeps no byte of it; else 1, with the first refusal in `out`. No memory is taken.
+/// keeps no byte of the area; otherwise 1, with the first refusal in `out`. The call takes no
+/// memory.
 #[unsafe(no_mangle)]
 pub extern "C" fn chanv_check_write(
     in_flight: &[Remembered<'_>],
@@ -122,13 +123,13 @@ pub extern "C" fn chanv_check_write(
 pub(crate) enum StartCheck {
     /// It has fields of a later version.
     Later,
-    /// The program with this number, the first such in flight, has.
+    /// The program in flight with this number is the first with fields of a later version.
     LaterInFlight(usize),
-    /// All are of this version, and this is the answer.
+    /// All programs are of this version, and this is the answer.
     Asked(Start),
 }
 
-/// A refusal without an address, a cylinder or a program.
+/// A refusal that names no program.
 fn refused(code: u32, value: u32) -> CRefusal
     ensures { result ≡ specs.refused code value }
 {
@@ -141,7 +142,7 @@ fn refused(code: u32, value: u32) -> CRefusal
     }
 }
 
-/// What is told if there is no refusal: only which extent is wrong.
+/// The refusal of an answer that isn't a refusal: all zeros except the index of a wrong extent.
 fn nothing(extent: usize) -> CRefusal
     ensures { result ≡ nothing_told extent }
 {
@@ -151,7 +152,7 @@ fn nothing(extent: usize) -> CRefusal
     }
 }
 
-/// What is told of a refusal.
+/// The fields of a refusal.
 fn told_of(refusal: StartRefusal) -> CRefusal
     ensures { result ≡ refusal_told refusal }
 {
@@ -175,7 +176,7 @@ fn told_of(refusal: StartRefusal) -> CRefusal
     }
 }
 
-/// What is told with an answer.
+/// The struct that goes with an answer.
 fn told(check: StartCheck) -> CRefusal
     ensures { result ≡ check_told check }
 {
@@ -200,7 +201,7 @@ fn code_of(check: StartCheck) -> u32
     }
 }
 
-/// Whether the program may start under the job that C asks about, beside those in flight.
+/// Whether the program may start under the job that C asks about, together with those in flight.
 fn checked(
     alloc: Global,
     asked: &CJob<'_>,

@@ -27,8 +27,8 @@ pub(crate) struct Told {
 
 /// Writes the text that explains the verdict on the job, as `chanv why` prints it: 0 if the program
 /// may run, 1 if it may not, 11 if the text is longer than `buffer`; then `len` is its length.
-/// Otherwise it says why there is no answer, like `chanv_verify`, and `len` is 0. Only for 0 and
-/// 1 is anything written to `buffer`.
+/// Otherwise it says why there is no answer, like `chanv_verify`, and `len` is 0. `buffer` is
+/// written only for 0 and 1.
 #[unsafe(no_mangle)]
 pub extern "C" fn chanv_text(
     alloc: Global,
@@ -53,9 +53,8 @@ pub extern "C" fn chanv_text(
     }
 }
 
-/// Writes the text that explains the verdict on the open job of the job's program: so it says why
-/// no job will do, if `chanv_needs` answered so. The codes, `buffer` and `len` are those of
-/// `chanv_text`; too many places are those that are reachable under the open job.
+/// Like `chanv_text`, but about the open job of the job's program. So after a no of `chanv_needs`
+/// the text says why no job will do. 2 counts the places that are reachable under the open job.
 #[unsafe(no_mangle)]
 pub extern "C" fn chanv_open_text(
     alloc: Global,
@@ -107,7 +106,7 @@ fn code_of(verdict: Verdict) -> u32
     }
 }
 
-/// Writes a text, and leaves what is behind it as it is.
+/// Writes a text, and leaves the rest of the room as it is.
 fn write_text(text: &[u8], buffer: &mut [u8])
     requires { length text.now ≤ length buffer.old }
     ensures { StandFirst text.now buffer.old buffer.new }

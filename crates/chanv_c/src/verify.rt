@@ -21,8 +21,8 @@ pub struct CVerdict {
 }
 
 /// Whether the program may run: 0 for yes; 1 for no, with the address of the first offending CCW
-/// and the number of its reason; and else why there is no answer, with the index of the extent that
-/// is wrong if one is. All else is written as 0.
+/// and the number of its reason; otherwise why there is no answer, with the index of the first
+/// wrong extent if there is one. All else is written as 0.
 #[unsafe(no_mangle)]
 pub extern "C" fn chanv_verify(alloc: Global, job: &CJob<'_>, out: &mut CVerdict) -> u32
     ensures yes { result ≡ 0 → IsJudged job.now Yes }

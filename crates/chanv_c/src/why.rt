@@ -38,10 +38,10 @@ pub(crate) struct Found {
 }
 
 /// Why the program may not run: 0 if it may; 1 if it may not, with the verdict, the values of the
-/// cause, the path to a place that offends and, if something is changed, the path to that; 11 if
-/// a path has more places than rows, with the same except the rows. A path without a row isn't
-/// wanted. Otherwise it says why there is no answer, like `chanv_verify`. All else is written as 0.
-/// Only for 1 is anything written to the rows.
+/// cause, the path to a place that offends and, if that place would change bytes, the path to the
+/// CCW or argument there; 11 if a path has more places than rows, with all that 1 gives except the
+/// rows. Room 0 skips a path. Otherwise it says why there is no answer, like `chanv_verify`. All
+/// else is written as 0. The rows are written only for 1.
 #[unsafe(no_mangle)]
 pub extern "C" fn chanv_why(
     alloc: Global,
@@ -88,14 +88,14 @@ pub extern "C" fn chanv_why(
     NO
 }
 
-/// Whether a path that is wanted has more places than rows.
+/// Whether a path with some room has more places than rows.
 fn lacks_rows(path: &[Place], rows: &[CPlace]) -> bool
     ensures { IsTrue result ↔ LacksRows path.now rows.now }
 {
     !rows.is_empty() && rows.len() < path.len()
 }
 
-/// Writes the rows of a path, if it is wanted.
+/// Writes the rows of a path, if there is some room for it.
 fn write_wanted(path: &[Place], rows: &mut [CPlace])
     requires { LacksRows path.now rows.old → ⊥ }
     ensures { IsWrittenTo path.now rows.old rows.new }
@@ -105,7 +105,7 @@ fn write_wanted(path: &[Place], rows: &mut [CPlace])
     }
 }
 
-/// What is told where there is no explanation.
+/// The explanation of an answer without one: all zeros except the index of a wrong extent.
 fn nothing(extent: usize) -> CExplanation
     ensures { result ≡ told_nothing extent }
 {
@@ -122,7 +122,7 @@ fn nothing(extent: usize) -> CExplanation
     }
 }
 
-/// What is told of an explanation, but for the rows.
+/// The explanation without the rows.
 fn told(found: &Found) -> CExplanation
     ensures { result ≡ specs.told found.now }
 {
@@ -135,7 +135,7 @@ fn told(found: &Found) -> CExplanation
     }
 }
 
-/// What is told of a verdict.
+/// The verdict as a struct of C.
 fn verdict_of(verdict: Verdict) -> CVerdict
     ensures { result ≡ verdict_told verdict }
 {

@@ -1,16 +1,13 @@
 -- Which cylinders lie in some extent, by where the extents begin and how far they reach.
 use Rattle.std.proofs.Common.{◌≡◌, ℕ, ◌+◌, ◌≤◌, ◌<◌, Bool, false, ◌&&◌, ◌||◌, nat_eq, nat_lt}
-use Rattle.std.proofs.Common.{nat_le, List, [], ◌∷◌, take, length, get_or, set, refl, ap, sym, inl}
-use Rattle.std.proofs.Common.{inr, arith}
+use Rattle.std.proofs.Common.{nat_le, List, [], ◌∷◌, length, get_or, refl, ap}
+use Rattle.std.proofs.Common.{arith}
 use Rattle.std.specs.Bool.{Decides}
 use Rattle.std.specs.Cmp.Lexicographic.{pointwise_decides}
 use Rattle.std.specs.List.{list_any, AllByRecursion}
 use Rattle.std.specs.Ordering.{nat_cmp, ord_max}
-use Rattle.std.proofs.lemmas.Bool.Decides.{nat_tests, eqb_tells, Decides-and, Decides-eqb}
+use Rattle.std.proofs.lemmas.Bool.Decides.{nat_tests, Decides-and, Decides-eqb}
 use Rattle.std.proofs.lemmas.List.Elements.{All-from_recursion}
-use Rattle.std.proofs.lemmas.List.{get_or-set_other}
-use Rattle.std.proofs.lemmas.Grind.{get_or-set_at}
-use Rattle.std.proofs.lemmas.List.Folds.{list_any_more}
 use Rattle.ckd_core.specs.Extents.{has_cylinder, IsExtent, same_extents}
 
 -- some extent begins at the cylinder and reaches x
@@ -62,7 +59,8 @@ pub reached_below-next : (extents : List (ℕ × ℕ)) (cylinder x : ℕ)
     → reached_below extents (cylinder + 1) x ≡ (reached_below extents cylinder x || reached_from extents cylinder x)
 reached_below-next [] cylinder x = refl
 reached_below-next (e ∷ es) cylinder x =
-    let one : (nat_lt e.0 (cylinder + 1) && nat_le x e.1) ≡ ((nat_lt e.0 cylinder && nat_le x e.1) || (nat_eq e.0 cylinder && nat_le x e.1)) = begins e.0 cylinder (nat_le x e.1) in
+    let one : (nat_lt e.0 (cylinder + 1) && nat_le x e.1) ≡ ((nat_lt e.0 cylinder && nat_le x e.1) || (nat_eq e.0 cylinder && nat_le x e.1)) =
+    begins e.0 cylinder (nat_le x e.1) in
     rw (one, reached_below-next es cylinder x)
     (shuffled (nat_lt e.0 cylinder && nat_le x e.1) (nat_eq e.0 cylinder && nat_le x e.1) (reached_below es cylinder x) (reached_from es cylinder x))
 
@@ -77,29 +75,6 @@ reached_below-has_cylinder (e ∷ es) cylinder =
 -- nothing is below zero
 pub nat_lt-zero : (x : ℕ) → nat_lt x 0 ≡ false
 nat_lt-zero x = grind (arith, nat_tests)
-
-entered : (ends : List ℕ) (first last k x end : ℕ) → first < length ends → end ≡ ord_max nat_cmp (get_or ends first 0) (last + 1)
-    → nat_lt x (get_or (set ends first end) k 0) ≡ (nat_lt x (get_or ends k 0) || (nat_eq first k && nat_le x last))
-entered ends first last k x end within is = elim (eqb_tells first k) [
-  | inl same ↦
-      let at : get_or (set ends first end) k 0 ≡ end = get_or-set_at ends first k end 0 (sym same.1) within in
-      let old : get_or ends k 0 ≡ get_or ends first 0 = ap (λ (j : ℕ). get_or ends j 0) (sym same.1) in
-      rw (at, old, same.0, is, nat_lt-ord_max x (get_or ends first 0) (last + 1), nat_lt-add_one x last) refl
-  | inr other ↦
-      rw (get_or-set_other ends first k end 0 (λ e. other.1 (sym e)), other.0) (grind arith)
-]
-
--- the table of the furthest ends, when one more extent is entered
-pub reached_from-entered : (extents : List (ℕ × ℕ)) (ends : List ℕ) (i first k x end : ℕ) → i < length extents
-    → first ≡ (get_or extents i (0, 0)).0 → first < length ends
-    → end ≡ ord_max nat_cmp (get_or ends first 0) ((get_or extents i (0, 0)).1 + 1)
-    → nat_lt x (get_or ends k 0) ≡ reached_from (take i extents) k x
-    → nat_lt x (get_or (set ends first end) k 0) ≡ reached_from (take (i + 1) extents) k x
-reached_from-entered extents ends i first k x end lt begins within is before =
-    let more : reached_from (take (i + 1) extents) k x
-    ≡ (reached_from (take i extents) k x || (nat_eq (get_or extents i (0, 0)).0 k && nat_le x (get_or extents i (0, 0)).1))
-    = list_any_more (λ e. nat_eq e.0 k && nat_le x e.1) extents i (0, 0) lt in
-    rw (more, ← before, ← begins) (entered ends first (get_or extents i (0, 0)).1 k x end within is)
 
 same_pair : (x y : ℕ × ℕ) → Decides (nat_eq x.0 y.0 && nat_eq x.1 y.1) (x ≡ y)
 same_pair x y =

@@ -63,7 +63,8 @@ strict-permits b m = (
     asked : {x y : Bool} → (y ≡ false → x ≡ false) → (not x || y) ≡ true
     asked h = search rules
 
-    at : list_all (inhibits_too b m) inhibitable ≡ true → (i : ℕ) → i < 7 → inhibits_class b (get_or inhibitable i Plain) ≡ false → inhibits_class m (get_or inhibitable i Plain) ≡ false
+    at : list_all (inhibits_too b m) inhibitable ≡ true → (i : ℕ) → i < 7
+        → inhibits_class b (get_or inhibitable i Plain) ≡ false → inhibits_class m (get_or inhibitable i Plain) ≡ false
     at h i lt e = implied (AllPass-from_list_all (inhibits_too b m) inhibitable h i Plain lt) e
 
     -- no mask inhibits the others
@@ -88,7 +89,7 @@ by_steps : (n k : ℕ) → n ≤ 3 → (k ≤ 0 → n ≤ 0) → (k ≤ 1 → n 
 by_steps n k l a b c = grind arith
 
 pub strict-levels : (b m : ℕ) → is_mask b ≡ true → (is_at_least b m ≡ true) ↔ ((write_level m ≤ write_level b) × (seek_level m ≤ seek_level b))
-strict-levels b m mask = (λ h. to ((strict-permits b m).0 h).1, λ h. (strict-permits b m).1 (mask, λ c e. let l = (permits_when b c).0 e in (permits_when m c).1 (omega (arith, h.0), omega (arith, h.1))))
+strict-levels b m mask = (λ h. to ((strict-permits b m).0 h).1, λ h. (strict-permits b m).1 (mask, from h))
   where
     to : PermitsToo b m → (write_level m ≤ write_level b) × (seek_level m ≤ seek_level b)
     to h = (
@@ -101,6 +102,9 @@ strict-levels b m mask = (λ h. to ((strict-permits b m).0 h).1, λ h. (strict-p
 
         seeks : (c : MaskClass) → writes_up_to c ≡ 3 → seek_level b ≤ seeks_up_to c → seek_level m ≤ seeks_up_to c
         seeks c e l = ((permits_when m c).0 (h c ((permits_when b c).1 (omega (arith, write_level-le b, e), l)))).1
+
+    from : (write_level m ≤ write_level b) × (seek_level m ≤ seek_level b) → PermitsToo b m
+    from h c e = let l = (permits_when b c).0 e in (permits_when m c).1 (omega (arith, h.0), omega (arith, h.1))
 
 pub is_at_least-levels : (b m : ℕ) → is_mask b ≡ true → is_at_least b m ≡ (nat_le (write_level m) (write_level b) && nat_le (seek_level m) (seek_level b))
 is_at_least-levels b m mask = one_truth _ _
@@ -126,9 +130,13 @@ four P a b c d (suc (suc zero)) l = c
 four P a b c d (suc (suc (suc n))) l = let e : 0 ≡ n = omega arith in subst (λ k. P (suc (suc (suc k)))) e d
 
 pub mask_of-levels : (w s : ℕ) → w ≤ 3 → s ≤ 3 → IsOfLevels w s (mask_of w s)
-mask_of-levels w s l k = search (rules, and_parts, ltb-true, eqb-true, four (λ w. is_of_levels w s (mask_of w s) ≡ true) (on 0 refl refl refl refl) (on 1 refl refl refl refl) (on 2 refl refl refl refl) (on 3 refl refl refl refl) w l)
+mask_of-levels w s l k =
+    let each = four (λ w. is_of_levels w s (mask_of w s) ≡ true)
+    (on 0 refl refl refl refl) (on 1 refl refl refl refl) (on 2 refl refl refl refl) (on 3 refl refl refl refl) w l in
+    search (rules, and_parts, ltb-true, eqb-true, each)
   where
-    on : (w : ℕ) → is_of_levels w 0 (mask_of w 0) ≡ true → is_of_levels w 1 (mask_of w 1) ≡ true → is_of_levels w 2 (mask_of w 2) ≡ true → is_of_levels w 3 (mask_of w 3) ≡ true → is_of_levels w s (mask_of w s) ≡ true
+    on : (w : ℕ) → is_of_levels w 0 (mask_of w 0) ≡ true → is_of_levels w 1 (mask_of w 1) ≡ true
+        → is_of_levels w 2 (mask_of w 2) ≡ true → is_of_levels w 3 (mask_of w 3) ≡ true → is_of_levels w s (mask_of w s) ≡ true
     on w a b c d = four (λ s. is_of_levels w s (mask_of w s) ≡ true) a b c d s k
 
 abbrev is_again : ℕ → Bool

@@ -17,7 +17,8 @@ module _ (test : MaskClass → Bool) where
   chosen (Some e) rest = elim (test e.class) as (λ b. (if b then Some e else rest) ≡ option_or (if b then Some e else None) rest) [ true ↦ refl | false ↦ refl ]
 
   first_step : (code n : ℕ) (o : Option Entry) → o ≡ passing (lookup code) → first_command test code (suc n) ≡ option_or o (first_command test (code + 1) n)
-  first_step code n o e = chosen (lookup code) (first_command test (code + 1) n) ∙ ap (λ (z : Option Entry). option_or z (first_command test (code + 1) n)) (sym e)
+  first_step code n o e =
+      chosen (lookup code) (first_command test (code + 1) n) ∙ ap (λ (z : Option Entry). option_or z (first_command test (code + 1) n)) (sym e)
 
   -- with the codes that are left up to the last byte
   pub first_left : (code : ℕ) (o : Option Entry) → code < 256 → o ≡ passing (lookup code)

@@ -10,10 +10,11 @@ pub record Named : Type 0 where
 abbrev further : ℕ → List ℕ → Named
 further code name = record { code = code; name = name }
 
--- thirty-five codes; `-mt` stands behind a name where the multi-track bit is on
+-- thirty-six codes; `-mt` stands behind a name where the multi-track bit is on
 abbrev pub further_codes : List Named
 further_codes =
     further 0x02 (codes "read-ipl") ∷
+    further 0x0F (codes "space-count") ∷
     further 0x14 (codes "unconditional-reserve") ∷
     further 0x94 (codes "release") ∷
     further 0xB4 (codes "reserve") ∷

@@ -28,13 +28,13 @@ pub enum MaskClass {
     SeekCylinder,
     /// Seek Head.
     SeekHead,
-    /// Recalibrate, which a mask treats as it does Seek.
+    /// Recalibrate: a mask treats it like Seek.
     Recalibrate,
     /// Writes of a home address or of record zero.
     WriteHome,
     /// Writes that lay out a record anew, and Erase.
     WriteFormat,
-    /// Writes into a record that stands.
+    /// Writes into a record that exists.
     WriteUpdate,
     /// Set File Mask, which no mask inhibits.
     SetMask,
@@ -79,8 +79,8 @@ impl Command {
     }
 }
 
-/// The command with this code, or `None` if the table has none. It takes a few comparisons and no
-/// memory.
+/// The command with this code, or `None` if the table doesn't list the code. The call takes a few
+/// comparisons and no memory.
 ///
 /// The table is that of the component descriptions of the 2841 with the 2311, and of the 2314,
 /// without the commands that this project leaves out.

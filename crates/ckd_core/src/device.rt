@@ -13,7 +13,7 @@ pub enum Device {
 }
 
 impl Device {
-    /// How many heads the device has, which is how many tracks each cylinder has.
+    /// How many heads the device has. Each cylinder has as many tracks.
     pub fn heads(self) -> u16
         ensures { result ≡ heads_of self }
     {

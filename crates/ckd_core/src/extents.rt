@@ -17,17 +17,17 @@ const CYLINDERS: usize = 203;
 /// The last cylinder of either device.
 pub const LAST_CYLINDER: u16 = 202;
 
-/// Why pairs of cylinders are no extents.
+/// Why pairs of cylinders aren't extents.
 #[derive(Clone, Copy, PartialEq, Eq, Debug, Error)]
 pub enum ExtentError {
     /// There is no pair.
     #[error("no extent")]
     Empty,
-    /// The pair of this index, counted from 0, is the first that is wrong, and its first cylinder
-    /// is above its last.
+    /// The pair of this index, counted from 0, is the first wrong pair: its first cylinder is above
+    /// its last.
     #[error("extent {0}: first cylinder above last")]
     Backwards(usize),
-    /// The pair of this index, counted from 0, is the first that is wrong: it is in order, and its
+    /// The pair of this index, counted from 0, is the first wrong pair: it is in order, and its
     /// last cylinder is above 202.
     #[error("extent {0}: past the last cylinder of the device")]
     PastDevice(usize),
@@ -36,8 +36,7 @@ pub enum ExtentError {
     Memory,
 }
 
-/// Extents of whole cylinders, one or more, in the order in which they were given. They may
-/// overlap.
+/// One or more extents of whole cylinders, in the caller's order. They may overlap.
 #[derive(Debug, Drop)]
 pub struct Extents {
     pairs: Vec<(u16, u16)>,
@@ -64,7 +63,7 @@ impl PartialEq for Extents {
 
     ghost laws = { partial_equiv_from_equiv same_extents-IsEquivalence };
 
-    /// The same pairs in the same order.
+    /// The pairs, in the caller's order.
     fn eq(&self, other: &Extents) -> bool {
         self.pairs == other.pairs
     }
@@ -79,15 +78,15 @@ impl Eq for Extents {
 impl Extents {
     /// Extents of these pairs of first and last cylinder.
     ///
-    /// The first pair from the left that is wrong is named, whether or not there is memory;
-    /// `Backwards` takes precedence over `PastDevice`. The time is that of one pass over the pairs,
-    /// the memory that of a copy of them.
+    /// An error names the first wrong pair from the left, even if there is no memory; `Backwards`
+    /// takes precedence over `PastDevice`. The call takes one pass over the pairs, and memory for a
+    /// copy of them.
     pub fn new(alloc: Global, pairs: &[(u16, u16)]) -> Result<Extents, ExtentError>
         ensures ok { IfOk result (λ extents. extents ≡ pairs.now) }
         ensures right { OnOk result (AreExtents pairs.now) }
         ensures fault { IfErr result (IsFault pairs.now) }
 
-        // Memory aside, a fault is named where it is there.
+        // A fault is named whether or not there is memory.
         ensures named { (fault : ExtentError) → fault ≢ ExtentError.Memory → IsFault pairs.now fault
             → result ≡ Err fault }
         ensures accepted { AreExtents pairs.now → IsOkUnless result ExtentError.Memory }
@@ -98,7 +97,7 @@ impl Extents {
         Ok(Extents { pairs, held })
     }
 
-    /// The pairs of first and last cylinder, in the order in which they were given.
+    /// The pairs of first and last cylinder, in the caller's order.
     pub fn pairs(&self) -> &[(u16, u16)]
         ensures value { result.now ≡ self.now }
         ensures right { AreExtents result.now }
@@ -106,8 +105,7 @@ impl Extents {
         &self.pairs
     }
 
-    /// Whether the cylinder lies in some extent. The cost is the same however many extents there
-    /// are.
+    /// Whether the cylinder lies in some extent. The cost doesn't depend on the number of extents.
     pub fn has(&self, cylinder: u16) -> bool
         ensures { result ≡ has_cylinder self.now cylinder }
     {
@@ -116,7 +114,7 @@ impl Extents {
     }
 }
 
-/// Whether the pairs are extents, and else the first fault from the left.
+/// Whether the pairs are extents; otherwise the first fault from the left.
 fn judge(pairs: &[(u16, u16)]) -> Result<(), ExtentError>
     ensures { MatchResult result (λ _. AreExtents pairs.now)
         (λ fault. IsFault pairs.now fault × (fault ≢ ExtentError.Memory)) }
@@ -137,7 +135,7 @@ fn judge(pairs: &[(u16, u16)]) -> Result<(), ExtentError>
 }
 
 /// For each cylinder, one more than the furthest last cylinder of the extents that begin there, or
-/// 0 where none does.
+/// 0 if no extent begins there.
 fn ends(pairs: &[(u16, u16)]) -> [u16; 203]
     requires { AllByRecursion IsExtent pairs.now }
     ensures { (c x : ℕ) → c < 203 → nat_lt x (slice_index result c)

@@ -15,7 +15,7 @@ pub struct Levels {
 }
 
 impl Levels {
-    /// Those of a mask's byte.
+    /// The levels of a mask's byte.
     pub fn of(byte: u8) -> Levels
         ensures writes { result.writes ≡ specs.write_level byte }
         ensures seeks { result.seeks ≡ specs.seek_level byte }
@@ -35,7 +35,7 @@ impl Levels {
         Levels { writes, seeks }
     }
 
-    /// The strictest at which a class of commands isn't inhibited.
+    /// The strictest levels that don't inhibit a class of commands.
     pub fn permitting(class: MaskClass) -> Levels
         ensures writes { result.writes ≡ specs.writes_up_to class }
         ensures seeks { result.seeks ≡ specs.seeks_up_to class }
@@ -52,7 +52,7 @@ impl Levels {
         Levels { writes, seeks }
     }
 
-    /// The laxer of two, each level for itself.
+    /// The laxer of two masks' levels, taken level by level.
     pub fn laxer(self, other: Levels) -> Levels
         ensures writes { result.writes ≡ min self.writes other.writes }
         ensures seeks { result.seeks ≡ min self.seeks other.seeks }

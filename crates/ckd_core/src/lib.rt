@@ -1,8 +1,8 @@
 //! The IBM 2311 and 2314 disks as a channel program meets them: geometry, commands, file mask,
 //! extents and tracks.
 //!
-//! A supervisor sets a file mask, lends a file by its extents, and lets a program's commands
-//! through only where neither the mask nor the extents forbid them:
+//! A supervisor sets a file mask, lends a file by its extents, and permits a command only if
+//! neither the mask nor the extents forbid it:
 //!
 //! ```
 //! fn may_seek(alloc: Global, device: Device) -> Result<bool, ExtentError> {

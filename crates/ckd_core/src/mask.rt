@@ -30,8 +30,8 @@ const SEEKS: u8 = 0x18;
 /// | `C0` | none | `18` | Seek, Recalibrate, SeekCylinder, SeekHead |
 ///
 /// The bits are those of the component descriptions of the 2841 with the 2311, and of the 2314.
-/// It is this project's choice that a mask has no other bit, that Recalibrate counts as Seek and
-/// Erase as a formatting write.
+/// That a mask has no other bit, that Recalibrate counts as Seek and Erase as a formatting write,
+/// is this project's choice.
 #[derive(Clone, Copy, PartialEq, Eq, Debug)]
 pub struct FileMask {
     byte: u8,
@@ -78,8 +78,8 @@ impl FileMask {
         self.inhibits_class(command.class())
     }
 
-    /// Whether the mask is at least as strict as another: whether it inhibits every class of
-    /// commands that the other inhibits. It takes no memory.
+    /// Whether the mask is at least as strict as another: it inhibits every class of commands that
+    /// the other inhibits. The call takes no memory.
     ///
     /// From lax to strict, the bits `C0` are `C0`, `00`, `80`, `40`, and the bits `18` are `00`,
     /// `08`, `10`, `18`.
@@ -106,8 +106,8 @@ impl FileMask {
         }
     }
 
-    /// The command with the least code that another mask inhibits and this one permits. If this one
-    /// is at least as strict there is none.
+    /// The command of least code that another mask inhibits and this mask permits. If this mask is
+    /// at least as strict, there is no such command.
     pub fn least_permitted(&self, than: FileMask) -> Option<Command>
         ensures { option_map entry_of result ≡ specs.least_permitted self.now than }
     {
@@ -119,7 +119,7 @@ impl FileMask {
         None
     }
 
-    /// The command of a code, if another mask inhibits it and this one permits it.
+    /// The command of a code, if another mask inhibits it and this mask permits it.
     fn permitted(&self, than: FileMask, code: u8) -> Option<Command>
         ensures { option_map entry_of result ≡ (if class_passes (permits_beyond self.now than)
             (table.lookup code) then table.lookup code else None) }
@@ -140,8 +140,8 @@ impl FileMask {
     }
 }
 
-/// A law: a byte is at least as strict as a mask exactly where it is a mask itself and inhibits
-/// each class of commands that the other inhibits.
+/// A law: a byte is at least as strict as a mask exactly if it is a mask itself and inhibits each
+/// class of commands that the mask inhibits.
 fn strictness_is_by_class()
     ensures { StrictnessIsByClass }
 {}

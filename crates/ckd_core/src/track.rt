@@ -19,9 +19,9 @@ pub struct Track {
 
 impl Track {
     /// The track that the argument of a seek names: two bytes of bin, two of cylinder, two of head,
-    /// each number with its high byte first. It is `None` exactly if a byte of bin isn't zero,
-    /// since the devices have no bins (component descriptions of the 2841 with the 2311, and of the
-    /// 2314). It doesn't matter here whether a device has the track.
+    /// each number with its high byte first. It is `None` exactly if a byte of bin isn't zero: the
+    /// devices have no bins (component descriptions of the 2841 with the 2311, and of the 2314).
+    /// The track may lie outside a device.
     pub fn from_argument(argument: [u8; 6]) -> Option<Track>
         ensures value { result ≡ track_of argument }
         ensures no_bin { IsSome result ↔ (has_no_bin argument ≡ true) }
@@ -45,7 +45,7 @@ impl Track {
 }
 
 /// Whether a seek may go to the track: its cylinder lies in an extent, and its head is below the
-/// device's number of heads. The cost is the same however many extents there are.
+/// device's number of heads. The cost doesn't depend on the number of extents.
 pub fn allowed(extents: &Extents, device: Device, track: Track) -> bool
     ensures { result ≡ (has_cylinder extents.now track.cylinder
         && nat_lt track.head (heads_of device)) }

@@ -31,7 +31,8 @@ check_outside : (n : ℕ) (p : Place) (c d : Fields) → is_aligned p.address �
 unfolding check_of
 check_outside n p c d e f = rw (e, f) refl
 
-check_apart : (n : ℕ) (p : Place) (c d : Fields) (a b : Bool) → is_aligned p.address ≡ a → is_inside n p.address ≡ b → (a ≡ true → b ≡ true → c ≡ d) → check_of n p c ≡ check_of n p d
+check_apart : (n : ℕ) (p : Place) (c d : Fields) (a b : Bool) → is_aligned p.address ≡ a
+    → is_inside n p.address ≡ b → (a ≡ true → b ≡ true → c ≡ d) → check_of n p c ≡ check_of n p d
 check_apart n p c d true true e f h = ap (check_of n p) (h refl refl)
 check_apart n p c d true false e f h = check_outside n p c d e f
 check_apart n p c d false b e f h = check_misaligned n p c d e
@@ -47,7 +48,8 @@ unfolding is_part
 part_by_ccw s t a len h = part_apart (length s) a (ccw s a) (ccw t a) _ _ refl refl (λ x y. h (x, y)) ∙ ap (λ n. part_of n a (ccw t a)) (sym len)
 
 check_by_ccw : (s t : List ℕ) (p : Place) → length t ≡ length s → (Stands s p.address → ccw s p.address ≡ ccw t p.address) → check s p ≡ check t p
-check_by_ccw s t p len h = check_apart (length s) p (ccw s p.address) (ccw t p.address) _ _ refl refl (λ x y. h (x, y)) ∙ ap (λ n. check_of n p (ccw t p.address)) (sym len)
+check_by_ccw s t p len h =
+    check_apart (length s) p (ccw s p.address) (ccw t p.address) _ _ refl refl (λ x y. h (x, y)) ∙ ap (λ n. check_of n p (ccw t p.address)) (sym len)
 
 stands_there : (s t : List ℕ) (a : ℕ) → length t ≡ length s → Stands s a → Stands t a
 stands_there s t a len h = (h.0, subst (λ n. is_inside n a ≡ true) (sym len) h.1)
@@ -55,7 +57,8 @@ stands_there s t a len h = (h.0, subst (λ n. is_inside n a ≡ true) (sym len) 
 -- ---- a data chain whose CCWs are the same
 
 -- C holds where the chain begins, and goes on along it
-module _ (s t : List ℕ) (len : length t ≡ length s) (C : ℕ → Type 0) (alike : (b : ℕ) → C b → Stands s b → ccw s b ≡ ccw t b) (on : (b d : ℕ) → C b → is_part s b ≡ true → chains_data (ccw s b) ≡ true → Leads s b d → C d) where
+module _ (s t : List ℕ) (len : length t ≡ length s) (C : ℕ → Type 0) (alike : (b : ℕ) → C b → Stands s b → ccw s b ≡ ccw t b)
+    (on : (b d : ℕ) → C b → is_part s b ≡ true → chains_data (ccw s b) ≡ true → Leads s b d → C d) where
   part_same : (b : ℕ) → C b → is_part s b ≡ is_part t b
   part_same b c = part_by_ccw s t b len (alike b c)
 
@@ -113,7 +116,8 @@ module _ (s t : List ℕ) (len : length t ≡ length s) (C : ℕ → Type 0) (al
 
 -- and back
 pub chain_from : (s t : List ℕ) (len : length t ≡ length s) (C : ℕ → Type 0) → ((b : ℕ) → C b → Stands s b → ccw s b ≡ ccw t b)
-    → ((b d : ℕ) → C b → is_part s b ≡ true → chains_data (ccw s b) ≡ true → Leads s b d → C d) → (n a : ℕ) (l : List ℕ) → C a → IsChain t n a l → IsChain s n a l
+    → ((b d : ℕ) → C b → is_part s b ≡ true → chains_data (ccw s b) ≡ true → Leads s b d → C d)
+    → (n a : ℕ) (l : List ℕ) → C a → IsChain t n a l → IsChain s n a l
 chain_from s t len C alike on n a l c k = chain_to t s (sym len) C back follows n a l c k
   where
     back : (b : ℕ) → C b → Stands t b → ccw t b ≡ ccw s b
@@ -150,7 +154,9 @@ module _ (j : Job) (t : Storage) (h : IsSameIn (IsCounted j) (storage_of j) (byt
     Chained a = IsChained s p.address a
 
     chain_ccw : (a : ℕ) → Chained a → Stands s a → ccw s a ≡ ccw u a
-    chain_ccw a c st = same_ccw s u a (λ x le lt. sym (h.same x (inr (inl (record { seek = p; reached = r; seeks = b; at = a; chained = c; stands = st; from = le; below = lt })))))
+    chain_ccw a c st =
+        same_ccw s u a
+        (λ x le lt. sym (h.same x (inr (inl (record { seek = p; reached = r; seeks = b; at = a; chained = c; stands = st; from = le; below = lt })))))
 
     seek_chain_to : (l : List ℕ) → IsChain s 6 p.address l → IsChain u 6 p.address l
     seek_chain_to l k = chain_to s u h.same_length Chained chain_ccw (λ x y c part cd lead. further c part cd lead) 6 p.address l at_once k
@@ -163,7 +169,8 @@ module _ (j : Job) (t : Storage) (h : IsSameIn (IsCounted j) (storage_of j) (byt
 
     argument_same : (l : List ℕ) → IsChain s 6 p.address l → argument s l ≡ argument u l
     argument_same l k =
-        same_reads s u (argument_addresses s l) (λ x m. sym (h.same x (inr (inr (record { place = p; reached = r; takes = inl (record { seeks = b; chain = l; is_chain = k; has = m }) })))))
+        same_reads s u (argument_addresses s l)
+        (λ x m. sym (h.same x (inr (inr (record { place = p; reached = r; takes = inl (record { seeks = b; chain = l; is_chain = k; has = m }) })))))
         ∙ ap (map (byte u)) (seek_addresses l k)
 
     pub argument_to : (x : Option (List ℕ)) → HasArgument s p.address x → HasArgument u p.address x
@@ -175,18 +182,24 @@ module _ (j : Job) (t : Storage) (h : IsSameIn (IsCounted j) (storage_of j) (byt
   pub mask_byte_same : (p : Place) → IsReachable j p → begins_set_mask p (ccw_of j p) ≡ true → byte s (ccw_of j p).address ≡ byte u (ccw_of j p).address
   mask_byte_same p r b = sym (h.same (ccw_of j p).address (inr (inr (record { place = p; reached = r; takes = inr (record { sets = b; at = refl }) }))))
 
-  seeks_apart : (p : Place) (c : Fields) (x y : Option (List ℕ)) (b : Bool) → begins_seek p c ≡ b → (b ≡ true → x ≡ y) → seek_faults j p c x ≡ seek_faults there p c y
+  seeks_apart : (p : Place) (c : Fields) (x y : Option (List ℕ)) (b : Bool)
+      → begins_seek p c ≡ b → (b ≡ true → x ≡ y) → seek_faults j p c x ≡ seek_faults there p c y
   seeks_apart p c x y b e f = search rules
 
-  masks_apart : (p : Place) (c : Fields) (b : Bool) → begins_set_mask p c ≡ b → (b ≡ true → byte s c.address ≡ byte u c.address) → mask_faults j p c ≡ mask_faults there p c
+  masks_apart : (p : Place) (c : Fields) (b : Bool) → begins_set_mask p c ≡ b
+      → (b ≡ true → byte s c.address ≡ byte u c.address) → mask_faults j p c ≡ mask_faults there p c
   masks_apart p c b e f = search rules
 
-  table_same : (p : Place) → IsReachable j p → (x y : Option (List ℕ)) → HasArgument s p.address x → HasArgument u p.address y → table_of_own j p (ccw_of j p) x ≡ table_of_own there p (ccw_of j p) y
+  table_same : (p : Place) → IsReachable j p → (x y : Option (List ℕ)) → HasArgument s p.address x
+      → HasArgument u p.address y → table_of_own j p (ccw_of j p) x ≡ table_of_own there p (ccw_of j p) y
   table_same p r x y a b =
-      ap (λ z. command_faults j p (ccw_of j p) ++ lent_faults j p (ccw_of j p) ++ z ++ mask_faults j p (ccw_of j p)) (seeks_apart p (ccw_of j p) x y _ refl (λ e. argument_unique u p.address x y (argument_to p r e x a) b))
-      ∙ ap (λ z. command_faults j p (ccw_of j p) ++ lent_faults j p (ccw_of j p) ++ seek_faults there p (ccw_of j p) y ++ z) (masks_apart p (ccw_of j p) _ refl (mask_byte_same p r))
+      ap (λ z. command_faults j p (ccw_of j p) ++ lent_faults j p (ccw_of j p) ++ z ++ mask_faults j p (ccw_of j p))
+      (seeks_apart p (ccw_of j p) x y _ refl (λ e. argument_unique u p.address x y (argument_to p r e x a) b))
+      ∙ ap (λ z. command_faults j p (ccw_of j p) ++ lent_faults j p (ccw_of j p) ++ seek_faults there p (ccw_of j p) y ++ z)
+      (masks_apart p (ccw_of j p) _ refl (mask_byte_same p r))
 
-  fault_same : (p : Place) → IsReachable j p → (x y : Option (List ℕ)) → HasArgument s p.address x → HasArgument u p.address y → fault_with j p x ≡ fault_with there p y
+  fault_same : (p : Place) → IsReachable j p → (x y : Option (List ℕ)) → HasArgument s p.address x
+      → HasArgument u p.address y → fault_with j p x ≡ fault_with there p y
   fault_same p r x y a b = go (check s p) refl
     where
       rest : Job → Fields → Option (List ℕ) → Option Reason
@@ -219,7 +232,10 @@ module _ (j : Job) (t : Storage) (h : IsSameIn (IsCounted j) (storage_of j) (byt
           let seeks : begins_seek p (ccw_of j p) ≡ true = subst (λ c. begins_seek p c ≡ true) (sym same) k.seeks in
           let chain = seek_chain_from p r seeks k.chain k.is_chain in
           inl (record { seeks = seeks; chain = k.chain; is_chain = chain; has = subst (λ l. Has l b) (sym (seek_addresses p r seeks k.chain chain)) k.has })
-      from (inr k) = inr (record { sets = subst (λ c. begins_set_mask p c ≡ true) (sym same) k.sets; at = subst (λ (c : Fields). c.address ≡ b) (sym same) k.at })
+      from (inr k) = inr (record {
+        sets = subst (λ c. begins_set_mask p c ≡ true) (sym same) k.sets;
+        at = subst (λ (c : Fields). c.address ≡ b) (sym same) k.at;
+      })
 
   fault_at : (p : Place) → IsReachable j p → (r : Option Reason) → HasFault j p r ↔ HasFault there p r
   fault_at p m r = (
@@ -232,7 +248,12 @@ module _ (j : Job) (t : Storage) (h : IsSameIn (IsCounted j) (storage_of j) (byt
       let clear : IsClear j p ↔ IsClear there p = fault_at p m None in
       let ccw : IsClear j p → ccw_of j p ≡ ccw_of there p = λ f. ccw_same p m (check_stands s p (clear_check j p f)) in (
         record { stands = stands_there s u p.address h.same_length; clear = clear.0; ccw = ccw; takes = λ f b. (takes_same p m f b).0 },
-        record { stands = stands_there u s p.address (sym h.same_length); clear = clear.1; ccw = λ f. sym (ccw (clear.1 f)); takes = λ f b. (takes_same p m (clear.1 f) b).1 },
+        record {
+          stands = stands_there u s p.address (sym h.same_length);
+          clear = clear.1;
+          ccw = λ f. sym (ccw (clear.1 f));
+          takes = λ f b. (takes_same p m (clear.1 f) b).1;
+        },
       )
 
 pub same_verdict : SameVerdict

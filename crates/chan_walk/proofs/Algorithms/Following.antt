@@ -43,7 +43,8 @@ note_more before taken taken' have from n c r b a i h = go (cases_lt i have)
         ∙ sym (get_or-append-add before (range_with_len from n) k 0) ∙ ap (λ z. get_or (before ++ range_with_len from n) z 0) there
 
 -- addresses taken one by one stand at the head
-taken_front : (taken before : List ℕ) (n : ℕ) → n ≤ length taken → length before ≡ n → ((i : ℕ) → i < n → get_or taken i 0 ≡ get_or before i 0) → take n taken ≡ before
+taken_front : (taken before : List ℕ) (n : ℕ) → n ≤ length taken → length before ≡ n
+    → ((i : ℕ) → i < n → get_or taken i 0 ≡ get_or before i 0) → take n taken ≡ before
 taken_front taken before n le c same =
     let l = length-take-le n taken le in
     ext_get_or 0 (take n taken) before (l ∙ sym c) (λ i h. let lt : i < n = omega (arith, l) in get_or-take n taken i 0 lt ∙ same i lt)
@@ -73,7 +74,9 @@ pub ruleset found_parts = (found_is_part, part_in_range)
 
 length_joined : (s l : List ℕ) → length (joined s l) ≡ total s l
 length_joined s [] = refl
-length_joined s (a ∷ l) = length-append (data_addresses s a) (joined s l) ∙ ap (λ n. n + length (joined s l)) (length-range_with_len (ccw s a).address (ccw s a).count) ∙ ap (λ n. (ccw s a).count + n) (length_joined s l)
+length_joined s (a ∷ l) =
+    length-append (data_addresses s a) (joined s l) ∙ ap (λ n. n + length (joined s l)) (length-range_with_len (ccw s a).address (ccw s a).count)
+    ∙ ap (λ n. (ccw s a).count + n) (length_joined s l)
 
 pub length_front : (s : List ℕ) (n a : ℕ) (l : List ℕ) → IsChain s n a l → length (take n (joined s l)) ≡ n
 length_front s n a l k = let e = k.enough in length-take-le n (joined s l) (omega (arith, length_joined s l, e))
@@ -162,7 +165,9 @@ module _ (s : List ℕ) (a : ℕ) (taken : List ℕ) (have here : ℕ) (g : IsGi
     before = g.before ++ data_addresses s here
 
     counted : length before ≡ have + count
-    counted = length-append g.before (data_addresses s here) ∙ ap (λ z. z + length (data_addresses s here)) g.count ∙ ap (λ z. have + z) (length-range_with_len (ccw s here).address count)
+    counted =
+        length-append g.before (data_addresses s here) ∙ ap (λ z. z + length (data_addresses s here)) g.count
+        ∙ ap (λ z. have + z) (length-range_with_len (ccw s here).address count)
 
     here_alone : (l : List ℕ) × IsChain s (have + count) a l × (joined s l ≡ before)
     here_alone =
@@ -180,17 +185,25 @@ module _ (s : List ℕ) (a : ℕ) (taken : List ℕ) (have here : ℕ) (g : IsGi
         noted_more = note_more g.before taken taken' have (ccw s here).address count g.count g.noted b ad
 
         -- where the chain ends here, or leads to no CCW
-        pub ends_here : have + count ≤ length taken' → (chains_data (ccw s here) ≡ false) ⊎ (ccw_at s (onward s here) ≡ None) → IsEnded s a (have + count) taken'
+        pub ends_here : have + count ≤ length taken'
+            → (chains_data (ccw s here) ≡ false) ⊎ (ccw_at s (onward s here) ≡ None) → IsEnded s a (have + count) taken'
         ends_here le end = record { front = front; no_more = λ m h l k. none end m h l k }
           where
             front : IsFront s a (have + count) taken'
             front h =
-                let n = have + count in
-                (here_alone.0, here_alone.1, taken_front taken' before n le counted noted_more ∙ sym (ap (take n) here_alone.2 ∙ take_all n before (omega (arith, counted))))
+                let n = have + count in (
+                  here_alone.0,
+                  here_alone.1,
+                  taken_front taken' before n le counted noted_more ∙ sym (ap (take n) here_alone.2 ∙ take_all n before (omega (arith, counted))),
+                )
 
-            none : (chains_data (ccw s here) ≡ false) ⊎ (ccw_at s (onward s here) ≡ None) → (m : ℕ) → 0 < m → (l : List ℕ) → IsChain s (have + count + m) a l → ⊥
+            none : (chains_data (ccw s here) ≡ false) ⊎ (ccw_at s (onward s here) ≡ None)
+                → (m : ℕ) → 0 < m → (l : List ℕ) → IsChain s (have + count + m) a l → ⊥
             none (inl n) m h l k = let r = more_here m h l k in both_ways _ n (chain_goes_on s (count + m) here r.0 (omega arith) r.1).0
-            none (inr n) m h l k = let r = more_here m h l k in let t = (chain_goes_on s (count + m) here r.0 (omega arith) r.1).1 in begins_nowhere s _ (onward s here) n t.0 t.1
+            none (inr n) m h l k =
+                let r = more_here m h l k in
+                let t = (chain_goes_on s (count + m) here r.0 (omega arith) r.1).1 in
+                begins_nowhere s _ (onward s here) n t.0 t.1
 
         -- and where it goes on
         pub goes_further : chains_data (ccw s here) ≡ true → IsGiven s a taken' (have + count) (onward s here)
@@ -202,7 +215,8 @@ module _ (s : List ℕ) (a : ℕ) (taken : List ℕ) (have here : ℕ) (g : IsGi
           to = λ m h l k.
               let d : count + m - count ≡ m = omega arith in
               let e : have + (count + m) ≡ have + count + m = omega arith in
-              let r = g.to (count + m) (omega arith) (here ∷ l) (chain_cons s (count + m) here (onward s here) l part cd (onward_leads s here) (omega arith) (subst (λ n. IsChain s n (onward s here) l) (sym d) k)) in
+              let r = g.to (count + m) (omega arith) (here ∷ l) (chain_cons s (count + m) here (onward s here) l part cd (onward_leads s here)
+              (omega arith) (subst (λ n. IsChain s n (onward s here) l) (sym d) k)) in
               (r.0, subst (λ n. IsChain s n a r.0) e r.1, r.2 ∙ sym (append_assoc g.before (data_addresses s here) (joined s l)));
           from = λ m h l k.
               let d : count + m - count ≡ m = omega arith in
@@ -220,26 +234,32 @@ module _ (s : List ℕ) (a : ℕ) (taken : List ℕ) (have here : ℕ) (g : IsGi
           let six : have + room ≡ 6 = omega arith in
           let t = g.to room (omega arith) (here ∷ []) (record { begins = refl; linked = part; short = omega arith; enough = omega arith }) in
           let cut : count ≡ room + (count - room) = omega arith in
-          let split : data_addresses s here ≡ range_with_len from room ++ range_with_len (from + room) (count - room) = ap (range_with_len from) cut ∙ range_split from room (count - room) in
+          let split : data_addresses s here ≡ range_with_len from room ++ range_with_len (from + room) (count - room) =
+          ap (range_with_len from) cut ∙ range_split from room (count - room) in
           let front = g.before ++ range_with_len from room in
           let rest = range_with_len (from + room) (count - room) in
-          let len : length front ≡ 6 = length-append g.before (range_with_len from room) ∙ ap (λ z. length g.before + z) (length-range_with_len from room) ∙ omega (arith, g.count) in
-          let whole : joined s t.0 ≡ front ++ rest = t.2 ∙ ap (λ z. g.before ++ z) (append-nil (data_addresses s here) ∙ split) ∙ sym (append_assoc g.before (range_with_len from room) rest) in
+          let len : length front ≡ 6 =
+          length-append g.before (range_with_len from room) ∙ ap (λ z. length g.before + z) (length-range_with_len from room) ∙ omega (arith, g.count) in
+          let whole : joined s t.0 ≡ front ++ rest =
+          t.2 ∙ ap (λ z. g.before ++ z) (append-nil (data_addresses s here) ∙ split) ∙ sym (append_assoc g.before (range_with_len from room) rest) in
           let none : 6 - length front ≡ 0 = omega arith in
-          let args : argument_addresses s t.0 ≡ front = ap (take 6) whole ∙ take_front front rest (omega arith) ∙ ap (λ z. front ++ take z rest) none ∙ append-nil front in
-          let same : taken' ≡ front = ext_get_or 0 taken' front (n ∙ sym len) (λ i h. note_more g.before taken taken' have from room g.count g.noted b ad i (omega arith)) in
+          let args : argument_addresses s t.0 ≡ front =
+          ap (take 6) whole ∙ take_front front rest (omega arith) ∙ ap (λ z. front ++ take z rest) none ∙ append-nil front in
+          let same : taken' ≡ front =
+          ext_get_or 0 taken' front (n ∙ sym len) (λ i h. note_more g.before taken taken' have from room g.count g.noted b ad i (omega arith)) in
           (t.0, subst (λ z. IsChain s z a t.0) six t.1, same ∙ sym args)
 
 -- ---- the bytes at these addresses
 
 -- read one by one
-read_front : (s bytes addresses : List ℕ) (n : ℕ) → n ≤ 6 → length bytes ≡ 6 → ((i : ℕ) → i < n → get_or bytes i 0 ≡ byte s (get_or addresses i 0)) → length (take n addresses) ≡ n
-    → take n bytes ≡ map (byte s) (take n addresses)
+read_front : (s bytes addresses : List ℕ) (n : ℕ) → n ≤ 6 → length bytes ≡ 6 → ((i : ℕ) → i < n → get_or bytes i 0 ≡ byte s (get_or addresses i 0))
+    → length (take n addresses) ≡ n → take n bytes ≡ map (byte s) (take n addresses)
 read_front s bytes addresses n few six same len =
     let l = length-take-le n bytes (omega (arith, six)) in
     ext_get_or 0 (take n bytes) (map (byte s) (take n addresses)) (l ∙ sym (length-map (take n addresses) (byte s) ∙ len))
     (λ i h. let lt : i < n = omega (arith, l) in
-    get_or-take n bytes i 0 lt ∙ same i lt ∙ ap (byte s) (sym (get_or-take n addresses i 0 lt)) ∙ sym (get_or-map (byte s) (take n addresses) i 0 0 (omega (arith, len))))
+    get_or-take n bytes i 0 lt ∙ same i lt ∙ ap (byte s) (sym (get_or-take n addresses i 0 lt))
+    ∙ sym (get_or-map (byte s) (take n addresses) i 0 0 (omega (arith, len))))
 
 -- the addresses and the bytes are what was gathered
 pub gathered : (s : List ℕ) (a : ℕ) (g : GivenBytes) → IsFrontOf s a g.count g.addresses → length g.bytes ≡ 6
@@ -259,8 +279,16 @@ gathered s a g f six same none = record {
         bytes = sym (take_all 6 g.bytes (omega (arith, six))) ∙ is ∙ ap (map (byte s)) (take_all 6 g.addresses (omega (arith, all)) ∙ w.2);
       };
   short = λ lt.
-      let h = f.short lt in
-      (h.0, record { few = f.few; front = h.1; bytes = read_front s g.bytes g.addresses g.count f.few six same (len g.count h.1); no_bytes = none; no_addresses = h.2 });
+      let h = f.short lt in (
+        h.0,
+        record {
+          few = f.few;
+          front = h.1;
+          bytes = read_front s g.bytes g.addresses g.count f.few six same (len g.count h.1);
+          no_bytes = none;
+          no_addresses = h.2;
+        },
+      );
 }
   where
     len : (n : ℕ) → IsFront s a n g.addresses → length (take n g.addresses) ≡ n

@@ -26,20 +26,28 @@ module _ (j k : Job) (one : AreOfOneProgram j k) (more : GrantsMore j k) (less :
   table_alike p c x fits =
       let there : c.address + c.count ≤ length (storage_of k) = subst (λ s. c.address + c.count ≤ length s) one.storage fits in
       let back = turned j k one in
-      let permit : inhibits j.mask c.command ≡ inhibits k.mask c.command = alike_false _ _ (laxer_permits j.mask k.mask c.command more.mask) (laxer_permits k.mask j.mask c.command less.mask) in
-      let stored : covered (store_of j) c.address c.count ≡ covered (store_of k) c.address c.count = alike _ _ (covered_more j k one more (store_of j) (store_of k) _ _ _ more.store fits) (covered_more k j back less (store_of k) (store_of j) _ _ _ less.store there) in
-      let fetched : covered (fetch_of j) c.address c.count ≡ covered (fetch_of k) c.address c.count = alike _ _ (covered_more j k one more (fetch_of j) (fetch_of k) _ _ _ more.fetch fits) (covered_more k j back less (fetch_of k) (fetch_of j) _ _ _ less.fetch there) in
+      let permit : inhibits j.mask c.command ≡ inhibits k.mask c.command =
+      alike_false _ _ (laxer_permits j.mask k.mask c.command more.mask) (laxer_permits k.mask j.mask c.command less.mask) in
+      let stored : covered (store_of j) c.address c.count ≡ covered (store_of k) c.address c.count =
+      alike _ _ (covered_more j k one more (store_of j) (store_of k) _ _ _ more.store fits)
+      (covered_more k j back less (store_of k) (store_of j) _ _ _ less.store there) in
+      let fetched : covered (fetch_of j) c.address c.count ≡ covered (fetch_of k) c.address c.count =
+      alike _ _ (covered_more j k one more (fetch_of j) (fetch_of k) _ _ _ more.fetch fits)
+      (covered_more k j back less (fetch_of k) (fetch_of j) _ _ _ less.fetch there) in
       let refuse : is_refused j x ≡ is_refused k x = alike_false _ _ (refused_more j k one more x) (refused_more k j back less x) in
       let home : has_cylinder (extents_of j) 0 ≡ has_cylinder (extents_of k) 0 = alike _ _ (more.extents 0) (less.extents 0) in
       let strict : is_at_least (byte (storage_of j) c.address) j.mask ≡ is_at_least (byte (storage_of k) c.address) k.mask =
-      alike _ _ (λ h. strict_as_laxer _ j.mask k.mask h more.mask) (λ h. strict_as_laxer _ k.mask j.mask h less.mask) ∙ ap (λ s. is_at_least (byte s c.address) k.mask) one.storage in
+      alike _ _ (λ h. strict_as_laxer _ j.mask k.mask h more.mask) (λ h. strict_as_laxer _ k.mask j.mask h less.mask)
+      ∙ ap (λ s. is_at_least (byte s c.address) k.mask) one.storage in
       rw (permit, stored, fetched, refuse, home, strict) refl
 
   rest_alike : (p : Place) (x : Option (List ℕ)) → check (storage_of j) p ≡ None
-      → (if is_transfer (ccw_of j p) then None else first_reason (table_of_own j p (ccw_of j p) x)) ≡ (if is_transfer (ccw_of k p) then None else first_reason (table_of_own k p (ccw_of k p) x))
+      → (if is_transfer (ccw_of j p) then None else first_reason (table_of_own j p (ccw_of j p) x))
+      ≡ (if is_transfer (ccw_of k p) then None else first_reason (table_of_own k p (ccw_of k p) x))
   rest_alike p x e = go (is_transfer (ccw_of j p)) refl ∙ ap (λ c. if is_transfer c then None else first_reason (table_of_own k p c x)) (ccw_over j k one p)
     where
-      go : (b : Bool) → is_transfer (ccw_of j p) ≡ b → cond b None (first_reason (table_of_own j p (ccw_of j p) x)) ≡ cond b None (first_reason (table_of_own k p (ccw_of j p) x))
+      go : (b : Bool) → is_transfer (ccw_of j p) ≡ b
+          → cond b None (first_reason (table_of_own j p (ccw_of j p) x)) ≡ cond b None (first_reason (table_of_own k p (ccw_of j p) x))
       go true t = refl
       go false t = ap first_reason (table_alike p (ccw_of j p) x (data_in_storage (storage_of j) p (ccw_of j p) e refl t))
 

@@ -36,7 +36,8 @@ pub low_none : (n : ℕ) (areas : List Area) → areas ≡ [] → All (EndsBelow
 low_none n areas e = subst (All (EndsBelow n)) (sym e) (λ i d l. absurd (omega arith))
 
 -- what holds at some place of the list, and what holds at some place of the list with one more
-pub one_more : (P : Place → Type 0) (ps : List Place) (p : Place) (Old New : Type 0) → Old ↔ ((q : Place) × Has ps q × P q) → New ↔ (Old ⊎ P p) → New ↔ ((q : Place) × Has (ps ++ p ∷ []) q × P q)
+pub one_more : (P : Place → Type 0) (ps : List Place) (p : Place) (Old New : Type 0)
+    → Old ↔ ((q : Place) × Has ps q × P q) → New ↔ (Old ⊎ P p) → New ↔ ((q : Place) × Has (ps ++ p ∷ []) q × P q)
 one_more P ps p Old New f g = ((λ h. to (g.0 h)), λ r. from r.0 r.2 (has_cases ps (p ∷ []) r.0 r.1))
   where
     to : Old ⊎ P p → (q : Place) × Has (ps ++ p ∷ []) q × P q
@@ -49,18 +50,22 @@ one_more P ps p Old New f g = ((λ h. to (g.0 h)), λ r. from r.0 r.2 (has_cases
     from q h (inr (inr m)) = absurd m
 
 -- one more place
-pub hold_more : (P : Place → ℕ → Type 0) (ps : List Place) (p : Place) (old new : List Area) → HoldBytes P ps old → AddsBytes old new (P p) → HoldBytes P (ps ++ p ∷ []) new
+pub hold_more : (P : Place → ℕ → Type 0) (ps : List Place) (p : Place) (old new : List Area)
+    → HoldBytes P ps old → AddsBytes old new (P p) → HoldBytes P (ps ++ p ∷ []) new
 hold_more P ps p old new f g b = one_more (λ q. P q b) ps p (lies_in old b ≡ true) (lies_in new b ≡ true) (f b) (g b)
 
 -- at the end, in a list with the same bytes
-pub hold_same : (P : Place → ℕ → Type 0) (some ps : List Place) (areas merged : List Area) → some ≡ ps → HoldBytes P some areas → AreExactly (λ b. lies_in areas b ≡ true) merged → HoldBytes P ps merged
+pub hold_same : (P : Place → ℕ → Type 0) (some ps : List Place) (areas merged : List Area) → some ≡ ps
+    → HoldBytes P some areas → AreExactly (λ b. lies_in areas b ≡ true) merged → HoldBytes P ps merged
 hold_same P some ps areas merged e f g b = search rules
 
 -- over the reachable places
-pub ccw_bytes : (j : Job) (ps : List Place) (areas : List Area) → AreReached j ps → HoldBytes (IsCcwByteOf j) ps areas → (b : ℕ) → (lies_in areas b ≡ true) ↔ IsCcwByte j b
+pub ccw_bytes : (j : Job) (ps : List Place) (areas : List Area) → AreReached j ps
+    → HoldBytes (IsCcwByteOf j) ps areas → (b : ℕ) → (lies_in areas b ≡ true) ↔ IsCcwByte j b
 ccw_bytes j ps areas r f b = search rules
 
-pub argument_bytes : (j : Job) (ps : List Place) (areas : List Area) → AreReached j ps → HoldBytes (IsArgumentByteOf j) ps areas → (b : ℕ) → (lies_in areas b ≡ true) ↔ IsArgumentByte j b
+pub argument_bytes : (j : Job) (ps : List Place) (areas : List Area) → AreReached j ps
+    → HoldBytes (IsArgumentByteOf j) ps areas → (b : ℕ) → (lies_in areas b ≡ true) ↔ IsArgumentByte j b
 argument_bytes j ps areas r f b = search rules
 
 -- ---- at one place
@@ -72,7 +77,8 @@ pub low_more : (old added new : List Area) (n : ℕ) → new ≡ old ++ added �
 low_more old added new n e f g = subst (All (EndsBelow n)) (sym e) (All-append (EndsBelow n) old added f g)
 
 -- the eight bytes of a CCW
-pub bytes_of_ccw : (j : Job) (p : Place) → Stands (storage_of j) p.address → (b : ℕ) → (lies_in ((record { start = p.address; len = 8 }) ∷ []) b ≡ true) ↔ IsCcwByteOf j p b
+pub bytes_of_ccw : (j : Job) (p : Place) → Stands (storage_of j) p.address → (b : ℕ)
+    → (lies_in ((record { start = p.address; len = 8 }) ∷ []) b ≡ true) ↔ IsCcwByteOf j p b
 bytes_of_ccw j p s b = search (rules, lies_in-cases, lies_in-first, both_ways, lies_in-nil)
 
 pub lies_in-bytes : (xs : List ℕ) (b : ℕ) → (lies_in (map byte_area xs) b ≡ true) ↔ Has xs b
@@ -83,7 +89,8 @@ pub low_bytes : (xs : List ℕ) → ((i : ℕ) → get_or xs i 0 < 2 ^ 24) → A
 low_bytes xs h = All-map (EndsBelow (2 ^ 32)) byte_area xs (λ i d l. let k = h i in let e = get_or_default xs i d 0 l in omega arith)
 
 -- the argument at a place that begins a seek and has no own fault
-pub bytes_of_argument : (j : Job) (p : Place) (l x : List ℕ) → begins_seek p (ccw_of j p) ≡ true → IsClear j p → IsChain (storage_of j) 6 p.address l → x ≡ argument_addresses (storage_of j) l → (b : ℕ) → Has x b ↔ IsSeekByteOf j p b
+pub bytes_of_argument : (j : Job) (p : Place) (l x : List ℕ) → begins_seek p (ccw_of j p) ≡ true → IsClear j p
+    → IsChain (storage_of j) 6 p.address l → x ≡ argument_addresses (storage_of j) l → (b : ℕ) → Has x b ↔ IsSeekByteOf j p b
 bytes_of_argument j p l x s f k e b = (
   (λ h. (f, record { seeks = s; chain = l; is_chain = k; has = subst (λ z. Has z b) e h })),
   λ h. subst (λ z. Has z b) (ap (argument_addresses (storage_of j)) (chain_unique (storage_of j) 6 p.address h.1.chain l h.1.is_chain k) ∙ sym e) h.1.has,

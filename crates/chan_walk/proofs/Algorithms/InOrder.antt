@@ -52,10 +52,14 @@ above_all b [] a p h = absurd h
 above_all b (q ∷ ps) a p (inl e) = subst (λ z. b < place_number z) e (cmp_less b (place_number q) a.0)
 above_all b (q ∷ ps) a p (inr h) = above_all b ps a.1 p h
 
-sorted_append : (ps qs : List Place) → AreSorted ps → AreSorted qs → ((p q : Place) → Has ps p → Has qs q → place_number p < place_number q) → AreSorted (ps ++ qs)
+sorted_append : (ps qs : List Place) → AreSorted ps → AreSorted qs
+    → ((p q : Place) → Has ps p → Has qs q → place_number p < place_number q) → AreSorted (ps ++ qs)
 unfolding IsStrictlySortedBy
 sorted_append [] qs s t f = t
-sorted_append (p ∷ ps) qs s t f = (all_above (place_number p) (ps ++ qs) (λ q h. go q (has_cases ps qs q h)), sorted_append ps qs s.1 t (λ q r h k. f q r (inr h) k))
+sorted_append (p ∷ ps) qs s t f = (
+  all_above (place_number p) (ps ++ qs) (λ q h. go q (has_cases ps qs q h)),
+  sorted_append ps qs s.1 t (λ q r h k. f q r (inr h) k),
+)
   where
     go : (q : Place) → Has ps q ⊎ Has qs q → place_number p < place_number q
     go q (inl h) = above_all (place_number p) ps s.0 q h
@@ -84,7 +88,8 @@ unfolding ways
 way_in a m i zero p h = absurd h
 way_in a m i (suc n) p h = go (bit_at m i == 1) refl (way_in a m (suc i) n p) h
   where
-    go : (t : Bool) → (bit_at m i == 1) ≡ t → (Has (ways a m (suc i) n) p → IsWay a m (suc i) n p) → Has (put t (place_at a i) (ways a m (suc i) n)) p → IsWay a m i (suc n) p
+    go : (t : Bool) → (bit_at m i == 1) ≡ t → (Has (ways a m (suc i) n) p → IsWay a m (suc i) n p)
+        → Has (put t (place_at a i) (ways a m (suc i) n)) p → IsWay a m i (suc n) p
     go true e rec (inl d) = record { way = i; from = omega arith; below = omega arith; is = sym d; set = eqb-true (bit_at m i) 1 e }
     go true e rec (inr k) = later_way a m i n p (rec k)
     go false e rec k = later_way a m i n p (rec k)
@@ -140,7 +145,9 @@ at_one : (a m : ℕ) (p : Place) → Has (places_at a m) p → IsAt a m p
 at_one a m p h = grind (arith, common_steps, way_in, way_of-place_at)
 
 one_at : (a m : ℕ) (p : Place) → IsAt a m p → Has (places_at a m) p
-one_at a m p w = subst (Has (places_at a m)) (ap (λ z. place_at z (way_of p)) (sym w.there) ∙ place_at-way_of p) (in_ways a m 0 8 (way_of p) (omega arith) (way_small p) w.set)
+one_at a m p w =
+    subst (Has (places_at a m)) (ap (λ z. place_at z (way_of p)) (sym w.there) ∙ place_at-way_of p)
+    (in_ways a m 0 8 (way_of p) (omega arith) (way_small p) w.set)
 
 -- ---- the places of all entries
 
@@ -186,14 +193,20 @@ mark_is_place m p o = (to (tree.get nat_cmp m p.address) refl, from)
 
     to : (g : Option ℕ) → tree.get nat_cmp m p.address ≡ g → bit_at (or_none (tree.get nat_cmp m p.address)) (way_of p) ≡ 1 → Has (places_of m.entries) p
     to None e h = absurd (no_bit (subst (λ z. bit_at (or_none z) (way_of p) ≡ 1) e h))
-    to (Some v) e h = tells m.entries p v (contains_has m.entries (p.address, v) ((btree_map_get_iff nat_cmp_total exact_unsigned m o p.address v).0 e)) (subst (λ z. bit_at (or_none z) (way_of p) ≡ 1) e h)
+    to (Some v) e h =
+        tells m.entries p v (contains_has m.entries (p.address, v) ((btree_map_get_iff nat_cmp_total exact_unsigned m o p.address v).0 e))
+        (subst (λ z. bit_at (or_none z) (way_of p) ≡ 1) e h)
 
     from : Has (places_of m.entries) p → HasMark m p
-    from h = let r = told m.entries p h in subst (λ z. bit_at (or_none z) (way_of p) ≡ 1) (sym ((btree_map_get_iff nat_cmp_total exact_unsigned m o p.address r.marks).1 (has_contains m.entries (p.address, r.marks) r.entry))) r.set
+    from h =
+        let r = told m.entries p h in
+        subst (λ z. bit_at (or_none z) (way_of p) ≡ 1)
+        (sym ((btree_map_get_iff nat_cmp_total exact_unsigned m o p.address r.marks).1 (has_contains m.entries (p.address, r.marks) r.entry))) r.set
 
 -- ---- what is written out
 
-pub listed_reachable : (j : Job) (n : ℕ) (m : BTreeMap ℕ ℕ) (ps qs : List Place) (i : ℕ) → ListsMarks m qs → Agrees m ps → IsWalked j n ps i → length ps ≤ i → AreReachable j qs
+pub listed_reachable : (j : Job) (n : ℕ) (m : BTreeMap ℕ ℕ) (ps qs : List Place) (i : ℕ)
+    → ListsMarks m qs → Agrees m ps → IsWalked j n ps i → length ps ≤ i → AreReachable j qs
 listed_reachable j n m ps qs i l a w h = subst (AreReachable j) (sym l.listed) (record {
   ordered = IsStrictlyIncreasing-from_sorted (map place_number (places_of m.entries)) (sorted_places m.entries l.ordered);
   each = λ p r. (mark_is_place m p l.ordered).0 ((a p).1 (all_found j n ps i w h p r));
@@ -216,7 +229,9 @@ bit_is_way m qs a w l h = (to, from)
     }
 
     from : HasWay qs a w → bit_at (marks_of m a) w ≡ 1
-    from g = ap (λ z. bit_at (marks_of m z) w) (sym g.there) ∙ ap (bit_at (marks_of m g.place.address)) (sym g.entered) ∙ (mark_is_place m g.place l.ordered).1 (subst (λ z. Has z g.place) l.listed g.listed)
+    from g =
+        ap (λ z. bit_at (marks_of m z) w) (sym g.there) ∙ ap (bit_at (marks_of m g.place.address)) (sym g.entered)
+        ∙ (mark_is_place m g.place l.ordered).1 (subst (λ z. Has z g.place) l.listed g.listed)
 
 -- ---- how many
 
@@ -241,7 +256,9 @@ number_has k (q ∷ ps) p (inr h) e = or_right _ _ (number_has k ps p h e)
 -- places that are apart, each of which the second list has, are no more than it has
 pub fewer : (ps qs : List Place) → AreDistinct ps → ((p : Place) → Has ps p → Has qs p) → length ps ≤ length qs
 fewer ps qs a f =
-    let l : length (map place_number ps) ≤ length (map place_number qs) = length-le_from_is_member nat_eq_equiv (map place_number ps) (map place_number qs) (distinct place_number same_number ps a) (λ k h. let r = has_number k ps h in number_has k qs r.0 (f r.0 r.1) r.2) in
+    let l : length (map place_number ps) ≤ length (map place_number qs) =
+    length-le_from_is_member nat_eq_equiv (map place_number ps) (map place_number qs)
+    (distinct place_number same_number ps a) (λ k h. let r = has_number k ps h in number_has k qs r.0 (f r.0 r.1) r.2) in
     omega (arith, length-map ps place_number, length-map qs place_number)
 
 pub listed_few : (j : Job) (n : ℕ) (m : BTreeMap ℕ ℕ) (ps qs : List Place) (i : ℕ) → ListsMarks m qs → Agrees m ps → IsWalked j n ps i → length qs ≤ n
@@ -249,13 +266,16 @@ listed_few j n m ps qs i l a w = search (rules, fewer, apart_sorted, sorted_plac
 
 -- ---- writing out the places of one address
 
-pub ways_next : (a m i : ℕ) (ps qs rs : List Place) → i < 8 → bit_at m i ≡ 1 → qs ≡ ps ++ place_at a i ∷ [] → ps ++ ways a m i (8 - i) ≡ rs → qs ++ ways a m (i + 1) (8 - (i + 1)) ≡ rs
+pub ways_next : (a m i : ℕ) (ps qs rs : List Place) → i < 8 → bit_at m i ≡ 1
+    → qs ≡ ps ++ place_at a i ∷ [] → ps ++ ways a m i (8 - i) ≡ rs → qs ++ ways a m (i + 1) (8 - (i + 1)) ≡ rs
 unfolding ways
 ways_next a m i ps qs rs l b e h =
     let n : 8 - i ≡ suc (8 - (i + 1)) = omega arith in
     let k : i + 1 ≡ suc i = omega arith in
     let s : (bit_at m i == 1) ≡ true = eq-eqb _ _ b in
-    ap (λ z. z ++ ways a m (i + 1) (8 - (i + 1))) e ∙ append_assoc ps (place_at a i ∷ []) (ways a m (i + 1) (8 - (i + 1))) ∙ ap (λ z. ps ++ place_at a i ∷ ways a m z (8 - (i + 1))) k ∙ ap (λ t. ps ++ put t (place_at a i) (ways a m (suc i) (8 - (i + 1)))) (sym s) ∙ ap (λ z. ps ++ ways a m i z) (sym n) ∙ h
+    ap (λ z. z ++ ways a m (i + 1) (8 - (i + 1))) e ∙ append_assoc ps (place_at a i ∷ []) (ways a m (i + 1) (8 - (i + 1)))
+    ∙ ap (λ z. ps ++ place_at a i ∷ ways a m z (8 - (i + 1))) k
+    ∙ ap (λ t. ps ++ put t (place_at a i) (ways a m (suc i) (8 - (i + 1)))) (sym s) ∙ ap (λ z. ps ++ ways a m i z) (sym n) ∙ h
 
 pub ways_skip : (a m i : ℕ) (ps rs : List Place) → i < 8 → (bit_at m i ≡ 1 → ⊥) → ps ++ ways a m i (8 - i) ≡ rs → ps ++ ways a m (i + 1) (8 - (i + 1)) ≡ rs
 unfolding ways
@@ -263,7 +283,8 @@ ways_skip a m i ps rs l b h =
     let n : 8 - i ≡ suc (8 - (i + 1)) = omega arith in
     let k : i + 1 ≡ suc i = omega arith in
     let s : (bit_at m i == 1) ≡ false = ne_eqb _ _ b in
-    ap (λ z. ps ++ ways a m z (8 - (i + 1))) k ∙ ap (λ t. ps ++ put t (place_at a i) (ways a m (suc i) (8 - (i + 1)))) (sym s) ∙ ap (λ z. ps ++ ways a m i z) (sym n) ∙ h
+    ap (λ z. ps ++ ways a m z (8 - (i + 1))) k ∙ ap (λ t. ps ++ put t (place_at a i) (ways a m (suc i) (8 - (i + 1)))) (sym s)
+    ∙ ap (λ z. ps ++ ways a m i z) (sym n) ∙ h
 
 pub ways_done : (a m i : ℕ) (ps rs : List Place) → 8 ≤ i → ps ++ ways a m i (8 - i) ≡ rs → ps ≡ rs
 unfolding ways

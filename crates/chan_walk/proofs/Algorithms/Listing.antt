@@ -54,7 +54,8 @@ above_first n [] a o h = absurd h
 above_first n (t ∷ os) a o (inl e) = subst (λ z. n < offence_number z) e (cmp_less n (offence_number t) a.0)
 above_first n (t ∷ os) a o (inr h) = above_first n os a.1 o h
 
-all_above : (o : Offence) (os : List Offence) → IsStrictlyIncreasing (map offence_number (o ∷ os)) → (t : Offence) → Has os t → offence_number o < offence_number t
+all_above : (o : Offence) (os : List Offence) → IsStrictlyIncreasing (map offence_number (o ∷ os))
+    → (t : Offence) → Has os t → offence_number o < offence_number t
 unfolding IsStrictlySortedBy
 all_above o os up t h =
     let sorted : IsStrictlySortedBy nat_cmp (map offence_number (o ∷ os)) = sorted_from_strictly_increasing (map offence_number (o ∷ os)) up in
@@ -120,8 +121,18 @@ same_offence o t e =
 
 -- ---- put in order
 
-pub increasing : (os ts : List Offence) → IsNonDecreasingBy offence_number ts → IsPermutation os ts → AreDistinct os → IsStrictlyIncreasing (map offence_number ts)
-increasing os ts up moved apart = search (rules, distinct offence_number same_offence, IsDistinct-IsPermutation, eqb_flips, IsPermutation-map, IsStrictlyIncreasing-from_distinct, non_decreasing offence_number)
+pub increasing : (os ts : List Offence) → IsNonDecreasingBy offence_number ts
+    → IsPermutation os ts → AreDistinct os → IsStrictlyIncreasing (map offence_number ts)
+increasing os ts up moved apart =
+    search (
+      rules,
+      distinct offence_number same_offence,
+      IsDistinct-IsPermutation,
+      eqb_flips,
+      IsPermutation-map,
+      IsStrictlyIncreasing-from_distinct,
+      non_decreasing offence_number,
+    )
 
 pub same_offences : (os ts : List Offence) (o : Offence) → IsPermutation os ts → Has ts o ↔ Has os o
 same_offences os ts o moved = search (rules, contains_has, Contains-permutation, IsPermutation-sym, has_contains)
@@ -136,7 +147,8 @@ apart_append (x ∷ xs) ys a b n = search (rules, has_cases, apart_append xs ys 
 pub adds_none : (Off : Place → Reason → Type 0) (p : Place) (os ts : List Offence) → ts ≡ os → ((r : Reason) → Off p r → ⊥) → AddsOffences Off p os ts
 adds_none Off p os ts e n = record { more = []; is = e ∙ sym (append-nil os); exactly = λ o. ((λ h. absurd h), λ h. absurd (n o.reason h.1)); apart = tt }
 
-pub adds_one : (Off : Place → Reason → Type 0) (p : Place) (r : Reason) (os ts : List Offence) → ts ≡ os ++ offence p r ∷ [] → Off p r → ((t : Reason) → Off p t → r ≡ t) → AddsOffences Off p os ts
+pub adds_one : (Off : Place → Reason → Type 0) (p : Place) (r : Reason) (os ts : List Offence)
+    → ts ≡ os ++ offence p r ∷ [] → Off p r → ((t : Reason) → Off p t → r ≡ t) → AddsOffences Off p os ts
 adds_one Off p r os ts e off only = search rules
 
 -- in two ways that share no reason
@@ -148,30 +160,37 @@ adds_both One Other Off p os ts us a b either never = search (rules, append_asso
 pub offences_none : (Off : Place → Reason → Type 0) (os : List Offence) → os ≡ [] → HasOffences Off [] os
 offences_none Off os e = subst (HasOffences Off []) (sym e) (record { exactly = λ o. ((λ h. absurd h), λ h. absurd h.0); apart = tt })
 
-pub offences_more : (Off : Place → Reason → Type 0) (ps : List Place) (p : Place) (os ts : List Offence) → (Has ps p → ⊥) → HasOffences Off ps os → AddsOffences Off p os ts → HasOffences Off (ps ++ p ∷ []) ts
+pub offences_more : (Off : Place → Reason → Type 0) (ps : List Place) (p : Place) (os ts : List Offence)
+    → (Has ps p → ⊥) → HasOffences Off ps os → AddsOffences Off p os ts → HasOffences Off (ps ++ p ∷ []) ts
 offences_more Off ps p os ts new h a = search (rules, has_cases, has_push, apart_append, has_left, has_right)
 
 -- the place of the next look is new
-pub new_place : (ls : List Seen) (i : ℕ) (l : Seen) → AreDistinct (places_of_looks ls) → i < length ls → l ≡ get_or ls i l → Has (places_of_looks (take i ls)) l.place → ⊥
+pub new_place : (ls : List Seen) (i : ℕ) (l : Seen) → AreDistinct (places_of_looks ls)
+    → i < length ls → l ≡ get_or ls i l → Has (places_of_looks (take i ls)) l.place → ⊥
 new_place ls i l apart within e h =
     let taken = at_has (places_of_looks (take i ls)) l.place h in
     let all : length (places_of_looks (take i ls)) ≡ length (take i ls) = number_of_places (take i ls) in
     let some : length (take i ls) ≡ min i (length ls) = length-take i ls in
-    let split : places_of_looks (take i ls) ++ places_of_looks (drop i ls) ≡ places_of_looks ls = sym (map-append place_of (take i ls) (drop i ls)) ∙ ap places_of_looks (take-append-drop i ls) in
-    let there : slice_get (places_of_looks ls) taken.0 ≡ Some l.place = ap (λ z. slice_get z taken.0) (sym split) ∙ slice_get-append (places_of_looks (take i ls)) (places_of_looks (drop i ls)) taken.0 taken.1 ∙ taken.2 in
+    let split : places_of_looks (take i ls) ++ places_of_looks (drop i ls) ≡ places_of_looks ls =
+    sym (map-append place_of (take i ls) (drop i ls)) ∙ ap places_of_looks (take-append-drop i ls) in
+    let there : slice_get (places_of_looks ls) taken.0 ≡ Some l.place =
+    ap (λ z. slice_get z taken.0) (sym split) ∙ slice_get-append (places_of_looks (take i ls)) (places_of_looks (drop i ls)) taken.0 taken.1 ∙ taken.2 in
     let same = same_index (places_of_looks ls) l.place taken.0 i apart there (place_at ls i l within e) in
     omega (arith, same, taken.1, all, some)
 
 -- ---- stores over guarded bytes
 
 -- the CCW that was seen stores into the areas where it stores over one of their bytes
-pub stores_both : (j : Job) (l : Seen) (b : Bool) (given areas : List Area) (P : ℕ → Type 0) → IsLook j l → IsClear j l.place → given ≡ areas → ((a : ℕ) → (lies_in areas a ≡ true) ↔ P a) → IsTrue b ↔ StoresInto l given → IsTrue b ↔ StoresOver j l.place P
+pub stores_both : (j : Job) (l : Seen) (b : Bool) (given areas : List Area) (P : ℕ → Type 0) → IsLook j l → IsClear j l.place
+    → given ≡ areas → ((a : ℕ) → (lies_in areas a ≡ true) ↔ P a) → IsTrue b ↔ StoresInto l given → IsTrue b ↔ StoresOver j l.place P
 stores_both j l b given areas P look clear e same h = search (rules, ccw_at-where, check_stands, clear_check, ccw_at-some, over_from_meets, meets_from_over)
 
 -- the two changes at a place
-pub adds_changes : (j : Job) (p : Place) (a b : Bool) (os ts us : List Offence) → IsTrue a ↔ StoresOver j p (IsCcwByte j) → IsTrue b ↔ StoresOver j p (IsArgumentByte j)
-    → AddsOffences (λ _ t. (t ≡ ChangesCcw) × IsTrue a) p os ts → AddsOffences (λ _ t. (t ≡ ChangesArgument) × IsTrue b) p ts us → AddsOffences (Changes j) p os us
-adds_changes j p a b os ts us f g one other = adds_both (λ _ t. (t ≡ ChangesCcw) × IsTrue a) (λ _ t. (t ≡ ChangesArgument) × IsTrue b) (Changes j) p os ts us one other (λ r. (to r, from r)) never
+pub adds_changes : (j : Job) (p : Place) (a b : Bool) (os ts us : List Offence) → IsTrue a ↔ StoresOver j p (IsCcwByte j)
+    → IsTrue b ↔ StoresOver j p (IsArgumentByte j) → AddsOffences (λ _ t. (t ≡ ChangesCcw) × IsTrue a) p os ts
+    → AddsOffences (λ _ t. (t ≡ ChangesArgument) × IsTrue b) p ts us → AddsOffences (Changes j) p os us
+adds_changes j p a b os ts us f g one other =
+    adds_both (λ _ t. (t ≡ ChangesCcw) × IsTrue a) (λ _ t. (t ≡ ChangesArgument) × IsTrue b) (Changes j) p os ts us one other (λ r. (to r, from r)) never
   where
     to : (r : Reason) → Changes j p r → ((r ≡ ChangesCcw) × IsTrue a) ⊎ ((r ≡ ChangesArgument) × IsTrue b)
     to r (inl h) = inl (h.0, f.1 h.1)
@@ -187,7 +206,8 @@ adds_changes j p a b os ts us f g one other = adds_both (λ _ t. (t ≡ ChangesC
 -- ---- all of them
 
 -- an own fault counts
-pub fault_offences : (j : Job) (ps : List Place) (os : List Offence) → AreReached j ps → HasOffences (IsOwn j) ps os → (t : Offence) → Has os t → (o : Offence) → Has os o ↔ Offending j o
+pub fault_offences : (j : Job) (ps : List Place) (os : List Offence) → AreReached j ps
+    → HasOffences (IsOwn j) ps os → (t : Offence) → Has os t → (o : Offence) → Has os o ↔ Offending j o
 fault_offences j ps os r h t k o = ((λ m. let z = (h.exactly o).0 m in (r.1 o.place z.0, inl z.1)), λ z. (h.exactly o).1 (r.0 o.place z.0, go z.1))
   where
     go : Offends j o.place o.reason → IsOwn j o.place o.reason
@@ -195,20 +215,27 @@ fault_offences j ps os r h t k o = ((λ m. let z = (h.exactly o).0 m in (r.1 o.p
     go (inr g) = let z = (h.exactly t).0 k in absurd (not_clear j t.place t.reason z.1 (r.1 t.place z.0) g.0)
 
 -- where there is none, the changes do
-pub no_faults : (j : Job) (ps : List Place) (os : List Offence) → AreReached j ps → HasOffences (IsOwn j) ps os → os ≡ [] → (p : Place) (t : Reason) → IsReachable j p → IsOwn j p t → ⊥
+pub no_faults : (j : Job) (ps : List Place) (os : List Offence) → AreReached j ps
+    → HasOffences (IsOwn j) ps os → os ≡ [] → (p : Place) (t : Reason) → IsReachable j p → IsOwn j p t → ⊥
 no_faults j ps os r h e p t m f = subst (λ z. Has z (offence p t)) e ((h.exactly (offence p t)).1 (r.0 p m, f))
 
-pub change_offences : (j : Job) (ps : List Place) (os : List Offence) → AreReached j ps → ((p : Place) (t : Reason) → IsReachable j p → IsOwn j p t → ⊥) → HasOffences (Changes j) ps os → (o : Offence) → Has os o ↔ Offending j o
-change_offences j ps os r none h o = ((λ m. let z = (h.exactly o).0 m in (r.1 o.place z.0, inr (clear_all j none, z.1))), λ z. (h.exactly o).1 (r.0 o.place z.0, change_of j none o.place o.reason z.0 z.1))
+pub change_offences : (j : Job) (ps : List Place) (os : List Offence) → AreReached j ps
+    → ((p : Place) (t : Reason) → IsReachable j p → IsOwn j p t → ⊥) → HasOffences (Changes j) ps os → (o : Offence) → Has os o ↔ Offending j o
+change_offences j ps os r none h o = (
+  (λ m. let z = (h.exactly o).0 m in (r.1 o.place z.0, inr (clear_all j none, z.1))),
+  λ z. (h.exactly o).1 (r.0 o.place z.0, change_of j none o.place o.reason z.0 z.1),
+)
 
 -- the own fault of a place, and none
-pub added_fault : (j : Job) (p : Place) (r : Reason) (os ts : List Offence) → ts ≡ os ++ offence p r ∷ [] → HasFault j p (Some r) → AddsOffences (IsOwn j) p os ts
+pub added_fault : (j : Job) (p : Place) (r : Reason) (os ts : List Offence)
+    → ts ≡ os ++ offence p r ∷ [] → HasFault j p (Some r) → AddsOffences (IsOwn j) p os ts
 added_fault j p r os ts e f = adds_one (IsOwn j) p r os ts e f only
   where
     only : (t : Reason) → IsOwn j p t → r ≡ t
     only t k = let d : ◌≡◌ {A = Option Reason} (Some r) (Some t) = fault_unique j p (Some r) (Some t) f k in cc
 
-pub unadded_fault : (j : Job) (p : Place) (os ts : List Offence) → ts ≡ os → (o : Option Reason) → ((r : Reason) → o ≡ Some r → ⊥) → HasFault j p o → AddsOffences (IsOwn j) p os ts
+pub unadded_fault : (j : Job) (p : Place) (os ts : List Offence) → ts ≡ os → (o : Option Reason)
+    → ((r : Reason) → o ≡ Some r → ⊥) → HasFault j p o → AddsOffences (IsOwn j) p os ts
 unadded_fault j p os ts e (Some r) n f = absurd (n r refl)
 unadded_fault j p os ts e None n f = adds_none (IsOwn j) p os ts e none
   where
@@ -224,7 +251,8 @@ pub no_offence : (os : List Offence) (n : ℕ) (b : Bool) → n ≡ length os �
 no_offence os n b l e f = grind (arith, common_steps, eqb-true)
 
 -- the same offences in order
-pub put_in_order : (j : Job) (os ts : List Offence) → AreAllOffences j os → IsStrictlyIncreasing (map offence_number ts) → ((o : Offence) → Has ts o ↔ Has os o) → AreOffences j ts
+pub put_in_order : (j : Job) (os ts : List Offence) → AreAllOffences j os
+    → IsStrictlyIncreasing (map offence_number ts) → ((o : Offence) → Has ts o ↔ Has os o) → AreOffences j ts
 put_in_order j os ts all up same = record {
   ordered = up;
   each = λ o h. (same o).1 ((all.exactly o).1 h);

@@ -40,14 +40,20 @@ same_number p q e = search rules
 -- ---- one mark more
 
 -- the bits at one address changed, by one bit
-marks_by : (m n : BTreeMap ℕ ℕ) (q : Place) → ((a : ℕ) → (a ≡ q.address → ⊥) → marks_of n a ≡ marks_of m a) → ((i : ℕ) → (i ≡ way_of q → ⊥) → bit_at (marks_of n q.address) i ≡ bit_at (marks_of m q.address) i) → bit_at (marks_of n q.address) (way_of q) ≡ 1 → Marks m n q
+marks_by : (m n : BTreeMap ℕ ℕ) (q : Place) → ((a : ℕ) → (a ≡ q.address → ⊥) → marks_of n a ≡ marks_of m a)
+    → ((i : ℕ) → (i ≡ way_of q → ⊥) → bit_at (marks_of n q.address) i ≡ bit_at (marks_of m q.address) i)
+    → bit_at (marks_of n q.address) (way_of q) ≡ 1 → Marks m n q
 marks_by m n q others bits same p = search rules
 
 apart_keys : (a b : ℕ) → (b ≡ a → ⊥) → tree.is_at (nat_cmp a) b ≡ false
 apart_keys a b d = grind (arith, nat_tests)
 
-pub mark_put : (m n : BTreeMap ℕ ℕ) (q : Place) (w v : ℕ) → w ≡ way_of q → v ≡ bit_or (marks_of m q.address) (1 * 2 ^ w % 2 ^ 8) → tree.Updates nat_cmp m n q.address (Some v) → Marks m n q
-mark_put m n q w v f e u = marks_by m n q (λ a d. ap or_none (u.2 a (apart_keys q.address a d))) (λ i d. ap (λ z. bit_at z i) now ∙ bit_at_set_other w8 (marks_of m q.address) (way_of q) (way_small q) i d) (ap (λ z. bit_at z (way_of q)) now ∙ bit_at_set_same w8 (marks_of m q.address) (way_of q) (way_small q))
+pub mark_put : (m n : BTreeMap ℕ ℕ) (q : Place) (w v : ℕ) → w ≡ way_of q
+    → v ≡ bit_or (marks_of m q.address) (1 * 2 ^ w % 2 ^ 8) → tree.Updates nat_cmp m n q.address (Some v) → Marks m n q
+mark_put m n q w v f e u =
+    marks_by m n q (λ a d. ap or_none (u.2 a (apart_keys q.address a d)))
+    (λ i d. ap (λ z. bit_at z i) now ∙ bit_at_set_other w8 (marks_of m q.address) (way_of q) (way_small q) i d)
+    (ap (λ z. bit_at z (way_of q)) now ∙ bit_at_set_same w8 (marks_of m q.address) (way_of q) (way_small q))
   where
     now : marks_of n q.address ≡ bit_or (marks_of m q.address) (1 * 2 ^ way_of q % 2 ^ 8)
     now = ap or_none u.1 ∙ e ∙ ap (λ z. bit_or (marks_of m q.address) (1 * 2 ^ z % 2 ^ 8)) f

@@ -26,7 +26,8 @@ numbers_of_places ls = map-map place_number place_of ls
 -- an order of places that is that of their numbers
 by_number : (cmp : Place → Place → Ordering) (ls : List Seen) → ((p q : Place) → cmp p q ≡ nat_cmp (place_number p) (place_number q))
     → IsSortedByKey place_of cmp ls → IsNonDecreasingBy number ls
-by_number cmp ls same up = IsNonDecreasingBy-from_sort number ls (λ k d low high. ap is_lt (sym (same (get_or ls (k + 1) d).place (get_or ls k d).place)) ∙ up k d low high)
+by_number cmp ls same up =
+    IsNonDecreasingBy-from_sort number ls (λ k d low high. ap is_lt (sym (same (get_or ls (k + 1) d).place (get_or ls k d).place)) ∙ up k d low high)
 
 pub non_decreasing : {X : Type 0} (n : X → ℕ) (xs : List X) → IsNonDecreasingBy n xs → IsNonDecreasing (map n xs)
 non_decreasing n [] up i j d le lt = absurd (omega arith)
@@ -44,7 +45,18 @@ eqb_flips x y = search rules
 -- sorted by place, and no place twice
 pub increasing : (cmp : Place → Place → Ordering) (ls ms : List Seen) → ((p q : Place) → cmp p q ≡ nat_cmp (place_number p) (place_number q))
     → IsSortedByKey place_of cmp ms → IsPermutation ls ms → AreDistinct (places_of_looks ls) → IsStrictlyIncreasing (map place_number (places_of_looks ms))
-increasing cmp ls ms same up moved apart = search (rules, numbers_of_places, distinct place_number same_number, IsDistinct-IsPermutation, eqb_flips, IsPermutation-map, IsStrictlyIncreasing-from_distinct, non_decreasing number, by_number)
+increasing cmp ls ms same up moved apart =
+    search (
+      rules,
+      numbers_of_places,
+      distinct place_number same_number,
+      IsDistinct-IsPermutation,
+      eqb_flips,
+      IsPermutation-map,
+      IsStrictlyIncreasing-from_distinct,
+      non_decreasing number,
+      by_number,
+    )
 
 pub same_looks : (ls ms : List Seen) (l : Seen) → IsPermutation ls ms → Has ms l ↔ Has ls l
 same_looks ls ms l moved = search (rules, contains_has, Contains-permutation, IsPermutation-sym, has_contains)

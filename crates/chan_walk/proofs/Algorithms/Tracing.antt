@@ -44,7 +44,8 @@ found_push ps fs q r x k same f =
     let within = slice_get_within ps f.0 q f.1 in
     (f.0, slice_get-append ps (r ∷ []) f.0 within ∙ f.1, λ h. subst (λ n. n ≤ k) (sym (index_old fs x f.0 (omega arith))) (f.2 h))
 
-module _ (j : Job) (ps : List Place) (fs : List ℕ) (i : ℕ) (p q : Place) (t : IsTraced j ps fs i (i + 1)) (there : slice_get ps i ≡ Some p) (follows : Follows j p q)
+module _ (j : Job) (ps : List Place) (fs : List ℕ) (i : ℕ) (p q : Place)
+    (t : IsTraced j ps fs i (i + 1)) (there : slice_get ps i ≡ Some p) (follows : Follows j p q)
     (elder : (k : ℕ) (s : Place) → 0 < k → slice_get ps k ≡ Some s → slice_index fs k ≡ i → IsNext j p s × IsSkip j p q) where
   abbrev more : List Place
   more = ps ++ q ∷ []
@@ -85,12 +86,21 @@ module _ (j : Job) (ps : List Place) (fs : List ℕ) (i : ℕ) (p q : Place) (t 
   from k h l (inr b) =
       let at : k ≡ length ps = omega (arith, length-more) in
       let e : slice_index from_more k ≡ i = ap (slice_index from_more) at ∙ new in
-      record { parent = p; child = q; there = ap (slice_get more) e ∙ there'; here = get_last ps q k at; follows = follows; earlier = omega (arith, within); among = omega arith }
+      record {
+        parent = p;
+        child = q;
+        there = ap (slice_get more) e ∙ there';
+        here = get_last ps q k at;
+        follows = follows;
+        earlier = omega (arith, within);
+        among = omega arith;
+      }
 
   upto : (k : ℕ) → 0 < k → k < length ps → slice_index from_more k ≤ i
   upto k h b = let e = old k b in let a = (t.from k h b).among in omega arith
 
-  rising : (k l : ℕ) → 0 < k → k ≤ l → l < length more → (l < length ps) ⊎ (length ps ≤ l) → (k < length ps) ⊎ (length ps ≤ k) → slice_index from_more k ≤ slice_index from_more l
+  rising : (k l : ℕ) → 0 < k → k ≤ l → l < length more → (l < length ps) ⊎ (length ps ≤ l)
+      → (k < length ps) ⊎ (length ps ≤ k) → slice_index from_more k ≤ slice_index from_more l
   rising k l h o b (inl c) d = let e = old k (omega arith) in let f = old l c in let r = t.rising k l h o c in omega arith
   rising k l h o b (inr c) (inl d) =
       let at : l ≡ length ps = omega (arith, length-more) in
@@ -101,7 +111,8 @@ module _ (j : Job) (ps : List Place) (fs : List ℕ) (i : ℕ) (p q : Place) (t 
       let at : k ≡ l = omega (arith, length-more) in
       subst (λ z. slice_index from_more k ≤ slice_index from_more z) at (omega arith)
 
-  siblings : (k l : ℕ) → 0 < k → k < l → l < length more → slice_index from_more k ≡ slice_index from_more l → (l < length ps) ⊎ (length ps ≤ l) → AreSiblings j more (slice_index from_more k) k l
+  siblings : (k l : ℕ) → 0 < k → k < l → l < length more → slice_index from_more k ≡ slice_index from_more l
+      → (l < length ps) ⊎ (length ps ≤ l) → AreSiblings j more (slice_index from_more k) k l
   siblings k l h o b e (inl c) =
       let f = old k (omega arith) in
       let r = t.siblings k l h o c (sym f ∙ e ∙ old l c) in
@@ -151,7 +162,18 @@ traced_more : (j : Job) (ps : List Place) (fs : List ℕ) (i : ℕ) → IsTraced
 traced_more j ps fs i t = record {
   each = t.each;
   begins = t.begins;
-  from = λ k h l. let r = t.from k h l in let a = r.among in record { parent = r.parent; child = r.child; there = r.there; here = r.here; follows = r.follows; earlier = r.earlier; among = omega arith };
+  from = λ k h l.
+      let r = t.from k h l in
+      let a = r.among in
+      record {
+        parent = r.parent;
+        child = r.child;
+        there = r.there;
+        here = r.here;
+        follows = r.follows;
+        earlier = r.earlier;
+        among = omega arith;
+      };
   rising = t.rising;
   siblings = t.siblings;
   found = t.found;
@@ -189,7 +211,8 @@ module _ (j : Job) (p : Place) (n : Next) (i : ℕ) (are : AreSuccessors j p n) 
   found_before : (ps : List Place) (fs : List ℕ) → IsTraced j ps fs i (i + 1) → (q : Place) → Has ps q → IsFoundBy ps fs i q
   found_before ps fs t q h = let a = at_has ps q h in (a.0, a.2, λ z. let m = (t.from a.0 z a.1).among in omega arith)
 
-  next_found : (l : ℕ) (ps qs : List Place) (fs gs : List ℕ) → IsTraced j ps fs i i → slice_get ps i ≡ Some p → (o : Option Place) → n.next ≡ o → Adds l o i ps qs fs gs → HasNext j p n i qs gs
+  next_found : (l : ℕ) (ps qs : List Place) (fs gs : List ℕ) → IsTraced j ps fs i i → slice_get ps i ≡ Some p
+      → (o : Option Place) → n.next ≡ o → Adds l o i ps qs fs gs → HasNext j p n i qs gs
   next_found l ps qs fs gs t there o e a = go o e a
     where
       none : (k : ℕ) (s : Place) → 0 < k → slice_get ps k ≡ Some s → slice_index fs k ≡ i → ⊥
@@ -212,7 +235,8 @@ module _ (j : Job) (p : Place) (n : Next) (i : ℕ) (are : AreSuccessors j p n) 
           follows : Follows j p q
           follows = (follows_exactly j p n are q).0 (inl e)
 
-          only : (k : ℕ) (s : Place) → 0 < k → slice_get (ps ++ q ∷ []) k ≡ Some s → slice_index (fs ++ i ∷ []) k ≡ i → (k < length ps) ⊎ (length ps ≤ k) → n.next ≡ Some s
+          only : (k : ℕ) (s : Place) → 0 < k → slice_get (ps ++ q ∷ []) k ≡ Some s
+              → slice_index (fs ++ i ∷ []) k ≡ i → (k < length ps) ⊎ (length ps ≤ k) → n.next ≡ Some s
           only k s h g f (inl b) = absurd (none k s h (sym (slice_get-append ps (q ∷ []) k b) ∙ g) (sym (index_old fs i k (omega (arith, t.each))) ∙ f))
           only k s h g f (inr b) =
               let w = slice_get_within (ps ++ q ∷ []) k s g in
@@ -224,10 +248,13 @@ module _ (j : Job) (p : Place) (n : Next) (i : ℕ) (are : AreSuccessors j p n) 
             traced = traced_push j ps fs i p q t' there follows (λ k s h g f. absurd (none k s h g f));
             there = slice_get-append ps (q ∷ []) i (slice_get_within ps i p there) ∙ there;
             only = λ k s h g f. only k s h g f (cases_lt k (length ps));
-            has = λ r g. let d : q ≡ r = cc in (length ps, get_last ps q (length ps) refl ∙ ap Some d, λ z. let m = index_last fs i (length ps) (sym t.each) in omega arith);
+            has = λ r g.
+                let d : q ≡ r = cc in
+                (length ps, get_last ps q (length ps) refl ∙ ap Some d, λ z. let m = index_last fs i (length ps) (sym t.each) in omega arith);
           }
 
-  skip_found : (l : ℕ) (qs rs : List Place) (gs hs : List ℕ) → HasNext j p n i qs gs → (o : Option Place) → n.skip ≡ o → Adds l o i qs rs gs hs → HasBoth j p n i rs hs
+  skip_found : (l : ℕ) (qs rs : List Place) (gs hs : List ℕ) → HasNext j p n i qs gs
+      → (o : Option Place) → n.skip ≡ o → Adds l o i qs rs gs hs → HasBoth j p n i rs hs
   skip_found l qs rs gs hs m o e a = go o e a
     where
       same : ((q : Place) → n.skip ≡ Some q → IsFoundBy qs gs i q) → HasBoth j p n i qs gs
@@ -279,16 +306,19 @@ module _ (j : Job) (p : Place) (n : Next) (i : ℕ) (are : AreSuccessors j p n) 
           let same : p ≡ a = cc in
           subst (λ z. IsFoundBy rs hs z q) at (b.has q ((follows_exactly j p n are q).1 (subst (λ z. Follows j z q) (sym same) f)))
 
-  pub traced_on : (l : ℕ) (ps qs rs : List Place) (fs gs hs : List ℕ) → IsTraced j ps fs i i → slice_get ps i ≡ Some p → Adds l n.next i ps qs fs gs → Adds l n.skip i qs rs gs hs → IsTraced j rs hs (i + 1) (i + 1)
+  pub traced_on : (l : ℕ) (ps qs rs : List Place) (fs gs hs : List ℕ) → IsTraced j ps fs i i → slice_get ps i ≡ Some p
+      → Adds l n.next i ps qs fs gs → Adds l n.skip i qs rs gs hs → IsTraced j rs hs (i + 1) (i + 1)
   traced_on l ps qs rs fs gs hs t there a b = both_traced rs hs (skip_found l qs rs gs hs (next_found l ps qs fs gs t there n.next refl a) n.skip refl b)
 
 -- ---- the path back
 
-module _ (j : Job) (ps : List Place) (fs : List ℕ) (i : ℕ) (t : IsTraced j ps fs i i) (all : length ps ≤ i) (apart : AreDistinct ps) (found : (p : Place) → IsReachable j p → Has ps p) where
+module _ (j : Job) (ps : List Place) (fs : List ℕ) (i : ℕ) (t : IsTraced j ps fs i i)
+    (all : length ps ≤ i) (apart : AreDistinct ps) (found : (p : Place) → IsReachable j p → Has ps p) where
   pub best_first : IsBest j ps 0 (first_place j) []
   best_first = search rules
 
-  pub best_next : (k : ℕ) (c p : Place) (rest : List Place) → 0 < k → slice_get ps k ≡ Some c → IsBest j ps (slice_index fs k) p rest → IsBest j ps k c (p ∷ rest)
+  pub best_next : (k : ℕ) (c p : Place) (rest : List Place) → 0 < k → slice_get ps k ≡ Some c
+      → IsBest j ps (slice_index fs k) p rest → IsBest j ps k c (p ∷ rest)
   best_next k c p rest pos here b = record { here = here; path = (b.path, follows.0, follows.1); first = λ l q qs h e f. first l q qs h e f }
     where
       low : k < length ps
@@ -305,7 +335,8 @@ module _ (j : Job) (ps : List Place) (fs : List ℕ) (i : ℕ) (t : IsTraced j p
           let also : r.child ≡ c = cc in
           subst (λ z. Follows j z c) same (subst (λ z. Follows j r.parent z) also r.follows)
 
-      meet : (l m : ℕ) (q x : Place) (qs : List Place) → k ≤ l → slice_get ps l ≡ Some q → slice_get ps m ≡ Some x → slice_index fs l ≤ m → IsFirstOf j (p ∷ rest) (x ∷ qs) → IsFirstOf j (c ∷ p ∷ rest) (q ∷ x ∷ qs)
+      meet : (l m : ℕ) (q x : Place) (qs : List Place) → k ≤ l → slice_get ps l ≡ Some q → slice_get ps m ≡ Some x
+          → slice_index fs l ≤ m → IsFirstOf j (p ∷ rest) (x ∷ qs) → IsFirstOf j (c ∷ p ∷ rest) (q ∷ x ∷ qs)
       meet l m q x qs h e a o (inl s) = inl (omega arith)
       meet l m q x qs h e a o (inr (n, inr s)) = inr (ap suc n, inr (inl s))
       meet l m q x qs h e a o (inr (n, inl s)) = go (cases_lt k l)
@@ -331,7 +362,9 @@ module _ (j : Job) (ps : List Place) (fs : List ℕ) (i : ℕ) (t : IsTraced j p
               let dp : z.parent ≡ p = cc in
               let dc : z.elder ≡ c = cc in
               let dq : z.younger ≡ q = cc in
-              inr (ap suc n, inr (inr (s, subst (λ a. IsNext j a c) dp (subst (λ a. IsNext j z.parent a) dc z.next), subst (λ a. IsSkip j a q) dp (subst (λ a. IsSkip j z.parent a) dq z.skip))))
+              let next : IsNext j p c = subst (λ a. IsNext j a c) dp (subst (λ a. IsNext j z.parent a) dc z.next) in
+              let skip : IsSkip j p q = subst (λ a. IsSkip j a q) dp (subst (λ a. IsSkip j z.parent a) dq z.skip) in
+              inr (ap suc n, inr (inr (s, next, skip)))
 
       first : (l : ℕ) (q : Place) (qs : List Place) → k ≤ l → slice_get ps l ≡ Some q → IsPath j (q ∷ qs) → IsFirstOf j (c ∷ p ∷ rest) (q ∷ qs)
       first l q [] h e f = let z = same_index ps (first_place j) l 0 apart (e ∙ ap Some f) t.begins in absurd (omega arith)

@@ -18,7 +18,8 @@ pub not_clear : (j : Job) (p : Place) (r : Reason) → HasFault j p (Some r) →
 not_clear j p r f reached clear = let d : ◌≡◌ {A = Option Reason} None (Some r) = fault_unique j p None (Some r) (clear p reached) f in cc
 
 -- without own faults, only changes offend
-pub change_of : (j : Job) → ((p : Place) (t : Reason) → IsReachable j p → IsOwn j p t → ⊥) → (p : Place) (t : Reason) → IsReachable j p → Offends j p t → Changes j p t
+pub change_of : (j : Job) → ((p : Place) (t : Reason) → IsReachable j p → IsOwn j p t → ⊥)
+    → (p : Place) (t : Reason) → IsReachable j p → Offends j p t → Changes j p t
 change_of j none p t r (inl o) = absurd (none p t r o)
 change_of j none p t r (inr o) = o.1
 

@@ -36,13 +36,15 @@ record Grows (j : Job) (n : ℕ) (o : Option Place) (ps qs : List Place) (i : �
   same : (k : ℕ) → k < length ps → slice_get qs k ≡ slice_get ps k
   longer : length ps ≤ length qs
 
-only_push : (j : Job) (q : Place) (ps : List Place) → IsReachable j q → ((p : Place) → Has ps p → IsReachable j p) → (p : Place) → Has (ps ++ q ∷ []) p → IsReachable j p
+only_push : (j : Job) (q : Place) (ps : List Place) → IsReachable j q
+    → ((p : Place) → Has ps p → IsReachable j p) → (p : Place) → Has (ps ++ q ∷ []) p → IsReachable j p
 only_push j q ps r f p h = search (rules, has_push)
 
 stays : (j : Job) (n : ℕ) (q : Place) (ps : List Place) (i : ℕ) → Has ps q → IsWalked j n ps i → Grows j n (Some q) ps ps i
 stays j n q ps i h w = search rules
 
-grows : (j : Job) (n : ℕ) (q : Place) (ps : List Place) (i : ℕ) → IsReachable j q → (Has ps q → ⊥) → length ps < n → IsWalked j n ps i → Grows j n (Some q) ps (ps ++ q ∷ []) i
+grows : (j : Job) (n : ℕ) (q : Place) (ps : List Place) (i : ℕ) → IsReachable j q
+    → (Has ps q → ⊥) → length ps < n → IsWalked j n ps i → Grows j n (Some q) ps (ps ++ q ∷ []) i
 grows j n q ps i r d l w = record {
   walked = record {
     few = omega (arith, length-append ps (q ∷ []));
@@ -58,12 +60,16 @@ grows j n q ps i r d l w = record {
   longer = omega (arith, length-append ps (q ∷ []));
 }
 
-walked_adds : (j : Job) (n : ℕ) (o : Option Place) (from : ℕ) (ps qs : List Place) (fs gs : List ℕ) (i : ℕ) → ((q : Place) → o ≡ Some q → IsReachable j q) → Adds n o from ps qs fs gs → IsWalked j n ps i → Grows j n o ps qs i
-walked_adds j n None from ps qs fs gs i r a w = subst (λ z. Grows j n None ps z i) (sym a.0) (record { walked = w; keeps = λ p k. k; has = λ q e. absurd (cc); same = λ k l. refl; longer = omega arith })
+walked_adds : (j : Job) (n : ℕ) (o : Option Place) (from : ℕ) (ps qs : List Place) (fs gs : List ℕ) (i : ℕ)
+    → ((q : Place) → o ≡ Some q → IsReachable j q) → Adds n o from ps qs fs gs → IsWalked j n ps i → Grows j n o ps qs i
+walked_adds j n None from ps qs fs gs i r a w =
+    subst (λ z. Grows j n None ps z i) (sym a.0)
+    (record { walked = w; keeps = λ p k. k; has = λ q e. absurd (cc); same = λ k l. refl; longer = omega arith })
 walked_adds j n (Some q) from ps qs fs gs i r (inl a) w = subst (λ z. Grows j n (Some q) ps z i) (sym a.1) (stays j n q ps i a.0 w)
 walked_adds j n (Some q) from ps qs fs gs i r (inr a) w = subst (λ z. Grows j n (Some q) ps z i) (sym a.1) (grows j n q ps i (r q refl) a.0 a.2 w)
 
-walked_overflows : (j : Job) (n : ℕ) (o : Option Place) (ps : List Place) (i : ℕ) → ((q : Place) → o ≡ Some q → IsReachable j q) → Overflows n o ps → IsWalked j n ps i → HasMoreThan j n
+walked_overflows : (j : Job) (n : ℕ) (o : Option Place) (ps : List Place) (i : ℕ)
+    → ((q : Place) → o ≡ Some q → IsReachable j q) → Overflows n o ps → IsWalked j n ps i → HasMoreThan j n
 walked_overflows j n None ps i r a w = absurd a
 walked_overflows j n (Some q) ps i r a w = record {
   places = ps ++ q ∷ [];
@@ -110,7 +116,8 @@ pub are_next : (j : Job) (ls : List Seen) (i : ℕ) (l : Seen) (n : Next) → Ar
 are_next j ls i l n are e same = subst (AreSuccessors j l.place) (sym same) (are l (has_at ls i l e)).next
 
 -- what follows the place of a look is what the look shows
-pub leads_from_look : (j : Job) (ls : List Seen) (i : ℕ) (l : Seen) (n : Next) → AreLooks j ls → slice_get ls i ≡ Some l → n ≡ l.next → Leads j (places_of_looks ls) i n
+pub leads_from_look : (j : Job) (ls : List Seen) (i : ℕ) (l : Seen) (n : Next)
+    → AreLooks j ls → slice_get ls i ≡ Some l → n ≡ l.next → Leads j (places_of_looks ls) i n
 leads_from_look j ls i l n are e same = search (rules, place_there, follows_exactly, are_next)
 
 from_next : (j : Job) (l : ℕ) (n : Next) (ps : List Place) (i : ℕ) → IsWalked j l ps i → Leads j ps i n → (q : Place) → n.next ≡ Some q → IsReachable j q
@@ -122,12 +129,14 @@ from_skip j l n ps i w s q e = reaches j s.from q (w.only s.from (has_at ps i s.
 pub next_overflows : (j : Job) (l : ℕ) (n : Next) (ps : List Place) (i : ℕ) → IsWalked j l ps i → Leads j ps i n → Overflows l n.next ps → HasMoreThan j l
 next_overflows j l n ps i w s b = walked_overflows j l n.next ps i (from_next j l n ps i w s) b w
 
-pub skip_overflows : (j : Job) (l : ℕ) (n : Next) (from : ℕ) (ps qs : List Place) (fs gs : List ℕ) (i : ℕ) → IsWalked j l ps i → Leads j ps i n → Adds l n.next from ps qs fs gs → Overflows l n.skip qs → HasMoreThan j l
+pub skip_overflows : (j : Job) (l : ℕ) (n : Next) (from : ℕ) (ps qs : List Place) (fs gs : List ℕ) (i : ℕ)
+    → IsWalked j l ps i → Leads j ps i n → Adds l n.next from ps qs fs gs → Overflows l n.skip qs → HasMoreThan j l
 skip_overflows j l n from ps qs fs gs i w s a b =
     let g = walked_adds j l n.next from ps qs fs gs i (from_next j l n ps i w s) a w in
     walked_overflows j l n.skip qs i (from_skip j l n ps i w s) b g.walked
 
-pub walked_on : (j : Job) (l : ℕ) (n : Next) (from : ℕ) (ps qs rs : List Place) (fs gs hs : List ℕ) (i : ℕ) → IsWalked j l ps i → i < length ps → Leads j ps i n → Adds l n.next from ps qs fs gs → Adds l n.skip from qs rs gs hs → IsWalked j l rs (i + 1)
+pub walked_on : (j : Job) (l : ℕ) (n : Next) (from : ℕ) (ps qs rs : List Place) (fs gs hs : List ℕ) (i : ℕ) → IsWalked j l ps i
+    → i < length ps → Leads j ps i n → Adds l n.next from ps qs fs gs → Adds l n.skip from qs rs gs hs → IsWalked j l rs (i + 1)
 walked_on j l n from ps qs rs fs gs hs i w h s a b = record {
   few = z.walked.few;
   within = omega (arith, y.longer, z.longer);

@@ -33,7 +33,9 @@ module _ (j : Job) (v : IsVerdict j Yes) where
       next = straight_to (here.place.address + 8) ChainOut
 
       reached : IsReachable j next
-      reached = onward j v here.place next here.reached (by_data other (subst (λ n. chains_data (ccw (storage_of j) n) ≡ true) (sym here.address) cd) (ap chained here.outward))
+      reached =
+          onward j v here.place next here.reached
+          (by_data other (subst (λ n. chains_data (ccw (storage_of j) n) ≡ true) (sym here.address) cd) (ap chained here.outward))
 
       go : Leads (storage_of j) from to → Out to
       go (inl e) = record { place = next; reached = reached; address = ap (λ n. n + 8) here.address ∙ sym e; outward = refl }
@@ -61,10 +63,12 @@ yes_by_guarded j t v h = ((same_verdict j t (record { same_length = h.same_lengt
 pub safe_since_asked : SafeSinceAsked
 safe_since_asked j t mask v h =
     let k = with_storage j t in
-    let counted : IsSameIn (IsCounted j) (storage_of j) (bytes_held t) = record { same_length = h.same_length; same = λ b c. h.same b (counted_is_guarded j v b c) } in
+    let counted : IsSameIn (IsCounted j) (storage_of j) (bytes_held t) =
+    record { same_length = h.same_length; same = λ b c. h.same b (counted_is_guarded j v b c) } in
     let among = yes_is_safe_among k mask (yes_by_guarded j t v h) in
     let spared = sparing_less (IsGuarded j) (IsGuarded k) (λ b g. (same_guarded j k refl (carries_at j t counted) b).1 g) k in
     (λ run r. among.0 run (spared run r), λ used run b r u s. among.1 used run b (spared used r) u (spared run s))
 
 pub yes_stays : YesStays
-yes_stays j v = all_kept j v _ (λ m k t e. yes_by_guarded j t v (record { same_length = ap length e ∙ k.same_length; same = λ b g. ap (λ s. byte s b) e ∙ k.same b g }))
+yes_stays j v =
+    all_kept j v _ (λ m k t e. yes_by_guarded j t v (record { same_length = ap length e ∙ k.same_length; same = λ b g. ap (λ s. byte s b) e ∙ k.same b g }))

@@ -35,7 +35,9 @@ use Rattle.chan_walk.proofs.Machine.Quiet.{full_count, bytes_at, there, Known, C
 use Rattle.chan_walk.proofs.Machine.Quiet.{carry_out}
 use Rattle.chan_walk.proofs.Theory.Granting.{stores_parts}
 
-show_next : {j : Job} {y : ℕ} {p : Place} {ps : List Place} {es : List Event} {t : List ℕ} {st : Stage} {P : Moment → Type 0} (r : Runs j y p ps) → Step (storage_of j) y j.mask p r.gathered es t y j.mask st → P (record { storage = t; arm = y; mask = j.mask; stage = st; events = es }) → ShowsInStep j p ps P
+show_next : {j : Job} {y : ℕ} {p : Place} {ps : List Place} {es : List Event} {t : List ℕ} {st : Stage} {P : Moment → Type 0} (r : Runs j y p ps)
+    → Step (storage_of j) y j.mask p r.gathered es t y j.mask st
+    → P (record { storage = t; arm = y; mask = j.mask; stage = st; events = es }) → ShowsInStep j p ps P
 show_next {j = j} {y = y} {p = p} {es = es} {t = t} {st = st} r step shows = record {
   run = r.run;
   at = record { storage = storage_of j; arm = y; mask = j.mask; stage = At p r.gathered; events = r.events };
@@ -49,7 +51,8 @@ show_next {j = j} {y = y} {p = p} {es = es} {t = t} {st = st} r step shows = rec
 missing : (s : List ℕ) (a : ℕ) (x : Option (List ℕ)) → HasArgument s a x → is_none x ≡ true → (l : List ℕ) → IsChain s 6 a l → ⊥
 missing s a x h e = search rules
 
-refused : (j : Job) (a : ℕ) (x : Option (List ℕ)) → HasArgument (storage_of j) a x → is_refused j x ≡ true → (l : List ℕ) × IsChain (storage_of j) 6 a l × (allows j (argument (storage_of j) l) ≡ false)
+refused : (j : Job) (a : ℕ) (x : Option (List ℕ)) → HasArgument (storage_of j) a x → is_refused j x ≡ true
+    → (l : List ℕ) × IsChain (storage_of j) 6 a l × (allows j (argument (storage_of j) l) ≡ false)
 refused j a x h e = search (rules, not-true)
 
 -- Set File Mask goes out, as its table entry says
@@ -73,13 +76,16 @@ module _ (j : Job) (proper : IsProper j) where
 
   -- at the last place of a path its CCW is carried out, and the program ends
   abbrev EndsAt : (p : Place) → IsReachable j p → Type 0
-  EndsAt p m = Carried j start p (run_to p m).gathered (seek_at j start p (run_to p m).gathered (few_at j p (run_to p m).gathered (run_to p m).taking)).es [] Ended
+  EndsAt p m =
+      Carried j start p (run_to p m).gathered (seek_at j start p (run_to p m).gathered (few_at j p (run_to p m).gathered (run_to p m).taking)).es [] Ended
 
   ends_at : (p : Place) (m : IsReachable j p) → check (storage_of j) p ≡ None → is_transfer (ccw_of j p) ≡ false → Known j p → EndsAt p m
   ends_at p m e t known = let r = run_to p m in carry_out j proper.1 start p r.gathered (few_at j p r.gathered r.taking) e t known tt ends
 
   -- the seek at p has the chain l
-  to_the_end : (p : Place) (m : IsReachable j p) (l : List ℕ) → begins_seek p (ccw_of j p) ≡ true → check (storage_of j) p ≡ None → is_transfer (ccw_of j p) ≡ false → Known j p → IsChain (storage_of j) 6 p.address l → Finished j proper.1 start p (run_to p m).gathered (run_to p m).events (run_to p m).run m.0 (run_to p m).places (run_to p m).quiet l
+  to_the_end : (p : Place) (m : IsReachable j p) (l : List ℕ) → begins_seek p (ccw_of j p) ≡ true
+      → check (storage_of j) p ≡ None → is_transfer (ccw_of j p) ≡ false → Known j p → IsChain (storage_of j) 6 p.address l
+      → Finished j proper.1 start p (run_to p m).gathered (run_to p m).events (run_to p m).run m.0 (run_to p m).places (run_to p m).quiet l
   to_the_end p m l b e t known k =
       let r = run_to p m in
       finish j proper.1 start p r.gathered r.events r.run m.0 r.places r.quiet 6 l p r.gathered []
@@ -87,7 +93,9 @@ module _ (j : Job) (proper : IsProper j) where
       (ready_fresh j proper.1 p r.gathered b e t known) (begin (storage_of j) l p k) (omega arith) (λ b h. absurd h)
 
   shows_check : (p : Place) (m : IsReachable j p) (r : Reason) → check (storage_of j) p ≡ Some r → Shows j p m.0 r
-  shows_check p m r h = check_case P (storage_of j) p r (each_case P (table_of_every_ccw n p c) (go, (go, (go, tt)))) (each_case P (table_of_non_transfer n p c) (go, (go, (go, (go, tt))))) h h
+  shows_check p m r h =
+      check_case P (storage_of j) p r (each_case P (table_of_every_ccw n p c) (go, (go, (go, tt))))
+      (each_case P (table_of_non_transfer n p c) (go, (go, (go, (go, tt))))) h h
     where
       n : ℕ
       n = length (storage_of j)
@@ -103,7 +111,8 @@ module _ (j : Job) (proper : IsProper j) where
 
   -- an own fault is shown
   pub shows_fault : (p : Place) (m : IsReachable j p) (r : Reason) → HasFault j p (Some r) → Shows j p m.0 r
-  shows_fault p m r f = table_case (Shows j p m.0) (check (storage_of j) p) (is_transfer (ccw_of j p)) (table_of_own j p (ccw_of j p) f.0) r (shows_check p m r) own f.2
+  shows_fault p m r f =
+      table_case (Shows j p m.0) (check (storage_of j) p) (is_transfer (ccw_of j p)) (table_of_own j p (ccw_of j p) f.0) r (shows_check p m r) own f.2
     where
       c : Fields
       c = ccw_of j p
@@ -134,12 +143,24 @@ module _ (j : Job) (proper : IsProper j) where
           (record { past = R.run; upto = []; events = R.events; is_run = R.is_run; split = refl; goes_on = tt })
           (ready_fresh j proper.1 p R.gathered a.0 e t known) (omega arith) (missing (storage_of j) p.address f.0 f.1 a.1)
 
-      outside_at : check (storage_of j) p ≡ None → is_transfer c ≡ false → Known j p → EndsAt p m → ((begins_seek p c && is_refused j f.0) ≡ true) ⊎ ((begins_recalibrate p c && not (has_cylinder (extents_of j) 0)) ≡ true) → Shows j p m.0 SeekOutside
+      outside_at : check (storage_of j) p ≡ None → is_transfer c ≡ false → Known j p → EndsAt p m
+          → ((begins_seek p c && is_refused j f.0) ≡ true) ⊎ ((begins_recalibrate p c && not (has_cylinder (extents_of j) 0)) ≡ true)
+          → Shows j p m.0 SeekOutside
       outside_at e t known en (inl b) =
           let a = and_parts (begins_seek p c) (is_refused j f.0) b in
           let k = refused j p.address f.0 f.1 a.1 in
           let z = (to_the_end p m k.0 a.0 e t known k.1).later in
-          record { run = z.run; at = z.at; more = z.more; next = z.next; is_run = z.is_run; over = z.over; quiet = z.quiet; goes_on = z.goes_on; shows = ((and_parts (is_fresh p.entered) _ a.0).0, argument (storage_of j) k.0, z.shows, k.2) }
+          record {
+            run = z.run;
+            at = z.at;
+            more = z.more;
+            next = z.next;
+            is_run = z.is_run;
+            over = z.over;
+            quiet = z.quiet;
+            goes_on = z.goes_on;
+            shows = ((and_parts (is_fresh p.entered) _ a.0).0, argument (storage_of j) k.0, z.shows, k.2);
+          }
       outside_at e t known en (inr b) =
           let a = and_parts (begins_recalibrate p c) (not (has_cylinder (extents_of j) 0)) b in
           record {
@@ -154,14 +175,19 @@ module _ (j : Job) (proper : IsProper j) where
             shows = ((and_parts (is_fresh p.entered) _ a.0).0, home, en.home a.0, home_refused j (not-true _ a.1));
           }
 
-      weakens_at : check (storage_of j) p ≡ None → is_transfer c ≡ false → EndsAt p m → (begins_set_mask p c && not (is_at_least (byte (storage_of j) c.address) j.mask)) ≡ true → Shows j p m.0 WeakensMask
+      weakens_at : check (storage_of j) p ≡ None → is_transfer c ≡ false → EndsAt p m
+          → (begins_set_mask p c && not (is_at_least (byte (storage_of j) c.address) j.mask)) ≡ true → Shows j p m.0 WeakensMask
       weakens_at e t en b =
           let a = and_parts (begins_set_mask p c) (not (is_at_least (byte (storage_of j) c.address) j.mask)) b in
-          show_next R en.step ((and_parts (is_fresh p.entered) _ a.0).0, c.address, byte (storage_of j) c.address, en.masks a.0 (moves_byte j p e t a.0), not-true _ a.1)
+          show_next R en.step
+          ((and_parts (is_fresh p.entered) _ a.0).0, c.address, byte (storage_of j) c.address, en.masks a.0 (moves_byte j p e t a.0), not-true _ a.1)
 
       own : check (storage_of j) p ≡ None → is_transfer c ≡ false → Cases (Shows j p m.0) (table_of_own j p c f.0)
       own e t = (
-        (λ b. let a = and_parts (is_fresh p.entered) (not (is_known c.command)) b in let u = not-true (is_known c.command) a.1 in show_next R (unknown e t a.0 u) (c.command, inl refl, u)),
+        (λ b.
+            let a = and_parts (is_fresh p.entered) (not (is_known c.command)) b in
+            let u = not-true (is_known c.command) a.1 in
+            show_next R (unknown e t a.0 u) (c.command, inl refl, u)),
         (λ n. let known : Known j p = then_true _ _ n in
             let en = ends_at p m e t known in (
               (λ b. let a = and_parts (is_fresh p.entered) (inhibits j.mask c.command) b in show_next R en.step (c.command, en.begins a.0, a.1)),
@@ -179,7 +205,8 @@ module _ (j : Job) (proper : IsProper j) where
       )
 
   -- a store that changes a byte which some run uses
-  shows_change : (p : Place) (m : IsReachable j p) → IsClear j p → (P : ℕ → Type 0) (Q : List Moment → ℕ → Type 0) → ((b : ℕ) → P b → (used : List Moment) × IsRun j used × Q used b) → StoresOver j p P → ShowsInStep j p m.0 (ChangesUsed j Q)
+  shows_change : (p : Place) (m : IsReachable j p) → IsClear j p → (P : ℕ → Type 0) (Q : List Moment → ℕ → Type 0)
+      → ((b : ℕ) → P b → (used : List Moment) × IsRun j used × Q used b) → StoresOver j p P → ShowsInStep j p m.0 (ChangesUsed j Q)
   shows_change p m f P Q to o =
       let c = ccw_of j p in
       let r = run_to p m in
@@ -192,7 +219,9 @@ module _ (j : Job) (proper : IsProper j) where
 
   -- each guarded byte is used by some run
   pub ccw_used : (b : ℕ) → IsCcwByte j b → (used : List Moment) × IsRun j used × UsesInCcw used b
-  ccw_used b u = let r = run_to u.place u.reached in (moment j proper.1 start (At u.place r.gathered) r.events ∷ r.run, r.is_run, inl (u.stands, u.from, u.below))
+  ccw_used b u =
+      let r = run_to u.place u.reached in
+      (moment j proper.1 start (At u.place r.gathered) r.events ∷ r.run, r.is_run, inl (u.stands, u.from, u.below))
 
   pub argument_used : (b : ℕ) → IsArgumentByte j b → (used : List Moment) × IsRun j used × UsesInArgument used b
   argument_used b u = go u.takes
@@ -208,8 +237,11 @@ module _ (j : Job) (proper : IsProper j) where
           let e = clear_check j u.place u.clear in
           let t = mask_is_no_transfer (ccw_of j u.place) (and_parts (is_fresh u.place.entered) _ s.sets).1 in
           let R = run_to u.place u.reached in
-          let en = ends_at u.place u.reached e t (clear_good j u.place u.clear t).known in
-          (moment j proper.1 start Ended en.es ∷ moment j proper.1 start (At u.place R.gathered) R.events ∷ R.run, (R.is_run, en.step), inl (subst (UsesIn en.es) s.at (mask_is_used en.es _ _ (en.masks s.sets (moves_byte j u.place e t s.sets)))))
+          let en = ends_at u.place u.reached e t (clear_good j u.place u.clear t).known in (
+            moment j proper.1 start Ended en.es ∷ moment j proper.1 start (At u.place R.gathered) R.events ∷ R.run,
+            (R.is_run, en.step),
+            inl (subst (UsesIn en.es) s.at (mask_is_used en.es _ _ (en.masks s.sets (moves_byte j u.place e t s.sets)))),
+          )
 
       go : Takes (storage_of j) u.place b → (used : List Moment) × IsRun j used × UsesInArgument used b
       go (inl s) = of_seek s

@@ -29,7 +29,8 @@ only_yes j Yes h y = refl
 only_yes j (No a r) h y = absurd (y h.0.place r h.0.reached h.0.offends)
 
 -- a walk finds no more places than the job's limit
-pub at_most : (j : Job) (m : BTreeMap ℕ ℕ) (ls : List Seen) (fs : List ℕ) → tree.IsOrdered nat_cmp m → Agrees m (places_of_looks ls) → HasFound j ls fs → HasAtMost j j.limit
+pub at_most : (j : Job) (m : BTreeMap ℕ ℕ) (ls : List Seen) (fs : List ℕ)
+    → tree.IsOrdered nat_cmp m → Agrees m (places_of_looks ls) → HasFound j ls fs → HasAtMost j j.limit
 at_most j m ls fs o agrees f =
     let l : ListsMarks m (places_of m.entries) = record { ordered = o; listed = refl } in
     record {

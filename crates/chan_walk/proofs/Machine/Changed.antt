@@ -88,11 +88,15 @@ rewrite j y p g few f o =
     let len : length there ≡ c.count = length-map-range_with_len (λ z. changed (byte (storage_of j) z)) c.address c.count in
     let is : IsStored (storage_of j) c.address there s = record {
       same_length = length-put (storage_of j) c.address c.count;
-      inside = λ i l. put_in (storage_of j) c.address c.count (c.address + i) (omega arith) (omega (arith, len)) fits ∙ sym (byte-map-range (λ z. changed (byte (storage_of j) z)) c.address c.count i (omega (arith, len)));
+      inside = λ i l.
+          put_in (storage_of j) c.address c.count (c.address + i) (omega arith) (omega (arith, len)) fits
+          ∙ sym (byte-map-range (λ z. changed (byte (storage_of j) z)) c.address c.count i (omega (arith, len)));
       others = λ b o. put_out (storage_of j) c.address c.count b (subst (λ n. (b < c.address) ⊎ (c.address + n ≤ b)) len o);
     } in
     let whole : bytes_at j p ≡ c.count = ap (λ k. full_count k c) inward in
-    let mv : Moves c (bytes_at j p) (storage_of j) k (Store c.address there ∷ []) s = subst (λ z. Moves c (bytes_at j p) (storage_of j) z (Store c.address there ∷ []) s) (sym inward) (stored a.2 (len ∙ sym whole) (all_small (storage_of j) (range_with_len c.address c.count)) is) in
+    let mv : Moves c (bytes_at j p) (storage_of j) k (Store c.address there ∷ []) s =
+    subst (λ z. Moves c (bytes_at j p) (storage_of j) z (Store c.address there ∷ []) s) (sym inward)
+    (stored a.2 (len ∙ sym whole) (all_small (storage_of j) (range_with_len c.address c.count)) is) in
     let sk = seek_at j y p g few in
     let hm = can_home j y (begins_recalibrate p c) in
     let fm = can_mask j c (bytes_at j p) j.mask (begins_set_mask p c) in

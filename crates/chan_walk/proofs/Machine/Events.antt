@@ -56,7 +56,8 @@ pub no_seek_append : (xs ys : List Event) → NoSeek xs → NoSeek ys → NoSeek
 no_seek_append xs ys h k x u = search (rules, has_cases)
 
 -- the six lists of a step's events on end: what holds of each holds of all, if it goes over to two on end
-pub of_six : (P : List Event → Type 0) → ((xs ys : List Event) → P xs → P ys → P (xs ++ ys)) → (a b c d e f : List Event) → P a → P b → P c → P d → P e → P f → P (a ++ b ++ c ++ d ++ e ++ f)
+pub of_six : (P : List Event → Type 0) → ((xs ys : List Event) → P xs → P ys → P (xs ++ ys))
+    → (a b c d e f : List Event) → P a → P b → P c → P d → P e → P f → P (a ++ b ++ c ++ d ++ e ++ f)
 of_six P on a b c d e f pa pb pc pd pe pf = on _ f (on _ e (on _ d (on _ c (on a b pa pb) pc) pd) pe) pf
 
 pub in_six : (a b c d e f : List Event) (z : Event) → Has a z ⊎ Has b z ⊎ Has c z ⊎ Has d z ⊎ Has e z ⊎ Has f z → Has (a ++ b ++ c ++ d ++ e ++ f) z

@@ -32,7 +32,10 @@ pub sparing_less : (P Q : ℕ → Type 0) → ((b : ℕ) → Q b → P b) → (j
 sparing_less P Q f j [] r = absurd r
 sparing_less P Q f j (m ∷ []) r = r
 sparing_less P Q f j (n ∷ m ∷ ms) (r, inl w) = (sparing_less P Q f j (m ∷ ms) r, inl w)
-sparing_less P Q f j (n ∷ m ∷ ms) (r, inr w) = (sparing_less P Q f j (m ∷ ms) r, inr (w.0, record { same_length = w.1.same_length; same = λ b h. w.1.same b (f b h) }))
+sparing_less P Q f j (n ∷ m ∷ ms) (r, inr w) = (
+  sparing_less P Q f j (m ∷ ms) r,
+  inr (w.0, record { same_length = w.1.same_length; same = λ b h. w.1.same b (f b h) }),
+)
 
 pub stays_safe : StaysSafe
 stays_safe j proper safe steady =

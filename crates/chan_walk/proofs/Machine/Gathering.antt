@@ -18,12 +18,14 @@ pub record Advance (s l : List ℕ) (p : Place) (c : Fields) (x : List ℕ) (m :
   pub covers : length (with_taken s c m x) ≡ 6 → argument_addresses s l ≡ before ++ taken c m x
   pub within : (b : ℕ) → Has (taken c m x) b → Has (argument_addresses s l) b
   pub full : length (with_taken s c m x) ≡ 6 → with_taken s c m x ≡ argument s l
-  pub on : length (with_taken s c m x) < 6 → m ≡ c.count → (w : IsGathered s l (straight_to (p.address + 8) ChainOut) (with_taken s c m x)) × (w.before ≡ before ++ taken c m x)
+  pub on : length (with_taken s c m x) < 6 → m ≡ c.count
+      → (w : IsGathered s l (straight_to (p.address + 8) ChainOut) (with_taken s c m x)) × (w.before ≡ before ++ taken c m x)
   pub chains : length (with_taken s c m x) < 6 → m ≡ c.count → chains_data c ≡ true
 
 module _ (s l : List ℕ) where
   -- at the CCW that is next in the chain
-  gather_rest : (p : Place) (x before : List ℕ) (a : ℕ) (rest : List ℕ) (m : ℕ) → p.address ≡ a → IsChain s (6 - length before) a rest → before ++ joined s rest ≡ joined s l → length before < 6 → x ≡ map (byte s) before → m ≤ (ccw s a).count → Advance s l p (ccw s a) x m before
+  gather_rest : (p : Place) (x before : List ℕ) (a : ℕ) (rest : List ℕ) (m : ℕ) → p.address ≡ a → IsChain s (6 - length before) a rest
+      → before ++ joined s rest ≡ joined s l → length before < 6 → x ≡ map (byte s) before → m ≤ (ccw s a).count → Advance s l p (ccw s a) x m before
   gather_rest p x before a [] m at k all few read le = elim k.begins [ ]
   gather_rest p x before a (d ∷ rest) m at k all few read le =
       record {
@@ -58,7 +60,8 @@ module _ (s l : List ℕ) where
       prefix : after ++ tail ≡ joined s l
       prefix =
           let e : c.count ≡ min m (6 - length x) + (c.count - min m (6 - length x)) = omega arith in
-          let f : data_addresses s a ≡ taken c m x ++ range_with_len (c.address + min m (6 - length x)) (c.count - min m (6 - length x)) = ap (range_with_len c.address) e ∙ range_split c.address (min m (6 - length x)) (c.count - min m (6 - length x)) in
+          let f : data_addresses s a ≡ taken c m x ++ range_with_len (c.address + min m (6 - length x)) (c.count - min m (6 - length x)) =
+          ap (range_with_len c.address) e ∙ range_split c.address (min m (6 - length x)) (c.count - min m (6 - length x)) in
           let g : data_addresses s d ≡ data_addresses s a = ap (data_addresses s) k.begins in
           append_assoc before (taken c m x) tail
           ∙ ap (λ z. before ++ z) (sym (append_assoc (taken c m x) _ (joined s rest)))
@@ -83,13 +86,15 @@ module _ (s l : List ℕ) where
       lead : (y : ℕ) → Leads s a y → ComesTo s (straight_to (p.address + 8) ChainOut) y
       lead y h = search rules
 
-      further : (rest : List ℕ) → IsChain s (6 - length before) a (d ∷ rest) → before ++ joined s (d ∷ rest) ≡ joined s l → length (with_taken s c m x) < 6 → m ≡ c.count → (w : IsGathered s l (straight_to (p.address + 8) ChainOut) (with_taken s c m x)) × (w.before ≡ after)
+      further : (rest : List ℕ) → IsChain s (6 - length before) a (d ∷ rest) → before ++ joined s (d ∷ rest) ≡ joined s l → length (with_taken s c m x) < 6
+          → m ≡ c.count → (w : IsGathered s l (straight_to (p.address + 8) ChainOut) (with_taken s c m x)) × (w.before ≡ after)
       further [] k all h e = absurd (not_last k h e)
       further (y ∷ z) k all h e =
           let w = less h in
           let whole : min m (6 - length x) ≡ c.count = omega (arith, ln, lx) in
           let same : taken c m x ≡ data_addresses s d = ap (range_with_len c.address) whole ∙ ap (data_addresses s) (sym k.begins) in
-          let n : 6 - length before - (ccw s d).count ≡ 6 - length after = subst (λ b. 6 - length before - (ccw s b).count ≡ 6 - length after) (sym k.begins) (omega (arith, ln, lx)) in (
+          let n : 6 - length before - (ccw s d).count ≡ 6 - length after =
+          subst (λ b. 6 - length before - (ccw s b).count ≡ 6 - length after) (sym k.begins) (omega (arith, ln, lx)) in (
             record {
               before = after;
               rest = y ∷ z;
@@ -106,12 +111,23 @@ module _ (s l : List ℕ) where
   pub at_next : (p : Place) (x : List ℕ) (g : IsGathered s l p x) → is_transfer (ccw s p.address) ≡ false → p.address ≡ g.at
   at_next p x g t = search rules
 
-  pub advance : (p : Place) (x : List ℕ) (m : ℕ) (g : IsGathered s l p x) → is_transfer (ccw s p.address) ≡ false → m ≤ (ccw s p.address).count → Advance s l p (ccw s p.address) x m g.before
+  pub advance : (p : Place) (x : List ℕ) (m : ℕ) (g : IsGathered s l p x) → is_transfer (ccw s p.address) ≡ false
+      → m ≤ (ccw s p.address).count → Advance s l p (ccw s p.address) x m g.before
   advance p x m g t le = search (rules, at_next, gather_rest)
 
   -- a transfer leads to the chain's next CCW
-  abbrev pub transfer_on : (p : Place) (x : List ℕ) → IsGathered s l p x → is_transfer (ccw s p.address) ≡ true → IsGathered s l (transferred_to (ccw s p.address).address p.entered) x
-  transfer_on p x g t = record { before = g.before; rest = g.rest; at = g.at; leads = inl (go g.leads); chain = g.chain; all = g.all; few = g.few; read = g.read }
+  abbrev pub transfer_on : (p : Place) (x : List ℕ) → IsGathered s l p x → is_transfer (ccw s p.address) ≡ true
+      → IsGathered s l (transferred_to (ccw s p.address).address p.entered) x
+  transfer_on p x g t = record {
+    before = g.before;
+    rest = g.rest;
+    at = g.at;
+    leads = inl (go g.leads);
+    chain = g.chain;
+    all = g.all;
+    few = g.few;
+    read = g.read;
+  }
     where
       go : ComesTo s p g.at → (ccw s p.address).address ≡ g.at
       go (inl e) = absurd (both_ways _ (part_is_no_transfer s p.address (subst (λ a. is_part s a ≡ true) (sym e) (chain_begins_with_part s _ _ _ g.chain))) t)

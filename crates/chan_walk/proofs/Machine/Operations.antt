@@ -49,9 +49,13 @@ module _ (j : Job) (bytes : AreBytes (storage_of j)) where
   UsesAll q x es = (b : ℕ) → Has (taken (ccw_of j q) (bytes_at j q) x) b → UsesIn es b
 
   record SeekStep (y : ℕ) (q : Place) (g : Gathered) (x : List ℕ) : Type 0 where
-    full : length (all_at q x) ≡ 6 → (es : List Event) × Step (storage_of j) y j.mask q g es (storage_of j) y j.mask Ended × Has es (Seek (Some (all_at q x))) × UsesAll q x es
-    on : length (all_at q x) < 6 → chains_data (ccw_of j q) ≡ true → (es : List Event) × Step (storage_of j) y j.mask q g es (storage_of j) y j.mask (At (straight_to (q.address + 8) ChainOut) (Some (all_at q x))) × NoSeek es × UsesAll q x es
-    short : length (all_at q x) < 6 → chains_data (ccw_of j q) ≡ false → (es : List Event) × Step (storage_of j) y j.mask q g es (storage_of j) y j.mask Ended × Has es (Seek None) × NoSeek es
+    full : length (all_at q x) ≡ 6
+        → (es : List Event) × Step (storage_of j) y j.mask q g es (storage_of j) y j.mask Ended × Has es (Seek (Some (all_at q x))) × UsesAll q x es
+    on : length (all_at q x) < 6 → chains_data (ccw_of j q) ≡ true
+        → (es : List Event) × Step (storage_of j) y j.mask q g es (storage_of j) y j.mask (At (straight_to (q.address + 8) ChainOut) (Some (all_at q x)))
+        × NoSeek es × UsesAll q x es
+    short : length (all_at q x) < 6 → chains_data (ccw_of j q) ≡ false
+        → (es : List Event) × Step (storage_of j) y j.mask q g es (storage_of j) y j.mask Ended × Has es (Seek None) × NoSeek es
 
   seek_step : (y : ℕ) (q : Place) (g : Gathered) (x : List ℕ) → Ready q g x → SeekStep y q g x
   seek_step y q g x r = go (subst (λ z. Left j c m z sk.es sk.after) r.under sk.left)
@@ -74,7 +78,8 @@ module _ (j : Job) (bytes : AreBytes (storage_of j)) where
       uses : UsesAll q x sk.es
       uses = subst (λ z. UsesTaken j c m z sk.es) r.under sk.uses
 
-      carry : {went : List Event} {st : Stage} → AllByRecursion (IsQuiet j) went → Continues q c (kind_at j q) m sk.after went st → Carried j y q g sk.es went st
+      carry : {went : List Event} {st : Stage} → AllByRecursion (IsQuiet j) went
+          → Continues q c (kind_at j q) m sk.after went st → Carried j y q g sk.es went st
       carry calm goes = carry_out j bytes y q g few r.pass r.no_transfer r.known calm goes
 
       no_event : NoSeek []
@@ -87,7 +92,8 @@ module _ (j : Job) (bytes : AreBytes (storage_of j)) where
       go (inl left) = record {
         full = λ six. let lt = left.0 in absurd (omega (arith, six));
         on = λ lt cd.
-            let w = carry tt (subst (λ z. Continues q c (kind_at j q) m z [] (At (straight_to (q.address + 8) ChainOut) (Some (all_at q x)))) (sym left.1) (on_data cd (ap chained r.outward) whole)) in
+            let w = carry tt (subst (λ z. Continues q c (kind_at j q) m z [] (At (straight_to (q.address + 8) ChainOut) (Some (all_at q x))))
+            (sym left.1) (on_data cd (ap chained r.outward) whole)) in
             (w.es, w.step, w.no_seek r.no_home left.2 no_event, λ b h. w.uses b (uses b h));
         short = λ lt cd.
             let w = carry (tt, tt) (subst (λ z. Continues q c (kind_at j q) m z (Seek None ∷ []) Ended) (sym left.1) (on_short cd whole)) in
@@ -99,15 +105,18 @@ module _ (j : Job) (bytes : AreBytes (storage_of j)) where
         short = λ lt cd. let six = left.0 in absurd (omega (arith, six));
       }
 
-  ready_out : (q : Place) (x : List ℕ) → length x < 6 → q.entered ≡ ChainOut → check (storage_of j) q ≡ None → is_transfer (ccw_of j q) ≡ false → Ready q (Some x) x
+  ready_out : (q : Place) (x : List ℕ) → length x < 6 → q.entered ≡ ChainOut
+      → check (storage_of j) q ≡ None → is_transfer (ccw_of j q) ≡ false → Ready q (Some x) x
   ready_out q x few o e t = search rules
 
-  pub ready_fresh : (p : Place) (g : Gathered) → begins_seek p (ccw_of j p) ≡ true → check (storage_of j) p ≡ None → is_transfer (ccw_of j p) ≡ false → Known j p → Ready p g []
+  pub ready_fresh : (p : Place) (g : Gathered) → begins_seek p (ccw_of j p) ≡ true
+      → check (storage_of j) p ≡ None → is_transfer (ccw_of j p) ≡ false → Known j p → Ready p g []
   ready_fresh p g b e t known = search (rules, fresh_out, seek_no_recalibrate, and_parts)
 
   -- ---- from a moment at p on
 
-  module _ (y : ℕ) (p : Place) (g₀ : Gathered) (ev : List Event) (run : List Moment) (ps : List Place) (over : ArePlaces run ps) (quiet : AllByRecursion (IsQuietMoment j) (moment y (At p g₀) ev ∷ run)) where
+  module _ (y : ℕ) (p : Place) (g₀ : Gathered) (ev : List Event) (run : List Moment) (ps : List Place)
+      (over : ArePlaces run ps) (quiet : AllByRecursion (IsQuietMoment j) (moment y (At p g₀) ev ∷ run)) where
     -- the operation has come to q
     pub record Going (q : Place) (g : Gathered) : Type 0 where
       pub past : List Moment
@@ -117,7 +126,8 @@ module _ (j : Job) (bytes : AreBytes (storage_of j)) where
       pub split : moment y (At q g) events ∷ past ≡ upto ++ moment y (At p g₀) ev ∷ run
       pub goes_on : StaysInOperation upto
 
-    close : {q : Place} {g : Gathered} {es : List Event} {st : Stage} {P : Moment → Moment → Type 0} → Going q g → Step (storage_of j) y j.mask q g es (storage_of j) y j.mask st → P (moment y (At p g₀) ev) (moment y st es) → ShowsInOperation j p ps P
+    close : {q : Place} {g : Gathered} {es : List Event} {st : Stage} {P : Moment → Moment → Type 0} → Going q g
+        → Step (storage_of j) y j.mask q g es (storage_of j) y j.mask st → P (moment y (At p g₀) ev) (moment y st es) → ShowsInOperation j p ps P
     close {es = es} {st = st} go step shows = record {
       run = run;
       at = moment y (At p g₀) ev;
@@ -130,7 +140,8 @@ module _ (j : Job) (bytes : AreBytes (storage_of j)) where
       shows = shows;
     }
 
-    abbrev push : {q : Place} {g : Gathered} {es : List Event} (q' : Place) (g' : Gathered) → Going q g → Step (storage_of j) y j.mask q g es (storage_of j) y j.mask (At q' g') → NoSeek es → is_fresh q'.entered ≡ false → Going q' g'
+    abbrev push : {q : Place} {g : Gathered} {es : List Event} (q' : Place) (g' : Gathered) → Going q g
+        → Step (storage_of j) y j.mask q g es (storage_of j) y j.mask (At q' g') → NoSeek es → is_fresh q'.entered ≡ false → Going q' g'
     push {q = q} {g = g} {es = es} q' g' go step quiet f = record {
       past = moment y (At q g) go.events ∷ go.past;
       upto = moment y (At q' g') es ∷ go.upto;
@@ -151,9 +162,17 @@ module _ (j : Job) (bytes : AreBytes (storage_of j)) where
       pub is_used : IsRun j used
       pub gathers : (b : ℕ) → Has (argument_addresses (storage_of j) l) b → UsesInArgument used b
 
-    pub finish : (fuel : ℕ) (l : List ℕ) (q : Place) (g : Gathered) (x : List ℕ) (go : Going q g) → Ready q g x → (w : IsGathered (storage_of j) l q x) → 6 - length x ≤ fuel → ((b : ℕ) → Has w.before b → Gathers go b) → Finished l
+    -- from each place that has gathered x the rest is gathered too
+    abbrev FinishesFrom : List ℕ → List ℕ → Type 0
+    FinishesFrom l x =
+        (q : Place) (go : Going q (Some x)) (w : IsGathered (storage_of j) l q x) → Ready q (Some x) x
+        → ((b : ℕ) → Has w.before b → Gathers go b) → Finished l
+
+    pub finish : (fuel : ℕ) (l : List ℕ) (q : Place) (g : Gathered) (x : List ℕ) (go : Going q g) → Ready q g x
+        → (w : IsGathered (storage_of j) l q x) → 6 - length x ≤ fuel → ((b : ℕ) → Has w.before b → Gathers go b) → Finished l
     finish zero l q g x go r w le old = let few = r.few in absurd (omega arith)
-    finish (suc fuel) l q g x go r w le old = cases (cases_lt (length all) 6) (λ q' go' w' r' old'. finish fuel l q' (Some all) all go' r' w' (omega (arith, len, positive, whole, r.few)) old')
+    finish (suc fuel) l q g x go r w le old =
+        cases (cases_lt (length all) 6) (λ q' go' w' r' old'. finish fuel l q' (Some all) all go' r' w' (omega (arith, len, positive, whole, r.few)) old')
       where
         c : Fields
         c = ccw_of j q
@@ -171,7 +190,9 @@ module _ (j : Job) (bytes : AreBytes (storage_of j)) where
         len = length-with_taken (storage_of j) c m x
 
         positive : 0 < c.count
-        positive = part_counts (storage_of j) q.address (subst (λ a. is_part (storage_of j) a ≡ true) (sym (at_next (storage_of j) l q x w r.no_transfer)) (chain_begins_with_part (storage_of j) _ _ _ w.chain))
+        positive =
+            part_counts (storage_of j) q.address (subst (λ a. is_part (storage_of j) a ≡ true) (sym (at_next (storage_of j) l q x w r.no_transfer))
+            (chain_begins_with_part (storage_of j) _ _ _ w.chain))
 
         adv : Advance (storage_of j) l q c x m w.before
         adv = advance (storage_of j) l q x m w r.no_transfer (omega (arith, whole))
@@ -197,39 +218,50 @@ module _ (j : Job) (bytes : AreBytes (storage_of j)) where
               gathers = λ b h. pick s.0 b s.3 (has_cases w.before (taken c m x) b (subst (λ z. Has z b) (adv.covers six) h));
             }
 
-        further : length all < 6 → ((q' : Place) (go' : Going q' (Some all)) (w' : IsGathered (storage_of j) l q' all) → Ready q' (Some all) all → ((b : ℕ) → Has w'.before b → Gathers go' b) → Finished l) → Finished l
+        further : length all < 6 → FinishesFrom l all → Finished l
         further lt rec =
             let a = adv.on lt whole in
             let s = st.on lt (adv.chains lt whole) in
             let go' = push next (Some all) go s.1 s.2 refl in
             lead a.0 go' (λ b h. pick s.0 b s.3 (has_cases w.before (taken c m x) b (subst (λ z. Has z b) a.1 h))) a.0.leads
           where
-            lead : (w' : IsGathered (storage_of j) l next all) (go' : Going next (Some all)) → ((b : ℕ) → Has w'.before b → Gathers go' b) → ComesTo (storage_of j) next w'.at → Finished l
+            lead : (w' : IsGathered (storage_of j) l next all) (go' : Going next (Some all))
+                → ((b : ℕ) → Has w'.before b → Gathers go' b) → ComesTo (storage_of j) next w'.at → Finished l
             lead w' go' old' (inl e) =
                 let part = subst (λ a. is_part (storage_of j) a ≡ true) (sym e) (chain_begins_with_part (storage_of j) _ _ _ w'.chain) in
-                rec next go' w' (ready_out next all lt refl (part_passes (storage_of j) next part refl) (part_is_no_transfer (storage_of j) next.address part)) old'
+                rec next go' w'
+                (ready_out next all lt refl (part_passes (storage_of j) next part refl) (part_is_no_transfer (storage_of j) next.address part)) old'
             lead w' go' old' (inr e) =
                 let q'' : Place = transferred_to (ccw_of j next).address ChainOut in
                 let go'' = push q'' (Some all) go' (transferred (transfer_passes (storage_of j) next e.1 e.2 e.0) e.2) (λ z h. h) refl in
                 let part = subst (λ a. is_part (storage_of j) a ≡ true) (sym e.3) (chain_begins_with_part (storage_of j) _ _ _ w'.chain) in
-                rec q'' go'' (transfer_on (storage_of j) l next all w' e.2) (ready_out q'' all lt refl (part_passes (storage_of j) q'' part refl) (part_is_no_transfer (storage_of j) q''.address part)) (λ b h. inr (old' b h))
+                rec q'' go'' (transfer_on (storage_of j) l next all w' e.2)
+                (ready_out q'' all lt refl (part_passes (storage_of j) q'' part refl) (part_is_no_transfer (storage_of j) q''.address part))
+                (λ b h. inr (old' b h))
 
-        cases : (length all < 6) ⊎ (6 ≤ length all) → ((q' : Place) (go' : Going q' (Some all)) (w' : IsGathered (storage_of j) l q' all) → Ready q' (Some all) all → ((b : ℕ) → Has w'.before b → Gathers go' b) → Finished l) → Finished l
+        cases : (length all < 6) ⊎ (6 ≤ length all) → FinishesFrom l all → Finished l
         cases (inl lt) rec = further lt rec
         cases (inr ge) rec = done (omega (arith, len, r.few))
 
     -- ---- a chain that doesn't
 
     abbrev pub Stops : Moment → Moment → Type 0
-    Stops at m = (check at.storage p ≡ None) × (begins_seek p (ccw at.storage p.address) ≡ true) × NoSeek m.events × (Has m.events (Seek None) ⊎ ((r : Reason) × (m.stage ≡ Checked r)))
+    Stops at m =
+        (check at.storage p ≡ None) × (begins_seek p (ccw at.storage p.address) ≡ true)
+        × NoSeek m.events × (Has m.events (Seek None) ⊎ ((r : Reason) × (m.stage ≡ Checked r)))
 
     -- where the bytes after a step are too few, and no chain gives the rest, the seek stops later
     abbrev StopsFrom : List ℕ → Type 0
-    StopsFrom x = (q : Place) → Going q (Some x) → Ready q (Some x) x → ((l : List ℕ) → IsChain (storage_of j) (6 - length x) q.address l → ⊥) → ShowsInOperation j p ps Stops
+    StopsFrom x =
+        (q : Place) → Going q (Some x) → Ready q (Some x) x
+        → ((l : List ℕ) → IsChain (storage_of j) (6 - length x) q.address l → ⊥) → ShowsInOperation j p ps Stops
 
-    pub stop : check (storage_of j) p ≡ None → begins_seek p (ccw_of j p) ≡ true → (fuel : ℕ) (q : Place) (g : Gathered) (x : List ℕ) → Going q g → Ready q g x → 6 - length x ≤ fuel → ((l : List ℕ) → IsChain (storage_of j) (6 - length x) q.address l → ⊥) → ShowsInOperation j p ps Stops
+    pub stop : check (storage_of j) p ≡ None → begins_seek p (ccw_of j p) ≡ true → (fuel : ℕ) (q : Place) (g : Gathered) (x : List ℕ) → Going q g
+        → Ready q g x → 6 - length x ≤ fuel → ((l : List ℕ) → IsChain (storage_of j) (6 - length x) q.address l → ⊥) → ShowsInOperation j p ps Stops
     stop pass b zero q g x go r le no_chain = let few = r.few in absurd (omega arith)
-    stop pass b (suc fuel) q g x go r le no_chain = cases (cases_lt (length all) 6) (cases_Bool (chains_data c)) (λ lt q' go' r' n. stop pass b fuel q' (Some all) all go' r' (omega (arith, len, positive, whole, r.few)) n)
+    stop pass b (suc fuel) q g x go r le no_chain =
+        cases (cases_lt (length all) 6) (cases_Bool (chains_data c))
+        (λ lt q' go' r' n. stop pass b fuel q' (Some all) all go' r' (omega (arith, len, positive, whole, r.few)) n)
       where
         c : Fields
         c = ccw_of j q
@@ -259,10 +291,14 @@ module _ (j : Job) (bytes : AreBytes (storage_of j)) where
         next = straight_to (q.address + 8) ChainOut
 
         -- no chain goes on from where this CCW leads
-        none_from : length all < 6 → chains_data c ≡ true → (a : ℕ) → Leads (storage_of j) q.address a → (l : List ℕ) → IsChain (storage_of j) (6 - length all) a l → ⊥
-        none_from lt cd a to l k = no_chain (q.address ∷ l) (chain_cons (storage_of j) _ q.address a l part cd to (omega (arith, len, whole)) (subst (λ n. IsChain (storage_of j) n a l) (omega (arith, len, whole)) k))
+        none_from : length all < 6 → chains_data c ≡ true → (a : ℕ) → Leads (storage_of j) q.address a
+            → (l : List ℕ) → IsChain (storage_of j) (6 - length all) a l → ⊥
+        none_from lt cd a to l k =
+            no_chain (q.address ∷ l) (chain_cons (storage_of j) _ q.address a l part cd to (omega (arith, len, whole))
+            (subst (λ n. IsChain (storage_of j) n a l) (omega (arith, len, whole)) k))
 
-        at_next' : length all < 6 → chains_data c ≡ true → Going next (Some all) → StopsFrom all → (o : Option Reason) → check (storage_of j) next ≡ o → (is_transfer (ccw_of j next) ≡ true) ⊎ (is_transfer (ccw_of j next) ≡ false) → ShowsInOperation j p ps Stops
+        at_next' : length all < 6 → chains_data c ≡ true → Going next (Some all) → StopsFrom all → (o : Option Reason) → check (storage_of j) next ≡ o
+            → (is_transfer (ccw_of j next) ≡ true) ⊎ (is_transfer (ccw_of j next) ≡ false) → ShowsInOperation j p ps Stops
         at_next' lt cd go' rec (Some t) e z = close go' (checked e) (pass, b, (λ z h. h), inr (t, refl))
         at_next' lt cd go' rec None e (inr t) = rec next go' (ready_out next all lt refl e t) (none_from lt cd next.address (inl refl))
         at_next' lt cd go' rec None e (inl t) =
@@ -270,11 +306,20 @@ module _ (j : Job) (bytes : AreBytes (storage_of j)) where
             let go'' = push q'' (Some all) go' (transferred e t) (λ z h. h) refl in
             target go'' (check (storage_of j) q'') refl
           where
-            target : Going (transferred_to (ccw_of j next).address ChainOut) (Some all) → (o : Option Reason) → check (storage_of j) (transferred_to (ccw_of j next).address ChainOut) ≡ o → ShowsInOperation j p ps Stops
+            target : Going (transferred_to (ccw_of j next).address ChainOut) (Some all) → (o : Option Reason)
+                → check (storage_of j) (transferred_to (ccw_of j next).address ChainOut) ≡ o → ShowsInOperation j p ps Stops
             target go'' (Some u) f = close go'' (checked f) (pass, b, (λ z h. h), inr (u, refl))
-            target go'' None f = rec _ go'' (ready_out _ all lt refl f (no_second_transfer (storage_of j) _ f refl)) (none_from lt cd (ccw_of j next).address (inr (check_stands (storage_of j) next e, t, refl)))
+            target go'' None f =
+                rec _ go'' (ready_out _ all lt refl f (no_second_transfer (storage_of j) _ f refl))
+                (none_from lt cd (ccw_of j next).address (inr (check_stands (storage_of j) next e, t, refl)))
 
-        cases : (length all < 6) ⊎ (6 ≤ length all) → (chains_data c ≡ true) ⊎ (chains_data c ≡ false) → (length all < 6 → StopsFrom all) → ShowsInOperation j p ps Stops
-        cases (inr ge) z rec = absurd (no_chain (q.address ∷ []) (record { begins = refl; linked = part; short = omega (arith, r.few); enough = omega (arith, len, whole, r.few) }))
+        cases : (length all < 6) ⊎ (6 ≤ length all) → (chains_data c ≡ true) ⊎ (chains_data c ≡ false)
+            → (length all < 6 → StopsFrom all) → ShowsInOperation j p ps Stops
+        cases (inr ge) z rec =
+            let chain : IsChain (storage_of j) (6 - length x) q.address (q.address ∷ []) =
+            record { begins = refl; linked = part; short = omega (arith, r.few); enough = omega (arith, len, whole, r.few) } in
+            absurd (no_chain (q.address ∷ []) chain)
         cases (inl lt) (inr cd) rec = let s = st.short lt cd in close go s.1 (pass, b, s.3, inl s.2)
-        cases (inl lt) (inl cd) rec = let s = st.on lt cd in at_next' lt cd (push next (Some all) go s.1 s.2 refl) (rec lt) (check (storage_of j) next) refl (cases_Bool (is_transfer (ccw_of j next)))
+        cases (inl lt) (inl cd) rec =
+            let s = st.on lt cd in
+            at_next' lt cd (push next (Some all) go s.1 s.2 refl) (rec lt) (check (storage_of j) next) refl (cases_Bool (is_transfer (ccw_of j next)))

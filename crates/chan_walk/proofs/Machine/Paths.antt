@@ -37,7 +37,9 @@ module _ (j : Job) where
   -- a seek under way at p, whose chain is known
   abbrev Comes : Place → Gathered → Type 0
   Comes p None = Unit {0}
-  Comes p (Some x) = (kind_at j p ≡ Outward) × (length x < 6) × (l : List ℕ) × (before : List ℕ) × ((m : ℕ) → m ≤ (ccw_of j p).count → Advance (storage_of j) l p (ccw_of j p) x m before)
+  Comes p (Some x) =
+      (kind_at j p ≡ Outward) × (length x < 6) × (l : List ℕ) × (before : List ℕ)
+      × ((m : ℕ) → m ≤ (ccw_of j p).count → Advance (storage_of j) l p (ccw_of j p) x m before)
 
   few_of : (p : Place) (g : Gathered) → Comes p g → IsFew g
   few_of p g h = search rules
@@ -68,7 +70,13 @@ module _ (j : Job) where
 
       new : begins_seek p (ccw_of j p) ≡ true → (x : Option (List ℕ)) → HasArgument (storage_of j) p.address x → is_none x ≡ false → Comes p (Some [])
       new e None h miss = absurd (cc)
-      new e (Some x) h miss = (fresh_out p (ccw_of j p) e, omega arith, h.0, [], λ m le. advance (storage_of j) h.0 p [] m (begin (storage_of j) h.0 p h.1) t le)
+      new e (Some x) h miss = (
+        fresh_out p (ccw_of j p) e,
+        omega arith,
+        h.0,
+        [],
+        λ m le. advance (storage_of j) h.0 p [] m (begin (storage_of j) h.0 p h.1) t le,
+      )
 
       come : (b : Bool) → begins_seek p (ccw_of j p) ≡ b → (g : Gathered) → Taking p g → Comes p (if b then Some [] else g)
       come true e g u = new e f.0 f.1 (good.argued e)
@@ -77,13 +85,15 @@ module _ (j : Job) where
   -- what a seek goes on with after p, if it does
   abbrev Onward : Place → Gathered → Type 0
   Onward p None = Unit {0}
-  Onward p (Some x) = (kind_at j p ≡ Outward) × (chains_data (ccw_of j p) ≡ true) × (l : List ℕ) × IsGathered (storage_of j) l (straight_to (p.address + 8) ChainOut) x
+  Onward p (Some x) =
+      (kind_at j p ≡ Outward) × (chains_data (ccw_of j p) ≡ true) × (l : List ℕ) × IsGathered (storage_of j) l (straight_to (p.address + 8) ChainOut) x
 
   onward_of : (p : Place) (g : Gathered) (es : List Event) (after : Gathered) → Comes p g → Left j (ccw_of j p) (bytes_at j p) g es after → Onward p after
   onward_of p g es after h left = search (rules, bytes_at, full_count, Advance)
 
   -- where data chaining is off, no seek goes on
-  none_left : (y : ℕ) (p : Place) (g : Gathered) (tk : Taking p g) (f : IsClear j p) (t : is_transfer (ccw_of j p) ≡ false) → chains_data (ccw_of j p) ≡ false → (seek_at j y p g (few_of p (under_way p (ccw_of j p) g) (comes_at p g tk f t))).after ≡ None
+  none_left : (y : ℕ) (p : Place) (g : Gathered) (tk : Taking p g) (f : IsClear j p) (t : is_transfer (ccw_of j p) ≡ false)
+      → chains_data (ccw_of j p) ≡ false → (seek_at j y p g (few_of p (under_way p (ccw_of j p) g) (comes_at p g tk f t))).after ≡ None
   none_left y p g tk f t cd = search (rules, comes_at, seek_at, few_of, onward_of, both_ways)
 
   record CanStep (y : ℕ) (p : Place) (g : Gathered) (q : Place) : Type 0 where
@@ -93,7 +103,8 @@ module _ (j : Job) where
     quiet : AllByRecursion (IsQuiet j) es
     taking : Taking q after
 
-  can_step : AreBytes (storage_of j) → (y : ℕ) (p : Place) (g : Gathered) {q : Place} → Taking p g → IsClear j p → Follows p (ccw_of j p) (kind_at j p) q → CanStep y p g q
+  can_step : AreBytes (storage_of j) → (y : ℕ) (p : Place) (g : Gathered) {q : Place}
+      → Taking p g → IsClear j p → Follows p (ccw_of j p) (kind_at j p) q → CanStep y p g q
   can_step bytes y p g tk f (by_transfer t) =
       record { es = []; after = g; step = transferred (clear_check j p f) t; quiet = tt; taking = carry g tk }
     where
@@ -115,16 +126,20 @@ module _ (j : Job) where
 
       carry : (g : Gathered) → Onward p g → Taking (straight_to (p.address + 8) e) g
       carry None u = tt
-      carry (Some x) u = let same = chained_out (kind_at j p) u.0 ch in (same, u.2, subst (λ z. IsGathered (storage_of j) u.2 (straight_to (p.address + 8) z) x) (sym same) u.3)
+      carry (Some x) u =
+          let same = chained_out (kind_at j p) u.0 ch in
+          (same, u.2, subst (λ z. IsGathered (storage_of j) u.2 (straight_to (p.address + 8) z) x) (sym same) u.3)
   can_step bytes y p g tk f (by_command t cd cc') =
       let few = few_of p (under_way p (ccw_of j p) g) (comes_at p g tk f t) in
       let n = none_left y p g tk f t cd in
-      let r = carry_out j bytes y p g few (clear_check j p f) t (clear_good j p f t).known tt (subst (λ z. Continues p (ccw_of j p) (kind_at j p) (bytes_at j p) z [] (At (straight_to (p.address + 8) Fresh) None)) (sym n) (on_command cd cc')) in
+      let r = carry_out j bytes y p g few (clear_check j p f) t (clear_good j p f t).known tt
+      (subst (λ z. Continues p (ccw_of j p) (kind_at j p) (bytes_at j p) z [] (At (straight_to (p.address + 8) Fresh) None)) (sym n) (on_command cd cc')) in
       record { es = r.es; after = None; step = r.step; quiet = r.quiet; taking = tt }
   can_step bytes y p g tk f (by_skip t cd cc' ks) =
       let few = few_of p (under_way p (ccw_of j p) g) (comes_at p g tk f t) in
       let n = none_left y p g tk f t cd in
-      let r = carry_out j bytes y p g few (clear_check j p f) t (clear_good j p f t).known tt (subst (λ z. Continues p (ccw_of j p) (kind_at j p) (bytes_at j p) z [] (At (straight_to (p.address + 16) Fresh) None)) (sym n) (on_skip cd cc' ks)) in
+      let r = carry_out j bytes y p g few (clear_check j p f) t (clear_good j p f t).known tt
+      (subst (λ z. Continues p (ccw_of j p) (kind_at j p) (bytes_at j p) z [] (At (straight_to (p.address + 16) Fresh) None)) (sym n) (on_skip cd cc' ks)) in
       record { es = r.es; after = None; step = r.step; quiet = r.quiet; taking = tt }
 
   -- a path is a run
@@ -137,7 +152,8 @@ module _ (j : Job) where
     pub quiet : AllByRecursion (IsQuietMoment j) (record { storage = storage_of j; arm = y; mask = j.mask; stage = At p gathered; events = events } ∷ run)
     pub taking : Taking p gathered
 
-  pub path_runs : AreBytes (storage_of j) → AreExtents (extents_of j) → (p : Place) (ps : List Place) → IsPath j (p ∷ ps) → Runs (first_cylinder (extents_of j)) p ps
+  pub path_runs : AreBytes (storage_of j) → AreExtents (extents_of j)
+      → (p : Place) (ps : List Place) → IsPath j (p ∷ ps) → Runs (first_cylinder (extents_of j)) p ps
   path_runs bytes h p [] e = record {
     gathered = None;
     events = [];
@@ -163,5 +179,9 @@ module _ (j : Job) where
 pub each_path_is_run : EachPathIsRun
 each_path_is_run j proper [] e = absurd e
 each_path_is_run j proper (p ∷ ps) e =
-    let r = path_runs j proper.1 proper.0 p ps e in
-    (record { storage = storage_of j; arm = first_cylinder (extents_of j); mask = j.mask; stage = At p r.gathered; events = r.events } ∷ r.run, r.is_run, ((r.gathered, refl), r.places), r.quiet)
+    let r = path_runs j proper.1 proper.0 p ps e in (
+      record { storage = storage_of j; arm = first_cylinder (extents_of j); mask = j.mask; stage = At p r.gathered; events = r.events } ∷ r.run,
+      r.is_run,
+      ((r.gathered, refl), r.places),
+      r.quiet,
+    )

@@ -41,7 +41,9 @@ small s [] h = tt
 small s (x ∷ xs) h = (h x, small s xs h)
 
 pub length-with_taken : (s : List ℕ) (c : Fields) (m : ℕ) (x : List ℕ) → length (with_taken s c m x) ≡ length x + min m (6 - length x)
-length-with_taken s c m x = length-append x (map (byte s) (taken c m x)) ∙ ap (λ n. length x + n) (length-map (taken c m x) (byte s) ∙ length-range_with_len c.address (min m (6 - length x)))
+length-with_taken s c m x =
+    length-append x (map (byte s) (taken c m x))
+    ∙ ap (λ n. length x + n) (length-map (taken c m x) (byte s) ∙ length-range_with_len c.address (min m (6 - length x)))
 
 module _ (j : Job) where
   abbrev pub kind_at : Place → Kind
@@ -79,8 +81,22 @@ module _ (j : Job) where
 
   pub can_move : AreBytes (storage_of j) → (c : Fields) (k : Kind) → CanMove c k
   can_move bytes c Idle = record { es = []; moves = idle refl; quiet = tt; no_seek = no_event; stores = λ e f. absurd (cc); fetches = λ e. absurd (cc) }
-  can_move bytes c Outward = record { es = _; moves = written; quiet = (tt, tt); no_seek = no_fetch c.address c.count; stores = λ e f. absurd (cc); fetches = λ e. inl refl }
-  can_move bytes c Search = record { es = _; moves = searched; quiet = (tt, tt); no_seek = no_fetch c.address c.count; stores = λ e f. absurd (cc); fetches = λ e. inl refl }
+  can_move bytes c Outward = record {
+    es = _;
+    moves = written;
+    quiet = (tt, tt);
+    no_seek = no_fetch c.address c.count;
+    stores = λ e f. absurd (cc);
+    fetches = λ e. inl refl;
+  }
+  can_move bytes c Search = record {
+    es = _;
+    moves = searched;
+    quiet = (tt, tt);
+    no_seek = no_fetch c.address c.count;
+    stores = λ e f. absurd (cc);
+    fetches = λ e. inl refl;
+  }
   can_move bytes c Inward = go (cases_Bool (skips c))
     where
       len : length (there c) ≡ c.count
@@ -90,7 +106,11 @@ module _ (j : Job) where
       go (inl h) = record { es = []; moves = skipped h; quiet = tt; no_seek = no_event; stores = λ e f. absurd (both_ways _ f h); fetches = λ e. absurd (cc) }
       go (inr h) = record {
         es = Store c.address (there c) ∷ [];
-        moves = stored h len (small (storage_of j) (range_with_len c.address c.count) bytes) (record { same_length = refl; inside = λ i l. sym (byte-map-range (byte (storage_of j)) c.address c.count i (omega (arith, len))); others = λ b o. refl });
+        moves = stored h len (small (storage_of j) (range_with_len c.address c.count) bytes) (record {
+          same_length = refl;
+          inside = λ i l. sym (byte-map-range (byte (storage_of j)) c.address c.count i (omega (arith, len)));
+          others = λ b o. refl;
+        });
         quiet = (ap (λ n. map (byte (storage_of j)) (range_with_len c.address n)) (sym len), tt);
         no_seek = no_store c.address (there c);
         stores = λ e f. inl refl;
@@ -163,7 +183,13 @@ module _ (j : Job) where
   pub can_mask : (c : Fields) (m f : ℕ) (b : Bool) → CanMask c m f b
   can_mask c m f false = record { es = []; sets = no_mask; quiet = tt; takes = λ e. absurd (cc); no_seek = no_event }
   can_mask c zero f true = record { es = []; sets = no_byte refl; quiet = tt; takes = λ e l. absurd (omega arith); no_seek = no_event }
-  can_mask c (suc m) f true = record { es = _; sets = mask_stays (omega arith); quiet = (tt, tt); takes = λ e l. inl refl; no_seek = no_taken c.address (byte (storage_of j) c.address) }
+  can_mask c (suc m) f true = record {
+    es = _;
+    sets = mask_stays (omega arith);
+    quiet = (tt, tt);
+    takes = λ e l. inl refl;
+    no_seek = no_taken c.address (byte (storage_of j) c.address);
+  }
 
   -- ---- the whole step
 
@@ -185,20 +211,25 @@ module _ (j : Job) where
     pub last : (e : Event) → Has went e → Has es e
     pub no_seek : begins_recalibrate p (ccw_of j p) ≡ false → NoSeek sk → NoSeek went → NoSeek es
 
-  pub carry_out : AreBytes (storage_of j) → (y : ℕ) (p : Place) (g : Gathered) (few : IsFew (under_way p (ccw_of j p) g)) → check (storage_of j) p ≡ None → is_transfer (ccw_of j p) ≡ false → Known p → {went : List Event} {st : Stage} → AllByRecursion (IsQuiet j) went → Continues p (ccw_of j p) (kind_at p) (bytes_at p) (seek_at y p g few).after went st → Carried y p g (seek_at y p g few).es went st
+  pub carry_out : AreBytes (storage_of j) → (y : ℕ) (p : Place) (g : Gathered) (few : IsFew (under_way p (ccw_of j p) g))
+      → check (storage_of j) p ≡ None → is_transfer (ccw_of j p) ≡ false → Known p → {went : List Event} {st : Stage} → AllByRecursion (IsQuiet j) went
+      → Continues p (ccw_of j p) (kind_at p) (bytes_at p) (seek_at y p g few).after went st → Carried y p g (seek_at y p g few).es went st
   carry_out bytes y p g few e t known {went = went} calm goes = record {
     es = command_event p c ++ mv.es ++ sk.es ++ hm.es ++ fm.es ++ went;
     step = carried e t known (full_le (kind_at p) c) mv.moves sk.seeks hm.homes fm.sets goes;
-    quiet = of_six (AllByRecursion (IsQuiet j)) (all_append _) (command_event p c) mv.es sk.es hm.es fm.es went (calm_begun (is_fresh p.entered)) mv.quiet sk.quiet hm.quiet fm.quiet calm;
+    quiet = of_six (AllByRecursion (IsQuiet j)) (all_append _) (command_event p c) mv.es sk.es hm.es fm.es went
+        (calm_begun (is_fresh p.entered)) mv.quiet sk.quiet hm.quiet fm.quiet calm;
     begins = λ f. among _ (inl (has_begun (is_fresh p.entered) f));
     stores = λ f h. among _ (inr (inl (mv.stores (inward_from (kind_at p) f) h)));
     fetches = λ f. among _ (inr (inl (mv.fetches f)));
     sought = λ z h. among z (inr (inr (inl h)));
-    uses = λ b u. uses_left (command_event p c ++ mv.es ++ sk.es ++ hm.es ++ fm.es) went b (uses_left (command_event p c ++ mv.es ++ sk.es ++ hm.es) fm.es b (uses_left (command_event p c ++ mv.es ++ sk.es) hm.es b (uses_right (command_event p c ++ mv.es) sk.es b u)));
+    uses = λ b u. uses_left (command_event p c ++ mv.es ++ sk.es ++ hm.es ++ fm.es) went b (uses_left (command_event p c ++ mv.es ++ sk.es ++ hm.es) fm.es b
+        (uses_left (command_event p c ++ mv.es ++ sk.es) hm.es b (uses_right (command_event p c ++ mv.es) sk.es b u)));
     home = λ f. among _ (inr (inr (inr (inl (hm.home f)))));
     masks = λ f l. among _ (inr (inr (inr (inr (inl (fm.takes f l))))));
     last = λ z h. among z (inr (inr (inr (inr (inr h)))));
-    no_seek = λ h a b. of_six NoSeek no_seek_append (command_event p c) mv.es sk.es hm.es fm.es went (no_begun (is_fresh p.entered)) mv.no_seek a (hm.no_seek h) fm.no_seek b;
+    no_seek = λ h a b. of_six NoSeek no_seek_append (command_event p c) mv.es sk.es hm.es fm.es went
+        (no_begun (is_fresh p.entered)) mv.no_seek a (hm.no_seek h) fm.no_seek b;
   }
     where
       c : Fields
@@ -216,7 +247,8 @@ module _ (j : Job) where
       fm : CanMask c (bytes_at p) j.mask (begins_set_mask p c)
       fm = can_mask c (bytes_at p) j.mask (begins_set_mask p c)
 
-      among : (z : Event) → Has (command_event p c) z ⊎ Has mv.es z ⊎ Has sk.es z ⊎ Has hm.es z ⊎ Has fm.es z ⊎ Has went z → Has (command_event p c ++ mv.es ++ sk.es ++ hm.es ++ fm.es ++ went) z
+      among : (z : Event) → Has (command_event p c) z ⊎ Has mv.es z ⊎ Has sk.es z ⊎ Has hm.es z ⊎ Has fm.es z ⊎ Has went z
+          → Has (command_event p c ++ mv.es ++ sk.es ++ hm.es ++ fm.es ++ went) z
       among = in_six (command_event p c) mv.es sk.es hm.es fm.es went
 
       calm_begun : (f : Bool) → AllByRecursion (IsQuiet j) (if f then Command c.command ∷ [] else [])

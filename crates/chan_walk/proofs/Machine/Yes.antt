@@ -50,7 +50,8 @@ module _ (j : Job) (v : IsVerdict j Yes) where
     where
       go : IsGuarded j u.2.at → ⊥
       go (inl h) = v u.0 ChangesCcw u.1 (inr (clear_at, inl (refl, record { stores = u.2.stores; at = u.2.at; from = u.2.from; below = u.2.below; holds = h })))
-      go (inr h) = v u.0 ChangesArgument u.1 (inr (clear_at, inr (refl, record { stores = u.2.stores; at = u.2.at; from = u.2.from; below = u.2.below; holds = h })))
+      go (inr h) =
+          v u.0 ChangesArgument u.1 (inr (clear_at, inr (refl, record { stores = u.2.stores; at = u.2.at; from = u.2.from; below = u.2.below; holds = h })))
 
   ccw_kept : (s : List ℕ) (p : Place) → Same j s → IsReachable j p → ccw s p.address ≡ ccw_of j p
   ccw_kept s p same r =
@@ -75,9 +76,16 @@ module _ (j : Job) (v : IsVerdict j Yes) where
 
       old : (g : Gathered) → Under j p g → Comes j p (ccw_of j p) g
       old None u = tt
-      old (Some x) u = record { l = u.1; sought = u.2; before = u.3.before; advance = λ m le. advance (storage_of j) u.1 p x m u.3 t le; outward = ap (λ e. kind_of e (ccw_of j p)) u.0 }
+      old (Some x) u = record {
+        l = u.1;
+        sought = u.2;
+        before = u.3.before;
+        advance = λ m le. advance (storage_of j) u.1 p x m u.3 t le;
+        outward = ap (λ e. kind_of e (ccw_of j p)) u.0;
+      }
 
-      new : begins_seek p (ccw_of j p) ≡ true → (x : Option (List ℕ)) → HasArgument (storage_of j) p.address x → is_none x ≡ false → is_refused j x ≡ false → Coming j p (ccw_of j p) []
+      new : begins_seek p (ccw_of j p) ≡ true → (x : Option (List ℕ)) → HasArgument (storage_of j) p.address x
+          → is_none x ≡ false → is_refused j x ≡ false → Coming j p (ccw_of j p) []
       new e None h miss ref = absurd (cc)
       new e (Some x) h miss ref = record {
         l = h.0;
@@ -98,10 +106,12 @@ module _ (j : Job) (v : IsVerdict j Yes) where
       come true g u e = new e f.0 f.1 (good.argued e) (good.allowed e)
       come false g u e = old g u
 
-  step_ok : {s : List ℕ} {y f : ℕ} {p : Place} {g : Gathered} {es : List Event} {t : List ℕ} {y' f' : ℕ} {st : Stage} → Step s y f p g es t y' f' st → Invariant j s y f (At p g) → Stepped j t y' f' st es
+  step_ok : {s : List ℕ} {y f : ℕ} {p : Place} {g : Gathered} {es : List Event} {t : List ℕ} {y' f' : ℕ} {st : Stage}
+      → Step s y f p g es t y' f' st → Invariant j s y f (At p g) → Stepped j t y' f' st es
   step_ok {s = s} {p = p} (checked {r = r} e) k =
       let c = ccw_kept s p k.same k.stage.0 in
-      let same : check s p ≡ check (storage_of j) p = ap (λ n. check_of n p (ccw s p.address)) k.same_length ∙ ap (λ z. check_of (length (storage_of j)) p z) c in
+      let same : check s p ≡ check (storage_of j) p =
+      ap (λ n. check_of n p (ccw s p.address)) k.same_length ∙ ap (λ z. check_of (length (storage_of j)) p z) c in
       let n : check (storage_of j) p ≡ None = clear_check j p (clear_at p k.stage.0) in
       absurd (cc)
   step_ok {s = s} {y = y} {f = f} {p = p} {g = g} (transferred e t) k =
@@ -109,7 +119,13 @@ module _ (j : Job) (v : IsVerdict j Yes) where
       let t' : is_transfer (ccw_of j p) ≡ true = ap is_transfer (sym c) ∙ t in
       record {
         kept = subst (λ z. Invariant j s y f (At (transferred_to z.address p.entered) g)) (sym c)
-            (record { same_length = k.same_length; same = k.same; inside = k.inside; strict = k.strict; stage = (onward p _ k.stage.0 (by_transfer t'), carry g t' k.stage.1) });
+            (record {
+              same_length = k.same_length;
+              same = k.same;
+              inside = k.inside;
+              strict = k.strict;
+              stage = (onward p _ k.stage.0 (by_transfer t'), carry g t' k.stage.1);
+            });
         safe = tt;
         used = λ b u. absurd u;
       }
@@ -127,14 +143,19 @@ module _ (j : Job) (v : IsVerdict j Yes) where
       let t' : is_transfer (ccw_of j p) ≡ false = ap is_transfer (sym c) ∙ t in
       carried_ok j p (ccw s p.address) g (subst (λ z. Here j p z g) (sym c) (here_at p g k.stage.0 k.stage.1 t')) k t le mv sk hm fm gs
 
-  from_ok : {s : List ℕ} {y f : ℕ} (at : Stage) {es : List Event} {t : List ℕ} {y' f' : ℕ} {st : Stage} → StepFrom s y f at es t y' f' st → Invariant j s y f at → Stepped j t y' f' st es
+  from_ok : {s : List ℕ} {y f : ℕ} (at : Stage) {es : List Event} {t : List ℕ} {y' f' : ℕ} {st : Stage}
+      → StepFrom s y f at es t y' f' st → Invariant j s y f at → Stepped j t y' f' st es
   from_ok at w k = search (rules, step_ok)
 
   -- a step changes only what the program may store over
-  pub step_spares : (P : ℕ → Type 0) → (MayStoreOver j P → ⊥) → (s : List ℕ) (y f : ℕ) (at : Stage) (es : List Event) (t : List ℕ) (y' f' : ℕ) (st : Stage) → StepFrom s y f at es t y' f' st → Invariant j s y f at → IsSameIn P s t
+  pub step_spares : (P : ℕ → Type 0) → (MayStoreOver j P → ⊥) → (s : List ℕ) (y f : ℕ) (at : Stage) (es : List Event) (t : List ℕ) (y' f' : ℕ) (st : Stage)
+      → StepFrom s y f at es t y' f' st → Invariant j s y f at → IsSameIn P s t
   step_spares P never s y f (At p g) es t y' f' st w k =
       let o = step_only w in
-      record { same_length = o.same_length; same = λ b h. o.same b (λ u. apart_at P never p k.stage.0 b h (subst (λ c. StoresAt p c b) (ccw_kept s p k.same k.stage.0) u)) }
+      record {
+        same_length = o.same_length;
+        same = λ b h. o.same b (λ u. apart_at P never p k.stage.0 b h (subst (λ c. StoresAt p c b) (ccw_kept s p k.same k.stage.0) u));
+      }
   step_spares P never s y f Ended es t y' f' st w k = absurd w
   step_spares P never s y f (Checked r) es t y' f' st w k = absurd w
 
@@ -170,7 +191,8 @@ module _ (j : Job) (v : IsVerdict j Yes) where
   each_ok (n ∷ m ∷ ms) r = let k = each_ok (m ∷ ms) r.0 in (next_ok m n r.1 k.0, k)
 
   -- what holds of a moment because it is kept holds of each
-  pub all_kept : (P : Moment → Type 0) → ((m : Moment) → Invariant j m.storage m.arm m.mask m.stage → P m) → (ms : List Moment) → IsSpared j ms → AllByRecursion P ms
+  pub all_kept : (P : Moment → Type 0) → ((m : Moment) → Invariant j m.storage m.arm m.mask m.stage → P m)
+      → (ms : List Moment) → IsSpared j ms → AllByRecursion P ms
   all_kept P f ms r = all_map IsOk P (λ m k. f m k.kept) ms (each_ok ms r)
 
   unchecked : (st : Stage) → IsKept j st → IsUnchecked st
@@ -215,7 +237,10 @@ pub gathers_arguments : GathersArguments
 gathers_arguments j v = all_kept j v _ (λ m k. gathers j v m.stage k.stage)
 
 pub yes_is_safe_among : YesIsSafeAmong
-yes_is_safe_among j h v = (λ run r. all_map _ (IsSafeMoment j) (is_safe j v h) run (each_ok j v run r), λ used run b r u s. all_kept j v (Holds j b) (λ m k. k.same b (used_guarded j v used b (each_ok j v used r) u)) run s)
+yes_is_safe_among j h v = (
+  λ run r. all_map _ (IsSafeMoment j) (is_safe j v h) run (each_ok j v run r),
+  λ used run b r u s. all_kept j v (Holds j b) (λ m k. k.same b (used_guarded j v used b (each_ok j v used r) u)) run s,
+)
 
 -- a run by itself is one among others that do nothing
 pub alone : (P : ℕ → Type 0) (j : Job) (ms : List Moment) → IsRun j ms → IsRunAmong P j ms
@@ -224,4 +249,6 @@ alone P j (m ∷ []) r = r
 alone P j (n ∷ m ∷ ms) r = (alone P j (m ∷ ms) r.0, inl r.1)
 
 pub yes_is_safe : YesIsSafe
-yes_is_safe j h v = let a = yes_is_safe_among j h v in (λ run r. a.0 run (alone _ j run r), λ used run b r u s. a.1 used run b (alone _ j used r) u (alone _ j run s))
+yes_is_safe j h v =
+    let a = yes_is_safe_among j h v in
+    (λ run r. a.0 run (alone _ j run r), λ used run b r u s. a.1 used run b (alone _ j used r) u (alone _ j run s))

@@ -24,7 +24,8 @@ chain_begins_with_part s n a l k = first_is_part s a l k.begins k.linked
 pub chain_tail : (s : List ℕ) (n a b d : ℕ) (l : List ℕ) → IsChain s n a (b ∷ d ∷ l) → IsChain s (n - (ccw s b).count) d (d ∷ l)
 chain_tail s n a b d l k = search rules
 
-pub chain_cons : (s : List ℕ) (n a b : ℕ) (l : List ℕ) → is_part s a ≡ true → chains_data (ccw s a) ≡ true → Leads s a b → (ccw s a).count < n → IsChain s (n - (ccw s a).count) b l → IsChain s n a (a ∷ l)
+pub chain_cons : (s : List ℕ) (n a b : ℕ) (l : List ℕ) → is_part s a ≡ true → chains_data (ccw s a) ≡ true
+    → Leads s a b → (ccw s a).count < n → IsChain s (n - (ccw s a).count) b l → IsChain s n a (a ∷ l)
 chain_cons s n a b l h cd to lt k = search rules
 
 pub onward_leads : (s : List ℕ) (a : ℕ) → Leads s a (onward s a)
@@ -33,12 +34,19 @@ onward_leads s a = search rules
 pub onward_only : (s : List ℕ) (a b : ℕ) → Leads s a b → is_part s b ≡ true → b ≡ onward s a
 onward_only s a b k h = search (rules, part_is_no_transfer, and_from)
 
--- there is a chain, or there is none
+-- there is a chain of n bytes from a, or there is none
+abbrev IsDecided : List ℕ → ℕ → ℕ → Type 0
+IsDecided s n a = ((l : List ℕ) × IsChain s n a l) ⊎ ((l : List ℕ) → IsChain s n a l → ⊥)
+
+-- which of the two is so can be told
 pub chain_decides : (fuel : ℕ) (s : List ℕ) (n a : ℕ) → n ≤ fuel → 0 < n → ((l : List ℕ) × IsChain s n a l) ⊎ ((l : List ℕ) → IsChain s n a l → ⊥)
 chain_decides zero s n a h p = absurd (omega arith)
-chain_decides (suc fuel) s n a h p = go (cases_Bool (is_part s a)) (cases_lt (ccw s a).count n) (cases_Bool (chains_data (ccw s a))) (λ c lt. chain_decides fuel s (n - (ccw s a).count) (onward s a) (omega arith) (omega arith))
+chain_decides (suc fuel) s n a h p =
+    go (cases_Bool (is_part s a)) (cases_lt (ccw s a).count n) (cases_Bool (chains_data (ccw s a)))
+    (λ c lt. chain_decides fuel s (n - (ccw s a).count) (onward s a) (omega arith) (omega arith))
   where
-    more : chains_data (ccw s a) ≡ true → is_part s a ≡ true → (ccw s a).count < n → ((l : List ℕ) × IsChain s (n - (ccw s a).count) (onward s a) l) ⊎ ((l : List ℕ) → IsChain s (n - (ccw s a).count) (onward s a) l → ⊥) → ((l : List ℕ) × IsChain s n a l) ⊎ ((l : List ℕ) → IsChain s n a l → ⊥)
+    more : chains_data (ccw s a) ≡ true → is_part s a ≡ true → (ccw s a).count < n
+        → IsDecided s (n - (ccw s a).count) (onward s a) → IsDecided s n a
     more cd part lt (inl r) = inl (a ∷ r.0, chain_cons s n a (onward s a) r.0 part cd (onward_leads s a) lt r.1)
     more cd part lt (inr r) = inr (λ l k. none l k)
       where
@@ -48,7 +56,9 @@ chain_decides (suc fuel) s n a h p = go (cases_Bool (is_part s a)) (cases_lt (cc
     short : is_part s a ≡ true → (ccw s a).count < n → chains_data (ccw s a) ≡ false → (l : List ℕ) → IsChain s n a l → ⊥
     short part lt cd l k = search (rules, both_ways)
 
-    go : (is_part s a ≡ true) ⊎ (is_part s a ≡ false) → ((ccw s a).count < n) ⊎ (n ≤ (ccw s a).count) → (chains_data (ccw s a) ≡ true) ⊎ (chains_data (ccw s a) ≡ false) → (0 < (ccw s a).count → (ccw s a).count < n → ((l : List ℕ) × IsChain s (n - (ccw s a).count) (onward s a) l) ⊎ ((l : List ℕ) → IsChain s (n - (ccw s a).count) (onward s a) l → ⊥)) → ((l : List ℕ) × IsChain s n a l) ⊎ ((l : List ℕ) → IsChain s n a l → ⊥)
+    go : (is_part s a ≡ true) ⊎ (is_part s a ≡ false) → ((ccw s a).count < n) ⊎ (n ≤ (ccw s a).count)
+        → (chains_data (ccw s a) ≡ true) ⊎ (chains_data (ccw s a) ≡ false)
+        → (0 < (ccw s a).count → (ccw s a).count < n → IsDecided s (n - (ccw s a).count) (onward s a)) → IsDecided s n a
     go (inr is) lt cd rec = inr (λ l k. both_ways _ is (chain_begins_with_part s n a l k))
     go (inl is) (inr le) cd rec = inl (a ∷ [], record { begins = refl; linked = is; short = p; enough = omega arith })
     go (inl is) (inl lt) (inl cd) rec = more cd is lt (rec (part_counts s a is) lt)

@@ -19,7 +19,8 @@ check-outside s p h n = search (rules, is_aligned-true, ccw_at-none)
 
 -- where a CCW stands, only its own bits are left to look at
 pub check-found : (s : List ℕ) (p : Place) (c : Fields) → ccw_at s p.address ≡ Some c
-    → check s p ≡ option_or (first_reason ((is_transfer c && p.after_transfer, TransferNotAllowed) ∷ [])) (if is_transfer c then None else first_reason (table_of_non_transfer (length s) p c))
+    → check s p ≡ option_or (first_reason ((is_transfer c && p.after_transfer, TransferNotAllowed) ∷ []))
+    (if is_transfer c then None else first_reason (table_of_non_transfer (length s) p c))
 unfolding check_of
 check-found s p c h = search rules
 
@@ -34,5 +35,9 @@ unfolding is_part
 is_part-none s a h = let x : (is_aligned a && is_inside (length s) a) ≡ false = ccw_at-none s a h in rw x refl
 
 -- a transfer in channel meets no check but that it may not follow another
-pub check-transfer : (s : List ℕ) (p : Place) (c : Fields) → ccw_at s p.address ≡ Some c → is_transfer c ≡ true → check s p ≡ then_some p.after_transfer TransferNotAllowed
-check-transfer s p c h t = check-found s p c h ∙ rw t (elim p.after_transfer as (λ b. option_or (first_reason ((true && b, TransferNotAllowed) ∷ [])) None ≡ then_some b TransferNotAllowed) [ true ↦ refl | false ↦ refl ])
+pub check-transfer : (s : List ℕ) (p : Place) (c : Fields) → ccw_at s p.address ≡ Some c
+    → is_transfer c ≡ true → check s p ≡ then_some p.after_transfer TransferNotAllowed
+check-transfer s p c h t =
+    check-found s p c h
+    ∙ rw t (elim p.after_transfer as
+    (λ b. option_or (first_reason ((true && b, TransferNotAllowed) ∷ [])) None ≡ then_some b TransferNotAllowed) [ true ↦ refl | false ↦ refl ])

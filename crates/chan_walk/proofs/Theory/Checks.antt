@@ -31,12 +31,16 @@ each_case P [] h = tt
 each_case P (e ∷ es) h = (λ _. h.0, λ _. each_case P es h.1)
 
 -- a reason that holds over two tables, the second for a CCW that is no transfer
-pub table_case : (P : Reason → Type 0) (a : Option Reason) (z : Bool) (ts : List (Bool × Reason)) (r : Reason) → (a ≡ Some r → P r) → (a ≡ None → z ≡ false → Cases P ts) → option_or a (if z then None else first_reason ts) ≡ Some r → P r
+pub table_case : (P : Reason → Type 0) (a : Option Reason) (z : Bool) (ts : List (Bool × Reason)) (r : Reason)
+    → (a ≡ Some r → P r) → (a ≡ None → z ≡ false → Cases P ts) → option_or a (if z then None else first_reason ts) ≡ Some r → P r
 table_case P a z ts r f g h = search (rules, or_some, first_case)
 
-pub check_case : (P : Reason → Type 0) (s : List ℕ) (p : Place) (r : Reason) → Cases P (table_of_every_ccw (length s) p (ccw s p.address)) → Cases P (table_of_non_transfer (length s) p (ccw s p.address)) → check s p ≡ Some r → P r
+pub check_case : (P : Reason → Type 0) (s : List ℕ) (p : Place) (r : Reason) → Cases P (table_of_every_ccw (length s) p (ccw s p.address))
+    → Cases P (table_of_non_transfer (length s) p (ccw s p.address)) → check s p ≡ Some r → P r
 unfolding check_of
-check_case P s p r a b h = table_case P _ (is_transfer (ccw s p.address)) (table_of_non_transfer (length s) p (ccw s p.address)) r (first_case P (table_of_every_ccw (length s) p (ccw s p.address)) r a) (λ n e. b) h
+check_case P s p r a b h =
+    table_case P _ (is_transfer (ccw s p.address)) (table_of_non_transfer (length s) p (ccw s p.address)) r
+    (first_case P (table_of_every_ccw (length s) p (ccw s p.address)) r a) (λ n e. b) h
 
 pub check_stands : (s : List ℕ) (p : Place) → check s p ≡ None → Stands s p.address
 unfolding check_of
@@ -64,7 +68,8 @@ pub part_passes : (s : List ℕ) (p : Place) → is_part s p.address ≡ true �
 unfolding is_part check_of
 part_passes s p h f = search rules
 
-second_checked : (s : List ℕ) (p : Place) → Stands s p.address → p.after_transfer ≡ true → is_transfer (ccw s p.address) ≡ true → check s p ≡ Some TransferNotAllowed
+second_checked : (s : List ℕ) (p : Place) → Stands s p.address → p.after_transfer ≡ true
+    → is_transfer (ccw s p.address) ≡ true → check s p ≡ Some TransferNotAllowed
 unfolding check_of
 second_checked s p st b t = let a0 : is_aligned p.address ≡ true = st.0 in let a1 : is_inside (length s) p.address ≡ true = st.1 in rw (a0, a1, t, b) refl
 

@@ -34,7 +34,8 @@ table_keeps : list_all seeks_go_out table ≡ true
 unfolding table
 table_keeps = refl
 
-rule_at : (o : Option Command) → Passes seeks_go_out o → class_passes class_is_seek o ≡ true → (kind_of_command o ≡ Outward) × (class_passes class_recalibrates o ≡ false)
+rule_at : (o : Option Command) → Passes seeks_go_out o → class_passes class_is_seek o ≡ true
+    → (kind_of_command o ≡ Outward) × (class_passes class_recalibrates o ≡ false)
 rule_at o h k = search rules
 
 abbrev masks_go_out : Command → Bool
@@ -63,7 +64,8 @@ masks_apart : list_all masks_are_no_transfers table ≡ true
 unfolding table
 masks_apart = refl
 
-apart_at : (code : ℕ) (o : Option Command) → Passes masks_are_no_transfers o → Passes (λ e. e.code == code) o → class_passes class_sets_mask o ≡ true → (code % 16 == 8) ≡ false
+apart_at : (code : ℕ) (o : Option Command) → Passes masks_are_no_transfers o
+    → Passes (λ e. e.code == code) o → class_passes class_sets_mask o ≡ true → (code % 16 == 8) ≡ false
 apart_at code o h same k = search rules
 
 pub mask_is_no_transfer : (c : Fields) → sets_mask c.command ≡ true → is_transfer c ≡ false
@@ -107,17 +109,21 @@ none_transfers : list_all is_no_transfer table ≡ true
 unfolding table
 none_transfers = refl
 
-found_apart : (code : ℕ) (o : Option Command) (test : MaskClass → Bool) → Passes is_no_transfer o → Passes (λ e. e.code == code) o → class_passes test o ≡ true → (code % 16 == 8) ≡ false
+found_apart : (code : ℕ) (o : Option Command) (test : MaskClass → Bool) → Passes is_no_transfer o
+    → Passes (λ e. e.code == code) o → class_passes test o ≡ true → (code % 16 == 8) ≡ false
 found_apart code o test h same k = search rules
 
 pub seek_is_no_transfer : (c : Fields) → is_seek c.command ≡ true → is_transfer c ≡ false
 unfolding is_seek lookup is_transfer
-seek_is_no_transfer c h = found_apart c.command (lookup c.command) class_is_seek (found_passes is_no_transfer c.command table none_transfers) (found_code c.command table) h
+seek_is_no_transfer c h =
+    found_apart c.command (lookup c.command) class_is_seek (found_passes is_no_transfer c.command table none_transfers) (found_code c.command table) h
 
 pub recalibrate_is_no_transfer : (c : Fields) → recalibrates c.command ≡ true → is_transfer c ≡ false
 unfolding recalibrates lookup is_transfer
-recalibrate_is_no_transfer c h = found_apart c.command (lookup c.command) class_recalibrates (found_passes is_no_transfer c.command table none_transfers) (found_code c.command table) h
+recalibrate_is_no_transfer c h =
+    found_apart c.command (lookup c.command) class_recalibrates (found_passes is_no_transfer c.command table none_transfers) (found_code c.command table) h
 
 pub known_is_no_transfer : (c : Fields) (k : Command) → lookup c.command ≡ Some k → is_transfer c ≡ false
 unfolding lookup is_transfer
-known_is_no_transfer c k e = found_apart c.command (lookup c.command) (λ _. true) (found_passes is_no_transfer c.command table none_transfers) (found_code c.command table) (rw e refl)
+known_is_no_transfer c k e =
+    found_apart c.command (lookup c.command) (λ _. true) (found_passes is_no_transfer c.command table none_transfers) (found_code c.command table) (rw e refl)

@@ -14,7 +14,8 @@ pub data Follows (p : Place) (c : Fields) (k : Kind) : Place → Type 0 where
   by_transfer : is_transfer c ≡ true → Follows p c k (transferred_to c.address p.entered)
   by_data : {e : Entry} → is_transfer c ≡ false → chains_data c ≡ true → chained k ≡ Some e → Follows p c k (straight_to (p.address + 8) e)
   by_command : is_transfer c ≡ false → chains_data c ≡ false → chains_command c ≡ true → Follows p c k (straight_to (p.address + 8) Fresh)
-  by_skip : is_transfer c ≡ false → chains_data c ≡ false → chains_command c ≡ true → gives_modifier k ≡ true → Follows p c k (straight_to (p.address + 16) Fresh)
+  by_skip : is_transfer c ≡ false → chains_data c ≡ false → chains_command c ≡ true
+      → gives_modifier k ≡ true → Follows p c k (straight_to (p.address + 16) Fresh)
 
 pub succeeds : (p : Place) (c : Fields) (k : Kind) (q : Place) → Follows p c k q → (next_of p c k ≡ Some q) ⊎ (skip_of p c k ≡ Some q)
 succeeds p c k q h = search rules
@@ -22,7 +23,9 @@ succeeds p c k q h = search rules
 pub follows : (p : Place) (c : Fields) (k : Kind) (q : Place) → (next_of p c k ≡ Some q) ⊎ (skip_of p c k ≡ Some q) → Follows p c k q
 follows p c k q (inl h) = go (is_transfer c) (chains_data c) (chains_command c) (chained k) refl refl refl refl h
   where
-    go : (t d m : Bool) (e : Option Entry) → is_transfer c ≡ t → chains_data c ≡ d → chains_command c ≡ m → chained k ≡ e → cond t (Some (transferred_to c.address p.entered)) (cond d (option_map (straight_to (p.address + 8)) e) (cond m (Some (straight_to (p.address + 8) Fresh)) None)) ≡ Some q → Follows p c k q
+    go : (t d m : Bool) (e : Option Entry) → is_transfer c ≡ t → chains_data c ≡ d
+        → chains_command c ≡ m → chained k ≡ e → cond t (Some (transferred_to c.address p.entered))
+        (cond d (option_map (straight_to (p.address + 8)) e) (cond m (Some (straight_to (p.address + 8) Fresh)) None)) ≡ Some q → Follows p c k q
     go true d m e a b f g h = let same : transferred_to c.address p.entered ≡ q = cc in subst (Follows p c k) same (by_transfer a)
     go false true m (Some e) a b f g h = let same : straight_to (p.address + 8) e ≡ q = cc in subst (Follows p c k) same (by_data a b g)
     go false true m None a b f g h = absurd (cc)
@@ -30,7 +33,8 @@ follows p c k q (inl h) = go (is_transfer c) (chains_data c) (chains_command c) 
     go false false false e a b f g h = absurd (cc)
 follows p c k q (inr h) = go (not (is_transfer c) && not (chains_data c) && chains_command c && gives_modifier k) refl h
   where
-    go : (b : Bool) → (not (is_transfer c) && not (chains_data c) && chains_command c && gives_modifier k) ≡ b → cond b (Some (straight_to (p.address + 16) Fresh)) None ≡ Some q → Follows p c k q
+    go : (b : Bool) → (not (is_transfer c) && not (chains_data c) && chains_command c && gives_modifier k) ≡ b
+        → cond b (Some (straight_to (p.address + 16) Fresh)) None ≡ Some q → Follows p c k q
     go true e h =
         let a = and_parts (not (is_transfer c) && not (chains_data c) && chains_command c) (gives_modifier k) e in
         let b = and_parts (not (is_transfer c) && not (chains_data c)) (chains_command c) a.0 in

@@ -44,7 +44,8 @@ use Rattle.chan_walk.proofs.Theory.OwnFaults.{first_reason-append}
 pub found_here : (j : Job) (p : Place) (c : Fields) → ccw_at (storage_of j) p.address ≡ Some c → c ≡ ccw_of j p
 found_here j p c h = (ccw_at-some (storage_of j) p.address c h).2
 
-pub found_or : (j : Job) (p : Place) (r t : Option Reason) (o q : Option Evidence) → GoTogether j p r o → GoTogether j p t q → GoTogether j p (option_or r t) (option_or o q)
+pub found_or : (j : Job) (p : Place) (r t : Option Reason) (o q : Option Evidence)
+    → GoTogether j p r o → GoTogether j p t q → GoTogether j p (option_or r t) (option_or o q)
 found_or j p r t None q h k = rw h k
 found_or j p r t (Some e) q h k = (ap (λ z. option_or z t) h.0, h.1)
 
@@ -61,12 +62,13 @@ own_of_transfer j p h t =
     record { reason = None; fault = (a.0, a.1, rw (h, t) refl); found = refl }
 
 -- the three parts of the table, one after another
-pub own_of_parts : (j : Job) (p : Place) (c : Fields) (command lent operand : Option Evidence) → c ≡ ccw_of j p → check (storage_of j) p ≡ None → is_transfer c ≡ false
-    → GoTogether j p (first_reason (command_faults j p c)) command → GoTogether j p (first_reason (lent_faults j p c)) lent
+pub own_of_parts : (j : Job) (p : Place) (c : Fields) (command lent operand : Option Evidence) → c ≡ ccw_of j p → check (storage_of j) p ≡ None
+    → is_transfer c ≡ false → GoTogether j p (first_reason (command_faults j p c)) command → GoTogether j p (first_reason (lent_faults j p c)) lent
     → ((x : Option (List ℕ)) × HasArgument (storage_of j) p.address x × GoTogether j p (first_reason (operand_faults j p c x)) operand)
     → IsOwnFault j p (option_or (option_or command lent) operand)
 own_of_parts j p c command lent operand e h t f g k =
-    let tests : first_reason (table_of_own j p c k.0) ≡ option_or (option_or (first_reason (command_faults j p c)) (first_reason (lent_faults j p c))) (first_reason (operand_faults j p c k.0)) =
+    let tests : first_reason (table_of_own j p c k.0)
+    ≡ option_or (option_or (first_reason (command_faults j p c)) (first_reason (lent_faults j p c))) (first_reason (operand_faults j p c k.0)) =
     first_reason-append (command_faults j p c ++ lent_faults j p c) (operand_faults j p c k.0)
     ∙ ap (λ o. option_or o (first_reason (operand_faults j p c k.0))) (first_reason-append (command_faults j p c) (lent_faults j p c))
     in
@@ -108,19 +110,30 @@ module _ (j : Job) (p : Place) (c : Fields) where
   seek_refused x s a = rw (s, a) refl
 
   pub seek_allowed : (x : List ℕ) → begins_seek p c ≡ true → allows j x ≡ true → first (Some x) ≡ None
-  seek_allowed x s a = let b : begins_recalibrate p c ≡ false = (seek_alone p c s).0 in let m : begins_set_mask p c ≡ false = (seek_alone p c s).1 in rw (s, a, b, m) refl
+  seek_allowed x s a =
+      let b : begins_recalibrate p c ≡ false = (seek_alone p c s).0 in
+      let m : begins_set_mask p c ≡ false = (seek_alone p c s).1 in
+      rw (s, a, b, m) refl
 
-  pub home_refused : (x : Option (List ℕ)) → begins_seek p c ≡ false → begins_recalibrate p c ≡ true → has_cylinder (extents_of j) 0 ≡ false → first x ≡ Some SeekOutside
+  pub home_refused : (x : Option (List ℕ)) → begins_seek p c ≡ false → begins_recalibrate p c ≡ true
+      → has_cylinder (extents_of j) 0 ≡ false → first x ≡ Some SeekOutside
   home_refused x s b h = rw (s, b, h) refl
 
-  pub home_allowed : (x : Option (List ℕ)) → begins_seek p c ≡ false → begins_set_mask p c ≡ false → (begins_recalibrate p c && not (has_cylinder (extents_of j) 0)) ≡ false → first x ≡ None
+  pub home_allowed : (x : Option (List ℕ)) → begins_seek p c ≡ false → begins_set_mask p c ≡ false
+      → (begins_recalibrate p c && not (has_cylinder (extents_of j) 0)) ≡ false → first x ≡ None
   home_allowed x s m h = rw (s, m, h) refl
 
   pub mask_weak : (x : Option (List ℕ)) → begins_set_mask p c ≡ true → is_at_least (byte (storage_of j) c.address) j.mask ≡ false → first x ≡ Some WeakensMask
-  mask_weak x m h = let s : begins_seek p c ≡ false = (mask_alone p c m).0 in let b : begins_recalibrate p c ≡ false = (mask_alone p c m).1 in rw (s, b, m, h) refl
+  mask_weak x m h =
+      let s : begins_seek p c ≡ false = (mask_alone p c m).0 in
+      let b : begins_recalibrate p c ≡ false = (mask_alone p c m).1 in
+      rw (s, b, m, h) refl
 
   pub mask_strict : (x : Option (List ℕ)) → begins_set_mask p c ≡ true → is_at_least (byte (storage_of j) c.address) j.mask ≡ true → first x ≡ None
-  mask_strict x m h = let s : begins_seek p c ≡ false = (mask_alone p c m).0 in let b : begins_recalibrate p c ≡ false = (mask_alone p c m).1 in rw (s, b, m, h) refl
+  mask_strict x m h =
+      let s : begins_seek p c ≡ false = (mask_alone p c m).0 in
+      let b : begins_recalibrate p c ≡ false = (mask_alone p c m).1 in
+      rw (s, b, m, h) refl
 
 -- ---- what is wrong with an argument
 
@@ -134,7 +147,8 @@ same_cover : (xs ys : List Area) (a n : ℕ) → ((b : ℕ) → b < a + n → li
 same_cover xs ys a zero f = refl
 same_cover xs ys a (suc n) f = search (rules, same_cover xs ys (suc a) n)
 
-pub lent_gap : (n : ℕ) (xs ys : List Area) (range : Area) (o : Option Area) → AreExactly (λ b. (b < n) × (lies_in ys b ≡ true)) xs → end_of range ≤ n → IsGap xs range o → IsGap ys range o
+pub lent_gap : (n : ℕ) (xs ys : List Area) (range : Area) (o : Option Area)
+    → AreExactly (λ b. (b < n) × (lies_in ys b ≡ true)) xs → end_of range ≤ n → IsGap xs range o → IsGap ys range o
 lent_gap n xs ys range o are within = go o
   where
     same : (b : ℕ) → b < end_of range → lies_in ys b ≡ lies_in xs b
@@ -167,5 +181,6 @@ moves_so Store p c = by_stores (stores p c) (fetches p c)
     by_stores s f = search rules
 moves_so Fetch p c = by_both (is_transfer c) (goes_in (kind_of p.entered c)) (goes_out (kind_of p.entered c)) (skips c) (one_way (kind_of p.entered c))
   where
-    by_both : (t i o s : Bool) → (i ≡ true → o ≡ false) → is_direction Fetch (if not t && i && not s then Some Store else if not t && o then Some Fetch else None) ≡ (not t && o)
+    by_both : (t i o s : Bool) → (i ≡ true → o ≡ false)
+        → is_direction Fetch (if not t && i && not s then Some Store else if not t && o then Some Fetch else None) ≡ (not t && o)
     by_both t i o s h = search rules

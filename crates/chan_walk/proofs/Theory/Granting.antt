@@ -48,7 +48,8 @@ good_table k p c x g =
     let store : (stores p c && not (covered (store_of k) c.address c.count)) ≡ false = passes _ _ (λ s. let a = stores_parts p c s in g.store_lent a.1 a.2) in
     let fetch : (fetches p c && not (covered (fetch_of k) c.address c.count)) ≡ false = passes _ _ (λ s. g.fetch_lent (fetches_parts p c s).1) in
     let argued : (begins_seek p c && is_none x) ≡ false = avoids _ _ g.argued in
-    let seeks : ((begins_seek p c && is_refused k x) || (begins_recalibrate p c && not (has_cylinder (extents_of k) 0))) ≡ false = or_from _ _ (avoids _ _ g.allowed) (passes _ _ g.home) in
+    let seeks : ((begins_seek p c && is_refused k x) || (begins_recalibrate p c && not (has_cylinder (extents_of k) 0))) ≡ false =
+    or_from _ _ (avoids _ _ g.allowed) (passes _ _ g.home) in
     let strict : (begins_set_mask p c && not (is_at_least (byte (storage_of k) c.address) k.mask)) ≡ false = passes _ _ g.strict in
     rw (known, permitted, store, fetch, argued, seeks, strict) refl
 
@@ -62,7 +63,11 @@ good_rest k p x g = go (is_transfer (ccw_of k p)) refl
 
 pub clear_from : (k : Job) (p : Place) (x : Option (List ℕ)) → HasArgument (storage_of k) p.address x → check (storage_of k) p ≡ None
     → (is_transfer (ccw_of k p) ≡ false → IsGood k p (ccw_of k p) x) → IsClear k p
-clear_from k p x a h g = (x, a, ap (λ o. option_or o (if is_transfer (ccw_of k p) then None else first_reason (table_of_own k p (ccw_of k p) x))) h ∙ good_rest k p x g)
+clear_from k p x a h g = (
+  x,
+  a,
+  ap (λ o. option_or o (if is_transfer (ccw_of k p) then None else first_reason (table_of_own k p (ccw_of k p) x))) h ∙ good_rest k p x g,
+)
 
 pub allows_from : (j k : Job) (x : List ℕ) → heads j ≡ heads k → allows j x ≡ true → has_cylinder (extents_of k) (cylinder_of x) ≡ true → allows k x ≡ true
 unfolding is_allowed
@@ -84,7 +89,8 @@ module _ (j k : Job) (one : AreOfOneProgram j k) where
 
   -- a place that is clear under j is clear under k, where k grants what it asks for
   pub clear_over : (p : Place) → IsClear j p
-      → ((x : Option (List ℕ)) → HasArgument (storage_of j) p.address x → is_transfer (ccw_of j p) ≡ false → (ccw_of j p).address + (ccw_of j p).count ≤ length (storage_of j) → IsGood j p (ccw_of j p) x → IsGood k p (ccw_of j p) x)
+      → ((x : Option (List ℕ)) → HasArgument (storage_of j) p.address x → is_transfer (ccw_of j p) ≡ false
+      → (ccw_of j p).address + (ccw_of j p).count ≤ length (storage_of j) → IsGood j p (ccw_of j p) x → IsGood k p (ccw_of j p) x)
       → IsClear k p
   clear_over p f g =
       clear_from k p f.0 (subst (λ s. HasArgument s p.address f.0) one.storage f.1) (subst (λ s. check s p ≡ None) one.storage (clear_check j p f))
@@ -105,7 +111,8 @@ module _ (j k : Job) (one : AreOfOneProgram j k) where
 
   -- k grants all that j grants
   module _ (more : GrantsMore j k) where
-    pub covered_more : (xs ys : List Area) (a n l : ℕ) → ((b : ℕ) → b < l → lies_in xs b ≡ true → lies_in ys b ≡ true) → a + n ≤ l → covered xs a n ≡ true → covered ys a n ≡ true
+    pub covered_more : (xs ys : List Area) (a n l : ℕ) → ((b : ℕ) → b < l → lies_in xs b ≡ true → lies_in ys b ≡ true)
+        → a + n ≤ l → covered xs a n ≡ true → covered ys a n ≡ true
     covered_more xs ys a n l f fits h = covered-true ys a n (λ b le lt. f b (omega arith) (covered_at xs a n b h le lt))
 
     pub refused_more : (x : Option (List ℕ)) → is_refused j x ≡ false → is_refused k x ≡ false
@@ -150,17 +157,21 @@ yes_over j k one v clear p r m o = go o
       where
         none : Some r ≡ None → ⊥
         none e = absurd (cc)
-    go (inr (d, c)) = v p r (to p m) (inr (yes_clear j v, changes_over k j (λ q n. (to q n, carries k j (turned j k one) q (λ f. yes_clear j v q (to q n)))) p r m (clear p m) c))
+    go (inr (d, c)) =
+        v p r (to p m)
+        (inr (yes_clear j v, changes_over k j (λ q n. (to q n, carries k j (turned j k one) q (λ f. yes_clear j v q (to q n)))) p r m (clear p m) c))
 
 pub more_is_yes : MoreIsYes
 more_is_yes j k one more v = yes_over j k one v (λ p m. let r = reach_clear j k one (yes_clear j v) p m in clear_more j k one more p (yes_clear j v p r))
 
 -- where both are a yes, what the verdict asks is the same in both
-pub carries_yes : (j k : Job) → AreOfOneProgram j k → IsVerdict j Yes → IsVerdict k Yes → (p : Place) → IsReachable j p → IsReachable k p → CarriesOver j k p × CarriesOver k j p
+pub carries_yes : (j k : Job) → AreOfOneProgram j k → IsVerdict j Yes → IsVerdict k Yes
+    → (p : Place) → IsReachable j p → IsReachable k p → CarriesOver j k p × CarriesOver k j p
 carries_yes j k one v w p m n = (carries j k one p (λ f. yes_clear k w p n), carries k j (turned j k one) p (λ f. yes_clear j v p m))
 
 pub same_under_yes : SameUnderYes
 same_under_yes j k one v w = (same_reached j k (same_first j k one) (carries_yes j k one v w), same_guarded j k (same_first j k one) (carries_yes j k one v w))
 
-pub data_under_yes : (j k : Job) → AreOfOneProgram j k → IsVerdict j Yes → IsVerdict k Yes → (test : Place → Fields → Bool) (b : ℕ) → IsDataOf test j b ↔ IsDataOf test k b
+pub data_under_yes : (j k : Job) → AreOfOneProgram j k → IsVerdict j Yes → IsVerdict k Yes
+    → (test : Place → Fields → Bool) (b : ℕ) → IsDataOf test j b ↔ IsDataOf test k b
 data_under_yes j k one v w = same_data j k (same_first j k one) (carries_yes j k one v w) (yes_clear j v) (yes_clear k w)

@@ -45,9 +45,12 @@ numbers_increase j p x = (same (is_transfer c), rises (is_transfer c))
     own : List (Bool × Reason)
     own = table_of_own j p (ccw_of j p) x
 
-    same : (b : Bool) → option_or (option_or (first_reason any) (if b then None else first_reason ccw)) (if b then None else first_reason own) ≡ first_reason (any ++ (if b then [] else ccw ++ own))
+    same : (b : Bool) → option_or (option_or (first_reason any) (if b then None else first_reason ccw)) (if b then None else first_reason own)
+        ≡ first_reason (any ++ (if b then [] else ccw ++ own))
     same true = or_none (option_or (first_reason any) None) ∙ or_none (first_reason any) ∙ ap first_reason (sym (append-nil any))
-    same false = or_assoc (first_reason any) (first_reason ccw) (first_reason own) ∙ ap (option_or (first_reason any)) (sym (first_reason-append ccw own)) ∙ sym (first_reason-append any (ccw ++ own))
+    same false =
+        or_assoc (first_reason any) (first_reason ccw) (first_reason own)
+        ∙ ap (option_or (first_reason any)) (sym (first_reason-append ccw own)) ∙ sym (first_reason-append any (ccw ++ own))
 
     rises : (b : Bool) → IsStrictlyIncreasing (numbers_of (any ++ (if b then [] else ccw ++ own)))
     rises true = increasing (numbers_of (any ++ [])) (search rules)

@@ -36,10 +36,25 @@ module _ (j k : Job) (first : first_place j ≡ first_place k) (over : (p : Plac
 
 module _ (j k : Job) (on : (p : Place) → IsReachable j p → IsReachable k p × CarriesOver j k p) where
   ccw_byte_over : (b : ℕ) → IsCcwByte j b → IsCcwByte k b
-  ccw_byte_over b g = let here = on g.place g.reached in record { place = g.place; reached = here.0; stands = here.1.stands g.stands; from = g.from; below = g.below }
+  ccw_byte_over b g =
+      let here = on g.place g.reached in
+      record {
+        place = g.place;
+        reached = here.0;
+        stands = here.1.stands g.stands;
+        from = g.from;
+        below = g.below;
+      }
 
   argument_byte_over : (b : ℕ) → IsArgumentByte j b → IsArgumentByte k b
-  argument_byte_over b g = let here = on g.place g.reached in record { place = g.place; reached = here.0; clear = here.1.clear g.clear; takes = here.1.takes g.clear b g.takes }
+  argument_byte_over b g =
+      let here = on g.place g.reached in
+      record {
+        place = g.place;
+        reached = here.0;
+        clear = here.1.clear g.clear;
+        takes = here.1.takes g.clear b g.takes;
+      }
 
   guarded_over : (b : ℕ) → IsGuarded j b → IsGuarded k b
   guarded_over b (inl g) = inl (ccw_byte_over b g)
@@ -64,7 +79,9 @@ module _ (j k : Job) (on : (p : Place) → IsReachable j p → IsReachable k p �
   changes_over p r m clear (inl o) = inl (o.0, stores_over p ((on p m).1.ccw clear) _ _ ccw_byte_over o.1)
   changes_over p r m clear (inr o) = inr (o.0, stores_over p ((on p m).1.ccw clear) _ _ argument_byte_over o.1)
 
-  offends_over : ((p : Place) → IsReachable k p → IsReachable j p) → ((p : Place) → IsReachable j p → (r : Reason) → HasFault j p (Some r) → HasFault k p (Some r)) → (p : Place) → IsReachable j p → (r : Reason) → Offends j p r → Offends k p r
+  offends_over : ((p : Place) → IsReachable k p → IsReachable j p)
+      → ((p : Place) → IsReachable j p → (r : Reason) → HasFault j p (Some r) → HasFault k p (Some r))
+      → (p : Place) → IsReachable j p → (r : Reason) → Offends j p r → Offends k p r
   offends_over back fault p m r (inl f) = inl (fault p m r f)
   offends_over back fault p m r (inr (clear, c)) = inr ((λ q n. let l = back q n in (on q l).1.clear (clear q l)), changes_over p r m (clear p m) c)
 
@@ -75,12 +92,15 @@ Offend j k = (p : Place) → IsReachable j p → IsReachable k p × ((r : Reason
 verdict_over : (j k : Job) → Offend j k → Offend k j → (v : Verdict) → IsVerdict j v → IsVerdict k v
 verdict_over j k on back Yes v = λ p r n o. let m = back p n in v p r m.0 (m.1 r o)
 verdict_over j k on back (No a r) v =
-    let there = on v.0.place v.0.reached in
-    (record { place = v.0.place; reached = there.0; address = v.0.address; offends = there.1 r v.0.offends }, λ p x n o. let m = back p n in v.1 p x m.0 (m.1 x o))
+    let there = on v.0.place v.0.reached in (
+      record { place = v.0.place; reached = there.0; address = v.0.address; offends = there.1 r v.0.offends },
+      λ p x n o. let m = back p n in v.1 p x m.0 (m.1 x o),
+    )
 
 -- ---- both ways
 
-module _ (j k : Job) (first : first_place j ≡ first_place k) (both : (p : Place) → IsReachable j p → IsReachable k p → CarriesOver j k p × CarriesOver k j p) where
+module _ (j k : Job) (first : first_place j ≡ first_place k)
+    (both : (p : Place) → IsReachable j p → IsReachable k p → CarriesOver j k p × CarriesOver k j p) where
   pub same_reached : (p : Place) → IsReachable j p ↔ IsReachable k p
   same_reached p = (reach_over j k first (λ p m n. (both p m n).0) p, reach_over k j (sym first) (λ p n m. (both p m n).1) p)
 

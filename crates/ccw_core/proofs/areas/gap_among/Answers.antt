@@ -4,7 +4,8 @@ use Rattle.ccw_core.proofs.Covering.{covered-true, covered-false}
 use Rattle.ccw_core.proofs.areas.gap_among.Goals as goal
 
 pub returns-then-start-from : goal.returns-then-start-from
-returns-then-start-from c = covered-true c.args.areas.now c.args.range.start c.args.range.len (λ b l h. c.gap_start-start.ensures.before b (omega arith) (omega arith))
+returns-then-start-from c =
+    covered-true c.args.areas.now c.args.range.start c.args.range.len (λ b l h. c.gap_start-start.ensures.before b (omega arith) (omega arith))
 
 pub returns : goal.returns
 returns c =

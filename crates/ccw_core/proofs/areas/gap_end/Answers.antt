@@ -17,8 +17,10 @@ loop-area-preserved c =
     let d : Area = record { start = 0; len = 0 } in
     let g = c.loop-area.invariant in
     elim c.if-area-gt0.branch [
-      | then-area-gt0+then-start-area+then-area-stop w ↦ subst (IsGapAmong areas c.args.start c.args.end (i + 1)) (sym w.stop-is) (stops_there areas c.args.start c.args.end i c.loop-area.stop d g (omega arith) c.requires.out (omega arith) (omega arith) (omega arith))
-      | else-area-gt0 w ↦ subst (IsGapAmong areas c.args.start c.args.end (i + 1)) (sym w.stop-is) (stops_later areas c.args.start c.args.end i c.loop-area.stop d g (omega arith) c.requires.out
+      | then-area-gt0+then-start-area+then-area-stop w ↦ subst (IsGapAmong areas c.args.start c.args.end (i + 1)) (sym w.stop-is)
+          (stops_there areas c.args.start c.args.end i c.loop-area.stop d g (omega arith) c.requires.out (omega arith) (omega arith) (omega arith))
+      | else-area-gt0 w ↦ subst (IsGapAmong areas c.args.start c.args.end (i + 1)) (sym w.stop-is)
+          (stops_later areas c.args.start c.args.end i c.loop-area.stop d g (omega arith) c.requires.out
           (elim w.else-area-gt0.branch [
             | else-area-gt0-via-then-area-gt0+then-start-area+else-area-stop v ↦ λ s f. omega arith
             | else-area-gt0-via-then-area-gt0+else-start-area v ↦ λ s f. absurd (omega arith)

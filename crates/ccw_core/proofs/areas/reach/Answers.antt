@@ -8,7 +8,8 @@ pub loop-area-init : goal.loop-area-init
 loop-area-init c = lies_in-nil c.args.address
 
 pub returns-then-address-end-clause-each : goal.returns-then-address-end-clause-each
-returns-then-address-end-clause-each c = λ b l h. lies_in-at c.args.areas.now c.loop-area.area-index (record { start = 0; len = 0 }) b (omega arith) (omega arith) (omega arith)
+returns-then-address-end-clause-each c =
+    λ b l h. lies_in-at c.args.areas.now c.loop-area.area-index (record { start = 0; len = 0 }) b (omega arith) (omega arith) (omega arith)
 
 pub loop-area-preserved : goal.loop-area-preserved
 loop-area-preserved c =

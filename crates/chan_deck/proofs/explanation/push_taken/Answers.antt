@@ -5,5 +5,7 @@ use Rattle.chan_deck.proofs.explanation.push_taken.Goals as goal
 
 pub returns : goal.returns
 returns c =
-    on_ok_weaker c.push_ranges.result
-    (λ e. e ∙ taken_told (string_bytes c.args.out.now) _ _ c.args.byte c.args.argument c.in-Some.argument c.in-Some.is c.in_ok-write.ensures.bytes c.addresses.ensures) c.push_ranges.ensures
+    let told =
+    taken_told (string_bytes c.args.out.now) _ _ c.args.byte c.args.argument c.in-Some.argument c.in-Some.is
+    c.in_ok-write.ensures.bytes c.addresses.ensures in
+    on_ok_weaker c.push_ranges.result (λ e. e ∙ told) c.push_ranges.ensures

@@ -10,4 +10,5 @@ returns c =
     let is = c.byte.ensures.value in
     let some = c.in-Some.ensures.mask.0 refl in
     let name = c.name_of_command-name.ensures ∙ ap command_name c.least_permitted.ensures in
-    on_ok_weaker c.write-2.result (λ e. e ∙ weaker_told held c.args.byte c.args.mask _ c.in-Some.weaker _ some is c.in-Some.ensures.value name) c.write-2.ensures.bytes
+    let told = weaker_told held c.args.byte c.args.mask _ c.in-Some.weaker _ some is c.in-Some.ensures.value name in
+    on_ok_weaker c.write-2.result (λ e. e ∙ told) c.write-2.ensures.bytes

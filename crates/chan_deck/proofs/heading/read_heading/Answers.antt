@@ -27,4 +27,5 @@ returns-in-Whole c =
 pub returns-in-Refused : goal.returns-in-Refused
 returns-in-Refused c =
     let bad = rw c.in-Refused.is at c.take.ensures in
-    rw c.refused.ensures (λ t st. c.next_item-item.ensures.next.refuses (begun_state c.loop-more.begun) c.in-Refused.cause (open_yet c.loop-more.begun) bad t (c.loop-more.invariant t st))
+    let s = begun_state c.loop-more.begun in
+    rw c.refused.ensures (λ t st. c.next_item-item.ensures.next.refuses s c.in-Refused.cause (open_yet c.loop-more.begun) bad t (c.loop-more.invariant t st))

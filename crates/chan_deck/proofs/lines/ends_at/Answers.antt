@@ -10,4 +10,5 @@ returns-then-rest-eq10-clause-place c = λ none.
     let line = c.split_at.result.0.now in
     let rest = c.split_at.result.1.now in
     let whole : line ++ rest ≡ c.args.text.now = rw (c.split_at.ensures.front, c.split_at.ensures.back) (take-append-drop c.args.end c.args.text.now) in
-    ap (λ t. position (λ b. b == 10) t) (sym whole) ∙ first_feed line rest c.args.end c.split_at.ensures.front_len (sym c.has_line_feed.ensures ∙ not-true c.has_line_feed.result none) c.if-rest-eq10.true
+    let no_feed = sym c.has_line_feed.ensures ∙ not-true c.has_line_feed.result none in
+    ap (λ t. position (λ b. b == 10) t) (sym whole) ∙ first_feed line rest c.args.end c.split_at.ensures.front_len no_feed c.if-rest-eq10.true

@@ -10,10 +10,15 @@ if_none None P h = h
 if_none (Some x) P h = tt
 
 pub returns-in_err-end-clause-none : goal.returns-in_err-end-clause-none
-returns-in_err-end-clause-none c = if_none c.from_residual.result (split c.args.text.now ≡ ([], c.args.text.now)) (no_line c.args.text.now (sym c.in_err-end.ensures.place))
+returns-in_err-end-clause-none c =
+    if_none c.from_residual.result (split c.args.text.now ≡ ([], c.args.text.now)) (no_line c.args.text.now (sym c.in_err-end.ensures.place))
 
 pub returns-clause-some : goal.returns-clause-some
 returns-clause-some c =
-    let rest : c.split_at-2.result.1.now ≡ drop (c.in_ok-end.end + 1) c.args.text.now = c.split_at-2.ensures.back ∙ ap (λ t. drop 1 t) c.split_at.ensures.back ∙ drop-drop 1 c.in_ok-end.end c.args.text.now in
-    some_line c.args.text.now c.in_ok-end.end c.in_ok-end.ensures.place ∙ ap (λ x. (x ∷ (split (drop (c.in_ok-end.end + 1) c.args.text.now)).0, (split (drop (c.in_ok-end.end + 1) c.args.text.now)).1)) (sym c.split_at.ensures.front)
-    ∙ ap (λ t. (c.split_at.result.0.now ∷ (split t).0, (split t).1)) (sym rest)
+    let text = c.args.text.now in
+    let end = c.in_ok-end.end in
+    let behind : c.split_at-2.result.1.now ≡ drop (end + 1) text =
+    c.split_at-2.ensures.back ∙ ap (λ t. drop 1 t) c.split_at.ensures.back ∙ drop-drop 1 end text in
+    let others = split (drop (end + 1) text) in
+    some_line text end c.in_ok-end.ensures.place ∙ ap (λ x. (x ∷ others.0, others.1)) (sym c.split_at.ensures.front)
+    ∙ ap (λ t. (c.split_at.result.0.now ∷ (split t).0, (split t).1)) (sym behind)

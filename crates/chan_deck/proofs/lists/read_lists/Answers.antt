@@ -20,4 +20,5 @@ loop-lists-smaller c =
 pub returns-in-Refused : goal.returns-in-Refused
 returns-in-Refused c =
     let bad = rw c.in-Refused.is at c.in_ok-take.ensures in
-    rw c.refused.ensures (λ h t st. c.next_item-item.ensures.next.refuses (with_lists h c.loop-lists.lists) c.in-Refused.cause refl (bad h) t (c.loop-lists.invariant h t st))
+    let item = c.next_item-item.ensures.next in
+    rw c.refused.ensures (λ h t st. item.refuses (with_lists h c.loop-lists.lists) c.in-Refused.cause refl (bad h) t (c.loop-lists.invariant h t st))

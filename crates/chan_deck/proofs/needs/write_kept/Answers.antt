@@ -1,12 +1,8 @@
 use Rattle.std.proofs.Common.{◌∙◌, ◌++◌, ◌∷◌, [], ap}
 use Rattle.chan_deck.specs.Needs.{keep_line}
-use Rattle.chan_deck.proofs.Parted.{no_more, one_more}
+use Rattle.chan_deck.proofs.Parted.{no_more}
 use Rattle.chan_deck.proofs.WriteLemmas.{kept_text}
 use Rattle.chan_deck.proofs.needs.write_kept.Goals as goal
-
-pub loop-area-preserved : goal.loop-area-preserved
-loop-area-preserved c =
-    one_more (λ a. keep_line a ++ 10 ∷ []) c.args.areas.now c.loop-area.area-index _ _ _ _ c.loop-area-test.true c.loop-area.invariant c.in_ok-write_keep.ensures
 
 pub returns : goal.returns
 returns c =

@@ -13,7 +13,8 @@ returns c =
     ap (λ (t : List ℕ). replicate (8 * (p.at / 8)) 0 ++ t) c.deref.ensures.value ∙ c.in_ok-bytes.ensures.bytes in
     from_facts c.text_of.result c.text_of.ensures.text c.text_of.ensures.limit c.text_of.ensures.mask c.text_of.ensures.extents
     (λ text spelled limited masked cylinders. (
-      parts_deck p c.requires.size c.requires.addresses (subst (λ (v : Version). HasLimit v) c.version_of.ensures limited) masked cylinders c.in_ok-bytes.ensures.image,
+      parts_deck p c.requires.size c.requires.addresses (subst (λ (v : Version). HasLimit v) c.version_of.ensures limited)
+          masked cylinders c.in_ok-bytes.ensures.image,
       spelled ∙ ap (λ (s : List ℕ). spelling (record (image_of_parts p) { version = version; storage = s })) storage
           ∙ ap (λ (v : Version). spelling (record (image_of_parts p) { version = v })) c.version_of.ensures,
     ))

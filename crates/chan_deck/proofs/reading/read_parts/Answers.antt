@@ -8,7 +8,8 @@ use Rattle.chan_deck.proofs.reading.read_parts.Goals.{After-fill}
 
 -- the line of storage was read
 filling : (c : After-fill) → HasReadTo c.args.text.now
-    (Filling c.in_ok-heading.heading c.in_ok-lists.lists.extents.items c.in_ok-lists.lists.fetch.items c.in_ok-lists.lists.store.items (length c.as_mut_slice.result.now) [])
+    (Filling c.in_ok-heading.heading c.in_ok-lists.lists.extents.items c.in_ok-lists.lists.fetch.items
+    c.in_ok-lists.lists.store.items (length c.as_mut_slice.result.now) [])
     c.read_lists.new.cursor
 filling c =
     let h = c.in_ok-heading.heading in

@@ -18,12 +18,14 @@ loop-address-preserved c =
     let item = rw c.in-Put.is at c.next_item-item.ensures.next in
     let word = to_be_bytes w64 c.in-Put.word in
     let new = c.write_at.new.storage in
-    let is : new ≡ (take a S ++ word) ++ drop (a + length word) S = subst (λ w. new ≡ (take a S ++ w) ++ drop (a + length w) S) c.to_be_bytes.ensures c.write_at.ensures in
+    let is : new ≡ (take a S ++ word) ++ drop (a + length word) S =
+    subst (λ w. new ≡ (take a S ++ w) ++ drop (a + length w) S) c.to_be_bytes.ensures c.write_at.ensures in
     let w = written S new word c.loop-address.next a c.loop-address.invariant.behind (omega arith) (omega arith) refl is in
     record {
       told = λ h es fs ss t st.
           item.takes (Filling h es fs ss (length S) (take c.loop-address.next S)) (Filling h es fs ss (length new) (take (a + 8) new))
-          (put_goes h es fs ss a c.loop-address.next S new word (omega arith) (omega arith) (omega arith) (some_word c.in-Put.word (omega arith) c.if-word-eq0.false) w) t (c.loop-address.invariant.told h es fs ss t st);
+          (put_goes h es fs ss a c.loop-address.next S new word (omega arith) (omega arith) (omega arith)
+          (some_word c.in-Put.word (omega arith) c.if-word-eq0.false) w) t (c.loop-address.invariant.told h es fs ss t st);
       behind = w.behind;
       within = omega (arith, w.len);
       same = w.len ∙ c.loop-address.invariant.same;
@@ -50,8 +52,9 @@ returns-then-word-eq0-clause-filled c =
     let front = take c.loop-address.next S in
     let item = rw c.in-Put.is at c.next_item-item.ensures.next in
     rw c.refused-then-word-eq0.ensures (λ h es fs ss t st. item.refuses (Filling h es fs ss (length S) front) causes.PutZero refl
-    (zero_put h es fs ss (length S) c.in-Put.address front (to_be_bytes w64 c.in-Put.word) (omega arith) (omega (arith, length-take c.loop-address.next S)) (omega arith)
-    (zero_word c.in-Put.word c.if-word-eq0.true)) t (c.loop-address.invariant.told h es fs ss t st))
+    (zero_put h es fs ss (length S) c.in-Put.address front (to_be_bytes w64 c.in-Put.word) (omega arith)
+    (omega (arith, length-take c.loop-address.next S)) (omega arith) (zero_word c.in-Put.word c.if-word-eq0.true))
+    t (c.loop-address.invariant.told h es fs ss t st))
 
 pub returns-in-End-clause-filled : goal.returns-in-End-clause-filled
 returns-in-End-clause-filled c = λ h es fs ss t st.
@@ -59,7 +62,8 @@ returns-in-End-clause-filled c = λ h es fs ss t st.
     let item = rw c.in-End.is at c.next_item-item.ensures.next in
     let d = image_of h es fs ss S in
     c.end.ensures t d (item.takes (Filling h es fs ss (length S) (take c.loop-address.next S)) (Whole d)
-    (end_goes h es fs ss c.loop-address.next S c.loop-address.invariant.within c.loop-address.invariant.behind) t (c.loop-address.invariant.told h es fs ss t st))
+    (end_goes h es fs ss c.loop-address.next S c.loop-address.invariant.within c.loop-address.invariant.behind)
+    t (c.loop-address.invariant.told h es fs ss t st))
 
 pub returns-in_default-clause-filled : goal.returns-in_default-clause-filled
 returns-in_default-clause-filled c =

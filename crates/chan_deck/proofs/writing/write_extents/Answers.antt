@@ -2,7 +2,7 @@ use Rattle.std.proofs.Common.{◌∙◌, ◌∷◌, ◌++◌, [], ap, arith}
 use Rattle.ckd_core.proofs.CylinderLemmas.{extent_at}
 use Rattle.chan_deck.specs.Item.{line}
 use Rattle.chan_deck.specs.Image.{extent_of}
-use Rattle.chan_deck.proofs.Parted.{no_more, one_more}
+use Rattle.chan_deck.proofs.Parted.{no_more}
 use Rattle.chan_deck.proofs.WriteLemmas.{each_text}
 use Rattle.chan_deck.proofs.writing.write_extents.Goals as goal
 
@@ -10,10 +10,6 @@ pub push-requires : goal.push-requires
 push-requires c =
     let e = extent_at c.args.extents.now c.loop-pair.pair-index c.requires c.loop-pair-test.true in
     (omega (arith, e.0, e.1), omega (arith, e.1))
-
-pub loop-pair-preserved : goal.loop-pair-preserved
-loop-pair-preserved c =
-    one_more (λ e. line (extent_of e) ++ 10 ∷ []) c.args.extents.now c.loop-pair.pair-index (0, 0) _ _ _ c.loop-pair-test.true c.loop-pair.invariant c.in_ok-push.ensures
 
 pub returns : goal.returns
 returns c =

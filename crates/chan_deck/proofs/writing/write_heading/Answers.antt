@@ -13,7 +13,8 @@ returns-clause-text c =
     five_parts c.args.out.now.items (line (header (header_of p.version)) ++ feed) (line (device p.device) ++ feed) (line (mask p.mask) ++ feed)
     (line (start p.start) ++ feed) (text (map line (limit_line p.version))) in
     on_ok_weaker c.write_limit.result (λ limits. limits
-    ∙ rw (c.in_ok-push-4.ensures, c.in_ok-push-3.ensures, c.in_ok-push-2.ensures, c.in_ok-push.ensures, c.byte.ensures.value, c.header.ensures) parts) c.write_limit.ensures.text
+    ∙ rw (c.in_ok-push-4.ensures, c.in_ok-push-3.ensures, c.in_ok-push-2.ensures, c.in_ok-push.ensures, c.byte.ensures.value, c.header.ensures) parts)
+    c.write_limit.ensures.text
 
 pub returns-clause-mask : goal.returns-clause-mask
 returns-clause-mask c =

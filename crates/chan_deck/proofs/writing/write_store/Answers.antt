@@ -1,12 +1,8 @@
 use Rattle.std.proofs.Common.{◌∙◌, ◌++◌, ◌∷◌, [], ap}
 use Rattle.chan_deck.specs.Item.{store, line}
-use Rattle.chan_deck.proofs.Parted.{no_more, one_more}
+use Rattle.chan_deck.proofs.Parted.{no_more}
 use Rattle.chan_deck.proofs.WriteLemmas.{each_text}
 use Rattle.chan_deck.proofs.writing.write_store.Goals as goal
-
-pub loop-area-preserved : goal.loop-area-preserved
-loop-area-preserved c =
-    one_more (λ a. line (store a) ++ 10 ∷ []) c.args.areas.now c.loop-area.area-index _ _ _ _ c.loop-area-test.true c.loop-area.invariant c.in_ok-push.ensures
 
 pub returns : goal.returns
 returns c =

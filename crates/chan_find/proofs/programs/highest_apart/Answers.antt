@@ -6,7 +6,8 @@ pub loop-start-init : goal.loop-start-init
 loop-start-init c = record {
   settled = c.in_ok-covered.ensures.settled;
   rest = rest_all c.args.job.now c.args.roots.items c.requires;
-  down = down_none c.args.job.now c.in_ok-covered.covered.marks.bytes.items c.args.roots.items c.new-kept.result.items c.requires c.in_ok-covered.ensures.none c.new-kept.ensures.items;
+  down = down_none c.args.job.now c.in_ok-covered.covered.marks.bytes.items c.args.roots.items
+      c.new-kept.result.items c.requires c.in_ok-covered.ensures.none c.new-kept.ensures.items;
 }
 
 pub loop-start-preserved : goal.loop-start-preserved
@@ -18,8 +19,11 @@ loop-start-preserved c =
     record {
       settled = c.in_ok-offer.ensures.settled;
       rest = rest_on c.args.job.now rest front c.in-Some.start is i.rest;
-      down = down_turn c.args.job.now rest front c.in-Some.start is i.rest c.loop-start.covered.marks.bytes.items c.offer.new.covered.marks.bytes.items c.loop-start.kept.items c.offer.new.taken.items i.settled.len i.settled.closed i.down c.in_ok-offer.ensures.offered;
+      down = down_turn c.args.job.now rest front c.in-Some.start is i.rest c.loop-start.covered.marks.bytes.items c.offer.new.covered.marks.bytes.items
+          c.loop-start.kept.items c.offer.new.taken.items i.settled.len i.settled.closed i.down c.in_ok-offer.ensures.offered;
     }
 
 pub returns : goal.returns
-returns c = down_all c.args.job.now c.loop-start.covered.marks.bytes.items c.loop-start.rest.items c.loop-start.kept.items c.reverse.new.self.items c.requires.led c.loop-start.invariant.down (omega (arith, c.loop-start.rest.ok.0, c.in_default.ensures.cases)) c.reverse.ensures.items
+returns c =
+    down_all c.args.job.now c.loop-start.covered.marks.bytes.items c.loop-start.rest.items c.loop-start.kept.items c.reverse.new.self.items
+    c.requires.led c.loop-start.invariant.down (omega (arith, c.loop-start.rest.ok.0, c.in_default.ensures.cases)) c.reverse.ensures.items

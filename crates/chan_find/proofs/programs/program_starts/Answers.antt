@@ -15,7 +15,13 @@ returns-clause-starts c = ok_as c.starts_of.result _ _ (λ v h j over.
     starts_alike c.job.result (open_job j) v.items (open_alike j c.job.result is) h) c.starts_of.ensures
 
 pub returns-clause-apart : goal.returns-clause-apart
-returns-clause-apart c = ok_as c.starts_of.result _ _ (λ v h j over a b one other. c.programs_are_apart.ensures (open_job j) a b ((h j over).only a one) ((h j over).only b other)) (returns-clause-starts c)
+returns-clause-apart c =
+    ok_as c.starts_of.result _ _
+    (λ v h j over a b one other. c.programs_are_apart.ensures (open_job j) a b ((h j over).only a one) ((h j over).only b other))
+    (returns-clause-starts c)
 
 pub returns-clause-yes : goal.returns-clause-yes
-returns-clause-yes c = ok_as c.starts_of.result _ _ (λ v h j over yes two. (h j over).all j.start (c.yes_is_likely.ensures (open_job j) yes two)) (returns-clause-starts c)
+returns-clause-yes c =
+    ok_as c.starts_of.result _ _
+    (λ v h j over yes two. (h j over).all j.start (c.yes_is_likely.ensures (open_job j) yes two))
+    (returns-clause-starts c)

@@ -12,10 +12,12 @@ loop-address-preserved c =
       settled = c.in_ok-offer.ensures.settled;
       aligned = next_aligned c.loop-address.address i.aligned;
       low = omega (arith, c.loop-address-test.true, c.len.ensures.below);
-      up = up_turn c.args.job.now c.loop-address.covered.marks.bytes.items c.offer.new.covered.marks.bytes.items c.loop-address.roots.items c.offer.new.taken.items c.loop-address.address i.aligned i.settled.len i.settled.closed i.up c.in_ok-offer.ensures.offered;
+      up = up_turn c.args.job.now c.loop-address.covered.marks.bytes.items c.offer.new.covered.marks.bytes.items c.loop-address.roots.items
+          c.offer.new.taken.items c.loop-address.address i.aligned i.settled.len i.settled.closed i.up c.in_ok-offer.ensures.offered;
     }
 
 pub returns : goal.returns
 returns c =
     let end : c.len.result ≤ c.loop-address.address = omega (arith, c.loop-address-test.false) in
-    up_all c.args.job.now c.loop-address.covered.marks.bytes.items c.loop-address.roots.items c.loop-address.address c.loop-address.invariant.up (subst (λ z. z ≤ c.loop-address.address) c.len.ensures.value end)
+    up_all c.args.job.now c.loop-address.covered.marks.bytes.items c.loop-address.roots.items c.loop-address.address
+    c.loop-address.invariant.up (subst (λ z. z ≤ c.loop-address.address) c.len.ensures.value end)

@@ -9,7 +9,10 @@ pub returns-then-areas-i-eq0 : goal.returns-then-areas-i-eq0
 returns-then-areas-i-eq0 c = ((λ t. absurd cc), λ m. absurd (let f = merged_len c.args.areas.now c.loop-i.i nowhere m c.loop-i-test.true in omega arith))
 
 pub returns-then-from-end_of : goal.returns-then-from-end_of
-returns-then-from-end_of c = ((λ t. absurd cc), λ m. absurd (let f = merged_order c.args.areas.now c.loop-i.i (c.loop-i.i + 1) nowhere m (omega arith) (omega arith) in omega arith))
+returns-then-from-end_of c = (
+  (λ t. absurd cc),
+  λ m. absurd (let f = merged_order c.args.areas.now c.loop-i.i (c.loop-i.i + 1) nowhere m (omega arith) (omega arith) in omega arith),
+)
 
 pub loop-i-preserved : goal.loop-i-preserved
 loop-i-preserved c m =

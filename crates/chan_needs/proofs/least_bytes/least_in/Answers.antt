@@ -19,4 +19,5 @@ loop-area-preserved c =
       | then-is_some w ↦ w.least-is ∙ w.lesser-least.ensures
       | else-is_some w ↦ w.least-is ∙ kept c.loop-area.least byte (sym c.is_some.ensures ∙ w.if-is_some.false)
     ] in
-    least_area c.args.areas.now c.loop-area.area-index _ c.loop-area.least byte c.if-is_some.least c.loop-area-test.true joined c.loop-area.invariant c.overlap-byte.ensures
+    least_area c.args.areas.now c.loop-area.area-index _ c.loop-area.least byte
+    c.if-is_some.least c.loop-area-test.true joined c.loop-area.invariant c.overlap-byte.ensures

@@ -6,4 +6,6 @@ pub loop-at-preserved : goal.loop-at-preserved
 loop-at-preserved c = ahead_other c.args.one.now c.args.other.now c.loop-at.at c.loop-at.with (omega arith) (omega arith) (omega arith) c.loop-at.invariant
 
 pub returns-else-end_of-from-2 : goal.returns-else-end_of-from-2
-returns-else-end_of-from-2 c = share_here c.args.one.now c.args.other.now c.loop-at.at c.loop-at.with c.max.result (omega arith) (omega arith) (omega arith) (omega arith) c.max.ensures c.loop-at.invariant
+returns-else-end_of-from-2 c =
+    share_here c.args.one.now c.args.other.now c.loop-at.at c.loop-at.with c.max.result
+    (omega arith) (omega arith) (omega arith) (omega arith) c.max.ensures c.loop-at.invariant

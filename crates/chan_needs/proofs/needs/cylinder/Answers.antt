@@ -7,7 +7,9 @@ use Rattle.chan_needs.proofs.Seeking.{is_other, is_seek_of}
 use Rattle.chan_needs.proofs.needs.cylinder.Goals as goal
 
 pub returns-in_err-command : goal.returns-in_err-command
-returns-in_err-command c j look clear = subst (GoesTo j c.args.look.now.place) (sym c.from_residual.ensures) (goes_by_none j c.args.look.now look clear (sym c.command.ensures ∙ ap (option_map entry_of) c.in_err-command.was))
+returns-in_err-command c j look clear =
+    subst (GoesTo j c.args.look.now.place) (sym c.from_residual.ensures)
+    (goes_by_none j c.args.look.now look clear (sym c.command.ensures ∙ ap (option_map entry_of) c.in_err-command.was))
 
 pub returns-in_err-argument-in-Seek : goal.returns-in_err-argument-in-Seek
 returns-in_err-argument-in-Seek c j look clear =

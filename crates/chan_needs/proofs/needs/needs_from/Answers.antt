@@ -18,5 +18,6 @@ returns c j one =
       runs = c.in_ok-runs.ensures;
       fetch = subst (AreExactly (IsFetchedFrom k)) (sym c.into_areas.ensures.areas) (c.in_ok-data_moved.ensures k are.looks are.reached);
       store = subst (AreExactly (IsStoredInto k)) (sym c.into_areas-2.ensures.areas) (c.in_ok-data_moved-2.ensures k are.looks are.reached);
-      keep = subst (AreExactly (IsGuarded k)) (sym c.into_areas-3.ensures.areas) (c.in_ok-kept.ensures k (subst (λ (g : GuardAreas). Guards k g) (sym c.guard.ensures) c.requires.survey.guard));
+      keep = subst (AreExactly (IsGuarded k)) (sym c.into_areas-3.ensures.areas)
+          (c.in_ok-kept.ensures k (subst (λ (g : GuardAreas). Guards k g) (sym c.guard.ensures) c.requires.survey.guard));
     })

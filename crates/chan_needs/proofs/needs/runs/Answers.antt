@@ -5,7 +5,9 @@ use Rattle.chan_needs.proofs.Holding.{nowhere}
 use Rattle.chan_needs.proofs.needs.runs.Goals as goal
 
 pub overflow_sub-last : goal.overflow_sub-last
-overflow_sub-last c = let f = merged_len c.as_slice-areas.result.now c.loop-area.area-index nowhere c.as_slice-areas.ensures.merged c.loop-area-test.true in omega arith
+overflow_sub-last c =
+    let f = merged_len c.as_slice-areas.result.now c.loop-area.area-index nowhere c.as_slice-areas.ensures.merged c.loop-area-test.true in
+    omega arith
 
 pub overflow_cast-area : goal.overflow_cast-area
 overflow_cast-area c =

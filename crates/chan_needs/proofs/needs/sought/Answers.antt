@@ -21,15 +21,18 @@ loop-look-preserved c =
       bytes = λ j are.
           let h = look_of j ls i l are.looks c.loop-look-test.true c.look-item.is in
           let f = clear_at j ls i l are c.loop-look-test.true c.look-item.is in
-          subst (λ (ps : List Place). HoldBytes (SeeksCylinder j) ps c.add_cylinder.new.cylinders.items) (sym (places_next ls i l c.loop-look-test.true c.look-item.is))
-          (hold_more (SeeksCylinder j) (places_of_looks (take i ls)) l.place c.loop-look.cylinders.items c.add_cylinder.new.cylinders.items (c.loop-look.invariant.bytes j are) (c.in_ok-add_cylinder.ensures.cylinder j h f));
+          subst (λ (ps : List Place). HoldBytes (SeeksCylinder j) ps c.add_cylinder.new.cylinders.items)
+          (sym (places_next ls i l c.loop-look-test.true c.look-item.is))
+          (hold_more (SeeksCylinder j) (places_of_looks (take i ls)) l.place c.loop-look.cylinders.items c.add_cylinder.new.cylinders.items
+          (c.loop-look.invariant.bytes j are) (c.in_ok-add_cylinder.ensures.cylinder j h f));
     }
 
 pub new-requires : goal.new-requires
 new-requires c k d l = let e = c.loop-look.invariant.low k d l in omega arith
 
 pub returns-clause-low : goal.returns-clause-low
-returns-clause-low c = IfOk-weaker c.new.result _ _ (λ (m : List Area) h. exactly_low (2 ^ 16 + 1) c.loop-look.cylinders.items m h c.loop-look.invariant.low) c.new.ensures
+returns-clause-low c =
+    IfOk-weaker c.new.result _ _ (λ (m : List Area) h. exactly_low (2 ^ 16 + 1) c.loop-look.cylinders.items m h c.loop-look.invariant.low) c.new.ensures
 
 pub returns-clause-cylinders : goal.returns-clause-cylinders
 returns-clause-cylinders c =
@@ -38,6 +41,7 @@ returns-clause-cylinders c =
     (λ (m : List Area) h j are. record {
       merged = h.merged;
       bytes = sought_all j (places_of_looks ls) m are.reached
-          (hold_same (SeeksCylinder j) _ (places_of_looks ls) c.loop-look.cylinders.items m (places_taken ls c.loop-look.look-index (omega arith)) (c.loop-look.invariant.bytes j are) h);
+          (hold_same (SeeksCylinder j) _ (places_of_looks ls) c.loop-look.cylinders.items m
+          (places_taken ls c.loop-look.look-index (omega arith)) (c.loop-look.invariant.bytes j are) h);
     })
     c.new.ensures

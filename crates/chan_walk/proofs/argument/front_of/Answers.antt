@@ -6,7 +6,13 @@ use Rattle.chan_walk.proofs.Algorithms.Following.{ends_before, ends_here, given_
 use Rattle.chan_walk.proofs.argument.front_of.Goals as goal
 
 pub loop-part-init : goal.loop-part-init
-loop-part-init c = record { given = given_none (bytes_held c.args.storage.now) c.args.address _; few = omega arith; size = refl; zeros = λ i le lt. search rules; stands = c.requires }
+loop-part-init c = record {
+  given = given_none (bytes_held c.args.storage.now) c.args.address _;
+  few = omega arith;
+  size = refl;
+  zeros = λ i le lt. search rules;
+  stands = c.requires;
+}
 
 pub loop-part-preserved : goal.loop-part-preserved
 loop-part-preserved c =
@@ -21,10 +27,12 @@ loop-part-preserved c =
     let some = part.some in
     let count = part.count in
     let all : c.min-more.result ≡ (ccw s here).count = omega (arith, count) in
-    let ad : (k : ℕ) → k < (ccw s here).count → get_or c.note.new.addresses (have + k) 0 ≡ (ccw s here).address + k = λ k l. n.added k (omega (arith, all)) ∙ ap (λ b. b + k) part.from in
+    let ad : (k : ℕ) → k < (ccw s here).count → get_or c.note.new.addresses (have + k) 0 ≡ (ccw s here).address + k =
+    λ k l. n.added k (omega (arith, all)) ∙ ap (λ b. b + k) part.from in
     record {
       given = subst (λ b. IsGiven s a c.note.new.addresses (have + c.min-more.result) b) (sym c.in-Some-onward.ensures.found)
-          (subst (λ m. IsGiven s a c.note.new.addresses (have + m) (onward s here)) (sym all) (goes_further s a c.loop-part.addresses have here i.given part.part c.note.new.addresses n.before ad c.in-Some-onward.ensures.chains));
+          (subst (λ m. IsGiven s a c.note.new.addresses (have + m) (onward s here)) (sym all)
+          (goes_further s a c.loop-part.addresses have here i.given part.part c.note.new.addresses n.before ad c.in-Some-onward.ensures.chains));
       few = omega arith;
       size = n.size;
       zeros = λ k le lt. n.after k le ∙ i.zeros k (omega (arith, le)) lt;
@@ -51,7 +59,9 @@ returns-then-have-eq6 c =
     let room : c.min-more.result ≡ 6 - have = omega arith in
     record {
       few = omega arith;
-      whole = λ six. completes s c.args.address c.loop-part.addresses have here i.given part.part c.note.new.addresses n.before f (omega (arith, count, room)) n.size
+      whole =
+          λ six.
+          completes s c.args.address c.loop-part.addresses have here i.given part.part c.note.new.addresses n.before f (omega (arith, count, room)) n.size
           (λ k l. n.added k (omega (arith, room)) ∙ ap (λ b. b + k) part.from);
       short = λ lt. absurd (omega arith);
     }
@@ -69,9 +79,11 @@ returns-in-None c =
     let count = part.count in
     let all : c.min-more.result ≡ (ccw s here).count = omega (arith, count) in
     let lt : have + c.min-more.result < 6 = omega arith in
-    let ad : (k : ℕ) → k < (ccw s here).count → get_or c.note.new.addresses (have + k) 0 ≡ (ccw s here).address + k = λ k l. n.added k (omega (arith, all)) ∙ ap (λ b. b + k) part.from in
+    let ad : (k : ℕ) → k < (ccw s here).count → get_or c.note.new.addresses (have + k) 0 ≡ (ccw s here).address + k =
+    λ k l. n.added k (omega (arith, all)) ∙ ap (λ b. b + k) part.from in
     let e : IsEnded s a (have + c.min-more.result) c.note.new.addresses =
-    subst (λ m. IsEnded s a (have + m) c.note.new.addresses) (sym all) (ends_here s a c.loop-part.addresses have here i.given part.part c.note.new.addresses n.before ad (omega (arith, n.size, all, lt)) c.in-None.ensures.none)
+    subst (λ m. IsEnded s a (have + m) c.note.new.addresses) (sym all)
+    (ends_here s a c.loop-part.addresses have here i.given part.part c.note.new.addresses n.before ad (omega (arith, n.size, all, lt)) c.in-None.ensures.none)
     in
     record {
       few = omega arith;

@@ -23,7 +23,9 @@ returns-in-Nothing c =
     let a = argument_exists (storage_of j) p.address in
     let b : begins_recalibrate p f ≡ true = sym c.begins_recalibrate.ensures ∙ c.if-begins_recalibrate.true in
     let h : has_cylinder (extents_of j) 0 ≡ false = sym c.has.ensures ∙ c.if-not-has.true in
-    (a.0, a.1, (home_refused j p f a.0 r.0 b h, ((home, inr (subst (λ (w : Fields). begins_recalibrate p w ≡ true) here b, refl), (refl, refl, h)), subst (λ (w : Fields). begins_seek p w ≡ false) here r.0)))
+    let recalibrates = subst (λ (w : Fields). begins_recalibrate p w ≡ true) here b in
+    let seeks = subst (λ (w : Fields). begins_seek p w ≡ false) here r.0 in
+    (a.0, a.1, (home_refused j p f a.0 r.0 b h, ((home, inr (recalibrates, refl), (refl, refl, h)), seeks)))
 
 pub returns-in-Some : goal.returns-in-Some
 returns-in-Some c =
@@ -53,7 +55,8 @@ returns-in-Mask c =
     let here = found_here j p f c.requires.visit.stands in
     let r = subst (IsRead (storage_of j) p f) c.in-Mask.is c.requires.read in
     let a = argument_exists (storage_of j) p.address in
-    let weak : is_at_least (byte (storage_of j) f.address) j.mask ≡ false = ap (λ b. is_at_least b j.mask) (sym r.2) ∙ sym c.is_strict.ensures ∙ c.if-not-is_strict.true in
+    let weak : is_at_least (byte (storage_of j) f.address) j.mask ≡ false =
+    ap (λ b. is_at_least b j.mask) (sym r.2) ∙ sym c.is_strict.ensures ∙ c.if-not-is_strict.true in
     (a.0, a.1, (mask_weak j p f a.0 r.0 weak, (r.2 ∙ ap (λ (w : Fields). byte (storage_of j) w.address) here, refl)))
 
 pub returns-in_default : goal.returns-in_default
@@ -75,6 +78,7 @@ returns-in_default c =
           (a.0, a.1, home_allowed j p f a.0 r.0 r.1 (rw b refl))
       | in_default-via-in-Mask+else-not-is_strict w ↦
           let r = subst read w.in-Mask.is c.requires.read in
-          let strict : is_at_least (byte (storage_of j) f.address) j.mask ≡ true = ap (λ b. is_at_least b j.mask) (sym r.2) ∙ sym w.is_strict.ensures ∙ w.if-not-is_strict.false in
+          let strict : is_at_least (byte (storage_of j) f.address) j.mask ≡ true =
+          ap (λ b. is_at_least b j.mask) (sym r.2) ∙ sym w.is_strict.ensures ∙ w.if-not-is_strict.false in
           (a.0, a.1, mask_strict j p f a.0 r.0 strict)
     ]

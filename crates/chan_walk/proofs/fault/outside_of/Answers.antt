@@ -11,7 +11,8 @@ use Rattle.chan_walk.proofs.fault.outside_of.Goals as goal
 
 -- the argument is allowed exactly where it names a track and the track is allowed
 by_track : (j : Job) (x : List ℕ) (t : Option Track) → track_of x ≡ t → allows j x ≡ option_map_or (is_allowed_track (extents_of j) (heads j)) t false
-by_track j x t e = is_allowed-track_of (extents_of j) (heads j) x ∙ ap (λ (t : Option Track). option_map_or (is_allowed_track (extents_of j) (heads j)) t false) e
+by_track j x t e =
+    is_allowed-track_of (extents_of j) (heads j) x ∙ ap (λ (t : Option Track). option_map_or (is_allowed_track (extents_of j) (heads j)) t false) e
 
 pub returns-in_default : goal.returns-in_default
 returns-in_default c = search (rules, by_track)

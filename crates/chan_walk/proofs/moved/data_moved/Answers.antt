@@ -23,8 +23,10 @@ loop-look-preserved c =
       bytes = λ j are.
           let look = look_of j ls i l are within c.look-item.is in
           subst (λ (ps : List Place). HoldBytes (HasData (moves_by d) j) ps c.add_range.new.ranges.items) (sym (places_next ls i l within c.look-item.is))
-          (hold_more (HasData (moves_by d) j) (places_of_looks (take i ls)) l.place c.loop-look.ranges.items c.add_range.new.ranges.items (c.loop-look.invariant.bytes j are)
-          (adds_data (moves_by d) j l c.moves.result c.loop-look.ranges.items c.add_range.new.ranges.items look (λ f e. c.moves.ensures ∙ ap (is_direction d) (look.direction f e) ∙ moves_so d l.place f) c.in_ok-add_range.ensures.bytes));
+          (hold_more (HasData (moves_by d) j) (places_of_looks (take i ls)) l.place
+          c.loop-look.ranges.items c.add_range.new.ranges.items (c.loop-look.invariant.bytes j are)
+          (adds_data (moves_by d) j l c.moves.result c.loop-look.ranges.items c.add_range.new.ranges.items look
+          (λ f e. c.moves.ensures ∙ ap (is_direction d) (look.direction f e) ∙ moves_so d l.place f) c.in_ok-add_range.ensures.bytes));
     }
 
 pub returns : goal.returns
@@ -35,6 +37,7 @@ returns c =
     (λ (m : List Area) h j are reached. record {
       merged = h.merged;
       bytes = all_data test j (places_of_looks ls) m reached
-          (hold_same (HasData test j) _ (places_of_looks ls) c.loop-look.ranges.items m (places_taken ls c.loop-look.look-index (omega arith)) (c.loop-look.invariant.bytes j are) h);
+          (hold_same (HasData test j) _ (places_of_looks ls) c.loop-look.ranges.items m
+          (places_taken ls c.loop-look.look-index (omega arith)) (c.loop-look.invariant.bytes j are) h);
     })
     c.new.ensures

@@ -11,7 +11,8 @@ returns-in_ok-push c j look =
     let old = c.args.faults.now.items in
     let own = subst (IsOwnFault j l.place) (sym c.fault.ensures ∙ c.in-Some.is) look.fault in
     added_fault j l.place (reason_of c.in-Some.evidence) old c.push.new.self.items
-    (c.in_ok-push.ensures.items ∙ ap (λ (p : Place). old ++ offence p c.reason.result ∷ []) c.place.ensures ∙ ap (λ (r : Reason). old ++ offence l.place r ∷ []) c.reason.ensures)
+    (c.in_ok-push.ensures.items ∙ ap (λ (p : Place). old ++ offence p c.reason.result ∷ []) c.place.ensures
+    ∙ ap (λ (r : Reason). old ++ offence l.place r ∷ []) c.reason.ensures)
     (own_faulty j l.place c.in-Some.evidence own).0
 
 pub returns-in_default : goal.returns-in_default

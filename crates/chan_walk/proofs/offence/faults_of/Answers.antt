@@ -12,7 +12,8 @@ loop-look-preserved c j are =
     let within : i < length ls = omega arith in
     subst (λ (ps : List Place). HasOffences (IsOwn j) ps c.add_fault.new.faults.items) (sym (places_next ls i l within c.look-item.is))
     (offences_more (IsOwn j) (places_of_looks (take i ls)) l.place c.loop-look.faults.items c.add_fault.new.faults.items
-    (new_place ls i l c.requires within c.look-item.is) (c.loop-look.invariant j are) (c.in_ok-add_fault.ensures j (look_of j ls i l are within c.look-item.is)))
+    (new_place ls i l c.requires within c.look-item.is) (c.loop-look.invariant j are)
+    (c.in_ok-add_fault.ensures j (look_of j ls i l are within c.look-item.is)))
 
 pub returns : goal.returns
 returns c j are =

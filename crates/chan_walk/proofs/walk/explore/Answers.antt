@@ -5,9 +5,11 @@ use Rattle.chan_walk.proofs.walk.explore.Goals as goal
 pub returns-clause-ok : goal.returns-clause-ok
 returns-clause-ok c =
     let found = c.in_ok-walk.ensures.found in
-    IfOk-weaker c.from_marks.result _ _ (λ places l. listed_reachable c.args.job.now c.args.job.now.limit c.in_ok-walk.walk.marks (places_of_looks c.in_ok-walk.walk.looks.items) places found.at l c.in_ok-walk.ensures.agrees found.walked found.all) c.from_marks.ensures.ok
+    IfOk-weaker c.from_marks.result _ _ (λ places l. listed_reachable c.args.job.now c.args.job.now.limit c.in_ok-walk.walk.marks
+    (places_of_looks c.in_ok-walk.walk.looks.items) places found.at l c.in_ok-walk.ensures.agrees found.walked found.all) c.from_marks.ensures.ok
 
 pub returns-clause-few : goal.returns-clause-few
 returns-clause-few c =
     let found = c.in_ok-walk.ensures.found in
-    IfOk-weaker c.from_marks.result _ _ (λ places l. listed_few c.args.job.now c.args.job.now.limit c.in_ok-walk.walk.marks (places_of_looks c.in_ok-walk.walk.looks.items) places found.at l c.in_ok-walk.ensures.agrees found.walked) c.from_marks.ensures.ok
+    IfOk-weaker c.from_marks.result _ _ (λ places l. listed_few c.args.job.now c.args.job.now.limit c.in_ok-walk.walk.marks
+    (places_of_looks c.in_ok-walk.walk.looks.items) places found.at l c.in_ok-walk.ensures.agrees found.walked) c.from_marks.ensures.ok

@@ -31,14 +31,16 @@ traced_first j = record {
 pub loop-at-init : goal.loop-at-init
 loop-at-init c =
     let j = c.args.job.now in
-    let one = alone j.limit c.first_place.result (places_of_looks c.new-2.result.items) (places_of_looks c.add.new.self.looks.items) c.new-3.result.items c.add.new.self.found_from.items
+    let one = alone j.limit c.first_place.result (places_of_looks c.new-2.result.items)
+    (places_of_looks c.add.new.self.looks.items) c.new-3.result.items c.add.new.self.found_from.items
     (ap places_of_looks c.new-2.ensures.items) c.new-3.ensures.items c.in_ok-add.ensures.ok in
     let places = one.places ∙ ap (λ (p : Place). p ∷ []) c.first_place.ensures in
     record {
       looks = c.in_ok-add.ensures.looks;
       agrees = c.in_ok-add.ensures.agrees;
       walked = subst (λ z. IsWalked j j.limit z 0) (sym places) (walked_first j j.limit one.room);
-      traced = subst (λ z. IsTraced j z c.add.new.self.found_from.items 0 0) (sym places) (subst (λ z. IsTraced j (first_place j ∷ []) z 0 0) (sym one.from) (traced_first j));
+      traced = subst (λ z. IsTraced j z c.add.new.self.found_from.items 0 0) (sym places)
+          (subst (λ z. IsTraced j (first_place j ∷ []) z 0 0) (sym one.from) (traced_first j));
     }
 
 pub loop-at-preserved : goal.loop-at-preserved
@@ -52,4 +54,10 @@ loop-at-preserved c = record {
 pub returns-clause-found : goal.returns-clause-found
 returns-clause-found c =
     let i = c.loop-at.invariant in
-    record { looks = i.looks; at = c.loop-at.at; walked = i.walked; all = omega (arith, number_of_places c.loop-at.walk.looks.items, c.loop-at.walk.looks.ok.0); traced = i.traced }
+    record {
+      looks = i.looks;
+      at = c.loop-at.at;
+      walked = i.walked;
+      all = omega (arith, number_of_places c.loop-at.walk.looks.items, c.loop-at.walk.looks.ok.0);
+      traced = i.traced;
+    }

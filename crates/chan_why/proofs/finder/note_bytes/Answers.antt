@@ -22,5 +22,6 @@ returns c =
     let xs = c.argument-byte-items.result.now in
     let whole : length xs ≤ c.loop-byte.byte-index = omega arith in
     same_keys (TakesSoFar ls c.args.at (argument_seen l) c.loop-byte.byte-index) (TakesByte ls (c.args.at + 1)) c.loop-byte.first
-    (bytes_all ls c.args.at l c.requires.within c.index-looks-at.is c.loop-byte.byte-index (subst (λ (ys : List ℕ). length ys ≤ c.loop-byte.byte-index) c.argument-byte-items.ensures whole))
+    (bytes_all ls c.args.at l c.requires.within c.index-looks-at.is c.loop-byte.byte-index
+    (subst (λ (ys : List ℕ). length ys ≤ c.loop-byte.byte-index) c.argument-byte-items.ensures whole))
     (subst (λ (ys : List ℕ). IsIndex (TakesSoFar ls c.args.at ys c.loop-byte.byte-index) c.loop-byte.first) c.argument-byte-items.ensures c.loop-byte.invariant)

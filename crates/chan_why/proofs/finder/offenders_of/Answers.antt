@@ -16,7 +16,8 @@ unwrap-at-requires c =
     let there = slice_get-get_or os c.loop-offence.offence-index _ c.loop-offence-test.true in
     let found = c.copied.ensures ∙ c.get.ensures.value ∙ ap (λ k. tree.get nat_cmp c.in_ok-places.places k) c.number.ensures in
     some_place c.args.looks.now o.place c.copied.result
-    (subst (IsLeastOrNone (IsAtPlace c.args.looks.now (length c.args.looks.now) (place_number o.place))) (sym found) (c.in_ok-places.ensures (place_number o.place)))
+    (subst (IsLeastOrNone (IsAtPlace c.args.looks.now (length c.args.looks.now) (place_number o.place)))
+    (sym found) (c.in_ok-places.ensures (place_number o.place)))
     (c.requires.seen o (has_at os c.loop-offence.offence-index o there))
 
 pub loop-offence-preserved : goal.loop-offence-preserved
@@ -26,9 +27,11 @@ loop-offence-preserved c =
     let i = c.loop-offence.offence-index in
     let o = get_or os i _ in
     let found = c.copied.ensures ∙ c.get.ensures.value ∙ ap (λ k. tree.get nat_cmp c.in_ok-places.places k) c.number.ensures in
-    let at = subst (IsLeastOrNone (IsAtPlace ls (length ls) (place_number o.place))) (sym found ∙ c.unwrap-at.ensures) (c.in_ok-places.ensures (place_number o.place)) in
+    let at = subst (IsLeastOrNone (IsAtPlace ls (length ls) (place_number o.place)))
+    (sym found ∙ c.unwrap-at.ensures) (c.in_ok-places.ensures (place_number o.place)) in
     note_more (IsOfKind ls os i) (IsOfKind ls os (i + 1)) c.kind_number.result c.unwrap-at.result c.loop-offence.first c.note.new.first
-    (kind_more ls c.requires.apart os i o _ c.loop-offence-test.true refl c.unwrap-at.result at c.kind_number.result c.kind_number.ensures) c.loop-offence.invariant c.in_ok-note.ensures
+    (kind_more ls c.requires.apart os i o _ c.loop-offence-test.true refl c.unwrap-at.result at c.kind_number.result c.kind_number.ensures)
+    c.loop-offence.invariant c.in_ok-note.ensures
 
 pub returns : goal.returns
 returns c =

@@ -10,7 +10,9 @@ loop-at-preserved c =
     let ls = c.args.looks.now in
     let i = c.loop-at.at in
     note_more (IsAtPlace ls i) (IsAtPlace ls (i + 1)) c.number.result i c.loop-at.first c.note.new.first
-    (place_more ls i c.index-looks-at.result (omega arith) c.index-looks-at.is c.number.result (c.number.ensures ∙ ap (λ (p : Place). place_number p) c.place.ensures)) c.loop-at.invariant c.in_ok-note.ensures
+    (place_more ls i c.index-looks-at.result (omega arith) c.index-looks-at.is c.number.result
+    (c.number.ensures ∙ ap (λ (p : Place). place_number p) c.place.ensures))
+    c.loop-at.invariant c.in_ok-note.ensures
 
 pub returns : goal.returns
 returns c =

@@ -25,7 +25,10 @@ loop-at-init c =
     }
 
 pub bounds-looks-index : goal.bounds-looks-index
-bounds-looks-index c = let n = length c.args.looks.now in subst (λ (k : ℕ). k < n) (sym (get_or_read c.loop-at.found.order.items c.loop-at.at c.index.result.now (omega arith) c.index.ensures 0)) (found_within n c.loop-at.found c.loop-at.at c.loop-at.invariant.marked (omega arith))
+bounds-looks-index c =
+    let n = length c.args.looks.now in
+    subst (λ (k : ℕ). k < n) (sym (get_or_read c.loop-at.found.order.items c.loop-at.at c.index.result.now (omega arith) c.index.ensures 0))
+    (found_within n c.loop-at.found c.loop-at.at c.loop-at.invariant.marked (omega arith))
 
 pub offset_bounds-looks-index : goal.offset_bounds-looks-index
 offset_bounds-looks-index c = let l : c.index.result.now < length c.args.looks.now = bounds-looks-index c in search rules
@@ -42,14 +45,21 @@ loop-at-preserved c =
     let i = c.loop-at.at in
     let l = c.index-looks-index.result in
     let is = get_or_read c.loop-at.found.order.items i c.index.result.now (omega arith) c.index.ensures 0 in
-    let low : c.index.result.now < length ls = subst (λ (k : ℕ). k < length ls) (sym is) (found_within (length ls) c.loop-at.found i c.loop-at.invariant.marked (omega arith)) in
+    let low : c.index.result.now < length ls =
+    subst (λ (k : ℕ). k < length ls) (sym is) (found_within (length ls) c.loop-at.found i c.loop-at.invariant.marked (omega arith)) in
     let of : c.number.result + 1 ≡ place_number l.place + 1 = ap (λ n. n + 1) (c.number.ensures ∙ ap (λ (p : Place). place_number p) c.place-place.ensures) in
     let same : length c.loop-at.found.marks.items ≡ length ls = c.loop-at.invariant.marked.len in
-    let more : FindsMore (length ls) (HasBefore before (place_number l.place + 1)) c.loop-at.found c.add_before-in-loop-at.new.self = subst (λ (n : ℕ). FindsMore n (HasBefore before (place_number l.place + 1)) c.loop-at.found c.add_before-in-loop-at.new.self) same (subst (λ (o : ℕ). FindsMore (length c.loop-at.found.marks.items) (HasBefore before o) c.loop-at.found c.add_before-in-loop-at.new.self) of c.in_ok-add_before-2.ensures) in
+    let more : FindsMore (length ls) (HasBefore before (place_number l.place + 1)) c.loop-at.found c.add_before-in-loop-at.new.self =
+    subst (λ (n : ℕ). FindsMore n (HasBefore before (place_number l.place + 1)) c.loop-at.found c.add_before-in-loop-at.new.self) same
+    (subst (λ (o : ℕ). FindsMore (length c.loop-at.found.marks.items) (HasBefore before o) c.loop-at.found c.add_before-in-loop-at.new.self)
+    of c.in_ok-add_before-2.ensures) in
     record {
       marked = more.marked;
-      traced = λ j are. retraces_on j ls are before c.in_ok-predecessors.ensures.are (length ls) c.loop-at.found c.add_before-in-loop-at.new.self i l (omega arith) (sym (ap (slice_get ls) is) ∙ slice_get_read ls _ c.index.result.now l refl low c.index-looks-index.is) more (c.loop-at.invariant.traced j are);
+      traced = λ j are.
+          retraces_on j ls are before c.in_ok-predecessors.ensures.are (length ls) c.loop-at.found c.add_before-in-loop-at.new.self i l (omega arith)
+          (sym (ap (slice_get ls) is) ∙ slice_get_read ls _ c.index.result.now l refl low c.index-looks-index.is) more (c.loop-at.invariant.traced j are);
     }
 
 pub returns-clause-each : goal.returns-clause-each
-returns-clause-each c j are reached = retraced j c.args.looks.now are reached _ c.loop-at.found c.loop-at.at c.loop-at.invariant.marked (omega arith) (c.loop-at.invariant.traced j are)
+returns-clause-each c j are reached =
+    retraced j c.args.looks.now are reached _ c.loop-at.found c.loop-at.at c.loop-at.invariant.marked (omega arith) (c.loop-at.invariant.traced j are)

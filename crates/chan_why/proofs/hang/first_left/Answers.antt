@@ -13,9 +13,13 @@ loop-at-preserved c =
     elim c.if-not-marks-at.branch [
       | then-not-marks-at w ↦
           let here = place_at c.args.looks.now i w.index-looks-at.result c.loop-at-test.true w.index-looks-at.is ∙ ap Some (sym w.place.ensures) in
-          subst (IsFirstPlace (IsLeft ps c.args.marks.now (i + 1))) (sym w.first-is) (left_more ps c.args.marks.now i c.loop-at.first c.loop-at.invariant w.place.result w.earlier.result here w.if-not-marks-at.true w.earlier.ensures)
-      | else-not-marks-at w ↦ subst (IsFirstPlace (IsLeft ps c.args.marks.now (i + 1))) (sym w.first-is) (left_marked ps c.args.marks.now i c.loop-at.first c.loop-at.invariant w.if-not-marks-at.false)
+          subst (IsFirstPlace (IsLeft ps c.args.marks.now (i + 1))) (sym w.first-is)
+          (left_more ps c.args.marks.now i c.loop-at.first c.loop-at.invariant w.place.result w.earlier.result here w.if-not-marks-at.true w.earlier.ensures)
+      | else-not-marks-at w ↦ subst (IsFirstPlace (IsLeft ps c.args.marks.now (i + 1))) (sym w.first-is)
+          (left_marked ps c.args.marks.now i c.loop-at.first c.loop-at.invariant w.if-not-marks-at.false)
     ]
 
 pub returns : goal.returns
-returns c = let e : c.loop-at.at ≡ length c.args.looks.now = omega arith in subst (λ n. IsFirstPlace (IsLeft (places_of_looks c.args.looks.now) c.args.marks.now n) c.loop-at.first) e c.loop-at.invariant
+returns c =
+    let e : c.loop-at.at ≡ length c.args.looks.now = omega arith in
+    subst (λ n. IsFirstPlace (IsLeft (places_of_looks c.args.looks.now) c.args.marks.now n) c.loop-at.first) e c.loop-at.invariant

@@ -4,4 +4,6 @@ use Rattle.chan_why.proofs.Noted.{address_added}
 use Rattle.chan_why.proofs.notes.add_address.Goals as goal
 
 pub returns-in_ok-push : goal.returns-in_ok-push
-returns-in_ok-push c = address_added c.args.is_so c.place.result.address c.args.look.now.place.address c.args.addresses.now.items c.push.new.self.items c.if-is_so.true (ap (λ (p : Place). p.address) c.place.ensures) c.in_ok-push.ensures.items
+returns-in_ok-push c =
+    address_added c.args.is_so c.place.result.address c.args.look.now.place.address c.args.addresses.now.items
+    c.push.new.self.items c.if-is_so.true (ap (λ (p : Place). p.address) c.place.ensures) c.in_ok-push.ensures.items

@@ -13,5 +13,9 @@ returns c j guards =
     record {
       kept = areas;
       guarded = subst (AreExactly (IsGuarded j)) (sym c.as_slice-areas.ensures.areas) (c.in_ok-kept.ensures j guards);
-      are = record { is_used = has_machine_byte; right = machine_right; are = c.loop-area.invariant ∙ ap (filter has_machine_byte) (take_all c.loop-area.area-index areas (omega arith)) };
+      are = record {
+        is_used = has_machine_byte;
+        right = machine_right;
+        are = c.loop-area.invariant ∙ ap (filter has_machine_byte) (take_all c.loop-area.area-index areas (omega arith));
+      };
     }

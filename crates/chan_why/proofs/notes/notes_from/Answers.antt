@@ -14,8 +14,10 @@ returns c =
     record {
       fetch_past_storage = c.in_ok-past_storage.ensures;
       store_past_storage = c.in_ok-past_storage-2.ensures;
-      unused_fetch = unused_same _ (IsFetchedFrom j) (fetch_of j) c.in_ok-unused.field-0.items (c.in_ok-fetched.ensures j seen.0 seen.1).bytes c.in_ok-unused.ensures;
-      unused_store = unused_same _ (IsStoredInto j) (store_of j) c.in_ok-unused-2.field-0.items (c.in_ok-stored.ensures j seen.0 seen.1).bytes c.in_ok-unused-2.ensures;
+      unused_fetch =
+          unused_same _ (IsFetchedFrom j) (fetch_of j) c.in_ok-unused.field-0.items (c.in_ok-fetched.ensures j seen.0 seen.1).bytes c.in_ok-unused.ensures;
+      unused_store =
+          unused_same _ (IsStoredInto j) (store_of j) c.in_ok-unused-2.field-0.items (c.in_ok-stored.ensures j seen.0 seen.1).bytes c.in_ok-unused-2.ensures;
       interrupting = c.in_ok-interrupting.ensures j seen.0 seen.1;
       ending = c.in_ok-ending.ensures j seen.0 seen.1;
       spare = c.in_ok-spare.ensures j seen.0 seen.1;

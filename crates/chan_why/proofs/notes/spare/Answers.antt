@@ -14,12 +14,17 @@ loop-look-preserved c j are =
     let i = c.loop-look.look-index in
     let l = c.look-item.result in
     let within : i < length ls = omega arith in
-    subst (λ (ps : List Place). HoldAddresses (Has c.add_address.new.addresses.items) (HasAddress fills_spare j) ps) (sym (places_next ls i l within c.look-item.is))
-    (addresses_more (HasAddress fills_spare j) (places_of_looks (take i ls)) l.place c.loop-look.addresses.items c.add_address.new.addresses.items (c.loop-look.invariant j are)
-    (adds_address fills_spare j l c.fills_spare.result c.loop-look.addresses.items c.add_address.new.addresses.items (look_of j ls i l are within c.look-item.is) c.fills_spare.ensures c.in_ok-add_address.ensures))
+    let look = look_of j ls i l are within c.look-item.is in
+    subst (λ (ps : List Place). HoldAddresses (Has c.add_address.new.addresses.items) (HasAddress fills_spare j) ps)
+    (sym (places_next ls i l within c.look-item.is))
+    (addresses_more (HasAddress fills_spare j) (places_of_looks (take i ls)) l.place
+    c.loop-look.addresses.items c.add_address.new.addresses.items (c.loop-look.invariant j are)
+    (adds_address fills_spare j l c.fills_spare.result c.loop-look.addresses.items
+    c.add_address.new.addresses.items look c.fills_spare.ensures c.in_ok-add_address.ensures))
 
 pub returns : goal.returns
 returns c j are reached =
     let ls = c.args.looks.now in
-    all_addresses fills_spare j _ (places_of_looks ls) c.loop-look.addresses.items c.each_once.result.items (places_taken ls c.loop-look.look-index (omega arith)) reached
+    all_addresses fills_spare j _ (places_of_looks ls) c.loop-look.addresses.items c.each_once.result.items
+    (places_taken ls c.loop-look.look-index (omega arith)) reached
     (c.loop-look.invariant j are) c.each_once.ensures.rising c.each_once.ensures.same

@@ -41,13 +41,15 @@ loop-from-preserved c =
     record {
       found = i.found;
       within = e.1;
-      back = λ j h. back_next j ls fs (read j h) c.args.at c.loop-from.from place c.loop-from.places.items c.push-in-loop-from.new.self.items c.loop-from-test.true there more (i.back j h);
+      back = λ j h. back_next j ls fs (read j h) c.args.at c.loop-from.from place c.loop-from.places.items
+          c.push-in-loop-from.new.self.items c.loop-from-test.true there more (i.back j h);
       stored = (
         t.0 ++ place ∷ [],
         more ∙ ap (λ z. z ++ place ∷ []) t.1,
         λ j h.
             let look = look_of j ls from l (read j h).looks e.1 c.index-looks-from.is in
-            subst (λ (z : Place). IsLastStore j c.place-end.result.address (t.0 ++ z ∷ []) c.first_store-stored_by.result) (sym c.place.ensures) (c.first_store-stored_by.ensures j look t.0 (t.2 j h)),
+            subst (λ (z : Place). IsLastStore j c.place-end.result.address (t.0 ++ z ∷ []) c.first_store-stored_by.result)
+            (sym c.place.ensures) (c.first_store-stored_by.ensures j look t.0 (t.2 j h)),
       );
     }
 

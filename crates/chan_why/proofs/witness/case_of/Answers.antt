@@ -31,15 +31,20 @@ evidence_at-requires-clause-offends c =
     let like = like_found s.looks s.offences o c.args.finder.now.offenders c.offender.result c.requires.finds.offenders c.offender.ensures in
     let first = subst (IsFirstWhere (IsLike s.offences o) (places_of_looks s.looks)) c.unwrap-at.ensures like in
     let l = c.index-looks-at.result in
-    let seen = subst (λ (ls : List Seen). l ≡ get_or ls c.unwrap-at.result l) c.looks-looks.ensures c.index-looks-at.is in
-    (j, is, look_there j s is o c.requires.listed.2 c.unwrap-at.result first l seen, offending_there j s is o c.requires.listed.2 c.unwrap-at.result first l seen)
+    let seen = subst (λ (ls : List Seen). l ≡ get_or ls c.unwrap-at.result l) c.looks-looks.ensures c.index-looks-at.is in (
+      j,
+      is,
+      look_there j s is o c.requires.listed.2 c.unwrap-at.result first l seen,
+      offending_there j s is o c.requires.listed.2 c.unwrap-at.result first l seen,
+    )
 
 pub returns-clause-within : goal.returns-clause-within
 returns-clause-within c =
     let s = c.args.survey.now in
     let o = c.args.offence in
     let like = like_found s.looks s.offences o c.args.finder.now.offenders c.offender.result c.requires.finds.offenders c.offender.ensures in
-    first_within (IsLike s.offences o) s.looks c.unwrap-at.result (subst (IsFirstWhere (IsLike s.offences o) (places_of_looks s.looks)) c.unwrap-at.ensures like)
+    first_within (IsLike s.offences o) s.looks c.unwrap-at.result
+    (subst (IsFirstWhere (IsLike s.offences o) (places_of_looks s.looks)) c.unwrap-at.ensures like)
 
 pub returns-clause-case : goal.returns-clause-case
 returns-clause-case c j is =
@@ -50,4 +55,5 @@ returns-clause-case c j is =
     let l = c.index-looks-at.result in
     let seen = subst (λ (ls : List Seen). l ≡ get_or ls c.unwrap-at.result l) c.looks-looks.ensures c.index-looks-at.is in
     let listed = c.requires.listed.2 in
-    case_there j s is o listed c.unwrap-at.result first l seen c.evidence_at.result (c.evidence_at.ensures j is (look_there j s is o listed c.unwrap-at.result first l seen) (offending_there j s is o listed c.unwrap-at.result first l seen))
+    case_there j s is o listed c.unwrap-at.result first l seen c.evidence_at.result
+    (c.evidence_at.ensures j is (look_there j s is o listed c.unwrap-at.result first l seen) (offending_there j s is o listed c.unwrap-at.result first l seen))

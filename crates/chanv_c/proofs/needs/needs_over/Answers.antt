@@ -21,16 +21,19 @@ returns-then-not-have_room-clause-room c = λ _. record {
 pub returns-clause-yes : goal.returns-clause-yes
 returns-clause-yes c = λ _.
     let needs = subst (IsFound c.args.still.now) c.in-Ok-Needed.field-0-is c.in-Ok-Needed.ensures.answer in
-    let held = subst (λ (l : List Area). HoldsAreas c.args.still.now.storage.now l c.write_kept.new.kept) c.as_slice-6.ensures.value c.write_kept.ensures.held in
+    let held = subst (λ (l : List Area). HoldsAreas c.args.still.now.storage.now l c.write_kept.new.kept)
+    c.as_slice-6.ensures.value c.write_kept.ensures.held in
     record {
       needs = listed c.in-Ok-Needed.needs;
       hang = c.in-Ok-Needed.hang;
       told = record { needs = needs; out_is = c.told-told.ensures };
-      extents = subst (λ (l : List (ℕ × ℕ)). StandFirst (map run_row l) c.args.extents.now c.write_runs.new.rows) c.as_slice-2.ensures.value c.write_runs.ensures;
+      extents = subst (λ (l : List (ℕ × ℕ)). StandFirst (map run_row l) c.args.extents.now c.write_runs.new.rows)
+          c.as_slice-2.ensures.value c.write_runs.ensures;
       fetch = subst (λ (l : List Area). StandFirst l c.args.fetch.now c.write_areas.new.rows) c.as_slice-3.ensures.value c.write_areas.ensures;
       store = subst (λ (l : List Area). StandFirst l c.args.store.now c.write_areas-2.new.rows) c.as_slice-4.ensures.value c.write_areas-2.ensures;
       keep = subst (λ (l : List Area). StandFirst l c.args.keep.now c.write_areas-3.new.rows) c.as_slice-5.ensures.value c.write_areas-3.ensures;
-      kept = subst (λ (l : List Area). StandFirst (bytes_in c.args.still.now.storage.now l) c.args.kept.now c.write_kept.new.kept) c.as_slice-6.ensures.value c.write_kept.ensures.copied;
+      kept = subst (λ (l : List Area). StandFirst (bytes_in c.args.still.now.storage.now l) c.args.kept.now c.write_kept.new.kept)
+          c.as_slice-6.ensures.value c.write_kept.ensures.copied;
       held = held;
       stays = where_held c.args.still.now (listed c.in-Ok-Needed.needs) c.in-Ok-Needed.hang c.write_kept.new.kept needs held;
     }

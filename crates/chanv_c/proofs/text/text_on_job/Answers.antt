@@ -8,5 +8,9 @@ pub returns-in_err-told_on-clause-refusal : goal.returns-in_err-told_on-clause-r
 returns-in_err-told_on-clause-refusal c =
     let asked = c.args.asked.now in
     walk_refused (HasTooMany asked) asked c.in_err-told_on.field-0.0 c.from_residual-in_err-told_on.result c.in_ok-ready.ensures.right
-    (λ many. record { job = c.job.result; asked = c.job.ensures; many = subst (HasMoreThan c.job.result) c.job.ensures.limit (c.in_err-told_on.ensures.many many) })
+    (λ many. record {
+      job = c.job.result;
+      asked = c.job.ensures;
+      many = subst (HasMoreThan c.job.result) c.job.ensures.limit (c.in_err-told_on.ensures.many many);
+    })
     c.from_residual-in_err-told_on.ensures.1

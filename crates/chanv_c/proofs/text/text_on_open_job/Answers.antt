@@ -11,7 +11,11 @@ returns-in_err-told_on-clause-refusal c =
     let is = c.job-2.ensures.open c.job.result c.in_ok-open.ensures.open in
     let is_open : IsOpenFor asked opened = record { job = c.job.result; asked = c.job.ensures; is_open = is } in
     walk_refused (HasTooManyOpenly asked) asked c.in_err-told_on.field-0.0 c.from_residual-in_err-told_on.result c.in_ok-ready.ensures.right
-    (λ many. record { opened = opened; is_open = is_open; many = subst (HasMoreThan opened) (is.limit ∙ c.job.ensures.limit) (c.in_err-told_on.ensures.many many) })
+    (λ many. record {
+      opened = opened;
+      is_open = is_open;
+      many = subst (HasMoreThan opened) (is.limit ∙ c.job.ensures.limit) (c.in_err-told_on.ensures.many many);
+    })
     c.from_residual-in_err-told_on.ensures.1
 
 pub returns-clause-answer : goal.returns-clause-answer

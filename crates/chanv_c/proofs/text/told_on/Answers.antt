@@ -2,7 +2,7 @@
 use Rattle.std.proofs.Common.{sym, subst}
 use Rattle.chan_walk.specs.declared.verdict.Verdict.{Verdict}
 use Rattle.chan_walk.specs.Answers.{IsAnswer}
-use Rattle.chan_why.specs.Witness.{IsEvidenceOf, IsPathOf, IsStoredOver, IsWitness}
+use Rattle.chan_why.specs.Witness.{IsWitnessOf}
 use Rattle.chanv_c.proofs.text.told_on.Goals as goal
 
 pub witness_from-requires : goal.witness_from-requires
@@ -20,10 +20,6 @@ returns-clause-text c =
       offending = s.offences;
       first = c.verdict.ensures;
       witness = w;
-      path = subst (λ (v : Verdict). IsPathOf j v w.path.items) same (c.in_ok-witness.ensures.path j s);
-      shown = subst (λ (v : Verdict). IsWitness j v w.path.items) same (c.in_ok-witness.ensures.shown j s);
-      evidence = subst (λ (v : Verdict). IsEvidenceOf j v w.path.items w.evidence) same (c.in_ok-witness.ensures.evidence j s);
-      stored = subst (λ (v : Verdict). IsStoredOver j v w.path.items w.stored_over) same (c.in_ok-witness.ensures.stored j s);
-      second = c.in_ok-witness.ensures.second j s;
+      shows = subst (λ (v : Verdict). IsWitnessOf j v w) same (c.in_ok-witness.ensures j s);
       text = c.in_ok-text.ensures;
     }

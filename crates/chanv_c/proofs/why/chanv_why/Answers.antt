@@ -12,10 +12,13 @@ use Rattle.chanv_c.proofs.why.chanv_why.Goals.{then-lacks_rows-via-else-lacks_ro
 
 pub returns-in-Err-clause-number : goal.returns-in-Err-clause-number
 returns-in-Err-clause-number c =
-    rw (c.code.ensures, c.nothing.ensures, c.extent.ensures) (refusal_number (HasTooMany c.args.job.now) c.args.job.now c.in-Err.refusal c.in-Err.ensures.refusal)
+    rw (c.code.ensures, c.nothing.ensures, c.extent.ensures)
+    (refusal_number (HasTooMany c.args.job.now) c.args.job.now c.in-Err.refusal c.in-Err.ensures.refusal)
 
 pub returns-in-Yes-clause-yes : goal.returns-in-Yes-clause-yes
-returns-in-Yes-clause-yes c = λ _. subst (IsJudged c.args.job.now) c.in-Yes.is (record { job = c.in-Ok.ensures.answer.job; asked = c.in-Ok.ensures.answer.asked; answer = c.in-Ok.ensures.answer.answer })
+returns-in-Yes-clause-yes c =
+    let a = c.in-Ok.ensures.answer in
+    λ _. subst (IsJudged c.args.job.now) c.in-Yes.is (record { job = a.job; asked = a.asked; answer = a.answer })
 
 never_yes : (v w : Verdict) → v ≡ w → (w ≡ Yes → ⊥) → v ≢ Yes
 never_yes v w e n = λ y. n (sym e ∙ y)
@@ -25,8 +28,12 @@ returns-then-lacks_rows-clause-room c = λ _. (
   c.in-Ok.found,
   record { explanation = c.in-Ok.ensures.answer; offends = never_yes c.in-Ok.found.verdict _ c.in-No.is (λ e. cc); out_is = c.told.ensures },
   elim c.then-lacks_rows.branch [
-    | then-lacks_rows-via-then-lacks_rows w ↦ inl (subst (λ (l : List Place). LacksRows l c.args.path.now) c.as_slice-first.ensures.value (c.lacks_rows.ensures.0 w.if-lacks_rows.true))
-    | then-lacks_rows-via-else-lacks_rows+then-lacks_rows-2 w ↦ inr (subst (λ (l : List Place). LacksRows l c.args.second_path.now) c.as_slice-second.ensures.value (w.lacks_rows-else-lacks_rows.ensures.0 w.if-lacks_rows-2.true))
+    | then-lacks_rows-via-then-lacks_rows w ↦ inl (
+        subst (λ (l : List Place). LacksRows l c.args.path.now) c.as_slice-first.ensures.value
+        (c.lacks_rows.ensures.0 w.if-lacks_rows.true))
+    | then-lacks_rows-via-else-lacks_rows+then-lacks_rows-2 w ↦ inr (
+        subst (λ (l : List Place). LacksRows l c.args.second_path.now) c.as_slice-second.ensures.value
+        (w.lacks_rows-else-lacks_rows.ensures.0 w.if-lacks_rows-2.true))
   ],
 )
 

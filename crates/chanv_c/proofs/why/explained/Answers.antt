@@ -3,7 +3,7 @@ use Rattle.std.proofs.Common.{ap, Err, sym, subst}
 use Rattle.chan_walk.specs.declared.verdict.Verdict.{Verdict}
 use Rattle.chan_walk.specs.Answers.{IsAnswer}
 use Rattle.chan_walk.specs.Places.{HasMoreThan}
-use Rattle.chan_why.specs.Witness.{IsEvidenceOf, IsPathOf, IsWitness}
+use Rattle.chan_why.specs.Witness.{IsWitnessOf}
 use Rattle.chanv_c.specs.Answers.{HasTooMany}
 use Rattle.chanv_c.proofs.Refusals.{walk_refused}
 use Rattle.chanv_c.proofs.why.explained.Goals as goal
@@ -12,7 +12,11 @@ pub returns-in_err-survey-clause-refusal : goal.returns-in_err-survey-clause-ref
 returns-in_err-survey-clause-refusal c =
     let asked = c.args.asked.now in
     walk_refused (HasTooMany asked) asked c.in_err-survey.field-0.0 c.from_residual-in_err-survey.result c.in_ok-ready.ensures.right
-    (λ many. record { job = c.job.result; asked = c.job.ensures; many = subst (HasMoreThan c.job.result) c.job.ensures.limit (c.in_err-survey.ensures.many (ap Err many)) })
+    (λ many. record {
+      job = c.job.result;
+      asked = c.job.ensures;
+      many = subst (HasMoreThan c.job.result) c.job.ensures.limit (c.in_err-survey.ensures.many (ap Err many));
+    })
     c.from_residual-in_err-survey.ensures.1
 
 pub witness_from-requires : goal.witness_from-requires
@@ -23,14 +27,10 @@ returns-clause-answer c =
     let j = c.job.result in
     let w = c.in_ok-witness.witness in
     let s = c.in_ok-survey.ensures.survey in
-    let is = c.in_ok-witness.ensures in
     let same = sym c.verdict.ensures in
     record {
       job = j;
       asked = c.job.ensures;
       answer = subst (λ (v : Verdict). IsAnswer j v) same c.in_ok-survey.ensures.answer;
-      path = subst (λ (v : Verdict). IsPathOf j v w.path.items) same (is.path j s);
-      shown = subst (λ (v : Verdict). IsWitness j v w.path.items) same (is.shown j s);
-      evidence = subst (λ (v : Verdict). IsEvidenceOf j v w.path.items w.evidence) same (is.evidence j s);
-      second = is.second j s;
+      shows = subst (λ (v : Verdict). IsWitnessOf j v w) same (c.in_ok-witness.ensures j s);
     }

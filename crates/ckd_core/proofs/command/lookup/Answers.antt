@@ -38,4 +38,5 @@ returns c =
     let code = c.args.code in
     missed-append code (option_map entry_of c.write.result) (table.control_commands ++ table.search_commands ++ table.read_commands) table.write_commands
     (missed-append code None (table.control_commands ++ table.search_commands) table.read_commands
-    (missed-append code None table.control_commands table.search_commands c.in_default.ensures c.in_default-search.ensures) c.in_default-read.ensures) c.write.ensures
+    (missed-append code None table.control_commands table.search_commands c.in_default.ensures c.in_default-search.ensures)
+    c.in_default-read.ensures) c.write.ensures

@@ -22,5 +22,6 @@ returns c =
           (λ k. next.inside c.match-next_area.end (omega arith) (omega (arith, next.ends, next.filled)))
       | in-None w ↦
           let e = w.end-is in
-          gap_from xs c.args.range start c.match-next_area.end out (omega (arith, out.0.0.1)) (omega arith) (λ b f k. w.in-None.ensures b f) (λ k. absurd (omega arith))
+          gap_from xs c.args.range start c.match-next_area.end out (omega (arith, out.0.0.1)) (omega arith)
+          (λ b f k. w.in-None.ensures b f) (λ k. absurd (omega arith))
     ]

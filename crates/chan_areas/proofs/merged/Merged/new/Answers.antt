@@ -7,15 +7,20 @@ use Rattle.chan_areas.proofs.Merging.{exactly_low, exactly_sorted}
 use Rattle.chan_areas.proofs.merged.Merged.new.Goals as goal
 
 pub merge_sorted-requires-clause-sorted : goal.merge_sorted-requires-clause-sorted
-merge_sorted-requires-clause-sorted c = subst (IsNonDecreasingBy start_of) (sym c.as_slice.ensures.value) (IsNonDecreasingBy-from_sort_by_key start_of _ c.sort_unstable_by_key.ensures.sorted (λ a r q k. search rules))
+merge_sorted-requires-clause-sorted c =
+    subst (IsNonDecreasingBy start_of) (sym c.as_slice.ensures.value)
+    (IsNonDecreasingBy-from_sort_by_key start_of _ c.sort_unstable_by_key.ensures.sorted (λ a r q k. search rules))
 
 pub merge_sorted-requires-clause-low : goal.merge_sorted-requires-clause-low
-merge_sorted-requires-clause-low c = subst (All (EndsBelow (2 ^ 32))) (sym c.as_slice.ensures.value) (All-permutation (EndsBelow (2 ^ 32)) c.args.areas.items c.sort_unstable_by_key.new.self.items c.sort_unstable_by_key.ensures.permutation c.requires)
+merge_sorted-requires-clause-low c =
+    subst (All (EndsBelow (2 ^ 32))) (sym c.as_slice.ensures.value)
+    (All-permutation (EndsBelow (2 ^ 32)) c.args.areas.items c.sort_unstable_by_key.new.self.items c.sort_unstable_by_key.ensures.permutation c.requires)
 
 pub invariant_of-result : goal.invariant_of-result
 invariant_of-result c =
     let is = c.in_ok-areas.ensures in
-    let exactly = exactly_sorted c.args.areas.items _ _ c.in_ok-areas.areas.items c.sort_unstable_by_key.ensures.permutation c.as_slice.ensures.value is.merged is.bytes in
+    let exactly =
+    exactly_sorted c.args.areas.items _ _ c.in_ok-areas.areas.items c.sort_unstable_by_key.ensures.permutation c.as_slice.ensures.value is.merged is.bytes in
     (is.merged, exactly_low (2 ^ 32) _ _ exactly c.requires)
 
 pub returns : goal.returns

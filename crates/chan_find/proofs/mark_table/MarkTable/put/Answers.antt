@@ -18,8 +18,12 @@ returns-clause-put c =
     let within : c.in-Some.at < length m = omega (arith, at, byte.within) in
     let bits : c.index.result.now ≡ slice_index m (q.address / 8) = get_or_read m _ _ within c.index.ensures 0 ∙ ap (slice_index m) at in
     let way : c.way-way.result ≡ way_of q = c.way-way.ensures.value in
-    let off : IsMarked m q → ⊥ = λ h. c.if-bits-way-eq1.false (shr_and_one c.index.result.now c.way-way.result ∙ ap (λ (b : ℕ). bit_at b c.way-way.result) bits ∙ ap (bit_at (slice_index m (q.address / 8))) way ∙ h.on) in
-    put_one m _ q byte off (ap (λ (i : ℕ). slice_set m i (bit_or c.index.result.now (1 * 2 ^ c.way-way.result % 256))) at ∙ ap (λ (b : ℕ). slice_set m (q.address / 8) (bit_or b (1 * 2 ^ c.way-way.result % 256))) bits ∙ ap (λ (w : ℕ). slice_set m (q.address / 8) (bit_or (slice_index m (q.address / 8)) (1 * 2 ^ w % 256))) way)
+    let off : IsMarked m q → ⊥ = λ h. c.if-bits-way-eq1.false (shr_and_one c.index.result.now c.way-way.result
+    ∙ ap (λ (b : ℕ). bit_at b c.way-way.result) bits ∙ ap (bit_at (slice_index m (q.address / 8))) way ∙ h.on) in
+    put_one m _ q byte off
+    (ap (λ (i : ℕ). slice_set m i (bit_or c.index.result.now (1 * 2 ^ c.way-way.result % 256))) at
+    ∙ ap (λ (b : ℕ). slice_set m (q.address / 8) (bit_or b (1 * 2 ^ c.way-way.result % 256))) bits
+    ∙ ap (λ (w : ℕ). slice_set m (q.address / 8) (bit_or (slice_index m (q.address / 8)) (1 * 2 ^ w % 256))) way)
 
 pub returns-clause-marked : goal.returns-clause-marked
 returns-clause-marked c = λ b. ((returns-clause-put c).marks c.args.place).1 (inr refl)

@@ -12,6 +12,12 @@ returns-in_ok-add-3 c =
     let at = c.look_at-look.ensures.place in
     let look = c.look_at-look.ensures.look in
     let plain = subst (IsPlain j) at ((c.is_plain.ensures j look).0 (search)) in
-    let next = subst (λ p. AreSuccessors j p c.next-next.result) at (subst (λ n. AreSuccessors j c.look_at-look.result.place n) (sym c.next-next.ensures) look.next) in
-    let third = subst (λ (q : Place). IsGrown (λ p. Some q ≡ Some p) c.add-then-is_plain.new.self.marks.bytes.items c.add-then-is_plain.new.self.pending.items c.add-then-is_plain-2.new.self.marks.bytes.items c.add-then-is_plain-2.new.self.pending.items) c.start_at.ensures c.in_ok-add-3.ensures in
-    stepped j c.args.place c.next-next.result _ _ c.add.new.self.marks.bytes.items c.add.new.self.pending.items c.add-then-is_plain.new.self.marks.bytes.items c.add-then-is_plain.new.self.pending.items _ _ next plain c.in_ok-add.ensures c.in_ok-add-2.ensures third
+    let next = subst (λ p. AreSuccessors j p c.next-next.result) at
+    (subst (λ n. AreSuccessors j c.look_at-look.result.place n) (sym c.next-next.ensures) look.next) in
+    let one = c.add.new.self in
+    let two = c.add-then-is_plain.new.self in
+    let three = c.add-then-is_plain-2.new.self in
+    let third = subst (λ (q : Place). IsGrown (λ p. Some q ≡ Some p) two.marks.bytes.items two.pending.items three.marks.bytes.items three.pending.items)
+    c.start_at.ensures c.in_ok-add-3.ensures in
+    stepped j c.args.place c.next-next.result _ _ one.marks.bytes.items one.pending.items two.marks.bytes.items two.pending.items _ _
+    next plain c.in_ok-add.ensures c.in_ok-add-2.ensures third

@@ -9,8 +9,11 @@ loop-place-preserved c =
     let before : List Place = places_of_looks c.loop-place.looks.items in
     let p : Place = c.in-Some.place in
     record {
-      looks = looks_push c.args.job.now c.look_by.result c.loop-place.looks.items c.push.new.self.items c.in_ok-push.ensures.items c.loop-place.invariant.looks c.look_by.ensures.look;
-      places = ap (λ z. z ++ c.next.new.self) (places_push c.look_by.result p c.loop-place.looks.items c.push.new.self.items c.in_ok-push.ensures.items c.look_by.ensures.place)
+      looks = looks_push c.args.job.now c.look_by.result c.loop-place.looks.items c.push.new.self.items
+          c.in_ok-push.ensures.items c.loop-place.invariant.looks c.look_by.ensures.look;
+      places =
+          ap (λ z. z ++ c.next.new.self)
+          (places_push c.look_by.result p c.loop-place.looks.items c.push.new.self.items c.in_ok-push.ensures.items c.look_by.ensures.place)
           ∙ append_assoc before (p ∷ []) c.next.new.self ∙ ap (λ z. before ++ z) (sym c.in-Some.ensures.steps) ∙ c.loop-place.invariant.places;
     }
 

@@ -9,10 +9,16 @@ pub loop-look-init : goal.loop-look-init
 loop-look-init c = search (rules, hold_none, low_none)
 
 pub add_ccw-requires-clause-look : goal.add_ccw-requires-clause-look
-add_ccw-requires-clause-look c = (c.requires.0, look_of c.requires.0 c.args.looks.now c.loop-look.look-index c.look-item.result c.requires.1 (omega arith) c.look-item.is)
+add_ccw-requires-clause-look c = (
+  c.requires.0,
+  look_of c.requires.0 c.args.looks.now c.loop-look.look-index c.look-item.result c.requires.1 (omega arith) c.look-item.is,
+)
 
 pub add_argument-requires-clause-look : goal.add_argument-requires-clause-look
-add_argument-requires-clause-look c = (c.requires.0, look_of c.requires.0 c.args.looks.now c.loop-look.look-index c.look-item.result c.requires.1 (omega arith) c.look-item.is)
+add_argument-requires-clause-look c = (
+  c.requires.0,
+  look_of c.requires.0 c.args.looks.now c.loop-look.look-index c.look-item.result c.requires.1 (omega arith) c.look-item.is,
+)
 
 pub loop-look-preserved : goal.loop-look-preserved
 loop-look-preserved c =
@@ -25,12 +31,14 @@ loop-look-preserved c =
       ccws = λ j are.
           let h = look_of j ls i l are within c.look-item.is in
           subst (λ (ps : List Place). HoldBytes (IsCcwByteOf j) ps c.add_ccw.new.areas.items) more
-          (hold_more (IsCcwByteOf j) (places_of_looks (take i ls)) l.place c.loop-look.ccws.items c.add_ccw.new.areas.items (c.loop-look.invariant.ccws j are) (c.in_ok-add_ccw.ensures.bytes j h));
+          (hold_more (IsCcwByteOf j) (places_of_looks (take i ls)) l.place c.loop-look.ccws.items c.add_ccw.new.areas.items
+          (c.loop-look.invariant.ccws j are) (c.in_ok-add_ccw.ensures.bytes j h));
       ccws_low = c.in_ok-add_ccw.ensures.low;
       arguments = λ j are.
           let h = look_of j ls i l are within c.look-item.is in
           subst (λ (ps : List Place). HoldBytes (IsArgumentByteOf j) ps c.add_argument.new.areas.items) more
-          (hold_more (IsArgumentByteOf j) (places_of_looks (take i ls)) l.place c.loop-look.arguments.items c.add_argument.new.areas.items (c.loop-look.invariant.arguments j are) (c.in_ok-add_argument.ensures.bytes j h));
+          (hold_more (IsArgumentByteOf j) (places_of_looks (take i ls)) l.place c.loop-look.arguments.items c.add_argument.new.areas.items
+          (c.loop-look.invariant.arguments j are) (c.in_ok-add_argument.ensures.bytes j h));
       arguments_low = c.in_ok-add_argument.ensures.low;
     }
 
@@ -40,7 +48,9 @@ returns c j are reached =
     let all : places_of_looks (take c.loop-look.look-index ls) ≡ places_of_looks ls = places_taken ls c.loop-look.look-index (omega arith) in
     record {
       ccws_merged = c.in_ok-ccws.ensures.merged;
-      ccws = ccw_bytes j (places_of_looks ls) c.in_ok-ccws.ccws reached (hold_same (IsCcwByteOf j) _ _ c.loop-look.ccws.items c.in_ok-ccws.ccws all (c.loop-look.invariant.ccws j are) c.in_ok-ccws.ensures);
+      ccws = ccw_bytes j (places_of_looks ls) c.in_ok-ccws.ccws reached
+          (hold_same (IsCcwByteOf j) _ _ c.loop-look.ccws.items c.in_ok-ccws.ccws all (c.loop-look.invariant.ccws j are) c.in_ok-ccws.ensures);
       arguments_merged = c.in_ok-arguments.ensures.merged;
-      arguments = argument_bytes j (places_of_looks ls) c.in_ok-arguments.arguments reached (hold_same (IsArgumentByteOf j) _ _ c.loop-look.arguments.items c.in_ok-arguments.arguments all (c.loop-look.invariant.arguments j are) c.in_ok-arguments.ensures);
+      arguments = argument_bytes j (places_of_looks ls) c.in_ok-arguments.arguments reached (hold_same (IsArgumentByteOf j) _ _ c.loop-look.arguments.items
+          c.in_ok-arguments.arguments all (c.loop-look.invariant.arguments j are) c.in_ok-arguments.ensures);
     }

@@ -14,6 +14,8 @@ returns-in_ok-push c =
 
 pub returns-else-predecessor-of : goal.returns-else-predecessor-of
 returns-else-predecessor-of c = finds_known (length c.args.self.now.marks.items) _ c.args.self.now c.requires.marked (λ k h. elim c.else-predecessor-of.branch [
-  | else-predecessor-of-via-then-predecessor-of+else-not-index w ↦ (c.requires.marked.agrees k).0 (subst (λ k. get_or c.args.self.now.marks.items k false ≡ true) h.1 (sym (get_or_read c.args.self.now.marks.items c.args.predecessor.at w.index.result.now c.requires.within w.index.ensures false) ∙ w.if-not-index.false))
+  | else-predecessor-of-via-then-predecessor-of+else-not-index w ↦
+      (c.requires.marked.agrees k).0 (subst (λ k. get_or c.args.self.now.marks.items k false ≡ true) h.1
+      (sym (get_or_read c.args.self.now.marks.items c.args.predecessor.at w.index.result.now c.requires.within w.index.ensures false) ∙ w.if-not-index.false))
   | else-predecessor-of-via-else-predecessor-of w ↦ absurd (w.if-predecessor-of.false h.0)
 ])

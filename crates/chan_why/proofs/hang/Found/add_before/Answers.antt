@@ -40,13 +40,19 @@ loop-end-preserved c =
     let one = subst (λ m. FindsMore m (λ k. (x.of ≡ c.args.of) × (x.at ≡ k)) c.loop-end.self c.add.new.self) more.marked.len c.in_ok-add.ensures in
     record {
       row = (c.loop-end.end - 1, before.0);
-      more = finds_as n (λ k. IsListed p.list.items c.args.of c.loop-end.end k ⊎ ((x.of ≡ c.args.of) × (x.at ≡ k))) (IsListed p.list.items c.args.of x.before) c.args.self.now c.add.new.self
+      more =
+          finds_as n (λ k. IsListed p.list.items c.args.of c.loop-end.end k ⊎ ((x.of ≡ c.args.of) × (x.at ≡ k)))
+          (IsListed p.list.items c.args.of x.before) c.args.self.now c.add.new.self
           (λ k. listed_more (length p.ends.items) p.list.items c.args.of c.loop-end.end k x c.loop-end-test.true here before.0 before.1)
-          (finds_both n (IsListed p.list.items c.args.of c.loop-end.end) (λ k. (x.of ≡ c.args.of) × (x.at ≡ k)) c.args.self.now c.loop-end.self c.add.new.self more one);
+          (finds_both n (IsListed p.list.items c.args.of c.loop-end.end)
+          (λ k. (x.of ≡ c.args.of) × (x.at ≡ k)) c.args.self.now c.loop-end.self c.add.new.self more one);
     }
 
 pub returns : goal.returns
 returns c =
     let zero_left : c.loop-end.end ≡ 0 = omega arith in
-    let more = subst (λ e. FindsMore (length c.args.self.now.marks.items) (IsListed c.args.predecessors.now.list.items c.args.of e) c.args.self.now c.loop-end.self) zero_left c.loop-end.invariant.more in
-    finds_as (length c.args.self.now.marks.items) (IsListed c.args.predecessors.now.list.items c.args.of 0) _ c.args.self.now c.loop-end.self (all_listed c.args.predecessors.now.list.items c.args.of) more
+    let more = subst
+    (λ e. FindsMore (length c.args.self.now.marks.items) (IsListed c.args.predecessors.now.list.items c.args.of e) c.args.self.now c.loop-end.self)
+    zero_left c.loop-end.invariant.more in
+    finds_as (length c.args.self.now.marks.items) (IsListed c.args.predecessors.now.list.items c.args.of 0)
+    _ c.args.self.now c.loop-end.self (all_listed c.args.predecessors.now.list.items c.args.of) more

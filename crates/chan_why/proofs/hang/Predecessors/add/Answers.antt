@@ -19,4 +19,5 @@ returns-in_ok-push c =
     let q : Predecessors = record { list = c.push.new.self; ends = with_item p.ends c.row-row.result c.len.result } in
     let x : Predecessor = record { of = c.in-Some.of; at = c.args.at; before = c.index-before.result.now } in
     subst (λ (o : Option ℕ). AddsPredecessor c.args.at o p q) (sym c.in-Some.is)
-    (one_added c.args.at c.in-Some.of p q x refl refl c.requires c.in_ok-push.ensures.items before (ap (λ r. set p.ends.items r c.len.result) row ∙ ap (set p.ends.items (row_of n c.in-Some.of)) len) low)
+    (one_added c.args.at c.in-Some.of p q x refl refl c.requires c.in_ok-push.ensures.items before
+    (ap (λ r. set p.ends.items r c.len.result) row ∙ ap (set p.ends.items (row_of n c.in-Some.of)) len) low)

@@ -1,0 +1,27 @@
+use Rattle.std.proofs.Common.{◌∷◌, []}
+use Rattle.chan_walk.proofs.Machine.Alarm.{each_path_shows}
+use Rattle.chan_why.proofs.Explaining.{stored_told, witness}
+use Rattle.chan_why.proofs.witness.witness_of.Goals as goal
+
+pub case_of-at-requires-clause-listed : goal.case_of-at-requires-clause-listed
+case_of-at-requires-clause-listed c = c.requires
+
+pub second_path-requires-clause-cause : goal.second_path-requires-clause-cause
+second_path-requires-clause-cause c =
+    let cause = (c.case_of-at.ensures.case c.requires.0 c.requires.1).cause in
+    (c.requires.0, c.requires.1, (cause.2.0, cause.2.3.1))
+
+pub returns : goal.returns
+returns c j s =
+    let o = c.args.offence in
+    let places = c.in_ok-places.field-0.places.items in
+    let case = c.case_of-at.ensures.case j s in
+    let path = case.path places (c.in_ok-places.ensures.path j s) in
+    record {
+      path = path;
+      shown = witness j (o ∷ []) places s.proper each_path_shows path;
+      evidence = case.evidence places (c.in_ok-places.ensures.path j s);
+      stored = stored_told j o.place.address o.reason places c.in_ok-places.field-0.stored_by c.told_over.result
+          (c.in_ok-places.ensures.stored j s) c.told_over.ensures.told c.told_over.ensures.other;
+      second = c.in_ok-second_path.ensures j s case.cause.2.0 case.cause.2.3.1;
+    }
