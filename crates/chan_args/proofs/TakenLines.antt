@@ -21,9 +21,10 @@ use Rattle.chan_args.proofs.Names.{chars, entered, find, fold, help_shape, label
 use Rattle.chan_args.proofs.Names.{names_of, option_map, option_map_or, or_else, rows_at, short_of}
 use Rattle.chan_args.proofs.Names.{slice_get, slice_index_or, subcommand_of, topic_rule}
 use Rattle.chan_args.specs.declared.action.Action.TheVariants as actions
+use Rattle.chan_args.specs.declared.action.Explained.TheVariants as tells
 
--- the commands below `chanv`, as clap builds them, in turn: show, verify, list, why, graph, needs,
--- deck, explain, help
+-- the commands below `chanv`, as clap builds them, in turn: verify, list, why, needs, graph, find,
+-- deck, explain, show, help
 abbrev pub sub_at : ℕ → Shape
 sub_at k = slice_index_or (built chanv).subs k help_shape
 
@@ -220,15 +221,15 @@ named_is_known name words no_help = found_by
     (λ o. option_map_or (λ s. level_fault s [] nothing_held words false []) o [] ≡ []
     → IsKnown (option_map (λ s. rows_at s words) o)) (λ s. answers_to name (label_of s))
     (λ _. inl refl) app.subs
-    (also (λ _ _. inr (inr (inl refl)))
     (also (λ _ _. inr (inl (actions.Verify, refl)))
-    (also (λ _ _. inr (inl (actions.List, refl)))
-    (also (λ _ _. inr (inl (actions.Why false, refl)))
+    (also (λ _ _. inr (inl (actions.List false, refl)))
+    (also (λ _ _. inr (inl (actions.Why tells.First, refl)))
+    (also (λ _ _. inr (inl (actions.Needs false, refl)))
     (also (λ _ _. inr (inl (actions.Graph, refl)))
-    (also (λ _ _. inr (inl (actions.Needs, refl)))
     (also (λ _ _. inr (inr (inr (inr (inr refl)))))
     (also (λ _ _. inr (inr (inr (inl refl))))
     (also (λ _ _. inr (inr (inr (inr (inl refl)))))
+    (also (λ _ _. inr (inr (inl refl)))
     (also (λ is _. absurd (help is)) tt))))))))))
   where
     help : answers_to name (label_of (sub_at 9)) ≡ true → ⊥

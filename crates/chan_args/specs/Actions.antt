@@ -5,5 +5,5 @@ use Rattle.chan_args.specs.declared.action.Action.TheVariants as actions
 
 -- the action explains the verdict
 abbrev pub is_why : Action → Bool
-is_why (actions.Why all) = true
+is_why (actions.Why explained) = true
 is_why _ = false

@@ -1,7 +1,8 @@
 -- What the words of a command line ask for.
-use Rattle.std.specs.Prelude.{◌≡◌, ◌≢◌, ◌⊎◌, Bool, false, ◌&&◌, ◌||◌, List, [], ◌∷◌, Option, Some}
-use Rattle.std.specs.Prelude.{None, true, codes, if◌then◌else◌, option_map, option_and_then}
+use Rattle.std.specs.Prelude.{◌≡◌, ◌≢◌, ◌⊎◌, ◌==◌, Bool, false, ◌&&◌, ◌||◌, List, [], ◌∷◌, Option}
+use Rattle.std.specs.Prelude.{Some, None, true, codes, if◌then◌else◌, option_map, option_and_then}
 use Rattle.std.specs.Prelude.{slice_get}
+use Rattle.std.specs.Char.{is_ascii_digit}
 use Rattle.std.specs.Str.{bytes_eq}
 use Rattle.clap.specs.Words.{IsAmong, Row, Text, fault_of, first_of, kind_of, subcommand_of}
 use Rattle.clap.specs.declared.error.kind.ErrorKind.TheVariants.{DisplayHelp, DisplayVersion}
@@ -11,12 +12,15 @@ use Rattle.chan_args.specs.declared.command_line.Request.TheVariants.{Show, Run,
 use Rattle.chan_args.specs.declared.command_line.Request.TheVariants.{Explain, Find, Grants, Words}
 use Rattle.chan_args.specs.declared.command_line.Request.TheVariants.{Help, Version, Fault}
 use Rattle.chan_args.specs.declared.command_line.Request.TheVariants.{NoCcw, NoCommand, NoMemory}
-use Rattle.chan_args.specs.declared.command_line.Request.TheVariants.{ShowNamed}
+use Rattle.chan_args.specs.declared.command_line.Request.TheVariants.{AllBesideOf, ExplainFlags}
+use Rattle.chan_args.specs.declared.command_line.Request.TheVariants.{ExplainOffence, ShowNamed}
 use Rattle.chan_args.specs.CommandWords.{IsStandardInput, files_in, texts_of}
-use Rattle.chan_args.specs.ImageLine.{SaysImage, grant_fault, is_flagged}
+use Rattle.chan_args.specs.ImageLine.{SaysImage, grant_fault, is_flagged, is_met, texts_in}
 use Rattle.chan_args.specs.Lines.{chanv}
 use Rattle.chan_args.specs.declared.action.Action.{Action}
 use Rattle.chan_args.specs.declared.action.Action.TheVariants as actions
+use Rattle.chan_args.specs.declared.action.Explained.{Explained}
+use Rattle.chan_args.specs.declared.action.Explained.TheVariants as tells
 
 -- the word calls for help
 abbrev pub is_help_flag : Text → Bool
@@ -29,6 +33,17 @@ understood (program ∷ word ∷ flag ∷ []) =
     else program ∷ word ∷ flag ∷ []
 understood words = words
 
+-- the word may be the flags of a listing, of which the first is off
+abbrev pub may_be_flags : Text → Bool
+may_be_flags (first ∷ c ∷ l ∷ s ∷ p ∷ low ∷ []) = (first == 45) && is_ascii_digit low
+may_be_flags word = false
+
+-- the flags whose meaning is asked for; clap would take them for an option
+abbrev pub flags_asked : List Text → Option Text
+flags_asked (program ∷ command ∷ flags ∷ []) =
+    if bytes_eq command (codes "explain") && may_be_flags flags then Some flags else None
+flags_asked words = None
+
 -- clap finds no fault in the words, of which the first is the program's name, and no call for help
 -- or the version
 abbrev pub IsAccepted : List Text → Type 0
@@ -38,9 +53,10 @@ IsAccepted words = fault_of chanv words ≡ []
 abbrev pub name_met : Option (Text × List Row) → Option Text
 name_met = option_map (λ p. p.0)
 
--- the word that it met as the one to explain
-abbrev pub word_asked : Option (Text × List Row) → Option Text
-word_asked = option_and_then (λ p. first_of (codes "WORD") p.1)
+-- the parts of the word that it met as the one to explain
+abbrev pub words_asked : Option (Text × List Row) → List Text
+words_asked None = []
+words_asked (Some p) = texts_in (codes "WORD") p.1
 
 -- the word that it met as that command's CCW
 abbrev pub ccw_met : Option (Text × List Row) → Option Text
@@ -59,10 +75,10 @@ rows_met (Some p) = p.1
 -- the name of the command for each action
 abbrev pub action_name : Action → Text
 action_name actions.Verify = codes "verify"
-action_name actions.List = codes "list"
-action_name (actions.Why all) = codes "why"
+action_name (actions.List wide) = codes "list"
+action_name (actions.Why explained) = codes "why"
 action_name actions.Graph = codes "graph"
-action_name actions.Needs = codes "needs"
+action_name (actions.Needs deck) = codes "needs"
 
 -- it met no command, or that of an action, or `show`, `deck`, `explain` or `find`
 abbrev pub IsKnown : Option (Text × List Row) → Type 0
@@ -77,10 +93,17 @@ abbrev pub IsFor : Option Text → Action → Type 0
 IsFor None action = action ≡ actions.Verify
 IsFor (Some name) action = name ≡ action_name action
 
--- the action tells each cause exactly where that option was met
-abbrev pub IsAllAsMet : Action → List Row → Type 0
-IsAllAsMet (actions.Why all) rows = all ≡ is_flagged (codes "all") rows
-IsAllAsMet _ rows = Unit {0}
+-- what an explanation tells where no offence is asked for by its address
+abbrev pub explained : Bool → Explained
+explained all = if all then tells.All else tells.First
+
+-- the action is the one that the options ask for that were met
+abbrev pub IsAsMet : Action → List Row → Type 0
+IsAsMet (actions.List wide) rows = wide ≡ is_flagged (codes "wide") rows
+IsAsMet (actions.Why told) rows =
+    (told ≡ explained (is_flagged (codes "all") rows)) × (first_of (codes "of") rows ≡ None)
+IsAsMet (actions.Needs deck) rows = deck ≡ is_flagged (codes "deck") rows
+IsAsMet _ rows = Unit {0}
 
 -- the request is to run over these files
 abbrev pub RunsOver : Action → List Text → Request → Type 0
@@ -88,11 +111,6 @@ RunsOver action files (Run a) = (a ≡ action) × IsStandardInput files
 RunsOver action files (RunNamed a names) =
     (a ≡ action) × (¬ IsStandardInput files) × (texts_of names.items ≡ files)
 RunsOver action files _ = ⊥
-
--- the request is to explain the verdicts on the files that were met, with each cause where that
--- option was
-abbrev pub Explains : List Row → Request → Type 0
-Explains rows r = RunsOver (actions.Why (is_flagged (codes "all") rows)) (files_in rows) r
 
 -- the request is to make the deck of what was met, or says why its options don't say one job
 abbrev pub MakesDeck : List Row → Request → Type 0
@@ -110,18 +128,25 @@ AsksFor met (ShowNamed word) =
     × (is_flagged (codes "name") (rows_met met) ≡ true)
 AsksFor met NoCcw = (name_met met ≡ Some (codes "show")) × (ccw_met met ≡ None)
 AsksFor met (Run a) =
-    IsFor (name_met met) a × RunsOver a (files_met met) (Run a) × IsAllAsMet a (rows_met met)
+    IsFor (name_met met) a × RunsOver a (files_met met) (Run a) × IsAsMet a (rows_met met)
 AsksFor met (RunNamed a names) =
     IsFor (name_met met) a × RunsOver a (files_met met) (RunNamed a names)
-    × IsAllAsMet a (rows_met met)
+    × IsAsMet a (rows_met met)
 AsksFor met (Image asked) =
     (name_met met ≡ Some (codes "deck")) × MakesDeck (rows_met met) (Image asked)
 AsksFor met (Find asked) = (name_met met ≡ Some (codes "find")) × SaysImage (rows_met met) asked
 AsksFor met (Grants fault) =
     (name_met met ≡ Some (codes "deck")) × MakesDeck (rows_met met) (Grants fault)
-AsksFor met (Explain word) =
-    (name_met met ≡ Some (codes "explain")) × (word_asked met ≡ Some word.now)
-AsksFor met Words = (name_met met ≡ Some (codes "explain")) × (word_asked met ≡ None)
+AsksFor met (ExplainOffence address names) =
+    (name_met met ≡ Some (codes "why")) × (first_of (codes "of") (rows_met met) ≡ Some address.now)
+    × (texts_of names.items ≡ files_met met) × (is_flagged (codes "all") (rows_met met) ≡ false)
+AsksFor met AllBesideOf =
+    (name_met met ≡ Some (codes "why")) × (is_met (codes "of") (rows_met met) ≡ true)
+    × (is_flagged (codes "all") (rows_met met) ≡ true)
+AsksFor met (Explain words) =
+    (name_met met ≡ Some (codes "explain")) × (texts_of words.items ≡ words_asked met)
+    × (words_asked met ≢ [])
+AsksFor met Words = (name_met met ≡ Some (codes "explain")) × (words_asked met ≡ [])
 AsksFor met _ = ⊥
 
 -- what each answer says of the words
@@ -136,4 +161,5 @@ IsAnswerTo words (Fault e) =
     (kind_of e ≢ DisplayHelp) × (kind_of e ≢ DisplayVersion) × (kind_of e ≢ OutOfMemory)
     × IsAmong (kind_of e) (fault_of chanv words)
 IsAnswerTo words NoMemory = Unit {0}
+IsAnswerTo words (ExplainFlags flags) = flags_asked words ≡ Some flags.now
 IsAnswerTo words request = IsAccepted words × AsksFor (subcommand_of chanv words) request

@@ -8,16 +8,28 @@ ghost use Rattle.chan_args.specs.Actions.{is_why};
 pub enum Action {
     /// Writes the line of the verdict.
     Verify,
-    /// Writes a row for each reachable place, and then the line of the verdict.
-    List,
-    /// Writes the explanation of the verdict; with the cause of each offence beside the first, if
-    /// all are asked for.
-    Why { all: bool },
+    /// Writes a row for each reachable place, and then the line of the verdict; a wide listing is
+    /// for people.
+    List { wide: bool },
+    /// Writes the explanation of the verdict.
+    Why(Explained),
     /// Writes the picture of the program in Graphviz's language.
     Graph,
-    /// Writes what the deck's program needs of each job under which it may run, and what it keeps;
-    /// or where no job will do, the explanation of the no that the program's open job has.
-    Needs,
+    /// Writes what the deck's program needs of each job under which it may run, and what it keeps,
+    /// or the deck with its least job; or where no job will do, the explanation of the no that the
+    /// program's open job has.
+    Needs { deck: bool },
+}
+
+/// What an explanation tells.
+#[derive(Clone, Copy, PartialEq, Eq)]
+pub enum Explained {
+    /// The verdict's offence, and the address and reason of each other.
+    First,
+    /// The same, with the cause of each other.
+    All,
+    /// The first offence at this address in place of the verdict's, and no other.
+    At(u32),
 }
 
 impl Action {
@@ -25,6 +37,6 @@ impl Action {
     pub fn is_why(self) -> bool
         ensures { result ≡ is_why self }
     {
-        matches!(self, Action::Why { .. })
+        matches!(self, Action::Why(_))
     }
 }

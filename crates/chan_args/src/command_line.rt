@@ -1,18 +1,18 @@
 //! The command line: which words ask for what.
 
 ghost use Rattle.std.specs.Prelude.{◌≡◌, ◌↔◌, IfErr, IfOk, IsTrue, OnOk, Some, codes, map};
-ghost use Rattle.std.specs.Prelude.{string_bytes};
+ghost use Rattle.std.specs.Prelude.{option_map, string_bytes};
 ghost use Rattle.clap.specs.Words.{HasKind, IsAmong, fault_of, found_of, kind_of};
 ghost use Rattle.clap.specs.Words.{rows_of};
 ghost use Rattle.clap.specs.declared.error.kind.ErrorKind.TheVariants.{InvalidSubcommand};
 ghost use Rattle.clap.specs.Words.{subcommand_of, subcommand_rows_of};
 ghost use Rattle.chan_args.specs.CommandLine.{AsksFor, IsAnswerTo, IsKnown, IsAccepted};
-ghost use Rattle.chan_args.specs.CommandLine.{Explains, MakesDeck, RunsOver, is_help_flag};
-ghost use Rattle.chan_args.specs.CommandLine.{understood};
+ghost use Rattle.chan_args.specs.CommandLine.{MakesDeck, RunsOver, flags_asked, may_be_flags};
+ghost use Rattle.chan_args.specs.CommandLine.{is_help_flag, understood};
 ghost use Rattle.chan_args.specs.Lines.{chanv};
 ghost use Rattle.chan_args.specs.CommandWords.{IsStandardInput, files_in, texts_of};
 
-use crate::action::Action;
+use crate::action::{Action, Explained};
 use crate::image_command::{ImageRequest, grant_fault, image_request};
 use crate::image_words::GrantFault;
 use crate::lines::command;
@@ -41,8 +41,15 @@ pub enum Request<'a> {
     Find(ImageRequest<'a>),
     /// To say why options that make a deck don't say one job.
     Grants(GrantFault),
-    /// To say what a word means.
-    Explain(&'a str),
+    /// To explain the first offence at the address that the text spells, in the deck of each of
+    /// these, or of standard input if there is none.
+    ExplainOffence(&'a str, Vec<&'a str>),
+    /// Nothing: both each cause and the offence at an address are asked for.
+    AllBesideOf,
+    /// To say what a word means, which may have blanks between its parts.
+    Explain(Vec<&'a str>),
+    /// To say what the flags of a listing mean, which begin like an option.
+    ExplainFlags(&'a str),
     /// To list the words that have a meaning.
     Words,
     /// Help. Its text is the error's.
@@ -90,13 +97,13 @@ fn request_named<'a>(
 {
     match name {
         "show" => Ok(show_request(matches)),
-        "list" => request_over(alloc, Action::List, matches),
+        "list" => list_request(alloc, matches),
         "why" => why_request(alloc, matches),
         "graph" => request_over(alloc, Action::Graph, matches),
-        "needs" => request_over(alloc, Action::Needs, matches),
+        "needs" => needs_request(alloc, matches),
         "find" => search_request(alloc, matches),
         "deck" => deck_request(alloc, matches),
-        "explain" => Ok(explain_request(matches)),
+        "explain" => explain_request(alloc, matches),
         _ => request_over(alloc, Action::Verify, matches),
     }
 }
@@ -113,21 +120,46 @@ fn show_request<'a>(matches: &ArgMatches<'a>) -> Request<'a>
 }
 
 /// The request to say what the word means that clap met, or to list all words where it met none.
-fn explain_request<'a>(matches: &ArgMatches<'a>) -> Request<'a>
-    ensures { AsksFor (Some (codes "explain", rows_of (found_of matches.now))) result }
+fn explain_request<'a>(alloc: Global, matches: &ArgMatches<'a>) -> Result<Request<'a>, AllocError>
+    ensures { IfOk result (AsksFor (Some (codes "explain", rows_of (found_of matches.now)))) }
 {
-    match text_met(matches, "WORD") {
-        Some(word) => Request::Explain(word),
-        None => Request::Words,
+    let words = texts_met(alloc, matches, "WORD")?;
+    if words.is_empty() {
+        return Ok(Request::Words);
     }
+    Ok(Request::Explain(words))
 }
 
-/// The request to explain the verdicts on the decks that clap met.
+/// The request to list the places of the decks that clap met.
+fn list_request<'a>(alloc: Global, matches: &ArgMatches<'a>) -> Result<Request<'a>, AllocError>
+    ensures { IfOk result (AsksFor (Some (codes "list", rows_of (found_of matches.now)))) }
+{
+    let wide = is_flagged(matches, "wide");
+    request_over(alloc, Action::List { wide }, matches)
+}
+
+/// The request to say what the programs of the decks need that clap met.
+fn needs_request<'a>(alloc: Global, matches: &ArgMatches<'a>) -> Result<Request<'a>, AllocError>
+    ensures { IfOk result (AsksFor (Some (codes "needs", rows_of (found_of matches.now)))) }
+{
+    let deck = is_flagged(matches, "deck");
+    request_over(alloc, Action::Needs { deck }, matches)
+}
+
+/// The request to explain the verdicts on the decks that clap met, or the offences at an address.
 fn why_request<'a>(alloc: Global, matches: &ArgMatches<'a>) -> Result<Request<'a>, AllocError>
-    ensures { IfOk result (Explains (rows_of (found_of matches.now))) }
+    ensures { IfOk result (AsksFor (Some (codes "why", rows_of (found_of matches.now)))) }
 {
     let all = is_flagged(matches, "all");
-    request_over(alloc, Action::Why { all }, matches)
+    match text_met(matches, "of") {
+        Some(_) if all => Ok(Request::AllBesideOf),
+        Some(address) => {
+            let files = texts_met(alloc, matches, "FILE")?;
+            Ok(Request::ExplainOffence(address, files))
+        }
+        None if all => request_over(alloc, Action::Why(Explained::All), matches),
+        None => request_over(alloc, Action::Why(Explained::First), matches),
+    }
 }
 
 /// The request to make a deck of what clap met.
@@ -183,6 +215,29 @@ fn understood<'a>(words: &'a [String]) -> &'a [String]
     }
 }
 
+/// The flags of a listing whose meaning is asked for, if they begin like an option.
+fn flags_asked<'a>(words: &'a [String]) -> Option<&'a str>
+    ensures { option_map (λ flags. flags.now) result
+        ≡ flags_asked (map string_bytes words.entry.now) }
+{
+    match words {
+        [_, command, flags] if command.as_str() == "explain" && may_be_flags(flags.as_bytes()) => {
+            Some(flags.as_str())
+        }
+        _ => None,
+    }
+}
+
+/// Whether a word may be the flags of a listing, of which the first is off.
+fn may_be_flags(word: &[u8]) -> bool
+    ensures { result ≡ may_be_flags word.now }
+{
+    match word {
+        [b'-', _, _, _, _, low] => low.is_ascii_digit(),
+        _ => false,
+    }
+}
+
 /// Whether a word calls for help.
 fn is_help_flag(word: &str) -> bool
     ensures { result ≡ is_help_flag word.now }
@@ -204,14 +259,18 @@ fn no_command<'a>(words: &'a [String], error: Error) -> Request<'a>
 
 /// Reads the words; the first is the program's name.
 ///
-/// Without a command the request is to verify, and `help --help` is `help`. If clap accepts the
-/// words, the answer is their request. Otherwise it is `Help`, `Version`, `NoCommand` or `Fault`,
-/// by the kind of fault that it finds. `NoMemory` may come in place of each.
+/// Without a command the request is to verify, and `help --help` is `help`. Behind `explain`, flags
+/// that begin like an option are a word. If clap accepts the words, the answer is their request.
+/// Otherwise it is `Help`, `Version`, `NoCommand` or `Fault`, by the kind of fault that it finds.
+/// `NoMemory` may come in place of each.
 #[inline(never)]
 pub fn read_request<'a>(alloc: Global, words: &'a [String]) -> Request<'a>
     ensures answer { IsAnswerTo (understood (map string_bytes words.entry.now)) result }
 {
     let words = understood(words);
+    if let Some(flags) = flags_asked(words) {
+        return Request::ExplainFlags(flags);
+    }
     match asked(alloc, words) {
         Ok(request) => request,
         Err(error) => match error.kind() {

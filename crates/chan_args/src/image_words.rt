@@ -23,6 +23,8 @@ pub enum ImageOption {
     Storage,
     /// `--open`: grants everything.
     Open,
+    /// `--of`, over a deck: the address of the offence that is explained.
+    Of,
 }
 
 /// The job of a deck that is made of an image.

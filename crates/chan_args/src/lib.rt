@@ -19,7 +19,7 @@ mod image_words;
 mod lines;
 mod words_met;
 
-pub use crate::action::Action;
+pub use crate::action::{Action, Explained};
 pub use crate::command_line::{Request, read_request};
 pub use crate::image_command::ImageRequest;
 pub use crate::image_words::{AskedJob, GrantFault, ImageOption, ImageWords};

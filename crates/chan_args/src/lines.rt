@@ -41,20 +41,24 @@ pub(crate) type Line = (
 
 /// The forms of a command line, for help and for a usage fault before any command.
 const USAGE: &str = "chanv verify [FILE]...
-       chanv list [FILE]...
-       chanv why [--all] [FILE]...
+       chanv list [--wide] [FILE]...
+       chanv why [--all|--of <ADDRESS>] [FILE]...
+       chanv needs [--deck] [FILE]...
        chanv graph [FILE]
-       chanv needs [FILE]...
        chanv find [OPTIONS] [FILE]
        chanv deck --start <ADDRESS> <--least|--open> [OPTIONS] [FILE]
        chanv deck --start <ADDRESS> --extent <FIRST-LAST> [OPTIONS] [FILE]
-       chanv explain [WORD]
+       chanv explain [WORD]...
        chanv show [--name] <CCW>";
 
 // The lines of `USAGE` for the commands that have options.
 const USAGE_OF_SHOW: &str = "chanv show [--name] <CCW>";
 
-const USAGE_OF_WHY: &str = "chanv why [--all] [FILE]...";
+const USAGE_OF_LIST: &str = "chanv list [--wide] [FILE]...";
+
+const USAGE_OF_WHY: &str = "chanv why [--all|--of <ADDRESS>] [FILE]...";
+
+const USAGE_OF_NEEDS: &str = "chanv needs [--deck] [FILE]...";
 
 const USAGE_OF_FIND: &str = "chanv find [OPTIONS] [FILE]";
 
@@ -79,24 +83,37 @@ The exit status is the greatest of these:
   3  a FILE can't be opened, reading or writing failed, or memory ran out
   4  the command line is wrong
 
-`chanv explain` says what a reason means, and `man chanv` how to write a deck.";
-
-/// The end of the help of a command for one deck.
-const OF_ONE: &str = "The exit status is the same as for `chanv verify`; see its help.";
+`chanv explain REASON` explains a reason. `man chanv` names the page on decks.";
 
 /// The end of the help of `list`.
 const OF_LIST: &str = "With several FILEs, each listing comes under a line `FILE:`.
 
 The exit status is the same as for `chanv verify`; see its help.";
 
+/// The end of the help of `why`.
+const OF_WHY: &str = "After a no, the output has the path to the offending CCW, as a listing has it,
+the cause, and a line `also` for each other offence. Over a FILE, standard error
+says how to cure it. chanv doesn't look past a CCW that has a fault: ask again
+after a repair. After a yes, notes on standard error say what the answer leaves
+open.
+
+The exit status is the same as for `chanv verify`; see its help.";
+
+/// The end of the help of `graph`.
+const OF_GRAPH: &str = "To see the picture:
+  chanv graph my.deck | dot -Tsvg > my.svg
+
+The exit status is the same as for `chanv verify`; see its help.";
+
 /// The end of the help of `needs`.
 const OF_NEEDS: &str = "The output, in lines of a deck except keep:
   mask XX               the strictest file mask that serves
-  extent FFF LLL        cylinders that seeks go to; if none, any extent will do
+  extent FFF LLL        cylinders of seeks; without it any extent will do
   fetch SSSSSS LLLLLL   an area that has to be lent for fetching
   store SSSSSS LLLLLL   an area that has to be lent for storing
   keep SSSSSS LLLLLL    an area that nothing else may change during the run
-With several FILEs, each answer comes under a line `FILE:`.
+With several FILEs, each answer comes under a line `FILE:`. With --deck the
+output is a deck that grants exactly this, and chanv verify says yes to it.
 
 If no job will do, the output explains the no under the job that grants
 everything, and the exit status is 1. Otherwise the status is the same as for
@@ -104,32 +121,35 @@ everything, and the exit status is 1. Otherwise the status is the same as for
 
 The deck's mask, extents and areas don't matter. Its limit counts places under
 the job that grants everything, so there may be too many for a deck that
-`chanv verify` refuses, but never for one that it accepts.";
+`chanv verify` refuses, but never for a deck that it accepts.";
 
 /// The end of the help of `find`.
 const OF_FIND: &str = "The output has a line for each program, in order of its start:
   SSSSSS yes                some job will do; chanv deck --least makes a deck
   SSSSSS no ADDRESS REASON  no job will do
   SSSSSS too many places    more places are reachable than --limit
+Behind yes and no come the number of CCWs and the names of the first commands.
 
-A program starts at a CCW without a fault that leads to a second one, unless
-another such CCW leads there. `man chanv` names the page with its misses.
+A program starts at a CCW without a fault that leads to a second CCW, unless
+another listed program leads to it. `man chanv` names the page on programs that
+find misses. If --at or --storage is wrong, so are the answers.
 
 The exit status is 0, even if there is no program, or the same as for
 `chanv deck`; see its help.";
 
 /// The end of the help of `deck`.
-const OF_DECK: &str = "Addresses, lengths, sizes and the mask are hexadecimal, with or without 0x;
-cylinders and the limit are decimal. An area is start and length (900+10), or
-first and last byte (900-90F). You may repeat --extent and options with AREA.
+const OF_DECK: &str = "Addresses, lengths, sizes and the mask are hexadecimal, with or without 0x
+(2048 is 800); cylinders and the limit are decimal. An area is start and length
+(900+10), or first and last byte (900-90F). You may repeat --extent, --fetch and
+--store.
 
-Storage ends with the image, filled with zeros to a multiple of 8. With
---storage it has that size, filled with zeros.
+Storage ends with the image, filled with zeros to a multiple of 8, unless
+--storage gives its size. If --at is wrong, so are the answers.
 
 With --least the deck grants exactly what its program needs, and is judged yes.
 If no job will do, standard error explains the verdict on the job that grants
 everything. With --open the deck grants everything, so you can draw any program.
-Leave out mask, extents and areas with both:
+With either, leave out mask, extents and areas:
   chanv deck --start 3A98 --least core.bin > my.deck
   chanv deck --start 3A98 --open core.bin | chanv graph | dot -Tpng > my.png
 
@@ -151,6 +171,27 @@ const DECKS: Word = (
 
 const ALL: Word = ("all", Given::Flag, "", "adds the cause to each line `also`");
 
+const OF: Word = (
+    "of",
+    Given::Valued,
+    "ADDRESS",
+    "explains the offence at this hexadecimal address instead",
+);
+
+const WIDE: Word = (
+    "wide",
+    Given::Flag,
+    "",
+    "says what each CCW does, for people and not for scripts",
+);
+
+const AS_DECK: Word = (
+    "deck",
+    Given::Flag,
+    "",
+    "writes the deck that grants exactly this",
+);
+
 const DECK: Word = (
     "FILE",
     Given::Plain,
@@ -169,7 +210,7 @@ const AT: Word = (
     "at",
     Given::Valued,
     "ADDRESS",
-    "hexadecimal address of the image (default 0)",
+    "hexadecimal address of its first byte (default 0)",
 );
 
 const STORAGE: Word = (
@@ -260,45 +301,38 @@ const SHOWING: &[Word] = &[
 /// The commands, in the order of help.
 pub(crate) const LINES: &[Line] = &[
     (
-        "show",
-        "prints one channel command word (CCW)",
-        OF_SHOW,
-        SHOWING,
-        USAGE_OF_SHOW,
-    ),
-    (
         "verify",
-        "judges each deck: may its program run? chanv alone does the same",
+        "judges decks: may the program run? chanv alone judges standard input",
         OF_VERIFY,
         &[DECKS],
         "",
     ),
     (
         "list",
-        "lists the CCWs that a deck's program can reach, and the verdict",
+        "lists the CCWs that the program can reach, and the verdict",
         OF_LIST,
-        &[DECKS],
-        "",
+        &[DECKS, WIDE],
+        USAGE_OF_LIST,
     ),
     (
         "why",
         "explains each verdict: the path to the offending CCW, and the cause",
-        OF_ONE,
-        &[DECKS, ALL],
+        OF_WHY,
+        &[DECKS, ALL, OF],
         USAGE_OF_WHY,
-    ),
-    (
-        "graph",
-        "draws a deck's program for Graphviz",
-        OF_ONE,
-        &[DECK],
-        "",
     ),
     (
         "needs",
         "lists what a job must grant, and the bytes that must not change",
         OF_NEEDS,
-        &[DECKS],
+        &[DECKS, AS_DECK],
+        USAGE_OF_NEEDS,
+    ),
+    (
+        "graph",
+        "draws the program of one deck for Graphviz",
+        OF_GRAPH,
+        &[DECK],
         "",
     ),
     (
@@ -321,11 +355,18 @@ pub(crate) const LINES: &[Line] = &[
         "",
         &[(
             "WORD",
-            Given::Plain,
+            Given::Repeated,
             "",
-            "a word of the output, such as changes-ccw or read-data",
+            "a word of the output, such as changes-ccw, 07 or mask 98",
         )],
         "",
+    ),
+    (
+        "show",
+        "prints a channel command word (CCW)",
+        OF_SHOW,
+        SHOWING,
+        USAGE_OF_SHOW,
     ),
 ];
 

@@ -1,13 +1,13 @@
 -- What was judged, and what was written.
-use Rattle.std.proofs.Common.{◌≡◌, ◌∙◌, ◌↔◌, Err, IsErr, Ok, OnOk, Result, false, refl, sym, true}
+use Rattle.std.proofs.Common.{◌≡◌, ◌∙◌, ◌↔◌, Bool, Err, IsErr, Ok, OnOk, Result, false, refl, sym, true}
 use Rattle.chan_walk.specs.declared.job.Job.{Job}
 use Rattle.chan_args.specs.declared.action.Action.{Action}
 use Rattle.chan_args.specs.declared.action.Action.TheVariants as actions
 use Rattle.chan_run.specs.Output.{Judges}
 
 -- an action for which no open job is asked judges the job itself
-pub judges_itself : (a : Action) (j : Job) → (a ≡ actions.Needs → ⊥) → Judges a j j
-judges_itself actions.Needs j other = absurd (other refl)
+pub judges_itself : (a : Action) (j : Job) → ((deck : Bool) → a ≡ actions.Needs deck → ⊥) → Judges a j j
+judges_itself (actions.Needs deck) j other = absurd (other deck refl)
 judges_itself a j other = refl
 
 -- what was done where no write failed

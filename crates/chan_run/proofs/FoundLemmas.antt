@@ -35,9 +35,9 @@ starts_over o image held starts items is same are j over =
     rw same (are j (record { storage = over.storage ∙ sym is; device = over.device }))
 
 -- the line of a row more
-pub rows_more : (rows : List (Bor (List ℕ) × Bor (List ℕ))) (i : ℕ) (d : Bor (List ℕ) × Bor (List ℕ)) (text line : List ℕ)
+pub rows_more : (rows : List (Bor (List ℕ))) (i : ℕ) (d : Bor (List ℕ)) (text line : List ℕ)
     → i < length rows → AreLines IsRowLine (take i (row_texts rows)) text
-    → line ≡ row_line ((slice_index_or rows i d).0.now, (slice_index_or rows i d).1.now)
+    → line ≡ row_line (slice_index_or rows i d).now
     → AreLines IsRowLine (take (suc i) (row_texts rows)) (text ++ line)
 rows_more [] i d text line lt before is = absurd (omega (arith, lt))
 rows_more (r ∷ rows) zero d text line lt before is = (line, [], is, refl, rw before (sym (append-nil line)))
@@ -50,7 +50,7 @@ rows_more (r ∷ rows) (suc i) d text line lt (first, rest, at, are, joins) is =
 )
 
 -- the lines of all rows
-pub all_rows : (rows : List (Bor (List ℕ) × Bor (List ℕ))) (n : ℕ) (text : List ℕ) → length rows ≡ n
+pub all_rows : (rows : List (Bor (List ℕ))) (n : ℕ) (text : List ℕ) → length rows ≡ n
     → AreLines IsRowLine (take n (row_texts rows)) text → AreLines IsRowLine (row_texts rows) text
 all_rows [] zero text is are = are
 all_rows [] (suc n) text is are = are

@@ -1,9 +1,10 @@
 -- The deck with the least job: its areas have six digits, and the verdict on its job is yes.
 use Rattle.std.proofs.Common.{◌≡◌, ℕ, ◌+◌, ◌-◌, ◌∙◌, ◌<◌, ◌≤◌, ◌==◌, ◌^◌, Bool, ◌||◌, true, false}
 use Rattle.std.proofs.Common.{List, [], ◌∷◌, ◌++◌, length, ◌⊎◌, inl, inr, arith, refl, sym, ap}
-use Rattle.std.proofs.Common.{subst}
+use Rattle.std.proofs.Common.{Some, nat_le, subst}
 use Rattle.std.specs.List.{AllByRecursion}
-use Rattle.std.proofs.lemmas.Bool.{cases_lt, eqb-false, or_left, or_right}
+use Rattle.std.proofs.lemmas.Bool.{cases_lt, eqb-false, le-leb, leb-true, or_left, or_right}
+use Rattle.std.proofs.lemmas.List.{take_all}
 use Rattle.ccw_core.specs.declared.areas.Area.{Area}
 use Rattle.ccw_core.specs.Areas.{lies_in, end_of}
 use Rattle.ckd_core.specs.Extents.{has_cylinder}
@@ -14,7 +15,12 @@ use Rattle.chan_walk.specs.OpenJob.{AreOfOneProgram, all_storage, open_job, IsOp
 use Rattle.chan_needs.specs.Needs.{Grants, Serves}
 use Rattle.chan_areas.specs.Merged.{IsByteOf, IsMerged}
 use Rattle.chan_needs.specs.Rows.{AreNeeds, Listed}
+use Rattle.chan_walk.specs.Place.{first_place}
 use Rattle.chan_walk.specs.Verdict.{IsVerdict}
+use Rattle.chan_walk.proofs.Theory.Faults.{clear_stands, yes_clear}
+use Rattle.ccw_core.specs.Storage.{is_inside, range_at}
+use Rattle.chan_deck.specs.Item.{IsAddress}
+use Rattle.chan_deck.specs.Parts.{storage_with}
 use Rattle.chan_areas.proofs.Merging.{lies_in-append, lies_in-cases, lies_in-first, lies_in-rest}
 use Rattle.chan_needs.proofs.Needing.{granted_yes, yes_grants}
 use Rattle.chan_walk.proofs.Algorithms.Opened.{to_open}
@@ -24,8 +30,8 @@ use Rattle.chan_deck.specs.Item.{IsArea}
 use Rattle.chan_deck.specs.Needs.{halves, in_six_digits, six_digit_parts}
 use Rattle.chan_args.specs.declared.image_words.AskedJob.TheVariants as jobs
 use Rattle.chan_run.specs.Image.{IsAskedDeck, IsOfOpenJob}
-use Rattle.chan_run.specs.Image.{IsProgramIn, areas_over, deck_of, extents_for, least_deck}
-use Rattle.chan_run.specs.Output.{IsDeckJob}
+use Rattle.chan_run.specs.Image.{IsProgramIn, areas_over, least_deck}
+use Rattle.chan_run.specs.Output.{IsDeckJob, deck_of_job, extents_for, granting_just}
 use Rattle.chan_run.specs.declared.image_options.ImageOptions.{ImageOptions}
 
 -- ---- six digits
@@ -188,11 +194,39 @@ least_asked o image n d least short needs is =
         (of.mask ∙ ap (λ (x : Image). x.mask) is) (of.extents ∙ ap (λ (x : Image). x.extents) is)
         (of.fetch ∙ ap (λ (x : Image). x.fetch) is) (of.store ∙ ap (λ (x : Image). x.store) is)
 
--- the deck of parts that are just what is needed
-pub is_least_deck : (o : ImageOptions) (image : List ℕ) (n : Listed) (extents : List (ℕ × ℕ)) (fetch store : List Area)
+-- a deck with just what is needed
+pub grants_needs : (d : Image) (n : Listed) (extents : List (ℕ × ℕ)) (fetch store : List Area)
     → extents ≡ extents_for n.extents → fetch ≡ in_six_digits n.fetch → store ≡ in_six_digits n.store
-    → record (deck_of o image) { mask = n.mask; extents = extents; fetch = fetch; store = store } ≡ least_deck o image n
-is_least_deck o image n extents fetch store one two three = rw (one, two, three) refl
+    → record d { mask = n.mask; extents = extents; fetch = fetch; store = store } ≡ granting_just d n
+grants_needs d n extents fetch store one two three = rw (one, two, three) refl
+
+-- the range of all of storage has all of its bytes
+pub whole_range : (s bytes : List ℕ) → Some bytes ≡ range_at s 0 (length s) → bytes ≡ s
+whole_range s bytes is =
+    let le : nat_le (0 + length s) (length s) ≡ true = le-leb (0 + length s) (length s) (omega arith) in
+    the_value (rw le at is) ∙ take_all _ _ (omega arith)
+  where
+    the_value : {a b : List ℕ} → Some a ≡ Some b → a ≡ b
+    the_value e = cc
+
+inside_below : (n a : ℕ) → is_inside n a ≡ true → a + 8 ≤ n
+unfolding is_inside
+inside_below n a is = leb-true (a + 8) n is
+
+-- a program that needs something begins at an address
+pub begins_low : (j : Job) (n : Listed) → AreNeeds j n → length (storage_of j) ≤ 2 ^ 24 → IsAddress j.start
+begins_low j n needs short =
+    let k = open_job j in
+    let stands = clear_stands k (first_place k) (yes_clear k needs.verdict (first_place k) ([], refl)) in
+    omega (arith, short, inside_below (length (storage_of j)) j.start stands.1)
+
+-- the verdict is yes on the job of a deck that grants just what another job's program needs
+pub granting_is_yes : (j : Job) (n : Listed) → ((k : Job) → AreOfOneProgram k j → AreNeeds k n)
+    → length (storage_of j) ≤ 2 ^ 24 → storage_with 0 (storage_of j) ≡ storage_of j → (k : Job)
+    → IsDeckJob (granting_just (deck_of_job j) n) k → IsVerdict k Yes
+granting_is_yes j n needs short same k of =
+    let one : AreOfOneProgram k j = record { storage = of.storage ∙ same; start = of.start; device = of.device } in
+    least_is_yes k n (needs k one) (rw one.storage short) of.mask of.extents of.fetch of.store
 
 -- the open job of a program shows something
 pub of_open_job : (o : ImageOptions) (image : List ℕ) (Holds : Job → Type 0) (j k : Job) → IsProgramIn o image j

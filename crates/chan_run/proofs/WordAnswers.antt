@@ -4,7 +4,7 @@ use Rattle.std.proofs.Common.{OnOk, ◌≡◌, ◌↔◌, Bool, Err, IsErr, List
 use Rattle.ccw_core.specs.declared.watched.DeviceFault.{DeviceFault}
 use Rattle.chan_run.specs.Meanings.{AreTermsListed, AreWordsListed, IsWordAnswer}
 use Rattle.chan_run.specs.Outcome.{wrote}
-use Rattle.chan_run.specs.OutputWords.{AreRowsListed, IsFirstRow, OutputRow, output_words, row_line}
+use Rattle.chan_run.specs.OutputWords.{AreRowsListed, IsFirstRow, output_words, row_line}
 use Rattle.chan_run.specs.declared.outcome.Outcome.{Outcome}
 use Rattle.chan_run.specs.declared.outcome.Outcome.TheVariants.{Denied, Done, Failed, NoJob, Refused, Unknown}
 use Rattle.chan_run.specs.declared.terms.TheConstants as texts
@@ -18,7 +18,7 @@ sound true fault = let bad : false ≡ true = fault.1 refl in absurd cc
 sound false fault = refl
 
 -- the line of its row was written, or a prefix
-pub row_answer : (text : List ℕ) (old new : Option (List ℕ)) (row : OutputRow) (r : Result (Unit {0}) DeviceFault)
+pub row_answer : (text : List ℕ) (old new : Option (List ℕ)) (row : List ℕ) (r : Result (Unit {0}) DeviceFault)
     (failed : Bool) → IsFirstRow text output_words row → IsErr r ↔ (failed ≡ true)
     → WriterGot (row_line row) old new failed → IsWordAnswer text old new (wrote r)
 row_answer text old new row (Ok u) failed first fault said = (row_line row, inr (inl (row, first, refl)), said.0 (sound failed fault))

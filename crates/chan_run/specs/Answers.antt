@@ -1,5 +1,5 @@
 -- What an image of storage comes to: its deck on one writer, and what is said of it on another.
-use Rattle.std.specs.Prelude.{◌≡◌, ◌⊎◌, ℕ, Bool, List, Option, None, Some, []}
+use Rattle.std.specs.Prelude.{◌≡◌, ◌⊎◌, ◌++◌, ℕ, Bool, List, Option, None, Some, []}
 use Rattle.chan_run.specs.declared.failure.Failure.{Failure}
 use Rattle.chan_run.specs.declared.image_options.ImageOptions.{ImageOptions}
 use Rattle.chan_run.specs.declared.outcome.Outcome.{Outcome}
@@ -8,18 +8,18 @@ use Rattle.chan_run.specs.declared.response.Response.{Response}
 use Rattle.chan_run.specs.Image.{IsDeckText, IsNoDeck, IsNoImage, IsWholeImage}
 use Rattle.chan_run.specs.ImageNote.{deck_note}
 use Rattle.chan_run.specs.NoJob.{IsNoJobText}
-use Rattle.chan_run.specs.Response.{IsBareResponse, IsDelivered, advice_in}
+use Rattle.chan_run.specs.Response.{IsDelivered, IsNotedResponse, advice_in}
 
--- this text is why no job will do
+-- this text is why no job will do, with notes on the image, of which tests hold the texts
 abbrev pub IsWhyNoJob : Option (List ℕ) → ImageOptions → List ℕ → Option (List ℕ) → Type 0
 IsWhyNoJob name o image None = ⊥
-IsWhyNoJob name o image (Some why) = IsNoJobText name o image why
+IsWhyNoJob name o image (Some text) =
+    (why : List ℕ) × (notes : List ℕ) × IsNoJobText name o image why × (text ≡ why ++ notes)
 
 -- what an image comes to, with the output and the advice: its deck, or why there is none
 abbrev pub IsDeckAnswer : Option (List ℕ) → ImageOptions → List ℕ → Outcome → List ℕ
     → Option (List ℕ) → Type 0
-IsDeckAnswer name o image Done output advice =
-    IsDeckText o image output × (advice ≡ Some [])
+IsDeckAnswer name o image Done output advice = IsDeckText o image output
 IsDeckAnswer name o image (NoJob a r) output advice =
     IsNoDeck o image (NoJob a r) × (output ≡ []) × IsWhyNoJob name o image advice
 IsDeckAnswer name o image end output advice =
@@ -36,7 +36,7 @@ abbrev pub IsImageInputResponse : Option (List ℕ) → ImageOptions → Option 
     → Response → Type 0
 IsImageInputResponse name o old new r =
     ((image : List ℕ) × IsWholeImage o old new image × IsImageResponse name o image r)
-    ⊎ ((failure : Failure) × IsNoImage o old new failure × IsBareResponse (Failed failure) [] r)
+    ⊎ ((failure : Failure) × IsNoImage o old new failure × IsNotedResponse (Failed failure) [] r)
 
 -- what an input for an image comes to: its answer was delivered
 abbrev pub IsImageAnswered : Option (List ℕ) → ImageOptions → Option (List ℕ) → Option (List ℕ)

@@ -12,6 +12,7 @@ is_hexadecimal options.Mask = true
 is_hexadecimal options.Start = true
 is_hexadecimal options.At = true
 is_hexadecimal options.Storage = true
+is_hexadecimal options.Of = true
 is_hexadecimal option = false
 
 -- the number that digits write in hexadecimal, and the one in decimal, if it is another
@@ -29,6 +30,7 @@ abbrev pub is_accepted : ImageOption → ℕ → Bool
 is_accepted options.Mask n = nat_lt n 0x100 && is_mask n
 is_accepted options.Start n = nat_lt n (2 ^ 24)
 is_accepted options.At n = nat_lt n (2 ^ 24)
+is_accepted options.Of n = nat_lt n (2 ^ 24)
 is_accepted options.Storage n = not (nat_lt (2 ^ 24) n) && (n % 8 == 0)
 is_accepted option n = false
 

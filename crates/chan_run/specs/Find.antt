@@ -14,7 +14,7 @@ use Rattle.chan_find.specs.Programs.{AreProgramStarts, IsJobOver}
 use Rattle.chan_run.specs.Image.{IsNoImage, IsProgramAt, IsWholeImage}
 use Rattle.chan_run.specs.ImageNote.{deck_note, find_note}
 use Rattle.chan_run.specs.Output.{IsUnwritten}
-use Rattle.chan_run.specs.Response.{IsBareResponse, IsDelivered}
+use Rattle.chan_run.specs.Response.{IsBareResponse, IsDelivered, IsNotedResponse}
 use Rattle.chan_run.specs.declared.failure.Failure.{Failure}
 use Rattle.chan_run.specs.declared.response.Response.{Response}
 use Rattle.chan_run.specs.declared.failure.Failure.TheVariants as failures
@@ -27,13 +27,15 @@ abbrev pub IsVerdictOrNone : Job → Option Verdict → Type 0
 IsVerdictOrNone k (Some v) = IsAnswer k v
 IsVerdictOrNone k None = HasMoreThan k k.limit
 
--- the line of a job's program says the verdict on its open job
+-- the line of a job's program says the verdict on its open job, and what the program looks like, of
+-- which tests hold the text
 pub record IsLineOn (j : Job) (line : List ℕ) : Type 0 where
   pub opened : Job
   pub is_open : IsOpenJob j opened
   pub verdict : Option Verdict
   pub judged : IsVerdictOrNone opened verdict
-  pub is : line ≡ program_line j.start verdict
+  pub shape : List ℕ
+  pub is : line ≡ program_line j.start verdict shape
 
 -- the line of the program that begins at an address in an image
 abbrev pub IsLineAt : ImageOptions → List ℕ → ℕ → List ℕ → Type 0
@@ -94,7 +96,7 @@ pub record IsSearched (o : ImageOptions) (old_in new_in old mid : Option (List �
   pub found : IsFoundAnswer o image old mid came
   pub note : List ℕ
   pub noted : IsFindNote o image came note
-  pub is : IsBareResponse came note r
+  pub is : IsNotedResponse came note r
 
 -- it wasn't read, and nothing was written
 abbrev pub IsUnsearched : ImageOptions → Option (List ℕ) → Option (List ℕ) → Option (List ℕ)

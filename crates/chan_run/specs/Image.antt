@@ -16,7 +16,7 @@ use Rattle.chan_needs.specs.Rows.{AreNeeds, Listed}
 use Rattle.chan_walk.specs.OpenJob.{IsOpenJob}
 use Rattle.chan_walk.specs.Verdict.{IsVerdict}
 use Rattle.chan_run.specs.Input.{GaveAll, GaveOut, GaveTooMuch}
-use Rattle.chan_run.specs.Output.{IsDeckJob}
+use Rattle.chan_run.specs.Output.{IsDeckJob, granting_just}
 use Rattle.chan_run.specs.declared.failure.Failure.{Failure}
 use Rattle.chan_run.specs.declared.failure.Failure.TheVariants as failures
 use Rattle.chan_run.specs.declared.outcome.Outcome.{Outcome}
@@ -56,19 +56,9 @@ pub record IsOfOpenJob (o : ImageOptions) (image : List ℕ) (Holds : Job → Ty
   pub is_open : IsOpenJob job opened
   pub holds : Holds opened
 
--- the extents that grant some runs of cylinders: a deck has one extent or more
-abbrev pub extents_for : List (ℕ × ℕ) → List (ℕ × ℕ)
-extents_for [] = (0, 202) ∷ []
-extents_for (run ∷ runs) = run ∷ runs
-
 -- the deck that the options and an image make, but for its job, which grants just what is needed
 abbrev pub least_deck : ImageOptions → List ℕ → Listed → Image
-least_deck o image n = record (deck_of o image) {
-  mask = n.mask;
-  extents = extents_for n.extents;
-  fetch = in_six_digits n.fetch;
-  store = in_six_digits n.store;
-}
+least_deck o image n = granting_just (deck_of o image) n
 
 -- so the deck is, and the verdict on its job is yes
 pub record IsLeastDeck (o : ImageOptions) (image : List ℕ) (d : Image) : Type 0 where

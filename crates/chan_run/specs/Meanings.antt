@@ -8,8 +8,8 @@ use Rattle.chan_run.specs.declared.outcome.Outcome.{Outcome}
 use Rattle.chan_run.specs.declared.outcome.Outcome.TheVariants.{Done, Failed, Unknown}
 use Rattle.chan_run.specs.declared.terms.Term.{Term}
 use Rattle.chan_run.specs.Find.{AreLines}
-use Rattle.chan_run.specs.OutputWords.{AreRowsListed, IsFirstRow, IsRowFor, OutputRow}
-use Rattle.chan_run.specs.OutputWords.{output_words, row_line}
+use Rattle.chan_run.specs.OutputWords.{AreRowsListed, IsFirstRow, IsRowFor, output_words}
+use Rattle.chan_run.specs.OutputWords.{row_line}
 use Rattle.chan_run.specs.Spelled.{IsSpelled}
 use Rattle.chan_run.specs.Terms.{IsWordOf, word_of_term}
 use Rattle.chan_run.specs.declared.terms.TheConstants as texts
@@ -19,7 +19,7 @@ abbrev pub IsInNoTable : List ℕ → Type 0
 IsInNoTable text =
     ((t : Term) → ¬ IsWordOf text t) × All (λ row. ¬ IsRowFor text row) output_words
 
--- the text is no word: it is in no table, and neither a command code nor a mask
+-- the text is no word: it is in no table, and is neither a command code nor a mask nor flags
 abbrev pub IsNoWord : List ℕ → Type 0
 IsNoWord text = IsInNoTable text × (¬ IsSpelled text)
 
@@ -56,11 +56,11 @@ AreWordsListed old new end =
     × AreRowsListed output_words mid new end)
 
 -- this is the meaning of a text: some meaning of its term, the line of its word of the output, or
--- some line on the code or the mask that it spells
+-- some line on the code, the mask or the flags that it spells
 abbrev pub IsMeaning : List ℕ → List ℕ → Type 0
 IsMeaning text meaning =
     ((t : Term) × IsWordOf text t)
-    ⊎ (((row : OutputRow) × IsFirstRow text output_words row × (meaning ≡ row_line row))
+    ⊎ (((row : List ℕ) × IsFirstRow text output_words row × (meaning ≡ row_line row))
     ⊎ IsSpelled text)
 
 -- the text's meaning was written, or where a write failed a prefix of it

@@ -7,6 +7,7 @@ use Rattle.chan_walk.specs.declared.job.Job.{Job}
 use Rattle.chan_walk.specs.declared.reason.Reason.TheVariants as reasons
 use Rattle.chan_walk.specs.declared.verdict.Verdict.{Verdict}
 use Rattle.chan_walk.specs.declared.verdict.Verdict.TheVariants.{No}
+use Rattle.chan_args.specs.declared.action.Explained.TheVariants as tells
 use Rattle.chan_run.specs.Image.{IsOfOpenJob}
 use Rattle.chan_run.specs.Name.{name_before}
 use Rattle.chan_run.specs.Output.{IsExplained}
@@ -26,11 +27,13 @@ cure_note k v =
     if is_of_ends k.start v && nat_lt (length (storage_of k)) (2 ^ 24)
     then storage_note (length (storage_of k)) else []
 
--- this explains the verdict on an open job, with the note on the size of storage
+-- this explains the verdict on an open job, with the note on the size of storage, and further
+-- notes, of which tests hold the texts
 abbrev pub IsExplainedOpenly : Job → List ℕ → Type 0
 IsExplainedOpenly k text =
-    (v : Verdict) × (explained : List ℕ) × IsExplained false k v explained
-    × (text ≡ explained ++ cure_note k v)
+    (v : Verdict) × (explained : List ℕ) × (notes : List ℕ)
+    × IsExplained tells.First k v explained
+    × (text ≡ explained ++ (cure_note k v ++ notes))
 
 -- what is said of an image that may have a name
 abbrev pub IsNoJobText : Option (List ℕ) → ImageOptions → List ℕ → List ℕ → Type 0

@@ -58,7 +58,14 @@ pub record IsCcwFault (digits : List ℕ) (r : Response) : Type 0 where
 abbrev pub IsCcwShown : List ℕ → Response → Type 0
 IsCcwShown digits r = IsCcwLine digits r ⊎ IsCcwFault digits r
 
--- the answer to a text as a person writes it
+-- the answer to a line that shows a CCW, with the name of its command or without
+abbrev pub IsCcwReread : List ℕ → Response → Type 0
+IsCcwReread text r =
+    (digits : List ℕ) × (is_named : Bool) × (text ++ 10 ∷ [] ≡ shown_line is_named digits)
+    × IsCcwLine digits r
+
+-- the answer to a text as a person writes it, or as `show` does
 abbrev pub IsCcwResponse : List ℕ → Response → Type 0
 IsCcwResponse text r =
-    IsBareResponse (Failed failures.OutOfMemory) [] r ⊎ IsCcwShown (plain_digits text) r
+    IsBareResponse (Failed failures.OutOfMemory) [] r
+    ⊎ (IsCcwShown (plain_digits text) r ⊎ IsCcwReread text r)

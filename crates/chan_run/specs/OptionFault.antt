@@ -21,6 +21,7 @@ usage_of options.Store = codes "--store <AREA>"
 usage_of options.At = codes "--at <ADDRESS>"
 usage_of options.Storage = codes "--storage <SIZE>"
 usage_of options.Open = codes "--open"
+usage_of options.Of = codes "--of <ADDRESS>"
 
 -- an option's text isn't accepted, and why, with what is said before and after that
 abbrev pub option_fault_text : ImageOption → List ℕ → List ℕ → List ℕ → List ℕ → List ℕ

@@ -1,12 +1,14 @@
 -- What an action asks for of a job and its verdict.
-use Rattle.std.specs.Prelude.{◌≡◌, ◌++◌, ℕ, Bool, true, false, List, [], Option}
+use Rattle.std.specs.Prelude.{◌≡◌, ◌++◌, ◌∷◌, ◌==◌, ℕ, Bool, true, false, List, [], Option, None}
+use Rattle.std.specs.Prelude.{Some, if◌then◌else◌}
 use Rattle.std.specs.List.{AllZip}
 use Rattle.std.specs.Io.KnownBytes.{Appends}
 use Rattle.chan_deck.specs.Image.{Image, Spells, limit_of}
-use Rattle.chan_deck.specs.Explanation.{explanation}
+use Rattle.chan_deck.specs.Explanation.{IsExplanationText, IsOffenceText}
 use Rattle.chan_deck.specs.Graph.{IsPictureOf}
 use Rattle.chan_deck.specs.Listing.{listing}
-use Rattle.chan_deck.specs.Needs.{needs_text}
+use Rattle.chan_deck.specs.Needs.{in_six_digits, needs_text}
+use Rattle.chan_deck.specs.Parts.{storage_with, version_with}
 use Rattle.chan_deck.specs.Texts.{verdict_line}
 use Rattle.chan_walk.specs.declared.evidence.Evidence.{Evidence}
 use Rattle.chan_walk.specs.declared.job.Job.{Job}
@@ -15,15 +17,18 @@ use Rattle.chan_walk.specs.declared.place.Place.{Place}
 use Rattle.chan_walk.specs.declared.verdict.Verdict.{Verdict}
 use Rattle.chan_walk.specs.declared.verdict.Verdict.TheVariants.{Yes, No}
 use Rattle.chan_why.specs.declared.witness.Witness.{Witness}
-use Rattle.chan_why.specs.Witness.{IsCauseOf, IsEvidenceOf, IsPathOf, IsSecondPathOf}
-use Rattle.chan_why.specs.Witness.{IsStoredOver, IsWitness}
+use Rattle.chan_why.specs.Witness.{IsCauseOf, IsWitnessOf, offence_at}
+use Rattle.chan_walk.specs.Limit.{usual_limit}
 use Rattle.chan_walk.specs.Places.{AreReachable}
+use Rattle.chan_walk.specs.Verdict.{IsVerdict}
 use Rattle.chan_walk.specs.Job.{extents_of, fetch_of, storage_of, store_of}
 use Rattle.chan_walk.specs.OpenJob.{AreOfOneProgram, IsOpenJob}
 use Rattle.chan_walk.specs.Offence.{AreOffences, first_verdict}
 use Rattle.chan_needs.specs.Rows.{AreNeeds, Listed}
 use Rattle.chan_args.specs.declared.action.Action.{Action}
 use Rattle.chan_args.specs.declared.action.Action.TheVariants as actions
+use Rattle.chan_args.specs.declared.action.Explained.{Explained}
+use Rattle.chan_args.specs.declared.action.Explained.TheVariants as tells
 use Rattle.chan_run.specs.Name.{heading_of, name_before, name_of}
 use Rattle.chan_run.specs.declared.name.Naming.{Naming}
 
@@ -46,52 +51,98 @@ pub record IsOfJob (t : List ℕ) (Holds : Job → Type 0) : Type 0 where
   pub of_deck : IsDeckJob deck job
   pub holds : Holds job
 
--- this explains the verdict on the job: all offences, of which the first is the verdict, the path
--- to it, which is that of a run that shows it, the values of its cause, and the path to what is
--- changed
-pub record IsExplanation (j : Job) (v : Verdict) (os : List Offence) (w : Witness) : Type 0 where
-  pub offences : AreOffences j os
-  pub verdict : v ≡ first_verdict os
-  pub path : IsPathOf j v w.path.items
-  pub shown : IsWitness j v w.path.items
-  pub evidence : IsEvidenceOf j v w.path.items w.evidence
-  pub stored : IsStoredOver j v w.path.items w.stored_over
-  pub second : IsSecondPathOf j w.evidence w.second_path.items
-
 -- the causes that are told: those of all offences, or none
-abbrev pub AreTold : Bool → Job → List Offence → List Evidence → Type 0
-AreTold true j os es = AllZip (IsCauseOf j) os es
-AreTold false j os es = es ≡ []
+abbrev pub AreTold : Explained → Job → List Offence → List Evidence → Type 0
+AreTold tells.All j os es = AllZip (IsCauseOf j) os es
+AreTold told j os es = es ≡ []
 
--- this is the explanation of the verdict on the job, with all causes or without
-abbrev pub IsExplained : Bool → Job → Verdict → List ℕ → Type 0
-IsExplained all j v text =
-    (os : List Offence) × (es : List Evidence) × (w : Witness) × IsExplanation j v os w
-    × AreTold all j os es × (text ≡ explanation (storage_of j) os es w)
+-- the offence that is asked about, if one is at the address
+abbrev pub offence_asked : List Offence → Explained → Option Offence
+offence_asked os (tells.At a) = offence_at a os
+offence_asked os told = None
+
+-- these offences are explained: the first of them, beside the others, or the one that is asked
+-- about
+abbrev pub IsExplanation : Explained → Job → List Offence → Option Offence → List ℕ → Type 0
+IsExplanation told j os None text =
+    (es : List Evidence) × (w : Witness) × IsWitnessOf j (first_verdict os) w
+    × AreTold told j os es × IsExplanationText j os es w text
+IsExplanation told j os (Some o) text =
+    (w : Witness) × IsWitnessOf j (No o.place.address o.reason) w
+    × IsOffenceText j (first_verdict os) w text
+
+-- this is the explanation of the verdict on the job
+abbrev pub IsExplained : Explained → Job → Verdict → List ℕ → Type 0
+IsExplained told j v text =
+    (os : List Offence) × AreOffences j os × (v ≡ first_verdict os)
+    × IsExplanation told j os (offence_asked os told) text
+
+-- a deck, but for its job, which grants just what is needed; it has one extent or more
+abbrev pub extents_for : List (ℕ × ℕ) → List (ℕ × ℕ)
+extents_for [] = (0, 202) ∷ []
+extents_for (run ∷ runs) = run ∷ runs
+
+abbrev pub granting_just : Image → Listed → Image
+granting_just d n = record d {
+  mask = n.mask;
+  extents = extents_for n.extents;
+  fetch = in_six_digits n.fetch;
+  store = in_six_digits n.store;
+}
+
+-- a limit that isn't the usual one, which a deck has to say
+abbrev pub unusual : ℕ → Option ℕ
+unusual limit = if limit == usual_limit then None else Some limit
+
+-- the deck of the job, with zeros behind its storage up to a multiple of 8
+abbrev pub deck_of_job : Job → Image
+deck_of_job j =
+    record {
+      version = version_with (unusual j.limit);
+      device = j.device;
+      mask = j.mask;
+      start = j.start;
+      extents = extents_of j;
+      fetch = [];
+      store = [];
+      storage = storage_with 0 (storage_of j);
+    }
+
+-- the text spells the deck of the job's program with its least job, under which the verdict is yes
+pub record IsLeastText (j : Job) (text : List ℕ) : Type 0 where
+  pub needed : Listed
+  pub needs : (k : Job) → AreOfOneProgram k j → AreNeeds k needed
+  pub spelled : Spells text (granting_just (deck_of_job j) needed)
+  pub yes : storage_with 0 (storage_of j) ≡ storage_of j → (k : Job)
+      → IsDeckJob (granting_just (deck_of_job j) needed) k → IsVerdict k Yes
 
 -- this says what the job's program needs, whichever job of it is asked, and what it keeps
 abbrev pub IsNeedsText : Job → List ℕ → Type 0
 IsNeedsText j text =
     (n : Listed) × ((k : Job) → AreOfOneProgram k j → AreNeeds k n) × (text ≡ needs_text n)
 
--- what the job's program needs or, where the verdict is no, the explanation
-abbrev pub IsNeeded : Job → Verdict → List ℕ → Type 0
-IsNeeded j Yes text = IsNeedsText j text
-IsNeeded j (No a r) text = IsExplained false j (No a r) text
+-- what the job's program needs, or its deck with the least job; or where the verdict is no, the
+-- explanation
+abbrev pub IsNeeded : Bool → Job → Verdict → List ℕ → Type 0
+IsNeeded false j Yes text = IsNeedsText j text
+IsNeeded true j Yes text = IsLeastText j text
+IsNeeded deck j (No a r) text = IsExplained tells.First j (No a r) text
 
 -- what an action asks for of a job and its verdict: the verdict's line, the listing of the
--- reachable places, the explanation, a picture, or what is needed; before a verdict and its
--- explanation stands the name of the input, where it has one, and over a listing and over what is
--- needed that of one of several inputs
+-- reachable places or a wide one, whose rows tests hold, the explanation, a picture, or what is
+-- needed; before a verdict and its explanation stands the name of the input, where it has one, and
+-- over a listing and over what is needed that of one of several inputs
 abbrev pub IsAskedText : Naming → Action → Job → Verdict → List ℕ → Type 0
 IsAskedText n actions.Verify j v text = text ≡ name_before (name_of n) true ++ verdict_line v
-IsAskedText n actions.List j v text =
+IsAskedText n (actions.List false) j v text =
     (ps : List Place) × AreReachable j ps × (text ≡ heading_of n ++ listing (storage_of j) ps v)
-IsAskedText n (actions.Why all) j v text =
-    (why : List ℕ) × IsExplained all j v why × (text ≡ name_before (name_of n) true ++ why)
+IsAskedText n (actions.List true) j v text =
+    (rows : List ℕ) × (text ≡ heading_of n ++ (rows ++ verdict_line v))
+IsAskedText n (actions.Why told) j v text =
+    (why : List ℕ) × IsExplained told j v why × (text ≡ name_before (name_of n) true ++ why)
 IsAskedText n actions.Graph j v text = IsPictureOf (name_of n) v text
-IsAskedText n actions.Needs j v text =
-    (needed : List ℕ) × IsNeeded j v needed × (text ≡ heading_of n ++ needed)
+IsAskedText n (actions.Needs deck) j v text =
+    (needed : List ℕ) × IsNeeded deck j v needed × (text ≡ heading_of n ++ needed)
 
 -- nothing was written, where the writer tells what it holds
 abbrev pub IsUnwritten : Option (List ℕ) → Option (List ℕ) → Type 0
@@ -100,5 +151,5 @@ IsUnwritten old new = Appends old new []
 -- the job that an action judges: for what is needed the open job of the program, else the job
 -- itself
 abbrev pub Judges : Action → Job → Job → Type 0
-Judges actions.Needs j k = IsOpenJob j k
+Judges (actions.Needs deck) j k = IsOpenJob j k
 Judges a j k = k ≡ j

@@ -14,7 +14,7 @@ use Rattle.chan_walk.specs.Places.{HasMoreThan}
 use Rattle.chan_walk.specs.declared.job.Job.{Job}
 use Rattle.chan_walk.specs.declared.verdict.Verdict.{Verdict}
 use Rattle.chan_walk.specs.declared.verdict.Verdict.TheVariants.{Yes, No}
-use Rattle.chan_run.specs.Advice.{IsVerdictAdvice, is_hinted}
+use Rattle.chan_run.specs.Advice.{IsVerdictAdvice, is_advised, is_hinted}
 use Rattle.chan_run.specs.Input.{IsInput, IsReadFault}
 use Rattle.chan_run.specs.Name.{front_of, fronted, name_of}
 use Rattle.chan_run.specs.Outcome.{IsDone, line_over}
@@ -48,18 +48,26 @@ pub record IsBareResponse (end : Outcome) (remark : List ℕ) (r : Response) : T
   pub advice : advice_in r.advice ≡ Some []
   pub note : r.note.now ≡ remark
 
+-- the same, but for notes, of which tests hold the texts
+pub record IsNotedResponse (end : Outcome) (remark : List ℕ) (r : Response) : Type 0 where
+  pub outcome : r.outcome ≡ end
+  pub output : r.output.items ≡ []
+  pub note : r.note.now ≡ remark
+
 -- the outcome of an answer with this verdict
 abbrev pub outcome_of : Verdict → Outcome
 outcome_of Yes = Done
 outcome_of (No address reason) = Denied
 
--- the job was judged: the output is what the action asks for, with advice if it is explained
+-- the job was judged: the output is what the action asks for, with advice if it is explained or
+-- its needs are listed
 pub record IsVerdictResponse (n : Naming) (a : Action) (j : Job) (r : Response) : Type 0 where
   pub verdict : Verdict
   pub is : IsAnswer j verdict
   pub outcome : r.outcome ≡ outcome_of verdict
   pub output : IsAskedText n a j verdict r.output.items
-  pub advice : IsWantedAdvice n (is_why a) (IsVerdictAdvice j verdict) (advice_in r.advice)
+  pub advice :
+      IsWantedAdvice n (is_advised a) (IsVerdictAdvice a j verdict) (advice_in r.advice)
   pub note : r.note.now ≡ []
 
 -- too many places are reachable

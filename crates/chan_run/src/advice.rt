@@ -6,16 +6,25 @@ ghost use Rattle.chan_args.specs.Actions.{is_why};
 ghost use Rattle.chan_walk.specs.JobSurvey.{IsSurvey};
 ghost use Rattle.chan_walk.specs.Offence.{first_verdict};
 ghost use Rattle.chan_walk.specs.declared.verdict.Verdict.TheVariants.{No};
-ghost use Rattle.chan_run.specs.Advice.{AreNotesSaid, IsExchangeSaid, IsVerdictAdvice, is_hinted};
+ghost use Rattle.chan_run.specs.Advice.{AreNotesSaid, IsAbsentNote, IsExchangeNote, IsExchangeSaid};
+ghost use Rattle.chan_run.specs.Advice.{IsSaidOf, IsVerdictAdvice, IsWhyAdvice, is_advised};
+ghost use Rattle.chan_run.specs.Advice.{is_chained_over, is_hinted};
+ghost use Rattle.chan_run.specs.Advice.{no_job_note};
 ghost use Rattle.chan_run.specs.Name.{front_of, fronted};
 ghost use Rattle.chan_run.specs.Response.{IsWantedAdvice, advice_in};
 
+use crate::explained_offence::offence_told;
+use crate::help::{help_text, unseen_note};
 use crate::name::{Naming, named};
-use chan_args::Action;
+use chan_args::{Action, Explained};
 use chan_deck::{Cause, exchange_note, hint_text, notes_text};
-use chan_walk::{Job, Limit, Reason, Survey, Verdict};
-use chan_why::{hang_from, notes_from, seems_exchanged};
+use chan_walk::{Entry, Job, Limit, Offence, Reason, Survey, Verdict};
+use chan_why::{hang_from, notes_from, offence_at, seems_exchanged};
 use std::alloc::{AllocError, Global};
+
+/// What is said beside the needs of a program if no job will do.
+const NO_JOB: &str = "note: no job will do: the no holds even if the job grants everything; \
+    chanv verify may name another CCW, because the deck's job grants less\n";
 
 /// The hint on a line that is refused, for `Why`, for `Graph` and for any input with a name.
 pub(crate) fn hint_beside(
@@ -40,7 +49,7 @@ pub(crate) fn hint_beside(
 fn is_hinted(action: Action) -> bool
     ensures { result ≡ is_hinted action }
 {
-    matches!(action, Action::Why { .. } | Action::Graph)
+    matches!(action, Action::Why(_) | Action::Graph)
 }
 
 /// For `Why`, what the limit on places is, and how it may be raised.
@@ -60,7 +69,7 @@ pub(crate) fn limit_beside(
     fronted(alloc, naming, text.as_slice()).ok()
 }
 
-/// For `Why`, the advice on a job that was surveyed.
+/// For `Why` and `Needs`, the advice on a job that was surveyed.
 pub(crate) fn notes_beside(
     alloc: Global,
     naming: Naming<'_>,
@@ -69,14 +78,29 @@ pub(crate) fn notes_beside(
     survey: &Survey,
 ) -> Option<Vec<u8>>
     requires { IsSurvey job.now survey.now }
-    ensures { IsWantedAdvice naming.entry (is_why action)
-        (IsVerdictAdvice job.now (first_verdict survey.now.offences)) (advice_in result) }
+    ensures { IsWantedAdvice naming.entry (is_advised action)
+        (IsVerdictAdvice action job.now (first_verdict survey.now.offences)) (advice_in result) }
 {
-    if !action.is_why() {
-        return Some(Vec::new(alloc));
-    }
-    let text = advice_on(alloc, job, survey).ok()?;
+    let text = match action {
+        Action::Why(explained) => {
+            why_advice(alloc, naming.name.is_some(), explained, job, survey).ok()?
+        }
+        Action::Needs { .. } => needs_advice(alloc, survey.verdict()).ok()?,
+        _ => return Some(Vec::new(alloc)),
+    };
     fronted(alloc, naming, text.as_slice()).ok()
+}
+
+/// The advice on what a program needs that was surveyed under its open job: a note if the verdict
+/// is no.
+fn needs_advice(alloc: Global, verdict: Verdict) -> Result<Vec<u8>, AllocError>
+    ensures { IfOk result (λ text. text.items ≡ no_job_note verdict) }
+{
+    let mut text = Vec::new(alloc);
+    if let Verdict::No { .. } = verdict {
+        text.extend_from_slice(NO_JOB.as_bytes())?;
+    }
+    Ok(text)
 }
 
 /// A text with the name of one of several inputs before each line.
@@ -116,32 +140,124 @@ fn notes_on(alloc: Global, job: &Job, survey: &Survey) -> Result<Vec<u8>, AllocE
     Ok(notes_text(alloc, job.storage, &notes, hang)?.into_bytes())
 }
 
-/// The notes on a yes; on a no, the note that the areas seem exchanged, if they do.
-fn advice_on(alloc: Global, job: &Job, survey: &Survey) -> Result<Vec<u8>, AllocError>
+/// What is said of a verdict that is explained. Before it stands that no offence is at the address
+/// that is asked about, if that is so.
+fn why_advice(
+    alloc: Global,
+    named: bool,
+    explained: Explained,
+    job: &Job,
+    survey: &Survey,
+) -> Result<Vec<u8>, AllocError>
     requires { IsSurvey job.now survey.now }
-    ensures { IfOk result (λ text. IsVerdictAdvice job.now (first_verdict survey.now.offences)
+    ensures { IfOk result (λ text. IsWhyAdvice explained job.now
+        (first_verdict survey.now.offences) text.items) }
+{
+    let mut text = absent_note(alloc, explained, survey)?;
+    let said = said_of(alloc, named, explained, job, survey)?;
+    text.extend_from_slice(said.as_slice())?;
+    Ok(text)
+}
+
+/// The notes on a yes; on a no, the note that the areas seem exchanged, if they do, and how to cure
+/// it.
+pub(crate) fn said_of(
+    alloc: Global,
+    named: bool,
+    explained: Explained,
+    job: &Job,
+    survey: &Survey,
+) -> Result<Vec<u8>, AllocError>
+    requires { IsSurvey job.now survey.now }
+    ensures { IfOk result (λ text. IsSaidOf job.now (first_verdict survey.now.offences)
         text.items) }
 {
     match survey.verdict() {
         Verdict::Yes => notes_on(alloc, job, survey),
-        Verdict::No { address, reason } => exchange_on(alloc, job, address, reason),
+        Verdict::No { address, reason } => {
+            let mut said = exchange_on(alloc, job, survey.offences(), address, reason)?;
+            let cure = cure_of(alloc, named, explained, job, survey)?;
+            said.extend_from_slice(cure.as_slice())?;
+            Ok(said)
+        }
     }
 }
 
-/// The note on a no with this address and this reason that the areas seem exchanged, if they do.
+/// The note that no offence is at the address that is asked about, if that is so. Tests hold it.
+fn absent_note(alloc: Global, explained: Explained, survey: &Survey) -> Result<Vec<u8>, AllocError>
+    ensures { IfOk result (λ note. IsAbsentNote explained survey.now.offences note.items) }
+{
+    match explained {
+        Explained::At(address) if offence_at(survey, address).is_none() => {
+            Ok(format!(in alloc; "note: no offence at {address:06X}\n")?.into_bytes())
+        }
+        _ => Ok(Vec::new(alloc)),
+    }
+}
+
+/// How to cure a no: which CCWs weren't looked at, and, for a named input, the lines of help.
+fn cure_of(
+    alloc: Global,
+    named: bool,
+    explained: Explained,
+    job: &Job,
+    survey: &Survey,
+) -> Result<Vec<u8>, AllocError>
+    requires { IsSurvey job.now survey.now }
+{
+    let mut text = String::from_str(alloc, unseen_note(survey))?;
+    match offence_told(survey, explained) {
+        Some(offence) if named => {
+            let help = help_text(alloc, job, survey, offence)?;
+            text.push_str(help.as_str())?;
+        }
+        _ => {}
+    }
+    Ok(text.into_bytes())
+}
+
+/// The note on a no with this address and this reason that the areas seem exchanged, if they do,
+/// unless the first of the offences is at a place that a data chain enters by a transfer.
 fn exchange_on(
+    alloc: Global,
+    job: &Job,
+    offences: &[Offence],
+    address: u32,
+    reason: Reason,
+) -> Result<Vec<u8>, AllocError>
+    ensures { IfOk result (λ text.
+        IsExchangeSaid job.now offences.now (No address reason) text.items) }
+{
+    if is_chained_over(offences) {
+        return Ok(Vec::new(alloc));
+    }
+    exchange_text(alloc, job, address, reason)
+}
+
+/// That note on a no.
+fn exchange_text(
     alloc: Global,
     job: &Job,
     address: u32,
     reason: Reason,
 ) -> Result<Vec<u8>, AllocError>
-    ensures { IfOk result (λ text. IsExchangeSaid job.now (No address reason) text.items) }
+    ensures { IfOk result (λ text. IsExchangeNote job.now (No address reason) text.items) }
 {
     let mut text = Vec::new(alloc);
     if seems_exchanged(alloc, job, Verdict::No { address, reason })? {
         text.extend_from_slice(exchange_note(reason).as_bytes())?;
     }
     Ok(text)
+}
+
+/// Whether the first of some offences is at a place that a data chain enters by a transfer.
+fn is_chained_over(offences: &[Offence]) -> bool
+    ensures { result ≡ is_chained_over offences.now }
+{
+    match offences {
+        [first, ..] => first.place.entered != Entry::Fresh && first.place.after_transfer,
+        [] => false,
+    }
 }
 
 /// What the limit on places is, and how it may be raised.
@@ -152,7 +268,7 @@ fn limit_text(alloc: Global, limit: Limit) -> Result<Vec<u8>, AllocError>
     let how = if places == 65_536 {
         ", and none is higher"
     } else {
-        "; a deck of version 2 may raise it to 65536 by its line limit"
+        "; the line limit of a deck of version 2, or --limit of chanv deck, may raise it to 65536"
     };
     Ok(format!(in alloc; "the limit is {places}{how}\n")?.into_bytes())
 }

@@ -1,7 +1,8 @@
 //! Answering an input: what the program does with each.
 
-ghost use Rattle.std.specs.Prelude.{◌≡◌, ◌↔◌, ◌+◌, ◌≤◌, ◌^◌, false, length, true};
+ghost use Rattle.std.specs.Prelude.{◌≡◌, ◌↔◌, ◌+◌, ◌≤◌, ◌^◌, IfOk, Some, false, length, true};
 ghost use Rattle.chan_run.specs.Answers.{IsImageAnswered, IsImageInputResponse, IsImageResponse};
+ghost use Rattle.chan_run.specs.Answers.{IsWhyNoJob};
 ghost use Rattle.chan_run.specs.Name.{name_in};
 ghost use Rattle.chan_run.specs.Outcome.{IsDone, IsImageEnd, IsWriteFailure};
 ghost use Rattle.chan_run.specs.Response.{IsAnswered};
@@ -9,6 +10,7 @@ ghost use Rattle.chan_run.specs.Texts.{WriterGot};
 ghost use Rattle.chan_run.specs.declared.failure.Failure.TheVariants as failures;
 ghost use Rattle.chan_run.specs.declared.outcome.Outcome.TheVariants.{Failed};
 
+use crate::beginning::image_notes;
 use crate::delivery::deliver;
 use crate::failure::Failure;
 use crate::image::{deck_text, read_image};
@@ -22,7 +24,8 @@ use crate::status::respond_to_input;
 use crate::texts::write_bytes;
 use ccw_core::Watched;
 use chan_args::Action;
-use std::alloc::Global;
+use chan_walk::WalkError;
+use std::alloc::{AllocError, Global};
 use std::io::{Read, Write};
 
 /// Answers an input that is named so, and says what came of it.
@@ -120,17 +123,67 @@ fn respond_to_image_input<R: Read>(
     ensures unwritten { IsWriteFailure result.outcome → ⊥ }
 {
     match read_image(alloc, options, from) {
-        Ok(image) => respond_to_image(alloc, name, options, image.as_slice()),
-        Err(failure) => Response::bare(alloc, Outcome::Failed(failure), ""),
+        Ok(image) => respond_to_image(alloc, name, options, image.bytes.as_slice(), image.given),
+        Err(failure) => Response {
+            outcome: Outcome::Failed(failure),
+            output: Vec::new(alloc),
+            advice: room_note(alloc, options, failure).ok(),
+            note: "",
+        },
     }
 }
 
-/// The answer to an image.
+/// For an image that ends past storage, the note on how much room there is. Tests hold it.
+fn room_note(
+    alloc: Global,
+    options: &ImageOptions,
+    failure: Failure,
+) -> Result<Vec<u8>, AllocError> {
+    let (at, Some(size)) = (options.at, options.size) else {
+        return Ok(Vec::new(alloc));
+    };
+    if failure != Failure::ImagePastStorage {
+        return Ok(Vec::new(alloc));
+    }
+    if at > size {
+        let text = format!(in alloc;
+            "note: the image begins at {at:06X}, past storage of {size:07X} bytes\n"
+        )?;
+        return Ok(text.into_bytes());
+    }
+    let room = size - at;
+    Ok(format!(in alloc;
+        "note: the image begins at {at:06X} and has more than {room:X} bytes, but storage has \
+         {size:07X}\n"
+    )?
+    .into_bytes())
+}
+
+/// Why no job will do for the program of an image, and the notes on the image.
+fn why_no_job(
+    alloc: Global,
+    name: Option<&str>,
+    options: &ImageOptions,
+    image: &[u8],
+    given: usize,
+) -> Result<Vec<u8>, WalkError>
+    requires { options.now.at + length image.now ≤ 2 ^ 24 }
+    ensures { IfOk result (λ why.
+        IsWhyNoJob (name_in name.entry) options.now image.now (Some why.items)) }
+{
+    let mut why = no_job_text(alloc, name, options, image, given)?.into_bytes();
+    let notes = image_notes(alloc, options.at, image)?;
+    why.extend_from_slice(notes.as_slice())?;
+    Ok(why)
+}
+
+/// The answer to an image, of which so many bytes were read and zeros follow them.
 fn respond_to_image(
     alloc: Global,
     name: Option<&str>,
     options: &ImageOptions,
     image: &[u8],
+    given: usize,
 ) -> Response
     requires { options.now.at + length image.now ≤ 2 ^ 24 }
     ensures answer { IsImageResponse (name_in name.entry) options.now image.now result }
@@ -141,16 +194,16 @@ fn respond_to_image(
         Ok(output) => Response {
             outcome: Outcome::Done,
             output,
-            advice: Some(Vec::new(alloc)),
+            advice: image_notes(alloc, options.at, image).ok(),
             note,
         },
         Err(Outcome::NoJob { address, reason }) => {
             // The same job was walked before, so this fails only for want of memory.
-            match no_job_text(alloc, name, options, image) {
+            match why_no_job(alloc, name, options, image, given) {
                 Ok(why) => Response {
                     outcome: Outcome::NoJob { address, reason },
                     output: Vec::new(alloc),
-                    advice: Some(why.into_bytes()),
+                    advice: Some(why),
                     note,
                 },
                 Err(_) => Response::bare(alloc, Outcome::Failed(Failure::OutOfMemory), note),

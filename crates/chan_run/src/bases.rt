@@ -40,7 +40,11 @@ fn is_hexadecimal(option: ImageOption) -> bool
 {
     matches!(
         option,
-        ImageOption::Mask | ImageOption::Start | ImageOption::At | ImageOption::Storage
+        ImageOption::Mask
+            | ImageOption::Start
+            | ImageOption::At
+            | ImageOption::Storage
+            | ImageOption::Of
     )
 }
 
@@ -66,7 +70,7 @@ fn is_accepted(option: ImageOption, number: u32) -> bool
 {
     match option {
         ImageOption::Mask => number < 0x100 && FileMask::new(number as u8).is_some(),
-        ImageOption::Start | ImageOption::At => number < PAST_ADDRESSES,
+        ImageOption::Start | ImageOption::At | ImageOption::Of => number < PAST_ADDRESSES,
         ImageOption::Storage => number <= PAST_ADDRESSES && number % 8 == 0,
         _ => false,
     }

@@ -11,6 +11,7 @@ ghost use Rattle.chan_run.specs.Outcome.{IsDone, IsWriteFailure};
 ghost use Rattle.chan_run.specs.declared.failure.Failure.TheVariants as failures;
 ghost use Rattle.chan_run.specs.declared.outcome.Outcome.TheVariants.{Failed};
 
+use crate::beginning::image_notes;
 use crate::delivery::deliver;
 use crate::failure::Failure;
 use crate::image::read_image;
@@ -19,6 +20,7 @@ use crate::image_options::ImageOptions;
 use crate::least_job::job_at;
 use crate::outcome::Outcome;
 use crate::response::Response;
+use crate::shape::shape_of;
 use ccw_core::{Storage, Watched, write_out};
 use chan_deck::{place_image, program_text};
 use chan_find::program_starts;
@@ -27,15 +29,17 @@ use std::alloc::{AllocError, Global};
 use std::io::{Read, Write};
 
 /// Reads an image of storage to the end of the input, and writes a line for each program in it, in
-/// order: the start in six digits, and the verdict on the program's open job, or `too many places`.
+/// order: the start in six digits, and the verdict on the program's open job with how many CCWs the
+/// program has and the names of its first commands, or `too many places`.
 ///
 /// Of the options it uses the device, the limit, and the address and size for the image. Each line
 /// is written with one write, as soon as its verdict is known, and at the end the output is
 /// flushed. After a failed write a prefix of the lines was written, and after a refused allocation
 /// the lines of some first programs. The errors of the input are those of `answer_image`.
 ///
-/// The second writer gets the outcome's line, as `report` writes it, and then a note if the image
-/// is a deck, or if all went well and it has no program.
+/// The second writer gets the outcome's line, as `report` writes it, the notes on an image that is
+/// text or seems to begin elsewhere, and then a note if the image is a deck, or if all went well
+/// and it has no program.
 pub fn find_programs<R: Read, W: Write, E: Write>(
     alloc: Global,
     name: Option<&str>,
@@ -76,10 +80,23 @@ fn search_image<R: Read, W: Write>(
 {
     match read_image(alloc, options, from) {
         Ok(image) => {
-            let (outcome, note) = write_programs(alloc, options, image.as_slice(), to);
-            Response::bare(alloc, outcome, note)
+            let (outcome, note) = write_programs(alloc, options, image.bytes.as_slice(), to);
+            Response {
+                outcome,
+                output: Vec::new(alloc),
+                advice: notes_on_image(alloc, outcome, options.at, image.bytes.as_slice()),
+                note,
+            }
         }
         Err(failure) => Response::bare(alloc, Outcome::Failed(failure), ""),
+    }
+}
+
+/// The notes on an image that was searched, unless memory ran out for the search.
+fn notes_on_image(alloc: Global, outcome: Outcome, at: u32, image: &[u8]) -> Option<Vec<u8>> {
+    match outcome {
+        Outcome::Failed(Failure::OutOfMemory) => Some(Vec::new(alloc)),
+        _ => image_notes(alloc, at, image).ok(),
     }
 }
 
@@ -136,8 +153,12 @@ fn program_line(
     };
     let open_job = open.job();
     match survey(alloc, &open_job) {
-        Ok(survey) => program_text(alloc, job.start, Some(survey.verdict())),
-        Err(WalkError::TooManyPlaces) => program_text(alloc, job.start, None),
+        Ok(survey) => {
+            let verdict = survey.verdict();
+            let shape = shape_of(alloc, survey)?;
+            program_text(alloc, job.start, Some(verdict), shape.as_str())
+        }
+        Err(WalkError::TooManyPlaces) => program_text(alloc, job.start, None, ""),
         Err(WalkError::Memory) => Err(AllocError),
     }
 }

@@ -7,6 +7,7 @@ ghost use Rattle.chan_run.specs.Image.{IsWholeImage, deck_of, filled};
 ghost use Rattle.chan_deck.specs.Image.{Spells};
 ghost use Rattle.chan_run.specs.declared.failure.Failure.TheVariants as failures;
 
+use crate::deck_parts::deck_parts;
 use crate::failure::Failure;
 use crate::image_options::ImageOptions;
 use crate::input::read_input;
@@ -16,9 +17,18 @@ use crate::options::PAST_ADDRESSES;
 use crate::outcome::Outcome;
 use ccw_core::Watched;
 use chan_args::AskedJob;
-use chan_deck::{Parts, parts_text};
+use chan_deck::parts_text;
 use std::alloc::{AllocError, Global};
 use std::io::Read;
+
+/// An image of storage that was read.
+#[derive(Drop)]
+pub(crate) struct WholeImage {
+    /// Its bytes, and the zeros that were asked for behind them.
+    pub(crate) bytes: Vec<u8>,
+    /// How many bytes were read.
+    pub(crate) given: usize,
+}
 
 /// Reads an image of storage to the end of the input; zeros follow it if a size was asked for.
 ///
@@ -29,11 +39,11 @@ pub(crate) fn read_image<R: Read>(
     alloc: Global,
     options: &ImageOptions,
     from: &mut Watched<R>,
-) -> Result<Vec<u8>, Failure>
+) -> Result<WholeImage, Failure>
     requires reader { from.old.failed ≡ false }
     ensures ok { IfOk result (λ whole. IsWholeImage options.now
-        (R.remaining from.old.device) (R.remaining from.new.device) whole.items) }
-    ensures short { IfOk result (λ whole. options.now.at + length whole.items ≤ 2 ^ 24) }
+        (R.remaining from.old.device) (R.remaining from.new.device) whole.bytes.items) }
+    ensures short { IfOk result (λ whole. options.now.at + length whole.bytes.items ≤ 2 ^ 24) }
     ensures err { IfErr result (IsNoImage options.now
         (R.remaining from.old.device) (R.remaining from.new.device)) }
     ensures read { IsErrOf result failures.ReadFailed ↔ (from.new.failed ≡ true) }
@@ -46,8 +56,9 @@ pub(crate) fn read_image<R: Read>(
         Ok(None) => return Err(too_long(options)),
         Err(failure) => return Err(failure),
     };
+    let given = image.len();
     match filled(options, image, room) {
-        Ok(whole) => Ok(whole),
+        Ok(bytes) => Ok(WholeImage { bytes, given }),
         Err(AllocError) => Err(Failure::OutOfMemory),
     }
 }
@@ -110,16 +121,5 @@ fn named_text(alloc: Global, options: &ImageOptions, image: &[u8]) -> Result<Vec
     requires { options.now.at + length image.now ≤ 2 ^ 24 }
     ensures { IfOk result (λ text. Spells text.items (deck_of options.now image.now)) }
 {
-    let parts = Parts {
-        limit: options.limit,
-        device: options.device,
-        mask: options.mask,
-        start: options.start,
-        extents: &options.extents,
-        fetch: &options.fetch,
-        store: &options.store,
-        at: options.at,
-        image,
-    };
-    parts_text(alloc, &parts)
+    parts_text(alloc, &deck_parts(options, image))
 }

@@ -11,7 +11,7 @@ const IS_DECK: &str = "note: this is a deck; chanv verify judges it\n";
 
 /// The note on an image in which no program was found.
 const HAS_NO_PROGRAM: &str =
-    "note: no program found; if the image is only a part of storage, give --at and --storage\n";
+    "note: no program found; if the image is a part of storage, give --at and --storage\n";
 
 /// Whether an image begins as a deck does.
 fn is_deck(image: &[u8]) -> bool

@@ -1,6 +1,7 @@
 //! The deck of an image of storage with the least job of its program.
 
-ghost use Rattle.std.specs.Prelude.{◌≡◌, ◌+◌, ◌≤◌, ◌^◌, List, ℕ, length, IfErr, IfOk, OnOk};
+ghost use Rattle.std.specs.Prelude.{◌≡◌, ◌+◌, ◌≤◌, ◌^◌, List, ℕ, length, IfErr, IfOk, IfSome};
+ghost use Rattle.std.specs.Prelude.{OnOk};
 ghost use Rattle.std.specs.List.{AllByRecursion};
 ghost use Rattle.ckd_core.specs.Extents.{IsExtent};
 ghost use Rattle.chan_deck.specs.Parts.{storage_with};
@@ -10,9 +11,15 @@ ghost use Rattle.chan_needs.specs.Rows.{AreNeeds, listed};
 ghost use Rattle.chan_walk.specs.declared.job.Job.{Job};
 ghost use Rattle.chan_args.specs.declared.image_words.AskedJob.TheVariants as jobs;
 ghost use Rattle.chan_run.specs.Image.{HasNoNeeds, IsDeckText, IsNoDeck, IsProgramAt};
-ghost use Rattle.chan_run.specs.Image.{IsProgramIn, extents_for};
+ghost use Rattle.chan_run.specs.Image.{IsProgramIn};
+ghost use Rattle.chan_run.specs.Output.{IsLeastText, extents_for, granting_just, unusual};
+ghost use Rattle.chan_deck.specs.Image.{Spells};
+ghost use Rattle.chan_deck.specs.Item.{IsAddress};
+ghost use Rattle.chan_deck.specs.Parts.{image_of_parts};
+ghost use Rattle.chan_walk.specs.Job.{storage_of};
 ghost use Rattle.chan_run.specs.declared.image_options.ImageOptions.{ImageOptions};
 
+use crate::deck_parts::deck_parts;
 use crate::failure::Failure;
 use crate::image_options::ImageOptions;
 use crate::outcome::Outcome;
@@ -38,21 +45,79 @@ pub(crate) fn least_text(
         Ok(needs) => needs,
         Err(end) => return Err(end),
     };
+    Ok(granting_text(alloc, &needs, deck_parts(options, image))?)
+}
+
+/// The text of the deck that these parts make, but for its job, which grants just what a program
+/// needs.
+pub(crate) fn granting_text(
+    alloc: Global,
+    needs: &Needs,
+    parts: Parts<'_>,
+) -> Result<Vec<u8>, AllocError>
+    requires size { parts.at + length parts.image.now ≤ 2 ^ 24 }
+    requires start { IsAddress parts.start }
+    requires needs { (j : Job) × AreNeeds j (listed needs.now) × (length (storage_of j) ≤ 2 ^ 24) }
+    ensures { IfOk result (λ text.
+        Spells text.items (granting_just (image_of_parts parts.entry) (listed needs.now))) }
+{
     let extents = extents_over(alloc, &needs.extents)?;
     let fetch = in_six_digits(alloc, &needs.fetch)?;
     let store = in_six_digits(alloc, &needs.store)?;
-    let parts = Parts {
-        limit: options.limit,
-        device: options.device,
+    let granting = Parts {
         mask: needs.mask,
-        start: options.start,
         extents: &extents,
         fetch: &fetch,
         store: &store,
-        at: options.at,
+        ..parts
+    };
+    parts_text(alloc, &granting)
+}
+
+/// The text of the deck with the least job of a job's program, which needs this. The deck's storage
+/// has zeros behind the job's up to a multiple of 8.
+pub(crate) fn least_deck_text(
+    alloc: Global,
+    job: &Job,
+    needs: &Needs,
+) -> Result<Vec<u8>, AllocError>
+    requires { (k : Job) → AreOfOneProgram k job.now → AreNeeds k (listed needs.now) }
+    ensures { IfOk result (λ text. IsLeastText job.now text.items) }
+{
+    let Some(image) = whole(job.storage) else {
+        return Err(AllocError);
+    };
+    let parts = Parts {
+        limit: unusual(job.limit),
+        device: job.device,
+        mask: job.mask,
+        start: job.start,
+        extents: job.extents,
+        fetch: &[],
+        store: &[],
+        at: 0,
         image,
     };
-    Ok(parts_text(alloc, &parts)?)
+    granting_text(alloc, needs, parts)
+}
+
+/// All bytes of storage; never `None`.
+#[tactic(auto, using(crate::proofs::LeastLemmas::whole_range))]
+fn whole<'a>(storage: Storage<'a>) -> Option<&'a [u8]>
+    ensures { IfSome result (λ bytes. bytes.now ≡ bytes_held storage.entry) }
+{
+    storage.range(0, storage.len())
+}
+
+/// A limit that isn't the usual one, which a deck has to say.
+fn unusual(limit: Limit) -> Option<Limit>
+    ensures { result ≡ unusual limit }
+{
+    if limit.get() == Limit::usual().get() {
+        None
+    } else {
+        Some(limit)
+    }
 }
 
 /// What the program needs that the options find in an image.

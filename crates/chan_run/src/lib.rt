@@ -20,10 +20,14 @@
 mod advice;
 mod answers;
 mod bases;
+mod beginning;
+mod deck_parts;
 mod delivery;
+mod explained_offence;
 mod extra_word;
 mod failure;
 mod find;
+mod help;
 mod image;
 mod image_note;
 mod image_options;
@@ -43,6 +47,7 @@ mod outcome;
 mod output;
 mod output_words;
 mod response;
+mod shape;
 mod spelled;
 mod status;
 mod terms;
@@ -59,9 +64,9 @@ pub use crate::name::Naming;
 pub use crate::named_ccw::respond_to_ccw;
 pub use crate::one_ccw::{ShowError, show};
 pub use crate::option_fault::{
-    report_file, report_grants, report_no_ccw, report_option, report_usage,
+    report_all_beside_of, report_file, report_grants, report_no_ccw, report_option, report_usage,
 };
-pub use crate::option_values::options_of;
+pub use crate::option_values::{asked_address, options_of};
 pub use crate::outcome::{Outcome, ends_run, exit_status, greater_status, report};
 pub use crate::response::{Response, respond};
 pub use crate::status::{RunError, Status, run};

@@ -214,11 +214,11 @@ As the cause of a refused deck: the number is 0 or above 65,536. Write 00001 to
 
 /// Writes the meaning of a word, and how to fix what it names.
 ///
-/// The word may be in upper or lower case. It may also be a command code, as `07`, or a file mask,
-/// as `mask 98`. If it isn't one, the outcome is `Unknown` with the
-/// nearest word, or `NoSuchWord` if none is near; `OutOfMemory` may come in their place.
-/// `WriteFailed` comes exactly if a write failed, and then a prefix was written. Only `Done` and
-/// `WriteFailed` write anything.
+/// The word may be in upper or lower case. It may also be a command code, as `07`, a file mask, as
+/// `mask 98`, or the flags of a listing, as `-CL--0`. If chanv doesn't know the word, the outcome
+/// is `Unknown` with the nearest word, or `NoSuchWord` if none is near; `OutOfMemory` may come in
+/// their place. `WriteFailed` comes exactly if a write failed, and then a prefix was written. Only
+/// `Done` and `WriteFailed` write anything.
 pub fn explain_word<W: Write>(alloc: Global, word: &str, to: &mut Watched<W>) -> Outcome
     requires { to.old.failed ≡ false }
     ensures answer { IsWordAnswer word.now (W.contents to.old.device) (W.contents to.new.device)
@@ -235,7 +235,7 @@ pub fn explain_word<W: Write>(alloc: Global, word: &str, to: &mut Watched<W>) ->
     }
 }
 
-/// Writes the line on a text in no table, if it is a command code or a file mask.
+/// Writes the line on a text in no table, if it is a command code, a file mask or flags.
 #[tactic(auto, using(crate::proofs::WordAnswers::spelled_answer))]
 fn explain_spelled<W: Write>(alloc: Global, word: &str, to: &mut Watched<W>) -> Outcome
     requires writer { to.old.failed ≡ false }
@@ -252,7 +252,7 @@ fn explain_spelled<W: Write>(alloc: Global, word: &str, to: &mut Watched<W>) -> 
     }
 }
 
-/// The outcome for a text that is no word.
+/// The outcome for an unknown word.
 fn unknown(alloc: Global, word: &str) -> Outcome
     requires { IsNoWord word.now }
     ensures is { IsUnknown word.now result }

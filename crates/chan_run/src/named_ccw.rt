@@ -1,7 +1,9 @@
 //! Showing one CCW with the name of its command, from a text as a person writes it.
 
-ghost use Rattle.std.specs.Prelude.{◌≡◌, ◌≢◌, ◌↔◌, [], false, true, string_bytes, IfOk};
-ghost use Rattle.chan_run.specs.OneCcw.{IsCcwShown, IsCcwResponse, plain_digits, without_blanks};
+ghost use Rattle.std.specs.Prelude.{◌≡◌, ◌≢◌, ◌↔◌, ◌⊎◌, ◌++◌, ◌∷◌, [], false, true, IfOk};
+ghost use Rattle.std.specs.Prelude.{string_bytes};
+ghost use Rattle.chan_run.specs.OneCcw.{IsCcwReread, IsCcwResponse, IsCcwShown, plain_digits};
+ghost use Rattle.chan_run.specs.OneCcw.{SpellsCcw, shown_line, without_blanks};
 ghost use Rattle.chan_run.specs.Options.{digits_in};
 ghost use Rattle.chan_run.specs.Outcome.{IsWriteFailure};
 ghost use Rattle.std.specs.Prelude.{◌≤◌, ◌||◌, None, IsTrue, codes, length, nat_eq};
@@ -11,6 +13,7 @@ use crate::failure::Failure;
 use crate::one_ccw::{ShowError, shown_line};
 use crate::outcome::Outcome;
 use crate::response::Response;
+use hex::encode_upper;
 use std::alloc::{AllocError, Global};
 
 /// A text without its blanks.
@@ -61,25 +64,74 @@ fn fault_of(alloc: Global, digits: &[u8]) -> Result<String, AllocError>
 
 /// The answer to a text that spells a CCW: the line that shows it with the name of its command. The
 /// text is sixteen hexadecimal digits of either case, between which blanks may stand, and `0x`
-/// before them. If the text is no CCW, the advice says which character is wrong, or how many digits
-/// there are.
+/// before them; or it is the line that `show` writes. If the text is no CCW, the advice says which
+/// character is wrong, or how many digits there are.
 pub fn respond_to_ccw(alloc: Global, text: &[u8]) -> Response
     ensures answer { IsCcwResponse text.now result }
     ensures unwritten { IsWriteFailure result.outcome → ⊥ }
 {
-    match shown_ccw(alloc, text) {
+    match reread_or_shown(alloc, text) {
         Ok(response) => response,
         Err(AllocError) => Response::bare(alloc, Outcome::Failed(Failure::OutOfMemory), ""),
     }
 }
 
 /// The answer to a text, where memory lasts.
-fn shown_ccw(alloc: Global, text: &[u8]) -> Result<Response, AllocError>
-    ensures answer { IfOk result (IsCcwShown (plain_digits text.now)) }
+fn reread_or_shown(alloc: Global, text: &[u8]) -> Result<Response, AllocError>
+    ensures answer { IfOk result (λ r. IsCcwShown (plain_digits text.now) r
+        ⊎ IsCcwReread text.now r) }
     ensures known { IfOk result (λ r. IsWriteFailure r.outcome → ⊥) }
 {
+    if let Some(digits) = digits_shown(alloc, text)? {
+        let digits = digits.as_slice();
+        if is_shown(alloc, digits, false, text)? || is_shown(alloc, digits, true, text)? {
+            return shown_ccw(alloc, digits);
+        }
+    }
     let plain = without_blanks(alloc, text)?;
-    let digits = digits_of(&plain);
+    shown_ccw(alloc, digits_of(&plain))
+}
+
+/// The digits of the CCW that a line may show: its flags are in letters.
+fn digits_shown(alloc: Global, line: &[u8]) -> Result<Option<Vec<u8>>, AllocError> {
+    if line.len() < 24 || !(b'0'..=b'7').contains(&line[15]) {
+        return Ok(None);
+    }
+    let mut flags = line[15] - b'0';
+    for (at, bit) in [(10, 0x80), (11, 0x40), (12, 0x20), (13, 0x10), (14, 0x08)] {
+        if line[at] != b'-' {
+            flags |= bit;
+        }
+    }
+    let mut digits = Vec::new(alloc);
+    digits.extend_from_slice(&line[..2])?;
+    digits.extend_from_slice(&line[3..9])?;
+    digits.extend_from_slice(encode_upper(alloc, [flags])?.as_bytes())?;
+    digits.extend_from_slice(&line[17..19])?;
+    digits.extend_from_slice(&line[20..24])?;
+    Ok(Some(digits))
+}
+
+/// Whether digits spell a CCW that this text shows, with the name of its command or without.
+fn is_shown(alloc: Global, digits: &[u8], is_named: bool, text: &[u8]) -> Result<bool, AllocError>
+    ensures { IfOk result (λ shown. IsTrue shown → SpellsCcw digits.now
+        × (text.now ++ 10 ∷ [] ≡ shown_line is_named digits.now)) }
+{
+    let mut wanted = Vec::new(alloc);
+    wanted.extend_from_slice(text)?;
+    wanted.push(b'\n')?;
+    match shown_line(alloc, digits, is_named) {
+        Ok(line) => Ok(line.as_bytes() == wanted.as_slice()),
+        Err(ShowError::NotCcw) => Ok(false),
+        Err(_) => Err(AllocError),
+    }
+}
+
+/// The answer to digits, where memory lasts.
+fn shown_ccw(alloc: Global, digits: &[u8]) -> Result<Response, AllocError>
+    ensures answer { IfOk result (IsCcwShown digits.now) }
+    ensures known { IfOk result (λ r. IsWriteFailure r.outcome → ⊥) }
+{
     match shown_line(alloc, digits, true) {
         Ok(line) => Ok(Response {
             outcome: Outcome::Done,

@@ -40,7 +40,9 @@ pub(crate) fn nearest_word(alloc: Global, text: &str) -> Result<Option<&'static 
         nearest = nearer(alloc, nearest, term_word(*term), small.as_str())?;
     }
     for row in &OUTPUT_WORDS {
-        nearest = nearer(alloc, nearest, row.0, small.as_str())?;
+        if let Some((word, _)) = row.split_once(": ") {
+            nearest = nearer(alloc, nearest, word, small.as_str())?;
+        }
     }
     if nearest.edits <= nearest.word.len() / 3 {
         Ok(Some(nearest.word))

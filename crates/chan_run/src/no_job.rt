@@ -11,17 +11,22 @@ use crate::least_job::job_at;
 use crate::name::named;
 use crate::options::PAST_ADDRESSES;
 use crate::output::why_text;
-use ccw_core::Storage;
+use ccw_core::{Area, Storage};
+use chan_args::Explained;
 use chan_deck::{place_image, storage_note};
-use chan_walk::{Job, OpenJob, Reason, Verdict, WalkError, survey};
+use chan_walk::{Evidence, Job, OpenJob, Reason, Verdict, WalkError, survey};
+use chan_why::{Witness, witness_from};
 use std::alloc::{AllocError, Global};
 
 /// What is said of an image, which may have a name, if no job will do for its program.
+///
+/// Its first `given` bytes were read, and zeros follow them.
 pub(crate) fn no_job_text(
     alloc: Global,
     name: Option<&str>,
     options: &ImageOptions,
     image: &[u8],
+    given: usize,
 ) -> Result<String, WalkError>
     requires { options.now.at + length image.now ≤ 2 ^ 24 }
     ensures { IfOk result (λ text.
@@ -31,13 +36,18 @@ pub(crate) fn no_job_text(
     // it isn't too large, since the image ends in storage
     let storage = Storage::new(&bytes).unwrap();
     let job = job_at(options, storage, options.start);
-    let explanation = open_explanation(alloc, &job)?;
+    let read = Area {
+        start: options.at,
+        len: u32::try_from(given).unwrap_or(u32::MAX),
+    };
+    let explanation = open_explanation(alloc, &job, read)?;
     let (name, mark) = named(name, true);
     Ok(format!(in alloc; "chanv: {name}{mark}no job will do: {explanation}")?)
 }
 
-/// The explanation of the verdict on a job's open job, and the note on how to cure it.
-fn open_explanation(alloc: Global, job: &Job) -> Result<String, WalkError>
+/// The explanation of the verdict on a job's open job, and the notes on how to cure it, where these
+/// bytes of storage were read.
+fn open_explanation(alloc: Global, job: &Job, read: Area) -> Result<String, WalkError>
     ensures { IfOk result (λ text. (k : Job) × IsOpenJob job.now k
         × IsExplainedOpenly k (string_bytes text)) }
 {
@@ -47,9 +57,79 @@ fn open_explanation(alloc: Global, job: &Job) -> Result<String, WalkError>
     };
     let open_job = open.job();
     let survey = survey(alloc, &open_job)?;
-    let explanation = why_text(alloc, false, &open_job, &survey)?;
+    let explanation = why_text(alloc, Explained::First, &open_job, &survey)?;
     let cure = cure_note(alloc, &open_job, survey.verdict())?;
-    Ok(format!(in alloc; "{explanation}{cure}")?)
+    let witness = witness_from(alloc, &survey)?;
+    let outside = outside_note(alloc, &open_job, &witness, read)?;
+    let start = start_note(alloc, &open_job, survey.verdict(), read)?;
+    Ok(format!(in alloc; "{explanation}{cure}{outside}{start}")?)
+}
+
+/// The note on the first CCW of the path, or byte of the cause's argument, that wasn't read, if one
+/// wasn't. Tests hold it.
+fn outside_note(
+    alloc: Global,
+    job: &Job,
+    witness: &Witness,
+    read: Area,
+) -> Result<String, AllocError> {
+    for place in &witness.path {
+        if job.storage.ccw_at(place.address).is_some() && !has_range(read, place.address, 8) {
+            return unread_note(alloc, place.address);
+        }
+    }
+    let given = match witness.evidence {
+        Some(Evidence::ShortSeek { given }) => given,
+        Some(
+            Evidence::SeekOutside {
+                argument: Some(given),
+                ..
+            },
+        ) => given,
+        _ => return Ok(String::new(alloc)),
+    };
+    for address in given.addresses() {
+        if !has_range(read, *address, 1) {
+            return unread_note(alloc, *address);
+        }
+    }
+    Ok(String::new(alloc))
+}
+
+/// Whether an area has so many bytes from an address on.
+fn has_range(area: Area, start: u32, len: u64) -> bool {
+    let end = u64::from(area.start) + u64::from(area.len);
+    area.start <= start && u64::from(start).saturating_add(len) <= end
+}
+
+/// The note on a byte that wasn't read.
+fn unread_note(alloc: Global, address: u32) -> Result<String, AllocError> {
+    format!(in alloc; "note: {address:06X} lies outside the image, so it is zero here\n")
+}
+
+/// The note that the address of the start was read in hexadecimal, if no command is there and its
+/// digits are the decimal digits of an address at which a CCW was read. Tests hold it.
+fn start_note(
+    alloc: Global,
+    job: &Job,
+    verdict: Verdict,
+    read: Area,
+) -> Result<String, AllocError> {
+    let start = job.start;
+    let digits = format!(in alloc; "{start:X}")?;
+    match (verdict, digits.parse::<u32>()) {
+        (Verdict::No { address, reason }, Ok(decimal))
+            if address == start
+                && reason.is_no_command()
+                && decimal != start
+                && job.storage.ccw_at(decimal).is_some()
+                && has_range(read, decimal, 8) => {
+            format!(in alloc;
+                "note: --start {digits} is hexadecimal; decimal {digits} is --start {decimal:X}\n"
+            )
+        }
+        _ => Ok(String::new(alloc)),
+    }
 }
 
 /// Whether a verdict may come from wrong ends of the image: data goes past the end of storage, or

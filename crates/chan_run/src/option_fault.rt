@@ -1,6 +1,7 @@
 //! The usage faults that name an option, in the wording of the command line's library.
 
 ghost use Rattle.std.specs.Prelude.{◌≡◌, ◌↔◌, ◌++◌, false, true, codes, IfSome, List, ℕ, IsErr};
+ghost use Rattle.chan_args.specs.declared.image_words.ImageOption.TheVariants as options;
 ghost use Rattle.chan_run.specs.Texts.{WriterGot};
 ghost use Rattle.chan_run.specs.OptionFault.{IsAroundTip, IsFaultText, IsTipless, IsUsageText};
 ghost use Rattle.chan_run.specs.OptionFault.{file_fault_text, grants_fault_text, usage_of};
@@ -18,6 +19,9 @@ const BESIDE_LEAST: &str = "error: the argument '--least' cannot be used with '"
 
 /// The same beside the open job.
 const BESIDE_OPEN: &str = "error: the argument '--open' cannot be used with '";
+
+/// The same beside each cause.
+const BESIDE_ALL: &str = "error: the argument '--all' cannot be used with '";
 
 /// The text of the usage fault that there is neither an extent nor the least job nor the open job.
 const NO_EXTENT: &str = "error: the following required arguments were not provided:
@@ -93,6 +97,18 @@ pub fn report_grants<W: Write>(fault: GrantFault, to: &mut Watched<W>) -> u8
         GrantFault::BesideOpen(option) => write_beside(BESIDE_OPEN, usage(option), to),
         GrantFault::NoExtent => write_texts(&[NO_EXTENT, MORE], to),
     };
+    4
+}
+
+/// Writes the text of the usage fault that both each cause and the offence at an address are asked
+/// for, and gives the exit status, 4, as `report_option` does.
+pub fn report_all_beside_of<W: Write>(to: &mut Watched<W>) -> u8
+    requires { to.old.failed ≡ false }
+    ensures status { result ≡ 4 }
+    ensures said { WriterGot (BESIDE_ALL.now ++ (usage_of options.Of ++ (codes "'" ++ MORE.now)))
+        (W.contents to.old.device) (W.contents to.new.device) to.new.failed }
+{
+    let _ = write_beside(BESIDE_ALL, usage(ImageOption::Of), to);
     4
 }
 
@@ -194,5 +210,6 @@ fn usage<'a>(option: ImageOption) -> &'a str
         ImageOption::At => "--at <ADDRESS>",
         ImageOption::Storage => "--storage <SIZE>",
         ImageOption::Open => "--open",
+        ImageOption::Of => "--of <ADDRESS>",
     }
 }

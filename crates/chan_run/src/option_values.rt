@@ -1,12 +1,13 @@
 //! Reading the options with which a deck is made of an image of storage.
 
-ghost use Rattle.std.specs.Prelude.{[], IfOk, unwrap_or};
+ghost use Rattle.std.specs.Prelude.{◌≡◌, [], Err, IfErr, IfOk, Ok, unwrap_or};
 ghost use Rattle.std.specs.List.{All};
 ghost use Rattle.chan_args.specs.declared.image_words.ImageOption.TheVariants as options;
 ghost use Rattle.chan_deck.specs.Item.{IsArea};
 ghost use Rattle.chan_run.specs.OptionValues.{HoldsReading, asked, extents_in, named, options_in};
 ghost use Rattle.chan_run.specs.OptionValues.{read_each, read_if};
-ghost use Rattle.chan_run.specs.Options.{IsSize, area_in, extent_in, limit_in, said, size_in};
+ghost use Rattle.chan_run.specs.Options.{IsSize, address_in, area_in, extent_in, limit_in, said};
+ghost use Rattle.chan_run.specs.Options.{size_in};
 
 use crate::image_options::{ImageOptions, OptionError, OptionFault};
 use crate::options::{address_of, area_of, device_of, extent_of, limit_of, mask_of, size_of};
@@ -90,6 +91,22 @@ fn size_or_none<'a>(text: Option<&'a str>) -> Result<Option<u32>, OptionError<'a
     match text {
         Some(text) => Ok(Some(named(ImageOption::Storage, text, size_of(text))?)),
         None => Ok(None),
+    }
+}
+
+/// The address of the offence that is asked about, or why its text isn't accepted.
+pub fn asked_address(text: &str) -> Result<u32, OptionFault<'_>>
+    ensures ok { IfOk result (λ address. address_in text.entry.now ≡ Ok address) }
+    ensures err { IfErr result (λ fault. (fault.option ≡ options.Of) × (fault.text ≡ text.entry)
+        × (address_in text.entry.now ≡ Err fault.why.now)) }
+{
+    match address_of(text) {
+        Ok(address) => Ok(address),
+        Err(why) => Err(OptionFault {
+            option: ImageOption::Of,
+            text,
+            why,
+        }),
     }
 }
 

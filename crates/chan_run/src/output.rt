@@ -1,20 +1,27 @@
 //! What an action asks for of a job that was judged.
 
-ghost use Rattle.std.specs.Prelude.{◌≡◌, ◌++◌, true, IfOk, string_bytes};
+ghost use Rattle.std.specs.Prelude.{◌≡◌, ◌++◌, List, ℕ, true, IfOk, string_bytes};
 ghost use Rattle.chan_deck.specs.Graph.{IsPictureOf};
 ghost use Rattle.chan_deck.specs.Listing.{seen_listing};
+ghost use Rattle.chan_deck.specs.Texts.{verdict_line};
 ghost use Rattle.chan_walk.specs.Offence.{first_verdict};
 ghost use Rattle.chan_walk.specs.JobSurvey.{IsSurvey};
 ghost use Rattle.chan_run.specs.Name.{heading_of, name_before, name_in};
 ghost use Rattle.chan_run.specs.Output.{AreTold, IsAskedText, IsExplained, IsNeeded};
 
+use crate::advice::said_of;
+use crate::explained_offence::offence_asked;
+use crate::least_job::least_deck_text;
 use crate::name::{Naming, heading_of};
 use ccw_core::Watched;
-use chan_args::Action;
-use chan_deck::{Picture, explanation_text, graph_text, needs_text, verdict_text, write_seen};
+use chan_args::{Action, Explained};
+use chan_deck::{
+    Picture, explanation_text, graph_text, needs_text, offence_text, verdict_text, wide_listing,
+    write_seen,
+};
 use chan_needs::needs_from;
-use chan_walk::{Evidence, Job, Look, Survey, Verdict};
-use chan_why::{causes_from, witness_from};
+use chan_walk::{Evidence, Job, Look, Offence, Survey, Verdict};
+use chan_why::{causes_from, witness_from, witness_of};
 use std::alloc::{AllocError, Global};
 
 /// What an action asks for of a job that was surveyed, whose input is named so.
@@ -34,18 +41,21 @@ pub(crate) fn output_of(
             let line = verdict_text(alloc, survey.verdict())?;
             text_after(alloc, naming.name, line)
         }
-        Action::List => {
+        Action::List { wide } => {
             let verdict = survey.verdict();
-            let (looks, _offences) = survey.into_parts();
+            let (looks, offences) = survey.into_parts();
+            if wide {
+                return wide_text(alloc, naming, job, &looks, &offences, verdict);
+            }
             listing_text(alloc, naming, looks.as_slice(), verdict)
         }
-        Action::Why { all } => {
-            let why = why_text(alloc, all, job, &survey)?;
+        Action::Why(explained) => {
+            let why = why_text(alloc, explained, job, &survey)?;
             text_after(alloc, naming.name, why)
         }
-        Action::Needs => {
+        Action::Needs { deck } => {
             let mut text = heading_of(alloc, naming)?;
-            let needed = needed_text(alloc, job, &survey)?;
+            let needed = needed_text(alloc, deck, job, &survey)?;
             text.extend_from_slice(needed.as_slice())?;
             Ok(text)
         }
@@ -70,6 +80,24 @@ fn listing_text(
     }
 }
 
+/// The wide listing of these looks and offences behind its heading. Tests hold its rows.
+fn wide_text(
+    alloc: Global,
+    naming: Naming<'_>,
+    job: &Job,
+    looks: &[Look],
+    offences: &[Offence],
+    verdict: Verdict,
+) -> Result<Vec<u8>, AllocError>
+    ensures { IfOk result (λ text. (rows : List ℕ) × (text.items
+        ≡ heading_of naming.entry ++ (rows ++ verdict_line verdict))) }
+{
+    let mut text = heading_of(alloc, naming)?;
+    let listing = wide_listing(alloc, job, looks, offences, verdict)?;
+    text.extend_from_slice(listing.as_bytes())?;
+    Ok(text)
+}
+
 /// The picture of a job that was surveyed. Tests hold its text behind the title.
 fn picture_of(
     alloc: Global,
@@ -82,6 +110,8 @@ fn picture_of(
         (first_verdict survey.offences) text.items) }
 {
     let causes = causes_from(alloc, &survey)?;
+    let stored_over = witness_from(alloc, &survey)?.stored_over;
+    let notes = said_of(alloc, false, Explained::First, job, &survey)?;
     let verdict = survey.verdict();
     let (looks, offences) = survey.into_parts();
     let picture = Picture {
@@ -91,54 +121,62 @@ fn picture_of(
         looks: &looks,
         offences: &offences,
         causes: &causes,
+        stored_over,
+        notes: str::from_utf8(&notes).unwrap_or(""),
     };
     Ok(graph_text(alloc, &picture)?.into_bytes())
 }
 
-/// The explanation of the verdict on a job that was surveyed, with the causes of all offences, if
-/// they are asked for.
+/// The explanation of the verdict on a job that was surveyed, as it is asked for.
 pub(crate) fn why_text(
     alloc: Global,
-    all: bool,
+    explained: Explained,
     job: &Job,
     survey: &Survey,
 ) -> Result<String, AllocError>
     requires { IsSurvey job.now survey.now }
-    ensures { IfOk result (λ text. IsExplained all job.now
+    ensures { IfOk result (λ text. IsExplained explained job.now
         (first_verdict survey.now.offences) (string_bytes text)) }
 {
+    if let Some(offence) = offence_asked(survey, explained) {
+        let witness = witness_of(alloc, survey, offence)?;
+        return offence_text(alloc, job, survey.verdict(), &witness);
+    }
     let witness = witness_from(alloc, survey)?;
-    let causes = causes_told(alloc, all, job, survey)?;
+    let causes = causes_told(alloc, explained, job, survey)?;
     explanation_text(alloc, job, survey, &witness, causes.as_slice())
 }
 
 /// The causes of all offences, or none, if they aren't asked for.
 fn causes_told(
     alloc: Global,
-    all: bool,
+    explained: Explained,
     job: &Job,
     survey: &Survey,
 ) -> Result<Vec<Evidence>, AllocError>
     requires { IsSurvey job.now survey.now }
-    ensures { IfOk result (λ es. AreTold all job.now survey.now.offences es.items) }
+    ensures { IfOk result (λ es. AreTold explained job.now survey.now.offences es.items) }
 {
-    if all {
-        causes_from(alloc, survey)
-    } else {
-        Ok(Vec::new(alloc))
+    match explained {
+        Explained::All => causes_from(alloc, survey),
+        _ => Ok(Vec::new(alloc)),
     }
 }
 
-/// What the program of a job needs that was surveyed or, where the verdict is no, its explanation.
-fn needed_text(alloc: Global, job: &Job, survey: &Survey) -> Result<Vec<u8>, AllocError>
+/// What the program of a job needs that was surveyed, or the deck with its least job; where the
+/// verdict is no, its explanation.
+fn needed_text(alloc: Global, deck: bool, job: &Job, survey: &Survey) -> Result<Vec<u8>, AllocError>
     requires { IsSurvey job.now survey.now }
-    ensures { IfOk result (λ text. IsNeeded job.now
+    ensures { IfOk result (λ text. IsNeeded deck job.now
         (first_verdict survey.now.offences) text.items) }
 {
     match survey.verdict() {
-        Verdict::No { .. } => Ok(why_text(alloc, false, job, survey)?.into_bytes()),
+        Verdict::No { .. } => Ok(why_text(alloc, Explained::First, job, survey)?.into_bytes()),
         Verdict::Yes => {
             let needs = needs_from(alloc, job, survey)?;
+            if deck {
+                return least_deck_text(alloc, job, &needs);
+            }
             needs_text(alloc, &needs)
         }
     }

@@ -119,10 +119,10 @@ fn respond_to_job(
     ensures { IfOk result (IsJobResponse naming.entry action job.now) }
 {
     match action {
-        Action::Needs => match OpenJob::of(alloc, job) {
+        Action::Needs { deck } => match OpenJob::of(alloc, job) {
             Ok(open) => {
                 let open_job = open.job();
-                respond_to_judged_job(alloc, naming, Action::Needs, &open_job)
+                respond_to_judged_job(alloc, naming, Action::Needs { deck }, &open_job)
             }
             Err(_) => Err(AllocError),
         },

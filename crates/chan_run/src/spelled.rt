@@ -1,8 +1,9 @@
-//! What is said of a word that is a command code, as `07`, or a file mask, as `mask 98`.
+//! What is said of a word that is a command code, as `07`, a file mask, as `mask 98`, or flags, as
+//! `-CL--0`.
 
 ghost use Rattle.std.specs.Prelude.{◌≡◌, ◌≤◌, ◌↔◌, IfOk, IsSome, IsTrue, codes, length, nat_eq};
 ghost use Rattle.std.specs.List.{starts_with};
-ghost use Rattle.chan_run.specs.Spelled.{IsSpelled, SpellsByte, spelled_digits};
+ghost use Rattle.chan_run.specs.Spelled.{IsSpelled, SpellsByte, is_flag, is_flags, spelled_digits};
 
 use crate::output_words::{OUTPUT_WORDS, row_for};
 use ccw_core::Ccw;
@@ -50,12 +51,13 @@ fn inhibition(class: MaskClass) -> &'static str {
 
 /// What a command does.
 fn action_of(name: &str) -> &'static str {
-    match row_for(&OUTPUT_WORDS, name) {
-        Some((_, meaning)) => match meaning.split_once(" (code") {
-            Some((action, _)) => action,
-            None => meaning,
+    let row = row_for(&OUTPUT_WORDS, name).unwrap_or("");
+    match row.split_once(" (code") {
+        Some((named, _)) => match named.split_once(": ") {
+            Some((_, action)) => action,
+            None => named,
         },
-        None => "",
+        None => row,
     }
 }
 
@@ -123,20 +125,78 @@ fn mask_text(alloc: Global, byte: u8) -> Result<String, AllocError> {
     Ok(out)
 }
 
+/// Whether a byte is a flag that is off, or on by its letter.
+fn is_flag(letter: u8, byte: u8) -> bool
+    ensures { result ≡ is_flag letter byte }
+{
+    byte == b'-' || byte == letter
+}
+
+/// Whether a word has the flags of a listing.
+fn is_flags(word: &[u8]) -> bool
+    ensures { result ≡ is_flags word.now }
+{
+    match word {
+        [d, c, l, s, p, low] => {
+            is_flag(b'D', *d)
+                && is_flag(b'C', *c)
+                && is_flag(b'L', *l)
+                && is_flag(b'S', *s)
+                && is_flag(b'P', *p)
+                && b'0' <= *low
+                && *low <= b'7'
+        }
+        _ => false,
+    }
+}
+
+/// What the flags are that a word has.
+fn flags_text(alloc: Global, word: &[u8]) -> Result<String, AllocError> {
+    let mut out = String::new(alloc);
+    for byte in word {
+        out.push(char::from(*byte))?;
+    }
+    let mut mark = ": ";
+    for byte in word {
+        let letter = char::from(*byte);
+        let name = match letter {
+            'D' => "chain data",
+            'C' => "chain command",
+            'L' => "suppress length indication",
+            'S' => "skip",
+            'P' => "program-controlled interruption",
+            '1'..='7' => "low bits, which must be zero",
+            _ => continue,
+        };
+        write!(out, "{mark}{letter} {name}")?;
+        mark = "; ";
+    }
+    out.push_str(if mark == ": " {
+        ": no flag is on\n"
+    } else {
+        "\n"
+    })?;
+    Ok(out)
+}
+
 /// The byte of a word that is a command code or a file mask.
 fn byte_of(word: &[u8]) -> Option<u8>
-    ensures { IsSome result ↔ IsSpelled word.now }
+    ensures { IsSome result ↔ SpellsByte (spelled_digits word.now) }
 {
     let bytes = spelled_byte(digits_of(word))?;
     Some(bytes[0])
 }
 
-/// The line on a word, if it is a command code or a file mask. Tests hold the wording.
+/// The line on a word, if it is a command code, a file mask or flags. Tests hold the wording.
 pub(crate) fn spelled_text(alloc: Global, word: &[u8]) -> Result<Option<String>, AllocError>
     ensures { IfOk result (λ text. IsSome text ↔ IsSpelled word.now) }
 {
     let Some(byte) = byte_of(word) else {
-        return Ok(None);
+        return Ok(if is_flags(word) {
+            Some(flags_text(alloc, word)?)
+        } else {
+            None
+        });
     };
     if names_mask(word) {
         return Ok(Some(mask_text(alloc, byte)?));

@@ -13,12 +13,12 @@ ghost use Rattle.std.specs.Prelude.{◌≡◌, ◌↔◌, true};
 ghost use Rattle.chan_run.specs.Outcome.{IsWriteFailure};
 
 use ccw_core::Watched;
-use chan_args::{Action, ImageRequest, Request, read_request};
+use chan_args::{Action, Explained, ImageRequest, Request, read_request};
 use chan_run::{
-    Failure, ImageOptions, Naming, OptionError, Outcome, Response, answer, answer_image, deliver,
-    ends_run, exit_status, explain_word, find_programs, greater_status, list_words,
-    note_usual_device, options_of, report, report_file, report_grants, report_no_ccw,
-    report_option, report_usage, respond_to_ccw, show, shown_word,
+    Failure, ImageOptions, Naming, OptionError, Outcome, Response, answer, answer_image,
+    asked_address, deliver, ends_run, exit_status, explain_word, find_programs, greater_status,
+    list_words, note_usual_device, options_of, report, report_all_beside_of, report_file,
+    report_grants, report_no_ccw, report_option, report_usage, respond_to_ccw, show, shown_word,
 };
 use std::alloc::AllocError;
 use std::env::{Env, FillError};
@@ -129,7 +129,12 @@ fn answer_words(rt: &HostRuntime, words: &Words) -> u8 {
         Request::Image(request) => answer_request(rt, words, &request, false),
         Request::Find(request) => answer_request(rt, words, &request, true),
         Request::Grants(fault) => report_grants(fault, &mut Watched::new(rt.stderr())),
-        Request::Explain(word) => explain(rt, word),
+        Request::ExplainOffence(address, names) => {
+            explain_offences(rt, words, address, names.as_slice())
+        }
+        Request::AllBesideOf => report_all_beside_of(&mut Watched::new(rt.stderr())),
+        Request::Explain(parts) => explain(rt, parts.as_slice()),
+        Request::ExplainFlags(flags) => explain(rt, &[flags]),
         Request::Words => list_terms(rt),
         Request::Help(text) | Request::Version(text) => match text.to_string(rt.alloc()) {
             Ok(text) => print_out(rt, text),
@@ -190,10 +195,39 @@ fn show_ccw(rt: &HostRuntime, text: &str) -> u8 {
     end_with(rt, Outcome::of_show(answer), &mut output)
 }
 
-fn explain(rt: &HostRuntime, word: &str) -> u8 {
+/// Explains a word whose parts stand with a space between two.
+fn explain(rt: &HostRuntime, parts: &[&str]) -> u8 {
     let mut output = Watched::new(rt.stdout());
-    let answer = explain_word(rt.alloc(), word, &mut output);
+    let answer = match joined(rt, parts) {
+        Ok(word) => explain_word(rt.alloc(), word.as_str(), &mut output),
+        Err(AllocError) => Outcome::Failed(Failure::OutOfMemory),
+    };
     end_with(rt, answer, &mut output)
+}
+
+/// Some texts with a space between two.
+fn joined(rt: &HostRuntime, parts: &[&str]) -> Result<String, AllocError> {
+    let mut text = String::new(rt.alloc());
+    for (k, part) in parts.iter().enumerate() {
+        if k > 0 {
+            text.push(' ')?;
+        }
+        text.push_str(part)?;
+    }
+    Ok(text)
+}
+
+/// Explains the first offence at the address that a text spells, in each of these inputs, or in
+/// standard input if there is none.
+fn explain_offences(rt: &HostRuntime, words: &Words, address: &str, names: &[&str]) -> u8 {
+    let action = match asked_address(address) {
+        Ok(address) => Action::Why(Explained::At(address)),
+        Err(fault) => return report_option(fault, &mut Watched::new(rt.stderr())),
+    };
+    match names {
+        [] | ["-"] => exit_status(run_over(rt, action, UNNAMED, Input::Standard(rt.stdin()))),
+        _ => run_over_each(rt, words, action, names),
+    }
 }
 
 fn list_terms(rt: &HostRuntime) -> u8 {

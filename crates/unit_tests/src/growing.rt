@@ -123,7 +123,7 @@ fn is_listed(alloc: Global, job: &Job, places: &Explored) -> Result<bool, AllocE
 fn is_run(alloc: Global) -> Result<bool, AllocError> {
     let mut from = Watched::new(DECK.as_bytes());
     let mut to = Watched::new(paper_of(LISTING.as_bytes()));
-    match run(alloc, Action::List, &mut from, &mut to) {
+    match run(alloc, Action::List { wide: false }, &mut from, &mut to) {
         Ok(status) => Ok(status == Status::Yes && to.into_inner().left.is_empty()),
         Err(RunError::Memory) => Err(AllocError),
         Err(_) => Ok(false),

@@ -2,11 +2,12 @@
 
 ghost use Rattle.chan_walk.specs.JobSurvey.{IsSurvey};
 
+use crate::deck::TWO_OFFENCES;
 use crate::shared::expect;
 use ccw_core::Storage;
-use chan_deck::{explanation_text, read_deck};
-use chan_walk::{Job, Survey, survey};
-use chan_why::{Witness, witness_from};
+use chan_deck::{explanation_text, offence_text, read_deck};
+use chan_walk::{Job, Survey, Verdict, survey};
+use chan_why::{Witness, offence_at, witness_from, witness_of};
 use std::alloc::Global;
 
 /// The search loop, whose read stores over the CCW that comes next.
@@ -36,20 +37,31 @@ reached by
 000818 fresh - * 06 000A00 --L--0 00 0050 read read-data
 ";
 
-/// Whether this is the explanation of the verdict on a deck.
-fn explains_deck(alloc: Global, deck: &str, text: &str) -> bool {
+/// What shows the second of two offences, under the verdict.
+const SECOND_OFFENCE: &str = "no 000810 store-not-lent
+000800 fresh t . 07 000900 -C---0 00 0006 control seek (cylinder 12, head 3)
+000808 fresh - . 31 000908 -C---0 00 0005 write search-id-equal
+000818 fresh - * 1F 000907 -----0 00 0001 control set-file-mask (mask C0)
+because mask byte C0 is not as strict as 00: it permits write-record-zero
+";
+
+/// Whether this explains the verdict on a deck or, with an address, shows the offence there.
+fn explains_deck(alloc: Global, deck: &str, at: Option<u32>, text: &str) -> bool {
     let Ok(deck) = read_deck(alloc, deck.as_bytes()) else {
         return false;
     };
     let job = deck.job();
     // That names the type which a job holds, for the borrow checker.
     let _storage: Storage = job.storage;
-    explains_job(alloc, &job, text)
+    explains_job(alloc, &job, at, text)
 }
 
-fn explains_job(alloc: Global, job: &Job, text: &str) -> bool {
+fn explains_job(alloc: Global, job: &Job, at: Option<u32>, text: &str) -> bool {
     match survey(alloc, job) {
-        Ok(survey) => explains_survey(alloc, job, &survey, text),
+        Ok(survey) => match at {
+            Some(address) => shows_offence(alloc, job, &survey, address, text),
+            None => explains_survey(alloc, job, &survey, text),
+        },
         Err(_) => false,
     }
 }
@@ -63,6 +75,25 @@ fn explains_survey(alloc: Global, job: &Job, survey: &Survey, text: &str) -> boo
     }
 }
 
+fn shows_offence(alloc: Global, job: &Job, survey: &Survey, address: u32, text: &str) -> bool
+    requires { IsSurvey job.now survey.now }
+{
+    let Some(offence) = offence_at(survey, address) else {
+        return text.is_empty();
+    };
+    match witness_of(alloc, survey, offence) {
+        Ok(witness) => is_shown(alloc, job, survey.verdict(), &witness, text),
+        Err(_) => false,
+    }
+}
+
+fn is_shown(alloc: Global, job: &Job, verdict: Verdict, witness: &Witness, text: &str) -> bool {
+    match offence_text(alloc, job, verdict, witness) {
+        Ok(shown) => shown.as_str() == text,
+        Err(_) => false,
+    }
+}
+
 fn is_explained(alloc: Global, job: &Job, survey: &Survey, witness: &Witness, text: &str) -> bool {
     match explanation_text(alloc, job, survey, witness, &[]) {
         Ok(explanation) => explanation.as_str() == text,
@@ -70,8 +101,22 @@ fn is_explained(alloc: Global, job: &Job, survey: &Survey, witness: &Witness, te
     }
 }
 
+/// What a test is called, a deck, the address asked about, and the text.
+const TEXTS: [(&str, &str, Option<u32>, &str); 3] = [
+    ("changes-ccw", CHANGES_CCW, None, EXPLANATION),
+    (
+        "the second offence",
+        TWO_OFFENCES,
+        Some(0x818),
+        SECOND_OFFENCE,
+    ),
+    ("no offence there", TWO_OFFENCES, Some(0x800), ""),
+];
+
 #[test]
 fn explanation(rt: HostRuntime) {
-    let holds = explains_deck(rt.alloc(), CHANGES_CCW, EXPLANATION);
-    expect(&rt, holds, "changes-ccw");
+    for (name, deck, at, text) in &TEXTS {
+        let holds = explains_deck(rt.alloc(), deck, *at, text);
+        expect(&rt, holds, name);
+    }
 }

@@ -5,7 +5,7 @@
 use crate::run::devices::Broken;
 use crate::shared::{Paper, expect, paper_of};
 use ccw_core::Watched;
-use chan_args::Action;
+use chan_args::{Action, Explained};
 use chan_run::{Failure, Naming, Outcome, Response, answer, deliver, ends_run};
 use std::alloc::Global;
 
@@ -62,7 +62,7 @@ fn is_answered(alloc: Global, case: &Case) -> bool {
         flushes: case.flushes,
     });
     let mut errors = Watched::new(paper_of(case.told));
-    let action = Action::Why { all: false };
+    let action = Action::Why(Explained::First);
     let naming = Naming {
         name: case.name,
         is_among: false,

@@ -6,7 +6,7 @@ use crate::deck::{SEARCH_LOOP, SEARCH_LOOP_LISTING};
 use crate::run::devices::Broken;
 use crate::shared::{expect, paper_of};
 use ccw_core::Watched;
-use chan_args::Action;
+use chan_args::{Action, Explained};
 use chan_run::{RunError, Status, run};
 use std::alloc::Global;
 
@@ -100,7 +100,7 @@ fn reads(alloc: Global, whole: &Case) -> bool {
 #[test]
 fn each_read_failing_in_turn(rt: HostRuntime) {
     let listed = Case {
-        action: Action::List,
+        action: Action::List { wide: false },
         written: SEARCH_LOOP_LISTING.as_bytes(),
         ..USUAL
     };
@@ -111,9 +111,9 @@ fn each_read_failing_in_turn(rt: HostRuntime) {
 /// What is asked for, a text, and all that is written over it.
 static WRITTEN: [(Action, &str, &str); 4] = [
     (Action::Verify, SEARCH_LOOP, "yes\n"),
-    (Action::List, SEARCH_LOOP, SEARCH_LOOP_LISTING),
+    (Action::List { wide: false }, SEARCH_LOOP, SEARCH_LOOP_LISTING),
     (
-        Action::Why { all: false },
+        Action::Why(Explained::First),
         END_OF_STORAGE,
         END_OF_STORAGE_EXPLANATION,
     ),

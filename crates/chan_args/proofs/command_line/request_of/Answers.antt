@@ -37,13 +37,15 @@ nothing_is (Some p) none = cc
 pub request_named-requires : goal.request_named-requires
 request_named-requires c =
     let at = c.in-Some in
-    let is = is_pair (subcommand_rows_of c.args.matches.now) at.name.now (rows_of (found_of at.inner.now)) (at.ensures.name ∙ name_same c.args.matches.now) at.ensures.rows in
+    let is = is_pair (subcommand_rows_of c.args.matches.now) at.name.now (rows_of (found_of at.inner.now))
+    (at.ensures.name ∙ name_same c.args.matches.now) at.ensures.rows in
     subst IsKnown is c.requires
 
 pub returns-in-Some : goal.returns-in-Some
 returns-in-Some c =
     let at = c.in-Some in
-    let is = is_pair (subcommand_rows_of c.args.matches.now) at.name.now (rows_of (found_of at.inner.now)) (at.ensures.name ∙ name_same c.args.matches.now) at.ensures.rows in
+    let is = is_pair (subcommand_rows_of c.args.matches.now) at.name.now (rows_of (found_of at.inner.now))
+    (at.ensures.name ∙ name_same c.args.matches.now) at.ensures.rows in
     subst (λ m. IfOk c.request_named.result (AsksFor m)) (sym is) c.request_named.ensures
 
 pub returns-in-None : goal.returns-in-None

@@ -1,14 +1,8 @@
-use Rattle.std.proofs.Common.{inl, inr, rules}
-use Rattle.chan_run.proofs.advice.exchange_on.Goals.{then-branch+in_ok-extend_from_slice, else-branch}
+use Rattle.std.proofs.Common.{◌∙◌, inl, sym}
+use Rattle.std.proofs.lemmas.Result.{IfOk-weaker}
 use Rattle.chan_run.proofs.advice.exchange_on.Goals as goal
 
 pub returns : goal.returns
-returns c = elim c.if-branch.branch [
-  | then-branch+in_ok-extend_from_slice w ↦ inl (c.in_ok-seems_exchanged.ensures.0 (search (rules, w.if-branch)), search rules)
-  | else-branch w ↦ inr (
-    (λ seems.
-        let is = c.in_ok-seems_exchanged.ensures.1 seems in
-        search (rules, is, w.if-branch)),
-    search rules,
-  )
-]
+returns c =
+    let is = sym c.is_chained_over.ensures ∙ c.if-is_chained_over.false in
+    IfOk-weaker c.exchange_text.result _ _ (λ text said. inl (is, said)) c.exchange_text.ensures

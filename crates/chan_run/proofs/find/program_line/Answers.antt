@@ -1,4 +1,4 @@
-use Rattle.std.proofs.Common.{None, Some, rules}
+use Rattle.std.proofs.Common.{None, Some, [], rules}
 use Rattle.std.proofs.lemmas.Result.{IfOk-weaker}
 use Rattle.chan_run.proofs.find.program_line.Goals as goal
 
@@ -10,8 +10,9 @@ returns-in-Ok-survey c = λ image there.
       record {
         opened = c.job-open_job.result;
         is_open = c.job-open_job.ensures.open c.job_at-job.result c.in-Ok.ensures.open;
-        verdict = Some c.verdict.result;
-        judged = rw c.verdict.ensures c.in-Ok-survey.ensures.answer;
+        verdict = Some c.verdict-verdict.result;
+        judged = rw c.verdict-verdict.ensures c.in-Ok-survey.ensures.answer;
+        shape = c.as_str.result.now;
         is = is;
       },
     )) c.program_text.ensures
@@ -26,6 +27,7 @@ returns-in-Err-TooManyPlaces c = λ image there.
         is_open = c.job-open_job.ensures.open c.job_at-job.result c.in-Ok.ensures.open;
         verdict = None;
         judged = search rules;
+        shape = [];
         is = is;
       },
     )) c.program_text-in-Err-TooManyPlaces.ensures

@@ -12,6 +12,7 @@ returns-then-count-limit-clause-too_long g c = λ named.
     let held : length text ≡ c.len.result = omega (arith, c.loop-count.text.ok.0, c.len.ensures) in
     record {
       text = text ++ new;
-      taken = Consumes-trans (remaining c.args.from.now.device) (remaining c.loop-count.from.device) (remaining c.read.new.self.device) text new c.loop-count.invariant.taken c.in-Ok.ensures.bytes.0;
+      taken = Consumes-trans (remaining c.args.from.now.device) (remaining c.loop-count.from.device)
+          (remaining c.read.new.self.device) text new c.loop-count.invariant.taken c.in-Ok.ensures.bytes.0;
       many = omega (arith, length-append text new);
     }

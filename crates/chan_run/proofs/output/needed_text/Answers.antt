@@ -17,7 +17,9 @@ returns-in_ok-why_text-in-No c =
     let bytes : c.into_bytes.result.items ≡ string_bytes c.in_ok-why_text-in-No.field-0 = ap (λ v. vec_items v) c.into_bytes.ensures.value in
     rw (no, bytes) (rw no at c.in_ok-why_text-in-No.ensures)
 
-pub returns-in_ok-needs-in-Yes : goal.returns-in_ok-needs-in-Yes
-returns-in_ok-needs-in-Yes c =
+pub returns-else-deck : goal.returns-else-deck
+returns-else-deck c =
     let yes : first_verdict c.args.survey.now.offences ≡ Yes = sym c.verdict.ensures ∙ c.in-Yes.is in
-    rw yes (IfOk-weaker c.needs_text.result _ _ (λ text is. (listed c.in_ok-needs-in-Yes.needs, c.in_ok-needs-in-Yes.ensures, is)) c.needs_text.ensures)
+    let needs = c.in_ok-needs-in-Yes in
+    rw (c.if-deck.false, yes) (IfOk-weaker c.needs_text.result _ _
+    (λ text is. (listed needs.needs, needs.ensures, is)) c.needs_text.ensures)

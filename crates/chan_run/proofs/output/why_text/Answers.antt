@@ -1,26 +1,35 @@
-use Rattle.std.proofs.Common.{refl}
+use Rattle.std.proofs.Common.{◌∙◌, ◌≡◌, None, Some, refl, rules, sym}
 use Rattle.std.proofs.lemmas.Result.{IfOk-weaker}
-use Rattle.chan_walk.specs.Offence.{first_verdict}
-use Rattle.chan_run.specs.Output.{IsExplanation}
+use Rattle.chan_run.specs.Output.{offence_asked}
 use Rattle.chan_run.proofs.output.why_text.Goals as goal
+
+pub witness_of-requires : goal.witness_of-requires
+witness_of-requires c = (c.args.job.now, c.requires, search rules)
 
 pub witness_from-requires : goal.witness_from-requires
 witness_from-requires c = (c.args.job.now, c.requires)
 
-pub returns : goal.returns
-returns c =
-    let j = c.args.job.now in
+pub returns-in-Some : goal.returns-in-Some
+returns-in-Some c =
     let s = c.requires in
     let os = c.args.survey.now.offences in
-    let w = c.in_ok-witness.ensures in
-    let explains : IsExplanation j (first_verdict os) os c.in_ok-witness.witness =
-    record {
-      offences = s.offences;
-      verdict = refl;
-      path = w.path j s;
-      shown = w.shown j s;
-      evidence = w.evidence j s;
-      stored = w.stored j s;
-      second = w.second j s;
-    } in
-    IfOk-weaker c.explanation_text.result _ _ (λ text is. (os, c.in_ok-causes.causes.items, c.in_ok-witness.witness, explains, c.in_ok-causes.ensures, is)) (rw c.as_slice.ensures.value at c.explanation_text.ensures)
+    let asked : offence_asked os c.args.explained ≡ Some c.in-Some.offence = sym c.offence_asked.ensures.asked ∙ c.in-Some.is in
+    let w = c.in_ok-witness in
+    IfOk-weaker c.offence_text.result _ _ (λ text is.
+    (os, s.offences, refl, rw asked (w.witness, w.ensures c.args.job.now s, rw c.verdict.ensures at is)))
+    c.offence_text.ensures
+
+pub returns : goal.returns
+returns c =
+    let s = c.requires in
+    let os = c.args.survey.now.offences in
+    let asked : offence_asked os c.args.explained ≡ None = sym c.offence_asked.ensures.asked ∙ c.in_default.is in
+    let es = c.in_ok-causes in
+    let w = c.in_ok-witness-2 in
+    IfOk-weaker c.explanation_text.result _ _ (λ text is. (
+      os,
+      s.offences,
+      refl,
+      rw asked (es.causes.items, w.witness, w.ensures c.args.job.now s, es.ensures, is),
+    ))
+    (rw c.as_slice.ensures.value at c.explanation_text.ensures)

@@ -1,0 +1,27 @@
+//! The parts of the deck that options and an image make.
+
+ghost use Rattle.std.specs.Prelude.{◌≡◌};
+ghost use Rattle.chan_deck.specs.Parts.{HasShortAddresses, image_of_parts};
+ghost use Rattle.chan_run.specs.Image.{deck_of};
+
+use crate::image_options::ImageOptions;
+use chan_deck::Parts;
+
+/// The parts of the deck that the options and an image of storage make.
+pub(crate) fn deck_parts<'a>(options: &'a ImageOptions, image: &'a [u8]) -> Parts<'a>
+    ensures made { image_of_parts result ≡ deck_of options.entry.now image.entry.now }
+    ensures short { HasShortAddresses result }
+    ensures image { (result.at ≡ options.entry.now.at) × (result.image ≡ image.entry) }
+{
+    Parts {
+        limit: options.limit,
+        device: options.device,
+        mask: options.mask,
+        start: options.start,
+        extents: &options.extents,
+        fetch: &options.fetch,
+        store: &options.store,
+        at: options.at,
+        image,
+    }
+}

@@ -1,0 +1,47 @@
+//! What a program looks like: how many CCWs it has, and its first commands. Tests hold the text.
+
+ghost use Rattle.chan_walk.specs.JobSurvey.{IsSurvey};
+ghost use Rattle.chan_walk.specs.declared.job.Job.{Job};
+
+use chan_walk::{Look, Survey};
+use std::alloc::{AllocError, Global};
+use std::fmt::Write as _;
+
+/// How many commands are named.
+const MOST_NAMES: usize = 4;
+
+/// How many CCWs a program has that was surveyed, and the names of its first commands, in the order
+/// in which the program comes to them, behind a space.
+pub(crate) fn shape_of(alloc: Global, survey: Survey) -> Result<String, AllocError>
+    requires { (j : Job) × IsSurvey j survey }
+{
+    let names = first_names(alloc, survey.looks())?;
+    let (looks, _offences) = survey.into_parts();
+    let mut ccws = 0u32;
+    for at in 0..looks.len() {
+        let address = looks[at].place().address;
+        if looks[at].ccw().is_some() && (at == 0 || looks[at - 1].place().address != address) {
+            ccws = ccws.saturating_add(1);
+        }
+    }
+    let noun = if ccws == 1 { "CCW" } else { "CCWs" };
+    format!(in alloc; " {ccws} {noun}{names}")
+}
+
+/// The names of the first commands, each behind a comma, the first behind a colon.
+fn first_names(alloc: Global, looks: &[Look]) -> Result<String, AllocError> {
+    let mut names = String::new(alloc);
+    let mut named: Vec<u32> = Vec::new(alloc);
+    for look in looks {
+        let address = look.place().address;
+        if let Some(command) = look.command() {
+            if named.len() < MOST_NAMES && !named.contains(&address) {
+                let mark = if named.is_empty() { ":" } else { "," };
+                let name = command.name();
+                write!(names, "{mark} {name}")?;
+                named.push(address)?;
+            }
+        }
+    }
+    Ok(names)
+}
