@@ -118,6 +118,11 @@ HARDENED = -Wl,-z,defs -Wl,-z,relro,-z,now -Wl,-z,noexecstack
 SONAME = libchanv.so.$(basename $(VERSION))
 
 BUILT = crates/chanv/out/chanv out/libchanv.a out/libchanv.so.$(VERSION) out/chanv.h
+
+# What the pages link to outside docs/, and the decks and programs that they name. README makes
+# examples/dump.deck.
+SHOWN = $(filter-out %/dump.deck,$(wildcard examples/*.* examples/*/*.*)) \
+  bench/README.md python/README.md rustc/README.md
 TO = $(DESTDIR)$(PREFIX)
 TO_LIB = $(DESTDIR)$(LIBDIR)
 
@@ -137,8 +142,9 @@ install:
 	install -d "$(TO)/share/doc/chanv/docs"
 	install -m 644 README.md CHANGELOG.md "$(TO)/share/doc/chanv"
 	install -m 644 docs/*.md docs/*.svg "$(TO)/share/doc/chanv/docs"
-	install -d "$(TO)/share/doc/chanv/examples"
-	install -m 644 examples/README.md examples/*.deck "$(TO)/share/doc/chanv/examples"
+	@for shown in $(SHOWN); do \
+	  install -D -m 644 "$$shown" "$(TO)/share/doc/chanv/$$shown" || exit 1; done
+	chmod 755 "$(TO)/share/doc/chanv/examples/hercules/try.sh"
 	install -d "$(TO_LIB)/pkgconfig"
 	sed -e 's|@PREFIX@|$(PREFIX)|; s|@VERSION@|$(VERSION)|' \
 	  -e 's|@LIBDIR@|$(subst $(PREFIX)/,$${prefix}/,$(LIBDIR))|' docs/chanv.pc.in > \

@@ -1,6 +1,5 @@
 /* The part of the library that isn't proved: words, memory for a copy of storage, and a call that
- * lays what `chanv_needs` lists into one piece of memory of the caller. It asks only for proved
- * calls. */
+ * lays what `chanv_needs` lists into one piece of the caller's memory. It rests on proved calls. */
 #include <chanv.h>
 #include <stdlib.h>
 #include <string.h>
@@ -105,8 +104,8 @@ enum chanv_answer needs_by_copy(const struct chanv_job *job, uint8_t *copy, size
 enum { LARGEST_STORAGE = 16777216 };
 
 /* The copy is as long as storage, and what it holds doesn't matter: so it isn't zeroed, and only
- * the few pages that are written cost anything. Without memory it has no bytes, and the proved call
- * says so, unless the job has a fault that comes first. */
+ * the few pages that are written cost anything. If there is no memory, the copy has no bytes, and
+ * the proved call returns CHANV_MEMORY, unless the job has a fault that comes first. */
 enum chanv_answer chanv_needs(const struct chanv_job *job, struct chanv_needed *out,
                               struct chanv_extent *extents, size_t extents_room,
                               struct chanv_area *fetch, size_t fetch_room,
@@ -148,7 +147,7 @@ static struct layout layout_of(const void *memory, const struct chanv_needed *co
     return at;
 }
 
-/* How many bytes the lists take at any address: all padding is counted, though less may be left. */
+/* How many bytes the lists take at any address: it counts all padding, though less may be used. */
 static size_t total_of(const struct chanv_needed *counts)
 {
     struct layout from_start = layout_of(NULL, counts);
@@ -177,7 +176,7 @@ static enum chanv_answer ask_into(uint8_t *memory, const struct chanv_needed *ro
                        rooms->kept_len);
 }
 
-/* Moves the lists down to where they leave no room between them. */
+/* Moves the lists down, so that there is no room between them. */
 static void close_up(uint8_t *memory, const struct layout *from, const struct layout *to)
 {
     memmove(memory + to->store, memory + from->store, to->keep - to->store);
@@ -206,8 +205,8 @@ static struct chanv_program program_at(uint8_t *memory, const struct layout *at,
     };
 }
 
-/* It asks once if the memory is ample, and else a second time for just the room that is needed. If
- * that doesn't suffice then, the program has changed in between. */
+/* Asks once if the memory is ample, and otherwise a second time with just the room that the first
+ * answer names. If that room is too small then, the program has changed in between. */
 enum chanv_answer chanv_take_in(const struct chanv_job *job, void *memory, size_t room, size_t *len,
                                 struct chanv_program *program, struct chanv_needed *out)
 {

@@ -7,12 +7,16 @@ lines, and an empty line and `For more information, try '--help'.` after them.
 """
 
 import shlex
+from random import Random
 
 from building import version
+from cures import said_beside
 from examples import EXAMPLES, SEARCH_LOOP, listed_with, picture_of, status_of, verdicts_of
 from faults import texts_of_help
+from needs import NO_JOB
 from running import Ran, run, text_of
 
+SEED, SHOWN_CCWS = 69, 60
 LOOP, CHANGES, END = "search-loop.deck", "changes-itself.deck", "end-of-storage.deck"
 CHANGED = "chained-and-fresh.deck"
 ENDINGS = {"list": "list", "why": "why", "why --all": "all", "graph": "dot", "needs": "needs"}
@@ -54,7 +58,7 @@ ASKED = [
     (f"needs {LOOP} {END} -", "needs", [LOOP, END, "-"]),
 ]
 
-FOUND = "000800 no 000818 changes-argument\n"
+FOUND = "000800 no 000818 changes-argument 4 CCWs: seek, search-id-equal, read-data\n"
 NOTE = "note: no --device, so 2314\n"
 IS_DECK = "note: this is a deck; chanv verify judges it\n"
 IS_PAST = "chanv: core.bin: image past storage\n"
@@ -63,11 +67,16 @@ CCW, SHOWN = "06000A0020000050", "06 000A00 --L--0 00 0050 read\n"
 NAMED, TRANSFER = "06 000A00 --L--0 00 0050 read read-data\n", "transfer-in-channel"
 NOT_CCW = "chanv: not a CCW\n"
 NO_SUCH_WORD = "chanv: no such word; chanv explain lists all words\n"
+EVERY_SEEK = "mask D8: inhibits seek, seek-cylinder, recalibrate, seek-head\n"
+NEAR = "chanv: no such word; the nearest is {}, and chanv explain lists all words\n"
 OTHERS = [
     (f"show {CCW}", Ran(0, SHOWN)),
     (f"show -- {CCW}", Ran(0, SHOWN)),
     (f"show --name {CCW}", Ran(0, NAMED)),
     ("show --name '06 000A00 20 00 0050'", Ran(0, NAMED)),
+    # what `show` prints, and what `show --name` prints
+    ("show --name '06 000A00 --L--0 00 0050 read'", Ran(0, NAMED)),
+    ("show --name '06 000A00 --L--0 00 0050 read read-data'", Ran(0, NAMED)),
     ("show ' 0x 06000a00 20000050 ' --name", Ran(0, NAMED)),
     ("show --name 0X06000A0020000050", Ran(0, NAMED)),
     ("show --name 0800080000000000", Ran(0, f"08 000800 -----0 00 0000 transfer {TRANSFER}\n")),
@@ -93,6 +102,15 @@ OTHERS = [
     ("show -- -06", Ran(4, "", "chanv: not a CCW\n")),
     ("explain no-such-word-at-all", Ran(4, "", NO_SUCH_WORD)),
     ("explain -- --", Ran(4, "", NO_SUCH_WORD)),
+    # several words are joined by blanks, as if they were in quotation marks
+    ("explain mask b", Ran(4, "", NO_SUCH_WORD)),
+    ("explain mask D8", Ran(0, EVERY_SEEK)),
+    ("explain 'mask D8'", Ran(0, EVERY_SEEK)),
+    ("explain too many places", Ran(0, "too many places: see too-many-places\n")),
+    ("explain Too 'Many Places'", Ran(0, "too many places: see too-many-places\n")),
+    ("explain too '' many places", Ran(4, "", NEAR.format("too many places"))),
+    ("explain too manny places", Ran(4, "", NEAR.format("too many places"))),
+    ("explain seek read-data", Ran(4, "", NO_SUCH_WORD)),
     ("find core.bin", Ran(0, FOUND, NOTE)),
     ("find --device 2314 core.bin", Ran(0, FOUND)),
     ("find --device=2314 --limit 2 -- core.bin", Ran(0, "000800 too many places\n")),
@@ -111,22 +129,23 @@ HELP = dict.fromkeys(
     ["--help", "-h", "help", "--help x", "help --help", "help -h"], "--help"
 ) | {
     f"{front}{command}{back}": f"help {command}"
-    for command in ("verify", "list", "why", "graph", "needs", "find", "deck", "explain", "show")
+    for command in ("verify", "list", "why", "needs", "graph", "find", "deck", "explain", "show")
     for front, back in (("", " --help"), ("", " -h"), ("help ", ""))
 }
 
 PROGRAM = """\
 chanv verify [FILE]...
-       chanv list [FILE]...
-       chanv why [--all] [FILE]...
+       chanv list [--wide] [FILE]...
+       chanv why [--all|--of <ADDRESS>] [FILE]...
+       chanv needs [--deck] [FILE]...
        chanv graph [FILE]
-       chanv needs [FILE]...
        chanv find [OPTIONS] [FILE]
        chanv deck --start <ADDRESS> <--least|--open> [OPTIONS] [FILE]
        chanv deck --start <ADDRESS> --extent <FIRST-LAST> [OPTIONS] [FILE]
-       chanv explain [WORD]
+       chanv explain [WORD]...
        chanv show [--name] <CCW>"""
-VERIFY, WHY = "chanv verify [FILE]...", "chanv why [--all] [FILE]..."
+VERIFY, WHY = "chanv verify [FILE]...", "chanv why [--all|--of <ADDRESS>] [FILE]..."
+LIST, NEEDS = "chanv list [--wide] [FILE]...", "chanv needs [--deck] [FILE]..."
 FIND = "chanv find [OPTIONS] [FILE]"
 ONE_FILE = "chanv {} takes one FILE; run it once for each"
 ONE_CCW = "chanv show takes one CCW; put it in quotation marks after --name"
@@ -137,6 +156,8 @@ chanv deck --start <ADDRESS> <--least|--open> [OPTIONS] [FILE]
 SHOW = "chanv show [--name] <CCW>"
 EXTRA = "unexpected argument 'b' found"
 LACKING = "the following required arguments were not provided:"
+NOT_BOTH = "the argument '--all' cannot be used with '--of <ADDRESS>'"
+WRONG_OF = "invalid value '{}' for '--of <ADDRESS>': "
 TWICE = "the argument '{}' cannot be used multiple times"
 NO_VALUE = "a value is required for '{}' but none was supplied"
 STRAY = "unexpected argument '{}' found"
@@ -171,7 +192,25 @@ FAULTS = [
     ("find --start 800 core.bin", STRAY.format("--start"), FIND),
     ("find core.bin --start=800", STRAY.format("--start"), FIND),
     ("find --limit", NO_VALUE.format("--limit <PLACES>"), ""),
+    ("verify --wide", STRAY.format("--wide"), VERIFY),
+    ("list --wide=x", NO_MORE.format("x", "--wide"), LIST),
+    ("list --wide --wide", TWICE.format("--wide"), LIST),
+    ("needs --deck=x", NO_MORE.format("x", "--deck"), NEEDS),
+    ("needs --deck --deck", TWICE.format("--deck"), NEEDS),
     ("why --all=x", NO_MORE.format("x", "--all"), WHY),
+    ("why --of", NO_VALUE.format("--of <ADDRESS>"), ""),
+    ("why --of 8 --of 8", TWICE.format("--of <ADDRESS>"), WHY),
+    (f"why --all --of 810 {CHANGES}", NOT_BOTH, ""),
+    (f"why --of 810 {CHANGES} --all", NOT_BOTH, ""),
+    ("why --of +8", f"{WRONG_OF.format('+8')}a hexadecimal address, at most FFFFFF", ""),
+    ("why --of ''", f"{WRONG_OF.format('')}a hexadecimal address, at most FFFFFF", ""),
+    ("why --of 0x1000000", f"{WRONG_OF.format('0x1000000')}above FFFFFF", ""),
+    (
+        "why --of 1000000",
+        f"{WRONG_OF.format('1000000')}1000000 is hexadecimal here (16,777,216): above FFFFFF; "
+        "1,000,000 is F4240",
+        "",
+    ),
     ("why --all --all", TWICE.format("--all"), WHY),
     ("show", f"{LACKING}\n  <CCW>", SHOW),
     ("show --name", f"{LACKING}\n  <CCW>", SHOW),
@@ -179,7 +218,6 @@ FAULTS = [
     ("show 06 000A00 20 00 0050", ONE_CCW, SHOW),
     ("show --name 06 000A00 20 00 0050", ONE_CCW, SHOW),
     ("show -06", STRAY.format("-0"), SHOW),
-    ("explain mask b", EXTRA, "chanv explain [WORD]"),
     ("deck", f"{LACKING}\n  --start <ADDRESS>", DECK),
     ("deck core.bin", f"{LACKING}\n  --start <ADDRESS>", DECK),
     ("deck --mask 00", f"{LACKING}\n  --start <ADDRESS>", DECK),
@@ -206,13 +244,13 @@ def answer(command, deck, name, is_among):
         text = text_of(path.with_suffix(f".{ENDINGS[command]}"))
     if command == "graph":
         text = picture_of(path, name if name != "-" else "")
-    notes = text_of(path.with_suffix(".notes")) if "notes" in listed else ""
     status = 1 if text.startswith("no ") or command != "needs" and status else 0
     heading = f"{name}:\n" if is_among and command in ("list", "needs") else ""
     is_named = command == "verify" or command.startswith("why")
-    notes = notes.replace("note: ", f"{front if is_among else ''}note: ")
-    notes = notes if command.startswith("why") else ""
-    return Ran(status, f"{heading}{front if is_named else ''}{text}", notes)
+    beside = said_beside(path, name, is_among) if command.startswith("why") else ""
+    if command == "needs" and status:
+        beside = f"{front if is_among else ''}{NO_JOB}"
+    return Ran(status, f"{heading}{front if is_named else ''}{text}", beside)
 
 
 def answers(command, inputs):
@@ -229,6 +267,35 @@ def fault(text, usage):
     return Ran(4, "", f"error: {text}\n{shown}\nFor more information, try '--help'.\n")
 
 
+def check_shown(checks, program):
+    """`show --name` accepts what `show` prints of any CCW, with the name of the command or without;
+    but neither a wrong group or name nor wrong flags."""
+    random = Random(SEED)
+    for _ in range(SHOWN_CCWS):
+        word = random.randbytes(8)
+        digits = word.hex().upper()
+        named, plain = (run(program, "show", *how, digits) for how in (["--name"], []))
+        for line in (named.output, plain.output):
+            checks.expect(f"show --name '{line}'", named, run(program, "show", "--name", line[:-1]))
+        code, address, flags, spare, count, group, name = named.output.split()
+        wrong_group = "write" if group == "read" else "read"
+        wrong_name = "seek" if name == "erase" else "erase"
+        at = random.randrange(5)
+        other = "X" if flags[at] == "-" else "DCLSP"[at - 1]
+        wrong_flags = f"{flags[:at]}{other}{flags[at + 1 :]}"
+        for what, words in [
+            ("another group", [code, address, flags, spare, count, wrong_group]),
+            ("another name", [code, address, flags, spare, count, group, wrong_name]),
+            ("no group", [code, address, flags, spare, count, name]),
+            ("a word more", [code, address, flags, spare, count, group, name, name]),
+            ("other letters", [code, address, wrong_flags, spare, count, group]),
+            ("a low digit of 8", [code, address, f"{flags[:5]}8", spare, count, group]),
+        ]:
+            ran = run(program, "show", "--name", " ".join(words))
+            is_so = (ran.status, ran.output) == (4, "") and ran.error.startswith(NOT_CCW)
+            checks.expect_that(f"show --name of {digits} with {what}", is_so, ran)
+
+
 def rows():
     """Each command line, and what comes of it."""
     yield from ((line, answers(command, inputs)) for line, command, inputs in ASKED)
@@ -243,3 +310,4 @@ def check(checks, built):
     for line, expected in rows():
         ran = run(program, *shlex.split(line), given=SEARCH_LOOP, cwd=EXAMPLES)
         checks.expect(f"chanv {line}", expected, ran)
+    check_shown(checks, program)

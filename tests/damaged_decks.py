@@ -3,10 +3,12 @@
 Each front of the deck's 205 bytes is refused as `ended`, at the line that is one more than its
 number of line feeds. Each byte replaced by `~` is refused at its own line: the first thirteen as
 `header`, the last, without which the last line has no end, as `ended`, and each other as `form`.
-`why` shows the line, or writes that the text has ended, and says what was expected: by docs/WHY.md
-a line feed after a piece of a line, and else the forms that may come there.
+`why` shows the line, or writes that the text has ended, and says what was expected: by
+docs/OUTPUT.md a line feed after a piece of a line, and else the forms that may come there. If one
+form may come there, a caret marks the first character that is wrong.
 """
 
+from carets import caret_under
 from examples import SEARCH_LOOP
 from running import Ran, run
 
@@ -68,6 +70,8 @@ def check(checks, built):
             if action == "why":
                 piece = (deck.decode().split("\n") + [""])[line - 1]
                 expected = expected_at(line, piece, cause)
-                complaint += f"found {found_in(piece)}\nexpected {expected}\n"
+                found = found_in(piece)
+                caret = caret_under(found, expected, cause)
+                complaint += f"found {found}\n{caret}expected {expected}\n"
             ran = run(program, action, given=deck)
             checks.expect(f"{action}, {name}", Ran(2, "", complaint), ran)

@@ -3,7 +3,8 @@
 `chanv verify` prints a deck's line of the folder's verdicts.txt and nothing else. That line lists
 the files next to the deck: NAME.list, NAME.why, NAME.all, NAME.dot and NAME.needs have the output
 of `chanv list`, `why`, `why --all`, `graph` and `needs`, and NAME.notes what `why` writes on
-standard error. A file that is listed has to be there, and one that isn't listed must not be.
+standard error over standard input. A file that is listed has to be there, and one that isn't listed
+must not be.
 """
 
 from building import short
@@ -17,6 +18,7 @@ from examples import (
     status_of_needs,
     verdicts_of,
 )
+from needs import NO_JOB
 from running import Ran, run, text_of
 
 COMMANDS = {"list": "list", "why": "why", "all": "why --all", "dot": "graph", "needs": "needs"}
@@ -34,6 +36,7 @@ def check_deck(checks, program, deck, verdict):
         text = text_of(deck.with_suffix(f".{ending}"))
         ended = status_of_needs(text) if ending == "needs" else status
         error = notes if ending in ("why", "all") else ""
+        error = NO_JOB if ending == "needs" and ended == 1 else error
         ran = run(program, *COMMANDS[ending].split(), given=deck)
         checks.expect(f"{COMMANDS[ending]} {name}", Ran(ended, text, error), ran)
 

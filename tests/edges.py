@@ -7,9 +7,11 @@ import tempfile
 from pathlib import Path
 
 from command_lines import NO_SUCH_WORD
+from cures import UNSEEN
 from examples import EXAMPLES, SEARCH_LOOP
 from faults import texts_of_help
 from running import Ran, run, run_in_bash, text_of
+from wide import two_ways_deck
 
 MOST_BYTES = 67_108_864
 CCW, CCW_LINE = "06000A0020000050", "06 000A00 --L--0 00 0050 read\n"
@@ -70,7 +72,9 @@ def check_places(checks, program, deck):
     ]:
         deck.write_text(text)
         checks.expect(name, expected, run(program, given=deck))
-    may_rise = "; a deck of version 2 may raise it to 65536 by its line limit"
+    may_rise = (
+        "; the line limit of a deck of version 2, or --limit of chanv deck, may raise it to 65536"
+    )
     for limit, how in [
         (2, may_rise),
         (5000, may_rise),
@@ -99,11 +103,11 @@ end
 """
 
 # how the notes on CCWs go on
-MAY_CHANGE = "the processor may change any byte that chanv needs doesn't list as keep"
-MOVES_NOTHING = "chain data counts, and it moves no data"
+MAY_CHANGE = "the processor may then change any byte not listed as keep by chanv needs"
+MOVES_NOTHING = "chain data is on, and the command moves no data"
 IGNORED = "in byte 5, which the channel ignores; flags are in byte 4"
 
-# what docs/WHY.md says of it, in its order
+# what docs/OUTPUT.md says of it, in its order
 NOTES = f"""\
 note: fetch 000FF0 000020 reaches past storage
 note: store 000FF8 000010 reaches past storage
@@ -143,8 +147,8 @@ def check_order_of_notes(checks, program):
 
 def check_exchanged_areas(checks, program):
     """After a no, a note on a range that is lent whole, but the other way."""
-    storing = "note: the whole range is lent for storing\n"
-    fetching = "note: the whole range is lent for fetching\n"
+    storing = "note: the whole range is lent, but for storing\n"
+    fetching = "note: the whole range is lent, but for fetching\n"
     exchanged = "fetch 000A00 000100\nstore 000900 000005"
     for name, lent, verdict, note in [
         ("exchanged", exchanged, "fetch-not-lent", storing),
@@ -155,8 +159,14 @@ def check_exchanged_areas(checks, program):
         ("for fetching but for a byte", "fetch 000900 00014F", "store-not-lent", ""),
     ]:
         ran = run(program, "why", given=EXCHANGED.replace(exchanged, lent).encode())
+        # the search leads on, and the read doesn't
+        note += f"{UNSEEN}\n" if verdict == "fetch-not-lent" else ""
         is_so = ran.status == 1 and ran.output.split()[2] == verdict and ran.error == note
         checks.expect_that(f"areas lent {name}", is_so, ran)
+    # a write's data chain that a transfer leads to the CCW of a read isn't a matter of the areas
+    ran = run(program, "why", given=two_ways_deck().encode())
+    is_so = "fetch-not-lent" in ran.output and ran.error == f"{UNSEEN}\n"
+    checks.expect_that("areas lent for the CCW's other way", is_so, ran)
     for words in ("verify", "list", "needs"):
         ran = run(program, words, given=EXCHANGED.encode())
         checks.expect(f"{words} over exchanged areas", "", ran.error)

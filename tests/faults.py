@@ -13,16 +13,17 @@ from functools import partial
 from pathlib import Path
 from typing import NamedTuple
 
-from building import HERE, ROOT, version
+from building import HERE, version
+from cures import said_beside
 from examples import (
     EXAMPLES,
     SEARCH_LOOP,
-    listed_with,
     picture_of,
     status_of,
     status_of_needs,
     verdicts_of,
 )
+from needs import NO_JOB, least_lines
 from running import Ran, run_in_bash, text_of
 from words import LISTS_ALL, sections_of
 
@@ -33,12 +34,23 @@ WRITE_FAILED = "chanv: write failed\n"
 ANSWERED = {"yes": "search-loop", "noted": "trips", "no": "chained-and-fresh"}
 ENDINGS = {"list": ".list", "why": ".why", "graph": ".dot", "needs": ".needs"}
 
-LIMIT = "the limit is 2; a deck of version 2 may raise it to 65536 by its line limit\n"
+WIDE = """\
+   address   entered  flags   data            command              does
+   000800    fresh    -C---0  000900-000904   search-id-equal      fetches until found
+   000808    fresh    -----0  -> 000800       transfer-in-channel
+   000810    fresh    --L--0  000A00-000A4F   read-data            stores
+yes
+"""
+LIMIT = (
+    "the limit is 2; the line limit of a deck of version 2, or --limit of chanv deck, may raise it "
+    "to 65536\n"
+)
+CARET, MASK = " " * 10 + "^\n", "mask XX, where X is 0-9 or A-F\n"
 
 # The other decks: the status, what is said, and what is added by `why`, and over a named FILE that
 # isn't a deck by all. `closed` is standard input that is closed, and there is no `nowhere`.
 REFUSED = {
-    "damaged": (2, "deck line 3: form\n", "found mask\nexpected mask XX, where X is 0-9 or A-F\n"),
+    "damaged": (2, "deck line 3: form\n", f"found mask\n{CARET}expected {MASK}"),
     "empty": (
         2,
         "deck line 1: ended\n",
@@ -52,8 +64,9 @@ REFUSED = {
 }
 
 FIND = ["find", "--device", "2314"]
+FOUND = "000800 no 000818 changes-argument 4 CCWs: seek, search-id-equal, read-data\n"
 NONE_FOUND = (
-    "note: no program found; if the image is only a part of storage, give --at and --storage\n"
+    "note: no program found; if the image is a part of storage, give --at and --storage\n"
 )
 # images of storage that `find` and `deck` refuse; `long` is longer than storage may be too
 OF_IMAGE = "deck --device 2314 --start 800 --extent 10-19 --fetch 900+10 --store 900+10".split()
@@ -134,13 +147,14 @@ def of_deck(action, deck, name="", is_among=False):
     front = f"{name}: " if name and action in ("verify", "why") else ""
     if action == "verify":
         return Ran(status_of(verdict), f"{front}{verdict}\n")
-    notes = example.with_suffix(".notes")
-    error = text_of(notes) if action == "why" and "notes" in listed_with(example) else ""
+    error = said_beside(example, name, is_among) if action == "why" else ""
     front = f"{name}:\n" if is_among and action in ("list", "needs") else front
     text = text_of(example.with_suffix(ENDINGS[action]))
     if action == "graph":
         text = picture_of(example, name)
     status = status_of_needs(text) if action == "needs" else status_of(verdict)
+    if action == "needs" and status:
+        error = f"{name}: {NO_JOB}" if is_among else NO_JOB
     return Ran(status, f"{front}{text}", error)
 
 
@@ -157,7 +171,7 @@ def of_image(image, name=""):
 def found_in(image, name=""):
     """What `find` writes of an image of storage; one of no bytes has no program."""
     if image == "core":
-        return Ran(0, "000800 no 000818 changes-argument\n")
+        return Ran(0, FOUND)
     if image == "empty":
         return Ran(0, "", NONE_FOUND)
     return refused("find", REFUSED_IMAGES[image], name)
@@ -184,6 +198,26 @@ def over_decks():
         yield from over_each([action], known, partial(of_deck, action))
 
 
+def over_options():
+    """Options that change what a command writes; the deck `no` offends at 000808 alone."""
+    no = EXAMPLES / "chained-and-fresh.deck"
+    why, notes = text_of(no.with_suffix(".why")), text_of(no.with_suffix(".notes"))
+    absent = f"note: no offence at 000810\n{notes}"
+    deck = text_of(SEARCH_LOOP)
+    needed = text_of(SEARCH_LOOP.with_suffix(".needs")).splitlines()
+    least = "".join(f"{line}\n" for line in least_lines(deck, needed))
+    yield Run(["list", "--wide"], "yes", [Ran(0, WIDE)])
+    yield Run(["needs", "--deck"], "yes", [Ran(0, least)])
+    yield Run(["needs", "--deck"], "no", [Ran(1, text_of(no.with_suffix(".needs")), NO_JOB)])
+    yield Run(["why", "--of", "808"], "no", [Ran(1, why, notes)])
+    yield Run(["why", "--of", "810"], "no", [Ran(1, why, absent)])
+    yield Run(["why", "--of", "810"], "yes", [Ran(0, "yes\n", absent.partition("\n")[0] + "\n")])
+    for words in (["list", "--wide"], ["needs", "--deck"], ["why", "--of", "808"]):
+        for deck in REFUSED:
+            if deck not in ("nowhere", "many"):
+                yield Run(words, deck, [of_deck(words[0], deck)])
+
+
 def over_two_decks(action):
     names = ["yes", "no", "damaged", "empty", "many", "folder", "nowhere", "-"]
     parts = [of_deck(action, "closed" if name == "-" else name, name, True) for name in names]
@@ -194,7 +228,7 @@ def over_two_decks(action):
 
 def over_nothing():
     """Words that need no input, and wrong ones."""
-    meaning = sections_of(text_of(ROOT / "docs/WORDS.md"))["changes-ccw"]
+    meaning = sections_of(text_of(HERE / "explain.txt"))["changes-ccw"]
     usage = re.search(r"(?s)Usage: .*?\n\n", texts_of_help()["--help"])[0]
     fault = f"error: unrecognized subcommand 'judge'\n\n{usage}"
     for words, part in [
@@ -236,6 +270,7 @@ def helps():
 
 def runs():
     yield from over_decks()
+    yield from over_options()
     yield from over_two_decks("verify")
     yield from over_two_decks("why")
     yield from over_two_decks("list")

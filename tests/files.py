@@ -11,15 +11,17 @@ import shutil
 import tempfile
 from pathlib import Path
 
+from cures import said_beside
 from examples import CHANGES_ITSELF, EXAMPLES, SEARCH_LOOP, TEXTS
 from running import Ran, run, run_in_bash, text_of
 
 YES, NO = "yes: yes\n", "no: no 000810 changes-ccw\n"
 WHY_NO = f"no: {text_of(CHANGES_ITSELF.with_suffix('.why'))}"
+CURES = said_beside(CHANGES_ITSELF, "no")
 DAMAGED = "deck line 3: form\n"
 # areas that the program doesn't use
 VAIN = TEXTS / "lent-in-vain.deck"
-HINT = "found mask\nexpected mask XX, where X is 0-9 or A-F\n"
+HINT = "found mask\n          ^\nexpected mask XX, where X is 0-9 or A-F\n"
 EMPTY_HINT = "found the end of the text\nexpected chanv deck 1, chanv deck 2\n"
 
 
@@ -46,7 +48,7 @@ def check_names(checks, program, folder):
     """Standard input is the deck `no`."""
     listing, notes = text_of(EXAMPLES / "search-loop.list"), text_of(VAIN.with_suffix(".notes"))
     missing, damaged = "chanv: nowhere: cannot open: no such file\n", f"chanv: damaged: {DAMAGED}"
-    among = damaged + of_one("damaged", HINT)
+    among, cures = damaged + of_one("damaged", HINT), of_one("no", CURES)
     for words, status, output, error in [
         ("verify yes", 0, YES, ""),
         ("verify no", 1, NO, ""),
@@ -67,11 +69,11 @@ def check_names(checks, program, folder):
         ("list yes damaged", 2, f"yes:\n{listing}", among),
         ("why damaged", 2, "", damaged + HINT),
         ("why yes", 0, YES, ""),
-        ("why no", 1, WHY_NO, ""),
-        ("why no yes damaged no", 2, WHY_NO + YES + WHY_NO, among),
-        ("why nowhere no", 3, WHY_NO, missing),
+        ("why no", 1, WHY_NO, CURES),
+        ("why no yes damaged no", 2, WHY_NO + YES + WHY_NO, cures + among + cures),
+        ("why nowhere no", 3, WHY_NO, missing + cures),
         ("why vain", 0, "vain: yes\n", notes),
-        ("why vain no", 1, f"vain: yes\n{WHY_NO}", of_one("vain", notes)),
+        ("why vain no", 1, f"vain: yes\n{WHY_NO}", of_one("vain", notes) + cures),
         ("verify vain", 0, "vain: yes\n", ""),
         ("needs vain", 0, text_of(VAIN.with_suffix(".needs")), ""),
         ("list nowhere", 3, "", missing),
@@ -93,7 +95,7 @@ def check_standard_input(checks, program, folder):
         ("damaged", "verify - yes", 2, YES, f"chanv: -: {DAMAGED}{of_one('-', HINT)}"),
         ("end", "verify yes -", 1, f"{YES}-: no 001000 outside-storage\n", ""),
         ("yes", "verify - -", 2, "-: yes\n", ended),
-        ("no", "why yes -", 1, YES + WHY_NO.replace("no:", "-:", 1), ""),
+        ("no", "why yes -", 1, YES + WHY_NO.replace("no:", "-:", 1), of_one("-", CURES)),
         ("no", "why -", 1, WHY_NO.removeprefix("no: "), ""),
         ("yes", "list -", 0, listing, ""),
     ]:

@@ -1,11 +1,13 @@
-"""`chanv find` lists the programs of docs/FIND.md: a reading of that page over many small images.
+"""`chanv find` lists the starts that docs/OLD-PROGRAMS.md defines, in many small images.
 
-The page is read anew here, over the places and faults of model/, and not as the code finds the
-programs. The images are storages of random jobs, two of them in a row, example decks in noise, and
-bytes that are often CCWs. Then come large images of one shape each. `find` of the package for
-Python, which calls `chanv_find`, lists the same starts.
+The definition is read anew here, over the places and faults of model/, and not as the code finds
+the programs. The images are storages of random jobs, two of them in a row, example decks in noise, and
+bytes that are often CCWs. Behind the verdict a line has the number of the program's CCWs and the
+names of its first commands, which are read anew too. Then come large images of one shape each.
+`find` of the package for Python, which calls `chanv_find`, lists the same starts.
 """
 
+import re
 import sys
 import tempfile
 from pathlib import Path
@@ -20,11 +22,20 @@ from running import Ran, run, text_of
 sys.path.insert(0, str(HERE / "model"))
 
 from channel import CHAIN_COMMAND, COMMANDS, ccw_at  # noqa: E402
-from judging import FRESH, Job, Place, own_fault, successors  # noqa: E402
+from judging import (  # noqa: E402
+    FRESH,
+    Job,
+    Place,
+    command_at,
+    first_place,
+    own_fault,
+    successors,
+)
 from making import SIZE, random_job  # noqa: E402
 from writing import job_of  # noqa: E402
 
 SEED, IMAGES, LIMIT = 43, 2400, 200
+MOST_NAMES = 4
 MOST_STORAGE = 0x1000
 LARGEST = 16_777_216
 
@@ -84,8 +95,27 @@ def lines_of(image, device):
         yield NONE_FOUND.strip()
     for start in starts:
         answer = Answer(job._replace(start=start))
-        verdict = "too many places" if answer.is_too_large else answer.verdict
-        yield f"{start:06X} {verdict}"
+        told = "too many places" if answer.is_too_large else f"{answer.verdict} {shape_of(answer)}"
+        yield f"{start:06X} {told}"
+
+
+def shape_of(answer):
+    """How many CCWs a program has, and the names of the commands that it comes to first, each CCW
+    once: one after another, of a search first that which comes if it fails."""
+    job, faults = answer.job, answer.faults
+    count = len({place.address for place in faults if ccw_at(job.storage, place.address)})
+    names, met, left = {}, set(), [first_place(job)]
+    for place in left:
+        if place in met:
+            continue
+        met.add(place)
+        ccw = ccw_at(job.storage, place.address)
+        command = command_at(place, ccw) if ccw else None
+        if command and len(names) < MOST_NAMES:
+            names.setdefault(place.address, command.name)
+        left += [] if faults[place] else successors(place, ccw)
+    named = f": {', '.join(names.values())}" if names else ""
+    return f"{count} CCW{'s' if count != 1 else ''}{named}"
 
 
 def noise(random, size, is_ccws):
@@ -129,6 +159,7 @@ def check_images(checks, program, device, random, storages):
         answers = answers_of_each(program, command, images)
         for (path, image), lines in zip(images.items(), answers, strict=True):
             wanted = [*lines_of(image, device), "status 0"]
+            lines = [line for line in lines if not FITTING.fullmatch(line)]
             checks.expect(f"{command} {path.name}", wanted, lines)
             found += sum(not line.startswith(("note:", "status")) for line in lines)
         checks.expect_that(f"there are programs for the {device}", found > IMAGES // 4, found)
@@ -153,8 +184,10 @@ def check_large(checks, program):
     checks.expect("an image that is too long", wanted, ran)
 
 
+# what `beginnings` tries
+FITTING = re.compile(r"note: \d+ search loops fit if the image begins at (\w+): say --at \w+")
 NONE_FOUND = (
-    "note: no program found; if the image is only a part of storage, give --at and --storage\n"
+    "note: no program found; if the image is a part of storage, give --at and --storage\n"
 )
 
 
@@ -187,7 +220,7 @@ def check(checks, built):
         check_images(checks, program, device, random, storages)
     check_large(checks, program)
     check_library(checks, package(built), random, storages)
-    wanted = "000800 no 000818 changes-argument\n"
+    wanted = "000800 no 000818 changes-argument 4 CCWs: seek, search-id-equal, read-data\n"
     note = "note: no --device, so 2314\n"
     ran = run(program, "find", EXAMPLES / "core.bin")
     checks.expect("the example of the page", Ran(0, wanted, note), ran)

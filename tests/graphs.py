@@ -7,9 +7,10 @@ from transfers without a fault; each arrow is a successor, through such a transf
 successor has its arrow, is the next row of its box, or is a search that a transfer repeats; and the
 pink boxes are exactly the places that offend, with their reasons. An arrow within a box begins and
 ends at its rows, and one that says `stores over` leads from the row that stores to the row of the
-CCW or of a CCW that takes the argument. The title has the verdict and the grants, a row says what
-its CCW does with its data, the arrow from `start` leads to the first row of a box, and the boxes of
-one address, and no others, are in its frame.
+CCW or of a CCW that takes the argument. The title has the verdict, the grants and the notes, a row
+says what its CCW does with its data, what it sets and what stores over it, the arrow from `start`
+leads to the first row of a box, the boxes of one address, and no others, are in its frame, and the
+boxes from which the program never ends, and no others, say so.
 """
 
 import re
@@ -32,26 +33,30 @@ sys.path.insert(0, str(HERE / "model"))
 from channel import ccw_at  # noqa: E402
 from judging import (  # noqa: E402
     FRESH,
+    NUMBER,
     REASONS,
     Job,
     Place,
     command_at,
     does_fetch,
     does_store,
+    endless,
     first_place,
     guarded,
     offences,
+    path_to,
     reachable,
+    stored_over,
     successors,
 )
 from making import changed, random_job  # noqa: E402
-from writing import deck_of, job_of, verdict_of  # noqa: E402
+from writing import deck_of, job_of, setting_text, verdict_of  # noqa: E402
 
 SEED, JOBS = 55, 500
 # a longer listing takes the model long, and above so many boxes arrows have no labels
 MOST_PLACES, MOST_LABELLED = 1000, 200
 # of a longer box the first and the last half of so many rows are drawn; extents that a title names
-MOST_ROWS, MOST_EXTENTS = 40, 4
+MOST_ROWS, MOST_EXTENTS, MOST_NOTES = 40, 4, 8
 WAYS = {"fresh": FRESH, "in": "inward", "out": "outward", "search": "search"}
 
 TITLE = re.compile(r'digraph program \{\n  graph \[label="((?:[^"\\]|\\.)*)"')
@@ -61,7 +66,10 @@ FRAME = re.compile(r'  subgraph "cluster_(\w+)" \{.*')
 ARROW = re.compile(r'  "([^"]*)"(?::(\w+):e)? -> "([^"]*)"(?::(\w+):e)?(?: \[(.*)\])?;')
 CHAINED = re.compile(r"chained, (\w+)")
 UNTIL = re.compile(r"until found \(TIC (\w+)\)")
-MOVES = re.compile(r"  (stores |fetches|skips  ) (\w+-\w+)")
+MOVES = re.compile(r"  (stores |fetches|skips  ) (\w+(?:-\w+)?)")
+SETTING = re.compile(r"  (\((?:cylinder|mask) [^)]*\))")
+STORED = re.compile(r"  stored over by (\w+)$")
+PINK, YELLOW, ENDLESS = "#FFE9E9", "#FFF6D5", "never ends by itself"
 
 
 class Row(NamedTuple):
@@ -82,6 +90,7 @@ class Wanted:
     def __init__(self, job):
         self.job, self.storage, self.faults = job, job.storage, reachable(job)
         self.first = self.row(first_place(job))
+        self.stored = self.stored_by(offences(job, self.faults))
         places = [place for place in self.faults if not self.is_passage(place)]
         self.rows = sorted({self.row(place) for place in places}, key=self.order)
         self.passages = {place.address for place in self.faults if self.is_passage(place)}
@@ -90,6 +99,9 @@ class Wanted:
             self.reasons[self.row(place)].add(reason)
         self.arrows = {row: self.arrows_of(row) for row in self.rows}
         self.moves = {row: self.move_of(row) for row in self.rows}
+        self.settings = {row: setting_text(job, Place(*row)) or None for row in self.rows}
+        never = () if offences(job, self.faults) else endless(job, self.faults)
+        self.endless = {self.row(place) for place in never}
 
     @staticmethod
     def order(row):
@@ -100,7 +112,25 @@ class Wanted:
         return ccw is not None and ccw.is_transfer()
 
     def is_passage(self, place):
-        return self.is_transfer(place) and not self.faults[place]
+        is_stored = place.address in self.stored
+        return self.is_transfer(place) and not self.faults[place] and not is_stored
+
+    def stored_by(self, found):
+        """For each address of a CCW that is stored over what stores there: the first of the places
+        that so offend or, where the verdict's place has no command, one of the path to it."""
+        stored = {}
+        for place in [place for place, reason in found if reason == "changes-ccw"]:
+            ccw = ccw_at(self.storage, place.address)
+            data = range(ccw.address, ccw.address + ccw.count)
+            for address in {place.address for place in self.faults}:
+                if data.start < address + 8 and address < data.stop:
+                    stored.setdefault(address, place.address)
+        if found and NUMBER[found[0][1]] <= 8:
+            address, reason = found[0][0].address, found[0][1]
+            ends = {place for place, word in found if (place.address, word) == (address, reason)}
+            over = stored_over(self.job, path_to(self.job, self.faults, ends.__contains__))
+            stored.update({address: over.address} if over else {})
+        return stored
 
     def row(self, place):
         return Row(place.address, place.entered, self.is_transfer(place) and place.by_transfer)
@@ -135,7 +165,8 @@ class Wanted:
             verb = "skips  "
         else:
             return None
-        return verb, f"{ccw.address:06X}-{ccw.address + ccw.count - 1:06X}"
+        last = f"-{ccw.address + ccw.count - 1:06X}" if ccw.count > 1 else ""
+        return verb, f"{ccw.address:06X}{last}"
 
     def stored_over(self, row):
         """For each kind of guarded byte that a row stores over the addresses of which one is that
@@ -186,10 +217,12 @@ def over_ccw(data, address):
 class Drawn:
     """What a picture has: a title, boxes of rows, the frame of each, arrows and ends."""
 
-    def __init__(self, text):
+    def __init__(self, text, wanted=None):
+        self.wanted = wanted
         self.title = TITLE.match(text)[1]
         self.boxes, self.pink, self.left_out, self.until, self.moves = {}, {}, {}, {}, {}
-        self.named, self.cells = set(), {}
+        self.named, self.cells, self.settings, self.stored = set(), {}, {}, {}
+        self.endless = {}
         self.frames, frame = {}, None
         for line in text.splitlines():
             box, opened = BOX.fullmatch(line), FRAME.fullmatch(line)
@@ -223,7 +256,7 @@ class Drawn:
 
     def read_box(self, name, lines, style):
         address, way, transfer = name.split(" ")
-        rows, reasons, cells = [], set(), []
+        rows, reasons, cells, is_endless = [], set(), [], False
         for cell, line in lines:
             cells += [cell] if cell else []
             more = re.fullmatch(r"\.\.\. +(\d+) more", line)
@@ -232,20 +265,37 @@ class Drawn:
                 rows.append(None)
             elif line.endswith(":") and line[:-1] in REASONS:
                 reasons.add(line[:-1])
+            elif line == ENDLESS:
+                is_endless = True
             elif re.match(r"[0-9A-F]{6,} ", line):
                 chained = CHAINED.search(line)
                 entered = WAYS[chained[1]] if chained else WAYS[way] if not rows else FRESH
                 row = Row(int(line.split(" ")[0], 16), entered, False)
-                if not rows and "transfer-in-channel" in line:
-                    row = row._replace(by_transfer=transfer == "t")
+                if "transfer-in-channel" in line:
+                    row = self.transfer_in(rows, row, transfer == "t")
                 rows.append(row)
                 moves = MOVES.search(line)
                 self.moves[row] = (moves[1], moves[2]) if moves else None
+                setting, over = SETTING.search(line), STORED.search(line)
+                self.settings[row] = setting[1] if setting else None
+                if over:
+                    self.stored[row] = int(over[1], 16)
                 if UNTIL.search(line):
                     self.until[row] = int(UNTIL.search(line)[1], 16)
         self.boxes[name], self.cells[name] = rows, cells
-        if "bgcolor" in style:
+        if PINK in style:
             self.pink[name] = reasons
+        if YELLOW in style or is_endless:
+            self.endless[name] = YELLOW in style, is_endless
+
+
+    def transfer_in(self, rows, row, by_transfer):
+        """The row of a transfer, whose line doesn't say how it is entered: as its box says if it's
+        the first, and else as the row before leads there."""
+        if not rows:
+            return row._replace(by_transfer=by_transfer)
+        led = [target for target, *_ in self.wanted.arrows.get(rows[-1], [])]
+        return next((target for target in led if target.address == row.address), row)
 
 
 def check_rows(checks, name, wanted, drawn):
@@ -260,6 +310,12 @@ def check_rows(checks, name, wanted, drawn):
         checks.expect(f"the rows of {name}", wanted.rows, sorted(rows, key=wanted.order))
     moves = {row: wanted.moves[row] for row in rows}
     checks.expect(f"what the rows of {name} do with data", moves, drawn.moves)
+    settings = {row: wanted.settings[row] for row in rows}
+    checks.expect(f"what the rows of {name} set", settings, drawn.settings)
+    stored = {row: wanted.stored[row.address] for row in rows if row.address in wanted.stored}
+    checks.expect(f"what stores over the rows of {name}", stored, drawn.stored)
+    never = {box: (True, True) for box, rows in drawn.boxes.items() if rows[0] in wanted.endless}
+    checks.expect(f"the boxes of {name} that never end", never, drawn.endless)
     until = {row: wanted.until(row) for row in rows if wanted.until(row)}
     checks.expect(f"the searches of {name} that a transfer repeats", until, drawn.until)
     pink = {drawn.boxes[box][0]: reasons for box, reasons in drawn.pink.items()}
@@ -280,7 +336,7 @@ def check_long_box(checks, name, wanted, rows, more):
     checks.expect(f"the row after those left out of {name}", after, rows[half + 1])
 
 
-def check_title(checks, name, deck, job, found, drawn):
+def check_title(checks, name, deck, job, found, drawn, notes):
     cylinders = ", ".join(f"{first}-{last}" for first, last in job.extents[:MOST_EXTENTS])
     more = len(job.extents) - MOST_EXTENTS
     grants = [
@@ -289,7 +345,9 @@ def check_title(checks, name, deck, job, found, drawn):
         f"cylinders {cylinders}" + (f" and {more} more" if more > 0 else ""),
         f"storage {len(job.storage):07X}",
     ]
-    title = f"{deck}: {verdict_of(found)}\\n{', '.join(grants)}"
+    more = len(notes) - MOST_NOTES
+    notes = [*notes[:MOST_NOTES], *([f"{more} more notes"] if more > 0 else [])]
+    title = "\\n".join([f"{deck}: {verdict_of(found)}", ", ".join(grants), *notes])
     checks.expect(f"the title of {name}", title, drawn.title)
 
 
@@ -369,10 +427,11 @@ def check_arrows(checks, name, wanted, drawn):
     checks.expect(f"the labels of {name} on what was found", labels, drawn.found)
 
 
-def check_picture(checks, deck, job, text):
-    name, wanted, drawn = deck.stem, Wanted(job), Drawn(text)
+def check_picture(checks, deck, job, text, notes):
+    name, wanted = deck.stem, Wanted(job)
+    drawn = Drawn(text, wanted)
     found = offences(job, wanted.faults)
-    check_title(checks, name, deck, job, found, drawn)
+    check_title(checks, name, deck, job, found, drawn, notes)
     named = found[0][0].address if found else None
     boxes = {box for box, rows in drawn.boxes.items() if rows[0].address == named}
     checks.expect(f"the boxes of {name} with the address of its verdict", boxes, drawn.named)
@@ -406,6 +465,12 @@ RING, NO_DATA = [GOES_ON, GOES_ON, "0800000000000000"], ["0600008000000000"]
 # a read over a CCW that is drawn, and over one of those that are left out of a long box
 OVER_DRAWN = [*[GOES_ON] * 45, "0600001020000008"]
 OVER_LEFT_OUT = [*[GOES_ON] * 45, "060000B020000008"]
+# a read whose data chain leads through two transfers, of which the second isn't allowed
+TWO_TRANSFERS = ["0600008080000004", "0800001800000000", LAST, "0800001000000001"]
+# a read over the transfer of a search loop, and one over the whole program
+SEARCH_AGAIN = ["3100004040000005", "0800000000000000"]
+OVER_TRANSFER = [*SEARCH_AGAIN, "0600000F60000002", LAST]
+OVER_ALL = [*SEARCH_AGAIN, "0600000160000020", LAST]
 
 
 def job_over(ccws, start=0, extents=((0, 202),)):
@@ -416,7 +481,8 @@ def job_over(ccws, start=0, extents=((0, 202),)):
 
 def made_jobs():
     """Jobs that are rare among random ones."""
-    yield from map(job_over, [*LARGE, TWICE, NO_DATA, RING, OVER_DRAWN, OVER_LEFT_OUT])
+    rare = [*LARGE, TWICE, NO_DATA, RING, OVER_DRAWN, OVER_LEFT_OUT, OVER_TRANSFER, OVER_ALL]
+    yield from map(job_over, [*rare, TWO_TRANSFERS])
     yield job_over(RING, 8)
     for count in (3, 4, 5, 7):
         yield job_over([LAST], extents=[(10 * at, 10 * at + 5) for at in range(count)])
@@ -441,7 +507,7 @@ def jobs_of(room):
 
 def check(checks, built):
     # how many arrows lead to each kind of cell, each of which some picture has
-    within, over = Counter(), Counter()
+    within, over, told = Counter(), Counter(), Counter()
     with tempfile.TemporaryDirectory() as room:
         for deck, job in jobs_of(room):
             faults = reachable(job)
@@ -450,9 +516,20 @@ def check(checks, built):
             ran = run(built.chanv(), "graph", deck)
             status = 1 if offences(job, faults) else 0
             checks.expect(f"the status of {deck.stem}", status, ran.status)
-            drawn = check_picture(checks, deck, job, ran.output)
+            said = run(built.chanv(), "why", deck).error.splitlines()
+            notes = [line for line in said if line.startswith("note: ")]
+            drawn = check_picture(checks, deck, job, ran.output, notes)
             within.update(cell != "" for (_, cell), *_ in drawn.arrows)
             over.update(cell == "more" for _, (_, cell), _ in drawn.stores)
+            told["notes"] += bool(notes)
+            told["endless"] += bool(drawn.endless)
+            told["settings"] += any(drawn.settings.values())
+            told["stored over"] += bool(drawn.stored)
+            told["transfers"] += any(
+                (ccw := ccw_at(job.storage, row.address)) and ccw.is_transfer()
+                for row in drawn.stored
+            )
         check_names(checks, built.chanv(), Path(room))
     checks.expect_that("arrows within boxes, and between them", len(within) == 2, within)
     checks.expect_that("rows stored over, drawn and left out", len(over) == 2, over)
+    checks.expect_that("each thing that a picture tells comes", all(told.values()), told)

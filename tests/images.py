@@ -44,6 +44,8 @@ CURE = (
     "note: storage has {} bytes; give --storage if it has more, and --at if the image begins"
     " elsewhere\n"
 )
+OUTSIDE = "note: {} lies outside the image, so it is zero here\n"
+# and last, if it isn't empty, the first byte of the path or of an argument that the image lacks
 UNDOABLE = [
     (
         "zeros alone",
@@ -66,6 +68,7 @@ no 000800 invalid-code
 because code 00 is invalid
 """,
         "",
+        "000800",
     ),
     (
         "zeros after a command",
@@ -120,7 +123,7 @@ because 000000-00000F is not in storage of 0000008 bytes
         """\
 no 000000 data-outside
 000000 fresh t * 06 000010 -----0 00 0001 read read-data
-because 000010-000010 is not in storage of 0000010 bytes
+because 000010 is not in storage of 0000010 bytes
 """,
         "0000010",
     ),
@@ -131,10 +134,88 @@ because 000010-000010 is not in storage of 0000010 bytes
         """\
 no 000000 data-outside
 000000 fresh t * 06 000009 -----0 00 0001 read read-data
-because 000009-000009 is not in storage of 0000008 bytes
+because 000009 is not in storage of 0000008 bytes
 """,
         "0000008",
     ),
+    (
+        "a CCW of which a half is in the image",
+        "--start 0",
+        "060000004000000803000000",
+        """\
+no 000008 zero-count
+000000 fresh t . 06 000000 -C---0 00 0008 read read-data
+000008 fresh - * 03 000000 -----0 00 0000 control no-operation
+because the count is zero
+""",
+        "",
+        "000008",
+    ),
+    (
+        "a CCW before the image",
+        "--start 0 --at 8",
+        "0600000000000008",
+        """\
+no 000000 invalid-code
+000000 fresh t * 00 000000 -----0 00 0000 invalid unknown
+because code 00 is invalid
+""",
+        "0000010",
+        "000000",
+    ),
+    (
+        "a transfer to a place after the image",
+        "--start 0 --storage 100",
+        "03000000400000010800002000000000",
+        """\
+no 000020 invalid-code
+000000 fresh t . 03 000000 -C---0 00 0001 control no-operation
+000008 fresh - . 08 000020 -----0 00 0000 transfer transfer-in-channel
+000020 fresh t * 00 000000 -----0 00 0000 invalid unknown
+because code 00 is invalid
+""",
+        "",
+        "000020",
+    ),
+    (
+        "an argument of which two bytes are in the image",
+        "--start 0",
+        "07000008000000060001",
+        """\
+no 000000 seek-outside
+000000 fresh t * 07 000008 -----0 00 0006 control seek
+because bin 0001 is not zero: the argument is 000100000000 at 000008-00000D
+""",
+        "",
+        "00000A",
+    ),
+    (
+        "an argument in the image",
+        "--start 0",
+        "07000008000000060001000000000000",
+        """\
+no 000000 seek-outside
+000000 fresh t * 07 000008 -----0 00 0006 control seek
+because bin 0001 is not zero: the argument is 000100000000 at 000008-00000D
+""",
+        "",
+    ),
+]
+
+# starts whose digits may be meant in decimal, with the image and the note
+PAIR = "0300000040000001" "0300000000000001"
+STARTS = [
+    (
+        "a start in decimal",
+        "--start 16",
+        "00" * 16 + PAIR,
+        ["note: --start 16 is hexadecimal; decimal 16 is --start 10"],
+    ),
+    ("a start that is no number in decimal", "--start 1C", "00" * 16 + PAIR, []),
+    ("a start at which decimal has no CCW", "--start 17", "00" * 16 + PAIR, []),
+    ("a start whose decimal lies outside the image", "--start 32 --storage 100", PAIR, []),
+    ("a start of one digit", "--start 0", "00" * 16, []),
+    ("a no at another address", "--start 40", "00" * 64 + "0300000040000001" + "00" * 8, []),
 ]
 
 # a search loop whose buffer lies past the image, from 0 on
@@ -504,15 +585,25 @@ def check_storage(checks, program):
     ran = made(program, "--start", "8", "--extent", "0-9", "--storage", "0")
     is_so = ran.status == 0 and ran.output.endswith("\nstorage 0000000\nend\n")
     checks.expect_that("no storage", is_so, ran)
-    past = Ran(4, "", "chanv: image past storage\n")
-    for name, at, size, given in [
-        ("a byte past storage", "0", "8", bytes(9)),
-        ("a byte past storage from an address on", "7", "8", bytes(2)),
-        ("an address past storage", "9", "8", b""),
-        ("a byte past the largest", "0", "1000000", TOO_LONG),
+    for name, at, size, given, room in [
+        ("a byte past storage", "0", "10", bytes(17), "10"),
+        ("a byte past storage from an address on", "5", "8", bytes(4), "3"),
+        ("a byte at the end of storage", "8", "8", bytes(1), "0"),
+        ("a byte past the largest", "0", "1000000", TOO_LONG, "1000000"),
     ]:
         words = ["--start", "8", "--extent", "0-9", "--at", at, "--storage", size]
+        sizes = (
+            f"note: the image begins at {int(at, 16):06X} and has more than {room} bytes, "
+            f"but storage has {int(size, 16):07X}\n"
+        )
+        past = Ran(4, "", f"chanv: image past storage\n{sizes}")
         checks.expect(name, past, made(program, *words, given=given))
+        ran = run(program, "find", "--device=2314", *words[4:], given=given)
+        checks.expect(f"{name}, find", "chanv: image past storage\n", ran.error[:27])
+    ran = made(program, *words[:4], "--at=9", "--storage=8")
+    is_so = ran.status == 4 and ran.error.startswith("chanv: image past storage\n")
+    is_so = is_so and "000009" in ran.error and "0000008" in ran.error
+    checks.expect_that("an address past storage", is_so and "more than" not in ran.error, ran)
 
 
 def check_refusals(checks, program):
@@ -549,10 +640,15 @@ def check_least(checks, program):
     checks.expect("few places", many, made(program, *least, "--limit", "2", given=storage))
     said = f"chanv: {CORE}: no job will do: {text_of(EXAMPLES / 'changes-argument.why')}"
     checks.expect("no job will do", Ran(1, "", said), made(program, *least, CORE))
-    for name, words, image, explanation, size in UNDOABLE:
+    for name, words, image, explanation, size, *outside in UNDOABLE:
         ran = made(program, "--least", *words.split(), given=bytes.fromhex(image))
         said = f"chanv: no job will do: {explanation}{CURE.format(size) if size else ''}"
+        said += "".join(OUTSIDE.format(address) for address in outside)
         checks.expect(name, Ran(1, "", said), ran)
+    for name, words, image, said in STARTS:
+        ran = made(program, "--least", *words.split(), given=bytes.fromhex(image))
+        notes = [line for line in ran.error.splitlines() if " --start " in line]
+        checks.expect(name, (1, said), (ran.status, notes))
     cured = made(program, *least, "--storage", "1000", given=LATE_BUFFER)
     checks.expect("a larger storage", (0, ""), (cured.status, cured.error))
     missing = Ran(3, "", "chanv: none: cannot open: no such file\n")

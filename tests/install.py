@@ -1,11 +1,14 @@
-"""What `make install` puts where, in a folder with a blank in its name, and how one builds with it.
+"""What `make install` puts where, in a folder with a blank in its name, and how a reader builds.
 
 It copies what `make` and `make lib` built, and builds nothing; the archive and the shared library
 show the calls of the header, and nothing else; the example of docs/EMBEDDING.md is built with what
-pkg-config says, with either library; and `make uninstall` takes away all that was put there. What
-asks pkg-config is left out, by its name, where there is none.
+pkg-config says, with either library; each link of the installed pages leads to an installed file,
+and so does each page that the manual and the header name; and `make uninstall` takes away all that
+was put there. The commands and the Python of docs/EMBEDDING.md do what the page shows. What asks
+pkg-config is left out, by its name, where there is none.
 """
 
+import os
 import re
 import shutil
 import sys
@@ -14,9 +17,13 @@ from pathlib import Path
 
 from building import FLAGS, ROOT, compile_c, version_of
 from examples import EXAMPLES
+from links_and_sizes import NAMED, broken_links
+from pages import EMBEDDING, check_page, shown_by
 from running import Ran, run, text_of
 
 PROGRAM = "crates/chanv/out/chanv"
+# what the page says as the prefix
+PREFIX = "/usr/local"
 
 
 def make(target, to, *words):
@@ -54,6 +61,35 @@ def check_example(checks, to, shown):
         checks.expect(f"the example, {name}", (0, shown, ""), (ran.status, ran.output, ran.error))
 
 
+def check_pages(checks, to):
+    """The installed pages are whole."""
+    docs = to / "share/doc/chanv"
+    pages = sorted(docs.rglob("*.md"))
+    checks.expect_that("pages are installed", len(pages) > 10, pages)
+    for page in pages:
+        checks.expect(f"dead links of {page.relative_to(docs)}, installed", [], broken_links(page))
+    for reader in ("share/man/man1/chanv.1", "include/chanv.h"):
+        for name in sorted(set(re.findall(NAMED, text_of(to / reader)))):
+            is_there = (docs / "docs" / name.replace("\\", "")).is_file()
+            checks.expect_that(f"{reader} names docs/{name}, installed", is_there, name)
+
+
+def check_embedding(checks, chanv, folder):
+    """What the reader of EMBEDDING types, with another prefix, which has no blank."""
+    to = folder / "opt"
+    checks.expect("make install", 0, make("install", to).status)
+    paths = {"PKG_CONFIG_PATH": str(to / "lib/pkgconfig"), "LD_LIBRARY_PATH": str(to / "lib")}
+    environment = {**os.environ, **paths}
+    if shutil.which("pkg-config"):
+        check_page(checks, EMBEDDING, chanv, lambda it: it.replace(PREFIX, str(to)), env=environment)
+    else:
+        checks.skip("the commands of EMBEDDING", "no pkg-config")
+    found = re.search(r"(?s)```python\n(.*?)```.*?```text\n(.*?)```", text_of(EMBEDDING))
+    environment["PYTHONPATH"] = str(to / "share/chanv/python")
+    ran = run(sys.executable, "-B", "-c", found[1], env=environment)
+    checks.expect("the Python of EMBEDDING", Ran(0, found[2]), ran)
+
+
 def check_library_folder(checks, folder):
     """The libraries and chanv.pc in a folder that isn't lib/ under the prefix."""
     to, words = folder / "apart", f"LIBDIR={folder / 'apart/lib/x86_64'}"
@@ -68,8 +104,10 @@ def check_library_folder(checks, folder):
 
 
 def check(checks, built):
-    built.chanv(), built.library()
-    shown = re.findall(r"```text\n(.*?)```", text_of(ROOT / "docs/EMBEDDING.md"), re.S)[0]
+    built.library()
+    shown = dict(shown_by(EMBEDDING))["./ask"]
+    with tempfile.TemporaryDirectory() as room:
+        check_embedding(checks, built.chanv(), Path(room))
     with tempfile.TemporaryDirectory(prefix="two words ") as room:
         folder = Path(room)
         ran = run("make", "-s", "-f", ROOT / "Makefile", "-C", room, "install", "PREFIX=/nowhere")
@@ -89,8 +127,7 @@ def check(checks, built):
         python = ["env", f"PYTHONPATH={to / 'share/chanv/python'}", sys.executable, "-B", "-c"]
         ran = run(*python, "import chanv; print(chanv.verify(chanv.Job(bytes(8), 0, [(0, 1)])))")
         checks.expect("the Python module, installed", Ran(0, "no 000000 invalid-code\n"), ran)
-        page = to / "share/doc/chanv/docs/DECK.md"
-        checks.expect_that("the pages that the manual names", page.is_file(), "not there")
+        check_pages(checks, to)
         deck = to / "share/doc/chanv/examples/search-loop.deck"
         ran = run(to / "bin/chanv", "verify", given=deck)
         checks.expect("an example, installed", Ran(0, "yes\n"), ran)

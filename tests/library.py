@@ -1,15 +1,17 @@
 """The library for C: its example, edges, threads, refused memory and archive.
 
 The programs of c/ and examples/c/ ask it. What they should write was worked out from the rules:
-edges.out, needs.out, memory.out and threads.out of c/; the words of src/reason.rt of chan_walk; and
-the example of docs/EMBEDDING.md, whose text has to be that of ask.c. The archive may ask only for what the C
-library has to have, and each growth of memory in a call is refused in turn. The test `python` asks
-about all decks, `nulls` hands in NULL for each empty list.
+edges.out, needs.out, memory.out, threads.out and loop.out of c/; the words of src/reason.rt of
+chan_walk; and the example of docs/EMBEDDING.md, whose text has to be that of ask.c. The C of
+docs/SUPERVISOR.md compiles without a warning, and runs in c/loop.c. The archive may ask only for
+what the C library has to have, and each growth of memory in a call is refused in turn. The test
+`python` asks about all decks, `nulls` hands in NULL for each empty list.
 """
 
 import re
 import tempfile
 from pathlib import Path
+from textwrap import dedent
 
 from building import HERE, ROOT, SANITIZED, c_compiler, compile_c, compile_with, short, version_of
 from examples import EXAMPLES
@@ -32,18 +34,30 @@ IN_CPP = ["-x", "c++", "-std=c++17", "-Wold-style-cast"]
 IN_C99 = ["-x", "c", "-std=c99"]
 
 
-def check_document(checks, folder):
-    """The document shows the example as it stands, and what it prints."""
-    blocks = re.findall(r"```(\w*)\n(.*?)```", text_of(ROOT / "docs/EMBEDDING.md"), re.S)
-    shown = ("c", text_of(EXAMPLES / "c/ask.c")) in blocks
-    checks.expect_that("the document shows the example", shown, "another text")
-    for name, word in (("supervisor", "chanv_check_start"), ("emulator", "MOST_TIMES")):
-        parts = [text for language, text in blocks if language == "c" and word in text]
-        shown = parts and all(text in text_of(EXAMPLES / f"c/{name}.c") for text in parts)
-        checks.expect_that(f"the document shows a part of the {name}", shown, parts)
+def c_of(page):
+    """The blocks of C that a page shows, each without its indent."""
+    blocks = re.findall(r"(?ms)^ *```c\n(.*?)^ *```$", text_of(ROOT / "docs" / page))
+    return [dedent(block) for block in blocks]
+
+
+def check_example(checks, folder):
+    """EMBEDDING shows the example as it stands, and no other C; `install` tries what it prints."""
+    shown = c_of("EMBEDDING.md")
+    checks.expect("the C of EMBEDDING", [text_of(EXAMPLES / "c/ask.c")], shown)
     ran = run(folder / "ask")
     checks.expect("the example's status", (0, ""), (ran.status, ran.error))
-    checks.expect_that("the document shows its lines", ("text", ran.output) in blocks, ran.output)
+
+
+def check_loop(checks, library, folder):
+    """The C of SUPERVISOR compiles in its order without a warning, and decides as the page says."""
+    shown = c_of("SUPERVISOR.md")
+    checks.expect_that("SUPERVISOR shows machine.h first", "machine.h" in shown[0][:20], shown[0])
+    (folder / "machine.h").write_text(shown[0])
+    (folder / "supervise.c").write_text("\n".join(shown[1:]))
+    look = [*c_compiler(), "-fsyntax-only", "-std=c11", f"-I{library}", *WARNINGS]
+    checks.expect("warnings of its C", Ran(0), run(*look, folder / "supervise.c"))
+    compile_with(library, HERE / "c/loop.c", folder / "loop", f"-I{folder}", *SANITIZED)
+    check_lines(checks, folder, "loop")
 
 
 def check_lines(checks, folder, name):
@@ -217,7 +231,8 @@ def check(checks, built):
         for source in SOURCES:
             more = SANITIZED if source.stem in LINED else []
             compile_with(library, source, folder / source.stem, *more)
-        check_document(checks, folder)
+        check_example(checks, folder)
+        check_loop(checks, library, folder)
         check_edges(checks, folder)
         for name in LINED[1:]:
             check_lines(checks, folder, name)

@@ -10,7 +10,7 @@ from running import Ran, run, run_in_bash, text_of
 PAGE, README = ROOT / "docs/chanv.1", ROOT / "README.md"
 COMPLETIONS = ROOT / "docs/chanv.bash"
 VERSION = f"chanv {version()}\n"
-COMMANDS = ["show", "verify", "list", "why", "graph", "needs", "find", "deck", "explain"]
+COMMANDS = ["verify", "list", "why", "needs", "graph", "find", "deck", "explain", "show"]
 
 # completes the last of the words that stand behind the file's name
 COMPLETE = """
@@ -89,18 +89,17 @@ def check_groff(checks):
 
 
 def check_example(checks, program):
-    """The page's example, in examples/, writes what the page shows."""
+    """The page's example, in examples/, writes what the page shows, first on standard output."""
     blocks = re.findall(r"(?ms)^\.nf$.*?^\.fi$", text_of(PAGE))
     shown = [line for block in blocks for line in block.split("\n") if line[:1] != "."]
     shown = [line.replace("\\-", "-") for line in shown]
-    seen, errors = "", ""
+    seen = ""
     for line in shown:
         if line.startswith("$ chanv "):
             ran = run(program, *line.split()[2:], cwd=EXAMPLES)
-            seen += f"{line}\n{ran.output}"
-            errors += ran.error
+            seen += f"{line}\n{ran.output}{ran.error}"
     text = "".join(f"{line}\n" for line in shown)
-    checks.expect("the example of the manual page", (text, ""), (seen, errors))
+    checks.expect("the example of the manual page", text, seen)
 
 
 def completed(*words):
@@ -116,7 +115,7 @@ def check_completions(checks, program):
     checks.expect("the commands that help completes", commands, completed("help", ""))
     for words in ([], *[[command] for command in COMMANDS]):
         said = run(program, *words, "--help").output
-        options = sorted(re.findall(r"(?:  |, )(--[a-z]*)", said))
+        options = sorted(re.findall(r"(?m)^ +(?:-\w, )?(--[a-z]*)", said))
         name = f"the options that are completed: chanv {' '.join(words)}"
         checks.expect(name, options, completed(*words, "--"))
     listed = sorted(re.findall(r"(?m)^([a-z][a-z-]*): ", run(program, "explain").output))
@@ -130,9 +129,13 @@ def check_completions(checks, program):
         ["deck", "--start", "800", "--least", page[:-2]],
         ["deck", "--open", page[:-2]],
         ["why", "--all", page[:-2]],
+        ["why", "--of", "810", page[:-2]],
+        ["list", "--wide", page[:-2]],
+        ["needs", "--deck", page[:-2]],
     ):
         checks.expect_that(f"a file after {words[:-1]}", page in completed(*words), words)
-    checks.expect("no file after --start", [""], completed("deck", "--start", page[:-2]))
+    for words in (["deck", "--start"], ["why", "--of"]):
+        checks.expect(f"no file after {words[1]}", [""], completed(*words, page[:-2]))
 
 
 def check(checks, built):

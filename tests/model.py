@@ -6,16 +6,19 @@
 
 The model is in model/: the channel and the disk (channel), the verdict and the needs (judging), the
 machine (stepping), the texts (writing) and the jobs (making). It was written from DEVICE, VERDICT,
-MACHINE, DECK, OUTPUT and WHY, and from no code of the crates. It has to agree on the verdict, on
-all offences, on the needs, on the listing and on where each job may hang. Then it steps the machine
-over the job: after a yes all runs are safe and no byte that one uses changes, and after a no a run
-shows the reason at its address. Every third job is an example deck with a changed byte. The
-verdicts of the example decks themselves are the model's too.
+MACHINE, DECK and OUTPUT, and from no code of the crates. It has to agree on the verdict, on
+all offences, on the needs, on the listing, on the path to the verdict's place and to every other
+that offends, on the path to what is changed there, and on where each job may hang. Then it steps
+the machine over the job: after a yes all runs are safe and no byte that one uses changes, and after
+a no a run shows the reason at its address. Every third job is an example deck with a changed byte.
+The verdicts of the example decks themselves are the model's too.
 """
 
 import argparse
+import re
 import sys
 import tempfile
+from itertools import takewhile
 from pathlib import Path
 from random import Random
 
@@ -31,12 +34,31 @@ sys.path.insert(0, str(HERE / "model"))
 from judging import endless, needs, offences, reachable  # noqa: E402
 from making import changed, random_job  # noqa: E402
 from stepping import random_run, runs  # noqa: E402
-from writing import deck_of, hang_note, job_of, listing_of, needs_of, verdict_of  # noqa: E402
+from writing import (  # noqa: E402
+    deck_of,
+    hang_note,
+    job_of,
+    listing_of,
+    needs_of,
+    path_of,
+    second_path_of,
+    verdict_of,
+    wide_of,
+)
 
 SEED, JOBS = 360, 2500
 # an example that is changed and stepped has to be small
 MOST_STORAGE = 0x2000
 RUNS, LENGTH = 4, 30
+# of how many addresses of a job the offence is explained
+MOST_ASKED = 6
+# a CCW just past the largest storage offends, but an option takes six digits
+PAST_ADDRESSES = 0x1000000
+
+# `why --of` over each of some decks, after its address, and its status
+OF = 'while [ $# -gt 1 ]; do "$0" why --of "$1" "$2" 2>&1; echo "status $?"; shift 2; done'
+# what `why` says of the same offence, if it isn't the verdict
+ALSO = re.compile(r"also (\w+) ([a-z-]+)")
 
 # a command over each of some decks, and its status
 EACH = 'run="$1 $2"; shift 2; for deck; do $run "$deck" 2>&1; echo "status $?"; done'
@@ -56,6 +78,10 @@ class Answer:
         pairs = dict.fromkeys((place.address, reason) for place, reason in self.found)
         also = [f"also {address:06X} {reason}" for address, reason in [*pairs][1:]]
         return [self.verdict, *also]
+
+    def least_reason(self, address):
+        """The first of the reasons by which an address offends."""
+        return next(reason for place, reason in self.found if place.address == address)
 
 
 def answers_of(program, command, paths):
@@ -91,6 +117,96 @@ def check_job(checks, path, answer, verified, explained, listed):
     checks.expect(f"why --all {name}", answer.all_offences(), offending)
     listing = listing_of(answer.job, answer.faults, answer.found)
     checks.expect(f"list {name}", [*listing, f"status {1 if answer.found else 0}"], listed)
+
+
+ROW = re.compile(r"\w+ (fresh|in|out|search) [t-] [.*] .*|stored over by .*")
+ONE_BYTE = re.compile(r"\b(\w{6,})-\1\b")
+
+
+def check_path(checks, name, answer, explained):
+    """The path to the verdict's place, with what its seeks and masks set; and a range of one byte
+    is an address."""
+    if answer.is_too_large or not answer.found:
+        return
+    first = [line for line in explained if not line.startswith("note: ")]
+    first = [*takewhile("reached by".__ne__, first)]
+    found = [line for line in first if ROW.fullmatch(line)]
+    wanted = [*path_of(answer.job, answer.faults, answer.found)]
+    checks.expect(f"the path of {name}", wanted, found)
+    ranges = [line for line in explained if ONE_BYTE.search(line)]
+    checks.expect(f"ranges of one byte of {name}", [], ranges)
+
+
+def check_wide(checks, path, answer, listed):
+    """The wide listing, whose last line is the verdict's."""
+    if not answer.is_too_large:
+        wanted = [*wide_of(answer.job, answer.faults, answer.found)]
+        status = f"status {1 if answer.found else 0}"
+        checks.expect(f"list --wide {path.stem}", [*wanted, status], listed)
+
+
+def check_explained(checks, program, answers, explained):
+    """`why --of ADDRESS` has the verdict, and the path, the cause and the second path of the
+    offence at ADDRESS, of several the one with the least reason; and no line `also`. If no offence
+    is at ADDRESS, a note says so, and all is as without the option."""
+    asked, wanted = [], []
+    for path, answer in answers.items():
+        if answer.is_too_large:
+            continue
+        causes = causes_in(explained[str(path)])
+        addresses = sorted({place.address for place, _ in answer.found})
+        for address in [it for it in addresses if it < PAST_ADDRESSES][:MOST_ASKED]:
+            asked.append((address, path))
+            wanted.append([*lines_of_offence(answer, address, causes)])
+        others = {place.address for place in answer.faults} - {*addresses}
+        for address in sorted(others)[:1]:
+            asked.append((address, path))
+            wanted.append(None)
+    words = [word for address, path in asked for word in (f"{address:X}", str(path))]
+    ran = run("bash", "-c", OF, program, *words)
+    found = [[]]
+    for line in ran.output.splitlines():
+        found[-1].append(line)
+        found += [[]] * line.startswith("status ")
+    usual = {path: run(program, "why", path) for address, path in asked}
+    for (address, path), lines, seen in zip(asked, wanted, found[:-1], strict=True):
+        name = f"why --of {address:06X} {path.stem}"
+        if lines is None:
+            note = f"note: no offence at {address:06X}\n"
+            plain = usual[path]
+            whole = f"{plain.output}{note}{plain.error}status {plain.status}"
+            checks.expect(name, whole.splitlines(), seen)
+            continue
+        verdict = f"{path}: {answers[path].verdict}"
+        told = [line for line in seen if not line.startswith(("note: ", "help: "))]
+        checks.expect(name, [verdict, *lines, "status 1"], told)
+        word = answers[path].least_reason(address)
+        checks.expect(f"help of {name}", [f"help: chanv explain {word}"], seen[-2:-1])
+    return sum(lines is not None for lines in wanted)
+
+
+def causes_in(explained):
+    """The causes that `why --all` gives, by address and reason."""
+    causes, pair = {}, None
+    for line in explained:
+        words = line.split(" ")
+        if words[0] in ("no", "also"):
+            pair = words[1], words[2]
+        elif words[0] == "because":
+            causes.setdefault(pair, line)
+    return causes
+
+
+def lines_of_offence(answer, address, causes):
+    """What `why` writes of the offence at an address, behind the verdict."""
+    reason = answer.least_reason(address)
+    [found] = [[it for it in answer.found if (it[0].address, it[1]) == (address, reason)]]
+    rows = [*path_of(answer.job, answer.faults, found)]
+    over = [rows.pop()] if rows[-1].startswith("stored over by ") else []
+    yield from rows
+    yield causes[f"{address:06X}", reason]
+    yield from over
+    yield from second_path_of(answer.job, answer.faults, found)
 
 
 def check_hang(checks, name, answer, noted):
@@ -134,6 +250,22 @@ def check_examples(checks):
             checks.expect(f"the verdict of {short(folder / name)}", verdict, answer.verdict)
 
 
+def all_decks():
+    return [deck for folder in (*FOLDERS, TEXTS) for deck in decks_of(folder)]
+
+
+def decks_and_jobs(room, seed, count):
+    """All example decks with their jobs, and random jobs, whose decks come into a folder."""
+    for deck in all_decks():
+        yield deck, job_of(text_of(deck))
+    random = Random(seed)
+    for number in range(count):
+        job = random_job(random)
+        deck = Path(room) / f"seed-{seed}-job-{number}"
+        deck.write_text("".join(f"{line}\n" for line in deck_of(job)))
+        yield deck, job
+
+
 def jobs_of(random, count):
     examples = [job_of(text_of(deck)) for folder in FOLDERS for deck in decks_of(folder)]
     small = [job for job in examples if len(job.storage) <= MOST_STORAGE]
@@ -161,8 +293,17 @@ def compare(checks, built, seed, count):
             check_job(checks, path, answer, *said)
             check_needs(checks, path, answer.job, lines)
             check_hang(checks, path.stem, answer, notes)
+            check_path(checks, path.stem, answer, notes)
             if not answer.is_too_large:
                 check_runs(checks, path.stem, answer, random)
+        wide = answers_of_each(program, "list --wide", answers)
+        for (path, answer), lines in zip(answers.items(), wide, strict=True):
+            check_wide(checks, path, answer, lines)
+        asked = check_explained(checks, program, answers, explained)
+        examples = {deck: Answer(job_of(text_of(deck))) for deck in all_decks()}
+        causes = answers_of(program, "why --all", examples)
+        asked += check_explained(checks, program, examples, causes)
+        checks.expect_that("many offences are explained", asked > len(answers) // 2, asked)
     kinds = {answer.found[0][1] if answer.found else "yes" for answer in answers.values()}
     checks.expect_that("each verdict comes", len(kinds) == 17, sorted(kinds))
     yes = [it for it in answers.values() if not it.is_too_large and not it.found]

@@ -4,19 +4,31 @@ From each example deck whose program may run under some job, a deck is made of t
 `chanv needs`, which is judged `yes`. With a byte less at either end of an area, a cylinder less at
 either end of an extent, or the next stricter mask in either of its two parts, it is judged `no`.
 A deck's own verdict is `yes` exactly where its job grants what is written. And that deck is what
-`chanv deck --least` makes of the program's storage; where no job will do, it says so.
+`chanv deck --least` makes of the program's storage, and what `chanv needs --deck` writes; where no
+job will do, they say so.
 """
 
 import re
+import sys
 
-from building import short
-from examples import FOLDERS, TEXTS, decks_of
+from building import HERE, short
+from examples import EXAMPLES, FOLDERS, TEXTS, decks_of
 from images import taken_apart
 from running import Ran, run, text_of
+
+sys.path.insert(0, str(HERE / "model"))
+
+from judging import NUMBER  # noqa: E402
 
 CURE = (
     "note: storage has {} bytes; give --storage if it has more, and --at if the image begins"
     " elsewhere\n"
+)
+
+# what standard error says of a program that no job will do for
+NO_JOB = (
+    "note: no job will do: the no holds even if the job grants everything; chanv verify may name"
+    " another CCW, because the deck's job grants less\n"
 )
 
 # both parts of a file mask, from the laxest bits to the strictest
@@ -126,14 +138,82 @@ def cure_of(deck, explanation):
     return CURE.format(size) if is_cured else ""
 
 
+def start_note(deck, explanation):
+    """The note on a start whose digits are those of a CCW's address in decimal, if the program has
+    no command at its start."""
+    _, address, reason = explanation.partition("\n")[0].split(" ")
+    [start] = re.findall(r"(?m)^start (\w+)$", deck)
+    [size] = re.findall(r"(?m)^storage (\w+)$", deck)
+    digits = start.lstrip("0") or "0"
+    if address != start or NUMBER[reason] > 8 or not digits.isdecimal():
+        return ""
+    decimal = int(digits)
+    is_there = decimal % 8 == 0 and decimal + 8 <= int(size, 16) and decimal != int(start, 16)
+    said = f"note: --start {digits} is hexadecimal; decimal {digits} is --start {decimal:X}\n"
+    return said if is_there else ""
+
+
+def least_lines(deck, needed):
+    """The deck with the least job, line by line: of version 1 exactly if the limit is the usual
+    one, with the job's lines as `needs` has them, and with storage as it was."""
+    lines = deck.splitlines()
+    limits = [line for line in lines if line.startswith("limit ") and line != "limit 04096"]
+    job = [line for line in needed if not line.startswith("keep ")]
+    job[1:1] = [] if job[1:] and job[1].startswith("extent ") else ["extent 000 202"]
+    yield f"chanv deck {2 if limits else 1}"
+    yield from (line for line in lines if line.startswith("device "))
+    yield job[0]
+    yield from (line for line in lines if line.startswith("start "))
+    yield from [*limits, *job[1:]]
+    yield from (line for line in lines if line.startswith(("storage ", "put ", "end")))
+
+
+def check_deck_of_needs(checks, program, path, ran):
+    """`needs --deck` writes the deck with the least job; if no job will do, what `needs` writes."""
+    name, deck = short(path), text_of(path)
+    made = run(program, "needs", "--deck", given=path)
+    if ran.status != 0:
+        checks.expect(f"needs --deck: {name}", ran, made)
+        return
+    lines = [*least_lines(deck, ran.output.splitlines())]
+    checks.expect(f"the lines of needs --deck: {name}", lines, made.output.splitlines())
+    checks.expect(f"needs --deck: {name}", (0, ""), (made.status, made.error))
+    judged = run(program, "verify", given=made.output.encode())
+    checks.expect(f"the deck of needs --deck: {name}", Ran(0, "yes\n"), judged)
+    again = run(program, "needs", "--deck", given=made.output.encode())
+    checks.expect(f"needs --deck of needs --deck: {name}", made, again)
+
+
+def check_several(checks, program):
+    """Over several FILEs each deck comes under a line with its FILE; a limit makes version 2."""
+    loop, changes = EXAMPLES / "search-loop.deck", EXAMPLES / "changes-itself.deck"
+    alone = [run(program, "needs", "--deck", deck) for deck in (loop, changes)]
+    text = "".join(f"{deck}:\n{ran.output}" for deck, ran in zip((loop, changes), alone))
+    ran = run(program, "needs", loop, "--deck", changes)
+    checks.expect("needs --deck over two", Ran(1, text, f"{changes}: {NO_JOB}"), ran)
+    two = text_of(loop).replace("deck 1", "deck 2")
+    for limit, version in [("04096", 1), ("00003", 2), ("65536", 2)]:
+        deck = two.replace("\nextent", f"\nlimit {limit}\nextent", 1)
+        made = run(program, "needs", "--deck", given=deck.encode()).output
+        wanted = run(program, "needs", "--deck", given=loop).output
+        if version == 2:
+            wanted = wanted.replace("deck 1", "deck 2")
+            wanted = wanted.replace("\nextent", f"\nlimit {limit}\nextent", 1)
+        checks.expect(f"needs --deck under a limit of {limit}", wanted, made)
+
+
 def check_deck(checks, program, path):
     name, deck = short(path), text_of(path)
     verdict = run(program, "verify", given=path)
     ran = run(program, "needs", given=path)
     made = made_of_image(program, deck)
+    error = NO_JOB if ran.status == 1 else ""
+    checks.expect(f"what is said beside the needs of {name}", error, ran.error)
+    check_deck_of_needs(checks, program, path, ran)
     if ran.status == 1:
         checks.expect(f"no job will do: {name}", 1, verdict.status)
-        refused = f"chanv: no job will do: {ran.output}{cure_of(deck, ran.output)}"
+        notes = cure_of(deck, ran.output) + start_note(deck, ran.output)
+        refused = f"chanv: no job will do: {ran.output}{notes}"
         checks.expect(f"deck --least: {name}", Ran(1, "", refused), made)
         return
     needed = job_of(ran.output.splitlines())
@@ -165,3 +245,4 @@ def check(checks, built):
         for path in decks_of(folder):
             check_deck(checks, program, path)
     check_largest(checks, program)
+    check_several(checks, program)

@@ -17,6 +17,7 @@ PROGRAM = bytes.fromhex("0300000040000001" "0300000000000001" "0000000000000000"
 PROGRAMS, REFUSED = 1000, 2000
 
 
+CARET = "{}: " + len("found chanv deck ") * " " + "^"
 EXPECTED = "{}: expected chanv deck 1, chanv deck 2"
 
 
@@ -41,7 +42,7 @@ def check_refused(checks, program, room):
     for deck in decks:
         deck.write_text("chanv deck 3\n")
     names = [str(deck) for deck in decks]
-    said = ["chanv: {}: deck line 1: header", "{}: found chanv deck 3", EXPECTED]
+    said = ["chanv: {}: deck line 1: header", "{}: found chanv deck 3", CARET, EXPECTED]
     wanted = [], sorted(line.format(name) for name in names for line in said)
     check_lines(checks, program, "verify", names, REFUSED // PROCESSES, wanted)
 
@@ -50,7 +51,8 @@ def check_found(checks, program, room):
     """The lines of `find`, each written as soon as its verdict is known."""
     image = room / "image"
     image.write_bytes(PROGRAMS * PROGRAM)
-    starts = [f"{24 * number:06X} yes" for number in range(PROGRAMS)]
+    shape = "2 CCWs: no-operation, no-operation"
+    starts = [f"{24 * number:06X} yes {shape}" for number in range(PROGRAMS)]
     names, wanted = PROCESSES * [str(image)], (sorted(PROCESSES * starts), [])
     check_lines(checks, program, "find --device 2314", names, 1, wanted)
 

@@ -11,7 +11,8 @@ calls. The table of laws in docs/MACHINE.md names only functions that exist, amo
 laws.rt. No file of mutants is left out: each belongs to a crate and names what has to refuse it.
 
 A name means one thing: no two files of specs/ define the same name, and no two public types have
-one. No two modules of a crate import each other, directly or through others.
+one. No two modules of a crate import each other, directly or through others. And no line is wider
+than a page.
 """
 
 import re
@@ -29,6 +30,9 @@ from sources import CRATES, items, uses  # noqa: E402
 LAWS = ROOT / "docs/MACHINE.md"
 
 TYPE = re.compile(r"(?m)^pub (?:struct|enum|trait) (\w+)")
+
+# how many columns a line may have
+WIDEST = {"src": 100, "specs": 100, "proofs": 160}
 
 # over any type there is no other value that it could give
 HAS_NONE = "watched::Watched::into_inner"
@@ -181,9 +185,25 @@ def check_names(checks):
         checks.expect(f"modules of {crate} that import each other", set(), in_cycles(crate))
 
 
+def too_wide(folder, most):
+    """The lines of a folder with more characters; imports of proofs don't count."""
+    for path in sorted(path for path in folder.rglob("*") if path.is_file()):
+        for number, line in enumerate(text_of(path).splitlines(), 1):
+            if len(line) > most and not (most > 100 and line.startswith(("use ", "pub use "))):
+                yield f"{short(path)}:{number}"
+
+
+def check_widths(checks):
+    for crate in crates():
+        for name, most in WIDEST.items():
+            wide = [*too_wide(CRATES / crate / name, most)]
+            checks.expect(f"lines of {crate}/{name} of over {most} columns", [], wide)
+
+
 def check(checks, _built):
     some = with_any()
     check_names(checks)
+    check_widths(checks)
     tried = [mutant.path for crate in some for mutant in crate.mutants]
     left_out = {*MUTANTS.rglob("*.*"), *CRATES.glob("*/must-fail/*")} - {*tried}
     checks.expect("files of mutants that no crate tries", set(), left_out)

@@ -2,10 +2,12 @@
 
 In the search loop's deck, and in the same of version 2, some words are replaced by others: `verify`
 says which line is refused and why. Then a text follows the first lines of a deck: `why` says what
-was found in the line after them, and what was expected there. Lines, causes and words follow from
-docs/DECK.md and docs/WHY.md.
+was found in the line after them, and what was expected there. Lines and causes follow from
+docs/DECK.md, and the shape of what is said from docs/OUTPUT.md; its wording is held here, and where
+the caret is.
 """
 
+from carets import caret_under
 from examples import SEARCH_LOOP, TEXTS
 from running import Ran, run, text_of
 
@@ -228,8 +230,8 @@ HINTS = [
     (8, "", "ended", "the end of the text", "store, storage"),
     (11, "en", "ended", "en", "a line feed at the end of this line"),
     (11, "end", "ended", "end", "a line feed at the end of this line"),
-    (12, "\n", "after", "an empty line", "nothing after the line end"),
-    (12, "x", "after", "x", "nothing after the line end"),
+    (12, "\n", "after", "an empty line", "no byte after the line end"),
+    (12, "x", "after", "x", "no byte after the line end"),
     (2, "mask 20\n", "mask", "mask 20", "a mask with only bits of C0 and 18 on"),
     (4, "limit 00000\n", "limit", "limit 00000", "a limit from 00001 to 65536"),
     (
@@ -237,7 +239,7 @@ HINTS = [
         "extent 019 010\n",
         "extent-backwards",
         "extent 019 010",
-        "a last cylinder that isn't below the first",
+        "a last cylinder at or above the first",
     ),
     (
         5,
@@ -259,7 +261,7 @@ HINTS = [
         "put 001000 3100090040000005\n",
         "put-address",
         "put 001000 3100090040000005",
-        "an address at which storage of 0001000 bytes has eight bytes",
+        "an address whose eight bytes lie in storage of 0001000 bytes",
     ),
     (
         11,
@@ -280,14 +282,14 @@ HINTS = [
         "put FFFFF8 06000A0020000050\n",
         "put-address",
         "put FFFFF8 06000A0020000050",
-        "an address at which storage of 0001000 bytes has eight bytes",
+        "an address whose eight bytes lie in storage of 0001000 bytes",
     ),
     (
         11,
         "put 000810 0000000000000000\n",
         "put-zero",
         "put 000810 0000000000000000",
-        "eight bytes that aren't all zero",
+        "eight bytes that aren't all zero; leave the line out, storage is zero",
     ),
     # a line that is long, or not printable
     (1, "  \n", "form", " \\x20", "device 2311, device 2314"),
@@ -303,42 +305,42 @@ HINTS = [
         "\x07\x00 @\x00\n",
         "header",
         "\\x07\\x00 @\\x00",
-        "a deck, which is text; chanv deck makes one of an image of storage",
+        "a deck, which is text; chanv deck turns an image of storage into a deck",
     ),
     (
         0,
         "\x00\x00\x00",
         "ended",
         "\\x00\\x00\\x00",
-        "a deck, which is text; chanv deck makes one of an image of storage",
+        "a deck, which is text; chanv deck turns an image of storage into a deck",
     ),
     (
         0,
         "chanv\x00\n",
         "header",
         "chanv\\x00",
-        "a deck, which is text; chanv deck makes one of an image of storage",
+        "a deck, which is text; chanv deck turns an image of storage into a deck",
     ),
     (
         0,
         "chanv de\x00k 1\n",
         "header",
         "chanv de\\x00k 1",
-        "a deck, which is text; chanv deck makes one of an image of storage",
+        "a deck, which is text; chanv deck turns an image of storage into a deck",
     ),
     (
         0,
         "chanv deck 1\x00\n",
         "header",
         "chanv deck 1\\x00",
-        "a deck, which is text; chanv deck makes one of an image of storage",
+        "a deck, which is text; chanv deck turns an image of storage into a deck",
     ),
     (
         0,
         f"{59 * 'x'}\x00\n",
         "header",
         f"{59 * 'x'} ..",
-        "a deck, which is text; chanv deck makes one of an image of storage",
+        "a deck, which is text; chanv deck turns an image of storage into a deck",
     ),
     (0, f"{60 * 'x'}\x00\n", "header", f"{60 * 'x'} ..", "chanv deck 1, chanv deck 2"),
     (0, f"{60 * 'x'}\n", "header", 60 * "x", "chanv deck 1, chanv deck 2"),
@@ -370,7 +372,7 @@ HINTS = [
         "\ufeff\x00\n",
         "header",
         "\\xEF\\xBB\\xBF\\x00",
-        "a deck, which is text; chanv deck makes one of an image of storage",
+        "a deck, which is text; chanv deck turns an image of storage into a deck",
     ),
     (1, "\ufeffdevice 2314\n", "form", "\\xEF\\xBB\\xBFdevice 2314", "device 2311, device 2314"),
     (
@@ -378,7 +380,7 @@ HINTS = [
         "keep 000800 000018\n",
         "form",
         "keep 000800 000018",
-        "store, storage; keep isn't a line of a deck",
+        "store, storage; keep is a line of chanv needs, not of a deck",
     ),
     (8, "keeps\n", "form", "keeps", "store, storage"),
     (0, "\tchanv deck 1\n", "header", "\\x09chanv deck 1", "chanv deck 1, chanv deck 2"),
@@ -404,6 +406,21 @@ HINTS = [
         "device 2311, device 2314; lines end with a line feed alone",
     ),
     (1, "\tdevice\x7f2314~\n", "form", "\\x09device\\x7F2314~", "device 2311, device 2314"),
+    # a no-break blank, which is two bytes
+    (
+        0,
+        "chanv\u00a0deck 1\n",
+        "header",
+        "chanv\\xC2\\xA0deck 1",
+        "chanv deck 1, chanv deck 2; \\xC2\\xA0 is a no-break blank",
+    ),
+    (
+        3,
+        "start\u00a0000800\n",
+        "form",
+        "start\\xC2\\xA0000800",
+        "start XXXXXX, where X is 0-9 or A-F; \\xC2\\xA0 is a no-break blank",
+    ),
     # a carriage return that isn't at the line's end
     (1, "device\r2314\n", "form", "device\\x0D2314", "device 2311, device 2314"),
     (1, "\xe4\n", "form", "\\xC3\\xA4", "device 2311, device 2314"),
@@ -430,7 +447,7 @@ OLDER_HINTS = [
         "limit 04096\n",
         "form",
         "limit 04096",
-        "mask XX, where X is 0-9 or A-F; only chanv deck 2 has limit",
+        "mask XX, where X is 0-9 or A-F; only a deck of version 2 has limit",
     ),
     (
         0,
@@ -444,7 +461,7 @@ OLDER_HINTS = [
         "limit 04096\n",
         "form",
         "limit 04096",
-        "extent NNN NNN, where N is 0-9; only chanv deck 2 has limit",
+        "extent NNN NNN, where N is 0-9; only a deck of version 2 has limit",
     ),
     (
         4,
@@ -468,7 +485,8 @@ def check_each_command(checks, program):
     for text, line, cause, found, expected in NO_DECKS:
         for action in ("verify", "list", "why", "graph", "needs"):
             is_hinted = action in ("why", "graph")
-            hint = f"found {found}\nexpected {expected}\n" if is_hinted else ""
+            caret = caret_under(found, expected, cause)
+            hint = f"found {found}\n{caret}expected {expected}\n" if is_hinted else ""
             refused = Ran(2, "", f"chanv: deck line {line}: {cause}\n{hint}")
             ran = run(program, action, given=text.encode())
             checks.expect(f"{action}, {text!r}", refused, ran)
@@ -477,13 +495,45 @@ def check_each_command(checks, program):
 def check_hints(checks, program, lines, rows):
     for count, more, cause, found, expected in rows:
         text = "".join(lines.splitlines(keepends=True)[:count]) + more
-        complaint = f"chanv: deck line {count + 1}: {cause}\nfound {found}\nexpected {expected}\n"
+        hint = f"found {found}\n{caret_under(found, expected, cause)}expected {expected}\n"
+        complaint = f"chanv: deck line {count + 1}: {cause}\n{hint}"
         ran = run(program, "why", given=text.encode())
         checks.expect(f"{more!r} after {count} lines", Ran(2, "", complaint), ran)
 
 
+# carets by hand: a text, the line that is found, and what comes below it
+CARETS = [
+    (b"chanv deck 9\n", "chanv deck 9", "           ^"),
+    (b"chanv deck 1\ndevice 3330\n", "device 3330", "       ^"),
+    (b"chanv deck 1\ndevice 2314\nmask c0\n", "mask c0", "     ^"),
+    (b"chanv deck 1\ndevice 2314\nmask 000\n", "mask 000", "       ^"),
+    (b"chanv deck 1\ndevice 2314\nmask 0\n", "mask 0", "      ^"),
+    # the blank is right, and takes four characters
+    (b"chanv deck 1\ndevice 2314\nmask \n", "mask\\x20", "        ^"),
+    (b"\xef\xbb\xbfchanv deck 1\n", "\\xEF\\xBB\\xBFchanv deck 1", "^"),
+]
+
+
+def check_carets(checks, program):
+    for text, found, caret in CARETS:
+        lines = run(program, "why", given=text).error.splitlines()[1:3]
+        checks.expect(f"the caret under {found}", [f"found {found}", f"      {caret}"], lines)
+
+
+def check_utf_16(checks, program):
+    """A deck in UTF-16 is named as such, with a byte-order mark and without."""
+    for order, mark in (("utf-16-le", b"\xff\xfe"), ("utf-16-be", b"\xfe\xff")):
+        for front in (b"", mark):
+            ran = run(program, "why", given=front + DECK.encode(order))
+            said = "expected a deck in ASCII; this text is in UTF-16\n"
+            is_so = ran.status == 2 and ran.error.startswith("chanv: deck line 1: header\nfound ")
+            checks.expect_that(f"{front} {order}", is_so and ran.error.endswith(said), ran)
+
+
 def check(checks, built):
     program = built.chanv()
+    check_carets(checks, program)
+    check_utf_16(checks, program)
     check_refused(checks, program, DECK, REFUSED)
     check_refused(checks, program, text_of(TEXTS / "deck-two.deck"), REFUSED_OF_TWO)
     check_each_command(checks, program)

@@ -9,8 +9,13 @@ answer. Unit tests make the calls that chanv doesn't make.
 import signal
 import tempfile
 
+from beginnings import core, note_of
 from building import ROOT
+from cures import UNSEEN, said_beside
 from examples import CHANGES_BOTH, CHANGES_ITSELF, EXAMPLES, SEARCH_LOOP
+from faults import WIDE
+from find import NONE_FOUND
+from needs import least_lines
 from refusing import Case, Growths
 from running import Ran, text_of
 
@@ -27,12 +32,27 @@ no 000800 fetch-not-lent
 000800 fresh t * 31 000900 -C---0 00 0005 write search-id-equal
 because none of 000900-000904 is lent for fetching
 """
-SEEMS = "note: the whole range is lent for storing\n"
+SEEMS = f"note: the whole range is lent, but for storing\n{UNSEEN}\n"
 REFUSED = "chanv: deck line 1: header\n"
-HINT = "found chanv deck 3\nexpected chanv deck 1, chanv deck 2\n"
+HINT = "found chanv deck 3\n                 ^\nexpected chanv deck 1, chanv deck 2\n"
 
 
-FOUND = "000800 no 000818 changes-argument\n"
+FOUND = "000800 no 000818 changes-argument 4 CCWs: seek, search-id-equal, read-data\n"
+# the answers of `why` and of `why --of` differ in the path and in the lines `also`
+OF_LATER = """\
+no 000928 changes-ccw
+000910 fresh t . 07 000908 -C---0 00 0006 control seek (cylinder 10, head 0)
+000918 fresh - . 31 000900 -C---0 00 0005 write search-id-equal
+000928 fresh - . 06 000900 -C---0 00 0018 read read-data
+000930 fresh - * 06 000930 -----0 00 0008 read read-data
+because it stores 000930-000937, over the CCW at 000930
+reached by
+000910 fresh t . 07 000908 -C---0 00 0006 control seek (cylinder 10, head 0)
+000918 fresh - . 31 000900 -C---0 00 0005 write search-id-equal
+000928 fresh - . 06 000900 -C---0 00 0018 read read-data
+000930 fresh - * 06 000930 -----0 00 0008 read read-data
+"""
+PLACES = "too many places: see too-many-places\n"
 
 # unit tests of calls that chanv doesn't make, each with one of all that comes before
 READ = "growing::the_deck_is_read"
@@ -51,6 +71,8 @@ def commands():
     deck, changing = SEARCH_LOOP.read_bytes(), CHANGES_ITSELF.read_bytes()
     image = (EXAMPLES / "core.bin").read_bytes()
     listing = text_of(EXAMPLES / "search-loop.list")
+    needed = text_of(EXAMPLES / "search-loop.needs").splitlines()
+    least = "".join(f"{line}\n" for line in least_lines(text_of(SEARCH_LOOP), needed))
     return [
         (["show", CCW], b"", f"{CCW_LINE}\n"),
         (["show", "--name", CCW], b"", f"{CCW_LINE} read-data\n"),
@@ -60,6 +82,10 @@ def commands():
         (["list", SEARCH_LOOP], b"", listing),
         (["why"], changing, text_of(EXAMPLES / "changes-itself.why")),
         (["why", SEARCH_LOOP], b"", f"{SEARCH_LOOP}: yes\n"),
+        (["why", "--of", "930"], CHANGES_BOTH.read_bytes(), OF_LATER),
+        (["list", "--wide"], deck, WIDE),
+        (["needs", "--deck"], deck, least),
+        (["explain", "too", "many", "places"], b"", PLACES),
         (["why", "--all"], CHANGES_BOTH.read_bytes(), text_of(CHANGES_BOTH.with_suffix(".all"))),
         (["graph"], deck, text_of(EXAMPLES / "search-loop.dot")),
         (["needs"], deck, text_of(EXAMPLES / "search-loop.needs")),
@@ -91,6 +117,9 @@ def stopped():
 def command_cases(chanv):
     for words, given, answer in commands():
         complaints = (OUT_OF_MEMORY,)
+        # for the answer, and again for the notes on the image
+        if words[0] == "find":
+            complaints += (2 * OUT_OF_MEMORY,)
         # the second once a file is read
         if SEARCH_LOOP in words:
             complaints += (f"chanv: {SEARCH_LOOP}: out of memory\n",)
@@ -101,8 +130,8 @@ def command_cases(chanv):
             given=given,
             complaints=complaints,
             begun=answer if words[0] in ("list", "find") else "",
-            # the complaint stands in place of notes
-            may_answer=words[0] == "why" and answer.endswith("yes\n"),
+            # the complaint replaces notes
+            may_answer=words[0] in ("why", "find", "deck"),
         )
 
 
@@ -127,9 +156,34 @@ def advice_cases(chanv):
         )
 
 
+def help_cases(chanv):
+    """`why` over a FILE where help follows, and `find` where search loops vote."""
+    text = f"{CHANGES_ITSELF}: {text_of(CHANGES_ITSELF.with_suffix('.why'))}"
+    yield Case(
+        name="chanv why, help",
+        words=[chanv, "why", CHANGES_ITSELF],
+        expected=Ran(1, text, said_beside(CHANGES_ITSELF, "named")),
+        complaints=(OUT_OF_MEMORY, f"chanv: {CHANGES_ITSELF}: out of memory\n"),
+        may_answer=True,
+    )
+    loops = core()[8:]
+    yield Case(
+        name="chanv find, a note on search loops",
+        words=[chanv, "find", "--device", "2314"],
+        expected=Ran(0, "", note_of(loops) + NONE_FOUND),
+        given=loops,
+        # the note, or a complaint in its place, follows that on the answer
+        complaints=[
+            OUT_OF_MEMORY + rest for rest in ("", OUT_OF_MEMORY, NONE_FOUND, note_of(loops))
+        ],
+        may_answer=True,
+    )
+
+
 def check(checks, built):
     chanv = built.chanv()
-    cases = [*call_cases(built.unit_tests()), *command_cases(chanv), *advice_cases(chanv)]
+    cases = [*call_cases(built.unit_tests()), *command_cases(chanv)]
+    cases += [*advice_cases(chanv), *help_cases(chanv)]
     with tempfile.TemporaryDirectory() as folder:
         growths = Growths(folder)
         for case in cases:

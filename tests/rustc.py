@@ -38,6 +38,7 @@ AT_ONCE = 4
 
 # commands over all decks at once, over a deck, and over an image
 OF_DECKS = ["verify", "list", "why", "why --all", "needs"]
+OF_DECKS += ["list --wide", "why --of 800", "why --of 808", "needs --deck"]
 OF_A_DECK = ["graph {path}"]
 OF_AN_IMAGE = [
     "find {path}",

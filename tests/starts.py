@@ -1,8 +1,8 @@
 """May a program start, and may others write: the library over random rows, and a second reading.
 
-The reading is from docs/EMBEDDING.md and the header: what is compared, in which order, and which
-byte or cylinder is named. Rows come from anywhere: they overlap, aren't sorted, are empty or lie
-past storage; kept bytes are missing; masks and devices are invalid.
+The reading is from the header: what is compared, in which order, and which byte or cylinder is
+named. Rows come from anywhere: they overlap, aren't sorted, are empty or lie past storage; kept
+bytes are missing; masks and devices are invalid.
 """
 
 import random

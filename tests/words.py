@@ -1,35 +1,39 @@
-"""docs/WORDS.md says of each word what `chanv explain` writes.
+"""`chanv explain` writes what explain.txt says of each word.
 
-Its sections are the words of the table of reasons in docs/VERDICT.md, of the table of causes in
-docs/DECK.md, and of its own table of failures. Each is what `chanv explain` writes, in any case of
-the word's letters. Its table of words of the output has others, and the commands of docs/DEVICE.md
-are words too, each with its code. Each word that `verify`, `list`, `why` or `needs` writes about an
-example is known. Without a word `chanv explain` lists all these words. Any other word is refused,
-and the nearest is named. And `chanv why` gives the cause of each example deck's no in a form that
-the section of its reason has; each reason has an example.
+explain.txt has a section for each reason of the table in docs/VERDICT.md, for each cause of the
+table in docs/DECK.md, and for each failure of the table in docs/OUTPUT.md, in this order. Its last
+section has the words of the output with one line each. `chanv explain` writes these texts, in any
+case of the word's letters. The commands of docs/DEVICE.md are words too, each with its code. Each
+word that `verify`, `list`, `why`, `needs`, `graph` or `find` writes about an example is known, and
+so are flags as a row shows them. Without a word `chanv explain` lists all words. Any other word is
+refused, and the nearest is named. And `chanv why` gives the cause of each example deck's no in a
+form that the row of its reason in docs/OUTPUT.md shows; each reason has an example.
 """
 
 import re
 
-from building import ROOT, short
+from building import HERE, ROOT, short
 from examples import FOLDERS, TEXTS, verdicts_of
+from images import taken_apart
 from running import Ran, run, text_of
 
-WORDS = "WORDS.md"
+EXPLAINED = HERE / "explain.txt"
+OUTPUT = ROOT / "docs/OUTPUT.md"
 # the page of each table of words, the heading over it, and how a row begins
 TABLES = [
     ("VERDICT.md", "The rules", r"\| \d+ \| `([a-z-]+)` \|"),
     ("DECK.md", "How a text is refused", r"\| `([a-z-]+)` \| (?!may)"),
-    (WORDS, "Lines in place of an answer", r"\| `([a-z-]+)` \| `[a-zA-Z :;.]+` \| \d \|"),
+    ("OUTPUT.md", "Lines in place of an answer", r"\| `([a-z-]+)` \| `[a-zA-Z :;.]+` \| \d \|"),
 ]
 
-# the table of other words, and that of the commands, whose second codes have names with -mt
-OTHER = r"(?m)^\| `([^`]+)` \| (.*) \|$"
+# a word of one line with its meaning, and a row of the table of commands, whose second codes have
+# names with -mt
+OTHER = r"(?m)^    (.+?): (.*)$"
 COMMAND = r"(?m)^\| `([0-9A-F]{2})` \| (?:`([0-9A-F]{2})` )?\| `([a-z-]+)` \|"
 
 # what the commands do on the device, in the order of the list
 DOES = """
-transfer-in-channel: the channel's jump: it goes on at the CCW's data address
+transfer-in-channel: the channel's jump to the CCW's data address
 no-operation: moves no data
 seek: moves the arm to a cylinder and selects a head
 seek-cylinder: moves the arm to a cylinder and selects a head
@@ -37,11 +41,11 @@ seek-head: selects a head
 recalibrate: moves the arm to cylinder 0 and selects head 0
 set-file-mask: sets the file mask, which inhibits writes and seeks
 sense: stores the sense bytes, which describe the last error
-search-home-address-equal: looks for a home address that is equal to the argument
-search-id-equal: looks for a record whose identifier is equal to the argument
-search-id-high: looks for a record whose identifier is above the argument
-search-id-equal-or-high: looks for a record whose identifier is at least the argument
-search-key-equal: looks for a record whose key is equal to the argument
+search-home-address-equal: looks for a home address that equals the argument
+search-id-equal: looks for a record whose ID equals the argument
+search-id-high: looks for a record whose ID is above the argument
+search-id-equal-or-high: looks for a record whose ID is at least the argument
+search-key-equal: looks for a record whose key equals the argument
 search-key-high: looks for a record whose key is above the argument
 search-key-equal-or-high: looks for a record whose key is at least the argument
 read-home-address: stores the home address of the track
@@ -53,12 +57,12 @@ read-count-key-data: stores count, key and data of a record
 write-home-address: writes the home address of the track
 write-record-zero: writes count, key and data of record zero
 write-count-key-data: lays out a new record with count, key and data
-write-special-count-key-data: lays out a part of a record that goes on on another track
+write-special-count-key-data: lays out a record that continues on another track
 erase: erases the rest of the track
 write-data: writes the data of a record
 write-key-data: writes key and data of a record
 """
-ON_MORE_TRACKS = "the same as without -mt, also on the next tracks of the cylinder"
+ON_MORE_TRACKS = "as without -mt, also on the cylinder's next tracks"
 
 # what the list says in a few words of each word that has a section
 IN_SHORT = """
@@ -131,18 +135,28 @@ UNKNOWN = {
     "x" * 100_000: "",
 }
 
+# words of wide listings, pictures and `find` that mean what they mean anywhere, and two marks
+PLAIN = ["->", "seeks", "sets", "until", "if", "over", "CCWs"]
+# words that have to be among those of an answer, so that none is overlooked
+SOME_OF = {
+    "why FILE": {"changes-argument", "short-seek"},
+    "list --wide": {"no-ccw", "stores", "cylinder", "mask", "changes-argument", "C", "search"},
+    "graph": {"chained", "fetches", "cylinder", "TIC", "stored over by", "changes-ccw", "found"},
+    "find": {"yes", "no", "changes-argument", "search-id-equal", "read-data"},
+}
+
 # what begins a line of an answer whose rest is a sentence, and what numbers and flags are
 PHRASES = ["because", "stored over by", "reached by", "note", "help", "found", "expected"]
 NUMBER, FLAGS = re.compile(r"[0-9A-F]{2,8}|\d+"), re.compile(r"[D-][C-][L-][S-][P-][0-7]")
 
 # what stands for a value in the form of a cause
 VALUES = {
-    "DATA": r"[0-9A-F]{6,8}-[0-9A-F]{6,8}",
-    "A-B": r"[0-9A-F]{6,8}-[0-9A-F]{6,8}",
+    "DATA": r"[0-9A-F]{6,8}(?:-[0-9A-F]{6,8})?",
+    "A-B": r"[0-9A-F]{6,8}(?:-[0-9A-F]{6,8})?",
     "ADDRESS": r"[0-9A-F]{6,8}",
     "BYTE": r"[0-9A-F]{6}",
     "BYTES": r"(?:[0-9A-F]{2})+",
-    "RANGES": r"[0-9A-F]{6}-[0-9A-F]{6}(?:, [0-9A-F]{6}-[0-9A-F]{6})*",
+    "RANGES": r"[0-9A-F]{6}(?:-[0-9A-F]{6})?(?:, [0-9A-F]{6}(?:-[0-9A-F]{6})?)*",
     "HHHH": r"[0-9A-F]{4}",
     "HH": r"[0-9A-F]{2}",
     "NAME": r"[a-z-]+",
@@ -159,16 +173,17 @@ def words_under(page, heading, row):
     return re.findall(f"(?m)^{row}", table[0] if table else "")
 
 
-def sections_of(page):
+def sections_of(explained):
     """The text under each heading that is one word, without its indent."""
-    found = re.findall(r"(?m)^### `([a-z-]+)`\n\n((?:    .*\n)+)", page)
+    found = re.findall(r"(?m)^### `([a-z-]+)`\n\n((?:    .*\n)+)", explained)
     return {word: re.sub(r"(?m)^    ", "", text) for word, text in found}
 
 
 def causes_of(page):
     """The forms of each reason's cause, as patterns."""
-    for word, said in re.findall(r"(?ms)^### `([a-z-]+)`$(.*?)(?=^##+ |\Z)", page):
-        forms = re.findall(r"`(because [^`]+)`", " ".join(said.split()))
+    table = page.partition("\n### Causes\n")[2].partition("\n### ")[0]
+    for word, said in re.findall(r"(?m)^\| `([a-z-]+)` \| (.*) \|$", table):
+        forms = re.findall(r"`(because [^`]+)`", said)
         plain = [re.sub(r"[()]", r"\\\g<0>", form) for form in forms]
         yield word, [VALUE.sub(lambda found: VALUES[found[0]], form) for form in plain]
 
@@ -197,12 +212,13 @@ OTHER_CODES = {
     "00": "00: group invalid, no command, because the low four bits are zero",
     "F0": "F0: group invalid, no command, because the low four bits are zero",
     "02": "02: group read, read-ipl: not in the table of commands that chanv knows",
+    "0F": "0F: group control, space-count: not in the table of commands that chanv knows",
     "b4": "B4: group sense, reserve: not in the table of commands that chanv knows",
     "0C": "0C: group read-backward, not in the table of commands that chanv knows",
-    "08": "08: group transfer, transfer-in-channel: the channel's jump: it goes on at the CCW's "
-    "data address; no mask inhibits it",
-    "f8": "F8: group transfer, transfer-in-channel: the channel's jump: it goes on at the CCW's "
-    "data address; no mask inhibits it",
+    "08": "08: group transfer, transfer-in-channel: the channel's jump to the CCW's data address; "
+    "no mask inhibits it",
+    "f8": "F8: group transfer, transfer-in-channel: the channel's jump to the CCW's data address; "
+    "no mask inhibits it",
 }
 NO_MASKS = {"20": "20", "ff": "FF", "01": "01"}
 
@@ -265,24 +281,101 @@ def words_of(text):
         yield from [phrase] if phrase else [*words, *flags]
 
 
+def words_of_wide(text):
+    """The words of the rows of a wide listing, and of the verdict."""
+    for line in text.splitlines()[1:]:
+        yield from words_of(re.sub(r"[:]|(?<=[0-9A-F])-(?=[0-9A-F])", " ", line))
+
+
+def words_of_picture(text):
+    """The words of the rows of boxes, reasons, phrases that are alone in a line, and the labels of
+    arrows; a cause, which is a sentence, is indented."""
+    for cell in re.findall(r"<td[^>]*>([^<]*)</td>", text):
+        cell = cell.replace("&#160;", " ")
+        if re.match(r"[0-9A-F]{6,} ", cell):
+            row, over, _ = cell.partition("stored over by")
+            yield from [over] if over else []
+            yield from words_of(re.sub(r"(?<=[0-9A-F])-(?=[0-9A-F])", " ", row))
+        elif not cell.startswith(("  ", "... ")):
+            yield cell.removesuffix(":")
+    for label in re.findall(r' label=" ([^"]*) "', text):
+        yield from words_of(label)
+
+
+def words_of_found(text):
+    """The words of the lines of `find`."""
+    for line in text.splitlines():
+        is_large = line.endswith(" too many places")
+        yield from ["too many places"] if is_large else words_of(line.replace(":", ""))
+
+
+def words_of_help(text):
+    """The words that lines of help lead to."""
+    return re.findall(r"(?m)^help: chanv explain (.*)$", text)
+
+
+def printed(program, path):
+    """Each word that an answer about a deck has, with what it is in."""
+    for command in ("verify", "list", "why", "why --all", "needs"):
+        ran = run(program, *command.split(" "), given=path)
+        yield command, [*words_of(ran.output), *words_of(ran.error)]
+    yield "why FILE", words_of_help(run(program, "why", path).error)
+    yield "list --wide", words_of_wide(run(program, "list", "--wide", given=path).output)
+    yield "graph", words_of_picture(run(program, "graph", given=path).output)
+    storage = taken_apart(text_of(path))[1]
+    yield "find", words_of_found(run(program, "find", "--device", "2314", given=storage).output)
+
+
 def check_printed(checks, program):
     """Each word that an answer about an example has is one that is explained."""
-    found = {}
+    found, whence = {}, {}
     for folder in (*FOLDERS, TEXTS):
         for name in verdicts_of(folder):
-            for command in ("verify", "list", "why", "why --all", "needs"):
-                ran = run(program, *command.split(" "), given=folder / name)
-                found |= dict.fromkeys(words_of(ran.output), f"{command} {name}")
-                found |= dict.fromkeys(words_of(ran.error), f"{command} {name}")
-    checks.expect_that("some phrase is found", {"because", "reached by"} <= set(found), found)
+            for command, words in printed(program, folder / name):
+                for word in filter(None, words):
+                    found.setdefault(word, f"{command} {name}")
+                    whence.setdefault(command, set()).add(word)
+    some = {"because", "reached by", "stored over by", "never ends by itself", "TIC", "changes-ccw"}
+    checks.expect_that("some phrases are found", some <= set(found), found)
+    for command, some in SOME_OF.items():
+        checks.expect_that(f"some words of {command}", some <= whence[command], whence[command])
+    for word in PLAIN:
+        checks.expect_that(f"{word} is printed", word in found, found)
+        found.pop(word, None)
     for word, where in found.items():
         ran = run(program, "explain", "--", word)
         checks.expect_that(f"{word}, from {where}", ran.status == 0 and ran.output, ran)
 
 
-def check_others(checks, program, page):
+# the flags by their letters
+FLAG_NAMES = {
+    "D": "chain data",
+    "C": "chain command",
+    "L": "suppress length indication",
+    "S": "skip",
+    "P": "program-controlled interruption",
+}
+
+
+def check_flags(checks, program):
+    """Flags as a row shows them are a word: each letter has its name."""
+    for byte in range(256):
+        letters = "".join(it if byte & 0x80 >> at else "-" for at, it in enumerate(FLAG_NAMES))
+        low, word = byte % 8, f"{letters}{byte % 8}"
+        parts = [f"{it} {name}" for it, name in FLAG_NAMES.items() if it in letters]
+        parts += [f"{low} low bits, which must be zero"] if low else []
+        line = f"{word}: {'; '.join(parts) or 'no flag is on'}\n"
+        checks.expect(word, Ran(0, line), run(program, "explain", "--", word))
+    line = "-CL--0: C chain command; L suppress length indication\n"
+    checks.expect("-CL--0 alone", Ran(0, line), run(program, "explain", "-CL--0"))
+    for word in ("-CL--8", "CD---0", "-CL-0", "XCL--0", "-CL--00", "DCLSP"):
+        ran = run(program, "explain", "--", word)
+        checks.expect(f"{word}, which isn't flags", (4, ""), (ran.status, ran.output))
+
+
+def check_others(checks, program, explained):
     """The words of the output, each with its line, and each command."""
-    rows = re.findall(OTHER, page.partition("\n## Words of the output\n")[2])
+    rows = re.findall(OTHER, explained.partition("\n### Words with one line\n")[2])
     does = [tuple(line.split(": ", 1)) for line in DOES.split("\n")[1:-1]]
     table = re.findall(COMMAND, text_of(ROOT / "docs/DEVICE.md"))
     codes = {name: code for code, _, name in table}
@@ -300,8 +393,8 @@ def check_others(checks, program, page):
 
 
 def check(checks, built):
-    program, page = built.chanv(), text_of(ROOT / "docs" / WORDS)
-    said, listed = sections_of(page), []
+    program, explained = built.chanv(), text_of(EXPLAINED)
+    said, listed = sections_of(explained), []
     for table in TABLES:
         words = words_under(*table)
         checks.expect_that(f"the table of {table[0]} has words", words, words)
@@ -313,13 +406,13 @@ def check(checks, built):
         checks.expect(word.upper(), meaning, run(program, "explain", word.upper()))
     short = IN_SHORT.removeprefix("\n")
     checks.expect("the words in short", listed, re.findall(r"(?m)^([a-z-]+): ", short))
-    lines = "".join([short, *check_others(checks, program, page)])
+    lines = "".join([short, *check_others(checks, program, explained)])
     checks.expect("the list of words", Ran(0, lines), run(program, "explain"))
     for word, nearest in UNKNOWN.items():
         near = f"the nearest is {nearest}, and " if nearest else ""
         refused = Ran(4, "", f"chanv: no such word; {near}{LISTS_ALL}\n")
         checks.expect(f"'{word[:20]}'", refused, run(program, "explain", word))
     check_printed(checks, program)
+    check_flags(checks, program)
     check_codes(checks, program)
-    causes = {word: forms for word, forms in causes_of(page) if word in words_under(*TABLES[0])}
-    check_causes(checks, program, causes)
+    check_causes(checks, program, dict(causes_of(text_of(OUTPUT))))

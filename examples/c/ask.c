@@ -1,5 +1,5 @@
-/* Asks about the usual search loop before it is started, lists the CCWs that it can come to, and
- * asks why another one may not run. */
+/* Asks about the usual search loop before it is started, lists the CCWs that it can reach, and asks
+ * why a program that reads past its area may not run. */
 #include <chanv.h>
 #include <stdio.h>
 

@@ -1,9 +1,9 @@
 /* A supervisor that has several channel programs in flight at once, on one main storage that others
  * write too. It takes each program in, and asks before each start and before each write of others.
- * That is all: by the law behind these calls, no program in flight then meets a program check,
- * moves a byte that it wasn't lent, seeks outside its extents or issues an inhibited command.
- * chanv.h lists the premises. A supervisor with threads holds one lock during each function below
- * but take_in, and keeps it until the program has been started or the bytes are written. */
+ * That is all: under the premises of chanv.h no program in flight then meets a program check, moves
+ * a byte that it wasn't lent, seeks outside its extents or issues an inhibited command. A supervisor
+ * with threads holds one lock during each function below except take_in, and keeps it until the
+ * program has been started or the bytes are written. */
 #include <chanv.h>
 #include <string.h>
 
@@ -23,9 +23,9 @@ struct taken {
 /* The programs in flight, by the number of the unit. Zeros are no program. */
 static struct chanv_program in_flight[UNITS];
 
-/* Takes the job's program in. Only after CHANV_OK may it start; MAY_HANG is why a program is
- * refused that may never end by itself. It isn't in flight now. The channels of other programs may
- * store meanwhile, even over this one: chanv judges a private copy of what the program keeps. If it
+/* Takes the job's program in, which isn't in flight now. Only after CHANV_OK may it start; MAY_HANG
+ * refuses a program that may never end by itself. The channels of other programs may store
+ * meanwhile, even over this program: chanv judges a private copy of what the program keeps. If it
  * answers CHANV_CHANGED_MEANWHILE, the caller may ask again, but not without end. */
 static uint32_t take_in(struct taken *taken, const struct chanv_job *job)
 {

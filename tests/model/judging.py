@@ -146,6 +146,51 @@ def argument_of(storage, seek):
         at = after.address if after and after.is_transfer() else at + 8
 
 
+def setting_of(job, place):
+    """What the operation that begins at a place sets, by the first seven checks: a track, by a seek
+    whose bin is zero or by a Recalibrate, or the byte of Set File Mask."""
+    ccw = ccw_at(job.storage, place.address)
+    command = command_at(place, ccw) if ccw and not program_check(job.storage, place) else None
+    if command and command.name == "recalibrate":
+        return {"cylinder": 0, "head": 0}
+    if command and command.name == "set-file-mask":
+        return {"mask": job.storage[ccw.address]}
+    if command and command.is_seek():
+        argument = argument_of(job.storage, place.address) or ()
+        fields = fields_of(bytes(job.storage[at] for at in argument))
+        return None if fields[0] or not argument else {"cylinder": fields[1], "head": fields[2]}
+    return None
+
+
+def path_to(job, faults, offends):
+    """The shortest path to a place that offends, and of equally short ones the one that goes on to
+    the next CCW where another skips it."""
+    before, left = {first_place(job): None}, [first_place(job)]
+    while left and not offends(left[0]):
+        place = left.pop(0)
+        after = [] if faults[place] else successors(place, ccw_at(job.storage, place.address))
+        for target in after:
+            if target not in before:
+                before[target] = place
+                left.append(target)
+    path, place = [], left[0]
+    while place:
+        path.insert(0, place)
+        place = before[place]
+    return path
+
+
+def stored_over(job, path):
+    """The last place before a path's end that stores one of eight bytes from the end's address."""
+    wanted = range(path[-1].address, path[-1].address + 8)
+    for place in reversed(path[:-1]):
+        ccw = ccw_at(job.storage, place.address)
+        data = range(ccw.address, ccw.address + ccw.count)
+        if does_store(place, ccw) and data.start < wanted.stop and wanted.start < data.stop:
+            return place
+    return None
+
+
 def successors(place, ccw):
     kind = kind_at(place, ccw)
     if ccw.is_transfer():

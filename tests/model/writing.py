@@ -1,7 +1,20 @@
 """The texts of a job by docs/DECK.md and docs/OUTPUT.md: its deck, verdict, listing and needs."""
 
 from channel import COMMANDS, ccw_at
-from judging import FRESH, Job
+from judging import (
+    FRESH,
+    NUMBER,
+    Job,
+    does_fetch,
+    does_store,
+    guarded,
+    kind_at,
+    own_fault,
+    path_to,
+    setting_of,
+    stored_over,
+    successors,
+)
 
 WAY = {"fresh": "fresh", "inward": "in", "outward": "out", "search": "search"}
 
@@ -71,14 +84,109 @@ def name_of(place, ccw):
     return COMMANDS[ccw.code].name if ccw.code in COMMANDS else "unknown"
 
 
+def row_of(job, place, is_marked):
+    ccw = ccw_at(job.storage, place.address)
+    told = f"{ccw.text()} {name_of(place, ccw)}" if ccw else "no-ccw"
+    transfer, mark = "t" if place.by_transfer else "-", "*" if is_marked else "."
+    return f"{place.address:06X} {WAY[place.entered]} {transfer} {mark} {told}"
+
+
 def listing_of(job, faults, found):
     for place in sorted(faults, key=lambda place: place.order()):
-        mark = "*" if found and place.address == found[0][0].address else "."
-        ccw = ccw_at(job.storage, place.address)
-        told = f"{ccw.text()} {name_of(place, ccw)}" if ccw else "no-ccw"
-        transfer = "t" if place.by_transfer else "-"
-        yield f"{place.address:06X} {WAY[place.entered]} {transfer} {mark} {told}"
+        yield row_of(job, place, found and place.address == found[0][0].address)
     yield verdict_of(found)
+
+
+def setting_text(job, place):
+    """What is set at a place, in parentheses."""
+    setting = setting_of(job, place)
+    if setting is None:
+        return ""
+    if "mask" in setting:
+        return f"(mask {setting['mask']:02X})"
+    return f"(cylinder {setting['cylinder']}, head {setting['head']})"
+
+
+def path_of(job, faults, found):
+    """The rows of the path to the verdict's place, and what is stored over there before."""
+    address, reason = found[0][0].address, found[0][1]
+    offending = {place for place, word in found if (place.address, word) == (address, reason)}
+    path = path_to(job, faults, offending.__contains__)
+    for place in path:
+        yield f"{row_of(job, place, place is path[-1])} {setting_text(job, place)}".rstrip()
+    over = stored_over(job, path) if NUMBER[reason] <= 8 else None
+    if over:
+        yield f"stored over by {over.address:06X}: what will stand there is not judged"
+
+
+WIDE = "   address   entered  flags   data            command              does"
+
+
+def deed_of(job, place, ccw):
+    """What the CCW at a place does: what it sets, or what it does with its data."""
+    setting = setting_of(job, place) or {}
+    if "mask" in setting:
+        return f"sets mask {setting['mask']:02X}"
+    if setting:
+        return f"seeks cylinder {setting['cylinder']}, head {setting['head']}"
+    if ccw.is_transfer() or ccw.count == 0:
+        return ""
+    if does_store(place, ccw):
+        return "stores"
+    if not does_fetch(place, ccw):
+        return "skips" if kind_at(place, ccw) == "inward" else ""
+    after = [] if own_fault(job, place) else successors(place, ccw)
+    is_search = place.entered == FRESH and len(after) == 2
+    back = ccw_at(job.storage, after[0].address) if is_search else None
+    is_loop = back and back.is_transfer() and back.address == place.address
+    return "fetches until found" if is_loop else "fetches"
+
+
+def wide_of(job, faults, found):
+    """The wide listing: places that differ in whether a transfer led there are one row, but for
+    transfers."""
+    yield WIDE
+    before = None
+    for place in sorted(faults, key=lambda place: place.order()):
+        ccw = ccw_at(job.storage, place.address)
+        is_twin = before and place[:2] == before[:2] and not (ccw and ccw.is_transfer())
+        before = place
+        if is_twin:
+            continue
+        reasons = ", ".join(reason for at, reason in found if at == place)
+        does = deed_of(job, place, ccw) if ccw else ""
+        does = ": ".join(filter(None, [does, reasons]))
+        flags, data, name = "-", "-", "no-ccw"
+        if ccw:
+            last = f"-{ccw.address + ccw.count - 1:06X}" if ccw.count > 1 else ""
+            data = f"-> {ccw.address:06X}" if ccw.is_transfer() else f"{ccw.address:06X}{last}"
+            flags, name = ccw.text().split(" ")[2], name_of(place, ccw).replace("chained", "-")
+        indent = "" if place.entered == FRESH else "  "
+        address, way = f"{indent}{place.address:06X}", WAY[place.entered]
+        mark = "=>" if reasons else "  "
+        row = f"{mark} {address:9} {way:8} {flags:7} {data:15} {name:20} {does}"
+        yield row.rstrip()
+    yield verdict_of(found)
+
+
+def second_path_of(job, faults, found):
+    """If the offence is a change, the rows of the path to what is changed: the first of the CCWs
+    that the data meets, or a CCW that takes the first byte that is stored over."""
+    place, reason = found[0]
+    if not reason.startswith("changes-"):
+        return
+    ccw = ccw_at(job.storage, place.address)
+    data = range(ccw.address, ccw.address + ccw.count)
+    if reason == "changes-ccw":
+        near = range(data.start - 7, data.stop)
+        address = min(it.address for it in faults if it.address in near)
+        path = path_to(job, faults, lambda it: it.address == address)
+    else:
+        byte = min(guarded(job, faults)[1].intersection(data))
+        path = path_to(job, faults, lambda it: byte in guarded(job, {it: None})[1])
+    yield "reached by"
+    for place in path:
+        yield f"{row_of(job, place, place is path[-1])} {setting_text(job, place)}".rstrip()
 
 
 def spans(numbers):

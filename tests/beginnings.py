@@ -1,0 +1,285 @@
+"""`chanv find` and `chanv deck` say where an image seems to begin, and that an image is text.
+
+    tests/run beginnings
+
+A search loop is a search under chain command and, eight bytes on, a transfer. It fits if the image
+begins at the transfer's target less the search's offset. Standard error has a note exactly if one
+address fits at least two loops, more than each other address, and more than --at. The loops are
+read anew here, over the bytes: of an image cut at twenty places, of noise, of loops that agree on a
+wrong address, of ties, and of images with no loop. Over each cut image the address that the note
+names then brings the programs of the whole image, and no note. Decks that are made of an image get
+the same note. Last come images that are text.
+"""
+
+import re
+import shutil
+import sys
+from random import Random
+
+from building import HERE
+from examples import SEARCH_LOOP
+from find import FITTING, LARGEST
+from images import taken_apart
+from running import Ran, run, text_of
+
+sys.path.insert(0, str(HERE / "model"))
+
+from channel import CHAIN_COMMAND, CHAIN_DATA, COMMANDS, LOW_BITS, Ccw  # noqa: E402
+
+SEED, IMAGES = 71, 300
+DEVICE = ["--device", "2314"]
+PLAIN, DUMP = (
+    "note: this is text in hexadecimal; xxd -r -p turns it into an image\n",
+    "note: this is a dump with addresses; xxd -r turns it into an image\n",
+)
+
+
+def ccw_of(word):
+    return Ccw(word[0], int.from_bytes(word[1:4]), word[4], word[5], int.from_bytes(word[6:8]))
+
+
+def word_of(code, address, flags, count):
+    return bytes([code, *address.to_bytes(3), flags, 0, *count.to_bytes(2)])
+
+
+def is_search(ccw):
+    """Whether a search loop may begin with a CCW."""
+    command = COMMANDS.get(ccw.code)
+    is_chained = ccw.flags & (CHAIN_DATA | CHAIN_COMMAND | LOW_BITS) == CHAIN_COMMAND
+    return command is not None and command.kind == "search" and is_chained and ccw.count > 0
+
+
+def beginnings(image):
+    """For each search loop the address at which the image then begins."""
+    for at in range(len(image) - 15):
+        transfer = ccw_of(image[at + 8 : at + 16])
+        if is_search(ccw_of(image[at : at + 8])) and transfer.is_transfer():
+            begins = transfer.address - at
+            is_in_storage = 0 <= begins and begins + len(image) <= LARGEST
+            if transfer.address % 8 == 0 and is_in_storage:
+                yield begins
+
+
+def note_of(image, at=0):
+    votes = [*beginnings(image)]
+    counts = {begins: votes.count(begins) for begins in votes}
+    most = max(counts.values(), default=0)
+    likely = [begins for begins, count in counts.items() if count == most]
+    if most < 2 or len(likely) > 1 or most <= counts.get(at, 0):
+        return ""
+    return (
+        f"note: {most} search loops fit if the image begins at {likely[0]:06X}: "
+        f"say --at {likely[0]:X}\n"
+    )
+
+
+def program_at(address, seek_to):
+    """A seek, a search loop and a read, whose arguments follow the four CCWs."""
+    argument, search = address + 0x20, address + 8
+    words = [
+        word_of(0x07, argument, CHAIN_COMMAND, 6),
+        word_of(0x31, argument + 2, CHAIN_COMMAND, 5),
+        word_of(0x08, search, 0, 0),
+        word_of(0x06, address + 0x40, 0x20, 0x10),
+    ]
+    seek = bytes([0, 0, 0, seek_to, 0, 3, 1, 0])
+    return b"".join(words) + seek
+
+
+BEGINS, SIZE, APART = 0x2000, 0x600, 0x80
+PROGRAMS = [BEGINS + APART * number for number in range(1, 9)]
+
+
+def core():
+    """Storage from 002000 on, with eight programs in zeros."""
+    image = bytearray(SIZE)
+    for number, address in enumerate(PROGRAMS):
+        program = program_at(address, number)
+        image[address - BEGINS : address - BEGINS + len(program)] = program
+    return bytes(image)
+
+
+def loop_at(offset, begins, code=0x31):
+    """A search loop for an offset of an image that begins there."""
+    at = begins + offset
+    return word_of(code, at, CHAIN_COMMAND, 5) + word_of(0x08, at, 0, 0)
+
+
+def image_with(size, loops):
+    """An image of zeros but for loops, given by offset and the address that each fits."""
+    image = bytearray(size)
+    for offset, begins in loops:
+        image[offset : offset + 16] = loop_at(offset, begins)
+    return bytes(image)
+
+
+ODD = 0x1235
+# images by name, with what --at is, and the address that the note names
+CASES = [
+    ("two loops", image_with(0x100, [(0, 0x2000), (0x40, 0x2000)]), 0, 0x2000),
+    ("one loop", image_with(0x100, [(0, 0x2000)]), 0, None),
+    ("no loop", bytes(0x100), 0, None),
+    ("no byte", b"", 0, None),
+    ("two loops at odd places", image_with(0x100, [(3, ODD), (0x43, ODD)]), 0, ODD),
+    ("a tie", image_with(0x100, [(0, 0x800), (16, 0x900), (32, 0x800), (48, 0x900)]), 0, None),
+    ("as many as --at", image_with(0x100, [(0, 0), (16, 0), (32, 0x800), (48, 0x800)]), 0, None),
+    ("one more than --at", image_with(0x100, [(0, 0x800), (16, 0x800), (32, 0)]), 0, 0x800),
+    (
+        "a wrong majority",
+        image_with(0x100, [(0, 0x2000), (16, 0x2000), (32, 0x3000), (48, 0x3000), (64, 0x3000)]),
+        0x2000,
+        0x3000,
+    ),
+    ("the majority at --at", image_with(0x100, [(0, 0x2000), (16, 0x2000)]), 0x2000, None),
+    ("past the largest storage", image_with(0x100, [(0, 0xFFFF08), (16, 0xFFFF08)]), 0, None),
+    ("up to its end", image_with(0x100, [(0, 0xFFFF00), (16, 0xFFFF00)]), 0, 0xFFFF00),
+]
+# changes of the second of three loops, each of which makes it none: bytes of it by their offsets
+NONE_BY = {
+    "no search": {0: 0x06},
+    "no code of the table": {0: 0x21},
+    "no chain command": {4: 0},
+    "chain data": {4: 0xC0},
+    "a low flag": {4: 0x41},
+    "a count of zero": {7: 0},
+    "no transfer": {8: 0x06},
+    "a target between doublewords": {11: 0x11},
+}
+
+
+def found(program, image, *words):
+    """What `find` says, without the notes on programs."""
+    ran = run(program, "find", *DEVICE, *words, given=image)
+    notes = [line for line in ran.error.splitlines(True) if "no program found" not in line]
+    return ran.status, "".join(notes)
+
+
+def check_cases(checks, program):
+    for name, image, at, begins in CASES:
+        note = note_of(image, at)
+        seen = re.findall(r"at (\w{6}):", note)
+        wanted = [] if begins is None else [f"{begins:06X}"]
+        checks.expect(f"the model's note on {name}", wanted, seen)
+        checks.expect(name, (0, note), found(program, image, "--at", f"{at:X}"))
+    for name, changes in NONE_BY.items():
+        image = bytearray(image_with(0x100, [(0, 0x800), (0x40, 0x800)]))
+        for at, byte in changes.items():
+            image[0x40 + at] = byte
+        checks.expect(f"a loop with {name}", (0, ""), found(program, bytes(image)))
+    for code in (0xB1, 0x39, 0xE9):
+        image = loop_at(0, 0x800, code) + loop_at(16, 0x800, 0x71)
+        checks.expect(f"a loop by {code:02X}", (0, note_of(image)), found(program, image))
+    image = bytearray(image_with(0x100, [(0, 0x800), (0x40, 0x800)]))
+    image[8], image[0x48], image[0x44] = 0xF8, 0x18, 0x78
+    wanted = "note: 2 search loops fit if the image begins at 000800: say --at 800\n"
+    checks.expect("other codes of a transfer", (0, wanted), found(program, bytes(image)))
+
+
+def cuts(random):
+    """Twenty places at which the image is cut, the half of them at no multiple of 8."""
+    most = PROGRAMS[-3] - BEGINS
+    at_words = [8 * random.randrange(most // 8) for _ in range(8)]
+    between = [8 * random.randrange(most // 8) + random.randrange(1, 8) for _ in range(10)]
+    return [8, 1, *at_words, *between]
+
+
+def check_cuts(checks, program, random):
+    whole = core()
+    expected = run(program, "find", *DEVICE, "--at", f"{BEGINS:X}", given=whole)
+    checks.expect("programs of the whole image", 8, expected.output.count(" yes 4 CCWs: "))
+    checks.expect("no note on the whole image", "", expected.error)
+    for cut in cuts(random):
+        image = whole[cut:]
+        left = sum(address + 8 >= BEGINS + cut for address in PROGRAMS)
+        at = f"{BEGINS + cut:X}"
+        note = f"note: {left} search loops fit if the image begins at 00{at}: say --at {at}\n"
+        checks.expect(f"the note on a cut at {cut:X}", (0, note), found(program, image))
+        ran = run(program, "find", *DEVICE, "--at", at, given=image)
+        # a program that is cut may begin at a later CCW
+        whole_ones = [f"00{it:04X}" for it in PROGRAMS if it >= BEGINS + cut]
+        starts = [line[:6] for line in ran.output.splitlines() if " yes 4 CCWs" in line]
+        checks.expect(f"the programs of a cut at {cut:X}", (whole_ones, ""), (starts, ran.error))
+
+
+def check_noise(checks, program, random):
+    """Random bytes with loops in them, at random places and for few addresses."""
+    noted = 0
+    for number in range(IMAGES):
+        image = bytearray(random.randbytes(random.randrange(0x200)))
+        begins = [random.randrange(0x2000) for _ in range(3)]
+        for _ in range(random.randrange(6) if len(image) >= 32 else 0):
+            fits = random.choice(begins)
+            offset = 8 * random.randrange(len(image) // 8 - 2) + -fits % 8
+            offset += random.randrange(8) == 0
+            image[offset : offset + 16] = loop_at(offset, fits)
+        at = random.choice([0, *begins])
+        image, note = bytes(image), note_of(image, at)
+        checks.expect(f"image {number}", (0, note), found(program, image, "--at", f"{at:X}"))
+        noted += bool(note)
+    checks.expect_that("some images get a note, others don't", 9 < noted < IMAGES - 9, noted)
+    image = random.randbytes(0x40000)
+    checks.expect("a large image of noise", (0, note_of(image)), found(program, image))
+
+
+def check_decks(checks, program):
+    """`deck` writes the same note, whether or not some job will do."""
+    image = core()[8:]
+    note = note_of(image)
+    for words, status in [
+        (["--start", "78", "--extent", "0-9"], 0),
+        (["--start", "78", "--open"], 0),
+        (["--start", "78", "--least"], 1),
+        (["--start", "2080", "--at", "2008", "--least"], 0),
+    ]:
+        ran = run(program, "deck", *DEVICE, *words, given=image)
+        wanted = "" if "--at" in words else note
+        notes = "".join(line for line in ran.error.splitlines(True) if FITTING.match(line))
+        checks.expect(f"deck {' '.join(words)}", (status, wanted), (ran.status, notes))
+
+
+def dump_of(image):
+    """As xxd writes it."""
+    for at in range(0, len(image), 16):
+        part = image[at : at + 16]
+        pairs = " ".join(part[it : it + 2].hex() for it in range(0, len(part), 2))
+        text = "".join(chr(byte) if 0x20 <= byte < 0x7F else "." for byte in part)
+        yield f"{at:08x}: {pairs:<39}  {text}\n"
+
+
+def check_texts(checks, program):
+    image = taken_apart(text_of(SEARCH_LOOP))[1]
+    digits, dump = image.hex(), "".join(dump_of(image))
+    for name, text, note in [
+        ("digits", digits, PLAIN),
+        ("digits in capitals, with blanks and line ends", f"{digits[:9].upper()} \t\r\n00", PLAIN),
+        ("one digit", "0", PLAIN),
+        ("a dump", dump, DUMP),
+        ("a dump without its text", "00000000: 3100 0900\n", DUMP),
+        ("blanks", " \n\r\t", ""),
+        ("a colon alone", ":", ""),
+        ("words", "0123 no image\n", ""),
+        ("digits and a byte that isn't text", "31000900\0", ""),
+        ("a dump and a byte that isn't text", "00000000: 3100 0900 \x7f\n", ""),
+    ]:
+        given = text.encode()
+        checks.expect(name, (0, note), found(program, given))
+        ran = run(program, "deck", *DEVICE, "--start", "800", "--open", given=given)
+        checks.expect(f"{name}, a deck", (0, note), (ran.status, ran.error))
+        ran = run(program, "deck", *DEVICE, "--start", "0", "--least", given=given)
+        checks.expect_that(f"{name}, the least job", ran.error.endswith(note), ran)
+    if not shutil.which("xxd"):
+        checks.skip("what the notes on text say to do", "no xxd")
+        return
+    for words, text in [("xxd -r -p", digits), ("xxd -r", dump)]:
+        made = run("bash", "-c", f'{words} | "$0" find --device 2314', program, given=text.encode())
+        wanted = Ran(0, "000800 yes 3 CCWs: search-id-equal, read-data\n")
+        checks.expect(f"an image by {words}", wanted, made)
+
+
+def check(checks, built):
+    program, random = built.chanv(), Random(SEED)
+    check_cases(checks, program)
+    check_cuts(checks, program, random)
+    check_noise(checks, program, random)
+    check_decks(checks, program)
+    check_texts(checks, program)

@@ -1,0 +1,316 @@
+"""What `chanv why` says after a no on how to cure it, and each cure, carried out.
+
+    tests/run cures
+
+Over a FILE, standard error ends with lines `help: ..`. The model computes them for the verdict of
+each example deck with a no and of 1,500 random jobs: a line for the deck that lends or grants what
+is missing, or what to change in the program, and last the word to look up. Then the cure is carried
+out. With the line that help quotes in the deck, the offence with this address and this reason is
+gone. A program that help parts in two is judged again without the chain command that help names:
+the offence is gone. Both parts of two programs have a yes. Before help comes a note, exactly if a
+CCW with a fault leads on, because chanv doesn't look past it. Over standard input alone there is no
+help.
+"""
+
+import re
+import sys
+import tempfile
+from collections import Counter
+from pathlib import Path
+
+from building import HERE
+from examples import EXAMPLES, listed_with
+from model import Answer, decks_and_jobs
+from running import Ran, run, text_of
+
+sys.path.insert(0, str(HERE / "model"))
+
+from channel import (  # noqa: E402
+    CHAIN_COMMAND,
+    CHAIN_DATA,
+    COMMANDS,
+    LAST_CYLINDER,
+    MASKS,
+    ccw_at,
+    has_cylinder,
+    inhibited,
+)
+from judging import (  # noqa: E402
+    FRESH,
+    Job,
+    argument_of,
+    command_at,
+    guarded,
+    path_to,
+)
+from writing import deck_of, job_of  # noqa: E402
+
+SEED, JOBS = 66, 1500
+UNSEEN = "note: chanv didn't look past the CCWs that have a fault; after a repair ask again"
+EXCHANGED = re.compile(r"note: the whole range is lent, but for (?:storing|fetching)")
+QUOTED = re.compile(r'help: with "((\w+) [^"]*)" .*')
+ELSEWHERE = re.compile(r"help: store the data elsewhere, so that the (\w+ ?\w*) (\w+) stays")
+PARTED = re.compile(
+    r"help: if (\w+) should use what is read there, end the program at (\w+) by switching off "
+    r"chain command, run that part, and then judge the part from \1 on"
+)
+# what comes before a line of a deck with one of these words
+BEFORE = {"extent": "fetch|store|storage", "fetch": "store|storage", "store": "storage"}
+
+
+def strictest(classes):
+    """The strictest mask that inhibits no command of these classes."""
+    serving = [mask for mask in MASKS if not classes & inhibited(mask)]
+    most = [mask for mask in serving if all(inhibited(mask) >= inhibited(it) for it in serving)]
+    # of masks that inhibit the same there is none
+    [mask] = most
+    return mask
+
+
+EVERY_CLASS = {command.mask_class for command in COMMANDS.values()}
+
+
+def quoted_by(answer, place, reason):
+    """The line of help for a reason that a line of a deck may cure, or none."""
+    job, ccw = answer.job, ccw_at(answer.job.storage, place.address)
+    permitted = EVERY_CLASS - inhibited(job.mask)
+    if reason in ("store-not-lent", "fetch-not-lent"):
+        word = reason.partition("-")[0]
+        line = f"{word} {ccw.address:06X} {ccw.count:06X}"
+        yield f'help: with "{line}" these bytes are lent'
+    elif reason == "inhibited":
+        command = command_at(place, ccw)
+        mask = strictest(permitted | {command.mask_class})
+        yield f'help: with "mask {mask:02X}" {command.name} is permitted'
+    elif reason == "weakens-mask":
+        byte = job.storage[ccw.address]
+        if byte in MASKS:
+            mask = strictest(permitted | EVERY_CLASS - inhibited(byte))
+            yield f'help: with "mask {mask:02X}" the program may set {byte:02X}'
+    elif reason == "seek-outside":
+        cylinder = cylinder_of(job, place, ccw)
+        if cylinder is not None and cylinder <= LAST_CYLINDER:
+            line = f"extent {cylinder:03} {cylinder:03}"
+            yield f'help: with "{line}" cylinder {cylinder} is granted'
+
+
+def cylinder_of(job, place, ccw):
+    """The cylinder that is in no extent, if that is the cause."""
+    if command_at(place, ccw).name == "recalibrate":
+        return 0
+    argument = bytes(job.storage[at] for at in argument_of(job.storage, place.address))
+    cylinder = int.from_bytes(argument[2:4])
+    is_granted = any(argument[:2]) or has_cylinder(job.extents, cylinder)
+    return None if is_granted else cylinder
+
+
+def offending(answer):
+    """The path to the verdict's place, and its reason."""
+    address, reason = answer.found[0][0].address, answer.found[0][1]
+    ends = {place for place, word in answer.found if (place.address, word) == (address, reason)}
+    return path_to(answer.job, answer.faults, ends.__contains__), reason
+
+
+def meets(data, address):
+    """Whether data meets the CCW at an address."""
+    return data.start < address + 8 and address < data.stop
+
+
+def changed_by(answer, place, reason):
+    """What a store changes, the address that help names, and the path to a place there."""
+    job, faults = answer.job, answer.faults
+    ccw = ccw_at(job.storage, place.address)
+    data = range(ccw.address, ccw.address + ccw.count)
+    if reason == "changes-ccw":
+        address = min(it.address for it in faults if meets(data, it.address))
+        return "CCW at", address, path_to(job, faults, lambda it: it.address == address)
+    byte = min(guarded(job, faults)[1].intersection(data))
+    path = path_to(job, faults, lambda it: byte in guarded(job, {it: None})[1])
+    return "argument of", path[-1].address, path
+
+
+def parting_of(answer, place, path):
+    """Where the first part ends and the second begins, if what is read is there before its use."""
+    job, before = answer.job, path[:-1]
+    commands = [it for it in before if not ccw_at(job.storage, it.address).is_transfer()]
+    is_read_before = any(it.address == place.address for it in before)
+    if path[-1].entered != FRESH or not is_read_before or not commands:
+        return None
+    last = commands[-1]
+    command = command_at(last, ccw_at(job.storage, last.address))
+    is_search = last.entered == "search" or command is not None and command.kind == "search"
+    return None if is_search else (path[-1].address, last.address)
+
+
+def help_of(answer):
+    """The lines of help that the model wants."""
+    path, reason = offending(answer)
+    place = path[-1]
+    if reason.startswith("changes-"):
+        what, address, second = changed_by(answer, place, reason)
+        yield f"help: store the data elsewhere, so that the {what} {address:06X} stays"
+        parts = parting_of(answer, place, second)
+        if parts:
+            user, last = parts
+            yield (
+                f"help: if {user:06X} should use what is read there, end the program at {last:06X} "
+                "by switching off chain command, run that part, and then judge the part from "
+                f"{user:06X} on"
+            )
+    else:
+        yield from quoted_by(answer, place, reason)
+    yield f"help: chanv explain {reason}"
+
+
+def said_beside(deck, name="", is_among=False):
+    """What `why` writes on standard error beside the answer on an example, which is an input with
+    that name, or standard input alone: its notes, and over a named input with a no also help."""
+    notes = text_of(deck.with_suffix(".notes")) if "notes" in listed_with(deck) else ""
+    answer = Answer(job_of(text_of(deck)))
+    lines = [*notes.splitlines(), *(help_of(answer) if name and answer.found else ())]
+    front = f"{name}: " if is_among else ""
+    return "".join(f"{front}{line}\n" for line in lines)
+
+
+def is_unseen(answer):
+    """Whether a CCW with a fault of its own has a chaining flag on."""
+    ccws = [ccw_at(answer.job.storage, it.address) for it, fault in answer.faults.items() if fault]
+    return any(ccw and ccw.flags & (CHAIN_DATA | CHAIN_COMMAND) for ccw in ccws)
+
+
+def with_line(deck, line):
+    """The deck with another line, in place of its mask or before the lines that come later."""
+    word = line.partition(" ")[0]
+    if word == "mask":
+        return re.sub(r"(?m)^mask ..$", line, deck, count=1)
+    return re.sub(rf"(?m)^({BEFORE[word]}) ", rf"{line}\n\1 ", deck, count=1)
+
+
+def without_chain_command(deck, address):
+    """The deck with chain command off in a CCW."""
+    [digits] = re.findall(rf"(?m)^put {address} (\w+)$", deck)
+    flags = int(digits[8:10], 16)
+    off = f"{digits[:8]}{flags & ~CHAIN_COMMAND:02X}{digits[10:]}"
+    return deck.replace(f"put {address} {digits}\n", f"put {address} {off}\n")
+
+
+def offences_said(program, deck):
+    """The pairs of an address and a reason that `why --all` lists, and its causes."""
+    lines = run(program, "why", "--all", given=deck.encode()).output.splitlines()
+    pairs = [tuple(line.split(" ")[1:]) for line in lines if line.startswith(("no ", "also "))]
+    causes = [line for line in lines if line.startswith("because ")]
+    return dict(zip(pairs, causes)), "yes" in lines
+
+
+def check_cures(checks, program, name, deck, answer, said, tried):
+    """Carries out what the lines of help say."""
+    place, reason = answer.found[0]
+    pair = f"{place.address:06X}", reason
+    for line in said:
+        quoted, parted = QUOTED.fullmatch(line), PARTED.fullmatch(line)
+        if quoted:
+            left, _ = offences_said(program, with_line(deck, quoted[1]))
+            # a seek to a cylinder that is granted may have a wrong head
+            is_gone = pair not in left or left[pair].startswith("because head ")
+            checks.expect_that(f"{name} with {quoted[1]}", is_gone, left)
+            tried[reason] += 1
+        elif parted:
+            last = parted[2]
+            left, _ = offences_said(program, without_chain_command(deck, last))
+            checks.expect_that(f"{name} that ends at {last}", pair not in left, left)
+            tried[f"{reason}, parted"] += 1
+        elif ELSEWHERE.fullmatch(line):
+            tried[f"{reason}, elsewhere"] += 1
+
+
+def check_deck(checks, program, path, job, tried):
+    answer, name = Answer(job), path.stem
+    if answer.is_too_large or not answer.found:
+        return
+    ran = run(program, "why", path)
+    said = ran.error.splitlines()
+    helping = [line for line in said if line.startswith("help: ")]
+    checks.expect(f"help on {name}", [*help_of(answer)], helping)
+    notes = said[: len(said) - len(helping)]
+    wanted = [UNSEEN] if is_unseen(answer) else []
+    others = [line for line in notes if not EXCHANGED.fullmatch(line)]
+    checks.expect(f"notes on {name}", wanted, others)
+    checks.expect(f"help on {name} comes last", helping, said[len(notes) :])
+    tried["unseen" if wanted else "all seen"] += 1
+    check_cures(checks, program, name, text_of(path), answer, helping, tried)
+
+
+def check_names(checks, program):
+    """Help comes over a FILE, before each line its name if there are several, and over standard
+    input among them; notes come in any case."""
+    deck = EXAMPLES / "changes-itself.deck"
+    helping = "help: store the data elsewhere, so that the CCW at 000818 stays\n"
+    helping += "help: if 000818 should use what is read there, end the program at 000810 by "
+    helping += "switching off chain command, run that part, and then judge the part from 000818 "
+    helping += "on\n"
+    helping += "help: chanv explain changes-ccw\n"
+    among = "".join(f"-: {line}\n" for line in helping.splitlines())
+    why = text_of(deck.with_suffix(".why"))
+    verdict = why.partition("\n")[0]
+    for words, wanted in [
+        (["why"], Ran(1, why)),
+        (["why", "-"], Ran(1, why)),
+        (["why", "--all"], Ran(1, why)),
+        (["verify", deck], Ran(1, f"{deck}: {verdict}\n")),
+        (["why", deck], Ran(1, f"{deck}: {why}", helping)),
+        (["why", "--all", deck], Ran(1, f"{deck}: {why}", helping)),
+        (["why", "--of", "810", deck], Ran(1, f"{deck}: {why}", helping)),
+        (["why", "-", "-"], Ran(2, f"-: {why}", None)),
+    ]:
+        ran = run(program, *words, given=deck)
+        if wanted.error is None:
+            is_so = ran.output == wanted.output and ran.error.startswith(among)
+            checks.expect_that(f"chanv {words}", is_so, ran)
+        else:
+            checks.expect(f"chanv {words}", wanted, ran)
+
+
+# a program that reads in the CCW that it runs next: the start, its CCWs, and both parts
+READS_ITS_NEXT = [
+    "0600081040000008",
+    "0300000040000001",
+    "0300000000000001",
+]
+
+
+def check_parts(checks, program):
+    """Programs that are judged in two parts: each part has a yes."""
+    storage = bytes(0x800) + bytes.fromhex("".join(READS_ITS_NEXT)) + bytes(8)
+    job = Job(storage, 0x800, 2314, 0, [(0, 19)], [], [(0x810, 8)])
+    loader = "".join(f"{line}\n" for line in deck_of(job))
+    for name, deck, second, last in [
+        ("index-seek", text_of(EXAMPLES / "index-seek.deck"), "000818", "000810"),
+        ("a loader", loader, "000810", "000808"),
+    ]:
+        with tempfile.TemporaryDirectory() as room:
+            path = Path(room) / "my.deck"
+            path.write_text(deck)
+            said = run(program, "why", path).error
+        parted = PARTED.search(said)
+        found = parted.groups() if parted else said
+        checks.expect(f"where {name} is parted", (second, last), found)
+        for part, text in [
+            ("first", without_chain_command(deck, last)),
+            ("second", re.sub(r"(?m)^start \w+$", f"start {second}", deck)),
+        ]:
+            ran = run(program, given=text.encode())
+            checks.expect(f"the {part} part of {name}", Ran(0, "yes\n"), ran)
+
+
+def check(checks, built):
+    program, tried = built.chanv(), Counter()
+    with tempfile.TemporaryDirectory() as room:
+        for path, job in decks_and_jobs(room, SEED, JOBS):
+            check_deck(checks, program, path, job, tried)
+    check_names(checks, program)
+    check_parts(checks, program)
+    changes = [f"changes-{what}" for what in ("ccw", "argument")]
+    kinds = [f"{reason}, {how}" for reason in changes for how in ("elsewhere", "parted")]
+    kinds += ["store-not-lent", "fetch-not-lent", "inhibited", "weakens-mask", "seek-outside"]
+    kinds += ["unseen", "all seen"]
+    checks.expect("each kind of cure and of note comes", sorted(kinds), sorted(tried))

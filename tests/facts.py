@@ -1,0 +1,154 @@
+"""What two pages say is the same on both, and counts are those of the repository.
+
+Each fact is on one page, and others link to it. Few are on two, because a reader needs them on
+both: the premises of the theorem, which the header lists as THEOREM does, the manual in short, and
+SUPERVISOR by their numbers; the reasons of a no, and which rest on choices of this project; the
+answers of calls; where the machine itself stores; how many commands there are; and the kit. TESTING
+counts decks, mutants, unit tests and the jobs of `model` and `peer`.
+"""
+
+import re
+
+import model
+import peer
+from building import ROOT
+from examples import FOLDERS, TEXTS, decks_of
+from running import text_of
+
+DOCS = ROOT / "docs"
+HEADER = ROOT / "crates/chanv_c/include/chanv.h"
+# what the manual says in short, in the words of THEOREM
+IN_SHORT = [
+    "main storage from address 0 on",
+    "the arm is inside the job's extents, and the job's file mask is in force",
+    "From the question until the program has left, nothing else changes a byte that it keeps",
+    "not even the machine, which stores PSWs, the CSW and the timer in low storage",
+]
+
+
+def plain(text):
+    """Words alone, without the marks of Markdown, of a comment of C or of a manual page."""
+    text = re.sub(r"(?m)^ \*|^\.[A-Z]+ ?(.*)$", r"\1", text)
+    return " ".join(re.sub(r"[*`\\]", "", text).split())
+
+
+def section(page, front):
+    """The section of a page whose heading begins so."""
+    return text_of(DOCS / page).partition(f"\n## {front}")[2].partition("\n## ")[0]
+
+
+def numbered(text):
+    """The items 1., 2. and so on of a list, as plain words."""
+    items = re.findall(r"(?ms)^(?: \* )?(\d)\. (.*?)(?=^(?: \* )?\d\. |^(?: \*)?\s*$|\Z)", text)
+    return {number: plain(item) for number, item in items}
+
+
+def check_premises(checks):
+    page = section("THEOREM.md", "Premises")
+    premises = numbered(page)
+    checks.expect("the numbers of the premises", [*"123456"], [*premises])
+    comment = text_of(HEADER).partition("This is proved under premises")[2].partition("*/")[0]
+    checks.expect("the premises of the header", premises, numbered(comment))
+    duties = " ".join(section("SUPERVISOR.md", "The duties").split())
+    named = ", ".join(re.findall(r"\*\* \(([\d, ]+)\)", duties)).split(", ")
+    checks.expect("the premises that duties name", [*premises], sorted(set(named)))
+    for name, text in (("THEOREM", page), ("the manual", text_of(DOCS / "chanv.1"))):
+        text = plain(text).lower()
+        for words in IN_SHORT:
+            checks.expect_that(f"{name} says: {words}", words.lower() in text, text)
+
+
+def check_reasons(checks):
+    """The reasons in the order of their numbers, on each page with a table of them."""
+    table = re.findall(r"(?m)^\| (\d+) \| `([a-z-]+)` \|", section("VERDICT.md", "The rules"))
+    words = [word for _, word in table]
+    checks.expect("the numbers of VERDICT", [*map(str, range(1, 17))], [n for n, _ in table])
+    constants = re.findall(r"CHANV_REASON_(\w+) = (\d+)", text_of(HEADER))
+    named = [name.lower().replace("_", "-") for name, _ in constants]
+    checks.expect("the reasons of the header", words, named)
+    causes = text_of(DOCS / "OUTPUT.md").partition("\n### Causes\n")[2].partition("\n### ")[0]
+    said = re.findall(r"(?m)^\| `([a-z-]+)` \|", causes)
+    checks.expect("the reasons of OUTPUT", words, said)
+    shown = section("MACHINE.md", "What a run shows")
+    cells = re.findall(r"(?m)^\| ((?:`[a-z-]+`(?:, )?)+) \|", shown)
+    said = [word for cell in cells for word in re.findall(r"`([a-z-]+)`", cell)]
+    checks.expect("the reasons of MACHINE after the program checks", words[7:], said)
+
+
+def check_choices(checks):
+    """THEOREM names the reasons that may rest on a choice of this project, as DEVICE does."""
+    choices = section("DEVICE.md", "This project")
+    cells = re.findall(r"(?m)^\| .* \| (.*) \|$", choices)
+    chosen = {word for cell in cells for word in re.findall(r"`([a-z-]+)`", cell)}
+    sentence = " ".join(section("THEOREM.md", "What you have to trust").split())
+    sentence = sentence.partition("a *no* may rest on such a rule: ")[2].partition(". ")[0]
+    checks.expect("the reasons that rest on choices", chosen, {*re.findall(r"`(.*?)`", sentence)})
+
+
+def check_answers(checks):
+    """EMBEDDING explains each code of the header."""
+    answers = text_of(HEADER).partition("enum chanv_answer {")[2].partition("};")[0]
+    codes = {int(number) for number in re.findall(r"(?m)^ +CHANV_[A-Z_]+ = (\d+)", answers)}
+    rows = re.findall(r"(?m)^\| ([\d, to]+) \| ", section("EMBEDDING.md", "The calls"))
+    told = set()
+    for part in ", ".join(rows).split(", "):
+        first, _, last = part.partition(" to ")
+        told |= {*range(int(first), int(last or first) + 1)}
+    checks.expect("the codes of EMBEDDING", codes, told)
+
+
+def check_machine_stores(checks):
+    """OUTPUT has the note on the ranges that SUPERVISOR's C asks about."""
+    pairs = re.findall(r"\{(0x\w+), (0x\w+|\d+)\}", text_of(DOCS / "SUPERVISOR.md"))
+    areas = [(int(start, 16), int(length, 0)) for start, length in pairs]
+    asked = [f"{start:06X}-{start + length - 1:06X}" for start, length in areas]
+    row = re.search(r"(?m)^\| `keep SSSSSS.*$", text_of(DOCS / "OUTPUT.md"))[0]
+    checks.expect("where the machine stores", re.findall(r"`(\w{6}-\w{6})`", row), asked)
+
+
+def check_counts(checks):
+    page = text_of(DOCS / "TESTING.md")
+    told = {cells[0]: cells[2] for cells in re.findall(r"(?m)^\| (.*?) \| (.*?) \| (.*?) \|", page)}
+    decks = sum(len(decks_of(folder)) for folder in (*FOLDERS, TEXTS))
+    mutants = [*ROOT.glob("tests/mutants/*/*.edit"), *ROOT.glob("crates/*/must-fail/*.edit")]
+    tests = sum(text_of(it).count("#[test]") for it in ROOT.glob("crates/unit_tests/src/**/*.rt"))
+    jobs = peer.jobs_of(peer.SEED, peer.JOBS)
+    run = [name for name, job in jobs.items() if not peer.changes_itself(job)]
+    of_decks = sum(".deck" in name for name in run)
+    probes = sum(name.startswith("probe ") for name in run)
+    checks.expect("TESTING says four disks", 4, len(peer.CONTENTS))
+    said = f"{len(run)} jobs, on four disks each: {of_decks} example decks, "
+    said += f"{len(run) - of_decks - probes} random jobs and {probes} probes"
+    for kind, count in [
+        ("unit tests", f"{tests}"),
+        ("worked cases, examples", f"{decks} decks"),
+        ("model", f"{model.JOBS:,} jobs"),
+        ("peer", said),
+        ("[mutants](PROOF.md#mutants)", f"{len(mutants)}"),
+    ]:
+        checks.expect(f"TESTING counts: {kind}", count, told.get(kind))
+    row = r"(?m)^\| `\w\w` \| (`\w\w` )?\| `[a-z-]+` \| \w+ \|"
+    codes = re.findall(row, section("DEVICE.md", "Commands"))
+    count = len(codes) + sum(map(bool, codes))
+    checks.expect("DEVICE and README count forty codes", 40, count)
+    for name in ("README.md", "docs/DEVICE.md"):
+        checks.expect_that(f"{name} says forty", "forty codes" in text_of(ROOT / name), "no forty")
+
+
+def check_kit(checks):
+    kit = re.search(r"(?m)^KIT = (\S+)", text_of(ROOT / "Makefile"))[1]
+    checks.expect_that("README names the kit", f"`{kit}`" in text_of(ROOT / "README.md"), kit)
+    others = re.compile(r"rattle-kit-\w+")
+    for page in [ROOT / "README.md", *sorted(DOCS.glob("*.md"))]:
+        named = set(others.findall(text_of(page))) - {kit}
+        checks.expect(f"other kits on {page.name}", set(), named)
+
+
+def check(checks, _built):
+    check_premises(checks)
+    check_reasons(checks)
+    check_choices(checks)
+    check_answers(checks)
+    check_machine_stores(checks)
+    check_counts(checks)
+    check_kit(checks)
