@@ -1,7 +1,7 @@
 # Completes the words of chanv in bash; `make install` puts it where bash looks for it.
 _chanv() {
     local word=${COMP_WORDS[COMP_CWORD]} before=${COMP_WORDS[COMP_CWORD - 1]}
-    local commands='show verify list why graph needs find deck explain help'
+    local commands='verify list why needs graph find deck explain show help'
     local of_deck='--device --mask --start --limit --extent --fetch --store --least --open --at
         --storage'
     local of_find='--device --limit --at --storage'
@@ -14,8 +14,9 @@ _chanv() {
         deck-too-long image-too-long image-past-storage too-many-places
         no-job-will-do write-failed out-of-memory not-a-ccw no-such-word'
     local output='yes no place fresh in out search t flags invalid control read write read-backward
-        transfer chained unknown no-ccw because also extent fetch store keep lent argument
-        cylinder head guarded fetches stores skips found expected note transfer-in-channel'
+        transfer chained unknown no-ccw because also extent fetch store keep kept lent job deck
+        image argument cylinder head guarded clear fetches stores skips found expected note help
+        transfer-in-channel'
     local commands_of_disk='no-operation seek seek-cylinder seek-head recalibrate set-file-mask sense
         search-home-address-equal search-id-equal search-id-high search-id-equal-or-high
         search-key-equal search-key-high search-key-equal-or-high read-home-address read-count
@@ -39,7 +40,12 @@ _chanv() {
     else
         case ${COMP_WORDS[1]} in
         help) words=$commands files= ;;
-        why) words='--all --help' ;;
+        list) words='--wide --help' ;;
+        why)
+            [[ $before == --of ]] && return
+            words='--all --of --help'
+            ;;
+        needs) words='--deck --help' ;;
         show) words='--name --help' files= ;;
         explain)
             [[ $word == -* ]] || words="$reasons $causes $failures $output $commands_of_disk"
