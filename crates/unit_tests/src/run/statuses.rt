@@ -111,7 +111,11 @@ fn each_read_failing_in_turn(rt: HostRuntime) {
 /// What is asked for, a text, and all that is written over it.
 static WRITTEN: [(Action, &str, &str); 4] = [
     (Action::Verify, SEARCH_LOOP, "yes\n"),
-    (Action::List { wide: false }, SEARCH_LOOP, SEARCH_LOOP_LISTING),
+    (
+        Action::List { wide: false },
+        SEARCH_LOOP,
+        SEARCH_LOOP_LISTING,
+    ),
     (
         Action::Why(Explained::First),
         END_OF_STORAGE,
