@@ -119,7 +119,7 @@ fn show_request<'a>(matches: &ArgMatches<'a>) -> Request<'a>
     }
 }
 
-/// The request to say what the word means that clap met, or to list all words where it met none.
+/// The request of `explain WORD`, or of `explain` alone.
 fn explain_request<'a>(alloc: Global, matches: &ArgMatches<'a>) -> Result<Request<'a>, AllocError>
     ensures { IfOk result (AsksFor (Some (codes "explain", rows_of (found_of matches.now)))) }
 {

@@ -28,7 +28,7 @@ use chan_walk::WalkError;
 use std::alloc::{AllocError, Global};
 use std::io::{Read, Write};
 
-/// Answers an input that is named so, and says what came of it.
+/// Judges the deck of one input. The first writer gets the answer, the second what is said of it.
 ///
 /// On the first writer stands the output of `respond`, and it is flushed where all of it was
 /// written. On the second stands the outcome's line, as `report` writes it, and the advice behind

@@ -60,8 +60,7 @@ impl Words {
     }
 }
 
-/// What a deck is read from. One type, so that the program has one function that reads, whose
-/// buffer is on the stack.
+/// An input. It is one type, so that only one read buffer is on the stack.
 #[derive(Drop)]
 enum Input {
     Standard(Stdin),
